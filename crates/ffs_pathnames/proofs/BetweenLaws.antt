@@ -1,9 +1,9 @@
 -- What is remembered of the names that were passed, from one directory to the next.
-use Rattle.std.proofs.Common.{◌≡◌, ◌≢◌, ℕ, suc, ◌≤◌, ◌==◌, true, false, not, refl, List, []}
+use Rattle.std.proofs.Common.{◌≡◌, ◌≢◌, ℕ, suc, ◌≤◌, true, false, refl, List, []}
 use Rattle.std.proofs.Common.{◌∷◌, ◌++◌, length, slice_index, slice_set, arith, sym, ◌∙◌, append_assoc}
 use Rattle.std.{proofs.Common.append-nil, specs.List.list_any}
 use Rattle.std.proofs.lemmas.List.{get_or-set_other, get_or-set_same, set_past}
-use Rattle.std.proofs.{lemmas.Bool.Decides.nat_tests, lemmas.Bool.and_parts, Math.Bool.and-false, Math.Bool.or-false}
+use Rattle.std.proofs.{lemmas.Bool.Decides.nat_tests, Math.Bool.and-false, Math.Bool.or-false}
 use Rattle.ffs_pathnames.{proofs.FirstTwo.parent_edge, specs.Calm.IsSilentDirectory}
 use Rattle.ffs_pathnames.proofs.PassedLaws.{IsDirectory, calm_roled, right_after}
 use Rattle.ffs_pathnames.proofs.LookLaws.{AreStamped, stamped_all, looks_all_long, suspects_unnamed}
@@ -11,17 +11,15 @@ use Rattle.ffs_pathnames.specs.PassedNames.{PassedNames, is_calm, after_roled, a
 use Rattle.ffs_pathnames.specs.PassedNames.{after_look, after_looks, are_quiet}
 use Rattle.ffs_pathnames.specs.PassedRight.{AreRight, AreRightBefore}
 use Rattle.ffs_volume.specs.Directories.Roles.{Volume, RoledEntry, is_dir, is_suspect, roled_entries}
-use Rattle.ffs_volume.specs.Directories.{Parents.graph_of, Graph.is_naming_entry, Graph.is_naming_dir}
-use Rattle.ffs_volume.{specs.Disk.Search.some_below, proofs.ClimbLaws.is_value-true, proofs.SearchLaws.some_below-suc}
+use Rattle.ffs_volume.specs.Directories.{Parents.graph_of, Graph.is_naming_entry, Graph.is_naming_dir, Graph.parent}
+use Rattle.ffs_volume.{proofs.ClimbLaws.is_value-true, proofs.SearchLaws.some_below-suc}
 
 -- the parent of a directory names it
 belongs_named : (v : Volume) (s x : ℕ) → belongs v s x ≡ true → list_any (is_naming_entry x) (roled_entries v s) ≡ true
 belongs_named v s x h =
-    let a = and_parts (is_dir v x) _ h in
-    let b = and_parts (not (x == 2)) _ a.1 in
-    let other : x ≢ 2 = λ z. grind (arith, nat_tests) in
-    let named = parent_edge (graph_of v) x s other (is_value-true _ s b.1) in
-    (and_parts (is_dir v s) _ (and_parts (is_dir v x) _ named).1).1
+    let named = parent_edge (graph_of v) x s in
+    let value = is_value-true (parent (graph_of v) x) s in
+    grind (arith, nat_tests)
 
 -- nothing is stamped before s is looked at
 pub unstamped : (v : Volume) (s : ℕ) (m : PassedNames) → AreRightBefore v s m → AreStamped v s [] m.stamps
@@ -32,14 +30,9 @@ looked v s m = record m { stamps = after_looks v s m.stamps (roled_entries v s) 
 
 -- once s is looked at, what is remembered is right before its first entry
 pub looked_right : (v : Volume) (s : ℕ) (m : PassedNames) → AreRightBefore v s m → AreRight v s [] (looked v s m)
-looked_right v s m r = record {
-  named = λ x h q n o. r.named x h q n o ∙ sym (or-false (some_below (λ t. is_naming_dir (graph_of v) t x) s));
-  due = λ x h.
-      let all = stamped_all v s [] (roled_entries v s) m.stamps r.stamps_length (unstamped v s m r) x h in
-      grind (arith, belongs_named, nat_tests);
-  flags_length = r.flags_length;
-  stamps_length = looks_all_long v s (roled_entries v s) m.stamps ∙ r.stamps_length;
-}
+looked_right v s m r =
+    let all = stamped_all v s [] (roled_entries v s) m.stamps r.stamps_length (unstamped v s m r) in
+    grind (arith, belongs_named, looks_all_long, or-false, nat_tests)
 
 -- ---- stamps stay small, and calm directories stay so
 set_small : (s n a x : ℕ) (stamps : List ℕ) → a ≤ s → slice_index stamps x ≤ s →

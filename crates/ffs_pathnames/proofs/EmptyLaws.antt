@@ -1,7 +1,6 @@
 -- Inodes that aren't looked at: those that are no directories, and directories of size 0.
-use Rattle.std.proofs.lemmas.Bool.{and_parts, and_cases, not-false, Decides.nat_tests}
-use Rattle.std.proofs.Common.{inl, inr, ◌≡◌, ◌<◌, ◌==◌, refl, ap, ◌∙◌, ℕ, Bool, true, false, not, ◌&&◌, List, [], arith}
-use Rattle.std.{proofs.Common.eqb-true, proofs.Math.Bool.and-false}
+use Rattle.std.proofs.lemmas.Bool.{and_parts, Decides.nat_tests}
+use Rattle.std.proofs.Common.{◌≡◌, ◌<◌, ◌==◌, ap, ◌∙◌, ℕ, Bool, true, false, not, ◌&&◌, List, [], arith}
 use Rattle.ffs_volume.specs.{declared.Layout.Layout, Laws.Geometry.IsAcceptedLayout}
 use Rattle.ffs_volume.{specs.Blocks.Inodes.inode_of, specs.Blocks.KeptSteps.kept_steps_of, proofs.Sizes.no_steps}
 use Rattle.ffs_volume.specs.Directories.{Graph.is_naming_dir, Roles.is_dir}
@@ -36,8 +35,6 @@ looked_dir v b d h = (and_parts (is_dir (volume_of v b) d) _ (looked_is v b d �
 pub names_none : (v : Layout) (b : List ℕ) (d : ℕ) → IsAcceptedLayout v → (kind_at v b d == 4) ≡ false → (x : ℕ) →
     is_naming_dir (graph_of (volume_of v b)) d x ≡ false
 names_none v b d g h x =
-    let dir = is_dir (volume_of v b) d in
-    elim (and_cases dir _ (looked_is v b d ∙ h)) [
-      | inl none ↦ rw none refl
-      | inr empty ↦ rw (none_seen v b d g (eqb-true _ 0 (not-false _ empty))) (and-false dir)
-    ]
+    let looked = looked_is v b d in
+    let seen = none_seen v b d g in
+    grind (arith, nat_tests)

@@ -1,7 +1,7 @@
 -- What a first look at the entries of a directory finds.
 use Rattle.std.proofs.Common.{◌≡◌, ◌≢◌, ℕ, ◌<◌, ◌==◌, true, false, ◌&&◌, refl, List, [], ◌∷◌, ◌++◌, length, slice_index}
 use Rattle.std.proofs.Common.{sym, ◌∙◌, subst, append_assoc, append-nil, arith}
-use Rattle.std.proofs.lemmas.{List.get_or-set_other, List.get_or-set_same, Bool.Decides.nat_tests, Bool.and_parts}
+use Rattle.std.proofs.lemmas.{List.get_or-set_other, List.get_or-set_same, Bool.Decides.nat_tests}
 use Rattle.std.{proofs.Math.ListN.length-set, specs.List.list_any}
 use Rattle.ffs_volume.specs.declared.Role.TheVariants.{Plain}
 use Rattle.ffs_volume.specs.Directories.PathnameCheck.{is_bad_whiteout, named_lines}
@@ -78,12 +78,10 @@ pub quiet_silent : {v : Volume} {s : ℕ} (done es : List RoledEntry) (stamps : 
 unfolding lines_of_entries
 quiet_silent done [] stamps d whole long r h = refl
 quiet_silent {v = v} {s = s} done (e ∷ es) stamps d whole long r h =
-    let q = and_parts (is_quiet v s stamps e) _ h in
     let i : IsEntry v s done e es = record { dir = d; whole = whole } in
-    let rest = quiet_silent (done ++ e ∷ []) es (after_look v s stamps e) d
-    (whole ∙ sym (append_assoc done (e ∷ []) es)) (looks_long v s stamps e ∙ long)
-    (stamped_after v s done e stamps long r) q.1 in
-    rw (seen_quiet stamps i r q.0, ← size_more done e) rest
+    let rest = quiet_silent (done ++ e ∷ []) es (after_look v s stamps e) d in
+    let next = stamped_after v s done e stamps long r in
+    grind (arith, append_assoc, looks_long, seen_quiet, size_more)
 
 -- and no suspect is named
 suspect_unnamed : (v : Volume) (s : ℕ) (stamps : List ℕ) (e : RoledEntry) (x : ℕ) → is_quiet v s stamps e ≡ true →

@@ -4,18 +4,18 @@ use Rattle.std.proofs.Common.{if◌then◌else◌, refl, List, [], ◌∷◌, �
 use Rattle.std.proofs.Common.{append_assoc, ltb-true, zero, option_map}
 use Rattle.std.proofs.lemmas.{List.get_or-set_other, List.get_or-set_same, Grind.common_steps, Bool.Decides.nat_tests}
 use Rattle.std.{proofs.lemmas.Bool.and_parts, proofs.Math.ListN.length-set, specs.List.list_any}
-use Rattle.ffs_volume.{specs.declared.Role.Role, proofs.RoleLaws.plain-true}
+use Rattle.ffs_volume.{proofs.RoleLaws.plain-true}
 use Rattle.ffs_volume.specs.declared.Role.TheVariants.{Plain}
 use Rattle.ffs_volume.specs.Directories.{Climb.is_value, PathnameCheck.plain_lines, PathnameCheck.entry_lines}
-use Rattle.ffs_volume.specs.Directories.PathnameCheck.{lines_of_entries, entry_lines_of as lines_by_role}
+use Rattle.ffs_volume.specs.Directories.PathnameCheck.{lines_of_entries}
 use Rattle.ffs_volume.specs.Directories.PathnameCheck.{is_first_entry_of_suspect, is_extraneous, named_lines}
 use Rattle.ffs_volume.specs.Directories.Roles.{Volume, RoledEntry, is_dir, is_suspect, is_plain, roled_entries}
-use Rattle.ffs_volume.specs.Directories.Graph.{is_naming_entry, is_naming_dir, parent, index_in_parent, first_index}
+use Rattle.ffs_volume.specs.Directories.Graph.{is_naming_entry, is_naming_dir, parent, first_index}
 use Rattle.ffs_volume.specs.Directories.Parents.{graph_of, is_first_naming_entry, is_parent_entry}
 use Rattle.ffs_volume.specs.Disk.Search.{some_below, first_below}
 use Rattle.ffs_volume.proofs.SearchLaws.{first_below-tells}
 use Rattle.ffs_pathnames.specs.PassedNames.{PassedNames, is_flagged, is_calm, is_stamped, after_name, after_roled}
-use Rattle.ffs_pathnames.specs.PassedNames.{named_reported, plain_reported, role_reported, roled_reported}
+use Rattle.ffs_pathnames.specs.PassedNames.{named_reported, plain_reported, roled_reported}
 use Rattle.ffs_pathnames.specs.{PassedNames.entries_reported, PassedRight.AreRight}
 
 -- ---- the place of an entry
@@ -73,39 +73,22 @@ module _ {v : Volume} {s : ℕ} {done es : List RoledEntry} {e : RoledEntry} (i 
   first_name_is : is_first_naming_entry (graph_of v) s (size_of done) e.entry.number
       ≡ not (some_below (λ t. is_naming_dir (graph_of v) t e.entry.number) s
       || list_any (is_naming_entry e.entry.number) done)
-  first_name_is =
-      rw (first_in (λ t. is_naming_dir (graph_of v) t e.entry.number) v.count s i.dir.below names_in_it, place_is)
-      (grind (arith, common_steps))
+  first_name_is = grind (arith, common_steps, first_in, place_is, names_in_it)
 
   pub from_parent_is : is_parent_entry (graph_of v) s (size_of done) e.entry.number
       ≡ ((not (e.entry.number == 2) && is_value (parent (graph_of v) e.entry.number) s)
       && not (list_any (is_naming_entry e.entry.number) done))
-  from_parent_is = one (parent (graph_of v) e.entry.number) place_is
-    where
-      one : (o : Option ℕ) →
-          is_value (first_index (is_naming_entry e.entry.number) (roled_entries v s)) (size_of done)
-          ≡ not (list_any (is_naming_entry e.entry.number) done) →
-          (is_value o s && is_value (if e.entry.number == 2 then None
-          else index_in_parent (graph_of v) e.entry.number o) (size_of done))
-          ≡ ((not (e.entry.number == 2) && is_value o s) && not (list_any (is_naming_entry e.entry.number) done))
-      one None h = grind (arith, common_steps)
-      one (Some t) h = grind (arith, common_steps)
+  from_parent_is = let place = place_is in grind (arith, common_steps)
 
   module _ {m : PassedNames} (r : AreRight v s done m) where
     suspect_same : e.entry.number < v.count → e.entry.number ≢ 1 →
         is_first_entry_of_suspect v s (size_of done) e.entry.number
         ≡ (is_suspect v e.entry.number && (not (e.entry.number == 2) && not (is_flagged m e.entry.number)))
-    suspect_same h other =
-        let first = first_name_is in
-        let named = r.named e.entry.number h in
-        grind (arith, common_steps)
+    suspect_same h other = grind (arith, common_steps, first_name_is)
 
     extraneous_same : e.entry.number < v.count → is_extraneous v s (size_of done) e.entry.number
         ≡ (is_dir v e.entry.number && not (is_stamped s m e.entry.number))
-    extraneous_same h =
-        let first = from_parent_is in
-        let due = r.due e.entry.number h in
-        grind (arith, common_steps)
+    extraneous_same h = grind (arith, common_steps, from_parent_is)
 
     named_same : e.entry.number < v.count → e.entry.number ≢ 1 →
         named_lines v s (size_of done) e.entry ≡ named_reported v s m e.entry
@@ -119,12 +102,7 @@ module _ {v : Volume} {s : ℕ} {done es : List RoledEntry} {e : RoledEntry} (i 
 seen_same : {v : Volume} {s : ℕ} {done es : List RoledEntry} {e : RoledEntry} {m : PassedNames} →
     IsEntry v s done e es → AreRight v s done m → entry_lines v s (size_of done) e ≡ roled_reported v s m e
 unfolding entry_lines roled_reported
-seen_same {v = v} {s = s} {done = done} {e = e} {m = m} i r = one e.role refl
-  where
-    one : (role : Role) → e.role ≡ role → lines_by_role v s (size_of done) role e.entry
-        ≡ role_reported v s m role e.entry
-    one Plain q = plain_same i q r
-    one role q = refl
+seen_same i r = grind (arith, plain_same)
 
 -- ---- after one entry more
 pub any_more : (p : RoledEntry → Bool) (done : List RoledEntry) (e : RoledEntry) →

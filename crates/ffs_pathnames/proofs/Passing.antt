@@ -57,7 +57,8 @@ pub chunk_passed : (v : Volume) (s : ℕ) {all : PassedNames} (m : PassedNames) 
 chunk_passed v s m is after q = grind (arith, after_more)
 
 -- an entry is passed, where what is remembered is in the lists of a workspace
-pub passes : (v : Volume) (d : ℕ) (e : RoledEntry) {p0 p1 p2 p3 : List Bool} {s0 s1 s2 s3 : List ℕ} → p1 ≡ p0 → s1 ≡ s0 →
+pub passes : (v : Volume) (d : ℕ) (e : RoledEntry) {p0 p1 p2 p3 : List Bool} {s0 s1 s2 s3 : List ℕ} → p1 ≡ p0 →
+    s1 ≡ s0 →
     after_roled v d (record { flags = p1; stamps = s1 }) e ≡ record { flags = p2; stamps = s2 } → p3 ≡ p2 → s3 ≡ s2 →
     after_roled v d (record { flags = p0; stamps = s0 }) e ≡ record { flags = p3; stamps = s3 }
 passes v d e p s law q t = rw (← p, ← s, q, t) law

@@ -1,17 +1,17 @@
 -- What a workspace shows, and what is read of directories, is the volume's.
 use Rattle.std.proofs.Common.{◌≡◌, ◌≤◌, refl, sym, ap, ◌∙◌, ℕ, true, false, ◌==◌, List, length, Option, Some, None}
-use Rattle.std.proofs.Common.{arith, slice_index, ne_eqb}
+use Rattle.std.proofs.Common.{arith, ne_eqb}
 use Rattle.std.specs.{Option.unwrap_or, List.flat_map}
 use Rattle.ffs_volume.specs.declared.{Layout.Layout, Class.Class, Inode.Inode}
 use Rattle.ffs_volume.specs.declared.Class.TheVariants.{Partial, File, Dir}
 use Rattle.ffs_volume.specs.Blocks.Inodes.{is_file_or_dir, is_allocated, is_unknown, inode_of}
 use Rattle.ffs_volume.{specs.Blocks.Steps.steps_of, specs.Laws.Geometry.IsAcceptedLayout, proofs.CutLaws.replay_at}
-use Rattle.ffs_volume.specs.Directories.{Climb.is_value, Graph.parent, Parents.graph_of, Entries.Chunk, Entries.has_gap}
+use Rattle.ffs_volume.specs.Directories.{Climb.is_value, Entries.Chunk, Entries.has_gap}
 use Rattle.ffs_volume.specs.Directories.Roles.{roled_chunk, roled_entries}
-use Rattle.ffs_volume.specs.Directories.Volumes.{class_at, volume_of, volume_with, is_inode_number, chunk_source_of}
+use Rattle.ffs_volume.specs.Directories.Volumes.{volume_of, volume_with, is_inode_number, chunk_source_of}
 use Rattle.ffs_volume.specs.Encodings.Replay.{cut_at, fresh_replay, replayed_steps}
 use Rattle.ffs_workspace.specs.{declared.workspace.Workspace.Workspace, Lengths.inodes_of}
-use Rattle.ffs_workspace.specs.Holds.{bool_at, HoldsClaims, HoldsSurvey}
+use Rattle.ffs_workspace.specs.Holds.{HoldsClaims, HoldsSurvey}
 use Rattle.ffs_workspace.proofs.KindLaws.{reports_at, dir_is, suspect_is, type_is, class_is}
 use Rattle.ffs_pathnames.specs.{declared.inodes.Inodes.Inodes, Sees.Sees, Reads.chunks_read}
 
@@ -40,19 +40,8 @@ pub sees : (v : Layout) (b : List ℕ) (w : Workspace) (i : Inodes) → Shows v 
     → Sees (volume_of v b) i
 unfolding volume_of volume_with
 sees v b w i s h r =
-    let kind = λ (x : ℕ). ap (λ ks. slice_index ks x) s.kinds ∙ h.kinds x in
-    let mark = λ (x : ℕ). ap (λ ms. bool_at ms x) s.marked ∙ h.marked x in
-    record {
-      count = sym s.count;
-      dir = λ x. rw (kind x) (dir_is v b x);
-      allocated = λ x. rw (kind x) (reports_at v b x).allocated;
-      unknown = λ x. rw (kind x) (reports_at v b x).unknown;
-      suspect = λ x. rw (kind x, mark x) (suspect_is v b x);
-      marked = λ x. sym (mark x);
-      kind = λ x a u. rw (kind x) (type_is v b x (settled (class_at v b x) a u));
-      class = λ x a. rw (kind x) (sym (class_is v b x (whole (class_at v b x) a)));
-      parent_is = λ x p two. rw (s.parents, r.parents x) (parent_number (parent (graph_of (volume_of v b)) x) p two);
-    }
+    let reports = reports_at v b in
+    grind (arith, dir_is, suspect_is, type_is, settled, class_is, whole, parent_number)
 
 -- ---- the chunks that are read
 pub chunks_are : (v : Layout) (b : List ℕ) (d : ℕ) {i : Inode} {cut : ℕ} → IsAcceptedLayout v →

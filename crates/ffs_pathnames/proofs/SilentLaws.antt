@@ -1,8 +1,8 @@
 -- Nothing is reported of a directory that the survey found calm.
 use Rattle.std.proofs.Common.{◌≡◌, ◌≢◌, ℕ, suc, ◌<◌, ◌≤◌, ◌*◌, ◌/◌, ◌==◌, Bool, true, false, not, ◌&&◌, ◌||◌, nat_le}
 use Rattle.std.proofs.Common.{nat_lt, if◌then◌else◌, refl, List, [], ◌∷◌, ◌++◌, map, length, slice_index, slice_set}
-use Rattle.std.proofs.Common.{Option, None, Some, option_and_then, unwrap_or, arith, sym, ◌∙◌, ap, subst}
-use Rattle.std.proofs.Common.{eqb-true, eq-eqb, ne_eqb, leb-true}
+use Rattle.std.proofs.Common.{Option, None, Some, option_and_then, unwrap_or, arith, ◌∙◌, ap, subst}
+use Rattle.std.proofs.Common.{eqb-true, eq-eqb, leb-true}
 use Rattle.std.proofs.lemmas.{List.get_or-set_other, Bool.Decides.nat_tests}
 use Rattle.std.proofs.lemmas.Bool.{or_cases, or_left, or_right, false_from_ne_true, both_ways, and_parts, and_from}
 use Rattle.std.specs.List.{list_any, flat_map, find}
@@ -11,10 +11,10 @@ use Rattle.ffs_volume.specs.declared.Step.TheVariants.{Run}
 use Rattle.ffs_volume.specs.declared.Role.TheVariants.{Extra, Plain}
 use Rattle.ffs_volume.specs.{Laws.Geometry.IsAcceptedLayout, Disk.Areas.is_run_in_range, Blocks.Steps.steps_of}
 use Rattle.ffs_volume.specs.Blocks.Inodes.{is_allocated, is_unknown, inode_of}
-use Rattle.ffs_volume.specs.Directories.{Climb.is_value, Graph.is_naming_entry, Graph.parent, Parents.graph_of}
+use Rattle.ffs_volume.specs.Directories.{Graph.is_naming_entry, Graph.parent, Parents.graph_of}
 use Rattle.ffs_volume.specs.Directories.Entries.{Entry, Chunk, ChunkSource, chunk_of, chunks_of, run_chunks}
 use Rattle.ffs_volume.specs.Directories.Entries.{step_chunks, entries_of, is_sound, is_live, bytes_read}
-use Rattle.ffs_volume.specs.Directories.{Volumes.class_at, Volumes.volume_of, Volumes.volume_with}
+use Rattle.ffs_volume.specs.Directories.{Volumes.volume_of, Volumes.volume_with}
 use Rattle.ffs_volume.specs.Directories.PathnameCheck.{is_bad_whiteout, attributes, are_sound}
 use Rattle.ffs_volume.specs.Directories.Roles.{nth_entry, start_entry, Volume, RoledEntry, is_dir, is_suspect, is_plain}
 use Rattle.ffs_volume.specs.Directories.Roles.{is_two_dots, role_of, roled_from, roled_chunk, roled_entries}
@@ -48,15 +48,7 @@ record Shown (v : Volume) (kinds : List ℕ) (marked : List Bool) (parents : Lis
 shown : (v : Layout) (b : List ℕ) (w : Workspace) → IsFor v w → HoldsClaims v b w → HoldsSurvey v b w →
     Shown (volume_of v b) w.kinds.items w.marked.items w.parents.items
 unfolding volume_of volume_with
-shown v b w m h r = record {
-  count = sym (sym w.kinds.ok.0 ∙ m.kinds);
-  dirs = λ x. kind_dirs v b w.kinds.items x (h.kinds x);
-  allocated = λ x. rw (h.kinds x) (reports_at v b x).allocated;
-  unknown = λ x. rw (h.kinds x) (reports_at v b x).unknown;
-  suspect = λ x. rw (h.kinds x, h.marked x) (suspect_is v b x);
-  kind = λ x a u. rw (h.kinds x) (type_is v b x (settled (class_at v b x) a u));
-  parent_is = r.parents;
-}
+shown v b w m h r = let reports = reports_at v b in grind (arith, kind_dirs, suspect_is, type_is, settled)
 
 -- ---- the entries
 -- what a calm plain entry that is no whiteout says of its inode, whose kind is the entry's
@@ -255,25 +247,19 @@ root_up : (v : Volume) → unwrap_or (parent (graph_of v) 2) 0 ≡ 2
 unfolding parent
 root_up v = refl
 
-value_of : (o : Option ℕ) (s : ℕ) → 2 ≤ s → unwrap_or o 0 ≡ s → is_value o s ≡ true
-value_of None s two h = absurd (omega (arith, h))
-value_of (Some t) s two h = eq-eqb t s h
-
 calm_belongs : (v : Volume) (kinds : List ℕ) (marked reached : List Bool) (parents : List ℕ) (sound : Bool) (d x : ℕ) →
     2 ≤ d → Shown v kinds marked parents → IsCalm kinds marked reached parents (roled_entries v d) sound d
     → is_dir v x ≡ true → list_any (is_naming_entry x) (roled_entries v d) ≡ true → belongs v d x ≡ true
 calm_belongs v kinds marked reached parents sound d x two sh c dir named =
     let at = sh.dirs x ∙ dir in
-    let up : number_at parents x ≡ d = (c.below x at named).1 in
-    let new : c.before x ≡ false =
-    calm_new (record { kinds = kinds; marked = marked; dir = d; parent = number_at parents d }) c.before 0 x
+    let up = (c.below x at named).1 in
+    let new = calm_new (record { kinds = kinds; marked = marked; dir = d; parent = number_at parents d }) c.before 0 x
     (roled_entries v d) c.entries_right at named in
-    let none : x ≢ 2 = λ z.
-    let root : 2 ≡ d = sym (root_up v) ∙ (sym (sh.parent_is 2) ∙ (ap (number_at parents) (sym z) ∙ up)) in
-    both_ways (c.before x) new (ap c.before (z ∙ root) ∙ c.begins) in
-    and_from (is_dir v x) _ dir
-    (and_from (not (x == 2)) _ (ap not (ne_eqb x 2 none))
-    (value_of (parent (graph_of v) x) d two (sym (sh.parent_is x) ∙ up)))
+    let begins = c.begins in
+    let root = root_up v in
+    let parent_is = sh.parent_is x in
+    let root_is = sh.parent_is 2 in
+    grind (arith, nat_tests)
 
 -- the entries by the chunks
 by_chunks : (v : Volume) (d : ℕ) (s : CurrentDir) (r : ℕ → Bool) → are_calm s r 0 (roled_entries v d) ≡ true →

@@ -4,7 +4,8 @@ use Rattle.ffs_volume.specs.Directories.{Volumes.volume_of}
 use Rattle.ffs_volume.specs.Messages.Kinds.{of_tree}
 use Rattle.ffs_layout.specs.Entry.{entry_value}
 use Rattle.ffs_report.proofs.Reporting.{of_begins, of_same, of_part, of_fault, said_knows, reports_knowing}
-use Rattle.ffs_pathnames.specs.{Gathers.passed_of, DirectoryContext.DirectoryContext, DirectoryContext.KnowsPath, PassedNames.after_entries}
+use Rattle.ffs_pathnames.specs.{Gathers.passed_of, PassedNames.after_entries}
+use Rattle.ffs_pathnames.specs.DirectoryContext.{DirectoryContext, KnowsPath}
 use Rattle.ffs_pathnames.{specs.PassedNames.entries_reported, proofs.Begun.image_same, proofs.StampLaws.keep_more}
 use Rattle.ffs_pathnames.proofs.Passing.{knows_on, entry_reported, entry_passed}
 use Rattle.ffs_pathnames.proofs.{StampLaws.noted_kept, Looking.roled_at_place, Looking.seen_next, Looking.none_left}
@@ -33,7 +34,8 @@ know : (g : Over) (c : After-role_of g) (b : List ℕ) →
     c.args.chunk.now.dir b
 know g c b k =
     let inv = c.entries.invariant in
-    knows_on _ _ _ c.args.workspace.now c.entries.workspace _ b (ap (λ d. d.contents) inv.device) inv.survey inv.places k
+    knows_on _ _ _ c.args.workspace.now c.entries.workspace _ b (ap (λ d. d.contents) inv.device)
+    inv.survey inv.places k
 
 know_path : (g : Over) (c : After-role_of g) (b : List ℕ) →
     KnowsPath c.args.geometry.now.layout (g.I.Image.device c.args.image.now).contents c.args.workspace.now
