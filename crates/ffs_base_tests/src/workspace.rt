@@ -1,8 +1,7 @@
 //! What a workspace holds when it is made, in bytes and in bits.
 
 ghost use Rattle.std.specs.Prelude.{◌≡◌};
-ghost use Rattle.ffs_workspace.specs.Lengths.{inodes_of};
-ghost use Rattle.ffs_workspace.specs.Tables.{CanReadInodes};
+ghost use Rattle.ffs_workspace.specs.{Lengths.inodes_of, Tables.CanReadInodes};
 
 use crate::compare::same;
 use ffs_image::{Image, ImageFault};

@@ -1,19 +1,17 @@
 -- Phase 5 reports nothing exactly where all groups are right.
-use Rattle.std.proofs.lemmas.Bool.Decides.{nat_tests}
-use Rattle.std.proofs.Common.{zero, suc, ◌≡◌, ℕ, ◌+◌, ◌<◌, ◌≤◌, Bool, true, false, arith, refl, sym, ap}
-use Rattle.std.proofs.Common.{subst, ◌∙◌, List, [], ◌∷◌, ◌++◌, ◌↔◌, ◌&&◌, ◌==◌, if◌then◌else◌, ℤ}
-use Rattle.std.{proofs.{Math.Path.fun_ext, lemmas.Bool.{and_parts, and_from}}, specs.List.list_all}
-use Rattle.std.specs.List.{list_any, flat_map, range_with_len}
-use Rattle.ffs_volume.specs.declared.BlockMessage.TheVariants.{GroupMagic, FreeCounts, MapsWrong}
-use Rattle.ffs_volume.specs.declared.{BlockMessage.{TheVariants.GroupSums, BlockMessage}, Class.Class, Layout.Layout}
-use Rattle.ffs_volume.specs.Blocks.{Claims.{reserved_map, no_claims}, Owners.Owner}
-use Rattle.ffs_volume.specs.Blocks.{Owners.{fragments_of, all_steps}, BlockCheck.{phase1_lines, phase1b_lines}}
-use Rattle.ffs_volume.specs.{Consistent.BlocksRight.{times, BlocksRight}}
-use Rattle.ffs_volume.specs.Groups.Records.{group_block, summary_record, group_numbers, has_right_magic, maps_fit}
-use Rattle.ffs_volume.specs.Groups.Records.{has_right_maps, has_right_sums, has_right_record, has_right_totals}
-use Rattle.ffs_volume.specs.Groups.{Records.{IsGroupRight, AreGroupsRight}, GroupCheck.{unless, group_lines}}
-use Rattle.ffs_volume.specs.Groups.GroupCheck.{all_group_lines, reported_once, unreported, phase5_lines}
-use Rattle.ffs_volume.specs.Groups.GroupCheck.{is_free_of_kept, is_free_of_runs}
+use Rattle.std.proofs.{lemmas.Bool.Decides.nat_tests, Common.{zero, suc, ◌≡◌, ℕ, ◌+◌, ◌<◌, ◌≤◌, Bool, true, false}}
+use Rattle.std.proofs.Common.{arith, refl, sym, ap, subst, ◌∙◌, List, [], ◌∷◌, ◌++◌, ◌↔◌, ◌&&◌, ◌==◌, if◌then◌else◌, ℤ}
+use Rattle.std.{proofs.{Math.Path.fun_ext, lemmas.Bool.{and_parts, and_from}}, specs.List.{list_all, list_any}}
+use Rattle.std.specs.List.{flat_map, range_with_len}
+use Rattle.ffs_volume.specs.declared.BlockMessage.TheVariants.{GroupMagic, FreeCounts, MapsWrong, GroupSums}
+use Rattle.ffs_volume.specs.declared.{BlockMessage.BlockMessage, Class.Class, Layout.Layout}
+use Rattle.ffs_volume.specs.Blocks.{Claims.{reserved_map, no_claims}, Owners.{Owner, fragments_of, all_steps}}
+use Rattle.ffs_volume.specs.{Blocks.BlockCheck.{phase1_lines, phase1b_lines}, Consistent.BlocksRight.times}
+use Rattle.ffs_volume.specs.{Consistent.BlocksRight.BlocksRight, Groups.Records.{group_block, summary_record}}
+use Rattle.ffs_volume.specs.Groups.Records.{group_numbers, has_right_magic, maps_fit, has_right_maps, has_right_sums}
+use Rattle.ffs_volume.specs.Groups.Records.{has_right_record, has_right_totals, IsGroupRight, AreGroupsRight}
+use Rattle.ffs_volume.specs.Groups.GroupCheck.{unless, group_lines, all_group_lines, reported_once, unreported}
+use Rattle.ffs_volume.specs.Groups.GroupCheck.{phase5_lines, is_free_of_kept, is_free_of_runs}
 use Rattle.ffs_certificate.proofs.BlocksSilent.{nil_is, right_quiet, runs_below, reserved_length, reserved_bit, bit}
 use Rattle.ffs_certificate.proofs.{BlocksSilent.{times_cons, marked_bit, blocks_silent}, BlockLaws.{is_nil, nil_append}}
 use Rattle.ffs_certificate.proofs.BlockLaws.{owners_claim, owners_from}

@@ -1,10 +1,9 @@
 -- The fold over steps keeps what the rule keeps.
 use Rattle.std.proofs.Common.{zero, suc, inl, inr, ◌≡◌, ◌⊎◌, ℕ, ◌+◌, ◌-◌, ◌*◌, ◌<◌, ◌≤◌, Bool, true, false, cond, arith}
 use Rattle.std.proofs.Common.{refl, sym, ap, subst, ◌∙◌, List, [], ◌∷◌, ◌++◌, length, append_assoc, count_by, nat_lt}
-use Rattle.std.proofs.{Common.{nat_le, min, ◌&&◌, ◌||◌, ◌==◌, slice_set, if◌then◌else◌, map}}
-use Rattle.std.proofs.lemmas.Bool.{eq-eqb, ltb-true, ltb-false}
-use Rattle.std.proofs.lemmas.{Bool.{le-leb, Decides.nat_tests}, List.{get_or-set_same, get_or-set_other}}
-use Rattle.std.{proofs.{lemmas.List.{length-set, Sums.sum_by-cons}}, specs.List.list_all}
+use Rattle.std.proofs.{Common.{nat_le, min, ◌&&◌, ◌||◌, ◌==◌, slice_set, if◌then◌else◌, map}, lemmas.Bool.eq-eqb}
+use Rattle.std.proofs.lemmas.{Bool.{ltb-true, ltb-false, le-leb, Decides.nat_tests}, List.get_or-set_same}
+use Rattle.std.{proofs.lemmas.List.{get_or-set_other, length-set, Sums.sum_by-cons}, specs.List.list_all}
 use Rattle.std.specs.List.{range_with_len}
 use Rattle.ffs_volume.specs.declared.{Step.{TheVariants.{Run, Tail, Gap}, Step}, Layout.Layout}
 use Rattle.ffs_volume.specs.{Disk.Areas.{is_fragment_in_range, is_run_in_range, is_reserved}, Blocks.Owners.Owner}

@@ -1,15 +1,12 @@
 -- The logical blocks of an inode's Runs rise, and are below the number of its logical blocks.
-use Rattle.std.proofs.lemmas.Bool.Decides.{nat_tests}
-use Rattle.std.proofs.Common.{zero, suc, ◌≡◌, ℕ, ◌+◌, ◌*◌, ◌<◌, ◌≤◌, true, arith, refl}
+use Rattle.std.proofs.{lemmas.Bool.Decides.nat_tests, Common.{zero, suc, ◌≡◌, ℕ, ◌+◌, ◌*◌, ◌<◌, ◌≤◌, true, arith, refl}}
 use Rattle.std.proofs.Common.{List, [], ◌∷◌, ◌++◌, append_assoc, nat_lt, if◌then◌else◌, slice_index}
-use Rattle.std.proofs.lemmas.{List.Folds.list_all-append}
-use Rattle.std.{proofs.Math.Nat.mul-le-mul_right, specs.List.{list_all, flat_map, range_with_len}}
-use Rattle.ffs_volume.specs.{declared.Step.{Step}}
-use Rattle.ffs_volume.specs.Blocks.Steps.{FileBlocks, address_at}
-use Rattle.ffs_volume.specs.Blocks.Steps.{indirect_addresses_needed, span_of, steps_at, indirection_of}
-use Rattle.ffs_volume.specs.Blocks.Steps.{first_block, steps_of_addresses, is_walked, last_length_of, steps_of}
-use Rattle.ffs_volume.{specs.Blocks.Inodes.{logical_blocks_of, addresses_needed}, proofs.StepLaws.span_more}
-use Rattle.ffs_volume.proofs.StepLaws.{used_most}
+use Rattle.std.{proofs.{lemmas.List.Folds.list_all-append, Math.Nat.mul-le-mul_right}, specs.List.{list_all, flat_map}}
+use Rattle.std.specs.List.{range_with_len}
+use Rattle.ffs_volume.specs.{declared.Step.Step, Blocks.Steps.{FileBlocks, address_at, indirect_addresses_needed}}
+use Rattle.ffs_volume.specs.Blocks.Steps.{span_of, steps_at, indirection_of, first_block, steps_of_addresses, is_walked}
+use Rattle.ffs_volume.specs.Blocks.{Steps.{last_length_of, steps_of}, Inodes.{logical_blocks_of, addresses_needed}}
+use Rattle.ffs_volume.proofs.StepLaws.{span_more, used_most}
 use Rattle.ffs_certificate.specs.BlocksRise.{blocks_in, AreRising, AllBlocksRise}
 
 -- numbers that rise from `low` on, below `high`, and all below a bound

@@ -2,14 +2,13 @@
 use Rattle.std.proofs.Common.{zero, suc, ◌≡◌, ℕ, ◌+◌, ◌-◌, ◌*◌, ◌<◌, ◌≤◌, true, false, arith, refl, sym, ap, ◌∙◌, List}
 use Rattle.std.proofs.{Common.{[], ◌∷◌, map, ◌≢◌, Bool}, lemmas.{Bool.and_parts, List.Folds.list_all-map}}
 use Rattle.std.{proofs.lemmas.List.FromFn.length-range_with_len, specs.List.range_with_len}
-use Rattle.ffs_volume.specs.declared.{Class.TheVariants.Unknown, Step.{Step}}
-use Rattle.ffs_volume.specs.{declared.{Layout.Layout, Inode.Inode}, Blocks.Claims.{Claims, no_claims, reserved_map}}
-use Rattle.ffs_volume.specs.Blocks.{Claims.{at_next_inode, after_step, after_owner, after_owners}, BlockCheck.is_marked}
-use Rattle.ffs_volume.specs.Blocks.{KeptSteps.{is_kept_step, kept_steps, claims_before, kept_steps_of}, Inodes.inode_of}
-use Rattle.ffs_volume.specs.Blocks.{Inodes.{class_of, type_of}, Owners.{owner_of, owners_of}}
-use Rattle.ffs_volume.specs.{Blocks.Steps.steps_of, Directories.Volumes.{is_inode_number, class_at, marked_at}}
-use Rattle.ffs_volume.specs.Directories.Volumes.{steps_of_inode, kept_steps_of_inode, volume_with, volume_of}
-use Rattle.ffs_volume.specs.Directories.{Volumes.whole_volume, Roles.roled_entries}
+use Rattle.ffs_volume.specs.declared.{Class.TheVariants.Unknown, Step.Step, Layout.Layout, Inode.Inode}
+use Rattle.ffs_volume.specs.Blocks.Claims.{Claims, no_claims, reserved_map, at_next_inode, after_step, after_owner}
+use Rattle.ffs_volume.specs.Blocks.{Claims.after_owners, BlockCheck.is_marked, KeptSteps.{is_kept_step, kept_steps}}
+use Rattle.ffs_volume.specs.Blocks.{KeptSteps.{claims_before, kept_steps_of}, Inodes.{inode_of, class_of, type_of}}
+use Rattle.ffs_volume.specs.{Blocks.{Owners.{owner_of, owners_of}, Steps.steps_of}, Directories.Volumes.is_inode_number}
+use Rattle.ffs_volume.specs.Directories.Volumes.{class_at, marked_at, steps_of_inode, kept_steps_of_inode, volume_with}
+use Rattle.ffs_volume.specs.Directories.{Volumes.{volume_of, whole_volume}, Roles.roled_entries}
 use Rattle.ffs_volume.specs.{Consistent.BlocksRight.{is_right_class, BlocksRight}, Laws.Geometry.IsAcceptedLayout}
 use Rattle.ffs_volume.proofs.Sizes.{no_steps}
 use Rattle.ffs_certificate.{specs.Premises.{IsVolume, IsUnmarked}, proofs.BlockLaws.{Calm, calm_open, step_quiet}}

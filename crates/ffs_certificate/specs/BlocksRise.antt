@@ -1,12 +1,7 @@
 -- Each logical block has one place at most.
-use Rattle.std.specs.Prelude.{◌≤◌, ◌≡◌, ℕ, ◌+◌, nat_lt, true, List, [], ◌∷◌, Some, None}
-use Rattle.std.specs.List.{flat_map, list_all}
-use Rattle.ffs_volume.specs.declared.Layout.{Layout}
-use Rattle.ffs_volume.specs.declared.Inode.{Inode}
-use Rattle.ffs_volume.specs.declared.Step.{Step}
-use Rattle.ffs_volume.specs.declared.Step.TheVariants.{Run, Tail, Gap}
-use Rattle.ffs_volume.specs.Blocks.Inodes.{logical_blocks_of}
-use Rattle.ffs_volume.specs.Blocks.Steps.{steps_of}
+use Rattle.std.specs.{Prelude.{◌≤◌, ◌≡◌, ℕ, ◌+◌, nat_lt, true, List, [], ◌∷◌, Some, None}, List.{flat_map, list_all}}
+use Rattle.ffs_volume.specs.declared.{Layout.Layout, Inode.Inode, Step.{Step, TheVariants.{Run, Tail, Gap}}}
+use Rattle.ffs_volume.specs.Blocks.{Inodes.logical_blocks_of, Steps.steps_of}
 
 -- the logical blocks of the Runs of data among some steps
 abbrev pub step_blocks : Step → List ℕ

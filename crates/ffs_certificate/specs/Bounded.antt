@@ -1,8 +1,6 @@
 -- The bound on claims.
 use Rattle.std.specs.Prelude.{◌≤◌, ℕ, List}
-use Rattle.ffs_volume.specs.declared.Layout.{Layout}
-use Rattle.ffs_volume.specs.Laws.Geometry.{IsAcceptedLayout}
-use Rattle.ffs_volume.specs.Report.Memory.{runs_limit}
+use Rattle.ffs_volume.specs.{declared.Layout.Layout, Laws.Geometry.IsAcceptedLayout, Report.Memory.runs_limit}
 use Rattle.ffs_volume.specs.Report.Whole.{run_count}
 
 -- whatever the addresses of an image are, no more Runs are seen than one for each fragment and 22

@@ -1,13 +1,9 @@
 -- What the laws on blocks and groups say, for an image.
 use Rattle.std.specs.Prelude.{◌≡◌, ◌↔◌, ℕ, ℤ, true, ◌||◌, List, [], ◌++◌}
-use Rattle.ffs_volume.specs.declared.Layout.{Layout}
-use Rattle.ffs_volume.specs.Disk.Areas.{is_fragment_in_range, is_reserved}
-use Rattle.ffs_volume.specs.Blocks.Owners.{Owner, owners_of}
-use Rattle.ffs_volume.specs.Blocks.Claims.{is_set, no_claims, after_owners}
-use Rattle.ffs_volume.specs.Blocks.KeptOffers.{kept_in_owners}
-use Rattle.ffs_volume.specs.Blocks.BlockCheck.{phase1_lines, phase1b_lines}
-use Rattle.ffs_volume.specs.Consistent.BlocksRight.{BlocksRight}
-use Rattle.ffs_volume.specs.Groups.Records.{AreGroupsRight}
+use Rattle.ffs_volume.specs.{declared.Layout.Layout, Disk.Areas.{is_fragment_in_range, is_reserved}}
+use Rattle.ffs_volume.specs.Blocks.{Owners.{Owner, owners_of}, Claims.{is_set, no_claims, after_owners}}
+use Rattle.ffs_volume.specs.Blocks.{KeptOffers.kept_in_owners, BlockCheck.{phase1_lines, phase1b_lines}}
+use Rattle.ffs_volume.specs.{Consistent.BlocksRight.BlocksRight, Groups.Records.AreGroupsRight}
 use Rattle.ffs_volume.specs.Groups.GroupCheck.{phase5_lines, is_free_of_kept, is_free_of_runs}
 use Rattle.ffs_volume.specs.Blocks.KeptByRule.{all_offers, is_claimed_before, verdicts, kept_by_rule}
 use Rattle.ffs_volume.specs.Directories.Volumes.{class_at}

@@ -1,28 +1,18 @@
 -- What is reported for each condition of a consistent volume.
 use Rattle.std.specs.Prelude.{◌≡◌, ◌≢◌, ◌↔◌, ℕ, ◌==◌, Bool, true, false, nat_lt, List, [], Some, IsSomeAnd, Option, Ok}
 use Rattle.std.specs.List.{list_all, list_any}
-use Rattle.ffs_volume.specs.declared.BlockMessage.{BlockMessage}
-use Rattle.ffs_volume.specs.declared.BlockMessage.TheVariants.{PartAlloc, UnknownType}
-use Rattle.ffs_volume.specs.declared.Role.TheVariants.{Extra, Plain}
-use Rattle.ffs_volume.specs.declared.constants.TheConstants.{DT_DIR, WINO}
-use Rattle.ffs_volume.specs.Disk.Superblock.{Superblock}
-use Rattle.ffs_volume.specs.Disk.Outcome.{outcome}
-use Rattle.ffs_volume.specs.Blocks.Owners.{owners_of}
-use Rattle.ffs_volume.specs.Blocks.BlockCheck.{phase1_lines}
-use Rattle.ffs_volume.specs.Consistent.BlocksRight.{is_right_class, AreRunsRight, BlocksRight}
-use Rattle.ffs_volume.specs.Groups.Records.{AreGroupsRight}
+use Rattle.ffs_volume.specs.declared.BlockMessage.{BlockMessage, TheVariants.{PartAlloc, UnknownType}}
+use Rattle.ffs_volume.specs.declared.{Role.TheVariants.{Extra, Plain}, constants.TheConstants.{DT_DIR, WINO}}
+use Rattle.ffs_volume.specs.{Disk.{Superblock.Superblock, Outcome.outcome}, Blocks.Owners.owners_of}
+use Rattle.ffs_volume.specs.{Blocks.BlockCheck.phase1_lines, Consistent.BlocksRight.{is_right_class, AreRunsRight}}
+use Rattle.ffs_volume.specs.{Consistent.BlocksRight.BlocksRight, Groups.Records.AreGroupsRight}
 use Rattle.ffs_volume.specs.Groups.GroupCheck.{phase5_lines, is_free_of_kept, is_free_of_runs}
-use Rattle.ffs_volume.specs.Directories.Entries.{Entry}
-use Rattle.ffs_volume.specs.Blocks.Inodes.{is_allocated}
-use Rattle.ffs_volume.specs.Directories.Roles.{Volume, RoledEntry, is_dir, is_allocated_inode}
-use Rattle.ffs_volume.specs.Directories.Roles.{roled_entries, dot, dotdot, references}
-use Rattle.ffs_volume.specs.Directories.Graph.{parent}
-use Rattle.ffs_volume.specs.Directories.Parents.{graph_of, nth_roled}
-use Rattle.ffs_volume.specs.Report.Opening.{setting_lines}
+use Rattle.ffs_volume.specs.{Directories.{Entries.Entry, Roles.{Volume, RoledEntry}}, Blocks.Inodes.is_allocated}
+use Rattle.ffs_volume.specs.Directories.Roles.{is_dir, is_allocated_inode, roled_entries, dot, dotdot, references}
+use Rattle.ffs_volume.specs.{Directories.{Graph.parent, Parents.{graph_of, nth_roled}}, Report.Opening.setting_lines}
 use Rattle.ffs_volume.specs.Directories.PathnameCheck.{continues_after_root, is_short, has_partial_chunk, are_sound}
 use Rattle.ffs_volume.specs.Directories.PathnameCheck.{is_wrong_parent, is_bad_whiteout, is_extraneous, has_wrong_type}
-use Rattle.ffs_volume.specs.Directories.Connectivity.{is_unref_dir}
-use Rattle.ffs_volume.specs.Disk.Numbers.{equals_natural}
+use Rattle.ffs_volume.specs.{Directories.Connectivity.is_unref_dir, Disk.Numbers.equals_natural}
 use Rattle.ffs_volume.specs.Consistent.DirectoriesRight.{AreDirsRight, AreLinksRight, AreCountsRight}
 use Rattle.ffs_volume.specs.Directories.Volumes.{class_at, volume_of, whole_volume}
 use Rattle.ffs_volume.specs.Consistent.Volume.{AreSettingsRight}

@@ -1,10 +1,8 @@
 -- The certificate of the checks of directories.
 use Rattle.std.specs.Prelude.{◌≡◌, ◌↔◌, []}
-use Rattle.ffs_volume.specs.Directories.Roles.{Volume}
-use Rattle.ffs_volume.specs.Directories.PathnameCheck.{pathname_lines}
-use Rattle.ffs_volume.specs.Directories.Connectivity.{connectivity_lines}
-use Rattle.ffs_volume.specs.Directories.ReferenceCheck.{reference_lines}
-use Rattle.ffs_volume.specs.Consistent.DirectoriesRight.{AreDirsRight, AreLinksRight, AreCountsRight}
+use Rattle.ffs_volume.specs.Directories.{Roles.Volume, PathnameCheck.pathname_lines, Connectivity.connectivity_lines}
+use Rattle.ffs_volume.specs.{Directories.ReferenceCheck.reference_lines, Consistent.DirectoriesRight.AreDirsRight}
+use Rattle.ffs_volume.specs.Consistent.DirectoriesRight.{AreLinksRight, AreCountsRight}
 use Rattle.ffs_certificate.specs.Premises.{IsVolume, IsUnmarked}
 
 -- the checks of pathnames, of connectivity and of reference counts report nothing

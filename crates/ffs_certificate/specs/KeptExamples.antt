@@ -1,11 +1,7 @@
 -- Which steps an inode keeps.
 use Rattle.std.specs.Prelude.{◌≡◌, Some, List, [], ◌∷◌, ◌++◌}
-use Rattle.ffs_volume.specs.declared.Order.TheVariants.{Little}
-use Rattle.ffs_volume.specs.declared.Step.{Step}
-use Rattle.ffs_volume.specs.declared.Step.TheVariants.{Run, Tail, Gap}
-use Rattle.ffs_volume.specs.Blocks.Claims.{no_claims}
-use Rattle.ffs_volume.specs.Blocks.KeptSteps.{kept_steps}
-use Rattle.ffs_volume.specs.Examples.Images.{base_layout}
+use Rattle.ffs_volume.specs.declared.{Order.TheVariants.Little, Step.{Step, TheVariants.{Run, Tail, Gap}}}
+use Rattle.ffs_volume.specs.{Blocks.{Claims.no_claims, KeptSteps.kept_steps}, Examples.Images.base_layout}
 use Rattle.ffs_volume.specs.Examples.BlockExamples.{blocks_at}
 
 -- what is kept of these steps, by an inode that comes first

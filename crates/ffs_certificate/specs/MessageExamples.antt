@@ -1,22 +1,17 @@
 -- The bytes of reports and of messages, the ends of runs, and what a check may hold.
 use Rattle.std.specs.Prelude.{◌≡◌, [], ◌∷◌, ◌++◌, pos, negsuc, Some, None, map, codes, true, false}
-use Rattle.ffs_volume.specs.declared.Attr.{Attr}
-use Rattle.ffs_volume.specs.declared.BlockMessage.TheVariants.{PartAlloc, UnknownType, Bad, ManyBad}
+use Rattle.ffs_volume.specs.declared.{Attr.Attr, BlockMessage.TheVariants.{PartAlloc, UnknownType, Bad, ManyBad}}
 use Rattle.ffs_volume.specs.declared.BlockMessage.TheVariants.{ManyDup, PartTrunc, BlockCount, GroupMagic}
-use Rattle.ffs_volume.specs.declared.End.TheVariants.{Consistent, Defects, Refused, RootStop}
-use Rattle.ffs_volume.specs.declared.End.TheVariants.{ReadFault, WriteFault, NoMemory}
-use Rattle.ffs_volume.specs.declared.Label.TheVariants.{Dir as DirLabel, File as FileLabel, Name as NameLabel}
-use Rattle.ffs_volume.specs.declared.Order.TheVariants.{Little}
-use Rattle.ffs_volume.specs.declared.SuperFault.TheVariants.{Magic, Disagree}
-use Rattle.ffs_volume.specs.Messages.Kinds.{bad_super, cannot_read, cannot_alloc, optimization, minfree, mounted}
-use Rattle.ffs_volume.specs.Messages.Kinds.{phase1, of_blocks, of_tree, summary, root_not_dir, root_suspect, dir_length}
-use Rattle.ffs_volume.specs.Messages.Kinds.{missing_dot_first, kind_dotdot, out_of_range, dup_bad, extraneous}
-use Rattle.ffs_volume.specs.Messages.Kinds.{kind_entry, dead_marked, unref, unref_zero, link_count, is_defect}
-use Rattle.ffs_volume.specs.Report.Opening.{opening_of}
-use Rattle.ffs_volume.specs.Messages.Texts.{texts_of}
-use Rattle.ffs_volume.specs.Report.Memory.{held_limit, runs_limit}
-use Rattle.ffs_volume.specs.Report.Whole.{report_lines, report_of, end_by, status_of}
-use Rattle.ffs_volume.specs.Examples.Images.{base_layout, base_image}
+use Rattle.ffs_volume.specs.declared.End.TheVariants.{Consistent, Defects, Refused, RootStop, ReadFault, WriteFault}
+use Rattle.ffs_volume.specs.declared.{End.TheVariants.NoMemory, Label.TheVariants.{Dir as DirLabel, File as FileLabel}}
+use Rattle.ffs_volume.specs.declared.{Label.TheVariants.Name as NameLabel, Order.TheVariants.Little}
+use Rattle.ffs_volume.specs.{declared.SuperFault.TheVariants.{Magic, Disagree}, Messages.Kinds.{bad_super, cannot_read}}
+use Rattle.ffs_volume.specs.Messages.Kinds.{cannot_alloc, optimization, minfree, mounted, phase1, of_blocks, of_tree}
+use Rattle.ffs_volume.specs.Messages.Kinds.{summary, root_not_dir, root_suspect, dir_length, missing_dot_first}
+use Rattle.ffs_volume.specs.Messages.Kinds.{kind_dotdot, out_of_range, dup_bad, extraneous, kind_entry, dead_marked}
+use Rattle.ffs_volume.specs.{Messages.Kinds.{unref, unref_zero, link_count, is_defect}, Report.Opening.opening_of}
+use Rattle.ffs_volume.specs.{Messages.Texts.texts_of, Report.{Memory.{held_limit, runs_limit}, Whole.report_lines}}
+use Rattle.ffs_volume.specs.{Report.Whole.{report_of, end_by, status_of}, Examples.Images.{base_layout, base_image}}
 use Rattle.ffs_certificate.specs.ReportExamples.{shared_image, shared_superblock, about_file}
 
 abbrev pub about_most : Attr

@@ -1,9 +1,8 @@
 -- What proofs may assume of a volume: it is no condition of consistency.
 use Rattle.std.specs.Prelude.{ℕ, ◌≡◌, ◌≢◌, ◌<◌, true, false, []}
-use Rattle.ffs_volume.specs.declared.constants.TheConstants.{ROOTINO, DT_WHT}
-use Rattle.ffs_volume.specs.declared.Class.TheVariants.{Partial, Unknown}
-use Rattle.ffs_volume.specs.Blocks.Inodes.{type_of}
-use Rattle.ffs_volume.specs.Directories.Roles.{Volume, is_dir, is_allocated_inode, roled_entries}
+use Rattle.ffs_volume.specs.declared.{constants.TheConstants.{ROOTINO, DT_WHT}, Class.TheVariants.{Partial, Unknown}}
+use Rattle.ffs_volume.specs.{Blocks.Inodes.type_of, Directories.Roles.{Volume, is_dir, is_allocated_inode}}
+use Rattle.ffs_volume.specs.Directories.Roles.{roled_entries}
 
 -- what holds of the volume of each image: there is an inode 2, a directory of size 0 has no
 -- entries, and no allocated inode of a known class has the type of a whiteout

@@ -1,23 +1,15 @@
 -- Whole reports of small images.
 use Rattle.std.specs.Prelude.{codes, ◌≡◌, ℕ, List, [], ◌∷◌, ◌++◌, pos, None, replicate}
-use Rattle.ffs_volume.specs.declared.Order.{Order}
-use Rattle.ffs_volume.specs.declared.Order.TheVariants.{Little, Big}
-use Rattle.ffs_volume.specs.declared.Attr.{Attr}
-use Rattle.ffs_volume.specs.declared.BlockMessage.TheVariants.{Dup}
-use Rattle.ffs_volume.specs.declared.End.TheVariants.{Consistent}
-use Rattle.ffs_volume.specs.declared.Label.TheVariants.{File as FileLabel}
-use Rattle.ffs_volume.specs.Disk.Superblock.{Superblock}
-use Rattle.ffs_volume.specs.Messages.Kinds.{Message, opening, mounted, phase1, phase1b, phase2, phase3, phase4}
-use Rattle.ffs_volume.specs.Messages.Kinds.{phase5, of_blocks, of_tree, summary, dup_bad, root_none, unref_dir}
-use Rattle.ffs_volume.specs.Directories.PathnameCheck.{pathname_lines}
-use Rattle.ffs_volume.specs.Directories.Connectivity.{connectivity_lines}
-use Rattle.ffs_volume.specs.Directories.ReferenceCheck.{reference_lines}
-use Rattle.ffs_volume.specs.Directories.Volumes.{volume_of}
-use Rattle.ffs_volume.specs.Report.Whole.{phase_lines, report_lines, report_of, report_end}
-use Rattle.ffs_volume.specs.Consistent.Volume.{IsConsistent}
-use Rattle.ffs_volume.specs.Examples.Images.{bytes_in, word, zero_bytes, mount_bytes, base_layout}
-use Rattle.ffs_volume.specs.Examples.Images.{base_superblock, base_image, root_chunk}
-use Rattle.ffs_volume.specs.Examples.DirectoryExamples.{entry_bytes, one_dot, two_dots}
+use Rattle.ffs_volume.specs.declared.{Order.{Order, TheVariants.{Little, Big}}, Attr.Attr, BlockMessage.TheVariants.Dup}
+use Rattle.ffs_volume.specs.declared.{End.TheVariants.Consistent, Label.TheVariants.File as FileLabel}
+use Rattle.ffs_volume.specs.{Disk.Superblock.Superblock, Messages.Kinds.{Message, opening, mounted, phase1, phase1b}}
+use Rattle.ffs_volume.specs.Messages.Kinds.{phase2, phase3, phase4, phase5, of_blocks, of_tree, summary, dup_bad}
+use Rattle.ffs_volume.specs.{Messages.Kinds.{root_none, unref_dir}, Directories.PathnameCheck.pathname_lines}
+use Rattle.ffs_volume.specs.Directories.{Connectivity.connectivity_lines, ReferenceCheck.reference_lines}
+use Rattle.ffs_volume.specs.{Directories.Volumes.volume_of, Report.Whole.{phase_lines, report_lines, report_of}}
+use Rattle.ffs_volume.specs.{Report.Whole.report_end, Consistent.Volume.IsConsistent, Examples.Images.{bytes_in, word}}
+use Rattle.ffs_volume.specs.Examples.Images.{zero_bytes, mount_bytes, base_layout, base_superblock, base_image}
+use Rattle.ffs_volume.specs.Examples.{Images.root_chunk, DirectoryExamples.{entry_bytes, one_dot, two_dots}}
 
 -- an inode of this mode, count of links and size, with its first address
 unfoldable pub inode_bytes : Order → ℕ → ℕ → ℕ → ℕ → List ℕ

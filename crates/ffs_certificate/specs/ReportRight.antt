@@ -1,13 +1,9 @@
 -- The certificate: what a report without a defect says of the volume.
 use Rattle.std.specs.Prelude.{true, ◌≡◌, ◌↔◌, ℕ, false, List, Option, Ok}
-use Rattle.ffs_volume.specs.declared.End.TheVariants.{Consistent, RootStop}
-use Rattle.ffs_volume.specs.Disk.Superblock.{Superblock}
-use Rattle.ffs_volume.specs.Disk.Outcome.{outcome}
-use Rattle.ffs_volume.specs.Consistent.Volume.{IsConsistent}
-use Rattle.ffs_volume.specs.Messages.Kinds.{has_defect}
+use Rattle.ffs_volume.specs.{declared.End.TheVariants.{Consistent, RootStop}, Disk.Superblock.Superblock}
+use Rattle.ffs_volume.specs.{Disk.Outcome.outcome, Consistent.Volume.IsConsistent, Messages.Kinds.has_defect}
 use Rattle.ffs_volume.specs.Report.Whole.{phase_lines, report_lines, end_of}
-use Rattle.ffs_volume.specs.Directories.PathnameCheck.{continues_after_root}
-use Rattle.ffs_volume.specs.Directories.Volumes.{volume_of}
+use Rattle.ffs_volume.specs.Directories.{PathnameCheck.continues_after_root, Volumes.volume_of}
 
 -- no defect is reported, or the run ends as Consistent, exactly where the volume is consistent
 pub record IsCertified (image : List ℕ) (s : Superblock) : Type 0 where

@@ -9,14 +9,10 @@
 //! It rests on `ffs_volume`.
 #![tactic(auto)]
 
-ghost use Rattle.ffs_certificate.specs.BlocksRise.{AllBlocksRise};
-ghost use Rattle.ffs_certificate.specs.Bounded.{ClaimsAreBounded};
-ghost use Rattle.ffs_certificate.specs.Certificate.{BlocksAndGroups, KeepingByRule};
-ghost use Rattle.ffs_certificate.specs.Conditions.{ConditionsAreReported};
-ghost use Rattle.ffs_certificate.specs.DirsCertificate.{SilentIsRight};
-ghost use Rattle.ffs_certificate.specs.KeptExamples.{KeptExamples};
-ghost use Rattle.ffs_certificate.specs.MessageExamples.{MessageExamples};
-ghost use Rattle.ffs_certificate.specs.ReportExamples.{ReportExamples};
+ghost use Rattle.ffs_certificate.specs.{BlocksRise.AllBlocksRise, Bounded.ClaimsAreBounded};
+ghost use Rattle.ffs_certificate.specs.{Certificate.{BlocksAndGroups, KeepingByRule}, Conditions.ConditionsAreReported};
+ghost use Rattle.ffs_certificate.specs.{DirsCertificate.SilentIsRight, KeptExamples.KeptExamples};
+ghost use Rattle.ffs_certificate.specs.{MessageExamples.MessageExamples, ReportExamples.ReportExamples};
 ghost use Rattle.ffs_certificate.specs.ReportRight.{ReportIsRight, StopIsReported};
 
 /// A law of the definitions: a silent check of blocks and groups certifies them.

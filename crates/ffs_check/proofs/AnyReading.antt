@@ -1,23 +1,17 @@
 -- How often a check reads any image, from the phases to the whole.
 use Rattle.std.proofs.Common.{◌≡◌, ◌≤◌, ◌+◌, ◌*◌, ℕ, Bool, false, refl, inl, inr, sym, arith, List, [], ◌∷◌, ◌++◌}
-use Rattle.std.proofs.Common.{length-append, Ok, Err, subst, Result}
-use Rattle.std.proofs.Math.Nat.{mul-le-mul_left}
-use Rattle.std.specs.Borrow.{GName}
-use Rattle.ffs_volume.specs.declared.{Layout.Layout, End.End}
-use Rattle.ffs_volume.specs.{Messages.Kinds.Message, Messages.Kinds.cannot_alloc, Messages.Kinds.cannot_read}
-use Rattle.ffs_volume.specs.Report.{Memory.runs_limit, Reads.group_reads, Reads.line_reads, Reads.opening_reads}
-use Rattle.ffs_volume.specs.Report.Reads.{phase_reads, reads_limit, sweep_reads}
+use Rattle.std.{proofs.{Common.{length-append, Ok, Err, subst, Result}, Math.Nat.mul-le-mul_left}, specs.Borrow.GName}
+use Rattle.ffs_volume.specs.{declared.{Layout.Layout, End.End}, Messages.Kinds.{Message, cannot_alloc, cannot_read}}
+use Rattle.ffs_volume.specs.Report.{Memory.runs_limit, Reads.{group_reads, line_reads, opening_reads, phase_reads}}
+use Rattle.ffs_volume.specs.Report.Reads.{reads_limit, sweep_reads}
 use Rattle.ffs_layout.specs.declared.superblock.Super.{Super}
-use Rattle.ffs_report.specs.{Sink.Sink, Paid.Paid, Progress.Progress, Progress.Said, Progress.Stopped, Progress.starts}
-use Rattle.ffs_report.specs.declared.fault.RunFault.{RunFault}
-use Rattle.ffs_report.specs.declared.fault.RunFault.TheVariants.{Read, Out}
-use Rattle.ffs_report.specs.PhaseOutcome.{PhaseReports}
-use Rattle.ffs_report.proofs.Reports.{said_then, stopped_after}
-use Rattle.ffs_report.proofs.Paying.{paid_beside, paid_price, paid_text, paid_then, paid_within}
+use Rattle.ffs_report.specs.{Sink.Sink, Paid.Paid, Progress.{Progress, Said, Stopped, starts}}
+use Rattle.ffs_report.specs.{declared.fault.RunFault.{RunFault, TheVariants.{Read, Out}}, PhaseOutcome.PhaseReports}
+use Rattle.ffs_report.proofs.{Reports.{said_then, stopped_after}, Paying.{paid_beside, paid_price, paid_text}}
+use Rattle.ffs_report.proofs.Paying.{paid_then, paid_within}
 use Rattle.ffs_pathnames.specs.declared.pass2.Root.{Root}
-use Rattle.ffs_check.specs.AnyReads.{PhasesReadAny, ReadsAny, ReadsByMessages, RestReadsAny}
-use Rattle.ffs_check.specs.{Ends.BrokeOffIn, Ends.Printed, PhaseEnds.EndsAs, PhaseEnds.SaysRefusal}
-use Rattle.ffs_check.proofs.EndLaws.{broke_off}
+use Rattle.ffs_check.specs.{AnyReads.{PhasesReadAny, ReadsAny, ReadsByMessages, RestReadsAny}, Ends.BrokeOffIn}
+use Rattle.ffs_check.{specs.{Ends.Printed, PhaseEnds.{EndsAs, SaysRefusal}}, proofs.EndLaws.broke_off}
 
 -- the price of each message, beside what the phases read for none
 priced : (v : Layout) (n m before after : ℕ) → after ≤ before + phase_reads v 0 + (line_reads + 1) * n → n ≤ m →

@@ -1,13 +1,9 @@
 -- How many reads and writes failed, by the headline.
-use Rattle.std.proofs.Common.{arith}
-use Rattle.std.proofs.Common.{◌≡◌, inl, inr, ap, ℕ, true, List, Option}
+use Rattle.std.proofs.Common.{arith, ◌≡◌, inl, inr, ap, ℕ, true, List, Option}
 use Rattle.ffs_image.specs.Device.{Device}
-use Rattle.ffs_volume.specs.declared.End.{End}
-use Rattle.ffs_volume.specs.declared.End.TheVariants.{Refused, ReadFault, WriteFault}
-use Rattle.ffs_volume.specs.Messages.Kinds.{Message}
+use Rattle.ffs_volume.specs.{declared.End.{End, TheVariants.{Refused, ReadFault, WriteFault}}, Messages.Kinds.Message}
 use Rattle.ffs_report.specs.Sink.{Sink}
-use Rattle.ffs_check.specs.Failures.{ReadsFailed, WritesFailed}
-use Rattle.ffs_check.specs.Headline.{is_completed, IsCutShort, Headline}
+use Rattle.ffs_check.specs.{Failures.{ReadsFailed, WritesFailed}, Headline.{is_completed, IsCutShort, Headline}}
 
 reads_none : (end : End) (old new : ℕ) → is_completed end ≡ true → new ≡ old → ReadsFailed end old new
 reads_none (Refused fault) old new c e = inl e

@@ -1,13 +1,10 @@
 -- Laws of the ways in which a check ends: after an opening, at an output, and where more is known.
-use Rattle.std.proofs.Common.{arith}
-use Rattle.std.proofs.Common.{◌≡◌, ◌⊎◌, false, List, [], ◌∷◌, ◌++◌, append_assoc}
-use Rattle.std.specs.Borrow.{GName}
+use Rattle.std.{proofs.Common.{arith, ◌≡◌, ◌⊎◌, false, List, [], ◌∷◌, ◌++◌, append_assoc}, specs.Borrow.GName}
 use Rattle.ffs_image.specs.Device.{Device}
-use Rattle.ffs_volume.specs.declared.{End.End, End.TheVariants.WriteFault}
-use Rattle.ffs_volume.specs.Messages.Kinds.{Message}
-use Rattle.ffs_report.specs.{Sink.Sink, Progress.Progress, Progress.Said, Progress.Stopped, Progress.starts}
-use Rattle.ffs_report.proofs.Reports.{said_then, stopped_after}
-use Rattle.ffs_check.specs.{Ends.BrokeOffIn, Ends.BrokeOffInLine, Ends.Ends, Ends.Printed, PhaseEnds.LineEnds}
+use Rattle.ffs_volume.specs.{declared.End.{End, TheVariants.WriteFault}, Messages.Kinds.Message}
+use Rattle.ffs_report.{specs.{Sink.Sink, Progress.{Progress, Said, Stopped, starts}}, proofs.Reports.said_then}
+use Rattle.ffs_report.proofs.Reports.{stopped_after}
+use Rattle.ffs_check.specs.{Ends.{BrokeOffIn, BrokeOffInLine, Ends, Printed}, PhaseEnds.LineEnds}
 
 -- a fault's line after whole messages
 pub line_after : (a b c : Progress) (said : List Message) (line : Message) (fault_end end : End) → Said a b said →

@@ -1,23 +1,15 @@
 -- How what the phases answered is reported, and how a check so ends.
-use Rattle.std.proofs.Common.{arith}
-use Rattle.std.proofs.Common.{IfOk, ◌≡◌, inl, inr, refl, ◌∙◌, sym, ap, ℕ, Bool, true, false, not, ◌&&◌}
-use Rattle.std.proofs.Common.{List, [], ◌++◌, ◌<◌, length, append-nil, Option, Some, None, Result, Ok, Err}
+use Rattle.std.proofs.Common.{arith, IfOk, ◌≡◌, inl, inr, refl, ◌∙◌, sym, ap, ℕ, Bool, true, false, not, ◌&&◌, List, []}
+use Rattle.std.{proofs.Common.{◌++◌, ◌<◌, length, append-nil, Option, Some, None, Result, Ok, Err}, specs.Borrow.GName}
 use Rattle.ffs_image.specs.Device.{Device, Faulted}
-use Rattle.ffs_volume.specs.declared.{End.End, End.TheVariants.ReadFault, End.TheVariants.WriteFault}
-use Rattle.ffs_volume.specs.{Disk.Superblock.Superblock}
-use Rattle.ffs_volume.specs.Messages.Kinds.{Message, cannot_read, has_defect, is_defect}
-use Rattle.ffs_volume.specs.Messages.Kinds.{unless}
+use Rattle.ffs_volume.specs.{declared.End.{End, TheVariants.{ReadFault, WriteFault}}, Disk.Superblock.Superblock}
+use Rattle.ffs_volume.specs.Messages.Kinds.{Message, cannot_read, has_defect, is_defect, unless}
 use Rattle.ffs_volume.specs.Report.Opening.{has_valid_minfree, has_valid_optim, setting_lines, super_lines}
-use Rattle.std.specs.Borrow.{GName}
-use Rattle.ffs_report.specs.{Sink.Sink, Known.ForBytes, Known.IsContents, PhaseOutcome.ImageAfter}
-use Rattle.ffs_report.specs.Progress.{Progress, Said, Stopped, starts}
-use Rattle.ffs_report.proofs.Reports.{has_defect-append, stopped_more}
-use Rattle.ffs_report.specs.declared.fault.RunFault.{RunFault}
-use Rattle.ffs_report.specs.declared.fault.RunFault.TheVariants.{Read, Out}
-use Rattle.ffs_pathnames.specs.declared.pass2.Root.{Root}
-use Rattle.ffs_pathnames.specs.RootAnswers.{is_go}
-use Rattle.ffs_check.specs.PhaseEnds.{EndsAs, IsEndByRoot, PrintsPhases, ReportsOrStopsEarly, SaysPhases}
-use Rattle.ffs_check.specs.PhaseEnds.{SaysReadFault}
+use Rattle.ffs_report.specs.{Sink.Sink, Known.{ForBytes, IsContents}, PhaseOutcome.ImageAfter, Progress.Progress}
+use Rattle.ffs_report.{specs.Progress.{Said, Stopped, starts}, proofs.Reports.{has_defect-append, stopped_more}}
+use Rattle.ffs_report.specs.declared.fault.RunFault.{RunFault, TheVariants.{Read, Out}}
+use Rattle.ffs_pathnames.specs.{declared.pass2.Root.Root, RootAnswers.is_go}
+use Rattle.ffs_check.specs.PhaseEnds.{EndsAs, IsEndByRoot, PrintsPhases, ReportsOrStopsEarly, SaysPhases, SaysReadFault}
 use Rattle.ffs_check.proofs.EndLaws.{ends_printed, line_after}
 
 -- what an image's bytes determine, and nothing for an image that doesn't give them

@@ -1,27 +1,19 @@
 -- The headline, of a check after an accepted superblock.
-use Rattle.std.proofs.Common.{arith}
-use Rattle.std.proofs.Common.{◌≡◌, inl, inr, refl, ◌∙◌, sym, ap, subst, ℕ, Bool, false, ◌||◌, List, ◌++◌}
-use Rattle.std.proofs.Common.{append_assoc, Option, Ok}
-use Rattle.ffs_image.specs.Device.{Device, ForContents}
-use Rattle.ffs_image.proofs.Devices.{faulted_there}
-use Rattle.ffs_volume.specs.declared.{SuperFault.SuperFault, End.End}
-use Rattle.ffs_volume.specs.declared.End.TheVariants.{Refused, ReadFault}
-use Rattle.ffs_volume.specs.declared.End.TheVariants.{NoMemory}
-use Rattle.ffs_volume.specs.{Disk.Superblock.Superblock, Disk.Outcome.outcome, Report.Opening.opening_lines}
-use Rattle.ffs_volume.specs.{Directories.PathnameCheck.continues_after_root, Directories.Volumes.volume_of}
-use Rattle.ffs_volume.specs.Messages.Kinds.{Message, cannot_read, cannot_alloc}
-use Rattle.ffs_volume.specs.Report.Whole.{phase_lines, end_by, report_of, report_end}
-use Rattle.std.specs.Borrow.{GName}
-use Rattle.ffs_report.specs.{Sink.Sink, Known.IsContents}
-use Rattle.ffs_report.specs.Progress.{Progress, Said, Stopped, starts}
-use Rattle.ffs_layout.specs.declared.superblock.Super.{Super}
-use Rattle.ffs_layout.specs.Super.{ReadsSuper, superblock_in}
-use Rattle.ffs_check.specs.{Ends.Ends, Opening.SaysOpening}
-use Rattle.ffs_check.specs.PhaseEnds.{IsCutByRead, IsEndByRoot, SaysRefusal, SaysRest}
+use Rattle.std.proofs.Common.{arith, ◌≡◌, inl, inr, refl, ◌∙◌, sym, ap, subst, ℕ, Bool, false, ◌||◌, List, ◌++◌}
+use Rattle.std.{proofs.Common.{append_assoc, Option, Ok}, specs.Borrow.GName}
+use Rattle.ffs_image.{specs.Device.{Device, ForContents}, proofs.Devices.faulted_there}
+use Rattle.ffs_volume.specs.declared.{SuperFault.SuperFault, End.{End, TheVariants.{Refused, ReadFault, NoMemory}}}
+use Rattle.ffs_volume.specs.{Disk.{Superblock.Superblock, Outcome.outcome}, Report.Opening.opening_lines}
+use Rattle.ffs_volume.specs.Directories.{PathnameCheck.continues_after_root, Volumes.volume_of}
+use Rattle.ffs_volume.specs.{Messages.Kinds.{Message, cannot_read, cannot_alloc}, Report.Whole.{phase_lines, end_by}}
+use Rattle.ffs_volume.specs.Report.Whole.{report_of, report_end}
+use Rattle.ffs_report.specs.{Sink.Sink, Known.IsContents, Progress.{Progress, Said, Stopped, starts}}
+use Rattle.ffs_layout.specs.{declared.superblock.Super.Super, Super.{ReadsSuper, superblock_in}}
+use Rattle.ffs_check.specs.{Ends.Ends, Opening.SaysOpening, PhaseEnds.{IsCutByRead, IsEndByRoot, SaysRefusal, SaysRest}}
 use Rattle.ffs_check.specs.Headline.{is_completed, opened_lines, Headline, IsCutShort, IsEndOfReport}
-use Rattle.ffs_check.proofs.{Openings.found_of, Openings.unfailed_of, Endings.at_contents, Endings.at_known}
-use Rattle.ffs_check.proofs.EndLaws.{ends_after, ends_printed, line_after}
-use Rattle.ffs_check.proofs.Headlines.{whole_there, defect_there, end_of_there, end_there, completed_by, certifies}
+use Rattle.ffs_check.proofs.{Openings.{found_of, unfailed_of}, Endings.{at_contents, at_known}, EndLaws.ends_after}
+use Rattle.ffs_check.proofs.{EndLaws.{ends_printed, line_after}, Headlines.{whole_there, defect_there, end_of_there}}
+use Rattle.ffs_check.proofs.Headlines.{end_there, completed_by, certifies}
 
 module _ (image : Device) (name : List ℕ) (sector : Option ℕ) (output : GName) (sink : Sink) (s : Superblock)
     (accepted : ForContents image.contents (λ bytes. Ok s ≡ outcome bytes sector))

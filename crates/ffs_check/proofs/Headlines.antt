@@ -1,24 +1,20 @@
 -- The headline, of an opening and of what follows it.
-use Rattle.std.proofs.Common.{arith}
-use Rattle.std.proofs.Common.{◌≡◌, ◌⊎◌, inl, inr, refl, ◌∙◌, sym, ap, subst, ℕ, Bool, true, List, [], ◌∷◌, ◌++◌}
-use Rattle.std.proofs.Common.{append_assoc, append-nil, Option, Result, Ok, Err}
+use Rattle.std.proofs.Common.{arith, ◌≡◌, ◌⊎◌, inl, inr, refl, ◌∙◌, sym, ap, subst, ℕ, Bool, true, List, [], ◌∷◌, ◌++◌}
+use Rattle.std.{proofs.Common.{append_assoc, append-nil, Option, Result, Ok, Err}, specs.Borrow.GName}
 use Rattle.ffs_image.specs.Device.{Device, Faulted, ForContents}
-use Rattle.ffs_volume.specs.declared.{SuperFault.SuperFault, SuperFault.TheVariants.CannotRead, End.End}
-use Rattle.ffs_volume.specs.declared.End.TheVariants.{Refused, WriteFault}
-use Rattle.ffs_volume.specs.{Disk.Superblock.Superblock, Disk.Outcome.outcome}
-use Rattle.ffs_volume.specs.{Directories.PathnameCheck.continues_after_root, Directories.Volumes.volume_of}
-use Rattle.ffs_volume.specs.Messages.Kinds.{Message, has_defect}
-use Rattle.ffs_volume.specs.Report.Opening.{head_lines, super_lines, fault_line, opening_lines}
-use Rattle.ffs_volume.specs.Report.Whole.{phase_lines, report_lines, end_by, end_of, lines_by_outcome, end_by_outcome}
-use Rattle.ffs_volume.specs.Report.Whole.{report_of, report_end}
-use Rattle.std.specs.Borrow.{GName}
-use Rattle.ffs_report.specs.{Sink.Sink, Progress.Progress, Progress.Said, Progress.Stopped, Progress.starts}
-use Rattle.ffs_report.proofs.Reports.{stopped_after, stopped_more}
+use Rattle.ffs_volume.specs.declared.{SuperFault.{SuperFault, TheVariants.CannotRead}, End.{End, TheVariants.Refused}}
+use Rattle.ffs_volume.specs.{declared.End.TheVariants.WriteFault, Disk.{Superblock.Superblock, Outcome.outcome}}
+use Rattle.ffs_volume.specs.Directories.{PathnameCheck.continues_after_root, Volumes.volume_of}
+use Rattle.ffs_volume.specs.{Messages.Kinds.{Message, has_defect}, Report.Opening.{head_lines, super_lines, fault_line}}
+use Rattle.ffs_volume.specs.Report.{Opening.opening_lines, Whole.{phase_lines, report_lines, end_by, end_of}}
+use Rattle.ffs_volume.specs.Report.Whole.{lines_by_outcome, end_by_outcome, report_of, report_end}
+use Rattle.ffs_report.{specs.{Sink.Sink, Progress.{Progress, Said, Stopped, starts}}, proofs.Reports.stopped_after}
+use Rattle.ffs_report.proofs.Reports.{stopped_more}
 use Rattle.ffs_layout.specs.Super.{IsSuperSector, ReadsSuper}
 use Rattle.ffs_certificate.proofs.ReportLaws.{certified}
-use Rattle.ffs_check.specs.{Ends.BrokeOffIn, Ends.BrokeOffInLine, Ends.Printed, Opening.SaysOpening}
-use Rattle.ffs_check.specs.Headline.{is_completed, Certifies, opened_lines, Headline}
-use Rattle.ffs_check.proofs.{EndLaws.broke_off, EndLaws.broke_in_line, Endings.at_contents, Endings.at_known}
+use Rattle.ffs_check.specs.{Ends.{BrokeOffIn, BrokeOffInLine, Printed}, Opening.SaysOpening, Headline.is_completed}
+use Rattle.ffs_check.{specs.Headline.{Certifies, opened_lines, Headline}, proofs.EndLaws.{broke_off, broke_in_line}}
+use Rattle.ffs_check.proofs.Endings.{at_contents, at_known}
 
 -- ---- the report, in its parts
 no_defect_head : (name : List ℕ) (sector : Option ℕ) (xs : List Message) → has_defect (head_lines name sector ++ xs)

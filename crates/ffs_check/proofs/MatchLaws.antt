@@ -1,13 +1,10 @@
 -- What the matches of the words say of the image and of the sector.
-use Rattle.std.proofs.Common.{arith}
-use Rattle.std.proofs.Common.{◌≡◌, ◌∙◌, ◌++◌, ◌∷◌, [], ℕ, List, Option, Some, None, Ok, Result, refl, ap}
-use Rattle.std.proofs.Common.{true, option_map}
-use Rattle.std.proofs.lemmas.List.{map-append}
-use Rattle.std.specs.{Prelude.unwrap_or, Borrow.Bor, Str.Parse.ParsesUnsigned}
-use Rattle.clap.specs.Words.{AddsShortAliases, HasKind, Kinds, ReadsOne, is_simple, is_simple_and_free}
-use Rattle.clap.specs.Words.{kind_of, rule_of}
-use Rattle.clap.specs.declared.{builder.arg.Arg.Arg, builder.value_parser.ValueParser.ValueParser, error.Error.Error}
-use Rattle.clap.specs.declared.{error.kind.ErrorKind.TheVariants.OutOfMemory}
+use Rattle.std.proofs.Common.{arith, ◌≡◌, ◌∙◌, ◌++◌, ◌∷◌, [], ℕ, List, Option, Some, None, Ok, Result, refl, ap, true}
+use Rattle.std.{proofs.{Common.option_map, lemmas.List.map-append}, specs.{Prelude.unwrap_or, Borrow.Bor}}
+use Rattle.std.specs.Str.Parse.{ParsesUnsigned}
+use Rattle.clap.specs.Words.{AddsShortAliases, HasKind, Kinds, ReadsOne, is_simple, is_simple_and_free, kind_of}
+use Rattle.clap.specs.{Words.rule_of, declared.builder.{arg.Arg.Arg, value_parser.ValueParser.ValueParser}}
+use Rattle.clap.specs.declared.error.{Error.Error, kind.ErrorKind.TheVariants.OutOfMemory}
 use Rattle.clap.proofs.OnLiterals.{clap_on_literals}
 use Rattle.ffs_check.specs.CommandWords.{IsSector, program}
 

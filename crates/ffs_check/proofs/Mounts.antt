@@ -1,8 +1,6 @@
 -- The bytes before the first NUL.
-use Rattle.std.proofs.Common.{◌≡◌, ◌≤◌, ◌<◌, ◌+◌, ℕ, Bool, false, List, length, take, get_or, arith, sym, ap, ◌∙◌}
-use Rattle.std.proofs.Common.{inl, inr, nat_lt}
-use Rattle.std.specs.List.{prefix_len}
-use Rattle.std.proofs.lemmas.{Bool.cases_lt, Bool.Decides.nat_tests}
+use Rattle.std.proofs.Common.{◌≡◌, ◌≤◌, ◌<◌, ◌+◌, ℕ, Bool, false, List, length, take, get_or, arith, sym, ap, ◌∙◌, inl}
+use Rattle.std.{proofs.{Common.{inr, nat_lt}, lemmas.Bool.{cases_lt, Decides.nat_tests}}, specs.List.prefix_len}
 use Rattle.std.proofs.lemmas.List.Sums.{prefix_len-le-length, prefix_len_passes, prefix_len_stops}
 use Rattle.std.proofs.Math.Seq.{take-length}
 use Rattle.ffs_volume.specs.Report.Opening.{before_nul}

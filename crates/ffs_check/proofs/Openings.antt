@@ -1,18 +1,14 @@
 -- How an opening ends.
-use Rattle.std.proofs.Common.{arith}
-use Rattle.std.proofs.Common.{◌≡◌, inl, inr, refl, ◌∷◌, [], ℕ, List, Option, Some, None, Result, Ok, Err}
-use Rattle.ffs_image.specs.Device.{Device, ForContents}
-use Rattle.ffs_volume.specs.declared.{SuperFault.SuperFault, SuperFault.TheVariants.Magic, End.End}
-use Rattle.ffs_volume.specs.declared.End.TheVariants.{Refused, WriteFault}
-use Rattle.ffs_volume.specs.{Disk.Superblock.Superblock, Disk.Outcome.outcome}
-use Rattle.ffs_volume.specs.Report.Opening.{head_lines, super_lines, fault_line}
+use Rattle.std.proofs.Common.{arith, ◌≡◌, inl, inr, refl, ◌∷◌, [], ℕ, List, Option, Some, None, Result, Ok, Err}
 use Rattle.std.specs.Borrow.{GName}
-use Rattle.ffs_report.specs.{Sink.Sink, Progress.Progress, Progress.Said, Progress.Stopped, Progress.starts}
-use Rattle.ffs_report.proofs.Reports.{said_then, stopped_after, stopped_more}
-use Rattle.ffs_layout.specs.declared.superblock.Super.{Super}
-use Rattle.ffs_layout.specs.Super.{ReadsSuper, superblock_in}
-use Rattle.ffs_check.specs.Ends.{BrokeOffIn, Printed}
-use Rattle.ffs_check.specs.Opening.{OpeningEnds, PrintsOpening, SaysOpening}
+use Rattle.ffs_image.specs.Device.{Device, ForContents}
+use Rattle.ffs_volume.specs.declared.{SuperFault.{SuperFault, TheVariants.Magic}, End.{End, TheVariants.Refused}}
+use Rattle.ffs_volume.specs.{declared.End.TheVariants.WriteFault, Disk.{Superblock.Superblock, Outcome.outcome}}
+use Rattle.ffs_volume.specs.Report.Opening.{head_lines, super_lines, fault_line}
+use Rattle.ffs_report.{specs.{Sink.Sink, Progress.{Progress, Said, Stopped, starts}}, proofs.Reports.said_then}
+use Rattle.ffs_report.proofs.Reports.{stopped_after, stopped_more}
+use Rattle.ffs_layout.specs.{declared.superblock.Super.Super, Super.{ReadsSuper, superblock_in}}
+use Rattle.ffs_check.specs.{Ends.{BrokeOffIn, Printed}, Opening.{OpeningEnds, PrintsOpening, SaysOpening}}
 use Rattle.ffs_check.proofs.EndLaws.{broke_in_line, broke_off}
 
 -- what is found where nothing has been read

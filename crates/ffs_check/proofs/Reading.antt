@@ -1,22 +1,18 @@
 -- How often a check reads its image.
 use Rattle.std.proofs.Common.{◌≡◌, ◌≤◌, ◌+◌, ◌*◌, ℕ, true, List, length, ap, ◌∙◌, sym, refl, subst, arith, Option}
-use Rattle.std.proofs.Common.{Result, Ok, Err}
-use Rattle.std.proofs.lemmas.List.{length-append, length-map}
+use Rattle.std.proofs.{Common.{Result, Ok, Err}, lemmas.List.{length-append, length-map}}
 use Rattle.ffs_image.specs.Device.{Device}
 use Rattle.ffs_volume.specs.declared.{Layout.Layout, SuperFault.SuperFault}
-use Rattle.ffs_volume.specs.{Directories.Connectivity.connectivity_lines, Directories.ReferenceCheck.reference_lines}
-use Rattle.ffs_volume.specs.{Directories.Volumes.volume_of, Disk.Outcome.outcome, Disk.Superblock.Superblock}
-use Rattle.ffs_volume.specs.{Report.Memory.runs_limit}
-use Rattle.ffs_volume.specs.Directories.PathnameCheck.{continues_after_root, pathname_lines}
+use Rattle.ffs_volume.specs.Directories.{Connectivity.connectivity_lines, ReferenceCheck.reference_lines}
+use Rattle.ffs_volume.specs.{Directories.Volumes.volume_of, Disk.{Outcome.outcome, Superblock.Superblock}}
+use Rattle.ffs_volume.specs.{Report.Memory.runs_limit, Directories.PathnameCheck.{continues_after_root, pathname_lines}}
 use Rattle.ffs_volume.specs.Report.Reads.{group_reads, opening_reads, pathname_reads, phase_reads, sweep_reads}
 use Rattle.ffs_volume.specs.Report.Whole.{phase_lines, report_of}
-use Rattle.ffs_layout.specs.declared.superblock.Super.{Super}
-use Rattle.ffs_layout.specs.Super.{ReadsSuper, superblock_in}
-use Rattle.ffs_report.specs.{Progress.Progress, Known.ForBytes, Known.IsContents}
-use Rattle.ffs_check.specs.{Headline.opened_lines, Opening.SaysOpening}
-use Rattle.ffs_check.specs.ReadsWithin.{PhasesReadWithin, ReadsWithin}
-use Rattle.ffs_check.specs.Rest.{after_phase2}
-use Rattle.ffs_check.proofs.{Headlines.whole_there, Stages.text_parts, Openings.found_of, Openings.unfailed_of}
+use Rattle.ffs_layout.specs.{declared.superblock.Super.Super, Super.{ReadsSuper, superblock_in}}
+use Rattle.ffs_report.specs.{Progress.Progress, Known.{ForBytes, IsContents}}
+use Rattle.ffs_check.specs.{Headline.opened_lines, Opening.SaysOpening, ReadsWithin.{PhasesReadWithin, ReadsWithin}}
+use Rattle.ffs_check.{specs.Rest.after_phase2, proofs.{Headlines.whole_there, Stages.text_parts, Openings.found_of}}
+use Rattle.ffs_check.proofs.Openings.{unfailed_of}
 
 -- the messages of phase 2, and of what follows it, are among those of the phases
 pub names_among : (bytes : List ℕ) (s : Superblock) →

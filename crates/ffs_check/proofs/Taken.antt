@@ -1,19 +1,15 @@
 -- What a check takes of its memory, after an accepted superblock.
 use Rattle.std.proofs.Common.{◌≡◌, arith, inl, inr, sym, subst, ℕ, Bool, true, false, List, Option, Ok, Err}
 use Rattle.ffs_image.specs.Device.{Device, ForContents}
-use Rattle.ffs_memory.specs.{Account.Account, Account.RefusedOneMore, Account.unused, System.account_of}
+use Rattle.ffs_memory.specs.{Account.{Account, RefusedOneMore, unused}, System.account_of}
 use Rattle.ffs_memory.specs.declared.system.SystemMemory.{SystemMemory}
-use Rattle.ffs_volume.specs.declared.End.{End}
-use Rattle.ffs_volume.specs.declared.End.TheVariants.{Consistent, Defects, RootStop, WriteFault}
-use Rattle.ffs_volume.specs.declared.End.TheVariants.{NoMemory}
-use Rattle.ffs_volume.specs.{Messages.Kinds.Message, Disk.Outcome.outcome, Report.Whole.end_by}
-use Rattle.ffs_volume.specs.{Disk.Superblock.Superblock}
+use Rattle.ffs_volume.specs.declared.End.{End, TheVariants.{Consistent, Defects, RootStop, WriteFault, NoMemory}}
+use Rattle.ffs_volume.specs.{Messages.Kinds.Message, Disk.{Outcome.outcome, Superblock.Superblock}, Report.Whole.end_by}
 use Rattle.ffs_report.specs.Progress.{Progress}
-use Rattle.ffs_layout.specs.declared.superblock.Super.{Super}
-use Rattle.ffs_layout.specs.Super.{ReadsSuper, superblock_in}
+use Rattle.ffs_layout.specs.{declared.superblock.Super.Super, Super.{ReadsSuper, superblock_in}}
 use Rattle.ffs_workspace.specs.Lengths.{held_of}
-use Rattle.ffs_check.specs.{PhaseEnds.SaysPhases, Opening.SaysOpening}
-use Rattle.ffs_check.specs.Taken.{AsksMemory, Takes, TakesOfSystem, TakesWorkspace}
+use Rattle.ffs_check.specs.{PhaseEnds.SaysPhases, Opening.SaysOpening, Taken.{AsksMemory, Takes, TakesOfSystem}}
+use Rattle.ffs_check.specs.Taken.{TakesWorkspace}
 
 accepted_by : (image image' : Device) (sector : Option ℕ) (s : Superblock) → ReadsSuper image image' sector (Ok s) →
     ForContents image.contents (λ bytes. outcome bytes sector ≡ Ok s)

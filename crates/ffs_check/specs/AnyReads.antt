@@ -1,10 +1,9 @@
 -- How often a check reads any image at most, also one that gives other bytes each time: by the
 -- messages that went out, whole or in part. `whole` and `broken` are those of `Ends`.
 use Rattle.std.specs.Prelude.{◌⊎◌, ◌≤◌, ◌+◌, ◌*◌, ℕ, List, length}
-use Rattle.ffs_volume.specs.declared.Layout.{Layout}
-use Rattle.ffs_volume.specs.{Laws.Geometry.IsAcceptedLayout, Messages.Kinds.Message}
+use Rattle.ffs_volume.specs.{declared.Layout.Layout, Laws.Geometry.IsAcceptedLayout, Messages.Kinds.Message}
 use Rattle.ffs_volume.specs.Report.Reads.{opening_reads, phase_reads, reads_limit}
-use Rattle.ffs_report.specs.{Progress.Progress, Progress.Said, Progress.Stopped, Sink.Sink}
+use Rattle.ffs_report.specs.{Progress.{Progress, Said, Stopped}, Sink.Sink}
 use Rattle.ffs_workspace.specs.Places.{AreChunksNumbered}
 use Rattle.ffs_check.specs.Ends.{BrokeOffIn, Printed}
 

@@ -4,8 +4,7 @@
 -- whole or in part.
 use Rattle.std.specs.Prelude.{◌≡◌, ◌⊎◌, List, [], ◌∷◌, ◌++◌}
 use Rattle.ffs_image.specs.Device.{Device}
-use Rattle.ffs_volume.specs.declared.{End.End, End.TheVariants.WriteFault}
-use Rattle.ffs_volume.specs.{Messages.Kinds.Message, Messages.Texts.texts_of}
+use Rattle.ffs_volume.specs.{declared.End.{End, TheVariants.WriteFault}, Messages.{Kinds.Message, Texts.texts_of}}
 use Rattle.ffs_report.specs.Sink.{Sink, Took, BrokeOff}
 
 -- an output took the text of messages

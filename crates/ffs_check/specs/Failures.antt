@@ -3,9 +3,8 @@
 use Rattle.std.specs.Prelude.{◌≡◌, ◌⊎◌, ℕ}
 use Rattle.ffs_image.specs.Device.{Device, Rose}
 use Rattle.ffs_report.specs.Sink.{Sink}
-use Rattle.ffs_volume.specs.declared.End.{End}
-use Rattle.ffs_volume.specs.declared.End.TheVariants.{Consistent, Defects, Refused, RootStop}
-use Rattle.ffs_volume.specs.declared.End.TheVariants.{ReadFault, WriteFault, NoMemory}
+use Rattle.ffs_volume.specs.declared.End.{End, TheVariants.{Consistent, Defects, Refused, RootStop, ReadFault}}
+use Rattle.ffs_volume.specs.declared.End.TheVariants.{WriteFault, NoMemory}
 
 -- what an end says of the counts of failed reads before and after
 abbrev pub ReadsFailed : End → ℕ → ℕ → Type 0

@@ -1,13 +1,11 @@
 -- The headline: what a check of an image prints, and how it ends.
 use Rattle.std.specs.Prelude.{◌≡◌, ◌⊎◌, ◌↔◌, ◌<◌, ℕ, Bool, true, false, List, ◌++◌, length, Option, Ok}
 use Rattle.ffs_image.specs.Device.{Device, Faulted, ForContents}
-use Rattle.ffs_volume.specs.declared.{SuperFault.TheVariants.CannotRead, End.End}
-use Rattle.ffs_volume.specs.declared.End.TheVariants.{Consistent, Defects, Refused, RootStop, ReadFault, WriteFault}
-use Rattle.ffs_volume.specs.declared.End.TheVariants.{NoMemory}
-use Rattle.ffs_volume.specs.{Disk.Superblock.Superblock, Disk.Outcome.outcome, Consistent.Volume.IsConsistent}
-use Rattle.ffs_volume.specs.Messages.Kinds.{Message, cannot_read, cannot_alloc, has_defect}
-use Rattle.ffs_volume.specs.Report.Opening.{head_lines, super_lines}
-use Rattle.ffs_volume.specs.Report.Whole.{report_of, report_end}
+use Rattle.ffs_volume.specs.declared.{SuperFault.TheVariants.CannotRead, End.{End, TheVariants.{Consistent, Defects}}}
+use Rattle.ffs_volume.specs.declared.End.TheVariants.{Refused, RootStop, ReadFault, WriteFault, NoMemory}
+use Rattle.ffs_volume.specs.{Disk.{Superblock.Superblock, Outcome.outcome}, Consistent.Volume.IsConsistent}
+use Rattle.ffs_volume.specs.{Messages.Kinds.{Message, cannot_read, cannot_alloc, has_defect}, Report.Opening.head_lines}
+use Rattle.ffs_volume.specs.Report.{Opening.super_lines, Whole.{report_of, report_end}}
 use Rattle.ffs_report.specs.Sink.{Sink}
 use Rattle.ffs_layout.specs.Super.{IsSuperSector}
 use Rattle.ffs_check.specs.Ends.{BrokeOffIn, Ends, Printed}

@@ -1,13 +1,11 @@
 -- What the opening of a check prints, and its answer.
 use Rattle.std.specs.Prelude.{◌≡◌, ◌⊎◌, ℕ, List, Option, Result, Ok, Err}
 use Rattle.ffs_image.specs.Device.{Device, ForContents}
-use Rattle.ffs_volume.specs.declared.{SuperFault.SuperFault, End.End}
-use Rattle.ffs_volume.specs.declared.End.TheVariants.{Refused, WriteFault}
-use Rattle.ffs_volume.specs.{Disk.Superblock.Superblock, Disk.Outcome.outcome, Messages.Kinds.Message}
+use Rattle.ffs_volume.specs.declared.{SuperFault.SuperFault, End.{End, TheVariants.{Refused, WriteFault}}}
+use Rattle.ffs_volume.specs.{Disk.{Superblock.Superblock, Outcome.outcome}, Messages.Kinds.Message}
 use Rattle.ffs_volume.specs.Report.Opening.{fault_line, head_lines, opening_lines}
-use Rattle.ffs_report.specs.{Sink.Sink, Progress.Progress, Progress.Said, Progress.Stopped}
-use Rattle.ffs_layout.specs.declared.superblock.Super.{Super}
-use Rattle.ffs_layout.specs.Super.{ReadsSuper, superblock_in}
+use Rattle.ffs_report.specs.{Sink.Sink, Progress.{Progress, Said, Stopped}}
+use Rattle.ffs_layout.specs.{declared.superblock.Super.Super, Super.{ReadsSuper, superblock_in}}
 use Rattle.ffs_check.specs.Ends.{BrokeOffIn, BrokeOffInLine, Printed}
 
 -- the superblock isn't accepted, and its opening went out, with the fault

@@ -2,17 +2,14 @@
 -- that they determine, and `continues` whether the check continues after the root.
 use Rattle.std.specs.Prelude.{◌≡◌, ◌⊎◌, ◌<◌, ℕ, Bool, false, ◌||◌, List, [], ◌∷◌, ◌++◌, length, Result, Ok, Err}
 use Rattle.ffs_image.specs.Device.{Device, Faulted}
-use Rattle.ffs_volume.specs.declared.End.{End}
-use Rattle.ffs_volume.specs.declared.End.TheVariants.{ReadFault, WriteFault, NoMemory}
+use Rattle.ffs_volume.specs.declared.End.{End, TheVariants.{ReadFault, WriteFault, NoMemory}}
 use Rattle.ffs_volume.specs.{Disk.Superblock.Superblock, Directories.PathnameCheck.continues_after_root}
-use Rattle.ffs_volume.specs.{Directories.Volumes.volume_of, Report.Whole.end_by, Report.Whole.phase_lines}
-use Rattle.ffs_volume.specs.Messages.Kinds.{Message, cannot_alloc, cannot_read, has_defect}
-use Rattle.ffs_report.specs.{Sink.Sink, Known.ForBytes, Known.IsContents, PhaseOutcome.SaidOf, PhaseOutcome.StoppedOf}
-use Rattle.ffs_report.specs.Progress.{Progress, Said, Stopped}
-use Rattle.ffs_report.specs.declared.fault.RunFault.{RunFault}
-use Rattle.ffs_report.specs.declared.fault.RunFault.TheVariants.{Read, Out}
-use Rattle.ffs_pathnames.specs.declared.pass2.Root.{Root}
-use Rattle.ffs_pathnames.specs.RootAnswers.{is_go}
+use Rattle.ffs_volume.specs.{Directories.Volumes.volume_of, Report.Whole.{end_by, phase_lines}, Messages.Kinds.Message}
+use Rattle.ffs_volume.specs.Messages.Kinds.{cannot_alloc, cannot_read, has_defect}
+use Rattle.ffs_report.specs.{Sink.Sink, Known.{ForBytes, IsContents}, PhaseOutcome.{SaidOf, StoppedOf}}
+use Rattle.ffs_report.specs.{Progress.{Progress, Said, Stopped}, declared.fault.RunFault.{RunFault, TheVariants.Read}}
+use Rattle.ffs_report.specs.declared.fault.RunFault.TheVariants.{Out}
+use Rattle.ffs_pathnames.specs.{declared.pass2.Root.Root, RootAnswers.is_go}
 use Rattle.ffs_check.specs.Ends.{BrokeOffIn, Ends, Printed}
 
 -- a read failed before the text was complete: whole messages were said, and others were to come

@@ -1,10 +1,8 @@
 -- How often a check reads its image at most, in reads before and after.
 use Rattle.std.specs.Prelude.{◌≡◌, ◌≤◌, ◌+◌, ℕ, List, length, Option, Ok, Err}
 use Rattle.ffs_image.specs.Device.{Device, ForContents}
-use Rattle.ffs_volume.specs.declared.SuperFault.{SuperFault}
-use Rattle.ffs_volume.specs.{Disk.Outcome.outcome, Disk.Superblock.Superblock}
-use Rattle.ffs_volume.specs.Report.Reads.{opening_reads, phase_reads, reads_limit}
-use Rattle.ffs_volume.specs.Report.Whole.{phase_lines, report_of}
+use Rattle.ffs_volume.specs.{declared.SuperFault.SuperFault, Disk.{Outcome.outcome, Superblock.Superblock}}
+use Rattle.ffs_volume.specs.Report.{Reads.{opening_reads, phase_reads, reads_limit}, Whole.{phase_lines, report_of}}
 use Rattle.ffs_workspace.specs.Places.{AreChunksNumbered}
 
 -- the phases read the image at most `phase_reads` times, on a volume of less than 2^40 bytes

@@ -3,15 +3,14 @@
 use Rattle.std.specs.Prelude.{◌≡◌, ℕ, Bool, if◌then◌else◌, List, [], ◌∷◌, ◌++◌, map}
 use Rattle.ffs_image.specs.Device.{Device}
 use Rattle.ffs_report.specs.Known.{IsContents}
-use Rattle.ffs_volume.specs.declared.Layout.{Layout}
-use Rattle.ffs_volume.specs.{Disk.Superblock.Superblock, Blocks.Owners.owners_of, Directories.Volumes.volume_of}
-use Rattle.ffs_volume.specs.{Directories.Connectivity.connectivity_lines, Directories.ReferenceCheck.reference_lines}
-use Rattle.ffs_volume.specs.Messages.Kinds.{Message, phase1, phase2, phase3, phase4, phase5, of_blocks, of_tree}
-use Rattle.ffs_volume.specs.Blocks.BlockCheck.{has_rescan, phase1_lines}
-use Rattle.ffs_volume.specs.Directories.PathnameCheck.{pathname_lines, continues_after_root}
-use Rattle.ffs_volume.specs.Report.Whole.{rescan_lines, group_check_lines, summary_of, file_count, claimed_count}
-use Rattle.ffs_workspace.specs.declared.workspace.Workspace.{Workspace}
-use Rattle.ffs_workspace.specs.{Holds.HoldsPhase1, Lengths.has_dups}
+use Rattle.ffs_volume.specs.{declared.Layout.Layout, Disk.Superblock.Superblock, Blocks.Owners.owners_of}
+use Rattle.ffs_volume.specs.Directories.{Volumes.volume_of, Connectivity.connectivity_lines}
+use Rattle.ffs_volume.specs.{Directories.ReferenceCheck.reference_lines, Messages.Kinds.{Message, phase1, phase2}}
+use Rattle.ffs_volume.specs.{Messages.Kinds.{phase3, phase4, phase5, of_blocks, of_tree}, Blocks.BlockCheck.has_rescan}
+use Rattle.ffs_volume.specs.{Blocks.BlockCheck.phase1_lines, Directories.PathnameCheck.pathname_lines}
+use Rattle.ffs_volume.specs.{Directories.PathnameCheck.continues_after_root, Report.Whole.rescan_lines}
+use Rattle.ffs_volume.specs.Report.Whole.{group_check_lines, summary_of, file_count, claimed_count}
+use Rattle.ffs_workspace.specs.{declared.workspace.Workspace.Workspace, Holds.HoldsPhase1, Lengths.has_dups}
 
 -- what each phase reports, with its heading
 abbrev pub phase1_part : List ℕ → Superblock → List Message

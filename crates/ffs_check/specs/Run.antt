@@ -1,11 +1,8 @@
 -- What a run of the program prints, and its exit status, by the words after the program's name.
-use Rattle.std.specs.Io.KnownBytes.{Keeps}
-use Rattle.std.specs.Prelude.{◌≡◌, ◌⊎◌, ℕ, List, [], ◌∷◌, ◌++◌, Option, Result, MatchResult, codes}
-use Rattle.std.specs.declared.io.Error.{Error}
-use Rattle.ffs_image.specs.Device.{Device}
-use Rattle.ffs_image.specs.declared.file.OpenFault.{OpenFault}
-use Rattle.ffs_volume.specs.declared.End.{End}
-use Rattle.ffs_volume.specs.{Messages.Kinds.cannot_alloc, Report.Whole.status_of, Messages.Texts.text_of}
+use Rattle.std.specs.{Io.KnownBytes.Keeps, Prelude.{◌≡◌, ◌⊎◌, ℕ, List, [], ◌∷◌, ◌++◌, Option, Result, MatchResult}}
+use Rattle.std.specs.{Prelude.codes, declared.io.Error.Error}
+use Rattle.ffs_image.specs.{Device.Device, declared.file.OpenFault.OpenFault}
+use Rattle.ffs_volume.specs.{declared.End.End, Messages.{Kinds.cannot_alloc, Texts.text_of}, Report.Whole.status_of}
 use Rattle.ffs_report.specs.Sink.{Sink, Took, BrokeOff}
 use Rattle.ffs_check.specs.{AnyReads.ReadsAny, Headline.Headline, ReadsWithin.ReadsWithin, Taken.TakesOfSystem}
 use Rattle.ffs_check.specs.CommandWords.{AskFor, LacksMemory, refusals}

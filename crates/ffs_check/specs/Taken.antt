@@ -1,11 +1,10 @@
 -- What a check takes of its memory.
 use Rattle.std.specs.Prelude.{◌≡◌, ◌≤◌, ◌⊎◌, ℕ, Option, Ok}
 use Rattle.ffs_image.specs.Device.{Device, ForContents}
-use Rattle.ffs_memory.specs.System.{account_of}
-use Rattle.ffs_memory.specs.Account.{Account, Granted, GaveUp, RefusedOneMore, unused}
+use Rattle.ffs_memory.specs.{System.account_of, Account.{Account, Granted, GaveUp, RefusedOneMore, unused}}
 use Rattle.ffs_memory.specs.declared.system.SystemMemory.{SystemMemory}
-use Rattle.ffs_volume.specs.declared.{End.End, End.TheVariants.NoMemory}
-use Rattle.ffs_volume.specs.{Report.Memory.held_limit, Disk.Outcome.outcome, Disk.Superblock.Superblock}
+use Rattle.ffs_volume.specs.{declared.End.{End, TheVariants.NoMemory}, Report.Memory.held_limit, Disk.Outcome.outcome}
+use Rattle.ffs_volume.specs.Disk.Superblock.{Superblock}
 use Rattle.ffs_workspace.specs.Lengths.{held_of}
 
 -- these bytes were granted, or a request was refused before all of them were

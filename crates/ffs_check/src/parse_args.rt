@@ -1,9 +1,8 @@
 //! The arguments of the command line.
 ghost use Rattle.std.specs.Prelude.{◌≡◌, false, map, IfOk, MatchResult};
-ghost use Rattle.clap.specs.Words.{app_of, kind_of, rule_of};
-ghost use Rattle.clap.specs.declared.error.kind.ErrorKind.TheVariants.{OutOfMemory};
-ghost use Rattle.ffs_check.specs.CommandWords.{AreRefusedBy, AskFor, HasMatches, image_rule, read_only_rule};
-ghost use Rattle.ffs_check.specs.CommandWords.{program, sector_rule};
+ghost use Rattle.clap.specs.{Words.{app_of, kind_of, rule_of}, declared.error.kind.ErrorKind.TheVariants.OutOfMemory};
+ghost use Rattle.ffs_check.specs.CommandWords.{AreRefusedBy, AskFor, HasMatches, image_rule, read_only_rule, program};
+ghost use Rattle.ffs_check.specs.CommandWords.{sector_rule};
 
 use crate::args::Args;
 use crate::version::VERSION;

@@ -1,29 +1,27 @@
 -- What the lines of phase 1 say: which inodes they blame, and whether there is a Dup line.
 use Rattle.std.proofs.Common.{◌≡◌, inl, inr, ℕ, zero, suc, ◌+◌, ◌<◌, ◌≤◌, Bool, true, false, not, ◌&&◌, ◌||◌, ◌==◌}
 use Rattle.std.proofs.Common.{if◌then◌else◌, List, [], ◌∷◌, ◌++◌, length, replicate, slice_set, length-set, ◌≢◌, arith}
-use Rattle.std.proofs.Common.{refl, ap, ◌∙◌, sym, ◌-◌, nat_lt, nat_le, map}
-use Rattle.std.proofs.Math.{Bool.or-false, Bool.and-false, ListN.get_or-eq_default}
-use Rattle.std.proofs.lemmas.Bool.{cases_lt, eqb-true, not-false, Decides.nat_tests}
-use Rattle.std.proofs.lemmas.List.{length-replicate, Folds.list_any-append, Sums.sum_by-set}
-use Rattle.std.specs.List.{list_any, range_with_len}
-use Rattle.ffs_volume.proofs.{OwnerLaws.before_next, Potentials.cond_holds, Potentials.in_range_below}
+use Rattle.std.proofs.{Common.{refl, ap, ◌∙◌, sym, ◌-◌, nat_lt, nat_le, map}, Math.Bool.{or-false, and-false}}
+use Rattle.std.proofs.{Math.ListN.get_or-eq_default, lemmas.Bool.{cases_lt, eqb-true, not-false, Decides.nat_tests}}
+use Rattle.std.{proofs.lemmas.List.{length-replicate, Folds.list_any-append, Sums.sum_by-set}, specs.List.list_any}
+use Rattle.std.specs.List.{range_with_len}
+use Rattle.ffs_volume.proofs.{OwnerLaws.before_next, Potentials.{cond_holds, in_range_below}}
 use Rattle.ffs_volume.specs.Blocks.BlockCheck.{class_lines, owner_lines, lines_of_owners, phase1_lines, phase1b_lines}
 use Rattle.ffs_volume.specs.Blocks.BlockCheck.{is_dup_line, has_rescan, blames, first_offer_lines, is_marked}
 use Rattle.ffs_volume.specs.Blocks.Claims.{Claims, no_claims, at_next_inode, is_open, is_set, after_owner, after_owners}
 use Rattle.ffs_volume.specs.Blocks.Claims.{lines_of_steps, after_offer, after_offers, after_run, after_step}
 use Rattle.ffs_volume.specs.Blocks.Claims.{after_steps, offer_lines, lines_of_offers, run_lines, step_lines}
-use Rattle.ffs_volume.specs.Blocks.Inodes.{is_file_or_dir, inode_of, class_of, is_unknown}
-use Rattle.ffs_volume.specs.Blocks.{KeptOffers.Offer, KeptSteps.claims_before, Owners.Owner}
-use Rattle.ffs_volume.specs.{Blocks.Owners.owners_of, Blocks.Owners.owner_of, Directories.Volumes.is_inode_number}
-use Rattle.ffs_volume.specs.{Directories.Volumes.marked_at, Disk.Areas.is_fragment_in_range, Disk.Areas.is_run_in_range}
-use Rattle.ffs_volume.specs.declared.BlockMessage.{BlockMessage, TheVariants.Bad}
+use Rattle.ffs_volume.specs.Blocks.{Inodes.{is_file_or_dir, inode_of, class_of, is_unknown}, KeptOffers.Offer}
+use Rattle.ffs_volume.specs.Blocks.{KeptSteps.claims_before, Owners.{Owner, owners_of, owner_of}}
+use Rattle.ffs_volume.specs.{Directories.Volumes.{is_inode_number, marked_at}, Disk.Areas.is_fragment_in_range}
+use Rattle.ffs_volume.specs.{Disk.Areas.is_run_in_range, declared.BlockMessage.{BlockMessage, TheVariants.Bad}}
 use Rattle.ffs_volume.specs.declared.BlockMessage.TheVariants.{ManyBad, PartTrunc, Dup, ManyDup, PartAlloc, UnknownType}
-use Rattle.ffs_volume.specs.declared.{BlockMessage.TheVariants.BlockCount, Class.Class, Class.TheVariants.Partial}
-use Rattle.ffs_volume.specs.declared.{Class.TheVariants.Unknown, Layout.Layout, Step.Step}
-use Rattle.ffs_volume.specs.declared.Step.TheVariants.{Run, Tail, Gap}
+use Rattle.ffs_volume.specs.declared.{BlockMessage.TheVariants.BlockCount, Class.{Class, TheVariants.Partial}}
+use Rattle.ffs_volume.specs.declared.{Class.TheVariants.Unknown, Layout.Layout, Step.{Step, TheVariants.{Run, Tail}}}
+use Rattle.ffs_volume.specs.declared.Step.TheVariants.{Gap}
 use Rattle.ffs_maps.specs.Bits.{bits_of}
 use Rattle.ffs_workspace.specs.Holds.{marked_by_phase1_at, all_claims, HoldsPhase1, HoldsClaims, has_blame}
-use Rattle.ffs_workspace.specs.{Lengths.set_count, Lengths.inodes_of, declared.workspace.Workspace.Workspace}
+use Rattle.ffs_workspace.specs.{Lengths.{set_count, inodes_of}, declared.workspace.Workspace.Workspace}
 use Rattle.ffs_claims.proofs.Numbers.{before_first}
 
 -- a fact of two choices by one test, and where one of them takes a second test too

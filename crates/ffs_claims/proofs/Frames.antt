@@ -1,16 +1,15 @@
 -- What reads, claims and reports leave of a workspace that is ready.
 use Rattle.std.proofs.Common.{◌≡◌, ℕ, refl, ap, arith, rules, length, length-set, slice_set, subst, false, Result}
-use Rattle.std.{proofs.Common.vec_len, specs.declared.alloc.Global.Global, specs.declared.vec.Vec.Vec}
+use Rattle.std.{proofs.Common.vec_len, specs.declared.{alloc.Global.Global, vec.Vec.Vec}}
 use Rattle.ffs_volume.specs.declared.{Class.Class, Inode.Inode, Layout.Layout}
 use Rattle.ffs_image.specs.Device.{Device}
 use Rattle.ffs_report.specs.{PhaseOutcome.ImageAfter, declared.fault.RunFault.RunFault}
 use Rattle.ffs_layout.specs.declared.geometry.Geometry.{Geometry}
 use Rattle.ffs_maps.specs.declared.FragmentMap.{FragmentMap}
-use Rattle.ffs_walk.specs.{Windows.CanWalk, Windows.KeepsBlocks, declared.blocks.Blocks.Blocks}
-use Rattle.ffs_workspace.specs.{Lengths.IsFor, Ready.IsReady}
-use Rattle.ffs_workspace.specs.declared.workspace.{Windows.Windows, Workspace.Workspace}
-use Rattle.ffs_claims.specs.Leaves.{SameFound, ClaimsOnly, Stored, OffersOnly}
-use Rattle.ffs_claims.specs.Reporting.{SameClaims, ReportsOnly, OffersReportedOnly}
+use Rattle.ffs_walk.specs.{Windows.{CanWalk, KeepsBlocks}, declared.blocks.Blocks.Blocks}
+use Rattle.ffs_workspace.specs.{Lengths.IsFor, Ready.IsReady, declared.workspace.{Windows.Windows, Workspace.Workspace}}
+use Rattle.ffs_claims.specs.{Leaves.{SameFound, ClaimsOnly, Stored, OffersOnly}, Reporting.{SameClaims, ReportsOnly}}
+use Rattle.ffs_claims.specs.Reporting.{OffersReportedOnly}
 
 pub found_none : (w : Workspace) → SameFound w w
 found_none w = record { kinds = refl; marked = refl; notes = refl; references = refl; again = refl }

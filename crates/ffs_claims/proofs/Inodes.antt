@@ -1,25 +1,22 @@
 -- How an inode's part of the block check continues, and how many Runs it is seen to have.
 use Rattle.std.proofs.Common.{◌+◌, ◌<◌, ◌^◌, false, arith, OnOk, ◌≡◌, ℕ, List, [], ◌++◌, append-nil, Option, Result, Ok}
-use Rattle.std.proofs.Common.{Err, ap, ◌∙◌, refl, ◌≤◌, true}
-use Rattle.std.proofs.lemmas.{Bool.Decides.nat_tests, List.Sums.count_by-le-length}
-use Rattle.ffs_volume.proofs.Potentials.{step_moves, moves_then}
-use Rattle.ffs_volume.specs.Blocks.BlockCheck.{class_lines, count_lines, owner_lines}
-use Rattle.ffs_volume.specs.Blocks.Claims.{Claims, at_next_inode, after_steps, after_owner, lines_of_steps, is_open}
-use Rattle.ffs_volume.specs.Blocks.{Claims.after_step, Inodes.class_of, Inodes.inode_of, Owners.owner_of}
-use Rattle.ffs_volume.specs.{Blocks.Steps.steps_of, Laws.ClaimBounds.used_bits, Laws.ClaimBounds.ClaimBound}
-use Rattle.ffs_volume.specs.{Laws.Geometry.IsAcceptedLayout, Laws.RunLengths.HasLength, Messages.Kinds.Message}
-use Rattle.ffs_volume.specs.declared.{Class.Class, Class.TheVariants.Free, Inode.Inode, Layout.Layout, Step.Step}
-use Rattle.ffs_report.proofs.Reporting.{of_part, of_begins, of_says, of_stops}
-use Rattle.ffs_report.specs.Known.{ForBytes, IsContents}
-use Rattle.ffs_report.specs.PhaseOutcome.{SaidOf, StoppedOf, ImageAfter}
-use Rattle.ffs_report.specs.{Progress.Progress, Progress.Said, Progress.Stopped, declared.fault.RunFault.RunFault}
+use Rattle.std.proofs.{Common.{Err, ap, ◌∙◌, refl, ◌≤◌, true}, lemmas.Bool.Decides.nat_tests}
+use Rattle.std.proofs.lemmas.List.Sums.{count_by-le-length}
+use Rattle.ffs_volume.{proofs.Potentials.{step_moves, moves_then}, specs.Blocks.BlockCheck.{class_lines, count_lines}}
+use Rattle.ffs_volume.specs.Blocks.{BlockCheck.owner_lines, Claims.{Claims, at_next_inode, after_steps, after_owner}}
+use Rattle.ffs_volume.specs.Blocks.{Claims.{lines_of_steps, is_open, after_step}, Inodes.{class_of, inode_of}}
+use Rattle.ffs_volume.specs.{Blocks.{Owners.owner_of, Steps.steps_of}, Laws.ClaimBounds.{used_bits, ClaimBound}}
+use Rattle.ffs_volume.specs.{Laws.{Geometry.IsAcceptedLayout, RunLengths.HasLength}, Messages.Kinds.Message}
+use Rattle.ffs_volume.specs.declared.{Class.{Class, TheVariants.Free}, Inode.Inode, Layout.Layout, Step.Step}
+use Rattle.ffs_report.{proofs.Reporting.{of_part, of_begins, of_says, of_stops}, specs.Known.{ForBytes, IsContents}}
+use Rattle.ffs_report.specs.{PhaseOutcome.{SaidOf, StoppedOf, ImageAfter}, Progress.{Progress, Said, Stopped}}
+use Rattle.ffs_report.specs.declared.fault.RunFault.{RunFault}
 use Rattle.ffs_image.specs.Device.{Device}
 use Rattle.ffs_layout.specs.declared.geometry.Geometry.{Geometry}
 use Rattle.ffs_walk.specs.{Windows.KeepsBlocks, declared.blocks.Blocks.Blocks}
-use Rattle.ffs_claims.proofs.Frames.{found_none, found_then, ready_still, ready_walked}
-use Rattle.ffs_claims.{proofs.StepsContinue.lines_append, specs.Area.IsDataArea}
-use Rattle.ffs_claims.specs.Claiming.{CanClaim, ClaimsInArea, FewRuns, StepsLeave, SeesNext}
-use Rattle.ffs_claims.specs.{Leaves.HasBegun, Lines.of_lines, Lines.owner_with, Lines.counted_owner}
+use Rattle.ffs_claims.proofs.{Frames.{found_none, found_then, ready_still, ready_walked}, StepsContinue.lines_append}
+use Rattle.ffs_claims.specs.{Area.IsDataArea, Claiming.{CanClaim, ClaimsInArea, FewRuns, StepsLeave, SeesNext}}
+use Rattle.ffs_claims.specs.{Leaves.HasBegun, Lines.{of_lines, owner_with, counted_owner}}
 use Rattle.ffs_claims.specs.declared.area.DataArea.{DataArea}
 use Rattle.ffs_maps.proofs.Bits.{bits_long}
 use Rattle.ffs_workspace.specs.{Holds.claims_of, Lengths.IsFor, declared.workspace.Workspace.Workspace}

@@ -1,16 +1,12 @@
 -- What a phase that read through a limited image leaves of the image below it, and of its report.
-use Rattle.std.specs.Borrow.{GName}
-use Rattle.std.proofs.Common.{◌≡◌, ◌∙◌, ◌<◌, ◌≤◌, ◌+◌, ◌*◌, ◌-◌, ◌^◌, ℕ, Bool, true, false, Option, Some, List, ap}
-use Rattle.std.proofs.Common.{refl, sym, arith, Result, Ok, Err}
+use Rattle.std.{specs.Borrow.GName, proofs.Common.{◌≡◌, ◌∙◌, ◌<◌, ◌≤◌, ◌+◌, ◌*◌, ◌-◌, ◌^◌, ℕ, Bool, true, false}}
+use Rattle.std.proofs.Common.{Option, Some, List, ap, refl, sym, arith, Result, Ok, Err}
 use Rattle.ffs_volume.specs.{Laws.Geometry.IsAcceptedLayout, Messages.Kinds.Message, Report.Reads.sweep_reads}
-use Rattle.ffs_volume.specs.{Report.Whole.run_count, declared.Layout.Layout}
-use Rattle.ffs_volume.proofs.RunBounds.{runs_bounded}
-use Rattle.ffs_image.specs.{Device.Device, Limited.GivesBack, Limited.limited_device}
-use Rattle.ffs_image.proofs.Limits.{StaysOver, asked_kept, limit_kept, never_refused}
-use Rattle.ffs_report.specs.{Known.ForBytes, Progress.Progress}
-use Rattle.ffs_report.specs.PhaseOutcome.{ImageAfter, PhaseOutcome, PhaseReports}
-use Rattle.ffs_report.specs.declared.fault.RunFault.{RunFault}
-use Rattle.ffs_report.specs.declared.fault.RunFault.TheVariants.{Read, Out}
+use Rattle.ffs_volume.{specs.{Report.Whole.run_count, declared.Layout.Layout}, proofs.RunBounds.runs_bounded}
+use Rattle.ffs_image.{specs.{Device.Device, Limited.{GivesBack, limited_device}}, proofs.Limits.{StaysOver, asked_kept}}
+use Rattle.ffs_image.proofs.Limits.{limit_kept, never_refused}
+use Rattle.ffs_report.specs.{Known.ForBytes, Progress.Progress, PhaseOutcome.{ImageAfter, PhaseOutcome, PhaseReports}}
+use Rattle.ffs_report.specs.declared.fault.RunFault.{RunFault, TheVariants.{Read, Out}}
 
 -- ---- the image
 same_over : {old new : Device} → new ≡ old → StaysOver old new

@@ -1,19 +1,18 @@
 -- The inodes one after another.
-use Rattle.std.proofs.Common.{◌≡◌, ℕ, zero, suc, ◌+◌, ◌-◌, ◌<◌, ◌≤◌, true, false, ◌||◌, if◌then◌else◌}
-use Rattle.std.proofs.Common.{nat_lt, List, [], ◌++◌, length, map, get_or, replicate, min, slice_set, arith, refl, ap}
-use Rattle.std.proofs.{Common.◌∙◌, lemmas.Bool.Decides.nat_tests, lemmas.List.get_or-set_same}
-use Rattle.std.{proofs.lemmas.List.get_or-set_other, specs.List.range_with_len}
-use Rattle.ffs_volume.specs.Blocks.BlockCheck.{owner_lines, lines_of_owners, phase1_lines}
-use Rattle.ffs_volume.specs.Blocks.Claims.{Claims, no_claims, after_owner, after_owners}
-use Rattle.ffs_volume.specs.Blocks.Inodes.{inode_of, class_of, is_unknown}
-use Rattle.ffs_volume.specs.Blocks.{KeptSteps.claims_before, Owners.owner_of, Owners.owners_of}
-use Rattle.ffs_volume.specs.{Directories.Volumes.is_inode_number, Encodings.Kinds.kind_at, Encodings.Links.start_at}
+use Rattle.std.proofs.Common.{◌≡◌, ℕ, zero, suc, ◌+◌, ◌-◌, ◌<◌, ◌≤◌, true, false, ◌||◌, if◌then◌else◌, nat_lt, List, []}
+use Rattle.std.proofs.Common.{◌++◌, length, map, get_or, replicate, min, slice_set, arith, refl, ap, ◌∙◌}
+use Rattle.std.proofs.lemmas.{Bool.Decides.nat_tests, List.{get_or-set_same, get_or-set_other}}
+use Rattle.std.specs.List.{range_with_len}
+use Rattle.ffs_volume.specs.Blocks.{BlockCheck.{owner_lines, lines_of_owners, phase1_lines}, Claims.{Claims, no_claims}}
+use Rattle.ffs_volume.specs.Blocks.{Claims.{after_owner, after_owners}, Inodes.{inode_of, class_of, is_unknown}}
+use Rattle.ffs_volume.specs.Blocks.{KeptSteps.claims_before, Owners.{owner_of, owners_of}}
+use Rattle.ffs_volume.specs.{Directories.Volumes.is_inode_number, Encodings.{Kinds.kind_at, Links.start_at}}
 use Rattle.ffs_volume.specs.{Encodings.Replay.cut_of, declared.Layout.Layout}
 use Rattle.ffs_workspace.specs.Holds.{claims_of, IsFresh, HoldsPhase1, has_blame, marked_by_phase1_at, all_claims}
-use Rattle.ffs_workspace.specs.Lengths.{IsFor, inodes_of}
-use Rattle.ffs_workspace.specs.{Notes.note_of, Notes.note_at, declared.workspace.Workspace.Workspace}
-use Rattle.ffs_claims.proofs.StepsContinue.{range_more, lines_append}
-use Rattle.ffs_claims.specs.{Leaves.SameFound, Leaves.Stored, Lines.of_lines, Lines.owners_from}
+use Rattle.ffs_workspace.specs.{Lengths.{IsFor, inodes_of}, Notes.{note_of, note_at}}
+use Rattle.ffs_workspace.specs.declared.workspace.Workspace.{Workspace}
+use Rattle.ffs_claims.{proofs.StepsContinue.{range_more, lines_append}, specs.Leaves.{SameFound, Stored}}
+use Rattle.ffs_claims.specs.Lines.{of_lines, owners_from}
 
 pub before_first : (v : Layout) (bytes : List ℕ) → claims_before v bytes 2 ≡ no_claims v
 unfolding claims_before

@@ -1,17 +1,14 @@
 -- How phase 1b continues.
 use Rattle.std.proofs.Common.{◌≡◌, append_assoc, append-nil, subst, ℕ, ◌+◌, ◌-◌, ◌<◌, ◌≤◌, Bool, false, if◌then◌else◌}
-use Rattle.std.proofs.Common.{List, [], ◌∷◌, ◌++◌, map, slice_set, arith, refl, ap, ◌∙◌, sym}
-use Rattle.std.proofs.Math.Bool.{or_assoc, or-false}
-use Rattle.std.proofs.lemmas.{List.Folds.list_any-append}
-use Rattle.std.specs.List.{range_with_len, slice_index_or}
-use Rattle.ffs_volume.specs.Blocks.{BlockCheck.first_offer_lines, Claims.is_set, KeptOffers.Offer}
-use Rattle.ffs_volume.specs.{Blocks.KeptOffers.offer_of}
-use Rattle.ffs_report.{proofs.Reports.said_none, specs.Progress.Progress, specs.Progress.Said}
+use Rattle.std.proofs.{Common.{List, [], ◌∷◌, ◌++◌, map, slice_set, arith, refl, ap, ◌∙◌, sym}, Math.Bool.or_assoc}
+use Rattle.std.{proofs.{Math.Bool.or-false, lemmas.List.Folds.list_any-append}, specs.List.range_with_len}
+use Rattle.std.specs.List.{slice_index_or}
+use Rattle.ffs_volume.specs.Blocks.{BlockCheck.first_offer_lines, Claims.is_set, KeptOffers.{Offer, offer_of}}
+use Rattle.ffs_report.{proofs.Reports.said_none, specs.Progress.{Progress, Said}}
 use Rattle.ffs_maps.specs.Bits.{bits_of}
 use Rattle.ffs_workspace.specs.{Holds.bool_at, Lengths.set_count, declared.workspace.Workspace.Workspace}
-use Rattle.ffs_claims.proofs.Duplicates.{none_clear, none_first}
-use Rattle.ffs_claims.proofs.StepsContinue.{range_next, lines_append}
-use Rattle.ffs_claims.specs.{Lines.of_lines, Reporting.after_first, Reporting.OffersReported}
+use Rattle.ffs_claims.proofs.{Duplicates.{none_clear, none_first}, StepsContinue.{range_next, lines_append}}
+use Rattle.ffs_claims.specs.{Lines.of_lines, Reporting.{after_first, OffersReported}}
 
 -- offers one after the other
 pub first_append : (dup : List Bool) (xs ys : List Offer) → first_offer_lines dup (xs ++ ys) ≡ first_offer_lines dup xs

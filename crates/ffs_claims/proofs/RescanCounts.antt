@@ -1,26 +1,24 @@
 -- An inode replayed by its cut keeps what it kept, and how many Runs the rescan looks at.
 use Rattle.std.proofs.Common.{◌≡◌, ◌≢◌, ℕ, zero, suc, ◌+◌, Bool, true, false, ◌==◌, if◌then◌else◌, List, [], ◌∷◌, ◌++◌}
 use Rattle.std.proofs.Common.{map, replicate, arith, refl, ap, ◌∙◌, sym, inl, inr, eq-eqb, ne_eqb, ◌<◌, ◌≤◌, ◌^◌}
-use Rattle.std.proofs.Common.{length, nat_lt, Option, ◌-◌}
-use Rattle.std.proofs.lemmas.{Bool.cases_eq, Bool.cases_Bool, Bool.Decides.nat_tests, List.length-append}
-use Rattle.std.specs.List.{range_with_len}
-use Rattle.ffs_volume.proofs.{Potentials.cond_holds, Potentials.offers_keep, PrefixLaws.full_offers}
-use Rattle.ffs_volume.proofs.ReplayIsKeeping.{replay_of, seen_replays, step_replays, step_few}
-use Rattle.ffs_volume.{proofs.ReplayLaws.offers_runs, proofs.RunBounds.runs_bounded, specs.Blocks.Claims.after_offers}
-use Rattle.ffs_volume.specs.Blocks.Claims.{Claims, no_claims, at_next_inode, is_open, after_step, after_steps}
-use Rattle.ffs_volume.specs.Blocks.{Claims.after_owner, Claims.after_owners, Claims.after_offer, KeptOffers.Offer}
-use Rattle.ffs_volume.specs.Blocks.KeptOffers.{offer_of, kept_in_run, kept_in_offers, kept_in_step, kept_in_steps}
-use Rattle.ffs_volume.specs.{Blocks.Owners.Owner, Blocks.Owners.owners_of}
+use Rattle.std.proofs.{Common.{length, nat_lt, Option, ◌-◌}, lemmas.Bool.{cases_eq, cases_Bool, Decides.nat_tests}}
+use Rattle.std.{proofs.lemmas.List.length-append, specs.List.range_with_len}
+use Rattle.ffs_volume.proofs.{Potentials.{cond_holds, offers_keep}, PrefixLaws.full_offers, ReplayIsKeeping.replay_of}
+use Rattle.ffs_volume.proofs.{ReplayIsKeeping.{seen_replays, step_replays, step_few}, ReplayLaws.offers_runs}
+use Rattle.ffs_volume.{proofs.RunBounds.runs_bounded, specs.Blocks.Claims.{after_offers, Claims, no_claims}}
+use Rattle.ffs_volume.specs.Blocks.Claims.{at_next_inode, is_open, after_step, after_steps, after_owner, after_owners}
+use Rattle.ffs_volume.specs.Blocks.{Claims.after_offer, KeptOffers.{Offer, offer_of, kept_in_run, kept_in_offers}}
+use Rattle.ffs_volume.specs.Blocks.{KeptOffers.{kept_in_step, kept_in_steps}, Owners.{Owner, owners_of}}
 use Rattle.ffs_volume.specs.Encodings.Replay.{Replay, is_replay_open, fresh_replay, cut_of, replay_after_step}
-use Rattle.ffs_volume.specs.Encodings.ReplayCounts.{seen_run, replay_step_by_cut}
-use Rattle.ffs_volume.specs.{Laws.Geometry.IsAcceptedLayout, Report.Whole.run_count, declared.Layout.Layout}
-use Rattle.ffs_volume.specs.declared.Step.{Step, TheVariants.Run, TheVariants.Tail, TheVariants.Gap}
+use Rattle.ffs_volume.specs.{Encodings.ReplayCounts.{seen_run, replay_step_by_cut}, Laws.Geometry.IsAcceptedLayout}
+use Rattle.ffs_volume.specs.{Report.Whole.run_count, declared.{Layout.Layout, Step.{Step, TheVariants.{Run, Tail}}}}
+use Rattle.ffs_volume.specs.declared.Step.TheVariants.{Gap}
 use Rattle.ffs_walk.specs.Keepings.{run_taken}
 use Rattle.ffs_workspace.specs.Lengths.{set_count}
-use Rattle.ffs_claims.proofs.Reportings.{after_append, none_after}
-use Rattle.ffs_claims.specs.{Reporting.after_first, Rescan.step_offers_again, Rescan.offers_again}
-use Rattle.ffs_claims.specs.RescanRuns.{runs_until_reported, steps_runs_again, step_runs, steps_runs, owners_runs}
-use Rattle.ffs_claims.specs.RescanRuns.{rescan_runs, step_runs_again}
+use Rattle.ffs_claims.{proofs.Reportings.{after_append, none_after}, specs.Reporting.after_first}
+use Rattle.ffs_claims.specs.{Rescan.{step_offers_again, offers_again}, RescanRuns.runs_until_reported}
+use Rattle.ffs_claims.specs.RescanRuns.{steps_runs_again, step_runs, steps_runs, owners_runs, rescan_runs}
+use Rattle.ffs_claims.specs.RescanRuns.{step_runs_again}
 
 -- ---- the offers that are kept are the first ones
 offers_firsts : (v : Layout) (i : ℕ) (s : Claims) (start len k : ℕ) →

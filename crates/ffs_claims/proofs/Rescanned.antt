@@ -1,28 +1,26 @@
 -- How phase 1b goes from inode to inode.
-use Rattle.std.proofs.Common.{◌≡◌, ℕ, zero, suc, ◌+◌, ◌-◌, ◌<◌, ◌≤◌, Bool, true, false, not, ◌&&◌, ◌==◌}
-use Rattle.std.proofs.Common.{List, [], ◌∷◌, ◌++◌, map, slice_index, slice_set, arith, refl, ap, ◌∙◌, sym, ne_eqb}
-use Rattle.std.proofs.lemmas.{Bool.and_from, Bool.and_parts, Bool.Decides.nat_tests, List.Folds.list_all-append}
+use Rattle.std.proofs.Common.{◌≡◌, ℕ, zero, suc, ◌+◌, ◌-◌, ◌<◌, ◌≤◌, Bool, true, false, not, ◌&&◌, ◌==◌, List, [], ◌∷◌}
+use Rattle.std.proofs.Common.{◌++◌, map, slice_index, slice_set, arith, refl, ap, ◌∙◌, sym, ne_eqb}
+use Rattle.std.proofs.lemmas.{Bool.{and_from, and_parts, Decides.nat_tests}, List.Folds.list_all-append}
 use Rattle.std.specs.List.{range_with_len, list_any, list_all}
 use Rattle.ffs_volume.proofs.{CutLaws.cut_is, OwnerLaws.before_next, Potentials.cond_holds, ReplayLaws.replay_is_runs}
-use Rattle.ffs_volume.specs.Blocks.BlockCheck.{blames, first_offer_lines, phase1b_lines}
-use Rattle.ffs_volume.specs.Blocks.Claims.{Claims, no_claims, at_next_inode, after_offer, after_step, after_steps}
-use Rattle.ffs_volume.specs.Blocks.{Claims.after_owner, Claims.after_owners, Inodes.inode_of}
-use Rattle.ffs_volume.specs.Blocks.KeptOffers.{Offer, kept_in_offers, kept_in_step, kept_in_steps, kept_in_owners}
-use Rattle.ffs_volume.specs.Blocks.{KeptSteps.claims_before, Owners.owner_of, Owners.owners_of, Steps.steps_of}
-use Rattle.ffs_volume.specs.Directories.Volumes.{is_inode_number}
-use Rattle.ffs_volume.specs.Encodings.{Replay.fresh_replay, Replay.cut_of, Replay.cut_at, ReplayCounts.replayed_runs}
-use Rattle.ffs_volume.specs.{Laws.Geometry.IsAcceptedLayout, Report.Whole.run_count}
-use Rattle.ffs_volume.specs.declared.{Layout.Layout, Step.Step, Step.TheVariants.Run}
+use Rattle.ffs_volume.specs.Blocks.{BlockCheck.{blames, first_offer_lines, phase1b_lines}, Claims.{Claims, no_claims}}
+use Rattle.ffs_volume.specs.Blocks.Claims.{at_next_inode, after_offer, after_step, after_steps, after_owner}
+use Rattle.ffs_volume.specs.Blocks.{Claims.after_owners, Inodes.inode_of, KeptOffers.{Offer, kept_in_offers}}
+use Rattle.ffs_volume.specs.Blocks.{KeptOffers.{kept_in_step, kept_in_steps, kept_in_owners}, KeptSteps.claims_before}
+use Rattle.ffs_volume.specs.{Blocks.{Owners.{owner_of, owners_of}, Steps.steps_of}, Directories.Volumes.is_inode_number}
+use Rattle.ffs_volume.specs.Encodings.{Replay.{fresh_replay, cut_of, cut_at}, ReplayCounts.replayed_runs}
+use Rattle.ffs_volume.specs.{Laws.Geometry.IsAcceptedLayout, Report.Whole.run_count, declared.Layout.Layout}
+use Rattle.ffs_volume.specs.declared.Step.{Step, TheVariants.Run}
 use Rattle.ffs_maps.specs.Bits.{bits_of}
-use Rattle.ffs_workspace.proofs.NoteLaws.{cut_is_noted}
-use Rattle.ffs_workspace.specs.Holds.{all_claims, HoldsPhase1, HoldsStarts, HoldsClaims}
+use Rattle.ffs_workspace.{proofs.NoteLaws.cut_is_noted, specs.Holds.{all_claims, HoldsPhase1, HoldsStarts, HoldsClaims}}
 use Rattle.ffs_workspace.specs.{Lengths.inodes_of, Notes.cut_in, declared.workspace.Workspace.Workspace}
-use Rattle.ffs_claims.proofs.{Duplicates.marked_total, Numbers.before_end, Numbers.before_first, Numbers.is_inside}
-use Rattle.ffs_claims.proofs.Reportings.{Reporting, reported_none, reported_to}
-use Rattle.ffs_claims.proofs.RescanCounts.{looked_both, runs_leave, inode_again}
-use Rattle.ffs_claims.{proofs.StepsContinue.range_more, specs.Lines.of_lines, specs.Lines.owners_from}
-use Rattle.ffs_claims.specs.{Reporting.after_first, Reporting.OffersReported, Reporting.SameClaims, Rescan.offers_again}
-use Rattle.ffs_claims.specs.RescanRuns.{owners_runs, runs_until_reported, rescan_runs, steps_runs_again}
+use Rattle.ffs_claims.proofs.{Duplicates.marked_total, Numbers.{before_end, before_first, is_inside}}
+use Rattle.ffs_claims.proofs.{Reportings.{Reporting, reported_none, reported_to}, RescanCounts.looked_both}
+use Rattle.ffs_claims.{proofs.{RescanCounts.{runs_leave, inode_again}, StepsContinue.range_more}, specs.Lines.of_lines}
+use Rattle.ffs_claims.specs.{Lines.owners_from, Reporting.{after_first, OffersReported, SameClaims}}
+use Rattle.ffs_claims.specs.{Rescan.offers_again, RescanRuns.{owners_runs, runs_until_reported, rescan_runs}}
+use Rattle.ffs_claims.specs.RescanRuns.{steps_runs_again}
 
 -- the offers that the inode n keeps, replayed by its noted cut, and those of each of its Runs
 abbrev pub offers_at : Layout → List ℕ → List ℕ → ℕ → List Offer

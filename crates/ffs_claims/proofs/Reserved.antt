@@ -1,14 +1,12 @@
 -- The bits of the reserved fragments.
 use Rattle.std.proofs.Common.{◌≡◌, ◌⊎◌, inl, inr, ℕ, suc, ◌+◌, ◌<◌, ◌≤◌, Bool, true, false, ◌&&◌, ◌||◌, nat_lt, nat_le}
-use Rattle.std.proofs.Common.{List, length, get_or, replicate, arith, refl, ap, ◌∙◌, sym}
-use Rattle.std.proofs.lemmas.{Bool.cases_lt, Bool.Decides.nat_tests, List.same_lists, List.get_or-replicate}
-use Rattle.std.proofs.lemmas.List.{get_or_default, FromFn.length-map-range_with_len, FromFn.get_or-map-range_with_len}
-use Rattle.std.specs.Int.{div_ceil}
-use Rattle.ffs_volume.proofs.SearchLaws.{some_below-suc}
-use Rattle.ffs_volume.specs.Blocks.Claims.{Claims, reserved_map, no_claims, at_next_inode}
-use Rattle.ffs_volume.specs.Disk.Areas.{cgsblock, cgdmin, is_group_metadata, is_reserved}
-use Rattle.ffs_volume.specs.{Disk.Search.first_below, Disk.Search.some_below, declared.Layout.Layout}
-use Rattle.ffs_maps.{proofs.Masks.run_inside, proofs.Masks.run_outside, specs.Bits.set_run}
+use Rattle.std.proofs.{Common.{List, length, get_or, replicate, arith, refl, ap, ◌∙◌, sym}, lemmas.Bool.cases_lt}
+use Rattle.std.proofs.lemmas.{Bool.Decides.nat_tests, List.{same_lists, get_or-replicate, get_or_default}}
+use Rattle.std.{proofs.lemmas.List.FromFn.{length-map-range_with_len, get_or-map-range_with_len}, specs.Int.div_ceil}
+use Rattle.ffs_volume.{proofs.SearchLaws.some_below-suc, specs.Blocks.Claims.{Claims, reserved_map, no_claims}}
+use Rattle.ffs_volume.specs.{Blocks.Claims.at_next_inode, Disk.Areas.{cgsblock, cgdmin, is_group_metadata, is_reserved}}
+use Rattle.ffs_volume.specs.{Disk.Search.{first_below, some_below}, declared.Layout.Layout}
+use Rattle.ffs_maps.{proofs.Masks.{run_inside, run_outside}, specs.Bits.set_run}
 
 -- a fragment lies in a run
 abbrev pub is_in_run : ℕ → ℕ → ℕ → Bool

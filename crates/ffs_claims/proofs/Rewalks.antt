@@ -1,31 +1,27 @@
 -- How a second walk over an inode continues.
 use Rattle.std.proofs.Common.{◌≡◌, ◌≢◌, ◌≤◌, ℕ, replicate, ◌+◌, Bool, true, List, [], ◌∷◌, ◌++◌, map, Option, arith}
-use Rattle.std.proofs.Common.{refl, ap, ◌∙◌, ◌<◌, ◌-◌, ◌^◌, Result, Ok}
-use Rattle.std.{proofs.lemmas.Bool.Decides.nat_tests, specs.List.range_with_len}
-use Rattle.ffs_volume.proofs.ReplayLaws.{counted_same, gaps_seen}
-use Rattle.ffs_volume.specs.Blocks.{BlockCheck.first_offer_lines, KeptOffers.offer_of}
-use Rattle.ffs_volume.specs.Encodings.Replay.{Replay, fresh_replay, is_replay_open}
+use Rattle.std.proofs.{Common.{refl, ap, ◌∙◌, ◌<◌, ◌-◌, ◌^◌, Result, Ok}, lemmas.Bool.Decides.nat_tests}
+use Rattle.std.specs.List.{range_with_len}
+use Rattle.ffs_volume.{proofs.ReplayLaws.{counted_same, gaps_seen}, specs.Blocks.BlockCheck.first_offer_lines}
+use Rattle.ffs_volume.specs.{Blocks.KeptOffers.offer_of, Encodings.Replay.{Replay, fresh_replay, is_replay_open}}
 use Rattle.ffs_volume.specs.Encodings.ReplayCounts.{seen_run, replayed_runs, replay_step_by_cut}
-use Rattle.ffs_volume.specs.{Messages.Kinds.Message, declared.BlockMessage.BlockMessage}
-use Rattle.ffs_volume.specs.declared.{Inode.Inode, Layout.Layout, Step.Step, Step.TheVariants.Run, Step.TheVariants.Gap}
+use Rattle.ffs_volume.specs.{Messages.Kinds.Message, declared.{BlockMessage.BlockMessage, Inode.Inode, Layout.Layout}}
+use Rattle.ffs_volume.specs.declared.Step.{Step, TheVariants.{Run, Gap}}
 use Rattle.ffs_image.specs.Device.{Device}
-use Rattle.ffs_report.proofs.Reporting.{reports_same, reports_knowing, of_says}
-use Rattle.ffs_report.specs.Known.{IsContents, ForBytes}
-use Rattle.ffs_report.specs.{PhaseOutcome.SaidOf, Progress.Progress, Progress.Said, declared.fault.RunFault.RunFault}
+use Rattle.ffs_report.{proofs.Reporting.{reports_same, reports_knowing, of_says}, specs.Known.{IsContents, ForBytes}}
+use Rattle.ffs_report.specs.{PhaseOutcome.SaidOf, Progress.{Progress, Said}, declared.fault.RunFault.RunFault}
 use Rattle.ffs_maps.specs.Bits.{bits_of}
-use Rattle.ffs_walk.specs.{Keepings.run_taken, Keepings.replay_in, Rests.steps_left, Windows.KeepsBlocks}
+use Rattle.ffs_walk.specs.{Keepings.{run_taken, replay_in}, Rests.steps_left, Windows.KeepsBlocks}
 use Rattle.ffs_walk.specs.declared.{blocks.Blocks.Blocks, keeping.Keeping.Keeping, walk.Walk.Walk}
-use Rattle.ffs_workspace.specs.Lengths.{set_count}
-use Rattle.ffs_workspace.specs.declared.workspace.{Windows.Windows, Workspace.Workspace}
+use Rattle.ffs_workspace.specs.{Lengths.set_count, declared.workspace.{Windows.Windows, Workspace.Workspace}}
 use Rattle.ffs_layout.specs.declared.geometry.Geometry.{Geometry}
 use Rattle.ffs_claims.proofs.Frames.{ready_still, ready_walked, image_from, claims_then, claims_still, claims_none}
-use Rattle.ffs_claims.proofs.Inodes.{ok_where}
-use Rattle.ffs_claims.proofs.Reportings.{reporting_over, Reporting, reporting_begins, reporting_more, reporting_ends}
-use Rattle.ffs_claims.proofs.Reportings.{reported_from, reported_to, lines_split}
-use Rattle.ffs_claims.proofs.RescanCounts.{looked_none, looked_next, again_gaps}
-use Rattle.ffs_claims.specs.{Lines.of_lines, Reporting.ReportsOnly, Reporting.RewalkLeaves, Reporting.after_first}
-use Rattle.ffs_claims.specs.{Rescan.step_offers_again, Rescan.offers_again, RescanRuns.Rewalks, RescanRuns.RoseBy}
-use Rattle.ffs_claims.specs.RescanRuns.{Rewalked, runs_until_reported, steps_runs_again, RunsPay, StepReported, Counted}
+use Rattle.ffs_claims.proofs.{Inodes.ok_where, Reportings.{reporting_over, Reporting, reporting_begins, reporting_more}}
+use Rattle.ffs_claims.proofs.Reportings.{reporting_ends, reported_from, reported_to, lines_split}
+use Rattle.ffs_claims.{proofs.RescanCounts.{looked_none, looked_next, again_gaps}, specs.Lines.of_lines}
+use Rattle.ffs_claims.specs.{Reporting.{ReportsOnly, RewalkLeaves, after_first}, Rescan.step_offers_again}
+use Rattle.ffs_claims.specs.{Rescan.offers_again, RescanRuns.{Rewalks, RoseBy, Rewalked, runs_until_reported}}
+use Rattle.ffs_claims.specs.RescanRuns.{steps_runs_again, RunsPay, StepReported, Counted}
 
 pub open_first : (cut : ℕ) → is_replay_open cut fresh_replay ≡ true
 open_first cut = grind (arith, nat_tests)

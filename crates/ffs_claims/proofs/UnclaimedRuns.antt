@@ -1,15 +1,13 @@
 -- Runs whose offers are taken at once with nothing to report, and which Runs are in range.
-use Rattle.std.proofs.Common.{◌≡◌, ℕ, zero, suc, ◌+◌, ◌-◌, ◌<◌, ◌≤◌, true, false, nat_lt, [], slice_set, get_or}
-use Rattle.std.proofs.Common.{arith, refl, ap, ◌∙◌, Bool, sym, not, ◌/◌, inl, inr}
-use Rattle.std.proofs.lemmas.Bool.{cases_Bool}
-use Rattle.std.proofs.{Math.Nat.mul-div-le, lemmas.Bool.Decides.nat_tests, lemmas.List.get_or-set_other}
-use Rattle.std.{proofs.lemmas.List.set-get_or, specs.List.range_with_len, specs.List.slice_index_or}
-use Rattle.ffs_volume.proofs.{AreaLaws.group_is, Potentials.each_ok, Potentials.in_range_below}
-use Rattle.ffs_volume.proofs.RunLaws.{in_range_is, is_apart}
+use Rattle.std.proofs.Common.{◌≡◌, ℕ, zero, suc, ◌+◌, ◌-◌, ◌<◌, ◌≤◌, true, false, nat_lt, [], slice_set, get_or, arith}
+use Rattle.std.proofs.{Common.{refl, ap, ◌∙◌, Bool, sym, not, ◌/◌, inl, inr}, lemmas.Bool.cases_Bool}
+use Rattle.std.proofs.{Math.Nat.mul-div-le, lemmas.{Bool.Decides.nat_tests, List.{get_or-set_other, set-get_or}}}
+use Rattle.std.specs.List.{range_with_len, slice_index_or}
+use Rattle.ffs_volume.proofs.{AreaLaws.group_is, Potentials.{each_ok, in_range_below}, RunLaws.{in_range_is, is_apart}}
 use Rattle.ffs_volume.specs.Blocks.Claims.{Claims, is_set, after_offer, after_offers, offer_lines, lines_of_offers}
 use Rattle.ffs_volume.specs.Disk.Areas.{is_fragment_in_range, is_run_in_range, cgbase, cgstart, cgsblock, cgdmin}
 use Rattle.ffs_volume.specs.{Laws.Geometry.IsAcceptedLayout, declared.Layout.Layout}
-use Rattle.ffs_maps.specs.{Bits.set_run, Bits.AreClear, Bits.bits_of, Bits.ClaimsRun, declared.FragmentMap.FragmentMap}
+use Rattle.ffs_maps.specs.{Bits.{set_run, AreClear, bits_of, ClaimsRun}, declared.FragmentMap.FragmentMap}
 
 -- the offers of a Run leave these claims, and nothing is reported of them
 pub record IsQuiet (v : Layout) (s : Claims) (start len : ℕ) (t : Claims) : Type 0 where

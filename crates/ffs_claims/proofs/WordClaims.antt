@@ -1,17 +1,15 @@
 -- What the words of an indirect block claim with nothing to report, one after the other.
 use Rattle.std.proofs.Common.{◌≡◌, ◌≢◌, ℕ, ◌+◌, ◌<◌, ◌≤◌, true, false, nat_eq, nat_lt, List, ◌∷◌, arith, refl, sym, ◌∙◌}
-use Rattle.std.proofs.{Common.Option, lemmas.Bool.and_parts, lemmas.Bool.Decides.nat_tests}
-use Rattle.ffs_volume.proofs.Potentials.{cond_holds, moves_then, stays}
-use Rattle.ffs_volume.specs.Blocks.Claims.{after_step, is_open}
+use Rattle.std.proofs.{Common.Option, lemmas.Bool.{and_parts, Decides.nat_tests}}
+use Rattle.ffs_volume.{proofs.Potentials.{cond_holds, moves_then, stays}, specs.Blocks.Claims.{after_step, is_open}}
 use Rattle.ffs_volume.specs.{Disk.Areas.is_run_in_range, Laws.RunLengths.HasLength, declared.Layout.Layout}
 use Rattle.ffs_image.specs.Device.{ForContents}
 use Rattle.ffs_maps.specs.Bits.{bits_of, AreClear, set_run}
-use Rattle.ffs_walk.{specs.Counts.EntersOnly}
-use Rattle.ffs_walk.specs.{HeldWords.PassesWord, HeldWords.next_address, HeldWords.word_step, Rests.SameFileBlocks}
-use Rattle.ffs_walk.specs.{Rests.most_steps_left, Rests.steps_left, Windows.BlocksHold, declared.walk.Walk.Walk}
+use Rattle.ffs_walk.specs.{Counts.EntersOnly, HeldWords.{PassesWord, next_address, word_step}, Rests.SameFileBlocks}
+use Rattle.ffs_walk.specs.{Rests.{most_steps_left, steps_left}, Windows.BlocksHold, declared.walk.Walk.Walk}
 use Rattle.ffs_workspace.specs.{Holds.claims_of, Lengths.IsFor, declared.workspace.Workspace.Workspace}
-use Rattle.ffs_claims.proofs.{Frames.only_then, Inodes.moves_on, UnclaimedRuns.whole_is}
-use Rattle.ffs_claims.specs.{Leaves.ClaimsOnly, SilentWords.ClaimsSilently, SilentWords.ClaimsWords}
+use Rattle.ffs_claims.{proofs.{Frames.only_then, Inodes.moves_on, UnclaimedRuns.whole_is}, specs.Leaves.ClaimsOnly}
+use Rattle.ffs_claims.specs.SilentWords.{ClaimsSilently, ClaimsWords}
 
 -- a Run in range of which all fragments are unclaimed
 pub run_claims : {v : Layout} {old new : Workspace} (start block : ℕ) → is_open (claims_of old) ≡ true → start ≢ 0 →

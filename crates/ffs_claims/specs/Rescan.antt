@@ -1,9 +1,7 @@
 -- Which offers an inode keeps, replayed by its bad Runs so far and its kept offers up to its cut.
-use Rattle.std.specs.List.{range_with_len}
-use Rattle.std.specs.Prelude.{ℕ, if◌then◌else◌, List, [], ◌∷◌, ◌++◌, map}
-use Rattle.ffs_volume.specs.Blocks.KeptOffers.{Offer, offer_of}
-use Rattle.ffs_volume.specs.Encodings.{Replay.Replay, Replay.is_replay_open, ReplayCounts.replay_step_by_cut}
-use Rattle.ffs_volume.specs.declared.{Layout.Layout, Step.Step}
+use Rattle.std.specs.{List.range_with_len, Prelude.{ℕ, if◌then◌else◌, List, [], ◌∷◌, ◌++◌, map}}
+use Rattle.ffs_volume.specs.{Blocks.KeptOffers.{Offer, offer_of}, Encodings.Replay.{Replay, is_replay_open}}
+use Rattle.ffs_volume.specs.{Encodings.ReplayCounts.replay_step_by_cut, declared.{Layout.Layout, Step.Step}}
 use Rattle.ffs_volume.specs.declared.Step.TheVariants.{Run, Tail, Gap}
 use Rattle.ffs_walk.specs.Keepings.{run_taken}
 

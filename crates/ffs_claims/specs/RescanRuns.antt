@@ -1,22 +1,21 @@
 -- How many Runs phase 1b looks at: those that are seen, in order, until each fragment with a DUP
 -- line has its first kept offer reported.
-use Rattle.std.specs.{List.range_with_len, Prelude.◌≡◌, Prelude.◌<◌}
-use Rattle.std.specs.Prelude.{◌≤◌, ℕ, ◌+◌, ◌-◌, ◌^◌, Bool, List, [], ◌∷◌, ◌++◌, ◌==◌, if◌then◌else◌, map, Result, OnOk}
-use Rattle.ffs_volume.specs.Blocks.{BlockCheck.first_offer_lines, Claims.Claims}
-use Rattle.ffs_volume.specs.Blocks.Claims.{no_claims, at_next_inode, is_open, after_step, after_owner, after_owners}
-use Rattle.ffs_volume.specs.Blocks.{KeptOffers.Offer, KeptOffers.kept_in_run, KeptOffers.offer_of, Owners.Owner}
-use Rattle.ffs_volume.specs.{Blocks.Owners.owners_of, Blocks.Steps.steps_of, Encodings.Replay.Replay}
-use Rattle.ffs_volume.specs.Encodings.{Replay.is_replay_open, Replay.fresh_replay, ReplayCounts.replayed_runs}
-use Rattle.ffs_volume.specs.{Encodings.ReplayCounts.replay_step_by_cut, declared.Inode.Inode, declared.Layout.Layout}
-use Rattle.ffs_volume.specs.declared.Step.{Step, TheVariants.Run, TheVariants.Tail, TheVariants.Gap}
+use Rattle.std.specs.{List.range_with_len, Prelude.{◌≡◌, ◌<◌, ◌≤◌, ℕ, ◌+◌, ◌-◌, ◌^◌, Bool, List, [], ◌∷◌, ◌++◌, ◌==◌}}
+use Rattle.std.specs.Prelude.{if◌then◌else◌, map, Result, OnOk}
+use Rattle.ffs_volume.specs.Blocks.{BlockCheck.first_offer_lines, Claims.{Claims, no_claims, at_next_inode, is_open}}
+use Rattle.ffs_volume.specs.Blocks.{Claims.{after_step, after_owner, after_owners}, KeptOffers.{Offer, kept_in_run}}
+use Rattle.ffs_volume.specs.Blocks.{KeptOffers.offer_of, Owners.{Owner, owners_of}, Steps.steps_of}
+use Rattle.ffs_volume.specs.Encodings.{Replay.{Replay, is_replay_open, fresh_replay}, ReplayCounts.replayed_runs}
+use Rattle.ffs_volume.specs.{Encodings.ReplayCounts.replay_step_by_cut, declared.{Inode.Inode, Layout.Layout}}
+use Rattle.ffs_volume.specs.declared.Step.{Step, TheVariants.{Run, Tail, Gap}}
 use Rattle.ffs_image.specs.Device.{Device}
-use Rattle.ffs_report.specs.Known.{ForBytes, IsContents}
-use Rattle.ffs_report.specs.{PhaseOutcome.PhaseReports, Progress.Progress, declared.fault.RunFault.RunFault}
+use Rattle.ffs_report.specs.{Known.{ForBytes, IsContents}, PhaseOutcome.PhaseReports, Progress.Progress}
+use Rattle.ffs_report.specs.declared.fault.RunFault.{RunFault}
 use Rattle.ffs_maps.specs.Bits.{bits_of}
-use Rattle.ffs_walk.specs.{Keepings.replay_in, Keepings.run_taken, declared.keeping.Keeping.Keeping}
+use Rattle.ffs_walk.specs.{Keepings.{replay_in, run_taken}, declared.keeping.Keeping.Keeping}
 use Rattle.ffs_workspace.specs.{Lengths.set_count, declared.workspace.Workspace.Workspace}
-use Rattle.ffs_claims.specs.{Lines.of_lines, Reporting.after_first, Reporting.OffersReported, Reporting.RewalkLeaves}
-use Rattle.ffs_claims.specs.Rescan.{offers_again, step_offers_again}
+use Rattle.ffs_claims.specs.{Lines.of_lines, Reporting.{after_first, OffersReported, RewalkLeaves}, Rescan.offers_again}
+use Rattle.ffs_claims.specs.Rescan.{step_offers_again}
 
 -- the kept offers of each Run that is seen: of a step, of steps, and of inodes
 abbrev pub step_runs : Layout → ℕ → Claims → Step → List (List Offer)

@@ -1,8 +1,7 @@
 //! The lines of phase 1.
 
 ghost use Rattle.std.specs.Prelude.{◌≡◌, ◌<◌, ◌^◌};
-ghost use Rattle.ffs_volume.specs.Blocks.BlockCheck.{class_lines, count_lines};
-ghost use Rattle.ffs_volume.specs.Blocks.Inodes.{is_file_or_dir};
+ghost use Rattle.ffs_volume.specs.Blocks.{BlockCheck.{class_lines, count_lines}, Inodes.is_file_or_dir};
 ghost use Rattle.ffs_report.specs.Progress.{progress, Says};
 ghost use Rattle.ffs_workspace.specs.Holds.{claims_of};
 ghost use Rattle.ffs_claims.specs.Lines.{of_lines, counted_owner, dup_lines, bad_lines};

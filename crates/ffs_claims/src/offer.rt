@@ -1,17 +1,14 @@
 //! The offers of Runs, and what is reported of them.
 
-ghost use Rattle.std.specs.List.{range_with_len};
-ghost use Rattle.std.specs.Prelude.{◌≡◌, ◌+◌, ◌<◌, ◌≤◌, OnOk, IfOk, IsTrue, true};
-ghost use Rattle.ffs_volume.specs.Blocks.Claims.{after_offer, after_offers, after_run, after_step};
-ghost use Rattle.ffs_volume.specs.Blocks.Claims.{offer_lines, lines_of_offers, run_lines};
-ghost use Rattle.ffs_volume.specs.{Blocks.Claims.step_lines, Disk.Areas.is_fragment_in_range};
-ghost use Rattle.ffs_volume.specs.{Disk.Areas.is_run_in_range, Laws.RunLengths.HasLength};
+ghost use Rattle.std.specs.{List.range_with_len, Prelude.{◌≡◌, ◌+◌, ◌<◌, ◌≤◌, OnOk, IfOk, IsTrue, true}};
+ghost use Rattle.ffs_volume.specs.Blocks.Claims.{after_offer, after_offers, after_run, after_step, offer_lines};
+ghost use Rattle.ffs_volume.specs.Blocks.Claims.{lines_of_offers, run_lines, step_lines};
+ghost use Rattle.ffs_volume.specs.{Disk.Areas.{is_fragment_in_range, is_run_in_range}, Laws.RunLengths.HasLength};
 ghost use Rattle.ffs_report.specs.Progress.{progress, Says};
 ghost use Rattle.ffs_walk.specs.Counts.{entered};
 ghost use Rattle.ffs_workspace.specs.Holds.{claims_of};
-ghost use Rattle.ffs_claims.specs.Claiming.{ClaimsStep, SeesNext};
-ghost use Rattle.ffs_claims.specs.Leaves.{AreClaims, CanOffer, HasRoomForOffers, OffersOnly};
-ghost use Rattle.ffs_claims.specs.Lines.{of_lines, has_dup_line};
+ghost use Rattle.ffs_claims.specs.{Claiming.{ClaimsStep, SeesNext}, Leaves.{AreClaims, CanOffer, HasRoomForOffers}};
+ghost use Rattle.ffs_claims.specs.{Leaves.OffersOnly, Lines.{of_lines, has_dup_line}};
 ghost use Rattle.ffs_volume.specs.Blocks.Claims as claims;
 
 use crate::area::{DataArea, Run};

@@ -1,20 +1,16 @@
 //! Phase 1b: rescan for more dups (fsck(8)).
 
-ghost use Rattle.std.specs.Prelude.{◌≡◌, ◌+◌, ◌-◌, ◌*◌, ◌<◌, ◌≤◌, ◌^◌, ◌∷◌, OnOk, true};
-ghost use Rattle.std.specs.Prelude.{slice_index};
-ghost use Rattle.ffs_volume.specs.Blocks.BlockCheck.{first_offer_lines, phase1b_lines};
-ghost use Rattle.ffs_volume.specs.Blocks.{Inodes.inode_of, Owners.owners_of};
-ghost use Rattle.ffs_volume.specs.{Encodings.ReplayCounts.seen_run, Laws.RunLengths.HasLength};
+ghost use Rattle.std.specs.Prelude.{◌≡◌, ◌+◌, ◌-◌, ◌*◌, ◌<◌, ◌≤◌, ◌^◌, ◌∷◌, OnOk, true, slice_index};
+ghost use Rattle.ffs_volume.specs.Blocks.{BlockCheck.{first_offer_lines, phase1b_lines}, Inodes.inode_of};
+ghost use Rattle.ffs_volume.specs.{Blocks.Owners.owners_of, Encodings.ReplayCounts.seen_run, Laws.RunLengths.HasLength};
 ghost use Rattle.ffs_volume.specs.Report.{Reads.sweep_reads, Whole.run_count};
-ghost use Rattle.ffs_report.specs.{Known.ForBytes, PhaseOutcome.PhaseOutcome};
-ghost use Rattle.ffs_report.specs.Progress.{progress, Says};
+ghost use Rattle.ffs_report.specs.{Known.ForBytes, PhaseOutcome.PhaseOutcome, Progress.{progress, Says}};
 ghost use Rattle.ffs_maps.specs.Bits.{bits_of};
 ghost use Rattle.ffs_walk.specs.{Counts.entered, Keepings.replay_in};
-ghost use Rattle.ffs_workspace.specs.{Found.WithPhase1, Holds.HoldsClaims, Holds.HoldsStarts};
-ghost use Rattle.ffs_workspace.specs.{Notes.cut_in, Ready.IsReady};
-ghost use Rattle.ffs_claims.specs.{Lines.of_lines, Reporting.CanReport, Reporting.CanRewalk};
-ghost use Rattle.ffs_claims.specs.{Reporting.ReportsOnly, Rescan.step_offers_again};
-ghost use Rattle.ffs_claims.specs.RescanRuns.{Counted, Rewalks, RunsPay, StepReported, rescan_runs};
+ghost use Rattle.ffs_workspace.specs.{Found.WithPhase1, Holds.{HoldsClaims, HoldsStarts}, Notes.cut_in, Ready.IsReady};
+ghost use Rattle.ffs_claims.specs.{Lines.of_lines, Reporting.{CanReport, CanRewalk, ReportsOnly}};
+ghost use Rattle.ffs_claims.specs.{Rescan.step_offers_again, RescanRuns.{Counted, Rewalks, RunsPay, StepReported}};
+ghost use Rattle.ffs_claims.specs.RescanRuns.{rescan_runs};
 ghost use Rattle.ffs_volume.specs.Messages.Kinds as messages;
 ghost use Rattle.ffs_volume.specs.Encodings.Replay as replays;
 

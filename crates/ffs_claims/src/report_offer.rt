@@ -1,12 +1,10 @@
 //! The first kept offers of fragments that have a DUP line, reported once each.
 
-ghost use Rattle.std.specs.List.{range_with_len};
-ghost use Rattle.std.specs.Prelude.{[], ◌∷◌, OnOk, map};
+ghost use Rattle.std.specs.{List.range_with_len, Prelude.{[], ◌∷◌, OnOk, map}};
 ghost use Rattle.ffs_volume.specs.Blocks.{BlockCheck.first_offer_lines, KeptOffers.offer_of};
 ghost use Rattle.ffs_report.specs.Progress.{progress, Says};
 ghost use Rattle.ffs_maps.specs.Bits.{bits_of};
-ghost use Rattle.ffs_claims.specs.Lines.{of_lines};
-ghost use Rattle.ffs_claims.specs.Reporting.{CanReport, OffersReported, OffersReportedOnly};
+ghost use Rattle.ffs_claims.specs.{Lines.of_lines, Reporting.{CanReport, OffersReported, OffersReportedOnly}};
 
 use ffs_layout::Geometry;
 use ffs_report::{Line, OutFault, Output, Report};

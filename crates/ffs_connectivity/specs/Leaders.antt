@@ -2,8 +2,7 @@
 use Rattle.std.specs.Prelude.{◌≡◌, ℕ, length}
 use Rattle.ffs_volume.specs.Directories.Climb.{is_leader_within}
 use Rattle.ffs_survey.specs.Cycles.{parent_in}
-use Rattle.ffs_workspace.specs.declared.workspace.Workspace.{Workspace}
-use Rattle.ffs_workspace.specs.Holds.{bool_at}
+use Rattle.ffs_workspace.specs.{declared.workspace.Workspace.Workspace, Holds.bool_at}
 
 -- `flags` holds of the leaders alone, one for each cycle of parents
 pub record HasLeaders (w : Workspace) : Type 0 where

@@ -1,17 +1,12 @@
 //! Phase 3: connectivity (fsck(8)).
 
 ghost use Rattle.std.specs.Prelude.{◌≡◌, ◌+◌, ◌<◌, ◌≤◌, ◌^◌, ◌∷◌, length, map};
-ghost use Rattle.ffs_report.specs.Progress.{progress};
-ghost use Rattle.ffs_report.specs.Known.{ForBytes};
-ghost use Rattle.ffs_report.specs.{Paid.Paid, PhaseOutcome.PhaseOutcome};
-ghost use Rattle.ffs_volume.specs.Directories.Connectivity.{connectivity_lines};
-ghost use Rattle.ffs_volume.specs.Messages.Kinds as messages;
-ghost use Rattle.ffs_volume.specs.Messages.Kinds.{of_tree};
+ghost use Rattle.ffs_report.specs.{Progress.progress, Known.ForBytes, Paid.Paid, PhaseOutcome.PhaseOutcome};
+ghost use Rattle.ffs_volume.specs.{Directories.Connectivity.connectivity_lines, Messages.Kinds.of_tree};
 ghost use Rattle.ffs_volume.specs.Directories.Volumes.{volume_of};
 ghost use Rattle.ffs_connectivity.specs.Unreached.{IsFirstUnreached};
-ghost use Rattle.ffs_workspace.specs.Found.{WithSurvey};
-ghost use Rattle.ffs_workspace.specs.Leaves.{LeavesSurvey};
-ghost use Rattle.ffs_workspace.specs.Ready.{IsReady};
+ghost use Rattle.ffs_workspace.specs.{Found.WithSurvey, Leaves.LeavesSurvey, Ready.IsReady};
+ghost use Rattle.ffs_volume.specs.Messages.Kinds as messages;
 
 use crate::unref::check_inode;
 use ffs_image::Image;

@@ -1,16 +1,10 @@
 //! The line on a lost directory.
 
 ghost use Rattle.std.specs.Prelude.{◌≡◌, ◌+◌, ◌<◌, ◌≤◌, length, map};
-ghost use Rattle.ffs_report.specs.Progress.{progress};
-ghost use Rattle.ffs_report.specs.Known.{ForBytes};
-ghost use Rattle.ffs_report.specs.{Paid.Paid, PhaseOutcome.PhaseOutcome};
-ghost use Rattle.ffs_volume.specs.Messages.Kinds.{of_tree};
-ghost use Rattle.ffs_volume.specs.Directories.Volumes.{volume_of};
-ghost use Rattle.ffs_workspace.specs.Found.{WithSurvey};
-ghost use Rattle.ffs_workspace.specs.Lengths.{inodes_of};
-ghost use Rattle.ffs_workspace.specs.Ready.{IsReady, StaysReady};
-ghost use Rattle.ffs_connectivity.specs.Leaders.{HasLeaders};
-ghost use Rattle.ffs_connectivity.specs.Lines.{unref_dir_lines};
+ghost use Rattle.ffs_report.specs.{Progress.progress, Known.ForBytes, Paid.Paid, PhaseOutcome.PhaseOutcome};
+ghost use Rattle.ffs_volume.specs.{Messages.Kinds.of_tree, Directories.Volumes.volume_of};
+ghost use Rattle.ffs_workspace.specs.{Found.WithSurvey, Lengths.inodes_of, Ready.{IsReady, StaysReady}};
+ghost use Rattle.ffs_connectivity.specs.{Leaders.HasLeaders, Lines.unref_dir_lines};
 
 use ffs_image::Image;
 use ffs_layout::Geometry;

@@ -1,16 +1,12 @@
 -- The lines of groups, and the number of files, by kinds of inodes in place of their classes.
-use Rattle.std.proofs.Common.{arith}
-use Rattle.std.proofs.Common.{◌≡◌, ℕ, ◌+◌, ◌-◌, ◌*◌, ℤ, Bool, true, false, ◌&&◌, ◌||◌, ◌==◌, not, nat_le, nat_lt, List}
-use Rattle.std.proofs.Common.{◌++◌, refl, ap, ◌∙◌, slice_index, count_by}
-use Rattle.std.specs.List.{range_with_len, flat_map, sum_by}
-use Rattle.std.proofs.Math.Path.{fun_ext}
+use Rattle.std.proofs.Common.{arith, ◌≡◌, ℕ, ◌+◌, ◌-◌, ◌*◌, ℤ, Bool, true, false, ◌&&◌, ◌||◌, ◌==◌, not, nat_le, nat_lt}
+use Rattle.std.{proofs.Common.{List, ◌++◌, refl, ap, ◌∙◌, slice_index, count_by}, specs.List.{range_with_len, flat_map}}
+use Rattle.std.{specs.List.sum_by, proofs.Math.Path.fun_ext}
 use Rattle.ffs_volume.specs.declared.{Layout.Layout, Inode.Inode, Class.Class, BlockMessage.BlockMessage}
-use Rattle.ffs_volume.specs.declared.{BlockMessage.TheVariants.FreeCounts}
-use Rattle.ffs_volume.specs.declared.Class.TheVariants.{Free, Partial, Unknown, File, Dir}
-use Rattle.ffs_volume.specs.{Directories.Volumes.class_at, Disk.Areas.cgbase, Report.Whole.file_count}
-use Rattle.ffs_volume.specs.Blocks.Inodes.{is_file_or_dir, is_directory, is_allocated}
-use Rattle.ffs_volume.specs.Disk.Numbers.{all_below, u32_at}
-use Rattle.ffs_volume.specs.Encodings.Kinds.{kind_at, kind_of, class_of_kind}
+use Rattle.ffs_volume.specs.declared.{BlockMessage.TheVariants.FreeCounts, Class.TheVariants.{Free, Partial, Unknown}}
+use Rattle.ffs_volume.specs.{declared.Class.TheVariants.{File, Dir}, Directories.Volumes.class_at, Disk.Areas.cgbase}
+use Rattle.ffs_volume.specs.{Report.Whole.file_count, Blocks.Inodes.{is_file_or_dir, is_directory, is_allocated}}
+use Rattle.ffs_volume.specs.{Disk.Numbers.{all_below, u32_at}, Encodings.Kinds.{kind_at, kind_of, class_of_kind}}
 use Rattle.ffs_volume.specs.Groups.GroupCheck.{group_lines, reported_once, unreported, unless, phase5_lines}
 use Rattle.ffs_volume.specs.Groups.Records.{GroupCounts, is_used_inode, is_dir_inode, is_free_block, block_bits}
 use Rattle.ffs_volume.specs.Groups.Records.{block_numbers, group_inodes, group_numbers, group_size, right_group_counts}

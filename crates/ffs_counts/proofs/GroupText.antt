@@ -1,26 +1,21 @@
 -- The lines of phase 5, group after group: of the messages that come once, only the first ones.
-use Rattle.std.proofs.Common.{◌≡◌, ℕ, suc, ◌+◌, ◌-◌, ◌<◌, ◌≤◌, ◌^◌, Bool, List, [], ◌∷◌, ◌++◌, map, refl}
-use Rattle.std.proofs.Common.{ap, ◌∙◌, sym, subst, append_assoc, append-nil, arith, ℤ, Result}
-use Rattle.std.specs.List.{range_with_len, flat_map, sum_by}
-use Rattle.std.proofs.lemmas.List.{map-append}
-use Rattle.ffs_volume.specs.declared.{Layout.Layout, Class.Class, BlockMessage.BlockMessage}
-use Rattle.ffs_volume.specs.declared.{BlockMessage.TheVariants.FreeCounts}
-use Rattle.ffs_volume.specs.{Blocks.Owners.owners_of, Directories.Volumes.class_at}
-use Rattle.ffs_volume.specs.Groups.GroupCheck.{AlreadyReported, group_lines, is_free_of_kept}
-use Rattle.ffs_volume.specs.Groups.GroupCheck.{note_reported, phase5_lines, reported_once, unreported, unless}
-use Rattle.ffs_volume.specs.Groups.Records.{GroupCounts, right_group_counts, right_total, has_right_totals, has_totals}
-use Rattle.ffs_volume.specs.Messages.Kinds.{Message, of_blocks}
+use Rattle.std.proofs.Common.{◌≡◌, ℕ, suc, ◌+◌, ◌-◌, ◌<◌, ◌≤◌, ◌^◌, Bool, List, [], ◌∷◌, ◌++◌, map, refl, ap, ◌∙◌, sym}
+use Rattle.std.{proofs.Common.{subst, append_assoc, append-nil, arith, ℤ, Result}, specs.List.range_with_len}
+use Rattle.std.{specs.List.{flat_map, sum_by}, proofs.lemmas.List.map-append}
+use Rattle.ffs_volume.specs.declared.{Layout.Layout, Class.Class, BlockMessage.{BlockMessage, TheVariants.FreeCounts}}
+use Rattle.ffs_volume.specs.{Blocks.Owners.owners_of, Directories.Volumes.class_at, Groups.GroupCheck.AlreadyReported}
+use Rattle.ffs_volume.specs.Groups.GroupCheck.{group_lines, is_free_of_kept, note_reported, phase5_lines, reported_once}
+use Rattle.ffs_volume.specs.Groups.{GroupCheck.{unreported, unless}, Records.{GroupCounts, right_group_counts}}
+use Rattle.ffs_volume.specs.{Groups.Records.{right_total, has_right_totals, has_totals}, Messages.Kinds.Message}
+use Rattle.ffs_volume.specs.Messages.Kinds.{of_blocks}
 use Rattle.ffs_maps.specs.Bits.{bits_of}
-use Rattle.ffs_groups.specs.declared.counts.SummaryCounts.{SummaryCounts}
-use Rattle.ffs_groups.specs.{Check.group_counts_of, Free.free_in, Inodes.class_in}
-use Rattle.ffs_groups.proofs.Sums.{sum_more}
-use Rattle.ffs_report.specs.Progress.{Progress, Said, Stopped, Says}
-use Rattle.ffs_report.proofs.Reports.{says_then, stopped_after, stopped_more}
-use Rattle.ffs_workspace.specs.declared.workspace.Workspace.{Workspace}
-use Rattle.ffs_workspace.specs.Holds.{HoldsClaims}
-use Rattle.ffs_counts.specs.declared.totals.Totals.{Totals}
-use Rattle.ffs_counts.specs.{Once.reported_after, Totals.AreTotals, Totals.AreUpTo, Totals.total_of, Totals.with_counts}
-use Rattle.ffs_counts.proofs.Classes.{by_kinds}
+use Rattle.ffs_groups.specs.{declared.counts.SummaryCounts.SummaryCounts, Check.group_counts_of, Free.free_in}
+use Rattle.ffs_groups.{specs.Inodes.class_in, proofs.Sums.sum_more}
+use Rattle.ffs_report.{specs.Progress.{Progress, Said, Stopped, Says}, proofs.Reports.{says_then, stopped_after}}
+use Rattle.ffs_report.proofs.Reports.{stopped_more}
+use Rattle.ffs_workspace.specs.{declared.workspace.Workspace.Workspace, Holds.HoldsClaims}
+use Rattle.ffs_counts.specs.{declared.totals.Totals.Totals, Once.reported_after, Totals.{AreTotals, AreUpTo, total_of}}
+use Rattle.ffs_counts.{specs.Totals.with_counts, proofs.Classes.by_kinds}
 
 once_append : (t : AlreadyReported) (xs ys : List BlockMessage) → reported_once t (xs ++ ys) ≡ reported_once t xs
     ++ reported_once (reported_after t xs) ys

@@ -1,29 +1,23 @@
 -- What a workspace holds where only its windows have changed, and the lines of an inode by it.
-use Rattle.std.proofs.Common.{◌≡◌, ℕ, ℤ, pos, zero, suc, ◌+◌, ◌-◌, ◌<◌, ◌≤◌, ◌^◌, Bool, true, false, List, []}
-use Rattle.std.proofs.Common.{◌&&◌, ◌||◌, ◌==◌, not, if◌then◌else◌, length, map}
-use Rattle.std.proofs.Common.{refl, ap, ◌∙◌, sym, slice_index, vec_len, arith, SFits}
-use Rattle.std.specs.{List.slice_index_or, Int.w16, Int.cast_signed}
-use Rattle.std.specs.declared.{alloc.Global.Global, vec.Vec.Vec}
-use Rattle.std.proofs.lemmas.{Bool.Decides.nat_tests, Int.ints, Int.to_z_pos, List.get_or_read}
-use Rattle.std.proofs.lemmas.Bool.{and_parts, cases_lt, eq-eqb, eqb-true, not-true}
+use Rattle.std.proofs.Common.{◌≡◌, ℕ, ℤ, pos, zero, suc, ◌+◌, ◌-◌, ◌<◌, ◌≤◌, ◌^◌, Bool, true, false, List, [], ◌&&◌}
+use Rattle.std.proofs.Common.{◌||◌, ◌==◌, not, if◌then◌else◌, length, map, refl, ap, ◌∙◌, sym, slice_index, vec_len}
+use Rattle.std.{proofs.Common.{arith, SFits}, specs.{List.slice_index_or, Int.{w16, cast_signed}}}
+use Rattle.std.{specs.declared.{alloc.Global.Global, vec.Vec.Vec}, proofs.lemmas.{Bool.Decides.nat_tests, Int.ints}}
+use Rattle.std.proofs.lemmas.{Int.to_z_pos, List.get_or_read, Bool.{and_parts, cases_lt, eq-eqb, eqb-true, not-true}}
 use Rattle.ffs_volume.specs.declared.{Attr.Attr, Inode.Inode, Label.Label, Layout.Layout}
-use Rattle.ffs_volume.specs.declared.{constants.TheConstants.LINKS_MET}
-use Rattle.ffs_volume.specs.declared.Class.TheVariants.{Free, Unknown, File, Dir}
-use Rattle.ffs_volume.specs.{Directories.Connectivity.is_dead, Encodings.Links.links_start, Encodings.Links.start_at}
+use Rattle.ffs_volume.specs.declared.{constants.TheConstants.LINKS_MET, Class.TheVariants.{Free, Unknown, File, Dir}}
+use Rattle.ffs_volume.specs.{Directories.Connectivity.is_dead, Encodings.Links.{links_start, start_at}}
 use Rattle.ffs_volume.specs.Blocks.Inodes.{inode_of, inode_from_bytes, is_allocated}
 use Rattle.ffs_volume.specs.Directories.PathnameCheck.{attributes, attributes_of, label_of}
 use Rattle.ffs_volume.specs.Directories.ReferenceCheck.{inode_lines, reference_lines, reference_lines_at}
-use Rattle.ffs_volume.specs.Directories.Roles.{is_allocated_inode, is_inode, references}
-use Rattle.ffs_volume.specs.Directories.Volumes.{class_at, marked_at, volume_of, volume_with}
-use Rattle.ffs_volume.specs.Disk.Numbers.{equals_natural, i16_at}
-use Rattle.ffs_volume.specs.Encodings.Kinds.{kind_at, class_of_kind, is_empty_dir_kind}
-use Rattle.ffs_volume.specs.Messages.Kinds.{Message, TreeMessage, of_tree, lines_from}
-use Rattle.ffs_volume.proofs.{LinkLaws.AreMet, LinkLaws.links_met, Numbered.all_from}
-use Rattle.ffs_workspace.specs.declared.workspace.Workspace.{Workspace}
-use Rattle.ffs_workspace.specs.{Lengths.inodes_of, Holds.HoldsClaims, Holds.HoldsFindings, Holds.bool_at}
-use Rattle.ffs_workspace.proofs.KindLaws.{suspect_is, some_is}
-use Rattle.ffs_counts.specs.References.{reference_reported, is_dead_by, is_met}
-use Rattle.ffs_counts.proofs.Classes.{same_test}
+use Rattle.ffs_volume.specs.Directories.{Roles.{is_allocated_inode, is_inode, references}, Volumes.class_at}
+use Rattle.ffs_volume.specs.{Directories.Volumes.{marked_at, volume_of, volume_with}, Disk.Numbers.equals_natural}
+use Rattle.ffs_volume.specs.{Disk.Numbers.i16_at, Encodings.Kinds.{kind_at, class_of_kind, is_empty_dir_kind}}
+use Rattle.ffs_volume.{specs.Messages.Kinds.{Message, TreeMessage, of_tree, lines_from}, proofs.LinkLaws.AreMet}
+use Rattle.ffs_volume.proofs.{LinkLaws.links_met, Numbered.all_from}
+use Rattle.ffs_workspace.specs.{declared.workspace.Workspace.Workspace, Lengths.inodes_of, Holds.HoldsClaims}
+use Rattle.ffs_workspace.{specs.Holds.{HoldsFindings, bool_at}, proofs.KindLaws.{suspect_is, some_is}}
+use Rattle.ffs_counts.{specs.References.{reference_reported, is_dead_by, is_met}, proofs.Classes.same_test}
 
 pub held_on : (old mid new : Workspace) → mid ≡ record old { windows = mid.windows } →
     new ≡ record mid { windows = new.windows } → new ≡ record old { windows = new.windows }

@@ -1,13 +1,10 @@
 -- The records of a group lie within the volume.
 use Rattle.std.proofs.Common.{ℕ, ◌+◌, ◌-◌, ◌*◌, ◌%◌, ◌<◌, ◌≤◌, ◌≡◌, ◌∙◌, ap, arith, List, Option, take, drop}
-use Rattle.std.specs.{Int.div_ceil, List.slice_range}
-use Rattle.std.proofs.Math.Nat.{mod-lt}
-use Rattle.std.proofs.lemmas.{Nat.mul-le, Grind.div_ceil_times}
-use Rattle.ffs_volume.specs.declared.Layout.{Layout}
-use Rattle.ffs_volume.specs.{Laws.Geometry.IsAcceptedLayout, Disk.Numbers.piece}
+use Rattle.std.{specs.{Int.div_ceil, List.slice_range}, proofs.{Math.Nat.mod-lt, lemmas.Nat.mul-le}}
+use Rattle.std.proofs.lemmas.Grind.{div_ceil_times}
+use Rattle.ffs_volume.specs.{declared.Layout.Layout, Laws.Geometry.IsAcceptedLayout, Disk.Numbers.piece}
 use Rattle.ffs_volume.specs.Disk.Areas.{cgstart, group_place, summary_place}
-use Rattle.ffs_walk.specs.Windows.{WindowHolds}
-use Rattle.ffs_walk.specs.declared.window.Window.{Window}
+use Rattle.ffs_walk.specs.{Windows.WindowHolds, declared.window.Window.Window}
 use Rattle.ffs_workspace.proofs.TablePlaces.{piece_of}
 use Rattle.ffs_counts.specs.Records.{HoldsRecord, first_read, records_read}
 

@@ -1,14 +1,10 @@
 -- The summary records that are read at a time.
-use Rattle.std.specs.List.{slice_range}
-use Rattle.std.specs.Prelude.{ℕ, ◌≡◌, ◌+◌, ◌-◌, ◌*◌, ◌%◌, ◌<◌, ◌≤◌, List, Option, Result, IfOk, min}
-use Rattle.ffs_image.specs.Device.{Device, ForContents}
-use Rattle.ffs_image.specs.declared.ImageFault.{ImageFault}
-use Rattle.ffs_volume.specs.declared.{constants.TheConstants.CSUM_SIZE, Layout.Layout}
-use Rattle.ffs_volume.specs.{Disk.Areas.summary_place, Groups.Records.summary_record}
-use Rattle.ffs_walk.specs.Windows.{held_bytes}
-use Rattle.ffs_walk.specs.declared.window.Window.{Window}
-use Rattle.ffs_workspace.specs.Tables.{CanReadInodes, TableAfter}
-use Rattle.ffs_workspace.specs.declared.table.Table.{Table}
+use Rattle.std.specs.{List.slice_range, Prelude.{ℕ, ◌≡◌, ◌+◌, ◌-◌, ◌*◌, ◌%◌, ◌<◌, ◌≤◌, List, Option, Result, IfOk, min}}
+use Rattle.ffs_image.specs.{Device.{Device, ForContents}, declared.ImageFault.ImageFault}
+use Rattle.ffs_volume.specs.{declared.{constants.TheConstants.CSUM_SIZE, Layout.Layout}, Disk.Areas.summary_place}
+use Rattle.ffs_volume.specs.Groups.Records.{summary_record}
+use Rattle.ffs_walk.specs.{Windows.held_bytes, declared.window.Window.Window}
+use Rattle.ffs_workspace.specs.{Tables.{CanReadInodes, TableAfter}, declared.table.Table.Table}
 
 -- the first of the 256 groups whose records are read with that of group c
 abbrev pub first_read : ℕ → ℕ

@@ -2,13 +2,11 @@
 use Rattle.std.specs.Prelude.{ℕ, ◌==◌, ◌&&◌, Bool, not, slice_index, List, [], ◌∷◌, Option, Some, None, if◌then◌else◌}
 use Rattle.std.specs.Prelude.{ℤ}
 use Rattle.ffs_volume.specs.declared.{constants.TheConstants.LINKS_MET, Attr.Attr, Label.Label}
-use Rattle.ffs_volume.specs.Disk.Numbers.{equals_natural}
-use Rattle.ffs_volume.specs.Messages.Kinds.{TreeMessage, reported, dead_marked, dead_zero, unref, unref_zero}
-use Rattle.ffs_volume.specs.Messages.Kinds.{link_count}
+use Rattle.ffs_volume.specs.{Disk.Numbers.equals_natural, Messages.Kinds.{TreeMessage, reported, dead_marked}}
+use Rattle.ffs_volume.specs.Messages.Kinds.{dead_zero, unref, unref_zero, link_count}
 use Rattle.ffs_survey.specs.Survey.{dead_at}
 use Rattle.ffs_workspace.specs.declared.workspace.Workspace.{Workspace}
-use Rattle.ffs_report.specs.Lines.{reference_message}
-use Rattle.ffs_report.specs.declared.line.ReferenceLine.{ReferenceLine}
+use Rattle.ffs_report.specs.{Lines.reference_message, declared.line.ReferenceLine.ReferenceLine}
 
 -- by whether it is dead and marked, what messages show of it, its count of links and how often it
 -- is referred to

@@ -1,8 +1,6 @@
 -- The reserved fragments in a map of the fragments in use.
-use Rattle.std.specs.List.{range_with_len}
-use Rattle.std.specs.Prelude.{◌≡◌, ◌<◌, ℕ, Bool, true, not, ◌&&◌, List, count_by}
-use Rattle.ffs_volume.specs.declared.Layout.{Layout}
-use Rattle.ffs_volume.specs.{Disk.Areas.is_reserved, Blocks.Claims.is_set}
+use Rattle.std.specs.{List.range_with_len, Prelude.{◌≡◌, ◌<◌, ℕ, Bool, true, not, ◌&&◌, List, count_by}}
+use Rattle.ffs_volume.specs.{declared.Layout.Layout, Disk.Areas.is_reserved, Blocks.Claims.is_set}
 
 -- the bit of each reserved fragment is set
 abbrev pub HasReserved : Layout → List Bool → Type 0

@@ -1,8 +1,6 @@
 -- The sums of the groups' counts.
-use Rattle.std.specs.Prelude.{ℕ, ◌≡◌, ◌≤◌, ◌*◌, ◌+◌, Bool}
-use Rattle.std.specs.List.{range_with_len, sum_by}
-use Rattle.ffs_volume.specs.declared.{Layout.Layout, Class.Class}
-use Rattle.ffs_volume.specs.Groups.Records.{GroupCounts, right_group_counts}
+use Rattle.std.specs.{Prelude.{ℕ, ◌≡◌, ◌≤◌, ◌*◌, ◌+◌, Bool}, List.{range_with_len, sum_by}}
+use Rattle.ffs_volume.specs.{declared.{Layout.Layout, Class.Class}, Groups.Records.{GroupCounts, right_group_counts}}
 use Rattle.ffs_groups.specs.declared.counts.SummaryCounts.{SummaryCounts}
 use Rattle.ffs_counts.specs.declared.totals.Totals.{Totals}
 

@@ -1,13 +1,10 @@
 //! The records of a cylinder group, read from an image.
 
 ghost use Rattle.std.specs.Prelude.{◌≡◌, ◌+◌, ◌<◌, ◌≤◌, IfOk};
-ghost use Rattle.ffs_image.specs.Device.{ForContents};
-ghost use Rattle.ffs_image.specs.Reads.{ReadAfter};
+ghost use Rattle.ffs_image.specs.{Device.ForContents, Reads.ReadAfter};
 ghost use Rattle.ffs_volume.specs.Groups.GroupCheck.{group_lines};
 ghost use Rattle.ffs_maps.specs.Bits.{bits_of};
-ghost use Rattle.ffs_groups.specs.Check.{AreCounts, lines_of};
-ghost use Rattle.ffs_groups.specs.Free.{free_in};
-ghost use Rattle.ffs_groups.specs.Inodes.{class_in};
+ghost use Rattle.ffs_groups.specs.{Check.{AreCounts, lines_of}, Free.free_in, Inodes.class_in};
 ghost use Rattle.ffs_workspace.specs.Ready.{IsReady, StaysReady};
 ghost use Rattle.ffs_counts.specs.Records.{CanReadRecord, ReadsRecord};
 

@@ -2,18 +2,11 @@
 
 ghost use Rattle.std.specs.Prelude.{◌≡◌, ◌+◌, ◌<◌, ◌≤◌, ◌∷◌, map, slice_index, length, true};
 ghost use Rattle.ffs_volume.specs.Messages.Kinds.{of_tree, phase4 as phase4_heading};
-ghost use Rattle.ffs_volume.specs.Directories.ReferenceCheck.{reference_lines_at, reference_lines};
-ghost use Rattle.ffs_volume.specs.Directories.Volumes.{volume_of};
-ghost use Rattle.ffs_report.specs.Progress.{progress};
-ghost use Rattle.ffs_report.specs.Known.{ForBytes};
-ghost use Rattle.ffs_report.specs.{Paid.Paid, PhaseOutcome.PhaseOutcome};
-ghost use Rattle.ffs_workspace.specs.Found.{WithFindings};
-ghost use Rattle.ffs_volume.specs.Blocks.Inodes.{is_allocated};
-ghost use Rattle.ffs_volume.specs.Encodings.Kinds.{class_of_kind};
-ghost use Rattle.ffs_workspace.specs.Lengths.{inodes_of};
-ghost use Rattle.ffs_workspace.specs.Ready.{IsReady, StaysReady};
-ghost use Rattle.ffs_counts.specs.Ready.{HasElements, IsFreeStretch};
-ghost use Rattle.ffs_counts.specs.References.{is_dead_by, is_met};
+ghost use Rattle.ffs_volume.specs.Directories.{ReferenceCheck.{reference_lines_at, reference_lines}, Volumes.volume_of};
+ghost use Rattle.ffs_volume.specs.{Blocks.Inodes.is_allocated, Encodings.Kinds.class_of_kind};
+ghost use Rattle.ffs_report.specs.{Progress.progress, Known.ForBytes, Paid.Paid, PhaseOutcome.PhaseOutcome};
+ghost use Rattle.ffs_workspace.specs.{Found.WithFindings, Lengths.inodes_of, Ready.{IsReady, StaysReady}};
+ghost use Rattle.ffs_counts.specs.{Ready.{HasElements, IsFreeStretch}, References.{is_dead_by, is_met}};
 
 use crate::reference::{line_for, references_by, say_line};
 use ffs_groups::are_used;

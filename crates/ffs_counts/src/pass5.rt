@@ -1,14 +1,11 @@
 //! Phase 5: the records of the cylinder groups.
 
 ghost use Rattle.std.specs.Prelude.{◌+◌, ◌≤◌, ◌∷◌};
-ghost use Rattle.ffs_volume.specs.Messages.Kinds.{phase5 as phase5_heading};
-ghost use Rattle.ffs_volume.specs.Report.Reads.{group_reads};
+ghost use Rattle.ffs_volume.specs.{Messages.Kinds.phase5 as phase5_heading, Report.Reads.group_reads};
 ghost use Rattle.ffs_volume.specs.Report.Whole.{group_check_lines};
 ghost use Rattle.ffs_layout.specs.Super.{superblock_in};
-ghost use Rattle.ffs_report.specs.Progress.{progress};
-ghost use Rattle.ffs_report.specs.PhaseOutcome.{PhaseOutcome};
-ghost use Rattle.ffs_workspace.specs.Found.{WithClaims};
-ghost use Rattle.ffs_workspace.specs.Ready.{IsReady, StaysReady};
+ghost use Rattle.ffs_report.specs.{Progress.progress, PhaseOutcome.PhaseOutcome};
+ghost use Rattle.ffs_workspace.specs.{Found.WithClaims, Ready.{IsReady, StaysReady}};
 
 use crate::groups::read_group;
 use crate::once::{AlreadyReported, say_group, say_unless};

@@ -1,12 +1,10 @@
 //! What is reported of an inode by the entries that refer to it.
 
 ghost use Rattle.std.specs.Prelude.{◌≡◌, ◌-◌, map};
-ghost use Rattle.ffs_volume.specs.Messages.Kinds.{of_tree};
-ghost use Rattle.ffs_volume.specs.Disk.Numbers.{equals_natural};
-ghost use Rattle.ffs_report.specs.Progress.{progress, Says};
-ghost use Rattle.ffs_volume.specs.Directories.PathnameCheck.{attributes_of, label_of};
-ghost use Rattle.ffs_volume.specs.Encodings.Kinds.{class_of_kind};
+ghost use Rattle.ffs_volume.specs.{Messages.Kinds.of_tree, Disk.Numbers.equals_natural};
+ghost use Rattle.ffs_volume.specs.{Directories.PathnameCheck.{attributes_of, label_of}, Encodings.Kinds.class_of_kind};
 ghost use Rattle.ffs_volume.specs.Encodings.Links.{links_start};
+ghost use Rattle.ffs_report.specs.Progress.{progress, Says};
 ghost use Rattle.ffs_counts.specs.References.{lines_as, reference_reported};
 
 use ffs_report::{Line, OutFault, Output, ReferenceLine, Report};

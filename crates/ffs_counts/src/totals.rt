@@ -1,8 +1,7 @@
 //! The totals of a superblock.
 
 ghost use Rattle.std.specs.Prelude.{◌≡◌, ◌-◌, ◌^◌};
-ghost use Rattle.ffs_volume.specs.Disk.Numbers.{equals_natural};
-ghost use Rattle.ffs_volume.specs.Groups.Records.{has_totals};
+ghost use Rattle.ffs_volume.specs.{Disk.Numbers.equals_natural, Groups.Records.has_totals};
 ghost use Rattle.ffs_counts.specs.Totals.{AreUpTo, total_of, with_counts};
 
 use ffs_groups::SummaryCounts;

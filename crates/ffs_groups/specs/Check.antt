@@ -1,17 +1,13 @@
 -- What is found in the records of a group.
 use Rattle.std.specs.Prelude.{ℕ, ◌≡◌, Bool, ◌&&◌, ◌==◌, List, ◌∷◌, ◌++◌, if◌then◌else◌, slice_index, length, ℤ, pos}
-use Rattle.std.specs.Int.{cast_unsigned, w32}
-use Rattle.std.specs.List.{slice_index_or}
-use Rattle.ffs_volume.specs.declared.Layout.{Layout}
-use Rattle.ffs_volume.specs.declared.Class.{Class}
-use Rattle.ffs_volume.specs.declared.BlockMessage.{BlockMessage}
-use Rattle.ffs_volume.specs.declared.BlockMessage.TheVariants.{GroupMagic, FreeCounts, MapsWrong, GroupSums}
+use Rattle.std.specs.{Int.{cast_unsigned, w32}, List.slice_index_or}
+use Rattle.ffs_volume.specs.declared.{Layout.Layout, Class.Class, BlockMessage.{BlockMessage, TheVariants.GroupMagic}}
+use Rattle.ffs_volume.specs.declared.BlockMessage.TheVariants.{FreeCounts, MapsWrong, GroupSums}
 use Rattle.ffs_volume.specs.Groups.Records.{GroupCounts, right_group_counts, right_frsum, has_right_magic}
 use Rattle.ffs_volume.specs.Groups.Records.{has_right_record, maps_fit, has_right_maps, has_right_sums}
 use Rattle.ffs_volume.specs.Groups.GroupCheck.{unless}
 use Rattle.ffs_layout.specs.declared.group.GroupSummary.{GroupSummary}
-use Rattle.ffs_groups.specs.declared.counts.Counts.{Counts}
-use Rattle.ffs_groups.specs.declared.counts.SummaryCounts.{SummaryCounts}
+use Rattle.ffs_groups.specs.declared.counts.{Counts.Counts, SummaryCounts.SummaryCounts}
 use Rattle.ffs_groups.specs.declared.check.GroupFindings.{GroupFindings}
 
 -- the counts of a summary in memory, as the definitions have them

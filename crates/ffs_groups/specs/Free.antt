@@ -1,11 +1,8 @@
 -- What the free fragments of blocks add to the counts of a group.
-use Rattle.std.specs.Prelude.{ℕ, ◌≡◌, ◌+◌, ◌*◌, ◌^◌, ◌<◌, ◌≤◌, Bool, not, ◌&&◌, List, map, nat_eq}
-use Rattle.std.specs.Prelude.{nat_lt, ◌==◌, if◌then◌else◌, slice_index, count_by}
-use Rattle.std.specs.List.{range_with_len, sum_by}
-use Rattle.std.specs.Int.{bit_at}
+use Rattle.std.specs.Prelude.{ℕ, ◌≡◌, ◌+◌, ◌*◌, ◌^◌, ◌<◌, ◌≤◌, Bool, not, ◌&&◌, List, map, nat_eq, nat_lt, ◌==◌}
+use Rattle.std.specs.{Prelude.{if◌then◌else◌, slice_index, count_by}, List.{range_with_len, sum_by}, Int.bit_at}
 use Rattle.ffs_volume.specs.Groups.Records.{is_free_block, free_stretches, block_bits, block_numbers, right_frsum}
-use Rattle.ffs_volume.specs.declared.Layout.{Layout}
-use Rattle.ffs_volume.specs.Blocks.Claims.{is_set}
+use Rattle.ffs_volume.specs.{declared.Layout.Layout, Blocks.Claims.is_set}
 use Rattle.ffs_groups.specs.declared.free.FreeCounts.{FreeCounts}
 
 -- the fragments below the size whose bit in a map of used ones is clear

@@ -1,11 +1,8 @@
 -- The classes of inodes, as a list of their kinds has them.
-use Rattle.std.specs.Prelude.{ℕ, ◌≡◌, ◌-◌, ◌<◌, ◌≤◌, List, length, slice_index, count_by, not}
-use Rattle.std.specs.List.{range_with_len}
-use Rattle.ffs_volume.specs.declared.Layout.{Layout}
-use Rattle.ffs_volume.specs.Groups.Records.{is_used_inode, is_dir_inode, group_inodes}
+use Rattle.std.specs.{Prelude.{ℕ, ◌≡◌, ◌-◌, ◌<◌, ◌≤◌, List, length, slice_index, count_by, not}, List.range_with_len}
+use Rattle.ffs_volume.specs.{declared.Layout.Layout, Groups.Records.{is_used_inode, is_dir_inode, group_inodes}}
+use Rattle.ffs_volume.specs.{declared.Class.Class, Encodings.Kinds.class_of_kind}
 use Rattle.ffs_groups.specs.declared.inodes.InodeCounts.{InodeCounts}
-use Rattle.ffs_volume.specs.declared.Class.{Class}
-use Rattle.ffs_volume.specs.Encodings.Kinds.{class_of_kind}
 
 -- the class of inode x
 abbrev pub class_in : List ℕ → ℕ → Class

@@ -1,15 +1,11 @@
 //! The records of a cylinder group, compared with what they should be.
 
-ghost use Rattle.std.specs.Prelude.{◌≡◌, ◌+◌, ◌*◌, ◌<◌, ◌==◌, ◌&&◌, nat_le, length};
-ghost use Rattle.std.specs.Int.{div_ceil};
-ghost use Rattle.ffs_volume.specs.Disk.Areas.{cgbase};
-ghost use Rattle.ffs_volume.specs.Disk.Numbers.{all_below};
-ghost use Rattle.ffs_volume.specs.Groups.Records.{has_bits, is_used_inode, group_size};
+ghost use Rattle.std.specs.{Prelude.{◌≡◌, ◌+◌, ◌*◌, ◌<◌, ◌==◌, ◌&&◌, nat_le, length}, Int.div_ceil};
+ghost use Rattle.ffs_volume.specs.{Disk.{Areas.cgbase, Numbers.all_below}, Groups.Records.{has_bits, is_used_inode}};
+ghost use Rattle.ffs_volume.specs.Groups.Records.{group_size};
 ghost use Rattle.ffs_maps.specs.Bits.{bits_of};
 ghost use Rattle.ffs_groups.specs.Check.{AreCounts, AreFound, HasRecords, has_bits_of, same_counts, same_frsum_at};
-ghost use Rattle.ffs_groups.specs.Free.{free_in};
-ghost use Rattle.ffs_groups.specs.Inodes.{class_in};
-ghost use Rattle.ffs_groups.specs.Inputs.{HasMaps};
+ghost use Rattle.ffs_groups.specs.{Free.free_in, Inodes.class_in, Inputs.HasMaps};
 
 use crate::counts::{Counts, SummaryCounts};
 use crate::maps::{group_fragments, same_fragment_map, same_inode_map};

@@ -1,10 +1,7 @@
 //! The right counts of a cylinder group.
 
 ghost use Rattle.ffs_maps.specs.Bits.{bits_of};
-ghost use Rattle.ffs_groups.specs.Check.{AreCounts};
-ghost use Rattle.ffs_groups.specs.Free.{free_in};
-ghost use Rattle.ffs_groups.specs.Inodes.{class_in};
-ghost use Rattle.ffs_groups.specs.Inputs.{HasMaps};
+ghost use Rattle.ffs_groups.specs.{Check.AreCounts, Free.free_in, Inodes.class_in, Inputs.HasMaps};
 
 use crate::free::free_counts;
 use crate::inodes::inode_counts;

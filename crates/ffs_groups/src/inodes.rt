@@ -1,11 +1,9 @@
 //! The inodes of a cylinder group.
 
 ghost use Rattle.std.specs.Prelude.{ℕ, ◌≡◌, ◌<◌, length, slice_index, IfSome};
-ghost use Rattle.ffs_volume.specs.Blocks.Inodes.{is_directory, is_allocated};
-ghost use Rattle.ffs_volume.specs.Groups.Records.{is_used_inode};
+ghost use Rattle.ffs_volume.specs.{Blocks.Inodes.{is_directory, is_allocated}, Groups.Records.is_used_inode};
 ghost use Rattle.ffs_volume.specs.Encodings.Kinds.{class_of_kind};
-ghost use Rattle.ffs_groups.specs.Inodes.{AreCounted, AreFew, AreInodes, class_in};
-ghost use Rattle.ffs_groups.specs.Inputs.{HasInodes};
+ghost use Rattle.ffs_groups.specs.{Inodes.{AreCounted, AreFew, AreInodes, class_in}, Inputs.HasInodes};
 
 use ffs_layout::Geometry;
 use ffs_volume::kinds::Kind;

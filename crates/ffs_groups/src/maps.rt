@@ -2,15 +2,11 @@
 //!
 //! A map's first bit is the lowest of its first byte, in both orders of bytes.
 
-ghost use Rattle.std.specs.Prelude.{ℕ, ◌≡◌, ◌≢◌, ◌+◌, ◌*◌, ◌^◌, ◌<◌, ◌≤◌, length, nat_eq};
-ghost use Rattle.std.specs.Int.{bit_at, div_ceil};
-ghost use Rattle.ffs_volume.specs.Disk.Numbers.{all_below};
-ghost use Rattle.ffs_volume.specs.Disk.Areas.{cgbase};
-ghost use Rattle.ffs_volume.specs.Groups.Records.{bit_at as map_bit, same_bit, has_bits, is_used_inode, group_size};
+ghost use Rattle.std.specs.{Prelude.{ℕ, ◌≡◌, ◌≢◌, ◌+◌, ◌*◌, ◌^◌, ◌<◌, ◌≤◌, length, nat_eq}, Int.{bit_at, div_ceil}};
+ghost use Rattle.ffs_volume.specs.{Disk.{Numbers.all_below, Areas.cgbase}, Groups.Records.bit_at as map_bit};
+ghost use Rattle.ffs_volume.specs.Groups.Records.{same_bit, has_bits, is_used_inode, group_size};
 ghost use Rattle.ffs_maps.specs.Bits.{bits_of};
-ghost use Rattle.ffs_groups.specs.Free.{free_in};
-ghost use Rattle.ffs_groups.specs.Inodes.{class_in};
-ghost use Rattle.ffs_groups.specs.Inputs.{HasFragments, HasInodes};
+ghost use Rattle.ffs_groups.specs.{Free.free_in, Inodes.class_in, Inputs.{HasFragments, HasInodes}};
 
 use crate::free::{FRAGMENTS_AT_ONCE, are_free};
 use crate::inodes::{are_used, is_used_at};

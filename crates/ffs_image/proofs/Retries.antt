@@ -1,6 +1,5 @@
 -- Calls that a signal interrupts, again and again.
-use Rattle.std.proofs.Common.{◌≡◌, ◌-◌, ◌^◌, ℕ, Result, Err, subst, inr, rules}
-use Rattle.std.specs.Prelude.{IsErr}
+use Rattle.std.{proofs.Common.{◌≡◌, ◌-◌, ◌^◌, ℕ, Result, Err, subst, inr, rules}, specs.Prelude.IsErr}
 use Rattle.std.specs.declared.io.Error.{Error}
 use Rattle.ffs_image.specs.Interrupted.{Interruptions, IsTriedAgain}
 

@@ -1,8 +1,7 @@
 -- How a buffer is filled from a source, piece after piece.
-use Rattle.std.proofs.Common.{◌≡◌, ℕ, ◌+◌, ◌-◌, ◌≤◌, List, ◌++◌, length, take, drop, Option, arith, refl}
-use Rattle.std.proofs.Common.{Result, Ok, suc}
-use Rattle.std.proofs.Math.Seq.{take-add, take-append-add}
-use Rattle.std.proofs.lemmas.List.{take-append-le, drop-drop, length-take-le, length-append}
+use Rattle.std.proofs.Common.{◌≡◌, ℕ, ◌+◌, ◌-◌, ◌≤◌, List, ◌++◌, length, take, drop, Option, arith, refl, Result, Ok}
+use Rattle.std.proofs.{Common.suc, Math.Seq.{take-add, take-append-add}, lemmas.List.{take-append-le, drop-drop}}
+use Rattle.std.proofs.lemmas.List.{length-take-le, length-append}
 use borrow.Rule.Slice.PartMut.{put_mid}
 use Rattle.ffs_image.specs.Source.{AreAt, IsReadTo}
 

@@ -1,8 +1,6 @@
 -- What an error of a system means for who opens a file.
-use Rattle.std.specs.declared.io.Error.{Error}
-use Rattle.std.specs.declared.io.ErrorKind.{ErrorKind}
-use Rattle.std.specs.declared.io.ErrorKind.TheVariants.{NotFound, NotADirectory, PermissionDenied, InvalidFilename}
-use Rattle.std.specs.declared.io.ErrorKind.TheVariants.{InvalidInput}
+use Rattle.std.specs.declared.io.{Error.Error, ErrorKind.{ErrorKind, TheVariants.{NotFound, NotADirectory}}}
+use Rattle.std.specs.declared.io.ErrorKind.TheVariants.{PermissionDenied, InvalidFilename, InvalidInput}
 use Rattle.std.specs.IoError.{error_kind}
 use Rattle.ffs_image.specs.declared.file.OpenFault.{OpenFault}
 use Rattle.ffs_image.specs.declared.file.OpenFault.TheVariants as fault

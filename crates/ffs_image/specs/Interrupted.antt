@@ -1,9 +1,7 @@
 -- Calls of a system that a signal may interrupt, and which of them are tried again. `was_asked`
 -- says that a file or a writer was asked: what it was before, the answer, and what it was after.
-use Rattle.std.specs.Prelude.{◌≡◌, ◌⊎◌, ◌-◌, ◌^◌, ℕ, zero, suc, Result, IsErr, IsErrAnd}
-use Rattle.std.specs.declared.io.Error.{Error}
-use Rattle.std.specs.declared.io.ErrorKind.TheVariants.{Interrupted}
-use Rattle.std.specs.IoError.{error_kind}
+use Rattle.std.specs.{Prelude.{◌≡◌, ◌⊎◌, ◌-◌, ◌^◌, ℕ, zero, suc, Result, IsErr, IsErrAnd}, declared.io.Error.Error}
+use Rattle.std.specs.{declared.io.ErrorKind.TheVariants.Interrupted, IoError.error_kind}
 
 -- a signal interrupted the call that has this answer
 abbrev pub IsInterrupted : Result ℕ Error → Type 0

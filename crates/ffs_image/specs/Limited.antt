@@ -1,7 +1,6 @@
 -- What an image with a limit shows of the image below it, and what it gives back of that.
-use Rattle.std.specs.Borrow.{GName}
-use Rattle.std.specs.Prelude.{◌≡◌, ℕ, ◌+◌, ◌-◌, ◌^◌, ◌<◌, ◌≤◌, min, Bool, if◌then◌else◌, ◌∷◌}
-use Rattle.std.specs.Prelude.{Option, Some, None, IfSome, IsSomeAnd, true, false}
+use Rattle.std.specs.{Borrow.GName, Prelude.{◌≡◌, ℕ, ◌+◌, ◌-◌, ◌^◌, ◌<◌, ◌≤◌, min, Bool, if◌then◌else◌, ◌∷◌, Option}}
+use Rattle.std.specs.Prelude.{Some, None, IfSome, IsSomeAnd, true, false}
 use Rattle.ffs_image.specs.Device.{Device, Faulted}
 
 -- the image below after reads of which at most one failed, at a sector

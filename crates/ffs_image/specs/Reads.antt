@@ -1,7 +1,6 @@
 -- What a read gives of an image, and what a call leaves of it, by its answer.
 use Rattle.std.specs.Prelude.{◌≡◌, ℕ, ◌/◌, List, Result, Ok, Err, OnOk, IfErr}
-use Rattle.ffs_image.specs.Device.{Device, Faulted, IsAt}
-use Rattle.ffs_image.specs.declared.image.ImageFault.{ImageFault}
+use Rattle.ffs_image.specs.{Device.{Device, Faulted, IsAt}, declared.image.ImageFault.ImageFault}
 
 -- a failed read is counted, with its sector, and no other answer touches the image
 abbrev pub ReadAfter : {T : Type 0} → Device → Device → Result T ImageFault → Type 0

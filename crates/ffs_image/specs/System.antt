@@ -1,13 +1,8 @@
 -- What was asked of a system and of its files, and with which answers.
 use Rattle.std.specs.Prelude.{◌≡◌, ◌⊎◌, ℕ, Bool, true, false, List, Result, Ok, Err, Option, None, Some, IfSome}
-use Rattle.std.specs.Prelude.{MatchResult, ⊤, refl}
-use Rattle.std.specs.Result.{result_unwrap_or}
-use Rattle.std.specs.declared.io.Error.{Error}
-use Rattle.ffs_image.specs.declared.file.OpenFault.{OpenFault}
-use Rattle.ffs_image.specs.declared.file.OpenFault.TheVariants.{Pipe}
-use Rattle.ffs_image.specs.Device.{ForContents}
-use Rattle.ffs_image.specs.Faults.{open_fault_of}
-use Rattle.ffs_image.specs.Interrupted.{IsTriedAgain}
+use Rattle.std.specs.{Prelude.{MatchResult, ⊤, refl}, Result.result_unwrap_or, declared.io.Error.Error}
+use Rattle.ffs_image.specs.{declared.file.OpenFault.{OpenFault, TheVariants.Pipe}, Device.ForContents}
+use Rattle.ffs_image.specs.{Faults.open_fault_of, Interrupted.IsTriedAgain}
 
 -- what a read gives of some of the bytes at a place: how many it gave, or a fault where it failed
 -- or gave none

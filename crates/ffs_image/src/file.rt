@@ -1,9 +1,7 @@
 //! An image in a file.
 ghost use Rattle.std.specs.Prelude.{◌≡◌, ◌+◌, ◌≤◌, length, IfOk, IfErr};
-ghost use Rattle.ffs_image.specs.Faults.{open_fault_of};
-ghost use Rattle.ffs_image.specs.Reads.{ReadsBytes};
-ghost use Rattle.ffs_image.specs.Source.{ReadsThrough};
-ghost use Rattle.ffs_image.specs.System.{IsOpened, OpenFails};
+ghost use Rattle.ffs_image.specs.{Faults.open_fault_of, Reads.ReadsBytes, Source.ReadsThrough, System.IsOpened};
+ghost use Rattle.ffs_image.specs.System.{OpenFails};
 
 use crate::image::{Image, ImageFault};
 use crate::opened::OpenedFile;

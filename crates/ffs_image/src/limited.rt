@@ -1,8 +1,7 @@
 //! An image that is read at most so often.
-ghost use Rattle.std.specs.Prelude.{◌≡◌, ◌+◌, ◌≤◌, ◌||◌, ℕ, Option, true, false};
-ghost use Rattle.std.specs.Borrow.{GName};
-ghost use Rattle.ffs_image.specs.Device.{Device};
-ghost use Rattle.ffs_image.specs.Limited.{after_reads, limited_device, reads_asked, limit_of, GivesBack};
+ghost use Rattle.std.specs.{Prelude.{◌≡◌, ◌+◌, ◌≤◌, ◌||◌, ℕ, Option, true, false}, Borrow.GName};
+ghost use Rattle.ffs_image.specs.{Device.Device, Limited.{after_reads, limited_device, reads_asked, limit_of}};
+ghost use Rattle.ffs_image.specs.Limited.{GivesBack};
 
 use crate::image::{Image, ImageFault};
 use std::snapshot::Snapshot;

@@ -1,9 +1,6 @@
 //! A file that is open for reading alone.
-ghost use Rattle.std.specs.Prelude.{◌≡◌, length, take, IfOk, IfErr};
-ghost use Rattle.std.specs.Io.{ReadsAtMost};
-ghost use Rattle.ffs_image.specs.Device.{ForContents};
-ghost use Rattle.ffs_image.specs.Interrupted.{IsTriedAgain};
-ghost use Rattle.ffs_image.specs.Source.{AreAt, GivesSome};
+ghost use Rattle.std.specs.{Prelude.{◌≡◌, length, take, IfOk, IfErr}, Io.ReadsAtMost};
+ghost use Rattle.ffs_image.specs.{Device.ForContents, Interrupted.IsTriedAgain, Source.{AreAt, GivesSome}};
 ghost use Rattle.ffs_image.specs.System.{IsEndOf, IsOpened, OpenFails, SomeOf};
 
 use crate::file::OpenFault;

@@ -7,9 +7,7 @@
 //! name as given, for reading alone; its seek to the end gives the number of bytes; its `read_at`
 //! gives bytes of that place, or an error.
 ghost use Rattle.std.specs.Prelude.{◌≡◌, ◌≤◌, ℕ, Bool, List, length, take, Option, Result, IfOk, IfSome};
-ghost use Rattle.std.specs.Io.{ReadsAtMost};
-ghost use Rattle.std.specs.Result.{result_unwrap_or};
-ghost use Rattle.std.specs.declared.io.Error.{Error};
+ghost use Rattle.std.specs.{Io.ReadsAtMost, Result.result_unwrap_or, declared.io.Error.Error};
 ghost use Rattle.ffs_image.specs.Source.{AreAt};
 
 use std::fs::File;

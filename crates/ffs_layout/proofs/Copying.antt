@@ -2,18 +2,10 @@
 use Rattle.std.proofs.Common.{◌≡◌, ℕ, ◌*◌, ◌/◌, ◌≤◌, false, List, Option, arith, ap, ◌∙◌, inl, inr}
 use Rattle.std.specs.Option.{is_some}
 use Rattle.ffs_image.specs.Device.{Device}
-use Rattle.ffs_volume.specs.declared.Layout.{Layout}
-use Rattle.ffs_volume.specs.declared.Order.{Order}
-use Rattle.ffs_volume.specs.declared.SuperFault.{SuperFault}
-use Rattle.ffs_volume.specs.declared.SuperFault.TheVariants.{CannotRead}
-use Rattle.ffs_volume.specs.Laws.Geometry.{IsAcceptedLayout}
-use Rattle.ffs_volume.specs.Disk.Outcome.{copy_place}
-use Rattle.ffs_volume.specs.Disk.Superblock.{layout_of, superblock_of}
-use Rattle.ffs_volume.proofs.AreaLaws.{copy_inside}
-use Rattle.ffs_volume.proofs.SearchLaws.{is_some-none}
-use Rattle.ffs_layout.specs.declared.superblock.Super.{Super}
-use Rattle.ffs_layout.specs.Copies.{IsUnreadCopy, IsCopyFault}
-use Rattle.ffs_layout.specs.Super.{superblock_in}
+use Rattle.ffs_volume.specs.declared.{Layout.Layout, Order.Order, SuperFault.{SuperFault, TheVariants.CannotRead}}
+use Rattle.ffs_volume.specs.{Laws.Geometry.IsAcceptedLayout, Disk.{Outcome.copy_place, Superblock.layout_of}}
+use Rattle.ffs_volume.{specs.Disk.Superblock.superblock_of, proofs.{AreaLaws.copy_inside, SearchLaws.is_some-none}}
+use Rattle.ffs_layout.specs.{declared.superblock.Super.Super, Copies.{IsUnreadCopy, IsCopyFault}, Super.superblock_in}
 
 -- a copy that isn't read is one whose read fails, since an accepted volume holds its copies
 pub copy_fault : (v : Layout) (old new : Device) (sector : Option ℕ) (order : Order) (bytes : List ℕ)

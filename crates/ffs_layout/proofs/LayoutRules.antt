@@ -1,9 +1,7 @@
 -- What the first rules of a layout leave for the later ones.
-use Rattle.std.proofs.Common.{◌≡◌, ◌-◌, ◌*◌, ◌^◌, ◌<◌, ◌≤◌, ℕ, true, arith}
-use Rattle.std.proofs.lemmas.Bool.Decides.{nat_tests}
-use Rattle.ffs_volume.specs.declared.Layout.{Layout}
-use Rattle.ffs_volume.specs.Disk.Outcome.{is_block_size, is_fragment_count, has_valid_sizes, has_valid_numbers}
-use Rattle.ffs_volume.proofs.GeometryLaws.{sizes_hold, numbers_hold}
+use Rattle.std.proofs.{Common.{◌≡◌, ◌-◌, ◌*◌, ◌^◌, ◌<◌, ◌≤◌, ℕ, true, arith}, lemmas.Bool.Decides.nat_tests}
+use Rattle.ffs_volume.specs.{declared.Layout.Layout, Disk.Outcome.{is_block_size, is_fragment_count, has_valid_sizes}}
+use Rattle.ffs_volume.{specs.Disk.Outcome.has_valid_numbers, proofs.GeometryLaws.{sizes_hold, numbers_hold}}
 
 pub block_size_above : (n : ℕ) → is_block_size n ≡ true → 4096 ≤ n
 unfolding is_block_size

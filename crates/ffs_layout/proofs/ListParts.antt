@@ -1,13 +1,10 @@
 -- A list in parts of so many bytes, as a loop goes over them.
-use Rattle.std.proofs.Common.{zero, suc, ◌≡◌, ◌||◌, ◌++◌, ◌+◌, ◌-◌, ◌*◌, ◌<◌, ◌≤◌, ◌∙◌, ap, sym, refl, ℕ, List, get_or, take}
-use Rattle.std.proofs.Common.{drop, arith, true, false, Bool}
-use Rattle.std.specs.Simd.{first_chunks}
-use Rattle.std.proofs.Math.Nat.{suc-mul, zero-mul}
-use Rattle.std.proofs.lemmas.List.{drop-drop, take-append-drop}
-use Rattle.std.proofs.lemmas.List.Folds.{list_any-append}
+use Rattle.std.proofs.Common.{zero, suc, ◌≡◌, ◌||◌, ◌++◌, ◌+◌, ◌-◌, ◌*◌, ◌<◌, ◌≤◌, ◌∙◌, ap, sym, refl, ℕ, List, get_or}
+use Rattle.std.{proofs.{Common.{take, drop, arith, true, false, Bool}, Math.Nat.suc-mul}, specs.Simd.first_chunks}
+use Rattle.std.proofs.{Math.Nat.zero-mul, lemmas.List.{drop-drop, take-append-drop, Folds.list_any-append}}
 use Rattle.std.proofs.Math.Bool.{or-true}
 use Rattle.ffs_volume.proofs.Booleans.{both_imply}
-use Rattle.ffs_layout.specs.Entry.{any_nul_or_slash as any}
+use Rattle.ffs_layout.specs.Entry.any_nul_or_slash as any
 
 -- the part at an index
 part_at : (n count : ℕ) (xs : List ℕ) (i : ℕ) (d : List ℕ) → i < count →

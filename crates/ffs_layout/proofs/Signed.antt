@@ -1,9 +1,8 @@
 -- Products of a signed and an unsigned number of 32 bits, in 64 bits.
 use Rattle.std.proofs.Common.{◌≡◌, ◌<◌, ◌≤◌, ◌^◌, ℕ, lit<, w32, w64, ℤ, pos, negsuc, ◌*ℤ◌, FitsSigned, to_z, of_z}
-use Rattle.std.proofs.Common.{arith, refl}
-use Rattle.std.specs.Prelude.{unsigned_abs}
+use Rattle.std.{proofs.{Common.{arith, refl}, lemmas.Int.{fits_signed_mul, to_z-of_z}}, specs.Prelude.unsigned_abs}
+use Rattle.std.proofs.lemmas.Int.{fits_signed_from_abs}
 use lib.Signed.{mag}
-use Rattle.std.proofs.lemmas.Int.{fits_signed_mul, to_z-of_z, fits_signed_from_abs}
 
 -- a number that fits 32 bits fits 64
 widens : (x : ℤ) → FitsSigned w32 x → FitsSigned w64 x

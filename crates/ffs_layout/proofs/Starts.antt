@@ -1,9 +1,7 @@
 -- Group 0 is not moved.
-use Rattle.std.proofs.Common.{◌≡◌, ◌*◌, ℤ, pos, negsuc, ◌*ℤ◌, arith, refl, suc}
-use Rattle.std.specs.Prelude.{unsigned_abs}
-use Rattle.ffs_volume.specs.declared.Layout.{Layout}
-use Rattle.ffs_volume.specs.Disk.Numbers.{zero_if_negative}
-use Rattle.ffs_volume.specs.Disk.Areas.{cgoffset_of, cgbase, cgstart, cgdmin}
+use Rattle.std.{proofs.Common.{◌≡◌, ◌*◌, ℤ, pos, negsuc, ◌*ℤ◌, arith, refl, suc}, specs.Prelude.unsigned_abs}
+use Rattle.ffs_volume.specs.{declared.Layout.Layout, Disk.{Numbers.zero_if_negative, Areas.{cgoffset_of, cgbase}}}
+use Rattle.ffs_volume.specs.Disk.Areas.{cgstart, cgdmin}
 
 no_product : (x : ℤ) → zero_if_negative (x *ℤ pos 0) ≡ 0
 no_product (pos n) = omega arith

@@ -1,9 +1,6 @@
 -- A test of each element, at one of them.
-use Rattle.std.proofs.Common.{◌≡◌, ℕ, ◌+◌, ◌<◌, ◌≤◌, Bool, true, arith, get_or, length, List}
-use Rattle.std.specs.Prelude.{nat_le}
-use Rattle.std.specs.List.{list_all}
-use Rattle.std.proofs.lemmas.List.Folds.{list_all_at}
-use Rattle.std.proofs.lemmas.Bool.Decides.{nat_tests}
+use Rattle.std.{proofs.Common.{◌≡◌, ℕ, ◌+◌, ◌<◌, ◌≤◌, Bool, true, arith, get_or, length, List}, specs.Prelude.nat_le}
+use Rattle.std.{specs.List.list_all, proofs.lemmas.{List.Folds.list_all_at, Bool.Decides.nat_tests}}
 
 pub list_all-passes : (test : ℕ → Bool) (xs : List ℕ) (i : ℕ) → list_all test xs ≡ true → i < length xs →
     test (get_or xs i 0) ≡ true

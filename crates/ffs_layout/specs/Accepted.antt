@@ -1,7 +1,6 @@
 -- A layout that is accepted in an image.
 use Rattle.std.specs.Prelude.{◌≡◌, ◌*◌, ◌≤◌, ℕ, None}
-use Rattle.ffs_volume.specs.declared.Layout.{Layout}
-use Rattle.ffs_volume.specs.Disk.Outcome.{layout_fault}
+use Rattle.ffs_volume.specs.{declared.Layout.Layout, Disk.Outcome.layout_fault}
 
 -- the layout that is taken is this one; it shows no fault in an image of this size, so its volume
 -- lies within the image

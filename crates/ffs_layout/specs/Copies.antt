@@ -1,12 +1,8 @@
 -- What is read and compared of a superblock and its copies.
 use Rattle.std.specs.Prelude.{◌≡◌, ℕ, ◌+◌, ◌<◌, ◌≤◌, ◌/◌, ◌⊎◌, true, false, List, Option, None}
 use Rattle.ffs_image.specs.Device.{Device, Faulted, ForContents}
-use Rattle.ffs_volume.specs.declared.Order.{Order}
-use Rattle.ffs_volume.specs.declared.SuperFault.{SuperFault}
-use Rattle.ffs_volume.specs.declared.SuperFault.TheVariants.{CannotRead, Disagree}
-use Rattle.ffs_volume.specs.Disk.Numbers.{piece}
-use Rattle.ffs_volume.specs.Disk.Outcome.{copy_agrees, copy_place}
-use Rattle.ffs_volume.specs.Disk.Superblock.{layout_of}
+use Rattle.ffs_volume.specs.declared.{Order.Order, SuperFault.{SuperFault, TheVariants.{CannotRead, Disagree}}}
+use Rattle.ffs_volume.specs.Disk.{Numbers.piece, Outcome.{copy_agrees, copy_place}, Superblock.layout_of}
 use Rattle.ffs_volume.specs.declared.constants.TheConstants.{SUPERBLOCK_BYTES, DEV_BSIZE}
 
 -- the bytes of a superblock were read at a place, which lies in the image

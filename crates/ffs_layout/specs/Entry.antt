@@ -1,9 +1,7 @@
 -- An entry of a directory in memory, as the definitions see it.
 use Rattle.std.specs.Prelude.{◌≡◌, ℕ, ◌+◌, ◌≤◌, List, length, Bool, ◌==◌, ◌||◌, Option, Some, IfSome, option_map}
 use Rattle.std.specs.List.{list_any}
-use Rattle.ffs_volume.specs.Disk.Numbers.{piece}
-use Rattle.ffs_volume.specs.Directories.Entries.{Entry as EntryIn, entry_at}
-use Rattle.ffs_volume.specs.declared.Order.{Order}
+use Rattle.ffs_volume.specs.{Disk.Numbers.piece, Directories.Entries.{Entry as EntryIn, entry_at}, declared.Order.Order}
 use Rattle.ffs_layout.specs.declared.entry.Entry.{Entry}
 
 -- an entry in memory as an entry of the definitions

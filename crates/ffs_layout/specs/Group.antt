@@ -1,10 +1,7 @@
 -- The numbers of a group block.
-use Rattle.std.specs.Prelude.{ℕ, ◌+◌, ◌*◌, List, map}
-use Rattle.std.specs.List.{range_with_len}
-use Rattle.ffs_volume.specs.declared.Order.{Order}
-use Rattle.ffs_volume.specs.Disk.Numbers.{i32_at, u32_at}
-use Rattle.ffs_layout.specs.declared.group.Group.{Group}
-use Rattle.ffs_layout.specs.declared.group.GroupSummary.{GroupSummary}
+use Rattle.std.specs.{Prelude.{ℕ, ◌+◌, ◌*◌, List, map}, List.range_with_len}
+use Rattle.ffs_volume.specs.{declared.Order.Order, Disk.Numbers.{i32_at, u32_at}}
+use Rattle.ffs_layout.specs.declared.group.{Group.Group, GroupSummary.GroupSummary}
 
 -- the summary in the 16 bytes at a place
 abbrev pub group_summary_at : Order → ℕ → List ℕ → GroupSummary

@@ -1,12 +1,10 @@
 -- The value of a superblock in memory.
 use Rattle.std.specs.Prelude.{◌≡◌, ℕ, ◌+◌, ◌*◌, ◌<◌, ◌/◌, ◌⊎◌, List, Option, IsSomeAnd, Some, None, Result, Ok, Err}
-use Rattle.ffs_volume.specs.declared.constants.TheConstants.{DEV_BSIZE, SUPERBLOCK_BYTES}
-use Rattle.ffs_volume.specs.declared.SuperFault.{SuperFault}
-use Rattle.ffs_volume.specs.Disk.Outcome.{super_sector, super_bytes, copy_place, outcome}
+use Rattle.ffs_volume.specs.declared.{constants.TheConstants.{DEV_BSIZE, SUPERBLOCK_BYTES}, SuperFault.SuperFault}
+use Rattle.ffs_volume.specs.Disk.{Outcome.{super_sector, super_bytes, copy_place, outcome}, Superblock.Superblock}
+use Rattle.ffs_volume.specs.Disk.Superblock.{order_of, layout_of}
 use Rattle.ffs_image.specs.Device.{Device, Faulted}
-use Rattle.ffs_layout.specs.Reads.{ReadFailed}
-use Rattle.ffs_layout.specs.declared.superblock.Super.{Super}
-use Rattle.ffs_volume.specs.Disk.Superblock.{Superblock, order_of, layout_of}
+use Rattle.ffs_layout.specs.{Reads.ReadFailed, declared.superblock.Super.Super}
 
 -- A superblock in memory as a superblock of the definitions.
 abbrev pub superblock_in : Super → Superblock

@@ -1,7 +1,6 @@
 //! Reads an entry of a directory from its chunk.
 
-ghost use Rattle.std.specs.Prelude.{IsTrue, ◌≡◌, ◌+◌, ◌≤◌, ◌==◌, ◌||◌, length, slice_index};
-ghost use Rattle.std.specs.List.{list_any};
+ghost use Rattle.std.specs.{Prelude.{IsTrue, ◌≡◌, ◌+◌, ◌≤◌, ◌==◌, ◌||◌, length, slice_index}, List.list_any};
 ghost use Rattle.ffs_volume.specs.Directories.Entries.{has_valid_name, has_valid_type_and_name, is_valid_record_length};
 ghost use Rattle.ffs_volume.specs.Disk.Numbers.{u16_at as u16_in, u32_at as u32_in};
 ghost use Rattle.ffs_layout.specs.Entry.{IsEntryAt, any_nul_or_slash};

@@ -1,9 +1,7 @@
 //! Where the parts of each group lie.
 
 ghost use Rattle.std.specs.Prelude.{◌≡◌, ◌<◌, ◌-◌, ◌*◌, ◌^◌};
-ghost use Rattle.ffs_volume.specs.Disk.Outcome.{has_valid_group};
-ghost use Rattle.ffs_volume.specs.Disk.Areas.{cgoffset_of};
-ghost use Rattle.ffs_volume.specs.Disk.Numbers.{all_below};
+ghost use Rattle.ffs_volume.specs.Disk.{Outcome.has_valid_group, Areas.cgoffset_of, Numbers.all_below};
 
 use ffs_volume::Layout;
 

@@ -1,9 +1,7 @@
 //! The numbers of an inode.
 
-ghost use Rattle.std.specs.Prelude.{◌≡◌, ◌≤◌, ◌+◌, ◌*◌, length, map};
-ghost use Rattle.std.specs.List.{range_with_len};
-ghost use Rattle.ffs_volume.specs.Blocks.Inodes.{inode_from_bytes};
-ghost use Rattle.ffs_volume.specs.Disk.Numbers.{u32_at as u32_in};
+ghost use Rattle.std.specs.{Prelude.{◌≡◌, ◌≤◌, ◌+◌, ◌*◌, length, map}, List.range_with_len};
+ghost use Rattle.ffs_volume.specs.{Blocks.Inodes.inode_from_bytes, Disk.Numbers.u32_at as u32_in};
 
 use crate::numbers::{i16_at, i32_at, u16_at, u32_at, u64_at};
 use ffs_volume::{Inode, Order};

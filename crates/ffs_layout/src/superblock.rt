@@ -1,13 +1,10 @@
 //! The superblock of an image.
 
 ghost use Rattle.std.specs.Prelude.{IfErr, ℕ, ◌^◌, IsTrue, nat_le, ◌==◌, ◌≡◌, ◌+◌, ◌*◌, ◌<◌, ◌≤◌, IfOk, MatchResult};
-ghost use Rattle.ffs_volume.specs.Disk.Outcome.{agree, super_sector};
-ghost use Rattle.ffs_volume.specs.Disk.Numbers.{u32_at};
-ghost use Rattle.ffs_volume.specs.Report.Reads.{opening_reads};
 ghost use Rattle.std.specs.List.{list_all};
+ghost use Rattle.ffs_volume.specs.{Disk.{Outcome.{agree, super_sector}, Numbers.u32_at}, Report.Reads.opening_reads};
 ghost use Rattle.ffs_volume.specs.Disk.Superblock.{layout_of, order_of, superblock_of};
-ghost use Rattle.ffs_layout.specs.Accepted.{IsAccepted};
-ghost use Rattle.ffs_layout.specs.Copies.{IsCopy, IsUnreadCopy, CopyAgrees, IsCopyFault};
+ghost use Rattle.ffs_layout.specs.{Accepted.IsAccepted, Copies.{IsCopy, IsUnreadCopy, CopyAgrees, IsCopyFault}};
 ghost use Rattle.ffs_layout.specs.Super.{ReadsSuper, IsUnreadable, found_of, superblock_in};
 
 use crate::geometry::Geometry;

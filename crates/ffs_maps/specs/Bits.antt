@@ -1,9 +1,7 @@
 -- The bits of a map of fragments, and what a call leaves of them.
-use Rattle.std.specs.Prelude.{◌≡◌, ℕ, zero, suc, ◌+◌, ◌%◌, ◌<◌, ◌≤◌, Bool, IsTrue, true, false}
-use Rattle.std.specs.Prelude.{not, ◌&&◌, List, nat_lt, slice_set}
-use Rattle.std.specs.List.{slice_index_or}
-use Rattle.ffs_maps.specs.WordBits.{bits_of_words}
-use Rattle.ffs_maps.specs.declared.FragmentMap.{FragmentMap}
+use Rattle.std.specs.Prelude.{◌≡◌, ℕ, zero, suc, ◌+◌, ◌%◌, ◌<◌, ◌≤◌, Bool, IsTrue, true, false, not, ◌&&◌, List, nat_lt}
+use Rattle.std.specs.{Prelude.slice_set, List.slice_index_or}
+use Rattle.ffs_maps.specs.{WordBits.bits_of_words, declared.FragmentMap.FragmentMap}
 
 -- a map's bits, one for each fragment
 abbrev pub bits_of : FragmentMap → List Bool

@@ -1,7 +1,6 @@
 -- The bits of words.
-use Rattle.std.specs.Prelude.{ℕ, ◌/◌, ◌%◌, Bool, false, List, map, nat_eq, slice_index, count_by}
-use Rattle.std.specs.List.{range_with_len, slice_index_or}
-use Rattle.std.specs.Int.{bit_at}
+use Rattle.std.specs.{Prelude.{ℕ, ◌/◌, ◌%◌, Bool, false, List, map, nat_eq, slice_index, count_by}, List.range_with_len}
+use Rattle.std.specs.{List.slice_index_or, Int.bit_at}
 
 -- the bit of fragment f is set, in words of 64 bits
 abbrev pub is_bit : List ℕ → ℕ → Bool

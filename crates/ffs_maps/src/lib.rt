@@ -13,9 +13,8 @@
 //! It rests on `ffs_memory`.
 #![tactic(auto)]
 
-ghost use Rattle.std.specs.Prelude.{ℕ, nat_eq, ◌≡◌, ◌↔◌, ◌+◌, ◌*◌, ◌%◌, ◌<◌, ◌≤◌, ◌-◌, length, IfOk, IsTrue, true, false, slice_set, replicate};
-ghost use Rattle.std.specs.List.{slice_index_or, All};
-ghost use Rattle.std.specs.Int.{div_ceil, bit_at};
+ghost use Rattle.std.specs.Prelude.{ℕ, nat_eq, ◌≡◌, ◌↔◌, ◌+◌, ◌*◌, ◌%◌, ◌<◌, ◌≤◌, ◌-◌, length, IfOk, IsTrue, true};
+ghost use Rattle.std.specs.{Prelude.{false, slice_set, replicate}, List.{slice_index_or, All}, Int.{div_ceil, bit_at}};
 ghost use Rattle.ffs_memory.specs.Account.{Asks};
 ghost use Rattle.ffs_maps.specs.WordBits.{bits_of_words, set_among};
 

@@ -1,11 +1,8 @@
 -- Lists of which some elements are touched, and one value is in the rest of their memory.
 use Rattle.std.proofs.Common.{◌≡◌, ◌<◌, ◌+◌, ◌++◌, ℕ, List, arith, replicate, slice_set, vec_len}
 use Rattle.std.proofs.lemmas.List.{append_assoc, replicate-append-replicate, set-append_left}
-use Rattle.std.specs.Prelude.{vec_capacity}
-use Rattle.std.specs.declared.vec.Vec.{Vec}
-use Rattle.std.specs.declared.alloc.Global.{Global}
-use Rattle.ffs_memory.specs.Filled.{filled}
-use Rattle.ffs_memory.specs.Words.{Touches}
+use Rattle.std.specs.{Prelude.vec_capacity, declared.{vec.Vec.Vec, alloc.Global.Global}}
+use Rattle.ffs_memory.specs.{Filled.filled, Words.Touches}
 
 -- one value after itself
 pub run_on : {A : Type 0} (list : List A) (x : A) (m n k : ℕ) → m + n ≡ k →

@@ -1,14 +1,8 @@
 -- Words are the same where their parts are, and touching some of them changes none.
-use Rattle.std.proofs.Common.{◌≡◌, ◌<◌, ◌≤◌, ◌-◌, ◌++◌, ℕ, List, arith, length, replicate}
-use Rattle.std.proofs.Common.{slice_set, vec_len}
-use Rattle.std.proofs.lemmas.List.{length-append, length-replicate, set-append_left}
-use Rattle.std.specs.Prelude.{vec_capacity}
-use Rattle.std.specs.Ptr.{Ptr}
-use Rattle.std.specs.Vec.{vec_ptr, with_item}
-use Rattle.std.specs.declared.vec.Vec.{Vec}
-use Rattle.std.specs.declared.alloc.Global.{Global}
-use Rattle.ffs_memory.proofs.Touched.{run_on}
-use Rattle.ffs_memory.specs.Words.{Words, Touches}
+use Rattle.std.proofs.Common.{◌≡◌, ◌<◌, ◌≤◌, ◌-◌, ◌++◌, ℕ, List, arith, length, replicate, slice_set, vec_len}
+use Rattle.std.{proofs.lemmas.List.{length-append, length-replicate, set-append_left}, specs.Prelude.vec_capacity}
+use Rattle.std.specs.{Ptr.Ptr, Vec.{vec_ptr, with_item}, declared.{vec.Vec.Vec, alloc.Global.Global}}
+use Rattle.ffs_memory.{proofs.Touched.run_on, specs.Words.{Words, Touches}}
 
 abbrev words : List ℕ → Ptr → ℕ → Words
 words list address room = record { list = list; address = address; room = room }

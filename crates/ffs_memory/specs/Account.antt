@@ -1,9 +1,7 @@
 -- What a memory granted, and how often it refused.
-use Rattle.std.specs.Prelude.{◌≡◌, ◌+◌, ◌-◌, ◌*◌, ◌^◌, ◌<◌, ◌≤◌, ℕ, min, [], replicate, vec_capacity, vec_len, Result, MatchResult}
-use Rattle.std.specs.declared.alloc.Global.{Global}
-use Rattle.std.specs.declared.vec.Vec.{Vec}
-use Rattle.ffs_memory.specs.Words.{Words}
-use Rattle.ffs_memory.specs.declared.fixed_list.FixedList.{FixedList}
+use Rattle.std.specs.Prelude.{◌≡◌, ◌+◌, ◌-◌, ◌*◌, ◌^◌, ◌<◌, ◌≤◌, ℕ, min, [], replicate, vec_capacity, vec_len, Result}
+use Rattle.std.specs.{Prelude.MatchResult, declared.{alloc.Global.Global, vec.Vec.Vec}}
+use Rattle.ffs_memory.specs.{Words.Words, declared.fixed_list.FixedList.FixedList}
 
 -- the bytes that it granted so far, and how many requests it refused
 pub record Account : Type 0 where

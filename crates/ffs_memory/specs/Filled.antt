@@ -1,12 +1,8 @@
 -- Lists that hold one value until another is set.
 use Rattle.std.specs.Prelude.{◌≡◌, ◌+◌, ◌++◌, ◌-◌, ℕ, drop, length, replicate, slice_set, take, vec_capacity, vec_len}
-use Rattle.std.specs.List.Sorted.{IsNonDecreasing, IsPermutation}
-use Rattle.std.proofs.Common.{ap, sym, ◌∙◌, length-append}
-use Rattle.std.proofs.Math.Nat.{add-sub_of_le, le_refl}
-use Rattle.std.proofs.lemmas.List.{length-replicate}
-use Rattle.std.specs.Vec.{vec_ptr}
-use Rattle.std.specs.declared.vec.Vec.{Vec}
-use Rattle.std.specs.declared.alloc.Global.{Global}
+use Rattle.std.{specs.List.Sorted.{IsNonDecreasing, IsPermutation}, proofs.Common.{ap, sym, ◌∙◌, length-append}}
+use Rattle.std.{proofs.{Math.Nat.{add-sub_of_le, le_refl}, lemmas.List.length-replicate}, specs.Vec.vec_ptr}
+use Rattle.std.specs.declared.{vec.Vec.Vec, alloc.Global.Global}
 
 module _ {A : Type 0} where
   pub length_filled : (touched : Vec A Global) (x : A) →

@@ -1,10 +1,7 @@
 -- Which request a fuse refuses.
-use Rattle.std.specs.Prelude.{◌≡◌, ℕ, ◌-◌, ◌*◌, ◌==◌, Bool, Result, IsErr}
-use Rattle.std.specs.Bool.{OnTrue, OnFalse}
-use Rattle.ffs_memory.specs.Account.{Account, Asks, Gives, GivesWords}
-use Rattle.ffs_memory.specs.declared.fixed_list.FixedList.{FixedList}
-use Rattle.ffs_memory.specs.declared.fuse.FuseMemory.{FuseMemory}
-use Rattle.ffs_memory.specs.Words.{Words}
+use Rattle.std.specs.{Prelude.{◌≡◌, ℕ, ◌-◌, ◌*◌, ◌==◌, Bool, Result, IsErr}, Bool.{OnTrue, OnFalse}}
+use Rattle.ffs_memory.specs.{Account.{Account, Asks, Gives, GivesWords}, declared.fixed_list.FixedList.FixedList}
+use Rattle.ffs_memory.specs.{declared.fuse.FuseMemory.FuseMemory, Words.Words}
 
 -- the request after which none is left
 abbrev pub is_blown : ℕ → Bool

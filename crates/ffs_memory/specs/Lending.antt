@@ -1,9 +1,6 @@
 -- What a fixed list ends as, where its elements were lent.
-use Rattle.std.specs.Prelude.{ℕ, List}
-use Rattle.std.specs.Borrow.{Lends, Fml, RattleType, MutBor, Array}
-use Rattle.std.specs.Vec.{with_item, with_items}
-use Rattle.std.specs.declared.vec.Vec.{Vec}
-use Rattle.std.specs.declared.alloc.Global.{Global}
+use Rattle.std.specs.{Prelude.{ℕ, List}, Borrow.{Lends, Fml, RattleType, MutBor, Array}, Vec.{with_item, with_items}}
+use Rattle.std.specs.declared.{vec.Vec.Vec, alloc.Global.Global}
 use Rattle.ffs_memory.specs.contracts.fixed_list.FixedList.{the_row}
 
 module _ (T : RattleType) (list : MutBor (Vec T.Denot Global)) where

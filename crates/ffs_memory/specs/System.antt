@@ -1,6 +1,5 @@
 -- What the memory of the system granted, and how often it refused.
-use Rattle.ffs_memory.specs.Account.{Account}
-use Rattle.ffs_memory.specs.declared.counted.CountedAllocator.{CountedAllocator}
+use Rattle.ffs_memory.specs.{Account.Account, declared.counted.CountedAllocator.CountedAllocator}
 use Rattle.ffs_memory.specs.declared.system.SystemMemory.{SystemMemory}
 
 -- the account of an allocator whose requests are counted. Its body is hidden (`unfoldable`): all

@@ -1,11 +1,7 @@
 -- Words that are 0 until they are set.
 use Rattle.std.specs.Prelude.{◌≡◌, ◌↔◌, ◌++◌, ◌+◌, ◌-◌, ℕ, List, Bool, false, IsTrue, max, bit_and, bit_or, replicate}
-use Rattle.std.specs.Prelude.{slice_set, vec_capacity, vec_len}
-use Rattle.std.specs.List.{slice_index_or}
-use Rattle.std.specs.Ptr.{Ptr}
-use Rattle.std.specs.Vec.{vec_ptr}
-use Rattle.std.specs.declared.vec.Vec.{Vec}
-use Rattle.std.specs.declared.alloc.Global.{Global}
+use Rattle.std.specs.{Prelude.{slice_set, vec_capacity, vec_len}, List.slice_index_or, Ptr.Ptr, Vec.vec_ptr}
+use Rattle.std.specs.declared.{vec.Vec.Vec, alloc.Global.Global}
 
 -- a list of words, the address of its memory, and for how many words that has room
 pub record Words : Type 0 where

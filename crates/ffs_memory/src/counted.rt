@@ -1,8 +1,6 @@
 //! An allocator whose requests are counted.
-ghost use Rattle.std.specs.Prelude.{◌≡◌};
-ghost use Rattle.std.specs.Mem.{type_size};
-ghost use Rattle.ffs_memory.specs.Account.{MakesRoom, unused};
-ghost use Rattle.ffs_memory.specs.System.{allocator_account};
+ghost use Rattle.std.specs.{Prelude.◌≡◌, Mem.type_size};
+ghost use Rattle.ffs_memory.specs.{Account.{MakesRoom, unused}, System.allocator_account};
 
 use std::alloc::{AllocError, Global};
 

@@ -1,7 +1,6 @@
 //! Lists that hold one value until another is set.
 ghost use Rattle.std.specs.Prelude.{◌≡◌, ◌<◌, ◌≤◌, slice_index_or, vec_capacity, vec_len};
-ghost use Rattle.ffs_memory.specs.Account.{IsFilled};
-ghost use Rattle.ffs_memory.specs.Filled.{Sets, SetsAll, SortsPart};
+ghost use Rattle.ffs_memory.specs.{Account.IsFilled, Filled.{Sets, SetsAll, SortsPart}};
 
 use crate::touching::touch;
 use std::marker::Model;

@@ -1,6 +1,5 @@
 //! Lists whose length and memory stay as they were made.
-ghost use Rattle.std.specs.Prelude.{◌≡◌, ◌<◌, length, slice_index_or, vec_len};
-ghost use Rattle.std.specs.Borrow.{sem};
+ghost use Rattle.std.specs.{Prelude.{◌≡◌, ◌<◌, length, slice_index_or, vec_len}, Borrow.sem};
 
 use std::marker::Model;
 use std::ops::{DerefSlice, DerefSliceMut, Index, IndexMut};

@@ -1,6 +1,5 @@
 //! The memory of the system.
-ghost use Rattle.std.specs.Prelude.{◌≡◌, ◌*◌};
-ghost use Rattle.std.specs.Mem.{type_size};
+ghost use Rattle.std.specs.{Prelude.{◌≡◌, ◌*◌}, Mem.type_size};
 ghost use Rattle.ffs_memory.specs.Account.{Gives, unused};
 
 use crate::counted::CountedAllocator;

@@ -2,22 +2,17 @@
 use Rattle.std.proofs.Common.{◌≡◌, ◌≤◌, ℕ, zero, suc, ◌+◌, ◌-◌, ◌^◌, ◌==◌, min, Bool, true, false, ◌||◌, if◌then◌else◌}
 use Rattle.std.proofs.Common.{List, [], ◌∷◌, ◌++◌, replicate, Option, Some, None, arith, refl, sym, ap, ◌∙◌}
 use Rattle.std.proofs.lemmas.Bool.{or_right}
-use Rattle.ffs_volume.proofs.ReplayLaws.{counted_same, gaps_seen}
-use Rattle.ffs_volume.specs.declared.{Layout.Layout, Step.Step}
-use Rattle.ffs_volume.specs.declared.Step.TheVariants.{Run, Tail, Gap}
-use Rattle.ffs_volume.specs.Directories.Entries.{Chunk, chunks_of, has_gap, is_gap, step_chunks}
-use Rattle.ffs_volume.specs.Disk.Areas.{is_run_in_range}
+use Rattle.ffs_volume.{proofs.ReplayLaws.{counted_same, gaps_seen}, specs.declared.{Layout.Layout, Step.Step}}
+use Rattle.ffs_volume.specs.{declared.Step.TheVariants.{Run, Tail, Gap}, Directories.Entries.{Chunk, chunks_of}}
+use Rattle.ffs_volume.specs.{Directories.Entries.{has_gap, is_gap, step_chunks}, Disk.Areas.is_run_in_range}
 use Rattle.ffs_volume.specs.Encodings.Replay.{Replay, is_replay_open, is_replayed, replay_after_step, replayed_steps}
 use Rattle.ffs_volume.specs.Encodings.ReplayCounts.{replayed_runs, seen_run}
-use Rattle.ffs_walk.proofs.WalkSteps.{top_ends}
-use Rattle.ffs_walk.specs.{Counts.entered, Keepings.Replays, Keepings.replay_in, Rests.IsOver, Rests.steps_left}
-use Rattle.ffs_walk.specs.declared.{keeping.Keeping.Keeping, walk.Walk.Walk, window.Window.Window}
-use Rattle.ffs_names.specs.Costs.{HoldsRun, SeesRun, unread_run}
-use Rattle.ffs_names.specs.Readings.{CanSee, Continues, HasSeenAll, IsSame, chunks_after, gap_after, runs_after}
-use Rattle.ffs_names.specs.RunCursors.{cursor_chunks, reading_by}
+use Rattle.ffs_walk.{proofs.WalkSteps.top_ends, specs.{Counts.entered, Keepings.{Replays, replay_in}, Rests.IsOver}}
+use Rattle.ffs_walk.specs.{Rests.steps_left, declared.{keeping.Keeping.Keeping, walk.Walk.Walk, window.Window.Window}}
+use Rattle.ffs_names.specs.{Costs.{HoldsRun, SeesRun, unread_run}, Readings.{CanSee, Continues, HasSeenAll, IsSame}}
+use Rattle.ffs_names.specs.{Readings.{chunks_after, gap_after, runs_after}, RunCursors.{cursor_chunks, reading_by}}
 use Rattle.ffs_names.specs.declared.{chunks.Chunks.Chunks, run_cursor.RunCursor.RunCursor}
-use Rattle.ffs_names.proofs.{Continuing.continues_more, Continuing.counts_here}
-use Rattle.ffs_names.proofs.ReadCounts.{entered_one, over_held, run_over}
+use Rattle.ffs_names.proofs.{Continuing.{continues_more, counts_here}, ReadCounts.{entered_one, over_held, run_over}}
 
 -- ---- where nothing is left
 -- a walk that is over has no steps left, and no Runs

@@ -1,18 +1,14 @@
 -- A reading of a directory begins.
-use Rattle.std.proofs.Common.{◌≡◌, ℕ, ◌+◌, ◌/◌, ◌<◌, ◌^◌, Bool, true, false, if◌then◌else◌, List, [], ◌∷◌, ◌++◌}
-use Rattle.std.proofs.Common.{take}
-use Rattle.std.proofs.Common.{Some, None, arith, length, take_all}
-use Rattle.std.proofs.lemmas.Nat.{le-div}
-use Rattle.ffs_volume.proofs.StepLaws.{Within, within_lower, steps_within}
-use Rattle.ffs_volume.proofs.ChunkLaws.{chunks_few}
-use Rattle.ffs_volume.specs.declared.{Inode.Inode, Layout.Layout, Step.Step}
-use Rattle.ffs_volume.specs.declared.Step.TheVariants.{Run, Tail, Gap}
+use Rattle.std.proofs.Common.{◌≡◌, ℕ, ◌+◌, ◌/◌, ◌<◌, ◌^◌, Bool, true, false, if◌then◌else◌, List, [], ◌∷◌, ◌++◌, take}
+use Rattle.std.proofs.{Common.{Some, None, arith, length, take_all}, lemmas.Nat.le-div}
+use Rattle.ffs_volume.proofs.{StepLaws.{Within, within_lower, steps_within}, ChunkLaws.chunks_few}
+use Rattle.ffs_volume.specs.declared.{Inode.Inode, Layout.Layout, Step.{Step, TheVariants.{Run, Tail, Gap}}}
 use Rattle.ffs_volume.specs.{Blocks.Steps.steps_of, Directories.Entries.bytes_read, Disk.Areas.is_run_in_range}
-use Rattle.ffs_volume.specs.Encodings.Replay.{Replay, fresh_replay, is_replay_open, is_replayed, replay_after_step, replayed_steps}
-use Rattle.ffs_volume.specs.Laws.Geometry.{IsAcceptedLayout}
+use Rattle.ffs_volume.specs.Encodings.Replay.{Replay, fresh_replay, is_replay_open, is_replayed, replay_after_step}
+use Rattle.ffs_volume.specs.{Encodings.Replay.replayed_steps, Laws.Geometry.IsAcceptedLayout}
 use Rattle.ffs_walk.specs.{Keepings.replay_in, Rests.steps_left}
-use Rattle.ffs_names.specs.{RunCursors.cursor_chunks, RunCursors.reading_by, declared.chunks.Chunks.Chunks}
-use Rattle.ffs_names.specs.Readings.{BeginsAt, chunks_in}
+use Rattle.ffs_names.specs.{RunCursors.{cursor_chunks, reading_by}, declared.chunks.Chunks.Chunks, Readings.BeginsAt}
+use Rattle.ffs_names.specs.Readings.{chunks_in}
 
 -- the steps of a replay come in the order of their blocks
 kept_within : (frag low high : ℕ) (step : Step) (steps : List Step) (kept : Bool) → Within frag low high (step ∷ steps) →

@@ -3,11 +3,9 @@ use Rattle.std.proofs.Common.{◌≡◌, ◌≤◌, ◌∙◌, ℕ, List, Result
 use Rattle.ffs_image.specs.{Device.Device, Reads.ReadAfter, declared.image.ImageFault.ImageFault}
 use Rattle.ffs_volume.specs.declared.Step.{Step}
 use Rattle.ffs_layout.specs.declared.geometry.Geometry.{Geometry}
-use Rattle.ffs_walk.specs.{Windows.CanWalk, Windows.KeepsBlocks}
-use Rattle.ffs_walk.specs.declared.{blocks.Blocks.Blocks, window.Window.Window}
-use Rattle.ffs_names.specs.declared.chunks.Chunks.{Chunks}
-use Rattle.ffs_names.specs.{Windows.CanWalkDir, Windows.CanReadChunks}
-use Rattle.ffs_names.specs.Readings.{Continues, ContinuesTo, CountsOn, IsSame}
+use Rattle.ffs_walk.specs.{Windows.{CanWalk, KeepsBlocks}, declared.{blocks.Blocks.Blocks, window.Window.Window}}
+use Rattle.ffs_names.specs.{declared.chunks.Chunks.Chunks, Windows.{CanWalkDir, CanReadChunks}, Readings.Continues}
+use Rattle.ffs_names.specs.Readings.{ContinuesTo, CountsOn, IsSame}
 
 pub no_more : (n : ℕ) → n ≤ n
 no_more n = omega arith

@@ -1,9 +1,8 @@
 -- Laws of the reads that directories take.
 use Rattle.std.proofs.Common.{◌≡◌, ◌+◌, ℕ, true, false, List, refl}
-use Rattle.ffs_volume.specs.declared.{Inode.Inode, Layout.Layout}
-use Rattle.ffs_volume.specs.Blocks.{Inodes.inode_of, Steps.steps_of}
-use Rattle.ffs_volume.specs.Directories.{Roles.is_dir, Volumes.volume_of}
-use Rattle.ffs_volume.specs.Encodings.{Replay.cut_at, Replay.fresh_replay, ReplayCounts.replayed_runs}
+use Rattle.ffs_volume.specs.{declared.{Inode.Inode, Layout.Layout}, Blocks.{Inodes.inode_of, Steps.steps_of}}
+use Rattle.ffs_volume.specs.{Directories.{Roles.is_dir, Volumes.volume_of}, Encodings.Replay.{cut_at, fresh_replay}}
+use Rattle.ffs_volume.specs.Encodings.ReplayCounts.{replayed_runs}
 use Rattle.ffs_names.specs.Costs.{directory_cost, directory_runs}
 
 -- a directory takes its inode and its Runs

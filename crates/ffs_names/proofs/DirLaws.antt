@@ -1,20 +1,16 @@
 -- A reading of a directory gives the entries that the volume has there.
-use Rattle.std.proofs.Common.{◌≡◌, ℕ, ◌<◌, ◌^◌, ◌==◌, Bool, true, false, not, ◌&&◌, nat_lt}
-use Rattle.std.proofs.Common.{if◌then◌else◌}
-use Rattle.std.proofs.Common.{List, arith, flat_map, refl, slice_index}
-use Rattle.std.proofs.{lemmas.Bool.or_parts, lemmas.Bool.Decides.nat_tests}
-use Rattle.ffs_volume.proofs.CutLaws.{replay_at}
-use Rattle.ffs_volume.specs.declared.{Class.Class, Inode.Inode, Layout.Layout}
-use Rattle.ffs_volume.specs.declared.Class.TheVariants.{Free, Partial, Unknown, File, Dir}
-use Rattle.ffs_volume.specs.Blocks.Inodes.{class_of, inode_of, is_directory}
-use Rattle.ffs_volume.specs.Blocks.{Inodes.type_of, Steps.steps_of}
-use Rattle.ffs_volume.specs.Directories.Entries.{bytes_read, chunks_of, has_gap}
-use Rattle.ffs_volume.specs.Directories.{PathnameCheck.are_sound, Roles.is_dir, Roles.roled_chunk, Roles.roled_entries}
-use Rattle.ffs_volume.specs.Directories.Volumes.{chunk_source_of, is_inode_number, volume_of, volume_with}
-use Rattle.ffs_volume.specs.{Disk.Areas.is_run_in_range, Encodings.Kinds.kind_at, Laws.Geometry.IsAcceptedLayout}
-use Rattle.ffs_volume.specs.Encodings.Replay.{cut_at, fresh_replay, replayed_steps}
+use Rattle.std.proofs.Common.{◌≡◌, ℕ, ◌<◌, ◌^◌, ◌==◌, Bool, true, false, not, ◌&&◌, nat_lt, if◌then◌else◌, List, arith}
+use Rattle.std.proofs.{Common.{flat_map, refl, slice_index}, lemmas.Bool.{or_parts, Decides.nat_tests}}
+use Rattle.ffs_volume.{proofs.CutLaws.replay_at, specs.declared.{Class.Class, Inode.Inode, Layout.Layout}}
+use Rattle.ffs_volume.specs.{declared.Class.TheVariants.{Free, Partial, Unknown, File, Dir}, Blocks.Inodes.class_of}
+use Rattle.ffs_volume.specs.Blocks.{Inodes.{inode_of, is_directory, type_of}, Steps.steps_of}
+use Rattle.ffs_volume.specs.Directories.{Entries.{bytes_read, chunks_of, has_gap}, PathnameCheck.are_sound}
+use Rattle.ffs_volume.specs.Directories.{Roles.{is_dir, roled_chunk, roled_entries}, Volumes.chunk_source_of}
+use Rattle.ffs_volume.specs.{Directories.Volumes.{is_inode_number, volume_of, volume_with}, Disk.Areas.is_run_in_range}
+use Rattle.ffs_volume.specs.{Encodings.{Kinds.kind_at, Replay.{cut_at, fresh_replay}}, Laws.Geometry.IsAcceptedLayout}
+use Rattle.ffs_volume.specs.Encodings.Replay.{replayed_steps}
 use Rattle.ffs_survey.specs.{Survey.dir_at, SurveyLaws.dirs_of_kinds}
-use Rattle.ffs_names.specs.{RightShapes.is_right_shape, RightShapes.is_right_size, RunCursors.reading_by}
+use Rattle.ffs_names.specs.{RightShapes.{is_right_shape, is_right_size}, RunCursors.reading_by}
 
 class_by : Bool → Bool → Bool → Bool → Class
 class_by none free bad four = if none then (if free then Free else Partial)

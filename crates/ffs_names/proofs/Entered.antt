@@ -1,12 +1,9 @@
 -- How a reading of a directory continues.
-use Rattle.std.proofs.Common.{◌≡◌, ℕ, ◌+◌, ◌==◌, Bool, false, List, [], ◌∷◌, ◌++◌, Option, Some, None, is_some}
-use Rattle.std.proofs.Common.{length}
+use Rattle.std.proofs.Common.{◌≡◌, ℕ, ◌+◌, ◌==◌, Bool, false, List, [], ◌∷◌, ◌++◌, Option, Some, None, is_some, length}
 use Rattle.std.proofs.Common.{arith, flat_map, refl}
-use Rattle.ffs_volume.proofs.{Longest.entry-length, Reading.entries_next, Reading.entries_end}
-use Rattle.ffs_volume.specs.declared.{Order.Order, Role.Role}
-use Rattle.ffs_volume.specs.Directories.Entries.{Entry, Chunk, chunk_of, entry_at, entries_from}
-use Rattle.ffs_volume.specs.{Directories.Roles.role_of, Directories.Roles.roled_from, Directories.Roles.roled_chunk}
-use Rattle.ffs_volume.specs.Disk.Numbers.{piece}
+use Rattle.ffs_volume.{proofs.{Longest.entry-length, Reading.{entries_next, entries_end}}, specs.declared.Order.Order}
+use Rattle.ffs_volume.specs.{declared.Role.Role, Directories.Entries.{Entry, Chunk, chunk_of, entry_at, entries_from}}
+use Rattle.ffs_volume.specs.{Directories.Roles.{role_of, roled_from, roled_chunk}, Disk.Numbers.piece}
 
 -- no entry in the current chunk
 none_seen : (first : Bool) (index : ℕ) (order : Order) (chunk : List ℕ) (place : ℕ) (rest : List Chunk) →

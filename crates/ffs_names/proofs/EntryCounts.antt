@@ -1,13 +1,12 @@
 -- Laws of the reads that are still to come of a reading of entries.
-use Rattle.std.proofs.Common.{◌≡◌, ◌≤◌, ◌||◌, nat_lt, if◌then◌else◌, ℕ, Bool, true, false, List, Result, Ok}
-use Rattle.std.proofs.Common.{Err}
-use Rattle.std.proofs.Common.{OnOk, arith, refl}
-use Rattle.std.proofs.lemmas.Bool.{Decides.nat_tests, both_ways, false≢true, ltb-false, or_left, or_parts}
+use Rattle.std.proofs.Common.{◌≡◌, ◌≤◌, ◌||◌, nat_lt, if◌then◌else◌, ℕ, Bool, true, false, List, Result, Ok, Err, OnOk}
+use Rattle.std.proofs.{Common.{arith, refl}, lemmas.Bool.{Decides.nat_tests, both_ways, false≢true, ltb-false, or_left}}
+use Rattle.std.proofs.lemmas.Bool.{or_parts}
 use Rattle.ffs_image.specs.declared.image.ImageFault.{ImageFault}
 use Rattle.ffs_volume.proofs.Results.{on_ok}
 use Rattle.ffs_walk.specs.declared.{blocks.Blocks.Blocks, window.Window.Window}
 use Rattle.ffs_survey.specs.Costs.{TakesReads}
-use Rattle.ffs_names.specs.{Costs.HoldsReading, Costs.to_read, declared.chunks.Chunks.Chunks}
+use Rattle.ffs_names.specs.{Costs.{HoldsReading, to_read}, declared.chunks.Chunks.Chunks}
 
 -- the reads, and what is held, by whether the shape is right so far, and by the chunks
 abbrev pub may_by : Bool → Chunks → Bool

@@ -1,27 +1,20 @@
 -- A directory of one chunk is known by where its only block is.
-use Rattle.std.proofs.Common.{◌≡◌, ℕ, zero, suc, ◌+◌, ◌*◌, ◌%◌, ◌<◌, ◌≤◌, ◌==◌, Bool, true, false, not, ◌&&◌}
-use Rattle.std.proofs.Common.{List, []}
+use Rattle.std.proofs.Common.{◌≡◌, ℕ, zero, suc, ◌+◌, ◌*◌, ◌%◌, ◌<◌, ◌≤◌, ◌==◌, Bool, true, false, not, ◌&&◌, List, []}
 use Rattle.std.proofs.Common.{◌∷◌, ◌++◌, Some, arith, refl, ap, sym, ◌∙◌, flat_map, if◌then◌else◌, mod-eq_of_lt}
-use Rattle.std.proofs.Common.{mul-le-mul_right}
-use Rattle.std.proofs.Common.{nat_lt, slice_index, take}
-use Rattle.std.{specs.Int.div_ceil, proofs.lemmas.Grind.div_ceil_times, proofs.lemmas.Bool.Decides.nat_tests}
-use Rattle.ffs_volume.specs.declared.{Class.TheVariants.Dir, Inode.Inode, Layout.Layout, Step.Step}
-use Rattle.ffs_volume.specs.declared.Step.TheVariants.{Run}
-use Rattle.ffs_volume.specs.Blocks.Inodes.{class_of}
-use Rattle.ffs_volume.specs.Blocks.Steps.{data_step, steps_at, steps_of}
-use Rattle.ffs_volume.specs.Directories.Entries.{bytes_read, chunks_of, has_gap, run_chunks}
-use Rattle.ffs_volume.specs.Directories.{PathnameCheck.are_sound, Roles.RoledEntry, Roles.roled_chunk}
-use Rattle.ffs_volume.specs.{Disk.Areas.is_run_in_range, Laws.Geometry.IsAcceptedLayout}
-use Rattle.ffs_volume.specs.Encodings.{Replay.fresh_replay, Replay.replayed_steps, ReplayCounts.replayed_runs}
-use Rattle.ffs_walk.proofs.Counted.{top_held, top_unread}
-use Rattle.ffs_walk.specs.Rests.{IsAtTop, IsOver}
-use Rattle.ffs_walk.specs.Keepings.{replay_in}
+use Rattle.std.{proofs.Common.{mul-le-mul_right, nat_lt, slice_index, take}, specs.Int.div_ceil}
+use Rattle.std.proofs.lemmas.{Grind.div_ceil_times, Bool.Decides.nat_tests}
+use Rattle.ffs_volume.specs.declared.{Class.TheVariants.Dir, Inode.Inode, Layout.Layout, Step.{Step, TheVariants.Run}}
+use Rattle.ffs_volume.specs.Blocks.{Inodes.class_of, Steps.{data_step, steps_at, steps_of}}
+use Rattle.ffs_volume.specs.Directories.{Entries.{bytes_read, chunks_of, has_gap, run_chunks}, PathnameCheck.are_sound}
+use Rattle.ffs_volume.specs.{Directories.Roles.{RoledEntry, roled_chunk}, Disk.Areas.is_run_in_range}
+use Rattle.ffs_volume.specs.{Laws.Geometry.IsAcceptedLayout, Encodings.Replay.{fresh_replay, replayed_steps}}
+use Rattle.ffs_volume.specs.Encodings.ReplayCounts.{replayed_runs}
+use Rattle.ffs_walk.{proofs.Counted.{top_held, top_unread}, specs.{Rests.{IsAtTop, IsOver}, Keepings.replay_in}}
 use Rattle.ffs_workspace.proofs.NoteLaws.{IsOneChunkAt}
-use Rattle.ffs_names.specs.{Costs.BeginsAtChunk, OneChunk.one_chunk_at, Readings.chunks_in, Readings.gap_after}
-use Rattle.ffs_names.specs.{RightShapes.is_right_size, RunCursors.cursor_chunks, RunCursors.reading_by}
-use Rattle.ffs_names.specs.declared.chunks.Chunks.{Chunks}
-use Rattle.ffs_names.proofs.{Advances.over_rest, Advances.over_runs, Begins.all_taken, DirLaws.dir_parts}
-use Rattle.ffs_names.proofs.ReadCounts.{first_held, run_at_most}
+use Rattle.ffs_names.specs.{Costs.BeginsAtChunk, OneChunk.one_chunk_at, Readings.{chunks_in, gap_after}}
+use Rattle.ffs_names.specs.{RightShapes.is_right_size, RunCursors.{cursor_chunks, reading_by}}
+use Rattle.ffs_names.{specs.declared.chunks.Chunks.Chunks, proofs.{Advances.{over_rest, over_runs}, Begins.all_taken}}
+use Rattle.ffs_names.proofs.{DirLaws.dir_parts, ReadCounts.{first_held, run_at_most}}
 
 one : (q b : ℕ) → 512 ≤ q * b → q * b < 512 + b → 512 ≤ b → q ≡ 1
 one zero b low high big = absurd (omega arith)

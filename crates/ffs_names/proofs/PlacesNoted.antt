@@ -1,35 +1,28 @@
 -- What is noted of places, entry by entry, chunk by chunk and directory by directory.
-use Rattle.std.proofs.Common.{◌≡◌, ◌≢◌, ℕ, zero, suc, ◌+◌, ◌*◌, ◌/◌, ◌%◌, ◌<◌, ◌≤◌, ◌==◌, Bool, true, false}
-use Rattle.std.proofs.Common.{not, ◌&&◌}
+use Rattle.std.proofs.Common.{◌≡◌, ◌≢◌, ℕ, zero, suc, ◌+◌, ◌*◌, ◌/◌, ◌%◌, ◌<◌, ◌≤◌, ◌==◌, Bool, true, false, not, ◌&&◌}
 use Rattle.std.proofs.Common.{◌||◌, ◌⊎◌, List, [], ◌∷◌, length, Option, Some, None, refl, sym, ap, ◌∙◌, arith, inl, inr}
-use Rattle.std.proofs.Common.{flat_map, if◌then◌else◌, is_some, option_map, slice_index}
-use Rattle.std.proofs.Common.{slice_set}
-use Rattle.std.proofs.Common.{unwrap_or, vec_len}
-use Rattle.std.{specs.List.list_any, proofs.Math.Bool.and-false}
-use Rattle.std.proofs.lemmas.Bool.{Decides.nat_tests, and_from, and_parts, both_ways, cases_eq, cond-false, eq-eqb}
-use Rattle.std.proofs.lemmas.Bool.{eqb-false}
-use Rattle.std.proofs.lemmas.Bool.{eqb-true, leb-true, lt-ltb, ltb-true, ne_eqb, not_from_false, not-true}
-use Rattle.std.proofs.lemmas.{List.Folds.list_any-append, List.get_or-set_other, List.get_or-set_same}
-use Rattle.std.specs.declared.{vec.Vec.Vec, alloc.Global.Global}
+use Rattle.std.proofs.Common.{flat_map, if◌then◌else◌, is_some, option_map, slice_index, slice_set, unwrap_or, vec_len}
+use Rattle.std.{specs.List.list_any, proofs.{Math.Bool.and-false, lemmas.Bool.{Decides.nat_tests, and_from, and_parts}}}
+use Rattle.std.proofs.lemmas.Bool.{both_ways, cases_eq, cond-false, eq-eqb, eqb-false, eqb-true, leb-true, lt-ltb}
+use Rattle.std.proofs.lemmas.{Bool.{ltb-true, ne_eqb, not_from_false, not-true}, List.Folds.list_any-append}
+use Rattle.std.{proofs.lemmas.List.{get_or-set_other, get_or-set_same}, specs.declared.vec.Vec.Vec}
+use Rattle.std.specs.declared.alloc.Global.{Global}
 use Rattle.ffs_image.specs.Device.{Device}
 use Rattle.ffs_layout.specs.{Entry.entry_value, declared.entry.Entry.Entry as CodeEntry}
-use Rattle.ffs_volume.proofs.LevelLaws.{level-before, level-is, level-some, within-zero}
-use Rattle.ffs_volume.proofs.{SearchLaws.first_below-none, SearchLaws.first_below-some, Unreached.edge-parts}
-use Rattle.ffs_volume.specs.declared.{Layout.Layout, Order.Order}
-use Rattle.ffs_volume.specs.{Disk.Numbers.piece, Disk.Search.first_below, Laws.Levels.IsLevel}
-use Rattle.ffs_volume.specs.Directories.Entries.{Chunk, Entry, chunk_of, entries_of, entry_at}
-use Rattle.ffs_volume.specs.Directories.Graph.{Graph, edge, is_naming_dir, is_naming_entry, level, level_edge, parent}
-use Rattle.ffs_volume.specs.Directories.Graph.{parent_by}
-use Rattle.ffs_volume.specs.Directories.{Climb.is_value, Graph.reached, Parents.graph_of}
-use Rattle.ffs_volume.specs.Directories.Roles.{RoledEntry, is_dir, role_of, roled_chunk, roled_entries}
-use Rattle.ffs_volume.specs.Directories.Roles.{roled_from}
-use Rattle.ffs_volume.specs.Directories.Volumes.{volume_of, volume_with}
-use Rattle.ffs_walk.specs.{declared.blocks.Blocks.Blocks, declared.window.Window.Window}
+use Rattle.ffs_volume.proofs.{LevelLaws.{level-before, level-is, level-some, within-zero}, SearchLaws.first_below-none}
+use Rattle.ffs_volume.{proofs.{SearchLaws.first_below-some, Unreached.edge-parts}, specs.declared.Layout.Layout}
+use Rattle.ffs_volume.specs.{declared.Order.Order, Disk.{Numbers.piece, Search.first_below}, Laws.Levels.IsLevel}
+use Rattle.ffs_volume.specs.Directories.{Entries.{Chunk, Entry, chunk_of, entries_of, entry_at}, Graph.{Graph, edge}}
+use Rattle.ffs_volume.specs.Directories.Graph.{is_naming_dir, is_naming_entry, level, level_edge, parent, parent_by}
+use Rattle.ffs_volume.specs.Directories.{Graph.reached, Climb.is_value, Parents.graph_of, Roles.{RoledEntry, is_dir}}
+use Rattle.ffs_volume.specs.Directories.{Roles.{role_of, roled_chunk, roled_entries, roled_from}, Volumes.volume_of}
+use Rattle.ffs_volume.specs.Directories.Volumes.{volume_with}
+use Rattle.ffs_walk.specs.declared.{blocks.Blocks.Blocks, window.Window.Window}
 use Rattle.ffs_workspace.proofs.PlaceLaws.{any_naming-roled, name_in-after, name_in-among, name_in-roled}
-use Rattle.ffs_workspace.specs.{Holds.HoldsClaims, Holds.HoldsSurvey, Lengths.inodes_of, Ready.IsReady}
-use Rattle.ffs_workspace.specs.Places.{entries_in_chunk, is_due, name_in, place_in, place_of}
-use Rattle.ffs_workspace.specs.Places.{ArePlaces, AreChunksNumbered, AreNoted, IsNoted}
-use Rattle.ffs_workspace.specs.{Tables.KeepsTable, declared.table.Table.Table, declared.workspace.Workspace.Workspace}
+use Rattle.ffs_workspace.specs.{Holds.{HoldsClaims, HoldsSurvey}, Lengths.inodes_of, Ready.IsReady}
+use Rattle.ffs_workspace.specs.Places.{entries_in_chunk, is_due, name_in, place_in, place_of, ArePlaces}
+use Rattle.ffs_workspace.specs.{Places.{AreChunksNumbered, AreNoted, IsNoted}, Tables.KeepsTable}
+use Rattle.ffs_workspace.specs.declared.{table.Table.Table, workspace.Workspace.Workspace}
 use Rattle.ffs_names.specs.Noting.{is_child, is_found, BeginsNotes, IsParent, KeepsToRead, NotesChildren, NotesChunk}
 use Rattle.ffs_names.specs.{Noting.NotesEntries, Windows.CanReadChunks}
 

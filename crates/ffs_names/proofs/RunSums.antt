@@ -1,17 +1,14 @@
 -- A replay sees the Runs that the block check sees. So all directories take at most a read for each
 -- inode, and one for each of these Runs.
-use Rattle.std.proofs.Common.{◌≡◌, ◌+◌, ◌*◌, ◌<◌, ◌≤◌, ℕ, zero, suc, Bool, true, false, List, ap, arith}
-use Rattle.std.proofs.Common.{refl}
-use Rattle.std.{proofs.lemmas.Bool.cases_lt, proofs.lemmas.Bool.Decides.nat_tests}
+use Rattle.std.proofs.Common.{◌≡◌, ◌+◌, ◌*◌, ◌<◌, ◌≤◌, ℕ, zero, suc, Bool, true, false, List, ap, arith, refl}
+use Rattle.std.proofs.lemmas.Bool.{cases_lt, Decides.nat_tests}
 use Rattle.ffs_volume.proofs.{CutLaws.cut_is, OwnerLaws.before_next, ReplayLaws.replay_is_runs}
-use Rattle.ffs_volume.specs.Blocks.Claims.{Claims}
-use Rattle.ffs_volume.specs.Blocks.{KeptSteps.claims_before, Owners.owner_of, Owners.owners_of}
-use Rattle.ffs_volume.specs.{Directories.Roles.is_dir, Report.Whole.run_count}
-use Rattle.ffs_volume.specs.Directories.Volumes.{is_inode_number, volume_of}
+use Rattle.ffs_volume.specs.Blocks.{Claims.Claims, KeptSteps.claims_before, Owners.{owner_of, owners_of}}
+use Rattle.ffs_volume.specs.{Directories.{Roles.is_dir, Volumes.{is_inode_number, volume_of}}, Report.Whole.run_count}
 use Rattle.ffs_volume.specs.{Laws.Geometry.IsAcceptedLayout, declared.Layout.Layout}
 use Rattle.ffs_survey.specs.Costs.{costs_all}
-use Rattle.ffs_names.specs.{Costs.directories_cost, Costs.directory_cost, SeenRuns.RunsAreSeen}
-use Rattle.ffs_names.proofs.{DirCosts.cost_is, DirCosts.cost_none, DirLaws.dir_is}
+use Rattle.ffs_names.{specs.{Costs.{directories_cost, directory_cost}, SeenRuns.RunsAreSeen}, proofs.DirCosts.cost_is}
+use Rattle.ffs_names.proofs.{DirCosts.cost_none, DirLaws.dir_is}
 
 pub runs_seen_by : RunsAreSeen
 unfolding owner_of

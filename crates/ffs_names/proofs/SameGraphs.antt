@@ -1,12 +1,9 @@
 -- Entries count only where they are those of a directory.
 use Rattle.std.proofs.Common.{◌≡◌, ◌∙◌, ℕ, zero, suc, ◌+◌, ◌==◌, Bool, true, false, ◌&&◌, ◌||◌, List, Option, Some}
-use Rattle.std.proofs.Common.{None, ap, ap₂}
-use Rattle.std.proofs.Common.{count_by, if◌then◌else◌, is_some, refl, unwrap_or}
-use Rattle.std.specs.List.{list_any}
+use Rattle.std.{proofs.Common.{None, ap, ap₂, count_by, if◌then◌else◌, is_some, refl, unwrap_or}, specs.List.list_any}
 use mathlib.Core.Path.{fun_ext}
-use Rattle.ffs_volume.specs.Directories.{Climb.is_value, Roles.RoledEntry, Roles.refers}
-use Rattle.ffs_volume.specs.Directories.Graph.{Graph, edge, is_naming_dir, is_naming_entry, level, parent, parent_by}
-use Rattle.ffs_volume.specs.Directories.Graph.{within}
+use Rattle.ffs_volume.specs.Directories.{Climb.is_value, Roles.{RoledEntry, refers}, Graph.{Graph, edge, is_naming_dir}}
+use Rattle.ffs_volume.specs.Directories.Graph.{is_naming_entry, level, parent, parent_by, within}
 use Rattle.ffs_volume.specs.Disk.Search.{first_below, some_below}
 use Rattle.ffs_survey.specs.Survey.{counted_in, counted_below, start_in, IsSurvey}
 

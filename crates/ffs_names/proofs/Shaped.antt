@@ -1,18 +1,16 @@
 -- How the shape of a directory shows itself as its chunks are read.
 use Rattle.std.proofs.Common.{◌≡◌, ℕ, ◌+◌, ◌<◌, ◌≤◌, ◌^◌, ◌==◌, Bool, true, false, not, ◌&&◌, ◌||◌, List, [], ◌∷◌, Some}
-use Rattle.std.proofs.Common.{None}
-use Rattle.std.proofs.Common.{ap, arith, is_some, refl, sum_by, zero-add}
-use Rattle.std.proofs.{lemmas.List.Sums.sum_by-cons, Math.Bool.and-true}
-use Rattle.ffs_volume.proofs.Reading.{entries_next, entries_end}
-use Rattle.ffs_volume.specs.declared.{Inode.Inode, Layout.Layout, Order.Order}
-use Rattle.ffs_volume.specs.Directories.Entries.{Entry, Chunk, chunk_of, entry_at, entries_from, has_gap, is_sound}
-use Rattle.ffs_volume.specs.{Blocks.Steps.steps_of, Directories.PathnameCheck.are_sound}
-use Rattle.ffs_volume.specs.Encodings.{Replay.fresh_replay, Replay.replayed_steps, ReplayCounts.replayed_runs}
+use Rattle.std.proofs.{Common.{None, ap, arith, is_some, refl, sum_by, zero-add}, lemmas.List.Sums.sum_by-cons}
+use Rattle.std.proofs.Math.Bool.{and-true}
+use Rattle.ffs_volume.{proofs.Reading.{entries_next, entries_end}, specs.declared.{Inode.Inode, Layout.Layout}}
+use Rattle.ffs_volume.specs.{declared.Order.Order, Directories.Entries.{Entry, Chunk, chunk_of, entry_at, entries_from}}
+use Rattle.ffs_volume.specs.{Directories.{Entries.{has_gap, is_sound}, PathnameCheck.are_sound}, Blocks.Steps.steps_of}
+use Rattle.ffs_volume.specs.Encodings.{Replay.{fresh_replay, replayed_steps}, ReplayCounts.replayed_runs}
 use Rattle.ffs_walk.specs.declared.{blocks.Blocks.Blocks, window.Window.Window}
-use Rattle.ffs_names.specs.{Costs.BeginsEntries, Costs.HoldsReading, Costs.to_read, RightShapes.is_right_size}
-use Rattle.ffs_names.specs.{Readings.chunks_in, Readings.gap_left, Readings.rest, Shapes.BeginsDirectory}
-use Rattle.ffs_names.specs.declared.{chunks.Chunks.Chunks, entries.Entries.Entries}
-use Rattle.ffs_names.proofs.{Entered.end_of_chunk, Entered.end_seen, Entered.none_from, EntryCounts.at_most}
+use Rattle.ffs_names.specs.{Costs.{BeginsEntries, HoldsReading, to_read}, RightShapes.is_right_size, Readings.chunks_in}
+use Rattle.ffs_names.specs.{Readings.{gap_left, rest}, Shapes.BeginsDirectory, declared.chunks.Chunks.Chunks}
+use Rattle.ffs_names.{specs.declared.entries.Entries.Entries, proofs.Entered.{end_of_chunk, end_seen, none_from}}
+use Rattle.ffs_names.proofs.EntryCounts.{at_most}
 
 abbrev pub fills_from : Order → List ℕ → ℕ → Bool
 fills_from order chunk place = place + sum_by (λ e. e.length) (entries_from order chunk 64 place) == 512

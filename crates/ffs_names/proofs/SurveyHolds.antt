@@ -1,20 +1,15 @@
 -- A survey fills a workspace.
-use Rattle.std.proofs.Common.{◌≡◌, ◌∙◌, ◌+◌, ◌≤◌, ℕ, Bool, List, Option}
-use Rattle.std.proofs.Common.{Some, None}
-use Rattle.std.proofs.Common.{IfNone, ap, arith, length, min, slice_index, sym}
-use Rattle.std.proofs.lemmas.Bool.{and_parts}
-use Rattle.ffs_volume.specs.declared.{Layout.Layout}
-use Rattle.ffs_volume.specs.{Encodings.Kinds.kind_at}
-use Rattle.ffs_volume.specs.Directories.{Parents.graph_of, Roles.roled_entries}
-use Rattle.ffs_volume.specs.{Directories.Volumes.volume_of, Directories.Volumes.volume_with}
+use Rattle.std.proofs.Common.{◌≡◌, ◌∙◌, ◌+◌, ◌≤◌, ℕ, Bool, List, Option, Some, None, IfNone, ap, arith, length, min}
+use Rattle.std.proofs.{Common.{slice_index, sym}, lemmas.Bool.and_parts}
+use Rattle.ffs_volume.specs.{declared.Layout.Layout, Encodings.Kinds.kind_at, Directories.Parents.graph_of}
+use Rattle.ffs_volume.specs.Directories.{Roles.roled_entries, Volumes.{volume_of, volume_with}}
 use Rattle.ffs_volume.specs.Encodings.Links.{start_at}
-use Rattle.ffs_workspace.specs.{Holds.HoldsReferences, Holds.HoldsStarts, Holds.HoldsSurvey, Lengths.inodes_of}
-use Rattle.ffs_workspace.specs.{Places.ArePlaces, declared.workspace.Workspace.Workspace}
-use Rattle.ffs_survey.specs.{Calm.AreCalm, SurveyLaws.references_is}
-use Rattle.ffs_survey.specs.Survey.{graph_with, most_start, references_to, IsSurvey}
-use Rattle.ffs_names.specs.{Readers.Base, Readers.dir_entries, Readers.dir_right_shape, Surveys.FlagsCalm}
-use Rattle.ffs_names.specs.RightShapes.{is_right_directory}
-use Rattle.ffs_names.proofs.{DirLaws.kind_dirs, SameGraphs.survey_same}
+use Rattle.ffs_workspace.specs.{Holds.{HoldsReferences, HoldsStarts, HoldsSurvey}, Lengths.inodes_of, Places.ArePlaces}
+use Rattle.ffs_workspace.specs.declared.workspace.Workspace.{Workspace}
+use Rattle.ffs_survey.specs.{Calm.AreCalm, SurveyLaws.references_is, Survey.{graph_with, most_start, references_to}}
+use Rattle.ffs_survey.specs.Survey.{IsSurvey}
+use Rattle.ffs_names.specs.{Readers.{Base, dir_entries, dir_right_shape}, Surveys.FlagsCalm}
+use Rattle.ffs_names.{specs.RightShapes.is_right_directory, proofs.{DirLaws.kind_dirs, SameGraphs.survey_same}}
 
 pub none_ended : {T A : Type 0} {K : A → Type 0} (o : Option T) (P : A → Type 0) → ((b : A) → K b → IfNone o (P b))
     → IfNone o ((b : A) → K b → P b)

@@ -1,26 +1,15 @@
 -- How many reads of the image a reading of a directory still takes, and how many a directory takes
 -- in all.
-use Rattle.std.specs.Prelude.{◌≡◌, ℕ, ◌+◌, ◌*◌, ◌<◌, ◌≤◌, ◌==◌, Bool, true, false, ◌&&◌, ◌||◌, nat_lt, if◌then◌else◌, List, ◌∷◌, Option}
-use Rattle.ffs_volume.specs.declared.Inode.{Inode}
-use Rattle.ffs_volume.specs.declared.Layout.{Layout}
-use Rattle.ffs_volume.specs.declared.Step.{Step}
-use Rattle.ffs_volume.specs.declared.Step.TheVariants.{Run}
-use Rattle.ffs_volume.specs.Blocks.Inodes.{inode_of}
-use Rattle.ffs_volume.specs.Blocks.Steps.{steps_of}
-use Rattle.ffs_volume.specs.Directories.Entries.{has_gap}
-use Rattle.ffs_volume.specs.Directories.Roles.{is_dir}
-use Rattle.ffs_volume.specs.Directories.Volumes.{volume_of}
-use Rattle.ffs_volume.specs.Encodings.Replay.{cut_at, fresh_replay, replayed_steps}
+use Rattle.std.specs.Prelude.{◌≡◌, ℕ, ◌+◌, ◌*◌, ◌<◌, ◌≤◌, ◌==◌, Bool, true, false, ◌&&◌, ◌||◌, nat_lt, if◌then◌else◌}
+use Rattle.std.specs.Prelude.{List, ◌∷◌, Option}
+use Rattle.ffs_volume.specs.declared.{Inode.Inode, Layout.Layout, Step.{Step, TheVariants.Run}}
+use Rattle.ffs_volume.specs.{Blocks.{Inodes.inode_of, Steps.steps_of}, Directories.{Entries.has_gap, Roles.is_dir}}
+use Rattle.ffs_volume.specs.{Directories.Volumes.volume_of, Encodings.Replay.{cut_at, fresh_replay, replayed_steps}}
 use Rattle.ffs_volume.specs.Encodings.ReplayCounts.{replayed_runs}
-use Rattle.ffs_walk.specs.Counts.{AreHeld, entered, unread}
-use Rattle.ffs_walk.specs.declared.blocks.Blocks.{Blocks}
-use Rattle.ffs_walk.specs.declared.window.Window.{Window}
+use Rattle.ffs_walk.specs.{Counts.{AreHeld, entered, unread}, declared.{blocks.Blocks.Blocks, window.Window.Window}}
 use Rattle.ffs_survey.specs.Costs.{costs_all}
-use Rattle.ffs_names.specs.OneChunk.{one_chunk_at}
-use Rattle.ffs_names.specs.Readings.{chunks_in, gap_left, rest, runs_after, runs_left}
-use Rattle.ffs_names.specs.declared.chunks.Chunks.{Chunks}
-use Rattle.ffs_names.specs.declared.entries.Entries.{Entries}
-use Rattle.ffs_names.specs.declared.run_cursor.RunCursor.{RunCursor}
+use Rattle.ffs_names.specs.{OneChunk.one_chunk_at, Readings.{chunks_in, gap_left, rest, runs_after, runs_left}}
+use Rattle.ffs_names.specs.declared.{chunks.Chunks.Chunks, entries.Entries.Entries, run_cursor.RunCursor.RunCursor}
 
 -- 1 where the current Run has chunks and is still to be read: none of them was given yet
 abbrev pub unread_run : RunCursor → ℕ

@@ -1,12 +1,8 @@
 -- The entries that a reading of a directory has still to give.
-use Rattle.std.specs.Prelude.{ℕ, List, ◌≡◌, ◌<◌, ◌≤◌, ◌++◌, ◌+◌, ◌-◌, ◌*◌, ◌/◌}
-use Rattle.std.specs.List.{flat_map}
-use Rattle.ffs_volume.specs.Disk.Numbers.{piece}
-use Rattle.ffs_volume.specs.Directories.Entries.{entries_from}
-use Rattle.ffs_volume.specs.Directories.Roles.{RoledEntry, roled_from, roled_chunk}
-use Rattle.ffs_names.specs.Readings.{rest}
-use Rattle.ffs_names.specs.RunCursors.{last_place}
-use Rattle.ffs_names.specs.declared.entries.Entries.{Entries}
+use Rattle.std.specs.{Prelude.{ℕ, List, ◌≡◌, ◌<◌, ◌≤◌, ◌++◌, ◌+◌, ◌-◌, ◌*◌, ◌/◌}, List.flat_map}
+use Rattle.ffs_volume.specs.{Disk.Numbers.piece, Directories.{Entries.entries_from, Roles.{RoledEntry, roled_from}}}
+use Rattle.ffs_volume.specs.Directories.Roles.{roled_chunk}
+use Rattle.ffs_names.specs.{Readings.rest, RunCursors.last_place, declared.entries.Entries.Entries}
 
 -- the entries to come of the current chunk
 abbrev pub here : Entries → List RoledEntry

@@ -1,14 +1,10 @@
 -- What chunks of a directory p note of the places of parent entries. Words are as in `Places` of
 -- ffs_workspace, but the bit that says in phase 2 that the parent entry of a directory is due
 -- (`is_due`) says here that the directory is a parent whose chunks are still to be read.
-use Rattle.std.specs.Prelude.{◌≡◌, ◌⊎◌, ℕ, suc, ◌<◌, ◌≤◌, ◌==◌, Bool, true, false, not, ◌&&◌, if◌then◌else◌, List, slice_index}
-use Rattle.std.specs.Prelude.{length}
-use Rattle.std.specs.List.{list_any}
-use Rattle.ffs_volume.specs.declared.constants.TheConstants.{ROOTINO}
-use Rattle.ffs_volume.specs.declared.Layout.{Layout}
-use Rattle.ffs_volume.specs.Directories.Graph.{is_naming_entry}
-use Rattle.ffs_volume.specs.Directories.Roles.{RoledEntry}
-use Rattle.ffs_volume.specs.Encodings.Lists.{bool_at}
+use Rattle.std.specs.Prelude.{◌≡◌, ◌⊎◌, ℕ, suc, ◌<◌, ◌≤◌, ◌==◌, Bool, true, false, not, ◌&&◌, if◌then◌else◌, List}
+use Rattle.std.specs.{Prelude.{slice_index, length}, List.list_any}
+use Rattle.ffs_volume.specs.declared.{constants.TheConstants.ROOTINO, Layout.Layout}
+use Rattle.ffs_volume.specs.{Directories.{Graph.is_naming_entry, Roles.RoledEntry}, Encodings.Lists.bool_at}
 use Rattle.ffs_workspace.specs.Places.{entries_in_chunk, is_due, name_in, place_in, AreChunksNumbered, IsNoted}
 
 -- p is the parent of x. The root has no parent entry

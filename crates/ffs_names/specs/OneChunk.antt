@@ -1,8 +1,7 @@
 -- The inode of a directory of one chunk at an address, as far as a reading of its entries asks for
 -- it.
 use Rattle.std.specs.Prelude.{ℕ, ◌*◌, ◌∷◌, replicate, pos}
-use Rattle.ffs_volume.specs.declared.constants.TheConstants.{DT_DIR}
-use Rattle.ffs_volume.specs.declared.Inode.{Inode}
+use Rattle.ffs_volume.specs.declared.{constants.TheConstants.DT_DIR, Inode.Inode}
 
 abbrev pub one_chunk_at : ℕ → Inode
 one_chunk_at address = record {

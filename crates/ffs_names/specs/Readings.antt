@@ -1,25 +1,14 @@
 -- What a reading of a directory has still to give.
-use Rattle.std.specs.Prelude.{◌≡◌, ◌<◌, ◌≤◌, ◌^◌, ℕ, ◌+◌, ◌-◌, Bool, true, false, ◌||◌, Result, List, [], ◌∷◌, ◌++◌, take}
-use Rattle.std.specs.Prelude.{Option}
-use Rattle.std.specs.Prelude.{MatchOption}
-use Rattle.ffs_volume.specs.declared.Layout.{Layout}
-use Rattle.ffs_volume.specs.declared.Inode.{Inode}
-use Rattle.ffs_volume.specs.declared.Step.{Step}
-use Rattle.ffs_volume.specs.Disk.Areas.{is_run_in_range}
-use Rattle.ffs_volume.specs.Blocks.Steps.{steps_of}
-use Rattle.ffs_volume.specs.Directories.Entries.{Chunk, chunk_of, chunks_of, has_gap, bytes_read}
-use Rattle.ffs_volume.specs.Encodings.Replay.{is_replay_open, fresh_replay, replayed_steps}
-use Rattle.ffs_volume.specs.Encodings.ReplayCounts.{replayed_runs}
-use Rattle.ffs_walk.specs.Rests.{most_steps_left, steps_left}
-use Rattle.ffs_image.specs.Device.{Device}
-use Rattle.ffs_image.specs.Reads.{ReadAfter}
-use Rattle.ffs_image.specs.declared.image.ImageFault.{ImageFault}
-use Rattle.ffs_volume.specs.Laws.RunLengths.{HasLength}
-use Rattle.ffs_walk.specs.declared.blocks.Blocks.{Blocks}
-use Rattle.ffs_walk.specs.declared.window.Window.{Window}
-use Rattle.ffs_names.specs.Windows.{CanWalkDir, CanReadChunks}
+use Rattle.std.specs.Prelude.{◌≡◌, ◌<◌, ◌≤◌, ◌^◌, ℕ, ◌+◌, ◌-◌, Bool, true, false, ◌||◌, Result, List, [], ◌∷◌, ◌++◌}
+use Rattle.std.specs.Prelude.{take, Option, MatchOption}
+use Rattle.ffs_volume.specs.{declared.{Layout.Layout, Inode.Inode, Step.Step}, Disk.Areas.is_run_in_range}
+use Rattle.ffs_volume.specs.{Blocks.Steps.steps_of, Directories.Entries.{Chunk, chunk_of, chunks_of, has_gap}}
+use Rattle.ffs_volume.specs.{Directories.Entries.bytes_read, Encodings.Replay.{is_replay_open, fresh_replay}}
+use Rattle.ffs_volume.specs.{Encodings.{Replay.replayed_steps, ReplayCounts.replayed_runs}, Laws.RunLengths.HasLength}
+use Rattle.ffs_walk.specs.{Rests.{most_steps_left, steps_left}, declared.{blocks.Blocks.Blocks, window.Window.Window}}
 use Rattle.ffs_walk.specs.Keepings.{replay_in}
-use Rattle.ffs_names.specs.RunCursors.{cursor_chunks, reading_by}
+use Rattle.ffs_image.specs.{Device.Device, Reads.ReadAfter, declared.image.ImageFault.ImageFault}
+use Rattle.ffs_names.specs.{Windows.{CanWalkDir, CanReadChunks}, RunCursors.{cursor_chunks, reading_by}}
 use Rattle.ffs_names.specs.declared.chunks.Chunks.{Chunks}
 
 -- the chunks of steps to come

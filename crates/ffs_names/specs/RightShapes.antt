@@ -1,8 +1,7 @@
 -- Whether an inode is a directory of right shape.
 use Rattle.std.specs.Prelude.{ℕ, ◌%◌, ◌==◌, Bool, not, ◌&&◌, nat_lt}
-use Rattle.ffs_volume.specs.declared.constants.TheConstants.{DIRBLKSIZ, MINDIRSIZE}
-use Rattle.ffs_volume.specs.Directories.Roles.{Volume, is_dir}
-use Rattle.ffs_volume.specs.Directories.PathnameCheck.{are_sound}
+use Rattle.ffs_volume.specs.{declared.constants.TheConstants.{DIRBLKSIZ, MINDIRSIZE}, Directories.Roles.Volume}
+use Rattle.ffs_volume.specs.Directories.{Roles.is_dir, PathnameCheck.are_sound}
 
 -- the size of a directory is right: it has room for `.` and `..`, and is in whole chunks
 abbrev pub is_right_size : ℕ → Bool

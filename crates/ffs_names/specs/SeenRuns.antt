@@ -1,14 +1,8 @@
 -- The Runs that a reading of a directory may look at are those that the block check sees in it.
 use Rattle.std.specs.Prelude.{◌≡◌, ℕ, ◌+◌, true, List}
-use Rattle.ffs_volume.specs.declared.Layout.{Layout}
-use Rattle.ffs_volume.specs.Laws.Geometry.{IsAcceptedLayout}
-use Rattle.ffs_volume.specs.Blocks.Inodes.{inode_of}
-use Rattle.ffs_volume.specs.Blocks.Steps.{steps_of}
-use Rattle.ffs_volume.specs.Blocks.Owners.{owner_of}
-use Rattle.ffs_volume.specs.Blocks.Claims.{after_owner}
-use Rattle.ffs_volume.specs.Blocks.KeptSteps.{claims_before}
-use Rattle.ffs_volume.specs.Directories.Volumes.{is_inode_number}
-use Rattle.ffs_volume.specs.Encodings.Replay.{cut_at, fresh_replay}
+use Rattle.ffs_volume.specs.{declared.Layout.Layout, Laws.Geometry.IsAcceptedLayout, Blocks.Inodes.inode_of}
+use Rattle.ffs_volume.specs.Blocks.{Steps.steps_of, Owners.owner_of, Claims.after_owner, KeptSteps.claims_before}
+use Rattle.ffs_volume.specs.{Directories.Volumes.is_inode_number, Encodings.Replay.{cut_at, fresh_replay}}
 use Rattle.ffs_volume.specs.Encodings.ReplayCounts.{replayed_runs}
 
 -- how many Runs the block check sees in an inode is how many its replay sees

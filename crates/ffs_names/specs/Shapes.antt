@@ -1,21 +1,13 @@
 -- What a reading of a directory shows of its shape.
 use Rattle.std.specs.Prelude.{◌≡◌, ◌<◌, ◌^◌, ℕ, ◌+◌, ◌==◌, Bool, true, not, ◌&&◌, ◌||◌, List, [], ◌∷◌, sum_by, Option}
-use Rattle.std.specs.Prelude.{MatchOption, IfNone}
-use Rattle.std.specs.List.{flat_map}
-use Rattle.ffs_volume.specs.declared.Layout.{Layout}
-use Rattle.ffs_volume.specs.declared.Inode.{Inode}
-use Rattle.ffs_volume.specs.Blocks.Steps.{steps_of}
-use Rattle.ffs_volume.specs.declared.constants.TheConstants.{DIRBLKSIZ}
-use Rattle.ffs_volume.specs.Directories.Entries.{entries_from, has_gap}
-use Rattle.ffs_volume.specs.Directories.Roles.{roled_chunk}
-use Rattle.ffs_volume.specs.Directories.PathnameCheck.{are_sound}
-use Rattle.ffs_volume.specs.Encodings.Replay.{fresh_replay, replayed_steps}
-use Rattle.ffs_survey.specs.declared.entry_head.EntryHead.{EntryHead}
-use Rattle.ffs_survey.specs.Reading.{roled_of}
-use Rattle.ffs_names.specs.RightShapes.{is_right_size}
-use Rattle.ffs_names.specs.Readings.{rest, gap_left, chunks_in}
-use Rattle.ffs_names.specs.Entering.{to_come, last_name}
-use Rattle.ffs_names.specs.declared.entries.Entries.{Entries}
+use Rattle.std.specs.{Prelude.{MatchOption, IfNone}, List.flat_map}
+use Rattle.ffs_volume.specs.{declared.{Layout.Layout, Inode.Inode}, Blocks.Steps.steps_of}
+use Rattle.ffs_volume.specs.{declared.constants.TheConstants.DIRBLKSIZ, Directories.Entries.{entries_from, has_gap}}
+use Rattle.ffs_volume.specs.{Directories.{Roles.roled_chunk, PathnameCheck.are_sound}, Encodings.Replay.fresh_replay}
+use Rattle.ffs_volume.specs.Encodings.Replay.{replayed_steps}
+use Rattle.ffs_survey.specs.{declared.entry_head.EntryHead.EntryHead, Reading.roled_of}
+use Rattle.ffs_names.specs.{RightShapes.is_right_size, Readings.{rest, gap_left, chunks_in}, Entering.to_come}
+use Rattle.ffs_names.specs.{Entering.last_name, declared.entries.Entries.Entries}
 
 -- the entries of the current chunk fill it
 abbrev pub fills : Entries → Bool

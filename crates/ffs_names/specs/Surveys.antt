@@ -1,8 +1,6 @@
 -- What a survey leaves as it was, and which directories it flags.
 use Rattle.std.specs.Prelude.{◌≡◌, ℕ, List}
-use Rattle.ffs_volume.specs.declared.Layout.{Layout}
-use Rattle.ffs_volume.specs.Directories.Roles.{roled_entries}
-use Rattle.ffs_volume.specs.Directories.Volumes.{volume_of}
+use Rattle.ffs_volume.specs.{declared.Layout.Layout, Directories.{Roles.roled_entries, Volumes.volume_of}}
 use Rattle.ffs_survey.specs.Calm.{AreCalm}
 use Rattle.ffs_names.specs.RightShapes.{is_right_directory}
 use Rattle.ffs_workspace.specs.declared.workspace.Workspace.{Workspace}

@@ -2,9 +2,7 @@
 use Rattle.std.specs.Prelude.{◌≡◌, ◌*◌, ◌≤◌, vec_len}
 use Rattle.ffs_image.specs.Device.{Device}
 use Rattle.ffs_volume.specs.declared.Layout.{Layout}
-use Rattle.ffs_walk.specs.declared.blocks.Blocks.{Blocks}
-use Rattle.ffs_walk.specs.declared.window.Window.{Window}
-use Rattle.ffs_walk.specs.Windows.{BlocksHold, WindowHolds}
+use Rattle.ffs_walk.specs.{declared.{blocks.Blocks.Blocks, window.Window.Window}, Windows.{BlocksHold, WindowHolds}}
 
 -- the image has all of the volume, and the buffer of indirect blocks has a block of each level and
 -- holds what the image gives

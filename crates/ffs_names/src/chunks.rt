@@ -1,17 +1,14 @@
 //! The chunks of a directory.
 
-ghost use Rattle.std.specs.Prelude.{◌≡◌, ◌==◌, ◌&&◌, ◌+◌, ◌*◌, ◌%◌, ◌≤◌, ◌<◌, ◌^◌, ◌∷◌, ℕ, List, [], true, false, not, Ok, None, OnOk, IfOk, IfSome, IsTrue, OnErr, MatchBool, MatchOption, MatchResult};
+ghost use Rattle.std.specs.Prelude.{◌≡◌, ◌==◌, ◌&&◌, ◌+◌, ◌*◌, ◌%◌, ◌≤◌, ◌<◌, ◌^◌, ◌∷◌, ℕ, List, [], true, false, not};
+ghost use Rattle.std.specs.Prelude.{Ok, None, OnOk, IfOk, IfSome, IsTrue, OnErr, MatchBool, MatchOption, MatchResult};
 ghost use Rattle.ffs_image.specs.Device.{ForContents};
-ghost use Rattle.ffs_volume.specs.Blocks.Inodes as inodes;
-ghost use Rattle.ffs_volume.specs.Disk.{Areas.is_run_in_range, Numbers.piece};
-ghost use Rattle.ffs_volume.specs.Directories.Entries.{bytes_read};
-ghost use Rattle.ffs_volume.specs.declared.Step.{Step};
-ghost use Rattle.ffs_volume.specs.declared.Step.TheVariants.{Run};
-ghost use Rattle.ffs_names.specs.Fits.{CursorFits};
-ghost use Rattle.ffs_names.specs.SeenRuns.{RunsAreSeen};
-ghost use Rattle.ffs_names.specs.Windows.{CanWalkDir, CanReadChunks};
+ghost use Rattle.ffs_volume.specs.{Disk.{Areas.is_run_in_range, Numbers.piece}, Directories.Entries.bytes_read};
+ghost use Rattle.ffs_volume.specs.declared.Step.{Step, TheVariants.Run};
+ghost use Rattle.ffs_names.specs.{Fits.CursorFits, SeenRuns.RunsAreSeen, Windows.{CanWalkDir, CanReadChunks}};
 ghost use Rattle.ffs_survey.specs.Costs.{TakesReads};
 ghost use Rattle.ffs_walk.specs.declared.window.Window.{Window};
+ghost use Rattle.ffs_volume.specs.Blocks.Inodes as inodes;
 
 use crate::gap::end_walk;
 use crate::run_cursor::RunCursor;

@@ -1,15 +1,14 @@
 //! The entries of a directory.
 
-ghost use Rattle.std.specs.Prelude.{◌≡◌, ◌+◌, ◌-◌, ◌*◌, ◌/◌, ◌<◌, ◌≤◌, ◌^◌, ◌∷◌, ℕ, List, [], false, None, IfOk, IfSome, is_some, MatchOption};
+ghost use Rattle.std.specs.Prelude.{◌≡◌, ◌+◌, ◌-◌, ◌*◌, ◌/◌, ◌<◌, ◌≤◌, ◌^◌, ◌∷◌, ℕ, List, [], false, None, IfOk};
+ghost use Rattle.std.specs.Prelude.{IfSome, is_some, MatchOption};
 ghost use Rattle.ffs_image.specs.Device.{ForContents};
-ghost use Rattle.ffs_volume.specs.Blocks.Inodes as inodes;
 ghost use Rattle.ffs_volume.specs.Directories.Entries.{entry_at};
-ghost use Rattle.ffs_names.specs.OneChunk.{one_chunk_at as one_chunk};
-ghost use Rattle.ffs_names.specs.RightShapes.{is_right_size};
-ghost use Rattle.ffs_names.specs.Windows.{CanWalkDir, CanReadChunks};
+ghost use Rattle.ffs_names.specs.{OneChunk.one_chunk_at as one_chunk, RightShapes.is_right_size, Windows.CanWalkDir};
+ghost use Rattle.ffs_names.specs.Windows.{CanReadChunks};
 ghost use Rattle.ffs_survey.specs.Costs.{TakesReads};
-ghost use Rattle.ffs_walk.specs.declared.blocks.Blocks.{Blocks};
-ghost use Rattle.ffs_walk.specs.declared.window.Window.{Window};
+ghost use Rattle.ffs_walk.specs.declared.{blocks.Blocks.Blocks, window.Window.Window};
+ghost use Rattle.ffs_volume.specs.Blocks.Inodes as inodes;
 
 use crate::chunks::Chunks;
 use crate::gap::gap_of;

@@ -1,12 +1,9 @@
 //! Whether a hole of a directory is kept.
 ghost use Rattle.std.specs.Prelude.{◌≡◌, ◌||◌, IfOk, IsTrue};
 ghost use Rattle.ffs_image.specs.Device.{ForContents};
-ghost use Rattle.ffs_walk.specs.Rests.{IsOver};
-ghost use Rattle.ffs_names.specs.Windows.{CanWalkDir};
-ghost use Rattle.ffs_names.specs.Readings.{gap_left, LeavesWalk};
-ghost use Rattle.ffs_names.specs.Costs.{to_read, HoldsReading};
+ghost use Rattle.ffs_walk.specs.{Rests.IsOver, declared.window.Window.Window};
+ghost use Rattle.ffs_names.specs.{Windows.CanWalkDir, Readings.{gap_left, LeavesWalk}, Costs.{to_read, HoldsReading}};
 ghost use Rattle.ffs_survey.specs.Costs.{TakesReads};
-ghost use Rattle.ffs_walk.specs.declared.window.Window.{Window};
 
 use crate::chunks::Chunks;
 use ffs_image::{Image, ImageFault};

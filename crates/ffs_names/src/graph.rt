@@ -1,13 +1,10 @@
 //! The survey of a volume's directories.
 
 ghost use Rattle.std.specs.Prelude.{◌+◌, ◌≤◌, OnOk};
-ghost use Rattle.ffs_image.specs.Device.{ForContents};
-ghost use Rattle.ffs_image.specs.Reads.{ReadAfter};
+ghost use Rattle.ffs_image.specs.{Device.ForContents, Reads.ReadAfter};
 ghost use Rattle.ffs_volume.specs.Report.Reads.{sweep_reads};
-ghost use Rattle.ffs_workspace.specs.Ready.{IsReady};
-ghost use Rattle.ffs_workspace.specs.Holds.{HoldsClaims, HoldsReferences, HoldsStarts, HoldsSurvey};
-ghost use Rattle.ffs_names.specs.Surveys.{IsUntouched, FlagsCalm};
-ghost use Rattle.ffs_names.specs.Costs.{directories_cost};
+ghost use Rattle.ffs_workspace.specs.{Ready.IsReady, Holds.{HoldsClaims, HoldsReferences, HoldsStarts, HoldsSurvey}};
+ghost use Rattle.ffs_names.specs.{Surveys.{IsUntouched, FlagsCalm}, Costs.directories_cost};
 
 use crate::entries::Entries;
 use crate::reader::DirectoryReader;

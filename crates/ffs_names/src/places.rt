@@ -1,24 +1,18 @@
 //! Where the parent entries of directories are in the image.
 
-ghost use Rattle.std.specs.Prelude.{◌≡◌, ◌+◌, ◌*◌, ◌<◌, ◌≤◌, ◌^◌, ◌∷◌, [], ℕ, true, false, IfOk, OnOk, MatchResult, length, slice_index, vec_len};
-ghost use Rattle.std.specs.List.{flat_map};
-ghost use Rattle.ffs_image.specs.Device.{ForContents};
-ghost use Rattle.ffs_image.specs.Reads.{ReadAfter};
+ghost use Rattle.std.specs.Prelude.{◌≡◌, ◌+◌, ◌*◌, ◌<◌, ◌≤◌, ◌^◌, ◌∷◌, [], ℕ, true, false, IfOk, OnOk, MatchResult};
+ghost use Rattle.std.specs.{Prelude.{length, slice_index, vec_len}, List.flat_map};
+ghost use Rattle.ffs_image.specs.{Device.ForContents, Reads.ReadAfter};
 ghost use Rattle.ffs_layout.specs.Entry.{entry_value};
-ghost use Rattle.ffs_volume.specs.Directories.Entries.{entries_of};
-ghost use Rattle.ffs_volume.specs.Directories.Roles.{is_dir, role_of as role_in, roled_chunk, roled_entries, roled_from};
-ghost use Rattle.ffs_volume.specs.Directories.Volumes.{volume_of};
+ghost use Rattle.ffs_volume.specs.Directories.{Entries.entries_of, Roles.{is_dir, role_of as role_in, roled_chunk}};
+ghost use Rattle.ffs_volume.specs.Directories.{Roles.{roled_entries, roled_from}, Volumes.volume_of};
 ghost use Rattle.ffs_volume.specs.Report.Reads.{sweep_reads};
-ghost use Rattle.ffs_workspace.specs.Holds.{HoldsClaims, HoldsSurvey};
-ghost use Rattle.ffs_workspace.specs.Lengths.{inodes_of};
-ghost use Rattle.ffs_workspace.specs.Notes.{note_at};
-ghost use Rattle.ffs_workspace.specs.Places.{is_due, place_in, AreChunksNumbered, AreNoted};
-ghost use Rattle.ffs_workspace.specs.Ready.{IsReady};
+ghost use Rattle.ffs_workspace.specs.{Holds.{HoldsClaims, HoldsSurvey}, Lengths.inodes_of, Notes.note_at};
+ghost use Rattle.ffs_workspace.specs.{Places.{is_due, place_in, AreChunksNumbered, AreNoted}, Ready.IsReady};
 ghost use Rattle.ffs_workspace.specs.Tables.{CanReadInodes, TableAfter};
 ghost use Rattle.ffs_names.specs.Noting.{is_child, BeginsNotes, NotesChildren, NotesChunk, NotesEntries};
-ghost use Rattle.ffs_names.specs.Readings.{rest, LeavesReading};
-ghost use Rattle.ffs_names.specs.Costs.{directories_cost, directory_cost, to_read, BeginsReads, HoldsReading};
-ghost use Rattle.ffs_names.specs.Windows.{CanReadChunks};
+ghost use Rattle.ffs_names.specs.{Readings.{rest, LeavesReading}, Costs.{directories_cost, directory_cost, to_read}};
+ghost use Rattle.ffs_names.specs.{Costs.{BeginsReads, HoldsReading}, Windows.CanReadChunks};
 
 use crate::chunks::Chunks;
 use crate::reader::one_chunk_at;

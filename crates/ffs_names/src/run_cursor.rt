@@ -1,10 +1,8 @@
 //! The chunks of one Run of a directory.
 
 ghost use Rattle.std.specs.Prelude.{◌≡◌, ◌+◌, ◌*◌, ◌<◌, ◌≤◌, ◌^◌, ℕ, List, [], OnOk, vec_len};
-ghost use Rattle.ffs_image.specs.Device.{ForContents};
-ghost use Rattle.ffs_image.specs.Reads.{ReadAfter};
-ghost use Rattle.ffs_volume.specs.Disk.Numbers.{piece};
-ghost use Rattle.ffs_volume.specs.Directories.Entries.{run_chunks};
+ghost use Rattle.ffs_image.specs.{Device.ForContents, Reads.ReadAfter};
+ghost use Rattle.ffs_volume.specs.{Disk.Numbers.piece, Directories.Entries.run_chunks};
 ghost use Rattle.ffs_walk.specs.Windows.{WindowHolds};
 
 use ffs_image::{Image, ImageFault};

@@ -1,18 +1,16 @@
 -- What is remembered of the names that were passed, from one directory to the next.
-use Rattle.std.proofs.Common.{◌≡◌, ◌≢◌, ℕ, suc, ◌≤◌, true, false, refl, List, []}
-use Rattle.std.proofs.Common.{◌∷◌, ◌++◌, length, slice_index, slice_set, arith, sym, ◌∙◌, append_assoc}
-use Rattle.std.{proofs.Common.append-nil, specs.List.list_any}
-use Rattle.std.proofs.lemmas.List.{get_or-set_other, get_or-set_same, set_past}
-use Rattle.std.proofs.{lemmas.Bool.Decides.nat_tests, Math.Bool.and-false, Math.Bool.or-false}
-use Rattle.ffs_pathnames.{proofs.FirstTwo.parent_edge, specs.Calm.IsSilentDirectory}
-use Rattle.ffs_pathnames.proofs.PassedLaws.{IsDirectory, calm_roled, right_after}
-use Rattle.ffs_pathnames.proofs.LookLaws.{AreStamped, stamped_all, looks_all_long, suspects_unnamed}
-use Rattle.ffs_pathnames.specs.PassedNames.{PassedNames, is_calm, after_roled, after_entries, belongs}
-use Rattle.ffs_pathnames.specs.PassedNames.{after_look, after_looks, are_quiet}
+use Rattle.std.proofs.Common.{◌≡◌, ◌≢◌, ℕ, suc, ◌≤◌, true, false, refl, List, [], ◌∷◌, ◌++◌, length, slice_index}
+use Rattle.std.{proofs.Common.{slice_set, arith, sym, ◌∙◌, append_assoc, append-nil}, specs.List.list_any}
+use Rattle.std.proofs.lemmas.{List.{get_or-set_other, get_or-set_same, set_past}, Bool.Decides.nat_tests}
+use Rattle.std.proofs.Math.Bool.{and-false, or-false}
+use Rattle.ffs_pathnames.{proofs.{FirstTwo.parent_edge, PassedLaws.IsDirectory}, specs.Calm.IsSilentDirectory}
+use Rattle.ffs_pathnames.proofs.{PassedLaws.{calm_roled, right_after}, LookLaws.{AreStamped, stamped_all}}
+use Rattle.ffs_pathnames.{proofs.LookLaws.{looks_all_long, suspects_unnamed}, specs.PassedNames.{PassedNames, is_calm}}
+use Rattle.ffs_pathnames.specs.PassedNames.{after_roled, after_entries, belongs, after_look, after_looks, are_quiet}
 use Rattle.ffs_pathnames.specs.PassedRight.{AreRight, AreRightBefore}
 use Rattle.ffs_volume.specs.Directories.Roles.{Volume, RoledEntry, is_dir, is_suspect, roled_entries}
-use Rattle.ffs_volume.specs.Directories.{Parents.graph_of, Graph.is_naming_entry, Graph.is_naming_dir, Graph.parent}
-use Rattle.ffs_volume.{proofs.ClimbLaws.is_value-true, proofs.SearchLaws.some_below-suc}
+use Rattle.ffs_volume.specs.Directories.{Parents.graph_of, Graph.{is_naming_entry, is_naming_dir, parent}}
+use Rattle.ffs_volume.proofs.{ClimbLaws.is_value-true, SearchLaws.some_below-suc}
 
 -- the parent of a directory names it
 belongs_named : (v : Volume) (s x : ℕ) → belongs v s x ≡ true → list_any (is_naming_entry x) (roled_entries v s) ≡ true

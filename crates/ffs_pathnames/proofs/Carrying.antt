@@ -1,31 +1,27 @@
 -- What is known between two directories, carried from one to the next.
 use Rattle.std.proofs.Common.{◌≡◌, ◌<◌, ◌-◌, ◌==◌, refl, sym, ap, ◌∙◌, ℕ, suc, Bool, true, false, not, ◌&&◌, ◌||◌}
 use Rattle.std.proofs.Common.{if◌then◌else◌, List, [], ◌++◌, map, get_or, Option, Some, arith, slice_index, Result, Ok}
-use Rattle.std.proofs.Common.{Err, OnOk, IfOk, inl, inr, ◌≤◌}
-use Rattle.std.proofs.lemmas.Bool.{Decides.nat_tests, cases_Bool, and_parts}
+use Rattle.std.proofs.{Common.{Err, OnOk, IfOk, inl, inr, ◌≤◌}, lemmas.Bool.{Decides.nat_tests, cases_Bool, and_parts}}
 use Rattle.std.proofs.lemmas.List.{get_or_default, map-append}
-use Rattle.ffs_volume.specs.{declared.Layout.Layout, declared.Class.Class, Laws.Geometry.IsAcceptedLayout}
-use Rattle.ffs_volume.specs.declared.Class.TheVariants.{Dir}
-use Rattle.ffs_volume.specs.Directories.{Graph.is_naming_dir, Parents.graph_of, Roles.Volume, Roles.is_suspect}
+use Rattle.ffs_volume.specs.{declared.{Layout.Layout, Class.{Class, TheVariants.Dir}}, Laws.Geometry.IsAcceptedLayout}
+use Rattle.ffs_volume.specs.Directories.{Graph.is_naming_dir, Parents.graph_of, Roles.{Volume, is_suspect}}
 use Rattle.ffs_volume.specs.Directories.PathnameCheck.{sized_dir_lines, continues_after_root, directory_lines}
-use Rattle.ffs_volume.specs.Directories.PathnameCheck.{pathname_lines, root_lines, root_lines_of}
-use Rattle.ffs_volume.specs.Directories.Volumes.{volume_of, volume_with}
-use Rattle.ffs_volume.specs.Messages.Kinds.{TreeMessage, of_tree, lines_below, lines_from}
-use Rattle.ffs_volume.specs.Blocks.Inodes.{is_directory, is_allocated}
+use Rattle.ffs_volume.specs.Directories.{PathnameCheck.{pathname_lines, root_lines, root_lines_of}, Volumes.volume_of}
+use Rattle.ffs_volume.specs.{Directories.Volumes.volume_with, Messages.Kinds.{TreeMessage, of_tree, lines_below}}
+use Rattle.ffs_volume.specs.{Messages.Kinds.lines_from, Blocks.Inodes.{is_directory, is_allocated}}
 use Rattle.ffs_volume.specs.Encodings.Kinds.{is_dir_kind, is_empty_dir_kind, is_allocated_kind}
 use Rattle.ffs_volume.proofs.{SearchLaws.some_below-none, Numbered.all_from_root, Sizes.some_inodes}
 use Rattle.ffs_names.specs.Surveys.{IsUntouched}
-use Rattle.ffs_workspace.specs.{declared.workspace.Workspace.Workspace, Lengths.IsFor, Lengths.inodes_of}
-use Rattle.ffs_workspace.specs.Holds.{bool_at, HoldsClaims, HoldsReferences, HoldsSurvey}
-use Rattle.ffs_workspace.{specs.Leaves.LeavesSurvey, proofs.KindLaws.reports_at, proofs.KindLaws.suspect_is}
-use Rattle.ffs_workspace.proofs.Leaving.{claims_left, survey_left, leaves_all}
+use Rattle.ffs_workspace.specs.{declared.workspace.Workspace.Workspace, Lengths.{IsFor, inodes_of}, Holds.bool_at}
+use Rattle.ffs_workspace.specs.{Holds.{HoldsClaims, HoldsReferences, HoldsSurvey}, Leaves.LeavesSurvey}
+use Rattle.ffs_workspace.proofs.{KindLaws.{reports_at, suspect_is}, Leaving.{claims_left, survey_left, leaves_all}}
 use Rattle.ffs_report.specs.declared.fault.RunFault.{RunFault, TheVariants.Read}
 use Rattle.ffs_pathnames.specs.{RootAnswers.AtReadFault, Gathers.passed_of, DirectoryContext.DirectoryContext}
 use Rattle.ffs_pathnames.specs.Before.{IsNonePassed, IsBefore, IsBeforeNoted, is_checked, root_reported}
 use Rattle.ffs_pathnames.specs.{Calm.IsSilentDirectory, PassedRight.AreRightBefore, Stamps.KeepPlaces}
-use Rattle.ffs_pathnames.proofs.{Begun.directory_is, Begun.quiet_parts, StampLaws.noted_kept, StampLaws.stamps_length}
-use Rattle.ffs_pathnames.proofs.BetweenLaws.{other_next, silent_next, silent_quiet}
-use Rattle.ffs_pathnames.proofs.EmptyLaws.{looked_is, looked_dir, names_none}
+use Rattle.ffs_pathnames.proofs.{Begun.{directory_is, quiet_parts}, StampLaws.{noted_kept, stamps_length}}
+use Rattle.ffs_pathnames.proofs.{BetweenLaws.{other_next, silent_next, silent_quiet}, EmptyLaws.{looked_is, looked_dir}}
+use Rattle.ffs_pathnames.proofs.EmptyLaws.{names_none}
 use Rattle.ffs_survey.specs.Survey.{suspect_at}
 
 -- a fact of every answer, and of each value that is answered

@@ -1,12 +1,11 @@
 -- Inodes that aren't looked at: those that are no directories, and directories of size 0.
-use Rattle.std.proofs.lemmas.Bool.{and_parts, Decides.nat_tests}
-use Rattle.std.proofs.Common.{◌≡◌, ◌<◌, ◌==◌, ap, ◌∙◌, ℕ, Bool, true, false, not, ◌&&◌, List, [], arith}
-use Rattle.ffs_volume.specs.{declared.Layout.Layout, Laws.Geometry.IsAcceptedLayout}
-use Rattle.ffs_volume.{specs.Blocks.Inodes.inode_of, specs.Blocks.KeptSteps.kept_steps_of, proofs.Sizes.no_steps}
-use Rattle.ffs_volume.specs.Directories.{Graph.is_naming_dir, Roles.is_dir}
-use Rattle.ffs_volume.specs.Directories.{Roles.roled_entries, Parents.graph_of, PathnameCheck.is_sized_dir}
-use Rattle.ffs_volume.specs.Directories.Volumes.{volume_with, volume_of, kept_steps_of_inode}
-use Rattle.ffs_volume.specs.Encodings.Kinds.{kind_at, is_dir_kind, is_empty_dir_kind}
+use Rattle.std.proofs.{lemmas.Bool.{and_parts, Decides.nat_tests}, Common.{◌≡◌, ◌<◌, ◌==◌, ap, ◌∙◌, ℕ, Bool, true}}
+use Rattle.std.proofs.Common.{false, not, ◌&&◌, List, [], arith}
+use Rattle.ffs_volume.specs.{declared.Layout.Layout, Laws.Geometry.IsAcceptedLayout, Blocks.Inodes.inode_of}
+use Rattle.ffs_volume.{specs.{Blocks.KeptSteps.kept_steps_of, Directories.Graph.is_naming_dir}, proofs.Sizes.no_steps}
+use Rattle.ffs_volume.specs.Directories.{Roles.{is_dir, roled_entries}, Parents.graph_of, PathnameCheck.is_sized_dir}
+use Rattle.ffs_volume.specs.{Directories.Volumes.{volume_with, volume_of, kept_steps_of_inode}, Encodings.Kinds.kind_at}
+use Rattle.ffs_volume.specs.Encodings.Kinds.{is_dir_kind, is_empty_dir_kind}
 use Rattle.ffs_workspace.proofs.KindLaws.{dir_is, empty_is}
 
 none_kept : (v : Layout) (b : List ℕ) (d : ℕ) → 0 < v.bsize → (inode_of v b d).size ≡ 0 → kept_steps_of_inode v b d ≡ []

@@ -1,13 +1,11 @@
 -- The first two entries of a directory, and its parent, as they are found.
-use Rattle.std.proofs.lemmas.Bool.{Decides.nat_tests, and_parts, cond-false, cond-true}
-use Rattle.std.proofs.Common.{◌≡◌, ◌≢◌, refl, sym, ◌∙◌, ℕ, ◌==◌, Bool, true, false, List, ◌∷◌, Option}
-use Rattle.std.proofs.Common.{None, Some, arith, ne_eqb, eq-eqb}
+use Rattle.std.proofs.{lemmas.Bool.{Decides.nat_tests, and_parts, cond-false, cond-true}, Common.{◌≡◌, ◌≢◌, refl, sym}}
+use Rattle.std.proofs.Common.{◌∙◌, ℕ, ◌==◌, Bool, true, false, List, ◌∷◌, Option, None, Some, arith, ne_eqb, eq-eqb}
 use Rattle.std.{proofs.Math.Nat.zero-add, specs.Option.unwrap_or}
-use Rattle.ffs_volume.specs.Directories.Roles.{Volume, nth_entry}
-use Rattle.ffs_volume.specs.{Directories.Parents.graph_of, declared.Order.Order}
-use Rattle.ffs_volume.specs.Directories.Entries.{Entry, entry_at, entries_of, entries_from}
-use Rattle.ffs_volume.specs.Directories.Graph.{Graph, edge, level, parent, parent_by}
-use Rattle.ffs_volume.proofs.{SearchLaws.first_below-some, Reading.entries_next, Reading.entries_end}
+use Rattle.ffs_volume.specs.{Directories.{Roles.{Volume, nth_entry}, Parents.graph_of}, declared.Order.Order}
+use Rattle.ffs_volume.specs.Directories.{Entries.{Entry, entry_at, entries_of, entries_from}, Graph.{Graph, edge}}
+use Rattle.ffs_volume.{specs.Directories.Graph.{level, parent, parent_by}, proofs.SearchLaws.first_below-some}
+use Rattle.ffs_volume.proofs.Reading.{entries_next, entries_end}
 use Rattle.ffs_pathnames.specs.Begins.{number_if, started_entry}
 
 -- the second is after the first

@@ -1,12 +1,11 @@
 -- What is reported of a directory before its entries.
-use Rattle.std.proofs.Common.{◌≡◌, ◌≤◌, arith, ℕ, ◌==◌, ◌%◌, Bool, true, false, not, ◌&&◌, List, [], ◌++◌, Option}
-use Rattle.std.proofs.Common.{None, Some, nat_lt, length, append_assoc, length-append}
-use Rattle.std.proofs.lemmas.Bool.{Decides.nat_tests, and_cases}
-use Rattle.ffs_volume.specs.declared.Attr.{Attr}
-use Rattle.ffs_volume.specs.Directories.{Entries.Entry, Graph.parent, Parents.graph_of, Paths.dir_path}
-use Rattle.ffs_volume.specs.Directories.Roles.{Volume, start_entry, dot, dotdot, roled_entries}
-use Rattle.ffs_volume.specs.Directories.PathnameCheck.{attributes, are_sound, shape_lines, dot_lines}
-use Rattle.ffs_volume.specs.Directories.PathnameCheck.{dotdot_lines, lines_of_entries, sized_dir_lines}
+use Rattle.std.proofs.Common.{◌≡◌, ◌≤◌, arith, ℕ, ◌==◌, ◌%◌, Bool, true, false, not, ◌&&◌, List, [], ◌++◌, Option, None}
+use Rattle.std.proofs.{Common.{Some, nat_lt, length, append_assoc, length-append}, lemmas.Bool.Decides.nat_tests}
+use Rattle.std.proofs.lemmas.Bool.{and_cases}
+use Rattle.ffs_volume.specs.{declared.Attr.Attr, Directories.{Entries.Entry, Graph.parent, Parents.graph_of}}
+use Rattle.ffs_volume.specs.Directories.{Paths.dir_path, Roles.{Volume, start_entry, dot, dotdot, roled_entries}}
+use Rattle.ffs_volume.specs.Directories.PathnameCheck.{attributes, are_sound, shape_lines, dot_lines, dotdot_lines}
+use Rattle.ffs_volume.specs.Directories.PathnameCheck.{lines_of_entries, sized_dir_lines}
 use Rattle.ffs_pathnames.specs.Header.{shape_reported, dot_in, dotdot_in, dot_reported, dotdot_reported}
 use Rattle.ffs_pathnames.specs.Header.{header_reported, is_right_header, is_right_dot, is_right_dotdot}
 

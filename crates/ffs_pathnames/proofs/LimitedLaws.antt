@@ -1,15 +1,12 @@
 -- What a look at a directory leaves of the image that it was limited on, and of the reads that are
 -- left.
-use Rattle.std.specs.Borrow.{GName}
-use Rattle.std.proofs.Common.{◌≡◌, ◌≤◌, ◌⊎◌, ◌+◌, ℕ, arith, Bool, Option, Some, None, IfSome}
-use Rattle.std.proofs.Common.{Result, Ok, Err, IfOk, MatchOption, MatchResult}
-use Rattle.std.proofs.lemmas.Bool.{cases_lt}
+use Rattle.std.{specs.Borrow.GName, proofs.Common.{◌≡◌, ◌≤◌, ◌⊎◌, ◌+◌, ℕ, arith, Bool, Option, Some, None, IfSome}}
+use Rattle.std.proofs.{Common.{Result, Ok, Err, IfOk, MatchOption, MatchResult}, lemmas.Bool.cases_lt}
 use Rattle.ffs_workspace.specs.Places.{AreChunksNumbered}
 use Rattle.ffs_survey.specs.Costs.{TakesReads}
 use Rattle.ffs_pathnames.specs.ReadsLeft.{TakesLeft}
-use Rattle.ffs_image.specs.declared.image.ImageFault.{ImageFault}
-use Rattle.ffs_image.specs.{Device.Device, Limited.GivesBack, Limited.limited_device, Reads.ReadAfter}
-use Rattle.ffs_image.proofs.Limits.{ServedBy, read_over, served}
+use Rattle.ffs_image.specs.{declared.image.ImageFault.ImageFault, Device.Device, Limited.{GivesBack, limited_device}}
+use Rattle.ffs_image.{specs.Reads.ReadAfter, proofs.Limits.{ServedBy, read_over, served}}
 use Rattle.ffs_names.specs.Windows.{CanReadChunks}
 use Rattle.ffs_volume.specs.declared.Layout.{Layout}
 use Rattle.ffs_walk.specs.declared.{blocks.Blocks.Blocks, window.Window.Window}

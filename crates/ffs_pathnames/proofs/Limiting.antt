@@ -1,15 +1,13 @@
 -- What a line shows was gathered over an image with a limit: what of the image below was read.
-use Rattle.std.specs.Borrow.{GName}
-use Rattle.std.proofs.Common.{◌≡◌, ◌+◌, ◌≤◌, ℕ, sym, ap, subst, ◌∙◌, arith, Bool, true, false, List, Option, Some}
-use Rattle.std.proofs.Common.{Result, Ok, Err}
-use Rattle.std.proofs.lemmas.Bool.{both_ways}
-use Rattle.ffs_image.specs.{Device.Device, Limited.GivesBack, Limited.limited_device}
-use Rattle.ffs_image.{specs.declared.image.ImageFault.ImageFault, proofs.Limits.ServedBy, proofs.Limits.read_over, proofs.Limits.served}
-use Rattle.ffs_volume.specs.{declared.Layout.Layout}
+use Rattle.std.{specs.Borrow.GName, proofs.Common.{◌≡◌, ◌+◌, ◌≤◌, ℕ, sym, ap, subst, ◌∙◌, arith, Bool, true, false}}
+use Rattle.std.proofs.{Common.{List, Option, Some, Result, Ok, Err}, lemmas.Bool.both_ways}
+use Rattle.ffs_image.specs.{Device.Device, Limited.{GivesBack, limited_device}, declared.image.ImageFault.ImageFault}
+use Rattle.ffs_image.proofs.Limits.{ServedBy, read_over, served}
+use Rattle.ffs_volume.specs.declared.Layout.{Layout}
 use Rattle.ffs_workspace.specs.{declared.workspace.Workspace.Workspace, Places.AreChunksNumbered, Ready.IsReady}
 use Rattle.ffs_workspace.proofs.Readiness.{ready_same}
-use Rattle.ffs_paths.specs.Reads.{OnlyReads, ReadsAtMost}
-use Rattle.ffs_paths.specs.{KeptParents.PathLeaves, declared.kept_parent.KeptParent.KeptParent}
+use Rattle.ffs_paths.specs.{Reads.{OnlyReads, ReadsAtMost}, KeptParents.PathLeaves}
+use Rattle.ffs_paths.specs.declared.kept_parent.KeptParent.{KeptParent}
 use Rattle.ffs_pathnames.{specs.DirectoryContext.DirectoryContext, proofs.LineCounts.knows_places}
 
 -- what was gathered over a limited image leaves of the image below and of the workspace

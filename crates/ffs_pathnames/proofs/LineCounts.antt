@@ -1,16 +1,15 @@
 -- How many lines there are, and how many reads they make.
 use Rattle.std.proofs.Common.{◌≡◌, ◌≤◌, ◌+◌, ◌*◌, ℕ, refl, ap, subst, ◌∙◌, arith, Option, List, ◌∷◌, ◌++◌, length}
-use Rattle.std.proofs.Common.{length-append, Ok, map}
-use Rattle.std.proofs.lemmas.{Bool.Decides.nat_tests, List.length-map}
+use Rattle.std.proofs.{Common.{length-append, Ok, map}, lemmas.{Bool.Decides.nat_tests, List.length-map}}
 use Rattle.ffs_image.specs.Device.{Device}
-use Rattle.ffs_volume.specs.{declared.Attr.Attr, declared.Layout.Layout, Report.Reads.line_reads}
-use Rattle.ffs_volume.specs.Directories.{Entries.Entry, PathnameCheck.extra_lines, Roles.RoledEntry, Roles.Volume}
+use Rattle.ffs_volume.specs.{declared.{Attr.Attr, Layout.Layout}, Report.Reads.line_reads, Directories.Entries.Entry}
+use Rattle.ffs_volume.specs.Directories.{PathnameCheck.extra_lines, Roles.{RoledEntry, Volume}}
 use Rattle.ffs_volume.specs.Messages.Kinds.{TreeMessage, of_tree}
-use Rattle.ffs_workspace.specs.{Places.AreNoted, declared.workspace.Workspace.Workspace}
-use Rattle.ffs_workspace.proofs.Leaving.{claims_held, survey_held}
-use Rattle.ffs_paths.{specs.Reads.KnowsPlaces, specs.Reads.OnlyReads, specs.Reads.ReadsFew, proofs.Climbed.few_more}
-use Rattle.ffs_pathnames.specs.DirectoryContext.{DirectoryContext}
-use Rattle.ffs_pathnames.specs.PassedNames.{PassedNames, after_roled, entries_reported, roled_reported}
+use Rattle.ffs_workspace.{specs.{Places.AreNoted, declared.workspace.Workspace.Workspace}, proofs.Leaving.claims_held}
+use Rattle.ffs_workspace.proofs.Leaving.{survey_held}
+use Rattle.ffs_paths.{specs.Reads.{KnowsPlaces, OnlyReads, ReadsFew}, proofs.Climbed.few_more}
+use Rattle.ffs_pathnames.specs.{DirectoryContext.DirectoryContext, PassedNames.{PassedNames, after_roled}}
+use Rattle.ffs_pathnames.specs.PassedNames.{entries_reported, roled_reported}
 
 -- ---- where there is a line
 pub knows_places : (v : Layout) (contents : Option (List ℕ)) (w : Workspace) (d : ℕ) (b : List ℕ) →

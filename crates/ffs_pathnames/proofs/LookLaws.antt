@@ -1,16 +1,14 @@
 -- What a first look at the entries of a directory finds.
 use Rattle.std.proofs.Common.{◌≡◌, ◌≢◌, ℕ, ◌<◌, ◌==◌, true, false, ◌&&◌, refl, List, [], ◌∷◌, ◌++◌, length, slice_index}
-use Rattle.std.proofs.Common.{sym, ◌∙◌, subst, append_assoc, append-nil, arith}
-use Rattle.std.proofs.lemmas.{List.get_or-set_other, List.get_or-set_same, Bool.Decides.nat_tests}
-use Rattle.std.{proofs.Math.ListN.length-set, specs.List.list_any}
-use Rattle.ffs_volume.specs.declared.Role.TheVariants.{Plain}
-use Rattle.ffs_volume.specs.Directories.PathnameCheck.{is_bad_whiteout, named_lines}
-use Rattle.ffs_volume.specs.Directories.PathnameCheck.{plain_lines, entry_lines, lines_of_entries}
-use Rattle.ffs_volume.specs.Directories.{Entries.Entry, Graph.is_naming_entry}
-use Rattle.ffs_volume.specs.Directories.Roles.{Volume, RoledEntry, is_suspect, roled_entries}
-use Rattle.ffs_pathnames.specs.PassedNames.{belongs, after_look, after_looks, is_plain_quiet, is_quiet}
-use Rattle.ffs_pathnames.specs.PassedNames.{are_quiet, is_inode_quiet}
-use Rattle.ffs_pathnames.proofs.PassedLaws.{size_of, size_more, IsEntry, IsDirectory, from_parent_is, any_more}
+use Rattle.std.proofs.{Common.{sym, ◌∙◌, subst, append_assoc, append-nil, arith}, lemmas.List.get_or-set_other}
+use Rattle.std.proofs.{lemmas.{List.get_or-set_same, Bool.Decides.nat_tests}, Math.ListN.length-set}
+use Rattle.std.specs.List.{list_any}
+use Rattle.ffs_volume.specs.{declared.Role.TheVariants.Plain, Directories.PathnameCheck.{is_bad_whiteout, named_lines}}
+use Rattle.ffs_volume.specs.Directories.{PathnameCheck.{plain_lines, entry_lines, lines_of_entries}, Entries.Entry}
+use Rattle.ffs_volume.specs.Directories.{Graph.is_naming_entry, Roles.{Volume, RoledEntry, is_suspect, roled_entries}}
+use Rattle.ffs_pathnames.specs.PassedNames.{belongs, after_look, after_looks, is_plain_quiet, is_quiet, are_quiet}
+use Rattle.ffs_pathnames.{specs.PassedNames.is_inode_quiet, proofs.PassedLaws.{size_of, size_more, IsEntry}}
+use Rattle.ffs_pathnames.proofs.PassedLaws.{IsDirectory, from_parent_is, any_more}
 
 -- the inodes that belong to s and are named by the entries of `done` are stamped
 abbrev pub AreStamped : Volume → ℕ → List RoledEntry → List ℕ → Type 0

@@ -1,13 +1,12 @@
 -- A look at the entries of a chunk, and at the chunks of a directory, one after another.
 use Rattle.std.proofs.Common.{Some, None, add-one, refl, ◌++◌, ◌≡◌, sym, ◌∙◌, ℕ, ◌+◌, arith, Bool, ◌&&◌, ◌==◌, List, []}
-use Rattle.std.proofs.Common.{◌∷◌, sum_by}
-use Rattle.std.proofs.Math.Bool.{and-true, and_assoc}
-use Rattle.std.{proofs.lemmas.List.Sums.sum_by-cons, proofs.lemmas.Bool.Decides.nat_tests, specs.List.flat_map}
+use Rattle.std.proofs.{Common.{◌∷◌, sum_by}, Math.Bool.{and-true, and_assoc}, lemmas.List.Sums.sum_by-cons}
+use Rattle.std.{proofs.lemmas.Bool.Decides.nat_tests, specs.List.flat_map}
 use Rattle.ffs_pathnames.specs.PassedNames.{is_quiet, are_quiet, after_look, after_looks}
-use Rattle.ffs_volume.proofs.Reading.{entries_next, entries_end}
-use Rattle.ffs_volume.specs.Directories.Entries.{Chunk, Entry, entry_at, entries_from}
-use Rattle.ffs_volume.specs.{Directories.PathnameCheck.are_sound, declared.Order.Order, declared.Role.Role}
-use Rattle.ffs_volume.specs.Directories.Roles.{roled_chunk, Volume, RoledEntry, role_of, roled_from}
+use Rattle.ffs_volume.{proofs.Reading.{entries_next, entries_end}, specs.Directories.Entries.{Chunk, Entry, entry_at}}
+use Rattle.ffs_volume.specs.{Directories.{Entries.entries_from, PathnameCheck.are_sound}, declared.Order.Order}
+use Rattle.ffs_volume.specs.{declared.Role.Role, Directories.Roles.{roled_chunk, Volume, RoledEntry, role_of}}
+use Rattle.ffs_volume.specs.Directories.Roles.{roled_from}
 
 -- ---- the entries of a chunk
 -- the entries from a place on, with their roles

@@ -1,22 +1,19 @@
 -- What is reported by the names that were passed is what the pathname check reports.
 use Rattle.std.proofs.Common.{◌≡◌, ◌≢◌, ℕ, suc, ◌<◌, ◌≤◌, ◌==◌, Bool, true, false, not, ◌&&◌, ◌||◌, nat_lt}
 use Rattle.std.proofs.Common.{if◌then◌else◌, refl, List, [], ◌∷◌, ◌++◌, Option, None, Some, arith, sym, ◌∙◌, ap}
-use Rattle.std.proofs.Common.{append_assoc, ltb-true, zero, option_map}
-use Rattle.std.proofs.lemmas.{List.get_or-set_other, List.get_or-set_same, Grind.common_steps, Bool.Decides.nat_tests}
-use Rattle.std.{proofs.lemmas.Bool.and_parts, proofs.Math.ListN.length-set, specs.List.list_any}
-use Rattle.ffs_volume.{proofs.RoleLaws.plain-true}
-use Rattle.ffs_volume.specs.declared.Role.TheVariants.{Plain}
-use Rattle.ffs_volume.specs.Directories.{Climb.is_value, PathnameCheck.plain_lines, PathnameCheck.entry_lines}
-use Rattle.ffs_volume.specs.Directories.PathnameCheck.{lines_of_entries}
+use Rattle.std.proofs.{Common.{append_assoc, ltb-true, zero, option_map}, lemmas.List.get_or-set_other}
+use Rattle.std.proofs.lemmas.{List.get_or-set_same, Grind.common_steps, Bool.{Decides.nat_tests, and_parts}}
+use Rattle.std.{proofs.Math.ListN.length-set, specs.List.list_any}
+use Rattle.ffs_volume.{proofs.RoleLaws.plain-true, specs.{declared.Role.TheVariants.Plain, Directories.Climb.is_value}}
+use Rattle.ffs_volume.specs.Directories.PathnameCheck.{plain_lines, entry_lines, lines_of_entries}
 use Rattle.ffs_volume.specs.Directories.PathnameCheck.{is_first_entry_of_suspect, is_extraneous, named_lines}
 use Rattle.ffs_volume.specs.Directories.Roles.{Volume, RoledEntry, is_dir, is_suspect, is_plain, roled_entries}
-use Rattle.ffs_volume.specs.Directories.Graph.{is_naming_entry, is_naming_dir, parent, first_index}
-use Rattle.ffs_volume.specs.Directories.Parents.{graph_of, is_first_naming_entry, is_parent_entry}
-use Rattle.ffs_volume.specs.Disk.Search.{some_below, first_below}
-use Rattle.ffs_volume.proofs.SearchLaws.{first_below-tells}
+use Rattle.ffs_volume.specs.Directories.{Graph.{is_naming_entry, is_naming_dir, parent, first_index}, Parents.graph_of}
+use Rattle.ffs_volume.specs.{Directories.Parents.{is_first_naming_entry, is_parent_entry}, Disk.Search.some_below}
+use Rattle.ffs_volume.{specs.Disk.Search.first_below, proofs.SearchLaws.first_below-tells}
 use Rattle.ffs_pathnames.specs.PassedNames.{PassedNames, is_flagged, is_calm, is_stamped, after_name, after_roled}
-use Rattle.ffs_pathnames.specs.PassedNames.{named_reported, plain_reported, roled_reported}
-use Rattle.ffs_pathnames.specs.{PassedNames.entries_reported, PassedRight.AreRight}
+use Rattle.ffs_pathnames.specs.PassedNames.{named_reported, plain_reported, roled_reported, entries_reported}
+use Rattle.ffs_pathnames.specs.PassedRight.{AreRight}
 
 -- ---- the place of an entry
 -- how many entries there are

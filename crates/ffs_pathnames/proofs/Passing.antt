@@ -1,18 +1,15 @@
 -- Entries are reported and passed, one after another and chunk by chunk.
 use Rattle.std.proofs.Common.{◌≡◌, refl, sym, ap, ◌∙◌, ℕ, ◌<◌, ◌^◌, true, List, [], ◌∷◌, ◌++◌, append_assoc, map}
-use Rattle.std.proofs.Common.{Option, arith, subst, Bool}
-use Rattle.std.{proofs.lemmas.List.map-append, specs.List.flat_map}
-use Rattle.ffs_volume.specs.declared.{Layout.Layout, Inode.Inode}
-use Rattle.ffs_volume.specs.{Disk.Areas.is_run_in_range, Laws.Geometry.IsAcceptedLayout, Blocks.Inodes.inode_of}
-use Rattle.ffs_volume.specs.{Blocks.Steps.steps_of, Directories.Volumes.volume_of, Messages.Kinds.of_tree}
-use Rattle.ffs_volume.specs.Directories.Entries.{Chunk, chunks_of, bytes_read}
-use Rattle.ffs_volume.specs.Directories.Roles.{Volume, RoledEntry, roled_chunk, roled_entries, is_dir}
-use Rattle.ffs_volume.specs.Encodings.Replay.{cut_at, fresh_replay, replayed_steps}
-use Rattle.ffs_names.specs.RunCursors.{reading_by}
-use Rattle.ffs_names.proofs.DirLaws.{dir_is, dir_size, dir_seen}
+use Rattle.std.{proofs.{Common.{Option, arith, subst, Bool}, lemmas.List.map-append}, specs.List.flat_map}
+use Rattle.ffs_volume.specs.{declared.{Layout.Layout, Inode.Inode}, Disk.Areas.is_run_in_range}
+use Rattle.ffs_volume.specs.{Laws.Geometry.IsAcceptedLayout, Blocks.{Inodes.inode_of, Steps.steps_of}}
+use Rattle.ffs_volume.specs.{Directories.{Volumes.volume_of, Entries.{Chunk, chunks_of}}, Messages.Kinds.of_tree}
+use Rattle.ffs_volume.specs.Directories.{Entries.bytes_read, Roles.{Volume, RoledEntry, roled_chunk, roled_entries}}
+use Rattle.ffs_volume.specs.{Directories.Roles.is_dir, Encodings.Replay.{cut_at, fresh_replay, replayed_steps}}
+use Rattle.ffs_names.{specs.RunCursors.reading_by, proofs.DirLaws.{dir_is, dir_size, dir_seen}}
 use Rattle.ffs_workspace.specs.{Leaves.LeavesSurvey, declared.workspace.Workspace.Workspace}
 use Rattle.ffs_workspace.proofs.Leaving.{claims_left, survey_left}
-use Rattle.ffs_pathnames.{specs.DirectoryContext.DirectoryContext, specs.Stamps.KeepPlaces, proofs.StampLaws.noted_kept}
+use Rattle.ffs_pathnames.{specs.{DirectoryContext.DirectoryContext, Stamps.KeepPlaces}, proofs.StampLaws.noted_kept}
 use Rattle.ffs_pathnames.specs.PassedNames.{PassedNames, after_roled, after_entries, roled_reported, entries_reported}
 
 -- the names that were passed after some entries and others

@@ -1,14 +1,13 @@
 -- What is ready stays so where a chunk is read.
-use Rattle.std.proofs.Common.{◌≡◌, ℕ, arith, ap, rules, Result, Ok, Err, vec_len}
-use Rattle.std.specs.declared.{alloc.Global.Global, vec.Vec.Vec}
+use Rattle.std.{proofs.Common.{◌≡◌, ℕ, arith, ap, rules, Result, Ok, Err, vec_len}, specs.declared.alloc.Global.Global}
+use Rattle.std.specs.declared.vec.Vec.{Vec}
 use Rattle.ffs_image.specs.{Device.Device, declared.image.ImageFault.ImageFault}
 use Rattle.ffs_volume.specs.declared.Layout.{Layout}
 use Rattle.ffs_walk.specs.declared.{blocks.Blocks.Blocks, window.Window.Window}
-use Rattle.ffs_workspace.specs.declared.workspace.{Windows.Windows, Workspace.Workspace}
-use Rattle.ffs_workspace.specs.{declared.table.Table.Table, Ready.IsReady, Tables.KeepsTable}
-use Rattle.ffs_workspace.proofs.Readiness.{ready_table}
-use Rattle.ffs_paths.specs.{declared.kept_parent.KeptParent.KeptParent, Reads.OnlyReads}
-use Rattle.ffs_paths.proofs.Keeping.{kept_on, reads_then, kept_parent_held}
+use Rattle.ffs_workspace.specs.declared.{workspace.{Windows.Windows, Workspace.Workspace}, table.Table.Table}
+use Rattle.ffs_workspace.{specs.{Ready.IsReady, Tables.KeepsTable}, proofs.Readiness.ready_table}
+use Rattle.ffs_paths.{specs.{declared.kept_parent.KeptParent.KeptParent, Reads.OnlyReads}, proofs.Keeping.kept_on}
+use Rattle.ffs_paths.proofs.Keeping.{reads_then, kept_parent_held}
 use Rattle.ffs_names.specs.Windows.{CanReadChunks}
 use Rattle.ffs_pathnames.specs.Ready.{PathLeaves, ReadyWith}
 

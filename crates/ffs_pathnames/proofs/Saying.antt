@@ -1,9 +1,7 @@
 -- Messages on directories, said one after another.
-use Rattle.std.proofs.Common.{List, ◌++◌, map, Result, Ok, Err, IsErr}
-use Rattle.std.proofs.lemmas.List.{map-append}
+use Rattle.std.proofs.{Common.{List, ◌++◌, map, Result, Ok, Err, IsErr}, lemmas.List.map-append}
 use Rattle.ffs_volume.specs.Messages.Kinds.{TreeMessage, of_tree}
-use Rattle.ffs_report.specs.Progress.{Progress, Said, Stopped}
-use Rattle.ffs_report.proofs.Reports.{stopped_more, says_then}
+use Rattle.ffs_report.{specs.Progress.{Progress, Said, Stopped}, proofs.Reports.{stopped_more, says_then}}
 use Rattle.ffs_pathnames.specs.SaysNames.{SaysNames}
 
 pub names_then : {T E : Type 0} (a b c : Progress) (xs ys : List TreeMessage) (r : Result T E) →

@@ -1,18 +1,14 @@
 -- What a workspace shows, and what is read of directories, is the volume's.
 use Rattle.std.proofs.Common.{◌≡◌, ◌≤◌, refl, sym, ap, ◌∙◌, ℕ, true, false, ◌==◌, List, length, Option, Some, None}
-use Rattle.std.proofs.Common.{arith, ne_eqb}
-use Rattle.std.specs.{Option.unwrap_or, List.flat_map}
-use Rattle.ffs_volume.specs.declared.{Layout.Layout, Class.Class, Inode.Inode}
-use Rattle.ffs_volume.specs.declared.Class.TheVariants.{Partial, File, Dir}
-use Rattle.ffs_volume.specs.Blocks.Inodes.{is_file_or_dir, is_allocated, is_unknown, inode_of}
-use Rattle.ffs_volume.{specs.Blocks.Steps.steps_of, specs.Laws.Geometry.IsAcceptedLayout, proofs.CutLaws.replay_at}
-use Rattle.ffs_volume.specs.Directories.{Climb.is_value, Entries.Chunk, Entries.has_gap}
-use Rattle.ffs_volume.specs.Directories.Roles.{roled_chunk, roled_entries}
+use Rattle.std.{proofs.Common.{arith, ne_eqb}, specs.{Option.unwrap_or, List.flat_map}}
+use Rattle.ffs_volume.specs.declared.{Layout.Layout, Class.{Class, TheVariants.{Partial, File, Dir}}, Inode.Inode}
+use Rattle.ffs_volume.specs.Blocks.{Inodes.{is_file_or_dir, is_allocated, is_unknown, inode_of}, Steps.steps_of}
+use Rattle.ffs_volume.{specs.{Laws.Geometry.IsAcceptedLayout, Directories.Climb.is_value}, proofs.CutLaws.replay_at}
+use Rattle.ffs_volume.specs.Directories.{Entries.{Chunk, has_gap}, Roles.{roled_chunk, roled_entries}}
 use Rattle.ffs_volume.specs.Directories.Volumes.{volume_of, volume_with, is_inode_number, chunk_source_of}
 use Rattle.ffs_volume.specs.Encodings.Replay.{cut_at, fresh_replay, replayed_steps}
-use Rattle.ffs_workspace.specs.{declared.workspace.Workspace.Workspace, Lengths.inodes_of}
-use Rattle.ffs_workspace.specs.Holds.{HoldsClaims, HoldsSurvey}
-use Rattle.ffs_workspace.proofs.KindLaws.{reports_at, dir_is, suspect_is, type_is, class_is}
+use Rattle.ffs_workspace.specs.{declared.workspace.Workspace.Workspace, Lengths.inodes_of, Holds.HoldsClaims}
+use Rattle.ffs_workspace.{specs.Holds.HoldsSurvey, proofs.KindLaws.{reports_at, dir_is, suspect_is, type_is, class_is}}
 use Rattle.ffs_pathnames.specs.{declared.inodes.Inodes.Inodes, Sees.Sees, Reads.chunks_read}
 
 -- ---- what a workspace shows

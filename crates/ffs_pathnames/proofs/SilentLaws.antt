@@ -1,37 +1,33 @@
 -- Nothing is reported of a directory that the survey found calm.
 use Rattle.std.proofs.Common.{◌≡◌, ◌≢◌, ℕ, suc, ◌<◌, ◌≤◌, ◌*◌, ◌/◌, ◌==◌, Bool, true, false, not, ◌&&◌, ◌||◌, nat_le}
 use Rattle.std.proofs.Common.{nat_lt, if◌then◌else◌, refl, List, [], ◌∷◌, ◌++◌, map, length, slice_index, slice_set}
-use Rattle.std.proofs.Common.{Option, None, Some, option_and_then, unwrap_or, arith, ◌∙◌, ap, subst}
-use Rattle.std.proofs.Common.{eqb-true, eq-eqb, leb-true}
-use Rattle.std.proofs.lemmas.{List.get_or-set_other, Bool.Decides.nat_tests}
-use Rattle.std.proofs.lemmas.Bool.{or_cases, or_left, or_right, false_from_ne_true, both_ways, and_parts, and_from}
-use Rattle.std.specs.List.{list_any, flat_map, find}
-use Rattle.ffs_volume.specs.declared.{Layout.Layout, Attr.Attr, Order.Order, Step.Step, Role.Role}
-use Rattle.ffs_volume.specs.declared.Step.TheVariants.{Run}
-use Rattle.ffs_volume.specs.declared.Role.TheVariants.{Extra, Plain}
-use Rattle.ffs_volume.specs.{Laws.Geometry.IsAcceptedLayout, Disk.Areas.is_run_in_range, Blocks.Steps.steps_of}
-use Rattle.ffs_volume.specs.Blocks.Inodes.{is_allocated, is_unknown, inode_of}
-use Rattle.ffs_volume.specs.Directories.{Graph.is_naming_entry, Graph.parent, Parents.graph_of}
+use Rattle.std.proofs.Common.{Option, None, Some, option_and_then, unwrap_or, arith, ◌∙◌, ap, subst, eqb-true, eq-eqb}
+use Rattle.std.proofs.{Common.leb-true, lemmas.{List.get_or-set_other, Bool.{Decides.nat_tests, or_cases, or_left}}}
+use Rattle.std.{proofs.lemmas.Bool.{or_right, false_from_ne_true, both_ways, and_parts, and_from}, specs.List.list_any}
+use Rattle.std.specs.List.{flat_map, find}
+use Rattle.ffs_volume.specs.declared.{Layout.Layout, Attr.Attr, Order.Order, Step.{Step, TheVariants.Run}, Role.Role}
+use Rattle.ffs_volume.specs.{declared.Role.TheVariants.{Extra, Plain}, Laws.Geometry.IsAcceptedLayout}
+use Rattle.ffs_volume.specs.{Disk.Areas.is_run_in_range, Blocks.{Steps.steps_of, Inodes.{is_allocated, is_unknown}}}
+use Rattle.ffs_volume.specs.{Blocks.Inodes.inode_of, Directories.{Graph.{is_naming_entry, parent}, Parents.graph_of}}
 use Rattle.ffs_volume.specs.Directories.Entries.{Entry, Chunk, ChunkSource, chunk_of, chunks_of, run_chunks}
 use Rattle.ffs_volume.specs.Directories.Entries.{step_chunks, entries_of, is_sound, is_live, bytes_read}
-use Rattle.ffs_volume.specs.Directories.{Volumes.volume_of, Volumes.volume_with}
-use Rattle.ffs_volume.specs.Directories.PathnameCheck.{is_bad_whiteout, attributes, are_sound}
-use Rattle.ffs_volume.specs.Directories.Roles.{nth_entry, start_entry, Volume, RoledEntry, is_dir, is_suspect, is_plain}
-use Rattle.ffs_volume.specs.Directories.Roles.{is_two_dots, role_of, roled_from, roled_chunk, roled_entries}
-use Rattle.ffs_volume.specs.Encodings.Kinds.{is_empty_dir_kind, is_allocated_kind, is_unknown_kind, type_of_kind}
-use Rattle.ffs_volume.specs.Encodings.Replay.{cut_at, fresh_replay, replayed_steps}
-use Rattle.ffs_names.{specs.RunCursors.reading_by, specs.Surveys.FlagsCalm, proofs.DirLaws.kind_dirs}
+use Rattle.ffs_volume.specs.Directories.{Volumes.{volume_of, volume_with}, PathnameCheck.{is_bad_whiteout, attributes}}
+use Rattle.ffs_volume.specs.Directories.{PathnameCheck.are_sound, Roles.{nth_entry, start_entry, Volume, RoledEntry}}
+use Rattle.ffs_volume.specs.Directories.Roles.{is_dir, is_suspect, is_plain, is_two_dots, role_of, roled_from}
+use Rattle.ffs_volume.specs.{Directories.Roles.{roled_chunk, roled_entries}, Encodings.Kinds.is_empty_dir_kind}
+use Rattle.ffs_volume.specs.Encodings.{Kinds.{is_allocated_kind, is_unknown_kind, type_of_kind}, Replay.cut_at}
+use Rattle.ffs_volume.specs.Encodings.Replay.{fresh_replay, replayed_steps}
+use Rattle.ffs_names.{specs.{RunCursors.reading_by, Surveys.FlagsCalm}, proofs.DirLaws.kind_dirs}
 use Rattle.ffs_names.specs.RightShapes.{is_right_size, is_right_shape}
-use Rattle.ffs_workspace.specs.{declared.workspace.Workspace.Workspace, Lengths.IsFor}
-use Rattle.ffs_workspace.specs.Holds.{bool_at, HoldsClaims, HoldsSurvey}
-use Rattle.ffs_workspace.proofs.KindLaws.{reports_at, suspect_is, type_is}
-use Rattle.ffs_survey.specs.{Survey.number_at, Survey.dir_at, Calm.are_calm, Calm.IsCalm}
-use Rattle.ffs_survey.specs.Calm.{CurrentDir, is_calm_kind, is_calm_plain, is_calm_role, is_calm_entry, reached_after}
+use Rattle.ffs_workspace.specs.{declared.workspace.Workspace.Workspace, Lengths.IsFor, Holds.{bool_at, HoldsClaims}}
+use Rattle.ffs_workspace.{specs.Holds.HoldsSurvey, proofs.KindLaws.{reports_at, suspect_is, type_is}}
+use Rattle.ffs_survey.specs.{Survey.{number_at, dir_at}, Calm.{are_calm, IsCalm, CurrentDir, is_calm_kind}}
+use Rattle.ffs_survey.specs.Calm.{is_calm_plain, is_calm_role, is_calm_entry, reached_after}
 use Rattle.ffs_survey.proofs.CalmLaws.{calm_names_new, calm_new}
-use Rattle.ffs_pathnames.specs.{Begins.dir_header_lines, Calm.IsSilentDirectory, Reads.chunks_read}
-use Rattle.ffs_pathnames.specs.Header.{dot_in, dotdot_in, dot_reported, dotdot_reported, is_right_dot}
-use Rattle.ffs_pathnames.specs.PassedNames.{belongs, after_look, is_plain_quiet, is_role_quiet, is_quiet, are_quiet}
-use Rattle.ffs_pathnames.proofs.{SeesLaws.chunks_are, SeesLaws.settled, HeaderLaws.in_order}
+use Rattle.ffs_pathnames.specs.{Begins.dir_header_lines, Calm.IsSilentDirectory, Reads.chunks_read, Header.dot_in}
+use Rattle.ffs_pathnames.specs.{Header.{dotdot_in, dot_reported, dotdot_reported, is_right_dot}, PassedNames.belongs}
+use Rattle.ffs_pathnames.specs.PassedNames.{after_look, is_plain_quiet, is_role_quiet, is_quiet, are_quiet}
+use Rattle.ffs_pathnames.proofs.{SeesLaws.{chunks_are, settled}, HeaderLaws.in_order}
 use Rattle.ffs_names.proofs.DirLaws as dirs
 
 -- ---- what the lists show

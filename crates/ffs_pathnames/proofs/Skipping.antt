@@ -1,13 +1,12 @@
 -- Inodes that aren't looked at, before the first directory that is.
-use Rattle.std.proofs.Common.{◌≡◌, ◌<◌, ◌≤◌, ◌-◌, ◌+◌, refl, ap, ◌∙◌, ℕ, zero, suc, false, List, map, Option}
-use Rattle.std.proofs.Common.{arith, slice_index}
-use Rattle.ffs_volume.specs.{declared.Layout.Layout, Laws.Geometry.IsAcceptedLayout}
-use Rattle.ffs_volume.specs.Directories.{Volumes.volume_with, Volumes.volume_of, PathnameCheck.directory_lines}
-use Rattle.ffs_volume.{specs.Messages.Kinds.of_tree, specs.Messages.Kinds.lines_from, proofs.Numbered.from_next}
-use Rattle.ffs_workspace.specs.{declared.workspace.Workspace.Workspace, Lengths.IsFor, Places.is_due}
-use Rattle.ffs_workspace.specs.Holds.{HoldsSurvey}
-use Rattle.ffs_pathnames.{specs.Before.IsBefore, specs.Before.is_checked, proofs.Carrying.before_skipped}
-use Rattle.ffs_pathnames.proofs.{Carrying.lines_skipped, StampLaws.none_stamped, StampLaws.stamps_length}
+use Rattle.std.proofs.Common.{◌≡◌, ◌<◌, ◌≤◌, ◌-◌, ◌+◌, refl, ap, ◌∙◌, ℕ, zero, suc, false, List, map, Option, arith}
+use Rattle.std.proofs.Common.{slice_index}
+use Rattle.ffs_volume.specs.{declared.Layout.Layout, Laws.Geometry.IsAcceptedLayout, Directories.Volumes.volume_with}
+use Rattle.ffs_volume.specs.{Directories.{Volumes.volume_of, PathnameCheck.directory_lines}, Messages.Kinds.of_tree}
+use Rattle.ffs_volume.{specs.Messages.Kinds.lines_from, proofs.Numbered.from_next}
+use Rattle.ffs_workspace.specs.{declared.workspace.Workspace.Workspace, Lengths.IsFor, Places.is_due, Holds.HoldsSurvey}
+use Rattle.ffs_pathnames.{specs.Before.{IsBefore, is_checked}, proofs.Carrying.{before_skipped, lines_skipped}}
+use Rattle.ffs_pathnames.proofs.StampLaws.{none_stamped, stamps_length}
 
 -- none of the inodes from 2 to before n is looked at
 abbrev pub IsUnseen : Workspace → ℕ → Type 0

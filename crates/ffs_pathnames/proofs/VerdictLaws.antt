@@ -1,14 +1,11 @@
 -- What verdicts report, and what is gathered for it.
-use Rattle.std.proofs.Common.{◌≡◌, refl, ℕ, true, false, List, [], ◌≤◌, arith, length}
-use Rattle.std.proofs.lemmas.Bool.Decides.{nat_tests}
-use Rattle.ffs_volume.specs.{declared.Attr.Attr}
-use Rattle.ffs_volume.specs.Directories.{Roles.Volume, Parents.graph_of, Entries.Entry, PathnameCheck.attributes}
-use Rattle.ffs_volume.specs.Directories.Paths.{dir_path, entry_path}
-use Rattle.ffs_pathnames.specs.declared.verdict.{EntryDefects.EntryDefects, Verdict.Verdict}
-use Rattle.ffs_pathnames.specs.declared.verdict.Verdict.TheVariants.{Whiteout, Unallocated, Named}
-use Rattle.ffs_pathnames.specs.Gathers.{IsEnough, asks_attr, asks_path, is_silent, IsVerdict}
-use Rattle.ffs_pathnames.specs.Verdicts.{verdict_reported, defects_reported}
-use Rattle.ffs_pathnames.specs.PassedNames.{PassedNames, plain_reported}
+use Rattle.std.proofs.{Common.{◌≡◌, refl, ℕ, true, false, List, [], ◌≤◌, arith, length}, lemmas.Bool.Decides.nat_tests}
+use Rattle.ffs_volume.specs.{declared.Attr.Attr, Directories.{Roles.Volume, Parents.graph_of, Entries.Entry}}
+use Rattle.ffs_volume.specs.Directories.{PathnameCheck.attributes, Paths.{dir_path, entry_path}}
+use Rattle.ffs_pathnames.specs.declared.verdict.{EntryDefects.EntryDefects, Verdict.{Verdict, TheVariants.Whiteout}}
+use Rattle.ffs_pathnames.specs.{declared.verdict.Verdict.TheVariants.{Unallocated, Named}, Gathers.IsEnough}
+use Rattle.ffs_pathnames.specs.{Gathers.{asks_attr, asks_path, is_silent, IsVerdict}, Verdicts.verdict_reported}
+use Rattle.ffs_pathnames.specs.{Verdicts.defects_reported, PassedNames.{PassedNames, plain_reported}}
 
 -- a silent one reports nothing, and any other one line at least
 pub silent_reported : (verdict : Verdict) (number : ℕ) (about : Attr) (path directory : List ℕ) →

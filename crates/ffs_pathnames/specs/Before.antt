@@ -1,13 +1,11 @@
 -- What is known between two directories of the pathname check.
 use Rattle.std.specs.Prelude.{◌≡◌, ℕ, Bool, not, ◌&&◌, ◌||◌, ◌==◌, if◌then◌else◌, List, [], ◌∷◌, Option, Some}
 use Rattle.std.specs.Prelude.{slice_index}
-use Rattle.ffs_volume.specs.declared.{constants.TheConstants.DT_DIR, Layout.Layout}
-use Rattle.ffs_volume.specs.Messages.Kinds.{TreeMessage, reported, root_none, root_not_dir, root_suspect}
-use Rattle.ffs_volume.specs.Directories.Volumes.{volume_of}
-use Rattle.ffs_volume.specs.Encodings.Kinds.{is_dir_kind, is_empty_dir_kind}
-use Rattle.ffs_workspace.specs.{declared.workspace.Workspace.Workspace, Leaves.LeavesSurvey}
-use Rattle.ffs_workspace.specs.Places.{AreChunksNumbered, AreNoted}
-use Rattle.ffs_workspace.specs.Holds.{bool_at, HoldsClaims, HoldsSurvey}
+use Rattle.ffs_volume.specs.{declared.{constants.TheConstants.DT_DIR, Layout.Layout}, Messages.Kinds.TreeMessage}
+use Rattle.ffs_volume.specs.Messages.Kinds.{reported, root_none, root_not_dir, root_suspect}
+use Rattle.ffs_volume.specs.{Directories.Volumes.volume_of, Encodings.Kinds.{is_dir_kind, is_empty_dir_kind}}
+use Rattle.ffs_workspace.specs.{declared.workspace.Workspace.Workspace, Leaves.LeavesSurvey, Places.AreChunksNumbered}
+use Rattle.ffs_workspace.specs.{Places.AreNoted, Holds.{bool_at, HoldsClaims, HoldsSurvey}}
 use Rattle.ffs_pathnames.specs.{Gathers.passed_of, PassedRight.AreRightBefore}
 use Rattle.ffs_survey.specs.Survey.{suspect_at}
 

@@ -1,9 +1,8 @@
 -- What of a workspace stays, and what is found of a directory.
-use Rattle.std.specs.Prelude.{◌≡◌, ℕ, ◌==◌, List, [], Result}
-use Rattle.std.specs.List.{find}
+use Rattle.std.specs.{Prelude.{◌≡◌, ℕ, ◌==◌, List, [], Result}, List.find}
 use Rattle.ffs_image.specs.{Device.Device, Reads.ReadAfter, declared.image.ImageFault.ImageFault}
-use Rattle.ffs_volume.specs.{declared.Layout.Layout, Blocks.Inodes.inode_of}
-use Rattle.ffs_volume.specs.Directories.{Roles.roled_entries, PathnameCheck.are_sound, Volumes.volume_of}
+use Rattle.ffs_volume.specs.{declared.Layout.Layout, Blocks.Inodes.inode_of, Directories.Roles.roled_entries}
+use Rattle.ffs_volume.specs.Directories.{PathnameCheck.are_sound, Volumes.volume_of}
 use Rattle.ffs_pathnames.specs.{declared.examine.Examination.Examination, Gathers.passed_of, PassedNames.are_quiet}
 use Rattle.ffs_pathnames.specs.{PassedNames.after_looks, Reads.start_chunk, Stamps.KeepPlaces}
 use Rattle.ffs_workspace.specs.{declared.workspace.Workspace.Workspace, Leaves.LeavesSurvey, Ready.IsReady}

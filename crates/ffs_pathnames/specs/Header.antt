@@ -1,11 +1,10 @@
 -- What is reported of a directory's size, Gaps and chunks, and of its first two entries, by what
 -- was found of them.
 use Rattle.std.specs.Prelude.{ℕ, ◌%◌, ◌==◌, Bool, false, not, ◌&&◌, nat_lt, List, ◌++◌, Option, None, Some, option_map}
-use Rattle.ffs_volume.specs.declared.constants.TheConstants.{DIRBLKSIZ, MINDIRSIZE, DT_DIR}
-use Rattle.ffs_volume.specs.{declared.Attr.Attr, Directories.PathnameCheck.is_wrong_parent}
-use Rattle.ffs_volume.specs.Directories.{Entries.Entry, Entries.is_live, Parents.graph_of, Paths.dir_path}
-use Rattle.ffs_volume.specs.Directories.Roles.{Volume, is_one_dot, is_two_dots, entry_if}
-use Rattle.ffs_volume.specs.Directories.PathnameCheck.{missing_dot_lines, missing_dotdot_lines, attributes}
+use Rattle.ffs_volume.specs.declared.{constants.TheConstants.{DIRBLKSIZ, MINDIRSIZE, DT_DIR}, Attr.Attr}
+use Rattle.ffs_volume.specs.Directories.PathnameCheck.{is_wrong_parent, missing_dot_lines, missing_dotdot_lines}
+use Rattle.ffs_volume.specs.Directories.{PathnameCheck.attributes, Entries.{Entry, is_live}, Parents.graph_of}
+use Rattle.ffs_volume.specs.Directories.{Paths.dir_path, Roles.{Volume, is_one_dot, is_two_dots, entry_if}}
 use Rattle.ffs_volume.specs.Messages.Kinds.{TreeMessage, reported, dir_short, dir_length, dir_empty, dir_corrupt}
 use Rattle.ffs_volume.specs.Messages.Kinds.{number_dot, kind_dot, number_dotdot, kind_dotdot}
 use Rattle.ffs_layout.specs.Entry.{entry_value}

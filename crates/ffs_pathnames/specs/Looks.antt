@@ -1,13 +1,12 @@
 -- What a first look at a directory finds.
-use Rattle.std.specs.Prelude.{◌≡◌, ℕ, ◌<◌, ◌^◌, ◌==◌, Bool, List, []}
-use Rattle.std.specs.List.{flat_map, find}
-use Rattle.ffs_volume.specs.{declared.Layout.Layout, declared.Order.Order, Blocks.Steps.steps_of}
-use Rattle.ffs_volume.specs.Directories.Entries.{entries_of, has_gap, is_sound}
-use Rattle.ffs_volume.specs.Directories.{PathnameCheck.are_sound, Roles.Volume, Roles.roled_chunk, Roles.roled_from}
-use Rattle.ffs_volume.specs.Encodings.Replay.{fresh_replay, replayed_steps}
+use Rattle.std.specs.{Prelude.{◌≡◌, ℕ, ◌<◌, ◌^◌, ◌==◌, Bool, List, []}, List.{flat_map, find}}
+use Rattle.ffs_volume.specs.{declared.{Layout.Layout, Order.Order}, Blocks.Steps.steps_of}
+use Rattle.ffs_volume.specs.Directories.{Entries.{entries_of, has_gap, is_sound}, PathnameCheck.are_sound, Roles.Volume}
+use Rattle.ffs_volume.specs.{Directories.Roles.{roled_chunk, roled_from}, Encodings.Replay.fresh_replay}
+use Rattle.ffs_volume.specs.Encodings.Replay.{replayed_steps}
 use Rattle.ffs_pathnames.specs.declared.{directory.Directory.Directory, inodes.Inodes.Inodes, look.ChunkLook.ChunkLook}
-use Rattle.ffs_pathnames.specs.{declared.directory.FirstLook.FirstLook, PassedNames.are_quiet, PassedNames.after_looks}
-use Rattle.ffs_pathnames.specs.{Reads.chunks_read, Reads.start_chunk, Sees.Sees, Sees.stamps_in}
+use Rattle.ffs_pathnames.specs.{declared.directory.FirstLook.FirstLook, PassedNames.{are_quiet, after_looks}}
+use Rattle.ffs_pathnames.specs.{Reads.{chunks_read, start_chunk}, Sees.{Sees, stamps_in}}
 
 -- of a chunk's entries: whether nothing may be reported of them, and whether they fill it; and each
 -- inode that belongs to the directory d is stamped, by the words before and after

@@ -1,14 +1,13 @@
 -- What the pathname check remembers of the names that it has passed, and what it reports by that.
 use Rattle.std.specs.Prelude.{ℕ, ◌==◌, Bool, true, false, not, ◌&&◌, ◌||◌, nat_lt, if◌then◌else◌, List, [], ◌∷◌, ◌++◌}
-use Rattle.std.specs.{Prelude.slice_index, Prelude.slice_set, List.slice_index_or}
-use Rattle.ffs_volume.specs.declared.constants.TheConstants.{WINO, ROOTINO}
-use Rattle.ffs_volume.specs.{declared.Role.Role, Blocks.Inodes.is_allocated, Messages.Kinds.kind_entry}
-use Rattle.ffs_volume.specs.declared.Role.TheVariants.{Empty, Dot, Dotdot, Extra, Plain}
+use Rattle.std.specs.{Prelude.{slice_index, slice_set}, List.slice_index_or}
+use Rattle.ffs_volume.specs.{declared.{constants.TheConstants.{WINO, ROOTINO}, Role.Role}, Blocks.Inodes.is_allocated}
+use Rattle.ffs_volume.specs.Messages.Kinds.{kind_entry, TreeMessage, reported, out_of_range, whiteout, unallocated}
+use Rattle.ffs_volume.specs.{Messages.Kinds.extraneous, declared.Role.TheVariants.{Empty, Dot, Dotdot, Extra, Plain}}
 use Rattle.ffs_volume.specs.Directories.{Entries.Entry, Climb.is_value, Graph.parent, Parents.graph_of, Paths.dir_path}
-use Rattle.ffs_volume.specs.Directories.Roles.{Volume, RoledEntry, is_dir, is_suspect, is_plain, roled_entries}
-use Rattle.ffs_volume.specs.Directories.{Paths.entry_path, PathnameCheck.has_wrong_type, PathnameCheck.extra_lines}
-use Rattle.ffs_volume.specs.Directories.PathnameCheck.{attributes, label_of, is_bad_whiteout, message_on_suspect}
-use Rattle.ffs_volume.specs.Messages.Kinds.{TreeMessage, reported, out_of_range, whiteout, unallocated, extraneous}
+use Rattle.ffs_volume.specs.Directories.{Paths.entry_path, Roles.{Volume, RoledEntry, is_dir, is_suspect, is_plain}}
+use Rattle.ffs_volume.specs.Directories.{Roles.roled_entries, PathnameCheck.{has_wrong_type, extra_lines, attributes}}
+use Rattle.ffs_volume.specs.Directories.PathnameCheck.{label_of, is_bad_whiteout, message_on_suspect}
 
 -- `flags`: of a suspect inode, whether a plain entry has named it; of any other, whether it is
 -- calm. `stamps`: of an inode, its parent, once the first look at the parent has met its entry

@@ -1,11 +1,10 @@
 -- What the pathname check remembers of the names that it has passed is right.
-use Rattle.std.specs.Prelude.{◌≡◌, ◌≢◌, ℕ, ◌<◌, true, not, ◌&&◌, ◌||◌, List, length, slice_index}
-use Rattle.std.specs.List.{list_any}
-use Rattle.ffs_volume.specs.declared.constants.TheConstants.{WINO, ROOTINO}
-use Rattle.ffs_volume.specs.{Disk.Search.some_below, Directories.Graph.is_naming_entry, Directories.Graph.is_naming_dir}
-use Rattle.ffs_volume.specs.Directories.{Roles.Volume, Roles.RoledEntry, Roles.is_suspect, Parents.graph_of}
-use Rattle.ffs_pathnames.specs.Calm.{IsSilentDirectory}
-use Rattle.ffs_pathnames.specs.PassedNames.{PassedNames, is_flagged, is_calm, is_stamped, belongs}
+use Rattle.std.specs.{Prelude.{◌≡◌, ◌≢◌, ℕ, ◌<◌, true, not, ◌&&◌, ◌||◌, List, length, slice_index}, List.list_any}
+use Rattle.ffs_volume.specs.{declared.constants.TheConstants.{WINO, ROOTINO}, Disk.Search.some_below}
+use Rattle.ffs_volume.specs.Directories.{Graph.{is_naming_entry, is_naming_dir}, Roles.{Volume, RoledEntry, is_suspect}}
+use Rattle.ffs_volume.specs.Directories.Parents.{graph_of}
+use Rattle.ffs_pathnames.specs.{Calm.IsSilentDirectory, PassedNames.{PassedNames, is_flagged, is_calm, is_stamped}}
+use Rattle.ffs_pathnames.specs.PassedNames.{belongs}
 
 -- within the directory s, after the entries `done`
 pub record AreRight (vol : Volume) (s : ℕ) (done : List RoledEntry) (m : PassedNames) : Type 0 where

@@ -1,9 +1,7 @@
 -- The chunks of a directory, as they are read again.
-use Rattle.std.specs.Prelude.{ℕ, ◌==◌, Bool, if◌then◌else◌, List, Option, Some, Result}
-use Rattle.std.specs.List.{find}
+use Rattle.std.specs.{Prelude.{ℕ, ◌==◌, Bool, if◌then◌else◌, List, Option, Some, Result}, List.find}
 use Rattle.ffs_image.specs.{Device.Device, Reads.ReadAfter, declared.image.ImageFault.ImageFault}
-use Rattle.ffs_volume.specs.declared.{Layout.Layout, Order.Order, Inode.Inode}
-use Rattle.ffs_volume.specs.Directories.Entries.{Chunk, chunk_of}
+use Rattle.ffs_volume.specs.{declared.{Layout.Layout, Order.Order, Inode.Inode}, Directories.Entries.{Chunk, chunk_of}}
 use Rattle.ffs_names.specs.{Readings.chunks_in, Windows.CanReadChunks}
 use Rattle.ffs_walk.specs.declared.{blocks.Blocks.Blocks, window.Window.Window}
 

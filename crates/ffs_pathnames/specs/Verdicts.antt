@@ -1,10 +1,9 @@
 -- The verdict on a plain entry, by the lists of a workspace and the names that were passed.
 use Rattle.std.specs.Prelude.{ℕ, if◌then◌else◌, List, [], ◌∷◌, ◌++◌}
-use Rattle.ffs_volume.specs.declared.Attr.{Attr}
-use Rattle.ffs_volume.specs.Messages.Kinds.{TreeMessage, reported, out_of_range, whiteout, unallocated, dup_bad}
-use Rattle.ffs_volume.specs.Messages.Kinds.{zero_dir, extraneous, kind_entry}
-use Rattle.ffs_pathnames.specs.declared.verdict.{Verdict.Verdict, Verdict.TheVariants.Named, EntryDefects.EntryDefects}
-use Rattle.ffs_pathnames.specs.declared.verdict.Verdict.TheVariants.{OutOfRange, BadWhiteout, Whiteout, Unallocated}
+use Rattle.ffs_volume.specs.{declared.Attr.Attr, Messages.Kinds.{TreeMessage, reported, out_of_range, whiteout}}
+use Rattle.ffs_volume.specs.Messages.Kinds.{unallocated, dup_bad, zero_dir, extraneous, kind_entry}
+use Rattle.ffs_pathnames.specs.declared.verdict.Verdict.{Verdict, TheVariants.{Named, OutOfRange, BadWhiteout}}
+use Rattle.ffs_pathnames.specs.declared.verdict.{Verdict.TheVariants.{Whiteout, Unallocated}, EntryDefects.EntryDefects}
 
 -- what is reported of an entry that names an allocated inode: `path` is the entry's, `directory`
 -- that of the inode

@@ -1,12 +1,11 @@
 //! A first look at a directory.
 ghost use Rattle.std.specs.Prelude.{◌≡◌, ◌+◌, ◌*◌, ◌<◌, ◌≤◌, ◌==◌, true, false, List, ◌∷◌, Some, IfOk, vec_len};
 ghost use Rattle.ffs_image.specs.Device.{ForContents};
-ghost use Rattle.ffs_volume.specs.{declared.Order.Order, Blocks.Steps.steps_of};
-ghost use Rattle.ffs_volume.specs.Directories.Entries.{Chunk, chunk_of};
+ghost use Rattle.ffs_volume.specs.{declared.Order.Order, Blocks.Steps.steps_of, Directories.Entries.{Chunk, chunk_of}};
 ghost use Rattle.ffs_volume.specs.Encodings.{Replay.fresh_replay, ReplayCounts.replayed_runs};
 ghost use Rattle.ffs_names.specs.Windows.{CanReadChunks};
-ghost use Rattle.ffs_pathnames.specs.{Sees.CanStamp, Looks.IsFirstLook, Stamps.KeepPlaces};
-ghost use Rattle.ffs_pathnames.specs.Reads.{start_chunk, ChunksLeave};
+ghost use Rattle.ffs_pathnames.specs.{Sees.CanStamp, Looks.IsFirstLook, Stamps.KeepPlaces, Reads.start_chunk};
+ghost use Rattle.ffs_pathnames.specs.Reads.{ChunksLeave};
 ghost use Rattle.ffs_pathnames.specs.PassedNames as names;
 
 use crate::inodes::Inodes;

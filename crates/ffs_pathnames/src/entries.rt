@@ -1,12 +1,11 @@
 //! The lines of the entries of a directory, one entry after another.
 ghost use Rattle.std.specs.Prelude.{◌≡◌, OnOk};
-ghost use Rattle.ffs_volume.specs.Directories.Volumes.{volume_of};
+ghost use Rattle.ffs_volume.specs.{Directories.Volumes.volume_of, Report.Reads.line_reads};
 ghost use Rattle.ffs_report.specs.{Known.ForBytes, Paid.Paid, Progress.progress};
-ghost use Rattle.ffs_volume.specs.Report.Reads.{line_reads};
 ghost use Rattle.ffs_workspace.specs.Places.{AreChunksNumbered};
 ghost use Rattle.ffs_pathnames.specs.Gathers.{passed_of, roled_in, roled_lines_by, roled_value};
-ghost use Rattle.ffs_pathnames.specs.{DirectoryContext.DirectoryContext, EntryLines.ReportsEntries};
-ghost use Rattle.ffs_pathnames.specs.Ready.{ReadyToPath, PhaseLeaves, LinesLeave};
+ghost use Rattle.ffs_pathnames.specs.{DirectoryContext.DirectoryContext, EntryLines.ReportsEntries, Ready.ReadyToPath};
+ghost use Rattle.ffs_pathnames.specs.Ready.{PhaseLeaves, LinesLeave};
 ghost use Rattle.ffs_pathnames.specs.PassedNames as names;
 
 use crate::inodes::Inodes;

@@ -1,12 +1,11 @@
 //! Phase 2: pathnames (fsck(8)).
 
 ghost use Rattle.std.specs.Prelude.{◌≡◌, ◌+◌, ◌*◌, ◌≤◌, ◌⊎◌, [], ◌∷◌, true, OnOk, IfOk, length, map};
-ghost use Rattle.ffs_report.specs.{Known.ForBytes, Paid.Paid, Progress.Said, Progress.progress};
-ghost use Rattle.ffs_volume.specs.Report.Reads.{line_reads, sweep_reads};
-ghost use Rattle.ffs_report.specs.PhaseOutcome.{ImageAfter, PhaseReports};
-ghost use Rattle.ffs_volume.specs.{Messages.Kinds.of_tree, Directories.Volumes.volume_of, Report.Reads.pathname_reads};
-ghost use Rattle.ffs_volume.specs.Directories.PathnameCheck.{continues_after_root, pathname_lines};
-ghost use Rattle.ffs_workspace.specs.{Found.WithClaims, Found.WithStarts, Places.AreChunksNumbered, Ready.IsReady};
+ghost use Rattle.ffs_report.specs.{Known.ForBytes, Paid.Paid, Progress.{Said, progress}, PhaseOutcome.ImageAfter};
+ghost use Rattle.ffs_report.specs.PhaseOutcome.{PhaseReports};
+ghost use Rattle.ffs_volume.specs.{Report.Reads.{line_reads, sweep_reads, pathname_reads}, Messages.Kinds.of_tree};
+ghost use Rattle.ffs_volume.specs.Directories.{Volumes.volume_of, PathnameCheck.{continues_after_root, pathname_lines}};
+ghost use Rattle.ffs_workspace.specs.{Found.{WithClaims, WithStarts}, Places.AreChunksNumbered, Ready.IsReady};
 ghost use Rattle.ffs_workspace.specs.Holds.{HoldsClaims, HoldsReferences, HoldsSurvey};
 ghost use Rattle.ffs_pathnames.specs.RootAnswers.{AtReadFault, is_go};
 ghost use Rattle.ffs_volume.specs.Messages.Kinds as messages;

@@ -1,17 +1,13 @@
 //! A second reading of a directory, where something is reported of its entries.
 ghost use Rattle.std.specs.Prelude.{◌≡◌, ◌+◌, ◌≤◌, true, OnOk, IfOk, IfSome, length, map, slice_index};
 ghost use Rattle.ffs_image.specs.Device.{ForContents};
-ghost use Rattle.ffs_names.specs.Costs.{directory_runs, to_read, HoldsReading};
-ghost use Rattle.ffs_names.specs.Readings.{rest, GivesChunk, LeavesReading};
-ghost use Rattle.ffs_names.specs.Windows.{CanReadChunks};
+ghost use Rattle.ffs_names.specs.{Costs.{directory_runs, to_read, HoldsReading}, Readings.{rest, GivesChunk}};
+ghost use Rattle.ffs_names.specs.{Readings.LeavesReading, Windows.CanReadChunks};
 ghost use Rattle.ffs_survey.specs.Costs.{TakesReads};
-ghost use Rattle.ffs_volume.specs.Report.Reads.{line_reads};
-ghost use Rattle.ffs_report.specs.Paid.{Paid};
-ghost use Rattle.ffs_volume.specs.{Messages.Kinds.of_tree, Directories.Volumes.volume_of};
-ghost use Rattle.ffs_report.specs.{Known.ForBytes, PhaseOutcome.PhaseReports, Progress.progress};
-ghost use Rattle.ffs_workspace.specs.{Notes.cut_in, Places.AreChunksNumbered, Places.AreNoted};
-ghost use Rattle.ffs_pathnames.specs.{Costs.report_reads, Gathers.passed_of};
-ghost use Rattle.ffs_pathnames.specs.ReadsLeft.{LeftForRuns, TakesLeft};
+ghost use Rattle.ffs_volume.specs.{Report.Reads.line_reads, Messages.Kinds.of_tree, Directories.Volumes.volume_of};
+ghost use Rattle.ffs_report.specs.{Paid.Paid, Known.ForBytes, PhaseOutcome.PhaseReports, Progress.progress};
+ghost use Rattle.ffs_workspace.specs.{Notes.cut_in, Places.{AreChunksNumbered, AreNoted}};
+ghost use Rattle.ffs_pathnames.specs.{Costs.report_reads, Gathers.passed_of, ReadsLeft.{LeftForRuns, TakesLeft}};
 ghost use Rattle.ffs_pathnames.specs.Ready.{ReadyToPath, PhaseLeaves};
 ghost use Rattle.ffs_pathnames.specs.PassedNames as names;
 

@@ -1,11 +1,10 @@
 -- The name of an inode in a chunk, by its entries one after another.
-use Rattle.std.proofs.Common.{◌≡◌, ℕ, ◌+◌, ◌<◌, ◌==◌, ◌&&◌, Bool, true, false, List}
-use Rattle.std.proofs.Common.{◌∷◌, length, Some, None, arith, length-drop, length-take}
-use Rattle.std.{specs.List.list_any}
-use Rattle.std.proofs.lemmas.{Bool.and_parts, Bool.not-true, Bool.Decides.nat_tests, Option.cond_some}
-use Rattle.ffs_volume.specs.{declared.Order.Order, declared.Role.Role, Disk.Numbers.u32_at, Directories.Entries.Entry}
+use Rattle.std.proofs.Common.{◌≡◌, ℕ, ◌+◌, ◌<◌, ◌==◌, ◌&&◌, Bool, true, false, List, ◌∷◌, length, Some, None, arith}
+use Rattle.std.{proofs.{Common.{length-drop, length-take}, lemmas.Bool.{and_parts, not-true}}, specs.List.list_any}
+use Rattle.std.proofs.lemmas.{Bool.Decides.nat_tests, Option.cond_some}
+use Rattle.ffs_volume.specs.{declared.{Order.Order, Role.Role}, Disk.Numbers.u32_at, Directories.Entries.Entry}
 use Rattle.ffs_volume.specs.Directories.Entries.{entry_at, entries_from, entry_read, is_live, is_well_formed, name_at}
-use Rattle.ffs_volume.specs.Directories.{Graph.is_naming_entry, Roles.is_plain, Roles.role_of, Roles.roled_from}
+use Rattle.ffs_volume.specs.Directories.{Graph.is_naming_entry, Roles.{is_plain, role_of, roled_from}}
 use Rattle.ffs_volume.proofs.Reading.{entries_end, entries_next}
 use Rattle.ffs_paths.{specs.Climbing.name_in, proofs.WaysUp.name_in-by}
 

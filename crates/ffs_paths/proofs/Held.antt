@@ -1,14 +1,12 @@
 -- The names that a buffer holds, with one more before or after them.
 use Rattle.std.proofs.Common.{◌≡◌, ℕ, suc, ◌+◌, ◌<◌, ◌≤◌, Bool, true, false, not, ◌&&◌, List, [], ◌∷◌, ◌++◌, nat_lt}
 use Rattle.std.proofs.Common.{inl, inr, eq-zero-or-pos, length, drop, max, sym, ap, subst, ◌∙◌, arith, length-drop}
-use Rattle.std.proofs.Common.{le-ltb, lt-ltb, ltb-true}
-use Rattle.std.proofs.lemmas.List.{drop_all}
-use Rattle.std.proofs.lemmas.Bool.{Decides.nat_tests, and_parts, not-true}
+use Rattle.std.proofs.{Common.{le-ltb, lt-ltb, ltb-true}, lemmas.{List.drop_all, Bool.{Decides.nat_tests, and_parts}}}
+use Rattle.std.proofs.lemmas.Bool.{not-true}
 use Rattle.ffs_volume.specs.Directories.Paths.{joined, longest_end, path_bytes}
-use Rattle.ffs_paths.specs.{declared.buffer.PathBuffer.PathBuffer, Buffers.HoldsNames, Buffers.IsLonger}
-use Rattle.ffs_paths.specs.Slashes.{AreSingle, from_slash}
-use Rattle.ffs_paths.proofs.LongestEnds.{text_whole, joined-length, end-more, end-whole, joined-last, last-length}
-use Rattle.ffs_paths.proofs.LongestEnds.{slash_end, end_tail}
+use Rattle.ffs_paths.specs.{declared.buffer.PathBuffer.PathBuffer, Buffers.{HoldsNames, IsLonger}, Slashes.AreSingle}
+use Rattle.ffs_paths.{specs.Slashes.from_slash, proofs.LongestEnds.{text_whole, joined-length, end-more, end-whole}}
+use Rattle.ffs_paths.proofs.LongestEnds.{joined-last, last-length, slash_end, end_tail}
 
 -- the length of names that have room
 pub whole-length : (p : PathBuffer) (names : List (List ℕ)) → drop p.start p.bytes ≡ joined names →

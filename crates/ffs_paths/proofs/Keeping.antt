@@ -1,15 +1,13 @@
 -- What is kept of a directory and its children stays right where only other parts of a workspace
 -- change.
-use Rattle.std.proofs.Common.{arith}
-use Rattle.std.proofs.Common.{◌≡◌, List, ℕ, refl, ap, Option, Result, Ok, vec_len}
-use Rattle.std.proofs.Common.{Err}
+use Rattle.std.proofs.Common.{arith, ◌≡◌, List, ℕ, refl, ap, Option, Result, Ok, vec_len, Err}
 use Rattle.ffs_image.specs.{Device.Device, Reads.ReadAfter, declared.image.ImageFault.ImageFault}
 use Rattle.ffs_volume.specs.{declared.Layout.Layout, Directories.Graph.Graph}
 use Rattle.ffs_workspace.specs.{declared.workspace.Workspace.Workspace, Leaves.LeavesSurvey, Ready.IsReady}
 use Rattle.ffs_workspace.proofs.Leaving.{claims_held, claims_left, survey_held, survey_left, windows_leave}
-use Rattle.ffs_paths.specs.{Reads.ForTree, Reads.OnlyReads, declared.kept_parent.KeptParent.KeptParent}
+use Rattle.ffs_paths.specs.{Reads.{ForTree, OnlyReads}, declared.kept_parent.KeptParent.KeptParent}
 use Rattle.ffs_paths.specs.KeptParents.{IsKeptParent, KeepsParent, PathLeaves, SamePlaces}
-use Rattle.ffs_walk.specs.{declared.window.Window.Window, declared.blocks.Blocks.Blocks, Windows.WindowHolds}
+use Rattle.ffs_walk.specs.{declared.{window.Window.Window, blocks.Blocks.Blocks}, Windows.WindowHolds}
 use Rattle.ffs_names.specs.Windows.{CanReadChunks}
 
 -- where the same places are noted, what was found is as it was, seen from the later workspace

@@ -2,15 +2,13 @@
 use Rattle.std.proofs.Common.{◌≡◌, ℕ, zero, suc, ◌+◌, ◌*◌, ◌==◌, Bool, true, false, if◌then◌else◌, List, [], ◌∷◌, ◌++◌}
 use Rattle.std.proofs.Common.{map, Option, Some, None, refl, arith, option_and_then, ◌/◌, ◌-◌, min}
 use Rattle.std.specs.List.{AllByRecursion, flat_map, range_with_len}
-use Rattle.ffs_volume.specs.declared.{Layout.Layout, Order.Order, Step.Step}
-use Rattle.ffs_volume.specs.declared.Step.TheVariants.{Run, Tail, Gap}
-use Rattle.ffs_volume.specs.Disk.{Areas.is_run_in_range, Numbers.piece}
-use Rattle.ffs_volume.specs.Directories.Entries.{Chunk, ChunkSource, chunk_of, chunks_of, entries_from, entries_with}
-use Rattle.ffs_volume.specs.Directories.Entries.{entry_at, entry_read, is_well_formed, step_chunks}
-use Rattle.ffs_volume.specs.Directories.{Graph.parent, Graph.parent_entry_index, Parents.graph_of, Parents.nth_roled}
-use Rattle.ffs_volume.specs.Directories.Paths.{names_down, names_by_parent, name_of}
-use Rattle.ffs_volume.specs.Directories.Roles.{RoledEntry, roled_chunk, roled_from, roled_entries}
-use Rattle.ffs_volume.specs.Directories.Volumes.{volume_of, volume_with, chunk_source_of, kept_steps_of_inode}
+use Rattle.ffs_volume.specs.declared.{Layout.Layout, Order.Order, Step.{Step, TheVariants.{Run, Tail, Gap}}}
+use Rattle.ffs_volume.specs.{Disk.{Areas.is_run_in_range, Numbers.piece}, Directories.Entries.{Chunk, ChunkSource}}
+use Rattle.ffs_volume.specs.Directories.Entries.{chunk_of, chunks_of, entries_from, entries_with, entry_at, entry_read}
+use Rattle.ffs_volume.specs.Directories.{Entries.{is_well_formed, step_chunks}, Graph.{parent, parent_entry_index}}
+use Rattle.ffs_volume.specs.Directories.{Parents.{graph_of, nth_roled}, Paths.{names_down, names_by_parent, name_of}}
+use Rattle.ffs_volume.specs.Directories.{Roles.{RoledEntry, roled_chunk, roled_from, roled_entries}, Volumes.volume_of}
+use Rattle.ffs_volume.specs.Directories.Volumes.{volume_with, chunk_source_of, kept_steps_of_inode}
 use Rattle.ffs_paths.specs.Slashes.{AreSingle, has_slash}
 
 -- ---- the name of a well formed entry

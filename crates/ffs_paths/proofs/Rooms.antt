@@ -2,10 +2,9 @@
 use Rattle.std.proofs.Common.{◌≡◌, ◌≤◌, ◌<◌, sym, ap, ℕ, List, [], ◌∷◌, length, ◌+◌, ◌++◌, take, ◌∙◌, arith}
 use Rattle.std.proofs.Common.{append_assoc, le-ltb, lt-ltb, true, false, Option, Some, None, if◌then◌else◌}
 use Rattle.std.proofs.lemmas.{Slice.take-put_mid, Bool.both_ways}
-use Rattle.ffs_volume.{proofs.LawsHold.paths_fit, proofs.PathBound.path_text-fits, specs.Directories.Graph.Graph}
+use Rattle.ffs_volume.{proofs.{LawsHold.paths_fit, PathBound.path_text-fits}, specs.Directories.Graph.Graph}
 use Rattle.ffs_volume.specs.Directories.Paths.{entry_path, path_names, path_bytes}
-use Rattle.ffs_paths.{proofs.Held.entry-whole, specs.Buffers.HoldsNames, specs.Climbing.in_room}
-use Rattle.ffs_paths.specs.DirectoryPaths.{IsPathOf}
+use Rattle.ffs_paths.{proofs.Held.entry-whole, specs.{Buffers.HoldsNames, Climbing.in_room, DirectoryPaths.IsPathOf}}
 use Rattle.ffs_paths.specs.{EntryPaths.BeginsWith, Slashes.AreSingle, declared.path.DirectoryPath.DirectoryPath}
 use borrow.Rule.Slice.PartMut.{put_mid}
 

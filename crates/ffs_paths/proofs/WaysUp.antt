@@ -1,25 +1,20 @@
 -- The way from a directory up to the root.
-use Rattle.std.proofs.Common.{◌≡◌, ◌≢◌, ℕ, zero, suc, ◌+◌, ◌<◌, Bool, true, List, [], ◌∷◌, ◌++◌, Some, refl}
-use Rattle.std.proofs.Common.{sym, ap, subst, ◌∙◌, arith, append_assoc, ◌*◌, cond, length, ltb-true}
-use Rattle.std.{proofs.Common.unwrap_or, proofs.Common.option_map, specs.List.list_any}
-use Rattle.std.proofs.lemmas.Bool.{both_ways, and_parts, ne_eqb, cond-false, eq-eqb}
-use Rattle.ffs_volume.proofs.LevelLaws.{level-some, within-zero, reached-level}
-use Rattle.ffs_volume.specs.Directories.Graph.{Graph, level, is_naming_entry, is_naming_dir, parent}
-use Rattle.ffs_volume.specs.Directories.{Parents.graph_of}
-use Rattle.ffs_volume.specs.Directories.Paths.{joined, names_down, path_bytes}
-use Rattle.ffs_volume.specs.Directories.Paths.{dir_path, dir_path_of_names, entry_path, entry_path_of_names}
-use Rattle.ffs_volume.proofs.PathBound.{path_text-fits}
-use Rattle.ffs_paths.{specs.Climbing.in_room, proofs.Rooms.fits}
-use Rattle.ffs_volume.specs.Directories.{Roles.RoledEntry, Volumes.volume_of, Volumes.volume_with}
-use Rattle.ffs_volume.specs.declared.Layout.{Layout}
+use Rattle.std.proofs.Common.{◌≡◌, ◌≢◌, ℕ, zero, suc, ◌+◌, ◌<◌, Bool, true, List, [], ◌∷◌, ◌++◌, Some, refl, sym, ap}
+use Rattle.std.proofs.Common.{subst, ◌∙◌, arith, append_assoc, ◌*◌, cond, length, ltb-true, unwrap_or, option_map}
+use Rattle.std.{specs.List.list_any, proofs.lemmas.Bool.{both_ways, and_parts, ne_eqb, cond-false, eq-eqb}}
+use Rattle.ffs_volume.{proofs.LevelLaws.{level-some, within-zero, reached-level}, specs.Directories.Graph.Graph}
+use Rattle.ffs_volume.specs.Directories.{Graph.{level, is_naming_entry, is_naming_dir, parent}, Parents.graph_of}
+use Rattle.ffs_volume.specs.Directories.Paths.{joined, names_down, path_bytes, dir_path, dir_path_of_names, entry_path}
+use Rattle.ffs_volume.{specs.Directories.{Paths.entry_path_of_names, Roles.RoledEntry}, proofs.PathBound.path_text-fits}
+use Rattle.ffs_volume.specs.{Directories.Volumes.{volume_of, volume_with}, declared.Layout.Layout}
+use Rattle.ffs_paths.{specs.Climbing.{in_room, name_in, IsNameIn, IsParentOf}, proofs.{Rooms.fits, Held.first_cut}}
+use Rattle.ffs_paths.{proofs.NoSlashes.down_single, specs.{Buffers.HoldsNames, DirectoryPaths.{HoldsPath, IsPathOf}}}
+use Rattle.ffs_paths.specs.{KeptParents.{IsKeptParent, LeadsTo}, Slashes.AreSingle}
+use Rattle.ffs_paths.specs.declared.{buffer.PathBuffer.PathBuffer, kept_parent.KeptParent.KeptParent}
+use Rattle.ffs_paths.specs.declared.path.DirectoryPath.{DirectoryPath}
 use Rattle.ffs_survey.specs.ParentLaws.{parent_above, root_level}
-use Rattle.ffs_paths.{proofs.Held.first_cut, proofs.NoSlashes.down_single, specs.Buffers.HoldsNames}
-use Rattle.ffs_paths.specs.Climbing.{name_in, IsNameIn, IsParentOf}
-use Rattle.ffs_paths.specs.{DirectoryPaths.HoldsPath, DirectoryPaths.IsPathOf, KeptParents.IsKeptParent}
-use Rattle.ffs_paths.specs.{KeptParents.LeadsTo, Slashes.AreSingle, declared.buffer.PathBuffer.PathBuffer}
-use Rattle.ffs_paths.specs.declared.{kept_parent.KeptParent.KeptParent, path.DirectoryPath.DirectoryPath}
-use Rattle.ffs_workspace.proofs.PlaceLaws.{name_in-cons}
-use Rattle.ffs_workspace.specs.{Holds.HoldsSurvey, declared.workspace.Workspace.Workspace}
+use Rattle.ffs_workspace.{proofs.PlaceLaws.name_in-cons, specs.Holds.HoldsSurvey}
+use Rattle.ffs_workspace.specs.declared.workspace.Workspace.{Workspace}
 
 -- the first name, by whether the first entry has it
 pub name_in-by : {b : Bool} (d : ℕ) (e : RoledEntry) (es : List RoledEntry) → is_naming_entry d e ≡ b →

@@ -3,12 +3,11 @@
 ghost use Rattle.std.specs.Prelude.{◌≡◌, ◌*◌, ◌<◌, ◌≤◌, ◌==◌, ◌&&◌, ℕ, true, false, IfOk, OnOk, length};
 ghost use Rattle.std.specs.List.{list_any};
 ghost use Rattle.ffs_image.specs.Device.{ForContents};
-ghost use Rattle.ffs_volume.specs.Directories.{Entries.entries_of, Graph.is_naming_entry};
+ghost use Rattle.ffs_volume.specs.Directories.{Entries.entries_of, Graph.is_naming_entry, Roles.{is_plain, role_of}};
+ghost use Rattle.ffs_volume.specs.Directories.Roles.{roled_from};
 ghost use Rattle.ffs_layout.specs.Entry.{entry_value};
-ghost use Rattle.ffs_volume.specs.Directories.Roles.{is_plain, role_of, roled_from};
 ghost use Rattle.ffs_workspace.specs.{Places.IsNoted, Ready.IsReady};
-ghost use Rattle.ffs_paths.specs.Climbing.{name_in, IsNameIn};
-ghost use Rattle.ffs_paths.specs.Reads.{ForTree, IsReadyFor, OnlyReads, ReadsFew};
+ghost use Rattle.ffs_paths.specs.{Climbing.{name_in, IsNameIn}, Reads.{ForTree, IsReadyFor, OnlyReads, ReadsFew}};
 
 use arrayvec::ArrayVec;
 use ffs_image::{Image, ImageFault};

@@ -1,8 +1,7 @@
 //! What is reported of a volume with directories that are cut off.
 
 ghost use Rattle.std.specs.Prelude.{◌≡◌, ℕ, List, Option, IfOk};
-ghost use Rattle.ffs_workspace.specs.Lengths.{IsFor, HoldWindows, inodes_of};
-ghost use Rattle.ffs_workspace.specs.Ready.{IsReady};
+ghost use Rattle.ffs_workspace.specs.{Lengths.{IsFor, HoldWindows, inodes_of}, Ready.IsReady};
 
 use crate::compare::same;
 use ffs_connectivity::phase3;

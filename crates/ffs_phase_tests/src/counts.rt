@@ -2,8 +2,7 @@
 //! them out by hand.
 
 ghost use Rattle.std.specs.Prelude.{◌≡◌, ℕ, List, Option, IfOk, length};
-ghost use Rattle.ffs_workspace.specs.Lengths.{IsFor, HoldWindows, inodes_of};
-ghost use Rattle.ffs_workspace.specs.Ready.{IsReady};
+ghost use Rattle.ffs_workspace.specs.{Lengths.{IsFor, HoldWindows, inodes_of}, Ready.IsReady};
 
 use crate::compare::same;
 use ffs_claims::phase1;

@@ -1,9 +1,8 @@
 -- The most reads of each part of a check, as Report/Reads adds them up.
 use Rattle.std.specs.Prelude.{ℕ, ◌^◌, ◌-◌, min}
-use Rattle.ffs_volume.specs.declared.Layout.{Layout}
-use Rattle.ffs_volume.specs.Report.Reads.{sweep_reads, pathname_reads, group_reads}
-use Rattle.ffs_reads.specs.declared.parts.Part.{Part}
-use Rattle.ffs_reads.specs.declared.parts.Part.TheVariants.{Phase1, Phase1b, Phase2, Phase3, Phase4, Phase5, Summary}
+use Rattle.ffs_volume.specs.{declared.Layout.Layout, Report.Reads.{sweep_reads, pathname_reads, group_reads}}
+use Rattle.ffs_reads.specs.declared.parts.Part.{Part, TheVariants.{Phase1, Phase1b, Phase2, Phase3, Phase4, Phase5}}
+use Rattle.ffs_reads.specs.declared.parts.Part.TheVariants.{Summary}
 
 -- a part that says so many messages after its heading
 abbrev pub part_reads : Part → Layout → (messages : ℕ) → ℕ

@@ -1,7 +1,6 @@
 -- What is kept of the line of a duplicate.
 use Rattle.std.proofs.Common.{◌≡◌, ◌∙◌, ◌+◌, ◌^◌, ◌<◌, ◌≤◌, ℕ, List, ◌++◌, length, drop, sym, ap, rules, decimal}
-use Rattle.std.proofs.lemmas.{Fmt.length-decimal-le, List.drop-drop}
-use Rattle.std.proofs.Math.Seq.{drop-append_seam}
+use Rattle.std.proofs.{lemmas.{Fmt.length-decimal-le, List.drop-drop}, Math.Seq.drop-append_seam}
 
 -- a text that was put before a place leaves what is from that place on
 pub put_leaves : (bytes text rest : List ℕ) (start place : ℕ) → start + length text ≡ place →

@@ -1,13 +1,9 @@
 -- What was read for messages, from one call to the next. (For the layers above.)
-use Rattle.std.proofs.Common.{◌≤◌, ◌+◌, ◌*◌, ℕ, refl, sym, arith, List, ◌++◌, length}
-use Rattle.std.proofs.Common.{length-append, Result, Ok, Err}
+use Rattle.std.proofs.Common.{◌≤◌, ◌+◌, ◌*◌, ℕ, refl, sym, arith, List, ◌++◌, length, length-append, Result, Ok, Err}
 use Rattle.std.proofs.Math.Nat.{mul-le-mul_left, mul-le-mul_right}
 use Rattle.ffs_volume.specs.Messages.Kinds.{Message}
-use Rattle.ffs_report.specs.{Progress.Progress, Progress.Said, Progress.Stopped}
-use Rattle.ffs_report.specs.Paid.{AreBegun, Paid}
-use Rattle.ffs_report.specs.PhaseOutcome.{PhaseReports}
-use Rattle.ffs_report.proofs.Reports.{said_none, said_then, stopped_after}
-use Rattle.ffs_report.specs.declared.fault.RunFault.{RunFault}
+use Rattle.ffs_report.specs.{Progress.{Progress, Said, Stopped}, Paid.{AreBegun, Paid}, PhaseOutcome.PhaseReports}
+use Rattle.ffs_report.{proofs.Reports.{said_none, said_then, stopped_after}, specs.declared.fault.RunFault.RunFault}
 use Rattle.ffs_report.specs.declared.fault.RunFault.TheVariants.{Read, Out}
 
 -- nothing was said

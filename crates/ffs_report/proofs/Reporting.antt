@@ -1,11 +1,10 @@
 -- How a phase continues and ends: for its answers, in which most arguments can be written as `_`.
-use Rattle.std.proofs.Common.{◌≡◌, refl, ◌∙◌, sym, ℕ, List, [], ◌++◌, append_assoc, append-nil, Result, Ok}
-use Rattle.std.proofs.Common.{Err, arith, ◌∷◌}
+use Rattle.std.proofs.Common.{◌≡◌, refl, ◌∙◌, sym, ℕ, List, [], ◌++◌, append_assoc, append-nil, Result, Ok, Err, arith}
+use Rattle.std.proofs.Common.{◌∷◌}
 use Rattle.ffs_volume.specs.Messages.Kinds.{Message}
-use Rattle.ffs_report.specs.{Progress.Progress, Progress.Said, Progress.Stopped, Known.ForBytes}
-use Rattle.ffs_report.specs.PhaseOutcome.{SaidTo, SaidOf, SaidPrefixOf, StoppedOf, PhaseReports}
-use Rattle.ffs_report.proofs.Reports.{said_none, said_then, stopped_after, stopped_more}
-use Rattle.ffs_report.specs.declared.fault.RunFault.{RunFault}
+use Rattle.ffs_report.specs.{Progress.{Progress, Said, Stopped}, Known.ForBytes, PhaseOutcome.{SaidTo, SaidOf}}
+use Rattle.ffs_report.{specs.PhaseOutcome.{SaidPrefixOf, StoppedOf, PhaseReports}, proofs.Reports.said_none}
+use Rattle.ffs_report.{proofs.Reports.{said_then, stopped_after, stopped_more}, specs.declared.fault.RunFault.RunFault}
 use Rattle.ffs_report.specs.declared.fault.RunFault.TheVariants.{Read, Out}
 
 -- ---- messages that are known

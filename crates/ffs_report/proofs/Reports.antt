@@ -1,13 +1,8 @@
 -- How a report continues. (For the layers above.)
-use Rattle.std.proofs.Common.{arith}
-use Rattle.std.proofs.Common.{◌≡◌, inl, inr, refl, ◌∙◌, sym, ap, List, [], ◌∷◌, ◌++◌, append_assoc}
-use Rattle.std.proofs.Common.{◌||◌, Result}
-use Rattle.std.proofs.lemmas.List.Concat.{flat_map-append}
-use Rattle.std.proofs.Math.Bool.{or_assoc, or-false}
-use Rattle.ffs_volume.specs.Messages.Kinds.{Message, is_defect, has_defect}
-use Rattle.ffs_volume.specs.Messages.Texts.{texts_of}
-use Rattle.ffs_report.specs.Progress.{Progress, Said, Stopped, Says}
-use Rattle.ffs_report.proofs.Sinks.{Appends-then, took_nil, took_then}
+use Rattle.std.proofs.Common.{arith, ◌≡◌, inl, inr, refl, ◌∙◌, sym, ap, List, [], ◌∷◌, ◌++◌, append_assoc, ◌||◌, Result}
+use Rattle.std.proofs.{lemmas.List.Concat.flat_map-append, Math.Bool.{or_assoc, or-false}}
+use Rattle.ffs_volume.specs.Messages.{Kinds.{Message, is_defect, has_defect}, Texts.texts_of}
+use Rattle.ffs_report.{specs.Progress.{Progress, Said, Stopped, Says}, proofs.Sinks.{Appends-then, took_nil, took_then}}
 
 pub has_defect-append : (xs ys : List Message) → has_defect (xs ++ ys) ≡ (has_defect xs || has_defect ys)
 has_defect-append [] ys = refl

@@ -1,13 +1,11 @@
 -- How bytes are shown run by run: `from` is where the run begins that has not gone out yet.
 use Rattle.std.proofs.Common.{◌≡◌, ◌∙◌, ◌+◌, ◌-◌, ◌<◌, ◌≤◌, ◌||◌, ℕ, List, [], ◌∷◌, ◌++◌, length, take, drop, get_or}
 use Rattle.std.proofs.Common.{map, refl, sym, ap, subst, arith, append_assoc, true, false, Bool, if◌then◌else◌, Result}
-use Rattle.std.specs.List.{list_any}
-use Rattle.std.proofs.lemmas.{Bool.or_parts, List.Folds.list_any-append}
-use Rattle.std.proofs.lemmas.List.{take-append-drop, take_all, length-drop, map-append, map_more}
-use Rattle.std.proofs.Math.Seq.{take-add}
+use Rattle.std.{specs.List.list_any, proofs.lemmas.{Bool.or_parts, List.{Folds.list_any-append, take-append-drop}}}
+use Rattle.std.proofs.{lemmas.List.{take_all, length-drop, map-append, map_more}, Math.Seq.take-add}
 use Rattle.ffs_volume.specs.Messages.Shown.{is_control, shown}
-use Rattle.ffs_report.specs.Sink.{Sink, Took, BrokeOff, Prints}
-use Rattle.ffs_report.proofs.Sinks.{broke_off_after, broke_off_more, prints_then}
+use Rattle.ffs_report.{specs.Sink.{Sink, Took, BrokeOff, Prints}, proofs.Sinks.{broke_off_after, broke_off_more}}
+use Rattle.ffs_report.proofs.Sinks.{prints_then}
 
 -- the run before a place
 abbrev pub run : List ℕ → ℕ → ℕ → List ℕ

@@ -8,9 +8,8 @@ use Rattle.ffs_volume.specs.Messages.Kinds.{missing_dotdot_second, number_dotdot
 use Rattle.ffs_volume.specs.Messages.Kinds.{out_of_range, whiteout, unallocated, dup_bad, zero_dir, extraneous}
 use Rattle.ffs_volume.specs.Messages.Kinds.{kind_entry, unref_dir, dead_marked, dead_zero, unref, unref_zero}
 use Rattle.ffs_volume.specs.Messages.Kinds.{link_count}
-use Rattle.ffs_report.specs.declared.{line.Line.Line, line.Heading.Heading as HeadingLine}
-use Rattle.ffs_report.specs.declared.{line.DirectoryLine.DirectoryLine, line.DotLine.DotLine, line.EntryLine.EntryLine}
-use Rattle.ffs_report.specs.declared.{line.ReferenceLine.ReferenceLine}
+use Rattle.ffs_report.specs.declared.line.{Line.Line, Heading.Heading as HeadingLine, DirectoryLine.DirectoryLine}
+use Rattle.ffs_report.specs.declared.line.{DotLine.DotLine, EntryLine.EntryLine, ReferenceLine.ReferenceLine}
 use Rattle.ffs_report.specs.declared.line.Line.TheVariants.{Location, Opening, BadSuper, CannotRead, CannotAlloc}
 use Rattle.ffs_report.specs.declared.line.Line.TheVariants.{Optimization, Minfree, Mounted, Heading, Block, Directory}
 use Rattle.ffs_report.specs.declared.line.Line.TheVariants.{Dot, Entry, Reference, Summary}

@@ -1,6 +1,5 @@
 -- How a writer below is asked, and what its answers are.
-use Rattle.std.specs.Prelude.{◌≡◌, ℕ, List, Result, Ok, MatchResult}
-use Rattle.std.specs.declared.io.Error.{Error}
+use Rattle.std.specs.{Prelude.{◌≡◌, ℕ, List, Result, Ok, MatchResult}, declared.io.Error.Error}
 use Rattle.ffs_image.specs.Interrupted.{IsTriedAgain}
 
 -- what is reported of a writer's answer: how many bytes it took, at least one, or a fault

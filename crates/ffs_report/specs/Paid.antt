@@ -2,9 +2,8 @@
 -- was left for other reads before and after.
 use Rattle.std.specs.Prelude.{◌≡◌, ◌≤◌, ◌+◌, ◌*◌, ℕ, suc, List, length, Result, Ok, Err}
 use Rattle.ffs_volume.specs.Messages.Kinds.{Message}
-use Rattle.ffs_report.specs.{Progress.Progress, Progress.Said, Progress.Stopped}
-use Rattle.ffs_report.specs.declared.fault.RunFault.{RunFault}
-use Rattle.ffs_report.specs.declared.fault.RunFault.TheVariants.{Read, Out}
+use Rattle.ffs_report.specs.{Progress.{Progress, Said, Stopped}, declared.fault.RunFault.{RunFault, TheVariants.Read}}
+use Rattle.ffs_report.specs.declared.fault.RunFault.TheVariants.{Out}
 
 -- n messages were said
 pub record SaidMany (n : ℕ) (old new : Progress) : Type 0 where

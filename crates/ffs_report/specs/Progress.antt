@@ -1,11 +1,9 @@
 -- How far a report has come.
-use Rattle.std.specs.{Bool.OnTrue, Borrow.GName, Io.KnownBytes.Appends}
-use Rattle.std.specs.Prelude.{◌≡◌, ◌⊎◌, ℕ, List, [], ◌∷◌, ◌++◌, Bool, true, false, ◌||◌, Result, MatchResult, IsErr}
-use Rattle.std.specs.Prelude.{OnErr}
+use Rattle.std.specs.{Bool.OnTrue, Borrow.GName, Io.KnownBytes.Appends, Prelude.{◌≡◌, ◌⊎◌, ℕ, List, [], ◌∷◌, ◌++◌}}
+use Rattle.std.specs.Prelude.{Bool, true, false, ◌||◌, Result, MatchResult, IsErr, OnErr}
 use Rattle.ffs_image.specs.Device.{Rose}
-use Rattle.ffs_report.specs.Sink.{Sink, Took}
-use Rattle.ffs_volume.specs.{Messages.Kinds.Message, Messages.Kinds.has_defect, Messages.Texts.texts_of}
-use Rattle.ffs_report.specs.declared.report.Report.{Report}
+use Rattle.ffs_report.specs.{Sink.{Sink, Took}, declared.report.Report.Report}
+use Rattle.ffs_volume.specs.Messages.{Kinds.{Message, has_defect}, Texts.texts_of}
 
 -- the reference to its output, what that took, whether a line has failed, and whether a defect was
 -- said

@@ -1,8 +1,7 @@
 -- What the writers around another one leave.
-use Rattle.std.specs.{Bool.OnTrue, Borrow.GName}
-use Rattle.std.specs.Prelude.{◌≡◌, ℕ, ◌+◌, ◌<◌, ◌↔◌, true, Result, IsErr, MatchResult}
+use Rattle.std.specs.{Bool.OnTrue, Borrow.GName, Prelude.{◌≡◌, ℕ, ◌+◌, ◌<◌, ◌↔◌, true, Result, IsErr, MatchResult}}
 use Rattle.ffs_report.specs.declared.{counted.Counted.Counted, fuse.FuseWriter.FuseWriter}
-use Rattle.ffs_report.specs.declared.{muted.MutedWriter.MutedWriter}
+use Rattle.ffs_report.specs.declared.muted.MutedWriter.{MutedWriter}
 
 -- an output holds the reference of this name to the writer, and no put has failed yet
 pub record StartsOver {S : Type 0} (name : GName) (writer : S) (out : Counted S) : Type 0 where

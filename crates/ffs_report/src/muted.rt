@@ -1,11 +1,8 @@
 //! A writer that is muted by its first failure.
-ghost use Rattle.std.specs.Prelude.{◌≡◌, ◌<◌, length, false, IfOk};
-ghost use Rattle.std.specs.Bool.{OnFalse};
-ghost use Rattle.std.specs.Io.{WritesAtMost};
+ghost use Rattle.std.specs.{Prelude.{◌≡◌, ◌<◌, length, false, IfOk}, Bool.OnFalse, Io.WritesAtMost};
 ghost use Rattle.std.specs.Io.KnownBytes.{WriteAppends, Keeps};
 ghost use Rattle.ffs_image.specs.Interrupted.{IsTriedAgain};
-ghost use Rattle.ffs_report.specs.Outlet.{WritesThrough};
-ghost use Rattle.ffs_report.specs.Writers.{IsMuted};
+ghost use Rattle.ffs_report.specs.{Outlet.WritesThrough, Writers.IsMuted};
 
 use crate::outlet::Outlet;
 use ffs_image::is_interrupted;

@@ -3,9 +3,7 @@
 //! What is over this trait can say how often it asks, and what it does with the answer. A std
 //! writer doesn't say that: of each, the two lines of the impl at the end of this file are trusted
 //! to ask it once.
-ghost use Rattle.std.specs.Prelude.{ℕ, List, Option, Result};
-ghost use Rattle.std.specs.Io.{WritesAtMost};
-ghost use Rattle.std.specs.Io.KnownBytes.{WriteAppends, Keeps};
+ghost use Rattle.std.specs.{Prelude.{ℕ, List, Option, Result}, Io.{WritesAtMost, KnownBytes.{WriteAppends, Keeps}}};
 ghost use Rattle.std.specs.declared.io.Error.{Error};
 
 use std::io;

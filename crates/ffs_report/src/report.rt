@@ -1,8 +1,7 @@
 //! A report over an output.
 ghost use Rattle.std.specs.Prelude.{◌≡◌, ◌||◌, ◌&&◌, true, false, is_ok, is_err};
 ghost use Rattle.ffs_volume.specs.Messages.Kinds.{is_defect, of_blocks};
-ghost use Rattle.ffs_report.specs.Lines.{message_of};
-ghost use Rattle.ffs_report.specs.Progress.{progress, starts, SaysOne};
+ghost use Rattle.ffs_report.specs.{Lines.message_of, Progress.{progress, starts, SaysOne}};
 
 use crate::dup_line::DupLine;
 use crate::line::Line;

@@ -1,19 +1,14 @@
 -- Directories that are called calm are calm, and stay so.
-use Rattle.std.proofs.Common.{◌≡◌, ℕ, suc, ◌+◌, ◌<◌, ◌==◌, Bool, true, false, ◌&&◌, nat_le, nat_lt, List}
-use Rattle.std.proofs.Common.{[], ◌∷◌, length, Option, arith, sym, ◌∙◌, ap, subst, inl}
-use Rattle.std.proofs.lemmas.Bool.{both_ways, eqb-true, and_parts, or_cases}
-use Rattle.std.proofs.{Common.get_or, Common.inr, lemmas.Bool.or_parts}
-use Rattle.std.{proofs.lemmas.List.get_or_past, specs.List.list_any}
+use Rattle.std.proofs.Common.{◌≡◌, ℕ, suc, ◌+◌, ◌<◌, ◌==◌, Bool, true, false, ◌&&◌, nat_le, nat_lt, List, [], ◌∷◌}
+use Rattle.std.proofs.{Common.{length, Option, arith, sym, ◌∙◌, ap, subst, inl, get_or, inr}, lemmas.Bool.both_ways}
+use Rattle.std.{proofs.lemmas.{Bool.{eqb-true, and_parts, or_cases, or_parts}, List.get_or_past}, specs.List.list_any}
 use mathlib.Core.Path.{fun_ext}
-use Rattle.ffs_volume.specs.Directories.Graph.{Graph, is_naming_entry}
-use Rattle.ffs_volume.specs.Directories.Roles.{RoledEntry, is_plain}
+use Rattle.ffs_volume.specs.Directories.{Graph.{Graph, is_naming_entry}, Roles.{RoledEntry, is_plain}}
 use Rattle.ffs_volume.specs.declared.Role.TheVariants.{Empty, Dot, Dotdot, Extra, Plain}
 use Rattle.ffs_volume.{proofs.SearchLaws.first_below-is_none, specs.declared.Role.Role}
-use Rattle.ffs_survey.specs.Calm.{CurrentDir, is_calm_role, is_calm_entry, reached_after, are_calm}
-use Rattle.ffs_survey.specs.Discover.{from_entries, nothing, SameResult, IsFrontier, LevelsKnown}
-use Rattle.ffs_survey.proofs.{Frontiers.frontier_within}
-use Rattle.ffs_survey.specs.{Calm.AreCalm, Calm.IsCalm, Calm.IsFlagged, Discover.IsRead}
-use Rattle.ffs_survey.specs.Survey.{bool_at, dir_at, number_at}
+use Rattle.ffs_survey.specs.Calm.{CurrentDir, is_calm_role, is_calm_entry, reached_after, are_calm, AreCalm, IsCalm}
+use Rattle.ffs_survey.specs.{Calm.IsFlagged, Discover.{from_entries, nothing, SameResult, IsFrontier, LevelsKnown}}
+use Rattle.ffs_survey.{specs.{Discover.IsRead, Survey.{bool_at, dir_at, number_at}}, proofs.Frontiers.frontier_within}
 
 -- a calm plain entry that names a directory is before any other that reaches it
 pub calm_names_new : (s : CurrentDir) (reached : ℕ → Bool) (i x : ℕ) (role : Role) (number kind : ℕ) →

@@ -1,13 +1,12 @@
 -- What an entry, a directory and a level discover.
 use Rattle.std.proofs.Common.{◌≡◌, ℕ, ◌+◌, ◌<◌, ◌≤◌, ◌==◌, Bool, true, false, not, cond, ◌&&◌, ◌||◌, List, [], ◌∷◌}
 use Rattle.std.proofs.Common.{length, Option, None, Some, is_some, unwrap_or, refl, arith, sym, ◌∙◌, ap, set, take}
-use Rattle.std.proofs.Common.{drop, get_or, get_or-set_same, get_or-set_other, sum_by}
-use Rattle.std.proofs.lemmas.{Bool.Decides.nat_tests, List.Sums.sum_by-le}
-use Rattle.std.proofs.lemmas.List.{Sums.sum_by-set, Sums.sum_by_push, at_drop_more, get_or_past, take_more_set}
-use Rattle.std.specs.{Option.option_or}
-use Rattle.ffs_volume.specs.Directories.{Graph.edge, Roles.RoledEntry, Roles.is_plain}
+use Rattle.std.proofs.{Common.{drop, get_or, get_or-set_same, get_or-set_other, sum_by}, lemmas.Bool.Decides.nat_tests}
+use Rattle.std.proofs.lemmas.List.{Sums.{sum_by-le, sum_by-set, sum_by_push}, at_drop_more, get_or_past, take_more_set}
+use Rattle.std.specs.Option.{option_or}
+use Rattle.ffs_volume.specs.Directories.{Graph.edge, Roles.{RoledEntry, is_plain}}
 use Rattle.ffs_survey.specs.Discover.{SameResult, bit, from_dirs, from_entries, is_unreached_dir, nothing, occurrences}
-use Rattle.ffs_survey.specs.{Discover.unset, Survey.bool_at, Survey.dir_at, Survey.graph_with, Survey.number_at}
+use Rattle.ffs_survey.specs.{Discover.unset, Survey.{bool_at, dir_at, graph_with, number_at}}
 
 -- tests of numbers, and reading a list in which one element is set
 pub ruleset set_tests = (nat_tests, get_or-set_other, get_or-set_same)

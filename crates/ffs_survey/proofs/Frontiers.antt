@@ -1,22 +1,21 @@
 -- One level after another: what is on each, how they begin, and what is known where none is left.
 use Rattle.std.proofs.Common.{◌≡◌, ℕ, zero, suc, ◌+◌, ◌<◌, ◌≤◌, ◌==◌, Bool, true, false, not, cond, ◌&&◌, ◌||◌, List}
 use Rattle.std.proofs.Common.{[], ◌∷◌, ◌++◌, length, Option, None, Some, unwrap_or, find, refl, arith, sym, ◌∙◌, ap}
-use Rattle.std.proofs.Common.{subst, inl, inr, get_or, ◌⊎◌, IsPermutation, set, take, add-zero}
-use Rattle.std.proofs.lemmas.Bool.{both_ways, cases_lt, eqb-true, eq-eqb, ne_eqb, and_parts, and_from, or_cases}
-use Rattle.std.proofs.lemmas.Bool.{or_left, or_right, not-true, not_from_false, cond-false}
-use Rattle.std.proofs.lemmas.{Bool.Decides.nat_tests, List.Sorted.sum_by-IsPermutation, List.Sums.sum_by-append}
-use Rattle.std.{proofs.lemmas.List.Sums.sum_by-cons, specs.List.Sorted.IsNonDecreasing}
+use Rattle.std.proofs.{Common.{subst, inl, inr, get_or, ◌⊎◌, IsPermutation, set, take, add-zero}, lemmas.Bool.both_ways}
+use Rattle.std.proofs.lemmas.Bool.{cases_lt, eqb-true, eq-eqb, ne_eqb, and_parts, and_from, or_cases, or_left, or_right}
+use Rattle.std.proofs.lemmas.Bool.{not-true, not_from_false, cond-false, Decides.nat_tests}
+use Rattle.std.proofs.lemmas.List.{Sorted.sum_by-IsPermutation, Sums.{sum_by-append, sum_by-cons}}
+use Rattle.std.specs.List.Sorted.{IsNonDecreasing}
 use Rattle.ffs_volume.proofs.LevelLaws.{within-suc, within-zero, within-grows, within-step, within-more, level-some}
 use Rattle.ffs_volume.proofs.LevelLaws.{level-from, level-is, level-each, reached-from, parent-root, reached-level}
 use Rattle.ffs_volume.proofs.SearchLaws.{first_below-is, first_below-is_none, some_below-gives, some_below-from}
 use Rattle.ffs_volume.specs.Directories.Graph.{Graph, level_edge, edge, within, level, parent, parent_by, reached}
-use Rattle.ffs_volume.proofs.{Booleans.both_imply, ClimbLaws.is_value-from, ClimbLaws.is_value-true, Graphs.IsSane}
-use Rattle.ffs_volume.proofs.Unreached.{edge-parts}
-use Rattle.ffs_volume.specs.{Directories.Climb.is_value, Directories.Roles.RoledEntry, Disk.Search.first_below}
-use Rattle.ffs_volume.specs.Disk.Search.{some_below}
-use Rattle.ffs_survey.proofs.Discovered.{dir_below, same_result-to, same_result-refl, set_tests}
-use Rattle.ffs_survey.specs.Discover.{bit, occurrences, from_dirs, nothing, SameResult, Rising, IsFrontier, parent_at}
-use Rattle.ffs_survey.specs.{Discover.LevelsKnown, Survey.bool_at, Survey.graph_with, Survey.number_at}
+use Rattle.ffs_volume.proofs.{Booleans.both_imply, ClimbLaws.{is_value-from, is_value-true}, Graphs.IsSane}
+use Rattle.ffs_volume.{proofs.Unreached.edge-parts, specs.Directories.{Climb.is_value, Roles.RoledEntry}}
+use Rattle.ffs_volume.specs.Disk.Search.{first_below, some_below}
+use Rattle.ffs_survey.{proofs.Discovered.{dir_below, same_result-to, same_result-refl, set_tests}, specs.Discover.bit}
+use Rattle.ffs_survey.specs.Discover.{occurrences, from_dirs, nothing, SameResult, Rising, IsFrontier, parent_at}
+use Rattle.ffs_survey.specs.{Discover.LevelsKnown, Survey.{bool_at, graph_with, number_at}}
 
 -- ---- occurrences in a list
 pub occurrences-nil : (t : ℕ) → occurrences t [] ≡ 0

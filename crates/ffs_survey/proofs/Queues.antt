@@ -1,18 +1,17 @@
 -- The queue: what is after it, the current level, and the next level.
 use Rattle.std.proofs.Common.{◌≡◌, ℕ, suc, ◌+◌, ◌-◌, ◌<◌, ◌≤◌, All, Option, Bool, List, [], ◌∷◌, ◌++◌, length, take}
 use Rattle.std.proofs.Common.{drop, cond, None, unwrap_or, ◌||◌, false, count_by, arith, sym, ◌∙◌, ap, subst}
-use Rattle.std.proofs.lemmas.List.{get_or-drop, get_or-take, get_or_past, length-drop, take-append-drop, take-take}
-use Rattle.std.proofs.{Common.IsPermutation, Common.add-zero, Common.get_or, Math.Bool.or-false, lemmas.Bool.and_left}
-use Rattle.std.proofs.lemmas.{Bool.cond-false, Grind.common_steps, List.Folds.list_any-append, List.Sums.sum_by-append}
+use Rattle.std.proofs.{Common.{IsPermutation, add-zero, get_or}, lemmas.List.{get_or-drop, get_or-take, get_or_past}}
+use Rattle.std.proofs.{lemmas.{List.{length-drop, take-append-drop, take-take}, Bool.and_left}, Math.Bool.or-false}
+use Rattle.std.proofs.lemmas.{Bool.cond-false, Grind.common_steps, List.{Folds.list_any-append, Sums.sum_by-append}}
 use Rattle.std.specs.List.Sorted.{IsNonDecreasing}
-use Rattle.ffs_volume.specs.Directories.Graph.{Graph, is_naming_dir, parent}
-use Rattle.ffs_volume.{proofs.Graphs.IsSane, specs.Directories.Roles.RoledEntry, specs.Directories.Roles.refers}
+use Rattle.ffs_volume.{specs.Directories.{Graph.{Graph, is_naming_dir, parent}, Roles.RoledEntry}, proofs.Graphs.IsSane}
+use Rattle.ffs_volume.specs.Directories.Roles.{refers}
 use Rattle.ffs_survey.proofs.Frontiers.{next_level, frontier_from, queue_grows, IsNext, occurrences-append}
-use Rattle.ffs_survey.specs.Discover.{Extends, occurrences, from_dirs, nothing, SameResult, IsFrontier}
-use Rattle.ffs_survey.specs.Discover.{LevelsKnown, IsCount, Counts, IsReachedPart, count_of, any_of, none, never}
-use Rattle.ffs_survey.specs.Survey.{bool_at, number_at, graph_with, dir_at, counted_in}
-use Rattle.ffs_survey.proofs.{Frontiers.occurrences-permutation, Frontiers.no_more, Frontiers.root_alone}
-use Rattle.ffs_survey.proofs.Totals.{any_all, count_all}
+use Rattle.ffs_survey.{proofs.Frontiers.{occurrences-permutation, no_more, root_alone}, specs.Discover.Extends}
+use Rattle.ffs_survey.specs.Discover.{occurrences, from_dirs, nothing, SameResult, IsFrontier, LevelsKnown, IsCount}
+use Rattle.ffs_survey.specs.{Discover.{Counts, IsReachedPart, count_of, any_of, none, never}, Survey.bool_at}
+use Rattle.ffs_survey.{specs.Survey.{number_at, graph_with, dir_at, counted_in}, proofs.Totals.{any_all, count_all}}
 
 -- a queue that is extended twice
 pub extends_on : {a b c : ℕ} {q q' q'' : List ℕ} → Extends a b q q' → Extends b c q' q'' → Extends a c q q''

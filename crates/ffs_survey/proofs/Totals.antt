@@ -1,18 +1,16 @@
 -- The sums over a list of directories and over all of them, and steps of the count over entries.
 use Rattle.std.proofs.Common.{◌≡◌, ℕ, zero, suc, ◌+◌, ◌*◌, ◌<◌, ◌≤◌, ◌==◌, nat_lt, Bool, true, false, not, cond, ◌&&◌}
 use Rattle.std.proofs.Common.{◌||◌, List, [], ◌∷◌, refl, arith, sym, ◌∙◌, ap, inl, inr, sum_by, length, count_by, drop}
-use Rattle.std.proofs.lemmas.Bool.{both_ways, cases_lt, cond-true, cond-false, and_parts, and_from, or_left, or_right}
-use Rattle.std.proofs.lemmas.Bool.{or_cases, lt-ltb, le-ltb}
-use Rattle.std.proofs.{Common.get_or, lemmas.Bool.Decides.nat_tests, lemmas.List.Sums.sum_by-cons}
-use Rattle.std.{proofs.lemmas.List.at_drop_more, specs.List.list_any}
-use Rattle.ffs_volume.proofs.Booleans.{both_imply}
-use Rattle.ffs_volume.proofs.SearchLaws.{some_below-from, some_below-gives, some_below-suc}
-use Rattle.ffs_volume.specs.Directories.{Graph.Graph, Graph.is_naming_dir, Graph.is_naming_entry, Roles.RoledEntry}
-use Rattle.ffs_volume.specs.{Directories.Roles.refers, Disk.Search.first_below, Disk.Search.some_below}
+use Rattle.std.proofs.{Common.get_or, lemmas.Bool.{both_ways, cases_lt, cond-true, cond-false, and_parts, and_from}}
+use Rattle.std.proofs.lemmas.Bool.{or_left, or_right, or_cases, lt-ltb, le-ltb, Decides.nat_tests}
+use Rattle.std.{proofs.lemmas.List.{Sums.sum_by-cons, at_drop_more}, specs.List.list_any}
+use Rattle.ffs_volume.proofs.{Booleans.both_imply, SearchLaws.{some_below-from, some_below-gives, some_below-suc}}
+use Rattle.ffs_volume.specs.Directories.{Graph.{Graph, is_naming_dir, is_naming_entry}, Roles.{RoledEntry, refers}}
+use Rattle.ffs_volume.specs.Disk.Search.{first_below, some_below}
 use Rattle.ffs_survey.proofs.Frontiers.{occurrences-cases, occurrences-cons, occurrences-nil, occurrences-head, bit-one}
 use Rattle.ffs_survey.specs.Discover.{bit, occurrences, count_of, any_of, counted_by, Counts, count_in, any_in, none}
-use Rattle.ffs_survey.specs.Survey.{counted_in, counted_below, number_at, bool_at, graph_with, dir_at}
-use Rattle.ffs_survey.specs.{Costs.costs_below, Discover.never}
+use Rattle.ffs_survey.specs.{Discover.never, Survey.{counted_in, counted_below, number_at, bool_at, graph_with, dir_at}}
+use Rattle.ffs_survey.specs.Costs.{costs_below}
 
 abbrev part : (ℕ → ℕ) → ℕ → List ℕ → ℕ
 part c n q = sum_by (λ s. cond (nat_lt s n) (c s) 0) q

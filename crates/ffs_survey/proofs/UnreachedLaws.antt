@@ -1,18 +1,17 @@
 -- The directories that aren't reached are read after the others: what that adds, and that the
 -- survey is then whole.
 use Rattle.std.proofs.Common.{◌≡◌, ℕ, zero, suc, ◌+◌, ◌<◌, ◌≤◌, ◌==◌, Bool, true, false, not, cond, ◌&&◌, ◌||◌, List}
-use Rattle.std.proofs.Common.{length, unwrap_or, refl, arith, sym, ◌∙◌, ap, subst, inl}
-use Rattle.std.proofs.lemmas.Bool.{both_ways, cases_Bool, cases_lt, and_left, and_right, and_parts, false_from_ne_true}
-use Rattle.std.proofs.{Common.inr, lemmas.List.get_or_past}
-use Rattle.ffs_volume.proofs.LevelLaws.{reached-edge, reached-root}
-use Rattle.ffs_volume.proofs.SearchLaws.{some_below-suc, first_below-some, first_below-is_none}
-use Rattle.ffs_volume.specs.Directories.Graph.{Graph, is_naming_dir, edge, reached, parent}
-use Rattle.ffs_volume.specs.Disk.Search.{first_below, earliest, some_below}
-use Rattle.ffs_volume.{proofs.Graphs.IsSane, proofs.Unreached.parent-unreached, specs.Directories.Roles.RoledEntry}
+use Rattle.std.proofs.{Common.{length, unwrap_or, refl, arith, sym, ◌∙◌, ap, subst, inl, inr}, lemmas.Bool.both_ways}
+use Rattle.std.proofs.lemmas.Bool.{cases_Bool, cases_lt, and_left, and_right, and_parts, false_from_ne_true}
+use Rattle.std.proofs.lemmas.List.{get_or_past}
+use Rattle.ffs_volume.proofs.{LevelLaws.{reached-edge, reached-root}, SearchLaws.{some_below-suc, first_below-some}}
+use Rattle.ffs_volume.{proofs.SearchLaws.first_below-is_none, specs.Directories.Graph.{Graph, is_naming_dir, edge}}
+use Rattle.ffs_volume.specs.{Directories.Graph.{reached, parent}, Disk.Search.{first_below, earliest, some_below}}
+use Rattle.ffs_volume.{proofs.{Graphs.IsSane, Unreached.parent-unreached}, specs.Directories.Roles.RoledEntry}
 use Rattle.ffs_survey.specs.Discover.{Counts, count_in, any_in, none, never, counted_by, IsReachedPart, IsRead}
-use Rattle.ffs_survey.specs.Survey.{bool_at, number_at, dir_at, graph_with, counted_in, start_in, IsSurvey}
-use Rattle.ffs_survey.proofs.{Discovered.dir_below, Totals.counted_both, Totals.some_both}
-use Rattle.ffs_survey.specs.Discover.{is_unreached_dir, is_unreached_edge}
+use Rattle.ffs_survey.specs.{Discover.{is_unreached_dir, is_unreached_edge}, Survey.{bool_at, number_at, dir_at}}
+use Rattle.ffs_survey.{specs.Survey.{graph_with, counted_in, start_in, IsSurvey}, proofs.Discovered.dir_below}
+use Rattle.ffs_survey.proofs.Totals.{counted_both, some_both}
 
 -- two tests that agree have the same first number
 first_same : (p q : ℕ → Bool) (n : ℕ) → ((s : ℕ) → s < n → p s ≡ q s) → first_below p n ≡ first_below q n

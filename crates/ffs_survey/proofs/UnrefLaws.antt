@@ -3,11 +3,10 @@ use Rattle.std.proofs.Common.{◌≡◌, ◌≢◌, ℕ, zero, suc, ◌<◌, ◌
 use Rattle.std.proofs.Common.{Option, None, Some, unwrap_or, arith, sym, ◌∙◌, ap, inl, inr, ◌⊎◌}
 use Rattle.std.proofs.lemmas.Bool.Decides.{nat_tests}
 use mathlib.Core.Path.{fun_ext}
-use Rattle.ffs_volume.proofs.Unreached.{IsLost, lost-from}
-use Rattle.ffs_volume.specs.Directories.Graph.{Graph, parent, parent_by, is_dead_in, none_or_dead}
-use Rattle.ffs_volume.proofs.{Graphs.IsSane, SearchLaws.first_below-some}
-use Rattle.ffs_volume.specs.Directories.{Climb.is_leader_within, Graph.is_unref_dir_in}
-use Rattle.ffs_survey.{proofs.Discovered.dir_below, specs.Cycles.parent_in, specs.Survey.IsTree, specs.Survey.number_at}
+use Rattle.ffs_volume.{proofs.Unreached.{IsLost, lost-from}, specs.Directories.Graph.{Graph, parent, parent_by}}
+use Rattle.ffs_volume.{specs.Directories.Graph.{is_dead_in, none_or_dead, is_unref_dir_in}, proofs.Graphs.IsSane}
+use Rattle.ffs_volume.{proofs.SearchLaws.first_below-some, specs.Directories.Climb.is_leader_within}
+use Rattle.ffs_survey.{proofs.Discovered.dir_below, specs.{Cycles.parent_in, Survey.{IsTree, number_at}}}
 
 -- what a parent is
 record IsParent (v : Graph) (s : ℕ) : Type 0 where

@@ -1,15 +1,14 @@
 -- Laws of walks along parents.
 use Rattle.std.proofs.Common.{◌≡◌, ◌≢◌, ℕ, zero, suc, ◌+◌, ◌-◌, ◌<◌, ◌≤◌, ◌==◌, Bool, true, false, List, length, Option}
 use Rattle.std.proofs.Common.{None, Some, arith, sym, ◌∙◌, ap, inl, inr, set, ◌⊎◌, get_or, get_or-set_same}
-use Rattle.std.proofs.lemmas.Bool.{cases_eq, false_from_ne_true}
-use Rattle.std.proofs.{Common.get_or-set_other, Common.length-set, lemmas.Bool.Decides.nat_tests}
-use Rattle.std.proofs.lemmas.List.{Sums.sum_by-le, Sums.sum_by-set, get_or_past}
+use Rattle.std.proofs.{Common.{get_or-set_other, length-set}, lemmas.Bool.{cases_eq, false_from_ne_true}}
+use Rattle.std.proofs.lemmas.{Bool.Decides.nat_tests, List.{Sums.{sum_by-le, sum_by-set}, get_or_past}}
 use Rattle.ffs_volume.proofs.ClimbLaws.{climb-zero, climb-one, climb-suc, climb-add, climb-last, cycle-along}
 use Rattle.ffs_volume.proofs.ClimbLaws.{cycle-next, cycle-goes, cycle-within, is_leader_within-from}
-use Rattle.ffs_volume.proofs.ClimbLaws.{is_leader_within-true}
-use Rattle.ffs_volume.specs.Directories.Climb.{climb, IsOnCycle, is_leader_within}
+use Rattle.ffs_volume.{proofs.ClimbLaws.is_leader_within-true, specs.Directories.Climb.{climb, IsOnCycle}}
+use Rattle.ffs_volume.specs.Directories.Climb.{is_leader_within}
 use Rattle.ffs_survey.specs.Cycles.{parent_in, unmet, IsClosed, IsMet, Walked, FindsCycle, IsLeastOn, MarksLeaders}
-use Rattle.ffs_survey.{proofs.Discovered.bit-le, specs.Discover.bit, specs.Survey.bool_at, specs.Survey.number_at}
+use Rattle.ffs_survey.{proofs.Discovered.bit-le, specs.{Discover.bit, Survey.{bool_at, number_at}}}
 
 -- ---- parents
 pub parent_in-none : (parents : List ℕ) (x : ℕ) → (number_at parents x ≡ 0) ⊎ (length parents ≤ number_at parents x) →

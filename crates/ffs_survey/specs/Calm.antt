@@ -1,12 +1,9 @@
 -- A directory of which nothing can be reported, by what a survey sees where it reads it.
-use Rattle.std.specs.Prelude.{◌≡◌, ℕ, suc, ◌==◌, Bool, true, false, not, ◌&&◌}
-use Rattle.std.specs.Prelude.{◌||◌, nat_le, nat_lt, List, [], ◌∷◌, length}
-use Rattle.std.specs.List.{list_any}
+use Rattle.std.specs.Prelude.{◌≡◌, ℕ, suc, ◌==◌, Bool, true, false, not, ◌&&◌, ◌||◌, nat_le, nat_lt, List, [], ◌∷◌}
+use Rattle.std.specs.{Prelude.length, List.list_any}
 use Rattle.ffs_volume.specs.declared.constants.TheConstants.{WINO, ROOTINO, DT_DIR, DT_WHT, EMPTY_DIR, UNKNOWN_TYPE}
-use Rattle.ffs_volume.specs.declared.Role.{Role}
-use Rattle.ffs_volume.specs.declared.Role.TheVariants.{Empty, Dot, Dotdot, Extra, Plain}
-use Rattle.ffs_volume.specs.Directories.Roles.{RoledEntry}
-use Rattle.ffs_volume.specs.Directories.Graph.{is_naming_entry}
+use Rattle.ffs_volume.specs.declared.Role.{Role, TheVariants.{Empty, Dot, Dotdot, Extra, Plain}}
+use Rattle.ffs_volume.specs.Directories.{Roles.RoledEntry, Graph.is_naming_entry}
 use Rattle.ffs_survey.specs.Survey.{bool_at, number_at, dir_at}
 
 -- the current directory and its parent, and what its entries are compared with: the kinds of inodes

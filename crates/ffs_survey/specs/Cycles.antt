@@ -1,11 +1,9 @@
 -- Walks along parents, in `walk_of`: of each number 1 more than the start of the walk that passed
 -- it, 0 where none did.
-use Rattle.std.specs.Prelude.{◌≡◌, ◌≢◌, ℕ, ◌<◌, ◌≤◌, ◌^◌, ◌==◌, ◌||◌, nat_le, Bool, false, cond}
-use Rattle.std.specs.Prelude.{List, length, All, Option, None, Some}
-use Rattle.std.specs.List.{sum_by}
+use Rattle.std.specs.Prelude.{◌≡◌, ◌≢◌, ℕ, ◌<◌, ◌≤◌, ◌^◌, ◌==◌, ◌||◌, nat_le, Bool, false, cond, List, length, All}
+use Rattle.std.specs.{Prelude.{Option, None, Some}, List.sum_by}
 use Rattle.ffs_volume.specs.Directories.Climb.{climb, IsOnCycle, IsLeader, is_leader_within}
-use Rattle.ffs_survey.specs.Survey.{number_at, bool_at}
-use Rattle.ffs_survey.specs.Discover.{bit}
+use Rattle.ffs_survey.specs.{Survey.{number_at, bool_at}, Discover.bit}
 
 -- the parent that a list holds of x: 0 and numbers past the list are none
 abbrev pub parent_in : List ℕ → ℕ → Option ℕ

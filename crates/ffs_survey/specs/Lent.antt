@@ -1,14 +1,8 @@
 -- The lists of a survey as they are lent, and what a call leaves of them.
-use Rattle.std.specs.Prelude.{◌≡◌, ℕ, ◌+◌, ◌<◌, ◌≤◌, Bool, List, Result, length, take}
-use Rattle.std.specs.Borrow.{GName}
-use Rattle.ffs_image.specs.Device.{Device}
-use Rattle.ffs_image.specs.declared.image.ImageFault.{ImageFault}
-use Rattle.ffs_survey.specs.declared.lists.Lists.{Lists}
-use Rattle.ffs_survey.specs.declared.lists.CurrentDir.{CurrentDir as LentDir}
-use Rattle.ffs_survey.specs.Survey.{number_at}
-use Rattle.ffs_survey.specs.Calm.{CurrentDir}
-use Rattle.ffs_survey.specs.Reading.{LeavesReader}
-use Rattle.ffs_survey.specs.Discover.{Found, unset}
+use Rattle.std.specs.{Prelude.{◌≡◌, ℕ, ◌+◌, ◌<◌, ◌≤◌, Bool, List, Result, length, take}, Borrow.GName}
+use Rattle.ffs_image.specs.{Device.Device, declared.image.ImageFault.ImageFault}
+use Rattle.ffs_survey.specs.{declared.lists.{Lists.Lists, CurrentDir.CurrentDir as LentDir}, Survey.number_at}
+use Rattle.ffs_survey.specs.{Calm.CurrentDir, Reading.LeavesReader, Discover.{Found, unset}}
 
 -- what the lists hold
 abbrev pub all_found : Lists → Found

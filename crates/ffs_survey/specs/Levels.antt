@@ -1,11 +1,10 @@
 -- What the reading of directories makes of what a survey has found.
 use Rattle.std.specs.Prelude.{◌≡◌, ℕ, ◌+◌, ◌<◌, ◌≤◌, ◌==◌, Bool, ◌&&◌, cond, List, length, take, drop}
 use Rattle.ffs_volume.specs.Directories.Roles.{RoledEntry}
-use Rattle.ffs_survey.specs.Survey.{bool_at, number_at, graph_with}
-use Rattle.ffs_survey.specs.Calm.{are_calm, AreCalm, IsFlagged}
-use Rattle.ffs_survey.specs.Discover.{Found, SameResult, Counts, AtLevel, IsReachedPart, from_entries, from_dirs, nothing}
-use Rattle.ffs_survey.specs.Discover.{count_in, any_in, count_of, any_of, none, never, is_unreached_dir, unset, HasRoomForLevel}
-use Rattle.ffs_survey.specs.Lists.{GrowsBy}
+use Rattle.ffs_survey.specs.{Survey.{bool_at, number_at, graph_with}, Calm.{are_calm, AreCalm, IsFlagged}}
+use Rattle.ffs_survey.specs.Discover.{Found, SameResult, Counts, AtLevel, IsReachedPart, from_entries, from_dirs}
+use Rattle.ffs_survey.specs.Discover.{nothing, count_in, any_in, count_of, any_of, none, never, is_unreached_dir, unset}
+use Rattle.ffs_survey.specs.{Discover.HasRoomForLevel, Lists.GrowsBy}
 
 -- the reached directory d with these entries is read
 pub record ReadsReached (kinds : List ℕ) (marked : List Bool) (d : ℕ) (entries : List RoledEntry) (right_shape : Bool)

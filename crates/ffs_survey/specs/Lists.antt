@@ -1,8 +1,7 @@
 -- The lists of a survey: each has an entry for every inode.
 use Rattle.std.specs.Prelude.{◌≡◌, ℕ, ◌+◌, ◌<◌, ◌≤◌, ◌^◌, Bool, List, length}
 use Rattle.ffs_volume.specs.Directories.Climb.{is_leader_within}
-use Rattle.ffs_survey.specs.Survey.{bool_at, number_at}
-use Rattle.ffs_survey.specs.Cycles.{parent_in}
+use Rattle.ffs_survey.specs.{Survey.{bool_at, number_at}, Cycles.parent_in}
 
 -- the references of each inode and whether an entry names it: one more reference of x fits
 pub record CountLists (kinds references : List ℕ) (named : List Bool) (x : ℕ) : Type 0 where

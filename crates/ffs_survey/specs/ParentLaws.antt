@@ -1,12 +1,10 @@
 -- The parent of a reached directory is one level nearer to inode 2.
-use Rattle.std.specs.Prelude.{◌≡◌, ◌≢◌, ℕ, suc, ◌<◌, ◌==◌, true, Option, Some, None, refl}
-use Rattle.std.proofs.Common.{arith, sym, ◌∙◌, ap}
-use Rattle.std.proofs.lemmas.Bool.{both_ways, and_parts, and_from, ne_eqb, cond-false, eq-eqb, eqb-true}
-use Rattle.ffs_volume.specs.Disk.Search.{first_below}
-use Rattle.ffs_volume.proofs.SearchLaws.{first_below-some, first_below-none}
-use Rattle.ffs_volume.specs.Directories.Climb.{is_value}
-use Rattle.ffs_volume.proofs.ClimbLaws.{is_value-true, is_value-from}
-use Rattle.ffs_volume.specs.Directories.Graph.{Graph, level, level_edge, edge, parent, parent_by}
+use Rattle.std.{specs.Prelude.{◌≡◌, ◌≢◌, ℕ, suc, ◌<◌, ◌==◌, true, Option, Some, None, refl}, proofs.Common.{arith, sym}}
+use Rattle.std.proofs.{Common.{◌∙◌, ap}, lemmas.Bool.{both_ways, and_parts, and_from, ne_eqb, cond-false, eq-eqb}}
+use Rattle.std.proofs.lemmas.Bool.{eqb-true}
+use Rattle.ffs_volume.{specs.Disk.Search.first_below, proofs.SearchLaws.{first_below-some, first_below-none}}
+use Rattle.ffs_volume.{specs.Directories.{Climb.is_value, Graph.Graph}, proofs.ClimbLaws.{is_value-true, is_value-from}}
+use Rattle.ffs_volume.specs.Directories.Graph.{level, level_edge, edge, parent, parent_by}
 use Rattle.ffs_volume.proofs.LevelLaws.{level-some, level-is, level-before, within-zero}
 
 -- the parent of a directory of level k + 1 is the least one of level k with an edge to it

@@ -1,9 +1,7 @@
 -- An entry as a reader hands it out, what a reader's base knows, and what a call leaves of a
 -- reader.
 use Rattle.std.specs.Prelude.{◌≡◌, ℕ, Bool, List, Result}
-use Rattle.ffs_image.specs.Device.{Device}
-use Rattle.ffs_image.specs.Reads.{ReadAfter}
-use Rattle.ffs_image.specs.declared.image.ImageFault.{ImageFault}
+use Rattle.ffs_image.specs.{Device.Device, Reads.ReadAfter, declared.image.ImageFault.ImageFault}
 use Rattle.ffs_volume.specs.Directories.Roles.{RoledEntry}
 use Rattle.ffs_survey.specs.declared.entry_head.EntryHead.{EntryHead}
 

@@ -1,9 +1,8 @@
 -- What a survey of directories finds of each inode, and the graph that it goes over.
-use Rattle.std.specs.Prelude.{◌≡◌, ℕ, zero, suc, ◌+◌, ◌<◌, ◌==◌, Bool, ◌&&◌, ◌||◌}
-use Rattle.std.specs.Prelude.{not, nat_le, min, if◌then◌else◌, List, length, count_by, unwrap_or}
-use Rattle.ffs_volume.specs.declared.constants.TheConstants.{NO_LINKS, ROOTINO}
-use Rattle.ffs_volume.specs.Directories.Roles.{RoledEntry, refers}
-use Rattle.ffs_volume.specs.Directories.Graph.{Graph, is_named, reached as is_reached, parent}
+use Rattle.std.specs.Prelude.{◌≡◌, ℕ, zero, suc, ◌+◌, ◌<◌, ◌==◌, Bool, ◌&&◌, ◌||◌, not, nat_le, min, if◌then◌else◌}
+use Rattle.std.specs.Prelude.{List, length, count_by, unwrap_or}
+use Rattle.ffs_volume.specs.{declared.constants.TheConstants.{NO_LINKS, ROOTINO}, Directories.Roles.RoledEntry}
+use Rattle.ffs_volume.specs.Directories.{Roles.refers, Graph.{Graph, is_named, reached as is_reached, parent}}
 pub use Rattle.ffs_volume.specs.Encodings.Lists.{bool_at, number_at}
 use Rattle.ffs_volume.specs.Encodings.Kinds.{is_empty_dir_kind}
 pub use Rattle.ffs_volume.specs.Encodings.Kinds.{is_dir_kind}

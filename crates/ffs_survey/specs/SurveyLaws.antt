@@ -1,20 +1,14 @@
 -- A survey of a volume's directories, from kinds and marks that the volume gives.
-use Rattle.std.specs.Prelude.{◌≡◌, ℕ, zero, suc, ◌+◌, ◌*◌, ◌==◌, Bool, true, false, not, ◌&&◌}
-use Rattle.std.specs.Prelude.{◌||◌, nat_le, nat_lt, if◌then◌else◌, List, refl, count_by}
-use Rattle.std.proofs.Common.{◌∙◌, ap, subst, inl, inr}
+use Rattle.std.specs.Prelude.{◌≡◌, ℕ, zero, suc, ◌+◌, ◌*◌, ◌==◌, Bool, true, false, not, ◌&&◌, ◌||◌, nat_le, nat_lt}
+use Rattle.std.{specs.Prelude.{if◌then◌else◌, List, refl, count_by}, proofs.Common.{◌∙◌, ap, subst, inl, inr}}
 use Rattle.std.proofs.lemmas.Bool.{or_cases, eqb-true, or_parts, false_from_ne_true}
-use Rattle.ffs_volume.specs.declared.Layout.{Layout}
-use Rattle.ffs_volume.specs.declared.Inode.{Inode}
-use Rattle.ffs_volume.specs.declared.Class.{Class}
-use Rattle.ffs_volume.specs.declared.Class.TheVariants.{Free, Partial, Unknown, File, Dir}
-use Rattle.ffs_volume.specs.Blocks.Inodes.{inode_of, class_of, type_of, is_known_type, any_nonzero, is_directory}
-use Rattle.ffs_volume.specs.Directories.Roles.{Volume, roled_entries, is_dir, is_suspect, refers}
-use Rattle.ffs_volume.specs.Directories.Roles.{references, references_below}
-use Rattle.ffs_volume.specs.Directories.Volumes.{class_at, marked_at, volume_of, volume_with}
-use Rattle.ffs_volume.specs.Directories.Parents.{graph_of}
+use Rattle.ffs_volume.specs.declared.{Layout.Layout, Inode.Inode, Class.{Class, TheVariants.{Free, Partial, Unknown}}}
+use Rattle.ffs_volume.specs.{declared.Class.TheVariants.{File, Dir}, Blocks.Inodes.{inode_of, class_of, type_of}}
+use Rattle.ffs_volume.specs.{Blocks.Inodes.{is_known_type, any_nonzero, is_directory}, Directories.Roles.Volume}
+use Rattle.ffs_volume.specs.Directories.Roles.{roled_entries, is_dir, is_suspect, refers, references, references_below}
+use Rattle.ffs_volume.specs.Directories.{Volumes.{class_at, marked_at, volume_of, volume_with}, Parents.graph_of}
 use Rattle.ffs_volume.specs.Encodings.Kinds.{kind_of}
-use Rattle.ffs_survey.specs.Survey.{bool_at, number_at, is_dir_kind, dir_at, suspect_at}
-use Rattle.ffs_survey.specs.Survey.{counted_below, references_to}
+use Rattle.ffs_survey.specs.Survey.{bool_at, number_at, is_dir_kind, dir_at, suspect_at, counted_below, references_to}
 
 -- the references of the graph are the volume's
 pub references_is : (v : Volume) (x : ℕ) → references_to (graph_of v) x ≡ references v x

@@ -1,10 +1,8 @@
 -- Laws of `specs/Laws/Accepted`.
 use Rattle.std.proofs.Common.{◌≡◌, ℕ, Bool, List, length, Option, None, Ok, arith}
-use Rattle.ffs_volume.{proofs.GeometryLaws.geometry_holds}
-use Rattle.ffs_volume.specs.Disk.Outcome.{super_bytes, super_verdict, outcome_in, outcome_of}
-use Rattle.ffs_volume.specs.Disk.{Outcome.outcome, Superblock.Superblock}
-use Rattle.ffs_volume.specs.{Disk.Superblock.superblock_of, Disk.Superblock.order_of, Laws.Accepted.FitsImage}
-use Rattle.ffs_volume.specs.{Laws.Accepted.AcceptedFit, declared.Order.Order, declared.SuperFault.SuperFault}
+use Rattle.ffs_volume.{proofs.GeometryLaws.geometry_holds, specs.Disk.Outcome.{super_bytes, super_verdict, outcome_in}}
+use Rattle.ffs_volume.specs.Disk.{Outcome.{outcome_of, outcome}, Superblock.{Superblock, superblock_of, order_of}}
+use Rattle.ffs_volume.specs.{Laws.Accepted.{FitsImage, AcceptedFit}, declared.{Order.Order, SuperFault.SuperFault}}
 
 super_verdict-ok : (fault : Option SuperFault) (agrees : Bool) (super s : Superblock) → super_verdict fault agrees super ≡ Ok s
     → (fault ≡ None) × (super ≡ s)

@@ -1,10 +1,9 @@
 -- Laws of the areas of an accepted layout.
-use Rattle.std.proofs.Common.{zero, suc, ◌≡◌, ℕ, ◌+◌, ◌-◌, ◌*◌, ◌/◌}
-use Rattle.std.proofs.Common.{◌<◌, ◌≤◌, Bool, true, false, arith, mul-le-mul_right, nat_lt, nat_le, ◌&&◌}
-use Rattle.std.proofs.{lemmas.Bool.Decides.nat_tests}
-use Rattle.std.{proofs.lemmas.Grind.div_ceil_times, proofs.lemmas.Nat.div_below, specs.Int.div_ceil}
+use Rattle.std.proofs.Common.{zero, suc, ◌≡◌, ℕ, ◌+◌, ◌-◌, ◌*◌, ◌/◌, ◌<◌, ◌≤◌, Bool, true, false, arith}
+use Rattle.std.proofs.{Common.{mul-le-mul_right, nat_lt, nat_le, ◌&&◌}, lemmas.Bool.Decides.nat_tests}
+use Rattle.std.{proofs.lemmas.{Grind.div_ceil_times, Nat.div_below}, specs.Int.div_ceil}
 use Rattle.ffs_volume.specs.Disk.Areas.{cgbase, cgstart, cgsblock, cgdmin, is_group_metadata}
-use Rattle.ffs_volume.{proofs.SearchLaws.some_below-suc, specs.Disk.Outcome.copy_place, specs.Disk.Search.first_below}
+use Rattle.ffs_volume.{proofs.SearchLaws.some_below-suc, specs.Disk.{Outcome.copy_place, Search.first_below}}
 use Rattle.ffs_volume.specs.{Disk.Search.some_below, Laws.Geometry.IsAcceptedLayout, declared.Layout.Layout}
 
 -- a test that at most one number passes

@@ -1,11 +1,9 @@
 -- A directory has no more chunks than the size of it that is read.
-use Rattle.std.proofs.Common.{◌≡◌, ℕ, ◌+◌, ◌-◌, ◌*◌, ◌/◌, ◌≤◌, Bool}
-use Rattle.std.proofs.Common.{arith, List, [], ◌∷◌, length, length-append, Some, None, min, mul-le-mul_right}
-use Rattle.std.proofs.{Math.Nat.mul-div-le, lemmas.List.length-map}
-use Rattle.std.{proofs.lemmas.List.FromFn.length-range_with_len}
-use Rattle.ffs_volume.proofs.StepLaws.{Within}
-use Rattle.ffs_volume.specs.Directories.Entries.{ChunkSource, run_chunks, chunks_of}
-use Rattle.ffs_volume.specs.{declared.Step.Step, declared.Step.TheVariants.Run}
+use Rattle.std.proofs.Common.{◌≡◌, ℕ, ◌+◌, ◌-◌, ◌*◌, ◌/◌, ◌≤◌, Bool, arith, List, [], ◌∷◌, length, length-append, Some}
+use Rattle.std.proofs.{Common.{None, min, mul-le-mul_right}, Math.Nat.mul-div-le, lemmas.List.length-map}
+use Rattle.std.proofs.lemmas.List.FromFn.{length-range_with_len}
+use Rattle.ffs_volume.{proofs.StepLaws.Within, specs.Directories.Entries.{ChunkSource, run_chunks, chunks_of}}
+use Rattle.ffs_volume.specs.declared.Step.{Step, TheVariants.Run}
 
 -- how many chunks a Run has
 run_length : (r : ChunkSource) (start len offset : ℕ) → length (run_chunks r start len offset)

@@ -1,10 +1,9 @@
 -- Laws of `specs/Directories/Climb`.
-use Rattle.std.proofs.Common.{◌≡◌, ℕ, zero, suc, ◌+◌, ◌-◌, ◌<◌, ◌≤◌, Bool}
-use Rattle.std.proofs.Common.{true, not, refl, Option, None, Some, option_and_then, arith, ◌∙◌, ap, eq-eqb}
-use Rattle.std.proofs.lemmas.Bool.{Decides.nat_tests}
+use Rattle.std.proofs.Common.{◌≡◌, ℕ, zero, suc, ◌+◌, ◌-◌, ◌<◌, ◌≤◌, Bool, true, not, refl, Option, None, Some}
+use Rattle.std.proofs.{Common.{option_and_then, arith, ◌∙◌, ap, eq-eqb}, lemmas.Bool.Decides.nat_tests}
 use Rattle.ffs_volume.specs.Directories.Climb.{climb, is_value, none_or_at_least, is_leader_within, IsOnCycle, IsLeader}
-use Rattle.ffs_volume.{proofs.Pigeon.pigeon, specs.Disk.Search.some_below}
-use Rattle.ffs_volume.proofs.SearchLaws.{some_below-gives, some_below-from, some_below-false, some_below-none}
+use Rattle.ffs_volume.{proofs.{Pigeon.pigeon, SearchLaws.some_below-gives}, specs.Disk.Search.some_below}
+use Rattle.ffs_volume.proofs.SearchLaws.{some_below-from, some_below-false, some_below-none}
 
 -- where the test holds, the number is below n and f leads to a number where it holds
 pub record StaysBelow (f : ℕ → Option ℕ) (p : ℕ → Bool) (n : ℕ) : Type 0 where

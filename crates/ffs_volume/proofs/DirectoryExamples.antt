@@ -1,20 +1,19 @@
 -- The examples of directories, by computation.
 use Rattle.ffs_volume.specs.Directories.{Climb.climb, Connectivity.connectivity_lines, Entries.is_well_formed}
-use Rattle.ffs_volume.specs.Directories.{Entries.entry_read, Entries.entry_at, Entries.entries_from, Graph.within}
-use Rattle.ffs_volume.specs.Directories.{Graph.level, Graph.parent, PathnameCheck.attributes, PathnameCheck.root_lines}
-use Rattle.ffs_volume.specs.Directories.PathnameCheck.{shape_lines, dot_lines, dotdot_lines, named_lines, plain_lines}
-use Rattle.ffs_volume.specs.Directories.PathnameCheck.{entry_lines, lines_of_entries, sized_dir_lines, pathname_lines}
-use Rattle.ffs_volume.specs.Directories.Paths.{longest_end, path_bytes, names_down, dir_path, entry_path}
-use Rattle.ffs_volume.specs.Directories.{ReferenceCheck.inode_lines, ReferenceCheck.reference_lines, Roles.role_of}
-use Rattle.ffs_volume.specs.Directories.Roles.{roled_from, roled_entries, start_entry, dot, dotdot, references_below}
-use Rattle.ffs_volume.specs.Disk.{Numbers.number, Numbers.u16_at, Numbers.u32_at, Search.first_below, Search.earliest}
-use Rattle.ffs_volume.specs.Examples.DirectoryExamples.{entry_bytes, with_second_entry, entry, two_chunks}
-use Rattle.ffs_volume.specs.Examples.DirectoryExamples.{dots, small, whole_chunk, class_with_dirs_below, about, alone}
-use Rattle.ffs_volume.specs.Examples.DirectoryExamples.{lost_entries, below_entries, lost_cycle, twice_entries, twice}
-use Rattle.ffs_volume.specs.Examples.DirectoryExamples.{sub_entries, sub, empty_dir, dead_entries, dead_parent, sized}
-use Rattle.ffs_volume.specs.Examples.DirectoryExamples.{long_name, EntryExamples, PathnameExamples, ReferenceExamples}
-use Rattle.ffs_volume.specs.Examples.Images.{bytes_in, word, zero_bytes, root_chunk}
-use Rattle.ffs_volume.specs.Messages.Kinds.{lines_below}
+use Rattle.ffs_volume.specs.Directories.{Entries.{entry_read, entry_at, entries_from}, Graph.{within, level, parent}}
+use Rattle.ffs_volume.specs.Directories.PathnameCheck.{attributes, root_lines, shape_lines, dot_lines, dotdot_lines}
+use Rattle.ffs_volume.specs.Directories.PathnameCheck.{named_lines, plain_lines, entry_lines, lines_of_entries}
+use Rattle.ffs_volume.specs.Directories.{PathnameCheck.{sized_dir_lines, pathname_lines}, Paths.longest_end}
+use Rattle.ffs_volume.specs.Directories.Paths.{path_bytes, names_down, dir_path, entry_path}
+use Rattle.ffs_volume.specs.Directories.{ReferenceCheck.{inode_lines, reference_lines}, Roles.{role_of, roled_from}}
+use Rattle.ffs_volume.specs.Directories.Roles.{roled_entries, start_entry, dot, dotdot, references_below}
+use Rattle.ffs_volume.specs.Disk.{Numbers.{number, u16_at, u32_at}, Search.{first_below, earliest}}
+use Rattle.ffs_volume.specs.Examples.DirectoryExamples.{entry_bytes, with_second_entry, entry, two_chunks, dots, small}
+use Rattle.ffs_volume.specs.Examples.DirectoryExamples.{whole_chunk, class_with_dirs_below, about, alone, lost_entries}
+use Rattle.ffs_volume.specs.Examples.DirectoryExamples.{below_entries, lost_cycle, twice_entries, twice, sub_entries}
+use Rattle.ffs_volume.specs.Examples.DirectoryExamples.{sub, empty_dir, dead_entries, dead_parent, sized, long_name}
+use Rattle.ffs_volume.specs.Examples.DirectoryExamples.{EntryExamples, PathnameExamples, ReferenceExamples}
+use Rattle.ffs_volume.specs.{Examples.Images.{bytes_in, word, zero_bytes, root_chunk}, Messages.Kinds.lines_below}
 
 -- what the examples compute with
 computed : Unit {0}

@@ -1,11 +1,9 @@
 -- Laws of `specs/Disk/Geometry`.
-use Rattle.std.proofs.Common.{◌≡◌, ℕ, ◌*◌, ◌≤◌, true, None, arith}
-use Rattle.std.proofs.lemmas.Bool.Decides.{nat_tests}
-use Rattle.ffs_volume.{specs.declared.Layout.Layout, proofs.Below.all_below-at}
-use Rattle.ffs_volume.specs.Disk.Numbers.{all_below}
-use Rattle.ffs_volume.specs.Disk.Outcome.{is_block_size, is_fragment_size, is_fragment_count}
-use Rattle.ffs_volume.specs.Disk.Outcome.{has_valid_sizes, has_valid_numbers, has_valid_parts, has_valid_cylinders}
-use Rattle.ffs_volume.specs.Disk.Outcome.{has_valid_group, has_valid_summary_area, is_valid_layout, layout_fault}
+use Rattle.std.proofs.{Common.{◌≡◌, ℕ, ◌*◌, ◌≤◌, true, None, arith}, lemmas.Bool.Decides.nat_tests}
+use Rattle.ffs_volume.{specs.{declared.Layout.Layout, Disk.Numbers.all_below}, proofs.Below.all_below-at}
+use Rattle.ffs_volume.specs.Disk.Outcome.{is_block_size, is_fragment_size, is_fragment_count, has_valid_sizes}
+use Rattle.ffs_volume.specs.Disk.Outcome.{has_valid_numbers, has_valid_parts, has_valid_cylinders, has_valid_group}
+use Rattle.ffs_volume.specs.Disk.Outcome.{has_valid_summary_area, is_valid_layout, layout_fault}
 use Rattle.ffs_volume.specs.Laws.Geometry.{HasSizes, HasNumbers, HasParts, HasGroup, HasSummaryArea, IsAcceptedLayout}
 
 block_size : (n : ℕ) → is_block_size n ≡ true → (4096 ≤ n) × (n ≤ 65536)

@@ -1,12 +1,11 @@
 -- Laws that say of definitions what they are meant to say.
-use Rattle.std.{specs.List.range_with_len, proofs.Common.zero, proofs.Common.suc}
-use Rattle.std.proofs.Common.{◌≡◌, ℕ, ◌+◌, ◌*◌, ◌/◌, ◌≤◌, Bool, true, false, cond, arith, refl, ◌∙◌, List, []}
-use Rattle.std.proofs.Common.{◌∷◌, length, Option, if◌then◌else◌, map, count_by, sum_by, div-add-mod'}
-use Rattle.std.proofs.lemmas.List.{FromFn.length-map-range_with_len, Sums.sum_by-cons}
+use Rattle.std.{specs.List.range_with_len, proofs.Common.{zero, suc, ◌≡◌, ℕ, ◌+◌, ◌*◌, ◌/◌, ◌≤◌, Bool, true, false}}
+use Rattle.std.proofs.Common.{cond, arith, refl, ◌∙◌, List, [], ◌∷◌, length, Option, if◌then◌else◌, map, count_by}
+use Rattle.std.proofs.{Common.{sum_by, div-add-mod'}, lemmas.List.{FromFn.length-map-range_with_len, Sums.sum_by-cons}}
 use Rattle.ffs_volume.specs.Directories.Paths.{path_names, dir_path_of_names, entry_path_of_names, dir_path, entry_path}
-use Rattle.ffs_volume.specs.Laws.Meanings.{AllPathsFit, SumsAreWhole}
-use Rattle.ffs_volume.{proofs.PathBound.path_text-fits, specs.Disk.Areas.cgbase}
-use Rattle.ffs_volume.specs.Groups.Records.{is_free_block, block_bits, block_numbers, right_group_counts}
+use Rattle.ffs_volume.{specs.Laws.Meanings.{AllPathsFit, SumsAreWhole}, proofs.PathBound.path_text-fits}
+use Rattle.ffs_volume.specs.{Disk.Areas.cgbase, Groups.Records.{is_free_block, block_bits, block_numbers}}
+use Rattle.ffs_volume.specs.Groups.Records.{right_group_counts}
 
 -- PATHS
 dir_fits : (names : Option (List (List ℕ))) → length (dir_path_of_names names) ≤ 1024

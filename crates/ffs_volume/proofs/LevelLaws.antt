@@ -1,11 +1,10 @@
 -- Laws of `specs/Directories/Levels`.
-use Rattle.std.proofs.Common.{◌≡◌, ℕ, zero, suc, ◌+◌, ◌-◌, ◌<◌, ◌≤◌}
-use Rattle.std.proofs.Common.{◌==◌, true, ◌&&◌, ◌||◌, refl, Some, is_some, arith, ◌∙◌, ap, inl, inr, eq-eqb}
-use Rattle.std.proofs.lemmas.Bool.{cases_lt, and_parts, and_from, or_right}
-use Rattle.ffs_volume.proofs.{Pigeon.pigeon, SearchLaws.is_some-value}
-use Rattle.ffs_volume.proofs.SearchLaws.{some_below-gives, some_below-from, first_below-is, first_below-some}
-use Rattle.ffs_volume.specs.Directories.Graph.{Graph, within, level, edge, reached, parent}
-use Rattle.ffs_volume.specs.{Disk.Search.some_below, Laws.Levels.IsLevel}
+use Rattle.std.proofs.Common.{◌≡◌, ℕ, zero, suc, ◌+◌, ◌-◌, ◌<◌, ◌≤◌, ◌==◌, true, ◌&&◌, ◌||◌, refl, Some, is_some, arith}
+use Rattle.std.proofs.{Common.{◌∙◌, ap, inl, inr, eq-eqb}, lemmas.Bool.{cases_lt, and_parts, and_from, or_right}}
+use Rattle.ffs_volume.proofs.{Pigeon.pigeon, SearchLaws.{is_some-value, some_below-gives, some_below-from}}
+use Rattle.ffs_volume.{proofs.SearchLaws.{first_below-is, first_below-some}, specs.Directories.Graph.{Graph, within}}
+use Rattle.ffs_volume.specs.{Directories.Graph.{level, edge, reached, parent}, Disk.Search.some_below}
+use Rattle.ffs_volume.specs.Laws.Levels.{IsLevel}
 
 pub within-suc : (v : Graph) (k d : ℕ) →
     within v (suc k) d ≡ (within v k d || some_below (λ s. within v k s && edge v s d) v.count)

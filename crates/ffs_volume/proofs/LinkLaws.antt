@@ -1,8 +1,7 @@
 -- What a count of references says of an inode's links.
-use Rattle.std.proofs.Common.{◌≡◌, ℕ, ◌+◌, true, false, ℤ, arith, ◌==◌}
-use Rattle.std.proofs.lemmas.Bool.Decides.{nat_tests}
-use Rattle.ffs_volume.specs.Disk.Numbers.{equals_natural}
-use Rattle.ffs_volume.specs.{Encodings.Links.links_start, declared.constants.TheConstants.LINKS_MET}
+use Rattle.std.proofs.{Common.{◌≡◌, ℕ, ◌+◌, true, false, ℤ, arith, ◌==◌}, lemmas.Bool.Decides.nat_tests}
+use Rattle.ffs_volume.specs.{Disk.Numbers.equals_natural, Encodings.Links.links_start}
+use Rattle.ffs_volume.specs.declared.constants.TheConstants.{LINKS_MET}
 
 -- each link has a reference, and there is one
 pub record AreMet (links : ℤ) (references : ℕ) : Type 0 where

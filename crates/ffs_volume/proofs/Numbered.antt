@@ -1,7 +1,6 @@
 -- How the lines of numbers in ascending order continue.
 use Rattle.std.proofs.Common.{◌≡◌, ℕ, zero, suc, ◌+◌, ◌-◌, ◌<◌, ◌≤◌, List, [], ◌++◌, map, append_assoc, append-nil}
-use Rattle.std.proofs.Common.{length, refl, ap, ◌∙◌, sym, arith, length-append}
-use Rattle.std.proofs.lemmas.List.{length-map, map-append}
+use Rattle.std.proofs.{Common.{length, refl, ap, ◌∙◌, sym, arith, length-append}, lemmas.List.{length-map, map-append}}
 use Rattle.ffs_volume.specs.Messages.Kinds.{TreeMessage, of_tree, lines_below, lines_from}
 
 -- those below d + k are those below d and the k from d on

@@ -1,17 +1,16 @@
 -- The examples of superblocks, areas and the opening, by computation.
 use Rattle.ffs_volume.specs.Disk.Areas.{cgoffset_of, cgbase, cgstart, is_group_metadata, is_fragment_in_range}
-use Rattle.ffs_volume.specs.Disk.Areas.{is_run_in_range, is_reserved}
-use Rattle.ffs_volume.specs.Disk.Numbers.{number, all_below, u32_at, i32_at, count_at}
-use Rattle.ffs_volume.specs.Disk.Outcome.{super_verdict, has_valid_cylinders, is_block_size, is_fragment_size, agree}
-use Rattle.ffs_volume.specs.Disk.Outcome.{is_fragment_count, has_valid_sizes, has_valid_numbers, has_valid_parts}
-use Rattle.ffs_volume.specs.Disk.Outcome.{has_valid_group, has_valid_summary_area, is_valid_layout, layout_fault}
-use Rattle.ffs_volume.specs.Disk.Outcome.{copy_agrees, outcome, outcome_in, outcome_of}
-use Rattle.ffs_volume.specs.Disk.{Search.first_below, Search.earliest, Superblock.layout_of, Superblock.superblock_of}
-use Rattle.ffs_volume.specs.{Disk.Superblock.order_of, Messages.Shown.octal, Report.Opening.setting_lines}
-use Rattle.ffs_volume.specs.Examples.Images.{bytes_in, word, zero_bytes, base_layout, base_superblock, base_super}
-use Rattle.ffs_volume.specs.Examples.Images.{base_summary, base_group, root_inode, root_chunk, base_image, changed}
-use Rattle.ffs_volume.specs.Examples.Images.{image_of, fault_of, two_groups}
-use Rattle.ffs_volume.specs.Examples.OpeningExamples.{SuperblockExamples, AreaExamples, OpeningExamples}
+use Rattle.ffs_volume.specs.Disk.{Areas.{is_run_in_range, is_reserved}, Numbers.{number, all_below, u32_at, i32_at}}
+use Rattle.ffs_volume.specs.Disk.{Numbers.count_at, Outcome.{super_verdict, has_valid_cylinders, is_block_size}}
+use Rattle.ffs_volume.specs.Disk.Outcome.{is_fragment_size, agree, is_fragment_count, has_valid_sizes}
+use Rattle.ffs_volume.specs.Disk.Outcome.{has_valid_numbers, has_valid_parts, has_valid_group, has_valid_summary_area}
+use Rattle.ffs_volume.specs.Disk.Outcome.{is_valid_layout, layout_fault, copy_agrees, outcome, outcome_in, outcome_of}
+use Rattle.ffs_volume.specs.Disk.{Search.{first_below, earliest}, Superblock.{layout_of, superblock_of, order_of}}
+use Rattle.ffs_volume.specs.{Messages.Shown.octal, Report.Opening.setting_lines, Examples.Images.{bytes_in, word}}
+use Rattle.ffs_volume.specs.Examples.Images.{zero_bytes, base_layout, base_superblock, base_super, base_summary}
+use Rattle.ffs_volume.specs.Examples.Images.{base_group, root_inode, root_chunk, base_image, changed, image_of}
+use Rattle.ffs_volume.specs.Examples.{Images.{fault_of, two_groups}, OpeningExamples.{SuperblockExamples, AreaExamples}}
+use Rattle.ffs_volume.specs.Examples.OpeningExamples.{OpeningExamples}
 
 -- what the examples compute with
 computed : Unit {0}

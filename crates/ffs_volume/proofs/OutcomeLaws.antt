@@ -1,11 +1,10 @@
 -- Each way in which an outcome comes about.
 use Rattle.std.proofs.Common.{◌≡◌, ℕ, ◌+◌, ◌*◌, ◌<◌, ◌≤◌, true, false, List, length, Option, Some, None, Ok, Err, arith}
 use Rattle.std.proofs.{Common.nat_lt, lemmas.Bool.Decides.nat_tests}
-use Rattle.ffs_volume.specs.Disk.{Numbers.piece, Outcome.super_sector}
-use Rattle.ffs_volume.specs.Disk.Outcome.{layout_fault, copy_agrees, super_verdict, outcome_in, outcome_of, outcome}
-use Rattle.ffs_volume.specs.Disk.Superblock.{order_of, layout_of, superblock_of}
-use Rattle.ffs_volume.specs.declared.{Layout.Layout, Order.Order, SuperFault.SuperFault}
-use Rattle.ffs_volume.specs.declared.SuperFault.TheVariants.{CannotRead, Magic, Disagree}
+use Rattle.ffs_volume.specs.Disk.{Numbers.piece, Outcome.{super_sector, layout_fault, copy_agrees, super_verdict}}
+use Rattle.ffs_volume.specs.Disk.{Outcome.{outcome_in, outcome_of, outcome}, Superblock.{order_of, layout_of}}
+use Rattle.ffs_volume.specs.{Disk.Superblock.superblock_of, declared.{Layout.Layout, Order.Order}}
+use Rattle.ffs_volume.specs.declared.SuperFault.{SuperFault, TheVariants.{CannotRead, Magic, Disagree}}
 
 module _ (image : List ℕ) (sector : Option ℕ) where
   pub outcome_past_end : length image < super_sector sector * 512 + 1376 →

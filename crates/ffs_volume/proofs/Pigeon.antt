@@ -1,8 +1,7 @@
 -- Among n + 1 numbers below n two are equal.
-use Rattle.std.proofs.Common.{◌≡◌, ℕ, zero, suc, ◌<◌, ◌≤◌, ◌==◌, cond, arith, inl, inr}
-use Rattle.std.proofs.lemmas.Bool.{cases_Bool, Decides.nat_tests}
-use Rattle.ffs_volume.proofs.SearchLaws.{some_below-gives, some_below-false}
-use Rattle.ffs_volume.specs.Disk.Search.{some_below}
+use Rattle.std.proofs.{Common.{◌≡◌, ℕ, zero, suc, ◌<◌, ◌≤◌, ◌==◌, cond, arith, inl, inr}, lemmas.Bool.cases_Bool}
+use Rattle.std.proofs.lemmas.Bool.Decides.{nat_tests}
+use Rattle.ffs_volume.{proofs.SearchLaws.{some_below-gives, some_below-false}, specs.Disk.Search.some_below}
 
 pub record Repeats (g : ℕ → ℕ) (n : ℕ) : Type 0 where
   pub first : ℕ

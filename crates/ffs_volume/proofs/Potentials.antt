@@ -1,17 +1,15 @@
 -- What the Runs that are seen and the offers that are kept use up, over the steps of an inode.
-use Rattle.std.proofs.Common.{◌≡◌, ℕ, ◌+◌, ◌<◌, ◌≤◌, Bool, true, false, if◌then◌else◌, nat_lt, List, [], ◌∷◌}
-use Rattle.std.proofs.Common.{length, suc, count_by, arith, ◌∙◌, slice_set, length-set, slice_index, slice_index_or}
-use Rattle.std.proofs.{Common.All, lemmas.Bool.and_parts}
-use Rattle.std.proofs.lemmas.{Bool.cond_both, Bool.Decides.nat_tests, List.Elements.All-head, List.Elements.All-tail}
-use Rattle.std.proofs.lemmas.List.{FromFn.length-range_with_len, FromFn.get_or-range_with_len, Sums.count_by-le-length}
+use Rattle.std.proofs.Common.{◌≡◌, ℕ, ◌+◌, ◌<◌, ◌≤◌, Bool, true, false, if◌then◌else◌, nat_lt, List, [], ◌∷◌, length}
+use Rattle.std.proofs.Common.{suc, count_by, arith, ◌∙◌, slice_set, length-set, slice_index, slice_index_or, All}
+use Rattle.std.proofs.lemmas.{Bool.{and_parts, cond_both, Decides.nat_tests}, List.Elements.{All-head, All-tail}}
+use Rattle.std.proofs.lemmas.List.{FromFn.{length-range_with_len, get_or-range_with_len}, Sums.count_by-le-length}
 use Rattle.std.{proofs.lemmas.List.Sums.sum_by-set, specs.List.range_with_len}
-use Rattle.ffs_volume.proofs.{Below.all_below-at, StepLaws.steps_long}
-use Rattle.ffs_volume.specs.Blocks.Claims.{Claims, at_next_inode, is_open, after_offer, after_offers, after_run}
-use Rattle.ffs_volume.specs.Blocks.{Claims.after_step, Claims.after_steps, Claims.after_owner}
-use Rattle.ffs_volume.specs.{Blocks.Owners.owner_of, Disk.Areas.is_fragment_in_range}
-use Rattle.ffs_volume.specs.{Disk.Areas.is_run_in_range, Laws.ClaimBounds.potential, Laws.ClaimBounds.ClaimBound}
-use Rattle.ffs_volume.specs.{Laws.Geometry.IsAcceptedLayout, Laws.RunLengths.HasLength, declared.Layout.Layout}
-use Rattle.ffs_volume.specs.declared.Step.{Step, TheVariants.Run, TheVariants.Tail, TheVariants.Gap}
+use Rattle.ffs_volume.{proofs.{Below.all_below-at, StepLaws.steps_long}, specs.Blocks.Claims.{Claims, at_next_inode}}
+use Rattle.ffs_volume.specs.Blocks.Claims.{is_open, after_offer, after_offers, after_run, after_step, after_steps}
+use Rattle.ffs_volume.specs.{Blocks.{Claims.after_owner, Owners.owner_of}, Disk.Areas.is_fragment_in_range}
+use Rattle.ffs_volume.specs.{Disk.Areas.is_run_in_range, Laws.ClaimBounds.{potential, ClaimBound}}
+use Rattle.ffs_volume.specs.{Laws.{Geometry.IsAcceptedLayout, RunLengths.HasLength}, declared.Layout.Layout}
+use Rattle.ffs_volume.specs.declared.Step.{Step, TheVariants.{Run, Tail, Gap}}
 
 -- a fact of a choice of two, by cases
 pub cond_holds : {A : Type 0} (P : A → Type 0) (b : Bool) (x y : A) → (b ≡ true → P x) → (b ≡ false → P y) →

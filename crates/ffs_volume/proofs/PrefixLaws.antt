@@ -1,15 +1,12 @@
 -- Kept offers are a prefix of the offers.
-use Rattle.std.proofs.lemmas.Bool.Decides.{nat_tests}
-use Rattle.std.proofs.Common.{arith}
-use Rattle.std.proofs.Common.{inl, inr, ◌≡◌, ℕ, ◌+◌, Bool, true, false, refl, List, [], ◌∷◌, ◌++◌, append_assoc}
-use Rattle.std.proofs.Common.{append-nil, nat_lt, ◌==◌, not, if◌then◌else◌, map}
-use Rattle.std.proofs.lemmas.{Bool.cases_Bool, Bool.not-true, List.map-append}
-use Rattle.std.specs.List.{range_with_len}
-use Rattle.ffs_volume.specs.Blocks.Claims.{Claims, is_open, after_offer, after_offers, after_run, after_step, after_steps}
-use Rattle.ffs_volume.specs.Blocks.KeptOffers.{Offer, kept_in_offers, kept_in_run, kept_in_step, kept_in_steps, offer_of}
-use Rattle.ffs_volume.specs.{Blocks.Owners.fragments_of, Blocks.Owners.step_fragments, Disk.Areas.is_run_in_range}
-use Rattle.ffs_volume.specs.{Laws.Meanings.KeptPrefix, declared.Layout.Layout}
-use Rattle.ffs_volume.specs.declared.Step.{Step, TheVariants.Run, TheVariants.Tail, TheVariants.Gap}
+use Rattle.std.proofs.{lemmas.Bool.Decides.nat_tests, Common.{arith, inl, inr, ◌≡◌, ℕ, ◌+◌, Bool, true, false, refl}}
+use Rattle.std.proofs.Common.{List, [], ◌∷◌, ◌++◌, append_assoc, append-nil, nat_lt, ◌==◌, not, if◌then◌else◌, map}
+use Rattle.std.{proofs.lemmas.{Bool.{cases_Bool, not-true}, List.map-append}, specs.List.range_with_len}
+use Rattle.ffs_volume.specs.Blocks.Claims.{Claims, is_open, after_offer, after_offers, after_run, after_step}
+use Rattle.ffs_volume.specs.Blocks.{Claims.after_steps, KeptOffers.{Offer, kept_in_offers, kept_in_run, kept_in_step}}
+use Rattle.ffs_volume.specs.Blocks.{KeptOffers.{kept_in_steps, offer_of}, Owners.{fragments_of, step_fragments}}
+use Rattle.ffs_volume.specs.{Disk.Areas.is_run_in_range, Laws.Meanings.KeptPrefix, declared.{Layout.Layout, Step.Step}}
+use Rattle.ffs_volume.specs.declared.Step.TheVariants.{Run, Tail, Gap}
 
 -- where eleven offers were dup, no offer is kept or claims anything
 pub full_offers : (v : Layout) (i : ℕ) (s : Claims) (fs : List ℕ) → nat_lt s.dups 11 ≡ false →

@@ -1,15 +1,13 @@
 -- Laws of `specs/Encodings/Replay`.
-use Rattle.std.proofs.Common.{◌≡◌, ℕ, ◌+◌, ◌-◌, ◌<◌, ◌≤◌, false, arith, refl, ap, List, []}
-use Rattle.std.proofs.Common.{◌∷◌, ◌++◌, nat_lt, if◌then◌else◌, map}
-use Rattle.std.proofs.lemmas.{Bool.Decides.nat_tests, Bool.and_right, List.FromFn.length-range_with_len}
-use Rattle.std.specs.List.{range_with_len}
-use Rattle.ffs_volume.proofs.{Potentials.offers_keep, PrefixLaws.shut_steps}
-use Rattle.ffs_volume.specs.Blocks.Claims.{Claims, at_next_inode, is_open, after_offers, after_run, after_step}
-use Rattle.ffs_volume.specs.Blocks.{Claims.after_steps, KeptOffers.Offer, KeptOffers.offer_of, KeptSteps.is_kept_step}
-use Rattle.ffs_volume.specs.{Blocks.KeptSteps.kept_steps, declared.Layout.Layout}
-use Rattle.ffs_volume.specs.Encodings.Replay.{Replay, fresh_replay, cut_of, is_replay_open, taken_of, replay_after_run}
-use Rattle.ffs_volume.specs.Encodings.Replay.{replay_after_step, is_replayed, replayed_steps}
-use Rattle.ffs_volume.specs.declared.Step.{Step, TheVariants.Run, TheVariants.Tail, TheVariants.Gap}
+use Rattle.std.proofs.Common.{◌≡◌, ℕ, ◌+◌, ◌-◌, ◌<◌, ◌≤◌, false, arith, refl, ap, List, [], ◌∷◌, ◌++◌, nat_lt}
+use Rattle.std.proofs.{Common.{if◌then◌else◌, map}, lemmas.Bool.{Decides.nat_tests, and_right}}
+use Rattle.std.{proofs.lemmas.List.FromFn.length-range_with_len, specs.List.range_with_len}
+use Rattle.ffs_volume.{proofs.{Potentials.offers_keep, PrefixLaws.shut_steps}, specs.Blocks.Claims.Claims}
+use Rattle.ffs_volume.specs.Blocks.Claims.{at_next_inode, is_open, after_offers, after_run, after_step, after_steps}
+use Rattle.ffs_volume.specs.Blocks.{KeptOffers.{Offer, offer_of}, KeptSteps.{is_kept_step, kept_steps}}
+use Rattle.ffs_volume.specs.{declared.Layout.Layout, Encodings.Replay.{Replay, fresh_replay, cut_of, is_replay_open}}
+use Rattle.ffs_volume.specs.Encodings.Replay.{taken_of, replay_after_run, replay_after_step, is_replayed}
+use Rattle.ffs_volume.specs.{Encodings.Replay.replayed_steps, declared.Step.{Step, TheVariants.{Run, Tail, Gap}}}
 
 -- the replay of a fold
 abbrev pub replay_of : Claims → Replay

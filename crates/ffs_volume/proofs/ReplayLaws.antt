@@ -1,14 +1,12 @@
 -- Laws of `specs/Encodings/ReplayCounts`.
-use Rattle.std.proofs.Common.{zero, suc, ◌≡◌, ℕ, ◌+◌, ◌≤◌, arith, refl}
-use Rattle.std.proofs.Common.{List, [], ◌∷◌, ◌++◌, replicate}
+use Rattle.std.proofs.Common.{zero, suc, ◌≡◌, ℕ, ◌+◌, ◌≤◌, arith, refl, List, [], ◌∷◌, ◌++◌, replicate}
 use Rattle.ffs_volume.proofs.ReplayIsKeeping.{replay_of, replayed_step_offers, replayed_offers, seen_replays}
-use Rattle.ffs_volume.{proofs.ReplayIsKeeping.step_replays, proofs.ReplayIsKeeping.step_few, specs.Blocks.Claims.Claims}
-use Rattle.ffs_volume.specs.Blocks.Claims.{at_next_inode, after_offers, after_run, after_step, after_steps}
-use Rattle.ffs_volume.{specs.declared.Step.Step, proofs.Potentials.offers_keep}
-use Rattle.ffs_volume.specs.{Encodings.Replay.Replay}
-use Rattle.ffs_volume.specs.Encodings.Replay.{fresh_replay, cut_of, replay_after_step, is_replayed, replayed_steps}
-use Rattle.ffs_volume.specs.Encodings.ReplayCounts.{seen_run, replayed_runs, replay_step_by_cut}
-use Rattle.ffs_volume.specs.declared.{Layout.Layout, Step.TheVariants.Run, Step.TheVariants.Tail, Step.TheVariants.Gap}
+use Rattle.ffs_volume.{proofs.ReplayIsKeeping.{step_replays, step_few}, specs.Blocks.Claims.{Claims, at_next_inode}}
+use Rattle.ffs_volume.specs.{Blocks.Claims.{after_offers, after_run, after_step, after_steps}, declared.Step.Step}
+use Rattle.ffs_volume.{proofs.Potentials.offers_keep, specs.Encodings.Replay.{Replay, fresh_replay, cut_of}}
+use Rattle.ffs_volume.specs.Encodings.{Replay.{replay_after_step, is_replayed, replayed_steps}, ReplayCounts.seen_run}
+use Rattle.ffs_volume.specs.{Encodings.ReplayCounts.{replayed_runs, replay_step_by_cut}, declared.Layout.Layout}
+use Rattle.ffs_volume.specs.declared.Step.TheVariants.{Run, Tail, Gap}
 
 -- two replays that keep the same steps and offers and see as many Runs
 pub record SameReplay (v : Layout) (i cut : ℕ) (r q : Replay) (steps : List Step) : Type 0 where

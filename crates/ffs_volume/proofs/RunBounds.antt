@@ -1,12 +1,10 @@
 -- A bound on the Runs that are seen: one for each fragment, and 22 for each inode.
 use Rattle.std.proofs.Common.{◌≡◌, ℕ, ◌+◌, ◌*◌, ◌≤◌, List, [], ◌∷◌, length, arith, ◌∙◌, map}
-use Rattle.std.proofs.lemmas.List.FromFn.{length-range_with_len, length-map-range_with_len}
-use Rattle.std.proofs.lemmas.List.Sums.{count_by-le-length}
-use Rattle.ffs_volume.proofs.Potentials.{owner_moves}
-use Rattle.ffs_volume.specs.Blocks.Claims.{Claims, reserved_map, no_claims, after_owner, after_owners}
-use Rattle.ffs_volume.specs.Blocks.Owners.{owner_of, owners_of}
-use Rattle.ffs_volume.specs.{Laws.ClaimBounds.used_bits, Laws.Geometry.IsAcceptedLayout}
-use Rattle.ffs_volume.specs.{Report.Memory.runs_limit, Report.Whole.run_count, declared.Layout.Layout}
+use Rattle.std.proofs.lemmas.List.{FromFn.{length-range_with_len, length-map-range_with_len}, Sums.count_by-le-length}
+use Rattle.ffs_volume.{proofs.Potentials.owner_moves, specs.Blocks.Claims.{Claims, reserved_map, no_claims}}
+use Rattle.ffs_volume.specs.Blocks.{Claims.{after_owner, after_owners}, Owners.{owner_of, owners_of}}
+use Rattle.ffs_volume.specs.{Laws.{ClaimBounds.used_bits, Geometry.IsAcceptedLayout}, Report.Memory.runs_limit}
+use Rattle.ffs_volume.specs.{Report.Whole.run_count, declared.Layout.Layout}
 
 -- over inodes, what is beside a first claim is at most 22 for each, and the map keeps its length
 pub inodes_move : (v : Layout) (image : List ℕ) (s : Claims) (xs : List ℕ) → IsAcceptedLayout v → length s.used ≡ v.size →

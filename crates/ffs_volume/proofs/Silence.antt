@@ -1,7 +1,6 @@
 -- When a list of messages is empty.
-use Rattle.std.proofs.Common.{◌≡◌, ℕ, zero, suc, ◌<◌}
-use Rattle.std.proofs.Common.{Bool, true, false, refl, List, [], ◌∷◌, ◌++◌, if◌then◌else◌, arith}
-use Rattle.std.proofs.lemmas.Bool.{cond_both}
+use Rattle.std.proofs.Common.{◌≡◌, ℕ, zero, suc, ◌<◌, Bool, true, false, refl, List, [], ◌∷◌, ◌++◌, if◌then◌else◌}
+use Rattle.std.proofs.{Common.arith, lemmas.Bool.cond_both}
 use Rattle.ffs_volume.specs.Messages.Kinds.{TreeMessage, reported, lines_below}
 
 pub nil-left : (xs ys : List TreeMessage) → xs ++ ys ≡ [] → xs ≡ []

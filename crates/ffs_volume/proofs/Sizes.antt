@@ -1,9 +1,7 @@
 -- What follows from sizes: there is an inode 2, and where an inode's size is 0 there are no steps.
-use Rattle.std.proofs.Common.{◌≡◌, ℕ, ◌*◌, ◌<◌, List, [], arith}
-use Rattle.std.proofs.{Math.Nat.zero-div, Math.Nat.zero-mod}
-use Rattle.std.specs.Int.{div_ceil}
-use Rattle.ffs_volume.specs.Blocks.{Steps.steps_of}
-use Rattle.ffs_volume.specs.{Laws.Geometry.IsAcceptedLayout, declared.Inode.Inode, declared.Layout.Layout}
+use Rattle.std.{proofs.{Common.{◌≡◌, ℕ, ◌*◌, ◌<◌, List, [], arith}, Math.Nat.{zero-div, zero-mod}}, specs.Int.div_ceil}
+use Rattle.ffs_volume.specs.{Blocks.Steps.steps_of, Laws.Geometry.IsAcceptedLayout, declared.Inode.Inode}
+use Rattle.ffs_volume.specs.declared.Layout.{Layout}
 
 -- there is an inode 2
 pub some_inodes : (v : Layout) → IsAcceptedLayout v → 2 < v.ncg * v.ipg

@@ -1,18 +1,15 @@
 -- The Runs of data of an inode come in the order of its logical blocks, and each Run has a fragment
 -- at least, and a block's fragments at most.
-use Rattle.std.proofs.Common.{zero, suc, ◌≡◌, ℕ, ◌+◌, ◌*◌, ◌%◌, ◌<◌, ◌≤◌}
-use Rattle.std.proofs.Common.{◌==◌, Bool, true, false, arith, refl, List, [], ◌∷◌, ◌++◌, Some, None, nat_eq}
-use Rattle.std.proofs.Common.{if◌then◌else◌, slice_index, flat_map, mul-le-mul_right, append-nil, All}
-use Rattle.std.proofs.lemmas.Bool.{Decides.nat_tests}
-use Rattle.std.proofs.lemmas.{Grind.div_ceil_times, List.Elements.All-nil, List.Elements.All-cons}
-use Rattle.std.{specs.Int.div_ceil, specs.List.range_with_len}
-use Rattle.ffs_volume.specs.Blocks.{Inodes.logical_blocks_of, Inodes.addresses_needed, Steps.FileBlocks}
-use Rattle.ffs_volume.specs.Blocks.Steps.{block_bytes, address_at, indirect_addresses_needed, tail_of, any_nonzero_from}
-use Rattle.ffs_volume.specs.Blocks.Steps.{steps_under, span_of, data_step, indirect_steps}
-use Rattle.ffs_volume.specs.Blocks.Steps.{steps_at, indirection_of, first_block, last_length_of, is_walked, steps_of}
-use Rattle.ffs_volume.specs.{Disk.Areas.is_run_in_range, Laws.Geometry.IsAcceptedLayout, Laws.RunLengths.HasLength}
-use Rattle.ffs_volume.specs.declared.{Inode.Inode, Layout.Layout, Step.Step}
-use Rattle.ffs_volume.specs.declared.Step.TheVariants.{Run, Tail, Gap}
+use Rattle.std.proofs.Common.{zero, suc, ◌≡◌, ℕ, ◌+◌, ◌*◌, ◌%◌, ◌<◌, ◌≤◌, ◌==◌, Bool, true, false, arith, refl, List}
+use Rattle.std.proofs.Common.{[], ◌∷◌, ◌++◌, Some, None, nat_eq, if◌then◌else◌, slice_index, flat_map, mul-le-mul_right}
+use Rattle.std.proofs.{Common.{append-nil, All}, lemmas.{Bool.Decides.nat_tests, Grind.div_ceil_times}}
+use Rattle.std.{proofs.lemmas.List.Elements.{All-nil, All-cons}, specs.{Int.div_ceil, List.range_with_len}}
+use Rattle.ffs_volume.specs.Blocks.{Inodes.{logical_blocks_of, addresses_needed}, Steps.{FileBlocks, block_bytes}}
+use Rattle.ffs_volume.specs.Blocks.Steps.{address_at, indirect_addresses_needed, tail_of, any_nonzero_from, steps_under}
+use Rattle.ffs_volume.specs.Blocks.Steps.{span_of, data_step, indirect_steps, steps_at, indirection_of, first_block}
+use Rattle.ffs_volume.specs.{Blocks.Steps.{last_length_of, is_walked, steps_of}, Disk.Areas.is_run_in_range}
+use Rattle.ffs_volume.specs.{Laws.{Geometry.IsAcceptedLayout, RunLengths.HasLength}, declared.Inode.Inode}
+use Rattle.ffs_volume.specs.declared.{Layout.Layout, Step.{Step, TheVariants.{Run, Tail, Gap}}}
 
 -- the blocks of the data are from `low` on, ascending, and below `high`; each Run has a fragment at
 -- least, and `frag` at most

@@ -1,9 +1,6 @@
 -- A block in range lies in the volume.
-use Rattle.std.proofs.Common.{ℕ, ◌+◌, ◌*◌, ◌<◌, ◌≤◌, IsTrue, arith}
-use Rattle.std.proofs.Math.Nat.{mul-le-mul_right}
-use Rattle.ffs_volume.specs.Disk.Areas.{is_run_in_range}
-use Rattle.ffs_volume.proofs.RunLaws.{in_range_is}
-use Rattle.ffs_volume.specs.Laws.Geometry.{IsAcceptedLayout}
+use Rattle.std.proofs.{Common.{ℕ, ◌+◌, ◌*◌, ◌<◌, ◌≤◌, IsTrue, arith}, Math.Nat.mul-le-mul_right}
+use Rattle.ffs_volume.{specs.{Disk.Areas.is_run_in_range, Laws.Geometry.IsAcceptedLayout}, proofs.RunLaws.in_range_is}
 use Rattle.ffs_volume.specs.declared.Layout.{Layout}
 
 -- a run in range lies below the size

@@ -1,14 +1,9 @@
 -- A walk that has just been begun.
 use Rattle.std.proofs.Common.{◌≡◌, ℕ, List, if◌then◌else◌, arith, refl}
 use Rattle.ffs_layout.specs.declared.geometry.Geometry.{Geometry}
-use Rattle.ffs_volume.specs.declared.Inode.{Inode}
-use Rattle.ffs_volume.specs.declared.Layout.{Layout}
-use Rattle.ffs_volume.specs.Blocks.Inodes.{addresses_needed, logical_blocks_of}
+use Rattle.ffs_volume.specs.{declared.{Inode.Inode, Layout.Layout}, Blocks.Inodes.{addresses_needed, logical_blocks_of}}
 use Rattle.ffs_volume.specs.Blocks.Steps.{is_walked, last_length_of, steps_of, steps_of_addresses}
-use Rattle.ffs_walk.specs.declared.walk.Walk.{Walk}
-use Rattle.ffs_walk.specs.Fits.{IsSpent}
-use Rattle.ffs_walk.specs.Rests.{IsWalkOf}
-use Rattle.ffs_walk.proofs.WalkSteps.{rest_at_top}
+use Rattle.ffs_walk.{specs.{declared.walk.Walk.Walk, Fits.IsSpent, Rests.IsWalkOf}, proofs.WalkSteps.rest_at_top}
 
 -- all steps of the inode are left
 all_steps : (v : Layout) (inode : Inode) (bytes : List ℕ) (blocks last next count : ℕ) → next ≡ 0 →

@@ -1,17 +1,11 @@
 -- What a frame has still to give, where its next word is taken.
 use Rattle.std.proofs.Common.{◌≡◌, ℕ, ◌+◌, ◌-◌, ◌*◌, ◌<◌, ◌≤◌, ◌^◌, Bool, true, false, if◌then◌else◌, List, [], ◌++◌}
-use Rattle.std.proofs.Common.{Option, arith, refl, ◌==◌}
-use Rattle.std.proofs.lemmas.Bool.Decides.{nat_tests}
-use Rattle.ffs_volume.specs.declared.Layout.{Layout}
-use Rattle.ffs_volume.specs.declared.Step.{Step}
-use Rattle.ffs_walk.specs.declared.frame.Frame.{Frame}
-use Rattle.ffs_volume.specs.Blocks.Steps.{block_bytes, address_in, tail_of, any_nonzero_from, steps_under, address_at}
-use Rattle.ffs_volume.specs.Blocks.Steps.{indirect_addresses_needed}
+use Rattle.std.proofs.{Common.{Option, arith, refl, ◌==◌}, lemmas.Bool.Decides.nat_tests}
+use Rattle.ffs_volume.specs.{declared.{Layout.Layout, Step.Step}, Blocks.Steps.{block_bytes, address_in, tail_of}}
+use Rattle.ffs_volume.specs.Blocks.Steps.{any_nonzero_from, steps_under, address_at, indirect_addresses_needed}
+use Rattle.ffs_walk.specs.{declared.frame.{Frame.Frame, Item.Item}, Frames.{frame_rest, frame_left, item_left, IsFrom}}
+use Rattle.ffs_walk.specs.{declared.frame.Item.TheVariants.{UnusedWord, Word}, Fits.{FrameFits, IsBelow}}
 use Rattle.ffs_image.specs.Device.{ForContents}
-use Rattle.ffs_walk.specs.Frames.{frame_rest, frame_left, item_left, IsFrom}
-use Rattle.ffs_walk.specs.declared.frame.Item.{Item}
-use Rattle.ffs_walk.specs.declared.frame.Item.TheVariants.{UnusedWord, Word}
-use Rattle.ffs_walk.specs.Fits.{FrameFits, IsBelow}
 
 -- the steps under the words from `next` on are those at the next word and then the rest
 pub next_word : (g : Layout) (bytes : List ℕ) (child : ℕ → ℕ → List Step) (span address first next used : ℕ) →

@@ -1,18 +1,13 @@
 -- Words of zero are gaps, at every level.
 use Rattle.std.proofs.Common.{◌≡◌, ℕ, zero, suc, ◌+◌, ◌-◌, ◌<◌, ◌≤◌, false, if◌then◌else◌, List, [], ◌∷◌, ◌++◌}
 use Rattle.std.proofs.Common.{replicate, slice_index, append_assoc, arith, refl, ap, ◌∙◌}
-use Rattle.ffs_volume.specs.declared.Layout.{Layout}
-use Rattle.ffs_volume.specs.declared.Step.{Step}
-use Rattle.ffs_volume.specs.declared.Step.TheVariants.{Gap}
-use Rattle.ffs_volume.specs.Blocks.Steps.{FileBlocks, block_bytes, address_in, address_at, tail_of, any_nonzero_from}
-use Rattle.ffs_volume.specs.Blocks.Steps.{steps_under, steps_at, steps_of_addresses}
-use Rattle.ffs_walk.specs.declared.frame.Frame.{Frame}
-use Rattle.ffs_walk.specs.declared.walk.Walk.{Walk}
-use Rattle.ffs_walk.specs.Frames.{frame_rest}
-use Rattle.ffs_walk.specs.Rests.{IsAtTop, file_blocks_of, steps_left, single_rest, double_rest, triple_rest}
-use Rattle.ffs_walk.specs.Skips.{EndsZeroAddresses}
-use Rattle.ffs_walk.proofs.FrameSteps.{next_word}
-use Rattle.ffs_walk.proofs.WalkSteps.{next_address, rest_at_top, spent_rest}
+use Rattle.ffs_volume.specs.{declared.{Layout.Layout, Step.{Step, TheVariants.Gap}}, Blocks.Steps.FileBlocks}
+use Rattle.ffs_volume.specs.Blocks.Steps.{block_bytes, address_in, address_at, tail_of, any_nonzero_from, steps_under}
+use Rattle.ffs_volume.specs.Blocks.Steps.{steps_at, steps_of_addresses}
+use Rattle.ffs_walk.specs.{declared.{frame.Frame.Frame, walk.Walk.Walk}, Frames.frame_rest, Rests.IsAtTop}
+use Rattle.ffs_walk.specs.Rests.{file_blocks_of, steps_left, single_rest, double_rest, triple_rest}
+use Rattle.ffs_walk.{specs.Skips.EndsZeroAddresses, proofs.{FrameSteps.next_word, WalkSteps.next_address}}
+use Rattle.ffs_walk.proofs.WalkSteps.{rest_at_top, spent_rest}
 
 -- so many words of zero in a row
 gaps_under : (g : Layout) (bytes : List ℕ) (child : ℕ → ℕ → List Step) (span address first used n next : ℕ) →

@@ -1,6 +1,5 @@
 -- Products of sizes and numbers of blocks have room in 64 bits.
-use Rattle.std.proofs.Common.{ℕ, ◌+◌, ◌*◌, ◌<◌, ◌≤◌, arith}
-use Rattle.std.specs.Int.{div_ceil}
+use Rattle.std.{proofs.Common.{ℕ, ◌+◌, ◌*◌, ◌<◌, ◌≤◌, arith}, specs.Int.div_ceil}
 
 -- products of factors that are small are small
 pub products_small : (a b m n : ℕ) → a ≤ m → b ≤ n → a * b ≤ m * n

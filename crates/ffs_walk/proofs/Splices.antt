@@ -1,18 +1,13 @@
 -- Blocks of which one is read anew.
 use Rattle.std.proofs.Common.{◌≡◌, ◌≢◌, ℕ, ◌+◌, ◌-◌, ◌*◌, ◌<◌, ◌≤◌, List, length, take, drop, Option, Some, None, ◌⊎◌}
-use Rattle.std.proofs.Common.{inl, inr, arith, sym, ap, ◌∙◌, slice_set}
-use Rattle.std.specs.Prelude.{Vec, vec_len}
-use Rattle.std.specs.Vec.{with_items}
-use Rattle.std.proofs.lemmas.List.{drop-take, get_or-set_same, get_or-set_other, length-set, length-take-le}
-use Rattle.std.proofs.lemmas.List.{length-drop, with_items_is}
-use Rattle.std.proofs.lemmas.Slice.{take-put_mid_below, drop-put_mid, between-put_mid}
+use Rattle.std.{proofs.Common.{inl, inr, arith, sym, ap, ◌∙◌, slice_set}, specs.Prelude.{Vec, vec_len}}
+use Rattle.std.{specs.Vec.with_items, proofs.lemmas.List.{drop-take, get_or-set_same, get_or-set_other, length-set}}
+use Rattle.std.proofs.lemmas.{List.{length-take-le, length-drop, with_items_is}, Slice.take-put_mid_below}
+use Rattle.std.proofs.lemmas.Slice.{drop-put_mid, between-put_mid}
 use borrow.Rule.Slice.PartMut.{put_mid, mid_of, same_len_mid}
 use Rattle.ffs_image.specs.Device.{ForContents}
-use Rattle.ffs_volume.specs.Disk.Numbers.{piece}
-use Rattle.ffs_volume.specs.Blocks.Steps.{block_bytes}
-use Rattle.ffs_volume.specs.declared.Layout.{Layout}
-use Rattle.ffs_walk.specs.declared.blocks.Blocks.{Blocks}
-use Rattle.ffs_walk.specs.Windows.{BlocksHold, level_bytes, held_address}
+use Rattle.ffs_volume.specs.{Disk.Numbers.piece, Blocks.Steps.block_bytes, declared.Layout.Layout}
+use Rattle.ffs_walk.specs.{declared.blocks.Blocks.Blocks, Windows.{BlocksHold, level_bytes, held_address}}
 
 -- a write to a part leaves what is before it and after it
 pub piece_kept : (a k p n : ℕ) (xs ys : List ℕ) → a + k ≤ length xs → length ys ≡ k → (p + n ≤ a) ⊎ (a + k ≤ p) →

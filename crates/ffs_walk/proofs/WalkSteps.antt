@@ -1,17 +1,11 @@
 -- The steps of a file at each level of indirect blocks, and of a walk that has nothing left there.
-use Rattle.std.proofs.Common.{◌≡◌, ℕ, ◌+◌, ◌-◌, ◌*◌, ◌<◌, ◌≤◌, List, [], ◌∷◌, ◌++◌, slice_index, append_assoc}
-use Rattle.std.proofs.Common.{arith, refl}
-use Rattle.ffs_volume.specs.declared.Layout.{Layout}
-use Rattle.ffs_volume.specs.Laws.Geometry.{IsAcceptedLayout}
-use Rattle.ffs_volume.specs.declared.Step.{Step}
-use Rattle.ffs_walk.specs.declared.frame.Frame.{Frame}
-use Rattle.ffs_walk.specs.declared.walk.Walk.{Walk}
-use Rattle.ffs_walk.specs.Fits.{IsSpent}
-use Rattle.ffs_walk.specs.Frames.{frame_rest}
-use Rattle.ffs_walk.specs.Rests.{IsAtTop}
+use Rattle.std.proofs.Common.{◌≡◌, ℕ, ◌+◌, ◌-◌, ◌*◌, ◌<◌, ◌≤◌, List, [], ◌∷◌, ◌++◌, slice_index, append_assoc, arith}
+use Rattle.std.proofs.Common.{refl}
+use Rattle.ffs_volume.specs.{declared.{Layout.Layout, Step.Step}, Laws.Geometry.IsAcceptedLayout}
+use Rattle.ffs_volume.specs.Blocks.Steps.{FileBlocks, data_step, steps_at, steps_of_addresses, indirection_of}
+use Rattle.ffs_volume.specs.Blocks.Steps.{first_block}
+use Rattle.ffs_walk.specs.{declared.{frame.Frame.Frame, walk.Walk.Walk}, Fits.IsSpent, Frames.frame_rest, Rests.IsAtTop}
 use Rattle.ffs_walk.specs.Rests.{file_blocks_of, steps_left, single_rest, double_rest, triple_rest, top_rest, most_at}
-use Rattle.ffs_volume.specs.Blocks.Steps.{FileBlocks, data_step, steps_at, steps_of_addresses}
-use Rattle.ffs_volume.specs.Blocks.Steps.{indirection_of, first_block}
 
 pub steps_zero : (t : FileBlocks) (bytes : List ℕ) (a f : ℕ) → steps_at t bytes 0 a f ≡ data_step t a f ∷ []
 unfolding steps_at

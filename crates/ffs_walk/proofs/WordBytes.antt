@@ -1,17 +1,10 @@
 -- A word isn't zero where one of its bytes isn't, in either byte order.
 use Rattle.std.proofs.Common.{◌≡◌, ℕ, zero, suc, ◌==◌, ◌+◌, ◌-◌, ◌*◌, ◌<◌, ◌≤◌, Bool, true, false, not, ◌||◌, List, []}
-use Rattle.std.proofs.Common.{leb, ◌&&◌}
-use Rattle.std.proofs.Common.{◌∷◌, length, take, drop, arith, refl, ap, sym, ◌∙◌, length-drop}
-use Rattle.std.proofs.Math.Seq.{take-add}
-use Rattle.std.proofs.lemmas.List.{drop-drop}
-use Rattle.std.proofs.lemmas.List.Folds.{list_any-append}
-use Rattle.std.specs.List.{list_any, range_with_len, slice_range}
-use Rattle.ffs_volume.specs.declared.Layout.{Layout}
-use Rattle.ffs_volume.specs.declared.Order.{Order}
-use Rattle.ffs_volume.specs.declared.Order.TheVariants.{Little, Big}
-use Rattle.ffs_volume.specs.Disk.Numbers.{number, u32_at}
-use Rattle.ffs_volume.specs.Blocks.Inodes.{any_nonzero}
-use Rattle.ffs_volume.specs.Blocks.Steps.{address_in, any_nonzero_from}
+use Rattle.std.proofs.Common.{leb, ◌&&◌, ◌∷◌, length, take, drop, arith, refl, ap, sym, ◌∙◌, length-drop}
+use Rattle.std.{proofs.{Math.Seq.take-add, lemmas.List.{drop-drop, Folds.list_any-append}}, specs.List.list_any}
+use Rattle.std.specs.List.{range_with_len, slice_range}
+use Rattle.ffs_volume.specs.{declared.{Layout.Layout, Order.{Order, TheVariants.{Little, Big}}}, Disk.Numbers.number}
+use Rattle.ffs_volume.specs.{Disk.Numbers.u32_at, Blocks.{Inodes.any_nonzero, Steps.{address_in, any_nonzero_from}}}
 
 -- the number of four bytes
 four_set : (order : Order) (a b c d : ℕ) (xs : List ℕ) →

@@ -1,13 +1,8 @@
 -- The step at the next word of the single indirect block that a walk is in.
-use Rattle.std.proofs.Common.{◌≡◌, ℕ, ◌+◌, ◌-◌, ◌<◌, false, if◌then◌else◌, List, [], ◌∷◌, ◌++◌}
-use Rattle.std.proofs.Common.{arith}
-use Rattle.ffs_volume.specs.Blocks.Steps.{block_bytes, address_in, steps_at, steps_under}
-use Rattle.ffs_volume.specs.Blocks.Steps.{tail_of, any_nonzero_from}
-use Rattle.ffs_walk.specs.declared.walk.Walk.{Walk}
-use Rattle.ffs_walk.specs.Rests.{file_blocks_of, single_rest}
-use Rattle.ffs_walk.specs.HeldWords.{word_step}
-use Rattle.ffs_walk.proofs.FrameSteps.{next_word}
-use Rattle.ffs_walk.proofs.WalkSteps.{steps_zero}
+use Rattle.std.proofs.Common.{◌≡◌, ℕ, ◌+◌, ◌-◌, ◌<◌, false, if◌then◌else◌, List, [], ◌∷◌, ◌++◌, arith}
+use Rattle.ffs_volume.specs.Blocks.Steps.{block_bytes, address_in, steps_at, steps_under, tail_of, any_nonzero_from}
+use Rattle.ffs_walk.specs.{declared.walk.Walk.Walk, Rests.{file_blocks_of, single_rest}, HeldWords.word_step}
+use Rattle.ffs_walk.proofs.{FrameSteps.next_word, WalkSteps.steps_zero}
 
 -- the step at the next word of a frame, and what is left after it
 pub word_first : (w : Walk) (bytes block : List ℕ) (address : ℕ) → w.single.next < w.single.used →

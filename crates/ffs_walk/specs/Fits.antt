@@ -1,11 +1,7 @@
 -- How a frame fits into a walk.
 use Rattle.std.specs.Prelude.{ℕ, ◌+◌, ◌*◌, ◌^◌, ◌<◌, ◌≤◌, ◌≡◌, false, IsTrue}
-use Rattle.ffs_volume.specs.declared.Layout.{Layout}
-use Rattle.ffs_volume.specs.Disk.Areas.{is_run_in_range}
-use Rattle.ffs_volume.specs.Blocks.Steps.{indirect_addresses_needed}
-use Rattle.ffs_walk.specs.declared.frame.Frame.{Frame}
-use Rattle.ffs_walk.specs.declared.frame.Item.{Item}
-use Rattle.ffs_walk.specs.declared.frame.Item.TheVariants.{UnusedWord, Word}
+use Rattle.ffs_volume.specs.{declared.Layout.Layout, Disk.Areas.is_run_in_range, Blocks.Steps.indirect_addresses_needed}
+use Rattle.ffs_walk.specs.declared.frame.{Frame.Frame, Item.{Item, TheVariants.{UnusedWord, Word}}}
 
 -- where the frame has a word left, its block is in range and no direct block is under it; it counts
 -- only words that a file of so many blocks uses

@@ -1,13 +1,9 @@
 -- What is left in an indirect block that a walk is in.
 use Rattle.std.specs.Prelude.{ℕ, true, ◌+◌, ◌-◌, ◌*◌, ◌<◌, ◌≤◌, ◌≡◌, List, [], ◌∷◌, ◌++◌, Option, if◌then◌else◌}
 use Rattle.ffs_image.specs.Device.{ForContents}
-use Rattle.ffs_volume.specs.declared.Layout.{Layout}
-use Rattle.ffs_volume.specs.declared.Step.{Step}
-use Rattle.ffs_volume.specs.declared.Step.TheVariants.{Tail}
-use Rattle.ffs_volume.specs.Blocks.Steps.{block_bytes, tail_of, any_nonzero_from, steps_under}
-use Rattle.ffs_walk.specs.declared.frame.Frame.{Frame}
-use Rattle.ffs_walk.specs.declared.frame.Item.{Item}
-use Rattle.ffs_walk.specs.declared.frame.Item.TheVariants.{UnusedWord, Word}
+use Rattle.ffs_volume.specs.{declared.{Layout.Layout, Step.{Step, TheVariants.Tail}}, Blocks.Steps.block_bytes}
+use Rattle.ffs_volume.specs.Blocks.Steps.{tail_of, any_nonzero_from, steps_under}
+use Rattle.ffs_walk.specs.declared.frame.{Frame.Frame, Item.{Item, TheVariants.{UnusedWord, Word}}}
 
 -- the steps that a frame has left, where `child` has the steps at an address
 abbrev pub frame_rest : Layout → List ℕ → (ℕ → ℕ → List Step) → ℕ → Frame → List Step

@@ -1,13 +1,9 @@
 -- The words of the single indirect block that a walk is in, one by one.
 use Rattle.std.specs.Prelude.{◌≡◌, ◌==◌, ◌+◌, ℕ, List, ◌∷◌, Option, Some, false, if◌then◌else◌}
 use Rattle.ffs_image.specs.Device.{ForContents}
-use Rattle.ffs_volume.specs.declared.Step.{Step}
-use Rattle.ffs_volume.specs.declared.Step.TheVariants.{Run, Gap}
-use Rattle.ffs_volume.specs.Blocks.Steps.{address_in}
-use Rattle.ffs_walk.specs.declared.blocks.Blocks.{Blocks}
-use Rattle.ffs_walk.specs.declared.walk.Walk.{Walk}
-use Rattle.ffs_walk.specs.Windows.{BlocksHold, held_address, level_bytes}
-use Rattle.ffs_walk.specs.Rests.{steps_left}
+use Rattle.ffs_volume.specs.{declared.Step.{Step, TheVariants.{Run, Gap}}, Blocks.Steps.address_in}
+use Rattle.ffs_walk.specs.{declared.{blocks.Blocks.Blocks, walk.Walk.Walk}, Windows.{BlocksHold, held_address}}
+use Rattle.ffs_walk.specs.{Windows.level_bytes, Rests.steps_left}
 
 -- the single indirect block that a walk is in is held, and was read before
 pub record IsInHeldBlock (blocks : Blocks) (w : Walk) : Type 0 where

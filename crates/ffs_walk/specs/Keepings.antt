@@ -1,10 +1,7 @@
 -- The replay of an inode that is walked again.
 use Rattle.std.specs.Prelude.{◌≡◌, ℕ, ◌==◌, if◌then◌else◌, Option}
-use Rattle.ffs_volume.specs.declared.constants.TheConstants.{MAXBAD}
-use Rattle.ffs_volume.specs.declared.Layout.{Layout}
-use Rattle.ffs_volume.specs.declared.Step.TheVariants.{Run}
-use Rattle.ffs_volume.specs.Disk.Areas.{is_run_in_range}
-use Rattle.ffs_volume.specs.Encodings.Replay.{Replay, is_replayed, taken_of}
+use Rattle.ffs_volume.specs.declared.{constants.TheConstants.MAXBAD, Layout.Layout, Step.TheVariants.Run}
+use Rattle.ffs_volume.specs.{Disk.Areas.is_run_in_range, Encodings.Replay.{Replay, is_replayed, taken_of}}
 use Rattle.ffs_volume.specs.Encodings.ReplayCounts.{replay_step_by_cut}
 use Rattle.ffs_walk.specs.declared.keeping.Keeping.{Keeping}
 

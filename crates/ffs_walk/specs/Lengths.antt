@@ -1,8 +1,6 @@
 -- What holds of each step, whatever the image holds.
 use Rattle.std.specs.Prelude.{ℕ, ◌<◌, IfSome}
-use Rattle.ffs_volume.specs.declared.Step.{Step}
-use Rattle.ffs_volume.specs.declared.Step.TheVariants.{Run, Tail, Gap}
-use Rattle.ffs_volume.specs.Laws.RunLengths.{HasLength}
+use Rattle.ffs_volume.specs.{declared.Step.{Step, TheVariants.{Run, Tail, Gap}}, Laws.RunLengths.HasLength}
 
 -- a Run of data is that of a logical block of the inode
 abbrev pub IsWithin : ℕ → Step → Type 0

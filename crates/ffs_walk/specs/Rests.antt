@@ -1,19 +1,12 @@
 -- What is left of a walk.
-use Rattle.std.specs.Prelude.{◌≡◌, ℕ, zero, suc, ◌+◌, ◌-◌, ◌*◌, ◌<◌, ◌≤◌, List, [], ◌∷◌, ◌++◌, if◌then◌else◌}
-use Rattle.std.specs.Prelude.{Option, None, IfSome, MatchOption}
+use Rattle.std.specs.Prelude.{◌≡◌, ℕ, zero, suc, ◌+◌, ◌-◌, ◌*◌, ◌<◌, ◌≤◌, List, [], ◌∷◌, ◌++◌, if◌then◌else◌, Option}
+use Rattle.std.specs.Prelude.{None, IfSome, MatchOption}
 use Rattle.ffs_image.specs.Device.{ForContents}
-use Rattle.ffs_volume.specs.declared.Step.{Step}
-use Rattle.ffs_volume.specs.declared.Inode.{Inode}
-use Rattle.ffs_volume.specs.Blocks.Inodes.{logical_blocks_of}
-use Rattle.ffs_volume.specs.Blocks.Steps.{FileBlocks, data_step, indirect_steps, steps_at, steps_of, steps_of_addresses}
-use Rattle.ffs_volume.specs.Blocks.Steps.{is_walked}
+use Rattle.ffs_volume.specs.{declared.{Step.Step, Inode.Inode}, Blocks.{Inodes.logical_blocks_of, Steps.FileBlocks}}
+use Rattle.ffs_volume.specs.Blocks.Steps.{data_step, indirect_steps, steps_at, steps_of, steps_of_addresses, is_walked}
 use Rattle.ffs_layout.specs.declared.geometry.Geometry.{Geometry}
-use Rattle.ffs_walk.specs.declared.walk.Walk.{Walk}
-use Rattle.ffs_walk.specs.declared.frame.Frame.{Frame}
-use Rattle.ffs_walk.specs.declared.frame.Item.{Item}
-use Rattle.ffs_walk.specs.Frames.{frame_rest, frame_left, item_steps, item_left}
-use Rattle.ffs_walk.specs.Fits.{FrameFits, IsSpent}
-use Rattle.ffs_walk.specs.Lengths.{IsStepOf}
+use Rattle.ffs_walk.specs.{declared.{walk.Walk.Walk, frame.{Frame.Frame, Item.Item}}, Frames.{frame_rest, frame_left}}
+use Rattle.ffs_walk.specs.{Frames.{item_steps, item_left}, Fits.{FrameFits, IsSpent}, Lengths.IsStepOf}
 use Rattle.ffs_walk.specs.Counts.{EntersOnly, IsEntered, entered}
 
 -- the blocks of the file that a walk is over, as the definition of steps takes them

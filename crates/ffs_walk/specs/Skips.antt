@@ -1,17 +1,10 @@
 -- What a walk leaves that has passed over gaps.
 use Rattle.std.specs.Prelude.{◌≡◌, ◌+◌, ◌<◌, ◌≤◌, ◌++◌, ◌∷◌, [], ℕ, List, Option, Some, false, replicate, slice_index}
 use Rattle.ffs_image.specs.Device.{ForContents}
-use Rattle.ffs_volume.specs.declared.Layout.{Layout}
-use Rattle.ffs_volume.specs.declared.Step.{Step}
-use Rattle.ffs_volume.specs.declared.Step.TheVariants.{Gap}
-use Rattle.ffs_volume.specs.Blocks.Steps.{address_in}
-use Rattle.ffs_walk.specs.declared.blocks.Blocks.{Blocks}
-use Rattle.ffs_walk.specs.declared.frame.Frame.{Frame}
-use Rattle.ffs_walk.specs.declared.walk.Walk.{Walk}
-use Rattle.ffs_walk.specs.Fits.{IsSpent}
-use Rattle.ffs_walk.specs.Windows.{BlocksHold, held_address, level_bytes}
-use Rattle.ffs_walk.specs.Frames.{IsSameBlock, frame_left, frame_rest}
-use Rattle.ffs_walk.specs.Rests.{IsAtTop, SameFileBlocks, most_steps_left, steps_left}
+use Rattle.ffs_volume.specs.{declared.{Layout.Layout, Step.{Step, TheVariants.Gap}}, Blocks.Steps.address_in}
+use Rattle.ffs_walk.specs.{declared.{blocks.Blocks.Blocks, frame.Frame.Frame, walk.Walk.Walk}, Fits.IsSpent}
+use Rattle.ffs_walk.specs.{Windows.{BlocksHold, held_address, level_bytes}, Frames.{IsSameBlock, frame_left}}
+use Rattle.ffs_walk.specs.{Frames.frame_rest, Rests.{IsAtTop, SameFileBlocks, most_steps_left, steps_left}}
 use Rattle.ffs_walk.specs.Counts.{EntersOnly}
 
 -- the next word in the block of a frame isn't zero, where the block is held for the level and was

@@ -1,15 +1,10 @@
 -- What is kept of an image between reads.
-use Rattle.std.specs.Prelude.{◌≡◌, ◌*◌, ◌<◌, ◌≤◌, ℕ, List, take, Option, Some, None, vec_len, get_or}
-use Rattle.std.specs.Prelude.{Result, OnOk, OnErr}
-use Rattle.ffs_image.specs.Device.{Device, ForContents}
-use Rattle.ffs_image.specs.Reads.{ReadAfter}
-use Rattle.ffs_image.specs.declared.image.ImageFault.{ImageFault}
-use Rattle.ffs_volume.specs.declared.Layout.{Layout}
-use Rattle.ffs_volume.specs.Disk.Numbers.{piece}
-use Rattle.ffs_volume.specs.Blocks.Steps.{address_in, block_bytes}
+use Rattle.std.specs.Prelude.{◌≡◌, ◌*◌, ◌<◌, ◌≤◌, ℕ, List, take, Option, Some, None, vec_len, get_or, Result, OnOk}
+use Rattle.std.specs.Prelude.{OnErr}
+use Rattle.ffs_image.specs.{Device.{Device, ForContents}, Reads.ReadAfter, declared.image.ImageFault.ImageFault}
+use Rattle.ffs_volume.specs.{declared.Layout.Layout, Disk.Numbers.piece, Blocks.Steps.{address_in, block_bytes}}
 use Rattle.ffs_memory.specs.declared.fixed_list.FixedList.{FixedList}
-use Rattle.ffs_walk.specs.declared.window.Window.{Window}
-use Rattle.ffs_walk.specs.declared.blocks.Blocks.{Blocks}
+use Rattle.ffs_walk.specs.declared.{window.Window.Window, blocks.Blocks.Blocks}
 
 -- the bytes that a window holds
 abbrev pub held_bytes : Window → List ℕ

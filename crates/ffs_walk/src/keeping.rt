@@ -1,8 +1,7 @@
 //! Which steps of an inode are kept, replayed.
 
 ghost use Rattle.std.specs.Prelude.{◌≡◌, ◌≤◌, ℕ, true, Option};
-ghost use Rattle.ffs_volume.specs.declared.Layout.{Layout};
-ghost use Rattle.ffs_volume.specs.Disk.Areas.{is_run_in_range as is_in_range_of};
+ghost use Rattle.ffs_volume.specs.{declared.Layout.Layout, Disk.Areas.is_run_in_range as is_in_range_of};
 ghost use Rattle.ffs_volume.specs.Encodings.Replay.{is_replay_open, fresh_replay};
 
 use ffs_volume::constants::MAXBAD;

@@ -1,8 +1,7 @@
 //! How many pieces of a power-of-two size hold a number of bytes, by shift and mask: this is asked
 //! of every inode, and a division takes longer.
 
-ghost use Rattle.std.specs.Prelude.{◌≡◌, ◌%◌};
-ghost use Rattle.std.specs.Int.{IsPowerOfTwo, div_ceil};
+ghost use Rattle.std.specs.{Prelude.{◌≡◌, ◌%◌}, Int.{IsPowerOfTwo, div_ceil}};
 
 /// How many of `size` bytes come after the last whole piece of `piece` bytes.
 #[tactic(auto, using(crate::proofs::Powers::masked))]

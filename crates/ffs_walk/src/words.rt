@@ -1,9 +1,7 @@
 //! The words of an indirect block.
 
-ghost use Rattle.std.specs.Prelude.{◌≡◌, ◌*◌, ◌+◌, ◌≤◌, length, nat_le, not, ◌&&◌};
-ghost use Rattle.std.specs.List.{slice_range};
-ghost use Rattle.ffs_volume.specs.Blocks.Inodes.{any_nonzero};
-ghost use Rattle.ffs_volume.specs.Blocks.Steps.{any_nonzero_from, address_in};
+ghost use Rattle.std.specs.{Prelude.{◌≡◌, ◌*◌, ◌+◌, ◌≤◌, length, nat_le, not, ◌&&◌}, List.slice_range};
+ghost use Rattle.ffs_volume.specs.Blocks.{Inodes.any_nonzero, Steps.{any_nonzero_from, address_in}};
 ghost use Rattle.ffs_walk.specs.Windows.{EndsZeros};
 
 use ffs_layout::{Geometry, u32_at};

@@ -1,7 +1,6 @@
 -- How many bits of a map are set, by its fragments and by its list.
 use Rattle.std.proofs.Common.{◌≡◌, ℕ, suc, ◌+◌, Bool, false, List, [], ◌∷◌, length, count_by, if◌then◌else◌, arith}
-use Rattle.std.proofs.Common.{refl, ap, ◌∙◌}
-use Rattle.std.specs.List.{range_with_len, slice_index_or}
+use Rattle.std.{proofs.Common.{refl, ap, ◌∙◌}, specs.List.{range_with_len, slice_index_or}}
 use Rattle.std.proofs.lemmas.List.Sums.{sum_by-cons}
 use Rattle.ffs_maps.specs.WordBits.{set_among}
 use Rattle.ffs_workspace.specs.Lengths.{set_count}

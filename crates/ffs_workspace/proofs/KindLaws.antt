@@ -1,15 +1,11 @@
 -- What the kind of an inode reports of it.
-use Rattle.std.proofs.Common.{◌≡◌, ◌<◌, ℕ, Bool, true, false, ◌&&◌, ◌||◌, if◌then◌else◌, ◌==◌, List, arith}
-use Rattle.std.proofs.Common.{refl, ap, ◌∙◌, sym}
-use Rattle.std.proofs.lemmas.Bool.Decides.{nat_tests}
-use Rattle.ffs_volume.specs.declared.Layout.{Layout}
-use Rattle.ffs_volume.specs.declared.Inode.{Inode}
-use Rattle.ffs_volume.specs.declared.Class.{Class}
-use Rattle.ffs_volume.specs.declared.Class.TheVariants.{Free, Partial, Unknown, File, Dir}
-use Rattle.ffs_volume.specs.Blocks.Inodes.{inode_of, type_of, class_of, is_file_or_dir, is_known_type}
-use Rattle.ffs_volume.specs.Blocks.Inodes.{is_directory, is_allocated, is_unknown}
-use Rattle.ffs_volume.specs.Directories.Roles.{is_dir, is_allocated_inode, is_suspect}
-use Rattle.ffs_volume.specs.Directories.Volumes.{class_at, is_inode_number, volume_of, volume_with, marked_at}
+use Rattle.std.proofs.Common.{◌≡◌, ◌<◌, ℕ, Bool, true, false, ◌&&◌, ◌||◌, if◌then◌else◌, ◌==◌, List, arith, refl, ap}
+use Rattle.std.proofs.{Common.{◌∙◌, sym}, lemmas.Bool.Decides.nat_tests}
+use Rattle.ffs_volume.specs.declared.{Layout.Layout, Inode.Inode, Class.{Class, TheVariants.{Free, Partial, Unknown}}}
+use Rattle.ffs_volume.specs.{declared.Class.TheVariants.{File, Dir}, Blocks.Inodes.{inode_of, type_of, class_of}}
+use Rattle.ffs_volume.specs.Blocks.Inodes.{is_file_or_dir, is_known_type, is_directory, is_allocated, is_unknown}
+use Rattle.ffs_volume.specs.Directories.{Roles.{is_dir, is_allocated_inode, is_suspect}, Volumes.class_at}
+use Rattle.ffs_volume.specs.Directories.Volumes.{is_inode_number, volume_of, volume_with, marked_at}
 use Rattle.ffs_volume.specs.Encodings.Kinds.{kind_of, kind_at, is_dir_kind, is_empty_dir_kind, is_allocated_kind}
 use Rattle.ffs_volume.specs.Encodings.Kinds.{is_unknown_kind, class_of_kind, type_of_kind}
 

@@ -1,10 +1,8 @@
 -- What a workspace holds is held by one with the same findings.
-use Rattle.std.proofs.Common.{arith}
-use Rattle.std.proofs.Common.{◌≡◌, ℕ, List}
+use Rattle.std.proofs.Common.{arith, ◌≡◌, ℕ, List}
 use Rattle.ffs_volume.specs.declared.Layout.{Layout}
-use Rattle.ffs_workspace.specs.declared.workspace.Workspace.{Workspace}
-use Rattle.ffs_workspace.specs.Holds.{HoldsClaims, HoldsFindings, HoldsReferences, HoldsSurvey}
-use Rattle.ffs_workspace.specs.Leaves.{LeavesSurvey}
+use Rattle.ffs_workspace.specs.{declared.workspace.Workspace.Workspace, Holds.{HoldsClaims, HoldsFindings}}
+use Rattle.ffs_workspace.specs.{Holds.{HoldsReferences, HoldsSurvey}, Leaves.LeavesSurvey}
 
 pub leaves_all : (w : Workspace) → LeavesSurvey w w
 leaves_all w = grind arith

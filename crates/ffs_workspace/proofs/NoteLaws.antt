@@ -1,21 +1,11 @@
 -- What a note says of an inode.
 use Rattle.std.proofs.Common.{◌≡◌, ℕ, ◌+◌, ◌<◌, Bool, true, false, List, arith, refl, ap, sym, ◌∙◌}
-use Rattle.std.specs.Prelude.{slice_index, nat_lt, ◌==◌, if◌then◌else◌}
-use Rattle.std.proofs.lemmas.Bool.Decides.{nat_tests}
-use Rattle.ffs_volume.specs.declared.Layout.{Layout}
-use Rattle.ffs_volume.specs.declared.Inode.{Inode}
-use Rattle.ffs_volume.specs.declared.Class.{Class}
-use Rattle.ffs_volume.specs.declared.Class.TheVariants.{Dir}
-use Rattle.ffs_volume.specs.Laws.Geometry.{IsAcceptedLayout}
-use Rattle.ffs_volume.specs.Blocks.Inodes.{inode_of}
-use Rattle.ffs_volume.specs.Blocks.Steps.{steps_of}
-use Rattle.ffs_volume.specs.Blocks.Owners.{owner_of}
-use Rattle.ffs_volume.specs.Blocks.Claims.{Claims, at_next_inode, after_steps}
-use Rattle.ffs_volume.specs.Blocks.KeptSteps.{claims_before}
-use Rattle.ffs_volume.specs.Directories.Volumes.{class_at}
-use Rattle.ffs_volume.specs.Encodings.Replay.{cut_of, cut_at}
-use Rattle.ffs_volume.proofs.Potentials.{owner_moves, kept_bound}
-use Rattle.ffs_volume.proofs.CutLaws.{before_length, cut_is}
+use Rattle.std.{specs.Prelude.{slice_index, nat_lt, ◌==◌, if◌then◌else◌}, proofs.lemmas.Bool.Decides.nat_tests}
+use Rattle.ffs_volume.specs.declared.{Layout.Layout, Inode.Inode, Class.{Class, TheVariants.Dir}}
+use Rattle.ffs_volume.specs.{Laws.Geometry.IsAcceptedLayout, Blocks.{Inodes.inode_of, Steps.steps_of, Owners.owner_of}}
+use Rattle.ffs_volume.specs.Blocks.{Claims.{Claims, at_next_inode, after_steps}, KeptSteps.claims_before}
+use Rattle.ffs_volume.specs.{Directories.Volumes.class_at, Encodings.Replay.{cut_of, cut_at}}
+use Rattle.ffs_volume.proofs.{Potentials.{owner_moves, kept_bound}, CutLaws.{before_length, cut_is}}
 use Rattle.ffs_workspace.specs.Notes.{first_noted, note_of, note_at, cut_in}
 
 -- an inode keeps fewer offers than the first note of an address

@@ -1,12 +1,9 @@
 -- The name of the first plain entry that names an inode, and lists that note no place.
-use Rattle.std.proofs.Common.{◌≡◌, ℕ, zero, suc, ◌+◌, ◌*◌, ◌/◌, ◌%◌, ◌^◌, ◌<◌, arith, bit_or, Bool, true, false, List, [], ◌∷◌, ◌++◌, refl, sym, ap, ◌∙◌}
-use Rattle.std.specs.Prelude.{◌&&◌, ◌||◌, ◌==◌, cond, replicate, slice_index}
-use Rattle.std.specs.List.{list_any}
-use Rattle.std.specs.Int.Bits.{bit_and, or_add_and}
+use Rattle.std.proofs.Common.{◌≡◌, ℕ, zero, suc, ◌+◌, ◌*◌, ◌/◌, ◌%◌, ◌^◌, ◌<◌, arith, bit_or, Bool, true, false, List}
+use Rattle.std.{proofs.Common.{[], ◌∷◌, ◌++◌, refl, sym, ap, ◌∙◌}, specs.Prelude.{◌&&◌, ◌||◌, ◌==◌, cond, replicate}}
+use Rattle.std.specs.{Prelude.slice_index, List.list_any, Int.Bits.{bit_and, or_add_and}}
 use Rattle.std.proofs.lemmas.Nat.Bits.{and_pow}
-use Rattle.ffs_volume.specs.declared.Layout.{Layout}
-use Rattle.ffs_volume.specs.Directories.Entries.{Entry}
-use Rattle.ffs_volume.specs.Directories.Graph.{is_naming_entry}
+use Rattle.ffs_volume.specs.{declared.Layout.Layout, Directories.{Entries.Entry, Graph.is_naming_entry}}
 use Rattle.ffs_volume.specs.Directories.Roles.{RoledEntry, is_plain, role_of, roled_from}
 use Rattle.ffs_workspace.specs.Places.{ArePlaces, name_in}
 

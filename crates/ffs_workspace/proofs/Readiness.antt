@@ -1,11 +1,8 @@
 -- A workspace stays ready.
-use Rattle.std.proofs.Common.{arith}
-use Rattle.std.proofs.Common.{◌≡◌}
+use Rattle.std.proofs.Common.{arith, ◌≡◌}
 use Rattle.ffs_volume.specs.declared.Layout.{Layout}
 use Rattle.ffs_image.specs.Device.{Device}
-use Rattle.ffs_workspace.specs.declared.table.Table.{Table}
-use Rattle.ffs_workspace.specs.declared.workspace.Workspace.{Workspace}
-use Rattle.ffs_workspace.specs.Ready.{IsReady}
+use Rattle.ffs_workspace.specs.{declared.{table.Table.Table, workspace.Workspace.Workspace}, Ready.IsReady}
 use Rattle.ffs_workspace.specs.Tables.{KeepsTable}
 
 -- where a block of the inode table was read

@@ -1,7 +1,6 @@
 -- What the requests of a workspace result in.
 use Rattle.std.proofs.Common.{◌+◌, ℕ, refl}
-use Rattle.ffs_memory.specs.Account.{Account, Granted}
-use Rattle.ffs_memory.proofs.Asking.{granted_both}
+use Rattle.ffs_memory.{specs.Account.{Account, Granted}, proofs.Asking.granted_both}
 
 -- two grants, one after the other
 pub both : {a b c : Account} {m n : ℕ} → Granted a b m → Granted b c n → Granted a c (m + n)

@@ -1,23 +1,15 @@
 -- Where inodes are in the blocks of their tables.
 use Rattle.std.proofs.Common.{◌≡◌, ℕ, suc, ◌+◌, ◌-◌, ◌*◌, ◌/◌, ◌%◌, ◌<◌, ◌≤◌, true, Option, List, take, drop, arith, ap}
-use Rattle.std.proofs.Common.{◌∙◌, zero}
-use Rattle.std.proofs.Math.Nat.{mul-le-mul_right, mul-div_cancel, mul_comm, mul_assoc, div-add-mod', mod-lt}
-use Rattle.std.proofs.Math.Nat.{mul-mod_right, mod_self}
-use Rattle.std.proofs.lemmas.Nat.{div_below, div-mul-add, mod-mul-add}
-use Rattle.std.proofs.lemmas.List.{drop-take, take-take, drop-drop}
-use Rattle.std.proofs.lemmas.Bool.Decides.{nat_tests}
-use Rattle.ffs_volume.specs.declared.Layout.{Layout}
+use Rattle.std.proofs.{Common.{◌∙◌, zero}, Math.Nat.{mul-le-mul_right, mul-div_cancel, mul_comm, mul_assoc}}
+use Rattle.std.proofs.{Math.Nat.{div-add-mod', mod-lt, mul-mod_right, mod_self}, lemmas.Nat.{div_below, div-mul-add}}
+use Rattle.std.proofs.lemmas.{Nat.mod-mul-add, List.{drop-take, take-take, drop-drop}, Bool.Decides.nat_tests}
 use Rattle.std.specs.List.{slice_range}
-use Rattle.ffs_volume.specs.declared.Inode.{Inode}
-use Rattle.ffs_volume.specs.Blocks.Inodes.{inode_from_bytes, inode_of}
-use Rattle.ffs_volume.specs.Disk.Numbers.{piece}
-use Rattle.ffs_volume.specs.Disk.Areas.{cgstart, cgdmin, inode_place}
-use Rattle.ffs_volume.specs.Disk.Outcome.{is_block_size, has_valid_sizes}
-use Rattle.ffs_volume.specs.Laws.Geometry.{IsAcceptedLayout}
+use Rattle.ffs_volume.specs.{declared.{Layout.Layout, Inode.Inode}, Blocks.Inodes.{inode_from_bytes, inode_of}}
+use Rattle.ffs_volume.specs.Disk.{Numbers.piece, Areas.{cgstart, cgdmin, inode_place}, Outcome.is_block_size}
+use Rattle.ffs_volume.specs.{Disk.Outcome.has_valid_sizes, Laws.Geometry.IsAcceptedLayout}
 use Rattle.ffs_volume.proofs.GeometryLaws.{shape_holds}
 use Rattle.ffs_walk.specs.Windows.{WindowHolds}
-use Rattle.ffs_workspace.specs.declared.table.Table.{Table}
-use Rattle.ffs_workspace.specs.Tables.{DividesBlock, DividesBlocks, table_place}
+use Rattle.ffs_workspace.specs.{declared.table.Table.Table, Tables.{DividesBlock, DividesBlocks, table_place}}
 use Rattle.ffs_workspace.specs.Tables.{HoldsInode, IsInPlace, IsTableOf, IsHeldAt}
 
 -- a block holds whole inodes

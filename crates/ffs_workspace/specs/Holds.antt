@@ -1,23 +1,14 @@
 -- What a workspace holds between the phases.
-use Rattle.std.specs.Prelude.{◌≡◌, ◌<◌, ◌+◌, ℕ, Bool, false, not, ◌&&◌, ◌||◌, ◌==◌}
-use Rattle.std.specs.Prelude.{List, if◌then◌else◌, replicate, slice_index}
-use Rattle.std.specs.Option.{unwrap_or}
-use Rattle.ffs_volume.specs.declared.Layout.{Layout}
-use Rattle.ffs_volume.specs.Blocks.Inodes.{inode_of, class_of, is_unknown}
-use Rattle.ffs_volume.specs.Blocks.Owners.{owner_of, owners_of}
-use Rattle.ffs_volume.specs.Blocks.Claims.{Claims, no_claims, after_owner, after_owners}
-use Rattle.ffs_volume.specs.Blocks.KeptSteps.{claims_before}
-use Rattle.ffs_volume.specs.Directories.Graph.{is_named, reached, parent}
-use Rattle.ffs_volume.specs.Directories.Roles.{references}
-use Rattle.ffs_volume.specs.Directories.Parents.{graph_of}
-use Rattle.ffs_volume.specs.Directories.Volumes.{is_inode_number, marked_at, volume_of}
-use Rattle.ffs_workspace.specs.Notes.{note_at}
-use Rattle.ffs_workspace.specs.Places.{ArePlaces}
-use Rattle.ffs_maps.specs.Bits.{bits_of}
-use Rattle.ffs_workspace.specs.declared.workspace.Workspace.{Workspace}
-use Rattle.ffs_volume.specs.Encodings.Kinds.{kind_at}
-use Rattle.ffs_volume.specs.Encodings.Links.{start_at}
+use Rattle.std.specs.Prelude.{◌≡◌, ◌<◌, ◌+◌, ℕ, Bool, false, not, ◌&&◌, ◌||◌, ◌==◌, List, if◌then◌else◌, replicate}
+use Rattle.std.specs.{Prelude.slice_index, Option.unwrap_or}
+use Rattle.ffs_volume.specs.{declared.Layout.Layout, Blocks.{Inodes.{inode_of, class_of, is_unknown}, Owners.owner_of}}
+use Rattle.ffs_volume.specs.Blocks.{Owners.owners_of, Claims.{Claims, no_claims, after_owner, after_owners}}
+use Rattle.ffs_volume.specs.{Blocks.KeptSteps.claims_before, Directories.Graph.{is_named, reached, parent}}
+use Rattle.ffs_volume.specs.Directories.{Roles.references, Parents.graph_of, Volumes.{is_inode_number, marked_at}}
+use Rattle.ffs_volume.specs.{Directories.Volumes.volume_of, Encodings.{Kinds.kind_at, Links.start_at}}
+use Rattle.ffs_workspace.specs.{Notes.note_at, Places.ArePlaces, declared.workspace.Workspace.Workspace}
 use Rattle.ffs_workspace.specs.Lengths.{inodes_of}
+use Rattle.ffs_maps.specs.Bits.{bits_of}
 pub use Rattle.ffs_volume.specs.Encodings.Lists.{bool_at}
 
 -- the claims that a workspace holds

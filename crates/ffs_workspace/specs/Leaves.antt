@@ -1,8 +1,7 @@
 -- What the phases after the survey of directories leave of a workspace.
 use Rattle.std.specs.Prelude.{◌≡◌, ℕ, List}
 use Rattle.ffs_volume.specs.declared.Layout.{Layout}
-use Rattle.ffs_workspace.specs.Places.{ArePlaces}
-use Rattle.ffs_workspace.specs.declared.workspace.Workspace.{Workspace}
+use Rattle.ffs_workspace.specs.{Places.ArePlaces, declared.workspace.Workspace.Workspace}
 
 -- what the block check and the survey of directories found is as it was, and each place that is
 -- noted is right where each one was

@@ -1,11 +1,9 @@
 -- The lengths of the lists of a workspace, and its windows.
-use Rattle.std.specs.Prelude.{◌≡◌, ◌+◌, ◌*◌, ◌==◌, ℕ, Bool, not, List, Option, vec_len, count_by}
-use Rattle.std.specs.Int.{div_ceil}
+use Rattle.std.specs.{Prelude.{◌≡◌, ◌+◌, ◌*◌, ◌==◌, ℕ, Bool, not, List, Option, vec_len, count_by}, Int.div_ceil}
 use Rattle.ffs_volume.specs.declared.Layout.{Layout}
 use Rattle.ffs_maps.specs.Bits.{bits_of}
 use Rattle.ffs_walk.specs.Windows.{WindowHolds, BlocksHold}
-use Rattle.ffs_workspace.specs.declared.workspace.Workspace.{Workspace}
-use Rattle.ffs_workspace.specs.Tables.{IsTableOf}
+use Rattle.ffs_workspace.specs.{declared.workspace.Workspace.Workspace, Tables.IsTableOf}
 
 -- how many inodes a volume has
 abbrev pub inodes_of : Layout → ℕ

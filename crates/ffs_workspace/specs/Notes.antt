@@ -2,12 +2,8 @@
 -- offer cut it; where it isn't cut and is a directory of one chunk, the address of that chunk, so
 -- that the survey needn't read the inode again; else 0.
 use Rattle.std.specs.Prelude.{ℕ, Bool, ◌+◌, ◌-◌, ◌^◌, ◌&&◌, ◌==◌, nat_lt, if◌then◌else◌, List, slice_index}
-use Rattle.ffs_volume.specs.declared.Layout.{Layout}
-use Rattle.ffs_volume.specs.declared.Inode.{Inode}
-use Rattle.ffs_volume.specs.declared.Class.{Class}
-use Rattle.ffs_volume.specs.declared.constants.TheConstants.{DIRBLKSIZ}
-use Rattle.ffs_volume.specs.Blocks.Inodes.{inode_of, is_directory}
-use Rattle.ffs_volume.specs.Directories.Volumes.{class_at}
+use Rattle.ffs_volume.specs.declared.{Layout.Layout, Inode.Inode, Class.Class, constants.TheConstants.DIRBLKSIZ}
+use Rattle.ffs_volume.specs.{Blocks.Inodes.{inode_of, is_directory}, Directories.Volumes.class_at}
 use Rattle.ffs_volume.specs.Encodings.Replay.{cut_at}
 
 -- notes from this number on are addresses, from 0 on. No inode keeps so many offers: it keeps at

@@ -2,18 +2,12 @@
 -- bits are the noted place: 0 where none is noted, else 1 more than the number of the chunk of 512
 -- bytes of the image that has the entry. Its top bit says that the entry is due: the first look at
 -- the parent has met it, and the second reading, if there is one, has not passed it yet.
-use Rattle.std.specs.Prelude.{◌≡◌, ℕ, suc, ◌+◌, ◌-◌, ◌*◌, ◌^◌, ◌≤◌, Bool, false, true, not, nat_lt, if◌then◌else◌, List, slice_index}
-use Rattle.std.specs.Prelude.{Some, option_and_then}
-use Rattle.std.specs.List.{list_any}
-use Rattle.ffs_volume.specs.declared.constants.TheConstants.{DIRBLKSIZ}
-use Rattle.ffs_volume.specs.declared.Layout.{Layout}
-use Rattle.ffs_volume.specs.Disk.Numbers.{piece}
-use Rattle.ffs_volume.specs.Directories.Entries.{entries_of}
-use Rattle.ffs_volume.specs.Directories.Graph.{is_naming_entry, first_index, level, parent}
-use Rattle.ffs_volume.specs.Directories.Parents.{graph_of, nth_roled}
-use Rattle.ffs_volume.specs.Directories.Paths.{name_of}
-use Rattle.ffs_volume.specs.Directories.Roles.{RoledEntry, roled_entries, roled_from}
-use Rattle.ffs_volume.specs.Directories.Volumes.{volume_of}
+use Rattle.std.specs.Prelude.{◌≡◌, ℕ, suc, ◌+◌, ◌-◌, ◌*◌, ◌^◌, ◌≤◌, Bool, false, true, not, nat_lt, if◌then◌else◌, List}
+use Rattle.std.specs.{Prelude.{slice_index, Some, option_and_then}, List.list_any}
+use Rattle.ffs_volume.specs.{declared.{constants.TheConstants.DIRBLKSIZ, Layout.Layout}, Disk.Numbers.piece}
+use Rattle.ffs_volume.specs.Directories.{Entries.entries_of, Graph.{is_naming_entry, first_index, level, parent}}
+use Rattle.ffs_volume.specs.Directories.{Parents.{graph_of, nth_roled}, Paths.name_of, Roles.RoledEntry}
+use Rattle.ffs_volume.specs.Directories.{Roles.{roled_entries, roled_from}, Volumes.volume_of}
 
 -- the place that a word notes: 0 for none, else 1 more than the number of the chunk
 abbrev pub place_in : ℕ → ℕ

@@ -3,11 +3,8 @@ use Rattle.std.specs.Prelude.{◌≡◌, ◌*◌, ◌≤◌, ℕ, List, Option, 
 use Rattle.ffs_image.specs.Device.{Device}
 use Rattle.ffs_volume.specs.declared.Layout.{Layout}
 use Rattle.ffs_walk.specs.Windows.{WindowHolds, BlocksHold}
-use Rattle.ffs_workspace.specs.declared.workspace.Windows.{Windows}
-use Rattle.ffs_workspace.specs.declared.workspace.Workspace.{Workspace}
-use Rattle.ffs_workspace.specs.Holds.{IsFresh}
-use Rattle.ffs_workspace.specs.Lengths.{IsFor, HoldWindows}
-use Rattle.ffs_workspace.specs.Tables.{IsTableOf}
+use Rattle.ffs_workspace.specs.{declared.workspace.{Windows.Windows, Workspace.Workspace}, Holds.IsFresh, Lengths.IsFor}
+use Rattle.ffs_workspace.specs.{Lengths.HoldWindows, Tables.IsTableOf}
 
 -- its lists have the lengths of the volume, the image has all of the volume, and its windows hold
 -- what the image gives

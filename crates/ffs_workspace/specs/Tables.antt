@@ -1,16 +1,10 @@
 -- What the window on the inode table holds.
 use Rattle.std.specs.Prelude.{◌≡◌, ◌*◌, ◌+◌, ◌-◌, ◌/◌, ◌%◌, ◌<◌, ◌≤◌, ℕ, List, Option, Result, IfOk, vec_len}
 use Rattle.std.specs.List.{slice_range}
-use Rattle.ffs_image.specs.Device.{Device, ForContents}
-use Rattle.ffs_image.specs.Reads.{ReadAfter}
-use Rattle.ffs_image.specs.declared.image.ImageFault.{ImageFault}
+use Rattle.ffs_image.specs.{Device.{Device, ForContents}, Reads.ReadAfter, declared.image.ImageFault.ImageFault}
 use Rattle.ffs_memory.specs.declared.fixed_list.FixedList.{FixedList}
-use Rattle.ffs_volume.specs.declared.constants.TheConstants.{DINODE_SIZE}
-use Rattle.ffs_volume.specs.declared.Inode.{Inode}
-use Rattle.ffs_volume.specs.declared.Layout.{Layout}
-use Rattle.ffs_volume.specs.Blocks.Inodes.{inode_of}
-use Rattle.ffs_volume.specs.Disk.Areas.{cgstart, inode_place}
-use Rattle.ffs_volume.specs.Laws.Geometry.{IsAcceptedLayout}
+use Rattle.ffs_volume.specs.declared.{constants.TheConstants.DINODE_SIZE, Inode.Inode, Layout.Layout}
+use Rattle.ffs_volume.specs.{Blocks.Inodes.inode_of, Disk.Areas.{cgstart, inode_place}, Laws.Geometry.IsAcceptedLayout}
 use Rattle.ffs_volume.specs.Disk.Numbers.{piece}
 use Rattle.ffs_walk.specs.Windows.{WindowHolds, held_bytes}
 use Rattle.ffs_workspace.specs.declared.table.Table.{Table}

@@ -2,9 +2,8 @@
 
 ghost use Rattle.std.specs.Prelude.{◌≡◌, ◌+◌, ◌*◌, ◌<◌, ◌≤◌, [], ◌∷◌, IfOk, false, slice_index, vec_len};
 ghost use Rattle.ffs_layout.specs.declared.geometry.Geometry.{Geometry};
-ghost use Rattle.ffs_volume.specs.declared.Layout.{Layout};
+ghost use Rattle.ffs_volume.specs.{declared.Layout.Layout, Report.Memory.held_limit};
 ghost use Rattle.ffs_memory.specs.Account.{Asks, IsFilled};
-ghost use Rattle.ffs_volume.specs.Report.Memory.{held_limit};
 
 use crate::notes::cut_in;
 use crate::table::Table;

@@ -1,18 +1,12 @@
 -- The lines of phases 1 and 1b.
-use Rattle.std.specs.Prelude.{ℕ, Bool, true, false, ◌*◌, ◌/◌, ◌&&◌, ◌||◌, not, List}
-use Rattle.std.specs.Prelude.{[], ◌∷◌, ◌++◌, ◌==◌, slice_set, if◌then◌else◌}
-use Rattle.std.specs.List.{list_any}
-use Rattle.ffs_volume.specs.declared.constants.TheConstants.{DEV_BSIZE}
-use Rattle.ffs_volume.specs.declared.Layout.{Layout}
-use Rattle.ffs_volume.specs.declared.Class.{Class}
-use Rattle.ffs_volume.specs.declared.Class.TheVariants.{Partial, Unknown}
-use Rattle.ffs_volume.specs.declared.BlockMessage.{BlockMessage}
+use Rattle.std.specs.Prelude.{ℕ, Bool, true, false, ◌*◌, ◌/◌, ◌&&◌, ◌||◌, not, List, [], ◌∷◌, ◌++◌, ◌==◌, slice_set}
+use Rattle.std.specs.{Prelude.if◌then◌else◌, List.list_any}
+use Rattle.ffs_volume.specs.declared.{constants.TheConstants.DEV_BSIZE, Layout.Layout, Class.Class}
+use Rattle.ffs_volume.specs.declared.{Class.TheVariants.{Partial, Unknown}, BlockMessage.BlockMessage}
 use Rattle.ffs_volume.specs.declared.BlockMessage.TheVariants.{PartAlloc, UnknownType, Bad, Dup, BlockCount}
-use Rattle.ffs_volume.specs.Blocks.Inodes.{is_file_or_dir, inode_of, class_of, is_unknown}
-use Rattle.ffs_volume.specs.Blocks.Owners.{Owner, owners_of}
-use Rattle.ffs_volume.specs.Blocks.Claims.{Claims, no_claims, at_next_inode, is_open, is_set}
-use Rattle.ffs_volume.specs.Blocks.Claims.{after_owner, after_owners, lines_of_steps}
-use Rattle.ffs_volume.specs.Blocks.KeptOffers.{Offer, kept_in_owners}
+use Rattle.ffs_volume.specs.Blocks.{Inodes.{is_file_or_dir, inode_of, class_of, is_unknown}, Owners.{Owner, owners_of}}
+use Rattle.ffs_volume.specs.Blocks.Claims.{Claims, no_claims, at_next_inode, is_open, is_set, after_owner, after_owners}
+use Rattle.ffs_volume.specs.Blocks.{Claims.lines_of_steps, KeptOffers.{Offer, kept_in_owners}}
 
 -- the line of an inode's class
 abbrev pub class_lines : ℕ → Class → List BlockMessage

@@ -4,17 +4,12 @@
 -- keeps each offer that comes before its eleventh bad Run, and no later than its eleventh dup
 -- offer. The eleventh dup offer itself is kept, so phase 1b looks for the first offer of its
 -- fragment, too.
-use Rattle.std.specs.Prelude.{ℕ, Bool, true, false, ◌+◌, ◌&&◌, not, List, [], ◌∷◌, ◌++◌}
-use Rattle.std.specs.Prelude.{◌==◌, nat_lt, slice_set, if◌then◌else◌, map, replicate}
-use Rattle.std.specs.List.{range_with_len, slice_index_or}
-use Rattle.ffs_volume.specs.declared.constants.TheConstants.{MAXBAD, MAXDUP}
-use Rattle.ffs_volume.specs.declared.Layout.{Layout}
-use Rattle.ffs_volume.specs.declared.Step.{Step}
-use Rattle.ffs_volume.specs.declared.Step.TheVariants.{Run, Tail, Gap}
-use Rattle.ffs_volume.specs.declared.BlockMessage.{BlockMessage}
-use Rattle.ffs_volume.specs.declared.BlockMessage.TheVariants.{Bad, Dup, ManyBad, ManyDup, PartTrunc}
-use Rattle.ffs_volume.specs.Disk.Areas.{is_fragment_in_range, is_run_in_range, is_reserved}
-use Rattle.ffs_volume.specs.Blocks.Owners.{Owner}
+use Rattle.std.specs.Prelude.{ℕ, Bool, true, false, ◌+◌, ◌&&◌, not, List, [], ◌∷◌, ◌++◌, ◌==◌, nat_lt, slice_set}
+use Rattle.std.specs.{Prelude.{if◌then◌else◌, map, replicate}, List.{range_with_len, slice_index_or}}
+use Rattle.ffs_volume.specs.declared.{constants.TheConstants.{MAXBAD, MAXDUP}, Layout.Layout, Step.Step}
+use Rattle.ffs_volume.specs.declared.{Step.TheVariants.{Run, Tail, Gap}, BlockMessage.{BlockMessage, TheVariants.Bad}}
+use Rattle.ffs_volume.specs.declared.BlockMessage.TheVariants.{Dup, ManyBad, ManyDup, PartTrunc}
+use Rattle.ffs_volume.specs.{Disk.Areas.{is_fragment_in_range, is_run_in_range, is_reserved}, Blocks.Owners.Owner}
 
 -- the state after some steps: maps of the volume's fragments, how many Runs were seen, and counts
 -- of the current inode

@@ -1,17 +1,10 @@
 -- An inode, and its class.
-use Rattle.std.specs.Prelude.{ℕ, Bool, true, false, not, ◌+◌, ◌*◌, ◌/◌, ◌&&◌}
-use Rattle.std.specs.Prelude.{◌||◌, List, nat_lt, ◌==◌, if◌then◌else◌, drop, map}
-use Rattle.std.specs.List.{list_any, range_with_len}
-use Rattle.std.specs.Int.{div_ceil}
+use Rattle.std.specs.Prelude.{ℕ, Bool, true, false, not, ◌+◌, ◌*◌, ◌/◌, ◌&&◌, ◌||◌, List, nat_lt, ◌==◌, if◌then◌else◌}
+use Rattle.std.specs.{Prelude.{drop, map}, List.{list_any, range_with_len}, Int.div_ceil}
 use Rattle.ffs_volume.specs.declared.constants.TheConstants.{NDADDR, DT_FIFO, DT_CHR, DT_DIR, DT_BLK, DT_REG, DT_LNK}
-use Rattle.ffs_volume.specs.declared.constants.TheConstants.{DT_SOCK, DINODE_SIZE}
-use Rattle.ffs_volume.specs.declared.Order.{Order}
-use Rattle.ffs_volume.specs.declared.Layout.{Layout}
-use Rattle.ffs_volume.specs.declared.Inode.{Inode}
-use Rattle.ffs_volume.specs.declared.Class.{Class}
-use Rattle.ffs_volume.specs.declared.Class.TheVariants.{Free, Partial, Unknown, File, Dir}
-use Rattle.ffs_volume.specs.Disk.Numbers.{u16_at, i16_at, u32_at, i32_at, u64_at, piece}
-use Rattle.ffs_volume.specs.Disk.Areas.{inode_place}
+use Rattle.ffs_volume.specs.declared.{constants.TheConstants.{DT_SOCK, DINODE_SIZE}, Order.Order, Layout.Layout}
+use Rattle.ffs_volume.specs.declared.{Inode.Inode, Class.{Class, TheVariants.{Free, Partial, Unknown, File, Dir}}}
+use Rattle.ffs_volume.specs.Disk.{Numbers.{u16_at, i16_at, u32_at, i32_at, u64_at, piece}, Areas.inode_place}
 
 -- an inode from its bytes, whose numbers are in this order of bytes
 unfoldable pub inode_from_bytes : Order → List ℕ → Inode

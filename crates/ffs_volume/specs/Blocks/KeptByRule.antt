@@ -4,13 +4,9 @@
 -- it (`OfferVerdict`).
 use Rattle.std.specs.Prelude.{ℕ, Bool, ◌+◌, ◌&&◌, ◌||◌, List, [], ◌∷◌, ◌++◌, ◌==◌, nat_le, if◌then◌else◌, map, count_by}
 use Rattle.std.specs.List.{list_any, flat_map, range_with_len}
-use Rattle.ffs_volume.specs.declared.constants.TheConstants.{MAXBAD, MAXDUP}
-use Rattle.ffs_volume.specs.declared.Layout.{Layout}
-use Rattle.ffs_volume.specs.declared.Step.{Step}
-use Rattle.ffs_volume.specs.declared.Step.TheVariants.{Run, Tail, Gap}
-use Rattle.ffs_volume.specs.Disk.Areas.{is_fragment_in_range, is_run_in_range, is_reserved}
-use Rattle.ffs_volume.specs.Blocks.Owners.{Owner}
-use Rattle.ffs_volume.specs.Blocks.KeptOffers.{Offer}
+use Rattle.ffs_volume.specs.declared.{constants.TheConstants.{MAXBAD, MAXDUP}, Layout.Layout, Step.Step}
+use Rattle.ffs_volume.specs.{declared.Step.TheVariants.{Run, Tail, Gap}, Disk.Areas.is_fragment_in_range}
+use Rattle.ffs_volume.specs.{Disk.Areas.{is_run_in_range, is_reserved}, Blocks.{Owners.Owner, KeptOffers.Offer}}
 
 -- an offer, and how many bad Runs of its inode are at or before its Run
 pub record CountedOffer : Type 0 where

@@ -1,14 +1,10 @@
 -- The offers that inodes keep, walked from a state as `Claims` walks. `KeptByRule` says by one rule
 -- which they are: read it for the meaning.
-use Rattle.std.specs.Prelude.{ℕ, ◌+◌, List, [], ◌∷◌, ◌++◌, ◌==◌, nat_lt, if◌then◌else◌}
-use Rattle.std.specs.List.{range_with_len}
-use Rattle.ffs_volume.specs.declared.constants.TheConstants.{MAXBAD, MAXDUP}
-use Rattle.ffs_volume.specs.declared.Layout.{Layout}
-use Rattle.ffs_volume.specs.declared.Step.{Step}
-use Rattle.ffs_volume.specs.declared.Step.TheVariants.{Run, Tail, Gap}
-use Rattle.ffs_volume.specs.Disk.Areas.{is_run_in_range}
-use Rattle.ffs_volume.specs.Blocks.Owners.{Owner}
-use Rattle.ffs_volume.specs.Blocks.Claims.{Claims, at_next_inode, is_open, after_offer, after_step, after_owner}
+use Rattle.std.specs.{Prelude.{ℕ, ◌+◌, List, [], ◌∷◌, ◌++◌, ◌==◌, nat_lt, if◌then◌else◌}, List.range_with_len}
+use Rattle.ffs_volume.specs.declared.{constants.TheConstants.{MAXBAD, MAXDUP}, Layout.Layout, Step.Step}
+use Rattle.ffs_volume.specs.{declared.Step.TheVariants.{Run, Tail, Gap}, Disk.Areas.is_run_in_range}
+use Rattle.ffs_volume.specs.Blocks.{Owners.Owner, Claims.{Claims, at_next_inode, is_open, after_offer, after_step}}
+use Rattle.ffs_volume.specs.Blocks.Claims.{after_owner}
 
 -- an offer: one fragment of a Run, and the inode of the Run
 pub record Offer : Type 0 where

@@ -2,13 +2,9 @@
 -- where its Run is kept, and a hole is reported where its Gap is.
 use Rattle.std.specs.Prelude.{ℕ, Bool, ◌+◌, ◌-◌, ◌&&◌, List, [], ◌∷◌, ◌++◌, ◌==◌, if◌then◌else◌, map}
 use Rattle.std.specs.List.{range_with_len}
-use Rattle.ffs_volume.specs.declared.Layout.{Layout}
-use Rattle.ffs_volume.specs.declared.Step.{Step}
-use Rattle.ffs_volume.specs.declared.Step.TheVariants.{Run, Tail, Gap}
-use Rattle.ffs_volume.specs.Blocks.Inodes.{inode_of}
-use Rattle.ffs_volume.specs.Blocks.Steps.{steps_of}
-use Rattle.ffs_volume.specs.Blocks.Owners.{owner_of}
-use Rattle.ffs_volume.specs.Blocks.Claims.{Claims, no_claims, at_next_inode, is_open, after_step, after_owners}
+use Rattle.ffs_volume.specs.declared.{Layout.Layout, Step.{Step, TheVariants.{Run, Tail, Gap}}}
+use Rattle.ffs_volume.specs.Blocks.{Inodes.inode_of, Steps.steps_of, Owners.owner_of, Claims.{Claims, no_claims}}
+use Rattle.ffs_volume.specs.Blocks.Claims.{at_next_inode, is_open, after_step, after_owners}
 
 -- a Gap or Tail is kept where it is seen, and a Run where all its offers are: the count of kept
 -- offers rises by its length

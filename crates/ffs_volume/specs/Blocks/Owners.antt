@@ -1,13 +1,8 @@
 -- The inodes of an image, as phase 1 sees them. An owner is an inode that may own fragments, not
 -- the user of a file.
-use Rattle.std.specs.Prelude.{ℕ, ◌*◌, ◌-◌, List, [], map}
-use Rattle.std.specs.List.{flat_map, range_with_len}
-use Rattle.ffs_volume.specs.declared.Layout.{Layout}
-use Rattle.ffs_volume.specs.declared.Class.{Class}
-use Rattle.ffs_volume.specs.declared.Step.{Step}
-use Rattle.ffs_volume.specs.declared.Step.TheVariants.{Run, Tail, Gap}
-use Rattle.ffs_volume.specs.Blocks.Inodes.{inode_of, class_of}
-use Rattle.ffs_volume.specs.Blocks.Steps.{steps_of}
+use Rattle.std.specs.{Prelude.{ℕ, ◌*◌, ◌-◌, List, [], map}, List.{flat_map, range_with_len}}
+use Rattle.ffs_volume.specs.declared.{Layout.Layout, Class.Class, Step.{Step, TheVariants.{Run, Tail, Gap}}}
+use Rattle.ffs_volume.specs.Blocks.{Inodes.{inode_of, class_of}, Steps.steps_of}
 
 -- what phase 1 uses of an inode, also of a free one: its number, class, steps and blocks field, in
 -- sectors

@@ -3,19 +3,13 @@
 -- hole: a block of data that isn't there, or an indirect block with all that would lie under it. A
 -- Tail comes after the Run of an indirect block that has an address past the end of the file: one
 -- Tail, however many such addresses the block has.
-use Rattle.std.specs.Prelude.{ℕ, ◌==◌, zero, suc, Bool, not, ◌+◌, ◌-◌, ◌*◌, ◌%◌, ◌&&◌, ◌||◌, List, [], ◌∷◌}
-use Rattle.std.specs.Prelude.{◌++◌, nat_lt, min, if◌then◌else◌, Some, None, slice_index}
-use Rattle.std.specs.List.{flat_map, range_with_len, list_any}
-use Rattle.std.specs.Int.{div_ceil}
-use Rattle.ffs_volume.specs.declared.constants.TheConstants.{NDADDR}
-use Rattle.ffs_volume.specs.declared.Layout.{Layout}
-use Rattle.ffs_volume.specs.declared.Step.{Step}
-use Rattle.ffs_volume.specs.declared.Step.TheVariants.{Run, Tail, Gap}
-use Rattle.ffs_volume.specs.declared.Inode.{Inode}
-use Rattle.ffs_volume.specs.Disk.Numbers.{u32_at, piece}
-use Rattle.ffs_volume.specs.Disk.Areas.{is_run_in_range}
-use Rattle.ffs_volume.specs.Blocks.Inodes.{addresses_needed, type_of, is_device, is_short_symlink}
-use Rattle.ffs_volume.specs.Blocks.Inodes.{logical_blocks_of, is_file_or_dir, class_of}
+use Rattle.std.specs.Prelude.{ℕ, ◌==◌, zero, suc, Bool, not, ◌+◌, ◌-◌, ◌*◌, ◌%◌, ◌&&◌, ◌||◌, List, [], ◌∷◌, ◌++◌}
+use Rattle.std.specs.{Prelude.{nat_lt, min, if◌then◌else◌, Some, None, slice_index}, List.{flat_map, range_with_len}}
+use Rattle.std.specs.{List.list_any, Int.div_ceil}
+use Rattle.ffs_volume.specs.declared.{constants.TheConstants.NDADDR, Layout.Layout, Step.{Step, TheVariants.Run}}
+use Rattle.ffs_volume.specs.{declared.{Step.TheVariants.{Tail, Gap}, Inode.Inode}, Disk.Numbers.{u32_at, piece}}
+use Rattle.ffs_volume.specs.{Disk.Areas.is_run_in_range, Blocks.Inodes.{addresses_needed, type_of, is_device}}
+use Rattle.ffs_volume.specs.Blocks.Inodes.{is_short_symlink, logical_blocks_of, is_file_or_dir, class_of}
 
 -- the bytes of the block at an address
 abbrev pub block_bytes : (v : Layout) (image : List ℕ) (address : ℕ) → List ℕ

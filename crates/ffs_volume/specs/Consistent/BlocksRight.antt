@@ -1,16 +1,9 @@
 -- When blocks are consistent. Nothing here depends on the order in which inodes are read, nor on
 -- what they keep.
-use Rattle.std.specs.Prelude.{◌≡◌, ℕ, ◌≤◌, Bool, true, false, ◌||◌, not, List, ◌==◌, length, count_by}
-use Rattle.std.specs.List.{list_all}
-use Rattle.ffs_volume.specs.declared.Layout.{Layout}
-use Rattle.ffs_volume.specs.declared.Class.{Class}
-use Rattle.ffs_volume.specs.declared.Class.TheVariants.{Partial, Unknown}
-use Rattle.ffs_volume.specs.declared.Step.{Step}
-use Rattle.ffs_volume.specs.declared.Step.TheVariants.{Run, Tail, Gap}
-use Rattle.ffs_volume.specs.Disk.Areas.{is_run_in_range, is_reserved}
-use Rattle.ffs_volume.specs.Blocks.Inodes.{is_file_or_dir}
-use Rattle.ffs_volume.specs.Blocks.Owners.{Owner, fragments_of, all_steps}
-use Rattle.ffs_volume.specs.Blocks.BlockCheck.{sectors}
+use Rattle.std.specs.{Prelude.{◌≡◌, ℕ, ◌≤◌, Bool, true, false, ◌||◌, not, List, ◌==◌, length, count_by}, List.list_all}
+use Rattle.ffs_volume.specs.declared.{Layout.Layout, Class.{Class, TheVariants.{Partial, Unknown}}, Step.Step}
+use Rattle.ffs_volume.specs.{declared.Step.TheVariants.{Run, Tail, Gap}, Disk.Areas.{is_run_in_range, is_reserved}}
+use Rattle.ffs_volume.specs.Blocks.{Inodes.is_file_or_dir, Owners.{Owner, fragments_of, all_steps}, BlockCheck.sectors}
 
 -- the class is Free, File or Dir
 abbrev pub is_right_class : Class → Bool

@@ -2,14 +2,10 @@
 -- is the first to name an inode, or on parents.
 use Rattle.std.specs.Prelude.{ℕ, ◌≡◌, ◌≢◌, ◌≤◌, ◌<◌, ◌%◌, true, false, pos, ◌⊎◌, IsSomeAnd, Some}
 use Rattle.ffs_volume.specs.declared.constants.TheConstants.{WINO, ROOTINO, DIRBLKSIZ, DT_DIR, DT_WHT}
-use Rattle.ffs_volume.specs.declared.Class.TheVariants.{Dir}
-use Rattle.ffs_volume.specs.declared.Role.TheVariants.{Extra, Plain}
-use Rattle.ffs_volume.specs.Blocks.Inodes.{type_of}
-use Rattle.ffs_volume.specs.Directories.Entries.{Entry}
-use Rattle.ffs_volume.specs.Directories.Roles.{Volume, RoledEntry, is_dir, is_allocated_inode}
-use Rattle.ffs_volume.specs.Directories.Roles.{roled_entries, dot, dotdot, references}
-use Rattle.ffs_volume.specs.Directories.Graph.{reached, is_naming_entry_at, IsNamedOnce}
-use Rattle.ffs_volume.specs.Directories.Parents.{graph_of, nth_roled}
+use Rattle.ffs_volume.specs.{declared.{Class.TheVariants.Dir, Role.TheVariants.{Extra, Plain}}, Blocks.Inodes.type_of}
+use Rattle.ffs_volume.specs.Directories.{Entries.Entry, Roles.{Volume, RoledEntry, is_dir, is_allocated_inode}}
+use Rattle.ffs_volume.specs.Directories.{Roles.{roled_entries, dot, dotdot, references}, Graph.reached}
+use Rattle.ffs_volume.specs.Directories.{Graph.{is_naming_entry_at, IsNamedOnce}, Parents.{graph_of, nth_roled}}
 use Rattle.ffs_volume.specs.Directories.PathnameCheck.{are_sound}
 
 -- a directory's size is a positive multiple of 512 bytes

@@ -1,14 +1,10 @@
 -- When a volume is consistent, said without the phases of a check and without its messages.
-use Rattle.std.specs.Prelude.{◌≡◌, ℕ, true, List}
-use Rattle.std.specs.List.{list_all}
-use Rattle.ffs_volume.specs.Disk.Superblock.{Superblock}
-use Rattle.ffs_volume.specs.Blocks.Owners.{owners_of}
-use Rattle.ffs_volume.specs.Consistent.BlocksRight.{is_right_class, AreRunsRight}
-use Rattle.ffs_volume.specs.Groups.Records.{AreGroupsRight}
-use Rattle.ffs_volume.specs.Groups.GroupCheck.{is_free_of_runs}
-use Rattle.ffs_volume.specs.Consistent.DirectoriesRight.{AreDirsRight, AreLinksRight, AreCountsRight}
-use Rattle.ffs_volume.specs.Directories.Volumes.{class_at, whole_volume}
-use Rattle.ffs_volume.specs.Report.Opening.{has_valid_optim, has_valid_minfree}
+use Rattle.std.specs.{Prelude.{◌≡◌, ℕ, true, List}, List.list_all}
+use Rattle.ffs_volume.specs.{Disk.Superblock.Superblock, Blocks.Owners.owners_of, Consistent.BlocksRight.is_right_class}
+use Rattle.ffs_volume.specs.{Consistent.BlocksRight.AreRunsRight, Groups.Records.AreGroupsRight}
+use Rattle.ffs_volume.specs.{Groups.GroupCheck.is_free_of_runs, Consistent.DirectoriesRight.AreDirsRight}
+use Rattle.ffs_volume.specs.{Consistent.DirectoriesRight.{AreLinksRight, AreCountsRight}, Directories.Volumes.class_at}
+use Rattle.ffs_volume.specs.{Directories.Volumes.whole_volume, Report.Opening.{has_valid_optim, has_valid_minfree}}
 
 -- the settings are possible ones
 pub record AreSettingsRight (s : Superblock) : Type 0 where

@@ -1,10 +1,8 @@
 -- What the check of connectivity, phase 3, reports.
 use Rattle.std.specs.Prelude.{ℕ, Bool, List}
-use Rattle.ffs_volume.specs.Directories.Roles.{Volume, is_suspect}
-use Rattle.ffs_volume.specs.Directories.Graph.{is_unref_dir_in, is_dead_in}
-use Rattle.ffs_volume.specs.Directories.Parents.{graph_of}
-use Rattle.ffs_volume.specs.Messages.Kinds.{TreeMessage, reported, lines_below, unref_dir}
-use Rattle.ffs_volume.specs.Directories.PathnameCheck.{attributes}
+use Rattle.ffs_volume.specs.Directories.{Roles.{Volume, is_suspect}, Graph.{is_unref_dir_in, is_dead_in}}
+use Rattle.ffs_volume.specs.{Directories.Parents.graph_of, Messages.Kinds.{TreeMessage, reported, lines_below}}
+use Rattle.ffs_volume.specs.{Messages.Kinds.unref_dir, Directories.PathnameCheck.attributes}
 
 -- x is dead: suspect, other than 2, and named by no plain entry
 abbrev pub is_dead : Volume → ℕ → Bool

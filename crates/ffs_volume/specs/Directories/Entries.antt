@@ -1,16 +1,11 @@
 -- The chunks of a directory and the entries in them, after dir(5). In an entry the inode number is
 -- at byte 0, the length of the record at 4, the type at 6, the length of the name at 7, and the
 -- name from 8 on.
-use Rattle.std.specs.Prelude.{ℕ, zero, suc, ◌+◌, ◌-◌, ◌*◌, ◌/◌, ◌%◌, ◌==◌, min, Bool, true}
-use Rattle.std.specs.Prelude.{false, not, ◌&&◌, ◌||◌, nat_le, nat_lt, if◌then◌else◌, List, []}
-use Rattle.std.specs.Prelude.{◌∷◌, map, length, slice_index, sum_by, Option, Some, None}
-use Rattle.std.specs.List.{range_with_len, flat_map, list_any}
-use Rattle.std.specs.Int.{div_ceil}
-use Rattle.ffs_volume.specs.declared.constants.TheConstants.{DIRBLKSIZ, DIRENT_HEADER, MINDIRSIZE}
-use Rattle.ffs_volume.specs.declared.Order.{Order}
-use Rattle.ffs_volume.specs.declared.Step.{Step}
-use Rattle.ffs_volume.specs.declared.Step.TheVariants.{Run, Tail, Gap}
-use Rattle.ffs_volume.specs.Disk.Numbers.{u16_at, u32_at, piece}
+use Rattle.std.specs.Prelude.{ℕ, zero, suc, ◌+◌, ◌-◌, ◌*◌, ◌/◌, ◌%◌, ◌==◌, min, Bool, true, false, not, ◌&&◌, ◌||◌}
+use Rattle.std.specs.Prelude.{nat_le, nat_lt, if◌then◌else◌, List, [], ◌∷◌, map, length, slice_index, sum_by, Option}
+use Rattle.std.specs.{Prelude.{Some, None}, List.{range_with_len, flat_map, list_any}, Int.div_ceil}
+use Rattle.ffs_volume.specs.declared.{constants.TheConstants.{DIRBLKSIZ, DIRENT_HEADER, MINDIRSIZE}, Order.Order}
+use Rattle.ffs_volume.specs.{declared.Step.{Step, TheVariants.{Run, Tail, Gap}}, Disk.Numbers.{u16_at, u32_at, piece}}
 
 -- an entry: its inode number, the length of its record, its type (DT_DIR and so on) and its name
 pub record Entry : Type 0 where

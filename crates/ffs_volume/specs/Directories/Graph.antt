@@ -2,13 +2,10 @@
 -- (`graph_of`). Only plain entries count. A plain entry names the number that it carries
 -- (`is_naming_entry`; by its index `is_naming_entry_at`), and its directory names it too
 -- (`is_naming_dir`). A number is named where some directory names it (`is_named`).
-use Rattle.std.specs.Prelude.{◌≡◌, ℕ, zero, suc, ◌==◌, Bool, true, false, not, ◌&&◌, ◌||◌, List}
-use Rattle.std.specs.Prelude.{Option, None, Some, is_some, cond, [], ◌∷◌, option_map, if◌then◌else◌}
-use Rattle.std.specs.List.{list_any}
-use Rattle.ffs_volume.specs.declared.constants.TheConstants.{ROOTINO}
-use Rattle.ffs_volume.specs.Directories.Roles.{RoledEntry, is_plain}
-use Rattle.ffs_volume.specs.Disk.Search.{first_below, some_below}
-use Rattle.ffs_volume.specs.Directories.Climb.{is_value, is_leader_within}
+use Rattle.std.specs.Prelude.{◌≡◌, ℕ, zero, suc, ◌==◌, Bool, true, false, not, ◌&&◌, ◌||◌, List, Option, None, Some}
+use Rattle.std.specs.{Prelude.{is_some, cond, [], ◌∷◌, option_map, if◌then◌else◌}, List.list_any}
+use Rattle.ffs_volume.specs.{declared.constants.TheConstants.ROOTINO, Directories.Roles.{RoledEntry, is_plain}}
+use Rattle.ffs_volume.specs.{Disk.Search.{first_below, some_below}, Directories.Climb.{is_value, is_leader_within}}
 
 -- what levels and parents depend on: the number of inodes, which of them are directories, and the
 -- entries of each directory in order

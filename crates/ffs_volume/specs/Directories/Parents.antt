@@ -2,8 +2,7 @@
 -- inode, or is its parent entry. The record `Graph` and what it gives, such as `level` and
 -- `parent`, are in `Graph`.
 use Rattle.std.specs.Prelude.{ℕ, zero, suc, Bool, ◌&&◌, List, [], ◌∷◌, Option, Some, None}
-use Rattle.ffs_volume.specs.Directories.Roles.{Volume, RoledEntry, is_dir, roled_entries}
-use Rattle.ffs_volume.specs.Disk.Search.{first_below}
+use Rattle.ffs_volume.specs.{Directories.Roles.{Volume, RoledEntry, is_dir, roled_entries}, Disk.Search.first_below}
 use Rattle.ffs_volume.specs.Directories.Climb.{is_value}
 use Rattle.ffs_volume.specs.Directories.Graph.{
   Graph,

@@ -1,28 +1,21 @@
 -- What the pathname check, phase 2, reports.
-use Rattle.std.specs.Prelude.{ℕ, suc, ◌%◌, ◌==◌, Bool, false, not, ◌&&◌, ◌||◌, nat_lt}
-use Rattle.std.specs.Prelude.{if◌then◌else◌, List, [], ◌∷◌, ◌++◌, Option, Some, None}
-use Rattle.std.specs.List.{list_all}
+use Rattle.std.specs.Prelude.{ℕ, suc, ◌%◌, ◌==◌, Bool, false, not, ◌&&◌, ◌||◌, nat_lt, if◌then◌else◌, List, [], ◌∷◌}
+use Rattle.std.specs.{Prelude.{◌++◌, Option, Some, None}, List.list_all}
 use Rattle.ffs_volume.specs.declared.constants.TheConstants.{WINO, ROOTINO, DIRBLKSIZ, MINDIRSIZE, DT_DIR, DT_WHT}
-use Rattle.ffs_volume.specs.declared.Attr.{Attr}
-use Rattle.ffs_volume.specs.declared.Class.{Class}
-use Rattle.ffs_volume.specs.declared.Class.TheVariants.{Free, Partial, Unknown, File, Dir}
-use Rattle.ffs_volume.specs.declared.Inode.{Inode}
-use Rattle.ffs_volume.specs.declared.Label.{Label}
-use Rattle.ffs_volume.specs.declared.Label.TheVariants.{Dir as DirLabel, File as FileLabel, Name as NameLabel}
-use Rattle.ffs_volume.specs.declared.Role.{Role}
-use Rattle.ffs_volume.specs.declared.Role.TheVariants.{Empty, Dot, Dotdot, Extra, Plain}
-use Rattle.ffs_volume.specs.Directories.Entries.{Entry, Chunk, is_live}
-use Rattle.ffs_volume.specs.Blocks.Inodes.{type_of, is_directory, is_allocated, is_unknown}
-use Rattle.ffs_volume.specs.Directories.Roles.{Volume, RoledEntry, is_dir, is_suspect, is_one_dot}
-use Rattle.ffs_volume.specs.Directories.Roles.{is_two_dots, start_entry, dot, dotdot, roled_entries}
-use Rattle.ffs_volume.specs.Directories.Graph.{parent}
-use Rattle.ffs_volume.specs.Directories.Parents.{graph_of, is_first_naming_entry, is_parent_entry}
-use Rattle.ffs_volume.specs.Directories.Paths.{dir_path, entry_path}
-use Rattle.ffs_volume.specs.Messages.Kinds.{TreeMessage, reported, lines_below, root_none, root_not_dir, root_suspect}
-use Rattle.ffs_volume.specs.Messages.Kinds.{dir_short, dir_length, dir_empty, dir_corrupt, missing_dot, missing_dot_first}
-use Rattle.ffs_volume.specs.Messages.Kinds.{number_dot, kind_dot, missing_dotdot, missing_dotdot_second, number_dotdot}
-use Rattle.ffs_volume.specs.Messages.Kinds.{kind_dotdot, extra_dot, extra_dotdot, out_of_range, whiteout, unallocated}
-use Rattle.ffs_volume.specs.Messages.Kinds.{dup_bad, zero_dir, extraneous, kind_entry}
+use Rattle.ffs_volume.specs.declared.{Attr.Attr, Class.{Class, TheVariants.{Free, Partial, Unknown, File, Dir}}}
+use Rattle.ffs_volume.specs.declared.{Inode.Inode, Label.{Label, TheVariants.{Dir as DirLabel, File as FileLabel}}}
+use Rattle.ffs_volume.specs.declared.{Label.TheVariants.Name as NameLabel, Role.{Role, TheVariants.{Empty, Dot}}}
+use Rattle.ffs_volume.specs.{declared.Role.TheVariants.{Dotdot, Extra, Plain}, Directories.Entries.{Entry, Chunk}}
+use Rattle.ffs_volume.specs.{Directories.Entries.is_live, Blocks.Inodes.{type_of, is_directory, is_allocated}}
+use Rattle.ffs_volume.specs.{Blocks.Inodes.is_unknown, Directories.Roles.{Volume, RoledEntry, is_dir, is_suspect}}
+use Rattle.ffs_volume.specs.Directories.Roles.{is_one_dot, is_two_dots, start_entry, dot, dotdot, roled_entries}
+use Rattle.ffs_volume.specs.Directories.{Graph.parent, Parents.{graph_of, is_first_naming_entry, is_parent_entry}}
+use Rattle.ffs_volume.specs.{Directories.Paths.{dir_path, entry_path}, Messages.Kinds.{TreeMessage, reported}}
+use Rattle.ffs_volume.specs.Messages.Kinds.{lines_below, root_none, root_not_dir, root_suspect, dir_short, dir_length}
+use Rattle.ffs_volume.specs.Messages.Kinds.{dir_empty, dir_corrupt, missing_dot, missing_dot_first, number_dot}
+use Rattle.ffs_volume.specs.Messages.Kinds.{kind_dot, missing_dotdot, missing_dotdot_second, number_dotdot, kind_dotdot}
+use Rattle.ffs_volume.specs.Messages.Kinds.{extra_dot, extra_dotdot, out_of_range, whiteout, unallocated, dup_bad}
+use Rattle.ffs_volume.specs.Messages.Kinds.{zero_dir, extraneous, kind_entry}
 
 -- what messages show of an inode of this number
 abbrev pub attributes_of : ℕ → Inode → Attr

@@ -1,11 +1,8 @@
 -- Paths of directories and of their entries, in bytes: 47 is `/`, and 63 is `?`.
-use Rattle.std.specs.Prelude.{ℕ, zero, suc, ◌-◌, nat_le, nat_lt, if◌then◌else◌, List, [], ◌∷◌}
-use Rattle.std.specs.Prelude.{◌++◌, length, Option, Some, None, option_map, option_and_then}
-use Rattle.std.specs.List.{flat_map}
-use Rattle.ffs_volume.specs.declared.constants.TheConstants.{MAXPATHLEN}
-use Rattle.ffs_volume.specs.Directories.Roles.{RoledEntry}
-use Rattle.ffs_volume.specs.Directories.Graph.{Graph, level, parent, parent_entry_index}
-use Rattle.ffs_volume.specs.Directories.Parents.{nth_roled}
+use Rattle.std.specs.Prelude.{ℕ, zero, suc, ◌-◌, nat_le, nat_lt, if◌then◌else◌, List, [], ◌∷◌, ◌++◌, length, Option}
+use Rattle.std.specs.{Prelude.{Some, None, option_map, option_and_then}, List.flat_map}
+use Rattle.ffs_volume.specs.{declared.constants.TheConstants.MAXPATHLEN, Directories.{Roles.RoledEntry, Graph.Graph}}
+use Rattle.ffs_volume.specs.Directories.{Graph.{level, parent, parent_entry_index}, Parents.nth_roled}
 
 -- names, each after a `/`
 abbrev pub joined : List (List ℕ) → List ℕ

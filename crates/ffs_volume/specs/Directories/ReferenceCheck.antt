@@ -1,10 +1,8 @@
 -- What the check of reference counts, phase 4, reports.
 use Rattle.std.specs.Prelude.{ℕ, ◌==◌, not, List, [], ◌∷◌, if◌then◌else◌}
-use Rattle.ffs_volume.specs.Disk.Numbers.{equals_natural}
-use Rattle.ffs_volume.specs.Directories.Roles.{Volume, is_allocated_inode, references}
-use Rattle.ffs_volume.specs.Messages.Kinds.{TreeMessage, lines_below, reported, dead_marked}
-use Rattle.ffs_volume.specs.Messages.Kinds.{dead_zero, unref, unref_zero, link_count}
-use Rattle.ffs_volume.specs.Directories.PathnameCheck.{attributes, label_of}
+use Rattle.ffs_volume.specs.{Disk.Numbers.equals_natural, Directories.Roles.{Volume, is_allocated_inode, references}}
+use Rattle.ffs_volume.specs.Messages.Kinds.{TreeMessage, lines_below, reported, dead_marked, dead_zero, unref}
+use Rattle.ffs_volume.specs.{Messages.Kinds.{unref_zero, link_count}, Directories.PathnameCheck.{attributes, label_of}}
 use Rattle.ffs_volume.specs.Directories.Connectivity.{is_dead}
 
 -- the message on a dead inode

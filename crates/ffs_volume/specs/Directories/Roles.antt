@@ -3,11 +3,8 @@
 use Rattle.std.specs.Prelude.{ℕ, zero, suc, ◌+◌, ◌==◌, Bool, true, false, not, ◌&&◌, ◌||◌, nat_le, nat_lt}
 use Rattle.std.specs.Prelude.{if◌then◌else◌, List, [], ◌∷◌, Option, Some, None, option_and_then, count_by, cond}
 use Rattle.std.specs.List.{flat_map, find}
-use Rattle.ffs_volume.specs.declared.Class.{Class}
-use Rattle.ffs_volume.specs.declared.Inode.{Inode}
-use Rattle.ffs_volume.specs.declared.Role.{Role}
-use Rattle.ffs_volume.specs.declared.Role.TheVariants.{Empty, Dot, Dotdot, Extra, Plain}
-use Rattle.ffs_volume.specs.Directories.Entries.{Entry, Chunk, is_live}
+use Rattle.ffs_volume.specs.declared.{Class.Class, Inode.Inode, Role.{Role, TheVariants.{Empty, Dot, Dotdot, Extra}}}
+use Rattle.ffs_volume.specs.{declared.Role.TheVariants.Plain, Directories.Entries.{Entry, Chunk, is_live}}
 use Rattle.ffs_volume.specs.Blocks.Inodes.{is_directory, is_allocated}
 
 -- a volume as the checks of directories see it: the number of its inodes, and of each its class,

@@ -1,17 +1,10 @@
 -- The volume of an image, as the checks of directories see it. The record `Volume` is in `Roles`;
 -- here its fields get their values from the image.
 use Rattle.std.specs.Prelude.{ℕ, ◌*◌, Bool, false, ◌&&◌, nat_le, nat_lt, if◌then◌else◌, List, []}
-use Rattle.ffs_volume.specs.declared.Layout.{Layout}
-use Rattle.ffs_volume.specs.declared.Class.{Class}
-use Rattle.ffs_volume.specs.declared.Class.TheVariants.{Free}
-use Rattle.ffs_volume.specs.declared.Step.{Step}
-use Rattle.ffs_volume.specs.Disk.Areas.{is_run_in_range}
-use Rattle.ffs_volume.specs.Blocks.Inodes.{inode_of, class_of}
-use Rattle.ffs_volume.specs.Blocks.Steps.{steps_of}
-use Rattle.ffs_volume.specs.Blocks.BlockCheck.{is_marked}
-use Rattle.ffs_volume.specs.Blocks.KeptSteps.{kept_steps_of}
-use Rattle.ffs_volume.specs.Directories.Entries.{ChunkSource, chunks_of, has_gap, bytes_read}
-use Rattle.ffs_volume.specs.Directories.Roles.{Volume}
+use Rattle.ffs_volume.specs.declared.{Layout.Layout, Class.{Class, TheVariants.Free}, Step.Step}
+use Rattle.ffs_volume.specs.{Disk.Areas.is_run_in_range, Blocks.{Inodes.{inode_of, class_of}, Steps.steps_of}}
+use Rattle.ffs_volume.specs.{Blocks.{BlockCheck.is_marked, KeptSteps.kept_steps_of}, Directories.Entries.ChunkSource}
+use Rattle.ffs_volume.specs.Directories.{Entries.{chunks_of, has_gap, bytes_read}, Roles.Volume}
 
 -- x is the number of an inode: it is at least 2, and some group has it
 abbrev pub is_inode_number : Layout → ℕ → Bool

@@ -1,9 +1,8 @@
 -- Numbers in the bytes of an image.
-use Rattle.std.specs.Prelude.{ℕ, zero, suc, ◌==◌, Bool, true, false, ◌&&◌, List, drop, take, ℤ, pos, negsuc}
-use Rattle.std.specs.Int.{w16, w32, cast_signed}
+use Rattle.std.specs.{Prelude.{ℕ, zero, suc, ◌==◌, Bool, true, false, ◌&&◌, List, drop, take, ℤ, pos, negsuc}, Int.w16}
+use Rattle.std.specs.Int.{w32, cast_signed}
 use Rattle.byteorder.specs.Endian.{little_number, big_number}
-use Rattle.ffs_volume.specs.declared.Order.{Order}
-use Rattle.ffs_volume.specs.declared.Order.TheVariants.{Little, Big}
+use Rattle.ffs_volume.specs.declared.Order.{Order, TheVariants.{Little, Big}}
 
 -- the unsigned number in the first n bytes
 unfoldable pub number : Order → (n : ℕ) (bytes : List ℕ) → ℕ

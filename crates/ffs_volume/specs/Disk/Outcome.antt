@@ -1,20 +1,15 @@
 -- Which superblocks are accepted, and the first fault of one that isn't: no bytes, no magic, a
 -- fault of the layout in the order of `layout_fault`, or a copy that disagrees. `outcome`, at the
 -- end, is made of the conditions before it.
-use Rattle.std.specs.Prelude.{ℕ, ◌+◌, ◌-◌, ◌*◌, ◌/◌, ◌%◌, ◌^◌, min, Bool, true, false, ◌&&◌, not, nat_lt, nat_le}
-use Rattle.std.specs.Prelude.{◌==◌, if◌then◌else◌, List, [], ◌∷◌, length, Option, Some, None, Result, Ok, Err}
-use Rattle.std.specs.List.{list_all, list_any}
-use Rattle.std.specs.Int.{div_ceil}
-use Rattle.ffs_volume.specs.declared.constants.TheConstants.{CG_HEADER, CSUM_SIZE, DEV_BSIZE, DINODE_SIZE}
-use Rattle.ffs_volume.specs.declared.constants.TheConstants.{INODE_FORMAT, SBSIZE, SUPERBLOCK_BYTES, SUPERBLOCK_SECTOR}
-use Rattle.ffs_volume.specs.declared.Order.{Order}
-use Rattle.ffs_volume.specs.declared.SuperFault.{SuperFault}
-use Rattle.ffs_volume.specs.declared.SuperFault.TheVariants.{CannotRead, Magic, InodeFormat, Ncg, Cpg}
-use Rattle.ffs_volume.specs.declared.SuperFault.TheVariants.{Ncyl, TooLarge, Shape, Short, Disagree}
-use Rattle.ffs_volume.specs.declared.Layout.{Layout}
-use Rattle.ffs_volume.specs.Disk.Numbers.{u32_at, piece, is_nonnegative, all_below}
-use Rattle.ffs_volume.specs.Disk.Superblock.{Superblock, layout_of, superblock_of, order_of}
-use Rattle.ffs_volume.specs.declared.TheConstants.{LAYOUT_PLACES}
+use Rattle.std.specs.Prelude.{ℕ, ◌+◌, ◌-◌, ◌*◌, ◌/◌, ◌%◌, ◌^◌, min, Bool, true, false, ◌&&◌, not, nat_lt, nat_le, ◌==◌}
+use Rattle.std.specs.Prelude.{if◌then◌else◌, List, [], ◌∷◌, length, Option, Some, None, Result, Ok, Err}
+use Rattle.std.specs.{List.{list_all, list_any}, Int.div_ceil}
+use Rattle.ffs_volume.specs.declared.constants.TheConstants.{CG_HEADER, CSUM_SIZE, DEV_BSIZE, DINODE_SIZE, INODE_FORMAT}
+use Rattle.ffs_volume.specs.declared.{constants.TheConstants.{SBSIZE, SUPERBLOCK_BYTES, SUPERBLOCK_SECTOR}, Order.Order}
+use Rattle.ffs_volume.specs.declared.SuperFault.{SuperFault, TheVariants.{CannotRead, Magic, InodeFormat, Ncg, Cpg}}
+use Rattle.ffs_volume.specs.declared.{SuperFault.TheVariants.{Ncyl, TooLarge, Shape, Short, Disagree}, Layout.Layout}
+use Rattle.ffs_volume.specs.Disk.{Numbers.{u32_at, piece, is_nonnegative, all_below}, Superblock.Superblock}
+use Rattle.ffs_volume.specs.{Disk.Superblock.{layout_of, superblock_of, order_of}, declared.TheConstants.LAYOUT_PLACES}
 use Rattle.ffs_volume.specs.Disk.Areas.{cgoffset_of, cgbase, cgsblock, cgdmin}
 
 -- x is one of the numbers

@@ -1,11 +1,9 @@
 -- The superblock, after fs(5): its first 1,376 bytes, which end with the magic number. The numbers
 -- below are the offsets of its fields, in bytes.
 use Rattle.std.specs.Prelude.{ℕ, ◌==◌, if◌then◌else◌, List, [], ◌∷◌, ℤ, Option, Some, None}
-use Rattle.ffs_volume.specs.declared.constants.TheConstants.{FS_MAGIC, MAXMNTLEN}
-use Rattle.ffs_volume.specs.declared.Order.{Order}
-use Rattle.ffs_volume.specs.declared.Order.TheVariants.{Little, Big}
-use Rattle.ffs_volume.specs.declared.Layout.{Layout}
-use Rattle.ffs_volume.specs.Disk.Numbers.{u32_at, i32_at, count_at, piece}
+use Rattle.ffs_volume.specs.declared.{constants.TheConstants.{FS_MAGIC, MAXMNTLEN}, Order.{Order, TheVariants.Little}}
+use Rattle.ffs_volume.specs.{declared.{Order.TheVariants.Big, Layout.Layout}, Disk.Numbers.{u32_at, i32_at, count_at}}
+use Rattle.ffs_volume.specs.Disk.Numbers.{piece}
 
 -- a superblock. optim says whether files are laid out for time (0) or for space (1), minfree is the
 -- percentage that is kept free, and mount is the last mount point. cstotal has the four totals of

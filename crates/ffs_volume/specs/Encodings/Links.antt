@@ -4,12 +4,8 @@
 -- A list of the workspace has these counts, all 0 at first: that of an inode that isn't allocated
 -- stays so.
 use Rattle.std.specs.Prelude.{ℕ, ◌-◌, ◌&&◌, nat_le, nat_lt, if◌then◌else◌, List, ℤ, pos, negsuc}
-use Rattle.ffs_volume.specs.declared.constants.TheConstants.{LINKS_MET, NO_LINKS}
-use Rattle.ffs_volume.specs.declared.Layout.{Layout}
-use Rattle.ffs_volume.specs.declared.Inode.{Inode}
-use Rattle.ffs_volume.specs.declared.Class.{Class}
-use Rattle.ffs_volume.specs.Blocks.Inodes.{inode_of, is_allocated}
-use Rattle.ffs_volume.specs.Directories.Volumes.{class_at}
+use Rattle.ffs_volume.specs.declared.{constants.TheConstants.{LINKS_MET, NO_LINKS}, Layout.Layout, Inode.Inode}
+use Rattle.ffs_volume.specs.{declared.Class.Class, Blocks.Inodes.{inode_of, is_allocated}, Directories.Volumes.class_at}
 
 -- the start, by the count of links. A count from 1 to 32,768 is valid. That of an inode is 32,767
 -- at most, but the definition takes any number

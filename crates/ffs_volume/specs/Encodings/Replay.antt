@@ -1,15 +1,10 @@
 -- Walking over an inode again, without a map of claims, and finding its kept steps. It is enough to
 -- know how many offers it kept, where dup offers cut it (`cut_of`); bad Runs are counted anew.
-use Rattle.std.proofs.Common.{ℕ, ◌+◌, ◌-◌, Bool, List, [], ◌∷◌, ◌++◌}
-use Rattle.std.specs.Prelude.{nat_lt, ◌&&◌, ◌||◌, ◌==◌, min, if◌then◌else◌}
-use Rattle.ffs_volume.specs.declared.constants.TheConstants.{MAXBAD, MAXDUP}
-use Rattle.ffs_volume.specs.declared.Layout.{Layout}
-use Rattle.ffs_volume.specs.declared.Step.{Step}
-use Rattle.ffs_volume.specs.declared.Step.TheVariants.{Run, Tail, Gap}
-use Rattle.ffs_volume.specs.Disk.Areas.{is_run_in_range}
-use Rattle.ffs_volume.specs.Blocks.Owners.{owner_of}
-use Rattle.ffs_volume.specs.Blocks.Claims.{Claims, after_owner}
-use Rattle.ffs_volume.specs.Blocks.KeptSteps.{claims_before}
+use Rattle.std.{proofs.Common.{ℕ, ◌+◌, ◌-◌, Bool, List, [], ◌∷◌, ◌++◌}, specs.Prelude.{nat_lt, ◌&&◌, ◌||◌, ◌==◌, min}}
+use Rattle.std.specs.Prelude.{if◌then◌else◌}
+use Rattle.ffs_volume.specs.declared.{constants.TheConstants.{MAXBAD, MAXDUP}, Layout.Layout, Step.Step}
+use Rattle.ffs_volume.specs.{declared.Step.TheVariants.{Run, Tail, Gap}, Disk.Areas.is_run_in_range}
+use Rattle.ffs_volume.specs.Blocks.{Owners.owner_of, Claims.{Claims, after_owner}, KeptSteps.claims_before}
 use Rattle.ffs_volume.specs.Directories.Volumes.{is_inode_number}
 
 -- the bad Runs of an inode and its kept offers so far; both are 0 at first (`fresh_replay`)

@@ -1,12 +1,8 @@
 -- How many Runs a replay sees, and a replay that counts kept offers only where there is a cut.
-use Rattle.std.proofs.Common.{ℕ, ◌+◌, ◌-◌, List, [], ◌∷◌}
-use Rattle.std.specs.Prelude.{◌==◌, min, if◌then◌else◌}
-use Rattle.ffs_volume.specs.declared.constants.TheConstants.{MAXBAD}
-use Rattle.ffs_volume.specs.declared.Layout.{Layout}
-use Rattle.ffs_volume.specs.declared.Step.{Step}
-use Rattle.ffs_volume.specs.declared.Step.TheVariants.{Run, Tail, Gap}
-use Rattle.ffs_volume.specs.Disk.Areas.{is_run_in_range}
-use Rattle.ffs_volume.specs.Encodings.Replay.{Replay, is_replay_open, replay_after_step}
+use Rattle.std.{proofs.Common.{ℕ, ◌+◌, ◌-◌, List, [], ◌∷◌}, specs.Prelude.{◌==◌, min, if◌then◌else◌}}
+use Rattle.ffs_volume.specs.declared.{constants.TheConstants.MAXBAD, Layout.Layout, Step.{Step, TheVariants.Run}}
+use Rattle.ffs_volume.specs.{declared.Step.TheVariants.{Tail, Gap}, Disk.Areas.is_run_in_range, Encodings.Replay.Replay}
+use Rattle.ffs_volume.specs.Encodings.Replay.{is_replay_open, replay_after_step}
 
 -- 1 for a Run that is seen, else 0
 abbrev pub seen_run : ℕ → Replay → Step → ℕ

@@ -1,28 +1,18 @@
 -- Classes and steps of inodes, and what the block check and the check of groups report.
-use Rattle.std.specs.Prelude.{◌≡◌, ℕ, ◌+◌, ◌-◌, ◌==◌, ◌&&◌, not, List, [], ◌∷◌, ◌++◌, pos, Some}
-use Rattle.std.specs.Prelude.{None, length, map, replicate, Bool, true, false, if◌then◌else◌}
-use Rattle.std.specs.List.{range_with_len}
-use Rattle.ffs_volume.specs.declared.Order.{Order}
-use Rattle.ffs_volume.specs.declared.Order.TheVariants.{Little, Big}
-use Rattle.ffs_volume.specs.declared.Inode.{Inode}
-use Rattle.ffs_volume.specs.declared.Class.{Class}
-use Rattle.ffs_volume.specs.declared.Class.TheVariants.{Free, Partial, Unknown, File, Dir}
-use Rattle.ffs_volume.specs.declared.Step.{Step}
-use Rattle.ffs_volume.specs.declared.Step.TheVariants.{Run, Tail, Gap}
-use Rattle.ffs_volume.specs.declared.BlockMessage.{BlockMessage}
-use Rattle.ffs_volume.specs.declared.BlockMessage.TheVariants.{PartAlloc, UnknownType, Bad, Dup, ManyBad}
-use Rattle.ffs_volume.specs.declared.BlockMessage.TheVariants.{ManyDup, PartTrunc, BlockCount, GroupMagic}
-use Rattle.ffs_volume.specs.declared.BlockMessage.TheVariants.{FreeCounts, MapsWrong, GroupSums}
-use Rattle.ffs_volume.specs.Blocks.Inodes.{inode_of, class_of}
-use Rattle.ffs_volume.specs.Blocks.Steps.{steps_of}
-use Rattle.ffs_volume.specs.Blocks.Owners.{Owner, owners_of}
-use Rattle.ffs_volume.specs.Blocks.Claims.{no_claims, is_set, after_owners}
-use Rattle.ffs_volume.specs.Blocks.KeptOffers.{kept_in_owners}
-use Rattle.ffs_volume.specs.Blocks.BlockCheck.{phase1_lines, phase1b_lines}
-use Rattle.ffs_volume.specs.Blocks.KeptByRule.{all_offers, kept_by_rule}
-use Rattle.ffs_volume.specs.Groups.Records.{right_group_counts, right_frsum, right_total}
-use Rattle.ffs_volume.specs.Groups.GroupCheck.{phase5_lines, is_free_of_runs, reported_once, unreported}
-use Rattle.ffs_volume.specs.Examples.Images.{word, zero_bytes, changed, base_layout, base_image, two_groups}
+use Rattle.std.specs.Prelude.{◌≡◌, ℕ, ◌+◌, ◌-◌, ◌==◌, ◌&&◌, not, List, [], ◌∷◌, ◌++◌, pos, Some, None, length, map}
+use Rattle.std.specs.{Prelude.{replicate, Bool, true, false, if◌then◌else◌}, List.range_with_len}
+use Rattle.ffs_volume.specs.declared.{Order.{Order, TheVariants.{Little, Big}}, Inode.Inode, Class.Class}
+use Rattle.ffs_volume.specs.declared.{Class.TheVariants.{Free, Partial, Unknown, File, Dir}, Step.Step}
+use Rattle.ffs_volume.specs.declared.{Step.TheVariants.{Run, Tail, Gap}, BlockMessage.BlockMessage}
+use Rattle.ffs_volume.specs.declared.BlockMessage.TheVariants.{PartAlloc, UnknownType, Bad, Dup, ManyBad, ManyDup}
+use Rattle.ffs_volume.specs.declared.BlockMessage.TheVariants.{PartTrunc, BlockCount, GroupMagic, FreeCounts, MapsWrong}
+use Rattle.ffs_volume.specs.{declared.BlockMessage.TheVariants.GroupSums, Blocks.Inodes.{inode_of, class_of}}
+use Rattle.ffs_volume.specs.Blocks.{Steps.steps_of, Owners.{Owner, owners_of}, Claims.{no_claims, is_set, after_owners}}
+use Rattle.ffs_volume.specs.Blocks.{KeptOffers.kept_in_owners, BlockCheck.{phase1_lines, phase1b_lines}}
+use Rattle.ffs_volume.specs.{Blocks.KeptByRule.{all_offers, kept_by_rule}, Groups.Records.right_group_counts}
+use Rattle.ffs_volume.specs.Groups.{Records.{right_frsum, right_total}, GroupCheck.{phase5_lines, is_free_of_runs}}
+use Rattle.ffs_volume.specs.{Groups.GroupCheck.{reported_once, unreported}, Examples.Images.{word, zero_bytes, changed}}
+use Rattle.ffs_volume.specs.Examples.Images.{base_layout, base_image, two_groups}
 
 -- an inode of this mode and size with these addresses, and zeros after them
 unfoldable pub inode : ℕ → ℕ → List ℕ → Inode

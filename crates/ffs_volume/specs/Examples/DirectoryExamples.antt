@@ -1,28 +1,20 @@
 -- Chunks and entries, and what the checks of directories report of small volumes.
-use Rattle.std.specs.Prelude.{◌≡◌, ℕ, ◌-◌, ◌==◌, nat_lt, List, [], ◌∷◌, ◌++◌, pos, Some, None}
-use Rattle.std.specs.Prelude.{length, map, replicate, take, drop, ◌+◌, true, false, if◌then◌else◌}
-use Rattle.ffs_volume.specs.declared.Order.{Order}
-use Rattle.ffs_volume.specs.declared.Order.TheVariants.{Little, Big}
-use Rattle.ffs_volume.specs.declared.Attr.{Attr}
-use Rattle.ffs_volume.specs.declared.Class.{Class}
-use Rattle.ffs_volume.specs.declared.Class.TheVariants.{Free, File, Dir, Unknown}
-use Rattle.ffs_volume.specs.declared.Label.TheVariants.{Dir as DirLabel, File as FileLabel}
-use Rattle.ffs_volume.specs.declared.Role.TheVariants.{Empty, Dot, Dotdot, Extra, Plain}
-use Rattle.ffs_volume.specs.declared.Step.TheVariants.{Run, Tail, Gap}
-use Rattle.ffs_volume.specs.Directories.Entries.{Entry, Chunk, ChunkSource, entry_at, entries_of}
-use Rattle.ffs_volume.specs.Directories.Entries.{is_sound, chunks_of, has_gap, bytes_read}
-use Rattle.ffs_volume.specs.Directories.Roles.{Volume, role_of, references}
-use Rattle.ffs_volume.specs.Directories.Graph.{level, parent}
-use Rattle.ffs_volume.specs.Directories.Parents.{graph_of}
-use Rattle.ffs_volume.specs.Directories.Paths.{path_bytes, dir_path, entry_path}
-use Rattle.ffs_volume.specs.Messages.Kinds.{root_none, root_not_dir, root_suspect, dir_short, dir_length, dir_empty}
-use Rattle.ffs_volume.specs.Messages.Kinds.{missing_dot, missing_dot_first, number_dot, kind_dot, missing_dotdot}
-use Rattle.ffs_volume.specs.Messages.Kinds.{missing_dotdot_second, number_dotdot, kind_dotdot, extra_dot}
-use Rattle.ffs_volume.specs.Messages.Kinds.{extra_dotdot, out_of_range, whiteout, zero_dir, extraneous, kind_entry}
-use Rattle.ffs_volume.specs.Messages.Kinds.{unref_dir, dead_marked, dead_zero, unref, unref_zero, link_count}
-use Rattle.ffs_volume.specs.Directories.PathnameCheck.{pathname_lines}
-use Rattle.ffs_volume.specs.Directories.Connectivity.{connectivity_lines}
-use Rattle.ffs_volume.specs.Directories.ReferenceCheck.{reference_lines}
+use Rattle.std.specs.Prelude.{◌≡◌, ℕ, ◌-◌, ◌==◌, nat_lt, List, [], ◌∷◌, ◌++◌, pos, Some, None, length, map, replicate}
+use Rattle.std.specs.Prelude.{take, drop, ◌+◌, true, false, if◌then◌else◌}
+use Rattle.ffs_volume.specs.declared.{Order.{Order, TheVariants.{Little, Big}}, Attr.Attr, Class.Class}
+use Rattle.ffs_volume.specs.declared.{Class.TheVariants.{Free, File, Dir, Unknown}, Label.TheVariants.Dir as DirLabel}
+use Rattle.ffs_volume.specs.declared.{Label.TheVariants.File as FileLabel, Role.TheVariants.{Empty, Dot, Dotdot, Extra}}
+use Rattle.ffs_volume.specs.declared.{Role.TheVariants.Plain, Step.TheVariants.{Run, Tail, Gap}}
+use Rattle.ffs_volume.specs.Directories.Entries.{Entry, Chunk, ChunkSource, entry_at, entries_of, is_sound, chunks_of}
+use Rattle.ffs_volume.specs.Directories.{Entries.{has_gap, bytes_read}, Roles.{Volume, role_of, references}}
+use Rattle.ffs_volume.specs.Directories.{Graph.{level, parent}, Parents.graph_of, Paths.{path_bytes, dir_path}}
+use Rattle.ffs_volume.specs.{Directories.Paths.entry_path, Messages.Kinds.{root_none, root_not_dir, root_suspect}}
+use Rattle.ffs_volume.specs.Messages.Kinds.{dir_short, dir_length, dir_empty, missing_dot, missing_dot_first}
+use Rattle.ffs_volume.specs.Messages.Kinds.{number_dot, kind_dot, missing_dotdot, missing_dotdot_second, number_dotdot}
+use Rattle.ffs_volume.specs.Messages.Kinds.{kind_dotdot, extra_dot, extra_dotdot, out_of_range, whiteout, zero_dir}
+use Rattle.ffs_volume.specs.Messages.Kinds.{extraneous, kind_entry, unref_dir, dead_marked, dead_zero, unref}
+use Rattle.ffs_volume.specs.{Messages.Kinds.{unref_zero, link_count}, Directories.PathnameCheck.pathname_lines}
+use Rattle.ffs_volume.specs.Directories.{Connectivity.connectivity_lines, ReferenceCheck.reference_lines}
 use Rattle.ffs_volume.specs.Examples.Images.{bytes_in, word, zero_bytes, root_chunk}
 
 -- the bytes of an entry: its number, length, type and name

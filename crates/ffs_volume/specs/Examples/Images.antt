@@ -2,12 +2,8 @@
 use Rattle.std.specs.Prelude.{ℕ, ◌+◌, List, [], ◌∷◌, ◌++◌, pos, Option, None, take, drop, replicate}
 use Rattle.std.specs.Result.{result_err}
 use Rattle.byteorder.specs.Endian.{little_bytes, big_bytes}
-use Rattle.ffs_volume.specs.declared.Order.{Order}
-use Rattle.ffs_volume.specs.declared.Order.TheVariants.{Little, Big}
-use Rattle.ffs_volume.specs.declared.Layout.{Layout}
-use Rattle.ffs_volume.specs.declared.SuperFault.{SuperFault}
-use Rattle.ffs_volume.specs.Disk.Superblock.{Superblock}
-use Rattle.ffs_volume.specs.Disk.Outcome.{outcome}
+use Rattle.ffs_volume.specs.declared.{Order.{Order, TheVariants.{Little, Big}}, Layout.Layout, SuperFault.SuperFault}
+use Rattle.ffs_volume.specs.Disk.{Superblock.Superblock, Outcome.outcome}
 
 -- a number in n bytes, a number in four bytes, and n bytes of zero
 unfoldable pub bytes_in : Order → ℕ → ℕ → List ℕ

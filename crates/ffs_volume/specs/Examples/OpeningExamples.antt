@@ -1,22 +1,17 @@
 -- Which superblocks are accepted, the first fault of those that aren't, and what is reported of
 -- them.
-use Rattle.std.specs.Prelude.{ℕ, List, Option, ◌≡◌, [], ◌∷◌, pos, negsuc, Some}
-use Rattle.std.specs.Prelude.{None, Ok, Err, take, map, replicate, true, false}
-use Rattle.std.specs.List.{range_with_len}
-use Rattle.ffs_volume.specs.declared.Order.TheVariants.{Little, Big}
-use Rattle.ffs_volume.specs.declared.SuperFault.{SuperFault}
-use Rattle.ffs_volume.specs.declared.SuperFault.TheVariants.{CannotRead, Magic, InodeFormat, Ncg, Cpg}
-use Rattle.ffs_volume.specs.declared.SuperFault.TheVariants.{Ncyl, TooLarge, Shape, Short, Disagree}
-use Rattle.ffs_volume.specs.Disk.Areas.{cgstart, cgsblock, cgdmin, group_place, summary_place}
-use Rattle.ffs_volume.specs.Disk.Areas.{inode_place, is_fragment_in_range, is_run_in_range, is_reserved}
-use Rattle.ffs_volume.specs.Disk.Outcome.{outcome}
-use Rattle.ffs_volume.specs.Messages.Kinds.{location, opening, mounted, bad_super}
-use Rattle.ffs_volume.specs.Messages.Kinds.{cannot_read, optimization, minfree, summary}
-use Rattle.ffs_volume.specs.Report.Opening.{setting_lines, opening_lines}
-use Rattle.ffs_volume.specs.Report.Whole.{summary_of}
-use Rattle.ffs_volume.specs.Messages.Shown.{shown, octal}
-use Rattle.ffs_volume.specs.Examples.Images.{zero_bytes, base_layout, base_superblock, base_super, base_image}
-use Rattle.ffs_volume.specs.Examples.Images.{changed, image_of, fault_of, fault_with, two_groups}
+use Rattle.std.specs.Prelude.{ℕ, List, Option, ◌≡◌, [], ◌∷◌, pos, negsuc, Some, None, Ok, Err, take, map, replicate}
+use Rattle.std.specs.{Prelude.{true, false}, List.range_with_len}
+use Rattle.ffs_volume.specs.declared.{Order.TheVariants.{Little, Big}, SuperFault.{SuperFault, TheVariants.CannotRead}}
+use Rattle.ffs_volume.specs.declared.SuperFault.TheVariants.{Magic, InodeFormat, Ncg, Cpg, Ncyl, TooLarge, Shape, Short}
+use Rattle.ffs_volume.specs.{declared.SuperFault.TheVariants.Disagree, Disk.Areas.{cgstart, cgsblock, cgdmin}}
+use Rattle.ffs_volume.specs.Disk.Areas.{group_place, summary_place, inode_place, is_fragment_in_range, is_run_in_range}
+use Rattle.ffs_volume.specs.{Disk.{Areas.is_reserved, Outcome.outcome}, Messages.Kinds.{location, opening, mounted}}
+use Rattle.ffs_volume.specs.Messages.Kinds.{bad_super, cannot_read, optimization, minfree, summary}
+use Rattle.ffs_volume.specs.{Report.{Opening.{setting_lines, opening_lines}, Whole.summary_of}, Messages.Shown.shown}
+use Rattle.ffs_volume.specs.{Messages.Shown.octal, Examples.Images.{zero_bytes, base_layout, base_superblock}}
+use Rattle.ffs_volume.specs.Examples.Images.{base_super, base_image, changed, image_of, fault_of, fault_with}
+use Rattle.ffs_volume.specs.Examples.Images.{two_groups}
 
 -- the first fault of the base image with another number in the primary alone
 abbrev pub fault_at : ℕ → ℕ → Option SuperFault

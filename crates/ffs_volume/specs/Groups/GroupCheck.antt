@@ -1,14 +1,10 @@
 -- The lines of phase 5.
-use Rattle.std.specs.Prelude.{ℕ, Bool, true, false, ◌&&◌, ◌||◌, ◌==◌, not}
-use Rattle.std.specs.Prelude.{List, [], ◌∷◌, ◌++◌, nat_lt, if◌then◌else◌, ℤ}
-use Rattle.std.specs.List.{flat_map, list_any}
-use Rattle.ffs_volume.specs.declared.Layout.{Layout}
-use Rattle.ffs_volume.specs.declared.Class.{Class}
-use Rattle.ffs_volume.specs.declared.BlockMessage.{BlockMessage}
-use Rattle.ffs_volume.specs.declared.BlockMessage.TheVariants.{GroupMagic, FreeCounts, MapsWrong, GroupSums}
-use Rattle.ffs_volume.specs.Disk.Areas.{is_reserved}
-use Rattle.ffs_volume.specs.Blocks.Owners.{Owner, fragments_of, all_steps}
-use Rattle.ffs_volume.specs.Blocks.Claims.{is_set, no_claims, after_owners}
+use Rattle.std.specs.Prelude.{ℕ, Bool, true, false, ◌&&◌, ◌||◌, ◌==◌, not, List, [], ◌∷◌, ◌++◌, nat_lt, if◌then◌else◌}
+use Rattle.std.specs.{Prelude.ℤ, List.{flat_map, list_any}}
+use Rattle.ffs_volume.specs.declared.{Layout.Layout, Class.Class, BlockMessage.{BlockMessage, TheVariants.GroupMagic}}
+use Rattle.ffs_volume.specs.declared.BlockMessage.TheVariants.{FreeCounts, MapsWrong, GroupSums}
+use Rattle.ffs_volume.specs.{Disk.Areas.is_reserved, Blocks.{Owners.{Owner, fragments_of, all_steps}, Claims.is_set}}
+use Rattle.ffs_volume.specs.Blocks.Claims.{no_claims, after_owners}
 pub use Rattle.ffs_volume.specs.Messages.Kinds.{unless}
 use Rattle.ffs_volume.specs.Groups.Records.{group_block, summary_record, group_numbers, has_right_magic, maps_fit}
 use Rattle.ffs_volume.specs.Groups.Records.{has_right_maps, has_right_sums, has_right_record, has_right_totals}

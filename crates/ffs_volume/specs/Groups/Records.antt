@@ -3,14 +3,10 @@
 -- numbers 4, 12, 20, 24, 52, 92 and 96 are offsets in a group block, in bytes: fs(5).
 use Rattle.std.specs.Prelude.{ℕ, Bool, true, false, ◌+◌, ◌-◌, ◌*◌, ◌/◌, ◌%◌, ◌^◌, min, ◌&&◌, ◌||◌, not, List, [], ◌∷◌}
 use Rattle.std.specs.Prelude.{◌++◌, ◌==◌, nat_lt, nat_le, if◌then◌else◌, map, count_by, slice_index, ◌≡◌, ◌<◌, ℤ, pos}
-use Rattle.std.specs.List.{list_all, range_with_len, sum_by, slice_index_or}
-use Rattle.std.specs.Int.{div_ceil}
-use Rattle.ffs_volume.specs.declared.constants.TheConstants.{CG_MAGIC, CSUM_SIZE}
-use Rattle.ffs_volume.specs.declared.Layout.{Layout}
-use Rattle.ffs_volume.specs.declared.Class.{Class}
-use Rattle.ffs_volume.specs.Disk.Numbers.{u32_at, piece, all_below, equals_natural}
-use Rattle.ffs_volume.specs.Disk.Areas.{cgbase, group_place, summary_place}
-use Rattle.ffs_volume.specs.Blocks.Inodes.{is_directory, is_allocated}
+use Rattle.std.specs.{List.{list_all, range_with_len, sum_by, slice_index_or}, Int.div_ceil}
+use Rattle.ffs_volume.specs.declared.{constants.TheConstants.{CG_MAGIC, CSUM_SIZE}, Layout.Layout, Class.Class}
+use Rattle.ffs_volume.specs.Disk.{Numbers.{u32_at, piece, all_below, equals_natural}, Areas.{cgbase, group_place}}
+use Rattle.ffs_volume.specs.{Disk.Areas.summary_place, Blocks.Inodes.{is_directory, is_allocated}}
 
 -- the inode is used: 0 and 1, which are no file's, and each that is allocated
 abbrev pub is_used_inode : (ℕ → Class) → ℕ → Bool

@@ -1,8 +1,6 @@
 -- An accepted superblock has a valid layout, whose fragments lie in the image.
 use Rattle.std.proofs.Common.{◌≡◌, ℕ, ◌*◌, ◌≤◌, List, length, Option, Ok}
-use Rattle.ffs_volume.specs.declared.Layout.{Layout}
-use Rattle.ffs_volume.specs.Disk.Superblock.{Superblock}
-use Rattle.ffs_volume.specs.Disk.Outcome.{outcome}
+use Rattle.ffs_volume.specs.{declared.Layout.Layout, Disk.{Superblock.Superblock, Outcome.outcome}}
 use Rattle.ffs_volume.specs.Laws.Geometry.{IsAcceptedLayout}
 
 -- a valid layout, of a volume that lies in an image of this size

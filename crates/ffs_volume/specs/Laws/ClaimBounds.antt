@@ -1,7 +1,6 @@
 -- A bound on the Runs that are seen: each Run raises a number, the potential, by at least one.
 use Rattle.std.specs.Prelude.{◌≡◌, ◌+◌, ◌*◌, ◌≤◌, ℕ, length, count_by}
-use Rattle.ffs_volume.specs.declared.constants.TheConstants.{MAXBAD, MAXDUP}
-use Rattle.ffs_volume.specs.Blocks.Claims.{Claims}
+use Rattle.ffs_volume.specs.{declared.constants.TheConstants.{MAXBAD, MAXDUP}, Blocks.Claims.Claims}
 
 -- how many fragments are used: reserved or claimed
 abbrev pub used_bits : Claims → ℕ

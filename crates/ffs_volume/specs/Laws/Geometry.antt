@@ -2,12 +2,9 @@
 -- `Laws/Accepted` says that it has them. They are no further conditions. Four constants are written
 -- out here, as proofs by arithmetic need them: 16 is CSUM_SIZE, 128 DINODE_SIZE, 168 CG_HEADER, and
 -- 8192 SBSIZE.
-use Rattle.std.proofs.Common.{◌≡◌, ℕ, ◌+◌, ◌-◌, ◌*◌, ◌/◌, ◌%◌, ◌^◌, ◌<◌, ◌≤◌, true, pos}
-use Rattle.std.specs.Int.{div_ceil}
-use Rattle.ffs_volume.specs.declared.constants.TheConstants.{SUPERBLOCK_BYTES}
-use Rattle.ffs_volume.specs.declared.Layout.{Layout}
-use Rattle.ffs_volume.specs.Disk.Numbers.{zero_if_negative}
-use Rattle.ffs_volume.specs.Disk.Areas.{cgoffset_of, cgbase, cgdmin}
+use Rattle.std.{proofs.Common.{◌≡◌, ℕ, ◌+◌, ◌-◌, ◌*◌, ◌/◌, ◌%◌, ◌^◌, ◌<◌, ◌≤◌, true, pos}, specs.Int.div_ceil}
+use Rattle.ffs_volume.specs.declared.{constants.TheConstants.SUPERBLOCK_BYTES, Layout.Layout}
+use Rattle.ffs_volume.specs.Disk.{Numbers.zero_if_negative, Areas.{cgoffset_of, cgbase, cgdmin}}
 use Rattle.ffs_volume.specs.Disk.Outcome.{is_valid_layout}
 
 -- what `has_valid_sizes` gives

@@ -1,21 +1,11 @@
 -- Laws that say of definitions what they are meant to say.
 use Rattle.std.specs.Prelude.{◌≡◌, ◌≤◌, ◌<◌, ◌⊎◌, ℕ, ◌+◌, ◌*◌, ◌%◌, not, Bool, true, List, [], ◌∷◌, ◌++◌, length}
-use Rattle.std.specs.Prelude.{count_by, map, Some}
-use Rattle.std.specs.List.{range_with_len}
-use Rattle.ffs_volume.specs.declared.constants.TheConstants.{MAXPATHLEN}
-use Rattle.ffs_volume.specs.declared.Order.{Order}
-use Rattle.ffs_volume.specs.declared.Layout.{Layout}
-use Rattle.ffs_volume.specs.declared.Class.{Class}
-use Rattle.ffs_volume.specs.declared.Step.{Step}
-use Rattle.ffs_volume.specs.Disk.Areas.{cgbase}
-use Rattle.ffs_volume.specs.Blocks.Owners.{fragments_of}
-use Rattle.ffs_volume.specs.Blocks.Claims.{Claims, is_open, after_steps}
-use Rattle.ffs_volume.specs.Blocks.KeptOffers.{Offer, kept_in_steps, offer_of}
-use Rattle.ffs_volume.specs.Groups.Records.{right_group_counts}
-use Rattle.ffs_volume.specs.Directories.Entries.{Entry, entry_at, entries_of}
-use Rattle.ffs_volume.specs.Directories.Graph.{Graph, level}
-use Rattle.ffs_volume.specs.Laws.Levels.{IsLevel}
-use Rattle.ffs_volume.specs.Directories.Paths.{dir_path, entry_path}
+use Rattle.std.specs.{Prelude.{count_by, map, Some}, List.range_with_len}
+use Rattle.ffs_volume.specs.declared.{constants.TheConstants.MAXPATHLEN, Order.Order, Layout.Layout, Class.Class}
+use Rattle.ffs_volume.specs.{declared.Step.Step, Disk.Areas.cgbase, Blocks.{Owners.fragments_of, Claims.Claims}}
+use Rattle.ffs_volume.specs.Blocks.{Claims.{is_open, after_steps}, KeptOffers.{Offer, kept_in_steps, offer_of}}
+use Rattle.ffs_volume.specs.{Groups.Records.right_group_counts, Directories.Entries.{Entry, entry_at, entries_of}}
+use Rattle.ffs_volume.specs.{Directories.{Graph.{Graph, level}, Paths.{dir_path, entry_path}}, Laws.Levels.IsLevel}
 
 -- `kept` is the first part of the offers of the fragments fs to inode i, in order, and `rest` is
 -- the other part. `rest` is empty unless the inode is cut (`over`)

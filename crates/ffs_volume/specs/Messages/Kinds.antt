@@ -1,10 +1,6 @@
 -- The messages of a report, and which of them report a defect.
-use Rattle.std.specs.Prelude.{ℕ, zero, suc, Bool, true, false, List, [], ◌∷◌, ◌++◌, ℤ}
-use Rattle.std.specs.List.{list_any}
-use Rattle.ffs_volume.specs.declared.Attr.{Attr}
-use Rattle.ffs_volume.specs.declared.BlockMessage.{BlockMessage}
-use Rattle.ffs_volume.specs.declared.Label.{Label}
-use Rattle.ffs_volume.specs.declared.SuperFault.{SuperFault}
+use Rattle.std.specs.{Prelude.{ℕ, zero, suc, Bool, true, false, List, [], ◌∷◌, ◌++◌, ℤ}, List.list_any}
+use Rattle.ffs_volume.specs.declared.{Attr.Attr, BlockMessage.BlockMessage, Label.Label, SuperFault.SuperFault}
 
 -- a message on directories, their entries or references. The rules that report them are in the
 -- folder Directories, and the text of each is in `Texts`. Paths and names have the bytes of the

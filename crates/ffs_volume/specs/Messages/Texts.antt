@@ -1,29 +1,23 @@
 -- The texts of messages, in bytes: the line of a message, then each of its questions with its
 -- answer and an empty line.
-use Rattle.std.specs.Prelude.{ℕ, ℤ, ◌/◌, ◌%◌, List, [], ◌∷◌, ◌++◌, map, decimal, unsigned_abs}
-use Rattle.std.specs.List.{flat_map, concat}
-use Rattle.std.specs.Fmt.{signed_decimal}
-use Rattle.ffs_volume.specs.declared.Attr.{Attr}
-use Rattle.ffs_volume.specs.declared.BlockMessage.{BlockMessage}
-use Rattle.ffs_volume.specs.declared.BlockMessage.TheVariants.{PartAlloc, UnknownType, Bad, Dup, ManyBad}
-use Rattle.ffs_volume.specs.declared.BlockMessage.TheVariants.{ManyDup, PartTrunc, BlockCount, GroupMagic}
-use Rattle.ffs_volume.specs.declared.BlockMessage.TheVariants.{FreeCounts, MapsWrong, GroupSums}
-use Rattle.ffs_volume.specs.declared.Label.{Label}
-use Rattle.ffs_volume.specs.declared.Label.TheVariants.{Dir, File, Name}
-use Rattle.ffs_volume.specs.declared.SuperFault.{SuperFault}
-use Rattle.ffs_volume.specs.declared.SuperFault.TheVariants.{CannotRead, Magic, InodeFormat, Ncg, Cpg}
-use Rattle.ffs_volume.specs.declared.SuperFault.TheVariants.{Ncyl, TooLarge, Shape, Short, Disagree}
+use Rattle.std.specs.{Prelude.{ℕ, ℤ, ◌/◌, ◌%◌, List, [], ◌∷◌, ◌++◌, map, decimal, unsigned_abs}, List.flat_map}
+use Rattle.std.specs.{List.concat, Fmt.signed_decimal}
+use Rattle.ffs_volume.specs.declared.{Attr.Attr, BlockMessage.{BlockMessage, TheVariants.{PartAlloc, UnknownType, Bad}}}
+use Rattle.ffs_volume.specs.declared.BlockMessage.TheVariants.{Dup, ManyBad, ManyDup, PartTrunc, BlockCount, GroupMagic}
+use Rattle.ffs_volume.specs.declared.{BlockMessage.TheVariants.{FreeCounts, MapsWrong, GroupSums}, Label.Label}
+use Rattle.ffs_volume.specs.declared.{Label.TheVariants.{Dir, File, Name}, SuperFault.SuperFault}
+use Rattle.ffs_volume.specs.declared.SuperFault.TheVariants.{CannotRead, Magic, InodeFormat, Ncg, Cpg, Ncyl, TooLarge}
+use Rattle.ffs_volume.specs.{declared.SuperFault.TheVariants.{Shape, Short, Disagree}, Messages.Kinds.Message}
+use Rattle.ffs_volume.specs.Messages.Kinds.{location, opening, bad_super, cannot_read, cannot_alloc, optimization}
+use Rattle.ffs_volume.specs.Messages.Kinds.{minfree, mounted, phase1, phase1b, phase2, phase3, phase4, phase5}
+use Rattle.ffs_volume.specs.Messages.Kinds.{of_blocks, of_tree, summary, TreeMessage, root_none, root_not_dir}
+use Rattle.ffs_volume.specs.Messages.Kinds.{root_suspect, dir_short, dir_length, dir_empty, dir_corrupt, missing_dot}
+use Rattle.ffs_volume.specs.Messages.Kinds.{missing_dot_first, number_dot, kind_dot, missing_dotdot}
+use Rattle.ffs_volume.specs.Messages.Kinds.{missing_dotdot_second, number_dotdot, kind_dotdot, extra_dot, extra_dotdot}
+use Rattle.ffs_volume.specs.Messages.Kinds.{out_of_range, whiteout, unallocated, dup_bad, zero_dir, extraneous}
+use Rattle.ffs_volume.specs.Messages.Kinds.{kind_entry, unref_dir, dead_marked, dead_zero, unref, unref_zero}
+use Rattle.ffs_volume.specs.Messages.{Kinds.link_count, Shown.{shown, octal, sign_text}}
 use Rattle.ffs_volume.specs.declared.texts.TheConstants as texts
-use Rattle.ffs_volume.specs.Messages.Kinds.{Message, location, opening, bad_super, cannot_read, cannot_alloc}
-use Rattle.ffs_volume.specs.Messages.Kinds.{optimization, minfree, mounted, phase1, phase1b, phase2, phase3}
-use Rattle.ffs_volume.specs.Messages.Kinds.{phase4, phase5, of_blocks, of_tree, summary, TreeMessage}
-use Rattle.ffs_volume.specs.Messages.Kinds.{root_none, root_not_dir, root_suspect, dir_short, dir_length}
-use Rattle.ffs_volume.specs.Messages.Kinds.{dir_empty, dir_corrupt, missing_dot, missing_dot_first}
-use Rattle.ffs_volume.specs.Messages.Kinds.{number_dot, kind_dot, missing_dotdot, missing_dotdot_second}
-use Rattle.ffs_volume.specs.Messages.Kinds.{number_dotdot, kind_dotdot, extra_dot, extra_dotdot, out_of_range}
-use Rattle.ffs_volume.specs.Messages.Kinds.{whiteout, unallocated, dup_bad, zero_dir, extraneous, kind_entry}
-use Rattle.ffs_volume.specs.Messages.Kinds.{unref_dir, dead_marked, dead_zero, unref, unref_zero, link_count}
-use Rattle.ffs_volume.specs.Messages.Shown.{shown, octal, sign_text}
 
 -- the label before a path
 abbrev pub path_label : Label → List ℕ

@@ -1,6 +1,5 @@
 -- The memory that a check may hold, and the Runs that it may see.
-use Rattle.std.specs.Prelude.{ℕ, ◌+◌, ◌*◌}
-use Rattle.std.specs.Int.{div_ceil}
+use Rattle.std.specs.{Prelude.{ℕ, ◌+◌, ◌*◌}, Int.div_ceil}
 use Rattle.ffs_volume.specs.declared.Layout.{Layout}
 
 -- a bound on the bytes that the lists and buffers of a check take. They take two maps of the

@@ -1,13 +1,10 @@
 -- The messages of the opening: which volume, its superblock or the first fault of it.
-use Rattle.std.specs.Prelude.{ℕ, ℤ, pos, negsuc, List, [], ◌∷◌, ◌++◌, Bool, false}
-use Rattle.std.specs.Prelude.{nat_le, nat_lt, take_while, Option, Some, None, Result, Ok, Err}
-use Rattle.ffs_volume.specs.declared.SuperFault.{SuperFault}
-use Rattle.ffs_volume.specs.declared.SuperFault.TheVariants.{CannotRead, Magic, InodeFormat, Ncg, Cpg}
+use Rattle.std.specs.Prelude.{ℕ, ℤ, pos, negsuc, List, [], ◌∷◌, ◌++◌, Bool, false, nat_le, nat_lt, take_while, Option}
+use Rattle.std.specs.Prelude.{Some, None, Result, Ok, Err}
+use Rattle.ffs_volume.specs.declared.SuperFault.{SuperFault, TheVariants.{CannotRead, Magic, InodeFormat, Ncg, Cpg}}
 use Rattle.ffs_volume.specs.declared.SuperFault.TheVariants.{Ncyl, TooLarge, Shape, Short, Disagree}
-use Rattle.ffs_volume.specs.Messages.Kinds.{Message, location, opening, mounted}
-use Rattle.ffs_volume.specs.Messages.Kinds.{bad_super, cannot_read, optimization, minfree, unless}
-use Rattle.ffs_volume.specs.Disk.Superblock.{Superblock}
-use Rattle.ffs_volume.specs.Disk.Outcome.{outcome}
+use Rattle.ffs_volume.specs.Messages.Kinds.{Message, location, opening, mounted, bad_super, cannot_read, optimization}
+use Rattle.ffs_volume.specs.{Messages.Kinds.{minfree, unless}, Disk.{Superblock.Superblock, Outcome.outcome}}
 
 -- the bytes up to the first NUL, or all of them: the mount point
 abbrev pub before_nul : List ℕ → List ℕ

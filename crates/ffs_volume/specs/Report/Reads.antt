@@ -1,9 +1,7 @@
 -- The most reads that a check makes of an image. A read is of one block, of one chunk or Run of a
 -- directory, or of records that are together in the image.
 use Rattle.std.specs.Prelude.{ℕ, ◌+◌, ◌*◌, ◌/◌}
-use Rattle.ffs_volume.specs.declared.Layout.{Layout}
-use Rattle.ffs_volume.specs.declared.constants.TheConstants.{MAXPATHLEN}
-use Rattle.ffs_volume.specs.Report.Memory.{runs_limit}
+use Rattle.ffs_volume.specs.{declared.{Layout.Layout, constants.TheConstants.MAXPATHLEN}, Report.Memory.runs_limit}
 
 -- the opening reads the superblock, and the last copy of it
 abbrev pub opening_reads : ℕ

@@ -1,27 +1,17 @@
 -- The whole report of an image: its text as a list of messages, how the check ends, and its status.
-use Rattle.std.specs.Prelude.{ℕ, ◌*ℤ◌, ◌+ℤ◌, int_div, Bool, true, false, not, ◌&&◌, if◌then◌else◌}
-use Rattle.std.specs.Prelude.{List, [], ◌∷◌, ◌++◌, map, count_by, ℤ, pos, Option, Result, Ok, Err}
-use Rattle.std.specs.List.{range_with_len, slice_index_or}
-use Rattle.ffs_volume.specs.declared.Layout.{Layout}
-use Rattle.ffs_volume.specs.declared.SuperFault.{SuperFault}
-use Rattle.ffs_volume.specs.declared.End.{End}
-use Rattle.ffs_volume.specs.declared.End.TheVariants.{Consistent, Defects, Refused, RootStop}
-use Rattle.ffs_volume.specs.declared.End.TheVariants.{ReadFault, WriteFault, NoMemory}
-use Rattle.ffs_volume.specs.Disk.Areas.{is_reserved}
-use Rattle.ffs_volume.specs.Disk.Superblock.{Superblock}
-use Rattle.ffs_volume.specs.Disk.Outcome.{outcome}
-use Rattle.ffs_volume.specs.Blocks.Inodes.{is_file_or_dir}
-use Rattle.ffs_volume.specs.Blocks.Owners.{owners_of, inode_numbers}
-use Rattle.ffs_volume.specs.Blocks.Claims.{is_set, no_claims, after_owners}
-use Rattle.ffs_volume.specs.Blocks.BlockCheck.{phase1_lines, phase1b_lines, has_rescan}
-use Rattle.ffs_volume.specs.Groups.GroupCheck.{phase5_lines, is_free_of_kept}
-use Rattle.ffs_volume.specs.Messages.Kinds.{Message, phase1, phase1b, phase2, phase3, phase4}
-use Rattle.ffs_volume.specs.Messages.Kinds.{phase5, of_blocks, of_tree, summary, has_defect}
-use Rattle.ffs_volume.specs.Report.Opening.{super_lines, head_lines, fault_line}
-use Rattle.ffs_volume.specs.Directories.PathnameCheck.{pathname_lines, continues_after_root}
-use Rattle.ffs_volume.specs.Directories.Connectivity.{connectivity_lines}
-use Rattle.ffs_volume.specs.Directories.ReferenceCheck.{reference_lines}
-use Rattle.ffs_volume.specs.Directories.Volumes.{class_at, volume_of}
+use Rattle.std.specs.Prelude.{ℕ, ◌*ℤ◌, ◌+ℤ◌, int_div, Bool, true, false, not, ◌&&◌, if◌then◌else◌, List, [], ◌∷◌, ◌++◌}
+use Rattle.std.specs.{Prelude.{map, count_by, ℤ, pos, Option, Result, Ok, Err}, List.{range_with_len, slice_index_or}}
+use Rattle.ffs_volume.specs.declared.{Layout.Layout, SuperFault.SuperFault, End.{End, TheVariants.Consistent}}
+use Rattle.ffs_volume.specs.declared.End.TheVariants.{Defects, Refused, RootStop, ReadFault, WriteFault, NoMemory}
+use Rattle.ffs_volume.specs.Disk.{Areas.is_reserved, Superblock.Superblock, Outcome.outcome}
+use Rattle.ffs_volume.specs.Blocks.{Inodes.is_file_or_dir, Owners.{owners_of, inode_numbers}, Claims.is_set}
+use Rattle.ffs_volume.specs.Blocks.{Claims.{no_claims, after_owners}, BlockCheck.{phase1_lines, phase1b_lines}}
+use Rattle.ffs_volume.specs.{Blocks.BlockCheck.has_rescan, Groups.GroupCheck.{phase5_lines, is_free_of_kept}}
+use Rattle.ffs_volume.specs.Messages.Kinds.{Message, phase1, phase1b, phase2, phase3, phase4, phase5, of_blocks}
+use Rattle.ffs_volume.specs.{Messages.Kinds.{of_tree, summary, has_defect}, Report.Opening.{super_lines, head_lines}}
+use Rattle.ffs_volume.specs.{Report.Opening.fault_line, Directories.PathnameCheck.pathname_lines}
+use Rattle.ffs_volume.specs.Directories.{PathnameCheck.continues_after_root, Connectivity.connectivity_lines}
+use Rattle.ffs_volume.specs.Directories.{ReferenceCheck.reference_lines, Volumes.{class_at, volume_of}}
 
 -- how many files and directories there are
 unfoldable pub file_count : Layout → List ℕ → ℕ

@@ -1,6 +1,5 @@
 use Rattle.std.proofs.Common.{◌≡◌}
-use Rattle.ffs_walk.specs.Rests.{most_steps_left}
-use Rattle.ffs_walk.specs.Windows.{BlocksHold, HasRoom}
+use Rattle.ffs_walk.specs.{Rests.most_steps_left, Windows.{BlocksHold, HasRoom}}
 use Rattle.ffs_base_tests.proofs.walk.steps.Given as goal
 
 abbrev pub invariant-loop-found : goal.invariant-loop-found

@@ -1,5 +1,4 @@
-use Rattle.std.proofs.Common.{sym, subst}
-use Rattle.std.specs.Prelude.{◌*◌, ◌≤◌}
+use Rattle.std.{proofs.Common.{sym, subst}, specs.Prelude.{◌*◌, ◌≤◌}}
 use Rattle.ffs_image.specs.Device.{Device}
 use Rattle.ffs_base_tests.proofs.workspace.by_blocks.Goals as goal
 

@@ -1,10 +1,8 @@
-use Rattle.std.proofs.Common.{arith}
-use Rattle.std.proofs.Common.{rules, inl, refl}
+use Rattle.std.proofs.Common.{arith, rules, inl, refl}
 use Rattle.ffs_report.specs.Progress.{progress}
-use Rattle.ffs_check.proofs.{Counting.reads_failed, Counting.writes_failed, Follows.found_ends, Follows.not_refused}
-use Rattle.ffs_check.proofs.{AnyReading.any_at, AnyReading.whole_reads}
-use Rattle.ffs_check.proofs.{Headlines.opening_ends, Headlines.headline_at, Reading.found_within, Reading.opened_within}
-use Rattle.ffs_check.proofs.{Taken.takes, Taken.opened_for_memory}
+use Rattle.ffs_check.proofs.{Counting.{reads_failed, writes_failed}, Follows.{found_ends, not_refused}}
+use Rattle.ffs_check.proofs.{AnyReading.{any_at, whole_reads}, Headlines.{opening_ends, headline_at}}
+use Rattle.ffs_check.proofs.{Reading.{found_within, opened_within}, Taken.{takes, opened_for_memory}}
 use Rattle.ffs_check.proofs.check.check_in.Goals as goal
 
 pub returns-in-Err-clause-headline : goal.returns-in-Err-clause-headline

@@ -3,8 +3,7 @@ use Rattle.ffs_layout.specs.Super.{superblock_in}
 use Rattle.ffs_report.specs.Progress.{progress}
 use Rattle.ffs_volume.specs.{Directories.PathnameCheck.continues_after_root, Report.Opening.super_lines}
 use Rattle.ffs_volume.specs.{Report.Whole.phase_lines, Directories.Volumes.volume_of, Messages.Kinds.Message}
-use Rattle.ffs_check.proofs.Endings.{opening_defect, prints_phases, prints_at}
-use Rattle.ffs_check.proofs.AnyReading.{rest_at, rest_reads}
+use Rattle.ffs_check.proofs.{Endings.{opening_defect, prints_phases, prints_at}, AnyReading.{rest_at, rest_reads}}
 use Rattle.ffs_check.proofs.check.check_rest.Goals as goal
 
 pub returns-clause-prints : goal.returns-clause-prints

@@ -1,5 +1,4 @@
-use Rattle.std.proofs.Common.{◌≤◌}
-use Rattle.std.specs.List.{prefix_len}
+use Rattle.std.{proofs.Common.◌≤◌, specs.List.prefix_len}
 use Rattle.ffs_check.proofs.Mounts.{is_set}
 use Rattle.ffs_check.proofs.opening.before_nul.Given as goal
 

@@ -1,5 +1,4 @@
-use Rattle.std.proofs.Common.{arith}
-use Rattle.std.proofs.Common.{rules}
+use Rattle.std.proofs.Common.{arith, rules}
 use Rattle.ffs_check.proofs.Openings.{prints_opening}
 use Rattle.ffs_check.proofs.opening.check_opening.Goals as goal
 

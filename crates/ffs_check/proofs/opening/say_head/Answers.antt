@@ -1,6 +1,4 @@
-use Rattle.std.proofs.Common.{arith}
-use Rattle.std.proofs.Common.{◌∷◌, []}
-use Rattle.std.proofs.lemmas.Result.{err_from_is_err_and}
+use Rattle.std.proofs.{Common.{arith, ◌∷◌, []}, lemmas.Result.err_from_is_err_and}
 use Rattle.ffs_volume.specs.{Messages.Kinds.opening, Report.Opening.location_lines}
 use Rattle.ffs_report.proofs.Reports.{says_then, stopped_more}
 use Rattle.ffs_check.proofs.opening.say_head.Goals as goal

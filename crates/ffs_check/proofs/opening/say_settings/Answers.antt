@@ -1,7 +1,6 @@
-use Rattle.std.proofs.Common.{arith}
-use Rattle.std.proofs.lemmas.Result.{err_from_is_err_and}
-use Rattle.ffs_volume.specs.Messages.Kinds.{optimization, minfree, unless}
-use Rattle.ffs_volume.specs.Report.Opening.{has_valid_optim, has_valid_minfree, setting_lines}
+use Rattle.std.proofs.{Common.arith, lemmas.Result.err_from_is_err_and}
+use Rattle.ffs_volume.specs.{Messages.Kinds.{optimization, minfree, unless}, Report.Opening.has_valid_optim}
+use Rattle.ffs_volume.specs.Report.Opening.{has_valid_minfree, setting_lines}
 use Rattle.ffs_layout.specs.Super.{superblock_in}
 use Rattle.ffs_report.proofs.Reports.{says_then, stopped_more}
 use Rattle.ffs_check.proofs.opening.say_settings.Goals as goal

@@ -1,7 +1,5 @@
-use Rattle.std.proofs.Common.{arith}
-use Rattle.std.proofs.Common.{◌∷◌, []}
-use Rattle.std.proofs.lemmas.Result.{err_from_is_err_and}
-use Rattle.ffs_volume.specs.{Messages.Kinds.mounted, Report.Opening.before_nul, Report.Opening.setting_lines}
+use Rattle.std.proofs.{Common.{arith, ◌∷◌, []}, lemmas.Result.err_from_is_err_and}
+use Rattle.ffs_volume.specs.{Messages.Kinds.mounted, Report.Opening.{before_nul, setting_lines}}
 use Rattle.ffs_layout.specs.Super.{superblock_in}
 use Rattle.ffs_report.proofs.Reports.{says_then, stopped_more}
 use Rattle.ffs_check.proofs.opening.say_super.Goals as goal

@@ -1,10 +1,8 @@
-use Rattle.std.proofs.Common.{arith}
-use Rattle.std.proofs.Common.{◌≡◌, ◌∙◌, ap, sym, true, Ok, Err, List, Result, IfOk, MatchResult}
-use Rattle.clap.specs.Words.{App, FailsBy, HasMatchesOf, Text, fault_of, is_simple, is_simple_and_free}
-use Rattle.clap.specs.Words.{matches_of}
+use Rattle.std.proofs.Common.{arith, ◌≡◌, ◌∙◌, ap, sym, true, Ok, Err, List, Result, IfOk, MatchResult}
+use Rattle.clap.specs.Words.{App, FailsBy, HasMatchesOf, Text, fault_of, is_simple, is_simple_and_free, matches_of}
 use Rattle.clap.specs.declared.{error.Error.Error, parser.matches.ArgMatches.ArgMatches}
-use Rattle.ffs_check.proofs.MatchLaws.{free, memory_alone, simple}
-use Rattle.ffs_check.specs.CommandWords.{AreRefusedBy, HasMatches, LacksMemory, program}
+use Rattle.ffs_check.{proofs.MatchLaws.{free, memory_alone, simple}, specs.CommandWords.{AreRefusedBy, HasMatches}}
+use Rattle.ffs_check.specs.CommandWords.{LacksMemory, program}
 use Rattle.ffs_check.proofs.parse_args.matches_of.Goals as goal
 
 -- what `clap` answers of a program says so of these words

@@ -1,6 +1,5 @@
 use Rattle.std.proofs.Common.{◌≡◌, ◌∙◌, ◌∷◌, [], ◌++◌, ap, codes, Some, true}
-use Rattle.clap.specs.declared.{builder.ArgAction.TheVariants.Count}
-use Rattle.clap.specs.Words.{Rule, new_rule, rule_of}
+use Rattle.clap.specs.{declared.builder.ArgAction.TheVariants.Count, Words.{Rule, new_rule, rule_of}}
 use Rattle.ffs_check.proofs.MatchLaws.{lettered}
 use Rattle.ffs_check.proofs.parse_args.read_only_argument.Goals as goal
 

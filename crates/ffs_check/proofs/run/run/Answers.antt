@@ -1,7 +1,5 @@
-use Rattle.std.proofs.Common.{rules, ◌≡◌, ℕ, List, Option, Result}
-use Rattle.std.specs.declared.io.Error.{Error}
-use Rattle.ffs_image.specs.Device.{Device}
-use Rattle.ffs_image.specs.declared.file.OpenFault.{OpenFault}
+use Rattle.std.{proofs.Common.{rules, ◌≡◌, ℕ, List, Option, Result}, specs.declared.io.Error.Error}
+use Rattle.ffs_image.specs.{Device.Device, declared.file.OpenFault.OpenFault}
 use Rattle.ffs_report.specs.Sink.{Sink}
 use Rattle.ffs_check.specs.Run.{FlushedAfter, RunEnds, RunEndsFlushed}
 use Rattle.ffs_check.proofs.run.run.Goals as goal

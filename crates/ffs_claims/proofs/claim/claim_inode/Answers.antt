@@ -1,12 +1,11 @@
-use Rattle.std.proofs.{Common.◌≡◌, Common.arith, Common.ap, Common.◌∙◌, Common.subst, lemmas.Result.err_from_is_err_and}
+use Rattle.std.proofs.{Common.{◌≡◌, arith, ap, ◌∙◌, subst}, lemmas.Result.err_from_is_err_and}
 use Rattle.ffs_volume.specs.Blocks.{BlockCheck.owner_lines, Claims.after_owner, Inodes.class_of, Owners.owner_of}
-use Rattle.ffs_volume.specs.declared.Inode.{Inode}
-use Rattle.ffs_report.proofs.Reporting.{reads_first, reports_same, reports_knowing}
-use Rattle.ffs_report.specs.Known.{ForBytes, IsContents}
+use Rattle.ffs_volume.{specs.declared.Inode.Inode, proofs.Results.on_ok as ok_then}
+use Rattle.ffs_report.{proofs.Reporting.{reads_first, reports_same, reports_knowing}, specs.Known.ForBytes}
+use Rattle.ffs_report.specs.Known.{IsContents}
 use Rattle.ffs_workspace.{proofs.Readiness.ready_table, specs.Holds.claims_of}
-use Rattle.ffs_claims.proofs.Inodes.{owner_is, ok_where, used_below}
-use Rattle.ffs_claims.specs.{Leaves.Stored, Lines.of_lines, Lines.owner_with}
-use Rattle.ffs_volume.proofs.Results.{on_ok as ok_then}
+use Rattle.ffs_claims.{proofs.Inodes.{owner_is, ok_where, used_below}, specs.{Leaves.Stored, Lines.of_lines}}
+use Rattle.ffs_claims.specs.Lines.{owner_with}
 use Rattle.ffs_claims.proofs.claim.claim_inode.Goals as goal
 
 pub claim_read_inode-requires-clause-ready : goal.claim_read_inode-requires-clause-ready

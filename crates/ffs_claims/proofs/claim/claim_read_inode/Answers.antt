@@ -1,14 +1,12 @@
-use Rattle.std.proofs.Common.{arith, refl, [], ap, ◌∙◌, ◌≡◌, sym}
-use Rattle.std.proofs.lemmas.Result.{err_from_is_err_and}
-use Rattle.ffs_volume.proofs.Potentials.{kept_bound}
-use Rattle.ffs_volume.specs.{Blocks.Claims.after_steps, Blocks.Steps.steps_of, declared.Class.TheVariants.Free}
+use Rattle.std.proofs.{Common.{arith, refl, [], ap, ◌∙◌, ◌≡◌, sym}, lemmas.Result.err_from_is_err_and}
+use Rattle.ffs_volume.{proofs.Potentials.kept_bound, specs.Blocks.{Claims.after_steps, Steps.steps_of}}
+use Rattle.ffs_volume.specs.declared.Class.TheVariants.{Free}
 use Rattle.ffs_report.proofs.Reporting.{of_fault, of_says, of_stops, says_none}
 use Rattle.ffs_maps.proofs.Bits.{bits_long}
 use Rattle.ffs_workspace.specs.Holds.{claims_of}
-use Rattle.ffs_claims.proofs.{Frames.ready_begun, Frames.ready_stored, Inodes.begun, Inodes.begun_runs}
-use Rattle.ffs_claims.proofs.Inodes.{stored_runs, steps_reported, class_said, class_stopped, free_claims, free_silent}
-use Rattle.ffs_claims.proofs.{Inodes.used_below, claim.claim_read_inode.Goals.in-Free}
-use Rattle.ffs_claims.{proofs.claim.claim_read_inode.Goals.in_default, specs.Lines.of_lines}
+use Rattle.ffs_claims.proofs.{Frames.{ready_begun, ready_stored}, Inodes.{begun, begun_runs, stored_runs}}
+use Rattle.ffs_claims.proofs.Inodes.{steps_reported, class_said, class_stopped, free_claims, free_silent, used_below}
+use Rattle.ffs_claims.{proofs.claim.claim_read_inode.Goals.{in-Free, in_default}, specs.Lines.of_lines}
 use Rattle.ffs_claims.proofs.claim.claim_read_inode.Goals as goal
 
 pub say_count-requires : goal.say_count-requires

@@ -1,6 +1,5 @@
-use Rattle.std.proofs.{Common.◌∷◌, Common.[], Common.if◌then◌else◌, lemmas.Result.err_from_is_err_and}
-use Rattle.ffs_volume.specs.Messages.Kinds.{of_blocks}
-use Rattle.ffs_volume.specs.declared.BlockMessage.TheVariants.{Bad, ManyBad}
+use Rattle.std.proofs.{Common.{◌∷◌, [], if◌then◌else◌}, lemmas.Result.err_from_is_err_and}
+use Rattle.ffs_volume.specs.{Messages.Kinds.of_blocks, declared.BlockMessage.TheVariants.{Bad, ManyBad}}
 use Rattle.ffs_report.proofs.Reports.{stopped_more, says_then}
 use Rattle.ffs_claims.specs.Lines.{of_lines}
 use Rattle.ffs_claims.proofs.lines.say_bad.Goals as goal

@@ -1,8 +1,7 @@
-use Rattle.std.proofs.Common.{◌≡◌, true, nat_lt, arith, refl, sym}
-use Rattle.std.proofs.lemmas.{Bool.Decides.nat_tests}
+use Rattle.std.proofs.{Common.{◌≡◌, true, nat_lt, arith, refl, sym}, lemmas.Bool.Decides.nat_tests}
 use Rattle.ffs_report.proofs.Reports.{said_none}
 use Rattle.ffs_workspace.specs.Holds.{claims_of}
-use Rattle.ffs_claims.proofs.{Frames.offers_claimed, UnclaimedRuns.whole_is, UnclaimedRuns.run_below}
+use Rattle.ffs_claims.proofs.{Frames.offers_claimed, UnclaimedRuns.{whole_is, run_below}}
 use Rattle.ffs_claims.proofs.offer.run_in_range.Goals as goal
 
 pub claim-requires-clause-below : goal.claim-requires-clause-below

@@ -1,6 +1,5 @@
-use Rattle.std.proofs.Common.{◌≡◌, nat_lt, true, arith, rules, refl, sym, ◌∙◌}
-use Rattle.std.proofs.lemmas.Bool.Decides.{nat_tests}
-use Rattle.ffs_claims.proofs.{Frames.offers_claimed, UnclaimedRuns.was_set, UnclaimedRuns.is_set_now}
+use Rattle.std.proofs.{Common.{◌≡◌, nat_lt, true, arith, rules, refl, sym, ◌∙◌}, lemmas.Bool.Decides.nat_tests}
+use Rattle.ffs_claims.proofs.{Frames.offers_claimed, UnclaimedRuns.{was_set, is_set_now}}
 use Rattle.ffs_claims.proofs.offer.take.Goals as goal
 
 -- the fragment is claimed

@@ -1,11 +1,10 @@
-use Rattle.std.proofs.Common.{◌≡◌, rules, arith, refl, sym, ◌≤◌, ◌<◌, ap, ◌∙◌, Err}
-use Rattle.std.proofs.lemmas.Result.{err_from_is_err_and}
-use Rattle.ffs_volume.{proofs.OwnerLaws.before_next, specs.Blocks.Claims.after_owner}
-use Rattle.ffs_volume.specs.{Blocks.KeptSteps.claims_before, Blocks.Owners.owner_of, Report.Whole.run_count}
+use Rattle.std.proofs.{Common.{◌≡◌, rules, arith, refl, sym, ◌≤◌, ◌<◌, ap, ◌∙◌, Err}, lemmas.Result.err_from_is_err_and}
+use Rattle.ffs_volume.{proofs.OwnerLaws.before_next, specs.Blocks.{Claims.after_owner, KeptSteps.claims_before}}
+use Rattle.ffs_volume.specs.{Blocks.Owners.owner_of, Report.Whole.run_count}
 use Rattle.ffs_report.proofs.Reporting.{of_part, of_fault, of_same, reports_knowing, says_heading, stops_heading}
 use Rattle.ffs_report.{proofs.Reporting.said_knows, specs.Known.ForBytes}
-use Rattle.ffs_workspace.specs.{Found.WithFresh, Holds.claims_of, Holds.all_claims, Lengths.inodes_of}
-use Rattle.ffs_claims.proofs.{Duplicates.dups_are, Frames.image_from, Frames.ready_still, Inodes.used_below}
+use Rattle.ffs_workspace.specs.{Found.WithFresh, Holds.{claims_of, all_claims}, Lengths.inodes_of}
+use Rattle.ffs_claims.proofs.{Duplicates.dups_are, Frames.{image_from, ready_still}, Inodes.used_below}
 use Rattle.ffs_claims.proofs.Numbers.{found_begins, found_next, found_all, numbers_most, before_first, before_end}
 use Rattle.ffs_claims.proofs.Numbers.{lines_next, lines_end, first_lines}
 use Rattle.ffs_claims.proofs.pass1.phase1.Goals as goal

@@ -1,13 +1,11 @@
-use Rattle.std.proofs.Common.{◌≡◌, ◌∙◌, false, ap, arith, sym}
-use Rattle.std.proofs.lemmas.Bool.{both_ways}
+use Rattle.std.proofs.{Common.{◌≡◌, ◌∙◌, false, ap, arith, sym}, lemmas.Bool.both_ways}
 use Rattle.ffs_image.specs.Device.{Device}
 use Rattle.ffs_report.specs.Known.{ForBytes}
-use Rattle.ffs_workspace.specs.Found.{WithPhase1}
-use Rattle.ffs_workspace.proofs.Readiness.{ready_same}
+use Rattle.ffs_workspace.{specs.Found.WithPhase1, proofs.Readiness.ready_same}
 use Rattle.ffs_claims.proofs.Limited.{image_over, phase_served, runs_fit, runs_within}
+use Rattle.ffs_claims.proofs.pass1b.phase1b.Goals.{After-is_spent}
 use Rattle.ffs_claims.proofs.pass1b.phase1b.Given as given
 use Rattle.ffs_claims.proofs.pass1b.phase1b.Goals as goal
-use Rattle.ffs_claims.proofs.pass1b.phase1b.Goals.{After-is_spent}
 
 -- what is known of the bytes is known of the limited image
 known : (g : given.Over) (c : After-is_spent g) →

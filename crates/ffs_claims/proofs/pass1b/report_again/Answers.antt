@@ -1,8 +1,7 @@
-use Rattle.std.proofs.{Common.inl, Common.inr, Common.arith, Common.refl, lemmas.Result.on_ok_weaker}
+use Rattle.std.proofs.{Common.{inl, inr, arith, refl}, lemmas.Result.on_ok_weaker}
 use Rattle.ffs_report.{proofs.Reports.said_none, specs.Progress.progress}
 use Rattle.ffs_walk.specs.Keepings.{replay_in}
-use Rattle.ffs_claims.proofs.{Frames.reports_none, Reportings.reported_from, Reportings.reported_none}
-use Rattle.ffs_claims.proofs.Rewalks.{offers_of_run}
+use Rattle.ffs_claims.proofs.{Frames.reports_none, Reportings.{reported_from, reported_none}, Rewalks.offers_of_run}
 use Rattle.ffs_claims.proofs.pass1b.report_again.Goals as goal
 
 pub returns-in-Run-clause-said : goal.returns-in-Run-clause-said

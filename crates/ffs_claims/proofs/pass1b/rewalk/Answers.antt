@@ -2,18 +2,15 @@ use Rattle.std.proofs.Common.{ℕ, ◌≡◌, ◌++◌, replicate, [], arith, re
 use Rattle.std.proofs.lemmas.Result.{err_from_is_err_and}
 use Rattle.ffs_volume.specs.{Blocks.BlockCheck.first_offer_lines, Encodings.Replay.is_replay_open}
 use Rattle.ffs_volume.specs.{Encodings.ReplayCounts.replay_step_by_cut, declared.Step.TheVariants.Gap}
-use Rattle.ffs_report.proofs.Reporting.{of_begins, of_stops, of_reads, of_same}
-use Rattle.ffs_report.specs.Known.{ForBytes, IsContents}
+use Rattle.ffs_report.{proofs.Reporting.{of_begins, of_stops, of_reads, of_same}, specs.Known.{ForBytes, IsContents}}
 use Rattle.ffs_maps.specs.Bits.{bits_of}
-use Rattle.ffs_walk.proofs.Counted.{top_held, top_unread}
-use Rattle.ffs_walk.specs.{Keepings.replay_in, Rests.steps_left}
+use Rattle.ffs_walk.{proofs.Counted.{top_held, top_unread}, specs.{Keepings.replay_in, Rests.steps_left}}
 use Rattle.ffs_workspace.specs.{Lengths.set_count, Notes.cut_in}
-use Rattle.ffs_claims.proofs.Duplicates.{none_first, none_left, some_left}
-use Rattle.ffs_claims.proofs.Frames.{can_walk, claims_none, ready_read, ready_walked}
-use Rattle.ffs_claims.proofs.RescanCounts.{looked_stopped, again_gaps, again_stopped, looked_over}
-use Rattle.ffs_claims.proofs.Rewalks.{open_first, offers_none, lines_step, runs_next, rewalk_begins, rewalk_on}
-use Rattle.ffs_claims.proofs.Rewalks.{rewalk_gaps, rewalk_ends, rewalk_over, rewalk_said, rewalked_to, runs_pay_on}
-use Rattle.ffs_claims.{proofs.Rewalks.runs_pay_ends, proofs.Rewalks.rereads_on, specs.Lines.of_lines}
+use Rattle.ffs_claims.proofs.{Duplicates.{none_first, none_left, some_left}, Frames.{can_walk, claims_none, ready_read}}
+use Rattle.ffs_claims.proofs.{Frames.ready_walked, RescanCounts.{looked_stopped, again_gaps, again_stopped}}
+use Rattle.ffs_claims.proofs.{RescanCounts.looked_over, Rewalks.{open_first, offers_none, lines_step, runs_next}}
+use Rattle.ffs_claims.proofs.Rewalks.{rewalk_begins, rewalk_on, rewalk_gaps, rewalk_ends, rewalk_over, rewalk_said}
+use Rattle.ffs_claims.{proofs.Rewalks.{rewalked_to, runs_pay_on, runs_pay_ends, rereads_on}, specs.Lines.of_lines}
 use Rattle.ffs_claims.proofs.pass1b.rewalk.Goals as goal
 
 pub loop-next-init : goal.loop-next-init

@@ -1,10 +1,9 @@
-use Rattle.std.proofs.Common.{◌+◌, ◌∷◌, [], arith, refl, ap, List}
-use Rattle.std.proofs.lemmas.Result.{err_from_is_err_and}
-use Rattle.ffs_volume.specs.Blocks.{BlockCheck.first_offer_lines, KeptOffers.Offer, KeptOffers.offer_of}
+use Rattle.std.proofs.{Common.{◌+◌, ◌∷◌, [], arith, refl, ap, List}, lemmas.Result.err_from_is_err_and}
+use Rattle.ffs_volume.specs.Blocks.{BlockCheck.first_offer_lines, KeptOffers.{Offer, offer_of}}
 use Rattle.ffs_report.proofs.Reporting.{to_begins, to_says, to_stops, to_ends}
 use Rattle.ffs_maps.specs.Bits.{bits_of}
-use Rattle.ffs_claims.proofs.{Frames.offers_reported_none, Frames.offers_reported_then, Reportings.run_next}
-use Rattle.ffs_claims.proofs.Reportings.{run_over, reporting_begins, reporting_more, reporting_ends, lines_split}
+use Rattle.ffs_claims.proofs.{Frames.{offers_reported_none, offers_reported_then}, Reportings.{run_next, run_over}}
+use Rattle.ffs_claims.proofs.Reportings.{reporting_begins, reporting_more, reporting_ends, lines_split}
 use Rattle.ffs_claims.{proofs.StepsContinue.from_start, specs.Lines.of_lines}
 use Rattle.ffs_claims.proofs.report_offer.report_run.Goals as goal
 

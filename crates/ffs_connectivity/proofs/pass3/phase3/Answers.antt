@@ -1,19 +1,15 @@
-use Rattle.std.proofs.Common.{◌+◌, refl, ◌∙◌, arith, rules, Err}
-use Rattle.std.proofs.lemmas.{List.with_items_is, Result.err_from_is_err_and}
-use Rattle.ffs_volume.specs.Directories.Volumes.{volume_of}
-use Rattle.ffs_volume.proofs.Numbered.{as_many, count_next, from_next, from_end}
-use Rattle.ffs_report.specs.Known.{ForBytes}
-use Rattle.ffs_report.proofs.Paying.{paid_answer, paid_fault, paid_says, paid_stops, paid_then}
+use Rattle.std.proofs.{Common.{◌+◌, refl, ◌∙◌, arith, rules, Err}, lemmas.List.with_items_is}
+use Rattle.std.proofs.lemmas.Result.{err_from_is_err_and}
+use Rattle.ffs_volume.{specs.Directories.Volumes.volume_of, proofs.Numbered.{as_many, count_next, from_next, from_end}}
+use Rattle.ffs_report.{specs.Known.ForBytes, proofs.Paying.{paid_answer, paid_fault, paid_says, paid_stops, paid_then}}
 use Rattle.ffs_report.proofs.Reporting.{of_fault, of_part, of_same, reports_knowing, said_knows, says_heading}
 use Rattle.ffs_report.proofs.Reporting.{stops_heading}
-use Rattle.ffs_workspace.specs.{Found.WithSurvey, Lengths.inodes_of}
-use Rattle.ffs_workspace.proofs.PlaceLaws.{filled_noted}
+use Rattle.ffs_workspace.{specs.{Found.WithSurvey, Lengths.inodes_of}, proofs.PlaceLaws.filled_noted}
 use Rattle.ffs_workspace.proofs.Leaving.{claims_left, survey_left, leaves_more, windows_leave}
-use Rattle.ffs_connectivity.specs.Lines.{unref_dir_lines}
-use Rattle.ffs_connectivity.proofs.UnrefLines.{leaders_held, lines_after, lines_begin}
+use Rattle.ffs_connectivity.{specs.Lines.unref_dir_lines, proofs.UnrefLines.{leaders_held, lines_after, lines_begin}}
+use Rattle.ffs_connectivity.proofs.pass3.phase3.Goals.{At-loop-number}
 use Rattle.ffs_connectivity.proofs.pass3.phase3.Given as given
 use Rattle.ffs_connectivity.proofs.pass3.phase3.Goals as goal
-use Rattle.ffs_connectivity.proofs.pass3.phase3.Goals.{At-loop-number}
 
 -- what is known of the bytes in the loop
 known : (g : given.Over) (c : At-loop-number g) →

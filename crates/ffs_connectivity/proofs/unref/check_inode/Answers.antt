@@ -1,16 +1,14 @@
-use Rattle.std.proofs.Common.{◌≡◌, ◌∷◌, [], map, refl, sym, ◌∙◌, arith, true}
-use Rattle.std.proofs.lemmas.Result.{err_from_is_err_and}
-use Rattle.ffs_volume.specs.{Directories.Connectivity.is_unref_dir, Directories.Volumes.volume_of}
-use Rattle.ffs_volume.specs.Messages.Kinds.{of_tree, unref_dir}
-use Rattle.ffs_report.specs.Known.{ForBytes}
-use Rattle.ffs_report.proofs.Paying.{paid_none, paid_reads, paid_says, paid_stops}
+use Rattle.std.proofs.{Common.{◌≡◌, ◌∷◌, [], map, refl, sym, ◌∙◌, arith, true}, lemmas.Result.err_from_is_err_and}
+use Rattle.ffs_volume.specs.{Directories.{Connectivity.is_unref_dir, Volumes.volume_of}, Messages.Kinds.of_tree}
+use Rattle.ffs_volume.specs.Messages.Kinds.{unref_dir}
+use Rattle.ffs_report.{specs.Known.ForBytes, proofs.Paying.{paid_none, paid_reads, paid_says, paid_stops}}
 use Rattle.ffs_report.proofs.Reporting.{reads_first, says_all, says_none, stops_all}
 use Rattle.ffs_workspace.specs.Found.{WithSurvey}
-use Rattle.ffs_connectivity.specs.Lines.{unref_dir_lines}
-use Rattle.ffs_connectivity.proofs.UnrefLines.{attributes_are, unref_dir_is, one_line, silent, heard}
+use Rattle.ffs_connectivity.{specs.Lines.unref_dir_lines, proofs.UnrefLines.{attributes_are, unref_dir_is, one_line}}
+use Rattle.ffs_connectivity.proofs.{UnrefLines.{silent, heard}, unref.check_inode.Goals.After-is_unref-unref}
+use Rattle.ffs_connectivity.proofs.unref.check_inode.Goals.{After-of}
 use Rattle.ffs_connectivity.proofs.unref.check_inode.Given as given
 use Rattle.ffs_connectivity.proofs.unref.check_inode.Goals as goal
-use Rattle.ffs_connectivity.proofs.unref.check_inode.Goals.{After-is_unref-unref, After-of}
 
 -- what the test says of the inode
 tested : (g : given.Over) (c : After-is_unref-unref g) →

@@ -1,6 +1,5 @@
 use Rattle.std.proofs.Common.{arith, ap, rules, ◌∙◌, ◌*◌}
-use Rattle.ffs_counts.specs.Records.{first_read, records_read}
-use Rattle.ffs_counts.proofs.RecordPlaces.{record_there, records_inside}
+use Rattle.ffs_counts.{specs.Records.{first_read, records_read}, proofs.RecordPlaces.{record_there, records_inside}}
 use Rattle.ffs_counts.proofs.groups.read_summaries.Goals as goal
 
 pub fill-requires-clause-inside : goal.fill-requires-clause-inside

@@ -1,11 +1,8 @@
-use Rattle.std.proofs.Common.{arith}
-use Rattle.std.proofs.Common.{◌∷◌, ◌++◌, [], map}
-use Rattle.std.proofs.lemmas.Result.{err_from_is_err_and}
+use Rattle.std.proofs.{Common.{arith, ◌∷◌, ◌++◌, [], map}, lemmas.Result.err_from_is_err_and}
 use Rattle.ffs_volume.specs.declared.BlockMessage.TheVariants.{FreeCounts, GroupMagic, GroupSums, MapsWrong}
-use Rattle.ffs_volume.specs.{Messages.Kinds.of_blocks, Groups.GroupCheck.unless, Groups.GroupCheck.reported_once}
+use Rattle.ffs_volume.specs.{Messages.Kinds.of_blocks, Groups.GroupCheck.{unless, reported_once}}
 use Rattle.ffs_report.proofs.Reports.{says_then, stopped_more}
-use Rattle.ffs_counts.specs.Once.{reported_of}
-use Rattle.ffs_counts.proofs.GroupText.{stops_within, stops_next, says_next}
+use Rattle.ffs_counts.{specs.Once.reported_of, proofs.GroupText.{stops_within, stops_next, says_next}}
 use Rattle.ffs_counts.proofs.once.say_group.Goals as goal
 
 pub returns-in_err-say-clause-said : goal.returns-in_err-say-clause-said

@@ -1,19 +1,15 @@
-use Rattle.std.proofs.Common.{◌≡◌, ◌≤◌, ◌∙◌, arith, ap, length, List, map, rules, sym}
-use Rattle.std.proofs.lemmas.{List.length-map, Result.err_from_is_err_and}
-use Rattle.ffs_volume.specs.Directories.{ReferenceCheck.reference_lines_at}
-use Rattle.ffs_volume.specs.{Directories.Volumes.volume_of}
+use Rattle.std.proofs.{Common.{◌≡◌, ◌≤◌, ◌∙◌, arith, ap, length, List, map, rules, sym}, lemmas.List.length-map}
+use Rattle.std.proofs.lemmas.Result.{err_from_is_err_and}
+use Rattle.ffs_volume.specs.Directories.{ReferenceCheck.reference_lines_at, Volumes.volume_of}
 use Rattle.ffs_volume.specs.Messages.Kinds.{TreeMessage, of_tree}
-use Rattle.ffs_report.specs.Known.{ForBytes}
-use Rattle.ffs_report.proofs.Paying.{paid_none, paid_reads, paid_says, paid_stops}
+use Rattle.ffs_report.{specs.Known.ForBytes, proofs.Paying.{paid_none, paid_reads, paid_says, paid_stops}}
 use Rattle.ffs_report.proofs.Reporting.{reads_first, says_all, says_none, stops_all}
-use Rattle.ffs_workspace.specs.{Found.WithFindings, Ready.StaysReady}
-use Rattle.ffs_workspace.proofs.Readiness.{ready_table}
-use Rattle.ffs_counts.specs.References.{lines_as}
-use Rattle.ffs_counts.proofs.Holding.{inode_lines_are, item_at, met_lines, same_reported, some_lines, unmet_line}
-use Rattle.ffs_counts.proofs.Holding.{unmet_reported}
+use Rattle.ffs_workspace.{specs.{Found.WithFindings, Ready.StaysReady}, proofs.Readiness.ready_table}
+use Rattle.ffs_counts.{specs.References.lines_as, proofs.Holding.{inode_lines_are, item_at, met_lines, same_reported}}
+use Rattle.ffs_counts.proofs.{Holding.{some_lines, unmet_line, unmet_reported}, pass4.check_inode.Goals.After-inode}
+use Rattle.ffs_counts.proofs.pass4.check_inode.Goals.{After-line_for-line, In_ok-inode}
 use Rattle.ffs_counts.proofs.pass4.check_inode.Given as given
 use Rattle.ffs_counts.proofs.pass4.check_inode.Goals as goal
-use Rattle.ffs_counts.proofs.pass4.check_inode.Goals.{After-inode, After-line_for-line, In_ok-inode}
 
 -- an inode that isn't right has one line
 one : (g : given.Over) (c : After-inode g) →

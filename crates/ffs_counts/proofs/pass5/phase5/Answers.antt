@@ -1,19 +1,15 @@
-use Rattle.std.proofs.Common.{◌≡◌, ◌∙◌, ◌+◌, ◌++◌, [], ap, arith, map, refl, rules}
-use Rattle.std.proofs.lemmas.Result.{err_from_is_err_and}
-use Rattle.ffs_volume.specs.declared.BlockMessage.TheVariants.{FreeCounts}
-use Rattle.ffs_volume.specs.Groups.GroupCheck.{AlreadyReported, reported_once, unless}
-use Rattle.ffs_volume.specs.Messages.Kinds.{of_blocks}
+use Rattle.std.proofs.{Common.{◌≡◌, ◌∙◌, ◌+◌, ◌++◌, [], ap, arith, map, refl, rules}, lemmas.Result.err_from_is_err_and}
+use Rattle.ffs_volume.specs.{declared.BlockMessage.TheVariants.FreeCounts, Groups.GroupCheck.AlreadyReported}
+use Rattle.ffs_volume.specs.{Groups.GroupCheck.{reported_once, unless}, Messages.Kinds.of_blocks}
 use Rattle.ffs_groups.specs.{Check.lines_of, Inodes.class_in}
-use Rattle.ffs_report.specs.Known.{ForBytes}
-use Rattle.ffs_report.proofs.Reporting.{of_says, of_stops, of_reads, says_heading, stops_heading}
+use Rattle.ffs_report.{specs.Known.ForBytes, proofs.Reporting.{of_says, of_stops, of_reads, says_heading}}
+use Rattle.ffs_report.proofs.Reporting.{stops_heading}
 use Rattle.ffs_workspace.specs.Found.{WithClaims}
-use Rattle.ffs_counts.specs.Once.{reported_of, reported_after}
-use Rattle.ffs_counts.proofs.GroupText.{counts_held, free_of, groups_begin, groups_go_on, groups_end, lines_after}
-use Rattle.ffs_counts.proofs.GroupText.{totals_next, totals_right, up_next}
-use Rattle.ffs_counts.proofs.Holding.{held_on}
+use Rattle.ffs_counts.{specs.Once.{reported_of, reported_after}, proofs.GroupText.{counts_held, free_of, groups_begin}}
+use Rattle.ffs_counts.proofs.GroupText.{groups_go_on, groups_end, lines_after, totals_next, totals_right, up_next}
+use Rattle.ffs_counts.proofs.{Holding.held_on, pass5.phase5.Goals.{After-are-right, In_ok-found}}
 use Rattle.ffs_counts.proofs.pass5.phase5.Given as given
 use Rattle.ffs_counts.proofs.pass5.phase5.Goals as goal
-use Rattle.ffs_counts.proofs.pass5.phase5.Goals.{After-are-right, In_ok-found}
 
 -- the lines of a group, and of those after it, where messages are said
 gone_on : (g : given.Over) (c : In_ok-found g) (once' : AlreadyReported) →

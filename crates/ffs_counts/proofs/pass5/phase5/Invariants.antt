@@ -4,8 +4,7 @@ use Rattle.ffs_layout.specs.Super.{superblock_in}
 use Rattle.ffs_report.specs.{PhaseOutcome.SaidOf, Progress.progress}
 use Rattle.ffs_groups.specs.Inodes.{class_in}
 use Rattle.ffs_workspace.specs.{Found.WithClaims, Ready.StaysReady}
-use Rattle.ffs_counts.specs.{Once.reported_of, Totals.AreUpTo, Totals.AreTotals}
-use Rattle.ffs_counts.proofs.GroupText.{free_of, lines_after}
+use Rattle.ffs_counts.{specs.{Once.reported_of, Totals.{AreUpTo, AreTotals}}, proofs.GroupText.{free_of, lines_after}}
 use Rattle.ffs_counts.proofs.pass5.phase5.Given as goal
 
 abbrev pub invariant-loop-group : goal.invariant-loop-group

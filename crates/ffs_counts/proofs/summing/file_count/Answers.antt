@@ -1,9 +1,8 @@
 use Rattle.std.proofs.Common.{arith, ap, ◌∙◌, ◌≡◌, ◌+◌, ◌-◌, length}
 use Rattle.ffs_volume.specs.Blocks.Inodes.{is_file_or_dir}
-use Rattle.ffs_groups.specs.Inodes.{class_in}
-use Rattle.ffs_groups.proofs.Sums.{count_more, count_fits}
-use Rattle.ffs_counts.proofs.summing.file_count.Goals as goal
+use Rattle.ffs_groups.{specs.Inodes.class_in, proofs.Sums.{count_more, count_fits}}
 use Rattle.ffs_maps.proofs.Ones.{one_if}
+use Rattle.ffs_counts.proofs.summing.file_count.Goals as goal
 
 pub overflow_add-files : goal.overflow_add-files
 overflow_add-files c =

@@ -1,5 +1,4 @@
-use Rattle.std.proofs.Common.{◌≡◌, ◌-◌, ◌≤◌, count_by, length, max}
-use Rattle.std.specs.List.{range_with_len}
+use Rattle.std.{proofs.Common.{◌≡◌, ◌-◌, ◌≤◌, count_by, length, max}, specs.List.range_with_len}
 use Rattle.ffs_volume.specs.Blocks.Inodes.{is_file_or_dir}
 use Rattle.ffs_groups.specs.Inodes.{class_in}
 use Rattle.ffs_counts.proofs.summing.file_count.Given as goal

@@ -1,6 +1,5 @@
-use Rattle.std.proofs.Common.{ℕ, ℤ, pos, ◌+ℤ◌, ◌*ℤ◌, ◌*◌, ◌≤◌, mul-le-mul, arith, w8, w32, w64}
-use Rattle.std.proofs.Common.{Fits, SFits, unsigned_abs}
-use Rattle.std.proofs.lemmas.Int.{ints, to_z-of_z, fits_signed_from_abs, unsigned_abs-mul}
+use Rattle.std.proofs.Common.{ℕ, ℤ, pos, ◌+ℤ◌, ◌*ℤ◌, ◌*◌, ◌≤◌, mul-le-mul, arith, w8, w32, w64, Fits, SFits}
+use Rattle.std.proofs.{Common.unsigned_abs, lemmas.Int.{ints, to_z-of_z, fits_signed_from_abs, unsigned_abs-mul}}
 use Rattle.ffs_counts.proofs.summing.free_in_all.Goals as goal
 
 blocks_most : (frag : ℕ) (blocks : ℤ) → Fits w8 frag → SFits w32 blocks →

@@ -1,5 +1,4 @@
-use Rattle.std.proofs.Common.{◌≡◌, count_by, min}
-use Rattle.std.specs.List.{range_with_len}
+use Rattle.std.{proofs.Common.{◌≡◌, count_by, min}, specs.List.range_with_len}
 use Rattle.ffs_volume.specs.Disk.Areas.{cgbase, is_reserved}
 use Rattle.ffs_counts.proofs.summing.reserved_count.Given as goal
 

@@ -1,16 +1,13 @@
 use Rattle.std.proofs.Common.{◌≡◌, ◌∙◌, ◌∷◌, [], arith, ap, length, refl, rules, slice_index, sym}
 use Rattle.std.proofs.lemmas.Result.{err_from_is_err_and}
-use Rattle.ffs_volume.specs.{Messages.Kinds.Message, Report.Whole.summary_of, Report.Whole.file_count}
-use Rattle.ffs_volume.specs.Report.Whole.{claimed_count}
+use Rattle.ffs_volume.specs.{Messages.Kinds.Message, Report.Whole.{summary_of, file_count, claimed_count}}
 use Rattle.ffs_layout.specs.Super.{superblock_in}
 use Rattle.ffs_maps.specs.Bits.{bits_of}
-use Rattle.ffs_report.specs.{Known.ForBytes, Lines.message_of}
-use Rattle.ffs_report.proofs.Reporting.{says_all, stops_all}
+use Rattle.ffs_report.{specs.{Known.ForBytes, Lines.message_of}, proofs.Reporting.{says_all, stops_all}}
 use Rattle.ffs_workspace.specs.Holds.{HoldsClaims}
-use Rattle.ffs_counts.proofs.{Classes.files_are, ReservedCount.used_are}
+use Rattle.ffs_counts.proofs.{Classes.files_are, ReservedCount.used_are, summing.summary.Goals.After-summary_line}
 use Rattle.ffs_counts.proofs.summing.summary.Given as given
 use Rattle.ffs_counts.proofs.summing.summary.Goals as goal
-use Rattle.ffs_counts.proofs.summing.summary.Goals.{After-summary_line}
 
 -- the line is that of the image's counts
 line_is : (g : given.Over) (c : After-summary_line g) →

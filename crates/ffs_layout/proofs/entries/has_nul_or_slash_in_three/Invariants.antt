@@ -1,5 +1,4 @@
-use Rattle.std.proofs.Common.{◌≡◌, ◌==◌, take, false}
-use Rattle.std.specs.List.{list_any}
+use Rattle.std.{proofs.Common.{◌≡◌, ◌==◌, take, false}, specs.List.list_any}
 use Rattle.ffs_layout.proofs.entries.has_nul_or_slash_in_three.Given as goal
 
 -- no byte so far is NUL or `/`

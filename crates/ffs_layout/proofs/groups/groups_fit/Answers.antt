@@ -1,7 +1,6 @@
 use Rattle.std.proofs.Common.{sym, rules, arith, refl, ◌≡◌, false}
-use Rattle.ffs_volume.specs.Disk.Outcome.{has_valid_group}
-use Rattle.ffs_volume.specs.Disk.Numbers.{all_below}
-use Rattle.ffs_volume.proofs.Below.{all_below-more, all_below-fails}
+use Rattle.ffs_volume.{specs.Disk.{Outcome.has_valid_group, Numbers.all_below}, proofs.Below.all_below-more}
+use Rattle.ffs_volume.proofs.Below.{all_below-fails}
 use Rattle.ffs_layout.proofs.groups.groups_fit.Goals as goal
 
 pub loop-group-init : goal.loop-group-init

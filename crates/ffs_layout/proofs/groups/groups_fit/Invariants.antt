@@ -1,6 +1,5 @@
 use Rattle.std.proofs.Common.{◌≡◌, true}
-use Rattle.ffs_volume.specs.Disk.Outcome.{has_valid_group}
-use Rattle.ffs_volume.specs.Disk.Numbers.{all_below}
+use Rattle.ffs_volume.specs.Disk.{Outcome.has_valid_group, Numbers.all_below}
 use Rattle.ffs_layout.proofs.groups.groups_fit.Given as goal
 
 abbrev pub invariant-loop-group : goal.invariant-loop-group

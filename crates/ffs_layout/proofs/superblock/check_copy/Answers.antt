@@ -1,5 +1,4 @@
-use Rattle.std.proofs.Common.{◌≡◌, ◌*◌, ◌∙◌, sym, refl}
-use Rattle.std.proofs.lemmas.Result.{err_from_is_err_and}
+use Rattle.std.proofs.{Common.{◌≡◌, ◌*◌, ◌∙◌, sym, refl}, lemmas.Result.err_from_is_err_and}
 use Rattle.ffs_volume.specs.Disk.Outcome.{copy_place}
 use Rattle.ffs_layout.proofs.Copying.{copy_fault}
 use Rattle.ffs_layout.proofs.superblock.check_copy.Goals as goal

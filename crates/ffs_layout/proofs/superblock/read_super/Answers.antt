@@ -1,9 +1,7 @@
 use Rattle.std.proofs.Common.{◌≡◌, ◌*◌, ◌/◌, Some, Ok, Err, arith, sym, refl, ◌∙◌, ap, inl, inr}
 use Rattle.std.proofs.lemmas.Result.{err_from_is_err_and}
-use Rattle.ffs_volume.specs.declared.SuperFault.TheVariants.{CannotRead}
-use Rattle.ffs_volume.proofs.OutcomeLaws.{no_read_fault}
-use Rattle.ffs_layout.proofs.Answering.{past_end, magic, fault, disagree, accepted, copy_sector}
-use Rattle.ffs_layout.proofs.Copying.{seen_layout}
+use Rattle.ffs_volume.{specs.declared.SuperFault.TheVariants.CannotRead, proofs.OutcomeLaws.no_read_fault}
+use Rattle.ffs_layout.proofs.{Answering.{past_end, magic, fault, disagree, accepted, copy_sector}, Copying.seen_layout}
 use Rattle.ffs_image.proofs.Devices.{reported_length, faulted_there}
 use Rattle.ffs_layout.proofs.superblock.read_super.Goals as goal
 

@@ -1,5 +1,4 @@
-use Rattle.std.proofs.Common.{◌≡◌, ◌-◌, ◌≤◌, replicate, vec_len}
-use Rattle.std.specs.Prelude.{vec_capacity}
+use Rattle.std.{proofs.Common.{◌≡◌, ◌-◌, ◌≤◌, replicate, vec_len}, specs.Prelude.vec_capacity}
 use Rattle.ffs_memory.proofs.touching.filled.Given as goal
 
 abbrev pub invariant-loop-made : goal.invariant-loop-made

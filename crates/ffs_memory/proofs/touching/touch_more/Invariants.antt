@@ -1,5 +1,4 @@
-use Rattle.std.proofs.Common.{◌≡◌, ◌+◌, ◌-◌, ◌≤◌, ◌++◌, replicate, vec_len, max}
-use Rattle.std.specs.Prelude.{vec_capacity}
+use Rattle.std.{proofs.Common.{◌≡◌, ◌+◌, ◌-◌, ◌≤◌, ◌++◌, replicate, vec_len, max}, specs.Prelude.vec_capacity}
 use Rattle.std.specs.Vec.{vec_ptr}
 use Rattle.ffs_memory.proofs.touching.touch_more.Given as goal
 

@@ -1,7 +1,5 @@
-use Rattle.std.proofs.Common.{sym, ap, ◌∙◌, arith, rules}
-use Rattle.std.proofs.lemmas.Result.{err_from_is_err_and}
-use Rattle.ffs_names.proofs.{Advances.gap_ended, ReadCounts.run_passed}
-use Rattle.ffs_names.proofs.Continuing.{same_more}
+use Rattle.std.proofs.{Common.{sym, ap, ◌∙◌, arith, rules}, lemmas.Result.err_from_is_err_and}
+use Rattle.ffs_names.proofs.{Advances.gap_ended, ReadCounts.run_passed, Continuing.same_more}
 use Rattle.ffs_names.proofs.gap.find_gap.Goals as goal
 
 -- a Run with chunks is passed over

@@ -1,8 +1,7 @@
 use Rattle.std.proofs.Common.{◌≡◌, ◌≤◌, ◌+◌, ◌||◌}
 use Rattle.ffs_image.specs.Device.{ForContents}
 use Rattle.ffs_walk.specs.declared.window.Window.{Window}
-use Rattle.ffs_names.specs.{Costs.HoldsReading, Costs.to_read, Readings.IsSame, Readings.ahead, Readings.gap_left}
-use Rattle.ffs_names.specs.Windows.{CanWalkDir}
+use Rattle.ffs_names.specs.{Costs.{HoldsReading, to_read}, Readings.{IsSame, ahead, gap_left}, Windows.CanWalkDir}
 use Rattle.ffs_names.proofs.gap.find_gap.Given as goal
 
 abbrev pub invariant-runs : goal.invariant-runs

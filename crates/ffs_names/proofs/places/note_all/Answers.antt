@@ -1,17 +1,13 @@
-use Rattle.std.proofs.Common.{◌≡◌, ◌≢◌, ◌<◌, ◌*◌, ◌+◌, ◌∙◌, false, true, suc, ℕ, ap, arith, below_more}
-use Rattle.std.proofs.Common.{length, refl}
-use Rattle.std.proofs.Common.{rules, slice_index, slice_set, sym}
-use Rattle.std.proofs.lemmas.Grind.{common_steps, get_or_default_zero}
+use Rattle.std.proofs.Common.{◌≡◌, ◌≢◌, ◌<◌, ◌*◌, ◌+◌, ◌∙◌, false, true, suc, ℕ, ap, arith, below_more, length, refl}
+use Rattle.std.proofs.{Common.{rules, slice_index, slice_set, sym}, lemmas.Grind.{common_steps, get_or_default_zero}}
 use Rattle.ffs_volume.proofs.Sizes.{some_inodes}
-use Rattle.ffs_workspace.specs.{Lengths.inodes_of, Places.is_due, Places.place_in}
-use Rattle.ffs_workspace.specs.declared.workspace.Workspace.{Workspace}
+use Rattle.ffs_workspace.specs.{Lengths.inodes_of, Places.{is_due, place_in}, declared.workspace.Workspace.Workspace}
 use Rattle.ffs_survey.proofs.Costs.{cost_take, costs_rise}
-use Rattle.ffs_names.specs.{Costs.directory_cost, Noting.BeginsNotes, Noting.KeepsToRead}
-use Rattle.ffs_names.proofs.PlacesNoted.{claims_noted, coming_end, coming_first, coming_noted, only_fewer}
-use Rattle.ffs_names.proofs.PlacesNoted.{parent_is_dir}
-use Rattle.ffs_names.proofs.PlacesNoted.{passed_next, places_after, places_same, set_other, set_same, survey_noted}
-use Rattle.ffs_names.proofs.places.note_all.Goals as goal
+use Rattle.ffs_names.{specs.{Costs.directory_cost, Noting.{BeginsNotes, KeepsToRead}}, proofs.PlacesNoted.claims_noted}
+use Rattle.ffs_names.proofs.PlacesNoted.{coming_end, coming_first, coming_noted, only_fewer, parent_is_dir, passed_next}
+use Rattle.ffs_names.proofs.PlacesNoted.{places_after, places_same, set_other, set_same, survey_noted}
 use Rattle.ffs_names.proofs.places.note_all.Goals.{then-is_due+in_ok-note_directory, else-is_due}
+use Rattle.ffs_names.proofs.places.note_all.Goals as goal
 
 pub loop-dir-init : goal.loop-dir-init
 loop-dir-init g c =

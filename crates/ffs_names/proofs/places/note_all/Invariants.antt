@@ -1,10 +1,9 @@
 use Rattle.std.proofs.Common.{◌≡◌, ◌<◌, ◌≤◌, ◌+◌, ℕ, false, slice_index}
 use Rattle.ffs_image.specs.Device.{ForContents}
-use Rattle.ffs_workspace.specs.{Holds.HoldsClaims, Holds.HoldsSurvey, Ready.IsReady}
-use Rattle.ffs_workspace.specs.Places.{is_due, AreChunksNumbered, ArePlaces}
+use Rattle.ffs_workspace.specs.{Holds.{HoldsClaims, HoldsSurvey}, Ready.IsReady, Places.{is_due, AreChunksNumbered}}
+use Rattle.ffs_workspace.specs.Places.{ArePlaces}
 use Rattle.ffs_survey.specs.Costs.{costs_all}
-use Rattle.ffs_names.specs.Costs.{directory_cost}
-use Rattle.ffs_names.proofs.PlacesNoted.{AreComing, OnlyParents}
+use Rattle.ffs_names.{specs.Costs.directory_cost, proofs.PlacesNoted.{AreComing, OnlyParents}}
 use Rattle.ffs_names.proofs.places.note_all.Given as goal
 
 abbrev pub invariant-loop-dir : goal.invariant-loop-dir

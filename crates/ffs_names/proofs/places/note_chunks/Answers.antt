@@ -1,9 +1,8 @@
 use Rattle.std.proofs.Common.{◌≡◌, ◌∷◌, ◌∙◌, ◌+◌, ◌*◌, ◌≤◌, ℕ, List, Some, ap, arith, flat_map, sym}
-use Rattle.ffs_volume.specs.{Directories.Entries.chunk_of, Directories.Roles.roled_chunk, Disk.Numbers.piece}
+use Rattle.ffs_volume.specs.{Directories.{Entries.chunk_of, Roles.roled_chunk}, Disk.Numbers.piece}
 use Rattle.ffs_workspace.specs.declared.workspace.Windows.{Windows}
-use Rattle.ffs_names.specs.Readings.{rest}
-use Rattle.ffs_names.proofs.PlacesNoted.{NotesNext, all_noted, children_more, coming_after, noted_chunk, room_for}
-use Rattle.ffs_names.proofs.PlacesNoted.{waiting_after}
+use Rattle.ffs_names.{specs.Readings.rest, proofs.PlacesNoted.{NotesNext, all_noted, children_more, coming_after}}
+use Rattle.ffs_names.proofs.PlacesNoted.{noted_chunk, room_for, waiting_after}
 use Rattle.ffs_names.proofs.places.note_chunks.Goals as goal
 
 pub chunks-preserved : goal.chunks-preserved

@@ -1,8 +1,7 @@
 use Rattle.std.proofs.Common.{◌≡◌, ◌≤◌, ◌+◌, flat_map, vec_len}
 use Rattle.ffs_image.specs.Device.{ForContents}
 use Rattle.ffs_volume.specs.Directories.Roles.{roled_chunk}
-use Rattle.ffs_names.specs.{Costs.HoldsReading, Costs.to_read, Noting.NotesChildren, Readings.rest}
-use Rattle.ffs_names.specs.Windows.{CanReadChunks}
+use Rattle.ffs_names.specs.{Costs.{HoldsReading, to_read}, Noting.NotesChildren, Readings.rest, Windows.CanReadChunks}
 use Rattle.ffs_names.proofs.PlacesNoted.{AreToCome, AreWaiting, HavePlaces}
 use Rattle.ffs_names.proofs.places.note_chunks.Given as goal
 

@@ -1,6 +1,5 @@
 use Rattle.std.proofs.Common.{rules, ◌∙◌, sym, ap}
-use Rattle.ffs_image.proofs.Limits.{read_over, served}
-use Rattle.ffs_image.specs.Device.{Device}
+use Rattle.ffs_image.{proofs.Limits.{read_over, served}, specs.Device.Device}
 use Rattle.ffs_names.proofs.places.note_places.Goals as goal
 
 pub returns-clause-noted : goal.returns-clause-noted

@@ -1,20 +1,17 @@
 use Rattle.std.proofs.Common.{refl, sym, ap, subst, ◌∙◌, ◌≤◌, ℕ, List, Err, length, arith}
 use Rattle.std.proofs.{lemmas.Result.err_from_is_err_and, Math.Nat.mul-le-mul_left}
-use Rattle.ffs_volume.{specs.Report.Reads.line_reads, proofs.Results.on_ok}
-use Rattle.ffs_volume.specs.Directories.{PathnameCheck.sized_dir_lines, Roles.roled_entries, Volumes.volume_of}
-use Rattle.ffs_report.specs.PhaseOutcome.{ImageAfter}
-use Rattle.ffs_report.proofs.Reporting.{of_begins, of_part, of_fault, of_last, said_knows, reports_knowing}
+use Rattle.ffs_volume.{specs.{Report.Reads.line_reads, Directories.PathnameCheck.sized_dir_lines}, proofs.Results.on_ok}
+use Rattle.ffs_volume.specs.Directories.{Roles.roled_entries, Volumes.volume_of}
+use Rattle.ffs_report.{specs.PhaseOutcome.ImageAfter, proofs.Reporting.{of_begins, of_part, of_fault, of_last}}
+use Rattle.ffs_report.proofs.{Reporting.{said_knows, reports_knowing}, Paying.{paid_answer, paid_fault, paid_then}}
 use Rattle.ffs_workspace.proofs.Leaving.{leaves_more}
 use Rattle.ffs_pathnames.specs.{declared.examine.Examination.Examination, Begins.dir_header_lines, Gathers.passed_of}
-use Rattle.ffs_pathnames.specs.PassedNames.{entries_reported}
-use Rattle.ffs_pathnames.proofs.Begun.{said_same, directory_is, lines_parts, quiet_parts, reported_parts, quiet_after}
-use Rattle.ffs_pathnames.proofs.{Begun.reported_after, Begun.starts_within, Passing.knows_on, StampLaws.keep_more}
-use Rattle.ffs_pathnames.proofs.{StampLaws.noted_kept, LineCounts.checked_twice, LineCounts.lines_long}
-use Rattle.ffs_names.{specs.Costs.directory_cost, specs.Costs.directory_runs, proofs.DirCosts.cost_is as cost_of_dir}
-use Rattle.ffs_pathnames.specs.ReadsLeft.{LeftForBoth, LeftForLook}
-use Rattle.ffs_report.proofs.Paying.{paid_answer, paid_fault, paid_then}
-use Rattle.ffs_pathnames.proofs.check.check_directory.Given.{Over}
-use Rattle.ffs_pathnames.proofs.check.check_directory.Goals.{After-begin_directory}
+use Rattle.ffs_pathnames.{specs.PassedNames.entries_reported, proofs.Begun.{said_same, directory_is, lines_parts}}
+use Rattle.ffs_pathnames.proofs.Begun.{quiet_parts, reported_parts, quiet_after, reported_after, starts_within}
+use Rattle.ffs_pathnames.proofs.{Passing.knows_on, StampLaws.{keep_more, noted_kept}, LineCounts.checked_twice}
+use Rattle.ffs_pathnames.{proofs.LineCounts.lines_long, specs.ReadsLeft.{LeftForBoth, LeftForLook}}
+use Rattle.ffs_pathnames.proofs.check.check_directory.{Given.Over, Goals.After-begin_directory}
+use Rattle.ffs_names.{specs.Costs.{directory_cost, directory_runs}, proofs.DirCosts.cost_is as cost_of_dir}
 use Rattle.ffs_pathnames.proofs.check.check_directory.Goals as goal
 
 -- what is left suffices for the first look

@@ -1,7 +1,6 @@
-use Rattle.std.proofs.Common.{ap, refl, ◌∙◌, ◌≡◌, None}
-use Rattle.std.proofs.lemmas.List.{get_or_read_under}
+use Rattle.std.proofs.{Common.{ap, refl, ◌∙◌, ◌≡◌, None}, lemmas.List.get_or_read_under}
 use Rattle.ffs_volume.specs.Directories.Volumes.{volume_of}
-use Rattle.ffs_pathnames.{specs.Begins.number_if, proofs.FirstTwo.parent_back, proofs.FirstTwo.number_some}
+use Rattle.ffs_pathnames.{specs.Begins.number_if, proofs.FirstTwo.{parent_back, number_some}}
 use Rattle.ffs_pathnames.proofs.check.parent_of.Goals as goal
 
 pub returns-then-parent-eq0 : goal.returns-then-parent-eq0

@@ -1,14 +1,13 @@
 use Rattle.std.proofs.Common.{arith, ◌≡◌, sym, ap, ◌∙◌, ℕ, List, [], map, append-nil, option_map, ◌≤◌, ◌++◌, length}
 use Rattle.std.proofs.lemmas.Result.{err_from_is_err_and}
-use Rattle.ffs_volume.specs.Messages.Kinds.{of_tree}
-use Rattle.ffs_volume.specs.Directories.{PathnameCheck.attributes, Parents.graph_of, Paths.dir_path, Volumes.volume_of}
+use Rattle.ffs_volume.specs.{Messages.Kinds.of_tree, Directories.{PathnameCheck.attributes, Parents.graph_of}}
+use Rattle.ffs_volume.specs.Directories.{Paths.dir_path, Volumes.volume_of}
 use Rattle.ffs_layout.specs.Entry.{entry_value}
-use Rattle.ffs_report.proofs.{Reports.said_none, Paying.paid_none, Paying.paid_reads, Paying.paid_says, Paying.paid_stops}
+use Rattle.ffs_report.proofs.{Reports.said_none, Paying.{paid_none, paid_reads, paid_says, paid_stops}}
 use Rattle.ffs_report.proofs.Reporting.{of_begins, of_says, of_stops, of_reads}
-use Rattle.ffs_pathnames.specs.{Header.header_lines, Header.header_lines_of, DirectoryContext.KnowsHeader}
-use Rattle.ffs_pathnames.proofs.{Begun.attr_size, LineCounts.by_line, LineCounts.knows_places, LineCounts.some_said, HeaderLaws.header_some}
-use Rattle.ffs_pathnames.proofs.check.report_header.Given.{Over}
-use Rattle.ffs_pathnames.proofs.check.report_header.Goals.{After-gather_dir, After-say_header}
+use Rattle.ffs_pathnames.specs.{Header.{header_lines, header_lines_of}, DirectoryContext.KnowsHeader}
+use Rattle.ffs_pathnames.proofs.{Begun.attr_size, LineCounts.{by_line, knows_places, some_said}, HeaderLaws.header_some}
+use Rattle.ffs_pathnames.proofs.check.report_header.{Given.Over, Goals.{After-gather_dir, After-say_header}}
 use Rattle.ffs_pathnames.proofs.check.report_header.Goals as goal
 
 -- a header that isn't right has a line

@@ -1,12 +1,11 @@
-use Rattle.std.proofs.Common.{◌≡◌, ◌<◌, ◌^◌, ◌&&◌, ◌||◌, vec_len, ◌+◌, ◌≤◌, ◌==◌}
-use Rattle.std.specs.List.{flat_map, find}
+use Rattle.std.{proofs.Common.{◌≡◌, ◌<◌, ◌^◌, ◌&&◌, ◌||◌, vec_len, ◌+◌, ◌≤◌, ◌==◌}, specs.List.{flat_map, find}}
 use Rattle.ffs_image.specs.Device.{ForContents}
-use Rattle.ffs_volume.specs.Directories.{Roles.Volume, Roles.roled_chunk, PathnameCheck.are_sound, Entries.has_gap}
-use Rattle.ffs_volume.specs.Blocks.Steps.{steps_of}
-use Rattle.ffs_volume.specs.Encodings.{Replay.fresh_replay, Replay.replayed_steps, ReplayCounts.replayed_runs}
-use Rattle.ffs_names.specs.{Windows.CanReadChunks, Readings.rest, Readings.gap_left, Costs.to_read, Costs.HoldsReading}
-use Rattle.ffs_pathnames.specs.PassedNames.{are_quiet, after_looks}
-use Rattle.ffs_pathnames.specs.{Sees.Sees, Sees.stamps_in, Stamps.KeepPlaces, Reads.chunks_read, Reads.start_chunk}
+use Rattle.ffs_volume.specs.Directories.{Roles.{Volume, roled_chunk}, PathnameCheck.are_sound, Entries.has_gap}
+use Rattle.ffs_volume.specs.{Blocks.Steps.steps_of, Encodings.Replay.{fresh_replay, replayed_steps}}
+use Rattle.ffs_volume.specs.Encodings.ReplayCounts.{replayed_runs}
+use Rattle.ffs_names.specs.{Windows.CanReadChunks, Readings.{rest, gap_left}, Costs.{to_read, HoldsReading}}
+use Rattle.ffs_pathnames.specs.{PassedNames.{are_quiet, after_looks}, Sees.{Sees, stamps_in}, Stamps.KeepPlaces}
+use Rattle.ffs_pathnames.specs.Reads.{chunks_read, start_chunk}
 use Rattle.ffs_pathnames.proofs.directory.look_directory.Given as goal
 
 abbrev pub invariant-chunks : goal.invariant-chunks

@@ -1,20 +1,17 @@
 use Rattle.std.proofs.Common.{refl, ap, ◌∙◌, ◌≡◌, ◌+◌, ◌∷◌, arith, ℕ, List, [], map, Err}
 use Rattle.std.proofs.lemmas.Result.{err_from_is_err_and}
-use Rattle.ffs_volume.specs.Directories.{Volumes.volume_of}
-use Rattle.ffs_volume.specs.Messages.Kinds.{of_tree}
+use Rattle.ffs_volume.specs.{Directories.Volumes.volume_of, Messages.Kinds.of_tree}
 use Rattle.ffs_layout.specs.Entry.{entry_value}
 use Rattle.ffs_report.proofs.Reporting.{of_begins, of_same, of_part, of_fault, said_knows, reports_knowing}
-use Rattle.ffs_pathnames.specs.{Gathers.passed_of, PassedNames.after_entries}
-use Rattle.ffs_pathnames.specs.DirectoryContext.{DirectoryContext, KnowsPath}
-use Rattle.ffs_pathnames.{specs.PassedNames.entries_reported, proofs.Begun.image_same, proofs.StampLaws.keep_more}
-use Rattle.ffs_pathnames.proofs.Passing.{knows_on, entry_reported, entry_passed}
-use Rattle.ffs_pathnames.proofs.{StampLaws.noted_kept, Looking.roled_at_place, Looking.seen_next, Looking.none_left}
-use Rattle.ffs_pathnames.proofs.LineCounts.{entry_counted, has_begun, read_all, read_more}
-use Rattle.ffs_workspace.proofs.Leaving.{leaves_all, leaves_more}
 use Rattle.ffs_report.proofs.Paying.{paid_none, paid_then}
-use Rattle.ffs_names.proofs.PlacesNoted.{none_there as none}
-use Rattle.ffs_pathnames.proofs.entries.report_chunk.Given.{Over}
+use Rattle.ffs_pathnames.specs.{Gathers.passed_of, PassedNames.{after_entries, entries_reported}}
+use Rattle.ffs_pathnames.{specs.DirectoryContext.{DirectoryContext, KnowsPath}, proofs.Begun.image_same}
+use Rattle.ffs_pathnames.proofs.{StampLaws.{keep_more, noted_kept}, Passing.{knows_on, entry_reported, entry_passed}}
+use Rattle.ffs_pathnames.proofs.{Looking.{roled_at_place, seen_next, none_left}, LineCounts.{entry_counted, has_begun}}
+use Rattle.ffs_pathnames.proofs.{LineCounts.{read_all, read_more}, entries.report_chunk.Given.Over}
 use Rattle.ffs_pathnames.proofs.entries.report_chunk.Goals.{After-role_of}
+use Rattle.ffs_workspace.proofs.Leaving.{leaves_all, leaves_more}
+use Rattle.ffs_names.proofs.PlacesNoted.none_there as none
 use Rattle.ffs_pathnames.proofs.entries.report_chunk.Goals as goal
 
 -- the next entry, and those after it

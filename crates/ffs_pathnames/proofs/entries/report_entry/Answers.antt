@@ -1,10 +1,8 @@
-use Rattle.std.proofs.Common.{ap, refl, ◌∙◌, rules}
-use Rattle.std.proofs.lemmas.{List.with_items_is}
+use Rattle.std.proofs.{Common.{ap, refl, ◌∙◌, rules}, lemmas.List.with_items_is}
 use Rattle.ffs_volume.specs.Directories.Volumes.{volume_of}
-use Rattle.ffs_workspace.specs.declared.workspace.Workspace.{Workspace}
-use Rattle.ffs_workspace.proofs.Leaving.{claims_left, survey_left, leaves_more, windows_leave}
-use Rattle.ffs_pathnames.specs.Gathers.{passed_of, roled_value}
-use Rattle.ffs_pathnames.proofs.{Passing.passes, SeesLaws.sees}
+use Rattle.ffs_workspace.{specs.declared.workspace.Workspace.Workspace, proofs.Leaving.{claims_left, survey_left}}
+use Rattle.ffs_workspace.proofs.Leaving.{leaves_more, windows_leave}
+use Rattle.ffs_pathnames.{specs.Gathers.{passed_of, roled_value}, proofs.{Passing.passes, SeesLaws.sees}}
 use Rattle.ffs_pathnames.proofs.StampLaws.{keep_more, names_leave, windows_keep}
 use Rattle.ffs_paths.proofs.Keeping.{kept_parent_on}
 use Rattle.ffs_report.proofs.Paying.{paid_answer}

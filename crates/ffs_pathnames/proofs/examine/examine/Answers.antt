@@ -1,13 +1,9 @@
-use Rattle.std.proofs.Common.{◌∙◌, ◌≡◌, ◌≤◌, ℕ, List, ap, arith, false, sym, subst}
-use Rattle.std.proofs.lemmas.Bool.{both_ways}
-use Rattle.ffs_image.specs.{Device.Device, Limited.reads_asked}
-use Rattle.ffs_image.proofs.Limits.{read_over}
+use Rattle.std.proofs.{Common.{◌∙◌, ◌≡◌, ◌≤◌, ℕ, List, ap, arith, false, sym, subst}, lemmas.Bool.both_ways}
+use Rattle.ffs_image.{specs.{Device.Device, Limited.reads_asked}, proofs.Limits.read_over}
 use Rattle.ffs_workspace.proofs.Readiness.{ready_same}
 use Rattle.ffs_names.specs.Costs.{directory_cost}
-use Rattle.ffs_pathnames.specs.DirectoryContext.{DirectoryContext}
-use Rattle.ffs_pathnames.proofs.{Carrying.if_ok, LimitedLaws.LookedBy, LimitedLaws.looked}
-use Rattle.ffs_pathnames.proofs.examine.examine.Given.{Over}
-use Rattle.ffs_pathnames.proofs.examine.examine.Goals.{After-is_spent}
+use Rattle.ffs_pathnames.{specs.DirectoryContext.DirectoryContext, proofs.{Carrying.if_ok, LimitedLaws.LookedBy}}
+use Rattle.ffs_pathnames.proofs.{LimitedLaws.looked, examine.examine.{Given.Over, Goals.After-is_spent}}
 use Rattle.ffs_pathnames.proofs.examine.examine.Goals as goal
 
 -- what became of the image below, and of the reads that were left

@@ -1,11 +1,10 @@
-use Rattle.std.proofs.Common.{◌≡◌, ◌&&◌, ◌∙◌, arith}
-use Rattle.std.proofs.Math.Bool.{and-true}
+use Rattle.std.proofs.{Common.{◌≡◌, ◌&&◌, ◌∙◌, arith}, Math.Bool.and-true}
 use Rattle.ffs_volume.specs.Directories.Roles.{RoledEntry, Volume}
 use Rattle.ffs_layout.specs.Entry.{entry_value}
-use Rattle.ffs_pathnames.specs.{PassedNames.is_quiet, Sees.Sees, Sees.stamps_in}
-use Rattle.ffs_pathnames.proofs.Looking.{seen_next, none_left, quiet_on, stamps_on, length_on, length_ends}
+use Rattle.ffs_pathnames.{specs.{PassedNames.is_quiet, Sees.{Sees, stamps_in}}, proofs.Looking.{seen_next, none_left}}
+use Rattle.ffs_pathnames.proofs.Looking.{quiet_on, stamps_on, length_on, length_ends}
 use Rattle.ffs_pathnames.proofs.look.look_chunk.Goals.{then-quiet, else-quiet}
-use Rattle.ffs_names.proofs.PlacesNoted.{none_there as none}
+use Rattle.ffs_names.proofs.PlacesNoted.none_there as none
 use Rattle.ffs_pathnames.proofs.look.look_chunk.Goals as goal
 
 pub entries-preserved : goal.entries-preserved

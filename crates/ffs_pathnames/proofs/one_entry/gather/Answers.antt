@@ -1,5 +1,4 @@
-use Rattle.std.proofs.Common.{ap, arith, sym, ◌∙◌}
-use Rattle.std.proofs.lemmas.Result.{err_from_is_err_and}
+use Rattle.std.proofs.{Common.{ap, arith, sym, ◌∙◌}, lemmas.Result.err_from_is_err_and}
 use Rattle.ffs_pathnames.proofs.{Carrying.if_ok, VerdictLaws.path_asks_attr, ReadyLaws.leaves_read}
 use Rattle.ffs_pathnames.proofs.one_entry.gather.Goals as goal
 

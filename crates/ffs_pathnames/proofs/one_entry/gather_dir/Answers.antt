@@ -1,6 +1,5 @@
-use Rattle.std.proofs.Common.{ap, arith, ◌∙◌}
-use Rattle.std.proofs.lemmas.Result.{err_from_is_err_and}
-use Rattle.ffs_pathnames.proofs.{Carrying.if_ok, Carrying.on_all, ReadyLaws.leaves_read}
+use Rattle.std.proofs.{Common.{ap, arith, ◌∙◌}, lemmas.Result.err_from_is_err_and}
+use Rattle.ffs_pathnames.proofs.{Carrying.{if_ok, on_all}, ReadyLaws.leaves_read}
 use Rattle.ffs_pathnames.proofs.one_entry.gather_dir.Goals as goal
 
 pub put_path-requires : goal.put_path-requires

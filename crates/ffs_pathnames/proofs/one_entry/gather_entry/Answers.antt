@@ -1,7 +1,6 @@
-use Rattle.std.proofs.Common.{ap, arith}
-use Rattle.std.proofs.lemmas.Result.{err_from_is_err_and}
+use Rattle.std.proofs.{Common.{ap, arith}, lemmas.Result.err_from_is_err_and}
 use Rattle.ffs_workspace.proofs.Leaving.{windows_leave}
-use Rattle.ffs_paths.proofs.{Climbed.few_more, Climbed.few_then, Keeping.reads_then}
+use Rattle.ffs_paths.proofs.{Climbed.{few_more, few_then}, Keeping.reads_then}
 use Rattle.ffs_pathnames.proofs.{Carrying.if_ok, LineCounts.places_on, Passing.knows_on, StampLaws.windows_keep}
 use Rattle.ffs_pathnames.proofs.one_entry.gather_entry.Goals as goal
 

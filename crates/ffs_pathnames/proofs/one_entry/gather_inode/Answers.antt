@@ -1,7 +1,6 @@
-use Rattle.std.proofs.Common.{sym, ◌∙◌}
-use Rattle.std.proofs.lemmas.Bool.{both_ways}
+use Rattle.std.proofs.{Common.{sym, ◌∙◌}, lemmas.Bool.both_ways}
 use Rattle.ffs_volume.specs.Directories.{Parents.graph_of, Volumes.volume_of}
-use Rattle.ffs_paths.{specs.LastPaths.last_path, proofs.Rooms.entry_in_room, proofs.Keeping.no_reads}
+use Rattle.ffs_paths.{specs.LastPaths.last_path, proofs.{Rooms.entry_in_room, Keeping.no_reads}}
 use Rattle.ffs_pathnames.proofs.{Carrying.if_ok, VerdictLaws.enough}
 use Rattle.ffs_pathnames.proofs.one_entry.gather_inode.Goals as goal
 

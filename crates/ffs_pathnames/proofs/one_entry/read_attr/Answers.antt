@@ -1,7 +1,5 @@
-use Rattle.std.proofs.Common.{refl, ap, ◌∙◌}
-use Rattle.std.proofs.lemmas.Result.{err_from_is_err_and}
-use Rattle.ffs_volume.specs.Directories.PathnameCheck.{attributes, attributes_of}
-use Rattle.ffs_volume.specs.Directories.Volumes.{volume_of, volume_with}
+use Rattle.std.proofs.{Common.{refl, ap, ◌∙◌}, lemmas.Result.err_from_is_err_and}
+use Rattle.ffs_volume.specs.Directories.{PathnameCheck.{attributes, attributes_of}, Volumes.{volume_of, volume_with}}
 use Rattle.ffs_workspace.proofs.Readiness.{ready_table}
 use Rattle.ffs_pathnames.proofs.one_entry.read_attr.Goals as goal
 

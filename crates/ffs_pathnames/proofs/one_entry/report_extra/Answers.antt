@@ -1,13 +1,10 @@
-use Rattle.std.proofs.Common.{sym, ℕ, List, [], map, append-nil, ◌≡◌, ◌++◌}
-use Rattle.std.proofs.lemmas.Result.{err_from_is_err_and}
-use Rattle.ffs_volume.specs.Messages.Kinds.{of_tree}
-use Rattle.ffs_volume.specs.Directories.{PathnameCheck.extra_lines, Volumes.volume_of}
+use Rattle.std.proofs.{Common.{sym, ℕ, List, [], map, append-nil, ◌≡◌, ◌++◌}, lemmas.Result.err_from_is_err_and}
+use Rattle.ffs_volume.specs.{Messages.Kinds.of_tree, Directories.{PathnameCheck.extra_lines, Volumes.volume_of}}
 use Rattle.ffs_layout.specs.Entry.{entry_value}
-use Rattle.ffs_report.proofs.Paying.{paid_reads, paid_says, paid_stops}
-use Rattle.ffs_report.proofs.Reporting.{of_begins, of_says, of_stops, of_reads}
+use Rattle.ffs_report.proofs.{Paying.{paid_reads, paid_says, paid_stops}, Reporting.{of_begins, of_says, of_stops}}
+use Rattle.ffs_report.proofs.Reporting.{of_reads}
 use Rattle.ffs_pathnames.proofs.LineCounts.{by_line, extra_some, knows_places, some_said}
-use Rattle.ffs_pathnames.proofs.one_entry.report_extra.Given.{Over}
-use Rattle.ffs_pathnames.proofs.one_entry.report_extra.Goals.{After-say_extra}
+use Rattle.ffs_pathnames.proofs.one_entry.report_extra.{Given.Over, Goals.After-say_extra}
 use Rattle.ffs_pathnames.specs.{DirectoryContext.KnowsPath, Gathers.extra_reported}
 use Rattle.ffs_pathnames.proofs.one_entry.report_extra.Goals as goal
 

@@ -1,16 +1,14 @@
 use Rattle.std.proofs.Common.{arith, sym, ap, ◌∙◌, ℕ, List, [], map, append-nil, ◌≡◌, ◌++◌, ◌≤◌, length}
 use Rattle.std.proofs.lemmas.Result.{err_from_is_err_and}
-use Rattle.ffs_volume.specs.{Messages.Kinds.of_tree, Directories.Volumes.volume_of}
-use Rattle.ffs_volume.specs.Directories.{PathnameCheck.attributes, Parents.graph_of, Paths.entry_path, Paths.dir_path}
+use Rattle.ffs_volume.specs.{Messages.Kinds.of_tree, Directories.{Volumes.volume_of, PathnameCheck.attributes}}
+use Rattle.ffs_volume.specs.Directories.{Parents.graph_of, Paths.{entry_path, dir_path}}
 use Rattle.ffs_layout.specs.Entry.{entry_value}
-use Rattle.ffs_report.proofs.{Reports.said_none, Paying.paid_none, Paying.paid_reads, Paying.paid_says, Paying.paid_stops}
+use Rattle.ffs_report.proofs.{Reports.said_none, Paying.{paid_none, paid_reads, paid_says, paid_stops}}
 use Rattle.ffs_report.proofs.Reporting.{of_begins, of_says, of_stops, of_reads}
-use Rattle.ffs_pathnames.specs.{Gathers.plain_lines_by, Verdicts.verdict_reported}
-use Rattle.ffs_pathnames.specs.DirectoryContext.{DirectoryContext, KnowsPath}
-use Rattle.ffs_pathnames.proofs.LineCounts.{by_line, few_none, knows_places, some_said}
-use Rattle.ffs_pathnames.proofs.VerdictLaws.{plain_some, silent_reported, verdict_some}
-use Rattle.ffs_pathnames.proofs.one_entry.report_plain.Given.{Over}
-use Rattle.ffs_pathnames.proofs.one_entry.report_plain.Goals.{After-gather_entry, After-say_verdict}
+use Rattle.ffs_pathnames.specs.{Gathers.plain_lines_by, Verdicts.verdict_reported, DirectoryContext.DirectoryContext}
+use Rattle.ffs_pathnames.{specs.DirectoryContext.KnowsPath, proofs.LineCounts.{by_line, few_none, knows_places}}
+use Rattle.ffs_pathnames.proofs.{LineCounts.some_said, VerdictLaws.{plain_some, silent_reported, verdict_some}}
+use Rattle.ffs_pathnames.proofs.one_entry.report_plain.{Given.Over, Goals.{After-gather_entry, After-say_verdict}}
 use Rattle.ffs_pathnames.proofs.one_entry.report_plain.Goals as goal
 
 -- a verdict that isn't silent has a line

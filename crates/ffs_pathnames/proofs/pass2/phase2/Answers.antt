@@ -1,16 +1,13 @@
 use Rattle.std.proofs.Common.{[], ◌∷◌, List, ℕ, refl, ap, ◌∙◌, inl, arith, ◌≡◌, Some}
 use Rattle.std.proofs.lemmas.Result.{err_from_is_err_and}
 use Rattle.ffs_report.proofs.Reporting.{of_reads, of_last, reports_knowing, says_heading, stops_heading}
-use Rattle.ffs_volume.specs.{Messages.Kinds.phase2}
-use Rattle.ffs_volume.{proofs.RunBounds.runs_bounded, proofs.Results.on_ok}
-use Rattle.ffs_pathnames.{specs.declared.pass2.Root.Root, specs.Before.IsBefore, proofs.Carrying.at_fault}
-use Rattle.ffs_pathnames.proofs.Carrying.{at_fault_more, claims_untouched, before_first, references_on, on_all, if_ok}
-use Rattle.ffs_pathnames.proofs.SilentLaws.{calm_silent}
-use Rattle.ffs_pathnames.proofs.pass2.phase2.Given.{Over}
-use Rattle.ffs_pathnames.proofs.pass2.phase2.Goals.{After-check_tree}
+use Rattle.ffs_report.proofs.Paying.{paid_said, paid_text, paid_then}
+use Rattle.ffs_volume.{specs.Messages.Kinds.phase2, proofs.{RunBounds.runs_bounded, Results.on_ok}}
+use Rattle.ffs_pathnames.{specs.{declared.pass2.Root.Root, Before.IsBefore}, proofs.Carrying.{at_fault, at_fault_more}}
+use Rattle.ffs_pathnames.proofs.Carrying.{claims_untouched, before_first, references_on, on_all, if_ok}
+use Rattle.ffs_pathnames.proofs.{SilentLaws.calm_silent, pass2.phase2.{Given.Over, Goals.After-check_tree}}
 use Rattle.ffs_names.proofs.RunSums.{costs_bounded}
 use Rattle.ffs_workspace.specs.Holds.{HoldsClaims}
-use Rattle.ffs_report.proofs.Paying.{paid_said, paid_text, paid_then}
 use Rattle.ffs_pathnames.proofs.pass2.phase2.Goals as goal
 
 -- what is known before the first directory

@@ -1,11 +1,8 @@
-use Rattle.std.proofs.Common.{◌∙◌, ◌≡◌, ◌≤◌, ℕ, List, Some, ap, arith, true}
-use Rattle.std.proofs.lemmas.Bool.{both_ways}
-use Rattle.ffs_image.specs.{Device.Device, Limited.reads_asked}
-use Rattle.ffs_image.proofs.Limits.{read_over}
+use Rattle.std.proofs.{Common.{◌∙◌, ◌≡◌, ◌≤◌, ℕ, List, Some, ap, arith, true}, lemmas.Bool.both_ways}
+use Rattle.ffs_image.{specs.{Device.Device, Limited.reads_asked}, proofs.Limits.read_over}
 use Rattle.ffs_names.specs.Costs.{HoldsReading, to_read}
-use Rattle.ffs_pathnames.proofs.Carrying.{if_ok}
-use Rattle.ffs_pathnames.proofs.LimitedLaws.{LookedBy, budget_falls, can_read_same, looked, taken_below, taken_left}
-use Rattle.ffs_pathnames.proofs.reread.next_limited.Given.{Over}
+use Rattle.ffs_pathnames.proofs.{Carrying.if_ok, LimitedLaws.{LookedBy, budget_falls, can_read_same, looked}}
+use Rattle.ffs_pathnames.proofs.{LimitedLaws.{taken_below, taken_left}, reread.next_limited.Given.Over}
 use Rattle.ffs_pathnames.proofs.reread.next_limited.Goals.{After-is_spent}
 use Rattle.ffs_pathnames.proofs.reread.next_limited.Goals as goal
 

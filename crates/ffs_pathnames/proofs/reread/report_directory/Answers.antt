@@ -1,24 +1,20 @@
-use Rattle.std.proofs.Common.{refl, sym, ap, subst, ◌∙◌, ◌≡◌, ◌≤◌, ◌+◌, ℕ, Some, List, [], ◌∷◌, map, Err, arith, inl, inr}
-use Rattle.std.{proofs.lemmas.Bool.both_ways, proofs.lemmas.Result.err_from_is_err_and, specs.List.flat_map}
+use Rattle.std.proofs.Common.{refl, sym, ap, subst, ◌∙◌, ◌≡◌, ◌≤◌, ◌+◌, ℕ, Some, List, [], ◌∷◌, map, Err, arith, inl}
+use Rattle.std.{proofs.{Common.inr, lemmas.{Bool.both_ways, Result.err_from_is_err_and}}, specs.List.flat_map}
 use Rattle.ffs_image.specs.Device.{Faulted}
-use Rattle.ffs_volume.proofs.Numbered.{as_many}
-use Rattle.ffs_volume.specs.Directories.{Entries.Chunk, Entries.chunk_of, Roles.roled_chunk}
+use Rattle.ffs_volume.{proofs.Numbered.as_many, specs.Directories.{Entries.{Chunk, chunk_of}, Roles.roled_chunk}}
 use Rattle.ffs_volume.specs.{Directories.Volumes.volume_of, Messages.Kinds.of_tree}
-use Rattle.ffs_workspace.{specs.Notes.cut_in, specs.Leaves.LeavesSurvey, proofs.NoteLaws.cut_is_noted}
+use Rattle.ffs_workspace.{specs.{Notes.cut_in, Leaves.LeavesSurvey}, proofs.NoteLaws.cut_is_noted}
 use Rattle.ffs_workspace.specs.{Places.AreChunksNumbered, declared.workspace.Workspace.Workspace}
 use Rattle.ffs_workspace.proofs.Leaving.{leaves_all, leaves_more, windows_leave}
-use Rattle.ffs_names.{specs.Readings.rest, proofs.DirCosts.runs_are}
-use Rattle.ffs_names.specs.Costs.{directory_runs, to_read, HoldsReading}
-use Rattle.ffs_report.specs.PhaseOutcome.{ImageAfter}
-use Rattle.ffs_report.proofs.Reporting.{of_begins, of_reads, of_same, of_part, of_fault, said_knows, reports_knowing}
+use Rattle.ffs_names.{specs.{Readings.rest, Costs.{directory_runs, to_read, HoldsReading}}, proofs.DirCosts.runs_are}
+use Rattle.ffs_report.{specs.PhaseOutcome.ImageAfter, proofs.Reporting.{of_begins, of_reads, of_same, of_part}}
+use Rattle.ffs_report.proofs.{Reporting.{of_fault, said_knows, reports_knowing}, Paying.{paid_beside, paid_failed}}
+use Rattle.ffs_report.proofs.Paying.{paid_none, paid_then, paid_within}
 use Rattle.ffs_pathnames.specs.{Gathers.passed_of, DirectoryContext.DirectoryContext, PassedNames.after_entries}
-use Rattle.ffs_pathnames.{specs.PassedNames.entries_reported, proofs.StampLaws.keep_more, proofs.StampLaws.noted_kept}
-use Rattle.ffs_pathnames.proofs.Passing.{chunk_reported, chunk_passed, knows_on, all_read}
-use Rattle.ffs_pathnames.proofs.{ReadyLaws.can_read_in, ReadyLaws.windows_next, ReadyLaws.windows_read}
-use Rattle.ffs_pathnames.{specs.ReadsLeft.LeftForRuns, proofs.LimitedLaws.numbered_or_not}
-use Rattle.ffs_report.proofs.Paying.{paid_beside, paid_failed, paid_none, paid_then, paid_within}
-use Rattle.ffs_pathnames.proofs.LineCounts.{lines_long}
-use Rattle.ffs_pathnames.proofs.reread.report_directory.Given.{Over}
+use Rattle.ffs_pathnames.{specs.PassedNames.entries_reported, proofs.StampLaws.{keep_more, noted_kept}}
+use Rattle.ffs_pathnames.proofs.{Passing.{chunk_reported, chunk_passed, knows_on, all_read}, ReadyLaws.can_read_in}
+use Rattle.ffs_pathnames.{proofs.ReadyLaws.{windows_next, windows_read}, specs.ReadsLeft.LeftForRuns}
+use Rattle.ffs_pathnames.proofs.{LimitedLaws.numbered_or_not, LineCounts.lines_long, reread.report_directory.Given.Over}
 use Rattle.ffs_pathnames.proofs.reread.report_directory.Goals.{After-next_chunk}
 use Rattle.ffs_pathnames.proofs.reread.report_directory.Goals as goal
 

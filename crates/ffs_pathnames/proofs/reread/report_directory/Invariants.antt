@@ -1,13 +1,12 @@
-use Rattle.std.proofs.Common.{◌≡◌, ℕ, List, map, ◌+◌, ◌*◌, ◌≤◌, length, Ok}
-use Rattle.std.specs.List.{flat_map}
-use Rattle.ffs_volume.specs.{Messages.Kinds.of_tree, Report.Reads.line_reads}
-use Rattle.ffs_volume.specs.Directories.{Parents.graph_of, Roles.roled_chunk, Roles.roled_entries, Volumes.volume_of}
+use Rattle.std.{proofs.Common.{◌≡◌, ℕ, List, map, ◌+◌, ◌*◌, ◌≤◌, length, Ok}, specs.List.flat_map}
+use Rattle.ffs_volume.specs.{Messages.Kinds.of_tree, Report.Reads.line_reads, Directories.Parents.graph_of}
+use Rattle.ffs_volume.specs.Directories.{Roles.{roled_chunk, roled_entries}, Volumes.volume_of}
 use Rattle.ffs_report.specs.{Known.ForBytes, Paid.Paid, PhaseOutcome.SaidOf, Progress.progress}
-use Rattle.ffs_names.specs.{Readings.rest, Costs.directory_runs, Costs.to_read, Costs.HoldsReading}
-use Rattle.ffs_workspace.specs.{Leaves.LeavesSurvey, Places.AreChunksNumbered, Places.AreNoted}
+use Rattle.ffs_names.specs.{Readings.rest, Costs.{directory_runs, to_read, HoldsReading}}
+use Rattle.ffs_workspace.specs.{Leaves.LeavesSurvey, Places.{AreChunksNumbered, AreNoted}}
 use Rattle.ffs_pathnames.specs.{Ready.ReadyWith, Gathers.passed_of, Stamps.KeepPlaces, Costs.report_reads}
-use Rattle.ffs_pathnames.specs.{DirectoryContext.BeginsPathOf, ReadsLeft.LeftForRuns}
-use Rattle.ffs_pathnames.specs.PassedNames.{after_entries, entries_reported}
+use Rattle.ffs_pathnames.specs.{DirectoryContext.BeginsPathOf, ReadsLeft.LeftForRuns, PassedNames.after_entries}
+use Rattle.ffs_pathnames.specs.PassedNames.{entries_reported}
 use Rattle.ffs_pathnames.proofs.reread.report_directory.Given as goal
 
 abbrev pub invariant-chunks : goal.invariant-chunks

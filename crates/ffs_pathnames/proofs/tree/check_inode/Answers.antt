@@ -1,11 +1,9 @@
 use Rattle.std.proofs.Common.{refl, sym, ap, ◌∙◌, ◌≡◌, ◌==◌, ℕ, List, true, map, [], slice_index, arith}
-use Rattle.ffs_image.specs.Device.{Device}
-use Rattle.ffs_volume.specs.declared.Layout.{Layout}
-use Rattle.ffs_workspace.specs.declared.workspace.Workspace.{Workspace}
-use Rattle.ffs_report.proofs.Paying.{paid_none}
 use Rattle.std.proofs.lemmas.Bool.{and_parts}
-use Rattle.ffs_report.proofs.Reporting.{of_begins, of_same, reports_same, reports_knowing}
-use Rattle.ffs_volume.{specs.Messages.Kinds.of_tree, proofs.Results.on_ok}
+use Rattle.ffs_image.specs.Device.{Device}
+use Rattle.ffs_volume.{specs.{declared.Layout.Layout, Messages.Kinds.of_tree}, proofs.Results.on_ok}
+use Rattle.ffs_workspace.specs.declared.workspace.Workspace.{Workspace}
+use Rattle.ffs_report.proofs.{Paying.paid_none, Reporting.{of_begins, of_same, reports_same, reports_knowing}}
 use Rattle.ffs_pathnames.proofs.Carrying.{directory_context, lines_looked, lines_skipped, noted_next, before_skipped}
 use Rattle.ffs_pathnames.specs.ReadsLeft.{LeftForBoth, LeftForNext}
 use Rattle.ffs_pathnames.proofs.tree.check_inode.Goals as goal

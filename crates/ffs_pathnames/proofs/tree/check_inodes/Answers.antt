@@ -1,20 +1,16 @@
-use Rattle.std.proofs.Common.{◌+◌, ◌-◌, [], map, refl, sym, ap, subst, ◌≡◌, ◌∙◌, suc, arith, rules, Err, List, ℕ}
-use Rattle.std.proofs.Common.{◌≤◌, true}
-use Rattle.std.proofs.lemmas.{Result.err_from_is_err_and}
+use Rattle.std.proofs.Common.{◌+◌, ◌-◌, [], map, refl, sym, ap, subst, ◌≡◌, ◌∙◌, suc, arith, rules, Err, List, ℕ, ◌≤◌}
+use Rattle.std.proofs.{Common.true, lemmas.Result.err_from_is_err_and}
 use Rattle.ffs_volume.proofs.Numbered.{as_many, from_next, from_end, count_next as next_long}
-use Rattle.ffs_volume.specs.Messages.Kinds.{of_tree, lines_from}
-use Rattle.ffs_volume.specs.Directories.{PathnameCheck.directory_lines, Volumes.volume_of}
+use Rattle.ffs_volume.specs.{Messages.Kinds.{of_tree, lines_from}, Directories.PathnameCheck.directory_lines}
+use Rattle.ffs_volume.specs.Directories.Volumes.{volume_of}
 use Rattle.ffs_report.proofs.Reporting.{of_begins, of_same, of_part, of_fault, of_reads, said_knows, reports_knowing}
-use Rattle.ffs_workspace.specs.{declared.workspace.Workspace.Workspace, Lengths.inodes_of}
-use Rattle.ffs_pathnames.{specs.Before.IsBeforeNoted, proofs.Carrying.noted_reported}
-use Rattle.ffs_pathnames.proofs.Skipping.{noted_before, unseen}
-use Rattle.ffs_survey.{proofs.Costs.cost_take, proofs.Costs.costs_rise}
-use Rattle.ffs_names.specs.Costs.{directories_cost, directory_cost}
-use Rattle.ffs_names.proofs.Limits.{costs_within}
 use Rattle.ffs_report.proofs.Paying.{paid_none, paid_then, paid_within}
-use Rattle.ffs_pathnames.specs.{Before.IsBefore, ReadsLeft.LeftForNext}
-use Rattle.ffs_pathnames.proofs.tree.check_inodes.Given.{Over}
-use Rattle.ffs_pathnames.proofs.tree.check_inodes.Goals.{After-check_inode}
+use Rattle.ffs_workspace.specs.{declared.workspace.Workspace.Workspace, Lengths.inodes_of}
+use Rattle.ffs_pathnames.{specs.Before.{IsBeforeNoted, IsBefore}, proofs.Carrying.noted_reported}
+use Rattle.ffs_pathnames.{proofs.Skipping.{noted_before, unseen}, specs.ReadsLeft.LeftForNext}
+use Rattle.ffs_pathnames.proofs.tree.check_inodes.{Given.Over, Goals.After-check_inode}
+use Rattle.ffs_survey.proofs.Costs.{cost_take, costs_rise}
+use Rattle.ffs_names.{specs.Costs.{directories_cost, directory_cost}, proofs.Limits.costs_within}
 use Rattle.ffs_pathnames.proofs.tree.check_inodes.Goals as goal
 
 -- what is known before an inode, and what is left suffices for it

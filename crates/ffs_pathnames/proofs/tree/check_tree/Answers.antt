@@ -1,16 +1,13 @@
 use Rattle.std.proofs.Common.{◌≡◌, ◌≤◌, ◌++◌, ◌+◌, Bool, slice_index, [], List, ℕ, map, refl, sym, ◌∙◌, append-nil}
-use Rattle.std.proofs.Common.{true, false, arith, length}
-use Rattle.std.proofs.{lemmas.Result.err_from_is_err_and}
+use Rattle.std.proofs.{Common.{true, false, arith, length}, lemmas.Result.err_from_is_err_and}
 use Rattle.ffs_workspace.specs.{Holds.HoldsClaims, Places.AreChunksNumbered}
-use Rattle.ffs_pathnames.specs.Before.{IsBefore, root_reported}
-use Rattle.ffs_pathnames.{specs.Costs.tree_reads, proofs.LineCounts.lines_long}
+use Rattle.ffs_pathnames.{specs.{Before.{IsBefore, root_reported}, Costs.tree_reads}, proofs.LineCounts.lines_long}
 use Rattle.ffs_pathnames.proofs.Carrying.{at_fault, goes_is, root_kind_is, root_marked_is, tree_is, tree_lines}
-use Rattle.ffs_pathnames.proofs.tree.check_tree.Given.{Over}
-use Rattle.ffs_pathnames.proofs.tree.check_tree.Goals.{After-report_root, After-check_inodes}
-use Rattle.ffs_volume.{specs.Encodings.Kinds.is_dir_kind, specs.Directories.Volumes.volume_of}
-use Rattle.ffs_volume.specs.{Messages.Kinds.of_tree, Directories.PathnameCheck.pathname_lines}
-use Rattle.ffs_report.proofs.Reporting.{of_begins, of_says, of_stops, of_part, of_fault}
-use Rattle.ffs_report.proofs.Paying.{paid_said, paid_answer, paid_fault, paid_text, paid_then}
+use Rattle.ffs_pathnames.proofs.tree.check_tree.{Given.Over, Goals.{After-report_root, After-check_inodes}}
+use Rattle.ffs_volume.specs.{Encodings.Kinds.is_dir_kind, Directories.Volumes.volume_of, Messages.Kinds.of_tree}
+use Rattle.ffs_volume.specs.Directories.PathnameCheck.{pathname_lines}
+use Rattle.ffs_report.proofs.{Reporting.{of_begins, of_says, of_stops, of_part, of_fault}, Paying.paid_said}
+use Rattle.ffs_report.proofs.Paying.{paid_answer, paid_fault, paid_text, paid_then}
 use Rattle.ffs_pathnames.proofs.tree.check_tree.Goals as goal
 
 -- what the kind of the root that was read says

@@ -1,8 +1,7 @@
 use Rattle.std.proofs.Common.{◌≡◌, ◌<◌, Bool, true, ap, sym, subst, ◌∙◌, if◌then◌else◌, rules, slice_set}
 use Rattle.ffs_volume.specs.Directories.Roles.{is_plain}
 use Rattle.ffs_layout.specs.Entry.{entry_value}
-use Rattle.ffs_pathnames.proofs.StampLaws.{after_pass}
-use Rattle.ffs_pathnames.proofs.verdict.pass.Goals.{then-is_suspect, else-is_suspect}
+use Rattle.ffs_pathnames.proofs.{StampLaws.after_pass, verdict.pass.Goals.{then-is_suspect, else-is_suspect}}
 use Rattle.ffs_pathnames.proofs.verdict.pass.Goals as goal
 
 pub returns-then-stamp-dir-clause-after : goal.returns-then-stamp-dir-clause-after

@@ -1,5 +1,4 @@
-use Rattle.std.proofs.Common.{arith}
-use Rattle.std.proofs.lemmas.{Slice.drop-put_mid, List.drop-set-lt, List.length-set}
+use Rattle.std.proofs.{Common.arith, lemmas.{Slice.drop-put_mid, List.{drop-set-lt, length-set}}}
 use Rattle.ffs_paths.proofs.buffer.put_before.Goals as goal
 
 pub returns-clause-following : goal.returns-clause-following

@@ -1,7 +1,6 @@
 use Rattle.std.proofs.Common.{◌≡◌, ◌+◌, ◌*◌, ◌∙◌, ap, sym, suc, ℕ, List, Some, true, false, subst, arith, slice_index}
-use Rattle.std.proofs.lemmas.List.{get_or_default}
-use Rattle.std.specs.List.{list_any}
-use Rattle.ffs_volume.specs.{Disk.Numbers.piece, Directories.Entries.entries_of, Directories.Roles.roled_from}
+use Rattle.std.{proofs.lemmas.List.get_or_default, specs.List.list_any}
+use Rattle.ffs_volume.specs.{Disk.Numbers.piece, Directories.{Entries.entries_of, Roles.roled_from}}
 use Rattle.ffs_volume.specs.Directories.Graph.{is_naming_entry}
 use Rattle.ffs_paths.{specs.Climbing.name_in, proofs.Keeping.name_read}
 use Rattle.ffs_workspace.specs.Places.{entries_in_chunk, place_in}

@@ -1,5 +1,4 @@
-use Rattle.std.proofs.Common.{◌<◌, ◌∙◌, refl, length, subst, sym, arith}
-use Rattle.std.proofs.lemmas.Bool.{both_ways}
+use Rattle.std.proofs.{Common.{◌<◌, ◌∙◌, refl, length, subst, sym, arith}, lemmas.Bool.both_ways}
 use Rattle.ffs_layout.specs.Entry.{entry_value}
 use Rattle.ffs_paths.proofs.ChunkNames.{chunk_here, chunk_past, named_none, plain_named}
 use Rattle.ffs_paths.proofs.name.find_in_chunk.Goals as goal

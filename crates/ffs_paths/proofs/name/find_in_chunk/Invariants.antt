@@ -1,5 +1,4 @@
-use Rattle.std.proofs.Common.{◌≡◌, ◌≤◌, ◌-◌, false}
-use Rattle.std.specs.List.{list_any}
+use Rattle.std.{proofs.Common.{◌≡◌, ◌≤◌, ◌-◌, false}, specs.List.list_any}
 use Rattle.ffs_volume.specs.Directories.{Entries.entries_from, Roles.roled_from, Graph.is_naming_entry}
 use Rattle.ffs_paths.specs.Climbing.{name_in}
 use Rattle.ffs_paths.proofs.name.find_in_chunk.Given as goal

@@ -1,6 +1,5 @@
-use Rattle.std.proofs.Common.{arith}
-use Rattle.std.proofs.lemmas.{Bool.both_ways, Result.on_ok_weaker}
-use Rattle.ffs_paths.{proofs.Keeping.reads_then, proofs.Keeping.tree_on}
+use Rattle.std.proofs.{Common.arith, lemmas.{Bool.both_ways, Result.on_ok_weaker}}
+use Rattle.ffs_paths.proofs.Keeping.{reads_then, tree_on}
 use Rattle.ffs_paths.proofs.name.find_name.Goals as goal
 
 -- it isn't found in the chunk that is noted

@@ -1,15 +1,14 @@
-use Rattle.std.proofs.Common.{arith}
-use Rattle.std.proofs.Common.{◌≡◌, ◌<◌, ◌∙◌, ℕ, true, List, ap, sym, subst, slice_index}
+use Rattle.std.proofs.Common.{arith, ◌≡◌, ◌<◌, ◌∙◌, ℕ, true, List, ap, sym, subst, slice_index}
 use Rattle.std.proofs.lemmas.Result.{err_from_is_err_and}
-use Rattle.ffs_names.{proofs.DirLaws.dir_is, proofs.DirLaws.dir_size, proofs.DirLaws.dir_seen, specs.Entering.to_come}
-use Rattle.ffs_names.specs.{Entering.last_name, Shapes.BeginsDirectory, declared.entries.Entries.Entries}
+use Rattle.ffs_names.{proofs.DirLaws.{dir_is, dir_size, dir_seen}, specs.Entering.{to_come, last_name}}
+use Rattle.ffs_names.specs.{Shapes.BeginsDirectory, declared.entries.Entries.Entries}
 use Rattle.ffs_survey.specs.Reading.{roled_of}
-use Rattle.ffs_volume.specs.declared.{Inode.Inode, Layout.Layout}
-use Rattle.ffs_volume.specs.{Blocks.Inodes.inode_of, Laws.Geometry.IsAcceptedLayout}
-use Rattle.ffs_volume.specs.Directories.{Roles.is_dir, Roles.roled_entries, Volumes.volume_of}
+use Rattle.ffs_volume.specs.{declared.{Inode.Inode, Layout.Layout}, Blocks.Inodes.inode_of}
+use Rattle.ffs_volume.specs.{Laws.Geometry.IsAcceptedLayout, Directories.Roles.{is_dir, roled_entries}}
+use Rattle.ffs_volume.specs.Directories.Volumes.{volume_of}
 use Rattle.ffs_workspace.specs.{Holds.HoldsClaims, Notes.cut_in, declared.workspace.Workspace.Workspace}
 use Rattle.ffs_workspace.proofs.NoteLaws.{cut_is_noted}
-use Rattle.ffs_paths.{specs.Climbing.name_in, proofs.Keeping.chunk_then, proofs.WaysUp.name_in-by}
+use Rattle.ffs_paths.{specs.Climbing.name_in, proofs.{Keeping.chunk_then, WaysUp.name_in-by}}
 use Rattle.ffs_paths.proofs.name.search_name.Goals as goal
 
 -- all entries of the parent are still to come

@@ -1,10 +1,9 @@
 use Rattle.std.proofs.Common.{◌≡◌, ◌<◌, ◌∙◌, ◌∷◌, ap, length, sym, subst, arith, ℕ, slice_index}
 use Rattle.std.proofs.lemmas.List.{get_or_default}
 use Rattle.ffs_volume.specs.Directories.{Graph.Graph, Parents.graph_of, Volumes.volume_of}
-use Rattle.ffs_paths.specs.{Climbing.IsNameIn, Buffers.HoldsNames}
-use Rattle.ffs_paths.proofs.Climbed.{climb_more, few_more, few_then, noted_here, short_way}
-use Rattle.ffs_paths.proofs.Keeping.{reads_then, tree_on}
-use Rattle.ffs_paths.proofs.WaysUp.{parent_is, way_root, way_cut, way_long, way_up, count_is}
+use Rattle.ffs_paths.{specs.{Climbing.IsNameIn, Buffers.HoldsNames}, proofs.Climbed.{climb_more, few_more, few_then}}
+use Rattle.ffs_paths.proofs.{Climbed.{noted_here, short_way}, Keeping.{reads_then, tree_on}, WaysUp.parent_is}
+use Rattle.ffs_paths.proofs.WaysUp.{way_root, way_cut, way_long, way_up, count_is}
 use Rattle.ffs_paths.proofs.path.climb.Goals as goal
 
 pub returns-then-at-eq-ROOTINO-clause-path : goal.returns-then-at-eq-ROOTINO-clause-path

@@ -1,7 +1,6 @@
 use Rattle.std.proofs.Common.{◌≡◌, ℕ, ◌<◌, ◌*◌, List, Some, Ok}
 use Rattle.ffs_volume.specs.Directories.{Graph.level, Parents.graph_of, Volumes.volume_of}
-use Rattle.ffs_paths.specs.Reads.{ForTree, KnowsPlaces, OnlyReads}
-use Rattle.ffs_paths.proofs.{Climbed.HasClimbed, WaysUp.IsOnWay}
+use Rattle.ffs_paths.{specs.Reads.{ForTree, KnowsPlaces, OnlyReads}, proofs.{Climbed.HasClimbed, WaysUp.IsOnWay}}
 use Rattle.ffs_paths.proofs.path.climb.Given as goal
 
 abbrev pub invariant-up : goal.invariant-up

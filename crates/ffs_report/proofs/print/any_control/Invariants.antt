@@ -1,5 +1,4 @@
-use Rattle.std.proofs.Common.{◌≡◌, take}
-use Rattle.std.specs.List.{list_any}
+use Rattle.std.{proofs.Common.{◌≡◌, take}, specs.List.list_any}
 use Rattle.ffs_report.specs.Piece.{is_control}
 use Rattle.ffs_report.proofs.print.any_control.Given as goal
 

@@ -1,6 +1,5 @@
 use Rattle.std.proofs.Common.{◌-◌, length, arith}
-use Rattle.ffs_report.specs.Piece.{is_control}
-use Rattle.ffs_report.proofs.Shows.{any_overlap}
+use Rattle.ffs_report.{specs.Piece.is_control, proofs.Shows.any_overlap}
 use Rattle.ffs_report.proofs.print.has_control.Goals as goal
 
 -- the first and the last eight bytes of at most sixteen

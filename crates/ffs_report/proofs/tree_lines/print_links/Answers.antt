@@ -1,5 +1,4 @@
-use Rattle.std.proofs.Common.{◌≡◌, to_z, of_z, arith, w16, w64}
-use Rattle.std.proofs.lemmas.Int.{to_z-of_z}
+use Rattle.std.proofs.{Common.{◌≡◌, to_z, of_z, arith, w16, w64}, lemmas.Int.to_z-of_z}
 use Rattle.ffs_report.proofs.Sinks.{printing}
 use Rattle.ffs_report.proofs.tree_lines.print_links.Goals as goal
 

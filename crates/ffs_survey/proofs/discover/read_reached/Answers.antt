@@ -1,11 +1,10 @@
 use Rattle.std.proofs.Common.{arith, ap, ◌∙◌, ◌&&◌, rules, ◌≡◌, ◌∷◌, ◌<◌, List, ℕ}
 use Rattle.ffs_volume.specs.Directories.Roles.{RoledEntry, refers}
-use Rattle.ffs_survey.proofs.{CalmLaws.calm_step, CalmLaws.read_whole, Discovered.bit-le, Discovered.entry_step}
-use Rattle.ffs_survey.proofs.{Lending.queue_long, Lending.same_kinds, Queues.extends_on, Queues.keeps_queue}
-use Rattle.ffs_survey.{proofs.Totals.entry_counted, specs.Calm.is_calm_entry, specs.Lent.current_in}
-use Rattle.ffs_survey.specs.{Reading.roled_of, Survey.bool_at, Survey.number_at}
-use Rattle.ffs_survey.proofs.discover.read_reached.Goals as goal
+use Rattle.ffs_survey.proofs.{CalmLaws.{calm_step, read_whole}, Discovered.{bit-le, entry_step}, Lending.queue_long}
+use Rattle.ffs_survey.proofs.{Lending.same_kinds, Queues.{extends_on, keeps_queue}, Totals.entry_counted}
+use Rattle.ffs_survey.specs.{Calm.is_calm_entry, Lent.current_in, Reading.roled_of, Survey.{bool_at, number_at}}
 use Rattle.ffs_survey.proofs.discover.read_reached.Goals.{then-calm_so_far, else-calm_so_far}
+use Rattle.ffs_survey.proofs.discover.read_reached.Goals as goal
 
 pub loop-entry-preserved : goal.loop-entry-preserved
 loop-entry-preserved g c =

@@ -1,7 +1,6 @@
 use Rattle.std.proofs.Common.{◌≡◌, ℕ, ◌+◌, ◌<◌, ◌≤◌, ◌^◌, List, length, take, ◌&&◌}
 use Rattle.ffs_survey.specs.Discover.{Extends, SameResult, Counts, from_entries, unset, count_in, any_in}
-use Rattle.ffs_survey.specs.Lent.{current_in, SameLists, HasRoomAfter}
-use Rattle.ffs_survey.specs.{Calm.are_calm, Survey.number_at, Survey.bool_at}
+use Rattle.ffs_survey.specs.{Lent.{current_in, SameLists, HasRoomAfter}, Calm.are_calm, Survey.{number_at, bool_at}}
 use Rattle.ffs_survey.proofs.discover.read_reached.Given as goal
 
 abbrev pub invariant-loop-entry : goal.invariant-loop-entry

@@ -1,6 +1,5 @@
 use Rattle.std.proofs.Common.{arith, ◌∙◌, sym, []}
-use Rattle.ffs_survey.specs.Reading.{roled_of}
-use Rattle.ffs_survey.proofs.Discovered.{visit_hit, unset-set, new_entry}
+use Rattle.ffs_survey.{specs.Reading.roled_of, proofs.Discovered.{visit_hit, unset-set, new_entry}}
 use Rattle.ffs_survey.proofs.discover.visit.Goals as goal
 
 pub set-requires-2 : goal.set-requires-2

@@ -1,6 +1,5 @@
 use Rattle.std.proofs.Common.{◌≡◌, arith, sym, ◌∙◌, ◌+◌, length, true}
-use Rattle.ffs_survey.proofs.Costs.{cost_take, costs_rise}
-use Rattle.ffs_survey.{proofs.Lending.same_kinds, specs.Discover.is_unreached_dir}
+use Rattle.ffs_survey.{proofs.{Costs.{cost_take, costs_rise}, Lending.same_kinds}, specs.Discover.is_unreached_dir}
 use Rattle.ffs_survey.proofs.levels.survey_unreached.Goals as goal
 
 pub returns-in_err-read_unreached-clause-counted : goal.returns-in_err-read_unreached-clause-counted

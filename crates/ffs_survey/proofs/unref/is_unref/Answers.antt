@@ -1,8 +1,6 @@
-use Rattle.std.proofs.Common.{◌≡◌, ℕ, Bool, List, arith, ◌∙◌, sym, true, false, ◌≢◌}
-use Rattle.std.proofs.lemmas.Bool.{ne_eqb}
-use Rattle.ffs_volume.{proofs.Unreached.IsLost, specs.Directories.Graph.Graph, specs.Directories.Graph.is_dead_in}
-use Rattle.ffs_survey.proofs.UnrefLaws.{unref_is, parent-below}
-use Rattle.ffs_survey.specs.Survey.{IsTree, bool_at, dir_at, suspect_at}
+use Rattle.std.proofs.{Common.{◌≡◌, ℕ, Bool, List, arith, ◌∙◌, sym, true, false, ◌≢◌}, lemmas.Bool.ne_eqb}
+use Rattle.ffs_volume.{proofs.Unreached.IsLost, specs.Directories.Graph.{Graph, is_dead_in}}
+use Rattle.ffs_survey.{proofs.UnrefLaws.{unref_is, parent-below}, specs.Survey.{IsTree, bool_at, dir_at, suspect_at}}
 use Rattle.ffs_survey.proofs.unref.is_unref.Goals as goal
 
 -- a directory that passed the first four tests

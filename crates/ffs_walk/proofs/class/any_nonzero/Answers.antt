@@ -1,5 +1,4 @@
-use Rattle.std.proofs.Common.{arith}
-use Rattle.std.proofs.lemmas.Grind.{common_steps}
+use Rattle.std.proofs.{Common.arith, lemmas.Grind.common_steps}
 use Rattle.ffs_walk.proofs.AnySet.{or_set, any_more}
 use Rattle.ffs_walk.proofs.class.any_nonzero.Goals as goal
 

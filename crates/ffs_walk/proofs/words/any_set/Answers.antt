@@ -1,6 +1,4 @@
-use Rattle.std.proofs.Common.{arith}
-use Rattle.std.proofs.lemmas.Grind.{common_steps}
-use Rattle.std.proofs.lemmas.List.Folds.{list_any_more}
+use Rattle.std.proofs.{Common.arith, lemmas.{Grind.common_steps, List.Folds.list_any_more}}
 use Rattle.ffs_walk.proofs.AnySet.{or_set}
 use Rattle.ffs_walk.proofs.words.any_set.Goals as goal
 

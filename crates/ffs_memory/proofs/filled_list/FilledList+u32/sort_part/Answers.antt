@@ -1,9 +1,6 @@
-use Rattle.std.proofs.Common.{◌≡◌, ◌<◌, ◌≤◌, ◌+◌, ◌-◌, ◌++◌, ◌∙◌, ap, arith, drop, length, replicate, subst, sym, take, vec_len}
-use Rattle.std.specs.Prelude.{vec_capacity}
-use Rattle.std.specs.List.Sorted.{IsNonDecreasing, IsPermutation}
-use Rattle.std.specs.Vec.{vec_ptr}
-use Rattle.std.proofs.lemmas.List.Sorted.{IsNonDecreasingBy-from_sort}
-use Rattle.std.proofs.lemmas.List.{length-drop}
+use Rattle.std.proofs.Common.{◌≡◌, ◌<◌, ◌≤◌, ◌+◌, ◌-◌, ◌++◌, ◌∙◌, ap, arith, drop, length, replicate, subst, sym, take}
+use Rattle.std.{proofs.Common.vec_len, specs.{Prelude.vec_capacity, List.Sorted.{IsNonDecreasing, IsPermutation}}}
+use Rattle.std.{specs.Vec.vec_ptr, proofs.lemmas.List.{Sorted.IsNonDecreasingBy-from_sort, length-drop}}
 use Rattle.ffs_memory.proofs.SortedParts.{with_part, part_alone, before_part, part_new, part_old, after_part}
 use Rattle.ffs_memory.proofs.Touched.{same_filled}
 use Rattle.ffs_memory.proofs.filled_list.FilledList+u32.sort_part.Goals as goal

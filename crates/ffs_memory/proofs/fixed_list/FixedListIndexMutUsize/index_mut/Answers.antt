@@ -1,6 +1,4 @@
-use Rattle.std.proofs.Common.{arith}
-use Rattle.std.proofs.Common.{ap, refl}
-use Rattle.std.specs.Vec.{with_item}
+use Rattle.std.{proofs.Common.{arith, ap, refl}, specs.Vec.with_item}
 use Rattle.ffs_memory.proofs.fixed_list.FixedListIndexMutUsize.index_mut.Goals as goal
 
 pub returns : goal.returns

@@ -1,5 +1,4 @@
-use Rattle.std.proofs.lemmas.Grind.{common_steps}
-use Rattle.std.proofs.Common.{arith}
+use Rattle.std.proofs.{lemmas.Grind.common_steps, Common.arith}
 use Rattle.ffs_memory.proofs.Words.{same_seen, set_seen}
 use Rattle.ffs_memory.proofs.zeroed_words.ZeroedWords.claim.Goals as goal
 

@@ -1,13 +1,11 @@
 use Rattle.std.proofs.Common.{◌≡◌, ◌∙◌, ◌∷◌, ◌++◌, ◌<◌, ℕ, List, Some, replicate, refl, ap, sym, arith}
 use Rattle.std.proofs.lemmas.Result.{err_from_is_err_and}
-use Rattle.ffs_volume.specs.declared.{Step.Step, Step.TheVariants.Gap}
-use Rattle.ffs_walk.specs.{Keepings.replay_in, Rests.most_steps_left, Rests.steps_left}
-use Rattle.ffs_names.specs.Windows.{CanWalkDir}
-use Rattle.ffs_names.proofs.Advances.{only_walks, over_gaps, over_rest, over_runs, over_tail, runs_gaps, runs_on}
-use Rattle.ffs_names.proofs.Advances.{runs_tail}
-use Rattle.ffs_names.proofs.Advances.{same_walked, seen_if_over, seen_if_shut, sees_on, walks_on}
-use Rattle.ffs_names.proofs.Continuing.{can_walk, continues_here, continues_more, no_more, same_here}
-use Rattle.ffs_names.proofs.{Continuing.same_more, Continuing.walk_on}
+use Rattle.ffs_volume.specs.declared.Step.{Step, TheVariants.Gap}
+use Rattle.ffs_walk.specs.{Keepings.replay_in, Rests.{most_steps_left, steps_left}}
+use Rattle.ffs_names.{specs.Windows.CanWalkDir, proofs.Advances.{only_walks, over_gaps, over_rest, over_runs}}
+use Rattle.ffs_names.proofs.Advances.{over_tail, runs_gaps, runs_on, runs_tail, same_walked, seen_if_over, seen_if_shut}
+use Rattle.ffs_names.proofs.{Advances.{sees_on, walks_on}, Continuing.{can_walk, continues_here, continues_more}}
+use Rattle.ffs_names.proofs.Continuing.{no_more, same_here, same_more, walk_on}
 use Rattle.ffs_names.proofs.chunks.Chunks.advance.Goals as goal
 
 pub steps-init : goal.steps-init

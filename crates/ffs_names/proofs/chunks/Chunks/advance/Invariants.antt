@@ -1,8 +1,7 @@
 use Rattle.std.proofs.Common.{◌≡◌, ◌<◌, ◌≤◌, ◌+◌}
 use Rattle.ffs_image.specs.Device.{ForContents}
 use Rattle.ffs_walk.specs.{Rests.most_steps_left, declared.window.Window.Window}
-use Rattle.ffs_names.specs.{Costs.HoldsReading, Costs.to_read, Windows.CanWalkDir}
-use Rattle.ffs_names.specs.Readings.{ahead, ContinuesTo, IsSame}
+use Rattle.ffs_names.specs.{Costs.{HoldsReading, to_read}, Windows.CanWalkDir, Readings.{ahead, ContinuesTo, IsSame}}
 use Rattle.ffs_names.proofs.chunks.Chunks.advance.Given as goal
 
 abbrev pub invariant-steps : goal.invariant-steps

@@ -1,5 +1,4 @@
-use Rattle.std.proofs.Common.{◌≡◌, ◌==◌, ◌∙◌, false, ap, refl, sym}
-use Rattle.std.proofs.{Common.arith, lemmas.Bool.Decides.nat_tests}
+use Rattle.std.proofs.{Common.{◌≡◌, ◌==◌, ◌∙◌, false, ap, refl, sym, arith}, lemmas.Bool.Decides.nat_tests}
 use Rattle.ffs_names.proofs.OneChunks.{begins_at_chunk}
 use Rattle.ffs_names.proofs.chunks.Chunks.restart_at.Goals as goal
 

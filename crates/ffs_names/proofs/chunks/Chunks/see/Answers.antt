@@ -1,8 +1,6 @@
-use Rattle.std.proofs.Common.{◌≡◌, ◌∙◌, ◌==◌, true, arith, refl, sym, ap}
-use Rattle.std.proofs.lemmas.Bool.Decides.{nat_tests}
-use Rattle.ffs_names.specs.declared.chunks.Chunks.{Chunks}
-use Rattle.ffs_names.proofs.Advances.{SeesBy, no_data, sees, sees_none, sees_none_once, sees_once}
-use Rattle.ffs_names.proofs.ReadCounts.{entered_none, first_held, run_at_most}
+use Rattle.std.proofs.{Common.{◌≡◌, ◌∙◌, ◌==◌, true, arith, refl, sym, ap}, lemmas.Bool.Decides.nat_tests}
+use Rattle.ffs_names.{specs.declared.chunks.Chunks.Chunks, proofs.Advances.{SeesBy, no_data, sees, sees_none}}
+use Rattle.ffs_names.proofs.{Advances.{sees_none_once, sees_once}, ReadCounts.{entered_none, first_held, run_at_most}}
 use Rattle.ffs_names.proofs.chunks.Chunks.see.Goals.{After-take}
 use Rattle.ffs_names.proofs.chunks.Chunks.see.Goals as goal
 

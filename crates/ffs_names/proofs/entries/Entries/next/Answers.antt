@@ -1,12 +1,11 @@
-use Rattle.std.proofs.Common.{◌≡◌, ◌∙◌, ◌+◌, ◌≤◌, ℕ, List, Some, ap, sym, arith}
-use Rattle.std.proofs.lemmas.{Bool.and_parts, Result.err_from_is_err_and}
-use Rattle.ffs_names.specs.{Costs.HoldsEntries, Costs.entries_to_read, Readings.rest}
-use Rattle.ffs_names.proofs.{Entered.none_came, Entered.chunk_came}
-use Rattle.ffs_names.proofs.EntryCounts.{HoldsBy, continues_by_chunks, reads_by}
+use Rattle.std.proofs.{Common.{◌≡◌, ◌∙◌, ◌+◌, ◌≤◌, ℕ, List, Some, ap, sym, arith}, lemmas.Bool.and_parts}
+use Rattle.std.proofs.lemmas.Result.{err_from_is_err_and}
+use Rattle.ffs_names.{specs.{Costs.{HoldsEntries, entries_to_read}, Readings.rest}, proofs.Entered.none_came}
+use Rattle.ffs_names.proofs.{Entered.chunk_came, EntryCounts.{HoldsBy, continues_by_chunks, reads_by}}
 use Rattle.ffs_names.proofs.Shaped.{shape_came, shape_ended, shape_same, fills_whole}
+use Rattle.ffs_names.proofs.entries.Entries.next.Goals.{After-take}
 use Rattle.ffs_names.proofs.entries.Entries.next.Given as given
 use Rattle.ffs_names.proofs.entries.Entries.next.Goals as goal
-use Rattle.ffs_names.proofs.entries.Entries.next.Goals.{After-take}
 
 -- taking an entry, or finding none, changes no count of reads
 taken : (g : given.Over) (c : After-take g) → HoldsEntries c.args.blocks.now c.args.window.now c.args.self.now →

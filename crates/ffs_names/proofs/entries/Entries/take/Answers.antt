@@ -1,7 +1,6 @@
 use Rattle.std.proofs.Common.{refl}
 use Rattle.ffs_layout.specs.Entry.{entry_value}
-use Rattle.ffs_names.specs.Readings.{rest}
-use Rattle.ffs_names.proofs.{Entered.take_reported, Shaped.fills_next}
+use Rattle.ffs_names.{specs.Readings.rest, proofs.{Entered.take_reported, Shaped.fills_next}}
 use Rattle.ffs_names.proofs.entries.Entries.take.Goals as goal
 
 pub returns-clause-entries : goal.returns-clause-entries

@@ -1,7 +1,5 @@
-use Rattle.std.proofs.Common.{arith}
-use Rattle.std.proofs.lemmas.Result.{IfOk-weaker}
-use Rattle.ffs_names.proofs.Continuing.{can_read, contents_kept}
-use Rattle.ffs_names.proofs.{Shaped.shape_same, SurveyHolds.none_ended}
+use Rattle.std.proofs.{Common.arith, lemmas.Result.IfOk-weaker}
+use Rattle.ffs_names.proofs.{Continuing.{can_read, contents_kept}, Shaped.shape_same, SurveyHolds.none_ended}
 use Rattle.ffs_names.proofs.reader.DirectoryReaderDirectories.next.Goals as goal
 
 pub returns-in-Some-clause-shape : goal.returns-in-Some-clause-shape

@@ -1,15 +1,12 @@
-use Rattle.std.proofs.Common.{◌∙◌, ◌≡◌, ℕ, Bool, List, true, ◌&&◌, ap, arith, if◌then◌else◌}
-use Rattle.std.proofs.Common.{slice_index, sym, []}
-use Rattle.std.proofs.lemmas.{Grind.common_steps, Grind.get_or_default_zero, Result.err_from_is_err_and}
-use Rattle.ffs_volume.specs.{Directories.Roles.is_dir, Directories.Roles.roled_entries, Directories.Volumes.volume_of}
-use Rattle.ffs_volume.specs.Encodings.Kinds.{kind_at}
+use Rattle.std.proofs.Common.{◌∙◌, ◌≡◌, ℕ, Bool, List, true, ◌&&◌, ap, arith, if◌then◌else◌, slice_index, sym, []}
+use Rattle.std.proofs.lemmas.{Grind.{common_steps, get_or_default_zero}, Result.err_from_is_err_and}
+use Rattle.ffs_volume.specs.{Directories.{Roles.{is_dir, roled_entries}, Volumes.volume_of}, Encodings.Kinds.kind_at}
 use Rattle.ffs_workspace.specs.Notes.{note_at}
-use Rattle.ffs_names.specs.RightShapes.{is_right_shape}
-use Rattle.ffs_names.proofs.{DirCosts.cost_is, DirLaws.kind_dirs}
+use Rattle.ffs_names.{specs.RightShapes.is_right_shape, proofs.{DirCosts.cost_is, DirLaws.kind_dirs}}
 use Rattle.ffs_names.proofs.NotedDirs.{read_by_chunk, read_by_cut, ready_read}
+use Rattle.ffs_names.proofs.reader.DirectoryReaderDirectories.start.Goals.{After-address_in}
 use Rattle.ffs_names.proofs.reader.DirectoryReaderDirectories.start.Given as given
 use Rattle.ffs_names.proofs.reader.DirectoryReaderDirectories.start.Goals as goal
-use Rattle.ffs_names.proofs.reader.DirectoryReaderDirectories.start.Goals.{After-address_in}
 
 -- the number is that of a directory, and the note is that of the directory
 is_dir_here : (g : given.Over) (c : After-address_in g) (b : List ℕ) →

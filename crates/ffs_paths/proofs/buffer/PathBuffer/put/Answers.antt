@@ -1,6 +1,5 @@
 use Rattle.std.proofs.Common.{ltb-true, arith}
-use Rattle.ffs_paths.proofs.LongestEnds.{text_cut, text_none, text_some, text_whole}
-use Rattle.ffs_paths.proofs.Held.{whole-length}
+use Rattle.ffs_paths.proofs.{LongestEnds.{text_cut, text_none, text_some, text_whole}, Held.whole-length}
 use Rattle.ffs_paths.proofs.buffer.PathBuffer.put.Goals as goal
 
 pub returns-then-self : goal.returns-then-self

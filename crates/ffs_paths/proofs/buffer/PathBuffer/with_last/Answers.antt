@@ -1,6 +1,5 @@
 use Rattle.std.proofs.Common.{◌∙◌, drop, ap, arith}
-use Rattle.ffs_paths.specs.Slashes.{from_slash}
-use Rattle.ffs_paths.proofs.Held.{has_parts, last_cut, last_fits, no_room}
+use Rattle.ffs_paths.{specs.Slashes.from_slash, proofs.Held.{has_parts, last_cut, last_fits, no_room}}
 use Rattle.ffs_paths.proofs.buffer.PathBuffer.with_last.Goals as goal
 
 pub returns-then-has_room : goal.returns-then-has_room

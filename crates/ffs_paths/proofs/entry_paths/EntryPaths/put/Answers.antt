@@ -1,5 +1,4 @@
-use Rattle.std.proofs.Common.{arith}
-use Rattle.std.proofs.lemmas.Bool.{ne_eqb}
+use Rattle.std.proofs.{Common.arith, lemmas.Bool.ne_eqb}
 use Rattle.ffs_paths.proofs.Rooms.{named}
 use Rattle.ffs_paths.proofs.entry_paths.EntryPaths.put.Goals as goal
 

@@ -1,9 +1,8 @@
 use Rattle.std.proofs.Common.{◌∙◌, ap, refl, sym, subst}
 use Rattle.ffs_volume.specs.Directories.{Parents.graph_of, Volumes.volume_of}
-use Rattle.ffs_paths.specs.Climbing.{IsNameIn, IsParentOf}
-use Rattle.ffs_paths.specs.{Reads.ForTree, KeptParents.IsKeptParent, declared.kept_parent.KeptParent.KeptParent}
-use Rattle.ffs_paths.proofs.{WaysUp.kept_parent_is, Climbed.few_then, Climbed.noted_child}
-use Rattle.ffs_paths.proofs.Keeping.{leaves_kept, reads_then, tree_on}
+use Rattle.ffs_paths.specs.{Climbing.{IsNameIn, IsParentOf}, Reads.ForTree, KeptParents.IsKeptParent}
+use Rattle.ffs_paths.{specs.declared.kept_parent.KeptParent.KeptParent, proofs.WaysUp.kept_parent_is}
+use Rattle.ffs_paths.proofs.{Climbed.{few_then, noted_child}, Keeping.{leaves_kept, reads_then, tree_on}}
 use Rattle.ffs_paths.proofs.kept_parent.KeptParent.keep_child.Goals as goal
 
 pub returns : goal.returns

@@ -1,7 +1,6 @@
 use Rattle.std.proofs.Common.{◌≡◌, sym, subst, arith}
 use Rattle.ffs_volume.specs.Directories.{Parents.graph_of, Paths.dir_path, Volumes.volume_of}
-use Rattle.ffs_paths.specs.{Climbing.IsParentOf, KeptParents.IsKeptParent}
-use Rattle.ffs_paths.proofs.{WaysUp.child_put, Keeping.tree_on}
+use Rattle.ffs_paths.{specs.{Climbing.IsParentOf, KeptParents.IsKeptParent}, proofs.{WaysUp.child_put, Keeping.tree_on}}
 use Rattle.ffs_paths.proofs.kept_parent.KeptParent.put_path.Goals as goal
 
 pub returns-clause-path : goal.returns-clause-path

@@ -1,5 +1,4 @@
-use Rattle.std.proofs.Common.{arith}
-use Rattle.std.proofs.lemmas.Bool.{both_ways}
+use Rattle.std.proofs.{Common.arith, lemmas.Bool.both_ways}
 use Rattle.ffs_volume.specs.Directories.Paths.{dir_path}
 use Rattle.ffs_paths.proofs.Rooms.{by_path}
 use Rattle.ffs_paths.proofs.path.DirectoryPath.put.Goals as goal

@@ -1,5 +1,4 @@
-use Rattle.std.proofs.Common.{arith}
-use Rattle.std.proofs.lemmas.Bool.{both_ways}
+use Rattle.std.proofs.{Common.arith, lemmas.Bool.both_ways}
 use Rattle.ffs_volume.specs.Directories.Paths.{entry_path}
 use Rattle.ffs_paths.proofs.Rooms.{fits, fits_not, by_path, entry_is}
 use Rattle.ffs_paths.proofs.path.DirectoryPath.put_entry.Goals as goal

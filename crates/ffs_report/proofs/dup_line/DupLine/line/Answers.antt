@@ -1,8 +1,7 @@
-use Rattle.std.proofs.Common.{arith}
-use Rattle.std.proofs.Common.{◌∙◌, drop, decimal}
-use Rattle.ffs_report.proofs.{DupLines.put_leaves, Sinks.rest_at}
+use Rattle.std.proofs.Common.{arith, ◌∙◌, drop, decimal}
+use Rattle.ffs_report.proofs.{DupLines.put_leaves, Sinks.rest_at, dup_line.DupLine.line.Goals.then-inode-self}
+use Rattle.ffs_report.proofs.dup_line.DupLine.line.Goals.{else-inode-self}
 use Rattle.ffs_report.proofs.dup_line.DupLine.line.Goals as goal
-use Rattle.ffs_report.proofs.dup_line.DupLine.line.Goals.{then-inode-self, else-inode-self}
 
 pub invariant_of-self-clause-ends : goal.invariant_of-self-clause-ends
 invariant_of-self-clause-ends c =

@@ -1,6 +1,5 @@
 use Rattle.std.proofs.Common.{rules, arith, ◌≡◌, ◌∙◌, ◌<◌, ap, refl, length, Some, None, slice_set}
-use Rattle.std.specs.Prelude.{get_or}
-use Rattle.std.proofs.lemmas.List.{get_or-set_same, length-set}
+use Rattle.std.{specs.Prelude.get_or, proofs.lemmas.List.{get_or-set_same, length-set}}
 use Rattle.ffs_walk.proofs.Splices.{held_without, held_with}
 use Rattle.ffs_walk.proofs.blocks.Blocks.fill.Goals as goal
 

@@ -1,7 +1,5 @@
-use Rattle.std.proofs.Common.{arith, rules, ◌≡◌, ◌∙◌, ◌-◌, ◌*◌, ◌≤◌, Some}
-use Rattle.std.proofs.Math.Nat.{mul-le-mul_right}
-use Rattle.ffs_walk.specs.Windows.{held_address}
-use Rattle.ffs_walk.proofs.GapSteps.{gaps_passed}
+use Rattle.std.proofs.{Common.{arith, rules, ◌≡◌, ◌∙◌, ◌-◌, ◌*◌, ◌≤◌, Some}, Math.Nat.mul-le-mul_right}
+use Rattle.ffs_walk.{specs.Windows.held_address, proofs.GapSteps.gaps_passed}
 use Rattle.ffs_walk.proofs.frame.Frame.skip_gaps.Goals as goal
 
 pub returns : goal.returns

@@ -1,10 +1,7 @@
-use Rattle.ffs_walk.proofs.WalkSteps.{joined_two, joined_three, spent_rest}
-use Rattle.std.proofs.Common.{ℕ}
-use Rattle.std.proofs.Common.{arith, rules, List, refl}
+use Rattle.ffs_walk.{proofs.WalkSteps.{joined_two, joined_three, spent_rest}, specs.Rests.{most_at, file_blocks_of}}
+use Rattle.ffs_walk.proofs.{FrameSteps.{item_below, item_one}, Counted.{double_reads, triple_reads}}
+use Rattle.std.proofs.Common.{ℕ, arith, rules, List, refl}
 use Rattle.ffs_volume.specs.Blocks.Steps.{steps_at}
-use Rattle.ffs_walk.specs.Rests.{most_at, file_blocks_of}
-use Rattle.ffs_walk.proofs.FrameSteps.{item_below, item_one}
-use Rattle.ffs_walk.proofs.Counted.{double_reads, triple_reads}
 use Rattle.ffs_walk.proofs.walk.Walk.advance.Goals as goal
 
 pub step_in_double-requires-clause-below : goal.step_in_double-requires-clause-below

@@ -1,6 +1,5 @@
 use Rattle.std.proofs.Common.{arith}
-use Rattle.ffs_walk.proofs.GapSteps.{in_first, in_second, in_third, zero_gap}
-use Rattle.ffs_walk.proofs.WalkSteps.{spent_rest}
+use Rattle.ffs_walk.proofs.{GapSteps.{in_first, in_second, in_third, zero_gap}, WalkSteps.spent_rest}
 use Rattle.ffs_walk.proofs.walk.Walk.skip_gaps.Goals as goal
 
 pub returns-then-is_left : goal.returns-then-is_left

@@ -1,8 +1,5 @@
-use Rattle.std.proofs.Common.{arith, rules, ◌-◌, ◌*◌, ◌≤◌}
-use Rattle.std.proofs.Math.Nat.{mul-le-mul_right}
-use Rattle.std.proofs.lemmas.Grind.{common_steps}
-use Rattle.ffs_walk.specs.Rests.{most_at}
-use Rattle.ffs_walk.proofs.GapSteps.{gaps_at_top}
+use Rattle.std.proofs.{Common.{arith, rules, ◌-◌, ◌*◌, ◌≤◌}, Math.Nat.mul-le-mul_right, lemmas.Grind.common_steps}
+use Rattle.ffs_walk.{specs.Rests.most_at, proofs.GapSteps.gaps_at_top}
 use Rattle.ffs_walk.proofs.walk.Walk.skip_zero_addresses.Goals as goal
 
 pub returns : goal.returns

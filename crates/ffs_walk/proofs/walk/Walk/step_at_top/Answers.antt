@@ -1,12 +1,7 @@
-use Rattle.ffs_volume.specs.Blocks.Steps.{first_block}
-use Rattle.std.proofs.lemmas.Bool.Decides.{nat_tests}
-use Rattle.std.proofs.Common.{◌≡◌, ◌∙◌, [], refl}
-use Rattle.ffs_walk.proofs.WalkSteps.{no_rests, top_next}
-use Rattle.std.proofs.Common.{arith, ◌≡◌, refl}
-use Rattle.ffs_walk.specs.Rests.{file_blocks_of, most_at}
-use Rattle.ffs_volume.specs.Blocks.Steps.{steps_at}
-use Rattle.ffs_walk.proofs.WalkSteps.{top_ends, most_below, top_falls}
-use Rattle.ffs_walk.proofs.Counted.{enters_single, enters_double, enters_triple}
+use Rattle.ffs_volume.specs.Blocks.Steps.{first_block, steps_at}
+use Rattle.std.proofs.{lemmas.Bool.Decides.nat_tests, Common.{◌≡◌, ◌∙◌, [], refl, arith, ◌≡◌, refl}}
+use Rattle.ffs_walk.{proofs.WalkSteps.{no_rests, top_next, top_ends, most_below, top_falls}, specs.Rests.file_blocks_of}
+use Rattle.ffs_walk.{specs.Rests.most_at, proofs.Counted.{enters_single, enters_double, enters_triple}}
 use Rattle.ffs_walk.proofs.walk.Walk.step_at_top.Goals as goal
 
 pub returns-then-self-clause-steps : goal.returns-then-self-clause-steps

@@ -1,9 +1,6 @@
-use Rattle.ffs_walk.proofs.WalkSteps.{spent_rest}
-use Rattle.std.proofs.Common.{List, ℕ, refl}
-use Rattle.std.proofs.Common.{refl, rules}
-use Rattle.ffs_walk.specs.Rests.{file_blocks_of}
+use Rattle.ffs_walk.{proofs.{WalkSteps.spent_rest, Counted.enters_single}, specs.Rests.file_blocks_of}
+use Rattle.std.proofs.Common.{List, ℕ, refl, refl, rules}
 use Rattle.ffs_volume.specs.Blocks.Steps.{steps_at}
-use Rattle.ffs_walk.proofs.Counted.{enters_single}
 use Rattle.ffs_walk.proofs.walk.Walk.step_in_double.Goals as goal
 
 pub returns-in-Word : goal.returns-in-Word

@@ -1,10 +1,6 @@
-use Rattle.ffs_walk.proofs.WalkSteps.{spent_rest}
-use Rattle.std.proofs.Common.{List, ℕ, refl}
-use Rattle.std.proofs.Common.{arith, rules, refl}
-use Rattle.std.proofs.lemmas.Grind.{common_steps}
-use Rattle.ffs_walk.specs.Rests.{file_blocks_of}
+use Rattle.ffs_walk.{proofs.{WalkSteps.spent_rest, Counted.enters_double}, specs.Rests.file_blocks_of}
+use Rattle.std.proofs.{Common.{List, ℕ, refl, arith, rules, refl}, lemmas.Grind.common_steps}
 use Rattle.ffs_volume.specs.Blocks.Steps.{steps_at}
-use Rattle.ffs_walk.proofs.Counted.{enters_double}
 use Rattle.ffs_walk.proofs.walk.Walk.step_in_triple.Goals as goal
 
 pub returns-in-Word : goal.returns-in-Word

@@ -1,7 +1,5 @@
 use Rattle.std.proofs.Common.{ℕ, ◌==◌, not, ap, sym, ◌∙◌}
-use Rattle.ffs_maps.specs.Bits.{bits_of}
-use Rattle.ffs_maps.specs.WordBits.{set_among}
-use Rattle.ffs_maps.proofs.Bits.{bits_long}
+use Rattle.ffs_maps.{specs.{Bits.bits_of, WordBits.set_among}, proofs.Bits.bits_long}
 use Rattle.ffs_workspace.proofs.DupCounts.{count_all}
 use Rattle.ffs_workspace.proofs.workspace.Workspace.has_dups.Goals as goal
 

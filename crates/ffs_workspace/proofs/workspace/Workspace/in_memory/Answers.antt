@@ -1,7 +1,5 @@
 -- What the requests result in, where each is granted, and where one of them is refused.
-use Rattle.std.proofs.Common.{arith}
-use Rattle.std.proofs.Common.{refl, rules}
-use Rattle.std.proofs.lemmas.Result.{err_from_is_err_and}
+use Rattle.std.proofs.{Common.{arith, refl, rules}, lemmas.Result.err_from_is_err_and}
 use Rattle.ffs_memory.proofs.Asking.{granted_both, gave_up_after, gave_up_at, gave_up_within}
 use Rattle.ffs_workspace.proofs.Requests.{both}
 use Rattle.ffs_workspace.proofs.workspace.Workspace.in_memory.Goals as goal
