@@ -4,7 +4,7 @@ use Rattle.std.{proofs.{Common.{take, drop, arith, true, false, Bool}, Math.Nat.
 use Rattle.std.proofs.{Math.Nat.zero-mul, lemmas.List.{drop-drop, take-append-drop, Folds.list_any-append}}
 use Rattle.std.proofs.Math.Bool.{or-true}
 use Rattle.ffs_volume.proofs.Booleans.{both_imply}
-use Rattle.ffs_layout.specs.Entry.any_nul_or_slash as any
+use Rattle.ffs_layout.specs.Entry.{any_nul_or_slash as any}
 
 -- the part at an index
 part_at : (n count : ℕ) (xs : List ℕ) (i : ℕ) (d : List ℕ) → i < count →

@@ -1,7 +1,7 @@
 //! The numbers of a group block.
 
 ghost use Rattle.std.specs.{Prelude.{◌≡◌, ◌≤◌, ◌+◌, ◌*◌, length, map}, List.range_with_len};
-ghost use Rattle.ffs_volume.specs.Disk.Numbers.i32_at as i32_in;
+ghost use Rattle.ffs_volume.specs.Disk.Numbers.{i32_at as i32_in};
 ghost use Rattle.ffs_layout.specs.Group.{group_of, group_summary_at};
 
 use crate::numbers::{i32_at, u32_at};

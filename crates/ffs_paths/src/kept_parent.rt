@@ -2,7 +2,7 @@
 
 ghost use Rattle.std.specs.Prelude.{◌≡◌, ◌<◌, true, ℕ, List, Option, IfOk, OnOk, IfSome, vec_len};
 ghost use Rattle.ffs_volume.specs.{declared.Layout.Layout, Directories.Paths.dir_path, Report.Reads.path_reads};
-ghost use Rattle.ffs_workspace.specs.declared.workspace.Workspace.Workspace as WorkspaceIn;
+ghost use Rattle.ffs_workspace.specs.declared.workspace.Workspace.{Workspace as WorkspaceIn};
 ghost use Rattle.ffs_paths.specs.{Climbing.IsParentOf, DirectoryPaths.IsPathOf, KeptParents.{KeepsParent, ReadyToPath}};
 ghost use Rattle.ffs_paths.specs.{KeptParents.PathLeaves, Reads.{ForTree, ReadsAtMost, climb_reads}};
 

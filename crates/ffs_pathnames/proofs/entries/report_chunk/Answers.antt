@@ -11,7 +11,7 @@ use Rattle.ffs_pathnames.proofs.{Looking.{roled_at_place, seen_next, none_left},
 use Rattle.ffs_pathnames.proofs.{LineCounts.{read_all, read_more}, entries.report_chunk.Given.Over}
 use Rattle.ffs_pathnames.proofs.entries.report_chunk.Goals.{After-role_of}
 use Rattle.ffs_workspace.proofs.Leaving.{leaves_all, leaves_more}
-use Rattle.ffs_names.proofs.PlacesNoted.none_there as none
+use Rattle.ffs_names.proofs.PlacesNoted.{none_there as none}
 use Rattle.ffs_pathnames.proofs.entries.report_chunk.Goals as goal
 
 -- the next entry, and those after it

@@ -4,7 +4,7 @@ use Rattle.ffs_layout.specs.Entry.{entry_value}
 use Rattle.ffs_pathnames.{specs.{PassedNames.is_quiet, Sees.{Sees, stamps_in}}, proofs.Looking.{seen_next, none_left}}
 use Rattle.ffs_pathnames.proofs.Looking.{quiet_on, stamps_on, length_on, length_ends}
 use Rattle.ffs_pathnames.proofs.look.look_chunk.Goals.{then-quiet, else-quiet}
-use Rattle.ffs_names.proofs.PlacesNoted.none_there as none
+use Rattle.ffs_names.proofs.PlacesNoted.{none_there as none}
 use Rattle.ffs_pathnames.proofs.look.look_chunk.Goals as goal
 
 pub entries-preserved : goal.entries-preserved
