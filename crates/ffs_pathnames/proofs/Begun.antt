@@ -4,7 +4,7 @@ use Rattle.std.proofs.{Common.{Err, append-nil, ltb-true}, lemmas.{List.map-appe
 use Rattle.ffs_pathnames.proofs.{LineCounts.lines_long, LookLaws.quiet_silent, HeaderLaws.dir_parts, PassedLaws.size_of}
 use Rattle.ffs_pathnames.proofs.{PassedLaws.{IsDirectory, right_reported}, BetweenLaws.{unstamped, looked}}
 use Rattle.ffs_pathnames.proofs.BetweenLaws.{looked_right, quiet_next, reported_next}
-use Rattle.ffs_pathnames.specs.{declared.examine.Examination.Examination, Examines.{IsExamined, LeavesAllButDue}}
+use Rattle.ffs_pathnames.specs.{declared.look.Examination.Examination, Examines.{IsExamined, LeavesAllButDue}}
 use Rattle.ffs_pathnames.specs.{Begins.{dir_header_lines, started_entry, IsDirectoryBegun}, PassedRight.AreRightBefore}
 use Rattle.ffs_pathnames.specs.{Header.header_reported, PassedNames.{PassedNames, are_quiet, entries_reported}}
 use Rattle.ffs_pathnames.specs.PassedNames.{after_entries}

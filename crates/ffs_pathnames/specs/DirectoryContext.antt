@@ -7,7 +7,7 @@ use Rattle.ffs_volume.specs.Directories.{Graph.Graph, Parents.graph_of, Roles.is
 use Rattle.ffs_workspace.specs.{declared.workspace.Workspace.Workspace, Holds.HoldsClaims, Holds.HoldsSurvey}
 use Rattle.ffs_workspace.specs.Places.{AreChunksNumbered, AreNoted}
 use Rattle.ffs_paths.specs.DirectoryPaths.{IsPathOf}
-use Rattle.ffs_pathnames.specs.declared.{directory.Directory.Directory, header.HeaderFacts.HeaderFacts}
+use Rattle.ffs_pathnames.specs.declared.{look.Directory.Directory, header.HeaderFacts.HeaderFacts}
 use Rattle.ffs_pathnames.specs.declared.one_entry.EntryTexts.{EntryTexts}
 
 -- the image gives them, the workspace holds what the block check and the survey leave, and, where

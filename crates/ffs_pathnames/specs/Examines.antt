@@ -3,7 +3,7 @@ use Rattle.std.specs.{Prelude.{◌≡◌, ℕ, ◌==◌, List, [], Result}, List
 use Rattle.ffs_image.specs.{Device.Device, Reads.ReadAfter, declared.image.ImageFault.ImageFault}
 use Rattle.ffs_volume.specs.{declared.Layout.Layout, Blocks.Inodes.inode_of, Directories.Roles.roled_entries}
 use Rattle.ffs_volume.specs.Directories.{PathnameCheck.are_sound, Volumes.volume_of}
-use Rattle.ffs_pathnames.specs.{declared.examine.Examination.Examination, Gathers.passed_of, PassedNames.are_quiet}
+use Rattle.ffs_pathnames.specs.{declared.look.Examination.Examination, Gathers.passed_of, PassedNames.are_quiet}
 use Rattle.ffs_pathnames.specs.{PassedNames.after_looks, Reads.start_chunk, Stamps.KeepPlaces}
 use Rattle.ffs_workspace.specs.{declared.workspace.Workspace.Workspace, Leaves.LeavesSurvey, Ready.IsReady}
 

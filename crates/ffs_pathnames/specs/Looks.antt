@@ -4,8 +4,8 @@ use Rattle.ffs_volume.specs.{declared.{Layout.Layout, Order.Order}, Blocks.Steps
 use Rattle.ffs_volume.specs.Directories.{Entries.{entries_of, has_gap, is_sound}, PathnameCheck.are_sound, Roles.Volume}
 use Rattle.ffs_volume.specs.{Directories.Roles.{roled_chunk, roled_from}, Encodings.Replay.fresh_replay}
 use Rattle.ffs_volume.specs.Encodings.Replay.{replayed_steps}
-use Rattle.ffs_pathnames.specs.declared.{directory.Directory.Directory, inodes.Inodes.Inodes, look.ChunkLook.ChunkLook}
-use Rattle.ffs_pathnames.specs.{declared.directory.FirstLook.FirstLook, PassedNames.{are_quiet, after_looks}}
+use Rattle.ffs_pathnames.specs.declared.{look.{Directory.Directory, ChunkLook.ChunkLook}, inodes.Inodes.Inodes}
+use Rattle.ffs_pathnames.specs.{declared.look.FirstLook.FirstLook, PassedNames.{are_quiet, after_looks}}
 use Rattle.ffs_pathnames.specs.{Reads.{chunks_read, start_chunk}, Sees.{Sees, stamps_in}}
 
 -- of a chunk's entries: whether nothing may be reported of them, and whether they fill it; and each

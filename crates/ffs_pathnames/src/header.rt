@@ -1,18 +1,18 @@
-//! What is reported of a directory before its entries.
-ghost use Rattle.std.specs.Prelude.{◌≡◌, ℕ, List, [], ◌%◌, ◌==◌, ◌&&◌, not, nat_lt, option_map, IsTrue};
-ghost use Rattle.ffs_volume.specs.Directories.PathnameCheck.{is_wrong_parent};
+//! What is reported of a directory before its entries, and how a single line is.
+ghost use Rattle.std.specs.Prelude.{◌≡◌, ℕ, List, [], ◌%◌, ◌==◌, ◌&&◌, not, nat_lt, option_map, IsTrue, true};
+ghost use Rattle.ffs_volume.specs.{Directories.PathnameCheck.is_wrong_parent, Messages.Kinds.reported};
 ghost use Rattle.ffs_layout.specs.Entry.{entry_value};
 ghost use Rattle.ffs_report.specs.Progress.{progress};
-ghost use Rattle.ffs_pathnames.specs.SaysNames.{SaysNames};
-ghost use Rattle.ffs_pathnames.specs.Header.{size_reported, chunks_reported, shape_reported, dot_entry_reported};
-ghost use Rattle.ffs_pathnames.specs.Header.{dotdot_entry_reported, dot_in, dotdot_in, dot_reported, dotdot_reported};
-ghost use Rattle.ffs_pathnames.specs.Header.{is_right_dot, is_right_dotdot, is_header_right, header_lines_of};
+ghost use Rattle.ffs_pathnames.specs.{SaysNames.SaysNames, Header.{size_reported, chunks_reported, shape_reported}};
+ghost use Rattle.ffs_pathnames.specs.Header.{dot_entry_reported, dotdot_entry_reported, dot_in, dotdot_in};
+ghost use Rattle.ffs_pathnames.specs.Header.{dot_reported, dotdot_reported, is_right_dot, is_right_dotdot};
+ghost use Rattle.ffs_pathnames.specs.{Header.{is_header_right, header_lines_of}, NameLines.name_message};
+ghost use Rattle.ffs_pathnames.specs.NameLines.{two_reported};
 ghost use Rattle.ffs_volume.specs.declared.Attr as attrs;
 
-use crate::say::{LineIf, NameLine, say_two};
 use ffs_layout::Entry;
 use ffs_names::{is_one_dot, is_two_dots};
-use ffs_report::{DirectoryLine, DotLine, Line, OutFault, Output, Report};
+use ffs_report::{DirectoryLine, DotLine, EntryLine, Line, OutFault, Output, Report};
 use ffs_volume::Attr;
 use ffs_volume::constants::{DIRBLKSIZ, DT_DIR, MINDIRSIZE};
 
@@ -292,4 +292,69 @@ pub fn is_in_order(header: HeaderFacts<'_>) -> bool
         return false;
     }
     is_dotdot_right(header.parent, header.second)
+}
+
+/// A line on a directory or on an entry of it.
+#[derive(Clone, Copy, Debug)]
+pub enum NameLine<'a> {
+    /// A line on a directory as a whole.
+    Directory(DirectoryLine<'a>),
+    /// A line on an entry `.` or `..`.
+    Dot(DotLine<'a>),
+    /// A line on another entry.
+    Entry(EntryLine<'a>),
+}
+
+/// A line, and whether it is to be reported.
+#[derive(Clone, Copy, Debug)]
+pub struct LineIf<'a> {
+    /// Whether it is to be reported.
+    pub holds: bool,
+    /// The line.
+    pub line: NameLine<'a>,
+}
+
+/// Says a line.
+///
+/// # Errors
+/// A write of the report that failed.
+pub fn say_line<W: Output>(report: &mut Report<'_, W>, line: &NameLine<'_>) -> Result<(), OutFault>
+    ensures { SaysNames (progress W.sink report.old) (progress W.sink report.new)
+        (reported true (name_message line.now)) result }
+{
+    match *line {
+        NameLine::Directory(line) => report.say(&Line::Directory(line)),
+        NameLine::Dot(line) => report.say(&Line::Dot(line)),
+        NameLine::Entry(line) => report.say(&Line::Entry(line)),
+    }
+}
+
+/// Says a line where its test holds.
+///
+/// # Errors
+/// A write of the report that failed.
+pub fn say_if<W: Output>(report: &mut Report<'_, W>, line: &LineIf<'_>) -> Result<(), OutFault>
+    ensures { SaysNames (progress W.sink report.old) (progress W.sink report.new)
+        (reported line.now.holds (name_message line.now.line)) result }
+{
+    if line.holds {
+        return say_line(report, &line.line);
+    }
+    Ok(())
+}
+
+/// Says two lines, each where its test holds.
+///
+/// # Errors
+/// A write of the report that failed.
+pub fn say_two<W: Output>(
+    report: &mut Report<'_, W>,
+    first: &LineIf<'_>,
+    second: &LineIf<'_>,
+) -> Result<(), OutFault>
+    ensures { SaysNames (progress W.sink report.old) (progress W.sink report.new)
+        (two_reported first.now second.now) result }
+{
+    say_if(report, first)?;
+    say_if(report, second)
 }

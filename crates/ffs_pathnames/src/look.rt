@@ -1,18 +1,246 @@
-//! A first look at the entries of a directory: whether anything may be reported of them.
-ghost use Rattle.std.specs.Prelude.{◌≡◌, ◌+◌, ◌<◌, ◌==◌, ◌&&◌, ◌||◌, not, length, slice_index, true, vec_len};
-ghost use Rattle.ffs_volume.specs.declared.Role.{Role};
-ghost use Rattle.ffs_volume.specs.Directories.{Roles.Volume, Roles.is_dir, PathnameCheck.is_bad_whiteout};
+//! A first look at a directory: whether anything may be reported of it.
+ghost use Rattle.std.specs.Prelude.{◌≡◌, ◌+◌, ◌≤◌, IfOk, true, false, ◌*◌, ◌<◌, ◌==◌, List, ◌∷◌, Some, vec_len, ◌&&◌};
+ghost use Rattle.std.specs.Prelude.{◌||◌, not, length, slice_index};
+ghost use Rattle.ffs_report.specs.Known.{ForBytes};
+ghost use Rattle.ffs_names.specs.{Costs.directory_cost, Windows.CanReadChunks};
+ghost use Rattle.ffs_paths.specs.Reads.{IsReadyFor};
+ghost use Rattle.ffs_pathnames.specs.{DirectoryContext.DirectoryContext, Examines.{ExamineLeaves, IsExamined}};
+ghost use Rattle.ffs_pathnames.specs.{ReadsLeft.LeftForLook, Sees.{CanStamp, Sees, stamps_in}, Looks.IsFirstLook};
+ghost use Rattle.ffs_pathnames.specs.{Looks.IsChunkLook, Stamps.KeepPlaces, Reads.{start_chunk, ChunksLeave}};
+ghost use Rattle.ffs_image.specs.Device.{ForContents};
+ghost use Rattle.ffs_volume.specs.{declared.Order.Order, Blocks.Steps.steps_of, Directories.Entries.Chunk};
+ghost use Rattle.ffs_volume.specs.{Directories.Entries.chunk_of, Encodings.Replay.fresh_replay};
+ghost use Rattle.ffs_volume.specs.{Encodings.ReplayCounts.replayed_runs, declared.Role.Role};
+ghost use Rattle.ffs_volume.specs.Directories.{Roles.{Volume, is_dir}, PathnameCheck.is_bad_whiteout};
 ghost use Rattle.ffs_layout.specs.Entry.{entry_value};
-ghost use Rattle.ffs_pathnames.specs.{Looks.IsChunkLook, Sees.Sees, Sees.CanStamp, Sees.stamps_in, Stamps.KeepPlaces};
 ghost use Rattle.ffs_pathnames.specs.PassedNames as names;
 
 use crate::inodes::Inodes;
-use ffs_layout::{Entry, entry_at};
+use ffs_image::{Image, ImageFault, LimitedImage};
+use ffs_layout::{Entry, Geometry, entry_at};
 use ffs_memory::FilledList;
-use ffs_names::role_of;
+use ffs_names::{Chunks, gap_of, role_of};
 use ffs_volume::constants::{DIRBLKSIZ, DT_WHT, ROOTINO, WINO};
-use ffs_volume::{Order, Role};
-use ffs_workspace::due;
+use ffs_volume::{Inode, Order, Role};
+use ffs_workspace::{Windows, Workspace, due};
+
+/// What an examination of a directory finds, before anything is reported of it.
+#[derive(Clone, Copy, Debug)]
+pub struct Examination {
+    /// Its inode.
+    pub inode: Inode,
+    /// What a first look at its chunks found.
+    pub look: FirstLook,
+}
+
+/// What `examine` does, where each read is answered.
+fn examine_all<I: Image>(
+    geometry: &Geometry,
+    image: &mut I,
+    workspace: &mut Workspace,
+    dir: u32,
+    start: &mut [u8; DIRBLKSIZ],
+) -> Result<Examination, ImageFault>
+    requires ready { IsReadyFor geometry.now.layout (I.device image.old) workspace.old dir }
+    requires dir { 2 ≤ dir }
+    ensures found { IfOk result (λ e. ForBytes
+        (DirectoryContext geometry.now.layout (I.device image.old).contents workspace.old dir)
+        (λ b. IsExamined geometry.now.layout b dir workspace.old e start.new workspace.new)) }
+    ensures reads { ForBytes
+        (DirectoryContext geometry.now.layout (I.device image.old).contents workspace.old dir)
+        (λ b. I.reads image.new ≤ I.reads image.old + directory_cost geometry.now.layout b dir) }
+    ensures leaves { ExamineLeaves geometry.now.layout (I.device image.old) (I.device image.new)
+        workspace.old workspace.new result }
+{
+    let inode = workspace.windows.table.inode_by_part(geometry, dir, image)?;
+    let cut = workspace.cut_of(dir);
+    let inodes = Inodes {
+        kinds: workspace.kinds.as_slice(),
+        marked: workspace.marked.as_slice(),
+        parents: &workspace.parents,
+    };
+    let directory = Directory {
+        number: dir,
+        inode,
+        cut,
+    };
+    let look = look_directory(
+        geometry,
+        image,
+        &mut workspace.windows,
+        &inodes,
+        &mut workspace.queue,
+        &directory,
+        start,
+    )?;
+    Ok(Examination { inode, look })
+}
+
+/// What is said of a directory of which no more may be read: that its chunks aren't sound, and
+/// nothing of its entries.
+fn unexamined() -> Examination
+    ensures quiet { result.look.quiet ≡ true }
+    ensures sound { result.look.sound ≡ false }
+{
+    Examination {
+        inode: Inode {
+            mode: 0,
+            nlink: 0,
+            size: 0,
+            mtime: 0,
+            addresses: [0; 15],
+            blocks: 0,
+            uid: 0,
+        },
+        look: FirstLook {
+            quiet: true,
+            sound: false,
+            gap: false,
+            started: false,
+        },
+    }
+}
+
+/// Examines a directory, and puts the chunk at the start of the file into `start`, if one is there.
+/// `reads_left` is how many reads may be made of directories' own blocks; it falls by those that
+/// are made. Only an image that gives other bytes each time asks for more: the directory is then
+/// corrupted.
+///
+/// # Errors
+/// A read of the image that failed.
+pub fn examine<I: Image>(
+    geometry: &Geometry,
+    image: &mut I,
+    workspace: &mut Workspace,
+    reads_left: &mut u64,
+    dir: u32,
+    start: &mut [u8; DIRBLKSIZ],
+) -> Result<Examination, ImageFault>
+    requires ready { IsReadyFor geometry.now.layout (I.device image.old) workspace.old dir }
+    requires dir { 2 ≤ dir }
+    ensures found { IfOk result (λ e. ForBytes
+        (LeftForLook geometry.now.layout (I.device image.old) workspace.old dir reads_left.old)
+        (λ b. IsExamined geometry.now.layout b dir workspace.old e start.new workspace.new)) }
+    ensures reads { ForBytes
+        (DirectoryContext geometry.now.layout (I.device image.old).contents workspace.old dir)
+        (λ b. I.reads image.new ≤ I.reads image.old + directory_cost geometry.now.layout b dir) }
+    ensures kept { ForBytes
+        (DirectoryContext geometry.now.layout (I.device image.old).contents workspace.old dir)
+        (λ b. reads_left.old ≤ reads_left.new + directory_cost geometry.now.layout b dir) }
+    ensures most { I.reads image.new + reads_left.new ≤ I.reads image.old + reads_left.old }
+    ensures leaves { ExamineLeaves geometry.now.layout (I.device image.old) (I.device image.new)
+        workspace.old workspace.new result }
+{
+    let mut limited = LimitedImage::new(image, Some(*reads_left));
+    let examined = examine_all(geometry, &mut limited, workspace, dir, start);
+    *reads_left = limited.left();
+    if limited.is_spent() {
+        return Ok(unexamined());
+    }
+    examined
+}
+
+/// A directory that is read.
+#[derive(Clone, Copy, Debug)]
+pub struct Directory {
+    /// Its number.
+    pub number: u32,
+    /// Its inode.
+    pub inode: Inode,
+    /// Its cut (`Workspace::cut_of`).
+    pub cut: u32,
+}
+
+/// What a first look at a directory finds.
+#[derive(Clone, Copy, Debug)]
+pub struct FirstLook {
+    /// Whether it is sure that nothing is reported of its entries.
+    pub quiet: bool,
+    /// Whether all its chunks are sound.
+    pub sound: bool,
+    /// Whether a hole is among its kept steps.
+    pub gap: bool,
+    /// Whether a chunk is at the start of the file.
+    pub started: bool,
+}
+
+/// Keeps a chunk that is at the start of the file, if none is kept yet, and returns whether one is.
+fn keep_start(
+    offset: u64,
+    chunk: &[u8; DIRBLKSIZ],
+    started: bool,
+    start: &mut [u8; DIRBLKSIZ],
+) -> bool
+    ensures { (order : Order) (cs : List Chunk)
+        → start_chunk (chunk_of order offset chunk.now ∷ cs) started order start.old
+        ≡ start_chunk cs result order start.new }
+{
+    if started || offset != 0 {
+        return started;
+    }
+    *start = *chunk;
+    true
+}
+
+/// Looks at a directory once: at its entries, its chunks, its holes, and the chunk at the start of
+/// the file, which is put into `start`.
+///
+/// # Errors
+/// A read of the image that failed.
+#[tactic(auto, using(std::proofs::lemmas::Result::err_from_is_err_and, crate::proofs::ReadyLaws::others_stay))]
+pub fn look_directory<I: Image>(
+    geometry: &Geometry,
+    image: &mut I,
+    windows: &mut Windows,
+    inodes: &Inodes<'_>,
+    words: &mut FilledList<u32>,
+    directory: &Directory,
+    start: &mut [u8; DIRBLKSIZ],
+) -> Result<FirstLook, ImageFault>
+    requires ready { CanReadChunks geometry.now.layout (I.device image.old) windows.old.blocks
+        windows.old.chunk }
+    requires words { CanStamp inodes.now directory.now.number words.old.items }
+    ensures found { IfOk result (λ f. ForContents (I.device image.old).contents
+        (λ b. IsFirstLook geometry.now.layout inodes.now directory.now b words.old.items f
+        start.new words.new.items)) }
+    ensures places { KeepPlaces words.old.items words.new.items }
+    ensures words_long { vec_len words.new ≡ vec_len words.old }
+    ensures reads { ForContents (I.device image.old).contents
+        (λ b. I.reads image.new ≤ I.reads image.old
+        + replayed_runs geometry.now.layout directory.now.cut fresh_replay
+        (steps_of geometry.now.layout directory.now.inode b)) }
+    ensures others { windows.new ≡ record windows.old {
+      blocks = windows.new.blocks;
+      chunk = windows.new.chunk;
+    } }
+    ensures leaves { ChunksLeave geometry.now.layout (I.device image.old) (I.device image.new)
+        windows.new.blocks windows.new.chunk result }
+{
+    let order = geometry.layout.order;
+    let mut chunks = Chunks::start(geometry, &directory.inode, directory.cut);
+    let mut chunk = [0u8; DIRBLKSIZ];
+    let mut quiet = true;
+    let mut sound = true;
+    let mut started = false;
+    'chunks: while let Some(offset) = chunks.next(
+        image,
+        &mut windows.blocks,
+        &mut windows.chunk,
+        &mut chunk,
+    )? {
+        let looked = look_chunk(inodes, directory.number, order, offset == 0, &chunk, words);
+        quiet &= looked.quiet;
+        sound &= looked.sound;
+        started = keep_start(offset, &chunk, started, start);
+    }
+    let gap = gap_of(image, &mut windows.blocks, &mut chunks)?;
+    Ok(FirstLook {
+        quiet,
+        sound,
+        gap,
+        started,
+    })
+}
 
 /// Whether an entry has the number or the type of a whiteout, and not both.
 pub fn is_bad_whiteout(entry: &Entry<'_>) -> bool

@@ -18,8 +18,7 @@ ghost use Rattle.ffs_paths.specs.{KeptParents.KeepsParent, DirectoryPaths.IsPath
 ghost use Rattle.ffs_paths.specs.Reads.{IsReadyFor, OnlyReads, ReadsAtMost, ReadsFew};
 
 use crate::inodes::Inodes;
-use crate::lines::say_verdict;
-use crate::verdict::{Verdict, entry_verdict};
+use crate::verdict::{Verdict, entry_verdict, say_verdict};
 use ffs_image::{Image, ImageFault, LimitedImage};
 use ffs_layout::{Entry, Geometry};
 use ffs_names::is_one_dot;

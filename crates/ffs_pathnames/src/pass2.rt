@@ -1,21 +1,27 @@
 //! Phase 2: pathnames (fsck(8)).
-
-ghost use Rattle.std.specs.Prelude.{◌≡◌, ◌+◌, ◌*◌, ◌≤◌, ◌⊎◌, [], ◌∷◌, true, OnOk, IfOk, length, map};
+ghost use Rattle.std.specs.Prelude.{◌≡◌, ◌+◌, ◌*◌, ◌≤◌, ◌⊎◌, [], ◌∷◌, true, OnOk, IfOk, length, map, ◌&&◌, not, ℕ};
 ghost use Rattle.ffs_report.specs.{Known.ForBytes, Paid.Paid, Progress.{Said, progress}, PhaseOutcome.ImageAfter};
 ghost use Rattle.ffs_report.specs.PhaseOutcome.{PhaseReports};
 ghost use Rattle.ffs_volume.specs.{Report.Reads.{line_reads, sweep_reads, pathname_reads}, Messages.Kinds.of_tree};
-ghost use Rattle.ffs_volume.specs.Directories.{Volumes.volume_of, PathnameCheck.{continues_after_root, pathname_lines}};
+ghost use Rattle.ffs_volume.specs.Directories.{Volumes.volume_of, PathnameCheck.continues_after_root};
+ghost use Rattle.ffs_volume.specs.{Directories.PathnameCheck.pathname_lines, Encodings.Kinds.is_dir_kind};
+ghost use Rattle.ffs_volume.specs.declared.Layout.{Layout};
 ghost use Rattle.ffs_workspace.specs.{Found.{WithClaims, WithStarts}, Places.AreChunksNumbered, Ready.IsReady};
-ghost use Rattle.ffs_workspace.specs.Holds.{HoldsClaims, HoldsReferences, HoldsSurvey};
-ghost use Rattle.ffs_pathnames.specs.RootAnswers.{AtReadFault, is_go};
+ghost use Rattle.ffs_workspace.specs.Holds.{HoldsClaims, HoldsReferences, HoldsSurvey, bool_at};
+ghost use Rattle.ffs_pathnames.specs.{RootAnswers.{AtReadFault, is_go}, Before.{root_reported, IsNonePassed}};
+ghost use Rattle.ffs_pathnames.specs.{SaysNames.SaysNames, Gathers.AreAsLong};
+ghost use Rattle.ffs_image.specs.Device.{Device};
+ghost use Rattle.ffs_survey.specs.Survey.{suspect_at};
 ghost use Rattle.ffs_volume.specs.Messages.Kinds as messages;
 
-use crate::clear::clear_passed;
+use crate::header::{LineIf, NameLine, say_if, say_line};
+use crate::inodes::Inodes;
 use crate::tree::check_tree;
 use ffs_image::Image;
 use ffs_layout::Geometry;
 use ffs_names::survey;
-use ffs_report::{Heading, Line, Output, Report, RunFault};
+use ffs_report::{DirectoryLine, Heading, Line, OutFault, Output, Report, RunFault};
+use ffs_volume::kinds::Kind;
 use ffs_workspace::Workspace;
 
 /// Whether the run continues after the root, or stops there since inode 2 is no directory. A phase
@@ -82,4 +88,74 @@ pub fn phase2<I: Image, W: Output>(
     survey(geometry, image, workspace)?;
     clear_passed(workspace);
     check_tree(geometry, image, workspace, report)
+}
+
+/// Whether the run continues after a root of this kind.
+pub fn root_of(kind: u8) -> Root
+    ensures { is_go result ≡ is_dir_kind kind }
+{
+    if (Kind { code: kind }).is_dir() {
+        Root::Go
+    } else {
+        Root::Stop
+    }
+}
+
+/// Reports where the root isn't allocated, is no directory, is marked or is of size 0.
+///
+/// # Errors
+/// A write of the report that failed.
+#[tactic(auto, unfolding(crate::specs::Before::root_reported))]
+pub fn report_root<W: Output>(
+    report: &mut Report<'_, W>,
+    kind: u8,
+    marked: bool,
+) -> Result<(), OutFault>
+    ensures { SaysNames (progress W.sink report.old) (progress W.sink report.new)
+        (root_reported kind marked) result }
+{
+    let kind = Kind { code: kind };
+    if !kind.is_allocated() {
+        return say_line(report, &NameLine::Directory(DirectoryLine::RootNone));
+    }
+    if kind.is_dir() {
+        let suspect = LineIf {
+            holds: marked || kind.is_empty_dir(),
+            line: NameLine::Directory(DirectoryLine::RootSuspect),
+        };
+        return say_if(report, &suspect);
+    }
+    say_line(report, &NameLine::Directory(DirectoryLine::RootNotDir))
+}
+
+/// Takes away the flags of suspect inodes, and no others.
+fn clear_suspects(inodes: &Inodes<'_>, flags: &mut [bool])
+    requires { length flags.old ≡ length inodes.now.kinds.now }
+    ensures { (x : ℕ) → bool_at flags.new x ≡ (bool_at flags.old x
+        && not (suspect_at inodes.now.kinds.now inodes.now.marked.now x)) }
+{
+    for number in 0..inodes.count() {
+        if inodes.is_suspect(number) {
+            flags[number as usize] = false;
+        }
+    }
+}
+
+/// Forgets all names that were passed: clears the flags of suspect inodes, and the words of all
+/// inodes, which give stamps. The survey's flags of other inodes stay, and say which directories
+/// are left out, since nothing can be reported of them.
+#[tactic(auto, using(ffs_workspace::proofs::PlaceLaws::filled_noted, std::proofs::lemmas::List::with_items_is, crate::proofs::StampLaws::none_due, crate::proofs::StampLaws::none_stamped))]
+pub fn clear_passed(workspace: &mut Workspace)
+    requires lengths { AreAsLong workspace.old }
+    ensures clear { IsNonePassed workspace.old workspace.new }
+    ensures ready { (v : Layout) (d : Device) → IsReady v d workspace.old
+        → IsReady v d workspace.new }
+{
+    let inodes = Inodes {
+        kinds: workspace.kinds.as_slice(),
+        marked: workspace.marked.as_slice(),
+        parents: &workspace.parents,
+    };
+    clear_suspects(&inodes, workspace.flags.as_mut_slice());
+    workspace.queue.fill(0);
 }

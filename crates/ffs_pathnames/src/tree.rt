@@ -1,26 +1,35 @@
-//! The pathname check of the root, and of one directory after another.
-ghost use Rattle.std.specs.Prelude.{suc, ◌≡◌, ◌+◌, ◌-◌, ◌*◌, ◌<◌, ◌≤◌, ℕ, true, false, OnOk, IfOk, length, map, vec_len};
+//! The pathname check of one directory after another, from the root on.
+ghost use Rattle.std.specs.Prelude.{suc, ◌≡◌, ◌+◌, ◌-◌, ◌*◌, ◌<◌, ◌≤◌, ℕ, true, false, OnOk, IfOk, length, map};
+ghost use Rattle.std.specs.Prelude.{vec_len, List, option_map};
 ghost use Rattle.ffs_report.specs.{Known.ForBytes, Paid.Paid, PhaseOutcome.PhaseReports, Progress.progress};
-ghost use Rattle.ffs_volume.specs.Report.Reads.{line_reads, sweep_reads};
+ghost use Rattle.ffs_volume.specs.{Report.Reads.{line_reads, sweep_reads}, Messages.Kinds.{of_tree, lines_from}};
+ghost use Rattle.ffs_volume.specs.Directories.{Volumes.volume_of, PathnameCheck.continues_after_root};
+ghost use Rattle.ffs_volume.specs.Directories.PathnameCheck.{directory_lines, pathname_lines, sized_dir_lines};
+ghost use Rattle.ffs_volume.specs.{Directories.{Parents.graph_of, Graph.parent}, declared.Layout.Layout};
 ghost use Rattle.ffs_names.specs.Costs.{directory_cost};
-ghost use Rattle.ffs_pathnames.specs.ReadsLeft.{LeftForNext};
-ghost use Rattle.ffs_volume.specs.{Messages.Kinds.of_tree, Messages.Kinds.lines_from, Directories.Volumes.volume_of};
-ghost use Rattle.ffs_volume.specs.Directories.PathnameCheck.{continues_after_root, directory_lines, pathname_lines};
-ghost use Rattle.ffs_workspace.specs.{Holds.HoldsClaims, Holds.HoldsSurvey, Lengths.inodes_of, Ready.IsReady};
+ghost use Rattle.ffs_pathnames.specs.{ReadsLeft.{LeftForNext, LeftForBoth, LeftForLook}, Before.IsBefore};
+ghost use Rattle.ffs_pathnames.specs.{Before.{IsBeforeNoted, is_checked}, Costs.{check_reads, tree_reads}};
+ghost use Rattle.ffs_pathnames.specs.{Costs.begin_reads, Gathers.{AreAsLong, passed_of}, RootAnswers.AtReadFault};
+ghost use Rattle.ffs_pathnames.specs.{RootAnswers.is_go, Ready.{ReadyToPath, PhaseLeaves, TreeLeaves, LinesLeave}};
+ghost use Rattle.ffs_pathnames.specs.Begins.{dir_header_lines, started_entry, IsDirectoryBegun};
+ghost use Rattle.ffs_pathnames.specs.{Header.header_lines, DirectoryContext.{DirectoryContext, KnowsHeader}};
+ghost use Rattle.ffs_pathnames.specs.{LineReads.ReadsByLines, PassedRight.AreRightBefore};
+ghost use Rattle.ffs_workspace.specs.{Holds.{HoldsClaims, HoldsSurvey}, Lengths.inodes_of, Ready.IsReady};
 ghost use Rattle.ffs_workspace.specs.Places.{AreChunksNumbered, AreNoted};
-ghost use Rattle.ffs_pathnames.specs.{Before.IsBefore, Before.IsBeforeNoted, Before.is_checked, Costs.check_reads, Costs.tree_reads};
-ghost use Rattle.ffs_pathnames.specs.{Gathers.AreAsLong, RootAnswers.AtReadFault, RootAnswers.is_go};
-ghost use Rattle.ffs_pathnames.specs.Ready.{ReadyToPath, PhaseLeaves, TreeLeaves};
+ghost use Rattle.ffs_layout.specs.Entry.{entry_value};
 
-use crate::check::{Checking, check_directory};
-use crate::one_entry::EntryTexts;
-use crate::pass2::Root;
-use crate::root::{report_root, root_of};
+use crate::entries::report_directory;
+use crate::header::{HeaderFacts, is_in_order, say_header};
+use crate::look::{Directory, Examination, examine};
+use crate::one_entry::{EntryTexts, gather_dir};
+use crate::pass2::{Root, report_root, root_of};
 use ffs_image::Image;
-use ffs_layout::Geometry;
+use ffs_layout::{Entry, Geometry, entry_at};
 use ffs_names::note_places;
+use ffs_paths::{KeptParent, PathText};
 use ffs_report::{Output, Report, RunFault};
-use ffs_volume::constants::{DT_DIR, ROOTINO};
+use ffs_volume::Order;
+use ffs_volume::constants::{DIRBLKSIZ, DT_DIR, ROOTINO};
 use ffs_workspace::{Workspace, sweep_reads};
 
 /// Whether an inode is a directory that isn't of size 0 and isn't known to be calm. That a marked
@@ -198,4 +207,216 @@ pub fn check_tree<I: Image, W: Output>(
             Ok(Root::Go)
         }
     }
+}
+
+/// What is carried from the check of one directory to that of the next.
+#[derive(Drop)]
+pub struct Checking {
+    /// The texts that lines of entries show.
+    pub texts: EntryTexts,
+    /// How many reads may still be made of directories' own blocks: their inodes, their indirect
+    /// blocks and their chunks. What a message shows is not among these.
+    pub reads_left: u64,
+}
+
+/// The parent of a directory, as the survey found it.
+fn parent_of(workspace: &Workspace, dir: u32) -> Option<u32>
+    requires { dir < vec_len workspace.now.parents }
+    ensures { (v : Layout) (b : List ℕ) → HoldsSurvey v b workspace.now → result
+        ≡ parent (graph_of (volume_of v b)) dir }
+{
+    let parent = workspace.parents[dir as usize];
+    if parent == 0 {
+        return None;
+    }
+    Some(parent)
+}
+
+/// The first two entries of the chunk at the start of a directory, if that was found.
+fn first_two<'a>(
+    order: Order,
+    started: bool,
+    start: &'a [u8; DIRBLKSIZ],
+) -> (Option<Entry<'a>>, Option<Entry<'a>>)
+    ensures first { option_map entry_value result.0 ≡ started_entry 0 started order start.now }
+    ensures second { option_map entry_value result.1 ≡ started_entry 1 started order start.now }
+{
+    if !started {
+        return (None, None);
+    }
+    match entry_at(order, start, 0) {
+        None => (None, None),
+        Some(entry) => {
+            let second = entry_at(order, start, usize::from(entry.length));
+            (Some(entry), second)
+        }
+    }
+}
+
+/// Prints the lines of a directory that come before those of its entries.
+fn report_header<I: Image, W: Output>(
+    geometry: &Geometry,
+    image: &mut I,
+    workspace: &mut Workspace,
+    kept_parent: &mut KeptParent,
+    report: &mut Report<'_, W>,
+    header: HeaderFacts<'_>,
+) -> Result<(), RunFault>
+    requires { ReadyToPath geometry.now.layout (I.device image.old) workspace.old kept_parent.old
+        header.number }
+    ensures text { PhaseReports
+        (KnowsHeader geometry.now.layout (I.device image.old) workspace.old header.entry)
+        (λ b. map of_tree (header_lines (volume_of geometry.now.layout b) header.entry))
+        (progress W.sink report.old) (progress W.sink report.new) result }
+    ensures leaves { LinesLeave geometry.now.layout (I.device image.old) (I.device image.new)
+        workspace.old workspace.new kept_parent.new result }
+    ensures counted { ReadsByLines geometry.now.layout
+        (KnowsHeader geometry.now.layout (I.device image.old) workspace.old header.entry)
+        (λ b. header_lines (volume_of geometry.now.layout b) header.entry)
+        workspace.old workspace.new (I.reads image.old) (I.reads image.new) }
+    ensures paid { AreChunksNumbered geometry.now.layout → Paid line_reads
+        (progress W.sink report.old) (progress W.sink report.new)
+        (I.reads image.old) (I.reads image.new) result }
+{
+    if is_in_order(header) {
+        return Ok(());
+    }
+    let mut path = PathText::new();
+    let mut attr = gather_dir(
+        geometry,
+        image,
+        workspace,
+        kept_parent,
+        header.number,
+        &mut path,
+    )?;
+
+    // An image may give another inode now: the lines are on the size that was found wrong.
+    attr.size = header.size;
+    say_header(report, attr, path.as_slice(), header)?;
+    Ok(())
+}
+
+/// Reads a directory once, and prints its lines that come before those of its entries.
+fn begin_directory<I: Image, W: Output>(
+    geometry: &Geometry,
+    image: &mut I,
+    workspace: &mut Workspace,
+    checking: &mut Checking,
+    report: &mut Report<'_, W>,
+    dir: u32,
+) -> Result<Examination, RunFault>
+    requires ready { ReadyToPath geometry.now.layout (I.device image.old) workspace.old
+        checking.old.texts.kept_parent dir }
+    requires dir { 2 ≤ dir }
+    ensures text { PhaseReports (LeftForLook geometry.now.layout (I.device image.old)
+        workspace.old dir checking.old.reads_left)
+        (λ b. map of_tree (dir_header_lines (volume_of geometry.now.layout b) dir))
+        (progress W.sink report.old) (progress W.sink report.new) result }
+    ensures begun { IfOk result (λ e. ForBytes
+        (LeftForLook geometry.now.layout (I.device image.old) workspace.old dir
+        checking.old.reads_left)
+        (λ b. IsDirectoryBegun geometry.now.layout b dir workspace.old e workspace.new)) }
+    ensures reads { ForBytes
+        (LeftForLook geometry.now.layout (I.device image.old) workspace.old dir
+        checking.old.reads_left)
+        (λ b. AreNoted geometry.now.layout b workspace.old.queue.items
+        → I.reads image.new ≤ I.reads image.old + begin_reads geometry.now.layout b dir
+        (length (dir_header_lines (volume_of geometry.now.layout b) dir))) }
+    ensures kept { ForBytes
+        (LeftForLook geometry.now.layout (I.device image.old) workspace.old dir
+        checking.old.reads_left)
+        (λ b. checking.old.reads_left
+        ≤ checking.new.reads_left + directory_cost geometry.now.layout b dir) }
+    ensures paid { AreChunksNumbered geometry.now.layout → Paid line_reads
+        (progress W.sink report.old) (progress W.sink report.new)
+        (I.reads image.old + checking.old.reads_left)
+        (I.reads image.new + checking.new.reads_left) result }
+    ensures leaves { PhaseLeaves geometry.now.layout (I.device image.old) (I.device image.new)
+        workspace.old workspace.new checking.new.texts.kept_parent result }
+{
+    let mut start = [0u8; DIRBLKSIZ];
+    let examined = examine(
+        geometry,
+        image,
+        workspace,
+        &mut checking.reads_left,
+        dir,
+        &mut start,
+    )?;
+    let parent = parent_of(workspace, dir);
+    let (first, second) = first_two(geometry.layout.order, examined.look.started, &start);
+    let header = HeaderFacts {
+        number: dir,
+        parent,
+        size: examined.inode.size,
+        gap: examined.look.gap,
+        sound: examined.look.sound,
+        first,
+        second,
+    };
+    report_header(
+        geometry,
+        image,
+        workspace,
+        &mut checking.texts.kept_parent,
+        report,
+        header,
+    )?;
+    Ok(examined)
+}
+
+/// Prints the lines of a directory that isn't of size 0: of its size, its chunks, its first two
+/// entries, and all its entries.
+///
+/// # Errors
+/// A read of the image that failed, and a write of the report that failed.
+pub fn check_directory<I: Image, W: Output>(
+    geometry: &Geometry,
+    image: &mut I,
+    workspace: &mut Workspace,
+    checking: &mut Checking,
+    report: &mut Report<'_, W>,
+    dir: u32,
+) -> Result<(), RunFault>
+    requires ready { ReadyToPath geometry.now.layout (I.device image.old) workspace.old
+        checking.old.texts.kept_parent dir }
+    requires dir { 2 ≤ dir }
+    ensures text { PhaseReports (LeftForBoth geometry.now.layout (I.device image.old)
+        workspace.old dir checking.old.reads_left)
+        (λ b. map of_tree (sized_dir_lines (volume_of geometry.now.layout b) dir))
+        (progress W.sink report.old) (progress W.sink report.new) result }
+    ensures passed { OnOk result (ForBytes
+        (LeftForBoth geometry.now.layout (I.device image.old) workspace.old dir
+        checking.old.reads_left)
+        (λ b. AreRightBefore (volume_of geometry.now.layout b) (suc dir)
+        (passed_of workspace.new))) }
+    ensures reads { ForBytes
+        (LeftForBoth geometry.now.layout (I.device image.old) workspace.old dir
+        checking.old.reads_left)
+        (λ b. AreNoted geometry.now.layout b workspace.old.queue.items
+        → I.reads image.new ≤ I.reads image.old + check_reads geometry.now.layout b dir
+        (length (sized_dir_lines (volume_of geometry.now.layout b) dir))) }
+    ensures kept { ForBytes
+        (LeftForBoth geometry.now.layout (I.device image.old) workspace.old dir
+        checking.old.reads_left)
+        (λ b. checking.old.reads_left
+        ≤ checking.new.reads_left + 2 * directory_cost geometry.now.layout b dir) }
+    ensures paid { AreChunksNumbered geometry.now.layout → Paid line_reads
+        (progress W.sink report.old) (progress W.sink report.new)
+        (I.reads image.old + checking.old.reads_left)
+        (I.reads image.new + checking.new.reads_left) result }
+    ensures leaves { PhaseLeaves geometry.now.layout (I.device image.old) (I.device image.new)
+        workspace.old workspace.new checking.new.texts.kept_parent result }
+{
+    let examined = begin_directory(geometry, image, workspace, checking, report, dir)?;
+    if examined.look.quiet {
+        return Ok(());
+    }
+    let directory = Directory {
+        number: dir,
+        inode: examined.inode,
+        cut: workspace.cut_of(dir),
+    };
+    report_directory(geometry, image, workspace, checking, report, &directory)
 }

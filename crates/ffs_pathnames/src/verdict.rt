@@ -1,17 +1,21 @@
-//! The verdict on a plain entry.
+//! The verdict on a plain entry, and what is reported by it.
 ghost use Rattle.std.specs.Prelude.{◌≡◌, ◌<◌, length, vec_len};
-ghost use Rattle.ffs_volume.specs.Directories.Roles.{Volume};
+ghost use Rattle.ffs_volume.specs.{Directories.Roles.Volume, Messages.Kinds.reported};
 ghost use Rattle.ffs_layout.specs.Entry.{entry_value};
-ghost use Rattle.ffs_pathnames.specs.{Gathers.AreDefectsOf, Gathers.IsVerdictBy, Stamps.KeepPlaces};
-ghost use Rattle.ffs_pathnames.specs.Sees.{Sees, HasFlagAndWord, passed_in};
+ghost use Rattle.ffs_pathnames.specs.{Gathers.{AreDefectsOf, IsVerdictBy}, Stamps.KeepPlaces, Sees.Sees};
+ghost use Rattle.ffs_pathnames.specs.{Sees.{HasFlagAndWord, passed_in}, SaysNames.SaysNames};
+ghost use Rattle.ffs_pathnames.specs.Verdicts.{suspect_message, links_reported, defects_reported, verdict_reported};
+ghost use Rattle.ffs_report.specs.Progress.{progress};
 ghost use Rattle.ffs_pathnames.specs.PassedNames as names;
 
+use crate::header::{LineIf, NameLine, say_line, say_two};
 use crate::inodes::Inodes;
 use crate::look::is_bad_whiteout;
 use ffs_layout::Entry;
 use ffs_memory::FilledList;
+use ffs_report::{EntryLine, OutFault, Output, Report};
 use ffs_volume::constants::{ROOTINO, WINO};
-use ffs_volume::{Label, Role};
+use ffs_volume::{Attr, Label, Role};
 use ffs_workspace::passed;
 
 /// What is wrong with a plain entry that names an allocated inode, and what messages on it show.
@@ -129,5 +133,109 @@ pub fn pass(
     }
     if inodes.stamp(words, entry.number) == dir {
         words.set(index, passed(words[index]));
+    }
+}
+
+/// Says that an inode is suspect, where this entry is the first that names it.
+fn say_suspect<W: Output>(
+    report: &mut Report<'_, W>,
+    defects: &EntryDefects,
+    attr: Attr,
+    path: &[u8],
+) -> Result<(), OutFault>
+    ensures { SaysNames (progress W.sink report.old) (progress W.sink report.new)
+        (reported defects.now.first_of_suspect (suspect_message defects.now attr path.now)) result }
+{
+    if !defects.first_of_suspect {
+        return Ok(());
+    }
+    if defects.marked {
+        return say_line(
+            report,
+            &NameLine::Entry(EntryLine::DupBad {
+                label: defects.label,
+                attr,
+                path,
+            }),
+        );
+    }
+    say_line(report, &NameLine::Entry(EntryLine::ZeroDir { attr, path }))
+}
+
+/// Says of an entry that it isn't the parent entry of the directory that it names, and that its
+/// type isn't that of the inode, each where it is so.
+fn say_links<W: Output>(
+    report: &mut Report<'_, W>,
+    defects: &EntryDefects,
+    attr: Attr,
+    path: &[u8],
+    directory: &[u8],
+) -> Result<(), OutFault>
+    ensures { SaysNames (progress W.sink report.old) (progress W.sink report.new)
+        (links_reported defects.now attr path.now directory.now) result }
+{
+    let extraneous = LineIf {
+        holds: defects.extraneous,
+        line: NameLine::Entry(EntryLine::Extraneous {
+            path,
+            dir: directory,
+        }),
+    };
+    let kind = LineIf {
+        holds: defects.kind,
+        line: NameLine::Entry(EntryLine::KindEntry {
+            label: defects.label,
+            attr,
+            path,
+        }),
+    };
+    say_two(report, &extraneous, &kind)
+}
+
+/// Says what is wrong with an entry that names an allocated inode.
+fn say_defects<W: Output>(
+    report: &mut Report<'_, W>,
+    defects: &EntryDefects,
+    attr: Attr,
+    path: &[u8],
+    directory: &[u8],
+) -> Result<(), OutFault>
+    ensures { SaysNames (progress W.sink report.old) (progress W.sink report.new)
+        (defects_reported defects.now attr path.now directory.now) result }
+{
+    say_suspect(report, defects, attr, path)?;
+    say_links(report, defects, attr, path, directory)
+}
+
+/// Says the lines of a plain entry's verdict.
+///
+/// # Errors
+/// A write of the report that failed.
+pub fn say_verdict<W: Output>(
+    report: &mut Report<'_, W>,
+    verdict: &Verdict,
+    number: u32,
+    attr: Attr,
+    path: &[u8],
+    directory: &[u8],
+) -> Result<(), OutFault>
+    ensures { SaysNames (progress W.sink report.old) (progress W.sink report.new)
+        (verdict_reported verdict.now number attr path.now directory.now) result }
+{
+    match verdict {
+        Verdict::OutOfRange => say_line(
+            report,
+            &NameLine::Entry(EntryLine::OutOfRange { number, path }),
+        ),
+        Verdict::BadWhiteout => say_line(
+            report,
+            &NameLine::Entry(EntryLine::Whiteout { number, path }),
+        ),
+        Verdict::Whiteout => Ok(()),
+        Verdict::Unallocated => say_line(
+            report,
+            &NameLine::Entry(EntryLine::Unallocated { attr, path }),
+        ),
+        Verdict::Named(defects) => say_defects(report, defects, attr, path, directory),
     }
 }

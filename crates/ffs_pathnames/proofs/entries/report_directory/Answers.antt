@@ -1,0 +1,326 @@
+use Rattle.std.proofs.Common.{refl, sym, ap, subst, ◌∙◌, ◌≡◌, ◌≤◌, ◌+◌, ℕ, Some, List, [], ◌∷◌, map, Err, arith, inl}
+use Rattle.std.{proofs.{Common.inr, lemmas.{Bool.both_ways, Result.err_from_is_err_and}}, specs.List.flat_map}
+use Rattle.ffs_image.specs.Device.{Faulted}
+use Rattle.ffs_volume.{proofs.Numbered.as_many, specs.Directories.{Entries.{Chunk, chunk_of}, Roles.roled_chunk}}
+use Rattle.ffs_volume.specs.{Directories.Volumes.volume_of, Messages.Kinds.of_tree}
+use Rattle.ffs_workspace.{specs.{Notes.cut_in, Leaves.LeavesSurvey}, proofs.NoteLaws.cut_is_noted}
+use Rattle.ffs_workspace.specs.{Places.AreChunksNumbered, declared.workspace.Workspace.Workspace}
+use Rattle.ffs_workspace.proofs.Leaving.{leaves_all, leaves_more, windows_leave}
+use Rattle.ffs_names.{specs.{Readings.rest, Costs.{directory_runs, to_read, HoldsReading}}, proofs.DirCosts.runs_are}
+use Rattle.ffs_report.{specs.PhaseOutcome.ImageAfter, proofs.Reporting.{of_begins, of_reads, of_same, of_part}}
+use Rattle.ffs_report.proofs.{Reporting.{of_fault, said_knows, reports_knowing}, Paying.{paid_beside, paid_failed}}
+use Rattle.ffs_report.proofs.Paying.{paid_none, paid_then, paid_within}
+use Rattle.ffs_pathnames.specs.{Gathers.passed_of, DirectoryContext.DirectoryContext, PassedNames.after_entries}
+use Rattle.ffs_pathnames.{specs.PassedNames.entries_reported, proofs.StampLaws.{keep_more, noted_kept}}
+use Rattle.ffs_pathnames.proofs.{Passing.{chunk_reported, chunk_passed, knows_on, all_read}, ReadyLaws.can_read_in}
+use Rattle.ffs_pathnames.{proofs.ReadyLaws.{windows_next, windows_read}, specs.ReadsLeft.LeftForRuns}
+use Rattle.ffs_pathnames.proofs.{LimitedLaws.numbered_or_not, LineCounts.lines_long}
+use Rattle.ffs_pathnames.proofs.entries.report_directory.Given.{Over}
+use Rattle.ffs_pathnames.proofs.entries.report_directory.Goals.{After-next_chunk}
+use Rattle.ffs_pathnames.proofs.entries.report_directory.Goals as goal
+
+-- what is known of the bytes, at the beginning
+abbrev Known : (g : Over) → After-next_chunk g → List ℕ → Type 0
+Known g c = LeftForRuns c.args.geometry.now.layout (g.I.Image.device c.args.image.now) c.args.workspace.now
+    c.args.directory.now c.args.checking.now.reads_left
+
+-- these are the bytes of the image as it is now
+now : (g : Over) (c : After-next_chunk g) (b : List ℕ) → Known g c b → (g.I.Image.device c.chunks.image).contents ≡ Some b
+now g c b k = ap (λ d. d.contents) c.chunks.invariant.device ∙ k.0.0.gives_bytes
+
+-- the chunks are numbered by the layout of the reading, too
+numbers : (g : Over) (c : After-next_chunk g) → AreChunksNumbered c.chunks.chunks.walk.geometry.layout →
+    AreChunksNumbered c.args.geometry.now.layout
+numbers g c n = subst (λ q. AreChunksNumbered q.layout) c.chunks.invariant.geometry n
+
+-- the reads that are left suffice for the chunks to come
+enough : (g : Over) (c : After-next_chunk g) (b : List ℕ) → Known g c b →
+    AreChunksNumbered c.chunks.chunks.walk.geometry.layout → to_read b c.chunks.chunks ≤ c.chunks.checking.reads_left
+enough g c b k n = omega (arith, c.chunks.invariant.spent b k (numbers g c n), k.1)
+
+-- what the next chunk was read by is held, and the reads that are left suffice for it
+room : (g : Over) (c : After-next_chunk g) (b : List ℕ) → Known g c b →
+    AreChunksNumbered c.chunks.chunks.walk.geometry.layout →
+    HoldsReading c.chunks.workspace.windows.blocks c.chunks.workspace.windows.chunk c.chunks.chunks
+    × (to_read b c.chunks.chunks ≤ c.chunks.checking.reads_left)
+room g c b k n = (c.chunks.invariant.held b k (k.0.0.noted (numbers g c n)), enough g c b k n)
+
+-- the workspace between the chunk and its lines
+abbrev between : (g : Over) → After-next_chunk g → Workspace
+between g c = record c.chunks.workspace { windows = c.next_chunk.new.windows }
+
+kept_between : (g : Over) (c : After-next_chunk g) → LeavesSurvey c.args.workspace.now (between g c)
+kept_between g c = leaves_more _ _ _ c.chunks.invariant.survey (windows_leave c.chunks.workspace (between g c) refl)
+
+-- what is known there
+know : (g : Over) (c : After-next_chunk g) → g.I.Image.device c.next_chunk.new.image ≡ g.I.Image.device c.chunks.image →
+    (b : List ℕ) → Known g c b → DirectoryContext c.args.geometry.now.layout
+    (g.I.Image.device c.next_chunk.new.image).contents (between g c) c.args.directory.now.number b
+know g c read b k = knows_on c.args.geometry.now.layout (g.I.Image.device c.args.image.now).contents
+    (g.I.Image.device c.next_chunk.new.image).contents c.args.workspace.now (between g c) c.args.directory.now.number b
+    (ap (λ d. d.contents) (read ∙ c.chunks.invariant.device)) (kept_between g c) c.chunks.invariant.places k.0.0
+
+pub chunks-init : goal.chunks-init
+chunks-init g c =
+    let v = c.args.geometry.now.layout in
+    let x = c.args.directory.now in
+    let m = passed_of c.args.workspace.now in
+    let known = LeftForRuns v (g.I.Image.device c.args.image.now) c.args.workspace.now x
+    c.args.checking.now.reads_left in
+    let cut = λ (b : List ℕ) (k : known b). c.requires.cut
+    ∙ (ap cut_in (k.0.0.claims.notes x.number) ∙ cut_is_noted v b x.number c.args.geometry.now.sound) in
+    let seen = λ (b : List ℕ) (k : known b). all_read v b x.number x.inode x.cut (rest b c.start-chunks.result)
+    c.args.geometry.now.sound k.0.0.dir k.0.1 (cut b k) (c.start-chunks.ensures.begins.chunks b) in
+    let lines = λ (b : List ℕ) (k : known b).
+    ap (λ es. map of_tree (entries_reported (volume_of v b) x.number m es)) (sym (seen b k)) in
+    let few : (b : List ℕ) → known b → to_read b c.start-chunks.result ≤ directory_runs v b x.number = λ b k.
+    let all = c.start-chunks.ensures.reads.to_read b in
+    let left = c.start-chunks.ensures.begins.runs_left b in
+    omega (arith, all, left, runs_are v b x.number x.inode x.cut k.0.1 (cut b k)) in
+    record {
+      ready = record { ready = c.requires.ready.ready; kept_parent = c.requires.ready.kept_parent };
+      device = refl;
+      geometry = c.start-chunks.ensures.geometry;
+      survey = leaves_all _;
+      places = λ x. refl;
+      held = λ b k noted.
+          c.start-chunks.ensures.reads.held c.args.workspace.now.windows.blocks c.args.workspace.now.windows.chunk;
+      reads = λ b k noted. let long = as_many _ _ (lines b k) in omega (arith, long, few b k);
+      spent = λ b k numbered. omega (arith, few b k);
+      unlimited = λ none. refl;
+      paid = λ numbered. paid_none (omega arith);
+      path = λ b k begun. absurd (both_ways _ refl begun);
+      passed = λ b k. ap (after_entries (volume_of v b) x.number m) (sym (seen b k));
+      said = of_same _ _ _ _ _ _ (of_begins _ _ _) lines;
+    }
+
+pub returns-in_err-offset-clause-text : goal.returns-in_err-offset-clause-text
+returns-in_err-offset-clause-text g c =
+    let p = err_from_is_err_and c.from_residual.result c.from_residual.ensures.1 in
+    rw (p.1, p.2) (of_reads _ _ _ _ _ c.chunks.invariant.said)
+
+pub returns-in_err-offset-clause-leaves : goal.returns-in_err-offset-clause-leaves
+returns-in_err-offset-clause-leaves g c =
+    let at = (goal.at.returns-in_err-offset-clause-leaves g c).After-next_chunk in
+    let inv = c.chunks.invariant in
+    let read = c.in_err-offset.ensures in
+    let p = err_from_is_err_and c.from_residual.result c.from_residual.ensures.1 in
+    rw (p.1, p.2) (record {
+      image = subst (λ d. Faulted d (g.I.Image.device c.next_chunk.new.image) c.in_err-offset.field-0.0.sector) inv.device
+          read.leaves.read;
+      survey = kept_between g at;
+      places = inv.places;
+      ready = windows_read _ _ _ c.chunks.workspace _ inv.ready.ready read.leaves.read.contents read.others
+          (rw inv.geometry at read.leaves.ready);
+    })
+
+pub next_chunk-requires : goal.next_chunk-requires
+next_chunk-requires g c = let inv = c.chunks.invariant in rw inv.geometry (can_read_in _ _ _ inv.ready.ready)
+
+pub report_chunk-requires : goal.report_chunk-requires
+report_chunk-requires g c =
+    let inv = c.chunks.invariant in
+    let read = c.in_ok-offset.ensures in
+    let next = windows_next _ _ _ c.chunks.workspace _ _ inv.ready read.leaves.read read.others
+    (rw inv.geometry at read.leaves.ready) in
+    record { ready = next.ready; kept_parent = next.kept_parent; number = c.requires.ready.number }
+
+pub returns-clause-leaves : goal.returns-clause-leaves
+returns-clause-leaves g c =
+    let at = (goal.at.returns-clause-leaves g c).After-next_chunk in
+    let inv = c.chunks.invariant in
+    let read = c.in_ok-offset.ensures in
+    record {
+      image = read.leaves.read ∙ inv.device;
+      survey = kept_between g at;
+      places = inv.places;
+      ready = windows_next _ _ _ c.chunks.workspace _ _ inv.ready read.leaves.read read.others
+          (rw inv.geometry at read.leaves.ready);
+    }
+
+pub chunks-preserved : goal.chunks-preserved
+chunks-preserved g c =
+    let at = (goal.at.chunks-preserved g c).After-next_chunk in
+    let v = c.args.geometry.now.layout in
+    let x = c.args.directory.now in
+    let inv = c.chunks.invariant in
+    let read = c.in_ok-offset.ensures in
+    let ok = c.in_ok-report_chunk.ensures in
+    let m = passed_of c.chunks.workspace in
+    let known = know g at read.leaves.read in
+    let here : Chunk = chunk_of v.order c.in-Some.offset c.next_chunk.new.bytes in
+    let came = rw c.in-Some.is at read.chunk in
+    let next = λ (b : List ℕ) (k : Known g at b). (came b (now g at b k) (room g at b k)).chunks ∙ ap
+    (λ q. chunk_of q.layout.order c.in-Some.offset c.next_chunk.new.bytes ∷ rest b c.next_chunk.new.chunks) inv.geometry in
+    record {
+      ready = ok.leaves.ready;
+      device = ok.leaves.image ∙ (read.leaves.read ∙ inv.device);
+      geometry = read.leaves.geometry ∙ inv.geometry;
+      survey = leaves_more _ _ _ (kept_between g at) ok.leaves.survey;
+      places = keep_more _ _ _ inv.places ok.leaves.places;
+      held = λ b k noted.
+          let took = read.reads (inv.held b k noted) b (now g at b k) (enough g at b k) in
+          let few = c.report_chunk.ensures.lines.counted b (known b k)
+          (noted_kept v b c.args.workspace.now.queue.items c.chunks.workspace.queue.items inv.places noted) in
+          rw (few.blocks, c.report_chunk.ensures.chunk) took.held;
+      reads = λ b k noted.
+          let took = read.reads (inv.held b k noted) b (now g at b k) (enough g at b k) in
+          let few = c.report_chunk.ensures.lines.counted b (known b k)
+          (noted_kept v b c.args.workspace.now.queue.items c.chunks.workspace.queue.items inv.places noted) in
+          let long = lines_long _ _ _ (chunk_reported (volume_of v b) x.number m here _ _ (next b k)
+          (ok.passed b (known b k))) in
+          omega (arith, took.paid, few.count, long, inv.reads b k noted);
+      spent = λ b k numbered.
+          let n = subst (λ q. AreChunksNumbered q.layout) (sym inv.geometry) numbered in
+          let took = read.kept n (room g at b k n).0 b (now g at b k) (room g at b k n).1 in
+          omega (arith, took.paid, inv.spent b k numbered);
+      unlimited = λ none. read.unlimited (λ n. none (numbers g at n)) ∙ inv.unlimited none;
+      paid = λ numbered.
+          let n = subst (λ q. AreChunksNumbered q.layout) (sym inv.geometry) numbered in
+          let looked = paid_within (inv.paid numbered) (omega arith) (read.most n) in
+          paid_then looked (paid_beside c.next_chunk.new.reads_left (ok.paid numbered));
+      path = λ b k. c.report_chunk.ensures.lines.path b (record { knows = known b k; path = inv.path b k });
+      passed = λ b k. chunk_passed (volume_of v b) x.number m (next b k) (ok.passed b (known b k)) (inv.passed b k);
+      said = of_part _ _ _ _ _ _ _ _ inv.said
+          (λ b k. chunk_reported (volume_of v b) x.number m here _ _
+          (next b k) (ok.passed b (known b k)))
+          (said_knows _ _ _ _ _ _ (λ b k. record
+          { knows = known b k; path = inv.path b k }) ok.lines.text);
+    }
+
+pub returns-in_err-report_chunk-clause-text : goal.returns-in_err-report_chunk-clause-text
+returns-in_err-report_chunk-clause-text g c =
+    let at = (goal.at.returns-in_err-report_chunk-clause-text g c).After-next_chunk in
+    let v = c.args.geometry.now.layout in
+    let x = c.args.directory.now in
+    let inv = c.chunks.invariant in
+    let read = c.in_ok-offset.ensures in
+    let m = passed_of c.chunks.workspace in
+    let known = know g at read.leaves.read in
+    let here : Chunk = chunk_of v.order c.in-Some.offset c.next_chunk.new.bytes in
+    let came = rw c.in-Some.is at read.chunk in
+    let next = λ (b : List ℕ) (k : Known g at b). (came b (now g at b k) (room g at b k)).chunks ∙ ap
+    (λ q. chunk_of q.layout.order c.in-Some.offset c.next_chunk.new.bytes ∷ rest b c.next_chunk.new.chunks) inv.geometry in
+    let p = err_from_is_err_and c.from_residual-in_err-report_chunk.result
+    c.from_residual-in_err-report_chunk.ensures.1 in
+    rw (p.1, p.2) (of_fault (Unit {0}) (Unit {0}) _ _ _ _ _ _ _ _ c.in_err-report_chunk.field-0.0 inv.said
+    (λ b k. chunk_reported (volume_of v b) x.number m here _ _
+    (next b k) refl)
+    (reports_knowing (Unit {0}) _ _ _ _ _ (Err c.in_err-report_chunk.field-0.0)
+    (λ b k. record { knows = known b k; path = inv.path b k })
+    c.in_err-report_chunk.ensures.lines.text))
+
+pub returns-in_err-report_chunk-clause-leaves : goal.returns-in_err-report_chunk-clause-leaves
+returns-in_err-report_chunk-clause-leaves g c =
+    let at = (goal.at.returns-in_err-report_chunk-clause-leaves g c).After-next_chunk in
+    let inv = c.chunks.invariant in
+    let left = c.in_err-report_chunk.ensures.leaves in
+    let p = err_from_is_err_and c.from_residual-in_err-report_chunk.result
+    c.from_residual-in_err-report_chunk.ensures.1 in
+    rw (p.1, p.2) (record {
+      image = subst (λ d. ImageAfter {T = Unit {0}} d (g.I.Image.device c.report_chunk.new.image)
+          (Err c.in_err-report_chunk.field-0.0)) (c.in_ok-offset.ensures.leaves.read ∙ inv.device) left.image;
+      survey = leaves_more _ _ _ (kept_between g at) left.survey;
+      places = keep_more _ _ _ inv.places left.places;
+      ready = left.ready;
+    })
+
+pub returns-clause-text : goal.returns-clause-text
+returns-clause-text g c =
+    let at = (goal.at.returns-clause-text g c).After-next_chunk in
+    let v = c.args.geometry.now.layout in
+    let x = c.args.directory.now in
+    let inv = c.chunks.invariant in
+    let m = passed_of c.chunks.workspace in
+    let came = rw c.in_default.is at c.in_ok-offset.ensures.chunk in
+    of_same _ _ (λ b. []) _ _ _ inv.said
+    (λ b k. ap (λ cs. map of_tree (entries_reported (volume_of v b) x.number m (flat_map roled_chunk cs)))
+    (came b (now g at b k) (room g at b k)).chunks.0)
+
+pub returns-clause-passed : goal.returns-clause-passed
+returns-clause-passed g c = λ b k.
+    let at = (goal.at.returns-clause-passed g c).After-next_chunk in
+    let v = c.args.geometry.now.layout in
+    let x = c.args.directory.now in
+    let inv = c.chunks.invariant in
+    let came = rw c.in_default.is at c.in_ok-offset.ensures.chunk in
+    inv.passed b k ∙ ap (λ cs. after_entries (volume_of v b) x.number (passed_of c.chunks.workspace)
+    (flat_map roled_chunk cs)) (came b (now g at b k) (room g at b k)).chunks.0
+
+-- the reads
+pub returns-in_err-offset-clause-reads : goal.returns-in_err-offset-clause-reads
+returns-in_err-offset-clause-reads g c = λ b k noted.
+    let at = (goal.at.returns-in_err-offset-clause-reads g c).After-next_chunk in
+    let inv = c.chunks.invariant in
+    let most = (c.next_chunk.ensures.reads (inv.held b k noted) b (now g at b k) (enough g at b k)).most in
+    omega (arith, most, inv.reads b k noted)
+
+pub returns-in_err-report_chunk-clause-reads : goal.returns-in_err-report_chunk-clause-reads
+returns-in_err-report_chunk-clause-reads g c = λ b k noted.
+    let at = (goal.at.returns-in_err-report_chunk-clause-reads g c).After-next_chunk in
+    let v = c.args.geometry.now.layout in
+    let x = c.args.directory.now in
+    let inv = c.chunks.invariant in
+    let read = c.in_ok-offset.ensures in
+    let m = passed_of c.chunks.workspace in
+    let here : Chunk = chunk_of v.order c.in-Some.offset c.next_chunk.new.bytes in
+    let came = rw c.in-Some.is at read.chunk in
+    let next = (came b (now g at b k) (room g at b k)).chunks ∙ ap
+    (λ q. chunk_of q.layout.order c.in-Some.offset c.next_chunk.new.bytes ∷ rest b c.next_chunk.new.chunks) inv.geometry in
+    let took = read.reads (inv.held b k noted) b (now g at b k) (enough g at b k) in
+    let few = c.report_chunk.ensures.lines.counted b (know g at read.leaves.read b k)
+    (noted_kept v b c.args.workspace.now.queue.items c.chunks.workspace.queue.items inv.places noted) in
+    let long = lines_long _ _ _ (chunk_reported (volume_of v b) x.number m here _ _ next refl) in
+    omega (arith, took.paid, few.count, long, inv.reads b k noted)
+
+pub returns-clause-reads : goal.returns-clause-reads
+returns-clause-reads g c = λ b k noted.
+    let at = (goal.at.returns-clause-reads g c).After-next_chunk in
+    let inv = c.chunks.invariant in
+    let most = (c.next_chunk.ensures.reads (inv.held b k noted) b (now g at b k) (enough g at b k)).most in
+    omega (arith, most, inv.reads b k noted)
+
+-- the reads that are left
+left_of : (g : Over) (c : After-next_chunk g) (b : List ℕ) → Known g c b →
+    c.args.checking.now.reads_left
+    ≤ c.next_chunk.new.reads_left + directory_runs c.args.geometry.now.layout b c.args.directory.now.number
+left_of g c b k = elim (numbered_or_not c.args.geometry.now.layout) [
+  | inl numbered ↦
+      let inv = c.chunks.invariant in
+      let n = subst (λ q. AreChunksNumbered q.layout) (sym inv.geometry) numbered in
+      let took = c.next_chunk.ensures.kept n (room g c b k n).0 b (now g c b k) (room g c b k n).1 in
+      omega (arith, took.most, inv.spent b k numbered)
+  | inr none ↦
+      let same = c.next_chunk.ensures.unlimited (λ n. none (numbers g c n)) ∙ c.chunks.invariant.unlimited none in
+      omega (arith, same)
+]
+
+pub returns-in_err-offset-clause-kept : goal.returns-in_err-offset-clause-kept
+returns-in_err-offset-clause-kept g c = left_of g (goal.at.returns-in_err-offset-clause-kept g c).After-next_chunk
+
+pub returns-in_err-report_chunk-clause-kept : goal.returns-in_err-report_chunk-clause-kept
+returns-in_err-report_chunk-clause-kept g c =
+    left_of g (goal.at.returns-in_err-report_chunk-clause-kept g c).After-next_chunk
+
+pub returns-clause-kept : goal.returns-clause-kept
+returns-clause-kept g c = left_of g (goal.at.returns-clause-kept g c).After-next_chunk
+
+-- what was read for messages
+pub returns-in_err-offset-clause-paid : goal.returns-in_err-offset-clause-paid
+returns-in_err-offset-clause-paid g c = λ numbered.
+    let inv = c.chunks.invariant in
+    let n = subst (λ q. AreChunksNumbered q.layout) (sym inv.geometry) numbered in
+    let p = err_from_is_err_and c.from_residual.result c.from_residual.ensures.1 in
+    rw (p.1, p.2) (paid_then (inv.paid numbered) (paid_failed (c.next_chunk.ensures.most n)))
+
+pub returns-in_err-report_chunk-clause-paid : goal.returns-in_err-report_chunk-clause-paid
+returns-in_err-report_chunk-clause-paid g c = λ numbered.
+    let inv = c.chunks.invariant in
+    let n = subst (λ q. AreChunksNumbered q.layout) (sym inv.geometry) numbered in
+    let looked = paid_within (inv.paid numbered) (omega arith) (c.next_chunk.ensures.most n) in
+    let p = err_from_is_err_and c.from_residual-in_err-report_chunk.result
+    c.from_residual-in_err-report_chunk.ensures.1 in
+    rw (p.1, p.2) (paid_then looked (paid_beside c.next_chunk.new.reads_left (c.in_err-report_chunk.ensures.paid numbered)))
+
+pub returns-clause-paid : goal.returns-clause-paid
+returns-clause-paid g c = grind (arith, paid_within)

@@ -1,0 +1,48 @@
+use Rattle.std.{proofs.Common.{◌≡◌, ℕ, List, map, ◌+◌, ◌*◌, ◌≤◌, length, Ok}, specs.List.flat_map}
+use Rattle.ffs_volume.specs.{Messages.Kinds.of_tree, Report.Reads.line_reads, Directories.Parents.graph_of}
+use Rattle.ffs_volume.specs.Directories.{Roles.{roled_chunk, roled_entries}, Volumes.volume_of}
+use Rattle.ffs_report.specs.{Known.ForBytes, Paid.Paid, PhaseOutcome.SaidOf, Progress.progress}
+use Rattle.ffs_names.specs.{Readings.rest, Costs.{directory_runs, to_read, HoldsReading}}
+use Rattle.ffs_workspace.specs.{Leaves.LeavesSurvey, Places.{AreChunksNumbered, AreNoted}}
+use Rattle.ffs_pathnames.specs.{Ready.ReadyWith, Gathers.passed_of, Stamps.KeepPlaces, Costs.report_reads}
+use Rattle.ffs_pathnames.specs.{DirectoryContext.BeginsPathOf, ReadsLeft.LeftForRuns, PassedNames.after_entries}
+use Rattle.ffs_pathnames.specs.PassedNames.{entries_reported}
+use Rattle.ffs_pathnames.proofs.entries.report_directory.Given as goal
+
+abbrev pub invariant-chunks : goal.invariant-chunks
+invariant-chunks g l =
+    let reported_by = g.I.Image.device in
+    let v = l.geometry.layout in
+    let x = l.directory in
+    let known = LeftForRuns v (reported_by l.fn.image) l.fn.workspace x l.fn.checking.reads_left in
+    let all = λ (b : List ℕ).
+    entries_reported (volume_of v b) x.number (passed_of l.fn.workspace) (roled_entries (volume_of v b) x.number) in
+    let to_come = λ (b : List ℕ).
+    entries_reported (volume_of v b) x.number (passed_of l.workspace) (flat_map roled_chunk (rest b l.chunks)) in
+    record {
+      ready : ReadyWith v (reported_by l.image) l.workspace l.checking.texts.kept_parent;
+      device : reported_by l.image ≡ reported_by l.fn.image;
+      geometry : l.chunks.walk.geometry ≡ l.geometry;
+      survey : LeavesSurvey l.fn.workspace l.workspace;
+      places : KeepPlaces l.fn.workspace.queue.items l.workspace.queue.items;
+      path : ForBytes known (λ b. BeginsPathOf (graph_of (volume_of v b)) x.number l.checking.texts);
+      passed : ForBytes known (λ b.
+          after_entries (volume_of v b) x.number (passed_of l.fn.workspace) (roled_entries (volume_of v b) x.number)
+          ≡ after_entries (volume_of v b) x.number (passed_of l.workspace) (flat_map roled_chunk (rest b l.chunks)));
+      held : ForBytes known (λ b. AreNoted v b l.fn.workspace.queue.items →
+          HoldsReading l.workspace.windows.blocks l.workspace.windows.chunk l.chunks);
+      reads : ForBytes known (λ b. AreNoted v b l.fn.workspace.queue.items →
+          g.I.Image.reads l.image + to_read b l.chunks + line_reads * length (to_come b)
+          ≤ g.I.Image.reads l.fn.image + report_reads v b x.number (length (all b)));
+      spent : ForBytes known (λ b. AreChunksNumbered v → l.fn.checking.reads_left + to_read b l.chunks
+          ≤ l.checking.reads_left + directory_runs v b x.number);
+      unlimited : (AreChunksNumbered v → ⊥) → l.checking.reads_left ≡ l.fn.checking.reads_left;
+      paid : AreChunksNumbered v → Paid {T = Unit {0}} line_reads (progress g.W.Output.sink l.fn.report)
+          (progress g.W.Output.sink l.report) (g.I.Image.reads l.fn.image + l.fn.checking.reads_left)
+          (g.I.Image.reads l.image + l.checking.reads_left) (Ok tt);
+      said : SaidOf known (λ b. map of_tree (to_come b)) (λ b. map of_tree (all b))
+          (progress g.W.Output.sink l.fn.report) (progress g.W.Output.sink l.report);
+    }
+
+abbrev pub decreases-chunks : goal.decreases-chunks
+decreases-chunks g l = l.chunks.budget

@@ -1,0 +1,81 @@
+use Rattle.std.proofs.{Common.{◌∙◌, ◌≡◌, ◌≤◌, ℕ, List, ap, arith, false, sym, subst}, lemmas.Bool.both_ways}
+use Rattle.ffs_image.{specs.{Device.Device, Limited.reads_asked}, proofs.Limits.read_over}
+use Rattle.ffs_workspace.proofs.Readiness.{ready_same}
+use Rattle.ffs_names.specs.Costs.{directory_cost}
+use Rattle.ffs_pathnames.{specs.DirectoryContext.DirectoryContext, proofs.{Carrying.if_ok, LimitedLaws.LookedBy}}
+use Rattle.ffs_pathnames.proofs.{LimitedLaws.looked, look.examine.{Given.Over, Goals.After-is_spent}}
+use Rattle.ffs_pathnames.proofs.look.examine.Goals as goal
+
+-- what became of the image below, and of the reads that were left
+after : (g : Over) (c : After-is_spent g) →
+    LookedBy (g.I.Image.device c.args.image.now) (g.I.Image.device c.examine_all-examined.new.image.below.now)
+    c.new-arg-1.given c.examine_all-examined.new.image.below.ghost_name (g.I.Image.reads c.args.image.now)
+    (g.I.Image.reads c.examine_all-examined.new.image.below.now) c.args.reads_left.now
+    c.examine_all-examined.new.image.left
+    (reads_asked c.examine_all-examined.new.image.limit c.examine_all-examined.new.image.left
+    c.examine_all-examined.new.image.spent) c.is_spent.result c.examine_all-examined.result
+after g c = looked (rw c.new-limited.ensures.device at c.examine_all-examined.ensures.leaves.read) c.is_spent.ensures.below
+
+-- what is known of the bytes is known of those of the limited image
+known : (g : Over) (c : After-is_spent g) (b : List ℕ) → DirectoryContext c.args.geometry.now.layout
+    (g.I.Image.device c.args.image.now).contents c.args.workspace.now c.args.dir b →
+    DirectoryContext c.args.geometry.now.layout (g.I.Image.device c.new-limited.result.begins.value).contents
+    c.args.workspace.now c.args.dir b
+known g c b k = subst (λ x. DirectoryContext c.args.geometry.now.layout x c.args.workspace.now c.args.dir b)
+    (sym (ap (λ (d : Device). d.contents) c.new-limited.ensures.device)) k
+
+-- no read of known bytes is refused
+answered : (g : Over) (c : After-is_spent g) (b : List ℕ) → DirectoryContext c.args.geometry.now.layout
+    (g.I.Image.device c.args.image.now).contents c.args.workspace.now c.args.dir b →
+    directory_cost c.args.geometry.now.layout b c.args.dir ≤ c.args.reads_left.now → c.is_spent.result ≡ false
+answered g c b k enough =
+    let asked = c.examine_all-examined.ensures.reads b (known g c b k) in
+    (after g c).served.few (omega (arith, asked, c.new-limited.ensures.asked, enough))
+
+pub returns-then-is_spent-clause-most : goal.returns-then-is_spent-clause-most
+returns-then-is_spent-clause-most g c =
+    let back = after g (goal.at.returns-then-is_spent-clause-most g c).After-is_spent in
+    let image = c.image-1.given.1 back.served.same_image ∙ c.drop-limited.ensures.below in
+    rw (image, c.left.ensures.value) back.most
+
+pub returns-clause-most : goal.returns-clause-most
+returns-clause-most g c =
+    let back = after g (goal.at.returns-clause-most g c).After-is_spent in
+    let image = c.image-2-1.given.1 back.served.same_image ∙ c.drop-limited-2.ensures.below in
+    rw (image, c.left.ensures.value) back.most
+
+pub returns-then-is_spent-clause-found : goal.returns-then-is_spent-clause-found
+returns-then-is_spent-clause-found g c = λ b k.
+    let at = (goal.at.returns-then-is_spent-clause-found g c).After-is_spent in
+    absurd (both_ways _ (answered g at b k.0 k.1) c.if-is_spent.true)
+
+pub returns-clause-found : goal.returns-clause-found
+returns-clause-found g c =
+    let at = (goal.at.returns-clause-found g c).After-is_spent in
+    if_ok c.examine_all-examined.result _ _ (λ e h b k. h b (known g at b k.0)) c.examine_all-examined.ensures.found
+
+pub returns-then-is_spent-clause-leaves : goal.returns-then-is_spent-clause-leaves
+returns-then-is_spent-clause-leaves g c =
+    let back = after g (goal.at.returns-then-is_spent-clause-leaves g c).After-is_spent in
+    let left = c.examine_all-examined.ensures.leaves in
+    let image = c.image-1.given.1 back.served.same_image ∙ c.drop-limited.ensures.below in
+    let over = read_over _ _ c.examine_all-examined.result (rw c.new-limited.ensures.device at left.read) in
+    rw image (record {
+      lists = left.lists;
+      ready = ready_same c.args.geometry.now.layout _ _ _ (back.served.contents ∙ sym over.contents)
+          (back.served.size ∙ sym over.size) left.ready;
+      read = back.served.refused c.if-is_spent.true;
+    })
+
+pub returns-clause-leaves : goal.returns-clause-leaves
+returns-clause-leaves g c =
+    let back = after g (goal.at.returns-clause-leaves g c).After-is_spent in
+    let left = c.examine_all-examined.ensures.leaves in
+    let image = c.image-2-1.given.1 back.served.same_image ∙ c.drop-limited-2.ensures.below in
+    let over = read_over _ _ c.examine_all-examined.result (rw c.new-limited.ensures.device at left.read) in
+    rw image (record {
+      lists = left.lists;
+      ready = ready_same c.args.geometry.now.layout _ _ _ (back.served.contents ∙ sym over.contents)
+          (back.served.size ∙ sym over.size) left.ready;
+      read = back.served.read c.if-is_spent.false;
+    })

@@ -1,0 +1,177 @@
+use Rattle.std.proofs.Common.{◌∙◌, ap, map, arith, length, ◌≡◌, ◌≤◌, ◌+◌, ℕ, List, option_map}
+use Rattle.std.proofs.lemmas.Result.{err_from_is_err_and}
+use Rattle.ffs_volume.specs.{Messages.Kinds.of_tree, Blocks.Inodes.inode_of, Directories.Volumes.volume_of}
+use Rattle.ffs_volume.specs.Directories.{Parents.graph_of, PathnameCheck.attributes, Paths.dir_path}
+use Rattle.ffs_report.proofs.{Reporting.{of_begins, of_reads}, Paying.{paid_answer, paid_failed, paid_beside}}
+use Rattle.ffs_report.proofs.Paying.{paid_fault, paid_none, paid_then}
+use Rattle.ffs_pathnames.specs.{ReadsLeft.LeftForLook, declared.look.Examination.Examination}
+use Rattle.ffs_pathnames.specs.{Begins.dir_header_lines, Header.header_reported, Costs.begin_reads}
+use Rattle.ffs_pathnames.{specs.DirectoryContext.DirectoryContext, proofs.{Passing.knows_on, Begun.said_same}}
+use Rattle.ffs_pathnames.proofs.{Begun.{fault_same, image_same, starts_are, begun_is}, StampLaws.windows_keep}
+use Rattle.ffs_pathnames.proofs.{StampLaws.{keep_more, noted_kept}, tree.begin_directory.Given.Over}
+use Rattle.ffs_pathnames.proofs.tree.begin_directory.Goals.{After-report_header}
+use Rattle.ffs_workspace.{proofs.Leaving.{leaves_more, survey_left, windows_leave}, specs.Places.AreNoted}
+use Rattle.ffs_paths.proofs.Keeping.{kept_parent_on}
+use Rattle.ffs_layout.specs.Entry.{entry_value}
+use Rattle.ffs_pathnames.proofs.tree.begin_directory.Goals as goal
+
+-- what is known before the lines are printed
+known : (g : Over) (c : After-report_header g) (b : List ℕ) → LeftForLook c.args.geometry.now.layout
+    (g.I.Image.device c.args.image.now) c.args.workspace.now c.args.dir c.args.checking.now.reads_left b →
+    DirectoryContext c.args.geometry.now.layout (g.I.Image.device c.examine.new.image).contents c.examine.new.workspace
+    c.args.dir b × (c.in_ok-examined.examined.inode.size ≡ (inode_of c.args.geometry.now.layout b c.args.dir).size)
+known g c b k = (
+  knows_on c.args.geometry.now.layout _ _ c.args.workspace.now c.examine.new.workspace c.args.dir b
+      (ap (λ d. d.contents) c.in_ok-examined.ensures.leaves.read) c.in_ok-examined.ensures.leaves.lists.survey
+      c.in_ok-examined.ensures.leaves.lists.places k.0,
+  ap (λ i. i.size) (c.in_ok-examined.ensures.found b k).inode,
+)
+
+-- the lines are the directory's
+lines_are : (g : Over) (c : After-report_header g) (b : List ℕ) → LeftForLook c.args.geometry.now.layout
+    (g.I.Image.device c.args.image.now) c.args.workspace.now c.args.dir c.args.checking.now.reads_left b →
+    header_reported (attributes (volume_of c.args.geometry.now.layout b) c.args.dir)
+    (dir_path (graph_of (volume_of c.args.geometry.now.layout b)) c.args.dir) c.args.dir c.parent_of-parent.result
+    c.in_ok-examined.examined.look.gap c.in_ok-examined.examined.look.sound
+    (option_map entry_value c.first_two.result.0) (option_map entry_value c.first_two.result.1)
+    ≡ dir_header_lines (volume_of c.args.geometry.now.layout b) c.args.dir
+lines_are g c b k =
+    let v = c.args.geometry.now.layout in
+    starts_are v b c.args.dir c.args.workspace.now c.examine.new.workspace c.in_ok-examined.examined _ _ _ _
+    (c.in_ok-examined.ensures.found b k) (c.parent_of-parent.ensures v b
+    (survey_left v b _ _ c.in_ok-examined.ensures.leaves.lists.survey k.0.survey))
+    c.first_two.ensures.first c.first_two.ensures.second
+
+-- the reads
+reads_few : (g : Over) (c : After-report_header g) (b : List ℕ) → LeftForLook c.args.geometry.now.layout
+    (g.I.Image.device c.args.image.now) c.args.workspace.now c.args.dir c.args.checking.now.reads_left b →
+    AreNoted c.args.geometry.now.layout b c.args.workspace.now.queue.items →
+    g.I.Image.reads c.report_header.new.image ≤ g.I.Image.reads c.args.image.now
+    + begin_reads c.args.geometry.now.layout b c.args.dir
+    (length (dir_header_lines (volume_of c.args.geometry.now.layout b) c.args.dir))
+reads_few g c b k noted =
+    let lists = c.in_ok-examined.ensures.leaves.lists in
+    let examined = c.examine.ensures.reads b k.0 in
+    let said = (c.report_header.ensures.counted b (known g c b k)
+    (noted_kept c.args.geometry.now.layout b _ c.examine.new.workspace.queue.items lists.places noted)).count in
+    let now = rw (lines_are g c b k) at said in
+    omega (arith, examined, now)
+
+pub report_header-requires : goal.report_header-requires
+report_header-requires g c =
+    let examined = c.in_ok-examined.ensures.leaves in
+    record {
+      ready = examined.ready;
+      kept_parent = kept_parent_on _ _ _ _ _ _ (ap (λ d. d.contents) examined.read) examined.lists.survey
+          examined.lists.places c.requires.ready.kept_parent;
+      number = c.requires.ready.number;
+    }
+
+pub returns-in_err-examined-clause-text : goal.returns-in_err-examined-clause-text
+returns-in_err-examined-clause-text g c =
+    let p = err_from_is_err_and c.from_residual.result c.from_residual.ensures.1 in
+    rw (p.1, p.2) (of_reads _ _ _ _ _ (of_begins _ _ _))
+
+pub returns-in_err-report_header-clause-text : goal.returns-in_err-report_header-clause-text
+returns-in_err-report_header-clause-text g c =
+    let p = err_from_is_err_and c.from_residual-in_err-report_header.result
+    c.from_residual-in_err-report_header.ensures.1 in
+    let report = (goal.at.returns-in_err-report_header-clause-text g c).After-report_header in
+    rw (p.1, p.2) (fault_same (Unit {0}) Examination _ _ _ _ _ _ c.in_err-report_header.field-0.0
+    (known g report) (λ b k. ap (map of_tree) (lines_are g report b k)) c.in_err-report_header.ensures.text)
+
+pub returns-clause-text : goal.returns-clause-text
+returns-clause-text g c =
+    let report = (goal.at.returns-clause-text g c).After-report_header in
+    said_same _ _ _ _ _ _ (known g report) (λ b k. ap (map of_tree) (lines_are g report b k))
+    c.in_ok-report_header.ensures.text
+
+pub returns-clause-begun : goal.returns-clause-begun
+returns-clause-begun g c = λ b k.
+    begun_is c.args.geometry.now.layout b c.args.dir c.args.workspace.now c.examine.new.workspace _
+    c.in_ok-examined.examined
+    _ (c.in_ok-examined.ensures.found b k) c.in_ok-examined.ensures.leaves.lists
+    c.in_ok-report_header.ensures.leaves.lists
+
+pub examine-requires-clause-ready : goal.examine-requires-clause-ready
+examine-requires-clause-ready g c = record { ready = c.requires.ready.ready; number = c.requires.ready.number }
+
+-- a read failed
+pub returns-in_err-examined-clause-begun : goal.returns-in_err-examined-clause-begun
+returns-in_err-examined-clause-begun g c =
+    let p = err_from_is_err_and c.from_residual.result c.from_residual.ensures.1 in rw p.1 tt
+
+pub returns-in_err-report_header-clause-begun : goal.returns-in_err-report_header-clause-begun
+returns-in_err-report_header-clause-begun g c =
+    let p = err_from_is_err_and c.from_residual-in_err-report_header.result
+    c.from_residual-in_err-report_header.ensures.1 in
+    rw p.1 tt
+
+pub returns-in_err-examined-clause-leaves : goal.returns-in_err-examined-clause-leaves
+returns-in_err-examined-clause-leaves g c =
+    let left = c.in_err-examined.ensures.leaves in
+    let p = err_from_is_err_and c.from_residual.result c.from_residual.ensures.1 in
+    rw (p.1, p.2) (record {
+      image = left.read;
+      survey = left.lists.survey;
+      places = left.lists.places;
+      ready = left.ready;
+    })
+
+pub returns-in_err-report_header-clause-leaves : goal.returns-in_err-report_header-clause-leaves
+returns-in_err-report_header-clause-leaves g c =
+    let one = c.in_ok-examined.ensures.leaves in
+    let two = c.in_err-report_header.ensures.leaves in
+    let p = err_from_is_err_and c.from_residual-in_err-report_header.result
+    c.from_residual-in_err-report_header.ensures.1 in
+    rw (p.1, p.2) (record {
+      image = image_same (Unit {0}) Examination _ _ _ c.in_err-report_header.field-0.0 one.read two.image;
+      survey = leaves_more _ _ _ one.lists.survey (windows_leave _ _ two.lists);
+      places = keep_more _ _ _ one.lists.places (windows_keep c.examine.new.workspace c.report_header.new.workspace
+          two.lists);
+      ready = two.ready;
+    })
+
+pub returns-clause-leaves : goal.returns-clause-leaves
+returns-clause-leaves g c =
+    let one = c.in_ok-examined.ensures.leaves in
+    let two = c.in_ok-report_header.ensures.leaves in
+    record {
+      image = two.image ∙ one.read;
+      survey = leaves_more _ _ _ one.lists.survey (windows_leave _ _ two.lists);
+      places = keep_more _ _ _ one.lists.places (windows_keep c.examine.new.workspace c.report_header.new.workspace
+          two.lists);
+      ready = two.ready;
+    }
+
+-- the reads
+pub returns-in_err-examined-clause-reads : goal.returns-in_err-examined-clause-reads
+returns-in_err-examined-clause-reads g c = λ b k noted.
+    let examined = c.examine.ensures.reads b k.0 in
+    omega (arith, examined)
+
+pub returns-in_err-report_header-clause-reads : goal.returns-in_err-report_header-clause-reads
+returns-in_err-report_header-clause-reads g c =
+    reads_few g (goal.at.returns-in_err-report_header-clause-reads g c).After-report_header
+
+pub returns-clause-reads : goal.returns-clause-reads
+returns-clause-reads g c = reads_few g (goal.at.returns-clause-reads g c).After-report_header
+
+-- what was read for messages
+pub returns-in_err-examined-clause-paid : goal.returns-in_err-examined-clause-paid
+returns-in_err-examined-clause-paid g c = λ numbered.
+    let p = err_from_is_err_and c.from_residual.result c.from_residual.ensures.1 in
+    rw (p.1, p.2) (paid_failed c.examine.ensures.most)
+
+pub returns-in_err-report_header-clause-paid : goal.returns-in_err-report_header-clause-paid
+returns-in_err-report_header-clause-paid g c = λ numbered.
+    let p = err_from_is_err_and c.from_residual-in_err-report_header.result
+    c.from_residual-in_err-report_header.ensures.1 in
+    rw (p.1, p.2) (paid_fault c.in_err-report_header.field-0.0
+    (paid_then (paid_none {T = Unit {0}} {x = tt} c.examine.ensures.most)
+    (paid_beside c.examine.new.reads_left (c.in_err-report_header.ensures.paid numbered))))
+
+pub returns-clause-paid : goal.returns-clause-paid
+returns-clause-paid g c = λ numbered.
+    paid_answer (paid_then (paid_none {T = Unit {0}} {x = tt} c.examine.ensures.most)
+    (paid_beside c.examine.new.reads_left (c.in_ok-report_header.ensures.paid numbered)))
