@@ -37,4 +37,6 @@ returns-clause-found g c = λ b t noted.
     ∙ (ap (λ k. list_any (is_naming_entry c.args.dir) (entries_in_chunk v b k)) (sym same) ∙ noted.named))
 
 pub returns-clause-reads : goal.returns-clause-reads
-returns-clause-reads g c = grind (arith, name_read)
+returns-clause-reads g c =
+    let read = c.in_ok-fill.ensures.fills in
+    name_read c.requires.ready read.room read.holds read.read
