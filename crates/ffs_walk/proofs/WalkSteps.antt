@@ -63,6 +63,9 @@ pub top_falls : (next used m s' d' t' s d t : ℕ) → next < used → s' + (d' 
     s' + (d' + (t' + (used - (next + 1)) * m)) < s + (d + (t + (used - next) * m))
 top_falls next used m s' d' t' s d t h le = grind arith
 
+pub joined_one : (S I F X Z : List Step) → S ≡ I ++ F → I ++ (F ++ X) ≡ Z → S ++ X ≡ Z
+joined_one S I F X Z split made = rw (split, append_assoc) made
+
 pub joined_two : (S D I F X Z : List Step) → S ≡ [] → D ≡ I ++ F → I ++ (S ++ (F ++ X)) ≡ Z → S ++ (D ++ X) ≡ Z
 joined_two S D I F X Z none split made = rw (none, split, append_assoc) (rw none at made)
 
