@@ -207,6 +207,7 @@ impl Walk {
 
     /// Takes the next step as `next` does, but doesn't end the walk where a read fails.
     #[inline(always)]
+    #[tactic(auto, using(crate::proofs::FrameSteps::item_below))]
     fn advance<I: Image>(
         &mut self,
         image: &mut I,

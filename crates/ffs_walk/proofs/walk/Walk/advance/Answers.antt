@@ -1,29 +1,8 @@
 use Rattle.ffs_walk.{proofs.WalkSteps.{joined_one, joined_two, joined_three, spent_rest}, specs.Rests.{most_at, file_blocks_of}}
-use Rattle.ffs_walk.proofs.{FrameSteps.item_below, Counted.{double_reads, triple_reads}}
+use Rattle.ffs_walk.proofs.Counted.{double_reads, triple_reads}
 use Rattle.std.proofs.Common.{ℕ, arith, rules, List, refl}
 use Rattle.ffs_volume.specs.Blocks.Steps.{steps_at}
 use Rattle.ffs_walk.proofs.walk.Walk.advance.Goals as goal
-
-pub step_in_single-requires : goal.step_in_single-requires
-step_in_single-requires g c = record {
-  below = grind (arith, item_below);
-  single = λ h. absurd (omega (arith, h));
-  double = λ h. absurd (omega (arith, h));
-}
-
-pub step_in_double-requires : goal.step_in_double-requires
-step_in_double-requires g c = record {
-  below = grind (arith, item_below);
-  single = λ h. c.is_left.ensures.spent c.if-is_left.false;
-  double = λ h. absurd (omega (arith, h));
-}
-
-pub step_in_triple-requires : goal.step_in_triple-requires
-step_in_triple-requires g c = record {
-  below = grind (arith, item_below);
-  single = λ h. c.is_left.ensures.spent c.if-is_left.false;
-  double = λ h. c.is_left-2.ensures.spent c.if-is_left-2.false;
-}
 
 pub invariant_of-self-then-is_left-2 : goal.invariant_of-self-then-is_left-2
 invariant_of-self-then-is_left-2 g c = grind arith
