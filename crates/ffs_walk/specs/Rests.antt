@@ -135,19 +135,17 @@ pub record IsFirstOf (level : ℕ) (item : Item) (old new : Walk) (step : Step) 
   pub same : SameFileBlocks old new
   pub counted : EntersOnly old new (entered step)
 
--- the step at the next of the inode's own addresses is taken, whatever the image holds
-pub record IsTopStep (old new : Walk) (answer : Option Step) : Type 0 where
-  pub step : (contents : Option (List ℕ)) → IsNextStep contents old new answer
-  pub over : old.next ≡ old.used → (answer ≡ None) × (new ≡ old)
-  pub same : SameFileBlocks old new
-  pub counted : EntersOnly old new (entered_by answer)
-
 -- the next step of a walk is given, or a read failed; a walk that is over stays so
 pub record GivesStep (contents : Option (List ℕ)) (old new : Walk) (result : Result (Option Step) ImageFault) :
     Type 0 where
   pub step : IfOk result (IsNextStep contents old new)
   pub over : IsOver old → (result ≡ Ok None) × (new ≡ old)
   pub same : SameFileBlocks old new
+
+-- the step at the next of the inode's own addresses is given, whatever the image holds
+pub record IsTopStep (old new : Walk) (answer : Option Step) : Type 0 where
+  pub gives : (contents : Option (List ℕ)) → GivesStep contents old new (Ok answer)
+  pub counted : EntersOnly old new (entered_by answer)
 
 -- the next step of a walk is taken, and the walk has the others left; it is over after a failed
 -- read. Only a block that was still to be read is read
