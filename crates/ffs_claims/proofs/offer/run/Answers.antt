@@ -3,31 +3,42 @@ use Rattle.ffs_workspace.specs.Holds.{claims_of}
 use Rattle.ffs_claims.proofs.StepsContinue.{run_stops, run_stops_later, run_said}
 use Rattle.ffs_claims.proofs.offer.run.Goals as goal
 
-pub returns-in_err-say_bad-clause-claiming : goal.returns-in_err-say_bad-clause-claiming
-returns-in_err-say_bad-clause-claiming g c = record {
-  said = let p = err_from_is_err_and c.from_residual.result c.from_residual.ensures.1 in
-      rw (p.1) (run_stops _ _ (claims_of c.args.workspace.now) c.args.run.start c.args.run.len
-      (sym c.in_range.ensures.value ∙ c.if-in_range.false) c.in_err-say_bad.ensures);
-  claims = search rules;
-  left = search rules;
-}
+pub returns-in_err-say_bad : goal.returns-in_err-say_bad
+returns-in_err-say_bad g c =
+    let p = err_from_is_err_and c.from_residual.result c.from_residual.ensures.1 in
+    rw (p.1) (record {
+      said = run_stops _ _ (claims_of c.args.workspace.now) c.args.run.start c.args.run.len
+          (sym c.in_range.ensures.value ∙ c.if-in_range.false) c.in_err-say_bad.ensures;
+      claims = tt;
+      left = search rules;
+      runs = omega arith;
+      counted = omega arith;
+    })
 
-pub returns-in_err-offers_of_bad_run-clause-claiming : goal.returns-in_err-offers_of_bad_run-clause-claiming
-returns-in_err-offers_of_bad_run-clause-claiming g c = record {
-  said = let p = err_from_is_err_and c.from_residual-in_err-offers_of_bad_run.result
-      c.from_residual-in_err-offers_of_bad_run.ensures.1 in
-      rw (p.1) (run_stops_later _ _ (claims_of c.args.workspace.now) c.args.run.start c.args.run.len
-      (sym c.in_range.ensures.value ∙ c.if-in_range.false) (grind (arith, nat_tests)) c.in_ok-say_bad.ensures
-      c.in_err-offers_of_bad_run.ensures.said);
-  claims = search rules;
-  left = search rules;
-}
+pub returns-in_err-offers_of_bad_run : goal.returns-in_err-offers_of_bad_run
+returns-in_err-offers_of_bad_run g c =
+    let p = err_from_is_err_and c.from_residual-in_err-offers_of_bad_run.result
+    c.from_residual-in_err-offers_of_bad_run.ensures.1 in
+    let only = c.offers_of_bad_run.ensures.only in
+    rw (p.1) (record {
+      said = run_stops_later _ _ (claims_of c.args.workspace.now) c.args.run.start c.args.run.len
+          (sym c.in_range.ensures.value ∙ c.if-in_range.false) (grind (arith, nat_tests)) c.in_ok-say_bad.ensures
+          c.in_err-offers_of_bad_run.ensures.said;
+      claims = tt;
+      left = search rules;
+      runs = omega (arith, only.runs);
+      counted = omega (arith, only.runs);
+    })
 
-pub returns-clause-claiming : goal.returns-clause-claiming
-returns-clause-claiming g c = record {
-  said = run_said _ _ (claims_of c.args.workspace.now) c.args.run.start c.args.run.len
-      (sym c.in_range.ensures.value ∙ c.if-in_range.false) (grind (arith, nat_tests)) c.in_ok-say_bad.ensures
-      c.in_ok-offers_of_bad_run.ensures.said;
-  claims = search rules;
-  left = search rules;
-}
+pub returns : goal.returns
+returns g c =
+    let only = c.offers_of_bad_run.ensures.only in
+    record {
+      said = run_said _ _ (claims_of c.args.workspace.now) c.args.run.start c.args.run.len
+          (sym c.in_range.ensures.value ∙ c.if-in_range.false) (grind (arith, nat_tests)) c.in_ok-say_bad.ensures
+          c.in_ok-offers_of_bad_run.ensures.said;
+      claims = search rules;
+      left = search rules;
+      runs = omega (arith, only.runs);
+      counted = omega (arith, only.runs);
+    }
