@@ -1,6 +1,6 @@
 //! The offers of Runs, and what is reported of them.
 
-ghost use Rattle.std.specs.Prelude.{◌≡◌, ◌≤◌, IfOk, IsTrue, true};
+ghost use Rattle.std.specs.Prelude.{◌≡◌, ◌≤◌, IsTrue, true};
 ghost use Rattle.ffs_volume.specs.Blocks.Claims.{after_offer, after_run, after_step, run_lines, step_lines};
 ghost use Rattle.ffs_volume.specs.{Disk.Areas.{is_fragment_in_range, is_run_in_range}, Laws.RunLengths.HasLength};
 ghost use Rattle.ffs_report.specs.Progress.{progress};
@@ -90,30 +90,6 @@ fn offers<W: Output>(
     Ok(())
 }
 
-/// Takes a Run in range of the current inode: it is claimed at once where its fragments are all
-/// unclaimed and lie in one word of the map. Returns whether the next step is seen.
-fn run_in_range<W: Output>(
-    workspace: &mut Workspace,
-    geometry: &Geometry,
-    number: u32,
-    run: Run,
-    report: &mut Report<'_, W>,
-) -> Result<bool, OutFault>
-    requires can { CanOffer geometry.now.layout workspace.old run.len true
-        (is_run_in_range geometry.now.layout run.start run.len) }
-    requires open { claims.is_open (claims_of workspace.old) ≡ true }
-    ensures offers { TakesOffers geometry.now.layout number run (progress W.sink report.old)
-        (progress W.sink report.new) workspace.old workspace.new result }
-    ensures seen { IfOk result (λ seen. seen ≡ claims.is_open (claims_of workspace.new)) }
-{
-    if workspace.used.claim(run.start, run.len) {
-        workspace.kept += u64::from(run.len);
-        return Ok(true);
-    }
-    offers(workspace, geometry, number, run, true, report)?;
-    Ok(is_open(workspace))
-}
-
 /// Takes the offers of a bad Run of the current inode, which isn't cut. No fragment past the volume
 /// is in range: so a Run that begins there is kept at once, and nothing of it is claimed or dup.
 fn offers_of_bad_run<W: Output>(
@@ -135,7 +111,8 @@ fn offers_of_bad_run<W: Output>(
     offers(workspace, geometry, number, run, false, report)
 }
 
-/// Takes a Run of the current inode. Returns whether the next step is seen.
+/// Takes a Run of the current inode: one in range is claimed at once where its fragments are all
+/// unclaimed and lie in one word of the map. Returns whether the next step is seen.
 fn run<W: Output>(
     workspace: &mut Workspace,
     geometry: &Geometry,
@@ -153,7 +130,12 @@ fn run<W: Output>(
 {
     workspace.runs_seen += 1;
     if area.in_range(geometry, run) {
-        return run_in_range(workspace, geometry, number, run, report);
+        if workspace.used.claim(run.start, run.len) {
+            workspace.kept += u64::from(run.len);
+            return Ok(true);
+        }
+        offers(workspace, geometry, number, run, true, report)?;
+        return Ok(is_open(workspace));
     }
     let is_eleventh = workspace.bad == MAXBAD;
     workspace.bad += 1;
