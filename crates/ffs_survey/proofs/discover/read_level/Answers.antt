@@ -17,7 +17,7 @@ loop-at-preserved g c =
     let level = take c.args.high old.queue.now.items in
     let place = c.loop-at.at in
     let inside : place < length level =
-    omega (arith, length-take c.args.high old.queue.now.items, c.loop-at-test.true, c.requires.room.queue) in
+    omega (arith, length-take c.args.high old.queue.now.items, c.loop-at-test.true, c.requires.can.room) in
     let is : c.number_of-from.result ≡ number_at level place =
     c.number_of-from.ensures ∙ number_kept place c.loop-at-test.true inv.extends in
     let read = rw is at found.read in
@@ -27,7 +27,7 @@ loop-at-preserved g c =
       ready = search rules;
       base = search rules;
       device = search rules;
-      reads = let r = rw (inv.base, is) at done.counted in
+      reads = let r = rw (inv.base, is) at done.leaves.reader.counted in
           λ b k. omega (arith, r b k, inv.reads b k, next_cost (g.D.Directories.cost base b) level place inside);
       same = record { lent = done.leaves.lists.lent ∙ inv.same.lent };
       from = omega (arith, inv.from);
@@ -50,17 +50,25 @@ loop-at-preserved g c =
 pub returns-clause-found : goal.returns-clause-found
 returns-clause-found g c = grind (arith, keeps_queue, empty_level)
 
-pub returns-in_err-top-clause-counted : goal.returns-in_err-top-clause-counted
-returns-in_err-top-clause-counted g c =
+pub returns-in_err-top-clause-leaves : goal.returns-in_err-top-clause-leaves
+returns-in_err-top-clause-leaves g c =
     let inv = c.loop-at.invariant in
     let queue = c.args.lists.now.queue.now.items in
     let level = take c.args.high queue in
     let place = c.loop-at.at in
     let inside : place < length level =
-    omega (arith, length-take c.args.high queue, c.loop-at-test.true, c.requires.room.queue) in
+    omega (arith, length-take c.args.high queue, c.loop-at-test.true, c.requires.can.room) in
     let is : c.number_of-from.result ≡ number_at level place =
     c.number_of-from.ensures ∙ number_kept place c.loop-at-test.true inv.extends in
-    let read = rw (inv.base, is) at c.in_err-top.ensures.counted in
-    λ b k.
-    let next = next_cost (g.D.Directories.cost (g.D.Directories.base c.args.directories.now) b) level place inside in
-    omega (arith, inv.reads b k, read b k, next)
+    let read = rw (inv.base, is) at c.in_err-top.ensures.leaves.reader.counted in
+    record {
+      reader = record {
+        is_ready = search rules;
+        same = search rules;
+        read = search rules;
+        counted = λ b k.
+            let next = next_cost (g.D.Directories.cost (g.D.Directories.base c.args.directories.now) b) level place inside in
+            omega (arith, inv.reads b k, read b k, next);
+      };
+      lists = search rules;
+    }

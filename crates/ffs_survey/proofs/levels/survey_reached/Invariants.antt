@@ -1,5 +1,5 @@
 use Rattle.std.proofs.Common.{◌≡◌, ℕ, ◌+◌, ◌≤◌, ◌-◌, List, length, take, sum_by}
-use Rattle.ffs_survey.specs.Discover.{HasRoomForLevel, AtSomeLevel, IsCount}
+use Rattle.ffs_survey.{specs.Discover.IsCount, proofs.NextLevel.{HasRoomForLevel, AtSomeLevel}}
 use Rattle.ffs_survey.specs.{Calm.AreCalm, Lent.SameLists, Survey.graph_with}
 use Rattle.ffs_survey.proofs.levels.survey_reached.Given as goal
 
