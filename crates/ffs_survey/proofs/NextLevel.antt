@@ -1,14 +1,15 @@
 -- From one level to the next: what is known of a level in the queue, and of the next one once the
 -- level is read and what it discovered is sorted.
-use Rattle.std.proofs.Common.{◌≡◌, ◌++◌, ℕ, ◌+◌, ◌-◌, ◌*◌, ◌^◌, ◌<◌, ◌≤◌, Bool, List, length, take, drop, arith, ◌∙◌, ap}
-use Rattle.std.specs.{declared.vec.Vec.Vec, declared.alloc.Global.Global}
+use Rattle.std.proofs.Common.{◌≡◌, ◌++◌, ℕ, ◌+◌, ◌-◌, ◌*◌, ◌^◌, ◌<◌, ◌≤◌, Bool, List, length, take, drop, arith, ◌∙◌}
+use Rattle.std.{proofs.Common.{ap, All, true}, specs.declared.{vec.Vec.Vec, alloc.Global.Global}}
 use Rattle.ffs_volume.specs.Directories.{Graph.Graph, Roles.RoledEntry}
 use Rattle.ffs_memory.specs.Filled.{SortsPart}
 use Rattle.ffs_survey.specs.declared.lists.Lists.{Lists}
-use Rattle.ffs_survey.specs.{Lent.{SameLists, found_up_to}, Levels.Discovers, Survey.{number_at, graph_with}}
+use Rattle.ffs_survey.specs.{Lent.{SameLists, found_up_to, CountsAtMost}, Levels.Discovers, Discover.IsReachedDir}
 use Rattle.ffs_survey.specs.Discover.{Found, Extends, SameResult, IsFrontier, LevelsKnown, from_dirs, nothing, unset}
-use Rattle.ffs_survey.proofs.{Frontiers.sane_of, Lending.{kinds_long, queue_long}}
-use Rattle.ffs_survey.proofs.Queues.{level_after, queue_parts, same_result_after}
+use Rattle.ffs_survey.specs.Survey.{dir_at, number_at, graph_with}
+use Rattle.ffs_survey.proofs.{CalmLaws.frontier_reached, Frontiers.{frontier_dirs, sane_of}, Lending.kinds_long}
+use Rattle.ffs_survey.proofs.{Lending.queue_long, Queues.{level_after, queue_parts, same_result_after}}
 
 -- A level is in the queue from `low` to `high`: after it there is room for all that isn't reached
 -- yet, and no inode has more references than its start and the directories before it can give.
@@ -28,10 +29,19 @@ pub record AtSomeLevel (g : Graph) (low high : ℕ) (reached : List Bool) (paren
   pub at : AtLevel g depth low high reached parents queue
 
 -- the queue has fewer than 2^31 places, so no count is past 2^59
-pub few_counted : {low high : ℕ} {references : List ℕ} {reached : List Bool} {queue : List ℕ} →
-    HasRoomForLevel low high references reached queue → length queue < 2 ^ 31 → (x : ℕ) → x < length references →
-    number_at references x ≤ 2 ^ 59
-few_counted {low = low} r few x l = omega (arith, r.ordered, r.room, r.counted x l)
+pub few_counted : (l : Lists) {low high : ℕ} →
+    HasRoomForLevel low high l.references.now.items l.reached.now l.queue.now.items → CountsAtMost (2 ^ 59) l
+few_counted l r x b = omega (arith, r.ordered, r.room, l.long.queue_long, l.long.few,
+    r.counted x (omega (arith, b, l.long.references_long)))
+
+-- all of a level is reached
+pub level_reached : {kinds q p : List ℕ} {r : List Bool} {low high : ℕ} (entries : ℕ → List RoledEntry) →
+    dir_at kinds 2 ≡ true → AtSomeLevel (graph_with kinds entries) low high r p q →
+    All (IsReachedDir kinds r) (drop low (take high q))
+level_reached entries root level i d l = record {
+  dir = frontier_dirs level.at.frontier root i d l;
+  is_reached = frontier_reached level.at.frontier level.at.levels i d l;
+}
 
 pub next_room : {here mid : Lists} {new : Vec ℕ Global} {low high end : ℕ} {reads : Found → Found → Type 0} →
     SameLists here mid → HasRoomForLevel low high here.references.now.items here.reached.now here.queue.now.items →
@@ -50,16 +60,16 @@ next_room {here = here} {mid = mid} {new = new} {high = high} {end = end} same r
 }
 
 pub next_at : {old : List ℕ} {mid new : Vec ℕ Global} {r r' : List Bool} {p p' : List ℕ} {low high end : ℕ}
-    (kinds : List ℕ) (entries : ℕ → List RoledEntry) → 2 < length kinds → Extends high end old mid.items → SortsPart mid new high end →
+    (kinds : List ℕ) (entries : ℕ → List RoledEntry) → 2 < length kinds → Extends high end old mid.items →
+    SortsPart mid new high end →
     SameResult (from_dirs (graph_with kinds entries) (drop low (take high old))) r p (take high old) nothing r' p'
     (take end mid.items) → (depth : ℕ) → AtLevel (graph_with kinds entries) depth low high r p old →
     AtLevel (graph_with kinds entries) (depth + 1) high end r' p' new.items
 next_at {old = old} {mid = mid} {new = new} {high = high} {end = end} kinds entries some kept sorted read depth at =
-    let before : take high new.items ≡ take high old = sorted.before ∙ kept.kept in
-    let parts : take end mid.items ≡ take high old ++ drop high (take end mid.items) =
-    queue_parts high end mid.items kept.ordered ∙ ap (λ z. z ++ drop high (take end mid.items)) kept.kept in
-    let whole : take end new.items ≡ take high old ++ drop high (take end new.items) =
-    queue_parts high end new.items kept.ordered ∙ ap (λ z. z ++ drop high (take end new.items)) before in
+    let parts : (q : List ℕ) → take high q ≡ take high old → take end q ≡ take high old ++ drop high (take end q) =
+    λ q h. queue_parts high end q kept.ordered ∙ ap (λ z. z ++ drop high (take end q)) h in
+    let mid_parts = parts mid.items kept.kept in
     let n = level_after (sane_of kinds entries some) at.frontier at.levels
-    (same_result_after (take high old) (drop high (take end mid.items)) (rw parts at read)) sorted.moved sorted.rising in
-    record { frontier = n.frontier; levels = rw whole n.knows }
+    (same_result_after (take high old) (drop high (take end mid.items)) (rw mid_parts at read)) sorted.moved
+    sorted.rising in
+    record { frontier = n.frontier; levels = rw (parts new.items (sorted.before ∙ kept.kept)) n.knows }

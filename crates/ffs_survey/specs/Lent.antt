@@ -5,8 +5,9 @@ use Rattle.std.specs.Prelude.{vec_len}
 use Rattle.ffs_image.specs.{Reads.ReadAfter, declared.image.ImageFault.ImageFault}
 use Rattle.ffs_volume.specs.Directories.Roles.{RoledEntry}
 use Rattle.ffs_survey.specs.declared.{lists.{Lists.Lists, NumberLists.NumberLists, CurrentDir.CurrentDir as LentDir}}
-use Rattle.ffs_survey.specs.{declared.directories.Directories.Ghosts, Survey.{number_at, bool_at}, Calm.CurrentDir}
-use Rattle.ffs_survey.specs.{Costs.costs_below, Discover.{Found, unset, IsReachedDir}, Levels.ReadsAllReached}
+use Rattle.ffs_survey.specs.{declared.directories.Directories.Ghosts, Survey.{number_at, bool_at, graph_with}}
+use Rattle.ffs_survey.specs.{Calm.{CurrentDir, AreCalm}, Costs.costs_below}
+use Rattle.ffs_survey.specs.Discover.{Found, unset, IsReachedDir, IsReachedPart}
 
 -- what the lists hold
 abbrev pub all_found : Lists → Found
@@ -156,11 +157,13 @@ module _ {S : Type 0} (D : Ghosts S) where
     pub read : ReadAfter (D.device old) (D.device new) result
     pub counted : (b : List ℕ) → D.knows (D.base old) b → D.held old → D.reads new ≤ D.reads old + D.to_read old b
 
-  -- all directories that are reached from inode 2 are read, each once. No inode has more than 2^59
-  -- references then
+  -- all directories that are reached from inode 2 are read, each once, and references counted on from
+  -- what the lists held. No inode has more than 2^59 of them then
   pub record ReadsEachReached (old new : S) (l l' : Lists) : Type 0 where
     pub counts : CountsAtMost (2 ^ 59) l'
-    pub read : ForKnown old (λ entries right_shape. ReadsAllReached l.kinds.now l.marked.now entries right_shape
-        l.references.now.items (all_found l'))
+    pub part : ForKnown old (λ entries right_shape. IsReachedPart (graph_with l.kinds.now entries)
+        l.references.now.items l'.references.now.items l'.named.now l'.reached.now l'.parents.now.items)
+    pub calm : ForKnown old (λ entries right_shape. AreCalm l.kinds.now l.marked.now l'.reached.now
+        l'.parents.now.items entries right_shape l'.calm.now)
     pub once : (b : List ℕ) → D.knows (D.base old) b → D.reads new ≤ D.reads old
         + costs_below (bool_at l'.reached.now) (D.cost (D.base old) b) (length l.kinds.now)

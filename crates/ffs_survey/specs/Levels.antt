@@ -2,7 +2,7 @@
 use Rattle.std.specs.Prelude.{◌≡◌, ℕ, ◌+◌, ◌<◌, ◌≤◌, ◌==◌, Bool, ◌&&◌, cond, List, [], ◌∷◌, length, take}
 use Rattle.ffs_volume.specs.Directories.Roles.{RoledEntry}
 use Rattle.ffs_survey.specs.{Survey.{bool_at, number_at, graph_with, IsSurvey}, Calm.{are_calm, AreCalm, IsFlagged}}
-use Rattle.ffs_survey.specs.Discover.{Found, SameResult, Counts, Extends, IsReachedPart, from_entries, from_dirs}
+use Rattle.ffs_survey.specs.Discover.{Found, SameResult, Counts, Extends, from_entries, from_dirs}
 use Rattle.ffs_survey.specs.Discover.{nothing, count_in, any_in, count_of, any_of, none, never, is_unreached_dir, unset}
 use Rattle.ffs_survey.specs.Lists.{GrowsBy}
 
@@ -44,32 +44,15 @@ pub record Adds (n most : ℕ) (reads : Found → Found → Type 0) (old new : F
   pub grown : GrowsBy n most old.references new.references
   pub read : reads old new
 
--- the directories that are flagged stay calm when more is read
-abbrev pub StayCalm : List ℕ → List Bool → (ℕ → List RoledEntry) → (ℕ → Bool) → Found → Found → Type 0
-StayCalm kinds marked entries right_shape old new =
-    AreCalm kinds marked old.reached old.parents entries right_shape old.calm
-    → AreCalm kinds marked new.reached new.parents entries right_shape new.calm
-
--- the references and names in these directories are added
-abbrev pub CountsDirs : List ℕ → (ℕ → List RoledEntry) → List ℕ → Found → Found → Type 0
-CountsDirs kinds entries dirs old new =
-    Counts (length kinds) (count_of (graph_with kinds entries) dirs) (any_of (graph_with kinds entries) dirs)
-    old.references old.named none never new.references new.named
-
 -- these reached directories are read
 pub record ReadsDirs (kinds : List ℕ) (marked : List Bool) (dirs : List ℕ) (entries : ℕ → List RoledEntry)
     (right_shape : ℕ → Bool) (old new : Found) : Type 0 where
   pub same_result : SameResult (from_dirs (graph_with kinds entries) dirs) old.reached old.parents old.queue nothing
       new.reached new.parents new.queue
-  pub counts : CountsDirs kinds entries dirs old new
-  pub calm : StayCalm kinds marked entries right_shape old new
-
--- all reached directories are read, and references counted on from these starts
-pub record ReadsAllReached (kinds : List ℕ) (marked : List Bool) (entries : ℕ → List RoledEntry)
-    (right_shape : ℕ → Bool)
-    (starts : List ℕ) (new : Found) : Type 0 where
-  pub part : IsReachedPart (graph_with kinds entries) starts new.references new.named new.reached new.parents
-  pub calm : AreCalm kinds marked new.reached new.parents entries right_shape new.calm
+  pub counts : Counts (length kinds) (count_of (graph_with kinds entries) dirs) (any_of (graph_with kinds entries) dirs)
+      old.references old.named none never new.references new.named
+  pub calm : AreCalm kinds marked old.reached old.parents entries right_shape old.calm
+      → AreCalm kinds marked new.reached new.parents entries right_shape new.calm
 
 -- a survey of these directories, counted on from these starts, and flags of calm ones
 pub record FindsSurvey (kinds : List ℕ) (marked : List Bool) (entries : ℕ → List RoledEntry) (right_shape : ℕ → Bool)

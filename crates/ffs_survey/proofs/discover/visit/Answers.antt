@@ -18,7 +18,7 @@ returns-clause-visits c =
     let u = unset-set lists.reached.now c.args.entry.number (omega (arith, b)) n.unmarked in
     record {
       ends = omega (arith, u);
-      same_result = rw (c.set.ensures.items, c.set-2.ensures.items) (visit_hit lists.queue.now.items c.args.current.now.dir
-          c.args.top n (omega (arith, b)) (omega (arith, b)) (omega (arith, u)));
+      same_result = rw (c.set.ensures.items, c.set-2.ensures.items) (visit_hit lists.queue.now.items
+          c.args.current.now.dir c.args.top n (omega (arith, b)) (omega (arith, b)) (omega (arith, u)));
       extends = grind (arith, common_steps);
     }
