@@ -5,10 +5,13 @@ use Rattle.ffs_workspace.specs.Holds.{claims_of}
 use Rattle.ffs_claims.proofs.{StepsContinue.{run_stops, run_stops_later, run_said}, UnclaimedRuns.{whole_is, run_below}}
 use Rattle.ffs_claims.proofs.offer.run.Goals as goal
 
-pub claim-requires-clause-below : goal.claim-requires-clause-below
-claim-requires-clause-below g c =
+pub claim-requires : goal.claim-requires
+claim-requires g c =
     let fits = sym c.in_range.ensures.value ∙ c.if-in_range.true in
-    omega (arith, run_below _ c.args.run.start c.args.run.len c.args.run.some fits, c.requires.made.used)
+    record {
+      some = c.args.run.some;
+      below = omega (arith, run_below _ c.args.run.start c.args.run.len c.args.run.some fits, c.requires.made.used);
+    }
 
 pub returns-then-claim : goal.returns-then-claim
 returns-then-claim g c =
