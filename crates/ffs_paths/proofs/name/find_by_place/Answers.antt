@@ -41,5 +41,5 @@ returns-clause-leaves g c =
     let read = c.in_ok-fill.ensures.fills in
     record {
       reads = name_read c.requires.ready read.room read.holds read.read;
-      counted = record { count = c.in_ok-fill.ensures.counted; blocks = refl };
+      counted = record { count = read.counted; blocks = refl };
     }
