@@ -1,10 +1,9 @@
--- What the lists of a survey keep over a call: kinds and marks, and their lengths; and what a call
--- leaves, by its parts.
+-- What a call leaves of the lists of a survey and of its reader.
 use Rattle.std.proofs.Common.{◌≡◌, ◌+◌, ◌≤◌, ℕ, Bool, List, Result, ap, length, sym, ◌∙◌}
 use Rattle.ffs_image.specs.{Reads.ReadAfter, declared.image.ImageFault.ImageFault}
 use Rattle.ffs_volume.specs.Directories.Roles.{RoledEntry}
-use Rattle.ffs_survey.specs.{Discover.Found, Levels.FindsSurvey, Lent.{lent_in, SameLists, LeavesLent}, declared.lists.Lists.Lists}
-use Rattle.ffs_survey.specs.declared.directories.Directories.{Ghosts}
+use Rattle.ffs_survey.specs.{Levels.FindsSurvey, Lent.{lent_in, SameLists, LeavesLent}}
+use Rattle.ffs_survey.specs.declared.{lists.Lists.Lists, directories.Directories.Ghosts}
 
 pub same_kinds : {old new : Lists} → SameLists old new → new.kinds.now ≡ old.kinds.now
 same_kinds same = ap (λ l. l.kinds) same.lent
@@ -38,8 +37,8 @@ leaves_by D ready base read same counted =
     record { reader = record { is_ready = ready; same = base; read = read; counted = counted }; lists = same }
 
 -- a survey in lists that hold the same
-pub finds_same : {kinds starts : List ℕ} {marked : List Bool} {entries : ℕ → List RoledEntry} {right_shape : ℕ → Bool}
-    (old : Found) {new : Found} → FindsSurvey kinds marked entries right_shape starts old →
-    new.references ≡ old.references → new.named ≡ old.named → new.reached ≡ old.reached → new.parents ≡ old.parents →
-    new.calm ≡ old.calm → FindsSurvey kinds marked entries right_shape starts new
-finds_same old s r n m p c = record { survey = rw (r, n, m, p) s.survey; calm = rw (m, p, c) s.calm }
+pub finds_same : {kinds starts f f' p p' : List ℕ} {marked m m' r r' calm calm' : List Bool}
+    {entries : ℕ → List RoledEntry} {right_shape : ℕ → Bool} → f' ≡ f → m' ≡ m → r' ≡ r → p' ≡ p → calm' ≡ calm →
+    FindsSurvey kinds marked entries right_shape starts f m r p calm →
+    FindsSurvey kinds marked entries right_shape starts f' m' r' p' calm'
+finds_same ef em er ep ec s = record { survey = rw (ef, em, er, ep) s.survey; calm = rw (er, ep, ec) s.calm }

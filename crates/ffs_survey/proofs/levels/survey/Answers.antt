@@ -1,7 +1,7 @@
 use Rattle.std.proofs.Common.{ap, length, rules, ◌∙◌}
 use Rattle.ffs_survey.proofs.{CalmLaws.{calm_unreached, read_stays}, Costs.costs_both, Frontiers.sane_of}
 use Rattle.ffs_survey.proofs.{Lending.{finds_same, kinds_long, same_kinds}, UnreachedLaws.survey_whole}
-use Rattle.ffs_survey.{proofs.UnreachedLaws.unreached_blank, specs.Lent.all_found}
+use Rattle.ffs_survey.proofs.UnreachedLaws.{unreached_blank}
 use Rattle.ffs_survey.proofs.levels.survey.Goals as goal
 
 pub returns-clause-found : goal.returns-clause-found
@@ -18,14 +18,15 @@ returns-clause-found g c =
     let entries = g.D.Directories.entries (g.D.Directories.base c.args.directories.now) b in
     let part = first.found.part b k in
     let more = adds b k (unreached_blank inodes.kinds.now entries part) in
-    finds_same (all_found new) (record {
+    finds_same {f = new.references.now.items} {p = new.parents.now.items} {m = new.named.now} {r = new.reached.now}
+    {calm = new.calm.now} (search rules) (search rules) (search rules) (search rules) (search rules) (record {
       survey = rw second.leaves.kept.reached (survey_whole inodes.kinds.now entries
           (sane_of inodes.kinds.now entries c.requires.lists.some) reached_long
           (new.long.parents_long ∙ kinds_long second.leaves.lent.lists ∙ ap length kinds) c.limit_starts.ensures.starts
           part more);
       calm = rw (second.leaves.kept.reached, second.leaves.kept.calm) (calm_unreached found.calm.now
           (read_stays more reached_long) (first.found.calm b k));
-    }) (search rules) (search rules) (search rules) (search rules) (search rules)
+    })
 
 pub returns-clause-leaves : goal.returns-clause-leaves
 returns-clause-leaves g c =
