@@ -1,9 +1,9 @@
--- What the lists of a survey keep over a call: kinds and marks, and their lengths; and what a call
--- leaves, by its parts.
-use Rattle.std.proofs.Common.{◌≡◌, ◌+◌, ◌≤◌, ℕ, List, Result, ap, length, sym, ◌∙◌}
+-- What a call leaves of the lists of a survey and of its reader.
+use Rattle.std.proofs.Common.{◌≡◌, ◌+◌, ◌≤◌, ℕ, Bool, List, Result, ap, length, sym, ◌∙◌}
 use Rattle.ffs_image.specs.{Reads.ReadAfter, declared.image.ImageFault.ImageFault}
-use Rattle.ffs_survey.specs.{Lent.{lent_in, SameLists, LeavesLent}, declared.lists.Lists.Lists}
-use Rattle.ffs_survey.specs.declared.directories.Directories.{Ghosts}
+use Rattle.ffs_volume.specs.Directories.Roles.{RoledEntry}
+use Rattle.ffs_survey.specs.{Levels.FindsSurvey, Lent.{lent_in, SameLists, LeavesLent}}
+use Rattle.ffs_survey.specs.declared.{lists.Lists.Lists, directories.Directories.Ghosts}
 
 pub same_kinds : {old new : Lists} → SameLists old new → new.kinds.now ≡ old.kinds.now
 same_kinds same = ap (λ l. l.kinds) same.lent
@@ -35,3 +35,10 @@ pub leaves_by : {S T : Type 0} (D : Ghosts S) {cost : (ℕ → ℕ) → ℕ} {a 
     LeavesLent D cost a b l l' r
 leaves_by D ready base read same counted =
     record { reader = record { is_ready = ready; same = base; read = read; counted = counted }; lists = same }
+
+-- a survey in lists that hold the same
+pub finds_same : {kinds starts f f' p p' : List ℕ} {marked m m' r r' calm calm' : List Bool}
+    {entries : ℕ → List RoledEntry} {right_shape : ℕ → Bool} → f' ≡ f → m' ≡ m → r' ≡ r → p' ≡ p → calm' ≡ calm →
+    FindsSurvey kinds marked entries right_shape starts f m r p calm →
+    FindsSurvey kinds marked entries right_shape starts f' m' r' p' calm'
+finds_same ef em er ep ec s = record { survey = rw (ef, em, er, ep) s.survey; calm = rw (er, ep, ec) s.calm }

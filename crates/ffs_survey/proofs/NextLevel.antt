@@ -1,13 +1,11 @@
--- From one level to the next: what is known of a level in the queue, and of the next one once the
--- level is read and what it discovered is sorted.
+-- A level in the queue, and the next one, once what was discovered is sorted.
 use Rattle.std.proofs.Common.{◌≡◌, ◌++◌, ℕ, ◌+◌, ◌-◌, ◌*◌, ◌^◌, ◌<◌, ◌≤◌, Bool, List, length, take, drop, arith, ◌∙◌}
 use Rattle.std.{proofs.Common.{ap, All, true}, specs.declared.{vec.Vec.Vec, alloc.Global.Global}}
 use Rattle.ffs_volume.specs.Directories.{Graph.Graph, Roles.RoledEntry}
 use Rattle.ffs_memory.specs.Filled.{SortsPart}
-use Rattle.ffs_survey.specs.declared.lists.Lists.{Lists}
-use Rattle.ffs_survey.specs.{Lent.{SameLists, found_up_to, CountsAtMost}, Levels.Discovers, Discover.IsReachedDir}
-use Rattle.ffs_survey.specs.Discover.{Found, Extends, SameResult, IsFrontier, LevelsKnown, from_dirs, nothing, unset}
-use Rattle.ffs_survey.specs.Survey.{dir_at, number_at, graph_with}
+use Rattle.ffs_survey.specs.{declared.lists.Lists.Lists, Lent.{SameLists, found_up_to, CountsAtMost}, Levels.Discovers}
+use Rattle.ffs_survey.specs.Discover.{IsReachedDir, Found, Extends, SameResult, IsFrontier, LevelsKnown, from_dirs}
+use Rattle.ffs_survey.specs.{Discover.{nothing, unset}, Survey.{dir_at, number_at, graph_with}}
 use Rattle.ffs_survey.proofs.{CalmLaws.frontier_reached, Frontiers.{frontier_dirs, sane_of}, Lending.kinds_long}
 use Rattle.ffs_survey.proofs.{Lending.queue_long, Queues.{level_after, queue_parts, same_result_after}}
 
@@ -31,8 +29,9 @@ pub record AtSomeLevel (g : Graph) (low high : ℕ) (reached : List Bool) (paren
 -- the queue has fewer than 2^31 places, so no count is past 2^59
 pub few_counted : (l : Lists) {low high : ℕ} →
     HasRoomForLevel low high l.references.now.items l.reached.now l.queue.now.items → CountsAtMost (2 ^ 59) l
-few_counted l r x b = omega (arith, r.ordered, r.room, l.long.queue_long, l.long.few,
-    r.counted x (omega (arith, b, l.long.references_long)))
+few_counted l r x b =
+    let counted = r.counted x (omega (arith, b, l.long.references_long)) in
+    omega (arith, r.ordered, r.room, l.long.queue_long, l.long.few, counted)
 
 -- all of a level is reached
 pub level_reached : {kinds q p : List ℕ} {r : List Bool} {low high : ℕ} (entries : ℕ → List RoledEntry) →

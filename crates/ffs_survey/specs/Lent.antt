@@ -1,10 +1,9 @@
--- The lists of a survey and its reader of directories as they are lent: what a call needs of them,
--- and what it leaves.
+-- What a call needs of the lists of a survey and of its reader, and what it leaves of them.
 use Rattle.std.specs.{Prelude.{◌≡◌, ℕ, ◌+◌, ◌^◌, ◌<◌, ◌≤◌, All, Bool, List, Result, length, take, drop}, Borrow.GName}
 use Rattle.std.specs.Prelude.{vec_len}
 use Rattle.ffs_image.specs.{Reads.ReadAfter, declared.image.ImageFault.ImageFault}
 use Rattle.ffs_volume.specs.Directories.Roles.{RoledEntry}
-use Rattle.ffs_survey.specs.declared.{lists.{Lists.Lists, NumberLists.NumberLists, CurrentDir.CurrentDir as LentDir}}
+use Rattle.ffs_survey.specs.declared.lists.{Lists.Lists, NumberLists.NumberLists, CurrentDir.CurrentDir as LentDir}
 use Rattle.ffs_survey.specs.{declared.directories.Directories.Ghosts, Survey.{number_at, bool_at, graph_with}}
 use Rattle.ffs_survey.specs.{Calm.{CurrentDir, AreCalm}, Costs.costs_below}
 use Rattle.ffs_survey.specs.Discover.{Found, unset, IsReachedDir, IsReachedPart}
@@ -17,16 +16,6 @@ all_found l = record {
   reached = l.reached.now;
   parents = l.parents.now.items;
   calm = l.calm.now;
-  queue = l.queue.now.items;
-}
-
-abbrev pub found_in : NumberLists → List Bool → List Bool → List Bool → Found
-found_in l named reached calm = record {
-  references = l.references.now.items;
-  named = named;
-  reached = reached;
-  parents = l.parents.now.items;
-  calm = calm;
   queue = l.queue.now.items;
 }
 
@@ -69,16 +58,7 @@ lent_in l = record {
 pub record SameLists (old new : Lists) : Type 0 where
   pub lent : lent_in new ≡ lent_in old
 
--- a call leaves the lists that it was lent, and each has the length that it had
-pub record SameNumbers (old new : NumberLists) : Type 0 where
-  pub references : new.references.ghost_name ≡ old.references.ghost_name
-  pub parents : new.parents.ghost_name ≡ old.parents.ghost_name
-  pub queue : new.queue.ghost_name ≡ old.queue.ghost_name
-  pub references_long : vec_len new.references.now ≡ vec_len old.references.now
-  pub parents_long : vec_len new.parents.now ≡ vec_len old.parents.now
-  pub queue_long : vec_len new.queue.now ≡ vec_len old.queue.now
-
--- references, named inodes and calm directories stay as they are
+-- and references, named inodes and calm directories as they were
 pub record KeepsCounts (old new : Lists) : Type 0 where
   pub same : SameLists old new
   pub references : new.references.now.items ≡ old.references.now.items
@@ -90,6 +70,20 @@ pub record KeepsReached (old new : Lists) : Type 0 where
   pub reached : new.reached.now ≡ old.reached.now
   pub calm : new.calm.now ≡ old.calm.now
 
+-- only parents change
+pub record ChangesParents (old new : Lists) : Type 0 where
+  pub counts : KeepsCounts old new
+  pub kept : KeepsReached old new
+
+-- a call leaves the lists of numbers that it was lent, and each has the length that it had
+pub record SameNumbers (old new : NumberLists) : Type 0 where
+  pub references : new.references.ghost_name ≡ old.references.ghost_name
+  pub parents : new.parents.ghost_name ≡ old.parents.ghost_name
+  pub queue : new.queue.ghost_name ≡ old.queue.ghost_name
+  pub references_long : vec_len new.references.now ≡ vec_len old.references.now
+  pub parents_long : vec_len new.parents.now ≡ vec_len old.parents.now
+  pub queue_long : vec_len new.queue.now ≡ vec_len old.queue.now
+
 -- no inode has more than `most` references
 abbrev pub CountsAtMost : ℕ → Lists → Type 0
 CountsAtMost most l = (x : ℕ) → x < length l.kinds.now → number_at l.references.now.items x ≤ most
@@ -97,11 +91,6 @@ CountsAtMost most l = (x : ℕ) → x < length l.kinds.now → number_at l.refer
 -- the queue has room after `top` for each inode that isn't reached
 abbrev pub HasRoomAfter : ℕ → Lists → Type 0
 HasRoomAfter top l = top + unset l.reached.now ≤ length l.queue.now.items
-
--- only parents change
-pub record ChangesParents (old new : Lists) : Type 0 where
-  pub counts : KeepsCounts old new
-  pub kept : KeepsReached old new
 
 module _ {S : Type 0} (D : Ghosts S) where
   -- P holds of the entries of each directory and of which directories have a right shape, by each
@@ -121,7 +110,8 @@ module _ {S : Type 0} (D : Ghosts S) where
     pub counts : CountsAtMost most l
     pub room : HasRoomAfter top l
 
-  -- the same of a level that is in the queue from `low` to `high`, all of reached directories
+  -- the same for a level that is in the queue from `low` to `high`. If the reader's base knows the
+  -- bytes, it is of reached directories
   pub record CanReadLevel (low high : ℕ) (reader : S) (l : Lists) : Type 0 where
     pub can : CanReach (2 ^ 59) high reader l
     pub ordered : low ≤ high
@@ -137,13 +127,13 @@ module _ {S : Type 0} (D : Ghosts S) where
     pub read : ReadAfter (D.device old) (D.device new) result
     pub counted : (b : List ℕ) → D.knows (D.base old) b → D.reads new ≤ D.reads old + cost (D.cost (D.base old) b)
 
-  -- the same, and the lists that it was lent
+  -- and the lists that it was lent
   pub record LeavesLent {T : Type 0} (cost : (ℕ → ℕ) → ℕ) (old new : S) (l l' : Lists)
       (result : Result T ImageFault) : Type 0 where
     pub reader : LeavesDirectories cost old new result
     pub lists : SameLists l l'
 
-  -- the same, and what is reached and calm as it was
+  -- and what is reached and calm as it was
   pub record LeavesReached {T : Type 0} (cost : (ℕ → ℕ) → ℕ) (old new : S) (l l' : Lists)
       (result : Result T ImageFault) : Type 0 where
     pub lent : LeavesLent cost old new l l' result

@@ -2,9 +2,8 @@
 use Rattle.std.specs.Prelude.{◌≡◌, ℕ, ◌+◌, ◌<◌, ◌≤◌, ◌==◌, Bool, ◌&&◌, cond, List, [], ◌∷◌, length, take}
 use Rattle.ffs_volume.specs.Directories.Roles.{RoledEntry}
 use Rattle.ffs_survey.specs.{Survey.{bool_at, number_at, graph_with, IsSurvey}, Calm.{are_calm, AreCalm, IsFlagged}}
-use Rattle.ffs_survey.specs.Discover.{Found, SameResult, Counts, Extends, from_entries, from_dirs}
-use Rattle.ffs_survey.specs.Discover.{nothing, count_in, any_in, count_of, any_of, none, never, is_unreached_dir, unset}
-use Rattle.ffs_survey.specs.Lists.{GrowsBy}
+use Rattle.ffs_survey.specs.Discover.{Found, SameResult, Counts, Extends, from_entries, from_dirs, nothing, count_in}
+use Rattle.ffs_survey.specs.{Discover.{any_in, count_of, any_of, none, never, is_unreached_dir, unset}, Lists.GrowsBy}
 
 -- what the entry e of the directory d names is discovered: the queue, which ended at `top`, keeps what
 -- it had and ends at `end`, with what is newly reached
@@ -54,11 +53,11 @@ pub record ReadsDirs (kinds : List ℕ) (marked : List Bool) (dirs : List ℕ) (
   pub calm : AreCalm kinds marked old.reached old.parents entries right_shape old.calm
       → AreCalm kinds marked new.reached new.parents entries right_shape new.calm
 
--- a survey of these directories, counted on from these starts, and flags of calm ones
+-- a survey of these directories, counted on from these starts, and flags that only calm ones have
 pub record FindsSurvey (kinds : List ℕ) (marked : List Bool) (entries : ℕ → List RoledEntry) (right_shape : ℕ → Bool)
-    (starts : List ℕ) (new : Found) : Type 0 where
-  pub survey : IsSurvey (graph_with kinds entries) starts new.references new.named new.reached new.parents
-  pub calm : AreCalm kinds marked new.reached new.parents entries right_shape new.calm
+    (starts references : List ℕ) (named reached : List Bool) (parents : List ℕ) (calm_flags : List Bool) : Type 0 where
+  pub survey : IsSurvey (graph_with kinds entries) starts references named reached parents
+  pub calm : AreCalm kinds marked reached parents entries right_shape calm_flags
 
 -- the directory d with these entries, which isn't reached, is read
 pub record ReadsUnreached (kinds : List ℕ) (d : ℕ) (entries : List RoledEntry) (old new : Found) : Type 0 where

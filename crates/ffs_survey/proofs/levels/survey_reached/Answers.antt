@@ -1,8 +1,8 @@
-use Rattle.std.proofs.Common.{ap, rules, ◌≡◌, ◌+◌, take, set, arith, refl, sym, ◌∙◌, true, length-set}
+use Rattle.std.proofs.Common.{ℕ, ap, rules, ◌≡◌, ◌+◌, take, set, arith, refl, sym, ◌∙◌, true, length-set}
 use Rattle.ffs_survey.proofs.Frontiers.{sane_of, levels_start, frontier_start, queue_start}
 use Rattle.ffs_survey.proofs.Queues.{counted_on, reached_part, alone_part, none_counted, empty_level, is_extended}
 use Rattle.ffs_survey.proofs.{CalmLaws.calm_none, Costs.{level_costs, queue_costs, queue_within}}
-use Rattle.ffs_survey.proofs.{Discovered.{unset-le, unset-set}, Lending.{kinds_long, leaves_by, same_kinds, same_marks}}
+use Rattle.ffs_survey.proofs.{Discovered.{unset-le, unset-set}, Lending.{kinds_long, same_kinds, same_marks}}
 use Rattle.ffs_survey.proofs.{Lending.still_by, NextLevel.{AtLevel, few_counted, level_reached, next_room, next_at}}
 use Rattle.ffs_survey.specs.{Discover.Extends, Survey.graph_with}
 use Rattle.ffs_survey.proofs.levels.survey_reached.Goals as goal
@@ -39,11 +39,7 @@ read_level-requires g c =
     let inv = c.loop-low.invariant in
     let es = g.D.Directories.entries (g.D.Directories.base c.args.directories.now) in
     record {
-      can = record {
-        ready = inv.lent.ready;
-        counts = few_counted c.loop-low.lists inv.room;
-        room = inv.room.room;
-      };
+      can = record { ready = inv.lent.ready; counts = few_counted c.loop-low.lists inv.room; room = inv.room.room };
       ordered = inv.room.ordered;
       reached = rw (inv.lent.base, same_kinds inv.lent.same) (λ b k.
           level_reached (es b) (sym c.is_dir.ensures ∙ c.if-not-is_dir.false) (inv.levels b k));
@@ -124,12 +120,7 @@ returns-clause-leaves g c = grind (arith, queue_within)
 
 pub returns-in_err-end-clause-leaves : goal.returns-in_err-end-clause-leaves
 returns-in_err-end-clause-leaves g c =
-    let inv = c.loop-low.invariant in
-    let here = c.loop-low.lists in
-    let read = rw inv.lent.base at c.in_err-end.ensures.leaves.reader.counted in
-    leaves_by g.D.Directories (search rules) (search rules) (search rules) (search rules) (λ b k.
-    let cost = g.D.Directories.cost (g.D.Directories.base c.args.directories.now) b in
-    let both = level_costs cost c.loop-low.low c.loop-low.high here.queue.now.items _ inv.room.ordered refl in
-    let within = queue_within cost _ _ _ (here.long.reached_long ∙ kinds_long inv.lent.same)
-    (inv.levels b k).at.levels.queued in
-    omega (arith, read b k, inv.reads b k, both, within))
+    let queue = c.loop-low.lists.queue.now.items in
+    let ordered = c.loop-low.invariant.room.ordered in
+    let both = λ (cost : ℕ → ℕ). level_costs cost c.loop-low.low c.loop-low.high queue queue ordered refl in
+    grind (arith, both, queue_within)

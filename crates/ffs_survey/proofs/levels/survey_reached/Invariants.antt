@@ -1,7 +1,6 @@
-use Rattle.std.proofs.Common.{◌≡◌, ℕ, ◌+◌, ◌≤◌, ◌-◌, List, length, take, sum_by}
-use Rattle.ffs_survey.{specs.Discover.IsCount, proofs.NextLevel.{HasRoomForLevel, AtSomeLevel}}
-use Rattle.ffs_survey.specs.{Calm.AreCalm, Survey.graph_with}
-use Rattle.ffs_survey.proofs.Lending.{StillLent}
+use Rattle.std.proofs.Common.{ℕ, ◌+◌, ◌≤◌, ◌-◌, List, length, take, sum_by}
+use Rattle.ffs_survey.{specs.{Discover.IsCount, Calm.AreCalm}, proofs.NextLevel.{HasRoomForLevel, AtSomeLevel}}
+use Rattle.ffs_survey.{specs.Survey.graph_with, proofs.Lending.StillLent}
 use Rattle.ffs_survey.proofs.levels.survey_reached.Given as goal
 
 abbrev pub invariant-loop-low : goal.invariant-loop-low

@@ -1,7 +1,6 @@
-use Rattle.std.proofs.Common.{◌≡◌, ℕ, ◌+◌, ◌*◌, ◌<◌, ◌≤◌, ◌^◌, List, length}
-use Rattle.ffs_survey.specs.{Costs.costs_below, Lent.KeepsReached, Survey.number_at, Survey.graph_with}
-use Rattle.ffs_survey.specs.Discover.{IsBlank, IsRead, is_unreached_dir}
-use Rattle.ffs_survey.proofs.Lending.{StillLent}
+use Rattle.std.proofs.Common.{ℕ, ◌+◌, ◌*◌, ◌<◌, ◌≤◌, ◌^◌, List, length}
+use Rattle.ffs_survey.specs.{Costs.costs_below, Lent.KeepsReached, Survey.{number_at, graph_with}, Discover.IsBlank}
+use Rattle.ffs_survey.{specs.Discover.{IsRead, is_unreached_dir}, proofs.Lending.StillLent}
 use Rattle.ffs_survey.proofs.levels.survey_unreached.Given as goal
 
 abbrev pub invariant-loop-s : goal.invariant-loop-s

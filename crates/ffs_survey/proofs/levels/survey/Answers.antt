@@ -1,12 +1,12 @@
 use Rattle.std.proofs.Common.{ap, length, rules, ◌∙◌}
 use Rattle.ffs_survey.proofs.{CalmLaws.{calm_unreached, read_stays}, Costs.costs_both, Frontiers.sane_of}
-use Rattle.ffs_survey.proofs.{Lending.{kinds_long, leaves_by, same_kinds}, UnreachedLaws.survey_whole}
+use Rattle.ffs_survey.proofs.{Lending.{finds_same, kinds_long, same_kinds}, UnreachedLaws.survey_whole}
 use Rattle.ffs_survey.proofs.UnreachedLaws.{unreached_blank}
-use Rattle.ffs_survey.proofs.levels.survey_lists.Goals as goal
+use Rattle.ffs_survey.proofs.levels.survey.Goals as goal
 
 pub returns-clause-found : goal.returns-clause-found
 returns-clause-found g c =
-    let old = c.args.lists.now in
+    let inodes = c.args.inodes.now in
     let found = c.survey_reached.new.lists in
     let new = c.survey_unreached.new.lists in
     let first = c.in_ok-survey_reached.ensures in
@@ -17,32 +17,39 @@ returns-clause-found g c =
     λ b k.
     let entries = g.D.Directories.entries (g.D.Directories.base c.args.directories.now) b in
     let part = first.found.part b k in
-    let more = adds b k (unreached_blank old.kinds.now entries part) in
-    record {
-      survey = rw second.leaves.kept.reached (survey_whole old.kinds.now entries
-          (sane_of old.kinds.now entries old.long.some) reached_long
+    let more = adds b k (unreached_blank inodes.kinds.now entries part) in
+    finds_same {f = new.references.now.items} {p = new.parents.now.items} {m = new.named.now} {r = new.reached.now}
+    {calm = new.calm.now} (search rules) (search rules) (search rules) (search rules) (search rules) (record {
+      survey = rw second.leaves.kept.reached (survey_whole inodes.kinds.now entries
+          (sane_of inodes.kinds.now entries c.requires.lists.some) reached_long
           (new.long.parents_long ∙ kinds_long second.leaves.lent.lists ∙ ap length kinds) c.limit_starts.ensures.starts
           part more);
       calm = rw (second.leaves.kept.reached, second.leaves.kept.calm) (calm_unreached found.calm.now
           (read_stays more reached_long) (first.found.calm b k));
-    }
+    })
 
 pub returns-clause-leaves : goal.returns-clause-leaves
 returns-clause-leaves g c =
     let first = c.in_ok-survey_reached.ensures in
     let second = rw (first.leaves.reader.same, same_kinds first.leaves.lists)
     at c.in_ok-survey_unreached.ensures.leaves.lent.reader.counted in
-    leaves_by g.D.Directories (search rules) (search rules) (search rules) (search rules)
-    (λ b k.
-    costs_both c.args.lists.now.kinds.now c.survey_reached.new.lists.reached.now _ _ _ (first.found.once b k)
-    (second b k))
+    record {
+      is_ready = search rules;
+      same = search rules;
+      read = search rules;
+      counted = λ b k. costs_both c.args.inodes.now.kinds.now c.survey_reached.new.lists.reached.now _ _ _
+          (first.found.once b k) (second b k);
+    }
 
 pub returns-in_err-survey_unreached-clause-leaves : goal.returns-in_err-survey_unreached-clause-leaves
 returns-in_err-survey_unreached-clause-leaves g c =
     let first = c.in_ok-survey_reached.ensures in
     let second = rw (first.leaves.reader.same, same_kinds first.leaves.lists)
     at c.in_err-survey_unreached.ensures.leaves.lent.reader.counted in
-    leaves_by g.D.Directories (search rules) (search rules) (search rules) (search rules)
-    (λ b k.
-    costs_both c.args.lists.now.kinds.now c.survey_reached.new.lists.reached.now _ _ _ (first.found.once b k)
-    (second b k))
+    record {
+      is_ready = search rules;
+      same = search rules;
+      read = search rules;
+      counted = λ b k. costs_both c.args.inodes.now.kinds.now c.survey_reached.new.lists.reached.now _ _ _
+          (first.found.once b k) (second b k);
+    }
