@@ -304,6 +304,7 @@ impl Walk {
     /// Passes over the gaps that come next in the indirect block that the walk is in, or at the
     /// inode's own addresses where it is in none: how many there are.
     #[inline(always)]
+    #[tactic(auto, using(crate::proofs::GapSteps::passing))]
     pub fn skip_gaps(&mut self, blocks: &Blocks) -> u32
         requires room { HasRoom self.old.geometry.layout blocks.now }
         ensures { PassesGaps blocks.now self.old self.new result }
