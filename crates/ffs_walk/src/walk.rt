@@ -124,6 +124,7 @@ impl Walk {
     }
 
     /// The step that an item of the single frame means.
+    #[tactic(auto, using(crate::proofs::WalkSteps::steps_zero))]
     fn step_in_single(&self, item: Item) -> Step
         requires { ComesNext 0 self.now item }
         ensures { IsFirstOf 0 item self.now self.now result }
@@ -351,6 +352,7 @@ impl Walk {
     /// Passes over the next word of the single indirect block that the walk is in, where the block
     /// was read before.
     #[inline(always)]
+    #[tactic(auto, using(crate::proofs::WordSteps::word_first))]
     pub fn pass_word(&mut self)
         requires read { self.old.single.unread ≡ false }
         requires left { self.old.single.next < self.old.single.used }
