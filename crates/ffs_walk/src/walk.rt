@@ -136,6 +136,7 @@ impl Walk {
     }
 
     /// The first step that an item of the double frame means; the others go into the single frame.
+    #[tactic(auto, using(crate::proofs::WalkSteps::spent_rest, crate::proofs::Counted::enters_single), unfolding(ffs_volume::specs::Blocks::Steps::steps_at))]
     fn step_in_double(&mut self, item: Item) -> Step
         requires { ComesNext 1 self.old item }
         ensures { IsFirstOf 1 item self.old self.new result }
@@ -151,6 +152,7 @@ impl Walk {
     }
 
     /// The first step that an item of the triple frame means; the others go into the double frame.
+    #[tactic(auto, using(crate::proofs::WalkSteps::spent_rest, crate::proofs::Counted::enters_double), unfolding(ffs_volume::specs::Blocks::Steps::steps_at))]
     fn step_in_triple(&mut self, item: Item) -> Step
         requires { ComesNext 2 self.old item }
         ensures { IsFirstOf 2 item self.old self.new result }
