@@ -51,9 +51,11 @@ pub struct Walk {
 
 impl Walk {
     ghost use Rattle.ffs_walk.specs.{Fits.IsIndirect, Skips.{EndsZeroAddresses, PassesGaps}};
-    ghost use Rattle.ffs_walk.specs.Rests.{ComesNext, Enters, GivesStep, IsAtTop, IsDataStep, IsEndedWalk, IsFirstOf, IsTopStep, IsWalkByClass, IsWalkOf, Stops, TakesStep};
+    ghost use Rattle.ffs_walk.specs.Rests.{ComesNext, Enters, GivesStep, IsAtTop, IsDataStep, IsFirstOf};
+    ghost use Rattle.ffs_walk.specs.Rests.{IsEndedWalk, IsTopStep, IsWalkByClass, IsWalkOf, Stops, TakesStep};
     ghost use Rattle.ffs_walk.specs.{Counts.{AreHeld, StepReads}, Windows.{BlocksAfter, CanWalk, HasRoom}};
-    ghost use Rattle.ffs_walk.specs.{HeldWords.{IsInHeldBlock, PassesNextWord, next_address}, declared.blocks.Blocks.Blocks};
+    ghost use Rattle.ffs_walk.specs.HeldWords.{IsInHeldBlock, PassesNextWord, next_address};
+    ghost use Rattle.ffs_walk.specs.declared.blocks.Blocks.{Blocks};
 
     /// The step at the address of a data block.
     fn data(&self, address: u32, block: u64) -> Step
@@ -136,7 +138,7 @@ impl Walk {
     }
 
     /// The first step that an item of the double frame means; the others go into the single frame.
-    #[tactic(auto, using(crate::proofs::WalkSteps::spent_rest, crate::proofs::Counted::enters_single), unfolding(ffs_volume::specs::Blocks::Steps::steps_at))]
+    #[tactic(auto, using(crate::proofs::Counted::entering), unfolding(ffs_volume::specs::Blocks::Steps::steps_at))]
     fn step_in_double(&mut self, item: Item) -> Step
         requires { ComesNext 1 self.old item }
         ensures { IsFirstOf 1 item self.old self.new result }
@@ -152,7 +154,7 @@ impl Walk {
     }
 
     /// The first step that an item of the triple frame means; the others go into the double frame.
-    #[tactic(auto, using(crate::proofs::WalkSteps::spent_rest, crate::proofs::Counted::enters_double), unfolding(ffs_volume::specs::Blocks::Steps::steps_at))]
+    #[tactic(auto, using(crate::proofs::Counted::entering), unfolding(ffs_volume::specs::Blocks::Steps::steps_at))]
     fn step_in_triple(&mut self, item: Item) -> Step
         requires { ComesNext 2 self.old item }
         ensures { IsFirstOf 2 item self.old self.new result }
