@@ -1,6 +1,6 @@
 -- Words of zero are gaps, at every level.
-use Rattle.std.proofs.Common.{◌≡◌, ℕ, zero, suc, ◌+◌, ◌-◌, ◌<◌, ◌≤◌, false, if◌then◌else◌, List, [], ◌∷◌, ◌++◌}
-use Rattle.std.proofs.Common.{replicate, slice_index, append_assoc, arith, refl, ap, ◌∙◌}
+use Rattle.std.proofs.Common.{◌≡◌, ℕ, zero, suc, ◌+◌, ◌-◌, ◌*◌, ◌<◌, ◌≤◌, false, if◌then◌else◌, List, [], ◌∷◌, ◌++◌}
+use Rattle.std.proofs.{Common.{replicate, slice_index, append_assoc, arith, refl, ap, ◌∙◌}, Math.Nat.mul-le-mul_right}
 use Rattle.ffs_volume.specs.{declared.{Layout.Layout, Step.{Step, TheVariants.Gap}}, Blocks.Steps.FileBlocks}
 use Rattle.ffs_volume.specs.Blocks.Steps.{block_bytes, address_in, address_at, tail_of, any_nonzero_from, steps_under}
 use Rattle.ffs_volume.specs.Blocks.Steps.{steps_at, steps_of_addresses}
@@ -73,3 +73,10 @@ gaps_at_top w bytes end top ends =
     let here = gaps_at_addresses (file_blocks_of w) bytes w.addresses w.used (end - w.next) w.next
     (omega (arith, whole, ends.within.1)) (λ k l m. ends.zeros k l (omega (arith, m, whole))) in
     grind (arith, here, rest_at_top, spent_rest)
+
+-- fewer are left after an index further on
+pub fewer : (used next end most : ℕ) → next ≤ end → (used - end) * most ≤ (used - next) * most
+fewer used next end most le = mul-le-mul_right most (omega arith)
+
+-- gaps are passed over in one of the frames of a walk
+pub ruleset passing = (in_first, in_second, in_third, spent_rest, zero_gap)

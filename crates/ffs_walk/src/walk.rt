@@ -51,9 +51,11 @@ pub struct Walk {
 
 impl Walk {
     ghost use Rattle.ffs_walk.specs.{Fits.IsIndirect, Skips.{EndsZeroAddresses, PassesGaps}};
-    ghost use Rattle.ffs_walk.specs.Rests.{ComesNext, Enters, GivesStep, IsAtTop, IsDataStep, IsEndedWalk, IsFirstOf, IsTopStep, IsWalkByClass, IsWalkOf, Stops, TakesStep};
+    ghost use Rattle.ffs_walk.specs.Rests.{ComesNext, Enters, GivesStep, IsAtTop, IsDataStep, IsFirstOf};
+    ghost use Rattle.ffs_walk.specs.Rests.{IsEndedWalk, IsTopStep, IsWalkByClass, IsWalkOf, Stops, TakesStep};
     ghost use Rattle.ffs_walk.specs.{Counts.{AreHeld, StepReads}, Windows.{BlocksAfter, CanWalk, HasRoom}};
-    ghost use Rattle.ffs_walk.specs.{HeldWords.{IsInHeldBlock, PassesNextWord, next_address}, declared.blocks.Blocks.Blocks};
+    ghost use Rattle.ffs_walk.specs.HeldWords.{IsInHeldBlock, PassesNextWord, next_address};
+    ghost use Rattle.ffs_walk.specs.declared.blocks.Blocks.{Blocks};
 
     /// The step at the address of a data block.
     fn data(&self, address: u32, block: u64) -> Step
@@ -124,6 +126,7 @@ impl Walk {
     }
 
     /// The step that an item of the single frame means.
+    #[tactic(auto, using(crate::proofs::WalkSteps::steps_zero))]
     fn step_in_single(&self, item: Item) -> Step
         requires { ComesNext 0 self.now item }
         ensures { IsFirstOf 0 item self.now self.now result }
@@ -135,6 +138,7 @@ impl Walk {
     }
 
     /// The first step that an item of the double frame means; the others go into the single frame.
+    #[tactic(auto, using(crate::proofs::Counted::entering), unfolding(ffs_volume::specs::Blocks::Steps::steps_at))]
     fn step_in_double(&mut self, item: Item) -> Step
         requires { ComesNext 1 self.old item }
         ensures { IsFirstOf 1 item self.old self.new result }
@@ -150,6 +154,7 @@ impl Walk {
     }
 
     /// The first step that an item of the triple frame means; the others go into the double frame.
+    #[tactic(auto, using(crate::proofs::Counted::entering), unfolding(ffs_volume::specs::Blocks::Steps::steps_at))]
     fn step_in_triple(&mut self, item: Item) -> Step
         requires { ComesNext 2 self.old item }
         ensures { IsFirstOf 2 item self.old self.new result }
@@ -304,6 +309,7 @@ impl Walk {
     /// Passes over the gaps that come next in the indirect block that the walk is in, or at the
     /// inode's own addresses where it is in none: how many there are.
     #[inline(always)]
+    #[tactic(auto, using(crate::proofs::GapSteps::passing))]
     pub fn skip_gaps(&mut self, blocks: &Blocks) -> u32
         requires room { HasRoom self.old.geometry.layout blocks.now }
         ensures { PassesGaps blocks.now self.old self.new result }
@@ -350,6 +356,7 @@ impl Walk {
     /// Passes over the next word of the single indirect block that the walk is in, where the block
     /// was read before.
     #[inline(always)]
+    #[tactic(auto, using(crate::proofs::WordSteps::word_first))]
     pub fn pass_word(&mut self)
         requires read { self.old.single.unread ≡ false }
         requires left { self.old.single.next < self.old.single.used }

@@ -7,7 +7,7 @@ use Rattle.std.specs.List.{slice_range}
 use Rattle.ffs_volume.specs.{declared.{Layout.Layout, Inode.Inode}, Blocks.Inodes.{inode_from_bytes, inode_of}}
 use Rattle.ffs_volume.specs.Disk.{Numbers.piece, Areas.{cgstart, cgdmin, inode_place}, Outcome.is_block_size}
 use Rattle.ffs_volume.specs.{Disk.Outcome.has_valid_sizes, Laws.Geometry.IsAcceptedLayout}
-use Rattle.ffs_volume.proofs.GeometryLaws.{shape_holds}
+use Rattle.ffs_volume.proofs.{AreaLaws.inode_group, GeometryLaws.shape_holds}
 use Rattle.ffs_walk.specs.Windows.{WindowHolds}
 use Rattle.ffs_workspace.specs.{declared.table.Table.Table, Tables.{DividesBlock, DividesBlocks, table_place}}
 use Rattle.ffs_workspace.specs.Tables.{HoldsInode, IsInPlace, IsTableOf, IsHeldAt}
@@ -76,6 +76,9 @@ piece_room v n g d =
     within : {n m : ℕ} (k : ℕ) → n * k ≡ m → 0 < m → n ≤ m
     within zero e some = omega arith
     within {n} (suc k) e some = grind (arith, e)
+
+-- where a piece lies
+pub ruleset piece_laws = (piece_room, piece_inside, inode_group)
 
 -- a block is a whole number of 4,096 bytes
 block_parts : (n : ℕ) → is_block_size n ≡ true → 4096 * (n / 4096) ≡ n

@@ -20,7 +20,7 @@ const PART_INODES: u32 = 32;
 /// Where the piece of the inode table is that has an inode, in bytes from the start of the image. A
 /// piece has `count` inodes.
 #[inline(always)]
-#[tactic(auto, using(crate::proofs::TablePlaces::piece_inside, ffs_volume::proofs::AreaLaws::inode_group))]
+#[tactic(auto, using(crate::proofs::TablePlaces::piece_laws))]
 fn piece_place(geometry: &Geometry, number: u32, count: u32) -> u64
     requires number { number < geometry.now.layout.ncg * geometry.now.layout.ipg }
     requires count { DividesBlock geometry.now.layout count }
@@ -44,7 +44,8 @@ pub struct Table {
 }
 
 impl Table {
-    ghost use Rattle.ffs_workspace.specs.Tables.{CanReadInode, CanReadInodes, DividesBlocks, HoldsInode, IsEmptyTable, LoadsInode, ReadsInodeOnce, ReadsPiece};
+    ghost use Rattle.ffs_workspace.specs.Tables.{CanReadInode, CanReadInodes, DividesBlocks, HoldsInode};
+    ghost use Rattle.ffs_workspace.specs.Tables.{IsEmptyTable, LoadsInode, ReadsInodeOnce, ReadsPiece};
 
     /// A table that holds no inode. It takes no memory.
     pub fn over(buffer: FixedList<u8>) -> Table
@@ -73,7 +74,7 @@ impl Table {
     }
 
     /// Reads the piece of the table, of `count` inodes, that has an inode.
-    #[tactic(auto, using(crate::proofs::TablePlaces::piece_room, crate::proofs::TablePlaces::piece_inside, ffs_volume::proofs::AreaLaws::inode_group))]
+    #[tactic(auto, using(crate::proofs::TablePlaces::piece_laws))]
     fn read_piece<I: Image>(
         &mut self,
         geometry: &Geometry,

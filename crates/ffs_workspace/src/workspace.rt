@@ -101,6 +101,7 @@ impl Workspace {
     ///
     /// # Errors
     /// The memory was refused. Nothing is held then.
+    #[tactic(auto, using(crate::proofs::Requests::refusals))]
     pub fn in_memory<M: Memory>(
         memory: &mut M,
         geometry: &Geometry,

@@ -1,5 +1,5 @@
-use Rattle.std.proofs.{Common.{arith, rules, ◌-◌, ◌*◌, ◌≤◌}, Math.Nat.mul-le-mul_right, lemmas.Grind.common_steps}
-use Rattle.ffs_walk.{specs.Rests.most_at, proofs.GapSteps.gaps_at_top}
+use Rattle.std.proofs.{Common.{arith, rules}, lemmas.Grind.common_steps}
+use Rattle.ffs_walk.{specs.Rests.most_at, proofs.GapSteps.{fewer, gaps_at_top}}
 use Rattle.ffs_walk.proofs.walk.Walk.skip_zero_addresses.Goals as goal
 
 pub returns : goal.returns
@@ -9,11 +9,7 @@ returns c = λ blocks.
     let ends = c.zero_addresses_end-end.ensures in
     record {
       steps = λ contents holds bytes e. gaps_at_top w bytes end c.requires ends;
-      falls =
-          let most = most_at w.geometry.layout.nindir 3 in
-          let fewer : w.used - end ≤ w.used - w.next = omega (arith, ends.within.0) in
-          let scaled : (w.used - end) * most ≤ (w.used - w.next) * most = mul-le-mul_right most fewer in
-          omega (arith, scaled);
+      falls = omega (arith, fewer w.used w.next end (most_at w.geometry.layout.nindir 3) ends.within.0);
       passed = grind (arith, common_steps);
       same = search rules;
       counted = grind arith;
