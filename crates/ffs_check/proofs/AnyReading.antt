@@ -47,6 +47,11 @@ pub links_paid : {T U : Type 0} (v : Layout) (a b c : Progress) (before first af
 links_paid v a b c before first after one two =
     paid_then one (paid_beside (group_reads v) (paid_price 1 (line_reads + 1) (omega arith) two))
 
+-- what is left for later reads isn't read where none follow
+pub left_paid : {T : Type 0} {price : ℕ} {a b : Progress} {before after : ℕ} {r : Result T RunFault} (left : ℕ) →
+    Paid price a b before (after + left) r → Paid price a b before after r
+left_paid left p = paid_within p (omega arith) (omega arith)
+
 -- the phases have ended, and a read that failed is said
 pub ended_reads : (v : Layout) (had_defect : Bool) (a b c : Progress) (before after : ℕ) (r : Result Root RunFault)
     (end : End) → Paid (line_reads + 1) a b (before + phase_reads v 0) after r → EndsAs had_defect b c r end →
