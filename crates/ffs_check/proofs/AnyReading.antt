@@ -28,7 +28,8 @@ pub scan_paid : (v : Layout) (knows knows' : List ℕ → Type 0) (all all' : Li
     (after + (4 * sweep_reads v + group_reads v)) (Ok tt)
 scan_paid v knows knows' all all' a b c before first after runs one reads few two again =
     let begun : Paid {T = Unit {0}} (line_reads + 1) a b (before + phase_reads v 0)
-    (first + (5 * sweep_reads v + group_reads v)) (Ok tt) = paid_text knows all (Ok tt) one (omega (arith, reads, few)) in
+    (first + (5 * sweep_reads v + group_reads v)) (Ok tt) =
+    paid_text knows all (Ok tt) one (omega (arith, reads, few)) in
     paid_then begun (paid_text knows' all' (Ok tt) two (omega (arith, again)))
 
 -- and then phase 2
@@ -38,7 +39,8 @@ pub names_paid : {T U : Type 0} (v : Layout) (a b c : Progress) (before first af
     Paid (line_reads + 1) a c before (after + group_reads v) r
 names_paid v a b c before first after one two = paid_then one
     (paid_within {before = first + 4 * sweep_reads v + group_reads v} {after = after + group_reads v}
-    (paid_beside (group_reads v) (paid_price line_reads (line_reads + 1) (omega arith) two)) (omega arith) (omega arith))
+    (paid_beside (group_reads v) (paid_price line_reads (line_reads + 1) (omega arith) two)) (omega arith)
+    (omega arith))
 
 -- and then phase 3, or 4
 pub links_paid : {T U : Type 0} (v : Layout) (a b c : Progress) (before first after : ℕ) {x : T}
@@ -46,6 +48,11 @@ pub links_paid : {T U : Type 0} (v : Layout) (a b c : Progress) (before first af
     Paid 1 b c first after r → Paid (line_reads + 1) a c before (after + group_reads v) r
 links_paid v a b c before first after one two =
     paid_then one (paid_beside (group_reads v) (paid_price 1 (line_reads + 1) (omega arith) two))
+
+-- what is left for later reads isn't read where none follow
+pub left_paid : {T : Type 0} {price : ℕ} {a b : Progress} {before after : ℕ} {r : Result T RunFault} (left : ℕ) →
+    Paid price a b before (after + left) r → Paid price a b before after r
+left_paid left p = paid_within p (omega arith) (omega arith)
 
 -- the phases have ended, and a read that failed is said
 pub ended_reads : (v : Layout) (had_defect : Bool) (a b c : Progress) (before after : ℕ) (r : Result Root RunFault)
@@ -117,7 +124,7 @@ any_at size out at at' before after e r = subst (λ to. ReadsAny size out to bef
 pub rest_at : (knows : List ℕ → Type 0) (s : Superblock) (out at at' : Sink) (before after : ℕ) → at ≡ at' →
     PhasesRead Printed BrokeOffIn knows s out at before after →
     PhasesRead Printed BrokeOffIn knows s out at' before after
-rest_at knows s out at at' before after e r = subst (λ to. PhasesRead Printed BrokeOffIn knows s out to before after) e r
+rest_at knows s out at at' before after e r = rw (← e) r
 
 -- the phases alone were said to a report that had just begun, and printed
 pub rest_reads : {knows : List ℕ → Type 0} (s : Superblock) (output : GName) (sink : Sink) (c : Progress)

@@ -5,7 +5,8 @@ use Rattle.ffs_image.specs.Device.{Device, Faulted}
 use Rattle.ffs_volume.specs.{declared.End.{End, TheVariants.{ReadFault, WriteFault}}, Disk.Superblock.Superblock}
 use Rattle.ffs_volume.specs.Messages.Kinds.{Message, cannot_read, has_defect, is_defect, unless}
 use Rattle.ffs_volume.specs.Report.Opening.{has_valid_minfree, has_valid_optim, setting_lines, super_lines}
-use Rattle.ffs_volume.specs.{Directories.{PathnameCheck.continues_after_root, Volumes.volume_of}, Report.Whole.phase_lines}
+use Rattle.ffs_volume.specs.Directories.{PathnameCheck.continues_after_root, Volumes.volume_of}
+use Rattle.ffs_volume.specs.Report.Whole.{phase_lines}
 use Rattle.ffs_report.specs.{Sink.Sink, Known.{ForBytes, IsContents}, PhaseOutcome.ImageAfter, Progress.Progress}
 use Rattle.ffs_report.{specs.Progress.{Said, Stopped, starts}, proofs.Reports.{has_defect-append, stopped_more}}
 use Rattle.ffs_report.specs.declared.fault.RunFault.{RunFault, TheVariants.{Read, Out}}
@@ -33,8 +34,8 @@ module _ (had_defect : Bool) (knows : List ℕ → Type 0) (s : Superblock) (ima
 
   -- all was said
   whole : (root : Root) → ReportsOrStopsEarly knows (λ bytes. phase_lines bytes s) a b (Ok root) → image' ≡ image →
-      ForBytes knows (λ bytes. is_go root ≡ continues_after_root (volume_of s.layout bytes)) → EndsAs had_defect b c (Ok root) end →
-      SaysPhases had_defect knows s image image' a c end
+      ForBytes knows (λ bytes. is_go root ≡ continues_after_root (volume_of s.layout bytes)) →
+      EndsAs had_defect b c (Ok root) end → SaysPhases had_defect knows s image image' a c end
   whole root p none_failed by_root e = record {
     text = p.messages;
     right = λ bytes k. sym (append-nil p.messages) ∙ p.right bytes k;

@@ -50,7 +50,8 @@ module _ (image : Device) (name : List ℕ) (sector : Option ℕ) (output : GNam
 
     -- the end of the phases is that of the whole report
     whole : Said (starts output sink) new (opened_lines name sector s ++ text) →
-        IsEndByRoot (IsContents image.contents) s (false || new.defect) end → IsEndOfReport image sector (opened_lines name sector s ++ text) end
+        IsEndByRoot (IsContents image.contents) s (false || new.defect) end →
+        IsEndOfReport image sector (opened_lines name sector s ++ text) end
     whole said e =
         let last : ForContents image.contents (λ bytes. end ≡ report_end bytes sector) = λ bytes t.
         e.end_is ∙ end_of_there bytes s e.continued new.defect (e.by_root bytes t)

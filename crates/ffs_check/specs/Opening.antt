@@ -1,11 +1,12 @@
 -- What the opening of a check prints, and its answer.
-use Rattle.std.specs.Prelude.{◌≡◌, ◌⊎◌, ℕ, List, Option, Result, Ok, Err}
+use Rattle.std.specs.Prelude.{◌≡◌, ◌⊎◌, ◌≤◌, ◌+◌, ◌*◌, ℕ, List, Option, Result, Ok, Err, MatchResult}
 use Rattle.ffs_image.specs.Device.{Device, ForContents}
-use Rattle.ffs_volume.specs.declared.{SuperFault.SuperFault, End.{End, TheVariants.{Refused, WriteFault}}}
+use Rattle.ffs_volume.specs.declared.SuperFault.{SuperFault, TheVariants.CannotRead}
+use Rattle.ffs_volume.specs.{declared.End.{End, TheVariants.{Refused, WriteFault}}, Report.Reads.opening_reads}
 use Rattle.ffs_volume.specs.{Disk.{Superblock.Superblock, Outcome.outcome}, Messages.Kinds.Message}
 use Rattle.ffs_volume.specs.Report.Opening.{fault_line, head_lines, opening_lines}
 use Rattle.ffs_report.specs.{Sink.Sink, Progress.{Progress, Said, Stopped}}
-use Rattle.ffs_layout.specs.{declared.superblock.Super.Super, Super.{ReadsSuper, superblock_in}}
+use Rattle.ffs_layout.specs.{declared.superblock.Super.Super, Super.{IsUnreadable, ReadsSuper, superblock_in}}
 use Rattle.ffs_check.specs.Ends.{BrokeOffIn, BrokeOffInLine, Printed}
 
 -- the superblock isn't accepted, and its opening went out, with the fault
@@ -49,6 +50,14 @@ pub record OpeningOf {Sent : Type 0} (whole broken : Sent → Sent → List Mess
   pub found : Result Superblock SuperFault
   pub answers : ReadsSuper image image' asked_sector found
   pub ends : OpeningEnds whole broken image image' old new name asked_sector found result
+
+-- an accepted volume lies within the image, and a superblock that can't be read is a failed read, or
+-- lies past the image's end. It is read, and its last copy
+pub record AnswersOpening (image image' : Device) (asked_sector : Option ℕ) (before after : ℕ)
+    (result : Result Super End) : Type 0 where
+  pub found : MatchResult result (λ super. super.geometry.layout.size * super.geometry.layout.fsize ≤ image.size)
+      (λ end. (sector : ℕ) → end ≡ Refused (CannotRead sector) → IsUnreadable image image' asked_sector sector)
+  pub reads : after ≤ before + opening_reads
 
 -- what the opening says to a report (`OpeningOf`)
 abbrev pub SaysOpening : Device → Device → Progress → Progress → List ℕ → Option ℕ → Result Super End → Type 0

@@ -1,5 +1,5 @@
 //! How a run gets its image: it opens it by its name, for reading alone.
-ghost use Rattle.std.specs.Prelude.{◌≡◌, ℕ, List, IfErr, IfOk};
+ghost use Rattle.std.specs.Prelude.{◌≡◌, ℕ, List, MatchResult};
 ghost use Rattle.ffs_image.specs.declared.file.OpenFault.{OpenFault};
 
 use ffs_image::{Image, OpenFault, RawImage, System};
@@ -20,8 +20,8 @@ pub trait Opener {
     /// # Errors
     /// The image can't be opened.
     fn open(&self, name: &str) -> Result<Self::Image, OpenFault>
-        ensures opened { IfOk result (λ image. opens self.now name.now image) }
-        ensures refused { IfErr result (refuses self.now name.now) };
+        ensures { MatchResult result (λ image. opens self.now name.now image)
+            (refuses self.now name.now) };
 }
 
 /// Opens the files of a system.

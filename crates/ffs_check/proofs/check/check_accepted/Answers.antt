@@ -24,7 +24,9 @@ returns-in-Ok-clause-memory g c = record {
 }
 
 pub returns-in-Err-clause-memory : goal.returns-in-Err-clause-memory
-returns-in-Err-clause-memory g c = record { asked = inr c.in-Err.ensures.asks; refused = λ e. c.in-Err.ensures.asks.rose }
+returns-in-Err-clause-memory g c =
+    let asks = c.in-Err.ensures.asks in
+    record { asked = inr asks; refused = λ e. asks.rose }
 
 pub returns-in-Ok-clause-reads : goal.returns-in-Ok-clause-reads
 returns-in-Ok-clause-reads g c = record {

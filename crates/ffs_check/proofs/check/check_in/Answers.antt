@@ -19,7 +19,7 @@ pub returns-in-Err-clause-failures : goal.returns-in-Err-clause-failures
 returns-in-Err-clause-failures g c = record {
   reads = reads_failed _ _ _ _ _ _ _ (returns-in-Err-clause-headline g c);
   writes = writes_failed _ _ _ _ _ _ _ (returns-in-Err-clause-headline g c);
-  unreadable = c.in-Err.ensures.found;
+  unreadable = c.in-Err.ensures.answers.found;
 }
 
 pub returns-in-Ok-clause-failures : goal.returns-in-Ok-clause-failures
@@ -42,17 +42,18 @@ returns-in-Err-clause-memory g c = record {
 
 pub returns-in-Err-clause-reads : goal.returns-in-Err-clause-reads
 returns-in-Err-clause-reads g c =
-    record { reads = opened_within _ _ _ _ _ c.in-Err.ensures.reads; any = inl c.in-Err.ensures.reads }
+    let reads = c.in-Err.ensures.answers.reads in
+    record { reads = opened_within _ _ _ _ _ reads; any = inl reads }
 
 pub returns-in-Ok-clause-reads : goal.returns-in-Ok-clause-reads
 returns-in-Ok-clause-reads g c =
     let opened = rw c.new-report.ensures at c.in-Ok.ensures.opened in
     let phases = c.check_accepted.ensures.reads in
     record {
-      reads = found_within _ _ _ _ _ _ c.in-Ok.superblock _ _ _ c.in-Ok.ensures.opened c.in-Ok.ensures.reads
+      reads = found_within _ _ _ _ _ _ c.in-Ok.superblock _ _ _ c.in-Ok.ensures.opened c.in-Ok.ensures.answers.reads
           phases.known;
       any = any_at _ _ (g.W.Output.sink c.check_accepted.new.report.out.now) _ _ _ (search rules)
           (whole_reads _ c.in-Ok.superblock _ (g.W.Output.sink c.args.out.now)
           (progress g.W.Output.sink c.say_opening.new.report) (progress g.W.Output.sink c.check_accepted.new.report)
-          _ _ _ _ c.in-Ok.ensures.found opened.ends.0 c.in-Ok.ensures.reads phases.any);
+          _ _ _ _ c.in-Ok.ensures.answers.found opened.ends.0 c.in-Ok.ensures.answers.reads phases.any);
     }

@@ -44,16 +44,10 @@ pub returns-then-not-unref-clause-reads : goal.returns-then-not-unref-clause-rea
 returns-then-not-unref-clause-reads g c = record { known = λ bytes k. omega arith; paid = paid_none (omega arith) }
 
 pub returns-in_err-inode-clause-reads : goal.returns-in_err-inode-clause-reads
-returns-in_err-inode-clause-reads g c = record {
-  known = grind (arith, tested, one_line);
-  paid = grind (arith, err_from_is_err_and, paid_reads);
-}
+returns-in_err-inode-clause-reads g c = grind (arith, tested, one_line, err_from_is_err_and, paid_reads)
 
 pub returns-in_err-say-clause-reads : goal.returns-in_err-say-clause-reads
-returns-in_err-say-clause-reads g c = record {
-  known = grind (arith, tested, one_line);
-  paid = grind (arith, err_from_is_err_and, paid_stops);
-}
+returns-in_err-say-clause-reads g c = grind (arith, tested, one_line, err_from_is_err_and, paid_stops)
 
 pub returns-clause-reads : goal.returns-clause-reads
 returns-clause-reads g c = record {

@@ -91,19 +91,11 @@ pub returns-clause-prints : goal.returns-clause-prints
 returns-clause-prints g c = grind (arith, of_same, from_end)
 
 pub returns-in_err-say-clause-reads : goal.returns-in_err-say-clause-reads
-returns-in_err-say-clause-reads g c = record {
-  known = λ bytes k. omega arith;
-  paid = grind (arith, err_from_is_err_and, paid_stops);
-}
+returns-in_err-say-clause-reads g c = grind (arith, err_from_is_err_and, paid_stops)
 
 pub returns-in_err-check_inode-clause-reads : goal.returns-in_err-check_inode-clause-reads
-returns-in_err-check_inode-clause-reads g c = record {
-  known = grind (arith, count_next, known);
-  paid = grind (arith, err_from_is_err_and, paid_then, paid_fault);
-}
+returns-in_err-check_inode-clause-reads g c =
+    grind (arith, count_next, known, err_from_is_err_and, paid_then, paid_fault)
 
 pub returns-clause-reads : goal.returns-clause-reads
-returns-clause-reads g c = record {
-  known = λ bytes k. omega (arith, c.loop-number.invariant.reads bytes k);
-  paid = paid_answer c.loop-number.invariant.paid;
-}
+returns-clause-reads g c = grind (arith, paid_answer)

@@ -1,4 +1,4 @@
-use Rattle.std.proofs.Common.{arith, ◌∙◌, ap, nat_eq, sym}
+use Rattle.std.proofs.Common.{◌∙◌, ap, nat_eq, sym}
 use Rattle.std.{specs.Int.w64, proofs.lemmas.Nat.Bits.bit_at_set_other, proofs.lemmas.Nat.Bits.bit_at_set_same}
 use Rattle.ffs_groups.proofs.maps.with_bit.Goals as goal
 

@@ -100,7 +100,8 @@ returns-in_err-say-clause-reads g c = record {
 pub returns-in_err-survey-clause-reads : goal.returns-in_err-survey-clause-reads
 returns-in_err-survey-clause-reads g c = record {
   known = grind (arith, costs_bounded, runs_bounded);
-  paid = λ numbered. paid_text _ _ _ (returns-in_err-survey-clause-prints g c).text (omega (arith, c.survey.ensures.most));
+  paid = λ numbered. paid_text _ _ _ (returns-in_err-survey-clause-prints g c).text
+      (omega (arith, c.survey.ensures.most));
 }
 
 pub returns-clause-reads : goal.returns-clause-reads
