@@ -46,7 +46,8 @@ kept_room u {w = w} made free m = grind (arith, nat_tests, used_below)
 
 -- so there is room to count them
 pub sees_next : {v : Layout} {u w : Workspace} {area : DataArea} → IsAcceptedLayout v → HasBegun u → IsFor v w →
-    IsDataArea v area → is_open (claims_of w) ≡ true → ClaimBound (claims_of u) (claims_of w) → SeesNext v w area
+    IsDataArea v area → is_open (claims_of w) ≡ true → ClaimBound (claims_of u) (claims_of w) →
+    SeesNext v w area (2 ^ 62)
 sees_next {u = u} g begun made only_data uncut m =
     let numbers = g.numbers in
     let kept = kept_room u made uncut m in

@@ -37,16 +37,14 @@ loop-index-preserved g c =
     c.in_ok-say_dup.ensures
 
 pub loop-index-init : goal.loop-index-init
-loop-index-init g c = taking_begins c.requires.room.made
+loop-index-init g c = taking_begins c.requires.made
 
 pub take-requires : goal.take-requires
 take-requires g c =
     let inv = c.loop-index.invariant in
     record {
-      room = record {
-        made = inv.only.claiming.made;
-        room = omega (arith, inv.kept, c.requires.room.room, c.loop-index-test.true);
-      };
+      made = inv.only.claiming.made;
+      room = omega (arith, inv.kept, c.requires.room, c.loop-index-test.true);
       known = λ fits. ap (is_fragment_in_range c.args.geometry.now.layout) (omega arith)
           ∙ each_ok _ c.args.run.start c.args.run.len c.loop-index.index (c.requires.known fits)
           c.loop-index-test.true;
