@@ -2,11 +2,11 @@
 
 ghost use Rattle.std.specs.Prelude.{◌≡◌, ◌+◌, ◌-◌, ◌*◌, ◌<◌, ◌≤◌, ◌^◌, ◌∷◌, OnOk, slice_index};
 ghost use Rattle.ffs_volume.specs.Blocks.{BlockCheck.phase1b_lines, Inodes.inode_of, Owners.owners_of};
-ghost use Rattle.ffs_volume.specs.Report.{Reads.sweep_reads, Whole.run_count};
+ghost use Rattle.ffs_volume.specs.Report.Whole.{run_count};
 ghost use Rattle.ffs_report.specs.{Known.ForBytes, PhaseOutcome.PhaseOutcome, Progress.progress};
-ghost use Rattle.ffs_workspace.specs.{Found.WithPhase1, Holds.{HoldsClaims, HoldsStarts}, Notes.cut_in, Ready.IsReady};
-ghost use Rattle.ffs_claims.specs.{Lines.of_lines, Reporting.CanRewalk};
-ghost use Rattle.ffs_claims.specs.RescanRuns.{CanReportStep, ReportsStep, Rewalks, rescan_runs};
+ghost use Rattle.ffs_workspace.specs.{Found.WithPhase1, Notes.cut_in, Ready.IsReady};
+ghost use Rattle.ffs_claims.specs.{Lines.of_lines, Phases.{IsLeftByPhase1b, Phase1bReads}, Reporting.CanRewalk};
+ghost use Rattle.ffs_claims.specs.RescanRuns.{CanReportStep, ReportsStep, Rewalks};
 ghost use Rattle.ffs_volume.specs.Messages.Kinds as messages;
 
 use crate::report_offer::report_run;
@@ -113,15 +113,11 @@ fn rescan_inodes<I: Image, W: Output>(
         (phase1b_lines geometry.now.layout (owners_of geometry.now.layout bytes)))
         (I.device image.old) (I.device image.new) (progress W.sink report.old)
         (progress W.sink report.new) result }
-    ensures holds { OnOk result (ForBytes
+    ensures leaves { OnOk result (ForBytes
         (WithPhase1 geometry.now.layout (I.device image.old) workspace.old)
-        (λ bytes. HoldsClaims geometry.now.layout bytes workspace.new
-        × HoldsStarts geometry.now.layout bytes workspace.new)) }
+        (λ bytes. IsLeftByPhase1b geometry.now.layout bytes workspace.new)) }
     ensures runs { ForBytes (WithPhase1 geometry.now.layout (I.device image.old) workspace.old)
         (λ bytes. workspace.new.runs_again ≤ run_count geometry.now.layout bytes) }
-    ensures count { OnOk result (ForBytes
-        (WithPhase1 geometry.now.layout (I.device image.old) workspace.old)
-        (λ bytes. workspace.new.runs_again ≡ rescan_runs geometry.now.layout bytes)) }
     ensures reads { workspace.new.runs_again < 2 ^ 64 - 1 → I.reads image.new ≤ I.reads image.old
         + geometry.now.layout.ncg * geometry.now.layout.ipg + workspace.new.runs_again }
     ensures seen { workspace.new.runs_seen ≡ workspace.old.runs_seen }
@@ -158,19 +154,11 @@ pub fn phase1b<I: Image, W: Output>(
         (phase1b_lines geometry.now.layout (owners_of geometry.now.layout bytes)))
         (I.device image.old) (I.device image.new) (progress W.sink report.old)
         (progress W.sink report.new) result }
-    ensures holds { OnOk result (ForBytes
+    ensures leaves { OnOk result (ForBytes
         (WithPhase1 geometry.now.layout (I.device image.old) workspace.old)
-        (λ bytes. HoldsClaims geometry.now.layout bytes workspace.new
-        × HoldsStarts geometry.now.layout bytes workspace.new)) }
-    ensures runs { ForBytes (WithPhase1 geometry.now.layout (I.device image.old) workspace.old)
-        (λ bytes. workspace.new.runs_again ≤ run_count geometry.now.layout bytes) }
-    ensures count { OnOk result (ForBytes
-        (WithPhase1 geometry.now.layout (I.device image.old) workspace.old)
-        (λ bytes. workspace.new.runs_again ≡ rescan_runs geometry.now.layout bytes)) }
-    ensures reads { workspace.new.runs_again < 2 ^ 64 - 1 → I.reads image.new ≤ I.reads image.old
-        + geometry.now.layout.ncg * geometry.now.layout.ipg + workspace.new.runs_again }
-    ensures most { I.reads image.new ≤ I.reads image.old + sweep_reads geometry.now.layout }
-    ensures seen { workspace.new.runs_seen ≡ workspace.old.runs_seen }
+        (λ bytes. IsLeftByPhase1b geometry.now.layout bytes workspace.new)) }
+    ensures reads { Phase1bReads geometry.now.layout (I.device image.old) workspace.old
+        workspace.new (I.reads image.old) (I.reads image.new) }
     ensures ready { IsReady geometry.now.layout (I.device image.new) workspace.new }
 {
     let mut limited = LimitedImage::new(image, Some(sweep_reads(geometry)));

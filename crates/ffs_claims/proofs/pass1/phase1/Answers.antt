@@ -98,26 +98,25 @@ returns-clause-prints g c =
           (λ bytes k. lines_end _ bytes (claims_of c.loop-number.workspace) c.loop-number.number (omega arith));
     }
 
-pub returns-clause-holds : goal.returns-clause-holds
-returns-clause-holds g c = λ bytes k.
+pub returns-clause-leaves : goal.returns-clause-leaves
+unfolding run_count all_claims
+returns-clause-leaves g c = λ bytes k.
     let inv = c.loop-number.invariant in
     let past : inodes_of c.args.geometry.now.layout ≤ c.loop-number.number = omega arith in
-    found_all past (inv.claims bytes k ∙ before_end _ bytes _ past inv.high inv.low) (inv.found bytes k)
-
-pub returns-clause-runs : goal.returns-clause-runs
-returns-clause-runs g c =
-    let inv = c.loop-number.invariant in
-    omega (arith, inv.runs, used_below inv.ready.ready.made, numbers_most c.loop-number.number _ inv.high)
-
-pub returns-clause-count : goal.returns-clause-count
-unfolding run_count all_claims
-returns-clause-count g c = λ bytes k. (returns-clause-holds g c bytes k).runs
-
-pub returns-clause-dups : goal.returns-clause-dups
-returns-clause-dups g c = λ bytes k. dups_are c.args.geometry.now.layout bytes c.loop-number.workspace
-    (returns-clause-holds g c bytes k)
+    let holds = found_all past (inv.claims bytes k ∙ before_end _ bytes _ past inv.high inv.low)
+    (inv.found bytes k) in
+    record {
+      holds = holds;
+      dups = dups_are c.args.geometry.now.layout bytes c.loop-number.workspace holds;
+      count = holds.runs;
+    }
 
 pub returns-clause-reads : goal.returns-clause-reads
 returns-clause-reads g c =
     let inv = c.loop-number.invariant in
-    omega (arith, inv.reads, numbers_most c.loop-number.number _ inv.high)
+    let most = numbers_most c.loop-number.number _ inv.high in
+    record {
+      runs = omega (arith, inv.runs, used_below inv.ready.ready.made, most);
+      reads = omega (arith, inv.reads, most);
+      again = inv.again;
+    }

@@ -1,5 +1,6 @@
 use Rattle.std.proofs.{Common.{◌≡◌, ◌∙◌, false, ap, arith, sym}, lemmas.Bool.both_ways}
 use Rattle.ffs_image.specs.Device.{Device}
+use Rattle.ffs_volume.proofs.Results.{on_ok as ok_then}
 use Rattle.ffs_report.specs.Known.{ForBytes}
 use Rattle.ffs_workspace.{specs.Found.WithPhase1, proofs.Readiness.ready_same}
 use Rattle.ffs_claims.proofs.Limited.{image_over, phase_served, runs_fit, runs_within}
@@ -36,20 +37,16 @@ returns-then-is_spent-clause-prints g c =
     let image = c.image-1.given.1 back.same_image ∙ c.drop-limited.ensures.below in
     rw image (back.refused tt c.if-is_spent.true (fits g at))
 
-pub returns-then-is_spent-clause-holds : goal.returns-then-is_spent-clause-holds
-returns-then-is_spent-clause-holds g c = λ bytes k.
-    let at = (goal.at.returns-then-is_spent-clause-holds g c).After-is_spent in
+pub returns-then-is_spent-clause-leaves : goal.returns-then-is_spent-clause-leaves
+returns-then-is_spent-clause-leaves g c = λ bytes k.
+    let at = (goal.at.returns-then-is_spent-clause-leaves g c).After-is_spent in
     absurd (both_ways _ (fits g at bytes k) c.if-is_spent.true)
 
-pub returns-then-is_spent-clause-runs : goal.returns-then-is_spent-clause-runs
-returns-then-is_spent-clause-runs g c = λ bytes k.
-    let at = (goal.at.returns-then-is_spent-clause-runs g c).After-is_spent in
-    c.rescan_inodes-scanned.ensures.runs bytes (known g at bytes k)
-
-pub returns-then-is_spent-clause-count : goal.returns-then-is_spent-clause-count
-returns-then-is_spent-clause-count g c = λ bytes k.
-    let at = (goal.at.returns-then-is_spent-clause-count g c).After-is_spent in
-    absurd (both_ways _ (fits g at bytes k) c.if-is_spent.true)
+pub returns-then-is_spent-clause-reads : goal.returns-then-is_spent-clause-reads
+returns-then-is_spent-clause-reads g c =
+    let at = (goal.at.returns-then-is_spent-clause-reads g c).After-is_spent in
+    let runs = c.rescan_inodes-scanned.ensures.runs in
+    grind (arith, known g at, runs)
 
 pub returns-then-is_spent-clause-ready : goal.returns-then-is_spent-clause-ready
 returns-then-is_spent-clause-ready g c =
@@ -67,10 +64,17 @@ returns-clause-prints g c =
     let image = c.image-2-1.given.1 back.same_image ∙ c.drop-limited-2.ensures.below in
     rw image (back.answered c.if-is_spent.false)
 
-pub returns-clause-runs : goal.returns-clause-runs
-returns-clause-runs g c = λ bytes k.
-    let at = (goal.at.returns-clause-runs g c).After-is_spent in
-    c.rescan_inodes-scanned.ensures.runs bytes (known g at bytes k)
+pub returns-clause-leaves : goal.returns-clause-leaves
+returns-clause-leaves g c =
+    let at = (goal.at.returns-clause-leaves g c).After-is_spent in
+    ok_then c.rescan_inodes-scanned.result _ _ (λ h bytes k. h bytes (known g at bytes k))
+    c.rescan_inodes-scanned.ensures.leaves
+
+pub returns-clause-reads : goal.returns-clause-reads
+returns-clause-reads g c =
+    let at = (goal.at.returns-clause-reads g c).After-is_spent in
+    let runs = c.rescan_inodes-scanned.ensures.runs in
+    grind (arith, known g at, runs)
 
 pub returns-clause-ready : goal.returns-clause-ready
 returns-clause-ready g c =
