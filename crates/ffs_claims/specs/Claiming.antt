@@ -27,8 +27,7 @@ pub record CanClaim (v : Layout) (d : Device) (w : Workspace) (area : DataArea) 
   pub only_data : IsDataArea v area
 
 -- an inode can claim in a sweep: it has a number, the walk is over the volume, and more Runs can be
--- counted than inodes have. For the count of Runs any bound far above `runs_limit`, and far below
--- 2^64, serves
+-- counted than inodes have. Any bound far above `runs_limit`, and far below 2^64, serves for these
 pub record CanClaimInode (g : Geometry) (d : Device) (w : Workspace) (sweep : Sweep) (number : ℕ) : Type 0 where
   pub claim : CanClaim g.layout d w sweep.area
   pub walk : sweep.walk.geometry ≡ g
@@ -43,8 +42,7 @@ pub record CanClaimSteps (g : Geometry) (d : Device) (w : Workspace) (sweep : Sw
   pub begun : HasBegun w
 
 -- the next step of an inode can be seen: the inode isn't cut, and there is room to count its
--- fragments and Runs, which are below `most`. Any bound far above `runs_limit`, and far below 2^64,
--- serves
+-- fragments and Runs. Any bound far above `runs_limit`, and far below 2^64, serves as `most`
 pub record SeesNext (v : Layout) (w : Workspace) (area : DataArea) (most : ℕ) : Type 0 where
   pub made : IsFor v w
   pub only_data : IsDataArea v area
