@@ -141,7 +141,7 @@ pub begun : (u : Workspace) {w : Workspace} → w ≡ record u { bad = 0; dups =
 begun u e few = rw e (record { bad = refl; dups = refl; kept = refl; runs = omega arith })
 
 -- a fact of an Ok answer, of an image that gives the same
-pub ok_where : {T E : Type 0} (r : Result T E) (contents contents' : Option (List ℕ)) (P Q : List ℕ → Type 0) →
+ok_where : {T E : Type 0} (r : Result T E) (contents contents' : Option (List ℕ)) (P Q : List ℕ → Type 0) →
     contents' ≡ contents →
     ForBytes (IsContents contents) (λ bytes. P bytes → Q bytes) → OnOk r (ForBytes (IsContents contents') P) →
     OnOk r (ForBytes (IsContents contents) Q)

@@ -28,13 +28,14 @@ returns-in_err-say_dup g c =
 pub loop-index-preserved-then-not-take : goal.loop-index-preserved-then-not-take
 loop-index-preserved-then-not-take g c =
     taking_silent c.take.new.workspace (c.from.result + c.from-in-loop-index.result) c.loop-index-test.true
-    (omega arith) c.take.ensures.claims c.loop-index.invariant c.take.ensures.only (sym c.take.ensures.dup ∙ c.if-not-take.true)
+    (omega arith) c.take.ensures.claims c.loop-index.invariant c.take.ensures.only
+    (sym c.take.ensures.dup ∙ c.if-not-take.true)
 
 pub loop-index-preserved : goal.loop-index-preserved
 loop-index-preserved g c =
     taking_dup c.take.new.workspace (c.from.result + c.from-in-loop-index.result) c.loop-index-test.true
-    (omega arith) c.take.ensures.claims c.loop-index.invariant c.take.ensures.only (sym c.take.ensures.dup ∙ c.if-not-take.false)
-    c.in_ok-say_dup.ensures
+    (omega arith) c.take.ensures.claims c.loop-index.invariant c.take.ensures.only
+    (sym c.take.ensures.dup ∙ c.if-not-take.false) c.in_ok-say_dup.ensures
 
 pub loop-index-init : goal.loop-index-init
 loop-index-init g c = taking_begins c.requires.made
