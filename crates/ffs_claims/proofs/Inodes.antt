@@ -46,7 +46,8 @@ kept_room u {w = w} made free m = grind (arith, nat_tests, used_below)
 
 -- so there is room to count them
 pub sees_next : {v : Layout} {u w : Workspace} {area : DataArea} → IsAcceptedLayout v → HasBegun u → IsFor v w →
-    IsDataArea v area → is_open (claims_of w) ≡ true → ClaimBound (claims_of u) (claims_of w) → SeesNext v w area
+    IsDataArea v area → is_open (claims_of w) ≡ true → ClaimBound (claims_of u) (claims_of w) →
+    SeesNext v w area (2 ^ 62)
 sees_next {u = u} g begun made only_data uncut m =
     let numbers = g.numbers in
     let kept = kept_room u made uncut m in
@@ -140,7 +141,7 @@ pub begun : (u : Workspace) {w : Workspace} → w ≡ record u { bad = 0; dups =
 begun u e few = rw e (record { bad = refl; dups = refl; kept = refl; runs = omega arith })
 
 -- a fact of an Ok answer, of an image that gives the same
-pub ok_where : {T E : Type 0} (r : Result T E) (contents contents' : Option (List ℕ)) (P Q : List ℕ → Type 0) →
+ok_where : {T E : Type 0} (r : Result T E) (contents contents' : Option (List ℕ)) (P Q : List ℕ → Type 0) →
     contents' ≡ contents →
     ForBytes (IsContents contents) (λ bytes. P bytes → Q bytes) → OnOk r (ForBytes (IsContents contents') P) →
     OnOk r (ForBytes (IsContents contents) Q)

@@ -27,8 +27,7 @@ pub record CanClaim (v : Layout) (d : Device) (w : Workspace) (area : DataArea) 
   pub only_data : IsDataArea v area
 
 -- an inode can claim in a sweep: it has a number, the walk is over the volume, and more Runs can be
--- counted than inodes have. For the count of Runs any bound far above `runs_limit`, and far below
--- 2^64, serves
+-- counted than inodes have. Any bound far above `runs_limit`, and far below 2^64, serves for these
 pub record CanClaimInode (g : Geometry) (d : Device) (w : Workspace) (sweep : Sweep) (number : ℕ) : Type 0 where
   pub claim : CanClaim g.layout d w sweep.area
   pub walk : sweep.walk.geometry ≡ g
@@ -43,13 +42,13 @@ pub record CanClaimSteps (g : Geometry) (d : Device) (w : Workspace) (sweep : Sw
   pub begun : HasBegun w
 
 -- the next step of an inode can be seen: the inode isn't cut, and there is room to count its
--- fragments and Runs. Any bounds far above `runs_limit`, and far below 2^64, serve
-pub record SeesNext (v : Layout) (w : Workspace) (area : DataArea) : Type 0 where
+-- fragments and Runs. Any bound far above `runs_limit`, and far below 2^64, serves as `most`
+pub record SeesNext (v : Layout) (w : Workspace) (area : DataArea) (most : ℕ) : Type 0 where
   pub made : IsFor v w
   pub only_data : IsDataArea v area
   pub uncut : is_open (claims_of w) ≡ true
-  pub room : w.kept < 2 ^ 62
-  pub runs : w.runs_seen < 2 ^ 62
+  pub room : w.kept < most
+  pub runs : w.runs_seen < most
 
 -- what claiming leaves of the workspace and of the area
 pub record ClaimsInArea (v : Layout) (old new : Workspace) (area : DataArea) : Type 0 where
@@ -90,15 +89,13 @@ pub record TakesOffers {T E : Type 0} (v : Layout) (number : ℕ) (run : Run) (p
   pub claims : OnOk result (claims_of new ≡ after_offers v (claims_of old) (range_with_len run.start run.len))
   pub only : OffersOnly v old new
 
--- a step of an inode claims what it offers: these lines are said, the claims are these then, the
--- rest is as claiming leaves it, and at most one Run more is seen, and no fewer than `least`
-pub record ClaimsStep {E : Type 0} (v : Layout) (lines : List BlockMessage) (after : Claims) (least : ℕ)
+-- a step of an inode claims what it offers: these lines are said, the claims are these then, and
+-- the rest is as claiming leaves it
+pub record ClaimsStep {E : Type 0} (v : Layout) (lines : List BlockMessage) (after : Claims)
     (progress progress' : Progress) (old new : Workspace) (area : DataArea) (result : Result Bool E) : Type 0 where
   pub said : Says progress progress' (of_lines lines) result
   pub claims : IfOk result (AreClaims new after)
   pub left : ClaimsInArea v old new area
-  pub runs : new.runs_seen ≤ old.runs_seen + 1
-  pub counted : old.runs_seen + least ≤ new.runs_seen
 
 -- the steps of an inode claim what they offer: their lines are reported, the claims are those after
 -- them, the next inode can be walked over, and each read is paid by a Run that is seen

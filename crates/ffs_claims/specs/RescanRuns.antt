@@ -4,10 +4,10 @@ use Rattle.std.specs.{List.range_with_len, Prelude.{◌≡◌, ◌<◌, ◌≤�
 use Rattle.std.specs.Prelude.{if◌then◌else◌, map, Result, OnOk, true}
 use Rattle.ffs_volume.specs.Blocks.{BlockCheck.first_offer_lines, Claims.{Claims, no_claims, at_next_inode, is_open}}
 use Rattle.ffs_volume.specs.Blocks.{Claims.{after_step, after_owner, after_owners}, KeptOffers.{Offer, kept_in_run}}
-use Rattle.ffs_volume.specs.Blocks.{KeptOffers.offer_of, Owners.{Owner, owners_of}, Steps.steps_of}
+use Rattle.ffs_volume.specs.Blocks.{Inodes.inode_of, KeptOffers.offer_of, Owners.{Owner, owners_of}, Steps.steps_of}
 use Rattle.ffs_volume.specs.Encodings.{Replay.{Replay, is_replay_open, fresh_replay}, ReplayCounts.replayed_runs}
 use Rattle.ffs_volume.specs.{Encodings.ReplayCounts.{replay_step_by_cut, seen_run}, Laws.RunLengths.HasLength}
-use Rattle.ffs_volume.specs.declared.{Inode.Inode, Layout.Layout, Step.{Step, TheVariants.{Run, Tail, Gap}}}
+use Rattle.ffs_volume.specs.declared.{Layout.Layout, Step.{Step, TheVariants.{Run, Tail, Gap}}}
 use Rattle.ffs_image.specs.Device.{Device}
 use Rattle.ffs_report.specs.{Known.{ForBytes, IsContents}, PhaseOutcome.PhaseReports, Progress.{Progress, Says}}
 use Rattle.ffs_report.specs.declared.fault.RunFault.{RunFault}
@@ -103,15 +103,14 @@ pub record Rewalked (v : Layout) (inode cut : ℕ) (steps : List Step) (old new 
       (steps_runs_again v inode cut fresh_replay steps))
 
 -- an inode with this cut is walked over again: of its kept offers those are reported that are the
--- first of a fragment with a DUP line, its Runs are counted, and they pay for the reads
-pub record Rewalks {T : Type 0} (v : Layout) (number cut : ℕ) (inode : List ℕ → Inode) (d d' : Device)
-    (reads reads' : ℕ) (progress progress' : Progress) (old new : Workspace) (result : Result T RunFault)
-    : Type 0 where
+-- first of a fragment with a DUP line, its Runs are counted, and they pay for all reads but one
+pub record Rewalks {T : Type 0} (v : Layout) (number cut : ℕ) (d d' : Device) (reads reads' : ℕ)
+    (progress progress' : Progress) (old new : Workspace) (result : Result T RunFault) : Type 0 where
   pub text : PhaseReports (IsContents d.contents) (λ bytes. of_lines (first_offer_lines (bits_of old.duplicates)
-      (offers_again v number cut fresh_replay (steps_of v (inode bytes) bytes)))) progress progress' result
+      (offers_again v number cut fresh_replay (steps_of v (inode_of v bytes number) bytes)))) progress progress' result
   pub rewalked : OnOk result (ForBytes (IsContents d.contents) (λ bytes.
-      Rewalked v number cut (steps_of v (inode bytes) bytes) old new))
+      Rewalked v number cut (steps_of v (inode_of v bytes number) bytes) old new))
   pub runs : ForBytes (IsContents d.contents) (λ bytes.
-      new.runs_again ≤ old.runs_again + replayed_runs v cut fresh_replay (steps_of v (inode bytes) bytes))
+      new.runs_again ≤ old.runs_again + replayed_runs v cut fresh_replay (steps_of v (inode_of v bytes number) bytes))
   pub left : RewalkLeaves v d d' old new result
-  pub counted : RunsPay reads reads' old.runs_again new.runs_again
+  pub counted : RunsPay (reads + 1) reads' old.runs_again new.runs_again

@@ -1,13 +1,13 @@
 //! The offers of Runs, and what is reported of them.
 
-ghost use Rattle.std.specs.Prelude.{◌≡◌, ◌≤◌, IsTrue, true};
+ghost use Rattle.std.specs.Prelude.{◌≡◌, ◌+◌, ◌≤◌, ◌^◌, IsTrue, true};
 ghost use Rattle.ffs_volume.specs.Blocks.Claims.{after_offer, after_run, after_step, run_lines, step_lines};
 ghost use Rattle.ffs_volume.specs.{Disk.Areas.{is_fragment_in_range, is_run_in_range}, Laws.RunLengths.HasLength};
 ghost use Rattle.ffs_report.specs.Progress.{progress};
 ghost use Rattle.ffs_walk.specs.Counts.{entered};
 ghost use Rattle.ffs_workspace.specs.Holds.{claims_of};
 ghost use Rattle.ffs_claims.specs.{Claiming.{ClaimsStep, SeesNext, TakesOffers}, Lines.has_dup_line};
-ghost use Rattle.ffs_claims.specs.Leaves.{CanOffer, HasRoomForOffers, OffersOnly};
+ghost use Rattle.ffs_claims.specs.Leaves.{CanOffer, OffersOnly};
 ghost use Rattle.ffs_volume.specs.Blocks.Claims as claims;
 
 use crate::area::{DataArea, Run};
@@ -90,29 +90,10 @@ fn offers<W: Output>(
     Ok(())
 }
 
-/// Takes the offers of a bad Run of the current inode, which isn't cut. No fragment past the volume
-/// is in range: so a Run that begins there is kept at once, and nothing of it is claimed or dup.
-fn offers_of_bad_run<W: Output>(
-    workspace: &mut Workspace,
-    geometry: &Geometry,
-    number: u32,
-    run: Run,
-    report: &mut Report<'_, W>,
-) -> Result<(), OutFault>
-    requires room { HasRoomForOffers geometry.now.layout workspace.old run.len }
-    requires uncut { workspace.old.dups ≤ MAXDUP }
-    ensures { TakesOffers geometry.now.layout number run (progress W.sink report.old)
-        (progress W.sink report.new) workspace.old workspace.new result }
-{
-    if run.start >= geometry.layout.size {
-        workspace.kept += u64::from(run.len);
-        return Ok(());
-    }
-    offers(workspace, geometry, number, run, false, report)
-}
-
 /// Takes a Run of the current inode: one in range is claimed at once where its fragments are all
-/// unclaimed and lie in one word of the map. Returns whether the next step is seen.
+/// unclaimed and lie in one word of the map. No fragment past the volume is in range: so a bad Run
+/// that begins there is kept at once, and nothing of it is claimed or dup. Returns whether the next
+/// step is seen.
 fn run<W: Output>(
     workspace: &mut Workspace,
     geometry: &Geometry,
@@ -121,12 +102,13 @@ fn run<W: Output>(
     run: Run,
     report: &mut Report<'_, W>,
 ) -> Result<bool, OutFault>
-    requires { SeesNext geometry.now.layout workspace.old area.old }
-    ensures { ClaimsStep geometry.now.layout
+    requires { SeesNext geometry.now.layout workspace.old area.old (2 ^ 62) }
+    ensures claiming { ClaimsStep geometry.now.layout
         (run_lines geometry.now.layout number (claims_of workspace.old) run.start run.len)
-        (after_run geometry.now.layout (claims_of workspace.old) run.start run.len) 1
+        (after_run geometry.now.layout (claims_of workspace.old) run.start run.len)
         (progress W.sink report.old) (progress W.sink report.new) workspace.old workspace.new
         area.new result }
+    ensures runs { workspace.new.runs_seen ≡ workspace.old.runs_seen + 1 }
 {
     workspace.runs_seen += 1;
     if area.in_range(geometry, run) {
@@ -143,7 +125,11 @@ fn run<W: Output>(
     if is_eleventh {
         return Ok(false);
     }
-    offers_of_bad_run(workspace, geometry, number, run, report)?;
+    if run.start >= geometry.layout.size {
+        workspace.kept += u64::from(run.len);
+        return Ok(is_open(workspace));
+    }
+    offers(workspace, geometry, number, run, false, report)?;
     Ok(is_open(workspace))
 }
 
@@ -159,13 +145,15 @@ pub fn step<W: Output>(
     step: Step,
     report: &mut Report<'_, W>,
 ) -> Result<bool, OutFault>
-    requires next { SeesNext geometry.now.layout workspace.old area.old }
+    requires next { SeesNext geometry.now.layout workspace.old area.old (2 ^ 62) }
     requires length { HasLength geometry.now.layout.frag step }
-    ensures { ClaimsStep geometry.now.layout
+    ensures claiming { ClaimsStep geometry.now.layout
         (step_lines geometry.now.layout number (claims_of workspace.old) step)
-        (after_step geometry.now.layout (claims_of workspace.old) step) (entered step)
+        (after_step geometry.now.layout (claims_of workspace.old) step)
         (progress W.sink report.old) (progress W.sink report.new) workspace.old workspace.new
         area.new result }
+    ensures runs { workspace.new.runs_seen ≤ workspace.old.runs_seen + 1 }
+    ensures counted { workspace.old.runs_seen + entered step ≤ workspace.new.runs_seen }
 {
     match step {
         Step::Run { start, len, .. } => {

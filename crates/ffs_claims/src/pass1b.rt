@@ -1,19 +1,18 @@
 //! Phase 1b: rescan for more dups (fsck(8)).
 
 ghost use Rattle.std.specs.Prelude.{◌≡◌, ◌+◌, ◌-◌, ◌*◌, ◌<◌, ◌≤◌, ◌^◌, ◌∷◌, OnOk, slice_index};
-ghost use Rattle.ffs_volume.specs.Blocks.{BlockCheck.phase1b_lines, Inodes.inode_of, Owners.owners_of};
-ghost use Rattle.ffs_volume.specs.Report.Whole.{run_count};
+ghost use Rattle.ffs_volume.specs.{Blocks.{BlockCheck.phase1b_lines, Owners.owners_of}, Report.Whole.run_count};
 ghost use Rattle.ffs_report.specs.{Known.ForBytes, PhaseOutcome.PhaseOutcome, Progress.progress};
-ghost use Rattle.ffs_workspace.specs.{Found.WithPhase1, Holds.{HoldsClaims, HoldsStarts}, Notes.cut_in, Ready.IsReady};
+ghost use Rattle.ffs_workspace.specs.{Found.WithPhase1, Notes.cut_in, Ready.IsReady};
 ghost use Rattle.ffs_claims.specs.{Lines.of_lines, Phases.{IsLeftByPhase1b, Phase1bReads}, Reporting.CanRewalk};
-ghost use Rattle.ffs_claims.specs.RescanRuns.{CanReportStep, ReportsStep, Rewalks, rescan_runs};
+ghost use Rattle.ffs_claims.specs.RescanRuns.{CanReportStep, ReportsStep, Rewalks};
 ghost use Rattle.ffs_volume.specs.Messages.Kinds as messages;
 
 use crate::report_offer::report_run;
 use ffs_image::{Image, LimitedImage};
 use ffs_layout::Geometry;
 use ffs_report::{Heading, Line, OutFault, Output, Report, RunFault};
-use ffs_volume::{Inode, Step};
+use ffs_volume::Step;
 use ffs_walk::{Keeping, Walk};
 use ffs_workspace::{Workspace, sweep_reads};
 
@@ -42,25 +41,24 @@ fn report_again<W: Output>(
     }
 }
 
-/// Walks over the blocks of an inode again, until nothing is left to report.
-fn rewalk<I: Image, W: Output>(
+/// Reads an inode by its number, and walks over its blocks again, until nothing is left to report.
+fn rewalk_inode<I: Image, W: Output>(
     geometry: &Geometry,
     image: &mut I,
     workspace: &mut Workspace,
     number: u32,
-    inode: &Inode,
     report: &mut Report<'_, W>,
 ) -> Result<(), RunFault>
     requires { CanRewalk geometry.now.layout (I.device image.old) workspace.old number }
     ensures { Rewalks geometry.now.layout number
-        (cut_in (slice_index workspace.old.notes.items number)) (λ _. inode.now)
-        (I.device image.old) (I.device image.new) (I.reads image.old) (I.reads image.new)
-        (progress W.sink report.old) (progress W.sink report.new) workspace.old workspace.new
-        result }
+        (cut_in (slice_index workspace.old.notes.items number)) (I.device image.old)
+        (I.device image.new) (I.reads image.old) (I.reads image.new) (progress W.sink report.old)
+        (progress W.sink report.new) workspace.old workspace.new result }
 {
+    let inode = workspace.windows.table.inode(geometry, number, image)?;
     let cut = workspace.cut_of(number);
     let mut keeping = Keeping::start(cut);
-    let mut walk = Walk::start(geometry, inode);
+    let mut walk = Walk::start(geometry, &inode);
     while let Some(next) = walk.next(image, &mut workspace.windows.blocks)? {
         report_again(workspace, geometry, number, &mut keeping, next, report)?;
         if !keeping.is_replay_open() {
@@ -74,26 +72,6 @@ fn rewalk<I: Image, W: Output>(
         }
     }
     Ok(())
-}
-
-/// Reads an inode by its number, and walks over its blocks again.
-fn rewalk_inode<I: Image, W: Output>(
-    geometry: &Geometry,
-    image: &mut I,
-    workspace: &mut Workspace,
-    number: u32,
-    report: &mut Report<'_, W>,
-) -> Result<(), RunFault>
-    requires { CanRewalk geometry.now.layout (I.device image.old) workspace.old number }
-    ensures { Rewalks geometry.now.layout number
-        (cut_in (slice_index workspace.old.notes.items number))
-        (λ bytes. inode_of geometry.now.layout bytes number) (I.device image.old)
-        (I.device image.new) (I.reads image.old + 1) (I.reads image.new)
-        (progress W.sink report.old) (progress W.sink report.new) workspace.old workspace.new
-        result }
-{
-    let inode = workspace.windows.table.inode(geometry, number, image)?;
-    rewalk(geometry, image, workspace, number, &inode, report)
 }
 
 /// What `phase1b` does, where each read is answered.
@@ -113,15 +91,11 @@ fn rescan_inodes<I: Image, W: Output>(
         (phase1b_lines geometry.now.layout (owners_of geometry.now.layout bytes)))
         (I.device image.old) (I.device image.new) (progress W.sink report.old)
         (progress W.sink report.new) result }
-    ensures holds { OnOk result (ForBytes
+    ensures leaves { OnOk result (ForBytes
         (WithPhase1 geometry.now.layout (I.device image.old) workspace.old)
-        (λ bytes. HoldsClaims geometry.now.layout bytes workspace.new
-        × HoldsStarts geometry.now.layout bytes workspace.new)) }
+        (λ bytes. IsLeftByPhase1b geometry.now.layout bytes workspace.new)) }
     ensures runs { ForBytes (WithPhase1 geometry.now.layout (I.device image.old) workspace.old)
         (λ bytes. workspace.new.runs_again ≤ run_count geometry.now.layout bytes) }
-    ensures count { OnOk result (ForBytes
-        (WithPhase1 geometry.now.layout (I.device image.old) workspace.old)
-        (λ bytes. workspace.new.runs_again ≡ rescan_runs geometry.now.layout bytes)) }
     ensures reads { workspace.new.runs_again < 2 ^ 64 - 1 → I.reads image.new ≤ I.reads image.old
         + geometry.now.layout.ncg * geometry.now.layout.ipg + workspace.new.runs_again }
     ensures seen { workspace.new.runs_seen ≡ workspace.old.runs_seen }

@@ -80,13 +80,16 @@ returns-in_err-seen g c =
     let few = seen_bound c.args.workspace.now read.claim.ready.made inv.open_still read.moves in
     rw (p.1, p.2) (record {
       text = of_stops _ _ _ _ _ _ _ _ inv.said (lines_on v _ s _ c.loop-next.sweep.walk c.next.new.self
-          c.in-Some.next next refl) c.in_err-seen.ensures.said;
+          c.in-Some.next next refl) c.in_err-seen.ensures.claiming.said;
       claims = tt;
-      left = claiming_on read.image c.step.ensures.left (omega (arith, c.step.ensures.runs)) tt read;
+      left = claiming_on read.image c.step.ensures.claiming.left (omega (arith, c.step.ensures.runs)) tt read;
       walk = c.in_ok-next.ensures.same.geometry ∙ inv.geometry;
-      counted =
-          let paid = rw c.in-Some.is at (c.in_ok-next.ensures.counted inv.held).paid in
-          omega (arith, paid, inv.counted, c.step.ensures.counted);
+      counted = omega (
+        arith,
+        rw c.in-Some.is at (c.in_ok-next.ensures.counted inv.held).paid,
+        inv.counted,
+        c.step.ensures.counted,
+      );
     })
 
 pub loop-next-preserved-then-matches : goal.loop-next-preserved-then-matches
@@ -127,8 +130,8 @@ pub claim_words-requires : goal.claim_words-requires
 claim_words-requires g c =
     let inv = c.loop-next.invariant in
     let sound = c.args.geometry.now.sound in
-    let left = c.step.ensures.left in
-    let now = c.in_ok-seen.ensures.claims in
+    let left = c.step.ensures.claiming.left in
+    let now = c.in_ok-seen.ensures.claiming.claims in
     record {
       next = sees_next sound c.requires.can.begun left.only.made left.only_data (sym now.uncut ∙ c.if-not-seen.false)
           (moves_on c.in-Some.next inv.left.claim.ready.made sound.sizes.frag_high
@@ -147,8 +150,8 @@ loop-next-preserved g c =
     let words = c.claim_words.ensures in
     let reads = c.in_ok-next.ensures.counted inv.held in
     let paid = rw c.in-Some.is at reads.paid in
-    let left = c.step.ensures.left in
-    let now = c.in_ok-seen.ensures.claims.claims_are in
+    let left = c.step.ensures.claiming.left in
+    let now = c.in_ok-seen.ensures.claiming.claims.claims_are in
     let claimed = ready_still left.only.made left.only.windows read.claim.ready in
     let moves = moves_then _ (claims_of c.step.new.workspace) _
     (moves_on c.in-Some.next inv.left.claim.ready.made c.args.geometry.now.sound.sizes.frag_high
@@ -166,7 +169,7 @@ loop-next-preserved g c =
           (λ bytes t. sym (words.claims image claimed.windows.blocks bytes (gives ∙ t)));
       said = steps_said v n s (claims_of c.step.new.workspace) c.loop-next.sweep.walk c.next.new.self _ c.in-Some.next
           inv.said next now (λ bytes t. sym (words.lines image claimed.windows.blocks bytes (gives ∙ t) n))
-          c.in_ok-seen.ensures.said;
+          c.in_ok-seen.ensures.claiming.said;
     }
 
 pub returns-then-not-seen : goal.returns-then-not-seen
@@ -177,24 +180,27 @@ returns-then-not-seen g c =
     let s' = claims_of c.step.new.workspace in
     let n = c.args.claimant.now.number in
     let read = claiming_walked c.in_ok-next.ensures.leaves.read inv.geometry c.next.ensures.leaves.kept inv.left in
-    let now = c.in_ok-seen.ensures.claims in
+    let now = c.in_ok-seen.ensures.claiming.claims in
     let few = seen_bound c.args.workspace.now read.claim.ready.made inv.open_still read.moves in
     let cut : is_open s' ≡ false = sym now.uncut ∙ c.if-not-seen.true in
     let next = rw (inv.left.image, c.in-Some.is) at c.in_ok-next.ensures.step.steps in
     record {
       text = steps_said v n s s' c.loop-next.sweep.walk c.next.new.self (λ bytes. []) c.in-Some.next inv.said next
           now.claims_are (λ bytes t. (cut_over v n s' (steps_left bytes c.next.new.self) cut).1)
-          c.in_ok-seen.ensures.said;
+          c.in_ok-seen.ensures.claiming.said;
       claims = claims_on v s c.loop-next.sweep.walk c.next.new.self (λ bytes. s') c.in-Some.next next now.claims_are
           inv.claims (λ bytes t. (cut_over v n s' (steps_left bytes c.next.new.self) cut).0);
-      left = claiming_on read.image c.step.ensures.left (omega (arith, c.step.ensures.runs))
+      left = claiming_on read.image c.step.ensures.claiming.left (omega (arith, c.step.ensures.runs))
           (moves_on c.in-Some.next inv.left.claim.ready.made c.args.geometry.now.sound.sizes.frag_high
           (rw (inv.geometry, c.in-Some.is) at c.in_ok-next.ensures.step.fits).length now.claims_are inv.left.moves)
           read;
       walk = c.in_ok-next.ensures.same.geometry ∙ inv.geometry;
-      counted =
-          let paid = rw c.in-Some.is at (c.in_ok-next.ensures.counted inv.held).paid in
-          omega (arith, paid, inv.counted, c.step.ensures.counted);
+      counted = omega (
+        arith,
+        rw c.in-Some.is at (c.in_ok-next.ensures.counted inv.held).paid,
+        inv.counted,
+        c.step.ensures.counted,
+      );
     }
 
 pub returns-in_default : goal.returns-in_default
@@ -209,7 +215,5 @@ returns-in_default g c =
       claims = λ bytes t. sym (ap (after_steps v s) (over bytes t)) ∙ inv.claims bytes t;
       left = claiming_walked c.in_ok-next.ensures.leaves.read inv.geometry c.next.ensures.leaves.kept inv.left;
       walk = c.in_ok-next.ensures.same.geometry ∙ inv.geometry;
-      counted =
-          let paid = rw c.in_default.is at (c.in_ok-next.ensures.counted inv.held).paid in
-          omega (arith, paid, inv.counted);
+      counted = omega (arith, rw c.in_default.is at (c.in_ok-next.ensures.counted inv.held).paid, inv.counted);
     }

@@ -13,12 +13,11 @@ use Rattle.ffs_claims.proofs.claim.claim_inode.Goals as goal
 pub returns-in_err-inode : goal.returns-in_err-inode
 returns-in_err-inode g c =
     let p = err_from_is_err_and c.from_residual.result c.from_residual.ensures.1 in
-    let v = c.args.geometry.now.layout in
     let err = c.in_err-inode.ensures.reads.read in
     let can = c.requires.claim in
     let few = used_below can.ready.made in
-    let ready = ready_table v (g.I.Image.device c.args.image.now) (g.I.Image.device c.inode.new.image)
-    c.args.workspace.now c.inode.new.self err.contents err.size c.inode.ensures.reads.kept can.ready in
+    let ready = ready_table _ _ (g.I.Image.device c.inode.new.image) _ c.inode.new.self err.contents err.size
+    c.inode.ensures.reads.kept can.ready in
     rw (p.1, p.2) (record {
       text = reads_first;
       claims = tt;

@@ -28,25 +28,24 @@ returns-in_err-say_dup g c =
 pub loop-index-preserved-then-not-take : goal.loop-index-preserved-then-not-take
 loop-index-preserved-then-not-take g c =
     taking_silent c.take.new.workspace (c.from.result + c.from-in-loop-index.result) c.loop-index-test.true
-    (omega arith) c.take.ensures.claims c.loop-index.invariant c.take.ensures.only (sym c.take.ensures.dup ∙ c.if-not-take.true)
+    (omega arith) c.take.ensures.claims c.loop-index.invariant c.take.ensures.only
+    (sym c.take.ensures.dup ∙ c.if-not-take.true)
 
 pub loop-index-preserved : goal.loop-index-preserved
 loop-index-preserved g c =
     taking_dup c.take.new.workspace (c.from.result + c.from-in-loop-index.result) c.loop-index-test.true
-    (omega arith) c.take.ensures.claims c.loop-index.invariant c.take.ensures.only (sym c.take.ensures.dup ∙ c.if-not-take.false)
-    c.in_ok-say_dup.ensures
+    (omega arith) c.take.ensures.claims c.loop-index.invariant c.take.ensures.only
+    (sym c.take.ensures.dup ∙ c.if-not-take.false) c.in_ok-say_dup.ensures
 
 pub loop-index-init : goal.loop-index-init
-loop-index-init g c = taking_begins c.requires.room.made
+loop-index-init g c = taking_begins c.requires.made
 
 pub take-requires : goal.take-requires
 take-requires g c =
     let inv = c.loop-index.invariant in
     record {
-      room = record {
-        made = inv.only.claiming.made;
-        room = omega (arith, inv.kept, c.requires.room.room, c.loop-index-test.true);
-      };
+      made = inv.only.claiming.made;
+      room = omega (arith, inv.kept, c.requires.room, c.loop-index-test.true);
       known = λ fits. ap (is_fragment_in_range c.args.geometry.now.layout) (omega arith)
           ∙ each_ok _ c.args.run.start c.args.run.len c.loop-index.index (c.requires.known fits)
           c.loop-index-test.true;

@@ -137,12 +137,12 @@ returns-then-not-has_dups g c =
         text = of_same _ _ (λ bytes. []) _ _ _ inv.said
             (λ bytes k. ap of_lines (none_first d (kept_from v bytes n) none));
       };
-      holds = λ bytes k. (
-        claims_hold v bytes c.args.workspace.now _ k.1 inv.claims (reporting_over none (inv.reported bytes k)),
-        starts_hold v bytes c.args.workspace.now _ k.1 inv.claims,
-      );
+      leaves = λ bytes k. record {
+        claims = claims_hold v bytes c.args.workspace.now _ k.1 inv.claims (reporting_over none (inv.reported bytes k));
+        starts = starts_hold v bytes c.args.workspace.now _ k.1 inv.claims;
+        count = omega (arith, inv.count bytes k, looked_none d (runs_from v bytes n) none);
+      };
       runs = λ bytes k. omega (arith, inv.runs bytes k, runs_most v bytes n inv.low inv.high);
-      count = λ bytes k. omega (arith, inv.count bytes k, looked_none d (runs_from v bytes n) none);
       reads = runs_pay_all _ _ _ inv.reads (numbers_most n (inodes_of v) inv.high);
       seen = inv.claims.seen;
       ready = inv.ready;
@@ -161,13 +161,13 @@ returns-after-loop-number g c =
         text = of_same _ _ (λ bytes. []) _ _ _ inv.said (λ bytes k. ap (λ os. of_lines (first_offer_lines d os))
             (kept_end v bytes (claims_before v bytes n) n past));
       };
-      holds = λ bytes k. (
-        claims_hold v bytes c.args.workspace.now _ k.1 inv.claims
-            (reporting_ends (inv.reported bytes k) (kept_end v bytes (claims_before v bytes n) n past)),
-        starts_hold v bytes c.args.workspace.now _ k.1 inv.claims,
-      );
+      leaves = λ bytes k. record {
+        claims = claims_hold v bytes c.args.workspace.now _ k.1 inv.claims
+            (reporting_ends (inv.reported bytes k) (kept_end v bytes (claims_before v bytes n) n past));
+        starts = starts_hold v bytes c.args.workspace.now _ k.1 inv.claims;
+        count = omega (arith, inv.count bytes k, looked_end v bytes d (claims_before v bytes n) n past);
+      };
       runs = λ bytes k. omega (arith, inv.runs bytes k, runs_most v bytes n inv.low inv.high);
-      count = λ bytes k. omega (arith, inv.count bytes k, looked_end v bytes d (claims_before v bytes n) n past);
       reads = runs_pay_all _ _ _ inv.reads (numbers_most n (inodes_of v) inv.high);
       seen = inv.claims.seen;
       ready = inv.ready;
