@@ -6,13 +6,10 @@ use Rattle.ffs_claims.proofs.StepsContinue.{run_stops, run_stops_later, run_said
 use Rattle.ffs_claims.proofs.UnclaimedRuns.{only_kept, whole_is, run_below}
 use Rattle.ffs_claims.proofs.offer.run.Goals as goal
 
-pub claim-requires : goal.claim-requires
-claim-requires g c =
+pub claim-requires-clause-below : goal.claim-requires-clause-below
+claim-requires-clause-below g c =
     let fits = sym c.in_range.ensures.value ∙ c.if-in_range.true in
-    record {
-      some = c.args.run.some;
-      below = omega (arith, run_below _ c.args.run.start c.args.run.len c.args.run.some fits, c.requires.made.used);
-    }
+    omega (arith, run_below _ c.args.run.start c.args.run.len c.args.run.some fits, c.requires.made.used)
 
 -- a Run in range that is claimed at once
 pub returns-then-claim-clause-claiming : goal.returns-then-claim-clause-claiming
