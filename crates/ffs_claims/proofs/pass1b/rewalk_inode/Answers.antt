@@ -46,8 +46,9 @@ loop-next-init g c =
         claims = claims_still (claims_none c.args.workspace.now);
       };
       cut = c.start-keeping.ensures.cut ∙ c.cut_of-cut.ensures;
-      going = ap (is_replay_open (cut_in (slice_index c.args.workspace.now.notes.items c.args.number))) begun
-          ∙ open_first _;
+      going =
+          let cut = cut_in (slice_index c.args.workspace.now.notes.items c.args.number) in
+          ap (is_replay_open cut) begun ∙ open_first cut;
       pending = c.requires.pending;
       geometry = c.start-walk.ensures.geometry;
       held = top_held c.start-walk.result c.start-walk.ensures.top _;
@@ -74,7 +75,7 @@ returns-in_err-next g c =
       text = of_reads _ _ _ _ _ inv.said;
       rewalked = tt;
       runs = λ bytes t. omega (arith, (inv.walk bytes t).runs);
-      left = grind arith;
+      left = record { image = rw inv.left.image at err; ready = ready; claims = claims_still inv.left.claims };
       counted = grind arith;
     })
 
@@ -234,6 +235,10 @@ returns-in_default g c =
       rewalked = λ bytes t. rewalked_to (rewalk_ends (none bytes t) (looked_over _ _ _ _ _ d (over bytes t))
           (inv.walk bytes t));
       runs = λ bytes t. omega (arith, (inv.walk bytes t).runs);
-      left = grind arith;
+      left = record {
+        image = c.in_ok-next.ensures.leaves.read ∙ inv.left.image;
+        ready = ready;
+        claims = claims_still inv.left.claims;
+      };
       counted = grind arith;
     }
