@@ -18,10 +18,10 @@ before_tree g c b t h =
     let v = c.args.geometry.now.layout in
     let found = c.in_ok-survey.ensures in
     let clear = c.clear_passed.ensures in
-    let claims = claims_untouched v b _ _ found.same h in
-    before_first v _ b _ _ (ap (λ d. d.contents) found.read ∙ t) claims (found.survey b t h)
-    (clear.ready v _ found.ready).made clear.clear
-    (calm_silent v b _ c.args.geometry.now.sound found.ready.made claims (found.survey b t h) (found.calm b t h))
+    let claims = claims_untouched v b _ _ found.leaves.same h in
+    before_first v _ b _ _ (ap (λ d. d.contents) found.leaves.read ∙ t) claims (found.survey b t h)
+    (clear.ready v _ found.leaves.ready).made clear.clear
+    (calm_silent v b _ c.args.geometry.now.sound found.leaves.ready.made claims (found.survey b t h) (found.calm b t h))
 
 pub returns-in_err-say-clause-text : goal.returns-in_err-say-clause-text
 returns-in_err-say-clause-text g c =
@@ -58,7 +58,7 @@ pub returns-clause-references : goal.returns-clause-references
 returns-clause-references g c = grind (arith, on_all, references_on)
 
 pub check_tree-requires : goal.check_tree-requires
-check_tree-requires g c = c.clear_passed.ensures.ready _ _ c.in_ok-survey.ensures.ready
+check_tree-requires g c = c.clear_passed.ensures.ready _ _ c.in_ok-survey.ensures.leaves.ready
 
 pub returns-in_err-survey-clause-reads : goal.returns-in_err-survey-clause-reads
 returns-in_err-survey-clause-reads g c = grind (arith, costs_bounded, runs_bounded)
@@ -72,9 +72,9 @@ returns-in_err-say-clause-paid g c = λ numbered. paid_text _ _ _ (returns-in_er
 
 pub returns-in_err-survey-clause-paid : goal.returns-in_err-survey-clause-paid
 returns-in_err-survey-clause-paid g c = λ numbered.
-    paid_text _ _ _ (returns-in_err-survey-clause-text g c) (omega (arith, c.survey.ensures.most))
+    paid_text _ _ _ (returns-in_err-survey-clause-text g c) (omega (arith, c.survey.ensures.reads.most))
 
 pub returns-clause-paid : goal.returns-clause-paid
 returns-clause-paid g c = λ numbered.
-    paid_then (paid_said (phase2 ∷ []) c.in_ok-say.ensures.said (omega (arith, c.survey.ensures.most)))
+    paid_then (paid_said (phase2 ∷ []) c.in_ok-say.ensures.said (omega (arith, c.survey.ensures.reads.most)))
     (c.check_tree.ensures.paid numbered)
