@@ -1,6 +1,6 @@
 -- What a phase that read through a limited image leaves of the image below it, and of its report.
 use Rattle.std.{specs.Borrow.GName, proofs.Common.{◌≡◌, ◌∙◌, ◌<◌, ◌≤◌, ◌+◌, ◌*◌, ◌-◌, ◌^◌, ℕ, Bool, true, false}}
-use Rattle.std.proofs.Common.{Option, Some, List, ap, refl, sym, arith, Result, Ok, Err}
+use Rattle.std.proofs.Common.{List, ap, refl, sym, arith, Result, Ok, Err}
 use Rattle.ffs_volume.specs.{Laws.Geometry.IsAcceptedLayout, Messages.Kinds.Message, Report.Reads.sweep_reads}
 use Rattle.ffs_volume.{specs.{Report.Whole.run_count, declared.Layout.Layout}, proofs.RunBounds.runs_bounded}
 use Rattle.ffs_image.{specs.{Device.Device, Limited.{GivesBack, limited_device}}, proofs.Limits.{StaysOver, asked_kept}}
@@ -23,7 +23,7 @@ image_over old new (Err (Out fault)) h = same_over h
 
 -- where no read was refused, the answer is that of the image below
 image_through : {T : Type 0} {lent below : Device} {name_lent name : GName} {reads reads' left asked : ℕ}
-    {limit : Option ℕ} {spent : Bool} {above above' : Device} (r : Result T RunFault) →
+    {limit : ℕ} {spent : Bool} {above above' : Device} (r : Result T RunFault) →
     GivesBack lent below name_lent name reads reads' limit left asked spent above above' → spent ≡ false →
     ImageAfter above above' r → ImageAfter lent below r
 image_through (Ok x) g s h = (g.untouched h).1
@@ -32,7 +32,7 @@ image_through (Err (Out fault)) g s h = (g.untouched h).1
 
 -- ---- the report, where a read was refused: it is of no known bytes
 refused_text : {T : Type 0} {lent below : Device} {name_lent name : GName} {reads reads' left asked : ℕ}
-    {limit : Option ℕ} {spent : Bool} {above above' : Device} {knows : List ℕ → Type 0}
+    {limit : ℕ} {spent : Bool} {above above' : Device} {knows : List ℕ → Type 0}
     {all : List ℕ → List Message} {old new : Progress} (r : Result T RunFault) (x : T) →
     GivesBack lent below name_lent name reads reads' limit left asked spent above above' → spent ≡ true →
     ForBytes knows (λ bytes. spent ≡ false) → ImageAfter above above' r → PhaseReports knows all old new r →
@@ -63,9 +63,9 @@ pub record PhaseServed {T : Type 0} (knows : List ℕ → Type 0) (all : List �
 served_back : {T : Type 0} (knows : List ℕ → Type 0) (all : List ℕ → List Message) (lent below : Device)
     (name_lent name : GName) (reads reads' limit left asked : ℕ) (s : Bool) (above' : Device) (old new : Progress)
     (r : Result T RunFault) →
-    PhaseOutcome knows all (limited_device lent name_lent reads (Some limit)) above' old new r →
-    GivesBack lent below name_lent name reads reads' (Some limit) left asked s
-    (limited_device lent name_lent reads (Some limit)) above' →
+    PhaseOutcome knows all (limited_device lent name_lent reads limit) above' old new r →
+    GivesBack lent below name_lent name reads reads' limit left asked s
+    (limited_device lent name_lent reads limit) above' →
     PhaseServed knows all lent below name_lent name reads reads' limit asked s old new r
 served_back knows all lent below name_lent name reads reads' limit left asked s above' old new r p g = record {
   same_image = sym g.same_image;
@@ -89,16 +89,16 @@ served_back knows all lent below name_lent name reads reads' limit left asked s 
 pub phase_served : {T : Type 0} {knows : List ℕ → Type 0} {all : List ℕ → List Message} {lent below : Device}
     {name_lent name : GName} {reads reads' limit left asked : ℕ} {s : Bool} {above' : Device} {old new : Progress}
     {r : Result T RunFault} →
-    PhaseOutcome knows all (limited_device lent name_lent reads (Some limit)) above' old new r →
-    ((d : Device) (given : GName) (before : ℕ) (most : Option ℕ) →
+    PhaseOutcome knows all (limited_device lent name_lent reads limit) above' old new r →
+    ((d : Device) (given : GName) (before : ℕ) (most : ℕ) →
     above'.lent ≡ (limited_device d given before most).lent → above'.contents ≡ d.contents → above'.size ≡ d.size →
     GivesBack d below given name before reads' most left asked s (limited_device d given before most) above') →
     PhaseServed knows all lent below name_lent name reads reads' limit asked s old new r
 phase_served {knows = knows} {all = all} {lent = lent} {name_lent = name_lent} {reads = reads} {limit = limit}
     {above' = above'} {old = old} {new = new} {r = r} p back =
-    let over = image_over (limited_device lent name_lent reads (Some limit)) above' r p.image in
+    let over = image_over (limited_device lent name_lent reads limit) above' r p.image in
     served_back knows all lent _ name_lent _ reads _ limit _ _ _ above' old new r p
-    (back lent name_lent reads (Some limit) over.lent over.contents over.size)
+    (back lent name_lent reads limit over.lent over.contents over.size)
 
 -- ---- how often the rescan reads known bytes
 pub runs_fit : (v : Layout) (bytes : List ℕ) (runs : ℕ) → IsAcceptedLayout v → runs ≤ run_count v bytes →

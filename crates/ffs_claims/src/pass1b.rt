@@ -190,7 +190,7 @@ pub fn phase1b<I: Image, W: Output>(
     ensures seen { workspace.new.runs_seen ≡ workspace.old.runs_seen }
     ensures ready { IsReady geometry.now.layout (I.device image.new) workspace.new }
 {
-    let mut limited = LimitedImage::new(image, Some(sweep_reads(geometry)));
+    let mut limited = LimitedImage::new(image, sweep_reads(geometry));
     let scanned = rescan_inodes(geometry, &mut limited, workspace, report);
     if limited.is_spent() {
         // Only an image that gives other bytes each time asks for more reads.

@@ -1,6 +1,6 @@
 -- What a part that read through a limited image leaves of the image below it.
 use Rattle.std.specs.Borrow.{GName}
-use Rattle.std.proofs.Common.{◌≡◌, ◌≤◌, ◌+◌, ℕ, Bool, true, false, Option, Some, IfSome, Result, Ok, Err, arith}
+use Rattle.std.proofs.Common.{◌≡◌, ◌≤◌, ◌+◌, ℕ, Bool, true, false, Result, Ok, Err, arith}
 use Rattle.ffs_image.specs.declared.image.ImageFault.{ImageFault}
 use Rattle.ffs_image.specs.{Device.Device, Limited.GivesBack, Limited.limited_device, Reads.ReadAfter}
 
@@ -15,24 +15,24 @@ read_over old new (Ok x) h = grind arith
 read_over old new (Err fault) h = record { lent = h.lent; contents = h.contents; size = h.size }
 
 -- the image below was read no more often than the limit
-pub limit_kept : {lent below : Device} {name_lent name : GName} {reads reads' left asked : ℕ} {limit : Option ℕ}
+pub limit_kept : {lent below : Device} {name_lent name : GName} {reads reads' left asked limit : ℕ}
     {spent : Bool} {above above' : Device} →
     GivesBack lent below name_lent name reads reads' limit left asked spent above above' →
-    IfSome limit (λ n. reads' ≤ reads + n)
+    reads' ≤ reads + limit
 limit_kept g = grind arith
 
 -- nor more often than the limited image was asked
 pub asked_kept : {lent below : Device} {name_lent name : GName} {reads reads' left asked limit : ℕ}
     {spent : Bool} {above above' : Device} →
-    GivesBack lent below name_lent name reads reads' (Some limit) left asked spent above above' →
+    GivesBack lent below name_lent name reads reads' limit left asked spent above above' →
     reads' ≤ reads + asked
 asked_kept g = grind arith
 
 -- no read is refused where no more are asked for than the limit
-pub never_refused : {lent below : Device} {name_lent name : GName} {reads reads' left asked : ℕ} {limit : Option ℕ}
+pub never_refused : {lent below : Device} {name_lent name : GName} {reads reads' left asked limit : ℕ}
     {spent : Bool} {above above' : Device} →
     GivesBack lent below name_lent name reads reads' limit left asked spent above above' →
-    IfSome limit (λ n. asked ≤ n) → spent ≡ false
+    asked ≤ limit → spent ≡ false
 never_refused g few = grind arith
 
 -- what a part that read a limited image leaves of the image below: its reads, and its answer's
@@ -49,21 +49,21 @@ pub record ServedBy {T : Type 0} (lent below : Device) (name_lent name : GName) 
   pub read : spent ≡ false → ReadAfter lent below r
 
 served_back : {T : Type 0} (lent below : Device) (name_lent name : GName) (reads reads' limit left asked : ℕ) (s : Bool)
-    (above' : Device) (r : Result T ImageFault) → ReadAfter (limited_device lent name_lent reads (Some limit)) above' r →
-    GivesBack lent below name_lent name reads reads' (Some limit) left asked s
-    (limited_device lent name_lent reads (Some limit)) above' →
+    (above' : Device) (r : Result T ImageFault) → ReadAfter (limited_device lent name_lent reads limit) above' r →
+    GivesBack lent below name_lent name reads reads' limit left asked s
+    (limited_device lent name_lent reads limit) above' →
     ServedBy lent below name_lent name reads reads' limit asked s r
 served_back lent below name_lent name reads reads' limit left asked s above' r h g = grind arith
 
 -- the contract of the part, with the clause of the limited image on what is below
 pub served : {T : Type 0} {lent below : Device} {name_lent name : GName} {reads reads' limit left asked : ℕ} {s : Bool}
     {above' : Device} {r : Result T ImageFault} →
-    ReadAfter (limited_device lent name_lent reads (Some limit)) above' r →
-    ((d : Device) (given : GName) (before : ℕ) (most : Option ℕ) → above'.lent ≡ (limited_device d given before most).lent →
+    ReadAfter (limited_device lent name_lent reads limit) above' r →
+    ((d : Device) (given : GName) (before : ℕ) (most : ℕ) → above'.lent ≡ (limited_device d given before most).lent →
     above'.contents ≡ d.contents → above'.size ≡ d.size →
     GivesBack d below given name before reads' most left asked s (limited_device d given before most) above') →
     ServedBy lent below name_lent name reads reads' limit asked s r
 served {lent = lent} {name_lent = name_lent} {reads = reads} {limit = limit} {above' = above'} {r = r} h back =
-    let over = read_over (limited_device lent name_lent reads (Some limit)) above' r h in
+    let over = read_over (limited_device lent name_lent reads limit) above' r h in
     served_back lent _ name_lent _ reads _ limit _ _ _ above' r h
-    (back lent name_lent reads (Some limit) over.lent over.contents over.size)
+    (back lent name_lent reads limit over.lent over.contents over.size)

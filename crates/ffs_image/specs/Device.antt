@@ -3,11 +3,11 @@ use Rattle.std.specs.Borrow.{GName}
 use Rattle.std.specs.Prelude.{◌≡◌, ℕ, ◌+◌, ◌-◌, ◌^◌, min, List, length, drop, take, Option, Some, IfSome}
 
 -- an image as it was lent to another one, which lies over it: the reference to it, how often that
--- one reads it at most, if its reads are limited, how many it had counted, how many had failed, and
--- the sector of the last one that did
+-- one reads it at most, how many reads it had counted, how many had failed, and the sector of the
+-- last one that did
 pub record LentImage : Type 0 where
   pub image : GName
-  pub limit : Option ℕ
+  pub limit : ℕ
   pub reads : ℕ
   pub failures : ℕ
   pub failed_sector : ℕ

@@ -1,6 +1,5 @@
 -- What an image with a limit shows of the image below it, and what it gives back of that.
-use Rattle.std.specs.{Borrow.GName, Prelude.{◌≡◌, ℕ, ◌+◌, ◌-◌, ◌^◌, ◌<◌, ◌≤◌, min, Bool, if◌then◌else◌, ◌∷◌, Option}}
-use Rattle.std.specs.Prelude.{Some, None, IfSome, IsSomeAnd, true, false}
+use Rattle.std.specs.{Borrow.GName, Prelude.{◌≡◌, ℕ, ◌+◌, ◌-◌, ◌^◌, ◌<◌, ◌≤◌, min, Bool, if◌then◌else◌, ◌∷◌, true, false}}
 use Rattle.ffs_image.specs.Device.{Device, Faulted}
 
 -- the image below after reads of which at most one failed, at a sector
@@ -8,13 +7,9 @@ abbrev pub after_reads : Device → (failed : Bool) → (sector : ℕ) → Devic
 after_reads d failed sector =
     if failed then record d { failures = min (d.failures + 1) (2 ^ 64 - 1); failed_sector = sector } else d
 
--- the limit of reads, where there is one
-abbrev pub limit_of : (limited : Bool) → (limit : ℕ) → Option ℕ
-limit_of limited limit = if limited then Some limit else None
-
 -- an image with a limit over one that was lent under a name and had counted so many reads; none of
 -- its own has failed
-abbrev pub limited_device : Device → GName → (reads : ℕ) → (limit : Option ℕ) → Device
+abbrev pub limited_device : Device → GName → (reads limit : ℕ) → Device
 limited_device d name reads limit = record d {
   failures = 0;
   failed_sector = 0;
@@ -27,8 +22,7 @@ limited_device d name reads limit = record d {
   } ∷ d.lent;
 }
 
--- so many reads were asked for, where they are limited: those that were passed on, and one more
--- where the limit refused one
+-- so many reads were asked for: those that were passed on, and one more where the limit refused one
 abbrev pub reads_asked : (limit left : ℕ) → (spent : Bool) → ℕ
 reads_asked limit left spent = limit - left + (if spent then 1 else 0)
 
@@ -36,12 +30,12 @@ reads_asked limit left spent = limit - left + (if spent then 1 else 0)
 -- given back: with no more reads than the limit less what is left of it, as it was lent, or with
 -- that failed read, if it isn't one that the limit refused. None is refused but where more reads
 -- were asked for than the limit
-pub record GivesBack (lent below : Device) (name_lent name : GName) (reads reads' : ℕ) (limit : Option ℕ)
-    (left asked : ℕ) (spent : Bool) (above above' : Device) : Type 0 where
+pub record GivesBack (lent below : Device) (name_lent name : GName) (reads reads' limit left asked : ℕ)
+    (spent : Bool) (above above' : Device) : Type 0 where
   pub same_image : name ≡ name_lent
-  pub most : IfSome limit (λ n. reads' + left ≤ reads + n)
-  pub left_of : IfSome limit (λ n. n ≤ left + asked)
-  pub asked_more : spent ≡ true → IsSomeAnd limit (λ n. n < asked)
+  pub most : reads' + left ≤ reads + limit
+  pub left_of : limit ≤ left + asked
+  pub asked_more : spent ≡ true → limit < asked
   pub untouched : above' ≡ above → (spent ≡ false) × (below ≡ lent)
   pub refused : spent ≡ true → below ≡ lent
   pub faulted : (sector : ℕ) → Faulted above above' sector → spent ≡ false → Faulted lent below sector

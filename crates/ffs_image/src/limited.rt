@@ -1,6 +1,6 @@
 //! An image that is read at most so often.
-ghost use Rattle.std.specs.{Prelude.{◌≡◌, ◌+◌, ◌≤◌, ◌||◌, ℕ, Option, true, false}, Borrow.GName};
-ghost use Rattle.ffs_image.specs.{Device.Device, Limited.{after_reads, limited_device, reads_asked, limit_of}};
+ghost use Rattle.std.specs.{Prelude.{◌≡◌, ◌+◌, ◌≤◌, ◌||◌, ℕ, true, false}, Borrow.GName};
+ghost use Rattle.ffs_image.specs.{Device.Device, Limited.{after_reads, limited_device, reads_asked}};
 ghost use Rattle.ffs_image.specs.Limited.{GivesBack};
 
 use crate::image::{Image, ImageFault};
@@ -16,7 +16,6 @@ use std::snapshot::Snapshot;
 pub struct LimitedImage<'a, I: Image> {
     below: &'a mut I,
     begins: Snapshot<I>,
-    limited: bool,
     limit: u64,
     left: u64,
     spent: bool,
@@ -25,8 +24,8 @@ pub struct LimitedImage<'a, I: Image> {
     failures: u64,
     failed_sector: u64,
     ghost few: { left ≤ limit },
-    ghost none_left: { spent ≡ true → (limited ≡ true) × (left ≡ 0) × (failed ≡ false) },
-    ghost within: { limited ≡ true → I.reads below.now + left ≤ I.reads begins.value + limit },
+    ghost none_left: { spent ≡ true → (left ≡ 0) × (failed ≡ false) },
+    ghost within: { I.reads below.now + left ≤ I.reads begins.value + limit },
     ghost one_failed: { I.device below.now ≡ after_reads (I.device begins.value) failed
         fault_sector },
     ghost none_failed: { (failed || spent) ≡ false → failures ≡ 0 },
@@ -35,22 +34,19 @@ pub struct LimitedImage<'a, I: Image> {
 }
 
 impl<'a, I: Image> LimitedImage<'a, I> {
-    /// The image below, of which at most so many reads are made, or any number where there is no
-    /// limit.
-    pub fn new(below: &'a mut I, limit: Option<u64>) -> LimitedImage<'a, I>
+    /// The image below, of which at most so many reads are made.
+    pub fn new(below: &'a mut I, limit: u64) -> LimitedImage<'a, I>
         ensures device { ⟦<LimitedImage<'a, I> as Image>⟧.device result
             ≡ limited_device (I.device below.old) below.entry.ghost_name (I.reads below.old)
             limit }
         ensures asked { ⟦<LimitedImage<'a, I> as Image>⟧.reads result ≡ 0 }
     {
         let begins = Snapshot::of(&*below);
-        let left = limit.unwrap_or(0);
         LimitedImage {
             below,
             begins,
-            limited: limit.is_some(),
-            limit: left,
-            left,
+            limit,
+            left: limit,
             spent: false,
             failed: false,
             fault_sector: 0,
@@ -59,7 +55,7 @@ impl<'a, I: Image> LimitedImage<'a, I> {
         }
     }
 
-    /// How many reads are left of the limit, 0 where there is none.
+    /// How many reads are left of the limit.
     pub fn left(&self) -> u64
         ensures value { result ≡ self.now.left }
     {
@@ -71,7 +67,7 @@ impl<'a, I: Image> LimitedImage<'a, I> {
     /// image below.
     pub fn is_spent(&self) -> bool
         ensures value { result ≡ self.now.spent }
-        ensures below { (d : Device) (name : GName) (reads : ℕ) (limit : Option ℕ)
+        ensures below { (d : Device) (name : GName) (reads limit : ℕ)
             → (⟦<LimitedImage<'a, I> as Image>⟧.device self.now).lent
             ≡ (limited_device d name reads limit).lent
             → (⟦<LimitedImage<'a, I> as Image>⟧.device self.now).contents ≡ d.contents
@@ -90,7 +86,7 @@ impl<'a, I: Image> Image for LimitedImage<'a, I> {
     ghost use Rattle.std.specs.Prelude.{◌+◌};
 
     ghost device = { λ l. record (limited_device (I.device l.begins.value) l.below.ghost_name
-        (I.reads l.begins.value) (limit_of l.limited l.limit)) {
+        (I.reads l.begins.value) l.limit) {
           failures = l.failures;
           failed_sector = l.failed_sector;
         } };
@@ -112,21 +108,21 @@ impl<'a, I: Image> Image for LimitedImage<'a, I> {
     }
 
     fn read_at(&mut self, at: u64, buf: &mut [u8]) -> Result<(), ImageFault> {
-        let sector = at / 512;
         if !self.failed && !self.spent {
-            if self.limited && self.left == 0 {
+            if self.left == 0 {
                 self.spent = true;
             } else {
-                self.left = self.left.saturating_sub(1);
+                self.left -= 1;
                 match self.below.read_at(at, buf) {
                     Ok(()) => return Ok(()),
-                    Err(_) => {
-                        self.fault_sector = sector;
+                    Err(fault) => {
+                        self.fault_sector = fault.sector;
                         self.failed = true;
                     }
                 }
             }
         }
+        let sector = at / 512;
         self.failures = self.failures.saturating_add(1);
         self.failed_sector = sector;
         Err(ImageFault { sector })
@@ -141,7 +137,6 @@ impl<I: Image> Drop for LimitedImage<'_, I> {
         let Self {
             below: _,
             begins: _,
-            limited: _,
             limit: _,
             left: _,
             spent: _,

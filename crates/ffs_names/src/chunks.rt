@@ -1,12 +1,13 @@
 //! The chunks of a directory.
 
-ghost use Rattle.std.specs.Prelude.{◌≡◌, ◌==◌, ◌&&◌, ◌+◌, ◌≤◌, ◌<◌, ◌^◌, not};
+ghost use Rattle.std.specs.Prelude.{◌≡◌, ◌==◌, ◌&&◌, ◌+◌, ◌≤◌, ◌<◌, ◌^◌, true, not};
 ghost use Rattle.std.specs.Prelude.{Ok, None, IfOk, IfSome, MatchBool, MatchOption, MatchResult};
 ghost use Rattle.ffs_image.specs.Device.{ForContents};
 ghost use Rattle.ffs_volume.specs.{Disk.Areas.is_run_in_range, Directories.Entries.bytes_read};
 ghost use Rattle.ffs_volume.specs.declared.Step.TheVariants.{Run};
 ghost use Rattle.ffs_names.specs.{Fits.CursorFits, SeenRuns.RunsAreSeen, Windows.{CanWalkDir, CanReadChunks}};
 ghost use Rattle.ffs_survey.specs.Costs.{TakesReads};
+ghost use Rattle.ffs_walk.specs.Rests.{IsOver};
 ghost use Rattle.ffs_volume.specs.Blocks.Inodes as inodes;
 
 use crate::gap::end_walk;
@@ -37,10 +38,12 @@ pub struct Chunks {
     /// Whether a hole was seen.
     pub gap: bool,
     /// Whether a chunk that is alone in its Run is read without the window: nothing reads it again.
+    /// Then no step of the walk is left.
     pub without_window: bool,
     ghost bytes_to_read_small: { bytes_to_read ≤ 2 ^ 31 },
     ghost few: { budget ≤ 2 ^ 22 },
     ghost cursor_fits: { CursorFits walk.geometry.layout run_cursor },
+    ghost no_walk: { without_window ≡ true → IsOver walk },
 }
 
 impl Chunks {
@@ -175,13 +178,13 @@ impl Chunks {
     {
         let bytes_to_read = bytes_read(inode.size);
         self.run_cursor = RunCursor::empty();
+        self.without_window = false;
         self.walk.restart(inode, class);
         self.keeping = Keeping::start(cut);
         self.bytes_to_read = bytes_to_read;
         self.budget = (bytes_to_read / DIRBLKSIZ as u64) as u32;
         self.runs = 0;
         self.gap = false;
-        self.without_window = false;
     }
 
     /// Begins a reading of a directory of the same volume that has one chunk, at this address in
@@ -199,7 +202,7 @@ impl Chunks {
         if address == 0 || !self.walk.geometry.in_range(address, 1) {
             return false;
         }
-        end_walk(&mut self.walk);
+        end_walk(&mut self.walk, self.without_window);
         let bytes = DIRBLKSIZ as u64;
         self.run_cursor = RunCursor::of_run(&self.walk.geometry, bytes, address, 1, 0);
         self.bytes_to_read = bytes;

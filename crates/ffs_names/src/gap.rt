@@ -19,13 +19,22 @@ fn is_over(walk: &Walk) -> bool
         && !walk.triple.is_left()
 }
 
-/// Leaves no step of a walk. One that is over already isn't written.
+/// Whether no step is left of the walk of a reading.
 #[inline(always)]
-pub(crate) fn end_walk(walk: &mut Walk)
+fn is_walk_over(chunks: &Chunks) -> bool
+    ensures { IsTrue result → IsOver chunks.now.walk }
+{
+    chunks.without_window || is_over(&chunks.walk)
+}
+
+/// Leaves no step of a walk. One that is over already isn't written; `known` says that it is.
+#[inline(always)]
+pub(crate) fn end_walk(walk: &mut Walk, known: bool)
+    requires { IsTrue known → IsOver walk.old }
     ensures over { IsOver walk.new }
     ensures geometry { walk.new.geometry ≡ walk.old.geometry }
 {
-    if !is_over(walk) {
+    if !known && !is_over(walk) {
         *walk = Walk::ended(&walk.geometry);
     }
 }
@@ -67,7 +76,7 @@ pub fn gap_of<I: Image>(
     ensures leaves { LeavesWalk chunks.old chunks.new (I.device image.old) (I.device image.new)
         (I.reads image.old) (I.reads image.new) blocks.old blocks.new result }
 {
-    if is_over(&chunks.walk) {
+    if is_walk_over(chunks) {
         return Ok(chunks.gap);
     }
     find_gap(image, blocks, chunks)

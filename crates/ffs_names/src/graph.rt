@@ -93,7 +93,7 @@ pub fn survey<I: Image>(
     ensures leaves { SurveyLeaves geometry.now.layout (I.device image.old) (I.device image.new)
         workspace.old workspace.new result }
 {
-    let mut limited = LimitedImage::new(image, Some(sweep_reads(geometry)));
+    let mut limited = LimitedImage::new(image, sweep_reads(geometry));
     let surveyed = survey_all(geometry, &mut limited, workspace);
     if limited.is_spent() {
         // Only an image that gives other bytes each time asks for more reads.

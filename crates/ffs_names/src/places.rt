@@ -284,7 +284,7 @@ pub fn note_places<I: Image>(
     ensures leaves { LeavesPlaces geometry.now.layout (I.device image.old) (I.device image.new)
         workspace.old workspace.new result }
 {
-    let mut limited = LimitedImage::new(image, Some(sweep_reads(geometry)));
+    let mut limited = LimitedImage::new(image, sweep_reads(geometry));
     let noted = note_all(geometry, &mut limited, workspace);
     if limited.is_spent() {
         // Only an image that gives other bytes each time asks for more reads. Some words may still

@@ -25,14 +25,14 @@ pub record LookedBy {T : Type 0} (lent below : Device) (name_lent name : GName) 
 
 pub looked : {T : Type 0} {lent below : Device} {name_lent name : GName} {reads reads' limit left asked : ℕ} {s : Bool}
     {above' : Device} {r : Result T ImageFault} →
-    ReadAfter (limited_device lent name_lent reads (Some limit)) above' r →
-    ((d : Device) (given : GName) (before : ℕ) (most : Option ℕ) → above'.lent ≡ (limited_device d given before most).lent →
+    ReadAfter (limited_device lent name_lent reads limit) above' r →
+    ((d : Device) (given : GName) (before : ℕ) (most : ℕ) → above'.lent ≡ (limited_device d given before most).lent →
     above'.contents ≡ d.contents → above'.size ≡ d.size →
     GivesBack d below given name before reads' most left asked s (limited_device d given before most) above') →
     LookedBy lent below name_lent name reads reads' limit left asked s r
 looked {lent = lent} {name_lent = name_lent} {reads = reads} {limit = limit} {above' = above'} {r = r} h back =
-    let over = read_over (limited_device lent name_lent reads (Some limit)) above' r h in
-    let all = back lent name_lent reads (Some limit) over.lent over.contents over.size in
+    let over = read_over (limited_device lent name_lent reads limit) above' r h in
+    let all = back lent name_lent reads limit over.lent over.contents over.size in
     record { served = served h back; most = all.most; kept = all.left_of }
 
 -- what was asked of the limited image was taken of the image below

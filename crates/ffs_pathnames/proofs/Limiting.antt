@@ -24,12 +24,12 @@ pub record IsGathered {T : Type 0} (n : ℕ) (v : Layout) (d d' : Device) (name_
 module _ {T : Type 0} {v : Layout} {d d' l' : Device} {w w' : Workspace} {name_lent name : GName}
     {reads reads' limit asked : ℕ} {spent : Bool} {r : Result T ImageFault}
     (back : ServedBy d d' name_lent name reads reads' limit asked spent r) where
-  ready_below : OnlyReads v (limited_device d name_lent reads (Some limit)) l' w w' r → IsReady v d' w'
+  ready_below : OnlyReads v (limited_device d name_lent reads limit) l' w w' r → IsReady v d' w'
   ready_below o =
-      let above = read_over (limited_device d name_lent reads (Some limit)) l' r o.read in
+      let above = read_over (limited_device d name_lent reads limit) l' r o.read in
       ready_same v l' d' w' (back.contents ∙ sym above.contents) (back.size ∙ sym above.size) o.ready
 
-  reads_below : spent ≡ false → OnlyReads v (limited_device d name_lent reads (Some limit)) l' w w' r →
+  reads_below : spent ≡ false → OnlyReads v (limited_device d name_lent reads limit) l' w w' r →
       OnlyReads v d d' w w' r
   reads_below none o =
       record { lists = o.lists; chunk = o.chunk; ready = ready_below o; read = back.read none }
@@ -37,16 +37,16 @@ module _ {T : Type 0} {v : Layout} {d d' l' : Device} {w w' : Workspace} {name_l
 path_below : {T : Type 0} {v : Layout} {d d' l' : Device} {w w' : Workspace} {s : KeptParent} {name_lent name : GName}
     {reads reads' limit asked : ℕ} {spent : Bool} (r : Result T ImageFault) →
     ServedBy d d' name_lent name reads reads' limit asked spent r → spent ≡ false →
-    PathLeaves v (limited_device d name_lent reads (Some limit)) l' w w' s r → PathLeaves v d d' w w' s r
+    PathLeaves v (limited_device d name_lent reads limit) l' w w' s r → PathLeaves v d d' w w' s r
 path_below (Ok x) back none p = grind (arith, subst, ap)
 path_below (Err f) back none p = record { reads = reads_below back none p.reads; kept_parent = tt }
 
 -- by the contracts of the part and of the limited image
 pub gathered : {T : Type 0} {v : Layout} {d d' l l' : Device} {w w' : Workspace} {s : KeptParent}
     {name_lent name : GName} {reads reads' limit left before asked n : ℕ} {spent : Bool} {r : Result T ImageFault} →
-    l ≡ limited_device d name_lent reads (Some limit) → before ≡ 0 → AreChunksNumbered v × (limit ≡ n) →
+    l ≡ limited_device d name_lent reads limit → before ≡ 0 → AreChunksNumbered v × (limit ≡ n) →
     PathLeaves v l l' w w' s r → ReadsAtMost n v l w w' before asked →
-    ((below : Device) (given : GName) (counted : ℕ) (most : Option ℕ) →
+    ((below : Device) (given : GName) (counted : ℕ) (most : ℕ) →
     l'.lent ≡ (limited_device below given counted most).lent → l'.contents ≡ below.contents → l'.size ≡ below.size →
     GivesBack below d' given name counted reads' most left asked spent (limited_device below given counted most) l') →
     IsGathered n v d d' name_lent name reads reads' w w' s spent r

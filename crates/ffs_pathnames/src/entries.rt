@@ -71,7 +71,7 @@ fn next_limited<I: Image>(
     ensures leaves { LeavesReading chunks.old chunks.new (I.device image.old)
         (I.device image.new) windows.new.blocks windows.new.chunk result }
 {
-    let mut limited = LimitedImage::new(image, Some(*reads_left));
+    let mut limited = LimitedImage::new(image, *reads_left);
     let offset = chunks.next(&mut limited, &mut windows.blocks, &mut windows.chunk, bytes);
     *reads_left = limited.left();
     if limited.is_spent() {

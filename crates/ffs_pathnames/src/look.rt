@@ -131,7 +131,7 @@ pub fn examine<I: Image>(
     ensures leaves { ExamineLeaves geometry.now.layout (I.device image.old) (I.device image.new)
         workspace.old workspace.new result }
 {
-    let mut limited = LimitedImage::new(image, Some(*reads_left));
+    let mut limited = LimitedImage::new(image, *reads_left);
     let examined = examine_all(geometry, &mut limited, workspace, dir, start);
     *reads_left = limited.left();
     if limited.is_spent() {

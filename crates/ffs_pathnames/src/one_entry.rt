@@ -151,7 +151,7 @@ fn make_paths<I: Image>(
     let Some(limit) = path_reads(geometry) else {
         return make_paths_freely(geometry, image, workspace, texts, dir);
     };
-    let mut limited = LimitedImage::new(image, Some(limit));
+    let mut limited = LimitedImage::new(image, limit);
     let result = make_paths_freely(geometry, &mut limited, workspace, texts, dir);
     if limited.is_spent() {
         forget_parent(&mut texts.kept_parent);
@@ -185,7 +185,7 @@ fn put_path<I: Image>(
     let Some(limit) = path_reads(geometry) else {
         return kept_parent.put_path(geometry, image, workspace, dir, path);
     };
-    let mut limited = LimitedImage::new(image, Some(limit));
+    let mut limited = LimitedImage::new(image, limit);
     let result = kept_parent.put_path(geometry, &mut limited, workspace, dir, path);
     if limited.is_spent() {
         forget_parent(kept_parent);

@@ -5,7 +5,7 @@ use Rattle.ffs_image.specs.{Device.Device, Reads.ReadAfter, declared.image.Image
 use Rattle.ffs_volume.specs.{declared.Layout.Layout, Directories.Graph.Graph}
 use Rattle.ffs_workspace.specs.{declared.workspace.Workspace.Workspace, Leaves.LeavesSurvey, Ready.IsReady}
 use Rattle.ffs_workspace.proofs.Leaving.{claims_held, claims_left, survey_held, survey_left, windows_leave}
-use Rattle.ffs_paths.specs.{Reads.{ForTree, OnlyReads}, declared.kept_parent.KeptParent.KeptParent}
+use Rattle.ffs_paths.specs.{Reads.{ForTree, OnlyReads, ReadsAtMost}, declared.kept_parent.KeptParent.KeptParent}
 use Rattle.ffs_paths.specs.KeptParents.{IsKeptParent, KeepsParent, PathLeaves, SamePlaces}
 use Rattle.ffs_walk.specs.{declared.{window.Window.Window, blocks.Blocks.Blocks}, Windows.WindowHolds}
 use Rattle.ffs_names.specs.Windows.{CanReadChunks}
@@ -37,14 +37,16 @@ pub reads_as : {S T : Type 0} {v : Layout} {d d' : Device} {w w' : Workspace} {x
 reads_as r = record { lists = r.lists; chunk = r.chunk; ready = r.ready; read = r.read }
 
 -- what a call leaves that made a path
-pub leaves_with : {T : Type 0} {v : Layout} {d d' : Device} {w w' : Workspace} {x : T} (s : KeptParent) →
-    OnlyReads v d d' w w' (Ok x) → KeepsParent v d.contents w s → PathLeaves v d d' w w' s (Ok x)
-leaves_with s r k = record { reads = r; kept_parent = kept_on s r k }
+pub leaves_with : {T : Type 0} {most count count' : ℕ} {v : Layout} {d d' : Device} {w w' : Workspace} {x : T}
+    (s : KeptParent) → OnlyReads v d d' w w' (Ok x) → ReadsAtMost most v d w w' count count'
+    → KeepsParent v d.contents w s → PathLeaves most v d d' count count' w w' s (Ok x)
+leaves_with s r few k = record { reads = r; counted = few; kept_parent = kept_on s r k }
 
 -- what a call leaves that kept a path
-pub leaves_kept : {S T : Type 0} {v : Layout} {d d' : Device} {w w' : Workspace} {x : S} {y : T} (s : KeptParent) →
-    OnlyReads v d d' w w' (Ok x) → ForTree v d w (λ g. IsKeptParent g s) → PathLeaves v d d' w w' s (Ok y)
-leaves_kept s r kept = leaves_with s (reads_as r) (record { right = kept })
+pub leaves_kept : {S T : Type 0} {most count count' : ℕ} {v : Layout} {d d' : Device} {w w' : Workspace} {x : S} {y : T}
+    (s : KeptParent) → OnlyReads v d d' w w' (Ok x) → ReadsAtMost most v d w w' count count'
+    → ForTree v d w (λ g. IsKeptParent g s) → PathLeaves most v d d' count count' w w' s (Ok y)
+leaves_kept s r few kept = leaves_with s (reads_as r) few (record { right = kept })
 
 -- nothing was read yet
 pub no_reads : {T : Type 0} {v : Layout} {d : Device} {w : Workspace} {x : T} → IsReady v d w →

@@ -9,7 +9,7 @@ use Rattle.ffs_volume.{specs.Directories.{Paths.entry_path_of_names, Roles.Roled
 use Rattle.ffs_volume.specs.{Directories.Volumes.{volume_of, volume_with}, declared.Layout.Layout}
 use Rattle.ffs_paths.{specs.Climbing.{in_room, name_in, IsNameIn, IsParentOf}, proofs.{Rooms.fits, Held.first_cut}}
 use Rattle.ffs_paths.{proofs.NoSlashes.down_single, specs.{Buffers.HoldsNames, DirectoryPaths.{HoldsPath, IsPathOf}}}
-use Rattle.ffs_paths.specs.{KeptParents.{IsKeptParent, LeadsTo}, Slashes.AreSingle}
+use Rattle.ffs_paths.specs.{KeptParents.{IsKeptParent, LeadsTo}, NameTexts.name_bytes, Slashes.AreSingle}
 use Rattle.ffs_paths.specs.declared.{buffer.PathBuffer.PathBuffer, kept_parent.KeptParent.KeptParent}
 use Rattle.ffs_paths.specs.declared.path.DirectoryPath.{DirectoryPath}
 use Rattle.ffs_survey.specs.ParentLaws.{parent_above, root_level}
@@ -104,7 +104,7 @@ count_is v b = refl
 -- a path is kept, and the name of a child by its parent
 pub kept_parent_is : (v : Layout) (b : List ℕ) (w : Workspace) (s : KeptParent) → HoldsSurvey v b w →
     IsParentOf w s.child s.parent → IsPathOf (graph_of (volume_of v b)) s.parent s.path →
-    IsNameIn (graph_of (volume_of v b)) s.child s.parent s.name.items → IsKeptParent (graph_of (volume_of v b)) s
+    IsNameIn (graph_of (volume_of v b)) s.child s.parent (name_bytes s.name) → IsKeptParent (graph_of (volume_of v b)) s
 kept_parent_is v b w s survey of path name =
     let g = graph_of (volume_of v b) in
     let l = reached-level g s.child (sym (survey.reached s.child) ∙ of.reached) in
@@ -123,7 +123,7 @@ kept_parent_is v b w s survey of path name =
 -- the path that is made of that of the parent
 pub child_made : (g : Graph) (s : KeptParent) (made : DirectoryPath) → IsKeptParent g s → 0 < s.child →
     ((names : List (List ℕ)) → HoldsPath s.path (Some names)
-    → AreSingle (names ++ s.name.items ∷ []) → HoldsPath made (Some (names ++ s.name.items ∷ [])))
+    → AreSingle (names ++ name_bytes s.name ∷ []) → HoldsPath made (Some (names ++ name_bytes s.name ∷ [])))
     → IsPathOf g s.child made
 child_made g s made kept some makes = grind arith
 
@@ -135,12 +135,12 @@ path_of_some (x ∷ names) name = refl
 
 -- the path that is written as that of an entry of the parent
 pub child_put : (g : Graph) (s : KeptParent) (text : List ℕ) → IsKeptParent g s → 0 < s.child →
-    ((g : Graph) (d : ℕ) → IsPathOf g d s.path → text ≡ in_room (entry_path g d s.name.items)) →
+    ((g : Graph) (d : ℕ) → IsPathOf g d s.path → text ≡ in_room (entry_path g d (name_bytes s.name))) →
     text ≡ dir_path g s.child
 unfolding dir_path entry_path
 child_put g s text kept some put =
     let leads = kept.child some in
-    let names = leads.names ++ s.name.items ∷ [] in
+    let names = leads.names ++ name_bytes s.name ∷ [] in
     put g s.parent (kept.path (kept.parent some))
-    ∙ (ap (λ o. in_room (entry_path_of_names s.name.items o)) leads.to_parent ∙ (sym (fits _ (path_text-fits names))
-    ∙ (path_of_some leads.names s.name.items ∙ sym (ap dir_path_of_names leads.to_child))))
+    ∙ (ap (λ o. in_room (entry_path_of_names (name_bytes s.name) o)) leads.to_parent ∙ (sym (fits _ (path_text-fits names))
+    ∙ (path_of_some leads.names (name_bytes s.name) ∙ sym (ap dir_path_of_names leads.to_child))))

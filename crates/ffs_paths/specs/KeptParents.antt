@@ -5,7 +5,8 @@ use Rattle.ffs_volume.specs.declared.Layout.{Layout}
 use Rattle.ffs_volume.specs.Directories.{Graph.Graph, Parents.graph_of, Paths.path_names, Volumes.volume_of}
 use Rattle.ffs_workspace.specs.{declared.workspace.Workspace.Workspace, Ready.IsReady, Places.place_in}
 use Rattle.ffs_workspace.specs.Holds.{HoldsClaims, HoldsSurvey}
-use Rattle.ffs_paths.specs.{DirectoryPaths.IsPathOf, Reads.OnlyReads, Slashes.AreSingle}
+use Rattle.ffs_paths.specs.{DirectoryPaths.IsPathOf, Reads.{OnlyReads, ReadsAtMost}, Slashes.AreSingle}
+use Rattle.ffs_paths.specs.NameTexts.{name_bytes}
 use Rattle.ffs_paths.specs.declared.kept_parent.KeptParent.{KeptParent}
 
 -- the names down to d are those down to s, and one more
@@ -19,7 +20,7 @@ pub record LeadsTo (g : Graph) (s d : ℕ) (name : List ℕ) : Type 0 where
 pub record IsKeptParent (g : Graph) (s : KeptParent) : Type 0 where
   pub path : 0 < s.parent → IsPathOf g s.parent s.path
   pub parent : 0 < s.child → 0 < s.parent
-  pub child : 0 < s.child → LeadsTo g s.parent s.child s.name.items
+  pub child : 0 < s.child → LeadsTo g s.parent s.child (name_bytes s.name)
 
 -- that is right in the volume, where the image gives its bytes and the workspace holds what the
 -- block check and the survey leave
@@ -43,9 +44,10 @@ pub record ReadyToPath (v : Layout) (d : Device) (w : Workspace) (s : KeptParent
   pub kept_parent : KeepsParent v d.contents w s
   pub number : x < v.ncg * v.ipg
 
--- what a call leaves that makes a path; where it failed, nothing of a directory and its children
--- may be right
-pub record PathLeaves {T : Type 0} (v : Layout) (d d' : Device) (w w' : Workspace) (s : KeptParent)
-    (result : Result T ImageFault) : Type 0 where
+-- what a call leaves that makes so many reads at most for a path, where each place is noted; where
+-- it failed, nothing of a directory and its children may be right
+pub record PathLeaves {T : Type 0} (most : ℕ) (v : Layout) (d d' : Device) (count count' : ℕ) (w w' : Workspace)
+    (s : KeptParent) (result : Result T ImageFault) : Type 0 where
   pub reads : OnlyReads v d d' w w' result
+  pub counted : ReadsAtMost most v d w w' count count'
   pub kept_parent : OnOk result (KeepsParent v d'.contents w' s)

@@ -4,5 +4,6 @@ pub mod DirectoryPaths
 pub mod EntryPaths
 pub mod KeptParents
 pub mod LastPaths
+pub mod NameTexts
 pub mod Reads
 pub mod Slashes

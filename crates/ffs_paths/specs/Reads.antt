@@ -31,6 +31,12 @@ pub record ReadsFew (most reads reads' : ℕ) (before after : Workspace) : Type 
   pub count : reads' ≤ reads + most
   pub blocks : after.windows.blocks ≡ before.windows.blocks
 
+-- a call that makes so many reads at most leaves all of the workspace but its windows
+pub record ReadsUpTo {T : Type 0} (most : ℕ) (v : Layout) (old new : Device) (count count' : ℕ)
+    (before after : Workspace) (result : Result T ImageFault) : Type 0 where
+  pub reads : OnlyReads v old new before after result
+  pub counted : ReadsFew most count count' before after
+
 -- the image gives these bytes, the workspace holds what the block check and the survey leave, and
 -- it notes the place of each directory that is reached
 pub record KnowsPlaces (v : Layout) (contents : Option (List ℕ)) (w : Workspace) (b : List ℕ) : Type 0 where
@@ -43,6 +49,13 @@ pub record KnowsPlaces (v : Layout) (contents : Option (List ℕ)) (w : Workspac
 abbrev pub ReadsAtMost : (most : ℕ) → Layout → Device → (before after : Workspace) → (reads reads' : ℕ) → Type 0
 ReadsAtMost most v d before after reads reads' = (b : List ℕ) → KnowsPlaces v d.contents before b
     → ReadsFew most reads reads' before after
+
+-- a call that makes so many reads at most for a path, where each place is noted, leaves all of the
+-- workspace but its windows
+pub record ReadsForPath {T : Type 0} (most : ℕ) (v : Layout) (old new : Device) (count count' : ℕ)
+    (before after : Workspace) (result : Result T ImageFault) : Type 0 where
+  pub reads : OnlyReads v old new before after result
+  pub counted : ReadsAtMost most v old before after count count'
 
 -- the way up to the root: a chunk for each name that has room in a path, and for one that has none
 -- any more. Each name takes two bytes at least, with its slash

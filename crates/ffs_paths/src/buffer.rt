@@ -62,23 +62,21 @@ fn slash_from(bytes: &[u8; MAXPATHLEN], place: usize) -> usize
     MAXPATHLEN
 }
 
-/// Writes what is from `start` on.
+/// What is from `start` on.
 #[inline]
-fn put_end(bytes: &[u8; MAXPATHLEN], start: usize, text: &mut PathText)
-    requires start { start ≤ 1024 }
-    requires room { length text.old.items + (1024 - start) ≤ 1024 }
-    ensures { text.new.items ≡ text.old.items ++ drop start bytes.now }
+fn bytes_from(bytes: &[u8; MAXPATHLEN], start: usize) -> &[u8]
+    requires { start ≤ 1024 }
+    ensures { result.now ≡ drop start bytes.now }
 {
-    text.try_extend_from_slice(&bytes[start..]).unwrap();
+    &bytes[start..]
 }
 
-/// Writes what is from `start` on, `/` and a name.
-fn put_from(bytes: &[u8; MAXPATHLEN], start: usize, name: &[u8], text: &mut PathText)
-    requires start { start ≤ 1024 }
-    requires room { length text.old.items + (1024 - start) + 1 + length name.now ≤ 1024 }
-    ensures { text.new.items ≡ text.old.items ++ drop start bytes.now ++ 47 ∷ name.now }
+/// Writes what names end with, `/` and a name.
+fn put_from(names: &[u8], name: &[u8], text: &mut PathText)
+    requires { length text.old.items + length names.now + 1 + length name.now ≤ 1024 }
+    ensures { text.new.items ≡ text.old.items ++ names.now ++ 47 ∷ name.now }
 {
-    put_end(bytes, start, text);
+    text.try_extend_from_slice(names).unwrap();
     text.push(b'/');
     text.try_extend_from_slice(name).unwrap();
 }
@@ -140,11 +138,11 @@ impl PathBuffer {
         text.clear();
         if self.cut {
             text.push(b'?');
-            put_end(&self.bytes, self.short, text);
+            text.try_extend_from_slice(bytes_from(&self.bytes, self.short)).unwrap();
         } else if self.start == MAXPATHLEN {
             text.push(b'/');
         } else {
-            put_end(&self.bytes, self.start, text);
+            text.try_extend_from_slice(bytes_from(&self.bytes, self.start)).unwrap();
         }
     }
 
@@ -157,7 +155,7 @@ impl PathBuffer {
     {
         text.clear();
         if self.has_room(name) {
-            put_from(&self.bytes, self.start, name, text);
+            put_from(bytes_from(&self.bytes, self.start), name, text);
             return;
         }
         text.push(b'?');
@@ -165,7 +163,7 @@ impl PathBuffer {
             return;
         }
         let start = slash_from(&self.bytes, self.short.max(name.len() + 2));
-        put_from(&self.bytes, start, name, text);
+        put_from(bytes_from(&self.bytes, start), name, text);
     }
 
     /// What is from `from` on, and a name after it.

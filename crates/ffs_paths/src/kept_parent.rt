@@ -4,10 +4,11 @@ ghost use Rattle.std.specs.Prelude.{◌≡◌, ◌<◌, true, ℕ, List, Option,
 ghost use Rattle.ffs_volume.specs.{declared.Layout.Layout, Directories.Paths.dir_path, Report.Reads.path_reads};
 ghost use Rattle.ffs_workspace.specs.declared.workspace.Workspace.{Workspace as WorkspaceIn};
 ghost use Rattle.ffs_paths.specs.{Climbing.IsParentOf, DirectoryPaths.IsPathOf, KeptParents.{KeepsParent, ReadyToPath}};
-ghost use Rattle.ffs_paths.specs.{KeptParents.PathLeaves, Reads.{ForTree, ReadsAtMost, climb_reads}};
+ghost use Rattle.ffs_paths.specs.{KeptParents.PathLeaves, Reads.{ForTree, climb_reads}};
 
 use crate::buffer::{PathBuffer, PathText};
-use crate::name::{NameText, find_name};
+use crate::name::find_name;
+use crate::name_text::NameText;
 use crate::path::{DirectoryPath, directory_path, is_reached, put_directory};
 use ffs_image::{Image, ImageFault};
 use ffs_layout::Geometry;
@@ -75,10 +76,9 @@ impl KeptParent {
             self.old dir }
         requires some { 0 < dir }
         ensures kept { OnOk result (self.new.parent ≡ dir) }
-        ensures leaves { PathLeaves geometry.now.layout (I.device image.old) (I.device image.new)
-            workspace.old workspace.new self.new result }
-        ensures counted { ReadsAtMost climb_reads geometry.now.layout (I.device image.old)
-            workspace.old workspace.new (I.reads image.old) (I.reads image.new) }
+        ensures leaves { PathLeaves climb_reads geometry.now.layout (I.device image.old)
+            (I.device image.new) (I.reads image.old) (I.reads image.new) workspace.old workspace.new
+            self.new result }
     {
         if self.parent == dir {
             return Ok(());
@@ -106,10 +106,9 @@ impl KeptParent {
             self.old dir }
         requires parent { IsParentOf workspace.old dir parent }
         ensures child { OnOk result (self.new.child ≡ dir) }
-        ensures leaves { PathLeaves geometry.now.layout (I.device image.old) (I.device image.new)
-            workspace.old workspace.new self.new result }
-        ensures counted { ReadsAtMost path_reads geometry.now.layout (I.device image.old)
-            workspace.old workspace.new (I.reads image.old) (I.reads image.new) }
+        ensures leaves { PathLeaves path_reads geometry.now.layout (I.device image.old)
+            (I.device image.new) (I.reads image.old) (I.reads image.new) workspace.old workspace.new
+            self.new result }
     {
         self.keep_path_of(geometry, image, workspace, parent)?;
         find_name(geometry, image, workspace, parent, dir, &mut self.name)?;
@@ -133,10 +132,9 @@ impl KeptParent {
         ensures path { IfOk result (λ path.
             ForTree geometry.now.layout (I.device image.old) workspace.old
             (λ g. IsPathOf g dir path)) }
-        ensures leaves { PathLeaves geometry.now.layout (I.device image.old) (I.device image.new)
-            workspace.old workspace.new self.new result }
-        ensures counted { ReadsAtMost path_reads geometry.now.layout (I.device image.old)
-            workspace.old workspace.new (I.reads image.old) (I.reads image.new) }
+        ensures leaves { PathLeaves path_reads geometry.now.layout (I.device image.old)
+            (I.device image.new) (I.reads image.old) (I.reads image.new) workspace.old workspace.new
+            self.new result }
     {
         let Some(parent) = parent_of(workspace, dir) else {
             return directory_path(geometry, image, workspace, dir);
@@ -161,10 +159,9 @@ impl KeptParent {
             dir }
         ensures path { OnOk result (ForTree geometry.now.layout (I.device image.old) workspace.old
             (λ g. text.new.items ≡ dir_path g dir)) }
-        ensures leaves { PathLeaves geometry.now.layout (I.device image.old) (I.device image.new)
-            workspace.old workspace.new self.new result }
-        ensures counted { ReadsAtMost path_reads geometry.now.layout (I.device image.old)
-            workspace.old workspace.new (I.reads image.old) (I.reads image.new) }
+        ensures leaves { PathLeaves path_reads geometry.now.layout (I.device image.old)
+            (I.device image.new) (I.reads image.old) (I.reads image.new) workspace.old workspace.new
+            self.new result }
     {
         let Some(parent) = parent_of(workspace, dir) else {
             directory_path(geometry, image, workspace, dir)?.put(text);

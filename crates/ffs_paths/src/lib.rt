@@ -16,6 +16,7 @@ mod buffer;
 mod entry_paths;
 mod kept_parent;
 mod name;
+mod name_text;
 mod path;
 
 pub use buffer::{PathBuffer, PathText};

@@ -8,8 +8,9 @@ ghost use Rattle.ffs_volume.specs.Directories.Roles.{roled_from};
 ghost use Rattle.ffs_layout.specs.Entry.{entry_value};
 ghost use Rattle.ffs_workspace.specs.{Places.IsNoted, Ready.IsReady};
 ghost use Rattle.ffs_paths.specs.{Climbing.{name_in, IsNameIn}, Reads.{ForTree, IsReadyFor, OnlyReads, ReadsFew}};
+ghost use Rattle.ffs_paths.specs.{NameTexts.name_bytes, Reads.ReadsUpTo};
 
-use arrayvec::ArrayVec;
+use crate::name_text::NameText;
 use ffs_image::{Image, ImageFault};
 use ffs_layout::{Entry, Geometry, entry_at};
 use ffs_names::{Entries, role_of};
@@ -17,18 +18,6 @@ use ffs_survey::is_plain;
 use ffs_volume::constants::DIRBLKSIZ;
 use ffs_volume::{Order, Role};
 use ffs_workspace::{Workspace, noted_chunk};
-
-/// The text of a name. It has no more bytes than the chunk that it is in.
-pub type NameText = ArrayVec<u8, DIRBLKSIZ>;
-
-/// Puts a name in place of a text.
-pub fn set_name(text: &mut NameText, name: &[u8])
-    requires { length name.now ≤ 512 }
-    ensures { text.new.items ≡ name.now }
-{
-    text.clear();
-    text.try_extend_from_slice(name).unwrap();
-}
 
 /// Whether an entry of this role and number names an inode in the directory tree.
 pub fn names(role: Role, number: u32, inode: u32) -> bool
@@ -50,9 +39,9 @@ fn is_named_by(index: usize, entry: &Entry<'_>, inode: u32) -> bool
 /// Finds the name of an inode in a chunk, by its first plain entry there. Returns whether there is
 /// one.
 fn find_in_chunk(order: Order, chunk: &[u8; DIRBLKSIZ], number: u32, name: &mut NameText) -> bool
-    ensures name { result ≡ true → name.new.items
+    ensures name { result ≡ true → name_bytes name.new
         ≡ name_in number (roled_from false 0 (entries_of order chunk.now)) }
-    ensures some { result ≡ true → 0 < length name.new.items }
+    ensures some { result ≡ true → 0 < length (name_bytes name.new) }
     ensures found { list_any (is_naming_entry number)
         (roled_from false 0 (entries_of order chunk.now)) ≡ true → result ≡ true }
 {
@@ -60,7 +49,7 @@ fn find_in_chunk(order: Order, chunk: &[u8; DIRBLKSIZ], number: u32, name: &mut 
     let mut index = 0usize;
     'entries: while let Some(entry) = entry_at(order, chunk, place) {
         if is_named_by(index, &entry, number) {
-            set_name(name, entry.name);
+            name.set(entry.name);
             return true;
         }
         place += usize::from(entry.length);
@@ -81,14 +70,12 @@ fn find_by_place<I: Image>(
     requires { IsReadyFor geometry.now.layout (I.device image.old) workspace.old dir }
     ensures name { IfOk result (λ found. found ≡ true
         → ForTree geometry.now.layout (I.device image.old) workspace.old
-        (λ g. (parent : ℕ) → IsNameIn g dir parent name.new.items)) }
-    ensures some { IfOk result (λ found. found ≡ true → 0 < length name.new.items) }
+        (λ g. (parent : ℕ) → IsNameIn g dir parent (name_bytes name.new))) }
+    ensures some { IfOk result (λ found. found ≡ true → 0 < length (name_bytes name.new)) }
     ensures found { IfOk result (λ found. ForContents (I.device image.old).contents (λ b.
         IsNoted geometry.now.layout b workspace.old.queue.items dir → found ≡ true)) }
-    ensures reads { OnlyReads geometry.now.layout (I.device image.old) (I.device image.new)
-        workspace.old workspace.new result }
-    ensures counted { ReadsFew 1 (I.reads image.old) (I.reads image.new) workspace.old
-        workspace.new }
+    ensures leaves { ReadsUpTo 1 geometry.now.layout (I.device image.old) (I.device image.new)
+        (I.reads image.old) (I.reads image.new) workspace.old workspace.new result }
 {
     let Some(chunk) = noted_chunk(workspace.queue[dir as usize]) else {
         return Ok(false);
@@ -122,7 +109,7 @@ pub fn search_name<I: Image>(
     requires ready { IsReady geometry.now.layout (I.device image.old) workspace.old }
     requires parent { parent < geometry.now.layout.ncg * geometry.now.layout.ipg }
     ensures name { OnOk result (ForTree geometry.now.layout (I.device image.old) workspace.old
-        (λ g. IsNameIn g dir parent name.new.items)) }
+        (λ g. IsNameIn g dir parent (name_bytes name.new))) }
     ensures reads { OnlyReads geometry.now.layout (I.device image.old) (I.device image.new)
         workspace.old workspace.new result }
 {
@@ -139,7 +126,7 @@ pub fn search_name<I: Image>(
         &mut workspace.windows.names,
     )? {
         if names(entry.role, entry.number, dir) {
-            set_name(name, entries.name());
+            name.set(entries.name());
             return Ok(());
         }
     }
@@ -162,9 +149,10 @@ pub fn find_name<I: Image>(
     requires ready { IsReadyFor geometry.now.layout (I.device image.old) workspace.old dir }
     requires parent { parent < geometry.now.layout.ncg * geometry.now.layout.ipg }
     ensures name { OnOk result (ForTree geometry.now.layout (I.device image.old) workspace.old
-        (λ g. IsNameIn g dir parent name.new.items)) }
+        (λ g. IsNameIn g dir parent (name_bytes name.new))) }
     ensures some { OnOk result (ForContents (I.device image.old).contents (λ b.
-        IsNoted geometry.now.layout b workspace.old.queue.items dir → 0 < length name.new.items)) }
+        IsNoted geometry.now.layout b workspace.old.queue.items dir
+        → 0 < length (name_bytes name.new))) }
     ensures reads { OnlyReads geometry.now.layout (I.device image.old) (I.device image.new)
         workspace.old workspace.new result }
     ensures counted { ForContents (I.device image.old).contents (λ b.

@@ -6,11 +6,12 @@ ghost use Rattle.ffs_volume.specs.Directories.{Graph.Graph, Graph.level, Parents
 ghost use Rattle.ffs_volume.specs.Directories.Paths.{dir_path, entry_path, names_down};
 ghost use Rattle.ffs_workspace.specs.Holds.{bool_at};
 ghost use Rattle.ffs_paths.specs.{Buffers.HoldsNames, Climbing.in_room, Climbing.path_in, Reads.ReadsFew};
-ghost use Rattle.ffs_paths.specs.Reads.{climb_reads, ForTree, IsReadyFor, KnowsPlaces, OnlyReads, ReadsAtMost};
+ghost use Rattle.ffs_paths.specs.Reads.{climb_reads, ForTree, IsReadyFor, KnowsPlaces, OnlyReads, ReadsForPath};
 ghost use Rattle.ffs_paths.specs.{DirectoryPaths.HoldsPath, DirectoryPaths.IsPathOf, Slashes.AreSingle};
 
 use crate::buffer::{LONGEST_NAME, PathBuffer, PathText};
-use crate::name::{NameText, find_name};
+use crate::name::find_name;
+use crate::name_text::NameText;
 use ffs_image::{Image, ImageFault};
 use ffs_layout::Geometry;
 use ffs_volume::constants::ROOTINO;
@@ -140,10 +141,9 @@ pub fn put_directory<I: Image>(
     requires { IsReadyFor geometry.now.layout (I.device image.old) workspace.old dir }
     ensures path { OnOk result (ForTree geometry.now.layout (I.device image.old) workspace.old
         (λ g. IsPathOf g dir path.new)) }
-    ensures reads { OnlyReads geometry.now.layout (I.device image.old) (I.device image.new)
-        workspace.old workspace.new result }
-    ensures counted { ReadsAtMost climb_reads geometry.now.layout (I.device image.old)
-        workspace.old workspace.new (I.reads image.old) (I.reads image.new) }
+    ensures leaves { ReadsForPath climb_reads geometry.now.layout (I.device image.old)
+        (I.device image.new) (I.reads image.old) (I.reads image.new) workspace.old workspace.new
+        result }
 {
     path.reached = is_reached(workspace, dir);
     if path.reached {
@@ -165,10 +165,9 @@ pub fn directory_path<I: Image>(
     requires { IsReadyFor geometry.now.layout (I.device image.old) workspace.old dir }
     ensures path { IfOk result (λ path.
         ForTree geometry.now.layout (I.device image.old) workspace.old (λ g. IsPathOf g dir path)) }
-    ensures reads { OnlyReads geometry.now.layout (I.device image.old) (I.device image.new)
-        workspace.old workspace.new result }
-    ensures counted { ReadsAtMost climb_reads geometry.now.layout (I.device image.old)
-        workspace.old workspace.new (I.reads image.old) (I.reads image.new) }
+    ensures leaves { ReadsForPath climb_reads geometry.now.layout (I.device image.old)
+        (I.device image.new) (I.reads image.old) (I.reads image.new) workspace.old workspace.new
+        result }
 {
     let mut path = DirectoryPath {
         reached: false,
@@ -194,10 +193,9 @@ pub fn path_of<I: Image>(
     requires { IsReadyFor geometry.now.layout (I.device image.old) workspace.old dir }
     ensures path { OnOk result (ForTree geometry.now.layout (I.device image.old) workspace.old
         (λ g. text.new.items ≡ path_in g dir (option_map (λ n. n.now) name.entry))) }
-    ensures reads { OnlyReads geometry.now.layout (I.device image.old) (I.device image.new)
-        workspace.old workspace.new result }
-    ensures counted { ReadsAtMost climb_reads geometry.now.layout (I.device image.old)
-        workspace.old workspace.new (I.reads image.old) (I.reads image.new) }
+    ensures leaves { ReadsForPath climb_reads geometry.now.layout (I.device image.old)
+        (I.device image.new) (I.reads image.old) (I.reads image.new) workspace.old workspace.new
+        result }
 {
     let path = directory_path(geometry, image, workspace, dir)?;
     match name {

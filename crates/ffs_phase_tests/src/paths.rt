@@ -32,6 +32,20 @@ fn cuts_what_has_no_room(rt: HostRuntime) {
 }
 
 #[test]
+fn clears_names_that_were_cut(rt: HostRuntime) {
+    let long = [b'a'; 255];
+    let mut path = PathBuffer::new();
+    for name in [long.as_slice(); 5] {
+        path.push_front(name);
+    }
+    path.clear();
+    path.push_front(b"etc");
+    let mut text = PathText::new();
+    path.put(&mut text);
+    same(&rt, &text.as_slice(), &b"/etc".as_slice());
+}
+
+#[test]
 fn puts_names_before(rt: HostRuntime) {
     same(&rt, &written(&[]).as_slice(), &b"/".as_slice());
     let names = [b"group".as_slice(), b"etc"];

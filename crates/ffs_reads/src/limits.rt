@@ -5,23 +5,13 @@ ghost use Rattle.ffs_reads.specs.Limits.{in_u64, part_reads};
 
 use crate::parts::Part;
 use ffs_layout::Layout;
-use ffs_volume::constants::MAXPATHLEN;
+use ffs_workspace::{LINE_READS, OTHER_RUNS};
 
 /// The superblock, and the last copy of it.
 pub const OPENING_READS: u64 = 2;
 
-/// A path: for that of its parent a chunk for each name that has room, and for one that has none;
-/// and one for the directory's own name.
-const PATH_READS: u64 = MAXPATHLEN as u64 / 2 + 2;
-
-/// A message of phase 2: two paths and an inode.
-const LINE_READS: u64 = 2 * PATH_READS + 1;
-
 /// The block and the summary record of a group.
 const GROUP_READS: u64 = 2;
-
-/// For each inode itself, eleven bad Runs, and eleven with dup offers.
-const INODE_READS: u64 = 23;
 
 /// To go over all inodes and their blocks.
 fn sweep_reads(layout: &Layout) -> u64
@@ -29,7 +19,7 @@ fn sweep_reads(layout: &Layout) -> u64
 {
     let inodes = u64::from(layout.ncg) * u64::from(layout.ipg);
     inodes
-        .saturating_mul(INODE_READS)
+        .saturating_mul(1 + OTHER_RUNS)
         .saturating_add(layout.size.into())
 }
 

@@ -98,7 +98,7 @@ type LimitedReads = ([Result<(), ImageFault>; 3], [u64; 2], bool);
 /// The reads of an image that is read at most so often.
 fn reads_within_limit(limit: u64, alloc: Global) -> Result<LimitedReads, AllocError> {
     let mut below = CountedImage::new(letters(alloc)?);
-    let mut image = LimitedImage::new(&mut below, Some(limit));
+    let mut image = LimitedImage::new(&mut below, limit);
     let reads = three_reads(&mut image);
     let (left, spent) = (image.left(), image.is_spent());
     drop(image);

@@ -6,13 +6,27 @@ ghost use Rattle.ffs_workspace.specs.Places.{AreChunksNumbered};
 use ffs_layout::Geometry;
 use ffs_volume::constants::{DIRBLKSIZ, MAXPATHLEN};
 
+/// How many reads a path takes at most: for that of the parent a chunk for each name that has room,
+/// and for one that has none, and a chunk for the directory's own name.
+pub const PATH_READS: u64 = MAXPATHLEN as u64 / 2 + 2;
+
+/// How many reads a message of phase 2 takes at most: two paths and an inode.
+pub const LINE_READS: u64 = 2 * PATH_READS + 1;
+
+/// How many Runs of an inode may claim no fragment that was free: eleven bad ones, and eleven with
+/// dup offers.
+pub const OTHER_RUNS: u64 = 22;
+
+/// How many chunks of an image have a number that a place can note.
+const NUMBERED_CHUNKS: u64 = (1 << 31) - 1;
+
 /// At most how many reads a sweep over all inodes and their blocks makes (`Report/Reads` of
 /// `ffs_volume`).
 pub fn sweep_reads(geometry: &Geometry) -> u64
     ensures { result ≡ sweep_reads geometry.now.layout }
 {
     let inodes = u64::from(geometry.layout.ncg) * u64::from(geometry.layout.ipg);
-    inodes + (u64::from(geometry.layout.size) + 22 * inodes)
+    inodes + (u64::from(geometry.layout.size) + OTHER_RUNS * inodes)
 }
 
 /// At most how many reads are made for what a message of phase 2 shows, on a volume of less than
@@ -24,9 +38,8 @@ pub fn line_reads(geometry: &Geometry) -> Option<u64>
         × (n ≡ line_reads)) }
 {
     let bytes = u64::from(geometry.layout.size) * u64::from(geometry.layout.fsize);
-    if bytes > DIRBLKSIZ as u64 * ((1 << 31) - 1) {
+    if bytes > DIRBLKSIZ as u64 * NUMBERED_CHUNKS {
         return None;
     }
-    let path = MAXPATHLEN as u64 / 2 + 2;
-    Some(2 * path + 1)
+    Some(LINE_READS)
 }

@@ -1,4 +1,4 @@
-use Rattle.std.proofs.Common.{◌≡◌, ◌+◌, ◌*◌, ◌∙◌, ap, sym, suc, ℕ, List, Some, true, false, subst, arith, slice_index}
+use Rattle.std.proofs.Common.{◌≡◌, ◌+◌, ◌*◌, ◌∙◌, ap, refl, sym, suc, ℕ, List, Some, true, false, subst, arith, slice_index}
 use Rattle.std.{proofs.lemmas.List.get_or_default, specs.List.list_any}
 use Rattle.ffs_volume.specs.{Disk.Numbers.piece, Directories.{Entries.entries_of, Roles.roled_from}}
 use Rattle.ffs_volume.specs.Directories.Graph.{is_naming_entry}
@@ -36,7 +36,10 @@ returns-clause-found g c = λ b t noted.
     (ap (λ xs. list_any (is_naming_entry c.args.dir) (roled_from false 0 (entries_of v.order xs))) (bytes_are g c b t)
     ∙ (ap (λ k. list_any (is_naming_entry c.args.dir) (entries_in_chunk v b k)) (sym same) ∙ noted.named))
 
-pub returns-clause-reads : goal.returns-clause-reads
-returns-clause-reads g c =
+pub returns-clause-leaves : goal.returns-clause-leaves
+returns-clause-leaves g c =
     let read = c.in_ok-fill.ensures.fills in
-    name_read c.requires.ready read.room read.holds read.read
+    record {
+      reads = name_read c.requires.ready read.room read.holds read.read;
+      counted = record { count = c.in_ok-fill.ensures.counted; blocks = refl };
+    }

@@ -5,11 +5,11 @@ use Rattle.ffs_paths.proofs.name.find_in_chunk.Goals as goal
 
 pub returns-then-is_named_by-clause-name : goal.returns-then-is_named_by-clause-name
 returns-then-is_named_by-clause-name c = λ _.
-    c.set_name.ensures ∙ sym (c.entries.invariant.name ∙ chunk_here c.args.number _ _ c.entries.index c.entries.place
+    c.set.ensures ∙ sym (c.entries.invariant.name ∙ chunk_here c.args.number _ _ c.entries.index c.entries.place
     (entry_value c.in-Some.entry) _ c.in-Some.ensures.some refl (sym c.is_named_by.ensures ∙ c.if-is_named_by.true))
 
 pub returns-then-is_named_by-clause-some : goal.returns-then-is_named_by-clause-some
-returns-then-is_named_by-clause-some c = λ _. subst (λ name. 0 < length name) (sym c.set_name.ensures)
+returns-then-is_named_by-clause-some c = λ _. subst (λ name. 0 < length name) (sym c.set.ensures)
     (plain_named c.args.number _ _ c.entries.index c.entries.place (entry_value c.in-Some.entry) _ c.told-chunk
     c.in-Some.ensures.some refl (sym c.is_named_by.ensures ∙ c.if-is_named_by.true))
 

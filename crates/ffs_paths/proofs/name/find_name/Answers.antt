@@ -7,7 +7,7 @@ pub returns-clause-name : goal.returns-clause-name
 returns-clause-name g c = grind (arith, on_ok_weaker, tree_on)
 
 pub returns-clause-reads : goal.returns-clause-reads
-returns-clause-reads g c = reads_then c.in_ok-find_by_place.ensures.reads c.search_name.ensures.reads
+returns-clause-reads g c = reads_then c.in_ok-find_by_place.ensures.leaves.reads c.search_name.ensures.reads
 
 pub returns-clause-some : goal.returns-clause-some
 returns-clause-some g c = on_ok_weaker c.search_name.result

@@ -1,14 +1,14 @@
 use Rattle.std.proofs.Common.{◌≡◌, [], Ok}
 use Rattle.ffs_image.specs.Device.{ForContents}
 use Rattle.ffs_names.specs.Entering.{to_come, left}
-use Rattle.ffs_paths.specs.{Climbing.name_in, Reads.OnlyReads}
+use Rattle.ffs_paths.specs.{Climbing.name_in, NameTexts.name_bytes, Reads.OnlyReads}
 use Rattle.ffs_paths.proofs.name.search_name.Given as goal
 
 abbrev pub invariant-entries : goal.invariant-entries
 invariant-entries g l = let device = g.I.Image.device in record {
   name : ForContents (device l.fn.image).contents
       (λ b. name_in l.dir (to_come b l.initial.entries) ≡ name_in l.dir (to_come b l.entries));
-  none : l.name.items ≡ [];
+  none : name_bytes l.name ≡ [];
   geometry : l.entries.chunks.walk.geometry ≡ l.geometry;
   reads : OnlyReads {T = Unit {0}} l.geometry.layout (device l.fn.image) (device l.image) l.fn.workspace l.workspace
       (Ok tt);

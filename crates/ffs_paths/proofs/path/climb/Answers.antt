@@ -1,8 +1,9 @@
 use Rattle.std.proofs.Common.{◌≡◌, ◌<◌, ◌∙◌, ◌∷◌, ap, length, sym, subst, arith, ℕ, slice_index}
 use Rattle.std.proofs.lemmas.List.{get_or_default}
 use Rattle.ffs_volume.specs.Directories.{Graph.Graph, Parents.graph_of, Volumes.volume_of}
-use Rattle.ffs_paths.{specs.{Climbing.IsNameIn, Buffers.HoldsNames}, proofs.Climbed.{climb_more, few_more, few_then}}
-use Rattle.ffs_paths.proofs.{Climbed.{noted_here, short_way}, Keeping.{reads_then, tree_on}, WaysUp.parent_is}
+use Rattle.ffs_paths.specs.{Climbing.IsNameIn, Buffers.HoldsNames, NameTexts.name_bytes}
+use Rattle.ffs_paths.proofs.Climbed.{climb_more, few_more, few_then, noted_here, short_way}
+use Rattle.ffs_paths.proofs.{Keeping.{reads_then, tree_on}, WaysUp.parent_is}
 use Rattle.ffs_paths.proofs.WaysUp.{way_root, way_cut, way_long, way_up, count_is}
 use Rattle.ffs_paths.proofs.path.climb.Goals as goal
 
@@ -47,7 +48,7 @@ up-preserved g c =
           let way = i.path b t claims survey k l in
           let above = parent_is G way.left c.up.at p way.level c.if-at-eq-ROOTINO.false
           (is ∙ (ap (λ w. slice_index w.parents.items c.up.at) i.reads.lists ∙ survey.parents c.up.at)) in
-          let name = c.as_slice.ensures.value ∙ tree_on (λ g. IsNameIn g c.up.at p c.find_name.new.name.items) i.reads
+          let name = c.as_slice.ensures.value ∙ tree_on (λ g. IsNameIn g c.up.at p (name_bytes c.find_name.new.name)) i.reads
           found.name b t claims survey above.is above.dir in
           way_up p c.push_front.new.self way above (λ following held.
           subst (λ n. HoldsNames c.push_front.new.self (n ∷ following)) name (c.push_front.ensures following held));

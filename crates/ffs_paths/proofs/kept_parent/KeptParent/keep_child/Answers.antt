@@ -1,6 +1,6 @@
-use Rattle.std.proofs.Common.{◌∙◌, ap, refl, sym, subst}
+use Rattle.std.proofs.{Common.{◌∙◌, ap, arith, refl, sym, subst}, lemmas.Result.err_from_is_err_and}
 use Rattle.ffs_volume.specs.Directories.{Parents.graph_of, Volumes.volume_of}
-use Rattle.ffs_paths.specs.{Climbing.{IsNameIn, IsParentOf}, Reads.ForTree, KeptParents.IsKeptParent}
+use Rattle.ffs_paths.specs.{Climbing.{IsNameIn, IsParentOf}, Reads.ForTree, KeptParents.IsKeptParent, NameTexts.name_bytes}
 use Rattle.ffs_paths.{specs.declared.kept_parent.KeptParent.KeptParent, proofs.WaysUp.kept_parent_is}
 use Rattle.ffs_paths.proofs.{Climbed.{few_then, noted_child}, Keeping.{leaves_kept, reads_then, tree_on}}
 use Rattle.ffs_paths.proofs.kept_parent.KeptParent.keep_child.Goals as goal
@@ -22,22 +22,26 @@ returns g c =
     let holds : ForTree v (g.I.Image.device c.args.image.now) w (λ g. IsKeptParent g s) = λ b t claims survey.
     let above = tree_on (λ g. IsKeptParent g first) reads kept.leaves.kept_parent.right b t claims survey in
     kept_parent_is v b w s survey of (above.path of.some)
-    (subst (λ p. IsNameIn (graph_of (volume_of v b)) c.args.dir p s.name.items) (sym kept.kept)
-    (tree_on (λ g. IsNameIn g c.args.dir c.args.parent s.name.items) reads c.in_ok-find_name.ensures.name b t
+    (subst (λ p. IsNameIn (graph_of (volume_of v b)) c.args.dir p (name_bytes s.name)) (sym kept.kept)
+    (tree_on (λ g. IsNameIn g c.args.dir c.args.parent (name_bytes s.name)) reads c.in_ok-find_name.ensures.name b t
     claims survey)) in
     record {
       child = refl;
-      leaves = leaves_kept s (reads_then reads c.in_ok-find_name.ensures.reads) holds;
-      counted = λ b knows. few_then (kept.counted b knows)
+      leaves = leaves_kept s (reads_then reads c.in_ok-find_name.ensures.reads)
+          (λ b knows. few_then (kept.leaves.counted b knows)
           (c.in_ok-find_name.ensures.counted b (ap (λ d. d.contents) reads.read ∙ knows.gives_bytes)
-          (noted_child knows of reads.lists));
+          (noted_child knows of reads.lists))) holds;
     }
 
 -- a read of the child's name failed
-pub returns-in_err-find_name-clause-counted : goal.returns-in_err-find_name-clause-counted
-returns-in_err-find_name-clause-counted g c = λ b knows.
+pub returns-in_err-find_name-clause-leaves : goal.returns-in_err-find_name-clause-leaves
+returns-in_err-find_name-clause-leaves g c =
     let kept = c.in_ok-keep_path_of.ensures in
     let reads = kept.leaves.reads in
-    few_then (kept.counted b knows)
-    (c.in_err-find_name.ensures.counted b (ap (λ d. d.contents) reads.read ∙ knows.gives_bytes)
-    (noted_child knows c.requires.parent reads.lists))
+    record {
+      reads = grind (arith, err_from_is_err_and, reads_then);
+      counted = λ b knows. few_then (kept.leaves.counted b knows)
+          (c.in_err-find_name.ensures.counted b (ap (λ d. d.contents) reads.read ∙ knows.gives_bytes)
+          (noted_child knows c.requires.parent reads.lists));
+      kept_parent = grind (arith, err_from_is_err_and);
+    }
