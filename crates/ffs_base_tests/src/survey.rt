@@ -7,7 +7,8 @@ use ffs_image::ImageFault;
 use ffs_memory::{FilledList, Memory, SystemMemory};
 use ffs_samples::numbers;
 use ffs_survey::{
-    Directories, EntryHead, Surveyed, is_dead, is_dir, is_suspect, is_unref, mark_leaders, survey,
+    Directories, EntryHead, KnownInodes, NumberLists, Surveyed, is_dead, is_dir, is_suspect,
+    is_unref, mark_leaders, survey,
 };
 use ffs_volume::Role;
 use std::alloc::{AllocError, Global};
@@ -177,16 +178,22 @@ fn left_by_survey(alloc: Global) -> Result<Left, Fail> {
         dir: 0,
         place: 0,
     };
+    let inodes = KnownInodes {
+        kinds: &KINDS,
+        marked: &[false; 8],
+    };
+    let mut numbers = NumberLists {
+        references: &mut references,
+        parents: &mut parents,
+        queue: &mut queue,
+    };
     survey(
         &mut listed,
-        &KINDS,
-        &[false; 8],
-        &mut references,
+        &inodes,
+        &mut numbers,
         &mut named,
         &mut reached,
-        &mut parents,
         &mut calm,
-        &mut queue,
     )?;
     let (references, parents) = firsts_of(&references, &parents);
     Ok(Left {

@@ -3,14 +3,15 @@ use Rattle.std.proofs.Common.{◌≡◌, ◌≤◌, ◌+◌, ◌*◌, ℕ, Bool,
 use Rattle.std.{proofs.{Common.{length-append, Ok, Err, subst, Result}, Math.Nat.mul-le-mul_left}, specs.Borrow.GName}
 use Rattle.ffs_volume.specs.{declared.{Layout.Layout, End.End}, Messages.Kinds.{Message, cannot_alloc, cannot_read}}
 use Rattle.ffs_volume.specs.Report.{Memory.runs_limit, Reads.{group_reads, line_reads, opening_reads, phase_reads}}
-use Rattle.ffs_volume.specs.Report.Reads.{reads_limit, sweep_reads}
+use Rattle.ffs_volume.specs.{Disk.Superblock.Superblock, Report.Reads.{reads_limit, sweep_reads}}
 use Rattle.ffs_layout.specs.declared.superblock.Super.{Super}
 use Rattle.ffs_report.specs.{Sink.Sink, Paid.Paid, Progress.{Progress, Said, Stopped, starts}}
 use Rattle.ffs_report.specs.{declared.fault.RunFault.{RunFault, TheVariants.{Read, Out}}, PhaseOutcome.PhaseReports}
 use Rattle.ffs_report.proofs.{Reports.{said_then, stopped_after}, Paying.{paid_beside, paid_price, paid_text}}
 use Rattle.ffs_report.proofs.Paying.{paid_then, paid_within}
 use Rattle.ffs_pathnames.specs.declared.pass2.Root.{Root}
-use Rattle.ffs_check.specs.{AnyReads.{PhasesReadAny, ReadsAny, ReadsByMessages, RestReadsAny}, Ends.BrokeOffIn}
+use Rattle.ffs_workspace.specs.Places.{AreChunksNumbered}
+use Rattle.ffs_check.specs.{AnyReads.{PhasesRead, ReadsAny, ReadsByMessages}, Ends.BrokeOffIn}
 use Rattle.ffs_check.{specs.{Ends.Printed, PhaseEnds.{EndsAs, SaysRefusal}}, proofs.EndLaws.broke_off}
 
 -- the price of each message, beside what the phases read for none
@@ -96,7 +97,9 @@ opened_reads v a b c lines before between after said opened p =
 pub whole_reads : (size : ℕ) (found : Super) (output : GName) (sink : Sink) (p c : Progress) (lines : List Message)
     (before between after : ℕ) → found.geometry.layout.size * found.geometry.layout.fsize ≤ size →
     Said (starts output sink) p lines → between ≤ before + opening_reads →
-    PhasesReadAny found.geometry.layout p c between after → ReadsAny size sink c.sink before after
+    (AreChunksNumbered found.geometry.layout
+    → ReadsByMessages Said Stopped (phase_reads found.geometry.layout) p c between after) →
+    ReadsAny size sink c.sink before after
 whole_reads size found output sink p c lines before between after inside said opened phases = inr (record {
   layout = found.geometry.layout;
   accepted = found.geometry.sound;
@@ -111,11 +114,16 @@ pub any_at : (size : ℕ) (out at at' : Sink) (before after : ℕ) → at ≡ at
     ReadsAny size out at' before after
 any_at size out at at' before after e r = subst (λ to. ReadsAny size out to before after) e r
 
-pub rest_at : (v : Layout) (out at at' : Sink) (before after : ℕ) → at ≡ at' → RestReadsAny v out at before after →
-    RestReadsAny v out at' before after
-rest_at v out at at' before after e r = subst (λ to. RestReadsAny v out to before after) e r
+pub rest_at : (knows : List ℕ → Type 0) (s : Superblock) (out at at' : Sink) (before after : ℕ) → at ≡ at' →
+    PhasesRead Printed BrokeOffIn knows s out at before after →
+    PhasesRead Printed BrokeOffIn knows s out at' before after
+rest_at knows s out at at' before after e r = subst (λ to. PhasesRead Printed BrokeOffIn knows s out to before after) e r
 
 -- the phases alone were said to a report that had just begun, and printed
-pub rest_reads : (v : Layout) (output : GName) (sink : Sink) (c : Progress) (before after : ℕ) →
-    PhasesReadAny v (starts output sink) c before after → RestReadsAny v sink c.sink before after
-rest_reads v output sink c before after phases = grind (arith, printed_reads)
+pub rest_reads : {knows : List ℕ → Type 0} (s : Superblock) (output : GName) (sink : Sink) (c : Progress)
+    (before after : ℕ) → PhasesRead Said Stopped knows s (starts output sink) c before after →
+    PhasesRead Printed BrokeOffIn knows s sink c.sink before after
+rest_reads s output sink c before after phases = record {
+  known = phases.known;
+  any = λ numbered. printed_reads (phase_reads s.layout) (starts output sink) c before after refl (phases.any numbered);
+}

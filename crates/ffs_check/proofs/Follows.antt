@@ -4,7 +4,6 @@ use Rattle.std.{proofs.Common.{append_assoc, Option, Ok}, specs.Borrow.GName}
 use Rattle.ffs_image.{specs.Device.{Device, ForContents}, proofs.Devices.faulted_there}
 use Rattle.ffs_volume.specs.declared.{SuperFault.SuperFault, End.{End, TheVariants.{Refused, ReadFault, NoMemory}}}
 use Rattle.ffs_volume.specs.{Disk.{Superblock.Superblock, Outcome.outcome}, Report.Opening.opening_lines}
-use Rattle.ffs_volume.specs.Directories.{PathnameCheck.continues_after_root, Volumes.volume_of}
 use Rattle.ffs_volume.specs.{Messages.Kinds.{Message, cannot_read, cannot_alloc}, Report.Whole.{phase_lines, end_by}}
 use Rattle.ffs_volume.specs.Report.Whole.{report_of, report_end}
 use Rattle.ffs_report.specs.{Sink.Sink, Known.IsContents, Progress.{Progress, Said, Stopped, starts}}
@@ -51,8 +50,7 @@ module _ (image : Device) (name : List ℕ) (sector : Option ℕ) (output : GNam
 
     -- the end of the phases is that of the whole report
     whole : Said (starts output sink) new (opened_lines name sector s ++ text) →
-        IsEndByRoot (IsContents image.contents) (λ bytes. continues_after_root (volume_of s.layout bytes))
-        (false || new.defect) end → IsEndOfReport image sector (opened_lines name sector s ++ text) end
+        IsEndByRoot (IsContents image.contents) s (false || new.defect) end → IsEndOfReport image sector (opened_lines name sector s ++ text) end
     whole said e =
         let last : ForContents image.contents (λ bytes. end ≡ report_end bytes sector) = λ bytes t.
         e.end_is ∙ end_of_there bytes s e.continued new.defect (e.by_root bytes t)

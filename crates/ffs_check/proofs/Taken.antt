@@ -1,14 +1,14 @@
 -- What a check takes of its memory, after an accepted superblock.
 use Rattle.std.proofs.Common.{◌≡◌, arith, inl, inr, sym, subst, ℕ, Bool, true, false, List, Option, Ok, Err}
 use Rattle.ffs_image.specs.Device.{Device, ForContents}
-use Rattle.ffs_memory.specs.{Account.{Account, RefusedOneMore, unused}, System.account_of}
+use Rattle.ffs_memory.specs.{Account.{Account, unused}, System.account_of}
 use Rattle.ffs_memory.specs.declared.system.SystemMemory.{SystemMemory}
 use Rattle.ffs_volume.specs.declared.End.{End, TheVariants.{Consistent, Defects, RootStop, WriteFault, NoMemory}}
-use Rattle.ffs_volume.specs.{Messages.Kinds.Message, Disk.{Outcome.outcome, Superblock.Superblock}, Report.Whole.end_by}
+use Rattle.ffs_volume.specs.{Disk.{Outcome.outcome, Superblock.Superblock}, Report.Whole.end_by}
 use Rattle.ffs_report.specs.Progress.{Progress}
 use Rattle.ffs_layout.specs.{declared.superblock.Super.Super, Super.{ReadsSuper, superblock_in}}
 use Rattle.ffs_workspace.specs.Lengths.{held_of}
-use Rattle.ffs_check.specs.{PhaseEnds.SaysPhases, Opening.SaysOpening, Taken.{AsksMemory, Takes, TakesOfSystem}}
+use Rattle.ffs_check.specs.{PhaseEnds.SaysPhases, Opening.SaysOpening, Taken.{AsksMemory, TakesOf, TakesOfSystem}}
 use Rattle.ffs_check.specs.Taken.{TakesWorkspace}
 
 accepted_by : (image image' : Device) (sector : Option ℕ) (s : Superblock) → ReadsSuper image image' sector (Ok s) →
@@ -37,10 +37,9 @@ not_broken : WriteFault ≡ NoMemory → ⊥
 not_broken e = (let w : WriteFault ≡ NoMemory = e in cc)
 
 -- phases that have run don't end as `NoMemory`
-pub not_for_memory : (knows : List ℕ → Type 0) (lines : List ℕ → List Message) (continues : List ℕ → Bool)
-    (image image' : Device) (old new : Progress) (end : End) →
-    SaysPhases false knows lines continues image image' old new end → end ≡ NoMemory → ⊥
-not_for_memory knows lines continues image image' old new end ran e = grind (arith, not_by, not_broken)
+pub not_for_memory : (knows : List ℕ → Type 0) (s : Superblock) (image image' : Device) (old new : Progress)
+    (end : End) → SaysPhases false knows s image image' old new end → end ≡ NoMemory → ⊥
+not_for_memory knows s image image' old new end ran e = grind (arith, not_by, not_broken)
 
 -- nor does an opening
 pub opened_for_memory : (image on : Device) (old new : Progress) (name : List ℕ) (sector : Option ℕ) (end : End) →
@@ -49,6 +48,7 @@ opened_for_memory image on old new name sector end o e = grind (arith, not_broke
 
 -- a check over the memory of the system, which was new
 pub of_system : (image : Device) (sector : Option ℕ) (end : End) (memory memory' : SystemMemory) →
-    account_of memory ≡ unused → Takes image sector (account_of memory) (account_of memory') →
-    (end ≡ NoMemory → RefusedOneMore (account_of memory) (account_of memory')) → TakesOfSystem image sector end
-of_system image sector end memory memory' begun takes refused = grind (arith, takes)
+    account_of memory ≡ unused → TakesOf image sector (account_of memory) (account_of memory') end →
+    TakesOfSystem image sector end
+of_system image sector end memory memory' begun taken =
+    record { memory = memory; memory' = memory'; begun = begun; taken = taken }

@@ -1,11 +1,14 @@
 -- How often a check reads any image at most, also one that gives other bytes each time: by the
 -- messages that went out, whole or in part. `whole` and `broken` are those of `Ends`.
-use Rattle.std.specs.Prelude.{◌⊎◌, ◌≤◌, ◌+◌, ◌*◌, ℕ, List, length}
+use Rattle.std.specs.Prelude.{◌⊎◌, ◌≤◌, ◌+◌, ◌*◌, ℕ, List, length, Option, Result}
+use Rattle.ffs_image.specs.Device.{Device}
 use Rattle.ffs_volume.specs.{declared.Layout.Layout, Laws.Geometry.IsAcceptedLayout, Messages.Kinds.Message}
-use Rattle.ffs_volume.specs.Report.Reads.{opening_reads, phase_reads, reads_limit}
-use Rattle.ffs_report.specs.{Progress.{Progress, Said, Stopped}, Sink.Sink}
+use Rattle.ffs_volume.specs.{Disk.Superblock.Superblock, Report.Reads.{line_reads, opening_reads, phase_reads}}
+use Rattle.ffs_volume.specs.Report.Reads.{reads_limit}
+use Rattle.ffs_report.specs.{Known.ForBytes, Paid.Paid, Progress.{Progress, Said, Stopped}, Sink.Sink}
+use Rattle.ffs_report.specs.declared.fault.RunFault.{RunFault}
 use Rattle.ffs_workspace.specs.Places.{AreChunksNumbered}
-use Rattle.ffs_check.specs.Ends.{BrokeOffIn, Printed}
+use Rattle.ffs_check.specs.{Ends.{BrokeOffIn, Printed}, ReadsWithin.{PhasesReadWithin, ReadsWithin}}
 
 -- messages went out, or the output failed among them, and there were no more reads than the limit
 -- for so many messages
@@ -15,16 +18,19 @@ pub record ReadsByMessages {Sent : Type 0} (whole broken : Sent → Sent → Lis
   pub went_out : whole old new messages ⊎ broken old new messages
   pub most : after ≤ before + limit (length messages)
 
--- what the phases read for what they say to a report, on a volume of less than 2^40 bytes
--- (`AreChunksNumbered`)
-abbrev pub PhasesReadAny : Layout → Progress → Progress → (before after : ℕ) → Type 0
-PhasesReadAny v old new before after =
-    AreChunksNumbered v → ReadsByMessages Said Stopped (phase_reads v) old new before after
+-- how often the phases read an image whose bytes are known, and any image, for the messages that
+-- went out, on a volume of less than 2^40 bytes (`AreChunksNumbered`)
+pub record PhasesRead {Sent : Type 0} (whole broken : Sent → Sent → List Message → Type 0) (knows : List ℕ → Type 0)
+    (s : Superblock) (old new : Sent) (before after : ℕ) : Type 0 where
+  pub known : ForBytes knows (λ bytes. PhasesReadWithin s bytes before after)
+  pub any : AreChunksNumbered s.layout → ReadsByMessages whole broken (phase_reads s.layout) old new before after
 
--- what the phases read for what they print
-abbrev pub RestReadsAny : Layout → Sink → Sink → (before after : ℕ) → Type 0
-RestReadsAny v out out' before after =
-    AreChunksNumbered v → ReadsByMessages Printed BrokeOffIn (phase_reads v) out out' before after
+-- the same up to their answer, for the messages that were begun
+pub record PhasesPay {T : Type 0} (knows : List ℕ → Type 0) (s : Superblock) (old new : Progress) (before after : ℕ)
+    (result : Result T RunFault) : Type 0 where
+  pub known : ForBytes knows (λ bytes. PhasesReadWithin s bytes before after)
+  pub paid : AreChunksNumbered s.layout
+      → Paid (line_reads + 1) old new (before + phase_reads s.layout 0) after result
 
 -- the superblock of a volume that lies in an image of this size was accepted, and the whole check
 -- read the image within the limit for what it printed, on a volume of less than 2^40 bytes
@@ -39,3 +45,10 @@ pub record ReadsOfVolume (size : ℕ) (out out' : Sink) (before after : ℕ) : T
 -- volume
 abbrev pub ReadsAny : (size : ℕ) → Sink → Sink → (before after : ℕ) → Type 0
 ReadsAny size out out' before after = (after ≤ before + opening_reads) ⊎ ReadsOfVolume size out out' before after
+
+-- how often the whole check reads an image that gives its bytes, and any image, also one that gives
+-- other bytes each time
+pub record CheckReads (image : Device) (name : List ℕ) (asked_sector : Option ℕ) (out out' : Sink)
+    (before after : ℕ) : Type 0 where
+  pub reads : ReadsWithin image name asked_sector before after
+  pub any : ReadsAny image.size out out' before after

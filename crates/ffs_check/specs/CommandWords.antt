@@ -1,11 +1,12 @@
 -- What the words after the program's name ask for, as `clap` reads them: `-n [-b sector] image`.
-use Rattle.std.specs.Prelude.{◌≡◌, ◌<◌, ◌^◌, ℕ, pos, true, List, [], ◌∷◌, Option, Some, None, codes, unwrap_or, ⊤}
+use Rattle.std.specs.Prelude.{◌≡◌, ◌<◌, ◌^◌, ℕ, pos, true, false, List, [], ◌∷◌, Option, Some, None, codes, unwrap_or}
+use Rattle.std.specs.Prelude.{⊤}
 use Rattle.std.specs.Str.Parse.{IsNumeral, digits_value, without_leading_plus}
 use Rattle.clap.specs.Words.{App, Kinds, Rule, Text, fault_of, first_of, found_of, kind_of, matches_of, new_app}
-use Rattle.clap.specs.Words.{new_rule, one_of, rows_of, with_rule}
+use Rattle.clap.specs.Words.{new_rule, one_of, rows_of, rule_of, with_rule}
 use Rattle.clap.specs.declared.{builder.value_parser.ValueParser.TheVariants.Signed, error.Error.Error}
 use Rattle.clap.specs.declared.{error.kind.ErrorKind.TheVariants.OutOfMemory, parser.matches.ArgMatches.ArgMatches}
-use Rattle.clap.specs.declared.builder.ArgAction.TheVariants.{Set, Count}
+use Rattle.clap.specs.declared.builder.{arg.Arg.Arg, ArgAction.TheVariants.{Set, Count}}
 
 -- `-n` or `-N` (the letters 110 and 78), each as often as one likes: one of them has to be there
 abbrev pub read_only_rule : Rule
@@ -28,6 +29,11 @@ sector_rule = record (new_rule (codes "sector")) {
 -- the image, one word
 abbrev pub image_rule : Rule
 image_rule = record (new_rule (codes "image")) { action = Some Set; required = true }
+
+-- an argument that follows a rule, for the program's own words alone
+pub record IsArgument (a : Arg) (wanted : Rule) : Type 0 where
+  pub rule : rule_of a ≡ wanted
+  pub local : a.global ≡ false
 
 -- a program with no words yet, which has a version and is not named by the first word
 abbrev pub unnamed : App

@@ -1,8 +1,10 @@
--- What the end of a check says of how many reads failed in it, none or one, and how many writes,
--- none or one.
-use Rattle.std.specs.Prelude.{◌≡◌, ◌⊎◌, ℕ}
+-- What the end of a check says of how many reads failed in it, none or one, of how many writes, none
+-- or one, and of a superblock that can't be read.
+use Rattle.std.specs.Prelude.{◌≡◌, ◌⊎◌, ℕ, Option}
 use Rattle.ffs_image.specs.Device.{Device, Rose}
 use Rattle.ffs_report.specs.Sink.{Sink}
+use Rattle.ffs_layout.specs.Super.{IsUnreadable}
+use Rattle.ffs_volume.specs.declared.SuperFault.TheVariants.{CannotRead}
 use Rattle.ffs_volume.specs.declared.End.{End, TheVariants.{Consistent, Defects, Refused, RootStop, ReadFault}}
 use Rattle.ffs_volume.specs.declared.End.TheVariants.{WriteFault, NoMemory}
 
@@ -26,7 +28,9 @@ WritesFailed (Refused fault) old new = new ≡ old
 WritesFailed (ReadFault sector) old new = new ≡ old
 WritesFailed WriteFault old new = Rose old new
 
--- what an end says of the failed reads of an image and the failed writes of an output
-pub record HaveFailed (end : End) (image image' : Device) (out out' : Sink) : Type 0 where
+-- what an end says of the failed reads of an image and the failed writes of an output. A superblock
+-- that can't be read is a failed read, or lies past the image's end
+pub record HaveFailed (end : End) (asked_sector : Option ℕ) (image image' : Device) (out out' : Sink) : Type 0 where
   pub reads : ReadsFailed end image.failures image'.failures
   pub writes : WritesFailed end out.failures out'.failures
+  pub unreadable : (sector : ℕ) → end ≡ Refused (CannotRead sector) → IsUnreadable image image' asked_sector sector

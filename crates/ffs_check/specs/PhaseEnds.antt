@@ -1,15 +1,17 @@
--- How the phases of a check end. `knows` is what is known of the image's bytes, `lines` the text
--- that they determine, and `continues` whether the check continues after the root.
-use Rattle.std.specs.Prelude.{◌≡◌, ◌⊎◌, ◌<◌, ℕ, Bool, false, ◌||◌, List, [], ◌∷◌, ◌++◌, length, Result, Ok, Err}
+-- How the phases of a check end. `knows` is what is known of the image's bytes, and `s` the
+-- superblock: with it the bytes determine the text, and whether the check continues after the root.
+use Rattle.std.specs.Prelude.{◌≡◌, ◌⊎◌, ◌<◌, ℕ, Bool, false, ◌||◌, List, [], ◌∷◌, ◌++◌, length, Result, Ok, Err, IfOk}
 use Rattle.ffs_image.specs.Device.{Device, Faulted}
 use Rattle.ffs_volume.specs.declared.End.{End, TheVariants.{ReadFault, WriteFault, NoMemory}}
-use Rattle.ffs_volume.specs.{Disk.Superblock.Superblock, Directories.PathnameCheck.continues_after_root}
+use Rattle.ffs_volume.specs.{Disk.Superblock.Superblock, Report.Opening.super_lines}
+use Rattle.ffs_volume.specs.Directories.PathnameCheck.{continues_after_root}
 use Rattle.ffs_volume.specs.{Directories.Volumes.volume_of, Report.Whole.{end_by, phase_lines}, Messages.Kinds.Message}
 use Rattle.ffs_volume.specs.Messages.Kinds.{cannot_alloc, cannot_read, has_defect}
-use Rattle.ffs_report.specs.{Sink.Sink, Known.{ForBytes, IsContents}, PhaseOutcome.{SaidOf, StoppedOf}}
+use Rattle.ffs_report.specs.{Sink.Sink, Known.{ForBytes, IsContents}, PhaseOutcome.{ImageAfter, SaidOf, StoppedOf}}
 use Rattle.ffs_report.specs.{Progress.{Progress, Said, Stopped}, declared.fault.RunFault.{RunFault, TheVariants.Read}}
 use Rattle.ffs_report.specs.declared.fault.RunFault.TheVariants.{Out}
 use Rattle.ffs_pathnames.specs.{declared.pass2.Root.Root, RootAnswers.is_go}
+use Rattle.ffs_workspace.specs.{declared.workspace.Workspace.Workspace, Found.WithFresh}
 use Rattle.ffs_check.specs.Ends.{BrokeOffIn, Ends, Printed}
 
 -- a read failed before the text was complete: whole messages were said, and others were to come
@@ -25,6 +27,15 @@ abbrev pub ReportsOrStopsEarly : {T : Type 0} → (List ℕ → Type 0) → (Lis
 ReportsOrStopsEarly knows all old new (Ok x) = SaidOf knows (λ bytes. []) all old new
 ReportsOrStopsEarly knows all old new (Err (Read fault)) = SaidNotAll knows all old new
 ReportsOrStopsEarly knows all old new (Err (Out fault)) = StoppedOf knows all old new
+
+-- the phases have run over a workspace that holds nothing yet: what they leave of the image, what
+-- they reported, and whether the check continues after the root
+pub record HaveRun (s : Superblock) (d d' : Device) (w : Workspace) (old new : Progress)
+    (result : Result Root RunFault) : Type 0 where
+  pub image : ImageAfter d d' result
+  pub text : ReportsOrStopsEarly (WithFresh s.layout d w) (λ bytes. phase_lines bytes s) old new result
+  pub goes : IfOk result (λ root. ForBytes (WithFresh s.layout d w)
+      (λ bytes. is_go root ≡ continues_after_root (volume_of s.layout bytes)))
 
 -- a fault's line was said, and the end is the fault's; or the output failed in it
 abbrev pub LineEnds : Progress → Progress → Message → End → End → Type 0
@@ -47,9 +58,9 @@ EndsAs had_defect old new (Err (Read fault)) end = SaysReadFault old new fault.s
 EndsAs had_defect old new (Err (Out fault)) end = (new ≡ old) × (end ≡ WriteFault)
 
 -- the end is by whether the check continued after the root, and by whether a defect was reported
-pub record IsEndByRoot (knows : List ℕ → Type 0) (continues : List ℕ → Bool) (defect : Bool) (end : End) : Type 0 where
+pub record IsEndByRoot (knows : List ℕ → Type 0) (s : Superblock) (defect : Bool) (end : End) : Type 0 where
   pub continued : Bool
-  pub by_root : ForBytes knows (λ bytes. continued ≡ continues bytes)
+  pub by_root : ForBytes knows (λ bytes. continued ≡ continues_after_root (volume_of s.layout bytes))
   pub end_is : end ≡ end_by continued defect
 
 -- a read failed before the text was complete: whole messages of it were said, and others were to
@@ -68,31 +79,28 @@ pub record IsCutByRead (knows : List ℕ → Type 0) (text : List Message) (imag
 -- `has_defect_by` says of their text whether a defect was reported in it or in the opening. No end
 -- is `NoMemory`
 pub record PhasesEnd {Sent : Type 0} (whole broken : Sent → Sent → List Message → Type 0)
-    (has_defect_by : List Message → Bool) (knows : List ℕ → Type 0) (lines : List ℕ → List Message)
-    (continues : List ℕ → Bool) (image image' : Device) (old new : Sent) (end : End) : Type 0 where
+    (has_defect_by : List Message → Bool) (knows : List ℕ → Type 0) (s : Superblock) (image image' : Device)
+    (old new : Sent) (end : End) : Type 0 where
   pub text : List Message
-  pub right : ForBytes knows (λ bytes. text ≡ lines bytes)
-  pub ends : Ends whole broken image image' old new text (IsEndByRoot knows continues (has_defect_by text))
+  pub right : ForBytes knows (λ bytes. text ≡ phase_lines bytes s)
+  pub ends : Ends whole broken image image' old new text (IsEndByRoot knows s (has_defect_by text))
       (IsCutByRead knows text image image') end
 
 -- what the phases say to a report. Whether a defect was reported isn't read off the text: the
 -- report keeps whether it has said one, and an opening that another report said may have had one
 -- (`had_defect`)
-abbrev pub SaysPhases : Bool → (List ℕ → Type 0) → (List ℕ → List Message) → (List ℕ → Bool) → Device → Device →
-    Progress → Progress → End → Type 0
-SaysPhases had_defect knows lines continues image image' old new end =
-    PhasesEnd Said Stopped (λ text. had_defect || new.defect) knows lines continues image image' old new end
+abbrev pub SaysPhases : Bool → (List ℕ → Type 0) → Superblock → Device → Device → Progress → Progress → End → Type 0
+SaysPhases had_defect knows s image image' old new end =
+    PhasesEnd Said Stopped (λ text. had_defect || new.defect) knows s image image' old new end
 
--- what the phases print to an output, after these earlier messages
-abbrev pub PrintsPhases : List Message → (List ℕ → Type 0) → (List ℕ → List Message) → (List ℕ → Bool) → Device →
-    Device → Sink → Sink → End → Type 0
-PrintsPhases earlier knows lines continues image image' out out' end =
-    PhasesEnd Printed BrokeOffIn (λ text. has_defect (earlier ++ text)) knows lines continues image image' out out' end
+-- what the phases print to an output, after the opening's messages on the superblock
+abbrev pub PrintsPhases : (List ℕ → Type 0) → Superblock → Device → Device → Sink → Sink → End → Type 0
+PrintsPhases knows s image image' out out' end =
+    PhasesEnd Printed BrokeOffIn (λ text. has_defect (super_lines s ++ text)) knows s image image' out out' end
 
 -- what follows an accepted superblock: the memory of the check was refused, and that was said; or
 -- its phases have run
 abbrev pub SaysRest : Superblock → Device → Device → Progress → Progress → End → Type 0
 SaysRest s image image' old new end =
     ((image' ≡ image) × SaysRefusal old new end)
-    ⊎ SaysPhases false (IsContents image.contents) (λ bytes. phase_lines bytes s)
-    (λ bytes. continues_after_root (volume_of s.layout bytes)) image image' old new end
+    ⊎ SaysPhases false (IsContents image.contents) s image image' old new end

@@ -1,16 +1,17 @@
 -- The parts of the text after the opening, as the calls that report them are nested, and what is
 -- known of the image's bytes there.
-use Rattle.std.specs.Prelude.{◌≡◌, ℕ, Bool, if◌then◌else◌, List, [], ◌∷◌, ◌++◌, map}
+use Rattle.std.specs.Prelude.{ℕ, Bool, if◌then◌else◌, List, [], ◌∷◌, ◌++◌, map}
 use Rattle.ffs_image.specs.Device.{Device}
 use Rattle.ffs_report.specs.Known.{IsContents}
 use Rattle.ffs_volume.specs.{declared.Layout.Layout, Disk.Superblock.Superblock, Blocks.Owners.owners_of}
 use Rattle.ffs_volume.specs.Directories.{Volumes.volume_of, Connectivity.connectivity_lines}
 use Rattle.ffs_volume.specs.{Directories.ReferenceCheck.reference_lines, Messages.Kinds.{Message, phase1, phase2}}
-use Rattle.ffs_volume.specs.{Messages.Kinds.{phase3, phase4, phase5, of_blocks, of_tree}, Blocks.BlockCheck.has_rescan}
+use Rattle.ffs_volume.specs.Messages.Kinds.{phase3, phase4, phase5, of_blocks, of_tree}
 use Rattle.ffs_volume.specs.{Blocks.BlockCheck.phase1_lines, Directories.PathnameCheck.pathname_lines}
 use Rattle.ffs_volume.specs.{Directories.PathnameCheck.continues_after_root, Report.Whole.rescan_lines}
 use Rattle.ffs_volume.specs.Report.Whole.{group_check_lines, summary_of, file_count, claimed_count}
-use Rattle.ffs_workspace.specs.{declared.workspace.Workspace.Workspace, Holds.HoldsPhase1, Lengths.has_dups}
+use Rattle.ffs_workspace.specs.declared.workspace.Workspace.{Workspace}
+use Rattle.ffs_claims.specs.Phases.{IsLeftByPhase1}
 
 -- what each phase reports, with its heading
 abbrev pub phase1_part : List ℕ → Superblock → List Message
@@ -58,8 +59,6 @@ from_phase2 image s = phase2_part image s ++ after_phase2 (continues_after_root 
 abbrev pub from_phase1b : List ℕ → Superblock → List Message
 from_phase1b image s = phase1b_part image s ++ from_phase2 image s
 
--- after phase 1: the image gives the bytes, and the workspace holds what the block check found, and
--- whether it looks again
+-- after phase 1: the image gives the bytes, and the workspace is left by it
 abbrev pub IsAfterPhase1 : Layout → Device → Workspace → List ℕ → Type 0
-IsAfterPhase1 v d w bytes = IsContents d.contents bytes × HoldsPhase1 v bytes w
-    × (has_dups w ≡ has_rescan v (owners_of v bytes))
+IsAfterPhase1 v d w bytes = IsContents d.contents bytes × IsLeftByPhase1 v bytes w

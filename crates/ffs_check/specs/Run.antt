@@ -4,7 +4,7 @@ use Rattle.std.specs.{Prelude.codes, declared.io.Error.Error}
 use Rattle.ffs_image.specs.{Device.Device, declared.file.OpenFault.OpenFault}
 use Rattle.ffs_volume.specs.{declared.End.End, Messages.{Kinds.cannot_alloc, Texts.text_of}, Report.Whole.status_of}
 use Rattle.ffs_report.specs.Sink.{Sink, Took, BrokeOff}
-use Rattle.ffs_check.specs.{AnyReads.ReadsAny, Headline.Headline, ReadsWithin.ReadsWithin, Taken.TakesOfSystem}
+use Rattle.ffs_check.specs.{AnyReads.CheckReads, Headline.Headline, Taken.TakesOfSystem}
 use Rattle.ffs_check.specs.CommandWords.{AskFor, LacksMemory, refusals}
 
 -- the line where the image can't be opened
@@ -24,8 +24,7 @@ pub record IsChecked (I : Type 0) (device : I → Device) (reads : I → ℕ) (o
   pub end : End
   pub headline : Headline (device image) (device image') name sector out out' end
   pub memory : TakesOfSystem (device image) sector end
-  pub within : ReadsWithin (device image) name sector (reads image) (reads image')
-  pub any : ReadsAny (device image).size out out' (reads image) (reads image')
+  pub within : CheckReads (device image) name sector out out' (reads image) (reads image')
   pub status_is : status ≡ status_of end
 
 -- no image could be opened under a name, and that was printed

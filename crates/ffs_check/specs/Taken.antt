@@ -11,6 +11,11 @@ use Rattle.ffs_workspace.specs.Lengths.{held_of}
 abbrev pub AsksMemory : Account → Account → ℕ → Type 0
 AsksMemory old new bytes = Granted old new bytes ⊎ GaveUp old new bytes
 
+-- these bytes are asked for, and the end is `NoMemory` only where a request was refused
+pub record TakesBytes (bytes : ℕ) (old new : Account) (end : End) : Type 0 where
+  pub asked : AsksMemory old new bytes
+  pub refused : end ≡ NoMemory → RefusedOneMore old new
+
 -- what the workspace of an accepted volume holds was granted and no byte more, which is within the
 -- limit, or a request was refused
 pub record TakesWorkspace (image : Device) (asked_sector : Option ℕ) (old new : Account) : Type 0 where
@@ -23,11 +28,15 @@ pub record TakesWorkspace (image : Device) (asked_sector : Option ℕ) (old new 
 abbrev pub Takes : Device → Option ℕ → Account → Account → Type 0
 Takes image asked_sector old new = (new ≡ old) ⊎ TakesWorkspace image asked_sector old new
 
--- a check took from the memory of the system, of which nothing was granted before, what it takes of
--- any memory; and it ended as `NoMemory` only where that memory refused a request
+-- what a check takes of a memory. It ends as `NoMemory` only where a request was refused
+pub record TakesOf (image : Device) (asked_sector : Option ℕ) (old new : Account) (end : End) : Type 0 where
+  pub takes : Takes image asked_sector old new
+  pub refused : end ≡ NoMemory → RefusedOneMore old new
+
+-- a check took of the memory of the system, of which nothing was granted before, what it takes of
+-- any memory
 pub record TakesOfSystem (image : Device) (asked_sector : Option ℕ) (end : End) : Type 0 where
   pub memory : SystemMemory
   pub memory' : SystemMemory
   pub begun : account_of memory ≡ unused
-  pub takes : Takes image asked_sector (account_of memory) (account_of memory')
-  pub refused : end ≡ NoMemory → RefusedOneMore (account_of memory) (account_of memory')
+  pub taken : TakesOf image asked_sector (account_of memory) (account_of memory') end

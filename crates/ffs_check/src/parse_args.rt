@@ -1,8 +1,8 @@
 //! The arguments of the command line.
-ghost use Rattle.std.specs.Prelude.{◌≡◌, false, map, IfOk, MatchResult};
-ghost use Rattle.clap.specs.{Words.{app_of, kind_of, rule_of}, declared.error.kind.ErrorKind.TheVariants.OutOfMemory};
-ghost use Rattle.ffs_check.specs.CommandWords.{AreRefusedBy, AskFor, HasMatches, image_rule, read_only_rule, program};
-ghost use Rattle.ffs_check.specs.CommandWords.{sector_rule};
+ghost use Rattle.std.specs.Prelude.{◌≡◌, map, IfOk, MatchResult};
+ghost use Rattle.clap.specs.{Words.{app_of, kind_of}, declared.error.kind.ErrorKind.TheVariants.OutOfMemory};
+ghost use Rattle.ffs_check.specs.CommandWords.{AreRefusedBy, AskFor, HasMatches, IsArgument, image_rule, program};
+ghost use Rattle.ffs_check.specs.CommandWords.{read_only_rule, sector_rule};
 
 use crate::args::Args;
 use crate::version::VERSION;
@@ -14,8 +14,7 @@ const SECTOR_END: i64 = 4194304;
 
 /// `-n` or `-N`: nothing is written.
 fn read_only_argument<'a>(alloc: Global) -> Result<Arg<'a>, AllocError>
-    ensures rule { IfOk result (λ argument. rule_of argument ≡ read_only_rule) }
-    ensures local { IfOk result (λ argument. argument.global ≡ false) }
+    ensures { IfOk result (λ argument. IsArgument argument read_only_rule) }
 {
     Ok(
         Arg::new(alloc, "no")
@@ -28,8 +27,7 @@ fn read_only_argument<'a>(alloc: Global) -> Result<Arg<'a>, AllocError>
 
 /// `-b sector`: where the superblock is.
 fn sector_argument<'a>(alloc: Global) -> Arg<'a>
-    ensures rule { rule_of result ≡ sector_rule }
-    ensures local { result.global ≡ false }
+    ensures { IsArgument result sector_rule }
 {
     Arg::new(alloc, "sector")
         .short('b')
@@ -40,8 +38,7 @@ fn sector_argument<'a>(alloc: Global) -> Arg<'a>
 
 /// The image.
 fn image_argument<'a>(alloc: Global) -> Arg<'a>
-    ensures rule { rule_of result ≡ image_rule }
-    ensures local { result.global ≡ false }
+    ensures { IsArgument result image_rule }
 {
     Arg::new(alloc, "image")
         .required(true)

@@ -128,11 +128,12 @@ pub rewalked_from : {v : Layout} {i cut : ℕ} {all : List Step} {u w : Workspac
 rewalked_from {u = u} p = record { reported = reported_from u _ _ p.reported refl refl; count = p.count }
 
 -- an inode was read before, as the image gives it
-pub rewalks_from : {T : Type 0} {v : Layout} {n cut : ℕ} {d' d'' : Device} {a b : Progress} {u w : Workspace}
-    {windows : Windows} {r : Result T RunFault} (i : Inode) (d : Device) (inode : List ℕ → Inode) → d' ≡ d →
-    ForBytes (IsContents d.contents) (λ bytes. i ≡ inode bytes) →
-    Rewalks v n cut (λ _. i) d' d'' a b (record u { windows = windows }) w r → Rewalks v n cut inode d d'' a b u w r
-rewalks_from {T = T} {v = v} {n = n} {cut = cut} {d' = d'} {d'' = d''} {u = u} {r = r} i d inode e h p =
+pub rewalks_from : {T : Type 0} {v : Layout} {n cut now reads reads' : ℕ} {d' d'' : Device} {a b : Progress}
+    {u w : Workspace} {windows : Windows} {r : Result T RunFault} (i : Inode) (d : Device) (inode : List ℕ → Inode) →
+    d' ≡ d → ForBytes (IsContents d.contents) (λ bytes. i ≡ inode bytes) → now ≤ reads →
+    Rewalks v n cut (λ _. i) d' d'' now reads' a b (record u { windows = windows }) w r →
+    Rewalks v n cut inode d d'' reads reads' a b u w r
+rewalks_from {T = T} {v = v} {n = n} {cut = cut} {d' = d'} {d'' = d''} {u = u} {r = r} i d inode e h few p =
     let gives : ForBytes (IsContents d.contents) (IsContents d'.contents) = λ bytes t. ap (λ x. x.contents) e ∙ t in
     let image = image_from d'' r e p.left.image in
     let claims = claims_then (claims_still (claims_none u)) p.left.claims in
@@ -141,6 +142,7 @@ rewalks_from {T = T} {v = v} {n = n} {cut = cut} {d' = d'} {d'' = d''} {u = u} {
       rewalked = grind (arith, ok_where, rewalked_from);
       runs = grind arith;
       left = grind arith;
+      counted = let counted = p.counted in grind arith;
     }
 
 -- a step more is reported

@@ -6,3 +6,4 @@ pub mod RescanRuns
 pub mod Area
 pub mod Claiming
 pub mod SilentWords
+pub mod Phases

@@ -1,3 +1,4 @@
 pub mod Lines
 pub mod Leaders
 pub mod Unreached
+pub mod Phase3

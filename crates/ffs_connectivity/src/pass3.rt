@@ -1,11 +1,11 @@
 //! Phase 3: connectivity (fsck(8)).
 
-ghost use Rattle.std.specs.Prelude.{◌≡◌, ◌+◌, ◌<◌, ◌≤◌, ◌^◌, ◌∷◌, length, map};
-ghost use Rattle.ffs_report.specs.{Progress.progress, Known.ForBytes, Paid.Paid, PhaseOutcome.PhaseOutcome};
+ghost use Rattle.std.specs.Prelude.{◌≡◌, ◌<◌, ◌^◌, ◌∷◌, length, map};
+ghost use Rattle.ffs_report.specs.{Progress.progress, PhaseOutcome.PhaseOutcome, ReadsFor.ReadsFor};
 ghost use Rattle.ffs_volume.specs.{Directories.Connectivity.connectivity_lines, Messages.Kinds.of_tree};
 ghost use Rattle.ffs_volume.specs.Directories.Volumes.{volume_of};
-ghost use Rattle.ffs_connectivity.specs.Unreached.{IsFirstUnreached};
-ghost use Rattle.ffs_workspace.specs.{Found.WithSurvey, Leaves.LeavesSurvey, Ready.IsReady};
+ghost use Rattle.ffs_connectivity.specs.{Phase3.IsLeftByPhase3, Unreached.IsFirstUnreached};
+ghost use Rattle.ffs_workspace.specs.{Found.WithSurvey, Ready.IsReady};
 ghost use Rattle.ffs_volume.specs.Messages.Kinds as messages;
 
 use crate::unref::check_inode;
@@ -50,13 +50,12 @@ pub fn phase3<I: Image, W: Output>(
         (connectivity_lines (volume_of geometry.now.layout bytes)))
         (I.device image.old) (I.device image.new) (progress W.sink report.old)
         (progress W.sink report.new) result }
-    ensures reads { ForBytes (WithSurvey geometry.now.layout (I.device image.old) workspace.old)
-        (λ bytes. I.reads image.new ≤ I.reads image.old
-        + length (connectivity_lines (volume_of geometry.now.layout bytes))) }
-    ensures paid { Paid 1 (progress W.sink report.old) (progress W.sink report.new)
-        (I.reads image.old) (I.reads image.new) result }
-    ensures survey { LeavesSurvey workspace.old workspace.new }
-    ensures ready { IsReady geometry.now.layout (I.device image.new) workspace.new }
+    ensures reads { ReadsFor (WithSurvey geometry.now.layout (I.device image.old) workspace.old)
+        (λ bytes. length (connectivity_lines (volume_of geometry.now.layout bytes)))
+        (progress W.sink report.old) (progress W.sink report.new) (I.reads image.old)
+        (I.reads image.new) result }
+    ensures leaves { IsLeftByPhase3 geometry.now.layout (I.device image.new) workspace.old
+        workspace.new }
 {
     report.say(&Line::Heading(Heading::Phase3))?;
     let first = first_unreached(&workspace.kinds, &workspace.reached);

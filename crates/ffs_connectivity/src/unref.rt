@@ -1,10 +1,10 @@
 //! The line on a lost directory.
 
-ghost use Rattle.std.specs.Prelude.{◌≡◌, ◌+◌, ◌<◌, ◌≤◌, length, map};
-ghost use Rattle.ffs_report.specs.{Progress.progress, Known.ForBytes, Paid.Paid, PhaseOutcome.PhaseOutcome};
+ghost use Rattle.std.specs.Prelude.{length, map};
+ghost use Rattle.ffs_report.specs.{Progress.progress, PhaseOutcome.PhaseOutcome, ReadsFor.ReadsFor};
 ghost use Rattle.ffs_volume.specs.{Messages.Kinds.of_tree, Directories.Volumes.volume_of};
-ghost use Rattle.ffs_workspace.specs.{Found.WithSurvey, Lengths.inodes_of, Ready.{IsReady, StaysReady}};
-ghost use Rattle.ffs_connectivity.specs.{Leaders.HasLeaders, Lines.unref_dir_lines};
+ghost use Rattle.ffs_workspace.specs.{Found.WithSurvey, Ready.StaysReady};
+ghost use Rattle.ffs_connectivity.specs.{Lines.unref_dir_lines, Phase3.CanFindLost};
 
 use ffs_image::Image;
 use ffs_layout::Geometry;
@@ -25,19 +25,16 @@ pub fn check_inode<I: Image, W: Output>(
     number: u32,
     report: &mut Report<'_, W>,
 ) -> Result<(), RunFault>
-    requires ready { IsReady geometry.now.layout (I.device image.old) workspace.old }
-    requires number { (2 ≤ number) × (number < inodes_of geometry.now.layout) }
-    requires leaders { HasLeaders workspace.old }
+    requires { CanFindLost geometry.now.layout (I.device image.old) workspace.old number }
     ensures prints { PhaseOutcome
         (WithSurvey geometry.now.layout (I.device image.old) workspace.old)
         (λ bytes. map of_tree (unref_dir_lines (volume_of geometry.now.layout bytes) number))
         (I.device image.old) (I.device image.new) (progress W.sink report.old)
         (progress W.sink report.new) result }
-    ensures reads { ForBytes (WithSurvey geometry.now.layout (I.device image.old) workspace.old)
-        (λ bytes. I.reads image.new ≤ I.reads image.old
-        + length (unref_dir_lines (volume_of geometry.now.layout bytes) number)) }
-    ensures paid { Paid 1 (progress W.sink report.old) (progress W.sink report.new)
-        (I.reads image.old) (I.reads image.new) result }
+    ensures reads { ReadsFor (WithSurvey geometry.now.layout (I.device image.old) workspace.old)
+        (λ bytes. length (unref_dir_lines (volume_of geometry.now.layout bytes) number))
+        (progress W.sink report.old) (progress W.sink report.new) (I.reads image.old)
+        (I.reads image.new) result }
     ensures stays { StaysReady geometry.now.layout (I.device image.new) workspace.old
         workspace.new }
 {

@@ -1,8 +1,9 @@
 -- What the check of references needs of a workspace, and which inodes it passes over.
-use Rattle.std.specs.Prelude.{ℕ, ◌≡◌, ◌+◌, ◌<◌, ◌≤◌, List, length, vec_len, true, false}
-use Rattle.ffs_volume.specs.Blocks.Inodes.{is_allocated}
+use Rattle.std.specs.Prelude.{ℕ, ◌≡◌, ◌+◌, ◌<◌, ◌≤◌, List, length, vec_len, true, false, slice_index}
+use Rattle.ffs_image.specs.Device.{Device}
+use Rattle.ffs_volume.specs.{declared.Layout.Layout, Blocks.Inodes.is_allocated, Encodings.Kinds.class_of_kind}
 use Rattle.ffs_groups.specs.Inodes.{class_in}
-use Rattle.ffs_workspace.specs.declared.workspace.Workspace.{Workspace}
+use Rattle.ffs_workspace.specs.{declared.workspace.Workspace.Workspace, Lengths.inodes_of, Ready.IsReady}
 
 -- the lists by which an inode is reported have an element for it
 pub record HasElements (w : Workspace) (number : ℕ) : Type 0 where
@@ -10,6 +11,12 @@ pub record HasElements (w : Workspace) (number : ℕ) : Type 0 where
   pub marked : number < vec_len w.marked
   pub named : number < vec_len w.named
   pub references : number < vec_len w.references
+
+-- x is an allocated inode of the volume
+pub record CanCheckUsed (v : Layout) (d : Device) (w : Workspace) (x : ℕ) : Type 0 where
+  pub ready : IsReady v d w
+  pub number : x < inodes_of v
+  pub used : is_allocated (class_of_kind (slice_index w.kinds.items x)) ≡ true
 
 -- so many inodes from one on are free, and there are none only where that one is allocated
 pub record IsFreeStretch (kinds : List ℕ) (first n : ℕ) : Type 0 where

@@ -1,10 +1,13 @@
--- The summary records that are read at a time.
+-- The summary records that are read at a time, and the records of a group.
 use Rattle.std.specs.{List.slice_range, Prelude.{ℕ, ◌≡◌, ◌+◌, ◌-◌, ◌*◌, ◌%◌, ◌<◌, ◌≤◌, List, Option, Result, IfOk, min}}
-use Rattle.ffs_image.specs.{Device.{Device, ForContents}, declared.ImageFault.ImageFault}
+use Rattle.ffs_image.specs.{Device.{Device, ForContents}, Reads.ReadAfter, declared.ImageFault.ImageFault}
 use Rattle.ffs_volume.specs.{declared.{constants.TheConstants.CSUM_SIZE, Layout.Layout}, Disk.Areas.summary_place}
 use Rattle.ffs_volume.specs.Groups.Records.{summary_record}
 use Rattle.ffs_walk.specs.{Windows.held_bytes, declared.window.Window.Window}
+use Rattle.ffs_maps.specs.Bits.{bits_of}
+use Rattle.ffs_groups.specs.{Check.AreCounts, Free.free_in, Inodes.class_in, declared.counts.Counts.Counts}
 use Rattle.ffs_workspace.specs.{Tables.{CanReadInodes, TableAfter}, declared.table.Table.Table}
+use Rattle.ffs_workspace.specs.{Ready.{IsReady, StaysReady}, declared.workspace.Workspace.Workspace}
 
 -- the first of the 256 groups whose records are read with that of group c
 abbrev pub first_read : ℕ → ℕ
@@ -30,6 +33,21 @@ pub record CanReadRecord (v : Layout) (d : Device) (c : ℕ) (t : Table) : Type 
 
 -- the record of group c is read with those round it, and the answer is where it is in the window of
 -- the table
-pub record ReadsRecord (v : Layout) (d d' : Device) (c : ℕ) (t : Table) (result : Result ℕ ImageFault) : Type 0 where
+pub record ReadsRecord (v : Layout) (d d' : Device) (before after : ℕ) (c : ℕ) (t : Table)
+    (result : Result ℕ ImageFault) : Type 0 where
   pub there : IfOk result (HoldsRecord v d.contents t.window c)
   pub leaves : TableAfter v d d' t result
+  pub counted : after ≤ before + 1
+
+-- the records of group c can be read, and these are its counts by what the workspace holds
+pub record CanReadGroup (v : Layout) (d : Device) (w : Workspace) (c : ℕ) (right : Counts) : Type 0 where
+  pub group : c < v.ncg
+  pub counts : AreCounts v (free_in (bits_of w.used) v.size) (class_in w.kinds.items) c right
+  pub ready : IsReady v d w
+
+-- a group's block and its summary record were read, each once at most, and only windows have changed
+pub record GroupIsRead {T : Type 0} (v : Layout) (d d' : Device) (before after : ℕ) (old new : Workspace)
+    (result : Result T ImageFault) : Type 0 where
+  pub read : ReadAfter d d' result
+  pub counted : after ≤ before + 2
+  pub stays : StaysReady v d' old new

@@ -1,12 +1,11 @@
 //! The records of a cylinder group, read from an image.
 
-ghost use Rattle.std.specs.Prelude.{◌≡◌, ◌+◌, ◌<◌, ◌≤◌, IfOk};
-ghost use Rattle.ffs_image.specs.{Device.ForContents, Reads.ReadAfter};
+ghost use Rattle.std.specs.Prelude.{◌≡◌, IfOk};
+ghost use Rattle.ffs_image.specs.Device.{ForContents};
 ghost use Rattle.ffs_volume.specs.Groups.GroupCheck.{group_lines};
 ghost use Rattle.ffs_maps.specs.Bits.{bits_of};
-ghost use Rattle.ffs_groups.specs.{Check.{AreCounts, lines_of}, Free.free_in, Inodes.class_in};
-ghost use Rattle.ffs_workspace.specs.Ready.{IsReady, StaysReady};
-ghost use Rattle.ffs_counts.specs.Records.{CanReadRecord, ReadsRecord};
+ghost use Rattle.ffs_groups.specs.{Check.lines_of, Free.free_in, Inodes.class_in};
+ghost use Rattle.ffs_counts.specs.Records.{CanReadGroup, CanReadRecord, GroupIsRead, ReadsRecord};
 
 use ffs_groups::{Counts, GroupFindings, Usage, compare_group};
 use ffs_image::{Image, ImageFault};
@@ -30,9 +29,8 @@ fn read_summaries<I: Image>(
     group: u32,
 ) -> Result<usize, ImageFault>
     requires { CanReadRecord geometry.now.layout (I.device image.old) group table.old }
-    ensures reads { ReadsRecord geometry.now.layout (I.device image.old) (I.device image.new) group
-        table.new result }
-    ensures counted { I.reads image.new ≤ I.reads image.old + 1 }
+    ensures { ReadsRecord geometry.now.layout (I.device image.old) (I.device image.new)
+        (I.reads image.old) (I.reads image.new) group table.new result }
 {
     let first = group - group % RECORDS_AT_ONCE;
     let count = RECORDS_AT_ONCE.min(geometry.layout.ncg - first);
@@ -57,19 +55,14 @@ pub fn read_group<I: Image>(
     counts: &Counts,
     group: u32,
 ) -> Result<GroupFindings, ImageFault>
-    requires group { group < geometry.now.layout.ncg }
-    requires counts { AreCounts geometry.now.layout
-        (free_in (bits_of workspace.old.used) geometry.now.layout.size)
-        (class_in workspace.old.kinds.items) group counts.now }
-    requires ready { IsReady geometry.now.layout (I.device image.old) workspace.old }
+    requires { CanReadGroup geometry.now.layout (I.device image.old) workspace.old group
+        counts.now }
     ensures found { IfOk result (λ f. ForContents (I.device image.old).contents (λ bytes.
         lines_of f group ≡ group_lines geometry.now.layout bytes
         (free_in (bits_of workspace.old.used) geometry.now.layout.size)
         (class_in workspace.old.kinds.items) group)) }
-    ensures read { ReadAfter (I.device image.old) (I.device image.new) result }
-    ensures counted { I.reads image.new ≤ I.reads image.old + 2 }
-    ensures stays { StaysReady geometry.now.layout (I.device image.new) workspace.old
-        workspace.new }
+    ensures leaves { GroupIsRead geometry.now.layout (I.device image.old) (I.device image.new)
+        (I.reads image.old) (I.reads image.new) workspace.old workspace.new result }
 {
     let windows = &mut workspace.windows;
     let at = read_summaries(geometry, image, &mut windows.table, group)?;

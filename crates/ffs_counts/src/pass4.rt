@@ -1,12 +1,11 @@
 //! Phase 4: how often inodes are referred to.
 
-ghost use Rattle.std.specs.Prelude.{◌≡◌, ◌+◌, ◌<◌, ◌≤◌, ◌∷◌, map, slice_index, length, true};
+ghost use Rattle.std.specs.Prelude.{◌≡◌, ◌<◌, ◌∷◌, map, length};
 ghost use Rattle.ffs_volume.specs.Messages.Kinds.{of_tree, phase4 as phase4_heading};
 ghost use Rattle.ffs_volume.specs.Directories.{ReferenceCheck.{reference_lines_at, reference_lines}, Volumes.volume_of};
-ghost use Rattle.ffs_volume.specs.{Blocks.Inodes.is_allocated, Encodings.Kinds.class_of_kind};
-ghost use Rattle.ffs_report.specs.{Progress.progress, Known.ForBytes, Paid.Paid, PhaseOutcome.PhaseOutcome};
-ghost use Rattle.ffs_workspace.specs.{Found.WithFindings, Lengths.inodes_of, Ready.{IsReady, StaysReady}};
-ghost use Rattle.ffs_counts.specs.{Ready.{HasElements, IsFreeStretch}, References.{is_dead_by, is_met}};
+ghost use Rattle.ffs_report.specs.{Progress.progress, PhaseOutcome.PhaseOutcome, ReadsFor.ReadsFor};
+ghost use Rattle.ffs_workspace.specs.{Found.WithFindings, Ready.{IsReady, StaysReady}};
+ghost use Rattle.ffs_counts.specs.{Ready.{CanCheckUsed, HasElements, IsFreeStretch}, References.{is_dead_by, is_met}};
 
 use crate::reference::{line_for, references_by, say_line};
 use ffs_groups::are_used;
@@ -68,20 +67,16 @@ fn check_inode<I: Image, W: Output>(
     number: u32,
     report: &mut Report<'_, W>,
 ) -> Result<(), RunFault>
-    requires ready { IsReady geometry.now.layout (I.device image.old) workspace.old }
-    requires number { number < inodes_of geometry.now.layout }
-    requires used { is_allocated (class_of_kind (slice_index workspace.old.kinds.items number))
-        ≡ true }
+    requires { CanCheckUsed geometry.now.layout (I.device image.old) workspace.old number }
     ensures prints { PhaseOutcome
         (WithFindings geometry.now.layout (I.device image.old) workspace.old)
         (λ bytes. map of_tree (reference_lines_at (volume_of geometry.now.layout bytes) number))
         (I.device image.old) (I.device image.new) (progress W.sink report.old)
         (progress W.sink report.new) result }
-    ensures reads { ForBytes (WithFindings geometry.now.layout (I.device image.old) workspace.old)
-        (λ bytes. I.reads image.new ≤ I.reads image.old
-        + length (reference_lines_at (volume_of geometry.now.layout bytes) number)) }
-    ensures paid { Paid 1 (progress W.sink report.old) (progress W.sink report.new)
-        (I.reads image.old) (I.reads image.new) result }
+    ensures reads { ReadsFor (WithFindings geometry.now.layout (I.device image.old) workspace.old)
+        (λ bytes. length (reference_lines_at (volume_of geometry.now.layout bytes) number))
+        (progress W.sink report.old) (progress W.sink report.new) (I.reads image.old)
+        (I.reads image.new) result }
     ensures stays { StaysReady geometry.now.layout (I.device image.new) workspace.old
         workspace.new }
 {
@@ -121,11 +116,10 @@ pub fn phase4<I: Image, W: Output>(
         (reference_lines (volume_of geometry.now.layout bytes)))
         (I.device image.old) (I.device image.new) (progress W.sink report.old)
         (progress W.sink report.new) result }
-    ensures reads { ForBytes (WithFindings geometry.now.layout (I.device image.old) workspace.old)
-        (λ bytes. I.reads image.new ≤ I.reads image.old
-        + length (reference_lines (volume_of geometry.now.layout bytes))) }
-    ensures paid { Paid 1 (progress W.sink report.old) (progress W.sink report.new)
-        (I.reads image.old) (I.reads image.new) result }
+    ensures reads { ReadsFor (WithFindings geometry.now.layout (I.device image.old) workspace.old)
+        (λ bytes. length (reference_lines (volume_of geometry.now.layout bytes)))
+        (progress W.sink report.old) (progress W.sink report.new) (I.reads image.old)
+        (I.reads image.new) result }
     ensures stays { StaysReady geometry.now.layout (I.device image.new) workspace.old
         workspace.new }
 {

@@ -2,11 +2,12 @@
 //!
 //! A map's first bit is the lowest of its first byte, in both orders of bytes.
 
-ghost use Rattle.std.specs.{Prelude.{ℕ, ◌≡◌, ◌≢◌, ◌+◌, ◌*◌, ◌^◌, ◌<◌, ◌≤◌, length, nat_eq}, Int.{bit_at, div_ceil}};
+ghost use Rattle.std.specs.{Prelude.{ℕ, ◌≡◌, ◌+◌, ◌*◌, ◌<◌, ◌≤◌, length, nat_eq}, Int.{bit_at, div_ceil}};
 ghost use Rattle.ffs_volume.specs.{Disk.{Numbers.all_below, Areas.cgbase}, Groups.Records.bit_at as map_bit};
 ghost use Rattle.ffs_volume.specs.Groups.Records.{same_bit, has_bits, is_used_inode, group_size};
 ghost use Rattle.ffs_maps.specs.Bits.{bits_of};
 ghost use Rattle.ffs_groups.specs.{Free.free_in, Inodes.class_in, Inputs.{HasFragments, HasInodes}};
+ghost use Rattle.ffs_groups.specs.MapParts.{AreFewIn, HasWords, IsClearAt, SetsBit};
 
 use crate::free::{FRAGMENTS_AT_ONCE, are_free};
 use crate::inodes::{are_used, is_used_at};
@@ -20,8 +21,7 @@ const WORDS_AT_ONCE: u32 = FRAGMENTS_AT_ONCE / 64;
 /// The bits in at most eight bytes of a map, the first one lowest. Most words are whole: their
 /// eight bytes are read together.
 fn word_at(map: &[u8], place: usize, bytes: usize) -> u64
-    requires bytes { bytes ≤ 8 }
-    requires inside { place + bytes ≤ length map.now }
+    requires { AreFewIn 8 (length map.now) place bytes }
     ensures { (k : ℕ) → k < 8 * bytes → nat_eq (bit_at result k) 1 ≡ map_bit map.now place k }
 {
     if bytes == 8 {
@@ -36,10 +36,8 @@ fn word_at(map: &[u8], place: usize, bytes: usize) -> u64
 
 /// The word with its clear bit at an index set, where `bit` is true.
 fn with_bit(word: u64, index: u32, bit: bool) -> u64
-    requires index { index < 64 }
-    requires clear { bit_at word index ≡ 0 }
-    ensures bit { nat_eq (bit_at result index) 1 ≡ bit }
-    ensures other { (k : ℕ) → k ≢ index → bit_at result k ≡ bit_at word k }
+    requires { IsClearAt word index }
+    ensures { SetsBit word result index bit }
 {
     if bit { word | 1 << index } else { word }
 }
@@ -54,8 +52,7 @@ fn filled(bit: bool) -> u64
 /// A word with a bit set for each of at most 64 inodes that is in use, the first inode's lowest. Of
 /// most words all inodes are, or none is.
 fn used_word(kinds: &[u8], first: usize, count: u32) -> u64
-    requires count { count ≤ 64 }
-    requires inside { first + count ≤ length kinds.now }
+    requires { AreFewIn 64 (length kinds.now) first count }
     ensures { (k : ℕ) → k < count → nat_eq (bit_at result k) 1
         ≡ is_used_inode (class_in kinds.now) (first + k) }
 {
@@ -161,9 +158,7 @@ fn same_words(used: &FragmentMap, base: u32, block: &[u8], place: usize, words: 
 /// What `same_words` answers. Mostly all these fragments are free, or none is: then no word is made
 /// of `used`.
 fn same_stretch(used: &FragmentMap, base: u32, block: &[u8], place: usize, words: u32) -> bool
-    requires inside { place + 8 * words ≤ length block.now }
-    requires below { base + 64 * words ≤ used.now.size }
-    requires fits { base + 64 * words < 2 ^ 32 }
+    requires { HasWords used.now.size (length block.now) base place words }
     ensures { result ≡ has_bits block.now place (64 * words)
         (λ k. free_in (bits_of used.now) used.now.size (base + k)) }
 {
@@ -175,9 +170,7 @@ fn same_stretch(used: &FragmentMap, base: u32, block: &[u8], place: usize, words
 
 /// What `same_words` answers, of any number of words: `WORDS_AT_ONCE` of them at a time.
 fn same_stretches(used: &FragmentMap, base: u32, block: &[u8], place: usize, words: u32) -> bool
-    requires inside { place + 8 * words ≤ length block.now }
-    requires below { base + 64 * words ≤ used.now.size }
-    requires fits { base + 64 * words < 2 ^ 32 }
+    requires { HasWords used.now.size (length block.now) base place words }
     ensures { result ≡ has_bits block.now place (64 * words)
         (λ k. free_in (bits_of used.now) used.now.size (base + k)) }
 {

@@ -1,11 +1,17 @@
 -- Copies of a superblock that are read, and faults of them.
-use Rattle.std.proofs.Common.{◌≡◌, ℕ, ◌*◌, ◌/◌, ◌≤◌, false, List, Option, arith, ap, ◌∙◌, inl, inr}
-use Rattle.std.specs.Option.{is_some}
+use Rattle.std.proofs.Common.{◌≡◌, ℕ, ◌*◌, ◌/◌, ◌≤◌, false, List, Option, Some, None, arith, refl, ap, ◌∙◌, inl, inr}
+use Rattle.std.specs.{Option.is_some, Prelude.unwrap_or}
 use Rattle.ffs_image.specs.Device.{Device}
 use Rattle.ffs_volume.specs.declared.{Layout.Layout, Order.Order, SuperFault.{SuperFault, TheVariants.CannotRead}}
-use Rattle.ffs_volume.specs.{Laws.Geometry.IsAcceptedLayout, Disk.{Outcome.copy_place, Superblock.layout_of}}
-use Rattle.ffs_volume.{specs.Disk.Superblock.superblock_of, proofs.{AreaLaws.copy_inside, SearchLaws.is_some-none}}
+use Rattle.ffs_volume.specs.{Laws.Geometry.IsAcceptedLayout, Disk.Outcome.{copy_place, super_sector}}
+use Rattle.ffs_volume.specs.Disk.Superblock.{layout_of, superblock_of}
+use Rattle.ffs_volume.proofs.{AreaLaws.copy_inside, SearchLaws.is_some-none}
 use Rattle.ffs_layout.specs.{declared.superblock.Super.Super, Copies.{IsUnreadCopy, IsCopyFault}, Super.superblock_in}
+
+-- where no sector is asked for, the superblock is read at that of the primary one
+pub default_sector : (sector : Option ℕ) → unwrap_or sector 16 ≡ super_sector sector
+default_sector None = refl
+default_sector (Some sector) = refl
 
 -- a copy that isn't read is one whose read fails, since an accepted volume holds its copies
 pub copy_fault : (v : Layout) (old new : Device) (sector : Option ℕ) (order : Order) (bytes : List ℕ)

@@ -1,7 +1,7 @@
 //! Reads an entry of a directory from its chunk.
 
-ghost use Rattle.std.specs.{Prelude.{IsTrue, ◌≡◌, ◌+◌, ◌≤◌, ◌==◌, ◌||◌, length, slice_index}, List.list_any};
-ghost use Rattle.ffs_volume.specs.Directories.Entries.{has_valid_name, has_valid_type_and_name, is_valid_record_length};
+ghost use Rattle.std.specs.{Prelude.{IsTrue, ◌≡◌, ◌+◌, ◌≤◌, ◌==◌, ◌||◌, length}, List.list_any};
+ghost use Rattle.ffs_volume.specs.Directories.Entries.{has_valid_type_and_name, is_valid_record_length};
 ghost use Rattle.ffs_volume.specs.Disk.Numbers.{u16_at as u16_in, u32_at as u32_in};
 ghost use Rattle.ffs_layout.specs.Entry.{IsEntryAt, any_nul_or_slash};
 
@@ -79,17 +79,6 @@ fn has_nul_or_slash(bytes: &[u8]) -> bool
     has_nul_or_slash_in_part(last)
 }
 
-/// Whether the record at the place has a name.
-#[inline(always)]
-fn has_valid_name(chunk: &[u8; DIRBLKSIZ], place: usize) -> bool
-    requires { place + (8 + slice_index chunk.now (place + 7)) + 1 ≤ 512 }
-    ensures { result ≡ has_valid_name chunk.now place }
-{
-    let len = usize::from(chunk[place + 7]);
-    let name = &chunk[place + DIRENT_HEADER..][..len];
-    len != 0 && !has_nul_or_slash(name) && chunk[place + DIRENT_HEADER + len] == 0
-}
-
 /// Whether the record at the place holds its name, and has a type.
 #[inline(always)]
 fn has_valid_type_and_name(chunk: &[u8; DIRBLKSIZ], place: usize, len: u16) -> bool
@@ -98,17 +87,19 @@ fn has_valid_type_and_name(chunk: &[u8; DIRBLKSIZ], place: usize, len: u16) -> b
 {
     // The length of a record is a multiple of 4: where the name and its NUL have room, so has what
     // fills them up to one.
-    DIRENT_HEADER + usize::from(chunk[place + 7]) + 1 <= usize::from(len)
+    let name_len = usize::from(chunk[place + 7]);
+    DIRENT_HEADER + name_len + 1 <= usize::from(len)
         && chunk[place + 6] <= 15
-        && has_valid_name(chunk, place)
+        && name_len != 0
+        && !has_nul_or_slash(&chunk[place + DIRENT_HEADER..][..name_len])
+        && chunk[place + DIRENT_HEADER + name_len] == 0
 }
 
 /// The inode number and the length of the record at a place of a chunk.
 #[inline(always)]
 fn number_and_length(order: Order, chunk: &[u8; DIRBLKSIZ], place: usize) -> (u32, u16)
     requires { place + 8 ≤ 512 }
-    ensures number { result.0 ≡ u32_in order place chunk.now }
-    ensures length { result.1 ≡ u16_in order (place + 4) chunk.now }
+    ensures { result ≡ (u32_in order place chunk.now, u16_in order (place + 4) chunk.now) }
 {
     // The order is asked for once, and not for each number.
     match order {

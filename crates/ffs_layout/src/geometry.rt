@@ -2,9 +2,9 @@
 
 ghost use Rattle.std.specs.Prelude.{MatchResult, ◌≡◌, ◌<◌, ◌≤◌, ◌*◌, ◌+◌};
 ghost use Rattle.ffs_volume.specs.Disk.Outcome.{layout_fault};
-ghost use Rattle.ffs_volume.specs.Disk.Areas.{cgbase, cgdmin, cgsblock, cgstart, group_place, inode_place, is_run_in_range, is_group_metadata, is_fragment_in_range, is_reserved, summary_place};
+ghost use Rattle.ffs_volume.specs.Disk.Areas.{cgsblock, cgstart, group_place, inode_place, is_run_in_range, is_group_metadata, is_fragment_in_range, is_reserved, summary_place};
 ghost use Rattle.ffs_volume.specs.Laws.Geometry.{IsAcceptedLayout};
-ghost use Rattle.ffs_layout.specs.Accepted.{IsAccepted};
+ghost use Rattle.ffs_layout.specs.Accepted.{IsAccepted, IsDataStart, IsGroupBase};
 
 use crate::groups::cgoffset_of;
 use crate::layout_rules::fault_of;
@@ -49,8 +49,7 @@ impl Geometry {
     #[tactic(auto, unfolding(ffs_volume::specs::Disk::Areas::cgbase))]
     pub fn cgbase(&self, group: u32) -> u32
         requires { group < self.now.layout.ncg }
-        ensures value { result ≡ cgbase self.now.layout group }
-        ensures below { result < self.now.layout.size }
+        ensures { IsGroupBase self.now.layout group result }
     {
         self.layout.fpg * group
     }
@@ -76,8 +75,7 @@ impl Geometry {
     /// The first fragment of the group's data (fs(5), `cgdmin`).
     pub fn cgdmin(&self, group: u32) -> u32
         requires { group < self.now.layout.ncg }
-        ensures value { result ≡ cgdmin self.now.layout group }
-        ensures below { result ≤ self.now.layout.size }
+        ensures { IsDataStart self.now.layout group result }
     {
         self.cgstart(group) + self.layout.dblkno
     }

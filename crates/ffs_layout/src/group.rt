@@ -1,7 +1,6 @@
 //! The numbers of a group block.
 
-ghost use Rattle.std.specs.{Prelude.{◌≡◌, ◌≤◌, ◌+◌, ◌*◌, length, map}, List.range_with_len};
-ghost use Rattle.ffs_volume.specs.Disk.Numbers.{i32_at as i32_in};
+ghost use Rattle.std.specs.Prelude.{◌≡◌, ◌≤◌, ◌+◌, length};
 ghost use Rattle.ffs_layout.specs.Group.{group_of, group_summary_at};
 
 use crate::numbers::{i32_at, u32_at};
@@ -71,26 +70,18 @@ impl Group {
             cgx: i32_at(order, 12, bytes),
             ndblk: i32_at(order, 20, bytes),
             cs: GroupSummary::decode(order, 24, bytes),
-            frsum: stretches_of(order, bytes),
+            frsum: [
+                i32_at(order, 52, bytes),
+                i32_at(order, 56, bytes),
+                i32_at(order, 60, bytes),
+                i32_at(order, 64, bytes),
+                i32_at(order, 68, bytes),
+                i32_at(order, 72, bytes),
+                i32_at(order, 76, bytes),
+                i32_at(order, 80, bytes),
+            ],
             iusedoff: u32_at(order, 92, bytes),
             freeoff: u32_at(order, 96, bytes),
         }
     }
-}
-
-/// The eight counts of stretches of free fragments (`cg_frsum` of fs(5)), in their order.
-fn stretches_of(order: Order, bytes: &[u8]) -> [i32; 8]
-    requires { 168 ≤ length bytes.now }
-    ensures { result ≡ map (λ k. i32_in order (52 + 4 * k) bytes.now) (range_with_len 0 8) }
-{
-    [
-        i32_at(order, 52, bytes),
-        i32_at(order, 56, bytes),
-        i32_at(order, 60, bytes),
-        i32_at(order, 64, bytes),
-        i32_at(order, 68, bytes),
-        i32_at(order, 72, bytes),
-        i32_at(order, 76, bytes),
-        i32_at(order, 80, bytes),
-    ]
 }

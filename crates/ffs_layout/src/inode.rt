@@ -1,7 +1,7 @@
 //! The numbers of an inode.
 
-ghost use Rattle.std.specs.{Prelude.{◌≡◌, ◌≤◌, ◌+◌, ◌*◌, length, map}, List.range_with_len};
-ghost use Rattle.ffs_volume.specs.{Blocks.Inodes.inode_from_bytes, Disk.Numbers.u32_at as u32_in};
+ghost use Rattle.std.specs.Prelude.{◌≡◌, ◌≤◌, length};
+ghost use Rattle.ffs_volume.specs.Blocks.Inodes.{inode_from_bytes};
 
 use crate::numbers::{i16_at, i32_at, u16_at, u32_at, u64_at};
 use ffs_volume::{Inode, Order};
@@ -35,33 +35,24 @@ fn fields_of(order: Order, bytes: &[u8]) -> Inode
         nlink: i16_at(order, 2, bytes),
         size: u64_at(order, 8, bytes),
         mtime: i32_at(order, 24, bytes),
-        addresses: addresses_of(order, bytes),
+        addresses: [
+            u32_at(order, 40, bytes),
+            u32_at(order, 44, bytes),
+            u32_at(order, 48, bytes),
+            u32_at(order, 52, bytes),
+            u32_at(order, 56, bytes),
+            u32_at(order, 60, bytes),
+            u32_at(order, 64, bytes),
+            u32_at(order, 68, bytes),
+            u32_at(order, 72, bytes),
+            u32_at(order, 76, bytes),
+            u32_at(order, 80, bytes),
+            u32_at(order, 84, bytes),
+            u32_at(order, 88, bytes),
+            u32_at(order, 92, bytes),
+            u32_at(order, 96, bytes),
+        ],
         blocks: u32_at(order, 104, bytes),
         uid: u32_at(order, 112, bytes),
     }
-}
-
-/// The fifteen addresses, in their order.
-#[inline(always)]
-fn addresses_of(order: Order, bytes: &[u8]) -> [u32; 15]
-    requires { 128 ≤ length bytes.now }
-    ensures { result ≡ map (λ j. u32_in order (40 + 4 * j) bytes.now) (range_with_len 0 15) }
-{
-    [
-        u32_at(order, 40, bytes),
-        u32_at(order, 44, bytes),
-        u32_at(order, 48, bytes),
-        u32_at(order, 52, bytes),
-        u32_at(order, 56, bytes),
-        u32_at(order, 60, bytes),
-        u32_at(order, 64, bytes),
-        u32_at(order, 68, bytes),
-        u32_at(order, 72, bytes),
-        u32_at(order, 76, bytes),
-        u32_at(order, 80, bytes),
-        u32_at(order, 84, bytes),
-        u32_at(order, 88, bytes),
-        u32_at(order, 92, bytes),
-        u32_at(order, 96, bytes),
-    ]
 }

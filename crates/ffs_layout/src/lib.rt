@@ -14,7 +14,6 @@
 
 mod entries;
 mod entry;
-mod fields;
 mod geometry;
 mod group;
 mod groups;

@@ -1,10 +1,10 @@
 //! The superblock of an image.
 
-ghost use Rattle.std.specs.Prelude.{IfErr, ℕ, ◌^◌, IsTrue, nat_le, ◌==◌, ◌≡◌, ◌+◌, ◌*◌, ◌<◌, ◌≤◌, IfOk, MatchResult};
+ghost use Rattle.std.specs.Prelude.{MatchResult, ℕ, ◌^◌, IsTrue, nat_le, ◌==◌, ◌≡◌, ◌+◌, ◌*◌, ◌<◌, ◌≤◌};
 ghost use Rattle.std.specs.List.{list_all};
-ghost use Rattle.ffs_volume.specs.{Disk.{Outcome.{agree, super_sector}, Numbers.u32_at}, Report.Reads.opening_reads};
+ghost use Rattle.ffs_volume.specs.{Disk.Numbers.u32_at, Report.Reads.opening_reads};
 ghost use Rattle.ffs_volume.specs.Disk.Superblock.{layout_of, order_of, superblock_of};
-ghost use Rattle.ffs_layout.specs.{Accepted.IsAccepted, Copies.{IsCopy, IsUnreadCopy, CopyAgrees, IsCopyFault}};
+ghost use Rattle.ffs_layout.specs.{Accepted.IsAccepted, Copies.{ComparesCopy, ReadsCopy}};
 ghost use Rattle.ffs_layout.specs.Super.{ReadsSuper, IsUnreadable, found_of, superblock_in};
 
 use crate::geometry::Geometry;
@@ -49,18 +49,6 @@ fn agree_at(
     true
 }
 
-/// Whether a copy of the superblock has the same numbers as its bytes at all `LAYOUT_PLACES`.
-#[tactic(auto, unfolding(ffs_volume::specs::Disk::Outcome::agree))]
-fn layouts_agree(
-    order: Order,
-    bytes: &[u8; SUPERBLOCK_BYTES],
-    copy: &[u8; SUPERBLOCK_BYTES],
-) -> bool
-    ensures { result ≡ agree order bytes.now copy.now }
-{
-    agree_at(order, &LAYOUT_PLACES, bytes, copy)
-}
-
 /// Reads the bytes of a superblock at a place of the image, in bytes.
 fn read_copy<I: Image>(
     image: &mut I,
@@ -68,10 +56,8 @@ fn read_copy<I: Image>(
     out: &mut [u8; SUPERBLOCK_BYTES],
 ) -> Result<(), SuperFault>
     requires { at < 2 ^ 63 }
-    ensures copied { MatchResult result
-        (λ _. IsCopy (I.device image.old) (I.device image.new) at out.new)
-        (IsUnreadCopy (I.device image.old) (I.device image.new) at) }
-    ensures counted { I.reads image.new ≤ I.reads image.old + 1 }
+    ensures { ReadsCopy (I.device image.old) (I.device image.new) (I.reads image.old)
+        (I.reads image.new) at out.new result }
 {
     if image.size() < at + SUPERBLOCK_BYTES as u64 {
         return Err(SuperFault::CannotRead {
@@ -154,7 +140,7 @@ fn make_super(order: Order, bytes: &[u8; SUPERBLOCK_BYTES], geometry: Geometry) 
 
 /// Reads the copy of the superblock in the last group and compares it with the superblock's bytes,
 /// unless a sector was asked for.
-#[tactic(auto, unfolding(ffs_volume::specs::Disk::Outcome::copy_agrees))]
+#[tactic(auto, unfolding(ffs_volume::specs::Disk::Outcome::agree, ffs_volume::specs::Disk::Outcome::copy_agrees))]
 fn check_copy<I: Image>(
     image: &mut I,
     sector: Option<u32>,
@@ -164,10 +150,8 @@ fn check_copy<I: Image>(
 ) -> Result<(), SuperFault>
     requires { IsAccepted (layout_of order bytes.now) (I.device image.old).size
         geometry.now.layout }
-    ensures compared { MatchResult result
-        (λ _. CopyAgrees (I.device image.old) (I.device image.new) sector order bytes.now)
-        (IsCopyFault (I.device image.old) (I.device image.new) sector order bytes.now) }
-    ensures counted { I.reads image.new ≤ I.reads image.old + 1 }
+    ensures { ComparesCopy (I.device image.old) (I.device image.new) (I.reads image.old)
+        (I.reads image.new) sector order bytes.now result }
 {
     if sector.is_some() {
         return Ok(());
@@ -176,19 +160,11 @@ fn check_copy<I: Image>(
     let at = u64::from(geometry.cgsblock(group)) * u64::from(geometry.layout.fsize);
     let mut copy = [0; SUPERBLOCK_BYTES];
     read_copy(image, at, &mut copy)?;
-    if layouts_agree(order, bytes, &copy) {
+    if agree_at(order, &LAYOUT_PLACES, bytes, &copy) {
         Ok(())
     } else {
         Err(SuperFault::Disagree)
     }
-}
-
-/// The sector of 512 bytes where the superblock is read: the one that was asked for, else 16, that
-/// of the primary one.
-fn first_sector(sector: Option<u32>) -> u32
-    ensures { result ≡ super_sector sector }
-{
-    sector.unwrap_or(SUPERBLOCK_SECTOR as u32)
 }
 
 /// Reads the superblock at a sector of 512 bytes, or the primary one. Where no sector is asked for,
@@ -196,13 +172,13 @@ fn first_sector(sector: Option<u32>) -> u32
 ///
 /// # Errors
 /// The first fault, in the order of `SuperFault`.
+#[tactic(auto, using(crate::proofs::Copying::default_sector))]
 pub fn read_super<I: Image>(image: &mut I, sector: Option<u32>) -> Result<Super, SuperFault>
-    // An accepted volume lies within the image.
-    ensures in_image { IfOk result
-        (λ s. s.geometry.layout.size * s.geometry.layout.fsize ≤ (I.device image.old).size) }
-
-    // What can't be read is a failed read, or lies past the image's end.
-    ensures unreadable { IfErr result (λ fault. (at : ℕ) → fault ≡ SuperFault.CannotRead at
+    // An accepted volume lies within the image. What can't be read is a failed read, or lies past
+    // the image's end.
+    ensures found { MatchResult result
+        (λ s. s.geometry.layout.size * s.geometry.layout.fsize ≤ (I.device image.old).size)
+        (λ fault. (at : ℕ) → fault ≡ SuperFault.CannotRead at
         → IsUnreadable (I.device image.old) (I.device image.new) sector at) }
 
     // A failed read is returned, by its sector. With none, the result is the outcome, where the
@@ -212,7 +188,7 @@ pub fn read_super<I: Image>(image: &mut I, sector: Option<u32>) -> Result<Super,
     // It reads the superblock, and the copy.
     ensures reads { I.reads image.new ≤ I.reads image.old + opening_reads }
 {
-    let start = u64::from(first_sector(sector)) * DEV_BSIZE;
+    let start = u64::from(sector.unwrap_or(SUPERBLOCK_SECTOR as u32)) * DEV_BSIZE;
     let mut bytes = [0; SUPERBLOCK_BYTES];
     read_copy(image, start, &mut bytes)?;
     let Some(order) = order_of_magic(&bytes) else {

@@ -1,6 +1,7 @@
 -- The bits of a map of fragments, and what a call leaves of them.
-use Rattle.std.specs.Prelude.{◌≡◌, ℕ, zero, suc, ◌+◌, ◌%◌, ◌<◌, ◌≤◌, Bool, IsTrue, true, false, not, ◌&&◌, List, nat_lt}
-use Rattle.std.specs.{Prelude.slice_set, List.slice_index_or}
+use Rattle.std.specs.Prelude.{◌≡◌, ℕ, zero, suc, ◌+◌, ◌*◌, ◌%◌, ◌<◌, ◌≤◌, Bool, IsTrue, true, false, not, ◌&&◌, List}
+use Rattle.std.specs.{Prelude.{nat_lt, slice_set, replicate, Result, IfOk}, List.slice_index_or, Int.div_ceil}
+use Rattle.ffs_memory.specs.Account.{Account, Asks}
 use Rattle.ffs_maps.specs.{WordBits.bits_of_words, declared.FragmentMap.FragmentMap}
 
 -- a map's bits, one for each fragment
@@ -12,6 +13,11 @@ pub record HasBits (m : FragmentMap) (n : ℕ) (set : List Bool) : Type 0 where
   pub size : m.size ≡ n
   pub bits : bits_of m ≡ set
 
+-- a map of n fragments is asked for: it is made with no bit set, or the memory was refused
+pub record MakesMap {E : Type 0} (old new : Account) (n : ℕ) (result : Result FragmentMap E) : Type 0 where
+  pub made : IfOk result (λ m. HasBits m n (replicate n false))
+  pub asks : Asks old new (8 * div_ceil n 64) result
+
 -- the bits with `len` of them set, from an index on
 abbrev pub set_run : List Bool → ℕ → ℕ → List Bool
 set_run bits start zero = bits
@@ -21,11 +27,25 @@ set_run bits start (suc len) = set_run (slice_set bits start true) (start + 1) l
 abbrev pub AreClear : List Bool → ℕ → ℕ → Type 0
 AreClear bits start len = (k : ℕ) → k < len → slice_index_or bits (start + k) false ≡ false
 
--- a run isn't empty, and lies in one word and in a map of n fragments
+-- a run lies in one word, and in a map of n fragments
 pub record IsInWord (start len n : ℕ) : Type 0 where
-  pub some : 0 < len
   pub one_word : start % 64 + len ≤ 64
   pub below : start + len ≤ n
+
+-- such a run isn't empty
+pub record IsSomeInWord (start len n : ℕ) : Type 0 where
+  pub some : 0 < len
+  pub run : IsInWord start len n
+
+-- a run isn't empty, and lies in a map of n fragments
+pub record IsSomeRun (start len n : ℕ) : Type 0 where
+  pub some : 0 < len
+  pub below : start + len ≤ n
+
+-- the fragments from `start` on and below `end` are a part of a map of n fragments
+pub record IsPart (start end n : ℕ) : Type 0 where
+  pub order : start ≤ end
+  pub below : end ≤ n
 
 -- a run is claimed where none of its bits was set, and its bits are set then: else nothing is
 -- changed. One that lies in one word is always claimed where none of its bits was set

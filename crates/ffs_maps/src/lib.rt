@@ -15,7 +15,6 @@
 
 ghost use Rattle.std.specs.Prelude.{ℕ, nat_eq, ◌≡◌, ◌↔◌, ◌+◌, ◌*◌, ◌%◌, ◌<◌, ◌≤◌, ◌-◌, length, IfOk, IsTrue, true};
 ghost use Rattle.std.specs.{Prelude.{false, slice_set, replicate}, List.{slice_index_or, All}, Int.{div_ceil, bit_at}};
-ghost use Rattle.ffs_memory.specs.Account.{Asks};
 ghost use Rattle.ffs_maps.specs.WordBits.{bits_of_words, set_among};
 
 use ffs_memory::{Memory, SystemMemory, ZeroedWords};
@@ -46,7 +45,7 @@ pub struct FragmentMap {
 }
 
 impl FragmentMap {
-    ghost use Rattle.ffs_maps.specs.Bits.{bits_of, set_run, is_clear, HasBits, IsInWord, ClaimsRun};
+    ghost use Rattle.ffs_maps.specs.Bits.{bits_of, set_run, is_clear, ClaimsRun, HasBits, IsInWord, IsPart, IsSomeInWord, IsSomeRun, MakesMap};
 
     /// A map with no bit set, in the memory of an allocator.
     ///
@@ -63,9 +62,7 @@ impl FragmentMap {
     /// # Errors
     /// The memory was refused.
     pub fn in_memory<M: Memory>(memory: &mut M, size: u32) -> Result<FragmentMap, AllocError>
-        ensures made { IfOk result (λ m. HasBits m size (replicate size false)) }
-        ensures asks { Asks (M.account memory.old) (M.account memory.new) (8 * div_ceil size 64)
-            result }
+        ensures { MakesMap (M.account memory.old) (M.account memory.new) size result }
     {
         let words = memory.zeroed_words(size.div_ceil(64) as usize)?;
         Ok(FragmentMap {
@@ -130,8 +127,7 @@ impl FragmentMap {
 
     /// How many bits of a run in one word are set.
     fn count_in_word(&self, start: u32, len: u32) -> u32
-        requires one_word { start % 64 + len ≤ 64 }
-        requires below { start + len ≤ self.now.size }
+        requires { IsInWord start len self.now.size }
         ensures { result ≡ set_among (bits_of self.now) start len }
     {
         if len == 0 {
@@ -145,8 +141,7 @@ impl FragmentMap {
     /// How many bits are set in the words from `first` on and below `last`. Mostly these words are
     /// alike: then the bits of one are counted.
     fn count_in_words(&self, first: u32, last: u32) -> u32
-        requires order { first ≤ last }
-        requires below { 64 * last ≤ self.now.size }
+        requires { IsPart (64 * first) (64 * last) self.now.size }
         ensures { result ≡ set_among (bits_of self.now) (64 * first) (64 * last - 64 * first) }
     {
         let words = self.words.touched();
@@ -165,8 +160,7 @@ impl FragmentMap {
     /// How many bits are set of the fragments from `start` on and below `end`.
     #[tactic(auto, using(crate::proofs::Counting::count_within))]
     pub fn count(&self, start: u32, end: u32) -> u32
-        requires order { start ≤ end }
-        requires below { end ≤ self.now.size }
+        requires { IsPart start end self.now.size }
         ensures { result ≡ set_among (bits_of self.now) start (end - start) }
     {
         let first = start.div_ceil(64);
@@ -210,7 +204,7 @@ impl FragmentMap {
 
     /// Sets the bits of a run in one word.
     fn set_in_word(&mut self, start: u32, len: u32)
-        requires { IsInWord start len self.old.size }
+        requires { IsSomeInWord start len self.old.size }
         ensures { HasBits self.new self.old.size (set_run (bits_of self.old) start len) }
     {
         self.ones += len - self.count_in_word(start, len);
@@ -238,8 +232,7 @@ impl FragmentMap {
     /// Sets the bits of a run that lies in one word, where none of them is set. Returns whether it
     /// did.
     pub fn claim(&mut self, start: u32, len: u32) -> bool
-        requires some { 0 < len }
-        requires below { start + len ≤ self.old.size }
+        requires { IsSomeRun start len self.old.size }
         ensures { ClaimsRun self.old self.new start len result }
     {
         let low = start % 64;

@@ -57,12 +57,15 @@ pub record GivenWords (old new : Account) (n : ℕ) (words : Words) : Type 0 whe
 abbrev pub GivesWords : {E : Type 0} → Account → Account → ℕ → Result Words E → Type 0
 GivesWords old new n result = MatchResult result (GivenWords old new n) (λ _. RequestRefused old new)
 
--- a list with room for n elements of a size and for no more was made, and has none yet; the account
--- rose by that room
-pub record MadeRoom {A : Type 0} (old new : Account) (n size : ℕ) (list : Vec A Global) : Type 0 where
+-- the list has no elements yet, and its memory has room for n of them and for no more
+pub record IsRoom {A : Type 0} (n : ℕ) (list : Vec A Global) : Type 0 where
   pub empty : list.items ≡ []
   pub len : vec_len list ≡ 0
   pub room : vec_capacity list ≡ n
+
+-- room for n elements of a size was made, and the account rose by it
+pub record MadeRoom {A : Type 0} (old new : Account) (n size : ℕ) (list : Vec A Global) : Type 0 where
+  pub made : IsRoom n list
   pub granted : Granted old new (size * n)
 
 -- one request for room was answered: the list was made, or the request was refused

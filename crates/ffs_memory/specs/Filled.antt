@@ -1,10 +1,15 @@
--- Lists that hold one value until another is set.
-use Rattle.std.specs.Prelude.{◌≡◌, ◌+◌, ◌++◌, ◌-◌, ℕ, drop, length, replicate, slice_set, take, vec_capacity, vec_len}
+-- What a list shows, and what a call leaves of it; some hold one value until another is set.
+use Rattle.std.specs.Prelude.{◌≡◌, ◌+◌, ◌++◌, ◌-◌, ℕ, List, drop, length, replicate, slice_set, take, vec_capacity}
 use Rattle.std.{specs.List.Sorted.{IsNonDecreasing, IsPermutation}, proofs.Common.{ap, sym, ◌∙◌, length-append}}
-use Rattle.std.{proofs.{Math.Nat.{add-sub_of_le, le_refl}, lemmas.List.length-replicate}, specs.Vec.vec_ptr}
-use Rattle.std.specs.declared.{vec.Vec.Vec, alloc.Global.Global}
+use Rattle.std.{proofs.{Math.Nat.{add-sub_of_le, le_refl}, lemmas.List.length-replicate}, specs.Prelude.vec_len}
+use Rattle.std.specs.{Vec.vec_ptr, declared.{vec.Vec.Vec, alloc.Global.Global}}
 
 module _ {A : Type 0} where
+  -- these are the elements of the list
+  pub record AreItems (list : Vec A Global) (items : List A) : Type 0 where
+    pub value : items ≡ list.items
+    pub len : length items ≡ vec_len list
+
   pub length_filled : (touched : Vec A Global) (x : A) →
       vec_capacity touched ≡ length (touched.items ++ replicate (vec_capacity touched - vec_len touched) x)
   length_filled touched x =

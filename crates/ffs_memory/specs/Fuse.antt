@@ -1,5 +1,6 @@
 -- Which request a fuse refuses.
-use Rattle.std.specs.{Prelude.{◌≡◌, ℕ, ◌-◌, ◌*◌, ◌==◌, Bool, Result, IsErr}, Bool.{OnTrue, OnFalse}}
+use Rattle.std.specs.Prelude.{◌≡◌, ℕ, ◌+◌, ◌-◌, ◌*◌, ◌^◌, ◌==◌, Bool, min, if◌then◌else◌, Result, IsErr}
+use Rattle.std.specs.Bool.{OnTrue, OnFalse}
 use Rattle.ffs_memory.specs.{Account.{Account, Asks, Gives, GivesWords}, declared.fixed_list.FixedList.FixedList}
 use Rattle.ffs_memory.specs.{declared.fuse.FuseMemory.FuseMemory, Words.Words}
 
@@ -10,6 +11,14 @@ is_blown left = left == 1
 -- how many are left after a request
 abbrev pub left_after : ℕ → ℕ
 left_after left = left - 1
+
+-- a request is counted; it is blown where it is the one to be refused, and is counted as such then
+pub record CountsRequest {M : Type 0} (old new : FuseMemory M) (blown : Bool) : Type 0 where
+  pub value : blown ≡ is_blown old.left
+  pub counted : new ≡ record old {
+    left = left_after old.left;
+    own = if blown then min (old.own + 1) (2 ^ 64 - 1) else old.own;
+  }
 
 -- a request for these bytes: the fuse refuses it, and the memory below isn't asked, or that memory
 -- answers it

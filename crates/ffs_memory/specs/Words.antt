@@ -1,6 +1,6 @@
 -- Words that are 0 until they are set.
-use Rattle.std.specs.Prelude.{◌≡◌, ◌↔◌, ◌++◌, ◌+◌, ◌-◌, ℕ, List, Bool, false, IsTrue, max, bit_and, bit_or, replicate}
-use Rattle.std.specs.{Prelude.{slice_set, vec_capacity, vec_len}, List.slice_index_or, Ptr.Ptr, Vec.vec_ptr}
+use Rattle.std.specs.Prelude.{◌≡◌, ◌↔◌, ◌++◌, ◌+◌, ◌-◌, ◌≤◌, ℕ, List, Bool, false, IsTrue, max, bit_and, bit_or, length}
+use Rattle.std.specs.{Prelude.{replicate, slice_set, vec_capacity, vec_len}, List.slice_index_or, Ptr.Ptr, Vec.vec_ptr}
 use Rattle.std.specs.declared.{vec.Vec.Vec, alloc.Global.Global}
 
 -- a list of words, the address of its memory, and for how many words that has room
@@ -8,6 +8,11 @@ pub record Words : Type 0 where
   pub list : List ℕ
   pub address : Ptr
   pub room : ℕ
+
+-- these are the words up to one of them, and all after it are 0
+pub record AreTouched (all : Words) (touched : List ℕ) : Type 0 where
+  pub len : length touched ≤ length all.list
+  pub words : (k : ℕ) → slice_index_or all.list k 0 ≡ slice_index_or touched k 0
 
 -- the words with the bits of a mask set in the one at an index
 abbrev pub with_bits : Words → ℕ → ℕ → Words

@@ -91,10 +91,7 @@ impl<T: Copy> Index<usize> for FilledList<T> {
     ghost index_gives = { λ list i x. x ≡ slice_index_or list.items i x };
 
     #[inline(always)]
-    fn index(&self, index: usize) -> &T
-        requires { index < vec_len self.now }
-        ensures { result.now ≡ slice_index_or self.now.items index result.now }
-    {
+    fn index(&self, index: usize) -> &T {
         if index < self.touched.len() {
             &self.touched[index]
         } else {

@@ -1,5 +1,6 @@
 //! Lists whose length and memory stay as they were made.
-ghost use Rattle.std.specs.{Prelude.{◌≡◌, ◌<◌, length, slice_index_or, vec_len}, Borrow.sem};
+ghost use Rattle.std.specs.{Prelude.{◌≡◌, ◌<◌, slice_index_or, vec_len}, Borrow.sem};
+ghost use Rattle.ffs_memory.specs.Filled.{AreItems};
 
 use std::marker::Model;
 use std::ops::{DerefSlice, DerefSliceMut, Index, IndexMut};
@@ -21,7 +22,7 @@ impl<T> Model for FixedList<T> {
 }
 
 impl<T> FixedList<T> {
-    ghost use Rattle.ffs_memory.specs.Lending.{LendsItems, LendsItem};
+    ghost use Rattle.ffs_memory.specs.Lending.{LendsItems};
 
     /// A list of these elements.
     pub fn new(items: Vec<T>) -> FixedList<T>
@@ -41,8 +42,7 @@ impl<T> FixedList<T> {
     /// Its elements.
     #[inline(always)]
     pub fn as_slice(&self) -> &[T]
-        ensures value { result.now ≡ self.now.items }
-        ensures len { length result.now ≡ vec_len self.now }
+        ensures { AreItems self.now result.now }
     {
         self.items.as_slice()
     }
@@ -51,8 +51,7 @@ impl<T> FixedList<T> {
     #[inline(always)]
     pub fn as_mut_slice(&mut self) -> &mut [T]
         ensures* writes_back { sem 𝓛 (LendsItems T.row self.entry result) }
-        ensures value { result.now ≡ self.old.items }
-        ensures len { length result.now ≡ vec_len self.old }
+        ensures shown { AreItems self.old result.now }
     {
         self.items.as_mut_slice()
     }
@@ -61,13 +60,10 @@ impl<T> FixedList<T> {
 impl<T> DerefSlice for FixedList<T> {
     type Elem = T;
 
-    ghost deref_gives = { λ list xs. (xs ≡ list.items) × (length xs ≡ vec_len list) };
+    ghost deref_gives = { AreItems };
 
     #[inline(always)]
-    fn deref(&self) -> &[T]
-        ensures value { result.now ≡ self.now.items }
-        ensures len { length result.now ≡ vec_len self.now }
-    {
+    fn deref(&self) -> &[T] {
         self.as_slice()
     }
 }
@@ -78,8 +74,7 @@ impl<T> DerefSliceMut for FixedList<T> {
     #[inline(always)]
     fn deref_mut(&mut self) -> &mut [T]
         ensures* writes_back { sem 𝓛 (LendsItems T.row self.entry result) }
-        ensures value { result.now ≡ self.old.items }
-        ensures len { length result.now ≡ vec_len self.old }
+        ensures shown { AreItems self.old result.now }
     {
         self.as_mut_slice()
     }
@@ -93,10 +88,7 @@ impl<T> Index<usize> for FixedList<T> {
     ghost index_gives = { λ list i x. x ≡ slice_index_or list.items i x };
 
     #[inline(always)]
-    fn index(&self, index: usize) -> &T
-        requires { index < vec_len self.now }
-        ensures { result.now ≡ slice_index_or self.now.items index result.now }
-    {
+    fn index(&self, index: usize) -> &T {
         &self.items[index]
     }
 }

@@ -1,6 +1,6 @@
 //! A memory that refuses a request where it is asked to.
-ghost use Rattle.std.specs.Prelude.{◌≡◌, ◌+◌, ◌-◌, ◌*◌, ◌^◌, min, if◌then◌else◌, false};
-ghost use Rattle.ffs_memory.specs.Fuse.{Serves, ServesWords, IsFusedMemory, is_blown, left_after};
+ghost use Rattle.std.specs.Prelude.{◌*◌, false};
+ghost use Rattle.ffs_memory.specs.Fuse.{CountsRequest, IsFusedMemory, Serves, ServesWords};
 
 use crate::filled_list::FilledList;
 use crate::fixed_list::FixedList;
@@ -37,12 +37,7 @@ impl<M: Memory> FuseMemory<M> {
 
     /// Counts a request, and says whether it is the one to be refused, which `own` counts too.
     fn blows(&mut self) -> bool
-        ensures value { result ≡ is_blown self.old.left }
-        ensures counted { self.new ≡ record self.old {
-          left = left_after self.old.left;
-          own =
-              if result then min (self.old.own + 1) (2 ^ 64 - 1) else self.old.own;
-        } }
+        ensures { CountsRequest self.old self.new result }
     {
         let is_last = self.left == 1;
         self.left = self.left.saturating_sub(1);

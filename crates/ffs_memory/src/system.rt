@@ -6,7 +6,6 @@ use crate::counted::CountedAllocator;
 use crate::filled_list::FilledList;
 use crate::fixed_list::FixedList;
 use crate::memory::Memory;
-use crate::touching::filled;
 use crate::zeroed_words::ZeroedWords;
 use std::alloc::{AllocError, Global};
 
@@ -28,13 +27,19 @@ impl SystemMemory {
         }
     }
 
-    /// A list of `n` elements that are all written now, each as `value`.
+    /// A list of `n` elements that are all written now, each as `value`: in one go, since the list
+    /// isn't lent before.
     fn written<T: Copy>(&mut self, n: usize, value: T) -> Result<FixedList<T>, AllocError>
         ensures { Gives (account_of self.old) (account_of self.new) n (type_size T.row * n) value
             result }
     {
-        let empty = self.allocator.room_for(n, value)?;
-        Ok(FixedList::new(filled(empty, n, value)))
+        let mut items = self.allocator.room_for(n, value)?;
+        let mut made = 0;
+        while made < n {
+            items.push_reserved(value);
+            made += 1;
+        }
+        Ok(FixedList::new(items))
     }
 
     /// A list of `n` elements, each of them `value`, of which none is written yet.

@@ -1,7 +1,6 @@
 //! Words that are 0 until they are set.
-ghost use Rattle.std.specs.Prelude.{ℕ, ◌≡◌, ◌<◌, ◌≤◌, [], length, replicate, slice_set, vec_capacity};
-ghost use Rattle.std.specs.List.{slice_index_or};
-ghost use Rattle.ffs_memory.specs.Words.{ClaimsBits};
+ghost use Rattle.std.specs.{Prelude.{◌≡◌, ◌<◌, length, replicate, slice_set}, List.slice_index_or, Vec.vec_ptr};
+ghost use Rattle.ffs_memory.specs.{Account.IsRoom, Words.{AreTouched, ClaimsBits}};
 
 use crate::touching::touch;
 use std::marker::Model;
@@ -34,12 +33,14 @@ impl Model for ZeroedWords {
 }
 
 impl ZeroedWords {
-    /// `count` words, each 0, in a list that is empty yet and has room for them.
+    /// `count` words, each 0, in a list that is empty yet and has room for just as many.
     pub(crate) fn over(room: Vec<u64>, count: usize) -> ZeroedWords
-        requires empty { room.items ≡ [] }
-        requires enough { count ≤ vec_capacity room }
-        ensures words { result.list ≡ replicate count 0 }
-        ensures room { result.room ≡ vec_capacity room }
+        requires { IsRoom count room }
+        ensures { result ≡ record {
+          list = replicate count 0;
+          address = vec_ptr room;
+          room = count;
+        } }
     {
         ZeroedWords {
             touched: room,
@@ -58,9 +59,7 @@ impl ZeroedWords {
     /// The words up to the last one that was set or claimed. All after them are 0.
     #[inline(always)]
     pub fn touched(&self) -> &[u64]
-        ensures len { length result.now ≤ length self.now.list }
-        ensures words { (k : ℕ)
-            → slice_index_or self.now.list k 0 ≡ slice_index_or result.now k 0 }
+        ensures { AreTouched self.now result.now }
     {
         self.touched.as_slice()
     }

@@ -9,6 +9,7 @@ use crate::entries::Entries;
 use crate::reader::DirectoryReader;
 use ffs_image::{Image, ImageFault, LimitedImage};
 use ffs_layout::Geometry;
+use ffs_survey::{KnownInodes, NumberLists};
 use ffs_workspace::{Workspace, sweep_reads};
 
 /// What `survey` does, with as many reads as the image asks for.
@@ -46,16 +47,22 @@ fn survey_all<I: Image>(
         notes: &workspace.notes,
         entries: Entries::none(geometry),
     };
+    let inodes = KnownInodes {
+        kinds: &workspace.kinds,
+        marked: &workspace.marked,
+    };
+    let mut numbers = NumberLists {
+        references: &mut workspace.references,
+        parents: &mut workspace.parents,
+        queue: &mut workspace.queue,
+    };
     let surveyed = ffs_survey::survey(
         &mut reader,
-        &workspace.kinds,
-        &workspace.marked,
-        &mut workspace.references,
+        &inodes,
+        &mut numbers,
         &mut workspace.named,
         &mut workspace.reached,
-        &mut workspace.parents,
         &mut workspace.flags,
-        &mut workspace.queue,
     );
     // No place of a parent entry is noted yet.
     workspace.queue.fill(0);

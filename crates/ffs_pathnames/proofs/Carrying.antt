@@ -38,10 +38,6 @@ pub at_fault : {T : Type 0} (r : Result T RunFault) (P : Type 0) → P → AtRea
 at_fault (Err (Read fault)) P h = h
 at_fault r P h = tt
 
-pub at_fault_more : {T : Type 0} (r : Result T RunFault) (P Q : Type 0) → (P → Q) → AtReadFault r P → AtReadFault r Q
-at_fault_more (Err (Read fault)) P Q f h = f h
-at_fault_more r P Q f h = tt
-
 -- a survey leaves what the block check found
 pub claims_untouched : (v : Layout) (b : List ℕ) (old new : Workspace) → IsUntouched old new → HoldsClaims v b old →
     HoldsClaims v b new

@@ -20,3 +20,4 @@ pub mod EntryLines
 pub mod Looks
 pub mod Costs
 pub mod ReadsLeft
+pub mod Phase2

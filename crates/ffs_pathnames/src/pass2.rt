@@ -1,15 +1,12 @@
 //! Phase 2: pathnames (fsck(8)).
-ghost use Rattle.std.specs.Prelude.{◌≡◌, ◌+◌, ◌*◌, ◌≤◌, ◌⊎◌, [], ◌∷◌, true, OnOk, IfOk, length, map, ◌&&◌, not, ℕ};
-ghost use Rattle.ffs_report.specs.{Known.ForBytes, Paid.Paid, Progress.{Said, progress}, PhaseOutcome.ImageAfter};
-ghost use Rattle.ffs_report.specs.PhaseOutcome.{PhaseReports};
-ghost use Rattle.ffs_volume.specs.{Report.Reads.{line_reads, sweep_reads, pathname_reads}, Messages.Kinds.of_tree};
-ghost use Rattle.ffs_volume.specs.Directories.{Volumes.volume_of, PathnameCheck.continues_after_root};
-ghost use Rattle.ffs_volume.specs.{Directories.PathnameCheck.pathname_lines, Encodings.Kinds.is_dir_kind};
+ghost use Rattle.std.specs.Prelude.{◌≡◌, ◌∷◌, length, map, ◌&&◌, not, ℕ};
+ghost use Rattle.ffs_report.specs.{PhaseOutcome.PhaseOutcome, Progress.progress};
+ghost use Rattle.ffs_volume.specs.Directories.{PathnameCheck.pathname_lines, Volumes.volume_of};
+ghost use Rattle.ffs_volume.specs.{Encodings.Kinds.is_dir_kind, Messages.Kinds.of_tree};
 ghost use Rattle.ffs_volume.specs.declared.Layout.{Layout};
-ghost use Rattle.ffs_workspace.specs.{Found.{WithClaims, WithStarts}, Places.AreChunksNumbered, Ready.IsReady};
-ghost use Rattle.ffs_workspace.specs.Holds.{HoldsClaims, HoldsReferences, HoldsSurvey, bool_at};
-ghost use Rattle.ffs_pathnames.specs.{RootAnswers.{AtReadFault, is_go}, Before.{root_reported, IsNonePassed}};
-ghost use Rattle.ffs_pathnames.specs.{SaysNames.SaysNames, Gathers.AreAsLong};
+ghost use Rattle.ffs_workspace.specs.{Found.WithClaims, Holds.bool_at, Ready.IsReady};
+ghost use Rattle.ffs_pathnames.specs.{Before.{root_reported, IsNonePassed}, Gathers.AreAsLong};
+ghost use Rattle.ffs_pathnames.specs.{Phase2.{Phase2Ends, Phase2Reads}, RootAnswers.is_go, SaysNames.SaysNames};
 ghost use Rattle.ffs_image.specs.Device.{Device};
 ghost use Rattle.ffs_survey.specs.Survey.{suspect_at};
 ghost use Rattle.ffs_volume.specs.Messages.Kinds as messages;
@@ -53,35 +50,16 @@ pub fn phase2<I: Image, W: Output>(
     report: &mut Report<'_, W>,
 ) -> Result<Root, RunFault>
     requires ready { IsReady geometry.now.layout (I.device image.old) workspace.old }
-    ensures image { ImageAfter (I.device image.old) (I.device image.new) result }
-    ensures text { PhaseReports (WithClaims geometry.now.layout (I.device image.old) workspace.old)
+    ensures prints { PhaseOutcome
+        (WithClaims geometry.now.layout (I.device image.old) workspace.old)
         (λ b. messages.phase2 ∷ map of_tree (pathname_lines (volume_of geometry.now.layout b)))
-        (progress W.sink report.old) (progress W.sink report.new) result }
-    ensures goes { IfOk result (λ root. ForBytes
-        (WithClaims geometry.now.layout (I.device image.old) workspace.old)
-        (λ b. is_go root ≡ continues_after_root (volume_of geometry.now.layout b))) }
-
-    // Where a read failed, the heading alone was said, or the run continues after the root.
-    ensures fault { AtReadFault result (Said (progress W.sink report.old)
-        (progress W.sink report.new) (messages.phase2 ∷ [])
-        ⊎ ForBytes (WithClaims geometry.now.layout (I.device image.old) workspace.old)
-        (λ b. continues_after_root (volume_of geometry.now.layout b) ≡ true)) }
-    ensures holds { OnOk result (ForBytes
-        (WithClaims geometry.now.layout (I.device image.old) workspace.old)
-        (λ b. HoldsClaims geometry.now.layout b workspace.new
-        × HoldsSurvey geometry.now.layout b workspace.new)) }
-    ensures references { OnOk result (ForBytes
-        (WithStarts geometry.now.layout (I.device image.old) workspace.old)
-        (λ b. HoldsReferences geometry.now.layout b workspace.new)) }
-    ensures reads { ForBytes (WithClaims geometry.now.layout (I.device image.old) workspace.old)
-        (λ b. AreChunksNumbered geometry.now.layout
-        → I.reads image.new ≤ I.reads image.old + pathname_reads geometry.now.layout
-        (length (pathname_lines (volume_of geometry.now.layout b)))) }
-
-    // This holds of any image: nothing need be known of its bytes.
-    ensures paid { AreChunksNumbered geometry.now.layout → Paid line_reads
-        (progress W.sink report.old) (progress W.sink report.new)
-        (I.reads image.old + 4 * sweep_reads geometry.now.layout) (I.reads image.new) result }
+        (I.device image.old) (I.device image.new) (progress W.sink report.old)
+        (progress W.sink report.new) result }
+    ensures leaves { Phase2Ends geometry.now.layout (I.device image.old) workspace.old
+        workspace.new (progress W.sink report.old) (progress W.sink report.new) result }
+    ensures reads { Phase2Reads geometry.now.layout (I.device image.old) workspace.old
+        (progress W.sink report.old) (progress W.sink report.new) (I.reads image.old)
+        (I.reads image.new) result }
     ensures ready { IsReady geometry.now.layout (I.device image.new) workspace.new }
 {
     report.say(&Line::Heading(Heading::Phase2))?;

@@ -1,6 +1,6 @@
 -- How far a report has come.
 use Rattle.std.specs.{Bool.OnTrue, Borrow.GName, Io.KnownBytes.Appends, Prelude.{◌≡◌, ◌⊎◌, ℕ, List, [], ◌∷◌, ◌++◌}}
-use Rattle.std.specs.Prelude.{Bool, true, false, ◌||◌, Result, MatchResult, IsErr, OnErr}
+use Rattle.std.specs.Prelude.{Bool, true, false, ◌||◌, ◌&&◌, Result, MatchResult, IsErr, OnErr, is_ok, is_err}
 use Rattle.ffs_image.specs.Device.{Rose}
 use Rattle.ffs_report.specs.{Sink.{Sink, Took}, declared.report.Report.Report}
 use Rattle.ffs_volume.specs.Messages.{Kinds.{Message, has_defect}, Texts.texts_of}
@@ -25,6 +25,16 @@ progress sink report = record {
 -- nothing was said yet
 abbrev pub starts : GName → Sink → Progress
 starts output sink = record { output = output; sink = sink; failed = false; defect = false }
+
+-- printing a line had this outcome, which is returned and recorded, and so is whether a defect was
+-- printed
+pub record AfterPrinting {T E : Type 0} (old new : Progress) (printed : Result T E) (is_defect : Bool)
+    (result : Result T E) : Type 0 where
+  pub answer : result ≡ printed
+  pub recorded : new ≡ record old {
+    failed = old.failed || is_err printed;
+    defect = old.defect || (is_ok printed && is_defect);
+  }
 
 -- these messages were said, and nothing failed
 pub record Said (old new : Progress) (messages : List Message) : Type 0 where

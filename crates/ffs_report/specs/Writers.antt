@@ -1,5 +1,6 @@
 -- What the writers around another one leave.
-use Rattle.std.specs.{Bool.OnTrue, Borrow.GName, Prelude.{◌≡◌, ℕ, ◌+◌, ◌<◌, ◌↔◌, true, Result, IsErr, MatchResult}}
+use Rattle.std.specs.Prelude.{◌≡◌, ℕ, ◌+◌, ◌<◌, ◌↔◌, true, List, length, take, Result, IsErr, MatchResult}
+use Rattle.std.specs.{Bool.{OnTrue, OnFalse}, Borrow.GName, declared.io.Error.Error}
 use Rattle.ffs_report.specs.declared.{counted.Counted.Counted, fuse.FuseWriter.FuseWriter}
 use Rattle.ffs_report.specs.declared.muted.MutedWriter.{MutedWriter}
 
@@ -10,14 +11,23 @@ pub record StartsOver {S : Type 0} (name : GName) (writer : S) (out : Counted S)
   pub failures : out.failures ≡ 0
 
 -- a call of a writer that is muted by a failure: it has failed from then on just where its answer
--- is an error, and after a failure it and the writer below are untouched
-pub record IsMuted {S T E : Type 0} (old new : MutedWriter S) (result : Result T E) : Type 0 where
+-- is an error. Once it has failed, it and the writer below are untouched; before, that one is asked
+pub record IsMuted {S T E : Type 0} (old new : MutedWriter S) (result : Result T E) (asked : Type 0) : Type 0 where
   pub failed : IsErr result ↔ (new.failed ≡ true)
   pub muted : OnTrue old.failed (new ≡ old)
+  pub passed : OnFalse old.failed asked
 
--- a write of len bytes lessens what a fuse still passes on by what it took, and with nothing left
--- it is an error that no writer below is asked for
-pub record BurnsAtWrite {S E : Type 0} (old new : FuseWriter S) (len : ℕ) (result : Result ℕ E) : Type 0 where
+-- a write of bytes passes on what a fuse still passes on of them, which it lessens by what was
+-- taken; with nothing left it is an error that no writer below is asked for
+pub record BurnsAtWrite {S : Type 0} (was_written : S → List ℕ → Result ℕ Error → S → Type 0) (old new : FuseWriter S)
+    (bytes : List ℕ) (result : Result ℕ Error) : Type 0 where
   pub left : MatchResult result (λ n. new.left + n ≡ old.left) (λ _. new.left ≡ old.left)
-  pub blown : old.left ≡ 0 → 0 < len → IsErr result
+  pub blown : old.left ≡ 0 → 0 < length bytes → IsErr result
   pub shut : old.left ≡ 0 → new ≡ old
+  pub passed : 0 < length bytes → 0 < old.left → was_written old.inner (take old.left bytes) result new.inner
+
+-- a flush is passed on, and burns nothing of a fuse
+pub record PassesFlush {S : Type 0} (was_flushed : S → Result (Unit {0}) Error → S → Type 0) (old new : FuseWriter S)
+    (result : Result (Unit {0}) Error) : Type 0 where
+  pub flushed : was_flushed old.inner result new.inner
+  pub left : new.left ≡ old.left

@@ -1,8 +1,8 @@
 //! The line that reports a duplicate.
-ghost use Rattle.std.specs.Prelude.{◌≡◌, ◌+◌, ◌≤◌, ◌++◌, length, drop, take};
+ghost use Rattle.std.specs.Prelude.{◌≡◌, ◌≤◌, length, drop};
 ghost use Rattle.ffs_volume.specs.Messages.Texts.{number_text, block_message_text};
 ghost use Rattle.ffs_volume.specs.declared.texts.TheConstants as texts;
-ghost use Rattle.ffs_report.specs.declared.dup_line.TheConstants.{MOST_DIGITS, ROOM};
+ghost use Rattle.ffs_report.specs.{Piece.WritesBefore, declared.dup_line.TheConstants.{MOST_DIGITS, ROOM}};
 
 use ffs_volume::BlockMessage;
 use ffs_volume::texts::{DUP, LINE_END};
@@ -31,11 +31,8 @@ pub struct DupLine {
 
 /// Puts a text before a place, and returns where it begins.
 fn put_before(bytes: &mut [u8], place: usize, text: &[u8]) -> usize
-    requires room { length text.now ≤ place }
-    requires within { place ≤ length bytes.old }
-    ensures start { result + length text.now ≡ place }
-    ensures written { drop result bytes.new ≡ text.now ++ drop place bytes.old }
-    ensures before { take result bytes.new ≡ take result bytes.old }
+    requires { (length text.now ≤ place) × (place ≤ length bytes.old) }
+    ensures { WritesBefore bytes.old bytes.new text.now place result }
 {
     let start = place - text.len();
     bytes[start..place].copy_from_slice(text);

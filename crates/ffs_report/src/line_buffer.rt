@@ -56,8 +56,7 @@ impl LineBuffer {
 #[inline(always)]
 fn copy_ends(to: &mut [u8], from: &[u8], some: usize)
     requires length { length to.old ≡ length from.now }
-    requires enough { length from.now ≤ 2 * some }
-    requires within { some ≤ length from.now }
+    requires ends { (some ≤ length from.now) × (length from.now ≤ 2 * some) }
     ensures { to.new ≡ from.now }
 {
     let last = from.len() - some;

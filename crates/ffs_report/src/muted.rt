@@ -1,8 +1,7 @@
 //! A writer that is muted by its first failure.
-ghost use Rattle.std.specs.{Prelude.{◌≡◌, ◌<◌, length, false, IfOk}, Bool.OnFalse, Io.WritesAtMost};
-ghost use Rattle.std.specs.Io.KnownBytes.{WriteAppends, Keeps};
+ghost use Rattle.std.specs.{Prelude.{◌≡◌, ◌<◌, length, false, IfOk}, Io.KnownBytes.Keeps};
 ghost use Rattle.ffs_image.specs.Interrupted.{IsTriedAgain};
-ghost use Rattle.ffs_report.specs.{Outlet.WritesThrough, Writers.IsMuted};
+ghost use Rattle.ffs_report.specs.{Outlet.{TakesSome, WritesThrough}, Writers.IsMuted};
 
 use crate::outlet::Outlet;
 use ffs_image::is_interrupted;
@@ -46,8 +45,7 @@ fn error_when_muted() -> io::Error {
 
 /// One write, tried again where a signal interrupts it.
 fn write_uninterrupted<S: Outlet>(inner: &mut S, buf: &[u8]) -> io::Result<usize>
-    ensures bound { WritesAtMost result buf.now }
-    ensures bytes { WriteAppends (S.contents inner.old) (S.contents inner.new) result buf.now }
+    ensures takes { TakesSome (S.contents inner.old) (S.contents inner.new) buf.now result }
     ensures tried { IsTriedAgain (λ writer. S.was_written writer buf.now) inner.old inner.new
         result }
 {
@@ -66,13 +64,11 @@ impl<S: Outlet> Write for MutedWriter<S> {
     /// # Errors
     /// Those of the writer below, a write that takes nothing, and each write after a failure.
     fn write(&mut self, buf: &[u8]) -> io::Result<usize>
-        ensures bound { WritesAtMost result buf.now }
-        ensures bytes { WriteAppends (S.contents self.old.inner) (S.contents self.new.inner) result
-            buf.now }
+        ensures takes { TakesSome (S.contents self.old.inner) (S.contents self.new.inner) buf.now
+            result }
         ensures some { 0 < length buf.now → IfOk result (λ n. 0 < n) }
-        ensures muted { IsMuted self.old self.new result }
-        ensures passed { OnFalse self.old.failed (WritesThrough S.was_written self.old.inner
-            self.new.inner buf.now result) }
+        ensures muted { IsMuted self.old self.new result
+            (WritesThrough S.was_written self.old.inner self.new.inner buf.now result) }
     {
         if self.failed {
             return Err(error_when_muted());
@@ -94,9 +90,8 @@ impl<S: Outlet> Write for MutedWriter<S> {
     /// Those of the writer below, and each flush after a failure.
     fn flush(&mut self) -> io::Result<()>
         ensures bytes { Keeps (S.contents self.old.inner) (S.contents self.new.inner) }
-        ensures muted { IsMuted self.old self.new result }
-        ensures passed { OnFalse self.old.failed (S.was_flushed self.old.inner result
-            self.new.inner) }
+        ensures muted { IsMuted self.old self.new result
+            (S.was_flushed self.old.inner result self.new.inner) }
     {
         let flushed = if self.failed {
             Err(error_when_muted())

@@ -3,8 +3,8 @@
 //! What is over this trait can say how often it asks, and what it does with the answer. A std
 //! writer doesn't say that: of each, the two lines of the impl at the end of this file are trusted
 //! to ask it once.
-ghost use Rattle.std.specs.{Prelude.{ℕ, List, Option, Result}, Io.{WritesAtMost, KnownBytes.{WriteAppends, Keeps}}};
-ghost use Rattle.std.specs.declared.io.Error.{Error};
+ghost use Rattle.std.specs.{Prelude.{ℕ, List, Option, Result}, Io.KnownBytes.Keeps, declared.io.Error.Error};
+ghost use Rattle.ffs_report.specs.Outlet.{TakesSome};
 
 use std::io;
 use std::io::Write;
@@ -25,8 +25,7 @@ pub trait Outlet {
     /// # Errors
     /// The write failed, or a signal interrupted it. It took nothing then.
     fn write_once(&mut self, buf: &[u8]) -> io::Result<usize>
-        ensures bound { WritesAtMost result buf.now }
-        ensures bytes { WriteAppends (contents self.old) (contents self.new) result buf.now }
+        ensures takes { TakesSome (contents self.old) (contents self.new) buf.now result }
         ensures once { was_written self.old buf.now result self.new };
 
     /// Flushes what it gathered.

@@ -1,7 +1,7 @@
 //! A report over an output.
-ghost use Rattle.std.specs.Prelude.{◌≡◌, ◌||◌, ◌&&◌, true, false, is_ok, is_err};
+ghost use Rattle.std.specs.Prelude.{◌≡◌};
 ghost use Rattle.ffs_volume.specs.Messages.Kinds.{is_defect, of_blocks};
-ghost use Rattle.ffs_report.specs.{Lines.message_of, Progress.{progress, starts, SaysOne}};
+ghost use Rattle.ffs_report.specs.{Lines.message_of, Progress.{progress, starts, AfterPrinting, SaysOne}};
 
 use crate::dup_line::DupLine;
 use crate::line::Line;
@@ -64,11 +64,8 @@ impl<'a, W: Output> Report<'a, W> {
     /// Records whether a line was printed, and returns that.
     #[inline(always)]
     fn after(&mut self, printed: Result<(), OutFault>, is_defect: bool) -> Result<(), OutFault>
-        ensures answer { result ≡ printed }
-        ensures after { progress W.sink self.new ≡ record (progress W.sink self.old) {
-          failed = self.old.failed || is_err printed;
-          defect = self.old.defect || (is_ok printed && is_defect);
-        } }
+        ensures { AfterPrinting (progress W.sink self.old) (progress W.sink self.new) printed
+            is_defect result }
     {
         match printed {
             Ok(()) => {

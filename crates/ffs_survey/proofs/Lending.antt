@@ -1,6 +1,9 @@
--- What the lists of a survey keep over a call: kinds and marks, and their lengths.
-use Rattle.std.proofs.Common.{◌≡◌, ap, length, sym, ◌∙◌}
-use Rattle.ffs_survey.specs.{Lent.SameLists, declared.lists.Lists.Lists}
+-- What the lists of a survey keep over a call: kinds and marks, and their lengths; and what a call
+-- leaves, by its parts.
+use Rattle.std.proofs.Common.{◌≡◌, ◌+◌, ◌≤◌, ℕ, List, Result, ap, length, sym, ◌∙◌}
+use Rattle.ffs_image.specs.{Reads.ReadAfter, declared.image.ImageFault.ImageFault}
+use Rattle.ffs_survey.specs.{Lent.{lent_in, SameLists, LeavesLent}, declared.lists.Lists.Lists}
+use Rattle.ffs_survey.specs.declared.directories.Directories.{Ghosts}
 
 pub same_kinds : {old new : Lists} → SameLists old new → new.kinds.now ≡ old.kinds.now
 same_kinds same = ap (λ l. l.kinds) same.lent
@@ -13,3 +16,22 @@ kinds_long same = ap length (same_kinds same)
 
 pub queue_long : {old new : Lists} → SameLists old new → length new.queue.now.items ≡ length old.queue.now.items
 queue_long {old = old} {new = new} same = new.long.queue_long ∙ (kinds_long same ∙ sym old.long.queue_long)
+
+-- a reader and lists that were lent, after calls without a fault
+pub record StillLent {S : Type 0} (D : Ghosts S) (old now : S) (l l' : Lists) : Type 0 where
+  pub ready : D.ready now
+  pub base : D.base now ≡ D.base old
+  pub device : D.device now ≡ D.device old
+  pub same : SameLists l l'
+
+pub still_by : {S : Type 0} (D : Ghosts S) {a b : S} {l l' : Lists} → D.ready b → D.base b ≡ D.base a →
+    D.device b ≡ D.device a → lent_in l' ≡ lent_in l → StillLent D a b l l'
+still_by D ready base device lent =
+    record { ready = ready; base = base; device = device; same = record { lent = lent } }
+
+pub leaves_by : {S T : Type 0} (D : Ghosts S) {cost : (ℕ → ℕ) → ℕ} {a b : S} {l l' : Lists} {r : Result T ImageFault} →
+    D.ready b → D.base b ≡ D.base a → ReadAfter (D.device a) (D.device b) r → SameLists l l' →
+    ((n : List ℕ) → D.knows (D.base a) n → D.reads b ≤ D.reads a + cost (D.cost (D.base a) n)) →
+    LeavesLent D cost a b l l' r
+leaves_by D ready base read same counted =
+    record { reader = record { is_ready = ready; same = base; read = read; counted = counted }; lists = same }

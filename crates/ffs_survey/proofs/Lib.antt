@@ -2,6 +2,7 @@ mod Discovered
 mod Frontiers
 mod Totals
 mod Queues
+mod NextLevel
 mod UnreachedLaws
 mod Walks
 mod UnrefLaws

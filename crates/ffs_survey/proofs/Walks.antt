@@ -1,13 +1,14 @@
 -- Laws of walks along parents.
 use Rattle.std.proofs.Common.{◌≡◌, ◌≢◌, ℕ, zero, suc, ◌+◌, ◌-◌, ◌<◌, ◌≤◌, ◌==◌, Bool, true, false, List, length, Option}
 use Rattle.std.proofs.Common.{None, Some, arith, sym, ◌∙◌, ap, inl, inr, set, ◌⊎◌, get_or, get_or-set_same}
-use Rattle.std.proofs.{Common.{get_or-set_other, length-set}, lemmas.Bool.{cases_eq, false_from_ne_true}}
-use Rattle.std.proofs.lemmas.{Bool.Decides.nat_tests, List.{Sums.{sum_by-le, sum_by-set}, get_or_past}}
+use Rattle.std.proofs.{Common.{All, get_or-set_other, length-set}, lemmas.Bool.{cases_eq, false_from_ne_true}}
+use Rattle.std.proofs.lemmas.{Bool.Decides.nat_tests, Grind.get_or_default_zero, List.get_or_past}
+use Rattle.std.proofs.lemmas.List.Sums.{sum_by-le, sum_by-set}
 use Rattle.ffs_volume.proofs.ClimbLaws.{climb-zero, climb-one, climb-suc, climb-add, climb-last, cycle-along}
 use Rattle.ffs_volume.proofs.ClimbLaws.{cycle-next, cycle-goes, cycle-within, is_leader_within-from}
 use Rattle.ffs_volume.{proofs.ClimbLaws.is_leader_within-true, specs.Directories.Climb.{climb, IsOnCycle}}
 use Rattle.ffs_volume.specs.Directories.Climb.{is_leader_within}
-use Rattle.ffs_survey.specs.Cycles.{parent_in, unmet, IsClosed, IsMet, Walked, FindsCycle, IsLeastOn, MarksLeaders}
+use Rattle.ffs_survey.specs.Cycles.{parent_in, unmet, IsClosed, IsMet, Walked, FindsCycle, IsLeastOn}
 use Rattle.ffs_survey.{proofs.Discovered.bit-le, specs.{Discover.bit, Survey.{bool_at, number_at}}}
 
 -- ---- parents
@@ -82,6 +83,11 @@ pub walked : {f : ℕ → Option ℕ} {start mark steps at : ℕ} {old new : Lis
     HasPassed f start mark steps at old new → ((y : ℕ) → f at ≡ Some y → number_at new y ≢ 0) →
     Walked f start mark old new
 walked {f = f} {start = start} {steps = steps} {old = old} {new = new} m c s e = grind (arith, climb-zero, climb-suc)
+
+-- what starts of walks there are after a walk
+pub older_after : {f : ℕ → Option ℕ} {start : ℕ} {old new : List ℕ} → Walked f start (start + 1) old new →
+    length new ≡ length old → All (λ s. s ≤ start) old → All (λ s. s ≤ start + 1) new
+older_after {start = start} {old = old} {new = new} w long all = grind (arith, get_or_default_zero)
 
 -- ---- cycles
 cycle-back : {f : ℕ → Option ℕ} {y p : ℕ} (j : ℕ) → IsOnCycle f y → climb f j y ≡ Some p →
@@ -198,6 +204,13 @@ round_end {f = f} {found = found} {steps = steps} {least = least} n c l r e low 
     }
 
 -- ---- the flags of leaders
+-- the flags of leaders, where all numbers that a walk has passed are decided, and no other has a
+-- flag
+pub record MarksLeaders (f : ℕ → Option ℕ) (n : ℕ) (walk_of : List ℕ) (leader : List Bool) : Type 0 where
+  pub long : length leader ≡ n
+  pub known : (x : ℕ) → number_at walk_of x ≢ 0 → bool_at leader x ≡ is_leader_within f n x
+  pub blank : (x : ℕ) → number_at walk_of x ≡ 0 → bool_at leader x ≡ false
+
 still_unmet : {f : ℕ → Option ℕ} {start mark : ℕ} {old new : List ℕ} (x : ℕ) → Walked f start mark old new →
     number_at new x ≡ 0 → number_at old x ≡ 0
 still_unmet {old = old} x w z = grind arith

@@ -1,9 +1,9 @@
 -- Walks along parents, in `walk_of`: of each number 1 more than the start of the walk that passed
 -- it, 0 where none did.
-use Rattle.std.specs.Prelude.{◌≡◌, ◌≢◌, ℕ, ◌<◌, ◌≤◌, ◌^◌, ◌==◌, ◌||◌, nat_le, Bool, false, cond, List, length, All}
+use Rattle.std.specs.Prelude.{◌≡◌, ◌≢◌, ℕ, ◌<◌, ◌≤◌, ◌^◌, ◌==◌, ◌||◌, nat_le, Bool, cond, List, length, All}
 use Rattle.std.specs.{Prelude.{Option, None, Some}, List.sum_by}
-use Rattle.ffs_volume.specs.Directories.Climb.{climb, IsOnCycle, IsLeader, is_leader_within}
-use Rattle.ffs_survey.specs.{Survey.{number_at, bool_at}, Discover.bit}
+use Rattle.ffs_volume.specs.Directories.Climb.{climb, IsOnCycle, IsLeader}
+use Rattle.ffs_survey.specs.{Survey.number_at, Discover.bit}
 
 -- the parent that a list holds of x: 0 and numbers past the list are none
 abbrev pub parent_in : List ℕ → ℕ → Option ℕ
@@ -67,10 +67,3 @@ pub record CanMarkLeaders (parents walk_of : List ℕ) (leaders : List Bool) : T
   pub few : length parents < 2 ^ 31
   pub walks : length walk_of ≡ length parents
   pub leaders_long : length leaders ≡ length parents
-
--- the flags of leaders, where all numbers that a walk has passed are decided, and no other has a
--- flag
-pub record MarksLeaders (f : ℕ → Option ℕ) (n : ℕ) (walk_of : List ℕ) (leader : List Bool) : Type 0 where
-  pub long : length leader ≡ n
-  pub known : (x : ℕ) → number_at walk_of x ≢ 0 → bool_at leader x ≡ is_leader_within f n x
-  pub blank : (x : ℕ) → number_at walk_of x ≡ 0 → bool_at leader x ≡ false

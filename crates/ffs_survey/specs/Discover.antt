@@ -69,6 +69,7 @@ any_of g ss x = list_any (λ s. is_naming_dir g s x) ss
 -- this entry is counted: the references of the numbers below n, and which are named
 pub record IsCounted (n : ℕ) (e : RoledEntry) (references : List ℕ) (named : List Bool) (references' : List ℕ)
     (named' : List Bool) : Type 0 where
+  pub long : length references' ≡ length references
   pub counts : (x : ℕ) → x < n → number_at references' x ≡ number_at references x + bit (refers x e)
   pub names : (x : ℕ) → x < n → bool_at named' x ≡ (bool_at named x || is_naming_entry x e)
 
@@ -151,23 +152,6 @@ pub record IsRead (g : Graph) (kinds : List ℕ) (reached : List Bool) (n : ℕ)
       || is_some (first_below (λ s. not (bool_at reached s) && is_naming_dir g s x) n))
   pub parent : (x : ℕ) → x < g.count
       → number_at parents' x ≡ unwrap_or (first_below (is_unreached_edge g kinds reached x) n) (number_at parents x)
-
--- A level is in the queue from `low` to `high`: after it there is room for all that isn't reached
--- yet, and no inode has more references than its start and the directories before it can give.
-pub record HasRoomForLevel (low high : ℕ) (references : List ℕ) (reached : List Bool) (queue : List ℕ) : Type 0 where
-  pub ordered : low ≤ high
-  pub room : high + unset reached ≤ length queue
-  pub counted : (x : ℕ) → x < length references → number_at references x ≤ (low + 1) * 2 ^ 28
-
--- all levels up to k are known, and the queue has level k from `low` to `high`
-pub record AtLevel (g : Graph) (k low high : ℕ) (reached : List Bool) (parents queue : List ℕ) : Type 0 where
-  pub frontier : IsFrontier g k (drop low (take high queue))
-  pub levels : LevelsKnown g k reached parents (take high queue)
-
--- all levels up to one are known, and the queue has that one from `low` to `high`
-pub record AtSomeLevel (g : Graph) (low high : ℕ) (reached : List Bool) (parents queue : List ℕ) : Type 0 where
-  pub depth : ℕ
-  pub at : AtLevel g depth low high reached parents queue
 
 -- a queue that ended at `top` ends at `end`, and what it had is there
 pub record Extends (top end : ℕ) (old new : List ℕ) : Type 0 where

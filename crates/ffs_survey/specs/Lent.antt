@@ -1,8 +1,13 @@
--- The lists of a survey as they are lent, and what a call leaves of them.
-use Rattle.std.specs.{Prelude.{◌≡◌, ℕ, ◌+◌, ◌<◌, ◌≤◌, Bool, List, Result, length, take}, Borrow.GName}
-use Rattle.ffs_image.specs.{Device.Device, declared.image.ImageFault.ImageFault}
-use Rattle.ffs_survey.specs.{declared.lists.{Lists.Lists, CurrentDir.CurrentDir as LentDir}, Survey.number_at}
-use Rattle.ffs_survey.specs.{Calm.CurrentDir, Reading.LeavesReader, Discover.{Found, unset}}
+-- The lists of a survey and its reader of directories as they are lent: what a call needs of them,
+-- and what it leaves.
+use Rattle.std.specs.{Prelude.{◌≡◌, ℕ, ◌+◌, ◌^◌, ◌<◌, ◌≤◌, All, Bool, List, Result, length, take, drop}, Borrow.GName}
+use Rattle.std.specs.Prelude.{vec_len}
+use Rattle.ffs_image.specs.{Reads.ReadAfter, declared.image.ImageFault.ImageFault}
+use Rattle.ffs_volume.specs.Directories.Roles.{RoledEntry}
+use Rattle.ffs_survey.specs.declared.{lists.{Lists.Lists, NumberLists.NumberLists, CurrentDir.CurrentDir as LentDir}}
+use Rattle.ffs_survey.specs.{declared.directories.Directories.Ghosts, Survey.{number_at, bool_at, graph_with}}
+use Rattle.ffs_survey.specs.{Calm.{CurrentDir, AreCalm}, Costs.costs_below}
+use Rattle.ffs_survey.specs.Discover.{Found, unset, IsReachedDir, IsReachedPart}
 
 -- what the lists hold
 abbrev pub all_found : Lists → Found
@@ -12,6 +17,16 @@ all_found l = record {
   reached = l.reached.now;
   parents = l.parents.now.items;
   calm = l.calm.now;
+  queue = l.queue.now.items;
+}
+
+abbrev pub found_in : NumberLists → List Bool → List Bool → List Bool → Found
+found_in l named reached calm = record {
+  references = l.references.now.items;
+  named = named;
+  reached = reached;
+  parents = l.parents.now.items;
+  calm = calm;
   queue = l.queue.now.items;
 }
 
@@ -54,15 +69,18 @@ lent_in l = record {
 pub record SameLists (old new : Lists) : Type 0 where
   pub lent : lent_in new ≡ lent_in old
 
--- a call leaves the reader ready over the same base, having only read the image, and the lists that
--- it was lent
-pub record LeavesLent {B T : Type 0} (ready : Type 0) (base base' : B) (device device' : Device) (old new : Lists)
-    (result : Result T ImageFault) : Type 0 where
-  pub reader : LeavesReader ready base base' device device' result
-  pub lists : SameLists old new
+-- a call leaves the lists that it was lent, and each has the length that it had
+pub record SameNumbers (old new : NumberLists) : Type 0 where
+  pub references : new.references.ghost_name ≡ old.references.ghost_name
+  pub parents : new.parents.ghost_name ≡ old.parents.ghost_name
+  pub queue : new.queue.ghost_name ≡ old.queue.ghost_name
+  pub references_long : vec_len new.references.now ≡ vec_len old.references.now
+  pub parents_long : vec_len new.parents.now ≡ vec_len old.parents.now
+  pub queue_long : vec_len new.queue.now ≡ vec_len old.queue.now
 
 -- references, named inodes and calm directories stay as they are
 pub record KeepsCounts (old new : Lists) : Type 0 where
+  pub same : SameLists old new
   pub references : new.references.now.items ≡ old.references.now.items
   pub named : new.named.now ≡ old.named.now
   pub calm : new.calm.now ≡ old.calm.now
@@ -80,7 +98,72 @@ CountsAtMost most l = (x : ℕ) → x < length l.kinds.now → number_at l.refer
 abbrev pub HasRoomAfter : ℕ → Lists → Type 0
 HasRoomAfter top l = top + unset l.reached.now ≤ length l.queue.now.items
 
--- no inode has more than `most` references, and the queue has room after `top`
-pub record CanTakeMore (most top : ℕ) (l : Lists) : Type 0 where
-  pub counts : CountsAtMost most l
-  pub queue : HasRoomAfter top l
+-- only parents change
+pub record ChangesParents (old new : Lists) : Type 0 where
+  pub counts : KeepsCounts old new
+  pub kept : KeepsReached old new
+
+module _ {S : Type 0} (D : Ghosts S) where
+  -- P holds of the entries of each directory and of which directories have a right shape, by each
+  -- list of bytes that the reader's base knows to be the image's
+  abbrev pub ForKnown : S → ((ℕ → List RoledEntry) → (ℕ → Bool) → Type 0) → Type 0
+  ForKnown reader P =
+      (b : List ℕ) → D.knows (D.base reader) b → P (D.entries (D.base reader) b) (D.right_shape (D.base reader) b)
+
+  -- the reader is ready, and no inode has more than `most` references
+  pub record CanCount (most : ℕ) (reader : S) (l : Lists) : Type 0 where
+    pub ready : D.ready reader
+    pub counts : CountsAtMost most l
+
+  -- the same, and the queue has room after `top`
+  pub record CanReach (most top : ℕ) (reader : S) (l : Lists) : Type 0 where
+    pub ready : D.ready reader
+    pub counts : CountsAtMost most l
+    pub room : HasRoomAfter top l
+
+  -- the same of a level that is in the queue from `low` to `high`, all of reached directories
+  pub record CanReadLevel (low high : ℕ) (reader : S) (l : Lists) : Type 0 where
+    pub can : CanReach (2 ^ 59) high reader l
+    pub ordered : low ≤ high
+    pub reached : (b : List ℕ) → D.knows (D.base reader) b
+        → All (IsReachedDir l.kinds.now l.reached.now) (drop low (take high l.queue.now.items))
+
+  -- a call leaves the reader ready over the same base, and only reads the image, at most as often as
+  -- `cost` says by what each directory costs
+  pub record LeavesDirectories {T : Type 0} (cost : (ℕ → ℕ) → ℕ) (old new : S) (result : Result T ImageFault)
+      : Type 0 where
+    pub is_ready : D.ready new
+    pub same : D.base new ≡ D.base old
+    pub read : ReadAfter (D.device old) (D.device new) result
+    pub counted : (b : List ℕ) → D.knows (D.base old) b → D.reads new ≤ D.reads old + cost (D.cost (D.base old) b)
+
+  -- the same, and the lists that it was lent
+  pub record LeavesLent {T : Type 0} (cost : (ℕ → ℕ) → ℕ) (old new : S) (l l' : Lists)
+      (result : Result T ImageFault) : Type 0 where
+    pub reader : LeavesDirectories cost old new result
+    pub lists : SameLists l l'
+
+  -- the same, and what is reached and calm as it was
+  pub record LeavesReached {T : Type 0} (cost : (ℕ → ℕ) → ℕ) (old new : S) (l l' : Lists)
+      (result : Result T ImageFault) : Type 0 where
+    pub lent : LeavesLent cost old new l l' result
+    pub kept : KeepsReached l l'
+
+  -- a call leaves the reader ready over the same base, and only reads the image, at most as often as
+  -- what is left of the current directory needs
+  pub record LeavesCurrent {T : Type 0} (old new : S) (result : Result T ImageFault) : Type 0 where
+    pub is_ready : D.ready new
+    pub same : D.base new ≡ D.base old
+    pub read : ReadAfter (D.device old) (D.device new) result
+    pub counted : (b : List ℕ) → D.knows (D.base old) b → D.held old → D.reads new ≤ D.reads old + D.to_read old b
+
+  -- all directories that are reached from inode 2 are read, each once, and references counted on from
+  -- what the lists held. No inode has more than 2^59 of them then
+  pub record ReadsEachReached (old new : S) (l l' : Lists) : Type 0 where
+    pub counts : CountsAtMost (2 ^ 59) l'
+    pub part : ForKnown old (λ entries right_shape. IsReachedPart (graph_with l.kinds.now entries)
+        l.references.now.items l'.references.now.items l'.named.now l'.reached.now l'.parents.now.items)
+    pub calm : ForKnown old (λ entries right_shape. AreCalm l.kinds.now l.marked.now l'.reached.now
+        l'.parents.now.items entries right_shape l'.calm.now)
+    pub once : (b : List ℕ) → D.knows (D.base old) b → D.reads new ≤ D.reads old
+        + costs_below (bool_at l'.reached.now) (D.cost (D.base old) b) (length l.kinds.now)

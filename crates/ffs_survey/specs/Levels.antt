@@ -1,10 +1,18 @@
 -- What the reading of directories makes of what a survey has found.
-use Rattle.std.specs.Prelude.{◌≡◌, ℕ, ◌+◌, ◌<◌, ◌≤◌, ◌==◌, Bool, ◌&&◌, cond, List, length, take, drop}
+use Rattle.std.specs.Prelude.{◌≡◌, ℕ, ◌+◌, ◌<◌, ◌≤◌, ◌==◌, Bool, ◌&&◌, cond, List, [], ◌∷◌, length, take}
 use Rattle.ffs_volume.specs.Directories.Roles.{RoledEntry}
-use Rattle.ffs_survey.specs.{Survey.{bool_at, number_at, graph_with}, Calm.{are_calm, AreCalm, IsFlagged}}
-use Rattle.ffs_survey.specs.Discover.{Found, SameResult, Counts, AtLevel, IsReachedPart, from_entries, from_dirs}
+use Rattle.ffs_survey.specs.{Survey.{bool_at, number_at, graph_with, IsSurvey}, Calm.{are_calm, AreCalm, IsFlagged}}
+use Rattle.ffs_survey.specs.Discover.{Found, SameResult, Counts, Extends, from_entries, from_dirs}
 use Rattle.ffs_survey.specs.Discover.{nothing, count_in, any_in, count_of, any_of, none, never, is_unreached_dir, unset}
-use Rattle.ffs_survey.specs.{Discover.HasRoomForLevel, Lists.GrowsBy}
+use Rattle.ffs_survey.specs.Lists.{GrowsBy}
+
+-- what the entry e of the directory d names is discovered: the queue, which ended at `top`, keeps what
+-- it had and ends at `end`, with what is newly reached
+pub record Visits (kinds : List ℕ) (d : ℕ) (e : RoledEntry) (top end : ℕ) (old new : Found) : Type 0 where
+  pub ends : end + unset new.reached ≡ top + unset old.reached
+  pub same_result : SameResult (from_entries kinds d (e ∷ [])) old.reached old.parents (take top old.queue) nothing
+      new.reached new.parents (take end new.queue)
+  pub extends : Extends top end old.queue new.queue
 
 -- the reached directory d with these entries is read
 pub record ReadsReached (kinds : List ℕ) (marked : List Bool) (d : ℕ) (entries : List RoledEntry) (right_shape : Bool)
@@ -30,46 +38,26 @@ pub record Discovers (n most top end : ℕ) (reads : Found → Found → Type 0)
   pub kept : take top new.queue ≡ old.queue
   pub read : reads old new
 
--- what the reading of a level makes of what was found, as `reads` says it: the queue keeps what it
--- had up to `high`, and has the next level from there to `end`
-pub record FollowsLevel (high end : ℕ) (reads : Found → Found → Type 0) (old new : Found) : Type 0 where
-  pub room : HasRoomForLevel high end new.references new.reached new.queue
-  pub kept : take high new.queue ≡ take high old.queue
+-- what the reading of a directory that isn't reached makes of what was found, as `reads` says it: no
+-- count below n grows by more than `most`
+pub record Adds (n most : ℕ) (reads : Found → Found → Type 0) (old new : Found) : Type 0 where
+  pub grown : GrowsBy n most old.references new.references
   pub read : reads old new
-
--- the directories that are flagged stay calm when more is read
-abbrev pub StayCalm : List ℕ → List Bool → (ℕ → List RoledEntry) → (ℕ → Bool) → Found → Found → Type 0
-StayCalm kinds marked entries right_shape old new =
-    AreCalm kinds marked old.reached old.parents entries right_shape old.calm
-    → AreCalm kinds marked new.reached new.parents entries right_shape new.calm
-
--- the references and names in these directories are added
-abbrev pub CountsDirs : List ℕ → (ℕ → List RoledEntry) → List ℕ → Found → Found → Type 0
-CountsDirs kinds entries dirs old new =
-    Counts (length kinds) (count_of (graph_with kinds entries) dirs) (any_of (graph_with kinds entries) dirs)
-    old.references old.named none never new.references new.named
 
 -- these reached directories are read
 pub record ReadsDirs (kinds : List ℕ) (marked : List Bool) (dirs : List ℕ) (entries : ℕ → List RoledEntry)
     (right_shape : ℕ → Bool) (old new : Found) : Type 0 where
   pub same_result : SameResult (from_dirs (graph_with kinds entries) dirs) old.reached old.parents old.queue nothing
       new.reached new.parents new.queue
-  pub counts : CountsDirs kinds entries dirs old new
-  pub calm : StayCalm kinds marked entries right_shape old new
+  pub counts : Counts (length kinds) (count_of (graph_with kinds entries) dirs) (any_of (graph_with kinds entries) dirs)
+      old.references old.named none never new.references new.named
+  pub calm : AreCalm kinds marked old.reached old.parents entries right_shape old.calm
+      → AreCalm kinds marked new.reached new.parents entries right_shape new.calm
 
--- the level that is in the queue from `low` to `high` is read, and the next one follows it
-pub record ReadsLevel (kinds : List ℕ) (marked : List Bool) (low high end : ℕ) (entries : ℕ → List RoledEntry)
-    (right_shape : ℕ → Bool) (old new : Found) : Type 0 where
-  pub level : (depth : ℕ) → AtLevel (graph_with kinds entries) depth low high old.reached old.parents old.queue
-      → AtLevel (graph_with kinds entries) (depth + 1) high end new.reached new.parents new.queue
-  pub counts : CountsDirs kinds entries (drop low (take high old.queue)) old new
-  pub calm : StayCalm kinds marked entries right_shape old new
-
--- all reached directories are read, and references counted on from these starts
-pub record ReadsAllReached (kinds : List ℕ) (marked : List Bool) (entries : ℕ → List RoledEntry)
-    (right_shape : ℕ → Bool)
+-- a survey of these directories, counted on from these starts, and flags of calm ones
+pub record FindsSurvey (kinds : List ℕ) (marked : List Bool) (entries : ℕ → List RoledEntry) (right_shape : ℕ → Bool)
     (starts : List ℕ) (new : Found) : Type 0 where
-  pub part : IsReachedPart (graph_with kinds entries) starts new.references new.named new.reached new.parents
+  pub survey : IsSurvey (graph_with kinds entries) starts new.references new.named new.reached new.parents
   pub calm : AreCalm kinds marked new.reached new.parents entries right_shape new.calm
 
 -- the directory d with these entries, which isn't reached, is read

@@ -1,6 +1,5 @@
--- An entry as a reader hands it out, what a reader's base knows, and what a call leaves of a
--- reader.
-use Rattle.std.specs.Prelude.{◌≡◌, ℕ, Bool, List, Result}
+-- An entry as a reader hands it out, and what a call leaves of a reader.
+use Rattle.std.specs.Prelude.{◌≡◌, ℕ, List, Result}
 use Rattle.ffs_image.specs.{Device.Device, Reads.ReadAfter, declared.image.ImageFault.ImageFault}
 use Rattle.ffs_volume.specs.Directories.Roles.{RoledEntry}
 use Rattle.ffs_survey.specs.declared.entry_head.EntryHead.{EntryHead}
@@ -11,12 +10,6 @@ roled_of e name = record {
   role = e.role;
   entry = record { number = e.number; length = e.length; kind = e.kind; name = name };
 }
-
--- P holds of the entries of each directory and of which directories have a right shape, by each
--- list of bytes that a reader's base knows to be the image's
-abbrev pub ForKnown : {B : Type 0} → (B → List ℕ → Type 0) → (B → List ℕ → ℕ → List RoledEntry)
-    → (B → List ℕ → ℕ → Bool) → B → ((ℕ → List RoledEntry) → (ℕ → Bool) → Type 0) → Type 0
-ForKnown knows entries right_shape base P = (b : List ℕ) → knows base b → P (entries base b) (right_shape base b)
 
 -- the reader is ready for the next call, over the same base, and the call only read the image
 pub record LeavesReader {B T : Type 0} (ready : Type 0) (base base' : B) (device device' : Device)

@@ -2,7 +2,7 @@
 ghost use Rattle.std.specs.Prelude.{◌≡◌, ◌<◌, ◌+◌, ℕ, length, MatchOption, false, vec_len};
 ghost use Rattle.ffs_volume.specs.Directories.Climb.{IsOnCycle, is_leader_within};
 ghost use Rattle.ffs_survey.specs.Survey.{bool_at};
-ghost use Rattle.ffs_survey.specs.Cycles.{parent_in, CanFollow, ComesBack, IsMet, CanMarkLeaders, Walked, FindsCycle, IsLeastOn, MarksLeaders};
+ghost use Rattle.ffs_survey.specs.Cycles.{parent_in, CanFollow, ComesBack, IsMet, CanMarkLeaders, Walked, FindsCycle, IsLeastOn};
 
 use crate::numbers::number_of;
 use ffs_memory::FilledList;
@@ -67,30 +67,6 @@ fn least_on(found: u32, parents: &FilledList<u32>) -> u32
     least
 }
 
-/// Walks from `start` from parent to parent, and marks the least number of the cycle that the walk
-/// closes, if it closes one.
-fn mark_from(
-    start: u32,
-    parents: &FilledList<u32>,
-    walk_of: &mut FilledList<u32>,
-    leaders: &mut [bool],
-)
-    requires walk { CanFollow parents.now.items walk_of.old.items start }
-    requires marks { MarksLeaders (parent_in parents.now.items) (length parents.now.items)
-        walk_of.old.items leaders.old }
-    ensures walked { Walked (parent_in parents.now.items) start (start + 1) walk_of.old.items
-        walk_of.new.items }
-    ensures walks_long { vec_len walk_of.new ≡ vec_len walk_of.old }
-    ensures marks { MarksLeaders (parent_in parents.now.items) (length parents.now.items)
-        walk_of.new.items leaders.new }
-{
-    let Some(found) = walk(start, parents, walk_of) else {
-        return;
-    };
-    let least = least_on(found, parents);
-    leaders[least as usize] = true;
-}
-
 /// Flags in `leaders` each number that is the least on a cycle of parents. A parent of 0, or past
 /// the list, is none. Each number is passed once or twice, so the time is linear in their count.
 /// What `walk_of` and `leaders` held before is forgotten.
@@ -104,8 +80,12 @@ pub fn mark_leaders(parents: &FilledList<u32>, walk_of: &mut FilledList<u32>, le
     walk_of.fill(0);
     leaders.fill(false);
     for start in 0..parents.len() as u32 {
-        if number_of(walk_of, start as usize) == 0 {
-            mark_from(start, parents, walk_of, leaders);
+        if number_of(walk_of, start as usize) != 0 {
+            continue;
         }
+        let Some(found) = walk(start, parents, walk_of) else {
+            continue;
+        };
+        leaders[least_on(found, parents) as usize] = true;
     }
 }

@@ -1,16 +1,13 @@
 //! What one directory, and one level of directories, names.
-ghost use Rattle.std.specs.Prelude.{◌≡◌, ◌==◌, ◌*◌, ◌+◌, ◌-◌, ℕ, ◌<◌, ◌≤◌, ◌^◌, ◌&&◌, ◌||◌, nat_le, cond, List, [], ◌∷◌, length, drop, take, All, true, false, IfOk, OnOk, slice_set, vec_len};
-ghost use Rattle.ffs_volume.specs.Directories.Roles.{is_plain as is_plain_role};
-ghost use Rattle.ffs_volume.specs.Directories.Graph.{is_naming_entry};
+ghost use Rattle.std.specs.Prelude.{◌≡◌, ◌==◌, ◌*◌, ◌-◌, ℕ, ◌<◌, ◌^◌, ◌&&◌, nat_le, cond, List, [], length, drop, take, IfOk, OnOk};
 ghost use Rattle.std.specs.List.{sum_by};
-ghost use Rattle.ffs_memory.specs.Filled.{Sets};
-ghost use Rattle.ffs_survey.specs.Reading.{roled_of, ForKnown, LeavesReader};
-ghost use Rattle.ffs_survey.specs.Lists.{CountLists, GrowsBy};
-ghost use Rattle.ffs_survey.specs.Lent.{all_found, found_up_to, current_of, SameLists, LeavesLent, KeepsCounts, HasRoomAfter, CanTakeMore, CountsAtMost, KeepsReached};
-ghost use Rattle.ffs_survey.specs.Levels.{Discovers, ReadsReached, ReadsDirs, ReadsUnreached};
-ghost use Rattle.ffs_survey.specs.Survey.{bool_at, number_at};
+ghost use Rattle.ffs_volume.specs.Directories.{Roles.{is_plain as is_plain_role}, Graph.is_naming_entry};
+ghost use Rattle.ffs_survey.specs.{Reading.roled_of, Lists.CountLists, Survey.{bool_at, number_at}};
+ghost use Rattle.ffs_survey.specs.Lent.{all_found, found_up_to, current_of, ForKnown, HasRoomAfter, CanCount, CanReach};
+ghost use Rattle.ffs_survey.specs.Lent.{CanReadLevel, KeepsCounts, ChangesParents, LeavesCurrent, LeavesLent, LeavesReached};
+ghost use Rattle.ffs_survey.specs.Levels.{Adds, Discovers, Visits, ReadsReached, ReadsDirs, ReadsUnreached};
 ghost use Rattle.ffs_survey.specs.Calm.{is_calm_kind, is_calm_plain, is_calm_entry, IsFlagged};
-ghost use Rattle.ffs_survey.specs.Discover.{unset, Extends, IsCounted, SameResult, from_entries, nothing, none, Counts, IsReachedDir, is_unreached_dir as is_unreached_dir_at};
+ghost use Rattle.ffs_survey.specs.Discover.{IsCounted, is_unreached_dir as is_unreached_dir_at};
 
 use crate::directories::Directories;
 use crate::entry_head::{EntryHead, is_counted, is_plain};
@@ -21,30 +18,19 @@ use ffs_memory::FilledList;
 use ffs_volume::Role;
 use ffs_volume::constants::{DT_DIR, DT_WHT, EMPTY_DIR, ROOTINO, UNKNOWN_TYPE, WINO};
 
-/// Counts one more reference of an inode.
-fn add_one(references: &mut FilledList<u64>, number: usize)
-    requires number { number < vec_len references.old }
-    requires fits { number_at references.old.items number + 1 < 2 ^ 64 }
-    ensures { Sets references.old references.new number
-        (number_at references.old.items number + 1) }
-{
-    let count = references[number];
-    references.set(number, count + 1);
-}
-
 /// Counts an entry for the inode whose number it carries, and flags that inode as named where the
 /// entry is plain.
 fn count_entry(entry: EntryHead, kinds: &[u8], references: &mut FilledList<u64>, named: &mut [bool])
     requires { CountLists kinds.now references.old.items named.old entry.number }
-    ensures counted { IsCounted (length kinds.now) (roled_of entry []) references.old.items
-        named.old references.new.items named.new }
-    ensures same_length { vec_len references.new ≡ vec_len references.old }
+    ensures { IsCounted (length kinds.now) (roled_of entry []) references.old.items named.old
+        references.new.items named.new }
 {
     let number = entry.number as usize;
     if !is_counted(entry.role) || number >= kinds.len() {
         return;
     }
-    add_one(references, number);
+    let count = references[number];
+    references.set(number, count + 1);
     if is_plain(entry.role) {
         named[number] = true;
     }
@@ -73,15 +59,9 @@ fn is_new(entry: EntryHead, kinds: &[u8], lists: &Lists) -> bool
 fn visit(entry: EntryHead, current: &CurrentDir, lists: &mut Lists, top: usize) -> usize
     requires kinds { current.now.kinds.now ≡ lists.old.kinds.now }
     requires room { HasRoomAfter top lists.old }
-    ensures top { result + unset lists.new.reached.now ≡ top + unset lists.old.reached.now }
-    ensures same_result { SameResult
-        (from_entries lists.old.kinds.now current.now.dir (roled_of entry [] ∷ []))
-        lists.old.reached.now lists.old.parents.now.items (take top lists.old.queue.now.items)
-        nothing lists.new.reached.now lists.new.parents.now.items
-        (take result lists.new.queue.now.items) }
-    ensures extends { Extends top result lists.old.queue.now.items lists.new.queue.now.items }
-    ensures counts { KeepsCounts lists.old lists.new }
-    ensures same { SameLists lists.old lists.new }
+    ensures visits { Visits lists.old.kinds.now current.now.dir (roled_of entry []) top result
+        (all_found lists.old) (all_found lists.new) }
+    ensures leaves { KeepsCounts lists.old lists.new }
 {
     if !is_new(entry, current.kinds, lists) {
         return top;
@@ -153,11 +133,7 @@ fn flag_calm<D: Directories>(
     ensures flags { OnOk result ((b : List ℕ) → D.knows (D.base directories.old) b
         → D.ended directories.old b → IsFlagged from (calm_so_far && nat_le 2 count)
         (D.right_shape_so_far directories.old b) calm.old calm.new) }
-    ensures reader { LeavesReader (D.ready directories.new) (D.base directories.old)
-        (D.base directories.new) (D.device directories.old) (D.device directories.new) result }
-    ensures counted { (b : List ℕ) → D.knows (D.base directories.old) b
-        → D.held directories.old
-        → D.reads directories.new ≤ D.reads directories.old + D.to_read directories.old b }
+    ensures leaves { LeavesCurrent D.Directories directories.old directories.new result }
 {
     let number = from as usize;
     if !calm_so_far || count < 2 || number >= calm.len() {
@@ -179,20 +155,13 @@ fn read_reached<D: Directories>(
     lists: &mut Lists,
     top: usize,
 ) -> Result<usize, ImageFault>
-    requires ready { D.ready directories.old }
-    requires room { CanTakeMore (2 ^ 60) top lists.old }
+    requires { CanReach D.Directories (2 ^ 60) top directories.old lists.old }
     ensures found { IfOk result (λ n. Discovers (length lists.old.kinds.now) (2 ^ 28) top n
-        (λ old new. ForKnown D.knows D.entries D.right_shape (D.base directories.old)
-        (λ entries right_shape.
+        (λ old new. ForKnown D.Directories directories.old (λ entries right_shape.
         ReadsReached lists.old.kinds.now lists.old.marked.now from (entries from)
-        (right_shape from) old
-        new)) (found_up_to lists.old top) (found_up_to lists.new n)) }
-    ensures leaves { LeavesLent (D.ready directories.new) (D.base directories.old)
-        (D.base directories.new) (D.device directories.old) (D.device directories.new) lists.old
-        lists.new result }
-    ensures counted { (b : List ℕ) → D.knows (D.base directories.old) b
-        → D.reads directories.new ≤ D.reads directories.old
-        + D.cost (D.base directories.old) b from }
+        (right_shape from) old new)) (found_up_to lists.old top) (found_up_to lists.new n)) }
+    ensures leaves { LeavesLent D.Directories (λ cost. cost from) directories.old directories.new
+        lists.old lists.new result }
 {
     let parent = number_of(lists.parents, from as usize);
     let current = CurrentDir {
@@ -226,26 +195,15 @@ pub fn read_level<D: Directories>(
     low: usize,
     high: usize,
 ) -> Result<usize, ImageFault>
-    requires ready { D.ready directories.old }
-    requires order { low ≤ high }
-    requires room { CanTakeMore (2 ^ 59) high lists.old }
-    requires frontier { ForKnown D.knows D.entries D.right_shape (D.base directories.old)
-        (λ entries right_shape. All (IsReachedDir lists.old.kinds.now lists.old.reached.now)
-        (drop low (take high lists.old.queue.now.items))) }
+    requires { CanReadLevel D.Directories low high directories.old lists.old }
     ensures found { IfOk result (λ n.
         Discovers (length lists.old.kinds.now) ((high - low) * 2 ^ 28) high n
-        (λ old new. ForKnown D.knows D.entries D.right_shape (D.base directories.old)
-        (λ entries right_shape.
+        (λ old new. ForKnown D.Directories directories.old (λ entries right_shape.
         ReadsDirs lists.old.kinds.now lists.old.marked.now (drop low old.queue) entries
-        right_shape old
-        new)) (found_up_to lists.old high) (found_up_to lists.new n)) }
-    ensures leaves { LeavesLent (D.ready directories.new) (D.base directories.old)
-        (D.base directories.new) (D.device directories.old) (D.device directories.new) lists.old
-        lists.new result }
-    ensures counted { (b : List ℕ) → D.knows (D.base directories.old) b
-        → D.reads directories.new ≤ D.reads directories.old
-        + sum_by (D.cost (D.base directories.old) b)
-        (drop low (take high lists.old.queue.now.items)) }
+        right_shape old new)) (found_up_to lists.old high) (found_up_to lists.new n)) }
+    ensures leaves { LeavesLent D.Directories
+        (λ cost. sum_by cost (drop low (take high lists.old.queue.now.items)))
+        directories.old directories.new lists.old lists.new result }
 {
     let mut top = high;
     for at in low..high {
@@ -263,9 +221,7 @@ fn adopt(entry: EntryHead, from: u32, lists: &mut Lists)
         ≡ cond ((number_at lists.old.parents.now.items x == 0)
         && (is_unreached_dir_at lists.old.kinds.now lists.old.reached.now x
         && is_naming_entry x (roled_of entry []))) from (number_at lists.old.parents.now.items x) }
-    ensures counts { KeepsCounts lists.old lists.new }
-    ensures kept { KeepsReached lists.old lists.new }
-    ensures same { SameLists lists.old lists.new }
+    ensures leaves { ChangesParents lists.old lists.new }
 {
     if !is_new(entry, lists.kinds, lists) {
         return;
@@ -287,21 +243,14 @@ pub fn read_unreached<D: Directories>(
     from: u32,
     lists: &mut Lists,
 ) -> Result<(), ImageFault>
-    requires ready { D.ready directories.old }
-    requires counts { CountsAtMost (2 ^ 60) lists.old }
+    requires can { CanCount D.Directories (2 ^ 60) directories.old lists.old }
     requires from { 0 < from }
-    ensures grown { OnOk result (GrowsBy (length lists.old.kinds.now) (2 ^ 28)
-        lists.old.references.now.items lists.new.references.now.items) }
-    ensures adds { OnOk result (ForKnown D.knows D.entries D.right_shape (D.base directories.old)
-        (λ entries right_shape. ReadsUnreached lists.old.kinds.now from (entries from)
-        (all_found lists.old) (all_found lists.new))) }
-    ensures kept { KeepsReached lists.old lists.new }
-    ensures leaves { LeavesLent (D.ready directories.new) (D.base directories.old)
-        (D.base directories.new) (D.device directories.old) (D.device directories.new) lists.old
-        lists.new result }
-    ensures counted { (b : List ℕ) → D.knows (D.base directories.old) b
-        → D.reads directories.new ≤ D.reads directories.old
-        + D.cost (D.base directories.old) b from }
+    ensures adds { OnOk result (Adds (length lists.old.kinds.now) (2 ^ 28)
+        (λ old new. ForKnown D.Directories directories.old (λ entries right_shape.
+        ReadsUnreached lists.old.kinds.now from (entries from) old new))
+        (all_found lists.old) (all_found lists.new)) }
+    ensures leaves { LeavesReached D.Directories (λ cost. cost from) directories.old
+        directories.new lists.old lists.new result }
 {
     directories.start(from)?;
     while let Some(entry) = directories.next()? {

@@ -21,6 +21,6 @@ pub use cycles::mark_leaders;
 pub use directories::Directories;
 pub use entry_head::{EntryHead, is_plain};
 pub use levels::survey;
-pub use lists::Surveyed;
+pub use lists::{KnownInodes, NumberLists, Surveyed};
 pub use numbers::is_dir;
 pub use unref::{is_dead, is_suspect, is_unref};

@@ -4,6 +4,27 @@ ghost use Rattle.ffs_survey.specs.Lists.{AreLists, AreSurveyed};
 
 use ffs_memory::FilledList;
 
+/// What a survey goes by: what is known of each inode before it.
+#[derive(Clone, Copy)]
+pub struct KnownInodes<'kinds, 'marked> {
+    /// What each inode is: `DT_DIR` for a directory with a size, `EMPTY_DIR` for one of size 0.
+    pub kinds: &'kinds [u8],
+    /// Whether each inode is marked.
+    pub marked: &'marked [bool],
+}
+
+/// The lists of numbers that a survey fills, lent together.
+#[derive(Drop)]
+pub struct NumberLists<'a> {
+    /// How many entries refer to each inode, added to the number that the list had at first: the
+    /// *start* of the inode.
+    pub references: &'a mut FilledList<u64>,
+    /// The parent of each directory, 0 for none.
+    pub parents: &'a mut FilledList<u32>,
+    /// The directories that are reached, level after level.
+    pub queue: &'a mut FilledList<u32>,
+}
+
 /// The lists of a survey, lent together: it goes by the first two, and fills the others. Each has
 /// an entry for every inode. There are more than two inodes, and fewer than 2^31.
 #[derive(Drop)]

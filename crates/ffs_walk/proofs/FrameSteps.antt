@@ -3,7 +3,7 @@ use Rattle.std.proofs.Common.{◌≡◌, ℕ, ◌+◌, ◌-◌, ◌*◌, ◌<◌
 use Rattle.std.proofs.{Common.{Option, arith, refl, ◌==◌}, lemmas.Bool.Decides.nat_tests}
 use Rattle.ffs_volume.specs.{declared.{Layout.Layout, Step.Step}, Blocks.Steps.{block_bytes, address_in, tail_of}}
 use Rattle.ffs_volume.specs.Blocks.Steps.{any_nonzero_from, steps_under, address_at, indirect_addresses_needed}
-use Rattle.ffs_walk.specs.{declared.frame.{Frame.Frame, Item.Item}, Frames.{frame_rest, frame_left, item_left, IsFrom}}
+use Rattle.ffs_walk.specs.{declared.frame.{Frame.Frame, Item.Item}, Frames.{frame_rest, frame_left, IsFrom}}
 use Rattle.ffs_walk.specs.{declared.frame.Item.TheVariants.{UnusedWord, Word}, Fits.{FrameFits, IsBelow}}
 use Rattle.ffs_image.specs.Device.{ForContents}
 
@@ -52,11 +52,6 @@ item_below g blocks span f (Word address block) some fits from = grind (arith, w
 pub word_fits : (g : Layout) (blocks span : ℕ) (f : Frame) → 0 < span → FrameFits g blocks span f → blocks < 2 ^ 53 →
     f.next < f.used → f.first + f.next * span < 2 ^ 64
 word_fits g blocks span f some fits small h = grind arith
-
--- an item of the lowest level is one step
-pub item_one : (item : Item) → item_left 1 item ≡ 1
-item_one UnusedWord = refl
-item_one (Word address block) = refl
 
 -- an address that isn't zero
 pub is_set : (address : ℕ) → (address ≡ 0 → ⊥) → (address == 0) ≡ false

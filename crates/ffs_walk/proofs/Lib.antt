@@ -2,7 +2,6 @@ pub mod AnySet
 pub mod Powers
 pub mod WordBytes
 pub mod Areas
-mod Begun
 pub mod FrameSteps
 pub mod Ranges
 pub mod WalkSteps

@@ -1,5 +1,7 @@
--- Products of sizes and numbers of blocks have room in 64 bits.
-use Rattle.std.{proofs.Common.{ℕ, ◌+◌, ◌*◌, ◌<◌, ◌≤◌, arith}, specs.Int.div_ceil}
+-- Products of sizes and numbers of blocks have room in 64 bits, and addresses are few.
+use Rattle.std.{proofs.{Common.{ℕ, ◌+◌, ◌*◌, ◌<◌, ◌≤◌, arith}, lemmas.Bool.Decides.nat_tests}, specs.Int.div_ceil}
+use Rattle.ffs_volume.specs.{declared.{Inode.Inode, Layout.Layout}, Laws.Geometry.IsAcceptedLayout}
+use Rattle.ffs_volume.{specs.Blocks.Inodes.addresses_allowed, proofs.StepLaws.used_most}
 
 -- products of factors that are small are small
 pub products_small : (a b m n : ℕ) → a ≤ m → b ≤ n → a * b ≤ m * n
@@ -21,3 +23,7 @@ size_large a b h k = grind arith
 pub blocks_small : (size bsize : ℕ) → size < 18446744073709551616 → 4096 ≤ bsize → bsize ≤ 65536 →
     div_ceil size bsize < 9007199254740992
 blocks_small size bsize h low high = grind arith
+
+-- an inode may use no more than its fifteen addresses
+pub allowed_few : (v : Layout) (inode : Inode) → IsAcceptedLayout v → addresses_allowed v inode ≤ 15
+allowed_few v inode sound = grind (arith, nat_tests, used_most)

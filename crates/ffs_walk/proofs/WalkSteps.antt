@@ -1,11 +1,13 @@
 -- The steps of a file at each level of indirect blocks, and of a walk that has nothing left there.
-use Rattle.std.proofs.Common.{◌≡◌, ℕ, ◌+◌, ◌-◌, ◌*◌, ◌<◌, ◌≤◌, List, [], ◌∷◌, ◌++◌, slice_index, append_assoc, arith}
-use Rattle.std.proofs.Common.{refl}
+use Rattle.std.proofs.Common.{◌≡◌, ℕ, ◌+◌, ◌-◌, ◌*◌, ◌<◌, ◌≤◌, List, [], ◌∷◌, ◌++◌, slice_index, Option, Some, arith}
+use Rattle.std.{proofs.Common.refl, specs.Prelude.Ok}
+use Rattle.ffs_image.specs.Device.{ForContents}
 use Rattle.ffs_volume.specs.{declared.{Layout.Layout, Step.Step}, Laws.Geometry.IsAcceptedLayout}
 use Rattle.ffs_volume.specs.Blocks.Steps.{FileBlocks, data_step, steps_at, steps_of_addresses, indirection_of}
 use Rattle.ffs_volume.specs.Blocks.Steps.{first_block}
-use Rattle.ffs_walk.specs.{declared.{frame.Frame.Frame, walk.Walk.Walk}, Fits.IsSpent, Frames.frame_rest, Rests.IsAtTop}
-use Rattle.ffs_walk.specs.Rests.{file_blocks_of, steps_left, single_rest, double_rest, triple_rest, top_rest, most_at}
+use Rattle.ffs_walk.specs.{declared.{frame.Frame.Frame, walk.Walk.Walk}, Fits.IsSpent, Frames.frame_rest}
+use Rattle.ffs_walk.specs.Rests.{GivesStep, IsAtTop, IsOver, SameFileBlocks, file_blocks_of, steps_left, single_rest}
+use Rattle.ffs_walk.specs.{Rests.{double_rest, triple_rest, top_rest, most_at, most_steps_left}, Lengths.IsStepOf}
 
 pub steps_zero : (t : FileBlocks) (bytes : List ℕ) (a f : ℕ) → steps_at t bytes 0 a f ≡ data_step t a f ∷ []
 unfolding steps_at
@@ -63,9 +65,13 @@ pub top_falls : (next used m s' d' t' s d t : ℕ) → next < used → s' + (d' 
     s' + (d' + (t' + (used - (next + 1)) * m)) < s + (d + (t + (used - next) * m))
 top_falls next used m s' d' t' s d t h le = grind arith
 
-pub joined_two : (S D I F X Z : List Step) → S ≡ [] → D ≡ I ++ F → I ++ (S ++ (F ++ X)) ≡ Z → S ++ (D ++ X) ≡ Z
-joined_two S D I F X Z none split made = rw (none, split, append_assoc) (rw none at made)
-
-pub joined_three : (S D T I F X Z : List Step) → S ≡ [] → D ≡ [] → T ≡ I ++ F → I ++ (S ++ (D ++ (F ++ X))) ≡ Z →
-    S ++ (D ++ (T ++ X)) ≡ Z
-joined_three S D T I F X Z none none' split made = rw (none, none', split, append_assoc) (rw (none, none') at made)
+-- a step is given of a walk that isn't over
+pub gives_one : (contents : Option (List ℕ)) (old new : Walk) (step : Step) → (IsOver old → ⊥) →
+    ForContents contents (λ bytes. steps_left bytes old ≡ step ∷ steps_left bytes new) →
+    IsStepOf old.geometry.layout.frag old.logical_blocks step → most_steps_left new < most_steps_left old →
+    SameFileBlocks old new → GivesStep contents old new (Ok (Some step))
+gives_one contents old new step more steps fits falls same = record {
+  step = record { steps = steps; fits = fits; falls = falls; over = λ e. absurd (cc) };
+  over = λ h. absurd (more h);
+  same = same;
+}

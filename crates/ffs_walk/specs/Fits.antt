@@ -14,6 +14,11 @@ pub record FrameFits (v : Layout) (blocks span : ℕ) (f : Frame) : Type 0 where
 abbrev pub IsSpent : Frame → Type 0
 IsSpent f = (f.next ≡ f.used) × (f.unread ≡ false)
 
+-- the frame has no words
+pub record HasNoWords (f : Frame) : Type 0 where
+  pub used : f.used ≡ 0
+  pub spent : IsSpent f
+
 -- the logical block is one of an inode with `blocks` of them, and isn't direct
 abbrev pub IsIndirect : ℕ → ℕ → Type 0
 IsIndirect blocks block = (12 ≤ block) × (block < blocks)
@@ -23,9 +28,8 @@ abbrev pub IsBelow : ℕ → Item → Type 0
 IsBelow blocks UnusedWord = Unit {0}
 IsBelow blocks (Word address block) = IsIndirect blocks block
 
--- the frame has an item left, of a block in range, and its logical block is a number
+-- the frame has an item left, and its logical block is a number
 pub record HasItem (v : Layout) (span : ℕ) (f : Frame) : Type 0 where
   pub left : f.next < f.used
-  pub in_range : IsTrue (is_run_in_range v f.address v.frag)
   pub words : f.used ≤ v.nindir
   pub small : f.first + f.next * span < 2 ^ 64

@@ -1,6 +1,7 @@
 -- What is left in an indirect block that a walk is in.
-use Rattle.std.specs.Prelude.{ℕ, true, ◌+◌, ◌-◌, ◌*◌, ◌<◌, ◌≤◌, ◌≡◌, List, [], ◌∷◌, ◌++◌, Option, if◌then◌else◌}
-use Rattle.ffs_image.specs.Device.{ForContents}
+use Rattle.std.specs.Prelude.{ℕ, true, false, ◌+◌, ◌-◌, ◌*◌, ◌<◌, ◌≤◌, ◌≡◌, List, [], ◌∷◌, ◌++◌, Option}
+use Rattle.std.specs.Prelude.{Result, OnOk, IfOk, if◌then◌else◌}
+use Rattle.ffs_image.specs.{Device.ForContents, declared.image.ImageFault.ImageFault}
 use Rattle.ffs_volume.specs.{declared.{Layout.Layout, Step.{Step, TheVariants.Tail}}, Blocks.Steps.block_bytes}
 use Rattle.ffs_volume.specs.Blocks.Steps.{tail_of, any_nonzero_from, steps_under}
 use Rattle.ffs_walk.specs.declared.frame.{Frame.Frame, Item.{Item, TheVariants.{UnusedWord, Word}}}
@@ -43,3 +44,11 @@ pub record IsSameBlock (old new : Frame) : Type 0 where
   pub address : new.address ≡ old.address
   pub first : new.first ≡ old.first
   pub used : new.used ≡ old.used
+
+-- the next item of a frame is taken, and then its block was read; where a read failed none is. In
+-- both cases the frame stays in its block
+pub record TakesItem (v : Layout) (contents : Option (List ℕ)) (span : ℕ) (old new : Frame)
+    (result : Result Item ImageFault) : Type 0 where
+  pub item : IfOk result (IsNextItem v contents span old new)
+  pub read : OnOk result (new.unread ≡ false)
+  pub same : IsSameBlock old new

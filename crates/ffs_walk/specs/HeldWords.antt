@@ -1,9 +1,9 @@
 -- The words of the single indirect block that a walk is in, one by one.
-use Rattle.std.specs.Prelude.{◌≡◌, ◌==◌, ◌+◌, ℕ, List, ◌∷◌, Option, Some, false, if◌then◌else◌}
+use Rattle.std.specs.Prelude.{◌≡◌, ◌==◌, ◌+◌, ◌<◌, ℕ, List, ◌∷◌, Option, Some, false, if◌then◌else◌}
 use Rattle.ffs_image.specs.Device.{ForContents}
 use Rattle.ffs_volume.specs.{declared.Step.{Step, TheVariants.{Run, Gap}}, Blocks.Steps.address_in}
 use Rattle.ffs_walk.specs.{declared.{blocks.Blocks.Blocks, walk.Walk.Walk}, Windows.{BlocksHold, held_address}}
-use Rattle.ffs_walk.specs.{Windows.level_bytes, Rests.steps_left}
+use Rattle.ffs_walk.specs.{Counts.EntersOnly, Windows.level_bytes, Rests.{SameFileBlocks, most_steps_left, steps_left}}
 
 -- the single indirect block that a walk is in is held, and was read before
 pub record IsInHeldBlock (blocks : Blocks) (w : Walk) : Type 0 where
@@ -26,3 +26,11 @@ pub record PassesWord (blocks : Blocks) (old new : Walk) : Type 0 where
       ≡ word_step old.geometry.layout.frag (next_address blocks old) (old.single.first + old.single.next)
       ∷ steps_left bytes new)
   pub held : IsInHeldBlock blocks new
+
+-- a walk passes over the next word of the single indirect block that it is in, in each case where
+-- that block is held; no other block is then to be read
+pub record PassesNextWord (old new : Walk) : Type 0 where
+  pub word : (blocks : Blocks) → IsInHeldBlock blocks old → PassesWord blocks old new
+  pub falls : most_steps_left new < most_steps_left old
+  pub same : SameFileBlocks old new
+  pub counted : EntersOnly old new 0

@@ -1,13 +1,15 @@
 -- What is left of a walk.
 use Rattle.std.specs.Prelude.{◌≡◌, ℕ, zero, suc, ◌+◌, ◌-◌, ◌*◌, ◌<◌, ◌≤◌, List, [], ◌∷◌, ◌++◌, if◌then◌else◌, Option}
-use Rattle.std.specs.Prelude.{None, IfSome, MatchOption}
-use Rattle.ffs_image.specs.Device.{ForContents}
-use Rattle.ffs_volume.specs.{declared.{Step.Step, Inode.Inode}, Blocks.{Inodes.logical_blocks_of, Steps.FileBlocks}}
+use Rattle.std.specs.Prelude.{None, IfSome, MatchOption, Result, Ok, IfOk, OnErr}
+use Rattle.ffs_image.specs.{Device.{Device, ForContents}, declared.image.ImageFault.ImageFault}
+use Rattle.ffs_volume.specs.declared.{Class.Class, Inode.Inode, Step.Step}
+use Rattle.ffs_volume.specs.Blocks.{Inodes.{class_of, logical_blocks_of}, Steps.FileBlocks}
 use Rattle.ffs_volume.specs.Blocks.Steps.{data_step, indirect_steps, steps_at, steps_of, steps_of_addresses, is_walked}
 use Rattle.ffs_layout.specs.declared.geometry.Geometry.{Geometry}
 use Rattle.ffs_walk.specs.{declared.{walk.Walk.Walk, frame.{Frame.Frame, Item.Item}}, Frames.{frame_rest, frame_left}}
-use Rattle.ffs_walk.specs.{Frames.{item_steps, item_left}, Fits.{FrameFits, IsSpent}, Lengths.IsStepOf}
-use Rattle.ffs_walk.specs.Counts.{EntersOnly, IsEntered, entered}
+use Rattle.ffs_walk.specs.{Frames.{item_steps, item_left}, Fits.{FrameFits, IsBelow, IsSpent}, Lengths.IsStepOf}
+use Rattle.ffs_walk.specs.Counts.{AreHeld, EntersOnly, IsEntered, StepReads, entered, entered_by}
+use Rattle.ffs_walk.specs.{Windows.BlocksAfter, declared.blocks.Blocks.Blocks}
 
 -- the blocks of the file that a walk is over, as the definition of steps takes them
 abbrev pub file_blocks_of : Walk → FileBlocks
@@ -53,13 +55,6 @@ pub record IsOver (w : Walk) : Type 0 where
   pub triple : IsSpent w.triple
   pub top : w.next ≡ w.used
 
--- no word of an indirect block, and no address of the inode, is used
-pub record UsesNothing (w : Walk) : Type 0 where
-  pub single : w.single.used ≡ 0
-  pub double : w.double.used ≡ 0
-  pub triple : w.triple.used ≡ 0
-  pub top : w.used ≡ 0
-
 -- none of its indirect blocks has an item left: the next step is at one of the inode's own
 -- addresses
 pub record IsAtTop (w : Walk) : Type 0 where
@@ -81,12 +76,32 @@ pub record SameFileBlocks (old new : Walk) : Type 0 where
   pub geometry : new.geometry ≡ old.geometry
   pub blocks : new.logical_blocks ≡ old.logical_blocks
 
+-- a walk is ended: no word of an indirect block and no address of the inode is used
+pub record Stops (old new : Walk) : Type 0 where
+  pub over : IsOver new
+  pub same : SameFileBlocks old new
+  pub single : new.single.used ≡ 0
+  pub double : new.double.used ≡ 0
+  pub triple : new.triple.used ≡ 0
+  pub top : new.used ≡ 0
+
+-- a walk in a volume that has no step left
+pub record IsEndedWalk (g : Geometry) (w : Walk) : Type 0 where
+  pub over : IsOver w
+  pub geometry : w.geometry ≡ g
+
 -- a walk that has all steps of an inode left
 pub record IsWalkOf (g : Geometry) (inode : Inode) (w : Walk) : Type 0 where
   pub steps : (bytes : List ℕ) → steps_left bytes w ≡ steps_of g.layout inode bytes
   pub geometry : w.geometry ≡ g
   pub blocks : w.logical_blocks ≡ (if is_walked g.layout inode then logical_blocks_of g.layout inode else 0)
   pub top : IsAtTop w
+
+-- a walk that has all steps of an inode left, if this is the inode's class
+pub record IsWalkByClass (g : Geometry) (inode : Inode) (class : Class) (w : Walk) : Type 0 where
+  pub walk : class ≡ class_of g.layout inode → IsWalkOf g inode w
+  pub top : IsAtTop w
+  pub geometry : w.geometry ≡ g
 
 -- the step is that at the address of a data block
 pub record IsDataStep (w : Walk) (address block : ℕ) (made : Step) : Type 0 where
@@ -103,6 +118,13 @@ pub record Enters (w : Walk) (span address first : ℕ) (made : Step) (frame : F
   pub fits : FrameFits w.geometry.layout w.logical_blocks span frame
   pub counted : IsEntered made frame
 
+-- an item of a level comes next in a walk: it is of one of the inode's logical blocks, and nothing is
+-- left in the indirect blocks below it
+pub record ComesNext (level : ℕ) (w : Walk) (item : Item) : Type 0 where
+  pub below : IsBelow w.logical_blocks item
+  pub single : 1 ≤ level → IsSpent w.single
+  pub double : 2 ≤ level → IsSpent w.double
+
 -- the step is the first that an item of a level means, and the walk has the others left, before
 -- those that it had
 pub record IsFirstOf (level : ℕ) (item : Item) (old new : Walk) (step : Step) : Type 0 where
@@ -112,3 +134,26 @@ pub record IsFirstOf (level : ℕ) (item : Item) (old new : Walk) (step : Step) 
   pub left : 1 + most_steps_left new ≤ item_left (most_at old.geometry.layout.nindir level) item + most_steps_left old
   pub same : SameFileBlocks old new
   pub counted : EntersOnly old new (entered step)
+
+-- the next step of a walk is given, or a read failed; a walk that is over stays so
+pub record GivesStep (contents : Option (List ℕ)) (old new : Walk) (result : Result (Option Step) ImageFault) :
+    Type 0 where
+  pub step : IfOk result (IsNextStep contents old new)
+  pub over : IsOver old → (result ≡ Ok None) × (new ≡ old)
+  pub same : SameFileBlocks old new
+
+-- the step at the next of the inode's own addresses is given, whatever the image holds
+pub record IsTopStep (old new : Walk) (answer : Option Step) : Type 0 where
+  pub gives : (contents : Option (List ℕ)) → GivesStep contents old new (Ok answer)
+  pub counted : EntersOnly old new (entered_by answer)
+
+-- the next step of a walk is taken, and the walk has the others left; it is over after a failed
+-- read. Only a block that was still to be read is read
+pub record TakesStep (d d' : Device) (reads reads' : ℕ) (before after : Blocks) (old new : Walk)
+    (result : Result (Option Step) ImageFault) : Type 0 where
+  pub step : IfOk result (IsNextStep d.contents old new)
+  pub over : IsOver old → result ≡ Ok None
+  pub fault : OnErr result (IsOver new)
+  pub same : SameFileBlocks old new
+  pub leaves : BlocksAfter old.geometry.layout d d' before after result
+  pub counted : AreHeld before old → StepReads reads reads' after old new result

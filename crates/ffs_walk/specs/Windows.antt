@@ -1,8 +1,9 @@
 -- What is kept of an image between reads.
-use Rattle.std.specs.Prelude.{◌≡◌, ◌*◌, ◌<◌, ◌≤◌, ℕ, List, take, Option, Some, None, vec_len, get_or, Result, OnOk}
-use Rattle.std.specs.Prelude.{OnErr}
+use Rattle.std.specs.Prelude.{◌≡◌, ◌*◌, ◌+◌, ◌<◌, ◌≤◌, ℕ, List, length, take, Option, Some, None, vec_len, get_or}
+use Rattle.std.specs.Prelude.{Result, OnOk, OnErr, IsTrue}
 use Rattle.ffs_image.specs.{Device.{Device, ForContents}, Reads.ReadAfter, declared.image.ImageFault.ImageFault}
-use Rattle.ffs_volume.specs.{declared.Layout.Layout, Disk.Numbers.piece, Blocks.Steps.{address_in, block_bytes}}
+use Rattle.ffs_volume.specs.{declared.Layout.Layout, Disk.{Areas.is_run_in_range, Numbers.piece}}
+use Rattle.ffs_volume.specs.Blocks.Steps.{address_in, block_bytes}
 use Rattle.ffs_memory.specs.declared.fixed_list.FixedList.{FixedList}
 use Rattle.ffs_walk.specs.declared.{window.Window.Window, blocks.Blocks.Blocks}
 
@@ -32,6 +33,16 @@ pub record BlocksHold (v : Layout) (contents : Option (List ℕ)) (blocks : Bloc
 pub record HasRoom (v : Layout) (blocks : Blocks) : Type 0 where
   pub blocks_fit : 3 * v.bsize ≤ vec_len blocks.buffer
 
+-- the number is a level's, and the buffer has room for a block of each
+pub record HasLevel (v : Layout) (level : ℕ) (blocks : Blocks) : Type 0 where
+  pub is_level : level < 3
+  pub room : HasRoom v blocks
+
+-- these are the bytes in the part of the buffer that is for a level, as many as a block has
+pub record AreLevelBytes (v : Layout) (level : ℕ) (blocks : Blocks) (xs : List ℕ) : Type 0 where
+  pub bytes : xs ≡ level_bytes v level blocks
+  pub size : length xs ≡ v.bsize
+
 -- the image has all of the volume, and the buffer has room for indirect blocks and holds what the
 -- image gives
 pub record CanWalk (v : Layout) (d : Device) (blocks : Blocks) : Type 0 where
@@ -56,8 +67,25 @@ pub record HoldsBlockAt (v : Layout) (contents : Option (List ℕ)) (level at : 
   pub address : held_address level blocks ≡ Some at
   pub bytes : ForContents contents (λ b. level_bytes v level blocks ≡ block_bytes v b at)
 
--- a window with the room that it had holds `size` bytes of a place, or after a failed read none
-pub record FillsWindow {T : Type 0} (d d' : Device) (at size : ℕ) (before after : Window)
+-- the block at an address may be asked for, for a level: it is in range, and blocks can be walked
+pub record CanFill (v : Layout) (d : Device) (level at : ℕ) (blocks : Blocks) : Type 0 where
+  pub is_level : level < 3
+  pub in_range : IsTrue (is_run_in_range v at v.frag)
+  pub ready : CanWalk v d blocks
+
+-- the block at an address is held for a level, or a read of it failed; the other levels hold what
+-- they held. It is read at most once, and not where it was held already
+pub record FillsBlock {T : Type 0} (v : Layout) (d d' : Device) (reads reads' level at : ℕ) (before after : Blocks)
+    (result : Result T ImageFault) : Type 0 where
+  pub held : OnOk result (HoldsBlockAt v d.contents level at after)
+  pub leaves : BlocksAfter v d d' before after result
+  pub others : (other : ℕ) → (other ≡ level → ⊥) → held_address other after ≡ held_address other before
+  pub counted : reads' ≤ reads + 1
+  pub again : held_address level before ≡ Some at → reads' ≤ reads
+
+-- a window with the room that it had holds `size` bytes of a place, or after a failed read none. They
+-- are read at most once, and not where it held just these
+pub record FillsWindow {T : Type 0} (d d' : Device) (reads reads' at size : ℕ) (before after : Window)
     (result : Result T ImageFault) : Type 0 where
   pub bytes : OnOk result (ForContents d.contents (λ b. held_bytes after ≡ piece at size b))
   pub place : OnOk result ((after.place ≡ at) × (after.length ≡ size))
@@ -65,6 +93,8 @@ pub record FillsWindow {T : Type 0} (d d' : Device) (at size : ℕ) (before afte
   pub room : vec_len after.buffer ≡ vec_len before.buffer
   pub holds : WindowHolds d'.contents after
   pub read : ReadAfter d d' result
+  pub counted : reads' ≤ reads + 1
+  pub again : before.place ≡ at → before.length ≡ size → reads' ≤ reads
 
 -- a window over a list that holds nothing, and so what any image gives
 pub record IsEmptyWindow (list : FixedList ℕ) (w : Window) : Type 0 where

@@ -1,8 +1,5 @@
 //! The indirect blocks that a walk is in.
 
-ghost use Rattle.std.specs.Prelude.{◌≡◌, ◌<◌, ◌≤◌, ◌+◌, ℕ, length, Some, OnOk, IsTrue};
-ghost use Rattle.ffs_volume.specs.Disk.Areas.{is_run_in_range};
-
 use ffs_image::{Image, ImageFault};
 use ffs_layout::Geometry;
 use ffs_memory::FixedList;
@@ -19,7 +16,7 @@ pub struct Blocks {
 }
 
 impl Blocks {
-    ghost use Rattle.ffs_walk.specs.Windows.{AreEmptyBlocks, BlocksAfter, CanWalk, HasRoom, HoldsBlockAt, held_address, level_bytes};
+    ghost use Rattle.ffs_walk.specs.Windows.{AreEmptyBlocks, AreLevelBytes, CanFill, FillsBlock, HasLevel};
 
     /// Blocks that hold nothing, over a buffer of at least three blocks' bytes. It takes no memory.
     pub fn over(buffer: FixedList<u8>) -> Blocks
@@ -44,19 +41,9 @@ impl Blocks {
         address: u32,
         image: &mut I,
     ) -> Result<(), ImageFault>
-        requires level { level < 3 }
-        requires in_range { IsTrue (is_run_in_range geometry.now.layout address
-            geometry.now.layout.frag) }
-        requires ready { CanWalk geometry.now.layout (I.device image.old) self.old }
-        ensures held { OnOk result (HoldsBlockAt geometry.now.layout
-            (I.device image.old).contents level address self.new) }
-        ensures leaves { BlocksAfter geometry.now.layout (I.device image.old)
-            (I.device image.new) self.old self.new result }
-        ensures counted { I.reads image.new ≤ I.reads image.old + 1 }
-        ensures again { held_address level self.old ≡ Some address
-            → I.reads image.new ≤ I.reads image.old }
-        ensures others { (other : ℕ) → (other ≡ level → ⊥)
-            → held_address other self.new ≡ held_address other self.old }
+        requires { CanFill geometry.now.layout (I.device image.old) level address self.old }
+        ensures { FillsBlock geometry.now.layout (I.device image.old) (I.device image.new)
+            (I.reads image.old) (I.reads image.new) level address self.old self.new result }
     {
         if self.held[level] == Some(address) {
             return Ok(());
@@ -72,10 +59,8 @@ impl Blocks {
 
     /// The bytes of the buffer that are for a level of indirection.
     pub fn bytes(&self, geometry: &Geometry, level: usize) -> &[u8]
-        requires level { level < 3 }
-        requires room { HasRoom geometry.now.layout self.now }
-        ensures bytes { result.now ≡ level_bytes geometry.now.layout level self.now }
-        ensures length { length result.now ≡ geometry.now.layout.bsize }
+        requires { HasLevel geometry.now.layout level self.now }
+        ensures { AreLevelBytes geometry.now.layout level self.now result.now }
     {
         let size = geometry.layout.bsize as usize;
         let start = level * size;

@@ -13,8 +13,7 @@ use ffs_volume::{Class, Inode};
 /// block has `words` addresses.
 pub fn addresses_needed(words: u64, blocks: u64) -> u32
     requires { words ≤ 16384 }
-    ensures value { result ≡ inodes.addresses_needed words blocks }
-    ensures bound { result ≤ 15 }
+    ensures { result ≡ inodes.addresses_needed words blocks }
 {
     if blocks <= NDADDR {
         blocks as u32
@@ -165,8 +164,7 @@ pub fn walked_blocks(geometry: &Geometry, inode: &Inode, class: Class) -> u64
 
 /// How many of its fifteen addresses an inode may use.
 fn addresses_allowed(geometry: &Geometry, inode: &Inode) -> usize
-    ensures value { result ≡ inodes.addresses_allowed geometry.now.layout inode.now }
-    ensures bound { result ≤ 15 }
+    ensures { result ≡ inodes.addresses_allowed geometry.now.layout inode.now }
 {
     if is_short_symlink(geometry, inode) {
         return inode.size.div_ceil(4) as usize;
@@ -194,7 +192,7 @@ fn is_known_type(kind: u16) -> bool
 
 /// The class of an inode, by its mode, its size and its addresses (fs(5)).
 #[inline(always)]
-#[tactic(auto, unfolding(ffs_volume::specs::Blocks::Inodes::class_of))]
+#[tactic(auto, using(crate::proofs::Sizes::allowed_few), unfolding(ffs_volume::specs::Blocks::Inodes::class_of))]
 pub fn class_of(geometry: &Geometry, inode: &Inode) -> Class
     ensures { result ≡ inodes.class_of geometry.now.layout inode.now }
 {

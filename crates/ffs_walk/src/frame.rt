@@ -1,6 +1,6 @@
 //! The position of a walk in an indirect block.
 
-ghost use Rattle.std.specs.Prelude.{◌≡◌, ◌+◌, ◌-◌, ◌*◌, ◌<◌, ◌≤◌, ◌^◌, ℕ, length, Some, vec_len, Ok, None, OnOk, IfOk, IfErr, IfSome, MatchOption, IsTrue, false, not, ◌||◌, nat_lt, ◌↔◌};
+ghost use Rattle.std.specs.Prelude.{◌≡◌, ◌<◌, ◌≤◌, IsTrue, false, not, ◌||◌, nat_lt, ◌↔◌};
 
 use crate::blocks::Blocks;
 use crate::words::{any_from, word, zeros_end};
@@ -35,18 +35,12 @@ pub enum Item {
 }
 
 impl Frame {
-    ghost use Rattle.ffs_walk.specs.Fits.{HasItem, IsSpent};
-    ghost use Rattle.ffs_walk.specs.Skips.{PassesZeros};
-    ghost use Rattle.ffs_walk.specs.Windows.{BlocksAfter, CanWalk, HasRoom};
-    ghost use Rattle.ffs_walk.specs.declared.frame.Item.TheVariants.{UnusedWord, Word};
-    ghost use Rattle.ffs_walk.specs.Frames.{IsNextItem, IsSameBlock};
-    ghost use Rattle.ffs_walk.specs.Windows.{held_address};
-    ghost use Rattle.ffs_walk.specs.Counts.{IsHeldIn, unread_in};
+    ghost use Rattle.ffs_walk.specs.{Counts.ReadsFrame, Fits.{HasItem, HasNoWords, IsSpent}, Frames.TakesItem};
+    ghost use Rattle.ffs_walk.specs.{Skips.PassesZeros, Windows.{CanFill, HasLevel}};
 
     /// A frame of no words, in no block.
     pub fn spent() -> Frame
-        ensures used { result.used ≡ 0 }
-        ensures spent { IsSpent result }
+        ensures { HasNoWords result }
     {
         Frame {
             address: 0,
@@ -80,19 +74,13 @@ impl Frame {
         blocks: &mut Blocks,
     ) -> Result<Item, ImageFault>
         requires item { HasItem geometry.now.layout span self.old }
-        requires level { level < 3 }
-        requires ready { CanWalk geometry.now.layout (I.device image.old) blocks.old }
-        ensures item { IfOk result (IsNextItem geometry.now.layout (I.device image.old).contents
-            span self.old self.new) }
-        ensures same { IsSameBlock self.old self.new }
-        ensures leaves { BlocksAfter geometry.now.layout (I.device image.old)
-            (I.device image.new) blocks.old blocks.new result }
-        ensures counted { IsHeldIn level blocks.old self.old
-            → I.reads image.new ≤ I.reads image.old + unread_in self.old }
-        ensures read { OnOk result ((self.new.unread ≡ false)
-            × (held_address level blocks.new ≡ Some self.new.address)) }
-        ensures others { (other : ℕ) → (other ≡ level → ⊥)
-            → held_address other blocks.new ≡ held_address other blocks.old }
+        requires ready { CanFill geometry.now.layout (I.device image.old) level self.old.address
+            blocks.old }
+        ensures takes { TakesItem geometry.now.layout (I.device image.old).contents span self.old
+            self.new result }
+        ensures reads { ReadsFrame geometry.now.layout (I.device image.old) (I.device image.new)
+            (I.reads image.old) (I.reads image.new) level self.old self.new blocks.old blocks.new
+            result }
     {
         blocks.fill(geometry, level, self.address, image)?;
         let block = blocks.bytes(geometry, level);
@@ -113,8 +101,7 @@ impl Frame {
     #[inline(always)]
     pub fn skip_gaps(&mut self, geometry: &Geometry, level: usize, blocks: &Blocks) -> u32
         requires words { self.old.used ≤ geometry.now.layout.nindir }
-        requires level { level < 3 }
-        requires room { HasRoom geometry.now.layout blocks.now }
+        requires level { HasLevel geometry.now.layout level blocks.now }
         ensures { PassesZeros geometry.now.layout level blocks.now self.old self.new result }
     {
         if self.unread || blocks.held[level] != Some(self.address) {

@@ -1,8 +1,7 @@
 //! Which steps of an inode are kept, replayed.
 
-ghost use Rattle.std.specs.Prelude.{◌≡◌, ◌≤◌, ℕ, true, Option};
-ghost use Rattle.ffs_volume.specs.{declared.Layout.Layout, Disk.Areas.is_run_in_range as is_in_range_of};
-ghost use Rattle.ffs_volume.specs.Encodings.Replay.{is_replay_open, fresh_replay};
+ghost use Rattle.std.specs.Prelude.{◌≡◌, ◌≤◌, true};
+ghost use Rattle.ffs_volume.specs.Encodings.Replay.{is_replay_open};
 
 use ffs_volume::constants::MAXBAD;
 
@@ -20,12 +19,11 @@ pub struct Keeping {
 }
 
 impl Keeping {
-    ghost use Rattle.ffs_walk.specs.Keepings.{replay_in, Replays};
+    ghost use Rattle.ffs_walk.specs.Keepings.{IsFreshKeeping, ReplaysRun, replay_in};
 
     /// The replay of an inode with this cut, before its first step.
     pub fn start(cut: u32) -> Keeping
-        ensures cut { result.cut ≡ cut }
-        ensures fresh { replay_in result ≡ fresh_replay }
+        ensures { IsFreshKeeping cut result }
     {
         Keeping {
             cut,
@@ -45,10 +43,7 @@ impl Keeping {
     /// first ones. The Run is kept as a step where all are.
     pub fn take(&mut self, len: u32, in_range: bool) -> u32
         requires { is_replay_open self.old.cut (replay_in self.old) ≡ true }
-        ensures replays { (layout : Layout) (start : ℕ) (block : Option ℕ)
-            → in_range ≡ is_in_range_of layout start len
-            → Replays layout start len block self.old self.new result }
-        ensures cut { self.new.cut ≡ self.old.cut }
+        ensures { ReplaysRun len in_range self.old self.new result }
     {
         if !in_range {
             self.bad += 1;

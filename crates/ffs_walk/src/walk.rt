@@ -1,6 +1,6 @@
 //! The walk over the blocks of an inode.
 
-ghost use Rattle.std.specs.Prelude.{◌≡◌, ◌-◌, ◌*◌, ◌<◌, ◌≤◌, ◌^◌, ◌∷◌, [], ℕ, List, length, vec_len, Ok, Err, None, OnOk, OnErr, IfOk, IfErr, IfSome, MatchOption, OnSome, IsTrue, false, ◌↔◌, if◌then◌else◌};
+ghost use Rattle.std.specs.Prelude.{◌≡◌, ◌*◌, ◌<◌, ◌≤◌, ◌^◌, IsTrue, false, ◌↔◌};
 ghost use Rattle.ffs_volume.specs.Blocks.Inodes.{addresses_needed};
 ghost use Rattle.ffs_walk.specs.Fits.{FrameFits};
 
@@ -50,19 +50,10 @@ pub struct Walk {
 }
 
 impl Walk {
-    ghost use Rattle.ffs_volume.specs.Blocks.Steps.{data_step, indirect_steps, steps_at, steps_of, is_walked};
-    ghost use Rattle.ffs_volume.specs.Blocks.Inodes as inodes;
-    ghost use Rattle.ffs_volume.specs.Blocks.Inodes.{logical_blocks_of};
-    ghost use Rattle.ffs_volume.specs.declared.Step.{Step};
-    ghost use Rattle.ffs_walk.specs.Fits.{IsSpent, IsBelow, IsIndirect};
-    ghost use Rattle.ffs_walk.specs.Lengths.{IsStepOf};
-    ghost use Rattle.ffs_walk.specs.Skips.{EndsZeroAddresses, PassesGaps};
-    ghost use Rattle.ffs_walk.specs.Frames.{frame_rest, frame_left, item_steps, item_left};
-    ghost use Rattle.ffs_walk.specs.Rests.{steps_left, most_steps_left, file_blocks_of, Enters, IsAtTop, IsDataStep, IsFirstOf, IsNextStep, IsOver, IsWalkOf, SameFileBlocks, UsesNothing};
-    ghost use Rattle.ffs_walk.specs.Windows.{BlocksAfter, CanWalk, HasRoom};
-    ghost use Rattle.ffs_walk.specs.Counts.{AreHeld, EntersOnly, StepReads, entered_by};
-    ghost use Rattle.ffs_walk.specs.HeldWords.{IsInHeldBlock, PassesWord, next_address};
-    ghost use Rattle.ffs_walk.specs.declared.blocks.Blocks.{Blocks};
+    ghost use Rattle.ffs_walk.specs.{Fits.IsIndirect, Skips.{EndsZeroAddresses, PassesGaps}};
+    ghost use Rattle.ffs_walk.specs.Rests.{ComesNext, Enters, GivesStep, IsAtTop, IsDataStep, IsEndedWalk, IsFirstOf, IsTopStep, IsWalkByClass, IsWalkOf, Stops, TakesStep};
+    ghost use Rattle.ffs_walk.specs.{Counts.{AreHeld, StepReads}, Windows.{BlocksAfter, CanWalk, HasRoom}};
+    ghost use Rattle.ffs_walk.specs.{HeldWords.{IsInHeldBlock, PassesNextWord, next_address}, declared.blocks.Blocks.Blocks};
 
     /// The step at the address of a data block.
     fn data(&self, address: u32, block: u64) -> Step
@@ -134,10 +125,8 @@ impl Walk {
 
     /// The step that an item of the single frame means.
     fn step_in_single(&self, item: Item) -> Step
-        requires { IsBelow self.now.logical_blocks item }
-        ensures steps { (bytes : List ℕ)
-            → item_steps (steps_at (file_blocks_of self.now) bytes 0) item ≡ result ∷ [] }
-        ensures fits { IsStepOf self.now.geometry.layout.frag self.now.logical_blocks result }
+        requires { ComesNext 0 self.now item }
+        ensures { IsFirstOf 0 item self.now self.now result }
     {
         match item {
             Item::UnusedWord => Step::Tail,
@@ -147,8 +136,7 @@ impl Walk {
 
     /// The first step that an item of the double frame means; the others go into the single frame.
     fn step_in_double(&mut self, item: Item) -> Step
-        requires spent { IsSpent self.old.single }
-        requires below { IsBelow self.old.logical_blocks item }
+        requires { ComesNext 1 self.old item }
         ensures { IsFirstOf 1 item self.old self.new result }
     {
         match item {
@@ -163,8 +151,7 @@ impl Walk {
 
     /// The first step that an item of the triple frame means; the others go into the double frame.
     fn step_in_triple(&mut self, item: Item) -> Step
-        requires spent { (IsSpent self.old.single) × (IsSpent self.old.double) }
-        requires below { IsBelow self.old.logical_blocks item }
+        requires { ComesNext 2 self.old item }
         ensures { IsFirstOf 2 item self.old self.new result }
     {
         match item {
@@ -182,17 +169,7 @@ impl Walk {
     #[inline(always)]
     fn step_at_top(&mut self) -> Option<Step>
         requires { IsAtTop self.old }
-        ensures steps { (bytes : List ℕ)
-            → MatchOption result (steps_left bytes self.old ≡ [])
-            (λ step. steps_left bytes self.old ≡ step ∷ steps_left bytes self.new) }
-        ensures fits { IfSome result
-            (IsStepOf self.old.geometry.layout.frag self.old.logical_blocks) }
-        ensures left { MatchOption result (most_steps_left self.old ≡ 0)
-            (λ _. most_steps_left self.new < most_steps_left self.old) }
-        ensures none { result ≡ None → self.new ≡ self.old }
-        ensures over { (self.old.next ≡ self.old.used) ↔ (result ≡ None) }
-        ensures same { SameFileBlocks self.old self.new }
-        ensures counted { EntersOnly self.old self.new (entered_by result) }
+        ensures { IsTopStep self.old self.new result }
     {
         if self.next >= self.used {
             return None;
@@ -230,15 +207,14 @@ impl Walk {
 
     /// Takes the next step as `next` does, but doesn't end the walk where a read fails.
     #[inline(always)]
+    #[tactic(auto, using(crate::proofs::FrameSteps::item_below))]
     fn advance<I: Image>(
         &mut self,
         image: &mut I,
         blocks: &mut Blocks,
     ) -> Result<Option<Step>, ImageFault>
         requires { CanWalk self.old.geometry.layout (I.device image.old) blocks.old }
-        ensures step { IfOk result (IsNextStep (I.device image.old).contents self.old self.new) }
-        ensures over { IsOver self.old → (result ≡ Ok None) × (self.new ≡ self.old) }
-        ensures same { SameFileBlocks self.old self.new }
+        ensures gives { GivesStep (I.device image.old).contents self.old self.new result }
         ensures leaves { BlocksAfter self.old.geometry.layout (I.device image.old)
             (I.device image.new) blocks.old blocks.new result }
         ensures counted { AreHeld blocks.old self.old → StepReads (I.reads image.old)
@@ -265,9 +241,7 @@ impl Walk {
     /// Ends the walk: no address is used.
     #[inline(always)]
     fn stop(&mut self)
-        ensures over { IsOver self.new }
-        ensures same { SameFileBlocks self.old self.new }
-        ensures unused { UsesNothing self.new }
+        ensures { Stops self.old self.new }
     {
         self.single = Frame::spent();
         self.double = Frame::spent();
@@ -288,14 +262,8 @@ impl Walk {
         blocks: &mut Blocks,
     ) -> Result<Option<Step>, ImageFault>
         requires { CanWalk self.old.geometry.layout (I.device image.old) blocks.old }
-        ensures step { IfOk result (IsNextStep (I.device image.old).contents self.old self.new) }
-        ensures over { IsOver self.old → result ≡ Ok None }
-        ensures fault { OnErr result (IsOver self.new) }
-        ensures same { SameFileBlocks self.old self.new }
-        ensures leaves { BlocksAfter self.old.geometry.layout (I.device image.old)
-            (I.device image.new) blocks.old blocks.new result }
-        ensures counted { AreHeld blocks.old self.old → StepReads (I.reads image.old)
-            (I.reads image.new) blocks.new self.old self.new result }
+        ensures { TakesStep (I.device image.old) (I.device image.new) (I.reads image.old)
+            (I.reads image.new) blocks.old blocks.new self.old self.new result }
     {
         match self.advance(image, blocks) {
             Ok(step) => Ok(step),
@@ -385,19 +353,14 @@ impl Walk {
     pub fn pass_word(&mut self)
         requires read { self.old.single.unread ≡ false }
         requires left { self.old.single.next < self.old.single.used }
-        ensures word { (blocks : Blocks) → IsInHeldBlock blocks self.old
-            → PassesWord blocks self.old self.new }
-        ensures falls { most_steps_left self.new < most_steps_left self.old }
-        ensures same { SameFileBlocks self.old self.new }
-        ensures counted { EntersOnly self.old self.new 0 }
+        ensures { PassesNextWord self.old self.new }
     {
         self.single.next += 1;
     }
 
     /// A walk that has ended, to be begun for an inode of the volume.
     pub fn ended(geometry: &Geometry) -> Walk
-        ensures over { IsOver result }
-        ensures geometry { result.geometry ≡ geometry.now }
+        ensures { IsEndedWalk geometry.now result }
     {
         Walk {
             geometry: *geometry,
@@ -422,12 +385,9 @@ impl Walk {
 
     /// A walk over the blocks of an inode, if this is its class.
     #[inline(always)]
-    #[tactic(auto, unfolding(ffs_volume::specs::Blocks::Steps::steps_of))]
+    #[tactic(auto, using(ffs_volume::proofs::StepLaws::used_most), unfolding(ffs_volume::specs::Blocks::Steps::steps_of))]
     pub fn of_class(geometry: &Geometry, inode: &Inode, class: Class) -> Walk
-        ensures walk { class ≡ inodes.class_of geometry.now.layout inode.now
-            → IsWalkOf geometry.now inode.now result }
-        ensures top { IsAtTop result }
-        ensures geometry { result.geometry ≡ geometry.now }
+        ensures { IsWalkByClass geometry.now inode.now class result }
     {
         let blocks = walked_blocks(geometry, inode, class);
         Walk {
@@ -446,12 +406,9 @@ impl Walk {
     /// Begins a walk over the blocks of another inode of the same volume, as `of_class` does, in
     /// place, if this is its class.
     #[inline(always)]
-    #[tactic(auto, unfolding(ffs_volume::specs::Blocks::Steps::steps_of))]
+    #[tactic(auto, using(ffs_volume::proofs::StepLaws::used_most), unfolding(ffs_volume::specs::Blocks::Steps::steps_of))]
     pub fn restart(&mut self, inode: &Inode, class: Class)
-        ensures walk { class ≡ inodes.class_of self.old.geometry.layout inode.now
-            → IsWalkOf self.old.geometry inode.now self.new }
-        ensures top { IsAtTop self.new }
-        ensures geometry { self.new.geometry ≡ self.old.geometry }
+        ensures { IsWalkByClass self.old.geometry inode.now class self.new }
     {
         self.stop();
         self.last = last_length(&self.geometry, inode);

@@ -52,11 +52,8 @@ impl Window {
         requires room { length ≤ vec_len self.old.buffer }
         requires inside { place + length ≤ (I.device image.old).size }
         requires holds { WindowHolds (I.device image.old).contents self.old }
-        ensures fills { FillsWindow (I.device image.old) (I.device image.new) place length self.old
-            self.new result }
-        ensures counted { I.reads image.new ≤ I.reads image.old + 1 }
-        ensures again { self.old.place ≡ place → self.old.length ≡ length
-            → I.reads image.new ≤ I.reads image.old }
+        ensures fills { FillsWindow (I.device image.old) (I.device image.new) (I.reads image.old)
+            (I.reads image.new) place length self.old self.new result }
     {
         if self.is_at(place, length) {
             return Ok(());

@@ -1,6 +1,7 @@
 -- A workspace as it is made, and one that is ready for the volume of an image.
-use Rattle.std.specs.Prelude.{◌≡◌, ◌*◌, ◌≤◌, ℕ, List, Option, vec_len}
+use Rattle.std.specs.Prelude.{◌≡◌, ◌*◌, ◌≤◌, ℕ, List, Option, Result, IfOk, vec_len}
 use Rattle.ffs_image.specs.Device.{Device}
+use Rattle.ffs_memory.specs.Account.{Account, Asks}
 use Rattle.ffs_volume.specs.declared.Layout.{Layout}
 use Rattle.ffs_walk.specs.Windows.{WindowHolds, BlocksHold}
 use Rattle.ffs_workspace.specs.{declared.workspace.{Windows.Windows, Workspace.Workspace}, Holds.IsFresh, Lengths.IsFor}
@@ -26,6 +27,12 @@ pub record IsNew (v : Layout) (w : Workspace) : Type 0 where
   pub runs_seen : w.runs_seen ≡ 0
   pub runs_again : w.runs_again ≡ 0
   pub windows : (contents : Option (List ℕ)) → HoldWindows v contents w
+
+-- P holds of what was made in so many bytes of memory, or a request for them was refused
+pub record MakesInMemory {T E : Type 0} (before after : Account) (bytes : ℕ) (result : Result T E) (P : T → Type 0) :
+    Type 0 where
+  pub new : IfOk result P
+  pub asks : Asks before after bytes result
 
 -- the windows have room for six blocks, and hold what any image gives
 pub record AreNewWindows (v : Layout) (w : Windows) : Type 0 where

@@ -1,5 +1,5 @@
 -- What the window on the inode table holds.
-use Rattle.std.specs.Prelude.{◌≡◌, ◌*◌, ◌+◌, ◌-◌, ◌/◌, ◌%◌, ◌<◌, ◌≤◌, ℕ, List, Option, Result, IfOk, vec_len}
+use Rattle.std.specs.Prelude.{◌≡◌, ◌*◌, ◌+◌, ◌-◌, ◌/◌, ◌%◌, ◌<◌, ◌≤◌, ℕ, List, Option, Result, IfOk, OnOk, vec_len}
 use Rattle.std.specs.List.{slice_range}
 use Rattle.ffs_image.specs.{Device.{Device, ForContents}, Reads.ReadAfter, declared.image.ImageFault.ImageFault}
 use Rattle.ffs_memory.specs.declared.fixed_list.FixedList.{FixedList}
@@ -43,6 +43,11 @@ pub record CanReadInodes (v : Layout) (d : Device) (t : Table) : Type 0 where
   pub made : IsTableOf v t
   pub holds : WindowHolds d.contents t.window
 
+-- the inode x of the volume can be read
+pub record CanReadInode (v : Layout) (d : Device) (x : ℕ) (t : Table) : Type 0 where
+  pub number : x < v.ncg * v.ipg
+  pub ready : CanReadInodes v d t
+
 -- what is left of the table holds what the image gives
 pub record KeepsTable (v : Layout) (contents : Option (List ℕ)) (t : Table) : Type 0 where
   pub made : IsTableOf v t
@@ -54,6 +59,13 @@ pub record TableAfter {T : Type 0} (v : Layout) (d d' : Device) (t : Table) (res
   where
     pub kept : KeepsTable v d'.contents t
     pub read : ReadAfter d d' result
+
+-- the piece of the table that has the inode x is read, by one read at most
+pub record ReadsPiece {T : Type 0} (v : Layout) (d d' : Device) (reads reads' x : ℕ) (t : Table)
+    (result : Result T ImageFault) : Type 0 where
+  pub has : OnOk result (HoldsInode t x)
+  pub leaves : TableAfter v d d' t result
+  pub counted : reads' ≤ reads + 1
 
 -- the inode x is read: it is the image's, where the image gives its bytes, and the table holds what
 -- the image gives
@@ -67,6 +79,22 @@ pub record IsHeldAt (v : Layout) (contents : Option (List ℕ)) (t : Table) (x a
   pub inside : at + DINODE_SIZE ≤ t.window.length
   pub bytes : ForContents contents
       (λ b. slice_range (held_bytes t.window) at (at + DINODE_SIZE) ≡ piece (inode_place v x) DINODE_SIZE b)
+
+-- the bytes of the inode x are in the window from the place on that is returned. They are read at most
+-- once, and not where the table held the inode
+pub record LoadsInode (v : Layout) (d d' : Device) (reads reads' x : ℕ) (old new : Table)
+    (result : Result ℕ ImageFault) : Type 0 where
+  pub there : IfOk result (IsHeldAt v d.contents new x)
+  pub leaves : TableAfter v d d' new result
+  pub counted : reads' ≤ reads + 1
+  pub again : HoldsInode old x → reads' ≤ reads
+
+-- the inode x is read, once at most, and not where the table held it
+pub record ReadsInodeOnce (v : Layout) (d d' : Device) (before after x : ℕ) (old new : Table)
+    (result : Result Inode ImageFault) : Type 0 where
+  pub reads : ReadsInode v d d' x new result
+  pub counted : after ≤ before + 1
+  pub again : HoldsInode old x → after ≤ before
 
 -- a table over a list that holds no inode, and so what any image of any layout gives
 pub record IsEmptyTable (list : FixedList ℕ) (t : Table) : Type 0 where

@@ -1,6 +1,6 @@
 //! Where the parent entry of a directory is in the image, in 32 bits.
 
-ghost use Rattle.std.specs.Prelude.{◌≡◌, ◌<◌, ◌^◌, suc, false, true, MatchOption};
+ghost use Rattle.std.specs.Prelude.{◌≡◌, suc, false, true, MatchOption};
 ghost use Rattle.ffs_workspace.specs.Places.{place_in, is_due, place_of};
 
 /// The bit of a word that says that the parent entry is due. The bits below it are the place: 0
@@ -49,7 +49,6 @@ pub fn passed(word: u32) -> u32
 #[inline(always)]
 pub fn place_of(chunk: u64) -> u32
     ensures value { result ≡ place_of chunk }
-    ensures small { result < 2 ^ 31 }
 {
     if chunk < u64::from(DUE - 1) {
         chunk as u32 + 1

@@ -1,8 +1,7 @@
 //! Inodes, read by pieces of their table. `Table` is the `Window` of `ffs_walk` with the number of
 //! the inode that it starts at; no walk reads an inode, so it is here, beside the notes on inodes.
 
-ghost use Rattle.std.specs.Prelude.{◌≡◌, ◌*◌, ◌+◌, ◌<◌, ◌≤◌, ◌↔◌, IfOk, OnOk, IsTrue};
-ghost use Rattle.ffs_volume.specs.declared.constants.TheConstants.{DINODE_SIZE};
+ghost use Rattle.std.specs.Prelude.{◌≡◌, ◌*◌, ◌<◌, ◌↔◌, IsTrue};
 ghost use Rattle.ffs_workspace.specs.Tables.{DividesBlock, table_place};
 
 use ffs_image::{Image, ImageFault};
@@ -25,9 +24,7 @@ const PART_INODES: u32 = 32;
 fn piece_place(geometry: &Geometry, number: u32, count: u32) -> u64
     requires number { number < geometry.now.layout.ncg * geometry.now.layout.ipg }
     requires count { DividesBlock geometry.now.layout count }
-    ensures value { result ≡ table_place geometry.now.layout count number }
-    ensures inside { result + count * DINODE_SIZE
-        ≤ geometry.now.layout.size * geometry.now.layout.fsize }
+    ensures { result ≡ table_place geometry.now.layout count number }
 {
     let group = number / geometry.layout.ipg;
     let piece = number % geometry.layout.ipg / count;
@@ -47,8 +44,7 @@ pub struct Table {
 }
 
 impl Table {
-    ghost use Rattle.ffs_workspace.specs.Tables.{CanReadInodes, HoldsInode, IsEmptyTable, IsHeldAt, ReadsInode, TableAfter};
-    ghost use Rattle.ffs_workspace.specs.Tables.{DividesBlocks};
+    ghost use Rattle.ffs_workspace.specs.Tables.{CanReadInode, CanReadInodes, DividesBlocks, HoldsInode, IsEmptyTable, LoadsInode, ReadsInodeOnce, ReadsPiece};
 
     /// A table that holds no inode. It takes no memory.
     pub fn over(buffer: FixedList<u8>) -> Table
@@ -77,7 +73,7 @@ impl Table {
     }
 
     /// Reads the piece of the table, of `count` inodes, that has an inode.
-    #[tactic(auto, using(crate::proofs::TablePlaces::piece_room))]
+    #[tactic(auto, using(crate::proofs::TablePlaces::piece_room, crate::proofs::TablePlaces::piece_inside, ffs_volume::proofs::AreaLaws::inode_group))]
     fn read_piece<I: Image>(
         &mut self,
         geometry: &Geometry,
@@ -85,13 +81,10 @@ impl Table {
         count: u32,
         image: &mut I,
     ) -> Result<(), ImageFault>
-        requires number { number < geometry.now.layout.ncg * geometry.now.layout.ipg }
+        requires inode { CanReadInode geometry.now.layout (I.device image.old) number self.old }
         requires count { DividesBlock geometry.now.layout count }
-        requires ready { CanReadInodes geometry.now.layout (I.device image.old) self.old }
-        ensures has { OnOk result (HoldsInode self.new number) }
-        ensures leaves { TableAfter geometry.now.layout (I.device image.old) (I.device image.new)
-            self.new result }
-        ensures counted { I.reads image.new ≤ I.reads image.old + 1 }
+        ensures { ReadsPiece geometry.now.layout (I.device image.old) (I.device image.new)
+            (I.reads image.old) (I.reads image.new) number self.new result }
     {
         let place = piece_place(geometry, number, count);
         self.forget();
@@ -112,14 +105,9 @@ impl Table {
         number: u32,
         image: &mut I,
     ) -> Result<usize, ImageFault>
-        requires number { number < geometry.now.layout.ncg * geometry.now.layout.ipg }
-        requires ready { CanReadInodes geometry.now.layout (I.device image.old) self.old }
-        ensures there { IfOk result (IsHeldAt geometry.now.layout (I.device image.old).contents
-            self.new number) }
-        ensures leaves { TableAfter geometry.now.layout (I.device image.old) (I.device image.new)
-            self.new result }
-        ensures counted { I.reads image.new ≤ I.reads image.old + 1 }
-        ensures again { HoldsInode self.old number → I.reads image.new ≤ I.reads image.old }
+        requires { CanReadInode geometry.now.layout (I.device image.old) number self.old }
+        ensures { LoadsInode geometry.now.layout (I.device image.old) (I.device image.new)
+            (I.reads image.old) (I.reads image.new) number self.old self.new result }
     {
         if !self.has(number) {
             self.read_piece(geometry, number, geometry.layout.inopb, image)?;
@@ -140,10 +128,8 @@ impl Table {
     ) -> Result<Inode, ImageFault>
         requires number { number < geometry.now.layout.ncg * geometry.now.layout.ipg }
         requires ready { CanReadInodes geometry.now.layout (I.device image.old) self.old }
-        ensures reads { ReadsInode geometry.now.layout (I.device image.old) (I.device image.new)
-            number self.new result }
-        ensures counted { I.reads image.new ≤ I.reads image.old + 1 }
-        ensures again { HoldsInode self.old number → I.reads image.new ≤ I.reads image.old }
+        ensures { ReadsInodeOnce geometry.now.layout (I.device image.old) (I.device image.new)
+            (I.reads image.old) (I.reads image.new) number self.old self.new result }
     {
         let at = self.load(geometry, number, image)?;
         let bytes = self.window.bytes();
@@ -184,9 +170,8 @@ impl Table {
     ) -> Result<Inode, ImageFault>
         requires number { number < geometry.now.layout.ncg * geometry.now.layout.ipg }
         requires ready { CanReadInodes geometry.now.layout (I.device image.old) self.old }
-        ensures reads { ReadsInode geometry.now.layout (I.device image.old) (I.device image.new)
-            number self.new result }
-        ensures counted { I.reads image.new ≤ I.reads image.old + 1 }
+        ensures { ReadsInodeOnce geometry.now.layout (I.device image.old) (I.device image.new)
+            (I.reads image.old) (I.reads image.new) number self.old self.new result }
     {
         if !self.has(number) {
             let count = self.count_to_read(number);

@@ -3,7 +3,8 @@
 ghost use Rattle.std.specs.Prelude.{◌≡◌, ◌+◌, ◌*◌, ◌<◌, ◌≤◌, [], ◌∷◌, IfOk, false, slice_index, vec_len};
 ghost use Rattle.ffs_layout.specs.declared.geometry.Geometry.{Geometry};
 ghost use Rattle.ffs_volume.specs.{declared.Layout.Layout, Report.Memory.held_limit};
-ghost use Rattle.ffs_memory.specs.Account.{Asks, IsFilled};
+ghost use Rattle.ffs_workspace.specs.Ready.{MakesInMemory};
+ghost use Rattle.ffs_memory.specs.Account.{IsFilled};
 
 use crate::notes::cut_in;
 use crate::table::Table;
@@ -104,11 +105,9 @@ impl Workspace {
         memory: &mut M,
         geometry: &Geometry,
     ) -> Result<Workspace, AllocError>
-        ensures new { IfOk result (IsNew geometry.now.layout) }
-
         // What it holds was granted and no byte more, or a request was refused.
-        ensures asks { Asks (M.account memory.old) (M.account memory.new)
-            (held_of geometry.now.layout) result }
+        ensures { MakesInMemory (M.account memory.old) (M.account memory.new)
+            (held_of geometry.now.layout) result (IsNew geometry.now.layout) }
     {
         let inodes = geometry.layout.ncg as usize * geometry.layout.ipg as usize;
         let used = FragmentMap::in_memory(memory, geometry.layout.size)?;
@@ -199,9 +198,8 @@ impl Windows {
     ghost use Rattle.ffs_workspace.specs.Ready.{AreNewWindows};
 
     fn in_memory<M: Memory>(memory: &mut M, geometry: &Geometry) -> Result<Windows, AllocError>
-        ensures new { IfOk result (AreNewWindows geometry.now.layout) }
-        ensures asks { Asks (M.account memory.old) (M.account memory.new)
-            (6 * geometry.now.layout.bsize) result }
+        ensures { MakesInMemory (M.account memory.old) (M.account memory.new)
+            (6 * geometry.now.layout.bsize) result (AreNewWindows geometry.now.layout) }
     {
         let size = geometry.layout.bsize as usize;
         let table = Table::over(memory.bytes(size)?);
@@ -227,10 +225,9 @@ struct FlagLists {
 }
 
 fn flag_lists<M: Memory>(memory: &mut M, n: usize) -> Result<FlagLists, AllocError>
-    ensures lists { IfOk result (λ lists. IsFilled n false lists.marked
-        × IsFilled n false lists.named × IsFilled n false lists.reached
-        × IsFilled n false lists.flags) }
-    ensures asks { Asks (M.account memory.old) (M.account memory.new) (4 * n) result }
+    ensures { MakesInMemory (M.account memory.old) (M.account memory.new) (4 * n) result
+        (λ lists. IsFilled n false lists.marked × IsFilled n false lists.named
+        × IsFilled n false lists.reached × IsFilled n false lists.flags) }
 {
     let marked = memory.flags(n)?;
     let named = memory.flags(n)?;
@@ -253,9 +250,9 @@ struct NumberLists {
 }
 
 fn number_lists<M: Memory>(memory: &mut M, n: usize) -> Result<NumberLists, AllocError>
-    ensures lists { IfOk result (λ lists. IsFilled n 0 lists.notes × IsFilled n 0 lists.parents
+    ensures { MakesInMemory (M.account memory.old) (M.account memory.new) (12 * n) result
+        (λ lists. IsFilled n 0 lists.notes × IsFilled n 0 lists.parents
         × IsFilled n 0 lists.queue) }
-    ensures asks { Asks (M.account memory.old) (M.account memory.new) (12 * n) result }
 {
     let notes = memory.numbers(n)?;
     let parents = memory.numbers(n)?;

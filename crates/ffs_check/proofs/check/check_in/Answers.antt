@@ -15,39 +15,44 @@ returns-in-Ok-clause-headline g c =
     (progress g.W.Output.sink c.check_accepted.new.report) c.in-Ok.superblock _
     (rw c.new-report.ensures at c.in-Ok.ensures.opened) c.check_accepted.ensures.followed)
 
-pub returns-in-Ok-clause-unreadable : goal.returns-in-Ok-clause-unreadable
-returns-in-Ok-clause-unreadable g c at e = absurd (not_refused _ _ _ _ _ _ _ c.check_accepted.ensures.followed e)
-
 pub returns-in-Err-clause-failures : goal.returns-in-Err-clause-failures
-returns-in-Err-clause-failures g c = grind (arith, reads_failed, returns-in-Err-clause-headline, writes_failed)
+returns-in-Err-clause-failures g c = record {
+  reads = reads_failed _ _ _ _ _ _ _ (returns-in-Err-clause-headline g c);
+  writes = writes_failed _ _ _ _ _ _ _ (returns-in-Err-clause-headline g c);
+  unreadable = c.in-Err.ensures.found;
+}
 
 pub returns-in-Ok-clause-failures : goal.returns-in-Ok-clause-failures
-returns-in-Ok-clause-failures g c = grind (arith, reads_failed, returns-in-Ok-clause-headline, writes_failed)
+returns-in-Ok-clause-failures g c = record {
+  reads = reads_failed _ _ _ _ _ _ _ (returns-in-Ok-clause-headline g c);
+  writes = writes_failed _ _ _ _ _ _ _ (returns-in-Ok-clause-headline g c);
+  unreadable = λ at e. absurd (not_refused _ _ _ _ _ _ _ c.check_accepted.ensures.followed e);
+}
 
 pub returns-in-Ok-clause-memory : goal.returns-in-Ok-clause-memory
-returns-in-Ok-clause-memory g c = grind (arith, takes)
+returns-in-Ok-clause-memory g c =
+    let memory = c.check_accepted.ensures.memory in
+    record { takes = grind (arith, takes); refused = memory.refused }
 
 pub returns-in-Err-clause-memory : goal.returns-in-Err-clause-memory
-returns-in-Err-clause-memory g c = inl refl
-
-pub returns-in-Err-clause-refused : goal.returns-in-Err-clause-refused
-returns-in-Err-clause-refused g c e = absurd (opened_for_memory _ _ _ _ _ _ _ c.in-Err.ensures.opened e)
+returns-in-Err-clause-memory g c = record {
+  takes = inl refl;
+  refused = λ e. absurd (opened_for_memory _ _ _ _ _ _ _ c.in-Err.ensures.opened e);
+}
 
 pub returns-in-Err-clause-reads : goal.returns-in-Err-clause-reads
-returns-in-Err-clause-reads g c = opened_within _ _ _ _ _ c.in-Err.ensures.reads
+returns-in-Err-clause-reads g c =
+    record { reads = opened_within _ _ _ _ _ c.in-Err.ensures.reads; any = inl c.in-Err.ensures.reads }
 
 pub returns-in-Ok-clause-reads : goal.returns-in-Ok-clause-reads
 returns-in-Ok-clause-reads g c =
-    found_within _ _ _ _ _ _ c.in-Ok.superblock _ _ _ c.in-Ok.ensures.opened c.in-Ok.ensures.reads
-    c.check_accepted.ensures.reads
-
-pub returns-in-Err-clause-any : goal.returns-in-Err-clause-any
-returns-in-Err-clause-any g c = inl c.in-Err.ensures.reads
-
-pub returns-in-Ok-clause-any : goal.returns-in-Ok-clause-any
-returns-in-Ok-clause-any g c =
     let opened = rw c.new-report.ensures at c.in-Ok.ensures.opened in
-    any_at _ _ (g.W.Output.sink c.check_accepted.new.report.out.now) _ _ _ (search rules)
-    (whole_reads _ c.in-Ok.superblock _ (g.W.Output.sink c.args.out.now)
-    (progress g.W.Output.sink c.say_opening.new.report) (progress g.W.Output.sink c.check_accepted.new.report) _ _ _ _
-    c.in-Ok.ensures.found opened.ends.0 c.in-Ok.ensures.reads c.check_accepted.ensures.any)
+    let phases = c.check_accepted.ensures.reads in
+    record {
+      reads = found_within _ _ _ _ _ _ c.in-Ok.superblock _ _ _ c.in-Ok.ensures.opened c.in-Ok.ensures.reads
+          phases.known;
+      any = any_at _ _ (g.W.Output.sink c.check_accepted.new.report.out.now) _ _ _ (search rules)
+          (whole_reads _ c.in-Ok.superblock _ (g.W.Output.sink c.args.out.now)
+          (progress g.W.Output.sink c.say_opening.new.report) (progress g.W.Output.sink c.check_accepted.new.report)
+          _ _ _ _ c.in-Ok.ensures.found opened.ends.0 c.in-Ok.ensures.reads phases.any);
+    }

@@ -1,5 +1,5 @@
 use Rattle.std.proofs.Common.{arith}
 use Rattle.ffs_check.proofs.parse_args.image_argument.Goals as goal
 
-pub returns-clause-rule : goal.returns-clause-rule
-returns-clause-rule c = grind arith
+pub returns : goal.returns
+returns c = grind arith

@@ -2,5 +2,5 @@ use Rattle.std.proofs.Common.{arith}
 use Rattle.ffs_check.proofs.MatchLaws.{parsed}
 use Rattle.ffs_check.proofs.parse_args.sector_argument.Goals as goal
 
-pub returns-clause-rule : goal.returns-clause-rule
-returns-clause-rule c = grind (arith, parsed)
+pub returns : goal.returns
+returns c = grind (arith, parsed)

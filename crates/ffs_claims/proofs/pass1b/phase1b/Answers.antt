@@ -1,11 +1,27 @@
-use Rattle.std.proofs.{Common.{◌≡◌, ◌∙◌, false, ap, arith, sym}, lemmas.Bool.both_ways}
+use Rattle.std.proofs.Common.{◌≡◌, ◌∙◌, false, ap, arith, sym, ℕ, List, OnOk, Result, Ok, Err}
+use Rattle.std.proofs.lemmas.Bool.{both_ways}
 use Rattle.ffs_image.specs.Device.{Device}
-use Rattle.ffs_report.specs.Known.{ForBytes}
+use Rattle.ffs_volume.specs.declared.Layout.{Layout}
+use Rattle.ffs_report.specs.{Known.ForBytes, declared.fault.RunFault.RunFault}
+use Rattle.ffs_workspace.specs.{declared.workspace.Workspace.Workspace, Holds.{HoldsClaims, HoldsStarts}}
 use Rattle.ffs_workspace.{specs.Found.WithPhase1, proofs.Readiness.ready_same}
+use Rattle.ffs_claims.specs.{Phases.IsLeftByPhase1b, RescanRuns.rescan_runs}
 use Rattle.ffs_claims.proofs.Limited.{image_over, phase_served, runs_fit, runs_within}
 use Rattle.ffs_claims.proofs.pass1b.phase1b.Goals.{After-is_spent}
 use Rattle.ffs_claims.proofs.pass1b.phase1b.Given as given
 use Rattle.ffs_claims.proofs.pass1b.phase1b.Goals as goal
+
+-- what the scan leaves is known where the bytes are
+left_by : {T : Type 0} (v : Layout) (w : Workspace) (knows known : List ℕ → Type 0) (r : Result T RunFault) →
+    ForBytes knows known → OnOk r (ForBytes known (λ bytes. HoldsClaims v bytes w × HoldsStarts v bytes w)) →
+    OnOk r (ForBytes known (λ bytes. w.runs_again ≡ rescan_runs v bytes)) →
+    OnOk r (ForBytes knows (λ bytes. IsLeftByPhase1b v bytes w))
+left_by v w knows known (Ok x) more holds count = λ bytes k. record {
+  claims = (holds bytes (more bytes k)).0;
+  starts = (holds bytes (more bytes k)).1;
+  count = count bytes (more bytes k);
+}
+left_by v w knows known (Err e) more holds count = tt
 
 -- what is known of the bytes is known of the limited image
 known : (g : given.Over) (c : After-is_spent g) →
@@ -36,20 +52,16 @@ returns-then-is_spent-clause-prints g c =
     let image = c.image-1.given.1 back.same_image ∙ c.drop-limited.ensures.below in
     rw image (back.refused tt c.if-is_spent.true (fits g at))
 
-pub returns-then-is_spent-clause-holds : goal.returns-then-is_spent-clause-holds
-returns-then-is_spent-clause-holds g c = λ bytes k.
-    let at = (goal.at.returns-then-is_spent-clause-holds g c).After-is_spent in
+pub returns-then-is_spent-clause-leaves : goal.returns-then-is_spent-clause-leaves
+returns-then-is_spent-clause-leaves g c = λ bytes k.
+    let at = (goal.at.returns-then-is_spent-clause-leaves g c).After-is_spent in
     absurd (both_ways _ (fits g at bytes k) c.if-is_spent.true)
 
-pub returns-then-is_spent-clause-runs : goal.returns-then-is_spent-clause-runs
-returns-then-is_spent-clause-runs g c = λ bytes k.
-    let at = (goal.at.returns-then-is_spent-clause-runs g c).After-is_spent in
-    c.rescan_inodes-scanned.ensures.runs bytes (known g at bytes k)
-
-pub returns-then-is_spent-clause-count : goal.returns-then-is_spent-clause-count
-returns-then-is_spent-clause-count g c = λ bytes k.
-    let at = (goal.at.returns-then-is_spent-clause-count g c).After-is_spent in
-    absurd (both_ways _ (fits g at bytes k) c.if-is_spent.true)
+pub returns-then-is_spent-clause-reads : goal.returns-then-is_spent-clause-reads
+returns-then-is_spent-clause-reads g c =
+    let at = (goal.at.returns-then-is_spent-clause-reads g c).After-is_spent in
+    let runs = c.rescan_inodes-scanned.ensures.runs in
+    grind (arith, known g at, runs)
 
 pub returns-then-is_spent-clause-ready : goal.returns-then-is_spent-clause-ready
 returns-then-is_spent-clause-ready g c =
@@ -67,10 +79,17 @@ returns-clause-prints g c =
     let image = c.image-2-1.given.1 back.same_image ∙ c.drop-limited-2.ensures.below in
     rw image (back.answered c.if-is_spent.false)
 
-pub returns-clause-runs : goal.returns-clause-runs
-returns-clause-runs g c = λ bytes k.
-    let at = (goal.at.returns-clause-runs g c).After-is_spent in
-    c.rescan_inodes-scanned.ensures.runs bytes (known g at bytes k)
+pub returns-clause-leaves : goal.returns-clause-leaves
+returns-clause-leaves g c =
+    let at = (goal.at.returns-clause-leaves g c).After-is_spent in
+    left_by _ c.rescan_inodes-scanned.new.workspace _ _ c.rescan_inodes-scanned.result (known g at)
+    c.rescan_inodes-scanned.ensures.holds c.rescan_inodes-scanned.ensures.count
+
+pub returns-clause-reads : goal.returns-clause-reads
+returns-clause-reads g c =
+    let at = (goal.at.returns-clause-reads g c).After-is_spent in
+    let runs = c.rescan_inodes-scanned.ensures.runs in
+    grind (arith, known g at, runs)
 
 pub returns-clause-ready : goal.returns-clause-ready
 returns-clause-ready g c =

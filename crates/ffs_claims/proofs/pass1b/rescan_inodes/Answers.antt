@@ -63,7 +63,7 @@ returns-in_err-rewalk_inode-clause-prints g c =
     let fault : Result (Unit {0}) RunFault = Err c.in_err-rewalk_inode.field-0.0 in
     rw (p.1, p.2) (record {
       image = image_from (g.I.Image.device c.rewalk_inode.new.image) fault inv.device
-          c.in_err-rewalk_inode.ensures.rewalks.left.image;
+          c.in_err-rewalk_inode.ensures.left.image;
       text = of_fault (Unit {0}) (Unit {0}) _ (λ bytes. of_lines (first_offer_lines d (kept_from v bytes n)))
           (λ bytes. of_lines (first_offer_lines d (offers_at v bytes notes n)))
           (λ bytes. of_lines (first_offer_lines (after_first d (offers_at v bytes notes n))
@@ -71,7 +71,7 @@ returns-in_err-rewalk_inode-clause-prints g c =
           _ _ _ _ c.in_err-rewalk_inode.field-0.0 inv.said (λ bytes k. lines_split d _ _ _ _ (kept_next v bytes notes n
           (is_noted c.args.geometry.now.sound inv.low (omega arith) inv.claims k.1)) refl)
           (reports_knowing (Unit {0}) _ _ _ _ _ fault (λ bytes k. ap (λ d. d.contents) inv.device ∙ k.0)
-          c.in_err-rewalk_inode.ensures.rewalks.text);
+          c.in_err-rewalk_inode.ensures.text);
     })
 
 pub returns-in_err-rewalk_inode-clause-runs : goal.returns-in_err-rewalk_inode-clause-runs
@@ -81,7 +81,7 @@ returns-in_err-rewalk_inode-clause-runs g c = λ bytes k.
     let n = c.loop-number.number in
     let on = runs_on v bytes _ n (is_noted c.args.geometry.now.sound inv.low (omega arith) inv.claims k.1) in
     let most = runs_most v bytes (n + 1) (omega arith) (λ h. omega arith) in
-    omega (arith, inv.runs bytes k, c.rewalk_inode.ensures.rewalks.runs bytes (ap (λ d. d.contents) inv.device ∙ k.0))
+    omega (arith, inv.runs bytes k, c.rewalk_inode.ensures.runs bytes (ap (λ d. d.contents) inv.device ∙ k.0))
 
 pub loop-number-preserved : goal.loop-number-preserved
 loop-number-preserved g c =
@@ -93,7 +93,7 @@ loop-number-preserved g c =
     let d' = bits_of c.rewalk_inode.new.workspace.duplicates in
     let notes = c.loop-number.workspace.notes.items in
     let image = ap (λ d. d.contents) inv.device in
-    let rewalks = c.in_ok-rewalk_inode.ensures.rewalks in
+    let rewalks = c.in_ok-rewalk_inode.ensures in
     let noted : ForBytes (WithPhase1 v (g.I.Image.device c.args.image.now) c.args.workspace.now)
     (λ bytes. IsNoted v bytes notes n) = λ bytes k. is_noted sound inv.low (omega arith) inv.claims k.1 in
     let on : ForBytes (WithPhase1 v (g.I.Image.device c.args.image.now) c.args.workspace.now) (λ bytes.

@@ -22,10 +22,10 @@ loop-next-init g c =
     let begun = c.start-keeping.ensures.fresh in
     let steps = c.start-walk.ensures.steps in
     record {
-      left = record { image = refl; ready = c.requires.can.ready; claims = claims_none c.args.workspace.now };
+      left = record { image = refl; ready = c.requires.ready; claims = claims_none c.args.workspace.now };
       cut = c.start-keeping.ensures.cut ∙ c.cut_of-cut.ensures;
       going = ap (is_replay_open cut) begun ∙ open_first cut;
-      pending = c.requires.can.pending;
+      pending = c.requires.pending;
       geometry = c.start-walk.ensures.geometry;
       held = top_held c.start-walk.result c.start-walk.ensures.top _;
       counted = record {
@@ -39,11 +39,12 @@ loop-next-init g c =
 pub next-requires : goal.next-requires
 next-requires g c = can_walk c.loop-next.invariant.geometry c.loop-next.invariant.left.ready
 
-pub returns-in_err-next-clause-rewalks : goal.returns-in_err-next-clause-rewalks
-returns-in_err-next-clause-rewalks g c =
+pub returns-in_err-next : goal.returns-in_err-next
+returns-in_err-next g c =
     let p = err_from_is_err_and c.from_residual.result c.from_residual.ensures.1 in
     let inv = c.loop-next.invariant in
     let err = c.in_err-next.ensures.leaves.read in
+    let reads = c.in_err-next.ensures.counted inv.held in
     let ready = ready_read {d' = g.I.Image.device c.next.new.image} err.contents err.size inv.geometry
     c.next.ensures.leaves.kept inv.left.ready in
     rw (p.1, p.2) (record {
@@ -51,16 +52,21 @@ returns-in_err-next-clause-rewalks g c =
       rewalked = tt;
       runs = λ bytes t. omega (arith, (inv.walk bytes t).runs);
       left = grind arith;
+      counted = grind arith;
     })
 
-pub report_again-requires-clause-can : goal.report_again-requires-clause-can
-report_again-requires-clause-can g c =
+pub report_again-requires : goal.report_again-requires
+report_again-requires g c =
     let inv = c.loop-next.invariant in
     let read = ready_walked c.in_ok-next.ensures.leaves.read inv.geometry c.next.ensures.leaves.kept inv.left.ready in
-    record { made = read.made; number_fits = c.requires.can.number_fits }
+    record {
+      can = record { made = read.made; number_fits = c.requires.number_fits };
+      going = rw inv.cut inv.going;
+      length = (rw (inv.geometry, c.in-Some.is) at c.in_ok-next.ensures.step.fits).length;
+    }
 
-pub returns-in_err-report_again-clause-rewalks : goal.returns-in_err-report_again-clause-rewalks
-returns-in_err-report_again-clause-rewalks g c =
+pub returns-in_err-report_again : goal.returns-in_err-report_again
+returns-in_err-report_again g c =
     let from = c.from_residual-in_err-report_again in
     let p = err_from_is_err_and from.result from.ensures.1 in
     let inv = c.loop-next.invariant in
@@ -83,6 +89,8 @@ returns-in_err-report_again-clause-rewalks g c =
           (steps_left bytes c.next.new.self) (next bytes t) refl in
           omega (arith, (inv.walk bytes t).runs, rw inv.cut at c.report_again.ensures.runs.most);
       left = record { image = on.image; ready = on.ready; claims = on.claims };
+      counted = runs_pay_ends _ _ _ _ _ inv.counted c.report_again.ensures.counted
+          (rw c.in-Some.is at (c.in_ok-next.ensures.counted inv.held).paid);
     })
 
 pub loop-next-preserved-then-matches : goal.loop-next-preserved-then-matches
@@ -147,8 +155,8 @@ loop-next-preserved g c =
           c.in_ok-report_again.ensures.said;
     }
 
-pub returns-then-not-is_replay_open-clause-rewalks : goal.returns-then-not-is_replay_open-clause-rewalks
-returns-then-not-is_replay_open-clause-rewalks g c =
+pub returns-then-not-is_replay_open : goal.returns-then-not-is_replay_open
+returns-then-not-is_replay_open g c =
     let inv = c.loop-next.invariant in
     let d' = bits_of c.report_again.new.workspace.duplicates in
     let did = c.in_ok-report_again.ensures.reported in
@@ -165,10 +173,12 @@ returns-then-not-is_replay_open-clause-rewalks g c =
       runs = λ bytes t. omega (arith, (walk bytes t).runs);
       left = rereads_on c.in_ok-next.ensures.leaves.read inv.geometry c.next.ensures.leaves.kept
           c.report_again.ensures.only inv.left;
+      counted = runs_pay_ends _ _ _ _ _ inv.counted c.report_again.ensures.counted
+          (rw c.in-Some.is at (c.in_ok-next.ensures.counted inv.held).paid);
     }
 
-pub returns-then-not-has_dups-clause-rewalks : goal.returns-then-not-has_dups-clause-rewalks
-returns-then-not-has_dups-clause-rewalks g c =
+pub returns-then-not-has_dups : goal.returns-then-not-has_dups
+returns-then-not-has_dups g c =
     let inv = c.loop-next.invariant in
     let d' = bits_of c.report_again.new.workspace.duplicates in
     let did = c.in_ok-report_again.ensures.reported in
@@ -183,14 +193,17 @@ returns-then-not-has_dups-clause-rewalks g c =
       runs = λ bytes t. omega (arith, (walk bytes t).runs);
       left = rereads_on c.in_ok-next.ensures.leaves.read inv.geometry c.next.ensures.leaves.kept
           c.report_again.ensures.only inv.left;
+      counted = runs_pay_ends _ _ _ _ _ inv.counted c.report_again.ensures.counted
+          (rw c.in-Some.is at (c.in_ok-next.ensures.counted inv.held).paid);
     }
 
-pub returns-in_default-clause-rewalks : goal.returns-in_default-clause-rewalks
-returns-in_default-clause-rewalks g c =
+pub returns-in_default : goal.returns-in_default
+returns-in_default g c =
     let inv = c.loop-next.invariant in
     let d = bits_of c.loop-next.workspace.duplicates in
     let ready = ready_walked c.in_ok-next.ensures.leaves.read inv.geometry c.next.ensures.leaves.kept inv.left.ready in
     let over = rw (inv.left.image, c.in_default.is) at c.in_ok-next.ensures.step.steps in
+    let paid = rw c.in_default.is at (c.in_ok-next.ensures.counted inv.held).paid in
     let none = λ (bytes : List ℕ) (t : IsContents (g.I.Image.device c.args.image.now).contents bytes).
     offers_none c.args.geometry.now.layout c.args.number _ (replay_in c.loop-next.keeping) _ (over bytes t) in
     record {
@@ -199,27 +212,5 @@ returns-in_default-clause-rewalks g c =
           (inv.walk bytes t));
       runs = λ bytes t. omega (arith, (inv.walk bytes t).runs);
       left = grind arith;
+      counted = grind arith;
     }
-
-pub returns-in_err-next-clause-counted : goal.returns-in_err-next-clause-counted
-returns-in_err-next-clause-counted g c =
-    let reads = c.in_err-next.ensures.counted c.loop-next.invariant.held in grind arith
-
-pub returns-in_err-report_again-clause-counted : goal.returns-in_err-report_again-clause-counted
-returns-in_err-report_again-clause-counted g c =
-    runs_pay_ends _ _ _ _ _ c.loop-next.invariant.counted c.report_again.ensures.counted
-    (rw c.in-Some.is at (c.in_ok-next.ensures.counted c.loop-next.invariant.held).paid)
-
-pub returns-then-not-is_replay_open-clause-counted : goal.returns-then-not-is_replay_open-clause-counted
-returns-then-not-is_replay_open-clause-counted g c =
-    runs_pay_ends _ _ _ _ _ c.loop-next.invariant.counted c.report_again.ensures.counted
-    (rw c.in-Some.is at (c.in_ok-next.ensures.counted c.loop-next.invariant.held).paid)
-
-pub returns-then-not-has_dups-clause-counted : goal.returns-then-not-has_dups-clause-counted
-returns-then-not-has_dups-clause-counted g c =
-    runs_pay_ends _ _ _ _ _ c.loop-next.invariant.counted c.report_again.ensures.counted
-    (rw c.in-Some.is at (c.in_ok-next.ensures.counted c.loop-next.invariant.held).paid)
-
-pub returns-in_default-clause-counted : goal.returns-in_default-clause-counted
-returns-in_default-clause-counted g c =
-    let paid = rw c.in_default.is at (c.in_ok-next.ensures.counted c.loop-next.invariant.held).paid in grind arith

@@ -53,6 +53,13 @@ loop-number-init g c =
       paid = paid_says _ c.in_ok-say.ensures.said (omega arith) (omega arith);
     }
 
+pub check_inode-requires : goal.check_inode-requires
+check_inode-requires g c = record {
+  ready = c.loop-number.invariant.ready;
+  number = (c.loop-number.invariant.low, omega arith);
+  leaders = c.loop-number.invariant.leaders;
+}
+
 pub returns-in_err-check_inode-clause-prints : goal.returns-in_err-check_inode-clause-prints
 returns-in_err-check_inode-clause-prints g c =
     let p = err_from_is_err_and c.from_residual-in_err-check_inode.result
@@ -86,26 +93,32 @@ loop-number-preserved g c =
       said = of_part _ _ _ _ _ _ _ _ inv.said
           (λ bytes k. from_next (unref_dir_lines (volume_of v bytes)) n (inodes_of v) (omega arith))
           (said_knows _ _ _ _ _ _ more ok.prints.text);
-      paid = paid_then inv.paid (paid_answer ok.paid);
+      paid = paid_then inv.paid (paid_answer ok.reads.paid);
     }
 
 pub returns-clause-prints : goal.returns-clause-prints
 returns-clause-prints g c = grind (arith, of_same, from_end)
 
+pub returns-in_err-say-clause-reads : goal.returns-in_err-say-clause-reads
+returns-in_err-say-clause-reads g c = record {
+  known = λ bytes k. omega arith;
+  paid = grind (arith, err_from_is_err_and, paid_stops);
+}
+
+pub returns-then-first-len-clause-reads : goal.returns-then-first-len-clause-reads
+returns-then-first-len-clause-reads g c = record {
+  known = λ bytes k. omega arith;
+  paid = paid_says _ c.in_ok-say.ensures.said (omega arith) (omega arith);
+}
+
 pub returns-in_err-check_inode-clause-reads : goal.returns-in_err-check_inode-clause-reads
-returns-in_err-check_inode-clause-reads g c = grind (arith, count_next, known)
+returns-in_err-check_inode-clause-reads g c = record {
+  known = grind (arith, count_next, known);
+  paid = grind (arith, err_from_is_err_and, paid_then, paid_fault);
+}
 
 pub returns-clause-reads : goal.returns-clause-reads
-returns-clause-reads g c = λ bytes k. omega (arith, c.loop-number.invariant.reads bytes k)
-
-pub returns-in_err-say-clause-paid : goal.returns-in_err-say-clause-paid
-returns-in_err-say-clause-paid g c = grind (arith, err_from_is_err_and, paid_stops)
-
-pub returns-then-first-len-clause-paid : goal.returns-then-first-len-clause-paid
-returns-then-first-len-clause-paid g c = paid_says _ c.in_ok-say.ensures.said (omega arith) (omega arith)
-
-pub returns-in_err-check_inode-clause-paid : goal.returns-in_err-check_inode-clause-paid
-returns-in_err-check_inode-clause-paid g c = grind (arith, err_from_is_err_and, paid_then, paid_fault)
-
-pub returns-clause-paid : goal.returns-clause-paid
-returns-clause-paid g c = paid_answer c.loop-number.invariant.paid
+returns-clause-reads g c = record {
+  known = λ bytes k. omega (arith, c.loop-number.invariant.reads bytes k);
+  paid = paid_answer c.loop-number.invariant.paid;
+}

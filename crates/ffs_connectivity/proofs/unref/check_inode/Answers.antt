@@ -40,23 +40,23 @@ returns-in_err-say-clause-prints g c = grind (arith, err_from_is_err_and, stops_
 pub returns-clause-prints : goal.returns-clause-prints
 returns-clause-prints g c = grind (arith, says_all, heard_of, tested)
 
+pub returns-then-not-unref-clause-reads : goal.returns-then-not-unref-clause-reads
+returns-then-not-unref-clause-reads g c = record { known = λ bytes k. omega arith; paid = paid_none (omega arith) }
+
 pub returns-in_err-inode-clause-reads : goal.returns-in_err-inode-clause-reads
-returns-in_err-inode-clause-reads g c = grind (arith, tested, one_line)
+returns-in_err-inode-clause-reads g c = record {
+  known = grind (arith, tested, one_line);
+  paid = grind (arith, err_from_is_err_and, paid_reads);
+}
 
 pub returns-in_err-say-clause-reads : goal.returns-in_err-say-clause-reads
-returns-in_err-say-clause-reads g c = grind (arith, tested, one_line)
+returns-in_err-say-clause-reads g c = record {
+  known = grind (arith, tested, one_line);
+  paid = grind (arith, err_from_is_err_and, paid_stops);
+}
 
 pub returns-clause-reads : goal.returns-clause-reads
-returns-clause-reads g c = grind (arith, tested, one_line)
-
-pub returns-then-not-unref-clause-paid : goal.returns-then-not-unref-clause-paid
-returns-then-not-unref-clause-paid g c = paid_none (omega arith)
-
-pub returns-in_err-inode-clause-paid : goal.returns-in_err-inode-clause-paid
-returns-in_err-inode-clause-paid g c = grind (arith, err_from_is_err_and, paid_reads)
-
-pub returns-in_err-say-clause-paid : goal.returns-in_err-say-clause-paid
-returns-in_err-say-clause-paid g c = grind (arith, err_from_is_err_and, paid_stops)
-
-pub returns-clause-paid : goal.returns-clause-paid
-returns-clause-paid g c = paid_says _ c.in_ok-say.ensures.said (omega arith) c.in_ok-inode.ensures.counted
+returns-clause-reads g c = record {
+  known = grind (arith, tested, one_line);
+  paid = paid_says _ c.in_ok-say.ensures.said (omega arith) c.in_ok-inode.ensures.counted;
+}

@@ -14,10 +14,11 @@ fill-requires-clause-inside g c =
       c.requires.ready.volume,
     )
 
-pub returns-clause-reads : goal.returns-clause-reads
-returns-clause-reads g c = record {
+pub returns : goal.returns
+returns g c = record {
   there = record_there c.args.geometry.now.layout (g.I.Image.device c.args.image.now).contents c.fill.new.self
       c.args.group c.requires.group (c.in_ok-fill.ensures.fills.place.0 ∙ c.summary_place-place.ensures)
       (c.in_ok-fill.ensures.fills.place.1 ∙ ap (λ n. 16 * n) c.min-count.ensures) (search rules);
   leaves = search rules;
+  counted = omega arith;
 }

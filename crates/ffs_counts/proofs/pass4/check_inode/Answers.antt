@@ -66,35 +66,34 @@ returns-in_err-say_line-clause-stays g c = stays g (goal.at.returns-in_err-say_l
 pub returns-clause-stays : goal.returns-clause-stays
 returns-clause-stays g c = stays g (goal.at.returns-clause-stays g c).In_ok-inode
 
+pub returns-then-is_right-clause-reads : goal.returns-then-is_right-clause-reads
+returns-then-is_right-clause-reads g c = record { known = λ bytes k. omega arith; paid = paid_none (omega arith) }
+
 pub returns-in_err-inode-clause-reads : goal.returns-in_err-inode-clause-reads
-returns-in_err-inode-clause-reads g c = λ bytes k.
-    let line = one g (goal.at.returns-in_err-inode-clause-reads g c).After-inode bytes k in
-    omega (arith, line, c.in_err-inode.ensures.counted)
+returns-in_err-inode-clause-reads g c = record {
+  known = λ bytes k.
+      let line = one g (goal.at.returns-in_err-inode-clause-reads g c).After-inode bytes k in
+      omega (arith, line, c.in_err-inode.ensures.counted);
+  paid = grind (arith, err_from_is_err_and, paid_reads);
+}
 
 pub returns-in_err-say_line-clause-reads : goal.returns-in_err-say_line-clause-reads
-returns-in_err-say_line-clause-reads g c = λ bytes k.
-    let line = one g (goal.at.returns-in_err-say_line-clause-reads g c).After-inode bytes k in
-    omega (arith, line, c.in_ok-inode.ensures.counted)
+returns-in_err-say_line-clause-reads g c =
+    let p = err_from_is_err_and c.from_residual-in_err-say_line.result c.from_residual-in_err-say_line.ensures.1 in
+    let at = goal.at.returns-in_err-say_line-clause-reads g c in
+    rw (p.1, p.2) (record {
+      known = λ bytes k.
+          let line = one g at.After-inode bytes k in
+          omega (arith, line, c.in_ok-inode.ensures.counted);
+      paid = paid_stops _ c.in_err-say_line.ensures (some g at.After-line_for-line) c.in_ok-inode.ensures.counted;
+    })
 
 pub returns-clause-reads : goal.returns-clause-reads
-returns-clause-reads g c = λ bytes k.
-    let line = one g (goal.at.returns-clause-reads g c).After-inode bytes k in
-    omega (arith, line, c.in_ok-inode.ensures.counted)
-
-pub returns-then-is_right-clause-paid : goal.returns-then-is_right-clause-paid
-returns-then-is_right-clause-paid g c = paid_none (omega arith)
-
-pub returns-in_err-inode-clause-paid : goal.returns-in_err-inode-clause-paid
-returns-in_err-inode-clause-paid g c = grind (arith, err_from_is_err_and, paid_reads)
-
-pub returns-in_err-say_line-clause-paid : goal.returns-in_err-say_line-clause-paid
-returns-in_err-say_line-clause-paid g c =
-    let p = err_from_is_err_and c.from_residual-in_err-say_line.result c.from_residual-in_err-say_line.ensures.1 in
-    let at = goal.at.returns-in_err-say_line-clause-paid g c in
-    rw (p.1, p.2) (paid_stops _ c.in_err-say_line.ensures (some g at.After-line_for-line)
-    c.in_ok-inode.ensures.counted)
-
-pub returns-clause-paid : goal.returns-clause-paid
-returns-clause-paid g c =
-    let at = goal.at.returns-clause-paid g c in
-    paid_says _ c.in_ok-say_line.ensures (some g at.After-line_for-line) c.in_ok-inode.ensures.counted
+returns-clause-reads g c =
+    let at = goal.at.returns-clause-reads g c in
+    record {
+      known = λ bytes k.
+          let line = one g at.After-inode bytes k in
+          omega (arith, line, c.in_ok-inode.ensures.counted);
+      paid = paid_says _ c.in_ok-say_line.ensures (some g at.After-line_for-line) c.in_ok-inode.ensures.counted;
+    }

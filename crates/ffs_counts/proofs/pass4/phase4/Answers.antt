@@ -81,7 +81,7 @@ loop-number-preserved-then-free-eq0 g c =
           (λ bytes k. from_next (reference_lines_at (volume_of v bytes)) n (inodes_of v)
           (omega (arith, c.loop-number-test.true)))
           (said_knows _ _ _ _ _ _ more ok.prints.text);
-      paid = paid_then inv.paid (paid_answer ok.paid);
+      paid = paid_then inv.paid (paid_answer ok.reads.paid);
     }
 
 pub loop-number-preserved : goal.loop-number-preserved
@@ -90,17 +90,20 @@ loop-number-preserved g c = grind (arith, passed, as_many, of_same)
 pub returns-clause-prints : goal.returns-clause-prints
 returns-clause-prints g c = grind (arith, of_same, from_end)
 
+pub returns-in_err-say-clause-reads : goal.returns-in_err-say-clause-reads
+returns-in_err-say-clause-reads g c = record {
+  known = λ bytes k. omega arith;
+  paid = grind (arith, err_from_is_err_and, paid_stops);
+}
+
 pub returns-in_err-check_inode-clause-reads : goal.returns-in_err-check_inode-clause-reads
-returns-in_err-check_inode-clause-reads g c = grind (arith, count_next, known)
+returns-in_err-check_inode-clause-reads g c = record {
+  known = grind (arith, count_next, known);
+  paid = grind (arith, err_from_is_err_and, paid_then, paid_fault);
+}
 
 pub returns-clause-reads : goal.returns-clause-reads
-returns-clause-reads g c = λ bytes k. omega (arith, c.loop-number.invariant.reads bytes k)
-
-pub returns-in_err-say-clause-paid : goal.returns-in_err-say-clause-paid
-returns-in_err-say-clause-paid g c = grind (arith, err_from_is_err_and, paid_stops)
-
-pub returns-in_err-check_inode-clause-paid : goal.returns-in_err-check_inode-clause-paid
-returns-in_err-check_inode-clause-paid g c = grind (arith, err_from_is_err_and, paid_then, paid_fault)
-
-pub returns-clause-paid : goal.returns-clause-paid
-returns-clause-paid g c = paid_answer c.loop-number.invariant.paid
+returns-clause-reads g c = record {
+  known = λ bytes k. omega (arith, c.loop-number.invariant.reads bytes k);
+  paid = paid_answer c.loop-number.invariant.paid;
+}

@@ -1,7 +1,8 @@
 use Rattle.std.proofs.Common.{◌≡◌, ◌*◌, ◌/◌, Some, Ok, Err, arith, sym, refl, ◌∙◌, ap, inl, inr}
 use Rattle.std.proofs.lemmas.Result.{err_from_is_err_and}
 use Rattle.ffs_volume.{specs.declared.SuperFault.TheVariants.CannotRead, proofs.OutcomeLaws.no_read_fault}
-use Rattle.ffs_layout.proofs.{Answering.{past_end, magic, fault, disagree, accepted, copy_sector}, Copying.seen_layout}
+use Rattle.ffs_layout.proofs.Answering.{past_end, magic, fault, disagree, accepted, copy_sector}
+use Rattle.ffs_layout.proofs.Copying.{default_sector, seen_layout}
 use Rattle.ffs_image.proofs.Devices.{reported_length, faulted_there}
 use Rattle.ffs_layout.proofs.superblock.read_super.Goals as goal
 
@@ -9,7 +10,7 @@ pub returns-in_err-read_copy-clause-answer : goal.returns-in_err-read_copy-claus
 returns-in_err-read_copy-clause-answer g c =
     let p = err_from_is_err_and c.from_residual.result c.from_residual.ensures.1 in
     let unread = c.in_err-read_copy.ensures.copied in
-    let start = c.from-start.ensures ∙ c.first_sector.ensures in
+    let start = c.from-start.ensures ∙ c.unwrap_or.ensures ∙ default_sector c.args.sector in
     let back : c.from-start.result * 512 / 512 ≡ c.from-start.result = omega arith in
     let long = reported_length _ _ (g.met.I.Image.sized c.args.image.now) in
     rw (p.1, p.2) (elim unread.cause [
@@ -27,7 +28,7 @@ returns-in_err-read_copy-clause-answer g c =
 pub returns-in_default-clause-answer : goal.returns-in_default-clause-answer
 returns-in_default-clause-answer g c =
     let copy = c.in_ok-read_copy.ensures.copied in
-    let start = c.from-start.ensures ∙ c.first_sector.ensures in
+    let start = c.from-start.ensures ∙ c.unwrap_or.ensures ∙ default_sector c.args.sector in
     let long = reported_length _ _ (g.met.I.Image.sized c.args.image.now) in
     inr (
       copy.same,
@@ -35,8 +36,8 @@ returns-in_default-clause-answer g c =
           (magic _ _ c.args.sector _ long start _ copy.inside copy.bytes (sym c.in_default.ensures) b e),
     )
 
-pub returns-in_err-geometry-clause-unreadable : goal.returns-in_err-geometry-clause-unreadable
-returns-in_err-geometry-clause-unreadable g c =
+pub returns-in_err-geometry-clause-found : goal.returns-in_err-geometry-clause-found
+returns-in_err-geometry-clause-found g c =
     let p = err_from_is_err_and c.from_residual-in_err-geometry.result c.from_residual-in_err-geometry.ensures.1 in
     rw (p.1, p.2) (λ at e. absurd (no_read_fault _ _ at (c.in_err-geometry.ensures ∙ ap Some e)))
 
@@ -44,7 +45,7 @@ pub returns-in_err-geometry-clause-answer : goal.returns-in_err-geometry-clause-
 returns-in_err-geometry-clause-answer g c =
     let p = err_from_is_err_and c.from_residual-in_err-geometry.result c.from_residual-in_err-geometry.ensures.1 in
     let copy = c.in_ok-read_copy.ensures.copied in
-    let start = c.from-start.ensures ∙ c.first_sector.ensures in
+    let start = c.from-start.ensures ∙ c.unwrap_or.ensures ∙ default_sector c.args.sector in
     let long = reported_length _ _ (g.met.I.Image.sized c.args.image.now) in
     let refused = rw (c.decode.ensures, c.size.ensures, copy.same) at c.in_err-geometry.ensures in
     rw (p.1, p.2) (inr (
@@ -57,7 +58,7 @@ pub returns-in_err-check_copy-clause-answer : goal.returns-in_err-check_copy-cla
 returns-in_err-check_copy-clause-answer g c =
     let p = err_from_is_err_and c.from_residual-in_err-check_copy.result c.from_residual-in_err-check_copy.ensures.1 in
     let copy = c.in_ok-read_copy.ensures.copied in
-    let start = c.from-start.ensures ∙ c.first_sector.ensures in
+    let start = c.from-start.ensures ∙ c.unwrap_or.ensures ∙ default_sector c.args.sector in
     let long = reported_length _ _ (g.met.I.Image.sized c.args.image.now) in
     let good = rw (c.decode.ensures, c.size.ensures, copy.same) at c.in_ok-geometry.ensures.fault in
     let fault_of_copy = rw copy.same at c.in_err-check_copy.ensures.compared in
@@ -80,8 +81,8 @@ returns-in_err-check_copy-clause-answer g c =
       )
     ])
 
-pub returns-clause-in_image : goal.returns-clause-in_image
-returns-clause-in_image g c =
+pub returns-clause-found : goal.returns-clause-found
+returns-clause-found g c =
     let copy = c.in_ok-read_copy.ensures.copied in
     let inside = rw (c.size.ensures, copy.same) at c.in_ok-geometry.ensures.in_image in
     let layout = seen_layout c.make_super.result c.in-Some.order _ c.make_super.ensures
@@ -91,7 +92,7 @@ returns-clause-in_image g c =
 pub returns-clause-answer : goal.returns-clause-answer
 returns-clause-answer g c =
     let copy = c.in_ok-read_copy.ensures.copied in
-    let start = c.from-start.ensures ∙ c.first_sector.ensures in
+    let start = c.from-start.ensures ∙ c.unwrap_or.ensures ∙ default_sector c.args.sector in
     let long = reported_length _ _ (g.met.I.Image.sized c.args.image.now) in
     let good = rw (c.decode.ensures, c.size.ensures, copy.same) at c.in_ok-geometry.ensures.fault in
     let compared = rw copy.same at c.in_ok-check_copy.ensures.compared in

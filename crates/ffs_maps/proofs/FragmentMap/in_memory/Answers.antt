@@ -1,5 +1,5 @@
-use Rattle.std.proofs.{Common.{◌+◌, ℕ, arith, ap, sym, ◌∙◌, false, length, replicate}, lemmas.List.get_or-replicate}
-use Rattle.std.proofs.lemmas.List.{length-replicate}
+use Rattle.std.proofs.Common.{◌+◌, ℕ, arith, rules, ap, sym, ◌∙◌, false, length, replicate}
+use Rattle.std.proofs.lemmas.List.{get_or-replicate, length-replicate}
 use Rattle.ffs_maps.{specs.WordBits.{bits_of_words, set_among}, proofs.{Bits.zero_bits, Ones.none_among}}
 use Rattle.ffs_maps.proofs.FragmentMap.in_memory.Goals as goal
 
@@ -12,5 +12,5 @@ invariant_of-result g c = record {
       (λ k h. get_or-replicate c.args.size (0 + k) false false (omega (arith, h))));
 }
 
-pub returns-clause-made : goal.returns-clause-made
-returns-clause-made g c = grind (arith, zero_bits)
+pub returns : goal.returns
+returns g c = record { made = grind (arith, zero_bits); asks = search (arith, rules) }

@@ -12,7 +12,7 @@ overflow_add-self c =
     omega (
       arith,
       run_raised (bits_of m) m.size c.args.start c.args.len m.ones c.count_in_word.result (bits_long m)
-          c.requires.below m.counted c.count_in_word.ensures,
+          c.requires.run.below m.counted c.count_in_word.ensures,
       few_among (set_run (bits_of m) c.args.start c.args.len) 0 m.size,
     )
 
@@ -22,11 +22,12 @@ invariant_of-self c =
     record {
       enough = omega (arith, m.enough, ap (λ ws. length ws.list) c.set.ensures, length-set {A = ℕ});
       counted = run_raised (bits_of m) m.size c.args.start c.args.len m.ones c.count_in_word.result (bits_long m)
-          c.requires.below m.counted c.count_in_word.ensures
+          c.requires.run.below m.counted c.count_in_word.ensures
           ∙ ap (λ bits. set_among bits 0 m.size)
           (sym (ap (λ ws. bits_of_words ws.list m.size) c.set.ensures
-          ∙ mark_run m.words.list m.size c.args.start c.args.len c.get-word.result c.requires.one_word c.requires.below
-          c.requires.some (omega (arith, m.enough, c.requires.below, c.requires.some)) c.get-word.ensures));
+          ∙ mark_run m.words.list m.size c.args.start c.args.len c.get-word.result c.requires.run.one_word
+          c.requires.run.below c.requires.some (omega (arith, m.enough, c.requires.run.below, c.requires.some))
+          c.get-word.ensures));
     }
 
 pub returns : goal.returns

@@ -34,9 +34,9 @@ returns-clause-read g c = grind arith
 pub returns-clause-ready : goal.returns-clause-ready
 returns-clause-ready g c =
     let v = c.args.geometry.now.layout in
-    let image = c.image-1.given.1 (sym (ap (λ x. x.image_lent) c.survey-surveyed.ensures.reader.same)) in
-    let same = ap (λ x. x.layout) c.survey-surveyed.ensures.reader.same in
-    let r = c.survey-surveyed.ensures.reader.is_ready.0 in
+    let image = c.image-1.given.1 (sym (ap (λ x. x.image_lent) c.survey-surveyed.ensures.leaves.same)) in
+    let same = ap (λ x. x.layout) c.survey-surveyed.ensures.leaves.same in
+    let r = c.survey-surveyed.ensures.leaves.is_ready.0 in
     let table = subst (λ l. IsTableOf l c.survey-surveyed.new.directories.windows.now.table) same r.table in
     record {
       made = search rules;
@@ -57,32 +57,34 @@ returns-clause-survey g c =
     let named = with_items_is w.named n.named (search rules) in
     let reached = with_items_is w.reached n.reached (search rules) in
     on_ok c.survey-surveyed.result _ _ (λ s b t h.
-    let survey = volume_survey (base g at) b c.deref-2.result.now {counts = n.references.items} (search rules)
-    (kinds g at b h) (s b (known g at b t h)) in
-    holds_survey c.args.geometry.now.layout b _ _ n.references.items n.named n.reached n.parents.items named reached refl
-    (filled_noted _ _ _ _ c.fill.ensures.items) survey)
-    c.survey-surveyed.ensures.survey
+    let counts = n.numbers.references.now.items in
+    let survey = volume_survey (base g at) b c.deref-2.result.now {counts = counts} (search rules) (kinds g at b h)
+    (s b (known g at b t h)).survey in
+    holds_survey c.args.geometry.now.layout b _ _ counts n.named n.reached n.numbers.parents.now.items named reached
+    (search rules) (filled_noted _ _ _ _ c.fill.ensures.items) survey)
+    c.survey-surveyed.ensures.found
 
 pub returns-clause-references : goal.returns-clause-references
 returns-clause-references g c = on_ok c.survey-surveyed.result _ _ (λ s b t h starts.
     let at = (goal.at.returns-clause-references g c).After-survey-surveyed in
-    let survey = volume_survey (base g at) b c.deref-2.result.now (search rules) (kinds g at b h) (s b (known g at b t h))
-    in
-    holds_references c.args.geometry.now.layout b c.args.workspace.now _ (search rules) refl starts survey)
-    c.survey-surveyed.ensures.survey
+    let survey = volume_survey (base g at) b c.deref-2.result.now (search rules) (kinds g at b h)
+    (s b (known g at b t h)).survey in
+    holds_references c.args.geometry.now.layout b c.args.workspace.now _ (search rules) (search rules) starts survey)
+    c.survey-surveyed.ensures.found
 
 pub returns-clause-calm : goal.returns-clause-calm
 returns-clause-calm g c = on_ok c.survey-surveyed.result _ _ (λ s b t h.
     let at = (goal.at.returns-clause-calm g c).After-survey-surveyed in
     let w = c.args.workspace.now in
     let n = c.survey-surveyed.new in
-    let calm = volume_calm (base g at) b c.deref-2.result.now c.deref-3.result.now n.reached n.parents.items n.calm
-    (s b (known g at b t h)) in
-    holds_calm c.args.geometry.now.layout b _ c.deref-2.result.now c.deref-3.result.now n.reached n.parents.items n.calm
+    let parents = n.numbers.parents.now.items in
+    let calm = volume_calm (base g at) b c.deref-2.result.now c.deref-3.result.now n.reached parents n.calm
+    (s b (known g at b t h)).calm in
+    holds_calm c.args.geometry.now.layout b _ c.deref-2.result.now c.deref-3.result.now n.reached parents n.calm
     (sym c.deref-2.ensures.value) (sym c.deref-3.ensures.value)
-    (with_items_is w.reached n.reached (search rules)) refl
+    (with_items_is w.reached n.reached (search rules)) (search rules)
     (with_items_is w.flags n.calm (search rules)) calm)
-    c.survey-surveyed.ensures.calm
+    c.survey-surveyed.ensures.found
 
 pub survey-surveyed-requires-clause-lists : goal.survey-surveyed-requires-clause-lists
 survey-surveyed-requires-clause-lists g c = grind (arith, some_inodes, kinds)
@@ -90,7 +92,7 @@ survey-surveyed-requires-clause-lists g c = grind (arith, some_inodes, kinds)
 pub returns-clause-reads : goal.returns-clause-reads
 returns-clause-reads g c = λ b t h.
     let v = c.args.geometry.now.layout in
-    let image = c.image-1.given.1 (sym (ap (λ x. x.image_lent) c.survey-surveyed.ensures.reader.same)) in
+    let image = c.image-1.given.1 (sym (ap (λ x. x.image_lent) c.survey-surveyed.ensures.leaves.same)) in
     let at = (goal.at.returns-clause-reads g c).After-survey-surveyed in
     let all : length c.deref-2.result.now ≡ v.ncg * v.ipg = omega (arith, c.deref-2.ensures.len, c.requires.made.kinds) in
-    rw image (rw all at (c.survey-surveyed.ensures.counted b (known g at b t h)))
+    rw image (rw all at (c.survey-surveyed.ensures.leaves.counted b (known g at b t h)))

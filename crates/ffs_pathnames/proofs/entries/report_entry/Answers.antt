@@ -40,10 +40,10 @@ returns-clause-passed g c = λ b k.
       count = c.as_slice.ensures.len ∙ c.in_ok-report_by_role.ensures.leaves.ready.ready.made.kinds;
     }) (claims_left v b before here kept k.claims) (survey_left v b before here kept k.survey) in
     passes (volume_of v b) c.args.entry.now.dir (roled_value c.args.entry.now)
-    (c.as_mut_slice.ensures.value ∙ ap (λ (w : Workspace). w.flags.items) left)
+    (c.as_mut_slice.ensures.shown.value ∙ ap (λ (w : Workspace). w.flags.items) left)
     (ap (λ (w : Workspace). (passed_of w).stamps) left)
     (c.pass.ensures.after (volume_of v b) shows)
-    (with_items_is here.flags c.pass.new.flags (c.pass.auto.flags ∙ c.as_mut_slice.ensures.len))
+    (with_items_is here.flags c.pass.new.flags (c.pass.auto.flags ∙ c.as_mut_slice.ensures.shown.len))
     refl
 
 pub returns-clause-paid : goal.returns-clause-paid

@@ -1,13 +1,20 @@
-use Rattle.std.proofs.Common.{[], ◌∷◌, List, ℕ, refl, ap, ◌∙◌, inl, arith, ◌≡◌, Some}
-use Rattle.std.proofs.lemmas.Result.{err_from_is_err_and}
+use Rattle.std.proofs.Common.{[], ◌∷◌, List, ℕ, refl, ap, ◌∙◌, inl, inr, arith, ◌≡◌, true, Some, OnOk, IfOk, Result, Ok}
+use Rattle.std.proofs.{Common.{Err, rules}, lemmas.Result.err_from_is_err_and}
+use Rattle.ffs_image.specs.Device.{Device}
 use Rattle.ffs_report.proofs.Reporting.{of_reads, of_last, reports_knowing, says_heading, stops_heading}
 use Rattle.ffs_report.proofs.Paying.{paid_said, paid_text, paid_then}
-use Rattle.ffs_volume.{specs.Messages.Kinds.phase2, proofs.{RunBounds.runs_bounded, Results.on_ok}}
-use Rattle.ffs_pathnames.{specs.{declared.pass2.Root.Root, Before.IsBefore}, proofs.Carrying.{at_fault, at_fault_more}}
-use Rattle.ffs_pathnames.proofs.Carrying.{claims_untouched, before_first, references_on, on_all, if_ok}
+use Rattle.ffs_report.specs.{Known.ForBytes, Progress.Progress, declared.fault.RunFault.RunFault}
+use Rattle.ffs_report.specs.declared.fault.RunFault.TheVariants.{Read, Out}
+use Rattle.ffs_volume.{specs.Messages.Kinds.phase2, proofs.RunBounds.runs_bounded}
+use Rattle.ffs_volume.specs.{declared.Layout.Layout, Directories.PathnameCheck.continues_after_root}
+use Rattle.ffs_volume.specs.Directories.Volumes.{volume_of}
+use Rattle.ffs_pathnames.specs.{declared.pass2.Root.Root, Before.IsBefore, Phase2.Phase2Ends}
+use Rattle.ffs_pathnames.specs.RootAnswers.{AtReadFault, is_go}
+use Rattle.ffs_pathnames.proofs.Carrying.{claims_untouched, before_first, references_on}
 use Rattle.ffs_pathnames.proofs.{SilentLaws.calm_silent, pass2.phase2.{Given.Over, Goals.After-check_tree}}
 use Rattle.ffs_names.proofs.RunSums.{costs_bounded}
-use Rattle.ffs_workspace.specs.Holds.{HoldsClaims}
+use Rattle.ffs_workspace.specs.{declared.workspace.Workspace.Workspace, Found.WithClaims}
+use Rattle.ffs_workspace.specs.Holds.{HoldsClaims, HoldsReferences, HoldsStarts, HoldsSurvey}
 use Rattle.ffs_pathnames.proofs.pass2.phase2.Goals as goal
 
 -- what is known before the first directory
@@ -23,58 +30,83 @@ before_tree g c b t h =
     (clear.ready v _ found.leaves.ready).made clear.clear
     (calm_silent v b _ c.args.geometry.now.sound found.leaves.ready.made claims (found.survey b t h) (found.calm b t h))
 
-pub returns-in_err-say-clause-text : goal.returns-in_err-say-clause-text
-returns-in_err-say-clause-text g c =
+-- the phase ends as the check of the tree does
+ends_by : (v : Layout) (d : Device) (known : List ℕ → Type 0) (old new : Workspace) (before after : Progress)
+    (r : Result Root RunFault) → ForBytes (WithClaims v d old) known →
+    ForBytes (WithClaims v d old) (λ b. HoldsStarts v b old → HoldsReferences v b new) →
+    IfOk r (λ root. ForBytes known (λ b. is_go root ≡ continues_after_root (volume_of v b))) →
+    AtReadFault r (ForBytes known (λ b. continues_after_root (volume_of v b) ≡ true)) →
+    OnOk r (ForBytes known (λ b. HoldsClaims v b new × HoldsSurvey v b new)) →
+    Phase2Ends v d old new before after r
+ends_by v d known old new before after (Ok root) more references goes on holds = λ b k. record {
+  goes = goes b (more b k);
+  claims = (holds b (more b k)).0;
+  survey = (holds b (more b k)).1;
+  references = references b k;
+}
+ends_by v d known old new before after (Err (Read fault)) more references goes on holds = inr (λ b k. on b (more b k))
+ends_by v d known old new before after (Err (Out fault)) more references goes on holds = tt
+
+pub returns-in_err-say-clause-prints : goal.returns-in_err-say-clause-prints
+returns-in_err-say-clause-prints g c =
     let p = err_from_is_err_and c.from_residual.result c.from_residual.ensures.1 in
-    rw (p.1, p.2) (stops_heading c.in_err-say.ensures.said)
+    rw (p.1, p.2) (record { image = search rules; text = stops_heading c.in_err-say.ensures.said })
 
-pub returns-in_err-say-clause-fault : goal.returns-in_err-say-clause-fault
-returns-in_err-say-clause-fault g c = grind (arith, err_from_is_err_and)
+pub returns-in_err-say-clause-leaves : goal.returns-in_err-say-clause-leaves
+returns-in_err-say-clause-leaves g c =
+    let p = err_from_is_err_and c.from_residual.result c.from_residual.ensures.1 in
+    rw (p.1, p.2) tt
 
-pub returns-in_err-survey-clause-fault : goal.returns-in_err-survey-clause-fault
-returns-in_err-survey-clause-fault g c = at_fault c.from_residual-in_err-survey.result _ (inl c.in_ok-say.ensures.said)
-
-pub returns-in_err-survey-clause-text : goal.returns-in_err-survey-clause-text
-returns-in_err-survey-clause-text g c =
+pub returns-in_err-survey-clause-leaves : goal.returns-in_err-survey-clause-leaves
+returns-in_err-survey-clause-leaves g c =
     let p = err_from_is_err_and c.from_residual-in_err-survey.result c.from_residual-in_err-survey.ensures.1 in
-    rw (p.1, p.2) (of_reads _ _ _ _ _ (says_heading (λ b k. refl) c.in_ok-say.ensures.said))
+    rw (p.1, p.2) (inl c.in_ok-say.ensures.said)
 
-pub returns-clause-text : goal.returns-clause-text
-returns-clause-text g c =
-    of_last Root _ _ _ _ _ _ _ c.check_tree.result (says_heading (λ b k. refl) c.in_ok-say.ensures.said) (λ b k. refl)
-    (reports_knowing Root _ _ _ _ _ c.check_tree.result
-    (λ b k. before_tree g (goal.at.returns-clause-text g c).After-check_tree b k.0 k.1) c.check_tree.ensures.text)
+pub returns-in_err-survey-clause-prints : goal.returns-in_err-survey-clause-prints
+returns-in_err-survey-clause-prints g c =
+    let p = err_from_is_err_and c.from_residual-in_err-survey.result c.from_residual-in_err-survey.ensures.1 in
+    rw (p.1, p.2) (record {
+      image = search rules;
+      text = of_reads _ _ _ _ _ (says_heading (λ b k. refl) c.in_ok-say.ensures.said);
+    })
 
-pub returns-clause-goes : goal.returns-clause-goes
-returns-clause-goes g c = grind (arith, if_ok, before_tree)
+pub returns-clause-prints : goal.returns-clause-prints
+returns-clause-prints g c = record {
+  image = search rules;
+  text = of_last Root _ _ _ _ _ _ _ c.check_tree.result (says_heading (λ b k. refl) c.in_ok-say.ensures.said)
+      (λ b k. refl) (reports_knowing Root _ _ _ _ _ c.check_tree.result
+      (λ b k. before_tree g (goal.at.returns-clause-prints g c).After-check_tree b k.0 k.1) c.check_tree.ensures.text);
+}
 
-pub returns-clause-fault : goal.returns-clause-fault
-returns-clause-fault g c = grind (arith, at_fault_more, before_tree)
-
-pub returns-clause-holds : goal.returns-clause-holds
-returns-clause-holds g c = grind (arith, on_ok, before_tree)
-
-pub returns-clause-references : goal.returns-clause-references
-returns-clause-references g c = grind (arith, on_all, references_on)
+pub returns-clause-leaves : goal.returns-clause-leaves
+returns-clause-leaves g c =
+    let v = c.args.geometry.now.layout in
+    let tree = c.check_tree.ensures in
+    ends_by v (g.I.Image.device c.args.image.now) _ _ _ _ _ c.check_tree.result
+    (λ b k. before_tree g (goal.at.returns-clause-leaves g c).After-check_tree b k.0 k.1)
+    (λ b k starts. references_on v b _ _ (tree.leaves.references ∙ c.clear_passed.ensures.clear.survey.references)
+    (c.in_ok-survey.ensures.references b k.0 k.1 starts)) tree.goes tree.fault tree.holds
 
 pub check_tree-requires : goal.check_tree-requires
 check_tree-requires g c = c.clear_passed.ensures.ready _ _ c.in_ok-survey.ensures.leaves.ready
 
+-- how often the image was read
+pub returns-in_err-say-clause-reads : goal.returns-in_err-say-clause-reads
+returns-in_err-say-clause-reads g c = record {
+  known = λ b k numbered. omega arith;
+  paid = λ numbered. paid_text _ _ _ (returns-in_err-say-clause-prints g c).text (omega arith);
+}
+
 pub returns-in_err-survey-clause-reads : goal.returns-in_err-survey-clause-reads
-returns-in_err-survey-clause-reads g c = grind (arith, costs_bounded, runs_bounded)
+returns-in_err-survey-clause-reads g c = record {
+  known = grind (arith, costs_bounded, runs_bounded);
+  paid = λ numbered. paid_text _ _ _ (returns-in_err-survey-clause-prints g c).text (omega (arith, c.survey.ensures.reads.most));
+}
 
 pub returns-clause-reads : goal.returns-clause-reads
-returns-clause-reads g c = grind (arith, costs_bounded, runs_bounded, before_tree)
-
--- what was read for messages
-pub returns-in_err-say-clause-paid : goal.returns-in_err-say-clause-paid
-returns-in_err-say-clause-paid g c = λ numbered. paid_text _ _ _ (returns-in_err-say-clause-text g c) (omega arith)
-
-pub returns-in_err-survey-clause-paid : goal.returns-in_err-survey-clause-paid
-returns-in_err-survey-clause-paid g c = λ numbered.
-    paid_text _ _ _ (returns-in_err-survey-clause-text g c) (omega (arith, c.survey.ensures.reads.most))
-
-pub returns-clause-paid : goal.returns-clause-paid
-returns-clause-paid g c = λ numbered.
-    paid_then (paid_said (phase2 ∷ []) c.in_ok-say.ensures.said (omega (arith, c.survey.ensures.reads.most)))
-    (c.check_tree.ensures.paid numbered)
+returns-clause-reads g c = record {
+  known = grind (arith, costs_bounded, runs_bounded, before_tree);
+  paid = λ numbered. paid_then
+      (paid_said (phase2 ∷ []) c.in_ok-say.ensures.said (omega (arith, c.survey.ensures.reads.most)))
+      (c.check_tree.ensures.paid numbered);
+}

@@ -1,7 +1,7 @@
 use Rattle.std.proofs.Common.{◌≡◌, ◌<◌, ℕ, List, arith, rules, length, length-take, take, ◌∙◌}
 use Rattle.ffs_survey.proofs.Queues.{at_place, extends_on, is_extended, keeps_queue, empty_level, number_kept}
 use Rattle.ffs_survey.proofs.{CalmLaws.calm_read, CalmLaws.same_result_stays, Costs.next_cost, Discovered.level_step}
-use Rattle.ffs_survey.proofs.{Lending.same_kinds, Lending.same_marks, Totals.dir_counted}
+use Rattle.ffs_survey.proofs.{Lending.{leaves_by, same_kinds, same_marks, still_by}, Totals.dir_counted}
 use Rattle.ffs_survey.specs.{Discover.IsReachedDir, Survey.number_at}
 use Rattle.ffs_survey.proofs.discover.read_level.Goals as goal
 
@@ -13,23 +13,21 @@ loop-at-preserved g c =
     let old = c.args.lists.now in
     let here = c.loop-at.lists in
     let done = c.in_ok-top.ensures in
-    let found = rw (inv.base, same_kinds inv.same, same_marks inv.same) at done.found in
+    let found = rw (inv.lent.base, same_kinds inv.lent.same, same_marks inv.lent.same) at done.found in
     let level = take c.args.high old.queue.now.items in
     let place = c.loop-at.at in
     let inside : place < length level =
-    omega (arith, length-take c.args.high old.queue.now.items, c.loop-at-test.true, c.requires.room.queue) in
+    omega (arith, length-take c.args.high old.queue.now.items, c.loop-at-test.true, c.requires.can.room) in
     let is : c.number_of-from.result ≡ number_at level place =
     c.number_of-from.ensures ∙ number_kept place c.loop-at-test.true inv.extends in
     let read = rw is at found.read in
     let still = λ (b : List ℕ) (k : g.D.Directories.knows base b).
     at_place (IsReachedDir old.kinds.now here.reached.now) c.args.low place level (inv.still b k) inv.from inside in
     record {
-      ready = search rules;
-      base = search rules;
-      device = search rules;
-      reads = let r = rw (inv.base, is) at done.counted in
+      lent = still_by g.D.Directories (search rules) (search rules) (search rules)
+          (done.leaves.lists.lent ∙ inv.lent.same.lent);
+      reads = let r = rw (inv.lent.base, is) at done.leaves.reader.counted in
           λ b k. omega (arith, r b k, inv.reads b k, next_cost (g.D.Directories.cost base b) level place inside);
-      same = record { lent = done.leaves.lists.lent ∙ inv.same.lent };
       from = omega (arith, inv.from);
       extends = extends_on inv.extends (is_extended found.ordered found.kept);
       grown = λ x l. omega (arith, inv.grown x l, found.grown x l, inv.from);
@@ -50,17 +48,17 @@ loop-at-preserved g c =
 pub returns-clause-found : goal.returns-clause-found
 returns-clause-found g c = grind (arith, keeps_queue, empty_level)
 
-pub returns-in_err-top-clause-counted : goal.returns-in_err-top-clause-counted
-returns-in_err-top-clause-counted g c =
+pub returns-in_err-top-clause-leaves : goal.returns-in_err-top-clause-leaves
+returns-in_err-top-clause-leaves g c =
     let inv = c.loop-at.invariant in
     let queue = c.args.lists.now.queue.now.items in
     let level = take c.args.high queue in
     let place = c.loop-at.at in
     let inside : place < length level =
-    omega (arith, length-take c.args.high queue, c.loop-at-test.true, c.requires.room.queue) in
+    omega (arith, length-take c.args.high queue, c.loop-at-test.true, c.requires.can.room) in
     let is : c.number_of-from.result ≡ number_at level place =
     c.number_of-from.ensures ∙ number_kept place c.loop-at-test.true inv.extends in
-    let read = rw (inv.base, is) at c.in_err-top.ensures.counted in
-    λ b k.
+    let read = rw (inv.lent.base, is) at c.in_err-top.ensures.leaves.reader.counted in
+    leaves_by g.D.Directories (search rules) (search rules) (search rules) (search rules) (λ b k.
     let next = next_cost (g.D.Directories.cost (g.D.Directories.base c.args.directories.now) b) level place inside in
-    omega (arith, inv.reads b k, read b k, next)
+    omega (arith, inv.reads b k, read b k, next))

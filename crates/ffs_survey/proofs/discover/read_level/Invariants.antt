@@ -1,6 +1,7 @@
 use Rattle.std.proofs.Common.{◌≡◌, ℕ, ◌+◌, ◌-◌, ◌*◌, ◌<◌, ◌≤◌, ◌^◌, List, length, take, drop, All, sum_by}
 use Rattle.ffs_survey.specs.Discover.{Extends, SameResult, IsReachedDir, Counts, from_dirs, unset, count_of, any_of}
-use Rattle.ffs_survey.specs.{Calm.AreCalm, Lent.SameLists, Survey.graph_with, Survey.number_at}
+use Rattle.ffs_survey.specs.{Calm.AreCalm, Survey.{graph_with, number_at}}
+use Rattle.ffs_survey.proofs.Lending.{StillLent}
 use Rattle.ffs_survey.proofs.discover.read_level.Given as goal
 
 abbrev pub invariant-loop-at : goal.invariant-loop-at
@@ -12,12 +13,9 @@ invariant-loop-at g l =
     let graph = λ (b : List ℕ). graph_with old.kinds.now (g.D.Directories.entries over b) in
     let level = take l.high old.queue.now.items in
     record {
-      ready : g.D.Directories.ready l.directories;
-      base : g.D.Directories.base l.directories ≡ over;
-      device : g.D.Directories.device l.directories ≡ g.D.Directories.device l.fn.directories;
+      lent : StillLent g.D.Directories l.fn.directories l.directories old l.lists;
       reads : (b : List ℕ) → knows b → g.D.Directories.reads l.directories + sum_by (cost b) (drop l.at level)
           ≤ g.D.Directories.reads l.fn.directories + sum_by (cost b) (drop l.low level);
-      same : SameLists old l.lists;
       from : l.low ≤ l.at;
       extends : Extends l.high l.top old.queue.now.items l.lists.queue.now.items;
       grown : (x : ℕ) → x < length old.kinds.now → number_at l.lists.references.now.items x

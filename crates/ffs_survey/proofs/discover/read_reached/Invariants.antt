@@ -1,6 +1,7 @@
 use Rattle.std.proofs.Common.{◌≡◌, ℕ, ◌+◌, ◌<◌, ◌≤◌, ◌^◌, List, length, take, ◌&&◌}
 use Rattle.ffs_survey.specs.Discover.{Extends, SameResult, Counts, from_entries, unset, count_in, any_in}
-use Rattle.ffs_survey.specs.{Lent.{current_in, SameLists, HasRoomAfter}, Calm.are_calm, Survey.{number_at, bool_at}}
+use Rattle.ffs_survey.specs.{Lent.{current_in, HasRoomAfter}, Calm.are_calm, Survey.{number_at, bool_at}}
+use Rattle.ffs_survey.proofs.Lending.{StillLent}
 use Rattle.ffs_survey.proofs.discover.read_reached.Given as goal
 
 abbrev pub invariant-loop-entry : goal.invariant-loop-entry
@@ -13,13 +14,10 @@ invariant-loop-entry g l =
     let rest = g.D.Directories.rest l.directories in
     let coming = g.D.Directories.left l.directories in
     record {
-      ready : g.D.Directories.ready l.directories;
-      base : g.D.Directories.base l.directories ≡ over;
-      device : g.D.Directories.device l.directories ≡ g.D.Directories.device l.fn.directories;
+      lent : StillLent g.D.Directories l.fn.directories l.directories old l.lists;
       reads : (b : List ℕ) → knows b → g.D.Directories.reads l.directories + g.D.Directories.to_read l.directories b
           ≤ g.D.Directories.reads l.fn.directories + g.D.Directories.cost over b l.from;
       held : (b : List ℕ) → knows b → g.D.Directories.held l.directories;
-      same : SameLists old l.lists;
       flags : l.lists.calm.now ≡ old.calm.now;
       room : HasRoomAfter l.high l.lists;
       extends : Extends l.top l.high old.queue.now.items l.lists.queue.now.items;

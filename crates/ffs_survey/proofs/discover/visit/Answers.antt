@@ -1,4 +1,4 @@
-use Rattle.std.proofs.Common.{arith, ◌∙◌, sym, []}
+use Rattle.std.proofs.{Common.{arith, ◌∙◌, sym, []}, lemmas.Grind.common_steps}
 use Rattle.ffs_survey.{specs.Reading.roled_of, proofs.Discovered.{visit_hit, unset-set, new_entry}}
 use Rattle.ffs_survey.proofs.discover.visit.Goals as goal
 
@@ -9,19 +9,16 @@ set-requires-2 c =
     (sym c.is_new.ensures ∙ c.if-not-is_new.false) in
     omega (arith, unset-set lists.reached.now c.args.entry.number (omega (arith, n.below)) n.unmarked)
 
-pub returns-clause-top : goal.returns-clause-top
-returns-clause-top c =
-    let lists = c.args.lists.now in
-    let n = new_entry lists.kinds.now lists.reached.now (roled_of c.args.entry [])
-    (sym c.is_new.ensures ∙ c.if-not-is_new.false) in
-    omega (arith, unset-set lists.reached.now c.args.entry.number (omega (arith, n.below)) n.unmarked)
-
-pub returns-clause-same_result : goal.returns-clause-same_result
-returns-clause-same_result c =
+pub returns-clause-visits : goal.returns-clause-visits
+returns-clause-visits c =
     let lists = c.args.lists.now in
     let n = new_entry lists.kinds.now lists.reached.now (roled_of c.args.entry [])
     (sym c.is_new.ensures ∙ c.if-not-is_new.false) in
     let b = n.below in
     let u = unset-set lists.reached.now c.args.entry.number (omega (arith, b)) n.unmarked in
-    rw (c.set.ensures.items, c.set-2.ensures.items) (visit_hit lists.queue.now.items c.args.current.now.dir c.args.top n
-    (omega (arith, b)) (omega (arith, b)) (omega (arith, u)))
+    record {
+      ends = omega (arith, u);
+      same_result = rw (c.set.ensures.items, c.set-2.ensures.items) (visit_hit lists.queue.now.items
+          c.args.current.now.dir c.args.top n (omega (arith, b)) (omega (arith, b)) (omega (arith, u)));
+      extends = grind (arith, common_steps);
+    }

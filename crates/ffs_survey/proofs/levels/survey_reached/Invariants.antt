@@ -1,6 +1,7 @@
 use Rattle.std.proofs.Common.{◌≡◌, ℕ, ◌+◌, ◌≤◌, ◌-◌, List, length, take, sum_by}
-use Rattle.ffs_survey.specs.Discover.{HasRoomForLevel, AtSomeLevel, IsCount}
-use Rattle.ffs_survey.specs.{Calm.AreCalm, Lent.SameLists, Survey.graph_with}
+use Rattle.ffs_survey.{specs.Discover.IsCount, proofs.NextLevel.{HasRoomForLevel, AtSomeLevel}}
+use Rattle.ffs_survey.specs.{Calm.AreCalm, Survey.graph_with}
+use Rattle.ffs_survey.proofs.Lending.{StillLent}
 use Rattle.ffs_survey.proofs.levels.survey_reached.Given as goal
 
 abbrev pub invariant-loop-low : goal.invariant-loop-low
@@ -10,12 +11,9 @@ invariant-loop-low g l =
     let knows = g.D.Directories.knows over in
     let graph = λ (b : List ℕ). graph_with old.kinds.now (g.D.Directories.entries over b) in
     record {
-      ready : g.D.Directories.ready l.directories;
-      base : g.D.Directories.base l.directories ≡ over;
-      device : g.D.Directories.device l.directories ≡ g.D.Directories.device l.fn.directories;
+      lent : StillLent g.D.Directories l.fn.directories l.directories old l.lists;
       reads : (b : List ℕ) → knows b → g.D.Directories.reads l.directories ≤ g.D.Directories.reads l.fn.directories
           + sum_by (g.D.Directories.cost over b) (take l.low l.lists.queue.now.items);
-      same : SameLists old l.lists;
       room : HasRoomForLevel l.low l.high l.lists.references.now.items l.lists.reached.now l.lists.queue.now.items;
       levels : (b : List ℕ) → knows b → AtSomeLevel (graph b) l.low l.high l.lists.reached.now
           l.lists.parents.now.items l.lists.queue.now.items;

@@ -1,6 +1,7 @@
 use Rattle.std.proofs.Common.{◌≡◌, ℕ, ◌+◌, ◌*◌, ◌<◌, ◌≤◌, ◌^◌, List, length}
-use Rattle.ffs_survey.specs.{Costs.costs_below, Lent.SameLists, Lent.KeepsReached, Survey.number_at, Survey.graph_with}
+use Rattle.ffs_survey.specs.{Costs.costs_below, Lent.KeepsReached, Survey.number_at, Survey.graph_with}
 use Rattle.ffs_survey.specs.Discover.{IsBlank, IsRead, is_unreached_dir}
+use Rattle.ffs_survey.proofs.Lending.{StillLent}
 use Rattle.ffs_survey.proofs.levels.survey_unreached.Given as goal
 
 abbrev pub invariant-loop-s : goal.invariant-loop-s
@@ -9,12 +10,9 @@ invariant-loop-s g l =
     let over = g.D.Directories.base l.fn.directories in
     let knows = g.D.Directories.knows over in
     record {
-      ready : g.D.Directories.ready l.directories;
-      base : g.D.Directories.base l.directories ≡ over;
-      device : g.D.Directories.device l.directories ≡ g.D.Directories.device l.fn.directories;
+      lent : StillLent g.D.Directories l.fn.directories l.directories old l.lists;
       reads : (b : List ℕ) → knows b → g.D.Directories.reads l.directories ≤ g.D.Directories.reads l.fn.directories
           + costs_below (is_unreached_dir old.kinds.now old.reached.now) (g.D.Directories.cost over b) l.s;
-      same : SameLists old l.lists;
       kept : KeepsReached old l.lists;
       grown : (x : ℕ) → x < length old.kinds.now →
           number_at l.lists.references.now.items x ≤ number_at old.references.now.items x + l.s * 2 ^ 28;

@@ -17,10 +17,12 @@ returns c =
     let inside : c.args.to - 1 < vec_capacity before.touched =
     omega (arith, c.requires, c.if-from-to.false, ap vec_len c.self.view_is) in
     let to : from + k ≡ c.args.to = omega (arith, c.requires) in
-    let low : from + k ≤ length t = omega (arith, to, c.touch.ensures.len, touched.ok.0, c.if-from-to.false, c.requires) in
+    let low : from + k ≤ length t =
+    omega (arith, to, c.touch.ensures.len, touched.ok.0, c.if-from-to.false, c.requires) in
     let same : t ++ R ≡ c.args.self.now.items = grind (arith, same_filled) in
     let rest = length-drop from t in
-    let cut : IsPermutation (take k (drop from t)) mid = rw c.deref_mut.ensures.value at c.sort_unstable.ensures.permutation in
+    let cut : IsPermutation (take k (drop from t)) mid =
+    rw c.deref_mut.ensures.value at c.sort_unstable.ensures.permutation in
     let len : length mid ≡ k = grind arith in
     let alone = ap (λ x. x ++ R) (part_alone t mid from k touched.len low len (touched.ok.0)) in
     let part : drop from (take c.args.to (take touched.len (with_part t mid from k

@@ -4,12 +4,16 @@ use Rattle.ffs_walk.specs.Windows.{held_bytes}
 use Rattle.ffs_workspace.proofs.TablePlaces.{inode_there}
 use Rattle.ffs_workspace.proofs.table.Table.inode.Goals as goal
 
-pub returns-clause-reads : goal.returns-clause-reads
-returns-clause-reads g c = record {
-  inode = λ bytes t.
-      inode_there (λ (i : Inode). i) c.args.geometry.now.layout c.args.number c.in_ok-at.at bytes
-      (held_bytes c.load.new.self.window) c.bytes-bytes.result.now c.decode_inode.result
-      c.bytes-bytes.ensures (c.in_ok-at.ensures.there.bytes bytes t) c.decode_inode.ensures;
-  kept = search rules;
-  read = search rules;
+pub returns : goal.returns
+returns g c = record {
+  reads = record {
+    inode = λ bytes t.
+        inode_there (λ (i : Inode). i) c.args.geometry.now.layout c.args.number c.in_ok-at.at bytes
+        (held_bytes c.load.new.self.window) c.bytes-bytes.result.now c.decode_inode.result
+        c.bytes-bytes.ensures (c.in_ok-at.ensures.there.bytes bytes t) c.decode_inode.ensures;
+    kept = search rules;
+    read = search rules;
+  };
+  counted = c.load.ensures.counted;
+  again = c.load.ensures.again;
 }

@@ -1,18 +1,23 @@
-use Rattle.std.proofs.Common.{rules}
+use Rattle.std.proofs.{Common.{arith, rules}, lemmas.Grind.common_steps}
 use Rattle.ffs_workspace.proofs.TablePlaces.{held_there}
 use Rattle.ffs_workspace.proofs.table.Table.load.Goals as goal
 use Rattle.ffs_workspace.proofs.table.Table.load.Goals.{then-not-has+in_ok-read_piece, else-not-has}
 
-pub returns-clause-there : goal.returns-clause-there
-returns-clause-there g c =
+pub returns : goal.returns
+returns g c =
     let v = c.args.geometry.now.layout in
     let ready = c.requires.ready in
-    elim c.if-not-has.branch [
-      | then-not-has+in_ok-read_piece w ↦
-          held_there v (g.I.Image.device c.args.image.now).contents c.args.number c.if-not-has.self
-          (rw w.self-is w.in_ok-read_piece.ensures.leaves.kept.made)
-          (search rules) (rw w.self-is w.in_ok-read_piece.ensures.has)
-      | else-not-has w ↦
-          held_there v (g.I.Image.device c.args.image.now).contents c.args.number c.if-not-has.self
-          (rw w.self-is ready.made) (rw w.self-is ready.holds) (rw w.self-is (c.has.ensures.0 (search rules)))
-    ]
+    record {
+      there = elim c.if-not-has.branch [
+        | then-not-has+in_ok-read_piece w ↦
+            held_there v (g.I.Image.device c.args.image.now).contents c.args.number c.if-not-has.self
+            (rw w.self-is w.in_ok-read_piece.ensures.leaves.kept.made)
+            (search rules) (rw w.self-is w.in_ok-read_piece.ensures.has)
+        | else-not-has w ↦
+            held_there v (g.I.Image.device c.args.image.now).contents c.args.number c.if-not-has.self
+            (rw w.self-is ready.made) (rw w.self-is ready.holds) (rw w.self-is (c.has.ensures.0 (search rules)))
+      ];
+      leaves = grind (arith, common_steps);
+      counted = grind (arith, common_steps);
+      again = grind (arith, common_steps);
+    }

@@ -1,17 +1,21 @@
-use Rattle.std.proofs.Common.{refl, rules, ◌∙◌}
+use Rattle.std.proofs.{Common.{arith, refl, rules, ◌∙◌}, lemmas.Grind.common_steps}
 use Rattle.ffs_workspace.proofs.TablePlaces.{inodes_there}
 use Rattle.ffs_workspace.proofs.table.Table.read_piece.Goals as goal
 
-pub returns-clause-leaves : goal.returns-clause-leaves
-returns-clause-leaves g c = record {
-  kept = record {
-    made = record {
-      room = search rules;
-      inodes = inodes_there c.args.geometry.now.layout c.args.count c.args.number _ c.args.geometry.now.sound
-          c.requires.count refl refl (c.in_ok-fill.ensures.fills.place.0 ∙ c.piece_place-place.ensures.value)
-          c.in_ok-fill.ensures.fills.place.1;
+pub returns : goal.returns
+returns g c = record {
+  has = grind (arith, common_steps);
+  leaves = record {
+    kept = record {
+      made = record {
+        room = search rules;
+        inodes = inodes_there c.args.geometry.now.layout c.args.count c.args.number _ c.args.geometry.now.sound
+            c.requires.count refl refl (c.in_ok-fill.ensures.fills.place.0 ∙ c.piece_place-place.ensures)
+            c.in_ok-fill.ensures.fills.place.1;
+      };
+      holds = c.fill.ensures.fills.holds;
     };
-    holds = c.fill.ensures.fills.holds;
+    read = search rules;
   };
-  read = search rules;
+  counted = c.fill.ensures.fills.counted;
 }

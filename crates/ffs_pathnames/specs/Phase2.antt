@@ -1,0 +1,38 @@
+-- What phase 2 leaves at its answer, and how often it reads the image.
+use Rattle.std.specs.Prelude.{◌≡◌, ◌⊎◌, ◌≤◌, ◌+◌, ◌*◌, ℕ, true, List, [], ◌∷◌, length, Result, Ok, Err, ⊤}
+use Rattle.ffs_image.specs.Device.{Device}
+use Rattle.ffs_volume.specs.declared.Layout.{Layout}
+use Rattle.ffs_volume.specs.Directories.{PathnameCheck.{continues_after_root, pathname_lines}, Volumes.volume_of}
+use Rattle.ffs_volume.specs.{Messages.Kinds.phase2, Report.Reads.{line_reads, pathname_reads, sweep_reads}}
+use Rattle.ffs_report.specs.{Known.ForBytes, Paid.Paid, Progress.{Progress, Said}, declared.fault.RunFault.RunFault}
+use Rattle.ffs_report.specs.declared.fault.RunFault.TheVariants.{Read, Out}
+use Rattle.ffs_workspace.specs.{declared.workspace.Workspace.Workspace, Found.WithClaims, Places.AreChunksNumbered}
+use Rattle.ffs_workspace.specs.Holds.{HoldsClaims, HoldsReferences, HoldsStarts, HoldsSurvey}
+use Rattle.ffs_pathnames.specs.{RootAnswers.is_go, declared.pass2.Root.Root}
+
+-- the run continues after the root as the image's bytes say, and the workspace holds what the block
+-- check and the survey found; where it held the starts of counts, it holds the counts of references
+pub record IsLeftByPhase2 (v : Layout) (bytes : List ℕ) (root : Root) (old new : Workspace) : Type 0 where
+  pub goes : is_go root ≡ continues_after_root (volume_of v bytes)
+  pub claims : HoldsClaims v bytes new
+  pub survey : HoldsSurvey v bytes new
+  pub references : HoldsStarts v bytes old → HoldsReferences v bytes new
+
+-- how phase 2 ends: where a read failed, the heading alone was said, or the run continues after the
+-- root
+abbrev pub Phase2Ends : Layout → Device → (old new : Workspace) → (before after : Progress) → Result Root RunFault →
+    Type 0
+Phase2Ends v d old new before after (Ok root) =
+    ForBytes (WithClaims v d old) (λ bytes. IsLeftByPhase2 v bytes root old new)
+Phase2Ends v d old new before after (Err (Read fault)) = Said before after (phase2 ∷ [])
+    ⊎ ForBytes (WithClaims v d old) (λ bytes. continues_after_root (volume_of v bytes) ≡ true)
+Phase2Ends v d old new before after (Err (Out fault)) = ⊤
+
+-- on a volume of less than 2^40 bytes (`AreChunksNumbered`) an image that gives its bytes is read at
+-- most `pathname_reads` times, and any image no more than four sweeps, and `line_reads` for each
+-- message that was begun
+pub record Phase2Reads {T : Type 0} (v : Layout) (d : Device) (w : Workspace) (old new : Progress) (before after : ℕ)
+    (result : Result T RunFault) : Type 0 where
+  pub known : ForBytes (WithClaims v d w) (λ bytes. AreChunksNumbered v
+      → after ≤ before + pathname_reads v (length (pathname_lines (volume_of v bytes))))
+  pub paid : AreChunksNumbered v → Paid line_reads old new (before + 4 * sweep_reads v) after result

@@ -1,0 +1,29 @@
+use Rattle.std.proofs.Common.{arith}
+use Rattle.ffs_survey.proofs.Walks.{marks_none, marks_found, older_after}
+use Rattle.ffs_survey.proofs.cycles.mark_leaders.Goals as goal
+
+pub loop-start-preserved : goal.loop-start-preserved
+loop-start-preserved c =
+    let inv = c.loop-start.invariant in
+    let walk = c.walk.ensures in
+    let least = c.least_on.ensures in
+    record {
+      long = grind arith;
+      closed = walk.walked.closed;
+      older = older_after walk.walked (omega (arith, walk.walks_long)) inv.older;
+      begun = grind arith;
+      marks = marks_found c.loop-start.leaders (omega (arith, least.low, inv.marks.long)) walk.walked
+          (rw c.in-Some.is at walk.cycle) least inv.marks;
+    }
+
+pub loop-start-preserved-in_default : goal.loop-start-preserved-in_default
+loop-start-preserved-in_default c =
+    let inv = c.loop-start.invariant in
+    let walk = c.in_default.ensures in
+    record {
+      long = grind arith;
+      closed = walk.walked.closed;
+      older = older_after walk.walked (omega (arith, walk.walks_long)) inv.older;
+      begun = grind arith;
+      marks = marks_none walk.walked walk.cycle inv.marks;
+    }
