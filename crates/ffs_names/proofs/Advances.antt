@@ -167,7 +167,7 @@ runs_seen {c = c} {start = start} {len = len} {block = block} s steps =
     rw (s.walk, s.cut, s.replays.after) (omega arith)
 
 -- the reading continues with the chunks of the Run, where all its offers are kept
-pub sees : {b : List ℕ} {c c' : Chunks} {start len taken : ℕ} {block : Option ℕ} → SeesBy c c' start len block taken →
+sees : {b : List ℕ} {c c' : Chunks} {start len taken : ℕ} {block : Option ℕ} → SeesBy c c' start len block taken →
     cursor_chunks c.walk.geometry.layout b c'.run_cursor
     ≡ (if taken == len then step_chunks (reading_by c.walk.geometry.layout b c.bytes_to_read)
     (is_run_in_range c.walk.geometry.layout) (Run start len block) else []) → (steps : List Step) →
@@ -198,28 +198,31 @@ sees {b = b} {c = c} {start = start} {len = len} {block = block} s found steps =
     }
 
 -- and it takes one read at most
-pub sees_once : {c c' : Chunks} {start len taken : ℕ} {block : Option ℕ} → SeesBy c c' start len block taken →
+pub sees_chunks : {c c' : Chunks} {start len taken : ℕ} {block : Option ℕ} → SeesBy c c' start len block taken →
+    ((b : List ℕ) → cursor_chunks c.walk.geometry.layout b c'.run_cursor
+    ≡ (if taken == len then step_chunks (reading_by c.walk.geometry.layout b c.bytes_to_read)
+    (is_run_in_range c.walk.geometry.layout) (Run start len block) else [])) →
     unread_run c'.run_cursor + entered (Run start len block) ≤ 1 → ((w : Window) → HoldsRun w c'.run_cursor) →
     SeesRun c c' start len block
-sees_once s few held = record { reads = λ steps. let seen = runs_seen s steps in omega (arith, few); held = held }
+sees_chunks s found few held = record {
+  continues = λ b. sees s (found b);
+  walk = s.walk;
+  reads = λ steps. let seen = runs_seen s steps in omega (arith, few);
+  held = held;
+}
 
 -- where it has no chunk, the current Run has none left still
 none_unless : {A : Type 0} (x : Bool) (xs : List A) → (x ≡ true → xs ≡ []) → (if x then xs else []) ≡ []
 none_unless true xs h = h refl
 none_unless false xs h = refl
 
-pub sees_none : {b : List ℕ} {c c' : Chunks} {start len taken : ℕ} {block : Option ℕ} →
-    SeesBy c c' start len block taken → c'.run_cursor ≡ c.run_cursor →
-    ((taken == len) ≡ true → step_chunks (reading_by c.walk.geometry.layout b c.bytes_to_read)
-    (is_run_in_range c.walk.geometry.layout) (Run start len block) ≡ []) → (steps : List Step) →
-    Continues b c (Run start len block ∷ steps) c' steps
-sees_none {b = b} {c = c} {len = len} {taken = taken} s same none =
-    sees s (rw same (no_run_cursor c.walk.geometry.layout b c.run_cursor s.can.empty
-    ∙ sym (none_unless (taken == len) _ none)))
-
-pub sees_none_once : {c c' : Chunks} {start len taken : ℕ} {block : Option ℕ} → SeesBy c c' start len block taken →
-    c'.run_cursor ≡ c.run_cursor → SeesRun c c' start len block
-sees_none_once {c = c} {start = start} {len = len} {block = block} s same = sees_once s
+pub sees_none : {c c' : Chunks} {start len taken : ℕ} {block : Option ℕ} → SeesBy c c' start len block taken →
+    c'.run_cursor ≡ c.run_cursor →
+    ((b : List ℕ) → (taken == len) ≡ true → step_chunks (reading_by c.walk.geometry.layout b c.bytes_to_read)
+    (is_run_in_range c.walk.geometry.layout) (Run start len block) ≡ []) → SeesRun c c' start len block
+sees_none {c = c} {start = start} {len = len} {taken = taken} {block = block} s same none = sees_chunks s
+    (λ b. rw same (no_run_cursor c.walk.geometry.layout b c.run_cursor s.can.empty
+    ∙ sym (none_unless (taken == len) _ (none b))))
     (rw same (omega (arith, run_over c.run_cursor s.can.empty, entered_one start len block)))
     (rw same (over_held c.run_cursor s.can.empty))
 

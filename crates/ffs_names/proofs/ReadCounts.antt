@@ -2,6 +2,7 @@
 use Rattle.std.proofs.Common.{◌≡◌, ◌≤◌, ◌+◌, ◌==◌, ◌&&◌, nat_lt, if◌then◌else◌, ℕ, Option, Some, None, arith, refl}
 use Rattle.std.proofs.lemmas.Bool.Decides.{nat_tests}
 use Rattle.ffs_volume.specs.declared.Step.TheVariants.{Run}
+use Rattle.ffs_layout.specs.declared.geometry.Geometry.{Geometry}
 use Rattle.ffs_walk.proofs.Counted.{top_held, top_unread}
 use Rattle.ffs_walk.specs.{Counts.entered, Rests.IsAtTop, declared.window.Window.Window}
 use Rattle.ffs_names.specs.Costs.{BeginsReads, HoldsRun, unread_run}
@@ -29,8 +30,9 @@ pub over_held : (cursor : RunCursor) → cursor.next ≡ cursor.count → (w : W
 over_held cursor over w = λ some left. absurd (omega (arith, over, left))
 
 -- a reading that begins
-pub begins_reads : (c : Chunks) → IsAtTop c.walk → c.run_cursor.next ≡ c.run_cursor.count → BeginsReads c
-begins_reads c top over = grind (arith, top_unread, run_over, top_held, over_held)
+pub begins_reads : {g : Geometry} {c : Chunks} → c.walk.geometry ≡ g → IsAtTop c.walk →
+    c.run_cursor.next ≡ c.run_cursor.count → BeginsReads g c
+begins_reads {c = c} same top over = grind (arith, top_unread, run_over, top_held, over_held)
 
 -- a Run that is seen is no more than one indirect block, and none where it is one of data
 pub entered_one : (start len : ℕ) (block : Option ℕ) → entered (Run start len block) ≤ 1

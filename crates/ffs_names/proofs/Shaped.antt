@@ -7,7 +7,7 @@ use Rattle.ffs_volume.specs.{declared.Order.Order, Directories.Entries.{Entry, C
 use Rattle.ffs_volume.specs.{Directories.{Entries.{has_gap, is_sound}, PathnameCheck.are_sound}, Blocks.Steps.steps_of}
 use Rattle.ffs_volume.specs.Encodings.{Replay.{fresh_replay, replayed_steps}, ReplayCounts.replayed_runs}
 use Rattle.ffs_walk.specs.declared.{blocks.Blocks.Blocks, window.Window.Window}
-use Rattle.ffs_names.specs.{Costs.{BeginsEntries, HoldsReading, to_read}, RightShapes.is_right_size, Readings.chunks_in}
+use Rattle.ffs_names.specs.{Costs.{HoldsReading, to_read}, RightShapes.is_right_size, Readings.chunks_in}
 use Rattle.ffs_names.specs.{Readings.{gap_left, rest}, Shapes.BeginsDirectory, declared.chunks.Chunks.Chunks}
 use Rattle.ffs_names.{specs.declared.entries.Entries.Entries, proofs.Entered.{end_of_chunk, end_seen, none_from}}
 use Rattle.ffs_names.proofs.EntryCounts.{at_most}
@@ -64,13 +64,12 @@ pub begins_directory : {v : Layout} {i : Inode} {cut : ℕ} {r : Entries} → r.
     r.right_so_far ≡ is_right_size i.size →
     ((b : List ℕ) → i.size < 2 ^ 31 → rest b r.chunks ≡ chunks_in v b i cut) → r.chunks.gap ≡ false →
     ((b : List ℕ) → gap_left b r.chunks ≡ has_gap (replayed_steps v cut fresh_replay (steps_of v i b))) →
-    BeginsDirectory v i cut r
-begins_directory {r = r} place right chunks gap left = grind (arith, end_seen, shape_begun)
-
-pub begins_entries : {v : Layout} {i : Inode} {cut : ℕ} {r : Entries} →
     ((b : List ℕ) → to_read b r.chunks ≤ replayed_runs v cut fresh_replay (steps_of v i b)) →
-    ((blocks : Blocks) (w : Window) → HoldsReading blocks w r.chunks) → BeginsEntries v i cut r
-begins_entries {r = r} few held = record {
+    ((blocks : Blocks) (w : Window) → HoldsReading blocks w r.chunks) → BeginsDirectory v i cut r
+begins_directory {r = r} place right chunks gap left few held = record {
+  entries = λ b small. grind (arith, end_seen);
+  shape = λ b small. grind (arith, shape_begun);
+  place = place;
   to_read = λ b. omega (arith, at_most b r.right_so_far r.chunks, few b);
   held = λ blocks w may. held blocks w;
 }

@@ -1,14 +1,18 @@
 -- How many reads of the image a reading of a directory still takes, and how many a directory takes
 -- in all.
 use Rattle.std.specs.Prelude.{◌≡◌, ℕ, ◌+◌, ◌*◌, ◌<◌, ◌≤◌, ◌==◌, Bool, true, false, ◌&&◌, ◌||◌, nat_lt, if◌then◌else◌}
-use Rattle.std.specs.Prelude.{List, ◌∷◌, Option}
-use Rattle.ffs_volume.specs.declared.{Inode.Inode, Layout.Layout, Step.{Step, TheVariants.Run}}
+use Rattle.std.specs.{Prelude.{List, ◌∷◌, Option}, List.flat_map}
+use Rattle.ffs_image.specs.Device.{ForContents}
+use Rattle.ffs_volume.specs.declared.{Layout.Layout, Step.{Step, TheVariants.Run}}
 use Rattle.ffs_volume.specs.{Blocks.{Inodes.inode_of, Steps.steps_of}, Directories.{Entries.has_gap, Roles.is_dir}}
 use Rattle.ffs_volume.specs.{Directories.Volumes.volume_of, Encodings.Replay.{cut_at, fresh_replay, replayed_steps}}
-use Rattle.ffs_volume.specs.Encodings.ReplayCounts.{replayed_runs}
+use Rattle.ffs_volume.specs.Directories.Roles.{roled_chunk, roled_entries}
+use Rattle.ffs_volume.specs.{Encodings.ReplayCounts.replayed_runs, Report.Reads.sweep_reads}
+use Rattle.ffs_layout.specs.declared.geometry.Geometry.{Geometry}
 use Rattle.ffs_walk.specs.{Counts.{AreHeld, entered, unread}, declared.{blocks.Blocks.Blocks, window.Window.Window}}
 use Rattle.ffs_survey.specs.Costs.{costs_all}
 use Rattle.ffs_names.specs.{OneChunk.one_chunk_at, Readings.{chunks_in, gap_left, rest, runs_after, runs_left}}
+use Rattle.ffs_names.specs.Readings.{Continues}
 use Rattle.ffs_names.specs.declared.{chunks.Chunks.Chunks, entries.Entries.Entries, run_cursor.RunCursor.RunCursor}
 
 -- 1 where the current Run has chunks and is still to be read: none of them was given yet
@@ -29,9 +33,10 @@ pub record HoldsReading (blocks : Blocks) (w : Window) (c : Chunks) : Type 0 whe
   pub frames : AreHeld blocks c.walk
   pub run : HoldsRun w c.run_cursor
 
--- a reading that begins still takes a read for each Run that it may look at, and needs nothing that
--- was read
-pub record BeginsReads (c : Chunks) : Type 0 where
+-- a reading that begins, in a volume of this geometry, still takes a read for each Run that it may
+-- look at, and needs nothing that was read
+pub record BeginsReads (g : Geometry) (c : Chunks) : Type 0 where
+  pub geometry : c.walk.geometry ≡ g
   pub to_read : (b : List ℕ) → to_read b c ≡ runs_left b c
   pub held : (blocks : Blocks) (w : Window) → HoldsReading blocks w c
 
@@ -44,8 +49,11 @@ pub record BeginsAtChunk (v : Layout) (address : ℕ) (c : Chunks) : Type 0 wher
   pub to_read : (b : List ℕ) → to_read b c ≤ replayed_runs v 0 fresh_replay (steps_of v (one_chunk_at address) b)
   pub held : (blocks : Blocks) (w : Window) → HoldsReading blocks w c
 
--- a Run that is seen takes one read at most: it is an indirect block, or it has chunks
+-- a Run is seen: the reading continues with the steps after it. The walk stays, and the Run takes
+-- one read at most: it is an indirect block, or it has chunks
 pub record SeesRun (old new : Chunks) (start len : ℕ) (block : Option ℕ) : Type 0 where
+  pub continues : (b : List ℕ) (steps : List Step) → Continues b old (Run start len block ∷ steps) new steps
+  pub walk : new.walk ≡ old.walk
   pub reads : (steps : List Step) → unread_run new.run_cursor + (entered (Run start len block) + runs_after new steps)
       ≤ runs_after old (Run start len block ∷ steps)
   pub held : (w : Window) → HoldsRun w new.run_cursor
@@ -62,11 +70,6 @@ entries_to_read b r = if may_read r then to_read b r.chunks else 0
 abbrev pub HoldsEntries : Blocks → Window → Entries → Type 0
 HoldsEntries blocks w r = may_read r ≡ true → HoldsReading blocks w r.chunks
 
--- a reading of the entries of a directory begins: it takes a read for each Run that is seen
-pub record BeginsEntries (v : Layout) (inode : Inode) (cut : ℕ) (r : Entries) : Type 0 where
-  pub to_read : (b : List ℕ) → entries_to_read b r ≤ replayed_runs v cut fresh_replay (steps_of v inode b)
-  pub held : (blocks : Blocks) (w : Window) → HoldsEntries blocks w r
-
 -- how many Runs of the inode x are seen
 abbrev pub directory_runs : Layout → List ℕ → ℕ → ℕ
 directory_runs v b x = replayed_runs v (cut_at v b x) fresh_replay (steps_of v (inode_of v b x) b)
@@ -79,3 +82,16 @@ directory_cost v b x = if is_dir (volume_of v b) x then 1 + directory_runs v b x
 -- the same of all directories
 abbrev pub directories_cost : Layout → List ℕ → ℕ
 directories_cost v b = costs_all (directory_cost v b) (v.ncg * v.ipg)
+
+-- a call reads no more often than all directories take, by bytes of the image that are known to be
+-- right, and by any bytes no more often than a sweep may
+pub record SweepsOnce (v : Layout) (contents : Option (List ℕ)) (known : List ℕ → Type 0) (reads reads' : ℕ) : Type 0
+  where
+    pub each : ForContents contents (λ b. known b → reads' ≤ reads + directories_cost v b)
+    pub most : reads' ≤ reads + sweep_reads v
+
+-- a reading of the chunks of the directory d begins. It takes no more reads than are left of those
+-- that the directory takes
+pub record BeginsChunks (v : Layout) (b : List ℕ) (d reads reads' : ℕ) (c : Chunks) : Type 0 where
+  pub chunks : flat_map roled_chunk (rest b c) ≡ roled_entries (volume_of v b) d
+  pub within : reads' + to_read b c ≤ reads + directory_cost v b d

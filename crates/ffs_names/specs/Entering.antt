@@ -1,5 +1,6 @@
 -- The entries that a reading of a directory has still to give.
-use Rattle.std.specs.{Prelude.{ℕ, List, ◌≡◌, ◌<◌, ◌≤◌, ◌++◌, ◌+◌, ◌-◌, ◌*◌, ◌/◌}, List.flat_map}
+use Rattle.std.specs.{Prelude.{ℕ, List, ◌≡◌, ◌<◌, ◌≤◌, ◌++◌, ◌+◌, ◌-◌, ◌*◌, ◌/◌, Option}, List.flat_map}
+use Rattle.ffs_image.specs.Device.{ForContents}
 use Rattle.ffs_volume.specs.{Disk.Numbers.piece, Directories.{Entries.entries_from, Roles.{RoledEntry, roled_from}}}
 use Rattle.ffs_volume.specs.Directories.Roles.{roled_chunk}
 use Rattle.ffs_names.specs.{Readings.rest, RunCursors.last_place, declared.entries.Entries.Entries}
@@ -33,3 +34,9 @@ MayTake b r = r.place < 512 → IsHeld b r
 abbrev pub IsInside : Entries → Type 0
 IsInside r =
     last_place r.chunks.run_cursor + 512 ≤ r.chunks.walk.geometry.layout.size * r.chunks.walk.geometry.layout.fsize
+
+-- an entry was given from a chunk that is what an image of these contents has at its place, in the
+-- volume, if that was so of the chunk before, where an entry of it might come
+pub record GivesFromChunk (contents : Option (List ℕ)) (old new : Entries) : Type 0 where
+  pub held : ForContents contents (λ b. MayTake b old → IsHeld b new)
+  pub inside : (old.place < 512 → IsInside old) → IsInside new

@@ -11,3 +11,4 @@ pub mod Surveys
 pub mod Noting
 pub mod SeenRuns
 pub mod Costs
+pub mod Leaves

@@ -1,11 +1,22 @@
 -- What chunks of a directory p note of the places of parent entries. Words are as in `Places` of
 -- ffs_workspace, but the bit that says in phase 2 that the parent entry of a directory is due
 -- (`is_due`) says here that the directory is a parent whose chunks are still to be read.
-use Rattle.std.specs.Prelude.{◌≡◌, ◌⊎◌, ℕ, suc, ◌<◌, ◌≤◌, ◌==◌, Bool, true, false, not, ◌&&◌, if◌then◌else◌, List}
-use Rattle.std.specs.{Prelude.{slice_index, length}, List.list_any}
+use Rattle.std.specs.Prelude.{◌≡◌, ◌⊎◌, ℕ, suc, ◌<◌, ◌≤◌, ◌^◌, ◌==◌, Bool, true, false, not, ◌&&◌, if◌then◌else◌, List}
+use Rattle.std.specs.{Prelude.{slice_index, length, vec_len, Result}, List.list_any}
+use Rattle.std.specs.declared.{alloc.Global.Global, vec.Vec.Vec}
+use Rattle.ffs_image.specs.{Device.Device, Reads.ReadAfter, declared.image.ImageFault.ImageFault}
 use Rattle.ffs_volume.specs.declared.{constants.TheConstants.ROOTINO, Layout.Layout}
 use Rattle.ffs_volume.specs.{Directories.{Graph.is_naming_entry, Roles.RoledEntry}, Encodings.Lists.bool_at}
-use Rattle.ffs_workspace.specs.Places.{entries_in_chunk, is_due, name_in, place_in, AreChunksNumbered, IsNoted}
+use Rattle.ffs_workspace.specs.Places.{entries_in_chunk, is_due, name_in, place_in, AreChunksNumbered, AreNoted}
+use Rattle.ffs_workspace.specs.{Places.IsNoted, Holds.HoldsSurvey, Ready.IsReady}
+use Rattle.ffs_workspace.specs.declared.workspace.Workspace.{Workspace}
+
+-- a place of 31 bits can be noted for children of p, a number of an inode, by lists of one length
+pub record CanNote (parents words : Vec ℕ Global) (p place : ℕ) : Type 0 where
+  pub dir : 0 < p
+  pub some : 0 < place
+  pub small : place < 2 ^ 31
+  pub long : vec_len parents ≡ vec_len words
 
 -- p is the parent of x. The root has no parent entry
 abbrev pub is_child : (parents : List ℕ) (p x : ℕ) → Bool
@@ -59,3 +70,17 @@ pub record BeginsNotes (reached : List Bool) (parents words : List ℕ) : Type 0
       ROOTINO ≤ slice_index parents x → slice_index parents x < length reached →
       is_due (slice_index words (slice_index parents x)) ≡ true
   pub only : (p : ℕ) → is_due (slice_index words p) ≡ true → IsParent parents p
+
+-- what the survey found is held with the places, and where words have room for all chunks, a place
+-- is noted of each directory that is reached and isn't the root
+pub record HoldsPlaces (v : Layout) (b : List ℕ) (w : Workspace) : Type 0 where
+  pub survey : HoldsSurvey v b w
+  pub noted : AreChunksNumbered v → AreNoted v b w.queue.items
+
+-- what a call leaves that notes places in `queue`: only the windows change beside it, the workspace
+-- is ready, and the image was only read
+pub record LeavesPlaces {T : Type 0} (v : Layout) (d d' : Device) (old new : Workspace) (result : Result T ImageFault) :
+    Type 0 where
+  pub lists : new ≡ record old { windows = new.windows; queue = new.queue }
+  pub ready : IsReady v d' new
+  pub read : ReadAfter d d' result

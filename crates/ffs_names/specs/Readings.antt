@@ -1,14 +1,14 @@
 -- What a reading of a directory has still to give.
 use Rattle.std.specs.Prelude.{◌≡◌, ◌<◌, ◌≤◌, ◌^◌, ℕ, ◌+◌, ◌-◌, Bool, true, false, ◌||◌, Result, List, [], ◌∷◌, ◌++◌}
-use Rattle.std.specs.Prelude.{take, Option, MatchOption}
+use Rattle.std.specs.Prelude.{take, Option, MatchOption, OnErr}
 use Rattle.ffs_volume.specs.{declared.{Layout.Layout, Inode.Inode, Step.Step}, Disk.Areas.is_run_in_range}
 use Rattle.ffs_volume.specs.{Blocks.Steps.steps_of, Directories.Entries.{Chunk, chunk_of, chunks_of, has_gap}}
 use Rattle.ffs_volume.specs.{Directories.Entries.bytes_read, Encodings.Replay.{is_replay_open, fresh_replay}}
 use Rattle.ffs_volume.specs.{Encodings.{Replay.replayed_steps, ReplayCounts.replayed_runs}, Laws.RunLengths.HasLength}
 use Rattle.ffs_walk.specs.{Rests.{most_steps_left, steps_left}, declared.{blocks.Blocks.Blocks, window.Window.Window}}
 use Rattle.ffs_walk.specs.Keepings.{replay_in}
-use Rattle.ffs_image.specs.{Device.Device, Reads.ReadAfter, declared.image.ImageFault.ImageFault}
-use Rattle.ffs_names.specs.{Windows.{CanWalkDir, CanReadChunks}, RunCursors.{cursor_chunks, reading_by}}
+use Rattle.ffs_image.specs.{Device.{Device, ForContents}, Reads.ReadAfter, declared.image.ImageFault.ImageFault}
+use Rattle.ffs_names.specs.{Windows.CanReadChunks, RunCursors.{cursor_chunks, reading_by}}
 use Rattle.ffs_names.specs.declared.chunks.Chunks.{Chunks}
 
 -- the chunks of steps to come
@@ -71,20 +71,6 @@ pub record CanSee (c : Chunks) (run : Step) : Type 0 where
   pub seen : is_replay_open c.keeping.cut (replay_in c.keeping) ≡ true
   pub empty : c.run_cursor.next ≡ c.run_cursor.count
 
--- what a call leaves that moves on to a Run: it can walk on, and only read the image
-pub record LeavesWalk {T : Type 0} (old new : Chunks) (device device' : Device) (blocks : Blocks)
-    (result : Result T ImageFault) : Type 0 where
-  pub same : IsSame old new
-  pub ready : CanWalkDir old.walk.geometry.layout device' blocks
-  pub read : ReadAfter device device' result
-
--- what a call leaves that reads a chunk
-pub record LeavesChunks {T : Type 0} (old new : Chunks) (device device' : Device) (blocks : Blocks) (chunk : Window)
-    (result : Result T ImageFault) : Type 0 where
-  pub same : IsSame old new
-  pub ready : CanReadChunks old.walk.geometry.layout device' blocks chunk
-  pub read : ReadAfter device device' result
-
 -- what a call leaves that gives the next chunk or the next entry
 pub record LeavesReading {T : Type 0} (old new : Chunks) (device device' : Device) (blocks : Blocks) (chunk : Window)
     (result : Result T ImageFault) : Type 0 where
@@ -102,6 +88,23 @@ pub record Continues (b : List ℕ) (old : Chunks) (before : List Step) (new : C
 -- it continues by its own walk
 abbrev pub ContinuesTo : List ℕ → Chunks → Chunks → Type 0
 ContinuesTo b old new = Continues b old (steps_left b old.walk) new (steps_left b new.walk)
+
+-- no more Runs are counted and to be counted than before
+abbrev pub CountsNoMore : List ℕ → Chunks → Chunks → Type 0
+CountsNoMore b old new = new.runs + runs_left b new ≤ old.runs + runs_left b old
+
+-- what becomes of the count of Runs in a call that may fail: it never falls, and a fault adds none
+pub record CountsRuns {T : Type 0} (contents : Option (List ℕ)) (old new : Chunks) (result : Result T ImageFault) :
+    Type 0 where
+  pub rises : old.runs ≤ new.runs
+  pub fault : OnErr result (ForContents contents (λ b. CountsNoMore b old new))
+
+-- a Run with a chunk left was found, of fewer that may come; else all is seen of an image of these
+-- contents
+pub record FindsNextRun (contents : Option (List ℕ)) (old new : Chunks) (found : Bool) : Type 0 where
+  pub more : found ≡ true → new.run_cursor.next < new.run_cursor.count
+  pub falls : found ≡ true → most_steps_left new.walk < ahead old
+  pub none : found ≡ false → ForContents contents (λ b. HasSeenAll b new)
 
 -- a chunk was read of those to come in an image of these bytes; the answer is its place in the
 -- file, and None where there is none

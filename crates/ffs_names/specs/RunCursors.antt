@@ -1,8 +1,10 @@
 -- The chunks of the current Run.
-use Rattle.std.specs.{Prelude.{ℕ, ◌+◌, ◌-◌, ◌*◌, List, map}, List.range_with_len}
+use Rattle.std.specs.Prelude.{◌≡◌, ℕ, ◌+◌, ◌-◌, ◌*◌, ◌≤◌, List, [], map, Option}
+use Rattle.std.specs.List.{range_with_len}
+use Rattle.ffs_image.specs.Device.{ForContents}
 use Rattle.ffs_volume.specs.{declared.Layout.Layout, Disk.Numbers.piece, Directories.Entries.{Chunk, ChunkSource}}
-use Rattle.ffs_volume.specs.Directories.Entries.{chunk_of}
-use Rattle.ffs_names.specs.declared.run_cursor.RunCursor.{RunCursor}
+use Rattle.ffs_volume.specs.Directories.Entries.{chunk_of, run_chunks}
+use Rattle.ffs_names.specs.{declared.run_cursor.RunCursor.RunCursor, Fits.CursorFits}
 
 -- the chunks of the current Run, in an image of these bytes
 abbrev pub cursor_chunks : Layout → List ℕ → RunCursor → List Chunk
@@ -13,6 +15,24 @@ cursor_chunks v b cursor = map (λ k. chunk_of v.order (cursor.offset + 512 * k)
 abbrev pub reading_by : Layout → List ℕ → ℕ → ChunkSource
 reading_by v b taken = record { order = v.order; image = b; bsize = v.bsize; fsize = v.fsize; taken = taken }
 
+-- a cursor over no chunks, in a volume of any layout
+pub record HasNoChunks (cursor : RunCursor) : Type 0 where
+  pub none : (v : Layout) (b : List ℕ) → cursor_chunks v b cursor ≡ []
+  pub next : cursor.next ≡ cursor.count
+  pub first : cursor.next ≡ 0
+  pub fits : (v : Layout) → CursorFits v cursor
+
+-- the chunks of a Run of this logical block are still to come, where this many bytes are read
+pub record BeginsRun (v : Layout) (taken start len block : ℕ) (cursor : RunCursor) : Type 0 where
+  pub chunks : (b : List ℕ) → cursor_chunks v b cursor ≡ run_chunks (reading_by v b taken) start len (block * v.bsize)
+  pub first : cursor.next ≡ 0
+  pub fits : CursorFits v cursor
+
 -- where in the image the chunk is that was given last, in bytes
 abbrev pub last_place : RunCursor → ℕ
 last_place cursor = cursor.place + 512 * (cursor.next - 1)
+
+-- a chunk is what an image of these contents has at that place, in the volume
+pub record IsLastChunk (v : Layout) (contents : Option (List ℕ)) (cursor : RunCursor) (chunk : List ℕ) : Type 0 where
+  pub bytes : ForContents contents (λ b. chunk ≡ piece (last_place cursor) 512 b)
+  pub inside : last_place cursor + 512 ≤ v.size * v.fsize

@@ -1,13 +1,17 @@
 -- What a reading of a directory shows of its shape.
-use Rattle.std.specs.Prelude.{◌≡◌, ◌<◌, ◌^◌, ℕ, ◌+◌, ◌==◌, Bool, true, not, ◌&&◌, ◌||◌, List, [], ◌∷◌, sum_by, Option}
-use Rattle.std.specs.{Prelude.{MatchOption, IfNone}, List.flat_map}
+use Rattle.std.specs.Prelude.{◌≡◌, ◌<◌, ◌≤◌, ◌^◌, ℕ, ◌+◌, ◌==◌, Bool, true, false, not, ◌&&◌, ◌||◌, List, [], ◌∷◌}
+use Rattle.std.specs.{Prelude.{sum_by, Option, is_some, MatchOption, IfNone}, List.flat_map}
 use Rattle.ffs_volume.specs.{declared.{Layout.Layout, Inode.Inode}, Blocks.Steps.steps_of}
-use Rattle.ffs_volume.specs.{declared.constants.TheConstants.DIRBLKSIZ, Directories.Entries.{entries_from, has_gap}}
+use Rattle.ffs_volume.specs.declared.constants.TheConstants.{DIRBLKSIZ}
+use Rattle.ffs_volume.specs.Directories.Entries.{entries_from, entry_at, has_gap}
 use Rattle.ffs_volume.specs.{Directories.{Roles.roled_chunk, PathnameCheck.are_sound}, Encodings.Replay.fresh_replay}
-use Rattle.ffs_volume.specs.Encodings.Replay.{replayed_steps}
+use Rattle.ffs_volume.specs.Encodings.{Replay.replayed_steps, ReplayCounts.replayed_runs}
+use Rattle.ffs_layout.specs.declared.geometry.Geometry.{Geometry}
+use Rattle.ffs_walk.specs.declared.{blocks.Blocks.Blocks, window.Window.Window}
 use Rattle.ffs_survey.specs.{declared.entry_head.EntryHead.EntryHead, Reading.roled_of}
 use Rattle.ffs_names.specs.{RightShapes.is_right_size, Readings.{rest, gap_left, chunks_in}, Entering.to_come}
-use Rattle.ffs_names.specs.{Entering.last_name, declared.entries.Entries.Entries}
+use Rattle.ffs_names.specs.{Entering.{last_name, left}, Costs.{entries_to_read, HoldsEntries}}
+use Rattle.ffs_names.specs.declared.entries.Entries.{Entries}
 
 -- the entries of the current chunk fill it
 abbrev pub fills : Entries → Bool
@@ -23,12 +27,24 @@ pub record HasEnded (b : List ℕ) (r : Entries) : Type 0 where
   pub chunks : rest b r.chunks ≡ []
   pub current : fills r ≡ true
 
--- a reading of the directory with this inode and this cut begins
+-- a reading of the directory with this inode and this cut begins, before its first chunk. It takes a
+-- read for each Run that is seen, and needs nothing that was read
 pub record BeginsDirectory (v : Layout) (inode : Inode) (cut : ℕ) (r : Entries) : Type 0 where
   pub entries : (b : List ℕ) → inode.size < 2 ^ 31 → to_come b r ≡ flat_map roled_chunk (chunks_in v b inode cut)
   pub shape : (b : List ℕ) → inode.size < 2 ^ 31 → has_right_shape b r
       ≡ (is_right_size inode.size && (are_sound (chunks_in v b inode cut)
       && not (has_gap (replayed_steps v cut fresh_replay (steps_of v inode b)))))
+  pub place : r.place ≡ 512
+  pub to_read : (b : List ℕ) → entries_to_read b r ≤ replayed_runs v cut fresh_replay (steps_of v inode b)
+  pub held : (blocks : Blocks) (w : Window) → HoldsEntries blocks w r
+
+-- no entry comes any more of a reading in a volume of this geometry, and it takes no read
+pub record HasStopped (g : Geometry) (r : Entries) : Type 0 where
+  pub entries : (b : List ℕ) → to_come b r ≡ []
+  pub shape : (b : List ℕ) → has_right_shape b r ≡ false
+  pub reads : (b : List ℕ) → entries_to_read b r ≡ 0
+  pub held : (blocks : Blocks) (w : Window) → HoldsEntries blocks w r
+  pub geometry : r.chunks.walk.geometry ≡ g
 
 -- the first of the entries to come in an image of these bytes was read; the answer is None where
 -- there is none
@@ -37,6 +53,17 @@ pub record GivesEntry (b : List ℕ) (old new : Entries) (answer : Option EntryH
       (λ head. to_come b old ≡ roled_of head (last_name new) ∷ to_come b new)
   pub shape : has_right_shape b new ≡ has_right_shape b old
   pub ended : IfNone answer (HasEnded b new)
+
+-- no entry is left in the current chunk, and the reading is as it was
+pub record IsChunkOver (old new : Entries) : Type 0 where
+  pub same : new ≡ old
+  pub left : is_some (entry_at new.order new.chunk new.place) ≡ false
+
+-- the next entry of the current chunk was taken, so fewer are left
+pub record TakesEntry (old new : Entries) (head : EntryHead) : Type 0 where
+  pub entries : (b : List ℕ) → to_come b old ≡ roled_of head (last_name new) ∷ to_come b new
+  pub left : left new < left old
+  pub place : old.place < 512
 
 -- what taking an entry of the current chunk leaves as it was
 pub record IsSameChunk (old new : Entries) : Type 0 where

@@ -1,9 +1,10 @@
 -- What a survey leaves as it was, and which directories it flags.
-use Rattle.std.specs.Prelude.{◌≡◌, ℕ, List}
+use Rattle.std.specs.Prelude.{◌≡◌, ℕ, List, Result}
+use Rattle.ffs_image.specs.{Device.Device, Reads.ReadAfter, declared.image.ImageFault.ImageFault}
 use Rattle.ffs_volume.specs.{declared.Layout.Layout, Directories.{Roles.roled_entries, Volumes.volume_of}}
 use Rattle.ffs_survey.specs.Calm.{AreCalm}
 use Rattle.ffs_names.specs.RightShapes.{is_right_directory}
-use Rattle.ffs_workspace.specs.declared.workspace.Workspace.{Workspace}
+use Rattle.ffs_workspace.specs.{declared.workspace.Workspace.Workspace, Ready.IsReady}
 
 -- the claims, kinds, marks and notes of a workspace, and its counts of Runs
 pub record IsUntouched (old new : Workspace) : Type 0 where
@@ -14,6 +15,13 @@ pub record IsUntouched (old new : Workspace) : Type 0 where
   pub notes : new.notes ≡ old.notes
   pub runs_seen : new.runs_seen ≡ old.runs_seen
   pub runs_again : new.runs_again ≡ old.runs_again
+
+-- what a survey leaves: the workspace is ready for the next call, and the image was only read
+pub record SurveyLeaves {T : Type 0} (v : Layout) (d d' : Device) (old new : Workspace) (result : Result T ImageFault) :
+    Type 0 where
+  pub same : IsUntouched old new
+  pub ready : IsReady v d' new
+  pub read : ReadAfter d d' result
 
 -- `flags` has only calm directories, by the kinds and marks of the workspace
 pub record FlagsCalm (v : Layout) (b : List ℕ) (w : Workspace) : Type 0 where

@@ -1,8 +1,9 @@
 -- When the windows of a directory's blocks and chunks can be read into.
-use Rattle.std.specs.Prelude.{◌≡◌, ◌*◌, ◌≤◌, vec_len}
+use Rattle.std.specs.Prelude.{◌≡◌, ◌+◌, ◌*◌, ◌<◌, ◌≤◌, vec_len}
 use Rattle.ffs_image.specs.Device.{Device}
 use Rattle.ffs_volume.specs.declared.Layout.{Layout}
 use Rattle.ffs_walk.specs.{declared.{blocks.Blocks.Blocks, window.Window.Window}, Windows.{BlocksHold, WindowHolds}}
+use Rattle.ffs_names.specs.declared.run_cursor.RunCursor.{RunCursor}
 
 -- the image has all of the volume, and the buffer of indirect blocks has a block of each level and
 -- holds what the image gives
@@ -16,3 +17,11 @@ pub record CanReadChunks (v : Layout) (d : Device) (blocks : Blocks) (chunk : Wi
   pub walk : CanWalkDir v d blocks
   pub room : vec_len chunk.buffer ≡ v.bsize
   pub holds : WindowHolds d.contents chunk
+
+-- the next chunk of a Run can be read: one is left, the image has the Run, and the window has room
+-- for its chunks, and holds what the image gives
+pub record CanReadRun (cursor : RunCursor) (d : Device) (w : Window) : Type 0 where
+  pub left : cursor.next < cursor.count
+  pub room : cursor.length ≤ vec_len w.buffer
+  pub inside : cursor.place + cursor.length ≤ d.size
+  pub holds : WindowHolds d.contents w

@@ -1,13 +1,13 @@
 //! The chunks of a directory.
 
-ghost use Rattle.std.specs.Prelude.{◌≡◌, ◌==◌, ◌&&◌, ◌+◌, ◌*◌, ◌%◌, ◌≤◌, ◌<◌, ◌^◌, ◌∷◌, ℕ, List, [], true, false, not};
-ghost use Rattle.std.specs.Prelude.{Ok, None, OnOk, IfOk, IfSome, IsTrue, OnErr, MatchBool, MatchOption, MatchResult};
+ghost use Rattle.std.specs.Prelude.{◌≡◌, ◌==◌, ◌&&◌, ◌+◌, ◌≤◌, ◌<◌, ◌^◌, true, not};
+ghost use Rattle.std.specs.Prelude.{Ok, None, IfOk, IfSome, MatchBool, MatchOption, MatchResult};
 ghost use Rattle.ffs_image.specs.Device.{ForContents};
-ghost use Rattle.ffs_volume.specs.{Disk.{Areas.is_run_in_range, Numbers.piece}, Directories.Entries.bytes_read};
-ghost use Rattle.ffs_volume.specs.declared.Step.{Step, TheVariants.Run};
+ghost use Rattle.ffs_volume.specs.{Disk.Areas.is_run_in_range, Directories.Entries.bytes_read};
+ghost use Rattle.ffs_volume.specs.declared.Step.TheVariants.{Run};
 ghost use Rattle.ffs_names.specs.{Fits.CursorFits, SeenRuns.RunsAreSeen, Windows.{CanWalkDir, CanReadChunks}};
 ghost use Rattle.ffs_survey.specs.Costs.{TakesReads};
-ghost use Rattle.ffs_walk.specs.{Rests.IsOver, declared.window.Window.Window};
+ghost use Rattle.ffs_walk.specs.Rests.{IsOver};
 ghost use Rattle.ffs_volume.specs.Blocks.Inodes as inodes;
 
 use crate::gap::end_walk;
@@ -48,19 +48,16 @@ pub struct Chunks {
 
 impl Chunks {
     ghost use Rattle.ffs_names.specs.Costs.{to_read, BeginsAtChunk, BeginsReads, HoldsReading, SeesRun};
-    ghost use Rattle.ffs_names.specs.RunCursors.{last_place};
-    ghost use Rattle.ffs_walk.specs.Rests.{most_steps_left};
-    ghost use Rattle.ffs_names.specs.Readings.{ahead, all_chunks, rest, runs_left, HasSeenAll, IsSame, CanSee, LeavesWalk, LeavesChunks, LeavesReading, Continues, ContinuesTo, GivesChunk, BeginsAt};
+    ghost use Rattle.ffs_names.specs.RunCursors.{last_place, IsLastChunk};
+    ghost use Rattle.ffs_names.specs.Readings.{all_chunks, rest, CanSee, ContinuesTo, CountsNoMore, CountsRuns, FindsNextRun, GivesChunk, BeginsAt, IsSame, LeavesReading};
+    ghost use Rattle.ffs_names.specs.Leaves.{LeavesChunks, LeavesWalk};
 
     /// Looks at the Run that comes next in the walk: one of data that is kept whole, and is in
     /// range, becomes the current Run. Any other has no chunks.
     fn see(&mut self, start: u32, len: u32, block: Option<u64>)
         requires { CanSee self.old (Run start len block) }
-        ensures continues { (b : List ℕ) (steps : List Step)
-            → Continues b self.old (Run start len block ∷ steps) self.new steps }
+        ensures sees { SeesRun self.old self.new start len block }
         ensures same { IsSame self.old self.new }
-        ensures walk { self.new.walk ≡ self.old.walk }
-        ensures reads { SeesRun self.old self.new start len block }
     {
         let geometry = self.walk.geometry;
         let in_range = geometry.in_range(start, len);
@@ -85,21 +82,11 @@ impl Chunks {
         blocks: &mut Blocks,
     ) -> Result<bool, ImageFault>
         requires { CanWalkDir self.old.walk.geometry.layout (I.device image.old) blocks.old }
-        ensures continues { OnOk result (ForContents (I.device image.old).contents
-            (λ b. ContinuesTo b self.old self.new)) }
-        ensures found { IfOk result (λ found. MatchBool found
-            (self.new.run_cursor.next < self.new.run_cursor.count)
-            (ForContents (I.device image.old).contents (λ b. HasSeenAll b self.new))) }
-        ensures falls { IfOk result (λ found. found ≡ true
-            → most_steps_left self.new.walk < ahead self.old) }
-        ensures runs { OnErr result (ForContents (I.device image.old).contents
-            (λ b. self.new.runs + runs_left b self.new ≤ self.old.runs + runs_left b self.old)) }
-        ensures reads { (w : Window) → HoldsReading blocks.old w self.old
-            → ForContents (I.device image.old).contents (λ b. TakesReads (I.reads image.old)
-            (I.reads image.new) (to_read b self.old) (to_read b self.new)
-            (HoldsReading blocks.new w self.new) result) }
+        ensures continues { ForContents (I.device image.old).contents (λ b. MatchResult result
+            (λ _. ContinuesTo b self.old self.new) (λ _. CountsNoMore b self.old self.new)) }
+        ensures found { IfOk result (FindsNextRun (I.device image.old).contents self.old self.new) }
         ensures leaves { LeavesWalk self.old self.new (I.device image.old) (I.device image.new)
-            blocks.new result }
+            (I.reads image.old) (I.reads image.new) blocks.old blocks.new result }
     {
         'steps: while self.run_cursor.next == self.run_cursor.count {
             if !self.keeping.is_replay_open() {
@@ -130,14 +117,11 @@ impl Chunks {
     ) -> Result<Option<u64>, ImageFault>
         requires { CanReadChunks self.old.walk.geometry.layout (I.device image.old) blocks.old
             window.old }
-        ensures chunk { IfOk result (λ offset. ForContents (I.device image.old).contents
-            (λ b. GivesChunk b (all_chunks b) self.old self.new chunk.new offset)) }
-        ensures place { IfOk result (λ o. IfSome o (λ _. ForContents (I.device image.old).contents
-            (λ b. chunk.new ≡ piece (last_place self.new.run_cursor) 512 b))) }
-        ensures inside { IfOk result (λ o. IfSome o (λ _. last_place self.new.run_cursor + 512
-            ≤ self.old.walk.geometry.layout.size * self.old.walk.geometry.layout.fsize)) }
-        ensures runs { OnErr result (ForContents (I.device image.old).contents
-            (λ b. self.new.runs + runs_left b self.new ≤ self.old.runs + runs_left b self.old)) }
+        ensures chunk { ForContents (I.device image.old).contents (λ b. MatchResult result
+            (GivesChunk b (all_chunks b) self.old self.new chunk.new)
+            (λ _. CountsNoMore b self.old self.new)) }
+        ensures place { IfOk result (λ o. IfSome o (λ _. IsLastChunk self.old.walk.geometry.layout
+            (I.device image.old).contents self.new.run_cursor chunk.new)) }
         ensures reads { HoldsReading blocks.old window.old self.old
             → ForContents (I.device image.old).contents (λ b. TakesReads (I.reads image.old)
             (I.reads image.new) (to_read b self.old) (to_read b self.new)
@@ -159,8 +143,7 @@ impl Chunks {
     #[inline(always)]
     pub fn start(geometry: &Geometry, inode: &Inode, cut: u32) -> Chunks
         ensures begins { BeginsAt geometry.now.layout inode.now cut result }
-        ensures reads { BeginsReads result }
-        ensures geometry { result.walk.geometry ≡ geometry.now }
+        ensures reads { BeginsReads geometry.now result }
     {
         Chunks::of_class(geometry, inode, class_of(geometry, inode), cut)
     }
@@ -170,8 +153,7 @@ impl Chunks {
     pub fn of_class(geometry: &Geometry, inode: &Inode, class: Class, cut: u32) -> Chunks
         ensures begins { class ≡ inodes.class_of geometry.now.layout inode.now
             → BeginsAt geometry.now.layout inode.now cut result }
-        ensures reads { BeginsReads result }
-        ensures geometry { result.walk.geometry ≡ geometry.now }
+        ensures reads { BeginsReads geometry.now result }
     {
         let bytes_to_read = bytes_read(inode.size);
         Chunks {
@@ -192,8 +174,7 @@ impl Chunks {
     pub fn restart(&mut self, inode: &Inode, class: Class, cut: u32)
         ensures begins { class ≡ inodes.class_of self.old.walk.geometry.layout inode.now
             → BeginsAt self.old.walk.geometry.layout inode.now cut self.new }
-        ensures reads { BeginsReads self.new }
-        ensures geometry { self.new.walk.geometry ≡ self.old.walk.geometry }
+        ensures reads { BeginsReads self.old.walk.geometry self.new }
     {
         let bytes_to_read = bytes_read(inode.size);
         self.run_cursor = RunCursor::empty();
@@ -212,9 +193,8 @@ impl Chunks {
     /// that of a hole or out of range.
     #[inline(always)]
     pub fn restart_at(&mut self, address: u32) -> bool
-        ensures begins { IsTrue result
-            → BeginsAtChunk self.old.walk.geometry.layout address self.new }
-        ensures refused { result ≡ false → self.new ≡ self.old }
+        ensures begins { MatchBool result
+            (BeginsAtChunk self.old.walk.geometry.layout address self.new) (self.new ≡ self.old) }
         ensures value { result ≡ (not (address == 0)
             && is_run_in_range self.old.walk.geometry.layout address 1) }
         ensures geometry { self.new.walk.geometry ≡ self.old.walk.geometry }
@@ -248,23 +228,19 @@ impl Chunks {
             window.old }
         ensures chunk { IfOk result (λ offset. ForContents (I.device image.old).contents
             (λ b. GivesChunk b (rest b) self.old self.new chunk.new offset)) }
-        ensures place { IfOk result (λ o. IfSome o (λ _. ForContents (I.device image.old).contents
-            (λ b. chunk.new ≡ piece (last_place self.new.run_cursor) 512 b))) }
-        ensures inside { IfOk result (λ o. IfSome o (λ _. last_place self.new.run_cursor + 512
-            ≤ self.old.walk.geometry.layout.size * self.old.walk.geometry.layout.fsize)) }
-        ensures runs { OnErr result (ForContents (I.device image.old).contents
-            (λ b. self.new.runs + runs_left b self.new ≤ self.old.runs + runs_left b self.old)) }
+        ensures place { IfOk result (λ o. IfSome o (λ _. IsLastChunk self.old.walk.geometry.layout
+            (I.device image.old).contents self.new.run_cursor chunk.new)) }
+        ensures runs { CountsRuns (I.device image.old).contents self.old self.new result }
         ensures budget { MatchResult result
             (λ o. MatchOption o (self.new.budget ≡ self.old.budget)
             (λ _. self.new.budget + 1 ≡ self.old.budget))
             (λ _. self.new.budget ≡ 0) }
-        ensures over { self.old.budget ≡ 0 → result ≡ Ok None }
-        ensures counted { self.old.runs ≤ self.new.runs }
+        ensures over { self.old.budget ≡ 0
+            → (result ≡ Ok None) × (I.reads image.new ≤ I.reads image.old) }
         ensures reads { HoldsReading blocks.old window.old self.old
             → ForContents (I.device image.old).contents (λ b. TakesReads (I.reads image.old)
             (I.reads image.new) (to_read b self.old) (to_read b self.new)
             (HoldsReading blocks.new window.new self.new) result) }
-        ensures spent { self.old.budget ≡ 0 → I.reads image.new ≤ I.reads image.old }
         ensures leaves { LeavesReading self.old self.new (I.device image.old)
             (I.device image.new) blocks.new window.new result }
     {
@@ -286,9 +262,7 @@ impl Chunks {
 
     /// Where the chunk that it gave last is in the image, in bytes.
     pub fn last_place(&self) -> u64
-        ensures value { result ≡ last_place self.now.run_cursor }
-        ensures small { result + 512 < 2 ^ 64 }
-        ensures aligned { result % 512 ≡ 0 }
+        ensures { result ≡ last_place self.now.run_cursor }
     {
         self.run_cursor.place + DIRBLKSIZ as u64 * u64::from(self.run_cursor.next.saturating_sub(1))
     }

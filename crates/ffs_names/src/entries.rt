@@ -1,13 +1,11 @@
 //! The entries of a directory.
 
-ghost use Rattle.std.specs.Prelude.{◌≡◌, ◌+◌, ◌-◌, ◌*◌, ◌/◌, ◌<◌, ◌≤◌, ◌^◌, ◌∷◌, ℕ, List, [], false, None, IfOk};
-ghost use Rattle.std.specs.Prelude.{IfSome, is_some, MatchOption};
+ghost use Rattle.std.specs.Prelude.{◌≡◌, ◌+◌, ◌-◌, ◌*◌, ◌/◌, ◌<◌, ◌≤◌, ◌^◌, IfOk, IfSome, MatchOption};
 ghost use Rattle.ffs_image.specs.Device.{ForContents};
-ghost use Rattle.ffs_volume.specs.Directories.Entries.{entry_at};
 ghost use Rattle.ffs_names.specs.{OneChunk.one_chunk_at as one_chunk, RightShapes.is_right_size, Windows.CanWalkDir};
 ghost use Rattle.ffs_names.specs.Windows.{CanReadChunks};
 ghost use Rattle.ffs_survey.specs.Costs.{TakesReads};
-ghost use Rattle.ffs_walk.specs.declared.{blocks.Blocks.Blocks, window.Window.Window};
+ghost use Rattle.ffs_walk.specs.declared.window.Window.{Window};
 ghost use Rattle.ffs_volume.specs.Blocks.Inodes as inodes;
 
 use crate::chunks::Chunks;
@@ -57,18 +55,14 @@ fn has_right_size(inode: &Inode) -> bool
 }
 
 impl Entries {
-    ghost use Rattle.ffs_names.specs.Costs.{entries_to_read, BeginsEntries, HoldsEntries};
-    ghost use Rattle.ffs_survey.specs.Reading.{roled_of};
-    ghost use Rattle.ffs_names.specs.Readings.{LeavesReading, LeavesWalk};
-    ghost use Rattle.ffs_names.specs.Shapes.{has_right_shape, HasEnded, BeginsDirectory, GivesEntry, IsSameChunk};
-    ghost use Rattle.ffs_names.specs.Entering.{to_come, left, last_name, IsHeld, IsInside, MayTake};
+    ghost use Rattle.ffs_names.specs.{Costs.{entries_to_read, HoldsEntries}, Leaves.LeavesLook, Readings.LeavesReading};
+    ghost use Rattle.ffs_names.specs.Shapes.{has_right_shape, BeginsDirectory, GivesEntry, HasEnded, HasStopped, IsChunkOver, IsSameChunk, TakesEntry};
+    ghost use Rattle.ffs_names.specs.Entering.{left, last_name, GivesFromChunk};
 
     /// A reading of the directory with this inode. `cut` is how many offers it keeps where its
     /// eleventh dup offer cut it, else 0.
     pub fn start(geometry: &Geometry, inode: &Inode, cut: u32) -> Entries
         ensures begins { BeginsDirectory geometry.now.layout inode.now cut result }
-        ensures reads { BeginsEntries geometry.now.layout inode.now cut result }
-        ensures place { result.place ≡ 512 }
         ensures geometry { result.chunks.walk.geometry ≡ geometry.now }
     {
         let chunks = Chunks::start(geometry, inode, cut);
@@ -87,10 +81,7 @@ impl Entries {
 
     /// A reading of no entries.
     pub fn none(geometry: &Geometry) -> Entries
-        ensures entries { (b : List ℕ) → to_come b result ≡ [] }
-        ensures reads { (b : List ℕ) → entries_to_read b result ≡ 0 }
-        ensures held { (blocks : Blocks) (w : Window) → HoldsEntries blocks w result }
-        ensures geometry { result.chunks.walk.geometry ≡ geometry.now }
+        ensures { HasStopped geometry.now result }
     {
         let inode = Inode {
             mode: 0,
@@ -112,8 +103,6 @@ impl Entries {
     pub fn restart(&mut self, inode: &Inode, class: Class, cut: u32)
         ensures begins { class ≡ inodes.class_of self.old.chunks.walk.geometry.layout inode.now
             → BeginsDirectory self.old.chunks.walk.geometry.layout inode.now cut self.new }
-        ensures reads { class ≡ inodes.class_of self.old.chunks.walk.geometry.layout inode.now
-            → BeginsEntries self.old.chunks.walk.geometry.layout inode.now cut self.new }
         ensures geometry { self.new.chunks.walk.geometry ≡ self.old.chunks.walk.geometry }
     {
         self.place = DIRBLKSIZ;
@@ -129,8 +118,6 @@ impl Entries {
     pub fn restart_at(&mut self, address: u32)
         ensures begins { BeginsDirectory self.old.chunks.walk.geometry.layout
             (one_chunk address) 0 self.new }
-        ensures reads { BeginsEntries self.old.chunks.walk.geometry.layout
-            (one_chunk address) 0 self.new }
         ensures geometry { self.new.chunks.walk.geometry ≡ self.old.chunks.walk.geometry }
     {
         self.place = DIRBLKSIZ;
@@ -144,11 +131,7 @@ impl Entries {
 
     /// No entry comes any more.
     pub fn stop(&mut self)
-        ensures entries { (b : List ℕ) → to_come b self.new ≡ [] }
-        ensures shape { (b : List ℕ) → has_right_shape b self.new ≡ false }
-        ensures reads { (b : List ℕ) → entries_to_read b self.new ≡ 0 }
-        ensures held { (blocks : Blocks) (w : Window) → HoldsEntries blocks w self.new }
-        ensures geometry { self.new.chunks.walk.geometry ≡ self.old.chunks.walk.geometry }
+        ensures { HasStopped self.old.chunks.walk.geometry self.new }
     {
         self.place = DIRBLKSIZ;
         self.chunks.budget = 0;
@@ -158,15 +141,8 @@ impl Entries {
     /// Takes the entry at `place`, if one is there.
     #[inline(always)]
     pub(crate) fn take(&mut self) -> Option<EntryHead>
-        ensures none { result ≡ None → self.new ≡ self.old }
-        ensures entries { MatchOption result
-            ((b : List ℕ) → to_come b self.new ≡ to_come b self.old)
-            (λ head. (b : List ℕ) → to_come b self.old ≡ roled_of head (last_name self.new)
-            ∷ to_come b self.new) }
-        ensures left { MatchOption result
-            (is_some (entry_at self.new.order self.new.chunk self.new.place) ≡ false)
-            (λ _. left self.new < left self.old) }
-        ensures place { IfSome result (λ _. self.old.place < 512) }
+        ensures taken { MatchOption result (IsChunkOver self.old self.new)
+            (TakesEntry self.old self.new) }
         ensures same { IsSameChunk self.old self.new }
     {
         let Some(entry) = entry_at(self.order, &self.chunk, self.place) else {
@@ -201,10 +177,8 @@ impl Entries {
             blocks.old window.old }
         ensures entry { IfOk result (λ head. ForContents (I.device image.old).contents
             (λ b. GivesEntry b self.old self.new head)) }
-        ensures place { IfOk result (λ o. IfSome o (λ _. ForContents (I.device image.old).contents
-            (λ b. MayTake b self.old → IsHeld b self.new))) }
-        ensures inside { IfOk result (λ o. IfSome o (λ _.
-            (self.old.place < 512 → IsInside self.old) → IsInside self.new)) }
+        ensures place { IfOk result (λ o. IfSome o (λ _.
+            GivesFromChunk (I.device image.old).contents self.old self.new)) }
         ensures left { IfOk result (λ head. IfSome head (λ _. left self.new < left self.old)) }
         ensures reads { HoldsEntries blocks.old window.old self.old
             → ForContents (I.device image.old).contents (λ b. TakesReads (I.reads image.old)
@@ -249,7 +223,7 @@ impl Entries {
             → ForContents (I.device image.old).contents (λ b. TakesReads (I.reads image.old)
             (I.reads image.new) (entries_to_read b self.old) (entries_to_read b self.new)
             (HoldsEntries blocks.new w self.new) result) }
-        ensures leaves { LeavesWalk self.old.chunks self.new.chunks (I.device image.old)
+        ensures leaves { LeavesLook self.old.chunks self.new.chunks (I.device image.old)
             (I.device image.new) blocks.new result }
     {
         if !self.right_so_far {

@@ -1,9 +1,8 @@
 //! Whether a hole of a directory is kept.
 ghost use Rattle.std.specs.Prelude.{◌≡◌, ◌||◌, IfOk, IsTrue};
 ghost use Rattle.ffs_image.specs.Device.{ForContents};
-ghost use Rattle.ffs_walk.specs.{Rests.IsOver, declared.window.Window.Window};
-ghost use Rattle.ffs_names.specs.{Windows.CanWalkDir, Readings.{gap_left, LeavesWalk}, Costs.{to_read, HoldsReading}};
-ghost use Rattle.ffs_survey.specs.Costs.{TakesReads};
+ghost use Rattle.ffs_walk.specs.Rests.{IsOver};
+ghost use Rattle.ffs_names.specs.{Windows.CanWalkDir, Readings.gap_left, Leaves.LeavesWalk};
 
 use crate::chunks::Chunks;
 use ffs_image::{Image, ImageFault};
@@ -50,12 +49,8 @@ fn find_gap<I: Image>(
     requires { CanWalkDir chunks.old.walk.geometry.layout (I.device image.old) blocks.old }
     ensures gap { IfOk result (λ g. ForContents (I.device image.old).contents (λ b.
         g ≡ (chunks.old.gap || gap_left b chunks.old))) }
-    ensures reads { (w : Window) → HoldsReading blocks.old w chunks.old
-        → ForContents (I.device image.old).contents (λ b. TakesReads (I.reads image.old)
-        (I.reads image.new) (to_read b chunks.old) (to_read b chunks.new)
-        (HoldsReading blocks.new w chunks.new) result) }
     ensures leaves { LeavesWalk chunks.old chunks.new (I.device image.old) (I.device image.new)
-        blocks.new result }
+        (I.reads image.old) (I.reads image.new) blocks.old blocks.new result }
 {
     'runs: while chunks.advance(image, blocks)? {
         // Its chunks are passed over.
@@ -78,12 +73,8 @@ pub fn gap_of<I: Image>(
     requires { CanWalkDir chunks.old.walk.geometry.layout (I.device image.old) blocks.old }
     ensures gap { IfOk result (λ g. ForContents (I.device image.old).contents (λ b.
         g ≡ (chunks.old.gap || gap_left b chunks.old))) }
-    ensures reads { (w : Window) → HoldsReading blocks.old w chunks.old
-        → ForContents (I.device image.old).contents (λ b. TakesReads (I.reads image.old)
-        (I.reads image.new) (to_read b chunks.old) (to_read b chunks.new)
-        (HoldsReading blocks.new w chunks.new) result) }
     ensures leaves { LeavesWalk chunks.old chunks.new (I.device image.old) (I.device image.new)
-        blocks.new result }
+        (I.reads image.old) (I.reads image.new) blocks.old blocks.new result }
 {
     if is_walk_over(chunks) {
         return Ok(chunks.gap);

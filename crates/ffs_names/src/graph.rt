@@ -2,9 +2,8 @@
 
 ghost use Rattle.std.specs.Prelude.{◌+◌, ◌≤◌, OnOk};
 ghost use Rattle.ffs_image.specs.{Device.ForContents, Reads.ReadAfter};
-ghost use Rattle.ffs_volume.specs.Report.Reads.{sweep_reads};
 ghost use Rattle.ffs_workspace.specs.{Ready.IsReady, Holds.{HoldsClaims, HoldsReferences, HoldsStarts, HoldsSurvey}};
-ghost use Rattle.ffs_names.specs.{Surveys.{IsUntouched, FlagsCalm}, Costs.directories_cost};
+ghost use Rattle.ffs_names.specs.{Surveys.{FlagsCalm, IsUntouched, SurveyLeaves}, Costs.{directories_cost, SweepsOnce}};
 
 use crate::entries::Entries;
 use crate::reader::DirectoryReader;
@@ -95,13 +94,11 @@ pub fn survey<I: Image>(
     ensures calm { OnOk result (ForContents (I.device image.old).contents
         (λ b. HoldsClaims geometry.now.layout b workspace.old
         → FlagsCalm geometry.now.layout b workspace.new)) }
-    ensures reads { ForContents (I.device image.old).contents
-        (λ b. HoldsClaims geometry.now.layout b workspace.old
-        → I.reads image.new ≤ I.reads image.old + directories_cost geometry.now.layout b) }
-    ensures most { I.reads image.new ≤ I.reads image.old + sweep_reads geometry.now.layout }
-    ensures same { IsUntouched workspace.old workspace.new }
-    ensures ready { IsReady geometry.now.layout (I.device image.new) workspace.new }
-    ensures read { ReadAfter (I.device image.old) (I.device image.new) result }
+    ensures reads { SweepsOnce geometry.now.layout (I.device image.old).contents
+        (λ b. HoldsClaims geometry.now.layout b workspace.old) (I.reads image.old)
+        (I.reads image.new) }
+    ensures leaves { SurveyLeaves geometry.now.layout (I.device image.old) (I.device image.new)
+        workspace.old workspace.new result }
 {
     let mut limited = LimitedImage::new(image, sweep_reads(geometry));
     let surveyed = survey_all(geometry, &mut limited, workspace);

@@ -1,18 +1,18 @@
 //! Where the parent entries of directories are in the image.
 
-ghost use Rattle.std.specs.Prelude.{◌≡◌, ◌+◌, ◌*◌, ◌<◌, ◌≤◌, ◌^◌, ◌∷◌, [], ℕ, true, false, IfOk, OnOk, MatchResult};
+ghost use Rattle.std.specs.Prelude.{◌≡◌, ◌+◌, ◌<◌, ◌≤◌, ◌^◌, ◌∷◌, [], ℕ, true, false, IfOk, OnOk, MatchResult};
 ghost use Rattle.std.specs.{Prelude.{length, slice_index, vec_len}, List.flat_map};
-ghost use Rattle.ffs_image.specs.{Device.ForContents, Reads.ReadAfter};
+ghost use Rattle.ffs_image.specs.Device.{ForContents};
 ghost use Rattle.ffs_layout.specs.Entry.{entry_value};
 ghost use Rattle.ffs_volume.specs.Directories.{Entries.entries_of, Roles.{is_dir, role_of as role_in, roled_chunk}};
 ghost use Rattle.ffs_volume.specs.Directories.{Roles.{roled_entries, roled_from}, Volumes.volume_of};
-ghost use Rattle.ffs_volume.specs.Report.Reads.{sweep_reads};
 ghost use Rattle.ffs_workspace.specs.{Holds.{HoldsClaims, HoldsSurvey}, Lengths.inodes_of, Notes.note_at};
-ghost use Rattle.ffs_workspace.specs.{Places.{is_due, place_in, AreChunksNumbered, AreNoted}, Ready.IsReady};
-ghost use Rattle.ffs_workspace.specs.Tables.{CanReadInodes, TableAfter};
-ghost use Rattle.ffs_names.specs.Noting.{is_child, BeginsNotes, NotesChildren, NotesChunk, NotesEntries};
-ghost use Rattle.ffs_names.specs.{Readings.{rest, LeavesReading}, Costs.{directories_cost, directory_cost, to_read}};
-ghost use Rattle.ffs_names.specs.{Costs.{BeginsReads, HoldsReading}, Windows.CanReadChunks};
+ghost use Rattle.ffs_workspace.specs.{Places.is_due, Ready.IsReady, Tables.{CanReadInodes, TableAfter}};
+ghost use Rattle.ffs_names.specs.Noting.{is_child, BeginsNotes, CanNote, HoldsPlaces, LeavesPlaces, NotesChildren};
+ghost use Rattle.ffs_names.specs.Noting.{NotesChunk, NotesEntries};
+ghost use Rattle.ffs_names.specs.{Readings.rest, Costs.{directories_cost, directory_cost, to_read, BeginsChunks}};
+ghost use Rattle.ffs_names.specs.{Costs.{BeginsReads, HoldsReading, SweepsOnce}, Leaves.LeavesWindows};
+ghost use Rattle.ffs_names.specs.Windows.{CanReadChunks};
 
 use crate::chunks::Chunks;
 use crate::reader::one_chunk_at;
@@ -46,9 +46,7 @@ fn note_entry(
     parents: &FilledList<u32>,
     words: &mut FilledList<u32>,
 )
-    requires dir { 0 < dir }
-    requires place { (0 < place) × (place < 2 ^ 31) }
-    requires lengths { vec_len parents.now ≡ vec_len words.old }
+    requires { CanNote parents.now words.old dir place }
     ensures noted { NotesChunk parents.now.items words.old.items words.new.items dir place
         (record { role = role_in false 0 (entry_value entry.now); entry = entry_value entry.now }
         ∷ []) }
@@ -76,9 +74,7 @@ fn note_chunk(
     parents: &FilledList<u32>,
     words: &mut FilledList<u32>,
 )
-    requires dir { 0 < dir }
-    requires place { (0 < place) × (place < 2 ^ 31) }
-    requires lengths { vec_len parents.now ≡ vec_len words.old }
+    requires { CanNote parents.now words.old dir place }
     ensures noted { NotesChunk parents.now.items words.old.items words.new.items dir place
         (roled_from false 0 (entries_of order chunk.now)) }
     ensures long { vec_len words.new ≡ vec_len words.old }
@@ -116,12 +112,8 @@ fn note_chunks<I: Image>(
     ensures reads { HoldsReading windows.old.blocks windows.old.chunk chunks.old
         → ForContents (I.device image.old).contents
         (λ b. I.reads image.new ≤ I.reads image.old + to_read b chunks.old) }
-    ensures leaves { LeavesReading chunks.old chunks.new (I.device image.old)
-        (I.device image.new) windows.new.blocks windows.new.chunk result }
-    ensures others { windows.new ≡ record windows.old {
-      blocks = windows.new.blocks;
-      chunk = windows.new.chunk;
-    } }
+    ensures leaves { LeavesWindows chunks.old chunks.new (I.device image.old)
+        (I.device image.new) windows.old windows.new result }
 {
     let order = chunks.walk.geometry.layout.order;
     let mut chunk = [0u8; DIRBLKSIZ];
@@ -154,19 +146,13 @@ fn chunks_of<I: Image>(
 ) -> Result<Chunks, ImageFault>
     requires dir { dir < inodes_of geometry.now.layout }
     requires ready { CanReadInodes geometry.now.layout (I.device image.old) table.old }
-    ensures chunks { IfOk result (λ c. ForContents (I.device image.old).contents
-        (λ b. note ≡ note_at geometry.now.layout b dir
-        → is_dir (volume_of geometry.now.layout b) dir ≡ true
-        → flat_map roled_chunk (rest b c) ≡ roled_entries (volume_of geometry.now.layout b) dir)) }
-    ensures begins { IfOk result BeginsReads }
-    ensures reads { ForContents (I.device image.old).contents
+    ensures chunks { ForContents (I.device image.old).contents
         (λ b. note ≡ note_at geometry.now.layout b dir
         → is_dir (volume_of geometry.now.layout b) dir ≡ true → MatchResult result
-        (λ c. I.reads image.new + to_read b c
-        ≤ I.reads image.old + directory_cost geometry.now.layout b dir)
+        (BeginsChunks geometry.now.layout b dir (I.reads image.old) (I.reads image.new))
         (λ _. I.reads image.new
         ≤ I.reads image.old + directory_cost geometry.now.layout b dir)) }
-    ensures geometry { IfOk result (λ c. c.walk.geometry ≡ geometry.now) }
+    ensures begins { IfOk result (BeginsReads geometry.now) }
     ensures leaves { TableAfter geometry.now.layout (I.device image.old) (I.device image.new)
         table.new result }
 {
@@ -202,12 +188,8 @@ fn note_directory<I: Image>(
         (λ b. HoldsClaims geometry.now.layout b workspace.old
         → is_dir (volume_of geometry.now.layout b) dir ≡ true
         → I.reads image.new ≤ I.reads image.old + directory_cost geometry.now.layout b dir) }
-    ensures lists { workspace.new ≡ record workspace.old {
-      windows = workspace.new.windows;
-      queue = workspace.new.queue;
-    } }
-    ensures ready { IsReady geometry.now.layout (I.device image.new) workspace.new }
-    ensures read { ReadAfter (I.device image.old) (I.device image.new) result }
+    ensures leaves { LeavesPlaces geometry.now.layout (I.device image.old) (I.device image.new)
+        workspace.old workspace.new result }
 {
     let note = workspace.notes[dir as usize];
     let table = &mut workspace.windows.table;
@@ -251,26 +233,18 @@ fn note_all<I: Image>(
     workspace: &mut Workspace,
 ) -> Result<(), ImageFault>
     requires { IsReady geometry.now.layout (I.device image.old) workspace.old }
-    ensures lists { workspace.new ≡ record workspace.old {
-      windows = workspace.new.windows;
-      queue = workspace.new.queue;
-    } }
     ensures places { OnOk result (ForContents (I.device image.old).contents
         (λ b. HoldsClaims geometry.now.layout b workspace.old
         → HoldsSurvey geometry.now.layout b workspace.old
-        → HoldsSurvey geometry.now.layout b workspace.new)) }
-    ensures noted { OnOk result (ForContents (I.device image.old).contents
-        (λ b. HoldsClaims geometry.now.layout b workspace.old
-        → HoldsSurvey geometry.now.layout b workspace.old → AreChunksNumbered geometry.now.layout
-        → AreNoted geometry.now.layout b workspace.new.queue.items)) }
+        → HoldsPlaces geometry.now.layout b workspace.new)) }
     ensures reads { ForContents (I.device image.old).contents
         (λ b. HoldsClaims geometry.now.layout b workspace.old
         → HoldsSurvey geometry.now.layout b workspace.old
         → I.reads image.new ≤ I.reads image.old + directories_cost geometry.now.layout b) }
     ensures none_due { OnOk result ((x : ℕ)
         → is_due (slice_index workspace.new.queue.items x) ≡ false) }
-    ensures ready { IsReady geometry.now.layout (I.device image.new) workspace.new }
-    ensures read { ReadAfter (I.device image.old) (I.device image.new) result }
+    ensures leaves { LeavesPlaces geometry.now.layout (I.device image.old) (I.device image.new)
+        workspace.old workspace.new result }
 {
     flag_parents(&workspace.reached, &workspace.parents, &mut workspace.queue);
     for dir in ROOTINO..geometry.layout.ncg * geometry.layout.ipg {
@@ -298,27 +272,17 @@ pub fn note_places<I: Image>(
     workspace: &mut Workspace,
 ) -> Result<(), ImageFault>
     requires { IsReady geometry.now.layout (I.device image.old) workspace.old }
-    ensures lists { workspace.new ≡ record workspace.old {
-      windows = workspace.new.windows;
-      queue = workspace.new.queue;
-    } }
     ensures places { OnOk result (ForContents (I.device image.old).contents
         (λ b. HoldsClaims geometry.now.layout b workspace.old
         → HoldsSurvey geometry.now.layout b workspace.old
-        → HoldsSurvey geometry.now.layout b workspace.new)) }
-    ensures noted { OnOk result (ForContents (I.device image.old).contents
+        → HoldsPlaces geometry.now.layout b workspace.new)) }
+    ensures reads { SweepsOnce geometry.now.layout (I.device image.old).contents
         (λ b. HoldsClaims geometry.now.layout b workspace.old
-        → HoldsSurvey geometry.now.layout b workspace.old → AreChunksNumbered geometry.now.layout
-        → AreNoted geometry.now.layout b workspace.new.queue.items)) }
-    ensures reads { ForContents (I.device image.old).contents
-        (λ b. HoldsClaims geometry.now.layout b workspace.old
-        → HoldsSurvey geometry.now.layout b workspace.old
-        → I.reads image.new ≤ I.reads image.old + directories_cost geometry.now.layout b) }
-    ensures most { I.reads image.new ≤ I.reads image.old + sweep_reads geometry.now.layout }
+        × HoldsSurvey geometry.now.layout b workspace.old) (I.reads image.old) (I.reads image.new) }
     ensures none_due { OnOk result ((x : ℕ)
         → is_due (slice_index workspace.new.queue.items x) ≡ false) }
-    ensures ready { IsReady geometry.now.layout (I.device image.new) workspace.new }
-    ensures read { ReadAfter (I.device image.old) (I.device image.new) result }
+    ensures leaves { LeavesPlaces geometry.now.layout (I.device image.old) (I.device image.new)
+        workspace.old workspace.new result }
 {
     let mut limited = LimitedImage::new(image, sweep_reads(geometry));
     let noted = note_all(geometry, &mut limited, workspace);

@@ -1,9 +1,8 @@
 //! The chunks of one Run of a directory.
 
-ghost use Rattle.std.specs.Prelude.{◌≡◌, ◌+◌, ◌*◌, ◌<◌, ◌≤◌, ◌^◌, ℕ, List, [], OnOk, vec_len};
-ghost use Rattle.ffs_image.specs.{Device.ForContents, Reads.ReadAfter};
-ghost use Rattle.ffs_volume.specs.{Disk.Numbers.piece, Directories.Entries.run_chunks};
-ghost use Rattle.ffs_walk.specs.Windows.{WindowHolds};
+ghost use Rattle.std.specs.Prelude.{◌≡◌, ◌+◌, ◌*◌, ◌≤◌, ◌^◌, OnOk};
+ghost use Rattle.ffs_image.specs.Device.{ForContents};
+ghost use Rattle.ffs_volume.specs.Disk.Numbers.{piece};
 
 use ffs_image::{Image, ImageFault};
 use ffs_layout::Geometry;
@@ -29,17 +28,14 @@ pub struct RunCursor {
 }
 
 impl RunCursor {
-    ghost use Rattle.ffs_volume.specs.declared.Layout.{Layout};
-    ghost use Rattle.ffs_names.specs.RunCursors.{cursor_chunks, reading_by};
-    ghost use Rattle.ffs_names.specs.Costs.{unread_run, HoldsRun};
-    ghost use Rattle.ffs_names.specs.Fits.{CursorFits, IsBlockRun};
+    ghost use Rattle.ffs_names.specs.RunCursors.{BeginsRun, HasNoChunks};
+    ghost use Rattle.ffs_names.specs.Leaves.{LeavesRun};
+    ghost use Rattle.ffs_names.specs.Fits.{IsBlockRun};
+    ghost use Rattle.ffs_names.specs.Windows.{CanReadRun};
 
     /// No chunks.
     pub fn empty() -> RunCursor
-        ensures none { (layout : Layout) (b : List ℕ) → cursor_chunks layout b result ≡ [] }
-        ensures next { result.next ≡ result.count }
-        ensures first { result.next ≡ 0 }
-        ensures fits { (layout : Layout) → CursorFits layout result }
+        ensures { HasNoChunks result }
     {
         RunCursor {
             place: 0,
@@ -61,11 +57,7 @@ impl RunCursor {
     ) -> RunCursor
         requires run { IsBlockRun geometry.now.layout start len }
         requires bytes_to_read { bytes_to_read ≤ 2 ^ 31 }
-        ensures chunks { (b : List ℕ) → cursor_chunks geometry.now.layout b result
-            ≡ run_chunks (reading_by geometry.now.layout b bytes_to_read) start len
-            (block * geometry.now.layout.bsize) }
-        ensures first { result.next ≡ 0 }
-        ensures fits { CursorFits geometry.now.layout result }
+        ensures { BeginsRun geometry.now.layout bytes_to_read start len block result }
     {
         if block >= 1 << 31 {
             return RunCursor::empty();
@@ -100,19 +92,11 @@ impl RunCursor {
         without_window: bool,
         chunk: &mut [u8; DIRBLKSIZ],
     ) -> Result<(), ImageFault>
-        requires left { self.now.next < self.now.count }
-        requires room { self.now.length ≤ vec_len window.old.buffer }
-        requires inside { self.now.place + self.now.length ≤ (I.device image.old).size }
-        requires holds { WindowHolds (I.device image.old).contents window.old }
+        requires { CanReadRun self.now (I.device image.old) window.old }
         ensures chunk { OnOk result (ForContents (I.device image.old).contents
             (λ b. chunk.new ≡ piece (self.now.place + 512 * self.now.next) 512 b)) }
-        ensures room { vec_len window.new.buffer ≡ vec_len window.old.buffer }
-        ensures holds { WindowHolds (I.device image.new).contents window.new }
-        ensures read { ReadAfter (I.device image.old) (I.device image.new) result }
-        ensures counted { HoldsRun window.old self.now
-            → I.reads image.new ≤ I.reads image.old + unread_run self.now }
-        ensures held { OnOk result (self.now.next + 1 < self.now.count
-            → (window.new.place ≡ self.now.place) × (window.new.length ≡ self.now.length)) }
+        ensures leaves { LeavesRun self.now (I.device image.old) (I.device image.new)
+            (I.reads image.old) (I.reads image.new) window.old window.new result }
     {
         if without_window && self.count == 1 {
             return image.read_at(self.place, chunk);

@@ -15,7 +15,7 @@ runs-preserved g c =
       gap = λ b t. inv.gap b t ∙ sym (went.continues b (ap (λ d. d.contents) inv.same ∙ t)).gap;
       reads = λ w h b t.
           let old = inv.reads w h b t in
-          let took = went.reads w old.1 b (ap (λ d. d.contents) inv.same ∙ t) in (
+          let took = went.leaves.counted w old.1 b (ap (λ d. d.contents) inv.same ∙ t) in (
             omega (arith, took.paid, run_passed c.advance.new.self.run_cursor.count, old.0),
             record { frames = took.held.frames; run = λ some left. absurd (omega (arith, left)) },
           );
@@ -25,18 +25,32 @@ runs-preserved g c =
 pub returns-clause-gap : goal.returns-clause-gap
 returns-clause-gap g c = grind (arith, gap_ended)
 
-pub returns-clause-reads : goal.returns-clause-reads
-returns-clause-reads g c = λ w h b t.
+pub returns-clause-leaves : goal.returns-clause-leaves
+returns-clause-leaves g c =
     let inv = c.runs.invariant in
-    let old = inv.reads w h b t in
-    let took = c.in_ok-advance.ensures.reads w old.1 b (ap (λ d. d.contents) inv.same ∙ t) in
-    record { most = omega (arith, took.most, old.0); paid = omega (arith, took.paid, old.0); held = took.held }
+    let went = c.in_ok-advance.ensures.leaves in
+    record {
+      same = same_more went.same inv.kept;
+      ready = rw inv.kept.geometry at went.ready;
+      read = went.read ∙ inv.same;
+      counted = λ w h b t.
+          let old = inv.reads w h b t in
+          let took = went.counted w old.1 b (ap (λ d. d.contents) inv.same ∙ t) in
+          record { most = omega (arith, took.most, old.0); paid = omega (arith, took.paid, old.0); held = took.held };
+    }
 
 -- a read failed
-pub returns-in_err-advance-clause-reads : goal.returns-in_err-advance-clause-reads
-returns-in_err-advance-clause-reads g c =
-    rw (err_from_is_err_and c.from_residual.result c.from_residual.ensures.1).1 (λ w h b t.
+pub returns-in_err-advance-clause-leaves : goal.returns-in_err-advance-clause-leaves
+returns-in_err-advance-clause-leaves g c =
     let inv = c.runs.invariant in
-    let old = inv.reads w h b t in
-    let took = c.in_err-advance.ensures.reads w old.1 b (ap (λ d. d.contents) inv.same ∙ t) in
-    record { most = omega (arith, took.most, old.0); paid = tt; held = tt })
+    let failed = c.in_err-advance.ensures.leaves in
+    let p = err_from_is_err_and c.from_residual.result c.from_residual.ensures.1 in
+    rw (p.1, p.2) (record {
+      same = same_more failed.same inv.kept;
+      ready = rw inv.kept.geometry at failed.ready;
+      read = rw inv.same at failed.read;
+      counted = λ w h b t.
+          let old = inv.reads w h b t in
+          let took = failed.counted w old.1 b (ap (λ d. d.contents) inv.same ∙ t) in
+          record { most = omega (arith, took.most, old.0); paid = tt; held = tt };
+    })

@@ -1,5 +1,6 @@
 use Rattle.std.proofs.Common.{◌≡◌, ◌≢◌, ◌<◌, ◌*◌, ◌+◌, ◌∙◌, false, true, suc, ℕ, ap, arith, below_more, length, refl}
 use Rattle.std.proofs.{Common.{rules, slice_index, slice_set, sym}, lemmas.Grind.{common_steps, get_or_default_zero}}
+use Rattle.std.proofs.lemmas.Result.{err_from_is_err_and}
 use Rattle.ffs_volume.proofs.Sizes.{some_inodes}
 use Rattle.ffs_workspace.specs.{Lengths.inodes_of, Places.{is_due, place_in}, declared.workspace.Workspace.Workspace}
 use Rattle.ffs_survey.proofs.Costs.{cost_take, costs_rise}
@@ -57,10 +58,10 @@ loop-dir-preserved g c =
           let lists : mid ≡ record first { windows = mid.windows; queue = mid.queue } =
           ap (λ (x : Workspace). record x { queue = w.set.new.self }) inv.lists in
           rw (w.image-is, w.workspace-is) (record {
-            same = noted.read ∙ inv.same;
-            lists = noted.lists
+            same = noted.leaves.read ∙ inv.same;
+            lists = noted.leaves.lists
                 ∙ ap (λ (x : Workspace). record x { windows = new.windows; queue = new.queue }) inv.lists;
-            ready = noted.ready;
+            ready = noted.leaves.ready;
             low = omega arith;
             passed = passed_next old new.queue.items dir w.passed.result inside w.passed.ensures.passed set_due
                 inv.passed;
@@ -98,11 +99,21 @@ loop-dir-preserved g c =
           })
     ]
 
-pub returns-clause-noted : goal.returns-clause-noted
-returns-clause-noted g c = λ b t claims survey numbered.
+pub returns-clause-places : goal.returns-clause-places
+returns-clause-places g c = λ b t claims survey.
     let inv = c.loop-dir.invariant in
-    coming_end c.args.geometry.now.layout b c.loop-dir.workspace.queue.items (λ x l. inv.passed x (omega arith))
-    (inv.noted b t claims survey numbered)
+    record {
+      survey = survey_noted inv.lists survey (inv.places b t claims survey);
+      noted = λ numbered. coming_end c.args.geometry.now.layout b c.loop-dir.workspace.queue.items
+          (λ x l. inv.passed x (omega arith)) (inv.noted b t claims survey numbered);
+    }
+
+-- what is left
+pub returns-clause-leaves : goal.returns-clause-leaves
+returns-clause-leaves g c = grind arith
+
+pub returns-in_err-note_directory-clause-leaves : goal.returns-in_err-note_directory-clause-leaves
+returns-in_err-note_directory-clause-leaves g c = grind (arith, err_from_is_err_and)
 
 -- the reads that were made
 pub returns-clause-reads : goal.returns-clause-reads

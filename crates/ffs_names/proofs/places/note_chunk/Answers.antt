@@ -11,7 +11,7 @@ entries-preserved c =
     rw c.from-at.ensures (record {
       at = omega arith;
       long = c.note_entry.ensures.long ∙ c.entries.invariant.long;
-      noted = λ new h. c.entries.invariant.noted new (notes_next c.requires.place.0
+      noted = λ new h. c.entries.invariant.noted new (notes_next c.requires.some
           (entries_next c.args.order c.args.chunk.now c.entries.at (entry_value c.in-Some.entry) c.in-Some.ensures.some)
           c.note_entry.ensures.noted h);
     })

@@ -18,12 +18,12 @@ chunks-preserved g c =
     c.args.parents.now.items c.chunks.words.items c.note_chunk.new.words.items c.args.dir c.place_of-place.result
     c.last_place.result c.in-Some._offset c.next.new.chunk (rest b c.chunks.chunks) (rest b c.next.new.self) = λ b t.
     record {
-      whole = c.last_place.ensures.aligned;
+      whole = let fits = c.next.new.self.cursor_fits in omega (arith, c.last_place.ensures, fits.aligned);
       number = c.place_of-place.ensures.value;
       some = c.if-place-eq0.false;
-      inside = rw (sym c.last_place.ensures.value, inv.geometry) at (rw c.in-Some.is at went.inside);
-      held = (rw c.in-Some.is at went.place) b (now b t)
-          ∙ ap (λ (n : ℕ). piece n 512 b) (sym c.last_place.ensures.value);
+      inside = rw (sym c.last_place.ensures, inv.geometry) at (rw c.in-Some.is at went.place).inside;
+      held = (rw c.in-Some.is at went.place).bytes b (now b t)
+          ∙ ap (λ (n : ℕ). piece n 512 b) (sym c.last_place.ensures);
       next = ((rw c.in-Some.is at went.chunk) b (now b t)).chunks
           ∙ ap (λ q. chunk_of q.layout.order c.in-Some._offset c.next.new.chunk ∷ rest b c.next.new.self) inv.geometry;
       noted = c.note_chunk.ensures.noted;
@@ -49,7 +49,7 @@ returns-then-place-eq0-clause-noted g c = λ b t.
     let inv = c.chunks.invariant in
     let v = c.args.chunks.now.walk.geometry.layout in
     let inside : c.last_place.result + 512 ≤ v.size * v.fsize =
-    rw (sym c.last_place.ensures.value, inv.geometry) at (rw c.in-Some.is at c.in_ok-_offset.ensures.inside) in
+    rw (sym c.last_place.ensures, inv.geometry) at (rw c.in-Some.is at c.in_ok-_offset.ensures.place).inside in
     record {
       places = inv.noted b t;
       all = λ numbered x child named before.

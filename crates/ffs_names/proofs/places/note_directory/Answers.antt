@@ -17,16 +17,16 @@ pub returns-clause-noted : goal.returns-clause-noted
 returns-clause-noted g c = on_ok c.note_chunks.result _ _ (λ s b t claims dir.
     let begun = c.in_ok-chunks.ensures in
     let note = note_is g (goal.at.returns-clause-noted g c).After-chunks_of b claims.notes in
-    rw (begun.chunks b t note dir, ap (λ x. x.layout) begun.geometry)
+    rw ((begun.chunks b t note dir).chunks, ap (λ x. x.layout) begun.begins.geometry)
     at (s b (ap (λ d. d.contents) begun.leaves.read ∙ t)))
     c.note_chunks.ensures.noted
 
-pub returns-clause-ready : goal.returns-clause-ready
-returns-clause-ready g c = grind (arith, ready_noted, contents_kept)
+pub returns-clause-leaves : goal.returns-clause-leaves
+returns-clause-leaves g c = grind (arith, ready_noted, contents_kept)
 
 pub returns-clause-reads : goal.returns-clause-reads
 returns-clause-reads g c = λ b t claims dir.
     let begun = c.in_ok-chunks.ensures in
     let note = note_is g (goal.at.returns-clause-reads g c).After-chunks_of b claims.notes in
     let went = c.note_chunks.ensures.reads (begun.begins.held _ _) b (ap (λ d. d.contents) begun.leaves.read ∙ t) in
-    omega (arith, begun.reads b t note dir, went)
+    omega (arith, (begun.chunks b t note dir).within, went)

@@ -80,7 +80,7 @@ chunks-init g c =
     record {
       ready = record { ready = c.requires.ready.ready; kept_parent = c.requires.ready.kept_parent };
       device = refl;
-      geometry = c.start-chunks.ensures.geometry;
+      geometry = c.start-chunks.ensures.reads.geometry;
       survey = leaves_all _;
       places = λ x. refl;
       held = λ b k noted.

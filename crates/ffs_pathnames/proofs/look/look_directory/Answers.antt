@@ -11,7 +11,7 @@ pub chunks-init : goal.chunks-init
 unfolding chunks_read
 chunks-init g c = let first = stamps_in c.args.inodes.now c.args.words.now.items in record {
   same = refl;
-  geometry = c.start-chunks.ensures.geometry;
+  geometry = c.start-chunks.ensures.reads.geometry;
   words_long = refl;
   places = λ x. refl;
   others = refl;
@@ -92,7 +92,7 @@ pub returns-in_err-gap-clause-reads : goal.returns-in_err-gap-clause-reads
 returns-in_err-gap-clause-reads g c = λ b t.
     let inv = c.chunks.invariant in
     let took = c.in_ok-offset.ensures.reads (inv.held b t) b (ap (λ d. d.contents) inv.same ∙ t) in
-    let most = (c.gap_of.ensures.reads c.next.new.window took.held b
+    let most = (c.gap_of.ensures.leaves.counted c.next.new.window took.held b
     (ap (λ d. d.contents) (c.in_ok-offset.ensures.leaves.read ∙ inv.same) ∙ t)).most in
     omega (arith, most, took.paid, inv.reads b t)
 
@@ -100,6 +100,6 @@ pub returns-clause-reads : goal.returns-clause-reads
 returns-clause-reads g c = λ b t.
     let inv = c.chunks.invariant in
     let took = c.in_ok-offset.ensures.reads (inv.held b t) b (ap (λ d. d.contents) inv.same ∙ t) in
-    let most = (c.gap_of.ensures.reads c.next.new.window took.held b
+    let most = (c.gap_of.ensures.leaves.counted c.next.new.window took.held b
     (ap (λ d. d.contents) (c.in_ok-offset.ensures.leaves.read ∙ inv.same) ∙ t)).most in
     omega (arith, most, took.paid, inv.reads b t)

@@ -25,10 +25,10 @@ before_tree g c b t h =
     let v = c.args.geometry.now.layout in
     let found = c.in_ok-survey.ensures in
     let clear = c.clear_passed.ensures in
-    let claims = claims_untouched v b _ _ found.same h in
-    before_first v _ b _ _ (ap (λ d. d.contents) found.read ∙ t) claims (found.survey b t h)
-    (clear.ready v _ found.ready).made clear.clear
-    (calm_silent v b _ c.args.geometry.now.sound found.ready.made claims (found.survey b t h) (found.calm b t h))
+    let claims = claims_untouched v b _ _ found.leaves.same h in
+    before_first v _ b _ _ (ap (λ d. d.contents) found.leaves.read ∙ t) claims (found.survey b t h)
+    (clear.ready v _ found.leaves.ready).made clear.clear
+    (calm_silent v b _ c.args.geometry.now.sound found.leaves.ready.made claims (found.survey b t h) (found.calm b t h))
 
 -- the phase ends as the check of the tree does
 ends_by : (v : Layout) (d : Device) (known : List ℕ → Type 0) (old new : Workspace) (before after : Progress)
@@ -88,7 +88,7 @@ returns-clause-leaves g c =
     (c.in_ok-survey.ensures.references b k.0 k.1 starts)) tree.goes tree.fault tree.holds
 
 pub check_tree-requires : goal.check_tree-requires
-check_tree-requires g c = c.clear_passed.ensures.ready _ _ c.in_ok-survey.ensures.ready
+check_tree-requires g c = c.clear_passed.ensures.ready _ _ c.in_ok-survey.ensures.leaves.ready
 
 -- how often the image was read
 pub returns-in_err-say-clause-reads : goal.returns-in_err-say-clause-reads
@@ -101,13 +101,13 @@ pub returns-in_err-survey-clause-reads : goal.returns-in_err-survey-clause-reads
 returns-in_err-survey-clause-reads g c = record {
   known = grind (arith, costs_bounded, runs_bounded);
   paid = λ numbered. paid_text _ _ _ (returns-in_err-survey-clause-prints g c).text
-      (omega (arith, c.survey.ensures.most));
+      (omega (arith, c.survey.ensures.reads.most));
 }
 
 pub returns-clause-reads : goal.returns-clause-reads
 returns-clause-reads g c = record {
   known = grind (arith, costs_bounded, runs_bounded, before_tree);
   paid = λ numbered. paid_then
-      (paid_said (phase2 ∷ []) c.in_ok-say.ensures.said (omega (arith, c.survey.ensures.most)))
+      (paid_said (phase2 ∷ []) c.in_ok-say.ensures.said (omega (arith, c.survey.ensures.reads.most)))
       (c.check_tree.ensures.paid numbered);
 }

@@ -54,24 +54,24 @@ loop-number-init g c =
     unseen v _ _ b first.result (inodes_of v) c.args.geometry.now.sound first.ensures.range.0 first.ensures.range.1
     first.ensures.before k in
     record {
-      ready = record { ready = noted.ready; kept_parent = c.none.ensures _ _ _ };
-      device = noted.read;
+      ready = record { ready = noted.leaves.ready; kept_parent = c.none.ensures _ _ _ };
+      device = noted.leaves.read;
       low = first.ensures.range.0;
-      references = ap (λ (w : Workspace). w.references) noted.lists;
+      references = ap (λ (w : Workspace). w.references) noted.leaves.lists;
       reads = λ b k numbered.
           let made : g.I.Image.reads c.note_places.new.image ≤ g.I.Image.reads c.args.image.now + directories_cost v b =
-          c.note_places.ensures.reads b k.gives_bytes k.claims k.survey in
+          c.note_places.ensures.reads.each b k.gives_bytes (k.claims, k.survey) in
           rw (as_many (lines_from (directory_lines (volume_of v b)) 2 (inodes_of v - 2))
           (lines_from (directory_lines (volume_of v b)) first.result (inodes_of v - first.result)) (skipped b k).1)
           (omega (arith, made));
       left = λ b k.
           let within = costs_within v b c.args.geometry.now.sound in
           omega (arith, within, c.sweep_reads.ensures);
-      paid = λ numbered. paid_none (omega (arith, noted.most, c.sweep_reads.ensures));
+      paid = λ numbered. paid_none (omega (arith, noted.reads.most, c.sweep_reads.ensures));
       before = λ b k. record {
-        before = noted_before v _ _ _ _ first.result b first.ensures.range.0 refl noted.lists noted.ready.made
-            (noted.places b k.gives_bytes k.claims k.survey) noted.none_due (skipped b k).0;
-        noted = noted.noted b k.gives_bytes k.claims k.survey;
+        before = noted_before v _ _ _ _ first.result b first.ensures.range.0 refl noted.leaves.lists noted.leaves.ready.made
+            (noted.places b k.gives_bytes k.claims k.survey).survey noted.none_due (skipped b k).0;
+        noted = (noted.places b k.gives_bytes k.claims k.survey).noted;
       };
       said = of_same _ all _ all _ _ (of_begins _ all _) (λ b k. (skipped b k).1);
     }

@@ -1,6 +1,5 @@
 use Rattle.std.proofs.Common.{◌≡◌, ◌∙◌, ◌∷◌, ◌++◌, ◌<◌, ℕ, List, Option, Some, None, Result, Ok, replicate, refl, ap, sym}
-use Rattle.std.proofs.Common.{arith}
-use Rattle.std.proofs.lemmas.Result.{err_from_is_err_and}
+use Rattle.std.proofs.{Common.arith, lemmas.{Bool.false≢true, Result.err_from_is_err_and}}
 use Rattle.ffs_volume.specs.declared.Step.{Step, TheVariants.Gap}
 use Rattle.ffs_walk.specs.{Keepings.replay_in, Rests.{most_steps_left, steps_left}}
 use Rattle.ffs_names.{specs.Windows.CanWalkDir, proofs.Advances.{only_walks, over_gaps, over_rest, over_runs}}
@@ -112,7 +111,7 @@ steps-preserved-in-Some-Run g c =
     let s = c.steps.self in
     let x = c.in-Some-Run in
     let next = c.in_ok-next.ensures in
-    let seen = c.see.ensures in
+    let seen = c.see.ensures.sees in
     let same = c.next.ensures.same.geometry in
     let falls = rw x.is at next.step.falls in
     let steps = λ (b : List ℕ) (t : (g.I.Image.device c.args.image.now).contents ≡ Some b).
@@ -121,16 +120,16 @@ steps-preserved-in-Some-Run g c =
       continues = λ b t. continues_more (i.continues b t)
           (sees_on seen.walk (seen.continues b (steps_left b c.next.new.self))
           (only_walks same refl refl refl refl refl) refl (steps b t));
-      same = same_more seen.same (same_walked i.same (only_walks same refl refl refl refl refl));
+      same = same_more c.see.ensures.same (same_walked i.same (only_walks same refl refl refl refl refl));
       ready = walk_on i.same.geometry (ap (λ d. d.size) next.leaves.read) c.next.ensures.leaves.kept i.ready;
       device = next.leaves.read ∙ i.device;
       fewer = rw seen.walk (omega (arith, falls, i.fewer));
       falls = λ more. rw seen.walk (omega (arith, falls, i.fewer));
-      held = λ u h. record { frames = rw seen.walk (next.counted (i.held u h).frames).held; run = seen.reads.held u };
+      held = λ u h. record { frames = rw seen.walk (next.counted (i.held u h).frames).held; run = seen.held u };
       reads = λ u h b t.
           let paid = rw x.field-0-is at (rw x.is at (next.counted (i.held u h).frames).paid) in
           let runs = runs_on s.keeping (ap (λ x. x.layout) same) (steps b t) in
-          let run = rw seen.walk at (seen.reads.reads (steps_left b c.next.new.self)) in
+          let run = rw seen.walk at (seen.reads (steps_left b c.next.new.self)) in
           rw seen.walk (omega (arith, paid, runs, run, i.reads u h b t));
     }
 
@@ -138,8 +137,8 @@ pub returns-then-not-is_replay_open-clause-found : goal.returns-then-not-is_repl
 returns-then-not-is_replay_open-clause-found g c = grind (arith, seen_if_shut)
 
 -- a walk that failed is over
-pub returns-in_err-next-clause-runs : goal.returns-in_err-next-clause-runs
-returns-in_err-next-clause-runs g c = grind (arith, err_from_is_err_and, over_runs)
+pub returns-in_err-next-clause-continues : goal.returns-in_err-next-clause-continues
+returns-in_err-next-clause-continues g c = grind (arith, err_from_is_err_and, over_runs)
 
 -- no step is left
 pub returns-in-None-clause-continues : goal.returns-in-None-clause-continues
@@ -151,46 +150,62 @@ returns-in-None-clause-continues g c = λ b t.
     (none ∙ sym (over_rest b c.next.new.self (step.over c.in-None.is))))
 
 pub returns-in-None-clause-found : goal.returns-in-None-clause-found
-returns-in-None-clause-found g c = λ b t.
-    seen_if_over c.steps-test.true (c.in_ok-next.ensures.step.over c.in-None.is)
+returns-in-None-clause-found g c = record {
+  more = λ e. absurd (false≢true e);
+  falls = λ e. absurd (false≢true e);
+  none = λ _ b t. seen_if_over c.steps-test.true (c.in_ok-next.ensures.step.over c.in-None.is);
+}
 
 -- what is left at each return
-pub returns-in-None-clause-leaves : goal.returns-in-None-clause-leaves
-returns-in-None-clause-leaves g c = grind (arith, same_walked, only_walks, walk_on)
+pub returns-then-not-is_replay_open-clause-leaves : goal.returns-then-not-is_replay_open-clause-leaves
+returns-then-not-is_replay_open-clause-leaves g c = let i = c.steps.invariant in record {
+  same = i.same;
+  ready = i.ready;
+  read = i.device;
+  counted = λ u h b t. let now = i.reads u h b t in record { most = omega (arith, now); paid = now; held = i.held u h };
+}
 
--- the reads that were made, and what is held
-pub returns-then-not-is_replay_open-clause-reads : goal.returns-then-not-is_replay_open-clause-reads
-returns-then-not-is_replay_open-clause-reads g c = λ u h b t.
+pub returns-in_err-next-clause-leaves : goal.returns-in_err-next-clause-leaves
+returns-in_err-next-clause-leaves g c =
     let i = c.steps.invariant in
-    let now = i.reads u h b t in
-    record { most = omega (arith, now); paid = now; held = i.held u h }
-
-pub returns-in_err-next-clause-reads : goal.returns-in_err-next-clause-reads
-returns-in_err-next-clause-reads g c =
+    let failed = c.in_err-next.ensures in
     let p = err_from_is_err_and c.from_residual.result c.from_residual.ensures.1 in
-    rw p.1 (λ u h b t.
-    let i = c.steps.invariant in
-    let most = (c.in_err-next.ensures.counted (i.held u h).frames).most in
-    record { most = omega (arith, most, i.reads u h b t); paid = tt; held = tt })
+    rw (p.1, p.2) (record {
+      same = same_walked i.same (only_walks c.next.ensures.same.geometry refl refl refl refl refl);
+      ready = walk_on i.same.geometry failed.leaves.read.size c.next.ensures.leaves.kept i.ready;
+      read = rw i.device at failed.leaves.read;
+      counted = λ u h b t.
+          let most = (failed.counted (i.held u h).frames).most in
+          record { most = omega (arith, most, i.reads u h b t); paid = tt; held = tt };
+    })
 
-pub returns-in-None-clause-reads : goal.returns-in-None-clause-reads
-returns-in-None-clause-reads g c = λ u h b t.
+pub returns-in-None-clause-leaves : goal.returns-in-None-clause-leaves
+returns-in-None-clause-leaves g c =
     let i = c.steps.invariant in
     let s = c.steps.self in
     let w = c.next.new.self in
-    let counted = c.in_ok-next.ensures.counted (i.held u h).frames in
-    let paid = rw c.in-None.is at counted.paid in
-    let none = over_runs b w w.geometry.layout s.keeping.cut (replay_in s.keeping)
-    (c.in_ok-next.ensures.step.over c.in-None.is) in
-    let now = i.reads u h b t in
+    let next = c.in_ok-next.ensures in
     record {
-      most = omega (arith, paid, now);
-      paid = omega (arith, paid, none, now);
-      held = record { frames = counted.held; run = (i.held u h).run };
+      same = same_walked i.same (only_walks c.next.ensures.same.geometry refl refl refl refl refl);
+      ready = walk_on i.same.geometry (ap (λ d. d.size) next.leaves.read) c.next.ensures.leaves.kept i.ready;
+      read = next.leaves.read ∙ i.device;
+      counted = λ u h b t.
+          let counted = next.counted (i.held u h).frames in
+          let paid = rw c.in-None.is at counted.paid in
+          let none = over_runs b w w.geometry.layout s.keeping.cut (replay_in s.keeping)
+          (next.step.over c.in-None.is) in
+          let now = i.reads u h b t in
+          record {
+            most = omega (arith, paid, now);
+            paid = omega (arith, paid, none, now);
+            held = record { frames = counted.held; run = (i.held u h).run };
+          };
     }
 
-pub returns-clause-reads : goal.returns-clause-reads
-returns-clause-reads g c = λ u h b t.
-    let i = c.steps.invariant in
-    let now = i.reads u h b t in
-    record { most = omega (arith, now); paid = now; held = i.held u h }
+pub returns-clause-leaves : goal.returns-clause-leaves
+returns-clause-leaves g c = let i = c.steps.invariant in record {
+  same = i.same;
+  ready = i.ready;
+  read = i.device;
+  counted = λ u h b t. let now = i.reads u h b t in record { most = omega (arith, now); paid = now; held = i.held u h };
+}

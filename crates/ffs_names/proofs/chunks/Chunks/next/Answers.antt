@@ -18,3 +18,6 @@ returns-in-Ok-Some-clause-reads g c = λ held b t.
 
 pub returns-in-Err-clause-reads : goal.returns-in-Err-clause-reads
 returns-in-Err-clause-reads g c = grind arith
+
+pub returns-in-Err-clause-runs : goal.returns-in-Err-clause-runs
+returns-in-Err-clause-runs g c = grind arith

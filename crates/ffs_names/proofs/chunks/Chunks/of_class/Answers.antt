@@ -20,4 +20,4 @@ returns-clause-begins c = λ known.
     c.bytes_read-bytes_to_read.ensures.value refl refl refl
 
 pub returns-clause-reads : goal.returns-clause-reads
-returns-clause-reads c = begins_reads _ c.of_class.ensures.top c.empty.ensures.next
+returns-clause-reads c = begins_reads c.of_class.ensures.geometry c.of_class.ensures.top c.empty.ensures.next

@@ -1,4 +1,4 @@
-use Rattle.std.proofs.{Common.{◌∙◌, ◌+◌, ◌*◌, ap, arith}, lemmas.Result.err_from_is_err_and}
+use Rattle.std.proofs.{Common.{◌∙◌, ◌+◌, ◌*◌, ap, arith}, lemmas.{Grind.common_steps, Result.err_from_is_err_and}}
 use Rattle.ffs_volume.specs.Disk.Numbers.{piece}
 use Rattle.ffs_names.proofs.{ReadCounts.given_one, RunChunks.cursor_step}
 use Rattle.ffs_names.proofs.chunks.Chunks.read.Goals as goal
@@ -9,22 +9,32 @@ returns-clause-chunk g c = grind (arith, cursor_step)
 pub returns-then-not-branch-clause-chunk : goal.returns-then-not-branch-clause-chunk
 returns-then-not-branch-clause-chunk g c = grind arith
 
+-- after a failed read
+pub returns-in_err-advance-clause-chunk : goal.returns-in_err-advance-clause-chunk
+returns-in_err-advance-clause-chunk g c = grind (arith, err_from_is_err_and)
+
+pub returns-in_err-read_chunk-clause-chunk : goal.returns-in_err-read_chunk-clause-chunk
+returns-in_err-read_chunk-clause-chunk g c = grind (arith, err_from_is_err_and)
+
 pub returns-clause-place : goal.returns-clause-place
-returns-clause-place g c = λ b t.
+returns-clause-place g c =
     let h = c.advance.new.self.run_cursor in
-    let more = rw c.if-not-branch.false at c.in_ok-advance.ensures.found in
-    c.in_ok-read_chunk.ensures.chunk b (ap (λ d. d.contents) c.in_ok-advance.ensures.leaves.read ∙ t)
-    ∙ ap (λ n. piece (h.place + 512 * n) 512 b) (omega arith)
+    let more = c.in_ok-advance.ensures.found.more c.if-not-branch.false in
+    record {
+      bytes = λ b t. c.in_ok-read_chunk.ensures.chunk b (ap (λ d. d.contents) c.in_ok-advance.ensures.leaves.read ∙ t)
+          ∙ ap (λ n. piece (h.place + 512 * n) 512 b) (omega arith);
+      inside = grind (arith, common_steps);
+    }
 
 pub returns-in_err-advance-clause-reads : goal.returns-in_err-advance-clause-reads
 returns-in_err-advance-clause-reads g c =
     rw (err_from_is_err_and c.from_residual.result c.from_residual.ensures.1).1 (λ held b t.
-    let took = c.in_err-advance.ensures.reads c.args.window.now held b t in
+    let took = c.in_err-advance.ensures.leaves.counted c.args.window.now held b t in
     record { most = took.most; paid = tt; held = tt })
 
 pub returns-then-not-branch-clause-reads : goal.returns-then-not-branch-clause-reads
 returns-then-not-branch-clause-reads g c = λ held b t.
-    let took = c.in_ok-advance.ensures.reads c.args.window.now held b t in
+    let took = c.in_ok-advance.ensures.leaves.counted c.args.window.now held b t in
     record { most = took.most; paid = took.paid; held = took.held }
 
 -- the chunks of the Run are read, unless the window has them
@@ -32,17 +42,17 @@ pub returns-in_err-read_chunk-clause-reads : goal.returns-in_err-read_chunk-clau
 returns-in_err-read_chunk-clause-reads g c =
     let p = err_from_is_err_and c.from_residual-in_err-read_chunk.result c.from_residual-in_err-read_chunk.ensures.1 in
     rw p.1 (λ held b t.
-    let took = c.in_ok-advance.ensures.reads c.args.window.now held b t in
-    let run = c.read_chunk.ensures.counted took.held.run in
+    let took = c.in_ok-advance.ensures.leaves.counted c.args.window.now held b t in
+    let run = c.read_chunk.ensures.leaves.counted took.held.run in
     record { most = omega (arith, took.paid, run); paid = tt; held = tt })
 
 pub returns-clause-reads : goal.returns-clause-reads
 returns-clause-reads g c = λ held b t.
-    let took = c.in_ok-advance.ensures.reads c.args.window.now held b t in
+    let took = c.in_ok-advance.ensures.leaves.counted c.args.window.now held b t in
     let h = c.advance.new.self.run_cursor in
-    let run = c.read_chunk.ensures.counted took.held.run in
+    let run = c.read_chunk.ensures.leaves.counted took.held.run in
     record {
       most = omega (arith, took.paid, run);
       paid = omega (arith, took.paid, run, given_one h.next h.count);
-      held = record { frames = took.held.frames; run = λ some left. c.in_ok-read_chunk.ensures.held left };
+      held = record { frames = took.held.frames; run = λ some left. c.in_ok-read_chunk.ensures.leaves.held left };
     }

@@ -9,4 +9,4 @@ returns-clause-begins c = λ known.
     (c.empty-self.ensures.none c.restart.new.self.geometry.layout) c.bytes_read-bytes_to_read.ensures.value refl refl refl
 
 pub returns-clause-reads : goal.returns-clause-reads
-returns-clause-reads c = begins_reads _ c.restart.ensures.top c.empty-self.ensures.next
+returns-clause-reads c = begins_reads c.restart.ensures.geometry c.restart.ensures.top c.empty-self.ensures.next

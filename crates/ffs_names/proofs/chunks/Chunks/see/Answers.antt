@@ -1,6 +1,6 @@
 use Rattle.std.proofs.{Common.{◌≡◌, ◌∙◌, ◌==◌, true, arith, refl, sym, ap}, lemmas.Bool.Decides.nat_tests}
-use Rattle.ffs_names.{specs.declared.chunks.Chunks.Chunks, proofs.Advances.{SeesBy, no_data, sees, sees_none}}
-use Rattle.ffs_names.proofs.{Advances.{sees_none_once, sees_once}, ReadCounts.{entered_none, first_held, run_at_most}}
+use Rattle.ffs_names.{specs.declared.chunks.Chunks.Chunks, proofs.Advances.{SeesBy, no_data, sees_chunks, sees_none}}
+use Rattle.ffs_names.proofs.ReadCounts.{entered_none, first_held, run_at_most}
 use Rattle.ffs_names.proofs.chunks.Chunks.see.Goals.{After-take}
 use Rattle.ffs_names.proofs.chunks.Chunks.see.Goals as goal
 
@@ -21,43 +21,27 @@ seen c walk bytes keeping runs gap = record {
 }
 
 -- it has chunks where it is one of data, kept whole and in range
-pub returns-in-Some-clause-continues : goal.returns-in-Some-clause-continues
-returns-in-Some-clause-continues c = λ b.
+pub returns-in-Some-clause-sees : goal.returns-in-Some-clause-sees
+returns-in-Some-clause-sees c =
     let whole : (c.take.result == c.args.len) ≡ true = grind (arith, nat_tests) in
-    sees (seen (goal.at.returns-in-Some-clause-continues c).After-take refl refl refl refl refl)
-    (rw (whole, c.in-Some.is, sym c.in_range-in_range.ensures ∙ c.if-not-in_range.false)
-    (c.of_run-self.ensures.chunks b))
-
-pub returns-in-Some-clause-reads : goal.returns-in-Some-clause-reads
-returns-in-Some-clause-reads c =
     let block = entered_none c.args.start c.args.len c.args.block c.in-Some.block c.in-Some.is in
-    sees_once (seen (goal.at.returns-in-Some-clause-reads c).After-take refl refl refl refl refl)
+    sees_chunks (seen (goal.at.returns-in-Some-clause-sees c).After-take refl refl refl refl refl)
+    (λ b. rw (whole, c.in-Some.is, sym c.in_range-in_range.ensures ∙ c.if-not-in_range.false)
+    (c.of_run-self.ensures.chunks b))
     (omega (arith, block, run_at_most c.of_run-self.result))
     (first_held c.of_run-self.result c.of_run-self.ensures.first)
 
-pub returns-in_default-clause-continues : goal.returns-in_default-clause-continues
-returns-in_default-clause-continues c = λ b.
-    sees_none (seen (goal.at.returns-in_default-clause-continues c).After-take refl refl refl refl refl) refl
-    (λ whole. rw c.in_default.is refl)
+pub returns-in_default-clause-sees : goal.returns-in_default-clause-sees
+returns-in_default-clause-sees c =
+    sees_none (seen (goal.at.returns-in_default-clause-sees c).After-take refl refl refl refl refl) refl
+    (λ b whole. rw c.in_default.is refl)
 
-pub returns-in_default-clause-reads : goal.returns-in_default-clause-reads
-returns-in_default-clause-reads c =
-    sees_none_once (seen (goal.at.returns-in_default-clause-reads c).After-take refl refl refl refl refl) refl
+pub returns-then-take-len-clause-sees : goal.returns-then-take-len-clause-sees
+returns-then-take-len-clause-sees c =
+    sees_none (seen (goal.at.returns-then-take-len-clause-sees c).After-take refl refl refl refl refl) refl
+    (λ b whole. absurd (grind (arith, nat_tests)))
 
-pub returns-then-take-len-clause-continues : goal.returns-then-take-len-clause-continues
-returns-then-take-len-clause-continues c = λ b.
-    sees_none (seen (goal.at.returns-then-take-len-clause-continues c).After-take refl refl refl refl refl) refl
-    (λ whole. absurd (grind (arith, nat_tests)))
-
-pub returns-then-take-len-clause-reads : goal.returns-then-take-len-clause-reads
-returns-then-take-len-clause-reads c =
-    sees_none_once (seen (goal.at.returns-then-take-len-clause-reads c).After-take refl refl refl refl refl) refl
-
-pub returns-then-not-in_range-clause-continues : goal.returns-then-not-in_range-clause-continues
-returns-then-not-in_range-clause-continues c = λ b.
-    sees_none (seen (goal.at.returns-then-not-in_range-clause-continues c).After-take refl refl refl refl refl) refl
-    (λ whole. no_data _ b _ _ _ c.args.block (sym c.in_range-in_range.ensures ∙ c.if-not-in_range.true))
-
-pub returns-then-not-in_range-clause-reads : goal.returns-then-not-in_range-clause-reads
-returns-then-not-in_range-clause-reads c =
-    sees_none_once (seen (goal.at.returns-then-not-in_range-clause-reads c).After-take refl refl refl refl refl) refl
+pub returns-then-not-in_range-clause-sees : goal.returns-then-not-in_range-clause-sees
+returns-then-not-in_range-clause-sees c =
+    sees_none (seen (goal.at.returns-then-not-in_range-clause-sees c).After-take refl refl refl refl refl) refl
+    (λ b whole. no_data _ b _ _ _ c.args.block (sym c.in_range-in_range.ensures ∙ c.if-not-in_range.true))

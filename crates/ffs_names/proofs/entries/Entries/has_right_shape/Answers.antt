@@ -7,11 +7,11 @@ pub returns-in_err-gap-clause-reads : goal.returns-in_err-gap-clause-reads
 returns-in_err-gap-clause-reads g c =
     rw (err_from_is_err_and c.from_residual.result c.from_residual.ensures.1).1 (λ w held b t.
     let took = looks_on b c.args.self.now.right_so_far c.args.self.now.chunks c.gap_of.new.chunks _ _ w w _ _ _
-    c.if-not-self.false (λ h. c.in_err-gap.ensures.reads w h b t) held in
+    c.if-not-self.false (λ h. c.in_err-gap.ensures.leaves.counted w h b t) held in
     record { most = took.most; paid = tt; held = tt })
 
 pub returns-clause-reads : goal.returns-clause-reads
 returns-clause-reads g c = λ w held b t.
     let took = looks_on b c.args.self.now.right_so_far c.args.self.now.chunks c.gap_of.new.chunks _ _ w w _ _ _
-    c.if-not-self.false (λ h. c.in_ok-gap.ensures.reads w h b t) held in
+    c.if-not-self.false (λ h. c.in_ok-gap.ensures.leaves.counted w h b t) held in
     record { most = took.most; paid = took.paid; held = took.held }

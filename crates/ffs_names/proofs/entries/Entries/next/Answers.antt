@@ -1,7 +1,7 @@
 use Rattle.std.proofs.{Common.{◌≡◌, ◌∙◌, ◌+◌, ◌≤◌, ℕ, List, Some, ap, sym, arith}, lemmas.Bool.and_parts}
 use Rattle.std.proofs.lemmas.Result.{err_from_is_err_and}
-use Rattle.ffs_names.{specs.{Costs.{HoldsEntries, entries_to_read}, Readings.rest}, proofs.Entered.none_came}
-use Rattle.ffs_names.proofs.{Entered.chunk_came, EntryCounts.{HoldsBy, continues_by_chunks, reads_by}}
+use Rattle.ffs_names.specs.{Costs.{HoldsEntries, entries_to_read}, Entering.to_come, Readings.rest}
+use Rattle.ffs_names.proofs.{Entered.{chunk_came, none_came}, EntryCounts.{HoldsBy, continues_by_chunks, reads_by}}
 use Rattle.ffs_names.proofs.Shaped.{shape_came, shape_ended, shape_same, fills_whole}
 use Rattle.ffs_names.proofs.entries.Entries.next.Goals.{After-take}
 use Rattle.ffs_names.proofs.entries.Entries.next.Given as given
@@ -18,7 +18,7 @@ taken g c held b t =
 
 pub returns-in-Some-clause-entry : goal.returns-in-Some-clause-entry
 returns-in-Some-clause-entry g c = λ b t. let same = c.take.ensures.same in record {
-  entries = sym (c.chunks.invariant.entries b t) ∙ c.in-Some.ensures.entries b;
+  entries = sym (c.chunks.invariant.entries b t) ∙ c.in-Some.ensures.taken.entries b;
   shape = shape_same b _ _ _ _ _ _ same.right_so_far same.fills same.chunks ∙ c.chunks.invariant.shape b t;
   ended = tt;
 }
@@ -30,9 +30,10 @@ returns-in-None-2-clause-entry g c = λ b t.
     let s = c.take.new.self in
     let same = c.take.ensures.same in
     let o = (rw c.in-None-2.is at c.in_ok-next.ensures.chunk) b (ap (λ d. d.contents) i.device ∙ t) in
-    let none = c.in-None.ensures.left in
+    let over = c.in-None.ensures.taken in
+    let none = over.left in
     record {
-      entries = sym (i.entries b t) ∙ (sym (c.in-None.ensures.entries b) ∙ none_came s.first
+      entries = sym (i.entries b t) ∙ (sym (ap (to_come b) over.same) ∙ none_came s.first
           s.index s.order s.chunk s.place (rest b s.chunks) none o.chunks.0);
       shape = shape_ended s.right_so_far s.order s.chunk c.next.new.chunk s.place (rest b s.chunks)
           (rest b c.next.new.self) _ _ none o.chunks.0 o.chunks.1 o.gap
@@ -47,7 +48,8 @@ chunks-preserved g c =
     let s = c.take.new.self in
     let same = c.take.ensures.same in
     let next = c.in_ok-next.ensures in
-    let none = c.in-None.ensures.left in
+    let over = c.in-None.ensures.taken in
+    let none = over.left in
     let budget = rw c.in-Some-2.is at next.budget in
     let geometry = ap (λ x. x.walk.geometry) same.chunks ∙ i.geometry in
     record {
@@ -55,18 +57,18 @@ chunks-preserved g c =
           let o = (rw c.in-Some-2.is at next.chunk) b (ap (λ d. d.contents) i.device ∙ t) in
           chunk_came s.first s.index s.order s.chunks.walk.geometry.layout.order s.chunk s.place (rest b s.chunks)
           c.in-Some-2.offset c.next.new.chunk (rest b c.next.new.self) none (sym s.same_order) o.chunks
-          ∙ (c.in-None.ensures.entries b ∙ i.entries b t);
+          ∙ (ap (to_come b) over.same ∙ i.entries b t);
       shape = λ b t.
           let o = (rw c.in-Some-2.is at next.chunk) b (ap (λ d. d.contents) i.device ∙ t) in
           shape_came s.right_so_far s.order s.chunks.walk.geometry.layout.order s.chunk s.place (rest b s.chunks)
           c.in-Some-2.offset c.next.new.chunk (rest b c.next.new.self) _ _ none (sym s.same_order) o.chunks o.gap
           ∙ (shape_same b _ _ _ _ _ _ same.right_so_far same.fills same.chunks ∙ i.shape b t);
-      place = λ b t held low. (rw c.in-Some-2.is at next.place) b (ap (λ d. d.contents) i.device ∙ t);
-      inside = λ held low. rw c.next.ensures.leaves.geometry (rw c.in-Some-2.is at next.inside);
+      place = λ b t held low. (rw c.in-Some-2.is at next.place).bytes b (ap (λ d. d.contents) i.device ∙ t);
+      inside = λ held low. rw c.next.ensures.leaves.geometry ((rw c.in-Some-2.is at next.place).inside);
       reads = λ held b t.
           let now = taken g (goal.at.chunks-preserved g c).After-take held b t in
           let took = continues_by_chunks b s.right_so_far _ s.chunks c.next.new.self _ _ _ _ _ _ _
-          (λ e. (and_parts s.right_so_far _ e).0) (omega (arith, budget)) next.spent
+          (λ e. (and_parts s.right_so_far _ e).0) (omega (arith, budget)) (λ e. (next.over e).1)
           (λ h. next.reads h b (ap (λ d. d.contents) i.device ∙ t)) now.1 in
           (omega (arith, took.paid, now.0), took.held);
       left = omega (arith, budget, ap (λ x. x.budget) same.chunks, i.left);
@@ -77,9 +79,6 @@ chunks-preserved g c =
 
 pub returns-in-Some-clause-place : goal.returns-in-Some-clause-place
 returns-in-Some-clause-place g c = grind arith
-
-pub returns-in-Some-clause-inside : goal.returns-in-Some-clause-inside
-returns-in-Some-clause-inside g c = grind arith
 
 -- a read failed
 pub returns-in_err-next-clause-leaves : goal.returns-in_err-next-clause-leaves
@@ -97,7 +96,7 @@ returns-in-None-2-clause-reads g c = λ held b t.
     let now = taken g (goal.at.returns-in-None-2-clause-reads g c).After-take held b t in
     let budget = rw c.in-None-2.is at next.budget in
     let took = continues_by_chunks b s.right_so_far _ s.chunks c.next.new.self _ _ _ _ _ _ _
-    (λ e. (and_parts s.right_so_far _ e).0) (omega (arith, budget)) next.spent
+    (λ e. (and_parts s.right_so_far _ e).0) (omega (arith, budget)) (λ e. (next.over e).1)
     (λ h. next.reads h b (ap (λ d. d.contents) c.chunks.invariant.device ∙ t)) now.1 in
     record { most = omega (arith, took.most, now.0); paid = omega (arith, took.paid, now.0); held = took.held }
 
@@ -108,7 +107,7 @@ returns-in_err-next-clause-reads g c =
     let next = c.in_err-next.ensures in
     let now = taken g (goal.at.returns-in_err-next-clause-reads g c).After-take held b t in
     let took = continues_by_chunks b s.right_so_far s.right_so_far s.chunks c.next.new.self _ _ _ _ _ _ _
-    (λ h. h) (omega (arith, next.budget)) next.spent
+    (λ h. h) (omega (arith, next.budget)) (λ e. (next.over e).1)
     (λ h. next.reads h b (ap (λ d. d.contents) c.chunks.invariant.device ∙ t)) now.1 in
     record { most = omega (arith, took.most, now.0); paid = tt; held = tt })
 

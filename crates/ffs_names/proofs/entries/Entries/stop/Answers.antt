@@ -1,6 +1,13 @@
-use Rattle.std.proofs.Common.{[]}
+use Rattle.std.proofs.Common.{arith}
+use Rattle.std.proofs.{Common.{[], refl}, lemmas.Bool.false≢true}
 use Rattle.ffs_names.proofs.Entered.{end_seen}
 use Rattle.ffs_names.proofs.entries.Entries.stop.Goals as goal
 
-pub returns-clause-entries : goal.returns-clause-entries
-returns-clause-entries c = λ b. let s = c.args.self.now in end_seen s.first s.index s.order s.chunk []
+pub returns : goal.returns
+returns c = let s = c.args.self.now in record {
+  entries = λ b. end_seen s.first s.index s.order s.chunk [];
+  shape = λ b. refl;
+  reads = λ b. refl;
+  held = λ blocks w may. absurd (false≢true may);
+  geometry = refl;
+}

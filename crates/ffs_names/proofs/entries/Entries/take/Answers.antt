@@ -1,13 +1,20 @@
-use Rattle.std.proofs.Common.{refl}
+use Rattle.std.proofs.Common.{arith, refl}
 use Rattle.ffs_layout.specs.Entry.{entry_value}
 use Rattle.ffs_names.{specs.Readings.rest, proofs.{Entered.take_reported, Shaped.fills_next}}
 use Rattle.ffs_names.proofs.entries.Entries.take.Goals as goal
 
-pub returns-clause-entries : goal.returns-clause-entries
-returns-clause-entries c = λ b.
+pub returns-clause-taken : goal.returns-clause-taken
+returns-clause-taken c =
     let s = c.args.self.now in
-    take_reported s.first s.index s.order s.chunk s.place (entry_value c.in-Some.entry) c.role_of-role.result
-    (rest b s.chunks) c.in-Some.ensures.some c.role_of-role.ensures c.in-Some.ensures.name.0
+    let low = c.in-Some.ensures.room.0 in
+    let high = c.in-Some.ensures.room.1 in
+    record {
+      entries = λ b. take_reported s.first s.index s.order s.chunk s.place (entry_value c.in-Some.entry)
+          c.role_of-role.result (rest b s.chunks) c.in-Some.ensures.some c.role_of-role.ensures
+          c.in-Some.ensures.name.0;
+      left = omega arith;
+      place = omega arith;
+    }
 
 pub returns-clause-same : goal.returns-clause-same
 returns-clause-same c =

@@ -14,14 +14,15 @@ pub returns-clause-reader : goal.returns-clause-reader
 returns-clause-reader g c = grind (arith, contents_kept)
 
 pub returns-clause-left : goal.returns-clause-left
-returns-clause-left g c = rw (c.take.ensures.none c.in-None.is) at c.next.ensures.left
+returns-clause-left g c = rw c.in-None.ensures.taken.same at c.next.ensures.left
 
 pub returns-clause-rest : goal.returns-clause-rest
-returns-clause-rest g c = grind arith
+returns-clause-rest g c = IfOk-weaker c.next.result _ _
+    (λ o h b k. rw c.in-None.ensures.taken.same at (h b k.bytes).entries) c.next.ensures.entry
 
 pub returns-clause-shape : goal.returns-clause-shape
 returns-clause-shape g c = IfOk-weaker c.next.result _ _
-    (λ o h b k. rw (c.take.ensures.none c.in-None.is) at (h b k.bytes).shape) c.next.ensures.entry
+    (λ o h b k. rw c.in-None.ensures.taken.same at (h b k.bytes).shape) c.next.ensures.entry
 
 pub returns-clause-ended : goal.returns-clause-ended
 returns-clause-ended g c =
@@ -29,5 +30,5 @@ returns-clause-ended g c =
 
 pub returns-clause-counted : goal.returns-clause-counted
 returns-clause-counted g c = λ b k held.
-    let same = c.take.ensures.none c.in-None.is in
+    let same = c.in-None.ensures.taken.same in
     rw same at (c.next.ensures.reads (rw same held) b k.bytes)

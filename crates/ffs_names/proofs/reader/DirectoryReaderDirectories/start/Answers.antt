@@ -88,7 +88,7 @@ returns-clause-counted g c = λ b k.
     let dir = is_dir_here g at b k.kinds in
     let read = read_by_cut v b c.args.dir t.geometry.sound dir (c.in_ok-inode.ensures.reads.inode b k.bytes)
     (note_here g at b k.notes) (rw c.in_default.is at c.address_in.ensures) in
-    let begins = (rw c.requires.ready.1 at c.restart.ensures.reads) (sym read.is_dir) in
+    let begins = (rw c.requires.ready.1 at c.restart.ensures.begins) (sym read.is_dir) in
     let cost = cost_is v b c.args.dir dir in
     let one = c.in_ok-inode.ensures.counted in
     record {
@@ -105,7 +105,7 @@ returns-in-Some-clause-counted g c = λ b k.
     let dir = is_dir_here g at b k.kinds in
     let read = read_by_chunk v b c.args.dir c.in-Some.address t.geometry.sound dir
     (sym (note_here g at b k.notes) ∙ c.in-Some.ensures) in
-    let begins = rw c.requires.ready.1 at c.restart_at.ensures.reads in
+    let begins = rw c.requires.ready.1 at c.restart_at.ensures.begins in
     record {
       most = omega arith;
       paid = omega (arith, cost_is v b c.args.dir dir, read.runs, begins.to_read b);
