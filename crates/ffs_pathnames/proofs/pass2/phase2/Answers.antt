@@ -43,7 +43,7 @@ pub returns-clause-text : goal.returns-clause-text
 returns-clause-text g c =
     of_last Root _ _ _ _ _ _ _ c.check_tree.result (says_heading (λ b k. refl) c.in_ok-say.ensures.said) (λ b k. refl)
     (reports_knowing Root _ _ _ _ _ c.check_tree.result
-    (λ b k. before_tree g (goal.at.returns-clause-text g c).After-check_tree b k.0 k.1) c.check_tree.ensures.text)
+    (λ b k. before_tree g (goal.at.returns-clause-text g c).After-check_tree b k.0 k.1) c.check_tree.ensures.lines.text)
 
 pub returns-clause-goes : goal.returns-clause-goes
 returns-clause-goes g c = grind (arith, if_ok, before_tree)
@@ -77,4 +77,4 @@ returns-in_err-survey-clause-paid g c = λ numbered.
 pub returns-clause-paid : goal.returns-clause-paid
 returns-clause-paid g c = λ numbered.
     paid_then (paid_said (phase2 ∷ []) c.in_ok-say.ensures.said (omega (arith, c.survey.ensures.most)))
-    (c.check_tree.ensures.paid numbered)
+    (c.check_tree.ensures.lines.paid numbered)
