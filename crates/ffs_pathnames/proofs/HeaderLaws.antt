@@ -1,7 +1,7 @@
 -- What is reported of a directory before its entries.
 use Rattle.std.proofs.Common.{◌≡◌, ◌≤◌, arith, ℕ, ◌==◌, ◌%◌, Bool, true, false, not, ◌&&◌, List, [], ◌++◌, Option, None}
 use Rattle.std.proofs.{Common.{Some, nat_lt, length, append_assoc, length-append}, lemmas.Bool.Decides.nat_tests}
-use Rattle.std.proofs.lemmas.Bool.{and_cases}
+use Rattle.std.proofs.{Common.refl, lemmas.Bool.{and_cases, and_parts}}
 use Rattle.ffs_volume.specs.{declared.Attr.Attr, Directories.{Entries.Entry, Graph.parent, Parents.graph_of}}
 use Rattle.ffs_volume.specs.Directories.{Paths.dir_path, Roles.{Volume, start_entry, dot, dotdot, roled_entries}}
 use Rattle.ffs_volume.specs.Directories.PathnameCheck.{attributes, are_sound, shape_lines, dot_lines, dotdot_lines}
@@ -42,6 +42,25 @@ pub in_order : (about : Attr) (path : List ℕ) (d size : ℕ) (parent : Option 
     header_reported about path d parent gap sound first second ≡ []
 unfolding header_reported
 in_order about path d size parent gap sound first second e h dot dotdot = rw (dot, dotdot) (grind (arith, nat_tests))
+
+pub dot_silent : (about : Attr) (path : List ℕ) (d : ℕ) (first : Option Entry) → is_right_dot d first ≡ true →
+    dot_reported about path d first (dot_in first) ≡ []
+dot_silent about path d None h = grind (arith, nat_tests)
+dot_silent about path d (Some e) h = grind (arith, nat_tests)
+
+dotdot_right : (about : Attr) (path : List ℕ) (parent : Option ℕ) (second : Option Entry) →
+    is_right_dotdot parent second ≡ true → dotdot_reported about path parent second (dotdot_in second) ≡ []
+dotdot_right about path parent None h = grind (arith, nat_tests)
+dotdot_right about path parent (Some e) h = grind (arith, nat_tests)
+
+pub header_silent : (about : Attr) (path : List ℕ) (d : ℕ) (parent : Option ℕ) (gap sound : Bool)
+    (first second : Option Entry) → is_right_header about.size d parent gap sound first second ≡ true →
+    header_reported about path d parent gap sound first second ≡ []
+header_silent about path d parent gap sound first second h =
+    let parts = and_parts _ _ h in
+    let dots = and_parts _ _ parts.1 in
+    in_order about path d about.size parent gap sound first second refl parts.0
+    (dot_silent about path d first dots.0) (dotdot_right about path parent second dots.1)
 
 -- ---- one at least where it isn't
 dot_some : (about : Attr) (path : List ℕ) (d : ℕ) (first : Option Entry) → is_right_dot d first ≡ false →

@@ -1,15 +1,14 @@
 -- What is ready stays so where a chunk is read.
-use Rattle.std.{proofs.Common.{◌≡◌, ℕ, arith, ap, rules, Result, Ok, Err, vec_len}, specs.declared.alloc.Global.Global}
+use Rattle.std.{proofs.Common.{◌≡◌, ◌≤◌, ◌+◌, ℕ, arith, ap, rules, Result, Ok, Err, vec_len}, specs.declared.alloc.Global.Global}
 use Rattle.std.specs.declared.vec.Vec.{Vec}
 use Rattle.ffs_image.specs.{Device.Device, declared.image.ImageFault.ImageFault}
 use Rattle.ffs_volume.specs.declared.Layout.{Layout}
 use Rattle.ffs_walk.specs.declared.{blocks.Blocks.Blocks, window.Window.Window}
-use Rattle.ffs_workspace.specs.declared.{workspace.{Windows.Windows, Workspace.Workspace}, table.Table.Table}
-use Rattle.ffs_workspace.{specs.{Ready.IsReady, Tables.KeepsTable}, proofs.Readiness.ready_table}
-use Rattle.ffs_paths.{specs.{declared.kept_parent.KeptParent.KeptParent, Reads.OnlyReads}, proofs.Keeping.kept_on}
-use Rattle.ffs_paths.proofs.Keeping.{reads_then, kept_parent_held}
-use Rattle.ffs_names.specs.Windows.{CanReadChunks}
-use Rattle.ffs_pathnames.specs.Ready.{PathLeaves, ReadyWith}
+use Rattle.ffs_workspace.specs.{declared.workspace.{Windows.Windows, Workspace.Workspace}, Ready.IsReady}
+use Rattle.ffs_paths.{specs.{declared.kept_parent.KeptParent.KeptParent, Reads.ReadsUpTo}, proofs.Keeping.kept_on}
+use Rattle.ffs_paths.proofs.{Climbed.{few_more, few_then}, Keeping.{reads_then, kept_parent_held}}
+use Rattle.ffs_names.specs.Windows.{CanReadChunks, CanWalkDir}
+use Rattle.ffs_pathnames.specs.Ready.{GatherLeaves, ReadyWith}
 
 -- a workspace with other blocks and another chunk in its windows
 abbrev pub with_chunk : Workspace → Blocks → Window → Workspace
@@ -25,19 +24,10 @@ pub ready_read : (v : Layout) (d d' : Device) (w : Workspace) (blocks : Blocks) 
     → d'.contents ≡ d.contents → CanReadChunks v d' blocks chunk → IsReady v d' (with_chunk w blocks chunk)
 ready_read v d d' w blocks chunk r same can = grind (arith, rules)
 
--- and where other stamps are in the queue
+-- where other stamps are in the queue
 ready_queue : (v : Layout) (d : Device) (w : Workspace) (queue : Vec ℕ Global) → vec_len queue ≡ vec_len w.queue
     → IsReady v d w → IsReady v d (record w { queue = queue })
 ready_queue v d w queue long r = grind (arith, rules)
-
--- and so is one whose window on the inode table, windows of chunks and queue were used
-pub ready_looked : (v : Layout) (d d' d'' : Device) (w : Workspace) (table : Table) (blocks : Blocks) (chunk : Window)
-    (queue : Vec ℕ Global) → IsReady v d w → d'.contents ≡ d.contents → d'.size ≡ d.size →
-    KeepsTable v d'.contents table → d''.contents ≡ d'.contents → CanReadChunks v d'' blocks chunk
-    → vec_len queue ≡ vec_len w.queue → IsReady v d''
-    (record (with_chunk (record w { windows = record w.windows { table = table } }) blocks chunk) { queue = queue })
-ready_looked v d d' d'' w table blocks chunk queue r same size kept looked can long =
-    grind (arith, ready_queue, ready_read, ready_table)
 
 -- and so is what is kept of a directory and its children
 pub ready_next : (v : Layout) (d d' : Device) (w : Workspace) (s : KeptParent) (blocks : Blocks) (chunk : Window)
@@ -55,14 +45,58 @@ pub windows_next : (v : Layout) (d d' : Device) (w : Workspace) (s : KeptParent)
     → CanReadChunks v d' windows.blocks windows.chunk → ReadyWith v d' (record w { windows = windows }) s
 windows_next v d d' w s windows r e others can = grind (arith, ready_next)
 
+-- and where other stamps are in the queue, too
+pub ready_looked : (v : Layout) (d d' : Device) (w : Workspace) (windows : Windows) (queue : Vec ℕ Global) → IsReady v d w
+    → d'.contents ≡ d.contents → windows ≡ record w.windows { blocks = windows.blocks; chunk = windows.chunk }
+    → CanReadChunks v d' windows.blocks windows.chunk → vec_len queue ≡ vec_len w.queue
+    → IsReady v d' (record w { windows = windows; queue = queue })
+ready_looked v d d' w windows queue r same others can long =
+    ready_queue v d' (record w { windows = windows }) queue long (windows_read v d d' w windows r same others can)
+
+-- the windows of chunks after reads into that of indirect blocks alone
+pub can_read_more : (v : Layout) (d d' : Device) (blocks blocks' : Blocks) (chunk : Window) →
+    CanReadChunks v d blocks chunk → d'.contents ≡ d.contents → CanWalkDir v d' blocks' →
+    CanReadChunks v d' blocks' chunk
+can_read_more v d d' blocks blocks' chunk can e walk = grind arith
+
 -- what is ready for reading chunks
 pub can_read_in : (v : Layout) (d : Device) (w : Workspace) → IsReady v d w
     → CanReadChunks v d w.windows.blocks w.windows.chunk
 can_read_in v d w r = grind arith
 
--- what a call leaves that made a path, and another that only read
-pub leaves_read : {S T : Type 0} {v : Layout} {d d' d'' : Device} {w w' w'' : Workspace} {s : KeptParent} {x : S}
-    (result : Result T ImageFault) → PathLeaves v d d' w w' s (Ok x) → OnlyReads v d' d'' w' w'' result
-    → PathLeaves v d d'' w w'' s result
-leaves_read (Ok y) path read = record { reads = reads_then path.reads read; kept_parent = kept_on _ read path.kept_parent }
-leaves_read (Err e) path read = record { reads = reads_then path.reads read; kept_parent = tt }
+-- what a call leaves that gathered a path, and another that only read
+pub leaves_read : {S T : Type 0} {n m count count' count'' : ℕ} {v : Layout} {d d' d'' : Device}
+    {w w' w'' : Workspace} {s : KeptParent} {x : S} (result : Result T ImageFault) →
+    GatherLeaves n v d d' count count' w w' s (Ok x) → ReadsUpTo 1 v d' d'' count' count'' w' w'' result → n + 1 ≤ m
+    → GatherLeaves m v d d'' count count'' w w'' s result
+leaves_read (Ok y) path read more = record {
+  path = record {
+    reads = reads_then path.path.reads read.reads;
+    counted = λ b k. few_more (few_then (path.path.counted b k) read.counted) more;
+    kept_parent = kept_on _ read.reads path.path.kept_parent;
+  };
+  most = λ numbered. omega (arith, path.most numbered, read.counted.count);
+}
+leaves_read (Err e) path read more = record {
+  path = record {
+    reads = reads_then path.path.reads read.reads;
+    counted = λ b k. few_more (few_then (path.path.counted b k) read.counted) more;
+    kept_parent = tt;
+  };
+  most = λ numbered. omega (arith, path.most numbered, read.counted.count);
+}
+
+-- where gathering a path failed
+pub gather_failed : {S T : Type 0} {n m count count' : ℕ} {v : Layout} {d d' : Device} {w w' : Workspace}
+    {s : KeptParent} (fault : ImageFault) → GatherLeaves {T = S} n v d d' count count' w w' s (Err fault) → n ≤ m
+    → GatherLeaves {T = T} m v d d' count count' w w' s (Err fault)
+gather_failed fault left more =
+    let path = left.path.reads in
+    record {
+      path = record {
+        reads = record { lists = path.lists; chunk = path.chunk; ready = path.ready; read = path.read };
+        counted = λ b k. few_more (left.path.counted b k) more;
+        kept_parent = tt;
+      };
+      most = λ numbered. omega (arith, left.most numbered);
+    }

@@ -9,7 +9,8 @@ use Rattle.ffs_volume.specs.Directories.Volumes.{volume_of, volume_with, is_inod
 use Rattle.ffs_volume.specs.Encodings.Replay.{cut_at, fresh_replay, replayed_steps}
 use Rattle.ffs_workspace.specs.{declared.workspace.Workspace.Workspace, Lengths.inodes_of, Holds.HoldsClaims}
 use Rattle.ffs_workspace.{specs.Holds.HoldsSurvey, proofs.KindLaws.{reports_at, dir_is, suspect_is, type_is, class_is}}
-use Rattle.ffs_pathnames.specs.{declared.inodes.Inodes.Inodes, Sees.Sees, Reads.chunks_read}
+use Rattle.ffs_names.specs.Readings.{chunks_in}
+use Rattle.ffs_pathnames.specs.{declared.inodes.Inodes.Inodes, Sees.Sees}
 
 -- ---- what a workspace shows
 pub settled : (c : Class) → is_allocated c ≡ true → is_unknown c ≡ false → is_file_or_dir c ≡ true
@@ -40,6 +41,10 @@ sees v b w i s h r =
     grind (arith, dir_is, suspect_is, type_is, settled, class_is, whole, parent_number)
 
 -- ---- the chunks that are read
+-- those of an inode with this cut (`chunks_in`), as a name that proofs here don't look into
+unfoldable pub chunks_read : Layout → Inode → ℕ → List ℕ → List Chunk
+chunks_read v i cut b = chunks_in v b i cut
+
 pub chunks_are : (v : Layout) (b : List ℕ) (d : ℕ) {i : Inode} {cut : ℕ} → IsAcceptedLayout v →
     is_inode_number v d ≡ true → i ≡ inode_of v b d → cut ≡ cut_at v b d →
     chunks_read v i cut b ≡ (volume_of v b).chunks d

@@ -24,10 +24,10 @@ use Rattle.ffs_workspace.{specs.Holds.HoldsSurvey, proofs.KindLaws.{reports_at, 
 use Rattle.ffs_survey.specs.{Survey.{number_at, dir_at}, Calm.{are_calm, IsCalm, CurrentDir, is_calm_kind}}
 use Rattle.ffs_survey.specs.Calm.{is_calm_plain, is_calm_role, is_calm_entry, reached_after}
 use Rattle.ffs_survey.proofs.CalmLaws.{calm_names_new, calm_new}
-use Rattle.ffs_pathnames.specs.{Begins.dir_header_lines, Calm.IsSilentDirectory, Reads.chunks_read, Header.dot_in}
-use Rattle.ffs_pathnames.specs.{Header.{dotdot_in, dot_reported, dotdot_reported, is_right_dot}, PassedNames.belongs}
+use Rattle.ffs_pathnames.{specs.{Begins.dir_header_lines, Calm.IsSilentDirectory}, proofs.SeesLaws.chunks_read}
+use Rattle.ffs_pathnames.specs.{Header.{dotdot_in, dotdot_reported, is_right_dot}, PassedNames.belongs}
 use Rattle.ffs_pathnames.specs.PassedNames.{after_look, is_plain_quiet, is_role_quiet, is_quiet, are_quiet}
-use Rattle.ffs_pathnames.proofs.{SeesLaws.{chunks_are, settled}, HeaderLaws.in_order}
+use Rattle.ffs_pathnames.proofs.{SeesLaws.{chunks_are, settled}, HeaderLaws.{dot_silent, in_order}}
 use Rattle.ffs_names.proofs.DirLaws as dirs
 
 -- ---- what the lists show
@@ -224,10 +224,6 @@ first_two s reached (c ∷ cs) solid sound h = go c.entries refl h
         }
 
 -- ---- what is before the entries
-dot_silent : (about : Attr) (path : List ℕ) (d : ℕ) (e : Entry) → is_right_dot d (Some e) ≡ true →
-    dot_reported about path d (Some e) (dot_in (Some e)) ≡ []
-dot_silent about path d e h = grind (arith, nat_tests)
-
 dotdot_silent : (about : Attr) (path : List ℕ) (parent : Option ℕ) (e : Entry) →
     is_dotdot_of (unwrap_or parent 0) e ≡ true → dotdot_reported about path parent (Some e) (dotdot_in (Some e)) ≡ []
 dotdot_silent about path None e h = grind (arith, nat_tests)

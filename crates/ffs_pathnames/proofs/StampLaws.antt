@@ -7,7 +7,8 @@ use Rattle.ffs_workspace.{specs.Places.place_in, specs.Places.AreNoted, proofs.P
 use Rattle.ffs_volume.specs.{declared.Layout.Layout, declared.Role.Role, Encodings.Kinds.is_dir_kind}
 use Rattle.ffs_volume.specs.Directories.{Entries.Entry, Roles.Volume, Roles.is_plain}
 use Rattle.ffs_pathnames.specs.{Examines.LeavesAllButDue, declared.inodes.Inodes.Inodes, Sees.Sees, Sees.passed_in}
-use Rattle.ffs_pathnames.specs.{Sees.stamps_in, Stamps.stamp_of, Stamps.stamps_of, Stamps.KeepPlaces}
+use Rattle.ffs_pathnames.specs.{Sees.stamps_in, Stamps.{stamp_of, stamps_of, KeepPlaces, KeepsWords}}
+use Rattle.std.specs.declared.{alloc.Global.Global, vec.Vec.Vec}
 use Rattle.ffs_pathnames.specs.PassedNames.{after_look, after_roled}
 use Rattle.ffs_survey.specs.Survey.{suspect_at}
 
@@ -47,6 +48,9 @@ none_stamped ps ws x h = rw (stamp_at ps ws x, h) refl
 
 pub keep_more : (a b c : List ℕ) → KeepPlaces a b → KeepPlaces b c → KeepPlaces a c
 keep_more a b c p q x = q x ∙ p x
+
+pub words_more : {a b c : Vec ℕ Global} → KeepsWords a b → KeepsWords b c → KeepsWords a c
+words_more p q = record { places = λ x. q.places x ∙ p.places x; long = q.long ∙ p.long }
 
 -- where the windows alone have changed
 pub windows_keep : (old new : Workspace) → new ≡ record old { windows = new.windows } →

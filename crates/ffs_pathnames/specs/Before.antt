@@ -1,12 +1,12 @@
 -- What is known between two directories of the pathname check.
-use Rattle.std.specs.Prelude.{◌≡◌, ℕ, Bool, not, ◌&&◌, ◌||◌, ◌==◌, if◌then◌else◌, List, [], ◌∷◌, Option, Some}
-use Rattle.std.specs.Prelude.{slice_index}
+use Rattle.std.specs.Prelude.{◌≡◌, ◌<◌, ◌≤◌, ℕ, Bool, true, false, not, ◌&&◌, ◌||◌, ◌==◌, if◌then◌else◌, List, [], ◌∷◌}
+use Rattle.std.specs.Prelude.{Option, Some, slice_index, vec_len}
 use Rattle.ffs_volume.specs.{declared.{constants.TheConstants.DT_DIR, Layout.Layout}, Messages.Kinds.TreeMessage}
 use Rattle.ffs_volume.specs.Messages.Kinds.{reported, root_none, root_not_dir, root_suspect}
 use Rattle.ffs_volume.specs.{Directories.Volumes.volume_of, Encodings.Kinds.{is_dir_kind, is_empty_dir_kind}}
 use Rattle.ffs_workspace.specs.{declared.workspace.Workspace.Workspace, Leaves.LeavesSurvey, Places.AreChunksNumbered}
 use Rattle.ffs_workspace.specs.{Places.AreNoted, Holds.{bool_at, HoldsClaims, HoldsSurvey}}
-use Rattle.ffs_pathnames.specs.{Gathers.passed_of, PassedRight.AreRightBefore}
+use Rattle.ffs_pathnames.specs.{Gathers.{AreAsLong, passed_of}, PassedRight.AreRightBefore}
 use Rattle.ffs_survey.specs.Survey.{suspect_at}
 
 -- what was found stays; the flags of suspect inodes are taken away, and no others; nothing is
@@ -35,6 +35,18 @@ pub record IsBeforeNoted (v : Layout) (contents : Option (List ℕ)) (w : Worksp
 abbrev pub is_checked : Workspace → ℕ → Bool
 is_checked w x = (slice_index w.kinds.items x == DT_DIR)
     && (bool_at w.marked.items x || not (bool_at w.flags.items x))
+
+-- the lists say something of each of so many inodes, and the root is one
+pub record ListsInodes (w : Workspace) (n : ℕ) : Type 0 where
+  pub lists : AreAsLong w
+  pub count : n ≡ vec_len w.kinds
+  pub some : 2 ≤ n
+
+-- the first directory that is checked, or `count` where none is
+pub record IsFirstChecked (w : Workspace) (count first : ℕ) : Type 0 where
+  pub range : (2 ≤ first) × (first ≤ count)
+  pub found : first < count → is_checked w first ≡ true
+  pub before : (x : ℕ) → 2 ≤ x → x < first → is_checked w x ≡ false
 
 -- what is reported of the root, by its kind and by whether it is marked
 unfoldable pub root_reported : ℕ → Bool → List TreeMessage

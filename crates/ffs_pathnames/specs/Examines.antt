@@ -3,8 +3,8 @@ use Rattle.std.specs.{Prelude.{◌≡◌, ℕ, ◌==◌, List, [], Result}, List
 use Rattle.ffs_image.specs.{Device.Device, Reads.ReadAfter, declared.image.ImageFault.ImageFault}
 use Rattle.ffs_volume.specs.{declared.Layout.Layout, Blocks.Inodes.inode_of, Directories.Roles.roled_entries}
 use Rattle.ffs_volume.specs.Directories.{PathnameCheck.are_sound, Volumes.volume_of}
-use Rattle.ffs_pathnames.specs.{declared.look.Examination.Examination, Gathers.passed_of, PassedNames.are_quiet}
-use Rattle.ffs_pathnames.specs.{PassedNames.after_looks, Reads.start_chunk, Stamps.KeepPlaces}
+use Rattle.ffs_pathnames.specs.{declared.look.{Examination.Examination, FirstLook.FirstLook}, Gathers.passed_of}
+use Rattle.ffs_pathnames.specs.{PassedNames.{are_quiet, after_looks}, Reads.start_chunk, Stamps.KeepPlaces}
 use Rattle.ffs_workspace.specs.{declared.workspace.Workspace.Workspace, Leaves.LeavesSurvey, Ready.IsReady}
 
 -- a call leaves what the phases before the pathname check left, the flags, and the places that
@@ -22,16 +22,19 @@ pub record ExamineLeaves {T : Type 0} (v : Layout) (d d' : Device) (old new : Wo
   pub ready : IsReady v d' new
   pub read : ReadAfter d d' result
 
--- its inode, whether a Gap of it is kept, whether its chunks are sound, the chunk at the start of
--- the file, whether nothing may be reported of its entries; and each inode that belongs to it is
--- stamped
+-- whether a Gap of it is kept, whether its chunks are sound, the chunk at the start of the file,
+-- whether nothing may be reported of its entries; and each inode that belongs to it is stamped
+pub record IsLookedAt (v : Layout) (b : List ℕ) (d : ℕ) (old : Workspace) (f : FirstLook) (start : List ℕ)
+    (new : Workspace) : Type 0 where
+  pub gap : f.gap ≡ (volume_of v b).gap d
+  pub sound : f.sound ≡ are_sound ((volume_of v b).chunks d)
+  pub started : find (λ c. c.offset == 0) ((volume_of v b).chunks d) ≡ start_chunk [] f.started v.order start
+  pub quiet : f.quiet ≡ are_quiet (volume_of v b) d (passed_of old).stamps (roled_entries (volume_of v b) d)
+  pub stamps : (passed_of new).stamps
+      ≡ after_looks (volume_of v b) d (passed_of old).stamps (roled_entries (volume_of v b) d)
+
+-- and its inode is read
 pub record IsExamined (v : Layout) (b : List ℕ) (d : ℕ) (old : Workspace) (e : Examination) (start : List ℕ)
     (new : Workspace) : Type 0 where
   pub inode : e.inode ≡ inode_of v b d
-  pub gap : e.look.gap ≡ (volume_of v b).gap d
-  pub sound : e.look.sound ≡ are_sound ((volume_of v b).chunks d)
-  pub started : find (λ c. c.offset == 0) ((volume_of v b).chunks d) ≡ start_chunk [] e.look.started v.order
-      start
-  pub quiet : e.look.quiet ≡ are_quiet (volume_of v b) d (passed_of old).stamps (roled_entries (volume_of v b) d)
-  pub stamps : (passed_of new).stamps
-      ≡ after_looks (volume_of v b) d (passed_of old).stamps (roled_entries (volume_of v b) d)
+  pub look : IsLookedAt v b d old e.look start new

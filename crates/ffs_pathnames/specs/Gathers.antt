@@ -20,6 +20,11 @@ IsEnough vol verdict dir number name about path directory =
     ≡ verdict_reported verdict number (attributes vol number) (entry_path (graph_of vol) dir name)
     (dir_path (graph_of vol) number)
 
+-- these are the attributes and the path of the directory d
+pub record IsShownOf (vol : Volume) (d : ℕ) (about : Attr) (path : List ℕ) : Type 0 where
+  pub attr : about ≡ attributes vol d
+  pub path_is : path ≡ dir_path (graph_of vol) d
+
 -- what a workspace remembers of the names that were passed, during the pathname check
 abbrev pub passed_of : Workspace → PassedNames
 passed_of w = record { flags = w.flags.items; stamps = stamps_of w.parents.items w.queue.items }

@@ -17,7 +17,8 @@ pub mod Before
 pub mod Ready
 pub mod LineReads
 pub mod EntryLines
+pub mod DirectoryLines
 pub mod Looks
-pub mod Costs
 pub mod ReadsLeft
 pub mod Phase2
+pub mod NextChunks

@@ -1,18 +1,52 @@
 -- When paths of directories can be made, too, and what calls leave.
-use Rattle.std.specs.Prelude.{◌≡◌, Result, Ok, Err}
-use Rattle.ffs_image.specs.Device.{Device}
+use Rattle.std.specs.Prelude.{◌≡◌, ◌+◌, ◌*◌, ◌<◌, ◌≤◌, ℕ, Bool, IsTrue, Result, Ok, Err, slice_index}
+use Rattle.ffs_image.specs.{Device.Device, declared.image.ImageFault.ImageFault}
 use Rattle.ffs_volume.specs.declared.Layout.{Layout}
 use Rattle.ffs_workspace.specs.{declared.workspace.Workspace.Workspace, Ready.IsReady, Leaves.LeavesSurvey}
+use Rattle.ffs_workspace.specs.{Notes.cut_in, Places.AreChunksNumbered}
 use Rattle.ffs_report.specs.{PhaseOutcome.ImageAfter, declared.fault.RunFault.RunFault}
-use Rattle.ffs_paths.specs.declared.kept_parent.KeptParent.{KeptParent}
-use Rattle.ffs_pathnames.specs.Stamps.{KeepPlaces}
+use Rattle.ffs_paths.specs.{Reads.IsReadyFor, declared.kept_parent.KeptParent.KeptParent}
+use Rattle.ffs_pathnames.specs.{declared.look.Directory.Directory, Stamps.KeepPlaces}
 pub use Rattle.ffs_paths.specs.KeptParents.{ReadyWith, ReadyToPath, PathLeaves}
+
+-- paths can be made, and one of the inode x, where it is wanted
+pub record ReadyWhere (wanted : Bool) (v : Layout) (d : Device) (w : Workspace) (s : KeptParent) (x : ℕ) :
+    Type 0 where
+  pub paths : ReadyWith v d w s
+  pub number : IsTrue wanted → x < v.ncg * v.ipg
+
+-- the directory x can be looked at: it is the root or one after it
+pub record ReadyToLook (v : Layout) (d : Device) (w : Workspace) (x : ℕ) : Type 0 where
+  pub ready : IsReadyFor v d w x
+  pub low : 2 ≤ x
+
+-- and its chunks can be read, by its cut
+pub record ReadyToRead (v : Layout) (d : Device) (w : Workspace) (x : Directory) : Type 0 where
+  pub look : ReadyToLook v d w x.number
+  pub cut : x.cut ≡ cut_in (slice_index w.notes.items x.number)
+
+-- the directory x can be checked: its path can be made, and it is the root or one after it
+pub record ReadyToCheck (v : Layout) (d : Device) (w : Workspace) (s : KeptParent) (x : ℕ) : Type 0 where
+  pub path : ReadyToPath v d w s x
+  pub low : 2 ≤ x
+
+-- and its entries can be reported, by its cut
+pub record ReadyToReport (v : Layout) (d : Device) (w : Workspace) (s : KeptParent) (x : Directory) : Type 0 where
+  pub path : ReadyToPath v d w s x.number
+  pub cut : x.cut ≡ cut_in (slice_index w.notes.items x.number)
 
 -- paths can be made after a call; where it failed, nothing of a directory and its children may be
 -- right
 abbrev pub ReadyAfter : {T E : Type 0} → Layout → Device → Workspace → KeptParent → Result T E → Type 0
 ReadyAfter v d w s (Ok x) = ReadyWith v d w s
 ReadyAfter v d w s (Err e) = IsReady v d w
+
+-- what a call leaves that gathers what messages show: it makes a path of n reads at most, where each
+-- place is noted, and no more, of any image, where each chunk has a number
+pub record GatherLeaves {T : Type 0} (n : ℕ) (v : Layout) (d d' : Device) (count count' : ℕ) (w w' : Workspace)
+    (s : KeptParent) (result : Result T ImageFault) : Type 0 where
+  pub path : PathLeaves n v d d' count count' w w' s result
+  pub most : AreChunksNumbered v → count' ≤ count + n
 
 -- what a call of the phase leaves: the image, but for a read that failed, what the block check and
 -- the survey found, the places that words note, and all that the next call asks for
@@ -22,6 +56,12 @@ pub record PhaseLeaves {T : Type 0} (v : Layout) (d d' : Device) (w w' : Workspa
   pub survey : LeavesSurvey w w'
   pub places : KeepPlaces w.queue.items w'.queue.items
   pub ready : ReadyAfter v d' w' s result
+
+-- the same of a call that reports entries: the chunk of the current directory is as it was, too
+pub record EntriesLeave {T : Type 0} (v : Layout) (d d' : Device) (w w' : Workspace) (s : KeptParent)
+    (result : Result T RunFault) : Type 0 where
+  pub phase : PhaseLeaves v d d' w w' s result
+  pub chunk : w'.windows.chunk ≡ w.windows.chunk
 
 -- the same of a call that changes nothing of the workspace but its windows; the chunk of the
 -- current directory is as it was

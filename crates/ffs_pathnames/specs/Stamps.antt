@@ -1,5 +1,6 @@
 -- Stamps, by the parents of inodes and by the words that say which parent entries are due.
-use Rattle.std.specs.Prelude.{◌≡◌, ℕ, if◌then◌else◌, List, [], ◌∷◌, slice_index}
+use Rattle.std.specs.{Prelude.{◌≡◌, ℕ, if◌then◌else◌, List, [], ◌∷◌, slice_index, vec_len}, declared.alloc.Global.Global}
+use Rattle.std.specs.declared.vec.Vec.{Vec}
 use Rattle.ffs_workspace.specs.Places.{is_due, place_in}
 
 -- the parent of an inode, where its entry there is due, else 0
@@ -15,3 +16,8 @@ stamps_of (p ∷ ps) (w ∷ ws) = stamp_of p w ∷ stamps_of ps ws
 -- each word notes the same place as before
 abbrev pub KeepPlaces : (old new : List ℕ) → Type 0
 KeepPlaces old new = (x : ℕ) → place_in (slice_index new x) ≡ place_in (slice_index old x)
+
+-- and there are as many
+pub record KeepsWords (old new : Vec ℕ Global) : Type 0 where
+  pub places : KeepPlaces old.items new.items
+  pub long : vec_len new ≡ vec_len old

@@ -1,15 +1,14 @@
 //! A second reading of a directory, and the lines of its entries, one after another.
-ghost use Rattle.std.specs.Prelude.{◌≡◌, ◌+◌, ◌≤◌, true, OnOk, IfOk, IfSome, length, map, slice_index};
-ghost use Rattle.ffs_image.specs.Device.{ForContents};
-ghost use Rattle.ffs_names.specs.{Costs.{directory_runs, to_read, HoldsReading}, Readings.{rest, GivesChunk}};
-ghost use Rattle.ffs_names.specs.{Readings.LeavesReading, Windows.CanReadChunks};
-ghost use Rattle.ffs_survey.specs.Costs.{TakesReads};
-ghost use Rattle.ffs_volume.specs.{Report.Reads.line_reads, Messages.Kinds.of_tree, Directories.Volumes.volume_of};
-ghost use Rattle.ffs_report.specs.{Paid.Paid, Known.ForBytes, PhaseOutcome.PhaseReports, Progress.progress};
-ghost use Rattle.ffs_workspace.specs.{Notes.cut_in, Places.{AreChunksNumbered, AreNoted}};
-ghost use Rattle.ffs_pathnames.specs.{Costs.report_reads, Gathers.{passed_of, roled_in, roled_lines_by, roled_value}};
-ghost use Rattle.ffs_pathnames.specs.{ReadsLeft.{LeftForRuns, TakesLeft}, Ready.{ReadyToPath, PhaseLeaves}};
-ghost use Rattle.ffs_pathnames.specs.{Ready.LinesLeave, DirectoryContext.DirectoryContext, EntryLines.ReportsEntries};
+ghost use Rattle.std.specs.Prelude.{◌≡◌, ◌↔◌, IsTrue, OnOk, IfOk};
+ghost use Rattle.ffs_names.specs.{Costs.directory_runs, Windows.CanReadChunks};
+ghost use Rattle.ffs_volume.specs.Directories.Volumes.{volume_of};
+ghost use Rattle.ffs_report.specs.{Known.ForBytes, Progress.progress};
+ghost use Rattle.ffs_workspace.specs.Places.{AreChunksNumbered};
+ghost use Rattle.ffs_pathnames.specs.Gathers.{passed_of, roled_in, roled_lines_by, roled_value};
+ghost use Rattle.ffs_pathnames.specs.Ready.{ReadyToPath, ReadyToReport, PhaseLeaves, EntriesLeave, LinesLeave};
+ghost use Rattle.ffs_pathnames.specs.{ReadsLeft.LeftForRuns, NextChunks.{GivesNext, TakesNext, NextLeaves}};
+ghost use Rattle.ffs_pathnames.specs.{DirectoryContext.DirectoryContext, DirectoryLines.ReportsDirectory};
+ghost use Rattle.ffs_pathnames.specs.EntryLines.{ReportsEntries};
 ghost use Rattle.ffs_pathnames.specs.PassedNames as names;
 
 use crate::inodes::Inodes;
@@ -28,56 +27,9 @@ use ffs_workspace::{Windows, Workspace, line_reads};
 /// Whether each chunk of a volume has a number for which a word has room. On a larger volume a path
 /// may search a directory, so that blocks of the one that is read are read again.
 fn are_chunks_numbered(geometry: &Geometry) -> bool
-    ensures yes { result ≡ true → AreChunksNumbered geometry.now.layout }
-    ensures no { AreChunksNumbered geometry.now.layout → result ≡ true }
+    ensures { IsTrue result ↔ AreChunksNumbered geometry.now.layout }
 {
     line_reads(geometry).is_some()
-}
-
-/// Reads the next chunk of a directory, and returns its place in the file, in bytes, and None where
-/// no chunk is left. `reads_left` is how many reads may be made; it falls by those that are made.
-/// Where one more is asked for, no chunk comes any more.
-///
-/// # Errors
-/// A read of the image that failed.
-fn next_limited<I: Image>(
-    chunks: &mut Chunks,
-    image: &mut I,
-    windows: &mut Windows,
-    bytes: &mut [u8; DIRBLKSIZ],
-    reads_left: &mut u64,
-) -> Result<Option<u64>, ImageFault>
-    requires { CanReadChunks chunks.old.walk.geometry.layout (I.device image.old)
-        windows.old.blocks windows.old.chunk }
-    ensures chunk { IfOk result (λ offset. ForContents (I.device image.old).contents
-        (λ b. HoldsReading windows.old.blocks windows.old.chunk chunks.old
-        → to_read b chunks.old ≤ reads_left.old
-        → GivesChunk b (rest b) chunks.old chunks.new bytes.new offset)) }
-    ensures budget { IfOk result (λ o. IfSome o (λ _. chunks.new.budget + 1 ≡ chunks.old.budget)) }
-    ensures reads { HoldsReading windows.old.blocks windows.old.chunk chunks.old
-        → ForContents (I.device image.old).contents (λ b. to_read b chunks.old ≤ reads_left.old
-        → TakesReads (I.reads image.old) (I.reads image.new) (to_read b chunks.old)
-        (to_read b chunks.new)
-        (HoldsReading windows.new.blocks windows.new.chunk chunks.new) result) }
-    ensures kept { HoldsReading windows.old.blocks windows.old.chunk chunks.old
-        → ForContents (I.device image.old).contents (λ b. to_read b chunks.old ≤ reads_left.old
-        → TakesLeft reads_left.old reads_left.new (to_read b chunks.old) (to_read b chunks.new)
-        result) }
-    ensures most { I.reads image.new + reads_left.new ≤ I.reads image.old + reads_left.old }
-    ensures others { windows.new ≡ record windows.old {
-      blocks = windows.new.blocks;
-      chunk = windows.new.chunk;
-    } }
-    ensures leaves { LeavesReading chunks.old chunks.new (I.device image.old)
-        (I.device image.new) windows.new.blocks windows.new.chunk result }
-{
-    let mut limited = LimitedImage::new(image, *reads_left);
-    let offset = chunks.next(&mut limited, &mut windows.blocks, &mut windows.chunk, bytes);
-    *reads_left = limited.left();
-    if limited.is_spent() {
-        return Ok(None);
-    }
-    offset
 }
 
 /// Reads the next chunk of a directory, and returns its place in the file, in bytes, and None where
@@ -96,39 +48,24 @@ fn next_chunk<I: Image>(
 ) -> Result<Option<u64>, ImageFault>
     requires { CanReadChunks chunks.old.walk.geometry.layout (I.device image.old)
         windows.old.blocks windows.old.chunk }
-    ensures chunk { IfOk result (λ offset. ForContents (I.device image.old).contents
-        (λ b. (AreChunksNumbered chunks.old.walk.geometry.layout
-        → HoldsReading windows.old.blocks windows.old.chunk chunks.old
-        × (to_read b chunks.old ≤ reads_left.old))
-        → GivesChunk b (rest b) chunks.old chunks.new bytes.new offset)) }
-    ensures budget { IfOk result (λ o. IfSome o (λ _. chunks.new.budget + 1 ≡ chunks.old.budget)) }
-    ensures reads { HoldsReading windows.old.blocks windows.old.chunk chunks.old
-        → ForContents (I.device image.old).contents
-        (λ b. (AreChunksNumbered chunks.old.walk.geometry.layout
-        → to_read b chunks.old ≤ reads_left.old)
-        → TakesReads (I.reads image.old) (I.reads image.new) (to_read b chunks.old)
-        (to_read b chunks.new)
-        (HoldsReading windows.new.blocks windows.new.chunk chunks.new) result) }
-    ensures kept { AreChunksNumbered chunks.old.walk.geometry.layout
-        → HoldsReading windows.old.blocks windows.old.chunk chunks.old
-        → ForContents (I.device image.old).contents (λ b. to_read b chunks.old ≤ reads_left.old
-        → TakesLeft reads_left.old reads_left.new (to_read b chunks.old) (to_read b chunks.new)
-        result) }
-    ensures unlimited { (AreChunksNumbered chunks.old.walk.geometry.layout → ⊥)
-        → reads_left.new ≡ reads_left.old }
-    ensures most { AreChunksNumbered chunks.old.walk.geometry.layout
-        → I.reads image.new + reads_left.new ≤ I.reads image.old + reads_left.old }
-    ensures others { windows.new ≡ record windows.old {
-      blocks = windows.new.blocks;
-      chunk = windows.new.chunk;
-    } }
-    ensures leaves { LeavesReading chunks.old chunks.new (I.device image.old)
-        (I.device image.new) windows.new.blocks windows.new.chunk result }
+    ensures chunk { IfOk result (λ offset. GivesNext (I.device image.old).contents windows.old
+        chunks.old chunks.new bytes.new reads_left.old offset) }
+    ensures takes { TakesNext (I.device image.old).contents windows.old windows.new
+        chunks.old chunks.new (I.reads image.old) (I.reads image.new)
+        reads_left.old reads_left.new result }
+    ensures leaves { NextLeaves chunks.old chunks.new (I.device image.old) (I.device image.new)
+        windows.old windows.new result }
 {
-    if are_chunks_numbered(&chunks.walk.geometry) {
-        return next_limited(chunks, image, windows, bytes, reads_left);
+    if !are_chunks_numbered(&chunks.walk.geometry) {
+        return chunks.next(image, &mut windows.blocks, &mut windows.chunk, bytes);
     }
-    chunks.next(image, &mut windows.blocks, &mut windows.chunk, bytes)
+    let mut limited = LimitedImage::new(image, *reads_left);
+    let offset = chunks.next(&mut limited, &mut windows.blocks, &mut windows.chunk, bytes);
+    *reads_left = limited.left();
+    if limited.is_spent() {
+        return Ok(None);
+    }
+    offset
 }
 
 /// Prints the lines of the entries of a directory, chunk by chunk, and marks them as passed.
@@ -143,38 +80,22 @@ pub fn report_directory<I: Image, W: Output>(
     report: &mut Report<'_, W>,
     directory: &Directory,
 ) -> Result<(), RunFault>
-    requires ready { ReadyToPath geometry.now.layout (I.device image.old) workspace.old
-        checking.old.texts.kept_parent directory.now.number }
-    requires cut { directory.now.cut
-        ≡ cut_in (slice_index workspace.old.notes.items directory.now.number) }
-    ensures text { PhaseReports
+    requires { ReadyToReport geometry.now.layout (I.device image.old) workspace.old
+        checking.old.texts.kept_parent directory.now }
+    ensures lines { ReportsDirectory geometry.now.layout workspace.old
         (LeftForRuns geometry.now.layout (I.device image.old) workspace.old directory.now
         checking.old.reads_left)
-        (λ b. map of_tree (names.directory_reported (volume_of geometry.now.layout b)
-        directory.now.number (passed_of workspace.old)))
-        (progress W.sink report.old) (progress W.sink report.new) result }
+        (λ b. directory_runs geometry.now.layout b directory.now.number)
+        (λ b. names.directory_reported (volume_of geometry.now.layout b) directory.now.number
+        (passed_of workspace.old))
+        (progress W.sink report.old) (progress W.sink report.new)
+        (I.reads image.old) (I.reads image.new)
+        checking.old.reads_left checking.new.reads_left result }
     ensures passed { OnOk result (ForBytes
         (LeftForRuns geometry.now.layout (I.device image.old) workspace.old directory.now
         checking.old.reads_left)
         (λ b. names.after_directory (volume_of geometry.now.layout b) directory.now.number
         (passed_of workspace.old) ≡ passed_of workspace.new)) }
-    ensures reads { ForBytes
-        (LeftForRuns geometry.now.layout (I.device image.old) workspace.old directory.now
-        checking.old.reads_left)
-        (λ b. AreNoted geometry.now.layout b workspace.old.queue.items
-        → I.reads image.new ≤ I.reads image.old
-        + report_reads geometry.now.layout b directory.now.number
-        (length (names.directory_reported (volume_of geometry.now.layout b)
-        directory.now.number (passed_of workspace.old)))) }
-    ensures kept { ForBytes
-        (LeftForRuns geometry.now.layout (I.device image.old) workspace.old directory.now
-        checking.old.reads_left)
-        (λ b. checking.old.reads_left
-        ≤ checking.new.reads_left + directory_runs geometry.now.layout b directory.now.number) }
-    ensures paid { AreChunksNumbered geometry.now.layout → Paid line_reads
-        (progress W.sink report.old) (progress W.sink report.new)
-        (I.reads image.old + checking.old.reads_left)
-        (I.reads image.new + checking.new.reads_left) result }
     ensures leaves { PhaseLeaves geometry.now.layout (I.device image.old) (I.device image.new)
         workspace.old workspace.new checking.new.texts.kept_parent result }
 {
@@ -234,9 +155,6 @@ fn report_by_role<I: Image, W: Output>(
         (I.reads image.old) (I.reads image.new) result }
     ensures leaves { LinesLeave geometry.now.layout (I.device image.old) (I.device image.new)
         workspace.old workspace.new texts.new.kept_parent result }
-    ensures paid { AreChunksNumbered geometry.now.layout → Paid line_reads
-        (progress W.sink report.old) (progress W.sink report.new)
-        (I.reads image.old) (I.reads image.new) result }
 {
     match entry.role {
         Role::Empty => Ok(()),
@@ -271,12 +189,8 @@ pub fn report_entry<I: Image, W: Output>(
         (I.device image.old).contents workspace.old entry.now.dir)
         (λ b. names.after_roled (volume_of geometry.now.layout b) entry.now.dir
         (passed_of workspace.old) (roled_value entry.now) ≡ passed_of workspace.new)) }
-    ensures leaves { PhaseLeaves geometry.now.layout (I.device image.old) (I.device image.new)
+    ensures leaves { EntriesLeave geometry.now.layout (I.device image.old) (I.device image.new)
         workspace.old workspace.new texts.new.kept_parent result }
-    ensures chunk { workspace.new.windows.chunk ≡ workspace.old.windows.chunk }
-    ensures paid { AreChunksNumbered geometry.now.layout → Paid line_reads
-        (progress W.sink report.old) (progress W.sink report.new)
-        (I.reads image.old) (I.reads image.new) result }
 {
     report_by_role(geometry, image, workspace, texts, report, entry)?;
     let inodes = Inodes {
@@ -320,12 +234,8 @@ pub fn report_chunk<I: Image, W: Output>(
         (λ b. names.after_entries (volume_of geometry.now.layout b) chunk.now.dir
         (passed_of workspace.old) (roled_in geometry.now.layout chunk.now)
         ≡ passed_of workspace.new)) }
-    ensures leaves { PhaseLeaves geometry.now.layout (I.device image.old) (I.device image.new)
+    ensures leaves { EntriesLeave geometry.now.layout (I.device image.old) (I.device image.new)
         workspace.old workspace.new texts.new.kept_parent result }
-    ensures chunk { workspace.new.windows.chunk ≡ workspace.old.windows.chunk }
-    ensures paid { AreChunksNumbered geometry.now.layout → Paid line_reads
-        (progress W.sink report.old) (progress W.sink report.new)
-        (I.reads image.old) (I.reads image.new) result }
 {
     let order = geometry.layout.order;
     let mut place = 0usize;

@@ -1,5 +1,5 @@
 //! What is reported of a directory before its entries, and how a single line is.
-ghost use Rattle.std.specs.Prelude.{◌≡◌, ℕ, List, [], ◌%◌, ◌==◌, ◌&&◌, not, nat_lt, option_map, IsTrue, true};
+ghost use Rattle.std.specs.Prelude.{◌≡◌, ◌%◌, ◌==◌, ◌&&◌, not, nat_lt, option_map, true};
 ghost use Rattle.ffs_volume.specs.{Directories.PathnameCheck.is_wrong_parent, Messages.Kinds.reported};
 ghost use Rattle.ffs_layout.specs.Entry.{entry_value};
 ghost use Rattle.ffs_report.specs.Progress.{progress};
@@ -8,7 +8,6 @@ ghost use Rattle.ffs_pathnames.specs.Header.{dot_entry_reported, dotdot_entry_re
 ghost use Rattle.ffs_pathnames.specs.Header.{dot_reported, dotdot_reported, is_right_dot, is_right_dotdot};
 ghost use Rattle.ffs_pathnames.specs.{Header.{is_header_right, header_lines_of}, NameLines.name_message};
 ghost use Rattle.ffs_pathnames.specs.NameLines.{two_reported};
-ghost use Rattle.ffs_volume.specs.declared.Attr as attrs;
 
 use ffs_layout::Entry;
 use ffs_names::{is_one_dot, is_two_dots};
@@ -241,10 +240,7 @@ pub fn say_header<W: Output>(
 
 /// Whether nothing is wrong with `.`, the first entry.
 fn is_dot_right(number: u32, first: Option<Entry<'_>>) -> bool
-    ensures value { result ≡ is_right_dot number (option_map entry_value first.entry) }
-    ensures quiet { IsTrue result → (about : attrs.Attr) (path : List ℕ) →
-        dot_reported about path number (option_map entry_value first.entry)
-        (dot_in (option_map entry_value first.entry)) ≡ [] }
+    ensures { result ≡ is_right_dot number (option_map entry_value first.entry) }
 {
     match first {
         None => false,
@@ -257,10 +253,7 @@ fn is_dot_right(number: u32, first: Option<Entry<'_>>) -> bool
 
 /// Whether nothing is wrong with `..`, the second entry.
 fn is_dotdot_right(parent: Option<u32>, second: Option<Entry<'_>>) -> bool
-    ensures value { result ≡ is_right_dotdot parent (option_map entry_value second.entry) }
-    ensures quiet { IsTrue result → (about : attrs.Attr) (path : List ℕ) →
-        dotdot_reported about path parent (option_map entry_value second.entry)
-        (dotdot_in (option_map entry_value second.entry)) ≡ [] }
+    ensures { result ≡ is_right_dotdot parent (option_map entry_value second.entry) }
 {
     match second {
         None => false,
@@ -278,12 +271,9 @@ fn is_shape_right(size: u64, gap: bool, sound: bool) -> bool
     size >= MINDIRSIZE && size % DIRBLKSIZ as u64 == 0 && !gap && sound
 }
 
-/// Whether nothing is reported of a directory before its entries.
-#[tactic(auto, using(crate::proofs::HeaderLaws::in_order))]
+/// Whether nothing is reported of a directory before its entries (`header_silent`).
 pub fn is_in_order(header: HeaderFacts<'_>) -> bool
-    ensures value { result ≡ is_header_right header.entry }
-    ensures quiet { IsTrue result → (about : attrs.Attr) (path : List ℕ)
-        → about.size ≡ header.entry.size → header_lines_of about path header.entry ≡ [] }
+    ensures { result ≡ is_header_right header.entry }
 {
     if !is_shape_right(header.size, header.gap, header.sound) {
         return false;

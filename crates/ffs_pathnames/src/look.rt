@@ -1,17 +1,14 @@
 //! A first look at a directory: whether anything may be reported of it.
-ghost use Rattle.std.specs.Prelude.{◌≡◌, ◌+◌, ◌≤◌, IfOk, true, false, ◌*◌, ◌<◌, ◌==◌, List, ◌∷◌, Some, vec_len, ◌&&◌};
-ghost use Rattle.std.specs.Prelude.{◌||◌, not, length, slice_index};
+ghost use Rattle.std.specs.Prelude.{◌≡◌, ◌+◌, ◌≤◌, IfOk, true, false, ◌<◌, ◌==◌, List, ◌∷◌, ◌&&◌, ◌||◌, not, length};
+ghost use Rattle.std.specs.Prelude.{slice_index};
 ghost use Rattle.ffs_report.specs.Known.{ForBytes};
-ghost use Rattle.ffs_names.specs.{Costs.directory_cost, Windows.CanReadChunks};
-ghost use Rattle.ffs_paths.specs.Reads.{IsReadyFor};
-ghost use Rattle.ffs_pathnames.specs.{DirectoryContext.DirectoryContext, Examines.{ExamineLeaves, IsExamined}};
-ghost use Rattle.ffs_pathnames.specs.{ReadsLeft.LeftForLook, Sees.{CanStamp, Sees, stamps_in}, Looks.IsFirstLook};
-ghost use Rattle.ffs_pathnames.specs.{Looks.IsChunkLook, Stamps.KeepPlaces, Reads.{start_chunk, ChunksLeave}};
-ghost use Rattle.ffs_image.specs.Device.{ForContents};
-ghost use Rattle.ffs_volume.specs.{declared.Order.Order, Blocks.Steps.steps_of, Directories.Entries.Chunk};
-ghost use Rattle.ffs_volume.specs.{Directories.Entries.chunk_of, Encodings.Replay.fresh_replay};
-ghost use Rattle.ffs_volume.specs.{Encodings.ReplayCounts.replayed_runs, declared.Role.Role};
-ghost use Rattle.ffs_volume.specs.Directories.{Roles.{Volume, is_dir}, PathnameCheck.is_bad_whiteout};
+ghost use Rattle.ffs_names.specs.Costs.{directory_cost, directory_runs};
+ghost use Rattle.ffs_pathnames.specs.{DirectoryContext.{DirectoryContext, KnowsDirectory}, Looks.IsChunkLook};
+ghost use Rattle.ffs_pathnames.specs.{Examines.{ExamineLeaves, IsExamined, IsLookedAt}, Reads.start_chunk};
+ghost use Rattle.ffs_pathnames.specs.{ReadsLeft.{LeftForLook, TakesLook}, Ready.{ReadyToLook, ReadyToRead}};
+ghost use Rattle.ffs_pathnames.specs.{Sees.{CanStamp, Sees, stamps_in}, Stamps.KeepsWords};
+ghost use Rattle.ffs_volume.specs.{declared.{Order.Order, Role.Role}, Directories.Entries.{Chunk, chunk_of}};
+ghost use Rattle.ffs_volume.specs.Directories.{Roles.Volume, PathnameCheck.is_bad_whiteout};
 ghost use Rattle.ffs_layout.specs.Entry.{entry_value};
 ghost use Rattle.ffs_pathnames.specs.PassedNames as names;
 
@@ -22,7 +19,7 @@ use ffs_memory::FilledList;
 use ffs_names::{Chunks, gap_of, role_of};
 use ffs_volume::constants::{DIRBLKSIZ, DT_WHT, ROOTINO, WINO};
 use ffs_volume::{Inode, Order, Role};
-use ffs_workspace::{Windows, Workspace, due};
+use ffs_workspace::{Workspace, due};
 
 /// What an examination of a directory finds, before anything is reported of it.
 #[derive(Clone, Copy, Debug)]
@@ -41,8 +38,7 @@ fn examine_all<I: Image>(
     dir: u32,
     start: &mut [u8; DIRBLKSIZ],
 ) -> Result<Examination, ImageFault>
-    requires ready { IsReadyFor geometry.now.layout (I.device image.old) workspace.old dir }
-    requires dir { 2 ≤ dir }
+    requires { ReadyToLook geometry.now.layout (I.device image.old) workspace.old dir }
     ensures found { IfOk result (λ e. ForBytes
         (DirectoryContext geometry.now.layout (I.device image.old).contents workspace.old dir)
         (λ b. IsExamined geometry.now.layout b dir workspace.old e start.new workspace.new)) }
@@ -53,34 +49,24 @@ fn examine_all<I: Image>(
         workspace.old workspace.new result }
 {
     let inode = workspace.windows.table.inode_by_part(geometry, dir, image)?;
-    let cut = workspace.cut_of(dir);
-    let inodes = Inodes {
-        kinds: workspace.kinds.as_slice(),
-        marked: workspace.marked.as_slice(),
-        parents: &workspace.parents,
-    };
     let directory = Directory {
         number: dir,
         inode,
-        cut,
+        cut: workspace.cut_of(dir),
     };
-    let look = look_directory(
-        geometry,
-        image,
-        &mut workspace.windows,
-        &inodes,
-        &mut workspace.queue,
-        &directory,
-        start,
-    )?;
+    let look = look_directory(geometry, image, workspace, &directory, start)?;
     Ok(Examination { inode, look })
 }
 
 /// What is said of a directory of which no more may be read: that its chunks aren't sound, and
 /// nothing of its entries.
 fn unexamined() -> Examination
-    ensures quiet { result.look.quiet ≡ true }
-    ensures sound { result.look.sound ≡ false }
+    ensures { result.look ≡ record {
+      quiet = true;
+      sound = false;
+      gap = false;
+      started = false;
+    } }
 {
     Examination {
         inode: Inode {
@@ -116,18 +102,14 @@ pub fn examine<I: Image>(
     dir: u32,
     start: &mut [u8; DIRBLKSIZ],
 ) -> Result<Examination, ImageFault>
-    requires ready { IsReadyFor geometry.now.layout (I.device image.old) workspace.old dir }
-    requires dir { 2 ≤ dir }
+    requires { ReadyToLook geometry.now.layout (I.device image.old) workspace.old dir }
     ensures found { IfOk result (λ e. ForBytes
         (LeftForLook geometry.now.layout (I.device image.old) workspace.old dir reads_left.old)
         (λ b. IsExamined geometry.now.layout b dir workspace.old e start.new workspace.new)) }
-    ensures reads { ForBytes
+    ensures takes { TakesLook
         (DirectoryContext geometry.now.layout (I.device image.old).contents workspace.old dir)
-        (λ b. I.reads image.new ≤ I.reads image.old + directory_cost geometry.now.layout b dir) }
-    ensures kept { ForBytes
-        (DirectoryContext geometry.now.layout (I.device image.old).contents workspace.old dir)
-        (λ b. reads_left.old ≤ reads_left.new + directory_cost geometry.now.layout b dir) }
-    ensures most { I.reads image.new + reads_left.new ≤ I.reads image.old + reads_left.old }
+        (λ b. directory_cost geometry.now.layout b dir) (I.reads image.old) (I.reads image.new)
+        reads_left.old reads_left.new }
     ensures leaves { ExamineLeaves geometry.now.layout (I.device image.old) (I.device image.new)
         workspace.old workspace.new result }
 {
@@ -191,31 +173,29 @@ fn keep_start(
 pub fn look_directory<I: Image>(
     geometry: &Geometry,
     image: &mut I,
-    windows: &mut Windows,
-    inodes: &Inodes<'_>,
-    words: &mut FilledList<u32>,
+    workspace: &mut Workspace,
     directory: &Directory,
     start: &mut [u8; DIRBLKSIZ],
 ) -> Result<FirstLook, ImageFault>
-    requires ready { CanReadChunks geometry.now.layout (I.device image.old) windows.old.blocks
-        windows.old.chunk }
-    requires words { CanStamp inodes.now directory.now.number words.old.items }
-    ensures found { IfOk result (λ f. ForContents (I.device image.old).contents
-        (λ b. IsFirstLook geometry.now.layout inodes.now directory.now b words.old.items f
-        start.new words.new.items)) }
-    ensures places { KeepPlaces words.old.items words.new.items }
-    ensures words_long { vec_len words.new ≡ vec_len words.old }
-    ensures reads { ForContents (I.device image.old).contents
-        (λ b. I.reads image.new ≤ I.reads image.old
-        + replayed_runs geometry.now.layout directory.now.cut fresh_replay
-        (steps_of geometry.now.layout directory.now.inode b)) }
-    ensures others { windows.new ≡ record windows.old {
-      blocks = windows.new.blocks;
-      chunk = windows.new.chunk;
-    } }
-    ensures leaves { ChunksLeave geometry.now.layout (I.device image.old) (I.device image.new)
-        windows.new.blocks windows.new.chunk result }
+    requires { ReadyToRead geometry.now.layout (I.device image.old) workspace.old directory.now }
+    ensures found { IfOk result (λ f. ForBytes
+        (KnowsDirectory geometry.now.layout (I.device image.old) workspace.old directory.now)
+        (λ b. IsLookedAt geometry.now.layout b directory.now.number workspace.old f start.new
+        workspace.new)) }
+    ensures reads { ForBytes
+        (KnowsDirectory geometry.now.layout (I.device image.old) workspace.old directory.now)
+        (λ b. I.reads image.new
+        ≤ I.reads image.old + directory_runs geometry.now.layout b directory.now.number) }
+    ensures leaves { ExamineLeaves geometry.now.layout (I.device image.old) (I.device image.new)
+        workspace.old workspace.new result }
 {
+    let inodes = Inodes {
+        kinds: workspace.kinds.as_slice(),
+        marked: workspace.marked.as_slice(),
+        parents: &workspace.parents,
+    };
+    let windows = &mut workspace.windows;
+    let words = &mut workspace.queue;
     let order = geometry.layout.order;
     let mut chunks = Chunks::start(geometry, &directory.inode, directory.cut);
     let mut chunk = [0u8; DIRBLKSIZ];
@@ -228,7 +208,7 @@ pub fn look_directory<I: Image>(
         &mut windows.chunk,
         &mut chunk,
     )? {
-        let looked = look_chunk(inodes, directory.number, order, offset == 0, &chunk, words);
+        let looked = look_chunk(&inodes, directory.number, order, offset == 0, &chunk, words);
         quiet &= looked.quiet;
         sound &= looked.sound;
         started = keep_start(offset, &chunk, started, start);
@@ -249,20 +229,9 @@ pub fn is_bad_whiteout(entry: &Entry<'_>) -> bool
     (entry.number == WINO) != (entry.kind == DT_WHT)
 }
 
-/// Whether an inode is no directory, or the entry that names it is its parent entry: it is in the
-/// parent, and the first there. The first look stamps the inode when it meets the first one: so
-/// there this is one whose inode isn't stamped.
-fn is_quiet_link(inodes: &Inodes<'_>, dir: u32, words: &FilledList<u32>, inode: u32) -> bool
-    requires inode { inode < length inodes.now.kinds.now }
-    requires words { CanStamp inodes.now dir words.now.items }
-    ensures { (vol : Volume) → Sees vol inodes.now → result
-        ≡ (not (is_dir vol inode) || (names.belongs vol dir inode
-        && not (slice_index (stamps_in inodes.now words.now.items) inode == dir))) }
-{
-    !inodes.is_dir(inode) || (inodes.belongs(inode, dir) && inodes.stamp(words, inode) != dir)
-}
-
-/// Whether nothing is reported of an inode that a plain entry names.
+/// Whether nothing is reported of an inode that a plain entry names. The parent entry of a directory
+/// is in its parent, and the first there: the first look stamps the inode when it meets that one, so
+/// there the entry is the parent entry whose inode isn't stamped.
 fn is_quiet_inode(inodes: &Inodes<'_>, dir: u32, words: &FilledList<u32>, entry: &Entry<'_>) -> bool
     requires inode { entry.now.number < length inodes.now.kinds.now }
     requires words { CanStamp inodes.now dir words.now.items }
@@ -276,7 +245,9 @@ fn is_quiet_inode(inodes: &Inodes<'_>, dir: u32, words: &FilledList<u32>, entry:
     if inodes.is_suspect(entry.number) {
         return false;
     }
-    if !is_quiet_link(inodes, dir, words, entry.number) {
+    if inodes.is_dir(entry.number)
+        && !(inodes.belongs(entry.number, dir) && inodes.stamp(words, entry.number) != dir)
+    {
         return false;
     }
     !inodes.has_wrong_type(entry.number, entry.kind)
@@ -332,8 +303,7 @@ pub fn stamp(
     ensures after { (vol : Volume) → Sees vol inodes.now → stamps_in inodes.now words.new.items
         ≡ names.after_look vol dir (stamps_in inodes.now words.old.items)
         (record { role = role; entry = entry_value entry.now }) }
-    ensures places { KeepPlaces words.old.items words.new.items }
-    ensures words_long { vec_len words.new ≡ vec_len words.old }
+    ensures words { KeepsWords words.old words.new }
 {
     if role != Role::Plain {
         return;
@@ -369,8 +339,7 @@ pub fn look_chunk(
     requires { CanStamp inodes.now dir words.old.items }
     ensures look { IsChunkLook inodes.now dir order first chunk.now words.old.items result
         words.new.items }
-    ensures places { KeepPlaces words.old.items words.new.items }
-    ensures words_long { vec_len words.new ≡ vec_len words.old }
+    ensures words { KeepsWords words.old words.new }
 {
     let mut place = 0usize;
     let mut index = 0usize;

@@ -1,21 +1,20 @@
 //! The lines of a plain entry.
-ghost use Rattle.std.specs.Prelude.{◌≡◌, ◌+◌, ◌*◌, ◌<◌, ◌≤◌, ℕ, false, List, length, Option, Some, OnOk, IfOk, IsTrue};
-ghost use Rattle.std.specs.Prelude.{vec_len, IfSome};
+ghost use Rattle.std.specs.Prelude.{◌≡◌, ◌+◌, ◌*◌, ◌<◌, ℕ, List, Option, Some, OnOk, IfOk, IsTrue, vec_len, IfSome};
 ghost use Rattle.ffs_image.specs.Device.{ForContents};
 ghost use Rattle.ffs_volume.specs.Directories.{PathnameCheck.{attributes, extra_lines}, Parents.graph_of};
 ghost use Rattle.ffs_volume.specs.{Directories.{Paths.dir_path, Volumes.volume_of}, declared.Layout.Layout};
 ghost use Rattle.ffs_volume.specs.Report.Reads.{line_reads, path_reads};
-ghost use Rattle.ffs_pathnames.specs.{SaysNames.SaysNames, EntryLines.ReportsEntries, Gathers.{IsEnough, IsVerdict}};
+ghost use Rattle.ffs_pathnames.specs.{SaysNames.SaysNames, EntryLines.ReportsEntries, Gathers.{IsEnough, IsShownOf, IsVerdict}};
 ghost use Rattle.ffs_pathnames.specs.Gathers.{AreAsLong, passed_of, asks_attr, asks_path, extra_reported, is_silent};
 ghost use Rattle.ffs_pathnames.specs.{Gathers.plain_lines_by, DirectoryContext.{DirectoryContext, KeepsPath}};
-ghost use Rattle.ffs_pathnames.specs.{DirectoryContext.KnowsPath, Ready.{ReadyWith, ReadyToPath, PathLeaves}};
-ghost use Rattle.ffs_pathnames.specs.Ready.{LinesLeave};
+ghost use Rattle.ffs_pathnames.specs.{DirectoryContext.{KnowsPath, MakesPath}, Ready.{ReadyToPath, ReadyWhere}};
+ghost use Rattle.ffs_pathnames.specs.Ready.{GatherLeaves, LinesLeave, PathLeaves};
 ghost use Rattle.ffs_layout.specs.Entry.{entry_value};
-ghost use Rattle.ffs_report.specs.{Known.ForBytes, Paid.Paid, Progress.progress};
+ghost use Rattle.ffs_report.specs.{Known.ForBytes, Progress.progress};
 ghost use Rattle.ffs_workspace.specs.{Lengths.IsFor, Holds.{HoldsClaims, HoldsSurvey}, Places.AreChunksNumbered};
 ghost use Rattle.ffs_workspace.specs.{Ready.IsReady, declared.workspace.Workspace.Workspace as WorkspaceIn};
 ghost use Rattle.ffs_paths.specs.{KeptParents.KeepsParent, DirectoryPaths.IsPathOf, LastPaths.last_path};
-ghost use Rattle.ffs_paths.specs.Reads.{IsReadyFor, OnlyReads, ReadsAtMost, ReadsFew};
+ghost use Rattle.ffs_paths.specs.Reads.{IsReadyFor, ReadsUpTo};
 
 use crate::inodes::Inodes;
 use crate::verdict::{Verdict, entry_verdict, say_verdict};
@@ -104,16 +103,11 @@ fn make_paths_freely<I: Image>(
 ) -> Result<(), ImageFault>
     requires { ReadyToPath geometry.now.layout (I.device image.old) workspace.old
         texts.old.kept_parent dir }
-    ensures made { OnOk result (ForBytes (KnowsPath geometry.now.layout
-        (I.device image.old).contents workspace.old dir texts.old)
-        (λ b. IsPathOf (graph_of (volume_of geometry.now.layout b)) dir
-        texts.new.paths.directory)) }
-    ensures path { KeepsPath geometry.now.layout (I.device image.old) workspace.old
-        dir texts.old texts.new }
-    ensures leaves { PathLeaves geometry.now.layout (I.device image.old) (I.device image.new)
-        workspace.old workspace.new texts.new.kept_parent result }
-    ensures counted { ReadsAtMost path_reads geometry.now.layout (I.device image.old)
-        workspace.old workspace.new (I.reads image.old) (I.reads image.new) }
+    ensures makes { MakesPath geometry.now.layout (I.device image.old).contents workspace.old dir
+        texts.old texts.new result }
+    ensures leaves { PathLeaves path_reads geometry.now.layout (I.device image.old)
+        (I.device image.new) (I.reads image.old) (I.reads image.new) workspace.old workspace.new
+        texts.new.kept_parent result }
 {
     let path = texts.kept_parent.path_to(geometry, image, workspace, dir)?;
     texts.paths = EntryPaths::of(path);
@@ -122,7 +116,8 @@ fn make_paths_freely<I: Image>(
 }
 
 /// Makes the path of a directory for the lines on its entries. An image that gives other bytes each
-/// time may be read more often than a path reads at most: then no more is read, and there is none.
+/// time may be read more often than a path reads at most: then no more is read, and the path that
+/// was there before stays.
 /// It is apart from `begin_paths`, which is called for each line: a function clears the room of its
 /// locals each time that it is entered, and those here are large.
 #[inline(never)]
@@ -135,18 +130,11 @@ fn make_paths<I: Image>(
 ) -> Result<(), ImageFault>
     requires { ReadyToPath geometry.now.layout (I.device image.old) workspace.old
         texts.old.kept_parent dir }
-    ensures made { OnOk result (ForBytes (KnowsPath geometry.now.layout
-        (I.device image.old).contents workspace.old dir texts.old)
-        (λ b. IsPathOf (graph_of (volume_of geometry.now.layout b)) dir
-        texts.new.paths.directory)) }
-    ensures path { KeepsPath geometry.now.layout (I.device image.old) workspace.old
-        dir texts.old texts.new }
-    ensures leaves { PathLeaves geometry.now.layout (I.device image.old) (I.device image.new)
-        workspace.old workspace.new texts.new.kept_parent result }
-    ensures counted { ReadsAtMost path_reads geometry.now.layout (I.device image.old)
-        workspace.old workspace.new (I.reads image.old) (I.reads image.new) }
-    ensures most { AreChunksNumbered geometry.now.layout
-        → I.reads image.new ≤ I.reads image.old + path_reads }
+    ensures makes { MakesPath geometry.now.layout (I.device image.old).contents workspace.old dir
+        texts.old texts.new result }
+    ensures leaves { GatherLeaves path_reads geometry.now.layout (I.device image.old)
+        (I.device image.new) (I.reads image.old) (I.reads image.new) workspace.old workspace.new
+        texts.new.kept_parent result }
 {
     let Some(limit) = path_reads(geometry) else {
         return make_paths_freely(geometry, image, workspace, texts, dir);
@@ -175,12 +163,9 @@ fn put_path<I: Image>(
     ensures path { OnOk result ((x : ℕ) → ForBytes (DirectoryContext geometry.now.layout
         (I.device image.old).contents workspace.old x) (λ b.
         path.new.items ≡ dir_path (graph_of (volume_of geometry.now.layout b)) dir)) }
-    ensures leaves { PathLeaves geometry.now.layout (I.device image.old) (I.device image.new)
-        workspace.old workspace.new kept_parent.new result }
-    ensures counted { ReadsAtMost path_reads geometry.now.layout (I.device image.old)
-        workspace.old workspace.new (I.reads image.old) (I.reads image.new) }
-    ensures most { AreChunksNumbered geometry.now.layout
-        → I.reads image.new ≤ I.reads image.old + path_reads }
+    ensures leaves { GatherLeaves path_reads geometry.now.layout (I.device image.old)
+        (I.device image.new) (I.reads image.old) (I.reads image.new) workspace.old workspace.new
+        kept_parent.new result }
 {
     let Some(limit) = path_reads(geometry) else {
         return kept_parent.put_path(geometry, image, workspace, dir, path);
@@ -205,18 +190,11 @@ fn begin_paths<I: Image>(
 ) -> Result<(), ImageFault>
     requires { ReadyToPath geometry.now.layout (I.device image.old) workspace.old
         texts.old.kept_parent dir }
-    ensures made { OnOk result (ForBytes (KnowsPath geometry.now.layout
-        (I.device image.old).contents workspace.old dir texts.old)
-        (λ b. IsPathOf (graph_of (volume_of geometry.now.layout b)) dir
-        texts.new.paths.directory)) }
-    ensures path { KeepsPath geometry.now.layout (I.device image.old) workspace.old
-        dir texts.old texts.new }
-    ensures leaves { PathLeaves geometry.now.layout (I.device image.old) (I.device image.new)
-        workspace.old workspace.new texts.new.kept_parent result }
-    ensures counted { ReadsAtMost path_reads geometry.now.layout (I.device image.old)
-        workspace.old workspace.new (I.reads image.old) (I.reads image.new) }
-    ensures most { AreChunksNumbered geometry.now.layout
-        → I.reads image.new ≤ I.reads image.old + path_reads }
+    ensures makes { MakesPath geometry.now.layout (I.device image.old).contents workspace.old dir
+        texts.old texts.new result }
+    ensures leaves { GatherLeaves path_reads geometry.now.layout (I.device image.old)
+        (I.device image.new) (I.reads image.old) (I.reads image.new) workspace.old workspace.new
+        texts.new.kept_parent result }
 {
     if texts.begun {
         return Ok(());
@@ -237,10 +215,8 @@ pub fn read_attr<I: Image>(
     requires { IsReadyFor geometry.now.layout (I.device image.old) workspace.old number }
     ensures attr { IfOk result (λ a. ForContents (I.device image.old).contents
         (λ b. a ≡ attributes (volume_of geometry.now.layout b) number)) }
-    ensures reads { OnlyReads geometry.now.layout (I.device image.old) (I.device image.new)
-        workspace.old workspace.new result }
-    ensures counted { ReadsFew 1 (I.reads image.old) (I.reads image.new) workspace.old
-        workspace.new }
+    ensures reads { ReadsUpTo 1 geometry.now.layout (I.device image.old) (I.device image.new)
+        (I.reads image.old) (I.reads image.new) workspace.old workspace.new result }
 {
     let inode = workspace
         .windows
@@ -271,19 +247,15 @@ fn gather_path<I: Image>(
     wanted: bool,
     dir: u32,
 ) -> Result<(), ImageFault>
-    requires ready { ReadyWith geometry.now.layout (I.device image.old) workspace.old
-        texts.old.kept_parent }
-    requires number { IsTrue wanted → dir < geometry.now.layout.ncg * geometry.now.layout.ipg }
+    requires { ReadyWhere wanted geometry.now.layout (I.device image.old) workspace.old
+        texts.old.kept_parent dir }
     ensures path { OnOk result ((x : ℕ) → ForBytes (DirectoryContext geometry.now.layout
         (I.device image.old).contents workspace.old x) (λ b. IsTrue wanted
         → texts.new.directory.items ≡ dir_path (graph_of (volume_of geometry.now.layout b)) dir)) }
     ensures same { (texts.new.begun ≡ texts.old.begun) × (texts.new.paths ≡ texts.old.paths) }
-    ensures leaves { PathLeaves geometry.now.layout (I.device image.old) (I.device image.new)
-        workspace.old workspace.new texts.new.kept_parent result }
-    ensures counted { ReadsAtMost path_reads geometry.now.layout (I.device image.old)
-        workspace.old workspace.new (I.reads image.old) (I.reads image.new) }
-    ensures most { AreChunksNumbered geometry.now.layout
-        → I.reads image.new ≤ I.reads image.old + path_reads }
+    ensures leaves { GatherLeaves path_reads geometry.now.layout (I.device image.old)
+        (I.device image.new) (I.reads image.old) (I.reads image.new) workspace.old workspace.new
+        texts.new.kept_parent result }
 {
     if !wanted {
         return Ok(());
@@ -320,10 +292,8 @@ fn gather_inode<I: Image>(
         → IsEnough (volume_of geometry.now.layout b) verdict.now dir entry.now.number
         entry.now.name.now a (last_path paths.new) path)) }
     ensures same { paths.new.directory ≡ paths.old.directory }
-    ensures reads { OnlyReads geometry.now.layout (I.device image.old) (I.device image.new)
-        workspace.old workspace.new result }
-    ensures counted { ReadsFew 1 (I.reads image.old) (I.reads image.new) workspace.old
-        workspace.new }
+    ensures reads { ReadsUpTo 1 geometry.now.layout (I.device image.old) (I.device image.new)
+        (I.reads image.old) (I.reads image.new) workspace.old workspace.new result }
 {
     let wants_attr = asks(verdict).0;
     paths.put(entry.name);
@@ -345,23 +315,18 @@ fn gather<I: Image>(
     entry: &Entry<'_>,
     verdict: &Verdict,
 ) -> Result<Attr, ImageFault>
-    requires ready { ReadyWith geometry.now.layout (I.device image.old) workspace.old
-        texts.old.kept_parent }
-    requires number { IsTrue (asks_attr verdict.now) → entry.now.number
-        < geometry.now.layout.ncg * geometry.now.layout.ipg }
+    requires { ReadyWhere (asks_attr verdict.now) geometry.now.layout (I.device image.old)
+        workspace.old texts.old.kept_parent entry.now.number }
     ensures enough { IfOk result (λ a. (dir : ℕ) → ForBytes (DirectoryContext
         geometry.now.layout (I.device image.old).contents workspace.old dir) (λ b.
         IsPathOf (graph_of (volume_of geometry.now.layout b)) dir texts.old.paths.directory →
         IsEnough (volume_of geometry.now.layout b) verdict.now dir entry.now.number
         entry.now.name.now a (last_path texts.new.paths) texts.new.directory.items)) }
-    ensures same { texts.new.paths.directory ≡ texts.old.paths.directory }
-    ensures begun { texts.new.begun ≡ texts.old.begun }
-    ensures leaves { PathLeaves geometry.now.layout (I.device image.old) (I.device image.new)
-        workspace.old workspace.new texts.new.kept_parent result }
-    ensures counted { ReadsAtMost (path_reads + 1) geometry.now.layout (I.device image.old)
-        workspace.old workspace.new (I.reads image.old) (I.reads image.new) }
-    ensures most { AreChunksNumbered geometry.now.layout
-        → I.reads image.new ≤ I.reads image.old + path_reads + 1 }
+    ensures same { (texts.new.begun ≡ texts.old.begun)
+        × (texts.new.paths.directory ≡ texts.old.paths.directory) }
+    ensures leaves { GatherLeaves (path_reads + 1) geometry.now.layout (I.device image.old)
+        (I.device image.new) (I.reads image.old) (I.reads image.new) workspace.old workspace.new
+        texts.new.kept_parent result }
 {
     let wants_path = asks(verdict).1;
     gather_path(geometry, image, workspace, texts, wants_path, entry.number)?;
@@ -400,12 +365,9 @@ fn gather_entry<I: Image>(
         entry.now.entry.name.now a (last_path texts.new.paths) texts.new.directory.items)) }
     ensures path { KeepsPath geometry.now.layout (I.device image.old) workspace.old
         entry.now.dir texts.old texts.new }
-    ensures leaves { PathLeaves geometry.now.layout (I.device image.old) (I.device image.new)
-        workspace.old workspace.new texts.new.kept_parent result }
-    ensures counted { ReadsAtMost line_reads geometry.now.layout (I.device image.old)
-        workspace.old workspace.new (I.reads image.old) (I.reads image.new) }
-    ensures most { AreChunksNumbered geometry.now.layout
-        → I.reads image.new ≤ I.reads image.old + line_reads }
+    ensures leaves { GatherLeaves line_reads geometry.now.layout (I.device image.old)
+        (I.device image.new) (I.reads image.old) (I.reads image.new) workspace.old workspace.new
+        texts.new.kept_parent result }
 {
     begin_paths(geometry, image, workspace, texts, entry.dir)?;
     gather(geometry, image, workspace, texts, &entry.entry, verdict)
@@ -430,12 +392,9 @@ fn gather_extra<I: Image>(
         texts.new.directory.items ≡ dir_path (graph_of (volume_of geometry.now.layout b)) dir)) }
     ensures path { KeepsPath geometry.now.layout (I.device image.old) workspace.old
         dir texts.old texts.new }
-    ensures leaves { PathLeaves geometry.now.layout (I.device image.old) (I.device image.new)
-        workspace.old workspace.new texts.new.kept_parent result }
-    ensures counted { ReadsAtMost line_reads geometry.now.layout (I.device image.old)
-        workspace.old workspace.new (I.reads image.old) (I.reads image.new) }
-    ensures most { AreChunksNumbered geometry.now.layout
-        → I.reads image.new ≤ I.reads image.old + line_reads }
+    ensures leaves { GatherLeaves line_reads geometry.now.layout (I.device image.old)
+        (I.device image.new) (I.reads image.old) (I.reads image.new) workspace.old workspace.new
+        texts.new.kept_parent result }
 {
     begin_paths(geometry, image, workspace, texts, dir)?;
     let paths = &texts.paths;
@@ -499,9 +458,6 @@ pub fn report_plain<I: Image, W: Output>(
         (I.reads image.old) (I.reads image.new) result }
     ensures leaves { LinesLeave geometry.now.layout (I.device image.old) (I.device image.new)
         workspace.old workspace.new texts.new.kept_parent result }
-    ensures paid { AreChunksNumbered geometry.now.layout → Paid line_reads
-        (progress W.sink report.old) (progress W.sink report.new)
-        (I.reads image.old) (I.reads image.new) result }
 {
     let verdict = verdict_of(workspace, entry.dir, &entry.entry);
     if is_silent(&verdict) {
@@ -541,9 +497,6 @@ pub fn report_extra<I: Image, W: Output>(
         (I.reads image.old) (I.reads image.new) result }
     ensures leaves { LinesLeave geometry.now.layout (I.device image.old) (I.device image.new)
         workspace.old workspace.new texts.new.kept_parent result }
-    ensures paid { AreChunksNumbered geometry.now.layout → Paid line_reads
-        (progress W.sink report.old) (progress W.sink report.new)
-        (I.reads image.old) (I.reads image.new) result }
 {
     let attr = gather_extra(geometry, image, workspace, texts, entry.dir)?;
     say_extra(report, attr, texts.directory.as_slice(), &entry.entry)?;
@@ -564,18 +517,12 @@ pub fn gather_dir<I: Image>(
 ) -> Result<Attr, ImageFault>
     requires { ReadyToPath geometry.now.layout (I.device image.old) workspace.old kept_parent.old
         dir }
-    ensures attr { IfOk result (λ a. ForBytes (DirectoryContext geometry.now.layout
+    ensures shown { IfOk result (λ a. ForBytes (DirectoryContext geometry.now.layout
         (I.device image.old).contents workspace.old dir)
-        (λ b. a ≡ attributes (volume_of geometry.now.layout b) dir)) }
-    ensures path { OnOk result ((b : List ℕ)
-        → DirectoryContext geometry.now.layout (I.device image.old).contents workspace.old dir b
-        → path.new.items ≡ dir_path (graph_of (volume_of geometry.now.layout b)) dir) }
-    ensures leaves { PathLeaves geometry.now.layout (I.device image.old) (I.device image.new)
-        workspace.old workspace.new kept_parent.new result }
-    ensures counted { ReadsAtMost line_reads geometry.now.layout (I.device image.old)
-        workspace.old workspace.new (I.reads image.old) (I.reads image.new) }
-    ensures most { AreChunksNumbered geometry.now.layout
-        → I.reads image.new ≤ I.reads image.old + line_reads }
+        (λ b. IsShownOf (volume_of geometry.now.layout b) dir a path.new.items)) }
+    ensures leaves { GatherLeaves line_reads geometry.now.layout (I.device image.old)
+        (I.device image.new) (I.reads image.old) (I.reads image.new) workspace.old workspace.new
+        kept_parent.new result }
 {
     put_path(geometry, image, workspace, kept_parent, dir, path)?;
     read_attr(geometry, image, workspace, dir)

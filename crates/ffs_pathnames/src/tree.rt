@@ -1,21 +1,19 @@
 //! The pathname check of one directory after another, from the root on.
-ghost use Rattle.std.specs.Prelude.{suc, ◌≡◌, ◌+◌, ◌-◌, ◌*◌, ◌<◌, ◌≤◌, ℕ, true, false, OnOk, IfOk, length, map};
-ghost use Rattle.std.specs.Prelude.{vec_len, List, option_map};
-ghost use Rattle.ffs_report.specs.{Known.ForBytes, Paid.Paid, PhaseOutcome.PhaseReports, Progress.progress};
-ghost use Rattle.ffs_volume.specs.{Report.Reads.{line_reads, sweep_reads}, Messages.Kinds.{of_tree, lines_from}};
-ghost use Rattle.ffs_volume.specs.Directories.{Volumes.volume_of, PathnameCheck.continues_after_root};
-ghost use Rattle.ffs_volume.specs.Directories.PathnameCheck.{directory_lines, pathname_lines, sized_dir_lines};
-ghost use Rattle.ffs_volume.specs.{Directories.{Parents.graph_of, Graph.parent}, declared.Layout.Layout};
+ghost use Rattle.std.specs.Prelude.{suc, ◌≡◌, ◌-◌, ◌*◌, ◌<◌, ◌≤◌, ℕ, true, false, OnOk, IfOk, vec_len, List, option_map};
+ghost use Rattle.ffs_report.specs.{Known.ForBytes, Progress.progress};
+ghost use Rattle.ffs_volume.specs.{declared.Layout.Layout, Messages.Kinds.lines_from};
+ghost use Rattle.ffs_volume.specs.Directories.{Parents.graph_of, Graph.parent, Volumes.volume_of};
+ghost use Rattle.ffs_volume.specs.Directories.PathnameCheck.{continues_after_root, directory_lines, pathname_lines};
+ghost use Rattle.ffs_volume.specs.Directories.PathnameCheck.{sized_dir_lines};
 ghost use Rattle.ffs_names.specs.Costs.{directory_cost};
-ghost use Rattle.ffs_pathnames.specs.{ReadsLeft.{LeftForNext, LeftForBoth, LeftForLook}, Before.IsBefore};
-ghost use Rattle.ffs_pathnames.specs.{Before.{IsBeforeNoted, is_checked}, Costs.{check_reads, tree_reads}};
-ghost use Rattle.ffs_pathnames.specs.{Costs.begin_reads, Gathers.{AreAsLong, passed_of}, RootAnswers.AtReadFault};
-ghost use Rattle.ffs_pathnames.specs.{RootAnswers.is_go, Ready.{ReadyToPath, PhaseLeaves, TreeLeaves, LinesLeave}};
+ghost use Rattle.ffs_pathnames.specs.{ReadsLeft.{LeftForNext, LeftForBoth, LeftForLook}, PassedRight.AreRightBefore};
+ghost use Rattle.ffs_pathnames.specs.Before.{ListsInodes, IsBefore, IsBeforeNoted, IsFirstChecked, is_checked};
+ghost use Rattle.ffs_pathnames.specs.{Gathers.{AreAsLong, passed_of}, RootAnswers.{AtReadFault, is_go}};
+ghost use Rattle.ffs_pathnames.specs.Ready.{ReadyToCheck, ReadyToPath, PhaseLeaves, TreeLeaves, LinesLeave};
 ghost use Rattle.ffs_pathnames.specs.Begins.{dir_header_lines, started_entry, IsDirectoryBegun};
-ghost use Rattle.ffs_pathnames.specs.{Header.header_lines, DirectoryContext.{DirectoryContext, KnowsHeader}};
-ghost use Rattle.ffs_pathnames.specs.{LineReads.ReadsByLines, PassedRight.AreRightBefore};
+ghost use Rattle.ffs_pathnames.specs.{Header.header_lines, DirectoryContext.KnowsHeader};
+ghost use Rattle.ffs_pathnames.specs.DirectoryLines.{ReportsDirectory, ReportsLines, ReportsTree};
 ghost use Rattle.ffs_workspace.specs.{Holds.{HoldsClaims, HoldsSurvey}, Lengths.inodes_of, Ready.IsReady};
-ghost use Rattle.ffs_workspace.specs.Places.{AreChunksNumbered, AreNoted};
 ghost use Rattle.ffs_layout.specs.Entry.{entry_value};
 
 use crate::entries::report_directory;
@@ -46,12 +44,8 @@ fn is_checked(workspace: &Workspace, number: u32) -> bool
 /// The first directory that is checked (`is_checked`), or `count`, how many inodes there are, where
 /// none is.
 fn first_checked(workspace: &Workspace, count: u32) -> u32
-    requires lists { AreAsLong workspace.now }
-    requires count { count ≡ vec_len workspace.now.kinds }
-    requires some { 2 ≤ count }
-    ensures range { (2 ≤ result) × (result ≤ count) }
-    ensures found { result < count → is_checked workspace.now result ≡ true }
-    ensures before { (x : ℕ) → 2 ≤ x → x < result → is_checked workspace.now x ≡ false }
+    requires { ListsInodes workspace.now count }
+    ensures { IsFirstChecked workspace.now count result }
 {
     for number in ROOTINO..count {
         if is_checked(workspace, number) {
@@ -70,33 +64,21 @@ fn check_inode<I: Image, W: Output>(
     report: &mut Report<'_, W>,
     number: u32,
 ) -> Result<(), RunFault>
-    requires ready { ReadyToPath geometry.now.layout (I.device image.old) workspace.old
+    requires { ReadyToCheck geometry.now.layout (I.device image.old) workspace.old
         checking.old.texts.kept_parent number }
-    requires low { 2 ≤ number }
-    ensures text { PhaseReports (LeftForNext geometry.now.layout (I.device image.old)
-        workspace.old number checking.old.reads_left)
-        (λ b. map of_tree (directory_lines (volume_of geometry.now.layout b) number))
-        (progress W.sink report.old) (progress W.sink report.new) result }
+    ensures lines { ReportsDirectory geometry.now.layout workspace.old
+        (LeftForNext geometry.now.layout (I.device image.old) workspace.old number
+        checking.old.reads_left)
+        (λ b. 2 * directory_cost geometry.now.layout b number)
+        (λ b. directory_lines (volume_of geometry.now.layout b) number)
+        (progress W.sink report.old) (progress W.sink report.new)
+        (I.reads image.old) (I.reads image.new)
+        checking.old.reads_left checking.new.reads_left result }
     ensures before { OnOk result (ForBytes
         (LeftForNext geometry.now.layout (I.device image.old) workspace.old number
         checking.old.reads_left)
         (λ b. IsBeforeNoted geometry.now.layout (I.device image.old).contents
         workspace.new (suc number) b)) }
-    ensures reads { ForBytes
-        (LeftForNext geometry.now.layout (I.device image.old) workspace.old number
-        checking.old.reads_left)
-        (λ b. AreNoted geometry.now.layout b workspace.old.queue.items
-        → I.reads image.new ≤ I.reads image.old + check_reads geometry.now.layout b number
-        (length (directory_lines (volume_of geometry.now.layout b) number))) }
-    ensures kept { ForBytes
-        (LeftForNext geometry.now.layout (I.device image.old) workspace.old number
-        checking.old.reads_left)
-        (λ b. checking.old.reads_left
-        ≤ checking.new.reads_left + 2 * directory_cost geometry.now.layout b number) }
-    ensures paid { AreChunksNumbered geometry.now.layout → Paid line_reads
-        (progress W.sink report.old) (progress W.sink report.new)
-        (I.reads image.old + checking.old.reads_left)
-        (I.reads image.new + checking.new.reads_left) result }
     ensures leaves { PhaseLeaves geometry.now.layout (I.device image.old) (I.device image.new)
         workspace.old workspace.new checking.new.texts.kept_parent result }
 {
@@ -116,11 +98,12 @@ fn check_inodes<I: Image, W: Output>(
     report: &mut Report<'_, W>,
 ) -> Result<(), RunFault>
     requires { IsReady geometry.now.layout (I.device image.old) workspace.old }
-    ensures text { PhaseReports (λ b. IsBefore geometry.now.layout (I.device image.old).contents
-        workspace.old 2 b)
-        (λ b. map of_tree (lines_from (directory_lines (volume_of geometry.now.layout b)) 2
-        (inodes_of geometry.now.layout - 2)))
-        (progress W.sink report.old) (progress W.sink report.new) result }
+    ensures lines { ReportsTree geometry.now.layout
+        (λ b. IsBefore geometry.now.layout (I.device image.old).contents workspace.old 2 b)
+        (λ b. lines_from (directory_lines (volume_of geometry.now.layout b)) 2
+        (inodes_of geometry.now.layout - 2))
+        (progress W.sink report.old) (progress W.sink report.new)
+        (I.reads image.old) (I.reads image.new) result }
     ensures holds { OnOk result (ForBytes
         (λ b. IsBefore geometry.now.layout (I.device image.old).contents workspace.old 2 b)
         (λ b. HoldsClaims geometry.now.layout b workspace.new
@@ -129,15 +112,6 @@ fn check_inodes<I: Image, W: Output>(
     // Where no directory is checked, nothing is read.
     ensures unchecked { ((x : ℕ) → 2 ≤ x → x < inodes_of geometry.now.layout
         → is_checked workspace.old x ≡ false) → workspace.new ≡ workspace.old }
-    ensures reads { ForBytes
-        (λ b. IsBefore geometry.now.layout (I.device image.old).contents workspace.old 2 b)
-        (λ b. AreChunksNumbered geometry.now.layout
-        → I.reads image.new ≤ I.reads image.old + tree_reads geometry.now.layout b
-        (length (lines_from (directory_lines (volume_of geometry.now.layout b)) 2
-        (inodes_of geometry.now.layout - 2)))) }
-    ensures paid { AreChunksNumbered geometry.now.layout → Paid line_reads
-        (progress W.sink report.old) (progress W.sink report.new)
-        (I.reads image.old + 3 * sweep_reads geometry.now.layout) (I.reads image.new) result }
     ensures leaves { TreeLeaves geometry.now.layout (I.device image.old) (I.device image.new)
         workspace.old workspace.new result }
 {
@@ -170,10 +144,11 @@ pub fn check_tree<I: Image, W: Output>(
     report: &mut Report<'_, W>,
 ) -> Result<Root, RunFault>
     requires { IsReady geometry.now.layout (I.device image.old) workspace.old }
-    ensures text { PhaseReports (λ b. IsBefore geometry.now.layout (I.device image.old).contents
-        workspace.old 2 b)
-        (λ b. map of_tree (pathname_lines (volume_of geometry.now.layout b)))
-        (progress W.sink report.old) (progress W.sink report.new) result }
+    ensures lines { ReportsTree geometry.now.layout
+        (λ b. IsBefore geometry.now.layout (I.device image.old).contents workspace.old 2 b)
+        (λ b. pathname_lines (volume_of geometry.now.layout b))
+        (progress W.sink report.old) (progress W.sink report.new)
+        (I.reads image.old) (I.reads image.new) result }
     ensures goes { IfOk result (λ root. ForBytes
         (λ b. IsBefore geometry.now.layout (I.device image.old).contents workspace.old 2 b)
         (λ b. is_go root ≡ continues_after_root (volume_of geometry.now.layout b))) }
@@ -186,14 +161,6 @@ pub fn check_tree<I: Image, W: Output>(
         (λ b. IsBefore geometry.now.layout (I.device image.old).contents workspace.old 2 b)
         (λ b. HoldsClaims geometry.now.layout b workspace.new
         × HoldsSurvey geometry.now.layout b workspace.new)) }
-    ensures reads { ForBytes
-        (λ b. IsBefore geometry.now.layout (I.device image.old).contents workspace.old 2 b)
-        (λ b. AreChunksNumbered geometry.now.layout
-        → I.reads image.new ≤ I.reads image.old + tree_reads geometry.now.layout b
-        (length (pathname_lines (volume_of geometry.now.layout b)))) }
-    ensures paid { AreChunksNumbered geometry.now.layout → Paid line_reads
-        (progress W.sink report.old) (progress W.sink report.new)
-        (I.reads image.old + 3 * sweep_reads geometry.now.layout) (I.reads image.new) result }
     ensures leaves { TreeLeaves geometry.now.layout (I.device image.old) (I.device image.new)
         workspace.old workspace.new result }
 {
@@ -264,19 +231,13 @@ fn report_header<I: Image, W: Output>(
 ) -> Result<(), RunFault>
     requires { ReadyToPath geometry.now.layout (I.device image.old) workspace.old kept_parent.old
         header.number }
-    ensures text { PhaseReports
-        (KnowsHeader geometry.now.layout (I.device image.old) workspace.old header.entry)
-        (λ b. map of_tree (header_lines (volume_of geometry.now.layout b) header.entry))
-        (progress W.sink report.old) (progress W.sink report.new) result }
-    ensures leaves { LinesLeave geometry.now.layout (I.device image.old) (I.device image.new)
-        workspace.old workspace.new kept_parent.new result }
-    ensures counted { ReadsByLines geometry.now.layout
+    ensures lines { ReportsLines geometry.now.layout
         (KnowsHeader geometry.now.layout (I.device image.old) workspace.old header.entry)
         (λ b. header_lines (volume_of geometry.now.layout b) header.entry)
-        workspace.old workspace.new (I.reads image.old) (I.reads image.new) }
-    ensures paid { AreChunksNumbered geometry.now.layout → Paid line_reads
-        (progress W.sink report.old) (progress W.sink report.new)
+        workspace.old workspace.new (progress W.sink report.old) (progress W.sink report.new)
         (I.reads image.old) (I.reads image.new) result }
+    ensures leaves { LinesLeave geometry.now.layout (I.device image.old) (I.device image.new)
+        workspace.old workspace.new kept_parent.new result }
 {
     if is_in_order(header) {
         return Ok(());
@@ -306,32 +267,20 @@ fn begin_directory<I: Image, W: Output>(
     report: &mut Report<'_, W>,
     dir: u32,
 ) -> Result<Examination, RunFault>
-    requires ready { ReadyToPath geometry.now.layout (I.device image.old) workspace.old
+    requires { ReadyToCheck geometry.now.layout (I.device image.old) workspace.old
         checking.old.texts.kept_parent dir }
-    requires dir { 2 ≤ dir }
-    ensures text { PhaseReports (LeftForLook geometry.now.layout (I.device image.old)
-        workspace.old dir checking.old.reads_left)
-        (λ b. map of_tree (dir_header_lines (volume_of geometry.now.layout b) dir))
-        (progress W.sink report.old) (progress W.sink report.new) result }
+    ensures lines { ReportsDirectory geometry.now.layout workspace.old
+        (LeftForLook geometry.now.layout (I.device image.old) workspace.old dir
+        checking.old.reads_left)
+        (λ b. directory_cost geometry.now.layout b dir)
+        (λ b. dir_header_lines (volume_of geometry.now.layout b) dir)
+        (progress W.sink report.old) (progress W.sink report.new)
+        (I.reads image.old) (I.reads image.new)
+        checking.old.reads_left checking.new.reads_left result }
     ensures begun { IfOk result (λ e. ForBytes
         (LeftForLook geometry.now.layout (I.device image.old) workspace.old dir
         checking.old.reads_left)
         (λ b. IsDirectoryBegun geometry.now.layout b dir workspace.old e workspace.new)) }
-    ensures reads { ForBytes
-        (LeftForLook geometry.now.layout (I.device image.old) workspace.old dir
-        checking.old.reads_left)
-        (λ b. AreNoted geometry.now.layout b workspace.old.queue.items
-        → I.reads image.new ≤ I.reads image.old + begin_reads geometry.now.layout b dir
-        (length (dir_header_lines (volume_of geometry.now.layout b) dir))) }
-    ensures kept { ForBytes
-        (LeftForLook geometry.now.layout (I.device image.old) workspace.old dir
-        checking.old.reads_left)
-        (λ b. checking.old.reads_left
-        ≤ checking.new.reads_left + directory_cost geometry.now.layout b dir) }
-    ensures paid { AreChunksNumbered geometry.now.layout → Paid line_reads
-        (progress W.sink report.old) (progress W.sink report.new)
-        (I.reads image.old + checking.old.reads_left)
-        (I.reads image.new + checking.new.reads_left) result }
     ensures leaves { PhaseLeaves geometry.now.layout (I.device image.old) (I.device image.new)
         workspace.old workspace.new checking.new.texts.kept_parent result }
 {
@@ -379,33 +328,21 @@ pub fn check_directory<I: Image, W: Output>(
     report: &mut Report<'_, W>,
     dir: u32,
 ) -> Result<(), RunFault>
-    requires ready { ReadyToPath geometry.now.layout (I.device image.old) workspace.old
+    requires { ReadyToCheck geometry.now.layout (I.device image.old) workspace.old
         checking.old.texts.kept_parent dir }
-    requires dir { 2 ≤ dir }
-    ensures text { PhaseReports (LeftForBoth geometry.now.layout (I.device image.old)
-        workspace.old dir checking.old.reads_left)
-        (λ b. map of_tree (sized_dir_lines (volume_of geometry.now.layout b) dir))
-        (progress W.sink report.old) (progress W.sink report.new) result }
+    ensures lines { ReportsDirectory geometry.now.layout workspace.old
+        (LeftForBoth geometry.now.layout (I.device image.old) workspace.old dir
+        checking.old.reads_left)
+        (λ b. 2 * directory_cost geometry.now.layout b dir)
+        (λ b. sized_dir_lines (volume_of geometry.now.layout b) dir)
+        (progress W.sink report.old) (progress W.sink report.new)
+        (I.reads image.old) (I.reads image.new)
+        checking.old.reads_left checking.new.reads_left result }
     ensures passed { OnOk result (ForBytes
         (LeftForBoth geometry.now.layout (I.device image.old) workspace.old dir
         checking.old.reads_left)
         (λ b. AreRightBefore (volume_of geometry.now.layout b) (suc dir)
         (passed_of workspace.new))) }
-    ensures reads { ForBytes
-        (LeftForBoth geometry.now.layout (I.device image.old) workspace.old dir
-        checking.old.reads_left)
-        (λ b. AreNoted geometry.now.layout b workspace.old.queue.items
-        → I.reads image.new ≤ I.reads image.old + check_reads geometry.now.layout b dir
-        (length (sized_dir_lines (volume_of geometry.now.layout b) dir))) }
-    ensures kept { ForBytes
-        (LeftForBoth geometry.now.layout (I.device image.old) workspace.old dir
-        checking.old.reads_left)
-        (λ b. checking.old.reads_left
-        ≤ checking.new.reads_left + 2 * directory_cost geometry.now.layout b dir) }
-    ensures paid { AreChunksNumbered geometry.now.layout → Paid line_reads
-        (progress W.sink report.old) (progress W.sink report.new)
-        (I.reads image.old + checking.old.reads_left)
-        (I.reads image.new + checking.new.reads_left) result }
     ensures leaves { PhaseLeaves geometry.now.layout (I.device image.old) (I.device image.new)
         workspace.old workspace.new checking.new.texts.kept_parent result }
 {

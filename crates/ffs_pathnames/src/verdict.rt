@@ -1,8 +1,8 @@
 //! The verdict on a plain entry, and what is reported by it.
-ghost use Rattle.std.specs.Prelude.{◌≡◌, ◌<◌, length, vec_len};
+ghost use Rattle.std.specs.Prelude.{◌≡◌, ◌<◌, length};
 ghost use Rattle.ffs_volume.specs.{Directories.Roles.Volume, Messages.Kinds.reported};
 ghost use Rattle.ffs_layout.specs.Entry.{entry_value};
-ghost use Rattle.ffs_pathnames.specs.{Gathers.{AreDefectsOf, IsVerdictBy}, Stamps.KeepPlaces, Sees.Sees};
+ghost use Rattle.ffs_pathnames.specs.{Gathers.{AreDefectsOf, IsVerdictBy}, Stamps.KeepsWords, Sees.Sees};
 ghost use Rattle.ffs_pathnames.specs.{Sees.{HasFlagAndWord, passed_in}, SaysNames.SaysNames};
 ghost use Rattle.ffs_pathnames.specs.Verdicts.{suspect_message, links_reported, defects_reported, verdict_reported};
 ghost use Rattle.ffs_report.specs.Progress.{progress};
@@ -118,8 +118,7 @@ pub fn pass(
         names.after_roled vol dir (passed_in inodes.now flags.old words.old.items)
         (record { role = role; entry = entry_value entry.now })
         ≡ passed_in inodes.now flags.new words.new.items }
-    ensures places { KeepPlaces words.old.items words.new.items }
-    ensures words_long { vec_len words.new ≡ vec_len words.old }
+    ensures words { KeepsWords words.old words.new }
 {
     if role != Role::Plain {
         return;

@@ -1,26 +1,94 @@
-use Rattle.std.proofs.lemmas.Bool.{both_ways}
-use Rattle.ffs_pathnames.proofs.{Carrying.if_ok, LimitedLaws.budget_falls}
+use Rattle.std.proofs.{Common.{◌∙◌, refl, ◌≡◌, ◌≤◌, ℕ, List, Some, ap, arith, true}, lemmas.Bool.both_ways}
+use Rattle.ffs_image.{specs.{Device.Device, Limited.reads_asked}, proofs.Limits.read_over}
+use Rattle.ffs_names.specs.Costs.{HoldsReading, to_read}
+use Rattle.ffs_pathnames.proofs.{Carrying.if_both, LimitedLaws.{LookedBy, budget_falls, can_read_same, looked}}
+use Rattle.ffs_pathnames.proofs.{LimitedLaws.{taken_below, taken_left}, entries.next_chunk.Given.Over}
+use Rattle.ffs_pathnames.proofs.entries.next_chunk.Goals.{After-is_spent}
 use Rattle.ffs_pathnames.proofs.entries.next_chunk.Goals as goal
 
-pub returns-then-are_chunks_numbered-clause-chunk : goal.returns-then-are_chunks_numbered-clause-chunk
-returns-then-are_chunks_numbered-clause-chunk g c =
-    let numbered = c.are_chunks_numbered.ensures.yes c.if-are_chunks_numbered.true in
-    if_ok c.next_limited.result _ _ (λ o h b t enough. h b t (enough numbered).0 (enough numbered).1)
-    c.next_limited.ensures.chunk
+-- what became of the image below, and of the reads that were left
+after : (g : Over) (c : After-is_spent g) →
+    LookedBy (g.I.Image.device c.args.image.now) (g.I.Image.device c.next-offset.new.image.below.now)
+    c.new-arg-1.given c.next-offset.new.image.below.ghost_name (g.I.Image.reads c.args.image.now)
+    (g.I.Image.reads c.next-offset.new.image.below.now) c.args.reads_left.now c.next-offset.new.image.left
+    (reads_asked c.next-offset.new.image.limit c.next-offset.new.image.left c.next-offset.new.image.spent)
+    c.is_spent.result c.next-offset.result
+after g c = looked (rw c.new-limited.ensures.device at c.next-offset.ensures.leaves.read) c.is_spent.ensures.below
 
-pub returns-then-are_chunks_numbered-clause-reads : goal.returns-then-are_chunks_numbered-clause-reads
-returns-then-are_chunks_numbered-clause-reads g c = λ held b t enough.
-    c.next_limited.ensures.reads held b t (enough (c.are_chunks_numbered.ensures.yes c.if-are_chunks_numbered.true))
+-- the limited image gives the bytes of the one below
+bytes : (g : Over) (c : After-is_spent g) (b : List ℕ) → (g.I.Image.device c.args.image.now).contents ≡ Some b →
+    (g.I.Image.device c.new-limited.result.begins.value).contents ≡ Some b
+bytes g c b t = ap (λ (d : Device). d.contents) c.new-limited.ensures.device ∙ t
 
+-- no read of known bytes is refused
+answered : (g : Over) (c : After-is_spent g) (b : List ℕ) → (g.I.Image.device c.args.image.now).contents ≡ Some b →
+    HoldsReading c.args.windows.now.blocks c.args.windows.now.chunk c.args.chunks.now →
+    to_read b c.args.chunks.now ≤ c.args.reads_left.now → c.is_spent.result ≡ true → ⊥
+answered g c b t held enough = grind (arith, bytes, both_ways, after)
+
+-- the chunks aren't numbered
+pub returns-then-not-are_chunks_numbered-clause-chunk : goal.returns-then-not-are_chunks_numbered-clause-chunk
+returns-then-not-are_chunks_numbered-clause-chunk g c =
+    if_both c.next.result _ _ _ (λ o h budget. record { chunk = λ b t enough. h b t; budget = budget })
+    c.next.ensures.chunk (budget_falls c.next.result _ _ c.next.ensures.budget)
+
+pub returns-then-not-are_chunks_numbered-clause-takes : goal.returns-then-not-are_chunks_numbered-clause-takes
+returns-then-not-are_chunks_numbered-clause-takes g c = record {
+  reads = λ held b t enough. c.next.ensures.reads held b t;
+  kept = λ numbered.
+      absurd (both_ways _ c.if-not-are_chunks_numbered.true (c.are_chunks_numbered.ensures.1 numbered));
+  unlimited = λ none. refl;
+  most = λ numbered.
+      absurd (both_ways _ c.if-not-are_chunks_numbered.true (c.are_chunks_numbered.ensures.1 numbered));
+}
+
+pub returns-then-not-are_chunks_numbered-clause-leaves : goal.returns-then-not-are_chunks_numbered-clause-leaves
+returns-then-not-are_chunks_numbered-clause-leaves g c =
+    let left = c.next.ensures.leaves in
+    record { geometry = left.geometry; ready = left.ready; read = left.read; others = refl }
+
+-- a read was refused
+pub returns-then-is_spent-clause-chunk : goal.returns-then-is_spent-clause-chunk
+returns-then-is_spent-clause-chunk g c =
+    let at = (goal.at.returns-then-is_spent-clause-chunk g c).After-is_spent in
+    let numbered = c.are_chunks_numbered.ensures.0 c.if-not-are_chunks_numbered.false in
+    record {
+      chunk = λ b t enough.
+          absurd (answered g at b t (enough numbered).0 (enough numbered).1 c.if-is_spent.true);
+      budget = tt;
+    }
+
+pub returns-then-is_spent-clause-takes : goal.returns-then-is_spent-clause-takes
+returns-then-is_spent-clause-takes g c =
+    let at = (goal.at.returns-then-is_spent-clause-takes g c).After-is_spent in
+    let numbered = c.are_chunks_numbered.ensures.0 c.if-not-are_chunks_numbered.false in
+    record {
+      reads = λ held b t enough. absurd (answered g at b t held (enough numbered) c.if-is_spent.true);
+      kept = λ _ held b t enough. absurd (answered g at b t held enough c.if-is_spent.true);
+      unlimited = λ none. absurd (none numbered);
+      most = λ _. grind (arith, after);
+    }
+
+pub returns-then-is_spent-clause-leaves : goal.returns-then-is_spent-clause-leaves
+returns-then-is_spent-clause-leaves g c = grind (arith, after, read_over, can_read_same)
+
+-- none was refused
 pub returns-clause-chunk : goal.returns-clause-chunk
-returns-clause-chunk g c = if_ok c.next.result _ _ (λ o h b t enough. h b t) c.next.ensures.chunk
+returns-clause-chunk g c =
+    let at = (goal.at.returns-clause-chunk g c).After-is_spent in
+    if_both c.next-offset.result _ _ _
+    (λ o h budget. record { chunk = λ b t enough. h b (bytes g at b t); budget = budget }) c.next-offset.ensures.chunk
+    (budget_falls c.next-offset.result _ _ c.next-offset.ensures.budget)
 
-pub returns-clause-budget : goal.returns-clause-budget
-returns-clause-budget g c = budget_falls c.next.result _ _ c.next.ensures.budget
+pub returns-clause-takes : goal.returns-clause-takes
+returns-clause-takes g c =
+    let numbered = c.are_chunks_numbered.ensures.0 c.if-not-are_chunks_numbered.false in
+    record {
+      reads = λ held b t enough. let few = enough numbered in grind (arith, after, taken_below, bytes);
+      kept = λ _ held b t enough. grind (arith, taken_left, bytes, after);
+      unlimited = λ none. absurd (none numbered);
+      most = λ _. grind (arith, after);
+    }
 
-pub returns-clause-reads : goal.returns-clause-reads
-returns-clause-reads g c = λ held b t enough. c.next.ensures.reads held b t
-
-pub returns-clause-kept : goal.returns-clause-kept
-returns-clause-kept g c = λ numbered.
-    absurd (both_ways _ c.if-are_chunks_numbered.false (c.are_chunks_numbered.ensures.no numbered))
+pub returns-clause-leaves : goal.returns-clause-leaves
+returns-clause-leaves g c = grind (arith, after, read_over, can_read_same)

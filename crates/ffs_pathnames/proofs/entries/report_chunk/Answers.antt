@@ -74,22 +74,23 @@ returns-in_err-report_entry-clause-lines g c =
       counted = λ b k noted. read_all (read_more _ _ (inv.counted b k noted)
           (entry_counted (volume_of v b) x.dir m _ _ _ (next g at) refl)
           (lines.counted b (know g at b k) (noted_kept v b _ _ inv.places noted)));
+      paid = λ numbered. rw (p.1, p.2) (paid_then (inv.paid numbered) (lines.paid numbered));
     }
 
 pub returns-in_err-report_entry-clause-leaves : goal.returns-in_err-report_entry-clause-leaves
 returns-in_err-report_entry-clause-leaves g c =
     let inv = c.entries.invariant in
-    let left = c.in_err-report_entry.ensures.leaves in
+    let left = c.in_err-report_entry.ensures.leaves.phase in
     let p = err_from_is_err_and c.from_residual.result c.from_residual.ensures.1 in
     rw (p.1, p.2) (record {
-      image = image_same (Unit {0}) (Unit {0}) _ _ _ c.in_err-report_entry.field-0.0 inv.device left.image;
-      survey = leaves_more _ _ _ inv.survey left.survey;
-      places = keep_more _ _ _ inv.places left.places;
-      ready = left.ready;
+      phase = record {
+        image = image_same (Unit {0}) (Unit {0}) _ _ _ c.in_err-report_entry.field-0.0 inv.device left.image;
+        survey = leaves_more _ _ _ inv.survey left.survey;
+        places = keep_more _ _ _ inv.places left.places;
+        ready = left.ready;
+      };
+      chunk = c.in_err-report_entry.ensures.leaves.chunk ∙ inv.chunk;
     })
-
-pub returns-in_err-report_entry-clause-chunk : goal.returns-in_err-report_entry-clause-chunk
-returns-in_err-report_entry-clause-chunk g c = c.in_err-report_entry.ensures.chunk ∙ c.entries.invariant.chunk
 
 pub entries-preserved : goal.entries-preserved
 entries-preserved g c =
@@ -104,11 +105,11 @@ entries-preserved g c =
     rw c.from-place.ensures (record {
       place = omega arith;
       index = omega arith;
-      ready = ok.leaves.ready;
-      device = ok.leaves.image ∙ inv.device;
-      survey = leaves_more _ _ _ inv.survey ok.leaves.survey;
-      places = keep_more _ _ _ inv.places ok.leaves.places;
-      chunk = ok.chunk ∙ inv.chunk;
+      ready = ok.leaves.phase.ready;
+      device = ok.leaves.phase.image ∙ inv.device;
+      survey = leaves_more _ _ _ inv.survey ok.leaves.phase.survey;
+      places = keep_more _ _ _ inv.places ok.leaves.phase.places;
+      chunk = ok.leaves.chunk ∙ inv.chunk;
       path = λ b k. ok.lines.path b (know_path g at b k);
       passed = λ b k. entry_passed (volume_of v b) x.dir m (next g at) (ok.passed b (know g at b k)) (inv.passed b k);
       said = of_part _ _ _ _ _ _ _ _ inv.said
@@ -117,7 +118,7 @@ entries-preserved g c =
       counted = λ b k noted. read_more _ _ (inv.counted b k noted)
           (entry_counted (volume_of v b) x.dir m _ _ _ (next g at) (ok.passed b (know g at b k)))
           (ok.lines.counted b (know g at b k) (noted_kept v b _ _ inv.places noted));
-      paid = λ numbered. paid_then (inv.paid numbered) (ok.paid numbered);
+      paid = λ numbered. paid_then (inv.paid numbered) (ok.lines.paid numbered);
     })
 
 pub returns-clause-lines : goal.returns-clause-lines
@@ -133,6 +134,15 @@ returns-clause-lines g c =
           (λ b k. ap (λ es. map of_tree (entries_reported (volume_of v b) x.dir m es)) end);
       path = inv.path;
       counted = λ b k noted. read_all (inv.counted b k noted);
+      paid = inv.paid;
+    }
+
+pub returns-clause-leaves : goal.returns-clause-leaves
+returns-clause-leaves g c =
+    let inv = c.entries.invariant in
+    record {
+      phase = record { image = inv.device; survey = inv.survey; places = inv.places; ready = inv.ready };
+      chunk = inv.chunk;
     }
 
 pub returns-clause-passed : goal.returns-clause-passed
@@ -142,11 +152,3 @@ returns-clause-passed g c = λ b k.
     let end = none_left v.order x.bytes.now x.first c.entries.index c.entries.place
     (none v.order x.bytes.now c.entries.place c.entry_at.result c.in_default.is c.entry_at.ensures.value) in
     c.entries.invariant.passed b k ∙ ap (after_entries (volume_of v b) x.dir (passed_of c.entries.workspace)) end
-
-pub returns-in_err-report_entry-clause-paid : goal.returns-in_err-report_entry-clause-paid
-returns-in_err-report_entry-clause-paid g c = λ numbered.
-    let p = err_from_is_err_and c.from_residual.result c.from_residual.ensures.1 in
-    rw (p.1, p.2) (paid_then (c.entries.invariant.paid numbered) (c.in_err-report_entry.ensures.paid numbered))
-
-pub returns-clause-paid : goal.returns-clause-paid
-returns-clause-paid g c = c.entries.invariant.paid

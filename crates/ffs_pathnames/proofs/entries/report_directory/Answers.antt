@@ -15,8 +15,7 @@ use Rattle.ffs_pathnames.{specs.PassedNames.entries_reported, proofs.StampLaws.{
 use Rattle.ffs_pathnames.proofs.{Passing.{chunk_reported, chunk_passed, knows_on, all_read}, ReadyLaws.can_read_in}
 use Rattle.ffs_pathnames.{proofs.ReadyLaws.{windows_next, windows_read}, specs.ReadsLeft.LeftForRuns}
 use Rattle.ffs_pathnames.proofs.{LimitedLaws.numbered_or_not, LineCounts.lines_long}
-use Rattle.ffs_pathnames.proofs.entries.report_directory.Given.{Over}
-use Rattle.ffs_pathnames.proofs.entries.report_directory.Goals.{After-next_chunk}
+use Rattle.ffs_pathnames.proofs.entries.report_directory.{Given.Over, Goals.After-next_chunk}
 use Rattle.ffs_pathnames.proofs.entries.report_directory.Goals as goal
 
 -- what is known of the bytes, at the beginning
@@ -78,7 +77,7 @@ chunks-init g c =
     let left = c.start-chunks.ensures.begins.runs_left b in
     omega (arith, all, left, runs_are v b x.number x.inode x.cut k.0.1 (cut b k)) in
     record {
-      ready = record { ready = c.requires.ready.ready; kept_parent = c.requires.ready.kept_parent };
+      ready = record { ready = c.requires.path.ready; kept_parent = c.requires.path.kept_parent };
       device = refl;
       geometry = c.start-chunks.ensures.reads.geometry;
       survey = leaves_all _;
@@ -94,11 +93,6 @@ chunks-init g c =
       said = of_same _ _ _ _ _ _ (of_begins _ _ _) lines;
     }
 
-pub returns-in_err-offset-clause-text : goal.returns-in_err-offset-clause-text
-returns-in_err-offset-clause-text g c =
-    let p = err_from_is_err_and c.from_residual.result c.from_residual.ensures.1 in
-    rw (p.1, p.2) (of_reads _ _ _ _ _ c.chunks.invariant.said)
-
 pub returns-in_err-offset-clause-leaves : goal.returns-in_err-offset-clause-leaves
 returns-in_err-offset-clause-leaves g c =
     let at = (goal.at.returns-in_err-offset-clause-leaves g c).After-next_chunk in
@@ -110,7 +104,7 @@ returns-in_err-offset-clause-leaves g c =
           read.leaves.read;
       survey = kept_between g at;
       places = inv.places;
-      ready = windows_read _ _ _ c.chunks.workspace _ inv.ready.ready read.leaves.read.contents read.others
+      ready = windows_read _ _ _ c.chunks.workspace _ inv.ready.ready read.leaves.read.contents read.leaves.others
           (rw inv.geometry at read.leaves.ready);
     })
 
@@ -121,9 +115,9 @@ pub report_chunk-requires : goal.report_chunk-requires
 report_chunk-requires g c =
     let inv = c.chunks.invariant in
     let read = c.in_ok-offset.ensures in
-    let next = windows_next _ _ _ c.chunks.workspace _ _ inv.ready read.leaves.read read.others
+    let next = windows_next _ _ _ c.chunks.workspace _ _ inv.ready read.leaves.read read.leaves.others
     (rw inv.geometry at read.leaves.ready) in
-    record { ready = next.ready; kept_parent = next.kept_parent; number = c.requires.ready.number }
+    record { ready = next.ready; kept_parent = next.kept_parent; number = c.requires.path.number }
 
 pub returns-clause-leaves : goal.returns-clause-leaves
 returns-clause-leaves g c =
@@ -134,7 +128,7 @@ returns-clause-leaves g c =
       image = read.leaves.read ∙ inv.device;
       survey = kept_between g at;
       places = inv.places;
-      ready = windows_next _ _ _ c.chunks.workspace _ _ inv.ready read.leaves.read read.others
+      ready = windows_next _ _ _ c.chunks.workspace _ _ inv.ready read.leaves.read read.leaves.others
           (rw inv.geometry at read.leaves.ready);
     }
 
@@ -150,21 +144,21 @@ chunks-preserved g c =
     let known = know g at read.leaves.read in
     let here : Chunk = chunk_of v.order c.in-Some.offset c.next_chunk.new.bytes in
     let came = rw c.in-Some.is at read.chunk in
-    let next = λ (b : List ℕ) (k : Known g at b). (came b (now g at b k) (room g at b k)).chunks ∙ ap
+    let next = λ (b : List ℕ) (k : Known g at b). (came.chunk b (now g at b k) (room g at b k)).chunks ∙ ap
     (λ q. chunk_of q.layout.order c.in-Some.offset c.next_chunk.new.bytes ∷ rest b c.next_chunk.new.chunks) inv.geometry in
     record {
-      ready = ok.leaves.ready;
-      device = ok.leaves.image ∙ (read.leaves.read ∙ inv.device);
+      ready = ok.leaves.phase.ready;
+      device = ok.leaves.phase.image ∙ (read.leaves.read ∙ inv.device);
       geometry = read.leaves.geometry ∙ inv.geometry;
-      survey = leaves_more _ _ _ (kept_between g at) ok.leaves.survey;
-      places = keep_more _ _ _ inv.places ok.leaves.places;
+      survey = leaves_more _ _ _ (kept_between g at) ok.leaves.phase.survey;
+      places = keep_more _ _ _ inv.places ok.leaves.phase.places;
       held = λ b k noted.
-          let took = read.reads (inv.held b k noted) b (now g at b k) (enough g at b k) in
+          let took = read.takes.reads (inv.held b k noted) b (now g at b k) (enough g at b k) in
           let few = c.report_chunk.ensures.lines.counted b (known b k)
           (noted_kept v b c.args.workspace.now.queue.items c.chunks.workspace.queue.items inv.places noted) in
-          rw (few.blocks, c.report_chunk.ensures.chunk) took.held;
+          rw (few.blocks, c.report_chunk.ensures.leaves.chunk) took.held;
       reads = λ b k noted.
-          let took = read.reads (inv.held b k noted) b (now g at b k) (enough g at b k) in
+          let took = read.takes.reads (inv.held b k noted) b (now g at b k) (enough g at b k) in
           let few = c.report_chunk.ensures.lines.counted b (known b k)
           (noted_kept v b c.args.workspace.now.queue.items c.chunks.workspace.queue.items inv.places noted) in
           let long = lines_long _ _ _ (chunk_reported (volume_of v b) x.number m here _ _ (next b k)
@@ -172,13 +166,13 @@ chunks-preserved g c =
           omega (arith, took.paid, few.count, long, inv.reads b k noted);
       spent = λ b k numbered.
           let n = subst (λ q. AreChunksNumbered q.layout) (sym inv.geometry) numbered in
-          let took = read.kept n (room g at b k n).0 b (now g at b k) (room g at b k n).1 in
+          let took = read.takes.kept n (room g at b k n).0 b (now g at b k) (room g at b k n).1 in
           omega (arith, took.paid, inv.spent b k numbered);
-      unlimited = λ none. read.unlimited (λ n. none (numbers g at n)) ∙ inv.unlimited none;
+      unlimited = λ none. read.takes.unlimited (λ n. none (numbers g at n)) ∙ inv.unlimited none;
       paid = λ numbered.
           let n = subst (λ q. AreChunksNumbered q.layout) (sym inv.geometry) numbered in
-          let looked = paid_within (inv.paid numbered) (omega arith) (read.most n) in
-          paid_then looked (paid_beside c.next_chunk.new.reads_left (ok.paid numbered));
+          let looked = paid_within (inv.paid numbered) (omega arith) (read.takes.most n) in
+          paid_then looked (paid_beside c.next_chunk.new.reads_left (ok.lines.paid numbered));
       path = λ b k. c.report_chunk.ensures.lines.path b (record { knows = known b k; path = inv.path b k });
       passed = λ b k. chunk_passed (volume_of v b) x.number m (next b k) (ok.passed b (known b k)) (inv.passed b k);
       said = of_part _ _ _ _ _ _ _ _ inv.said
@@ -188,33 +182,11 @@ chunks-preserved g c =
           { knows = known b k; path = inv.path b k }) ok.lines.text);
     }
 
-pub returns-in_err-report_chunk-clause-text : goal.returns-in_err-report_chunk-clause-text
-returns-in_err-report_chunk-clause-text g c =
-    let at = (goal.at.returns-in_err-report_chunk-clause-text g c).After-next_chunk in
-    let v = c.args.geometry.now.layout in
-    let x = c.args.directory.now in
-    let inv = c.chunks.invariant in
-    let read = c.in_ok-offset.ensures in
-    let m = passed_of c.chunks.workspace in
-    let known = know g at read.leaves.read in
-    let here : Chunk = chunk_of v.order c.in-Some.offset c.next_chunk.new.bytes in
-    let came = rw c.in-Some.is at read.chunk in
-    let next = λ (b : List ℕ) (k : Known g at b). (came b (now g at b k) (room g at b k)).chunks ∙ ap
-    (λ q. chunk_of q.layout.order c.in-Some.offset c.next_chunk.new.bytes ∷ rest b c.next_chunk.new.chunks) inv.geometry in
-    let p = err_from_is_err_and c.from_residual-in_err-report_chunk.result
-    c.from_residual-in_err-report_chunk.ensures.1 in
-    rw (p.1, p.2) (of_fault (Unit {0}) (Unit {0}) _ _ _ _ _ _ _ _ c.in_err-report_chunk.field-0.0 inv.said
-    (λ b k. chunk_reported (volume_of v b) x.number m here _ _
-    (next b k) refl)
-    (reports_knowing (Unit {0}) _ _ _ _ _ (Err c.in_err-report_chunk.field-0.0)
-    (λ b k. record { knows = known b k; path = inv.path b k })
-    c.in_err-report_chunk.ensures.lines.text))
-
 pub returns-in_err-report_chunk-clause-leaves : goal.returns-in_err-report_chunk-clause-leaves
 returns-in_err-report_chunk-clause-leaves g c =
     let at = (goal.at.returns-in_err-report_chunk-clause-leaves g c).After-next_chunk in
     let inv = c.chunks.invariant in
-    let left = c.in_err-report_chunk.ensures.leaves in
+    let left = c.in_err-report_chunk.ensures.leaves.phase in
     let p = err_from_is_err_and c.from_residual-in_err-report_chunk.result
     c.from_residual-in_err-report_chunk.ensures.1 in
     rw (p.1, p.2) (record {
@@ -225,18 +197,6 @@ returns-in_err-report_chunk-clause-leaves g c =
       ready = left.ready;
     })
 
-pub returns-clause-text : goal.returns-clause-text
-returns-clause-text g c =
-    let at = (goal.at.returns-clause-text g c).After-next_chunk in
-    let v = c.args.geometry.now.layout in
-    let x = c.args.directory.now in
-    let inv = c.chunks.invariant in
-    let m = passed_of c.chunks.workspace in
-    let came = rw c.in_default.is at c.in_ok-offset.ensures.chunk in
-    of_same _ _ (λ b. []) _ _ _ inv.said
-    (λ b k. ap (λ cs. map of_tree (entries_reported (volume_of v b) x.number m (flat_map roled_chunk cs)))
-    (came b (now g at b k) (room g at b k)).chunks.0)
-
 pub returns-clause-passed : goal.returns-clause-passed
 returns-clause-passed g c = λ b k.
     let at = (goal.at.returns-clause-passed g c).After-next_chunk in
@@ -245,40 +205,7 @@ returns-clause-passed g c = λ b k.
     let inv = c.chunks.invariant in
     let came = rw c.in_default.is at c.in_ok-offset.ensures.chunk in
     inv.passed b k ∙ ap (λ cs. after_entries (volume_of v b) x.number (passed_of c.chunks.workspace)
-    (flat_map roled_chunk cs)) (came b (now g at b k) (room g at b k)).chunks.0
-
--- the reads
-pub returns-in_err-offset-clause-reads : goal.returns-in_err-offset-clause-reads
-returns-in_err-offset-clause-reads g c = λ b k noted.
-    let at = (goal.at.returns-in_err-offset-clause-reads g c).After-next_chunk in
-    let inv = c.chunks.invariant in
-    let most = (c.next_chunk.ensures.reads (inv.held b k noted) b (now g at b k) (enough g at b k)).most in
-    omega (arith, most, inv.reads b k noted)
-
-pub returns-in_err-report_chunk-clause-reads : goal.returns-in_err-report_chunk-clause-reads
-returns-in_err-report_chunk-clause-reads g c = λ b k noted.
-    let at = (goal.at.returns-in_err-report_chunk-clause-reads g c).After-next_chunk in
-    let v = c.args.geometry.now.layout in
-    let x = c.args.directory.now in
-    let inv = c.chunks.invariant in
-    let read = c.in_ok-offset.ensures in
-    let m = passed_of c.chunks.workspace in
-    let here : Chunk = chunk_of v.order c.in-Some.offset c.next_chunk.new.bytes in
-    let came = rw c.in-Some.is at read.chunk in
-    let next = (came b (now g at b k) (room g at b k)).chunks ∙ ap
-    (λ q. chunk_of q.layout.order c.in-Some.offset c.next_chunk.new.bytes ∷ rest b c.next_chunk.new.chunks) inv.geometry in
-    let took = read.reads (inv.held b k noted) b (now g at b k) (enough g at b k) in
-    let few = c.report_chunk.ensures.lines.counted b (know g at read.leaves.read b k)
-    (noted_kept v b c.args.workspace.now.queue.items c.chunks.workspace.queue.items inv.places noted) in
-    let long = lines_long _ _ _ (chunk_reported (volume_of v b) x.number m here _ _ next refl) in
-    omega (arith, took.paid, few.count, long, inv.reads b k noted)
-
-pub returns-clause-reads : goal.returns-clause-reads
-returns-clause-reads g c = λ b k noted.
-    let at = (goal.at.returns-clause-reads g c).After-next_chunk in
-    let inv = c.chunks.invariant in
-    let most = (c.next_chunk.ensures.reads (inv.held b k noted) b (now g at b k) (enough g at b k)).most in
-    omega (arith, most, inv.reads b k noted)
+    (flat_map roled_chunk cs)) (came.chunk b (now g at b k) (room g at b k)).chunks.0
 
 -- the reads that are left
 left_of : (g : Over) (c : After-next_chunk g) (b : List ℕ) → Known g c b →
@@ -288,39 +215,83 @@ left_of g c b k = elim (numbered_or_not c.args.geometry.now.layout) [
   | inl numbered ↦
       let inv = c.chunks.invariant in
       let n = subst (λ q. AreChunksNumbered q.layout) (sym inv.geometry) numbered in
-      let took = c.next_chunk.ensures.kept n (room g c b k n).0 b (now g c b k) (room g c b k n).1 in
+      let took = c.next_chunk.ensures.takes.kept n (room g c b k n).0 b (now g c b k) (room g c b k n).1 in
       omega (arith, took.most, inv.spent b k numbered)
   | inr none ↦
-      let same = c.next_chunk.ensures.unlimited (λ n. none (numbers g c n)) ∙ c.chunks.invariant.unlimited none in
+      let same = c.next_chunk.ensures.takes.unlimited (λ n. none (numbers g c n)) ∙ c.chunks.invariant.unlimited none in
       omega (arith, same)
 ]
 
-pub returns-in_err-offset-clause-kept : goal.returns-in_err-offset-clause-kept
-returns-in_err-offset-clause-kept g c = left_of g (goal.at.returns-in_err-offset-clause-kept g c).After-next_chunk
-
-pub returns-in_err-report_chunk-clause-kept : goal.returns-in_err-report_chunk-clause-kept
-returns-in_err-report_chunk-clause-kept g c =
-    left_of g (goal.at.returns-in_err-report_chunk-clause-kept g c).After-next_chunk
-
-pub returns-clause-kept : goal.returns-clause-kept
-returns-clause-kept g c = left_of g (goal.at.returns-clause-kept g c).After-next_chunk
-
--- what was read for messages
-pub returns-in_err-offset-clause-paid : goal.returns-in_err-offset-clause-paid
-returns-in_err-offset-clause-paid g c = λ numbered.
+-- what is said, and what is read for it
+pub returns-in_err-offset-clause-lines : goal.returns-in_err-offset-clause-lines
+returns-in_err-offset-clause-lines g c =
+    let at = (goal.at.returns-in_err-offset-clause-lines g c).After-next_chunk in
     let inv = c.chunks.invariant in
-    let n = subst (λ q. AreChunksNumbered q.layout) (sym inv.geometry) numbered in
     let p = err_from_is_err_and c.from_residual.result c.from_residual.ensures.1 in
-    rw (p.1, p.2) (paid_then (inv.paid numbered) (paid_failed (c.next_chunk.ensures.most n)))
+    rw (p.1, p.2) (record {
+      text = of_reads _ _ _ _ _ inv.said;
+      reads = λ b k noted.
+          let most = (c.next_chunk.ensures.takes.reads (inv.held b k noted) b (now g at b k) (enough g at b k)).most in
+          omega (arith, most, inv.reads b k noted);
+      kept = left_of g at;
+      paid = λ numbered.
+          let n = subst (λ q. AreChunksNumbered q.layout) (sym inv.geometry) numbered in
+          paid_then (inv.paid numbered) (paid_failed (c.next_chunk.ensures.takes.most n));
+    })
 
-pub returns-in_err-report_chunk-clause-paid : goal.returns-in_err-report_chunk-clause-paid
-returns-in_err-report_chunk-clause-paid g c = λ numbered.
+pub returns-in_err-report_chunk-clause-lines : goal.returns-in_err-report_chunk-clause-lines
+returns-in_err-report_chunk-clause-lines g c =
+    let at = (goal.at.returns-in_err-report_chunk-clause-lines g c).After-next_chunk in
+    let v = c.args.geometry.now.layout in
+    let x = c.args.directory.now in
     let inv = c.chunks.invariant in
-    let n = subst (λ q. AreChunksNumbered q.layout) (sym inv.geometry) numbered in
-    let looked = paid_within (inv.paid numbered) (omega arith) (c.next_chunk.ensures.most n) in
+    let read = c.in_ok-offset.ensures in
+    let m = passed_of c.chunks.workspace in
+    let known = know g at read.leaves.read in
+    let here : Chunk = chunk_of v.order c.in-Some.offset c.next_chunk.new.bytes in
+    let came = rw c.in-Some.is at read.chunk in
+    let next = λ (b : List ℕ) (k : Known g at b). (came.chunk b (now g at b k) (room g at b k)).chunks ∙ ap
+    (λ q. chunk_of q.layout.order c.in-Some.offset c.next_chunk.new.bytes ∷ rest b c.next_chunk.new.chunks) inv.geometry in
     let p = err_from_is_err_and c.from_residual-in_err-report_chunk.result
     c.from_residual-in_err-report_chunk.ensures.1 in
-    rw (p.1, p.2) (paid_then looked (paid_beside c.next_chunk.new.reads_left (c.in_err-report_chunk.ensures.paid numbered)))
+    rw (p.1, p.2) (record {
+      text = of_fault (Unit {0}) (Unit {0}) _ _ _ _ _ _ _ _ c.in_err-report_chunk.field-0.0 inv.said
+          (λ b k. chunk_reported (volume_of v b) x.number m here _ _ (next b k) refl)
+          (reports_knowing (Unit {0}) _ _ _ _ _ (Err c.in_err-report_chunk.field-0.0)
+          (λ b k. record { knows = known b k; path = inv.path b k })
+          c.in_err-report_chunk.ensures.lines.text);
+      reads = λ b k noted.
+          let took = read.takes.reads (inv.held b k noted) b (now g at b k) (enough g at b k) in
+          let few = c.report_chunk.ensures.lines.counted b (known b k)
+          (noted_kept v b c.args.workspace.now.queue.items c.chunks.workspace.queue.items inv.places noted) in
+          let long = lines_long _ _ _ (chunk_reported (volume_of v b) x.number m here _ _ (next b k) refl) in
+          omega (arith, took.paid, few.count, long, inv.reads b k noted);
+      kept = left_of g at;
+      paid = λ numbered.
+          let n = subst (λ q. AreChunksNumbered q.layout) (sym inv.geometry) numbered in
+          let looked = paid_within
+          {before' = g.I.Image.reads c.args.image.now + c.args.checking.now.reads_left} (inv.paid numbered)
+          (omega arith) (c.next_chunk.ensures.takes.most n) in
+          paid_then looked (paid_beside c.next_chunk.new.reads_left (c.in_err-report_chunk.ensures.lines.paid numbered));
+    })
 
-pub returns-clause-paid : goal.returns-clause-paid
-returns-clause-paid g c = grind (arith, paid_within)
+pub returns-clause-lines : goal.returns-clause-lines
+returns-clause-lines g c =
+    let at = (goal.at.returns-clause-lines g c).After-next_chunk in
+    let v = c.args.geometry.now.layout in
+    let x = c.args.directory.now in
+    let inv = c.chunks.invariant in
+    let m = passed_of c.chunks.workspace in
+    let came = rw c.in_default.is at c.in_ok-offset.ensures.chunk in
+    record {
+      text = of_same _ _ (λ b. []) _ _ _ inv.said
+          (λ b k. ap (λ cs. map of_tree (entries_reported (volume_of v b) x.number m (flat_map roled_chunk cs)))
+          (came.chunk b (now g at b k) (room g at b k)).chunks.0);
+      reads = λ b k noted.
+          let most = (c.next_chunk.ensures.takes.reads (inv.held b k noted) b (now g at b k) (enough g at b k)).most in
+          omega (arith, most, inv.reads b k noted);
+      kept = left_of g at;
+      paid = λ numbered.
+          let n = subst (λ q. AreChunksNumbered q.layout) (sym inv.geometry) numbered in
+          paid_within (inv.paid numbered) (omega arith) (c.next_chunk.ensures.takes.most n);
+    }

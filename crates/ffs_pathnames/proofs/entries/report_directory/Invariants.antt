@@ -4,9 +4,8 @@ use Rattle.ffs_volume.specs.Directories.{Roles.{roled_chunk, roled_entries}, Vol
 use Rattle.ffs_report.specs.{Known.ForBytes, Paid.Paid, PhaseOutcome.SaidOf, Progress.progress}
 use Rattle.ffs_names.specs.{Readings.rest, Costs.{directory_runs, to_read, HoldsReading}}
 use Rattle.ffs_workspace.specs.{Leaves.LeavesSurvey, Places.{AreChunksNumbered, AreNoted}}
-use Rattle.ffs_pathnames.specs.{Ready.ReadyWith, Gathers.passed_of, Stamps.KeepPlaces, Costs.report_reads}
-use Rattle.ffs_pathnames.specs.{DirectoryContext.BeginsPathOf, ReadsLeft.LeftForRuns, PassedNames.after_entries}
-use Rattle.ffs_pathnames.specs.PassedNames.{entries_reported}
+use Rattle.ffs_pathnames.specs.{Ready.ReadyWith, Gathers.passed_of, Stamps.KeepPlaces, DirectoryContext.BeginsPathOf}
+use Rattle.ffs_pathnames.specs.{ReadsLeft.LeftForRuns, PassedNames.{after_entries, entries_reported}}
 use Rattle.ffs_pathnames.proofs.entries.report_directory.Given as goal
 
 abbrev pub invariant-chunks : goal.invariant-chunks
@@ -33,7 +32,7 @@ invariant-chunks g l =
           HoldsReading l.workspace.windows.blocks l.workspace.windows.chunk l.chunks);
       reads : ForBytes known (λ b. AreNoted v b l.fn.workspace.queue.items →
           g.I.Image.reads l.image + to_read b l.chunks + line_reads * length (to_come b)
-          ≤ g.I.Image.reads l.fn.image + report_reads v b x.number (length (all b)));
+          ≤ g.I.Image.reads l.fn.image + (directory_runs v b x.number + line_reads * length (all b)));
       spent : ForBytes known (λ b. AreChunksNumbered v → l.fn.checking.reads_left + to_read b l.chunks
           ≤ l.checking.reads_left + directory_runs v b x.number);
       unlimited : (AreChunksNumbered v → ⊥) → l.checking.reads_left ≡ l.fn.checking.reads_left;

@@ -1,4 +1,4 @@
-use Rattle.std.proofs.{Common.{ap, refl, ◌∙◌, rules}, lemmas.List.with_items_is}
+use Rattle.std.proofs.{Common.{ap, refl, ◌∙◌, rules}, lemmas.{List.with_items_is, Result.err_from_is_err_and}}
 use Rattle.ffs_volume.specs.Directories.Volumes.{volume_of}
 use Rattle.ffs_workspace.{specs.declared.workspace.Workspace.Workspace, proofs.Leaving.{claims_left, survey_left}}
 use Rattle.ffs_workspace.proofs.Leaving.{leaves_more, windows_leave}
@@ -14,16 +14,49 @@ returns-clause-leaves g c =
     let said = left.ready in
     let made = said.ready.made in
     let windows = said.ready.windows in
-    let surveyed = names_leave c.report_by_role.new.workspace _ refl c.pass.ensures.places in
+    let surveyed = names_leave c.report_by_role.new.workspace _ refl c.pass.ensures.words.places in
     record {
-      image = left.image;
-      survey = leaves_more _ _ _ (windows_leave _ _ left.lists) surveyed;
-      places = keep_more _ _ _ (windows_keep c.args.workspace.now c.report_by_role.new.workspace left.lists)
-          c.pass.ensures.places;
-      ready = record {
-        ready = search rules;
-        kept_parent = kept_parent_on _ _ _ _ _ _ refl surveyed c.pass.ensures.places said.kept_parent;
+      phase = record {
+        image = left.image;
+        survey = leaves_more _ _ _ (windows_leave _ _ left.lists) surveyed;
+        places = keep_more _ _ _ (windows_keep c.args.workspace.now c.report_by_role.new.workspace left.lists)
+            c.pass.ensures.words.places;
+        ready = record {
+          ready = search rules;
+          kept_parent = kept_parent_on _ _ _ _ _ _ refl surveyed c.pass.ensures.words.places said.kept_parent;
+        };
       };
+      chunk = left.chunk;
+    }
+
+pub returns-in_err-report_by_role-clause-leaves : goal.returns-in_err-report_by_role-clause-leaves
+returns-in_err-report_by_role-clause-leaves g c =
+    let left = c.in_err-report_by_role.ensures.leaves in
+    let p = err_from_is_err_and c.from_residual.result c.from_residual.ensures.1 in
+    rw (p.1, p.2) (record {
+      phase = record {
+        image = left.image;
+        survey = windows_leave _ _ left.lists;
+        places = windows_keep c.args.workspace.now c.report_by_role.new.workspace left.lists;
+        ready = left.ready;
+      };
+      chunk = left.chunk;
+    })
+
+pub returns-in_err-report_by_role-clause-lines : goal.returns-in_err-report_by_role-clause-lines
+returns-in_err-report_by_role-clause-lines g c =
+    let p = err_from_is_err_and c.from_residual.result c.from_residual.ensures.1 in
+    rw (p.1, p.2) c.in_err-report_by_role.ensures.lines
+
+pub returns-clause-lines : goal.returns-clause-lines
+returns-clause-lines g c =
+    let lines = c.in_ok-report_by_role.ensures.lines in
+    record {
+      text = lines.text;
+      path = lines.path;
+      counted = λ b k noted.
+          let few = lines.counted b k noted in record { count = few.count; blocks = few.blocks };
+      paid = λ numbered. paid_answer (lines.paid numbered);
     }
 
 pub returns-clause-passed : goal.returns-clause-passed
@@ -45,6 +78,3 @@ returns-clause-passed g c = λ b k.
     (c.pass.ensures.after (volume_of v b) shows)
     (with_items_is here.flags c.pass.new.flags (c.pass.auto.flags ∙ c.as_mut_slice.ensures.shown.len))
     refl
-
-pub returns-clause-paid : goal.returns-clause-paid
-returns-clause-paid g c = λ numbered. paid_answer (c.in_ok-report_by_role.ensures.paid numbered)

@@ -2,8 +2,8 @@ use Rattle.std.proofs.{Common.{◌∙◌, ◌≡◌, ◌≤◌, ℕ, List, ap, a
 use Rattle.ffs_image.{specs.{Device.Device, Limited.reads_asked}, proofs.Limits.read_over}
 use Rattle.ffs_workspace.proofs.Readiness.{ready_same}
 use Rattle.ffs_names.specs.Costs.{directory_cost}
-use Rattle.ffs_pathnames.{specs.DirectoryContext.DirectoryContext, proofs.{Carrying.if_ok, LimitedLaws.LookedBy}}
-use Rattle.ffs_pathnames.proofs.{LimitedLaws.looked, look.examine.{Given.Over, Goals.After-is_spent}}
+use Rattle.ffs_pathnames.{specs.{DirectoryContext.DirectoryContext, ReadsLeft.TakesLook}, proofs.Carrying.if_ok}
+use Rattle.ffs_pathnames.proofs.{LimitedLaws.{LookedBy, looked}, look.examine.{Given.Over, Goals.After-is_spent}}
 use Rattle.ffs_pathnames.proofs.look.examine.Goals as goal
 
 -- what became of the image below, and of the reads that were left
@@ -32,17 +32,35 @@ answered g c b k enough =
     let asked = c.examine_all-examined.ensures.reads b (known g c b k) in
     (after g c).served.few (omega (arith, asked, c.new-limited.ensures.asked, enough))
 
-pub returns-then-is_spent-clause-most : goal.returns-then-is_spent-clause-most
-returns-then-is_spent-clause-most g c =
-    let back = after g (goal.at.returns-then-is_spent-clause-most g c).After-is_spent in
-    let image = c.image-1.given.1 back.served.same_image ∙ c.drop-limited.ensures.below in
-    rw (image, c.left.ensures.value) back.most
+-- the reads that it made, and those that are left
+taken : (g : Over) (c : After-is_spent g) → TakesLook
+    (DirectoryContext c.args.geometry.now.layout (g.I.Image.device c.args.image.now).contents c.args.workspace.now
+    c.args.dir) (λ b. directory_cost c.args.geometry.now.layout b c.args.dir) (g.I.Image.reads c.args.image.now)
+    (g.I.Image.reads c.examine_all-examined.new.image.below.now) c.args.reads_left.now
+    c.examine_all-examined.new.image.left
+taken g c =
+    let back = after g c in
+    record {
+      reads = λ b k.
+          let asked = c.examine_all-examined.ensures.reads b (known g c b k) in
+          omega (arith, back.served.as_asked, asked, c.new-limited.ensures.asked);
+      kept = λ b k.
+          let asked = c.examine_all-examined.ensures.reads b (known g c b k) in
+          omega (arith, back.kept, asked, c.new-limited.ensures.asked);
+      most = back.most;
+    }
 
-pub returns-clause-most : goal.returns-clause-most
-returns-clause-most g c =
-    let back = after g (goal.at.returns-clause-most g c).After-is_spent in
-    let image = c.image-2-1.given.1 back.served.same_image ∙ c.drop-limited-2.ensures.below in
-    rw (image, c.left.ensures.value) back.most
+pub returns-then-is_spent-clause-takes : goal.returns-then-is_spent-clause-takes
+returns-then-is_spent-clause-takes g c =
+    let at = (goal.at.returns-then-is_spent-clause-takes g c).After-is_spent in
+    let image = c.image-1.given.1 (after g at).served.same_image ∙ c.drop-limited.ensures.below in
+    rw (image, c.left.ensures.value) (taken g at)
+
+pub returns-clause-takes : goal.returns-clause-takes
+returns-clause-takes g c =
+    let at = (goal.at.returns-clause-takes g c).After-is_spent in
+    let image = c.image-2-1.given.1 (after g at).served.same_image ∙ c.drop-limited-2.ensures.below in
+    rw (image, c.left.ensures.value) (taken g at)
 
 pub returns-then-is_spent-clause-found : goal.returns-then-is_spent-clause-found
 returns-then-is_spent-clause-found g c = λ b k.

@@ -3,7 +3,7 @@ use Rattle.ffs_volume.specs.Directories.Roles.{RoledEntry, Volume}
 use Rattle.ffs_layout.specs.Entry.{entry_value}
 use Rattle.ffs_pathnames.{specs.{PassedNames.is_quiet, Sees.{Sees, stamps_in}}, proofs.Looking.{seen_next, none_left}}
 use Rattle.ffs_pathnames.proofs.Looking.{quiet_on, stamps_on, length_on, length_ends}
-use Rattle.ffs_pathnames.proofs.look.look_chunk.Goals.{then-quiet, else-quiet}
+use Rattle.ffs_pathnames.proofs.{look.look_chunk.Goals.{then-quiet, else-quiet}, StampLaws.words_more}
 use Rattle.ffs_names.proofs.PlacesNoted.{none_there as none}
 use Rattle.ffs_pathnames.proofs.look.look_chunk.Goals as goal
 
@@ -26,8 +26,7 @@ entries-preserved c =
     rw c.from-place.ensures (record {
       place = omega arith;
       index = omega arith;
-      words_long = c.stamp.ensures.words_long ∙ c.entries.invariant.words_long;
-      places = λ x. c.stamp.ensures.places x ∙ c.entries.invariant.places x;
+      words = words_more c.entries.invariant.words c.stamp.ensures.words;
       quiet = λ v s. quiet_on v c.args.dir old c.entries.quiet next (still v s) (c.stamp.ensures.after v s)
           (c.entries.invariant.quiet v s);
       stamps = λ v s. stamps_on v c.args.dir old next (c.stamp.ensures.after v s) (c.entries.invariant.stamps v s);

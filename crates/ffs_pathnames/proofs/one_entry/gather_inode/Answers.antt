@@ -1,7 +1,7 @@
 use Rattle.std.proofs.{Common.{sym, ◌∙◌}, lemmas.Bool.both_ways}
 use Rattle.ffs_volume.specs.Directories.{Parents.graph_of, Volumes.volume_of}
 use Rattle.ffs_paths.{specs.LastPaths.last_path, proofs.{Rooms.entry_in_room, Keeping.no_reads}}
-use Rattle.ffs_pathnames.proofs.{Carrying.if_ok, VerdictLaws.enough}
+use Rattle.ffs_pathnames.proofs.{Carrying.if_ok, LineCounts.few_none, VerdictLaws.enough}
 use Rattle.ffs_pathnames.proofs.one_entry.gather_inode.Goals as goal
 
 pub returns-clause-enough : goal.returns-clause-enough
@@ -26,7 +26,7 @@ returns-then-not-wants_attr-clause-enough g c = λ b t dir path p wanted.
     (c.put.ensures.path tree dir p ∙ entry_in_room tree dir x.name.now x.short) wanted
 
 pub returns-then-not-wants_attr-clause-reads : goal.returns-then-not-wants_attr-clause-reads
-returns-then-not-wants_attr-clause-reads g c = no_reads c.requires.ready
+returns-then-not-wants_attr-clause-reads g c = record { reads = no_reads c.requires.ready; counted = few_none }
 
 pub read_attr-requires : goal.read_attr-requires
 read_attr-requires g c = record {

@@ -18,13 +18,15 @@ returns-in_err-inode g c =
     rw (p.1, p.2) (record {
       attr = _;
       reads = record {
-        lists = refl;
-        chunk = refl;
-        ready = ready_table c.args.geometry.now.layout (g.I.Image.device c.args.image.now) _ c.args.workspace.now
-            c.inode_by_part.new.self err.contents err.size c.inode_by_part.ensures.reads.kept c.requires.ready;
-        read = err;
+        reads = record {
+          lists = refl;
+          chunk = refl;
+          ready = ready_table c.args.geometry.now.layout (g.I.Image.device c.args.image.now) _ c.args.workspace.now
+              c.inode_by_part.new.self err.contents err.size c.inode_by_part.ensures.reads.kept c.requires.ready;
+          read = err;
+        };
+        counted = record { count = c.in_err-inode.ensures.counted; blocks = refl };
       };
-      counted = record { count = c.in_err-inode.ensures.counted; blocks = refl };
     })
 
 pub returns : goal.returns
@@ -34,12 +36,14 @@ returns g c =
     record {
       attr = λ b k. c.of.ensures ∙ ap (λ i. attributes_of c.args.number i) (c.in_ok-inode.ensures.reads.inode b k);
       reads = record {
-        lists = refl;
-        chunk = refl;
-        ready = ready_table c.args.geometry.now.layout (g.I.Image.device c.args.image.now) _ c.args.workspace.now
-            c.inode_by_part.new.self (ap (λ d. d.contents) ok)
-            (ap (λ d. d.size) ok) c.inode_by_part.ensures.reads.kept c.requires.ready;
-        read = ok;
+        reads = record {
+          lists = refl;
+          chunk = refl;
+          ready = ready_table c.args.geometry.now.layout (g.I.Image.device c.args.image.now) _ c.args.workspace.now
+              c.inode_by_part.new.self (ap (λ d. d.contents) ok)
+              (ap (λ d. d.size) ok) c.inode_by_part.ensures.reads.kept c.requires.ready;
+          read = ok;
+        };
+        counted = record { count = c.in_ok-inode.ensures.counted; blocks = refl };
       };
-      counted = record { count = c.in_ok-inode.ensures.counted; blocks = refl };
     }

@@ -25,8 +25,11 @@ returns-in_err-attr-clause-lines g c = record {
   path = c.gather_extra.ensures.path;
   counted = λ b k noted.
       let x = c.args.entry.now in
-      by_line _ (c.in_err-attr.ensures.counted b (knows_places _ _ _ _ b k noted))
+      by_line _ (c.in_err-attr.ensures.leaves.path.counted b (knows_places _ _ _ _ b k noted))
       (extra_some _ _ (entry_value x.entry));
+  paid = λ numbered.
+      let p = err_from_is_err_and c.from_residual.result c.from_residual.ensures.1 in
+      rw (p.1, p.2) (paid_reads (c.gather_extra.ensures.leaves.most numbered));
 }
 
 pub returns-in_err-say_extra-clause-lines : goal.returns-in_err-say_extra-clause-lines
@@ -36,8 +39,12 @@ returns-in_err-say_extra-clause-lines g c = record {
       rw (p.1, p.2) (of_stops _ _ (λ b. []) _ _ _ _ _ (of_begins _ _ _)
       (line_is g (goal.at.returns-in_err-say_extra-clause-lines g c).After-say_extra) c.in_err-say_extra.ensures);
   path = c.gather_extra.ensures.path;
-  counted = λ b k noted. by_line _ (c.in_ok-attr.ensures.counted b (knows_places _ _ _ _ b k noted))
+  counted = λ b k noted. by_line _ (c.in_ok-attr.ensures.leaves.path.counted b (knows_places _ _ _ _ b k noted))
       (extra_some _ _ (entry_value c.args.entry.now.entry));
+  paid = λ numbered.
+      let p = err_from_is_err_and c.from_residual-in_err-say_extra.result c.from_residual-in_err-say_extra.ensures.1 in
+      rw (p.1, p.2) (paid_stops _ c.in_err-say_extra.ensures (some_said _ (extra_some c.in_ok-attr.attr
+      c.as_slice.result.now (entry_value c.args.entry.now.entry))) (c.gather_extra.ensures.leaves.most numbered));
 }
 
 pub returns-clause-lines : goal.returns-clause-lines
@@ -46,25 +53,9 @@ returns-clause-lines g c = record {
       of_says _ _ (λ b. []) _ _ _ _ _ (of_begins _ _ _)
       (line_is g (goal.at.returns-clause-lines g c).After-say_extra) c.in_ok-say_extra.ensures;
   path = c.gather_extra.ensures.path;
-  counted = λ b k noted. by_line _ (c.in_ok-attr.ensures.counted b (knows_places _ _ _ _ b k noted))
+  counted = λ b k noted. by_line _ (c.in_ok-attr.ensures.leaves.path.counted b (knows_places _ _ _ _ b k noted))
       (extra_some _ _ (entry_value c.args.entry.now.entry));
+  paid = λ numbered.
+      paid_says _ c.in_ok-say_extra.ensures (some_said _ (extra_some c.in_ok-attr.attr c.as_slice.result.now
+      (entry_value c.args.entry.now.entry))) (c.gather_extra.ensures.leaves.most numbered);
 }
-
--- a path and an inode are read for one line
-
--- the reads of any image
-pub returns-in_err-attr-clause-paid : goal.returns-in_err-attr-clause-paid
-returns-in_err-attr-clause-paid g c = λ numbered.
-    let p = err_from_is_err_and c.from_residual.result c.from_residual.ensures.1 in
-    rw (p.1, p.2) (paid_reads (c.gather_extra.ensures.most numbered))
-
-pub returns-in_err-say_extra-clause-paid : goal.returns-in_err-say_extra-clause-paid
-returns-in_err-say_extra-clause-paid g c = λ numbered.
-    let p = err_from_is_err_and c.from_residual-in_err-say_extra.result c.from_residual-in_err-say_extra.ensures.1 in
-    rw (p.1, p.2) (paid_stops _ c.in_err-say_extra.ensures (some_said _ (extra_some c.in_ok-attr.attr
-    c.as_slice.result.now (entry_value c.args.entry.now.entry))) (c.gather_extra.ensures.most numbered))
-
-pub returns-clause-paid : goal.returns-clause-paid
-returns-clause-paid g c = λ numbered.
-    paid_says _ c.in_ok-say_extra.ensures (some_said _ (extra_some c.in_ok-attr.attr c.as_slice.result.now
-    (entry_value c.args.entry.now.entry))) (c.gather_extra.ensures.most numbered)

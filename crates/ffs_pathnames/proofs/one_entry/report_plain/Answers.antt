@@ -50,6 +50,7 @@ returns-then-is_silent-clause-lines g c = record {
       };
   path = λ b k. k.path;
   counted = λ b k noted. few_none;
+  paid = λ numbered. paid_none (omega arith);
 }
 
 pub returns-in_err-attr-clause-lines : goal.returns-in_err-attr-clause-lines
@@ -58,8 +59,11 @@ returns-in_err-attr-clause-lines g c = record {
       let p = err_from_is_err_and c.from_residual.result c.from_residual.ensures.1 in
       rw (p.1, p.2) (of_reads _ _ _ _ _ (of_begins _ _ _));
   path = c.gather_entry.ensures.path;
-  counted = λ b k noted. by_line _ (c.in_err-attr.ensures.counted b (knows_places _ _ _ _ b k noted))
+  counted = λ b k noted. by_line _ (c.in_err-attr.ensures.leaves.path.counted b (knows_places _ _ _ _ b k noted))
       (some_line g (goal.at.returns-in_err-attr-clause-lines g c).After-gather_entry b k);
+  paid = λ numbered.
+      let p = err_from_is_err_and c.from_residual.result c.from_residual.ensures.1 in
+      rw (p.1, p.2) (paid_reads (c.gather_entry.ensures.leaves.most numbered));
 }
 
 pub returns-in_err-say_verdict-clause-lines : goal.returns-in_err-say_verdict-clause-lines
@@ -72,8 +76,13 @@ returns-in_err-say_verdict-clause-lines g c =
           rw (p.1, p.2) (of_stops _ _ (λ b. []) _ _ _ _ _ (of_begins _ _ _)
           (lines_are g at.After-say_verdict) c.in_err-say_verdict.ensures);
       path = c.gather_entry.ensures.path;
-      counted = λ b k noted. by_line _ (c.in_ok-attr.ensures.counted b (knows_places _ _ _ _ b k noted))
+      counted = λ b k noted. by_line _ (c.in_ok-attr.ensures.leaves.path.counted b (knows_places _ _ _ _ b k noted))
           (some_line g at.After-gather_entry b k);
+      paid = λ numbered.
+          let p = err_from_is_err_and c.from_residual-in_err-say_verdict.result c.from_residual-in_err-say_verdict.ensures.1 in
+          rw (p.1, p.2) (paid_stops _ c.in_err-say_verdict.ensures (some_said _ (verdict_some c.verdict_of-verdict.result
+          c.args.entry.now.entry.number c.in_ok-attr.attr c.last.result.now c.as_slice.result.now
+          (sym c.is_silent.ensures ∙ c.if-is_silent.false))) (c.gather_entry.ensures.leaves.most numbered));
     }
 
 pub returns-clause-lines : goal.returns-clause-lines
@@ -84,30 +93,10 @@ returns-clause-lines g c =
           of_says _ _ (λ b. []) _ _ _ _ _ (of_begins _ _ _)
           (lines_are g at.After-say_verdict) c.in_ok-say_verdict.ensures;
       path = c.gather_entry.ensures.path;
-      counted = λ b k noted. by_line _ (c.in_ok-attr.ensures.counted b (knows_places _ _ _ _ b k noted))
+      counted = λ b k noted. by_line _ (c.in_ok-attr.ensures.leaves.path.counted b (knows_places _ _ _ _ b k noted))
           (some_line g at.After-gather_entry b k);
+      paid = λ numbered.
+          paid_says _ c.in_ok-say_verdict.ensures (some_said _ (verdict_some c.verdict_of-verdict.result
+          c.args.entry.now.entry.number c.in_ok-attr.attr c.last.result.now c.as_slice.result.now
+          (sym c.is_silent.ensures ∙ c.if-is_silent.false))) (c.gather_entry.ensures.leaves.most numbered);
     }
-
--- a verdict with a line
-
--- the reads of any image: a verdict that isn't silent has a message, whatever was gathered
-pub returns-then-is_silent-clause-paid : goal.returns-then-is_silent-clause-paid
-returns-then-is_silent-clause-paid g c = λ numbered. paid_none (omega arith)
-
-pub returns-in_err-attr-clause-paid : goal.returns-in_err-attr-clause-paid
-returns-in_err-attr-clause-paid g c = λ numbered.
-    let p = err_from_is_err_and c.from_residual.result c.from_residual.ensures.1 in
-    rw (p.1, p.2) (paid_reads (c.gather_entry.ensures.most numbered))
-
-pub returns-in_err-say_verdict-clause-paid : goal.returns-in_err-say_verdict-clause-paid
-returns-in_err-say_verdict-clause-paid g c = λ numbered.
-    let p = err_from_is_err_and c.from_residual-in_err-say_verdict.result c.from_residual-in_err-say_verdict.ensures.1 in
-    rw (p.1, p.2) (paid_stops _ c.in_err-say_verdict.ensures (some_said _ (verdict_some c.verdict_of-verdict.result
-    c.args.entry.now.entry.number c.in_ok-attr.attr c.last.result.now c.as_slice.result.now
-    (sym c.is_silent.ensures ∙ c.if-is_silent.false))) (c.gather_entry.ensures.most numbered))
-
-pub returns-clause-paid : goal.returns-clause-paid
-returns-clause-paid g c = λ numbered.
-    paid_says _ c.in_ok-say_verdict.ensures (some_said _ (verdict_some c.verdict_of-verdict.result
-    c.args.entry.now.entry.number c.in_ok-attr.attr c.last.result.now c.as_slice.result.now
-    (sym c.is_silent.ensures ∙ c.if-is_silent.false))) (c.gather_entry.ensures.most numbered)

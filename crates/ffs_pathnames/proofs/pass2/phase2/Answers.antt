@@ -75,7 +75,7 @@ returns-clause-prints g c = record {
   image = search rules;
   text = of_last Root _ _ _ _ _ _ _ c.check_tree.result (says_heading (λ b k. refl) c.in_ok-say.ensures.said)
       (λ b k. refl) (reports_knowing Root _ _ _ _ _ c.check_tree.result
-      (λ b k. before_tree g (goal.at.returns-clause-prints g c).After-check_tree b k.0 k.1) c.check_tree.ensures.text);
+      (λ b k. before_tree g (goal.at.returns-clause-prints g c).After-check_tree b k.0 k.1) c.check_tree.ensures.lines.text);
 }
 
 pub returns-clause-leaves : goal.returns-clause-leaves
@@ -109,5 +109,5 @@ returns-clause-reads g c = record {
   known = grind (arith, costs_bounded, runs_bounded, before_tree);
   paid = λ numbered. paid_then
       (paid_said (phase2 ∷ []) c.in_ok-say.ensures.said (omega (arith, c.survey.ensures.reads.most)))
-      (c.check_tree.ensures.paid numbered);
+      (c.check_tree.ensures.lines.paid numbered);
 }

@@ -1,15 +1,16 @@
-use Rattle.std.proofs.Common.{◌∙◌, ap, map, arith, length, ◌≡◌, ◌≤◌, ◌+◌, ℕ, List, option_map}
+use Rattle.std.proofs.Common.{◌∙◌, ap, map, arith, length, ◌≡◌, ◌≤◌, ◌+◌, ◌*◌, ℕ, List, option_map}
 use Rattle.std.proofs.lemmas.Result.{err_from_is_err_and}
 use Rattle.ffs_volume.specs.{Messages.Kinds.of_tree, Blocks.Inodes.inode_of, Directories.Volumes.volume_of}
 use Rattle.ffs_volume.specs.Directories.{Parents.graph_of, PathnameCheck.attributes, Paths.dir_path}
+use Rattle.ffs_volume.specs.Report.Reads.{line_reads}
 use Rattle.ffs_report.proofs.{Reporting.{of_begins, of_reads}, Paying.{paid_answer, paid_failed, paid_beside}}
 use Rattle.ffs_report.proofs.Paying.{paid_fault, paid_none, paid_then}
-use Rattle.ffs_pathnames.specs.{ReadsLeft.LeftForLook, declared.look.Examination.Examination}
-use Rattle.ffs_pathnames.specs.{Begins.dir_header_lines, Header.header_reported, Costs.begin_reads}
-use Rattle.ffs_pathnames.{specs.DirectoryContext.DirectoryContext, proofs.{Passing.knows_on, Begun.said_same}}
-use Rattle.ffs_pathnames.proofs.{Begun.{fault_same, image_same, starts_are, begun_is}, StampLaws.windows_keep}
-use Rattle.ffs_pathnames.proofs.{StampLaws.{keep_more, noted_kept}, tree.begin_directory.Given.Over}
+use Rattle.ffs_pathnames.specs.{ReadsLeft.LeftForLook, declared.look.Examination.Examination, Begins.dir_header_lines}
+use Rattle.ffs_pathnames.{specs.{Header.header_reported, DirectoryContext.DirectoryContext}, proofs.Passing.knows_on}
+use Rattle.ffs_pathnames.proofs.Begun.{said_same, fault_same, image_same, starts_are, begun_is}
+use Rattle.ffs_pathnames.proofs.{StampLaws.{windows_keep, keep_more, noted_kept}, tree.begin_directory.Given.Over}
 use Rattle.ffs_pathnames.proofs.tree.begin_directory.Goals.{After-report_header}
+use Rattle.ffs_names.specs.Costs.{directory_cost}
 use Rattle.ffs_workspace.{proofs.Leaving.{leaves_more, survey_left, windows_leave}, specs.Places.AreNoted}
 use Rattle.ffs_paths.proofs.Keeping.{kept_parent_on}
 use Rattle.ffs_layout.specs.Entry.{entry_value}
@@ -47,12 +48,12 @@ reads_few : (g : Over) (c : After-report_header g) (b : List ℕ) → LeftForLoo
     (g.I.Image.device c.args.image.now) c.args.workspace.now c.args.dir c.args.checking.now.reads_left b →
     AreNoted c.args.geometry.now.layout b c.args.workspace.now.queue.items →
     g.I.Image.reads c.report_header.new.image ≤ g.I.Image.reads c.args.image.now
-    + begin_reads c.args.geometry.now.layout b c.args.dir
-    (length (dir_header_lines (volume_of c.args.geometry.now.layout b) c.args.dir))
+    + (directory_cost c.args.geometry.now.layout b c.args.dir
+    + line_reads * length (dir_header_lines (volume_of c.args.geometry.now.layout b) c.args.dir))
 reads_few g c b k noted =
     let lists = c.in_ok-examined.ensures.leaves.lists in
-    let examined = c.examine.ensures.reads b k.0 in
-    let said = (c.report_header.ensures.counted b (known g c b k)
+    let examined = c.examine.ensures.takes.reads b k.0 in
+    let said = (c.report_header.ensures.lines.counted b (known g c b k)
     (noted_kept c.args.geometry.now.layout b _ c.examine.new.workspace.queue.items lists.places noted)).count in
     let now = rw (lines_are g c b k) at said in
     omega (arith, examined, now)
@@ -63,28 +64,9 @@ report_header-requires g c =
     record {
       ready = examined.ready;
       kept_parent = kept_parent_on _ _ _ _ _ _ (ap (λ d. d.contents) examined.read) examined.lists.survey
-          examined.lists.places c.requires.ready.kept_parent;
-      number = c.requires.ready.number;
+          examined.lists.places c.requires.path.kept_parent;
+      number = c.requires.path.number;
     }
-
-pub returns-in_err-examined-clause-text : goal.returns-in_err-examined-clause-text
-returns-in_err-examined-clause-text g c =
-    let p = err_from_is_err_and c.from_residual.result c.from_residual.ensures.1 in
-    rw (p.1, p.2) (of_reads _ _ _ _ _ (of_begins _ _ _))
-
-pub returns-in_err-report_header-clause-text : goal.returns-in_err-report_header-clause-text
-returns-in_err-report_header-clause-text g c =
-    let p = err_from_is_err_and c.from_residual-in_err-report_header.result
-    c.from_residual-in_err-report_header.ensures.1 in
-    let report = (goal.at.returns-in_err-report_header-clause-text g c).After-report_header in
-    rw (p.1, p.2) (fault_same (Unit {0}) Examination _ _ _ _ _ _ c.in_err-report_header.field-0.0
-    (known g report) (λ b k. ap (map of_tree) (lines_are g report b k)) c.in_err-report_header.ensures.text)
-
-pub returns-clause-text : goal.returns-clause-text
-returns-clause-text g c =
-    let report = (goal.at.returns-clause-text g c).After-report_header in
-    said_same _ _ _ _ _ _ (known g report) (λ b k. ap (map of_tree) (lines_are g report b k))
-    c.in_ok-report_header.ensures.text
 
 pub returns-clause-begun : goal.returns-clause-begun
 returns-clause-begun g c = λ b k.
@@ -93,8 +75,11 @@ returns-clause-begun g c = λ b k.
     _ (c.in_ok-examined.ensures.found b k) c.in_ok-examined.ensures.leaves.lists
     c.in_ok-report_header.ensures.leaves.lists
 
-pub examine-requires-clause-ready : goal.examine-requires-clause-ready
-examine-requires-clause-ready g c = record { ready = c.requires.ready.ready; number = c.requires.ready.number }
+pub examine-requires : goal.examine-requires
+examine-requires g c = record {
+  ready = record { ready = c.requires.path.ready; number = c.requires.path.number };
+  low = c.requires.low;
+}
 
 -- a read failed
 pub returns-in_err-examined-clause-begun : goal.returns-in_err-examined-clause-begun
@@ -144,34 +129,44 @@ returns-clause-leaves g c =
       ready = two.ready;
     }
 
--- the reads
-pub returns-in_err-examined-clause-reads : goal.returns-in_err-examined-clause-reads
-returns-in_err-examined-clause-reads g c = λ b k noted.
-    let examined = c.examine.ensures.reads b k.0 in
-    omega (arith, examined)
-
-pub returns-in_err-report_header-clause-reads : goal.returns-in_err-report_header-clause-reads
-returns-in_err-report_header-clause-reads g c =
-    reads_few g (goal.at.returns-in_err-report_header-clause-reads g c).After-report_header
-
-pub returns-clause-reads : goal.returns-clause-reads
-returns-clause-reads g c = reads_few g (goal.at.returns-clause-reads g c).After-report_header
-
--- what was read for messages
-pub returns-in_err-examined-clause-paid : goal.returns-in_err-examined-clause-paid
-returns-in_err-examined-clause-paid g c = λ numbered.
+-- what is said, and what is read for it
+pub returns-in_err-examined-clause-lines : goal.returns-in_err-examined-clause-lines
+returns-in_err-examined-clause-lines g c =
+    let takes = c.examine.ensures.takes in
     let p = err_from_is_err_and c.from_residual.result c.from_residual.ensures.1 in
-    rw (p.1, p.2) (paid_failed c.examine.ensures.most)
+    rw (p.1, p.2) (record {
+      text = of_reads _ _ _ _ _ (of_begins _ _ _);
+      reads = λ b k noted. omega (arith, takes.reads b k.0);
+      kept = λ b k. takes.kept b k.0;
+      paid = λ numbered. paid_failed takes.most;
+    })
 
-pub returns-in_err-report_header-clause-paid : goal.returns-in_err-report_header-clause-paid
-returns-in_err-report_header-clause-paid g c = λ numbered.
+pub returns-in_err-report_header-clause-lines : goal.returns-in_err-report_header-clause-lines
+returns-in_err-report_header-clause-lines g c =
+    let at = (goal.at.returns-in_err-report_header-clause-lines g c).After-report_header in
+    let takes = c.examine.ensures.takes in
+    let said = c.in_err-report_header.ensures.lines in
     let p = err_from_is_err_and c.from_residual-in_err-report_header.result
     c.from_residual-in_err-report_header.ensures.1 in
-    rw (p.1, p.2) (paid_fault c.in_err-report_header.field-0.0
-    (paid_then (paid_none {T = Unit {0}} {x = tt} c.examine.ensures.most)
-    (paid_beside c.examine.new.reads_left (c.in_err-report_header.ensures.paid numbered))))
+    rw (p.1, p.2) (record {
+      text = fault_same (Unit {0}) Examination _ _ _ _ _ _ c.in_err-report_header.field-0.0
+          (known g at) (λ b k. ap (map of_tree) (lines_are g at b k)) said.text;
+      reads = reads_few g at;
+      kept = λ b k. takes.kept b k.0;
+      paid = λ numbered. paid_fault c.in_err-report_header.field-0.0
+          (paid_then (paid_none {T = Unit {0}} {x = tt} takes.most)
+          (paid_beside c.examine.new.reads_left (said.paid numbered)));
+    })
 
-pub returns-clause-paid : goal.returns-clause-paid
-returns-clause-paid g c = λ numbered.
-    paid_answer (paid_then (paid_none {T = Unit {0}} {x = tt} c.examine.ensures.most)
-    (paid_beside c.examine.new.reads_left (c.in_ok-report_header.ensures.paid numbered)))
+pub returns-clause-lines : goal.returns-clause-lines
+returns-clause-lines g c =
+    let at = (goal.at.returns-clause-lines g c).After-report_header in
+    let takes = c.examine.ensures.takes in
+    let said = c.in_ok-report_header.ensures.lines in
+    record {
+      text = said_same _ _ _ _ _ _ (known g at) (λ b k. ap (map of_tree) (lines_are g at b k)) said.text;
+      reads = reads_few g at;
+      kept = λ b k. takes.kept b k.0;
+      paid = λ numbered. paid_answer (paid_then (paid_none {T = Unit {0}} {x = tt} takes.most)
+          (paid_beside c.examine.new.reads_left (said.paid numbered)));
+    }

@@ -13,15 +13,6 @@ both : {v : Layout} {device : Device} {w : Workspace} {d left : ℕ} {b : List �
     (slice_index w.kinds.items d == 4) ≡ true → LeftForNext v device w d left b → LeftForBoth v device w d left b
 both looked k = record { knows = directory_context looked k.0; passed = k.0.before.passed; enough = k.1 }
 
-pub returns-then-is_checked-clause-text : goal.returns-then-is_checked-clause-text
-returns-then-is_checked-clause-text g c =
-    let v = c.args.geometry.now.layout in
-    let looked = (and_parts _ _ (sym c.is_checked.ensures ∙ c.if-is_checked.true)).0 in
-    reports_same (Unit {0}) _ _ _ _ _ c.check_directory.result
-    (λ b k. sym (ap (map of_tree) (lines_looked looked k.0.before)))
-    (reports_knowing (Unit {0}) _ _ _ _ _ c.check_directory.result
-    (λ b k. (both looked k)) c.check_directory.ensures.text)
-
 pub returns-then-is_checked-clause-before : goal.returns-then-is_checked-clause-before
 returns-then-is_checked-clause-before g c =
     let looked = (and_parts _ _ (sym c.is_checked.ensures ∙ c.if-is_checked.true)).0 in
@@ -30,26 +21,28 @@ returns-then-is_checked-clause-before g c =
     (h b (both looked k)) k.0)
     c.check_directory.ensures.passed
 
-pub returns-clause-text : goal.returns-clause-text
-returns-clause-text g c =
-    let v = c.args.geometry.now.layout in
-    let other = sym c.is_checked.ensures ∙ c.if-is_checked.false in
-    of_same _ _ (λ b. []) _ _ _ (of_begins _ _ _) (λ b k. lines_skipped c.requires.low other k.0.before)
-
 pub returns-clause-before : goal.returns-clause-before
 returns-clause-before g c = grind (arith, before_skipped)
 
-pub returns-then-is_checked-clause-reads : goal.returns-then-is_checked-clause-reads
-returns-then-is_checked-clause-reads g c = λ b k noted.
+pub returns-then-is_checked-clause-lines : goal.returns-then-is_checked-clause-lines
+returns-then-is_checked-clause-lines g c =
     let looked = (and_parts _ _ (sym c.is_checked.ensures ∙ c.if-is_checked.true)).0 in
-    rw (lines_looked looked k.0.before)
-    (c.check_directory.ensures.reads b (both looked k) noted)
+    let checked = c.check_directory.ensures.lines in
+    record {
+      text = reports_same (Unit {0}) _ _ _ _ _ c.check_directory.result
+          (λ b k. sym (ap (map of_tree) (lines_looked looked k.0.before)))
+          (reports_knowing (Unit {0}) _ _ _ _ _ c.check_directory.result (λ b k. both looked k) checked.text);
+      reads = λ b k noted. rw (lines_looked looked k.0.before) (checked.reads b (both looked k) noted);
+      kept = λ b k. checked.kept b (both looked k);
+      paid = checked.paid;
+    }
 
--- the reads that are left
-pub returns-then-is_checked-clause-kept : goal.returns-then-is_checked-clause-kept
-returns-then-is_checked-clause-kept g c = λ b k.
-    let looked = (and_parts _ _ (sym c.is_checked.ensures ∙ c.if-is_checked.true)).0 in
-    c.check_directory.ensures.kept b (both looked k)
-
-pub returns-clause-paid : goal.returns-clause-paid
-returns-clause-paid g c = λ numbered. paid_none (omega arith)
+pub returns-clause-lines : goal.returns-clause-lines
+returns-clause-lines g c =
+    let other = sym c.is_checked.ensures ∙ c.if-is_checked.false in
+    record {
+      text = of_same _ _ (λ b. []) _ _ _ (of_begins _ _ _) (λ b k. lines_skipped c.requires.low other k.0.before);
+      reads = λ b k noted. omega arith;
+      kept = λ b k. omega arith;
+      paid = λ numbered. paid_none (omega arith);
+    }

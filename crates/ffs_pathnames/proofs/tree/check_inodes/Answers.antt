@@ -4,7 +4,7 @@ use Rattle.ffs_volume.proofs.Numbered.{as_many, from_next, from_end, count_next 
 use Rattle.ffs_volume.specs.{Messages.Kinds.{of_tree, lines_from}, Directories.PathnameCheck.directory_lines}
 use Rattle.ffs_volume.specs.Directories.Volumes.{volume_of}
 use Rattle.ffs_report.proofs.Reporting.{of_begins, of_same, of_part, of_fault, of_reads, said_knows, reports_knowing}
-use Rattle.ffs_report.proofs.Paying.{paid_none, paid_then, paid_within}
+use Rattle.ffs_report.proofs.Paying.{paid_failed, paid_none, paid_then, paid_within}
 use Rattle.ffs_workspace.specs.{declared.workspace.Workspace.Workspace, Lengths.inodes_of}
 use Rattle.ffs_pathnames.{specs.Before.{IsBeforeNoted, IsBefore}, proofs.Carrying.noted_reported}
 use Rattle.ffs_pathnames.{proofs.Skipping.{noted_before, unseen}, specs.ReadsLeft.LeftForNext}
@@ -26,23 +26,8 @@ next g c b k =
     let rise = costs_rise (λ s. true) (directory_cost v b) (n + 1) (inodes_of v) (omega arith) in
     (noted_reported (ap (λ d. d.contents) inv.device) (inv.before b k), omega (arith, inv.left b k, taken, rise))
 
-pub returns-then-first-count-clause-text : goal.returns-then-first-count-clause-text
-returns-then-first-count-clause-text g c =
-    let v = c.args.geometry.now.layout in
-    let first = c.first_checked-first in
-    let all = λ (b : List ℕ). map of_tree (lines_from (directory_lines (volume_of v b)) 2 (inodes_of v - 2)) in
-    of_same _ all (λ b. []) _ _ _ (of_begins _ all _)
-    (λ b k. (unseen v _ _ b first.result (inodes_of v) c.args.geometry.now.sound first.ensures.range.0
-    first.ensures.range.1 first.ensures.before k).1
-    ∙ from_end (directory_lines (volume_of v b)) first.result (inodes_of v) (omega arith))
-
 pub returns-then-first-count-clause-holds : goal.returns-then-first-count-clause-holds
 returns-then-first-count-clause-holds g c = λ b k. (k.claims, k.survey)
-
-pub returns-in_err-note_places-clause-text : goal.returns-in_err-note_places-clause-text
-returns-in_err-note_places-clause-text g c =
-    let p = err_from_is_err_and c.from_residual.result c.from_residual.ensures.1 in
-    rw (p.1, p.2) (of_reads _ _ _ _ _ (of_begins _ _ _))
 
 pub loop-number-init : goal.loop-number-init
 loop-number-init g c =
@@ -76,19 +61,6 @@ loop-number-init g c =
       said = of_same _ all _ all _ _ (of_begins _ all _) (λ b k. (skipped b k).1);
     }
 
-pub returns-in_err-check_inode-clause-text : goal.returns-in_err-check_inode-clause-text
-returns-in_err-check_inode-clause-text g c =
-    let p = err_from_is_err_and c.from_residual-in_err-check_inode.result
-    c.from_residual-in_err-check_inode.ensures.1 in
-    let v = c.args.geometry.now.layout in
-    let inv = c.loop-number.invariant in
-    let n = c.loop-number.number in
-    rw (p.1, p.2) (of_fault (Unit {0}) (Unit {0}) _ _ _ _ _ _ _ _ c.in_err-check_inode.field-0.0 inv.said
-    (λ b k. from_next (directory_lines (volume_of v b)) n (inodes_of v) (omega arith))
-    (reports_knowing (Unit {0}) _ _ _ _ _ (Err c.in_err-check_inode.field-0.0)
-    (next g (goal.at.returns-in_err-check_inode-clause-text g c).After-check_inode)
-    c.in_err-check_inode.ensures.text))
-
 pub loop-number-preserved : goal.loop-number-preserved
 loop-number-preserved g c =
     let at = (goal.at.loop-number-preserved g c).After-check_inode in
@@ -104,14 +76,14 @@ loop-number-preserved g c =
       references = ok.leaves.survey.references ∙ inv.references;
       reads = λ b k numbered.
           let taken = cost_take (λ s. true) (directory_cost v b) n refl in
-          let here = c.check_inode.ensures.reads b (next g at b k) ((inv.before b k).noted numbered) in
+          let here = c.check_inode.ensures.lines.reads b (next g at b k) ((inv.before b k).noted numbered) in
           let long = next_long (directory_lines (volume_of v b)) n (inodes_of v) (omega arith) in
           omega (arith, taken, here, long, inv.reads b k numbered);
       left = λ b k.
           let taken = cost_take (λ s. true) (directory_cost v b) n refl in
-          let kept = c.check_inode.ensures.kept b (next g at b k) in
+          let kept = c.check_inode.ensures.lines.kept b (next g at b k) in
           omega (arith, inv.left b k, taken, kept);
-      paid = λ numbered. paid_then (inv.paid numbered) (ok.paid numbered);
+      paid = λ numbered. paid_then (inv.paid numbered) (ok.lines.paid numbered);
       before = λ b k. subst (λ d. IsBeforeNoted v (g.I.Image.device c.args.image.now).contents c.check_inode.new.workspace d
           b) q
           (noted_reported (sym (ap (λ d. d.contents) inv.device))
@@ -119,42 +91,70 @@ loop-number-preserved g c =
       said = of_part _ _ _ _ _ _ _ _ inv.said
           (λ b k. from_next (directory_lines (volume_of v b)) n (inodes_of v) (omega arith))
           (said_knows _ _ _ _ _ _
-          (next g at) ok.text);
+          (next g at) ok.lines.text);
     }
 
 pub returns-in_err-check_inode-clause-leaves : goal.returns-in_err-check_inode-clause-leaves
 returns-in_err-check_inode-clause-leaves g c = grind (arith, err_from_is_err_and)
 
-pub returns-clause-text : goal.returns-clause-text
-returns-clause-text g c = grind (arith, of_same, from_end)
-
 pub returns-clause-holds : goal.returns-clause-holds
 returns-clause-holds g c = λ b k. let now = (c.loop-number.invariant.before b k).before in (now.claims, now.survey)
 
--- the reads
-pub returns-in_err-check_inode-clause-reads : goal.returns-in_err-check_inode-clause-reads
-returns-in_err-check_inode-clause-reads g c = λ b k numbered.
-    let at = (goal.at.returns-in_err-check_inode-clause-reads g c).After-check_inode in
+-- what is said, and what is read for it
+pub returns-then-first-count-clause-lines : goal.returns-then-first-count-clause-lines
+returns-then-first-count-clause-lines g c =
+    let v = c.args.geometry.now.layout in
+    let first = c.first_checked-first in
+    let all = λ (b : List ℕ). map of_tree (lines_from (directory_lines (volume_of v b)) 2 (inodes_of v - 2)) in
+    record {
+      text = of_same _ all (λ b. []) _ _ _ (of_begins _ all _)
+          (λ b k. (unseen v _ _ b first.result (inodes_of v) c.args.geometry.now.sound first.ensures.range.0
+          first.ensures.range.1 first.ensures.before k).1
+          ∙ from_end (directory_lines (volume_of v b)) first.result (inodes_of v) (omega arith));
+      reads = λ b k numbered. omega arith;
+      paid = λ numbered. paid_none (omega arith);
+    }
+
+pub returns-in_err-note_places-clause-lines : goal.returns-in_err-note_places-clause-lines
+returns-in_err-note_places-clause-lines g c =
+    let p = err_from_is_err_and c.from_residual.result c.from_residual.ensures.1 in
+    rw (p.1, p.2) (record {
+      text = of_reads _ _ _ _ _ (of_begins _ _ _);
+      reads = λ b k numbered. omega (arith, c.note_places.ensures.reads b k.gives_bytes k.claims k.survey);
+      paid = λ numbered. paid_failed (omega (arith, c.in_err-note_places.ensures.most));
+    })
+
+pub returns-in_err-check_inode-clause-lines : goal.returns-in_err-check_inode-clause-lines
+returns-in_err-check_inode-clause-lines g c =
+    let at = (goal.at.returns-in_err-check_inode-clause-lines g c).After-check_inode in
     let v = c.args.geometry.now.layout in
     let inv = c.loop-number.invariant in
     let n = c.loop-number.number in
-    let here = c.check_inode.ensures.reads b (next g at b k) ((inv.before b k).noted numbered) in
-    let long = next_long (directory_lines (volume_of v b)) n (inodes_of v) (omega arith) in
-    let taken = cost_take (λ s. true) (directory_cost v b) n refl in
-    let rise = costs_rise (λ s. true) (directory_cost v b) (n + 1) (inodes_of v) (omega arith) in
-    omega (arith, here, long, taken, rise, inv.reads b k numbered)
-
--- what was read for messages
-pub returns-then-first-count-clause-paid : goal.returns-then-first-count-clause-paid
-returns-then-first-count-clause-paid g c = λ numbered. paid_none (omega arith)
-
-pub returns-in_err-check_inode-clause-paid : goal.returns-in_err-check_inode-clause-paid
-returns-in_err-check_inode-clause-paid g c = λ numbered.
+    let said = c.in_err-check_inode.ensures.lines in
     let p = err_from_is_err_and c.from_residual-in_err-check_inode.result
     c.from_residual-in_err-check_inode.ensures.1 in
-    let all = paid_then (c.loop-number.invariant.paid numbered) (c.in_err-check_inode.ensures.paid numbered) in
-    rw (p.1, p.2) (paid_within all (omega arith) (omega arith))
+    rw (p.1, p.2) (record {
+      text = of_fault (Unit {0}) (Unit {0}) _ _ _ _ _ _ _ _ c.in_err-check_inode.field-0.0 inv.said
+          (λ b k. from_next (directory_lines (volume_of v b)) n (inodes_of v) (omega arith))
+          (reports_knowing (Unit {0}) _ _ _ _ _ (Err c.in_err-check_inode.field-0.0) (next g at) said.text);
+      reads = λ b k numbered.
+          let here = said.reads b (next g at b k) ((inv.before b k).noted numbered) in
+          let long = next_long (directory_lines (volume_of v b)) n (inodes_of v) (omega arith) in
+          let taken = cost_take (λ s. true) (directory_cost v b) n refl in
+          let rise = costs_rise (λ s. true) (directory_cost v b) (n + 1) (inodes_of v) (omega arith) in
+          omega (arith, here, long, taken, rise, inv.reads b k numbered);
+      paid = λ numbered. paid_within (paid_then (inv.paid numbered) (said.paid numbered)) (omega arith) (omega arith);
+    })
 
-pub returns-clause-paid : goal.returns-clause-paid
-returns-clause-paid g c = λ numbered.
-    paid_within (c.loop-number.invariant.paid numbered) (omega arith) (omega arith)
+pub returns-clause-lines : goal.returns-clause-lines
+returns-clause-lines g c =
+    let v = c.args.geometry.now.layout in
+    let inv = c.loop-number.invariant in
+    record {
+      text = of_same _ _ (λ b. []) _ _ _ inv.said
+          (λ b k. from_end (directory_lines (volume_of v b)) c.loop-number.number (inodes_of v) (omega arith));
+      reads = λ b k numbered.
+          let rise = costs_rise (λ s. true) (directory_cost v b) c.loop-number.number (inodes_of v) (omega arith) in
+          omega (arith, rise, inv.reads b k numbered);
+      paid = λ numbered. paid_within (inv.paid numbered) (omega arith) (omega arith);
+    }
