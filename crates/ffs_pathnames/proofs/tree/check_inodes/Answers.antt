@@ -120,8 +120,8 @@ returns-in_err-note_places-clause-lines g c =
     let p = err_from_is_err_and c.from_residual.result c.from_residual.ensures.1 in
     rw (p.1, p.2) (record {
       text = of_reads _ _ _ _ _ (of_begins _ _ _);
-      reads = λ b k numbered. omega (arith, c.note_places.ensures.reads b k.gives_bytes k.claims k.survey);
-      paid = λ numbered. paid_failed (omega (arith, c.in_err-note_places.ensures.most));
+      reads = λ b k numbered. omega (arith, c.note_places.ensures.reads.each b k.gives_bytes (k.claims, k.survey));
+      paid = λ numbered. paid_failed (omega (arith, c.in_err-note_places.ensures.reads.most));
     })
 
 pub returns-in_err-check_inode-clause-lines : goal.returns-in_err-check_inode-clause-lines
