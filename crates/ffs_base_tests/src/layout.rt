@@ -132,7 +132,7 @@ static TWO_GROUPS: [(usize, u64); 6] = [(36, 250), (40, 201), (44, 2), (24, 4), 
 /// Where the areas of the second group begin, and the places of what is in it and of the root; none
 /// where there are not two groups of 32 inodes.
 fn places_in(geometry: &Geometry) -> Option<([u32; 4], [u64; 4])> {
-    if geometry.layout.ncg != 2 || geometry.layout.ipg != 32 {
+    if geometry.ncg() != 2 || geometry.ipg() != 32 {
         return None;
     }
     Some((
@@ -157,10 +157,10 @@ fn places(rt: HostRuntime) -> Result<(), Fail> {
     same(
         &rt,
         &(
-            geometry.layout.ncg,
-            geometry.layout.ipg,
-            geometry.layout.fpg,
-            geometry.layout.cgoffset,
+            geometry.ncg(),
+            geometry.ipg(),
+            geometry.fpg(),
+            geometry.cgoffset(),
         ),
         &(2, 32, 128, 4),
     );

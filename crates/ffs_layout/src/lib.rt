@@ -14,6 +14,7 @@
 
 mod entries;
 mod entry;
+mod fields;
 mod geometry;
 mod group;
 mod groups;
