@@ -14,8 +14,8 @@ use Rattle.ffs_workspace.specs.declared.workspace.Workspace.{Workspace}
 use Rattle.ffs_claims.specs.{Area.IsDataArea, Leaves.{AreClaims, ClaimsOnly, HasBegun, OffersOnly, SameFound, Stored}}
 use Rattle.ffs_claims.specs.{Lines.of_lines, declared.{area.{DataArea.DataArea, Run.Run}, claim.Sweep.Sweep}}
 
--- the reserved fragments are claimed in a workspace as it was made, no Run is seen yet, and the rest
--- is as claiming leaves it
+-- in a workspace as it was made just the reserved fragments are used then; no Run is seen yet, and
+-- the rest is as claiming leaves it
 pub record Reserves (v : Layout) (old new : Workspace) : Type 0 where
   pub claims : IsFresh v old → claims_of new ≡ no_claims v
   pub runs : new.runs_seen ≡ 0
@@ -27,15 +27,15 @@ pub record CanClaim (v : Layout) (d : Device) (w : Workspace) (area : DataArea) 
   pub only_data : IsDataArea v area
 
 -- an inode can claim in a sweep: it has a number, the walk is over the volume, and more Runs can be
--- counted than inodes have. Any bound far above `runs_limit`, and far below 2^64, serves for these
+-- counted than inodes have. Any bound far above `runs_limit`, and far below 2^64, serves for the count
 pub record CanClaimInode (g : Geometry) (d : Device) (w : Workspace) (sweep : Sweep) (number : ℕ) : Type 0 where
   pub claim : CanClaim g.layout d w sweep.area
   pub walk : sweep.walk.geometry ≡ g
   pub number_fits : number < inodes_of g.layout
   pub runs : w.runs_seen < 2 ^ 40
 
--- the steps of the current inode can claim: the walk is over the volume, and nothing of the inode
--- is claimed yet
+-- the steps of the current inode can claim: the walk is over the volume, and the inode has begun, so
+-- it has no bad Run, no dup offer and no kept offer yet, and there is room to count its Runs
 pub record CanClaimSteps (g : Geometry) (d : Device) (w : Workspace) (sweep : Sweep) : Type 0 where
   pub claim : CanClaim g.layout d w sweep.area
   pub walk : sweep.walk.geometry ≡ g

@@ -8,15 +8,15 @@ use Rattle.ffs_workspace.specs.{declared.workspace.Workspace.Workspace, Found.Wi
 use Rattle.ffs_workspace.specs.Holds.{HoldsClaims, HoldsPhase1, HoldsStarts}
 use Rattle.ffs_claims.specs.RescanRuns.{rescan_runs}
 
--- phase 1 leaves what it found in the image's bytes, and has dups where phase 1b is to run. It has
--- looked at each Run once
+-- phase 1 leaves what it found in the image's bytes, and the workspace has dups just where phase 1b
+-- is to run. It has looked at each Run once
 pub record IsLeftByPhase1 (v : Layout) (bytes : List ℕ) (w : Workspace) : Type 0 where
   pub holds : HoldsPhase1 v bytes w
   pub dups : has_dups w ≡ has_rescan v (owners_of v bytes)
   pub count : w.runs_seen ≡ run_count v bytes
 
--- phase 1 reads the image once for each inode and once for each Run that it looks at. These are no
--- more than a volume can have; the count of phase 1b's Runs stays
+-- phase 1 reads the image at most once for each inode and once for each Run that it looks at. The
+-- Runs are no more than a volume can have; the count of phase 1b's Runs stays
 pub record Phase1Reads (v : Layout) (old new : Workspace) (before after : ℕ) : Type 0 where
   pub runs : new.runs_seen ≤ runs_limit v
   pub reads : after ≤ before + v.ncg * v.ipg + new.runs_seen
@@ -29,9 +29,9 @@ pub record IsLeftByPhase1b (v : Layout) (bytes : List ℕ) (w : Workspace) : Typ
   pub starts : HoldsStarts v bytes w
   pub count : w.runs_again ≡ rescan_runs v bytes
 
--- phase 1b reads the image once for each inode and once for each Run that it looks at, as long as
--- their count has room in a u64, and no more than a sweep. Where the image gives its bytes these
--- are no more Runs than phase 1 looked at, whose count stays
+-- phase 1b reads the image at most once for each inode and once for each Run that it looks at, as
+-- long as the count of Runs has room in a u64, and never more often than a sweep may. Where the image
+-- gives its bytes it looks at no more Runs than phase 1 did, whose count stays
 pub record Phase1bReads (v : Layout) (d : Device) (old new : Workspace) (before after : ℕ) : Type 0 where
   pub runs : ForBytes (WithPhase1 v d old) (λ bytes. new.runs_again ≤ run_count v bytes)
   pub reads : new.runs_again < 2 ^ 64 - 1 → after ≤ before + v.ncg * v.ipg + new.runs_again

@@ -77,8 +77,8 @@ pub record StepReported (v : Layout) (inode : ℕ) (step : Step) (k k' : Keeping
   pub next : replay_in k' ≡ replay_step_by_cut v k.cut (replay_in k) step
   pub cut : k'.cut ≡ k.cut
 
--- a step of an inode can be gone over: first kept offers of the inode can be reported, its cut isn't
--- before the step, and the step has a length
+-- a step of an inode can be gone over: first kept offers of the inode can be reported, the inode isn't
+-- cut before the step, and the step has a length
 pub record CanReportStep (v : Layout) (w : Workspace) (number : ℕ) (k : Keeping) (step : Step) : Type 0 where
   pub can : CanReport v w number
   pub going : is_replay_open k.cut (replay_in k) ≡ true

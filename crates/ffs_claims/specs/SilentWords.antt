@@ -9,7 +9,8 @@ use Rattle.ffs_walk.specs.{Windows.BlocksHold, declared.walk.Walk.Walk}
 use Rattle.ffs_workspace.specs.{Holds.claims_of, declared.workspace.Workspace.Workspace}
 use Rattle.ffs_claims.specs.{Claiming.SeesNext, Leaves.ClaimsOnly, declared.area.DataArea.DataArea}
 
--- words of an inode can be claimed: its next step can be seen, and its walk is over the volume
+-- what the next words of an indirect block offer can be claimed: the inode's next step can be seen,
+-- and its walk is over the volume
 pub record CanClaimWords (g : Geometry) (w : Workspace) (area : DataArea) (walk : Walk) : Type 0 where
   pub next : SeesNext g.layout w area (2 ^ 62)
   pub geometry : walk.geometry ≡ g

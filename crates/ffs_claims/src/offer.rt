@@ -92,8 +92,8 @@ fn offers<W: Output>(
 
 /// Takes a Run of the current inode: one in range is claimed at once where its fragments are all
 /// unclaimed and lie in one word of the map. No fragment past the volume is in range: so a bad Run
-/// that begins there is kept at once, and nothing of it is claimed or dup. Returns whether the next
-/// step is seen.
+/// that begins there is kept at once, unless it is the eleventh, which cuts the inode; nothing of it
+/// is claimed or dup. Other offers are taken one by one. Returns whether the next step is seen.
 fn run<W: Output>(
     workspace: &mut Workspace,
     geometry: &Geometry,

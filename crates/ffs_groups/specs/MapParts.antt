@@ -1,7 +1,7 @@
 -- The parts of a map that are compared at a time: words of 64 bits, and what is left.
 use Rattle.std.specs.{Prelude.{◌≡◌, ◌≢◌, ◌+◌, ◌*◌, ◌^◌, ◌<◌, ◌≤◌, ℕ, Bool, nat_eq}, Int.bit_at}
 
--- so many of a list from one on are within it, and no more than most
+-- `many` elements from index `first` on lie in a list of `size`, and are at most `most`
 pub record AreFewIn (most size first many : ℕ) : Type 0 where
   pub few : many ≤ most
   pub inside : first + many ≤ size
@@ -18,7 +18,7 @@ pub record IsClearAt (word index : ℕ) : Type 0 where
   pub within : index < 64
   pub clear : bit_at word index ≡ 0
 
--- a bit of a word is this one now, and the others are as they were
+-- the bit at an index has this value now, and the others are as they were
 pub record SetsBit (old new index : ℕ) (right : Bool) : Type 0 where
   pub bit : nat_eq (bit_at new index) 1 ≡ right
   pub other : (k : ℕ) → k ≢ index → bit_at new k ≡ bit_at old k

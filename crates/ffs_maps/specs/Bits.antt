@@ -32,7 +32,7 @@ pub record IsInWord (start len n : ℕ) : Type 0 where
   pub one_word : start % 64 + len ≤ 64
   pub below : start + len ≤ n
 
--- such a run isn't empty
+-- a run isn't empty, and lies in one word and in a map of n fragments
 pub record IsSomeInWord (start len n : ℕ) : Type 0 where
   pub some : 0 < len
   pub run : IsInWord start len n

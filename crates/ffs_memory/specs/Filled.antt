@@ -1,4 +1,4 @@
--- What a list shows, and what a call leaves of it; some hold one value until another is set.
+-- What a list shows, and what a call leaves of it; some lists hold one value until another is set.
 use Rattle.std.specs.Prelude.{◌≡◌, ◌+◌, ◌++◌, ◌-◌, ℕ, List, drop, length, replicate, slice_set, take, vec_capacity}
 use Rattle.std.{specs.List.Sorted.{IsNonDecreasing, IsPermutation}, proofs.Common.{ap, sym, ◌∙◌, length-append}}
 use Rattle.std.{proofs.{Math.Nat.{add-sub_of_le, le_refl}, lemmas.List.length-replicate}, specs.Prelude.vec_len}

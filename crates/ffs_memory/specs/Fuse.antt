@@ -12,7 +12,7 @@ is_blown left = left == 1
 abbrev pub left_after : ℕ → ℕ
 left_after left = left - 1
 
--- a request is counted; it is blown where it is the one to be refused, and is counted as such then
+-- a request is counted; the fuse is blown where it is the one to be refused, and counts that too
 pub record CountsRequest {M : Type 0} (old new : FuseMemory M) (blown : Bool) : Type 0 where
   pub value : blown ≡ is_blown old.left
   pub counted : new ≡ record old {

@@ -9,7 +9,7 @@ pub record Words : Type 0 where
   pub address : Ptr
   pub room : ℕ
 
--- these are the words up to one of them, and all after it are 0
+-- these are the first words, and all others are 0
 pub record AreTouched (all : Words) (touched : List ℕ) : Type 0 where
   pub len : length touched ≤ length all.list
   pub words : (k : ℕ) → slice_index_or all.list k 0 ≡ slice_index_or touched k 0

@@ -83,8 +83,8 @@ directory_cost v b x = if is_dir (volume_of v b) x then 1 + directory_runs v b x
 abbrev pub directories_cost : Layout → List ℕ → ℕ
 directories_cost v b = costs_all (directory_cost v b) (v.ncg * v.ipg)
 
--- a call reads no more often than all directories take, by bytes of the image that are known to be
--- right, and by any bytes no more often than a sweep may
+-- a call reads no more often than all directories take, by the bytes of the image where `known` holds
+-- of them, and any image no more often than a sweep may
 pub record SweepsOnce (v : Layout) (contents : Option (List ℕ)) (known : List ℕ → Type 0) (reads reads' : ℕ) : Type 0
   where
     pub each : ForContents contents (λ b. known b → reads' ≤ reads + directories_cost v b)

@@ -35,8 +35,8 @@ abbrev pub IsInside : Entries → Type 0
 IsInside r =
     last_place r.chunks.run_cursor + 512 ≤ r.chunks.walk.geometry.layout.size * r.chunks.walk.geometry.layout.fsize
 
--- an entry was given from a chunk that is what an image of these contents has at its place, in the
--- volume, if that was so of the chunk before, where an entry of it might come
+-- an entry was given. Its chunk lies in the volume, and is what an image of these contents has there;
+-- of the chunk before this is supposed, if an entry of it might still come
 pub record GivesFromChunk (contents : Option (List ℕ)) (old new : Entries) : Type 0 where
   pub held : ForContents contents (λ b. MayTake b old → IsHeld b new)
   pub inside : (old.place < 512 → IsInside old) → IsInside new

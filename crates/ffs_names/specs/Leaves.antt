@@ -18,8 +18,8 @@ pub record LeavesRun {T : Type 0} (cursor : RunCursor) (d d' : Device) (reads re
   pub counted : HoldsRun w cursor → reads' ≤ reads + unread_run cursor
   pub held : OnOk result (cursor.next + 1 < cursor.count → (w'.place ≡ cursor.place) × (w'.length ≡ cursor.length))
 
--- what a call leaves that moves on to a Run: it can walk on, and only reads the image, as often as
--- the reading may
+-- what a call leaves that moves on to a Run, or looks for holes: it can walk on, and only reads the
+-- image, at most as often as the reading may
 pub record LeavesWalk {T : Type 0} (old new : Chunks) (d d' : Device) (reads reads' : ℕ) (blocks blocks' : Blocks)
     (result : Result T ImageFault) : Type 0 where
   pub same : IsSame old new
@@ -35,8 +35,8 @@ pub record LeavesChunks {T : Type 0} (old new : Chunks) (d d' : Device) (blocks 
   pub ready : CanReadChunks old.walk.geometry.layout d' blocks chunk
   pub read : ReadAfter d d' result
 
--- what a call leaves that looks for holes
-pub record LeavesLook {T : Type 0} (old new : Chunks) (d d' : Device) (blocks : Blocks) (result : Result T ImageFault) :
+-- what a call leaves that walks on, but for how often it reads
+pub record LeavesBlocks {T : Type 0} (old new : Chunks) (d d' : Device) (blocks : Blocks) (result : Result T ImageFault) :
     Type 0 where
   pub same : IsSame old new
   pub ready : CanWalkDir old.walk.geometry.layout d' blocks

@@ -11,7 +11,8 @@ use Rattle.ffs_workspace.specs.Places.{entries_in_chunk, is_due, name_in, place_
 use Rattle.ffs_workspace.specs.{Places.IsNoted, Holds.HoldsSurvey, Ready.IsReady}
 use Rattle.ffs_workspace.specs.declared.workspace.Workspace.{Workspace}
 
--- a place of 31 bits can be noted for children of p, a number of an inode, by lists of one length
+-- a place that isn't 0 and has 31 bits can be noted for children of p, which isn't 0, by lists of one
+-- length
 pub record CanNote (parents words : Vec ℕ Global) (p place : ℕ) : Type 0 where
   pub dir : 0 < p
   pub some : 0 < place

@@ -93,14 +93,15 @@ ContinuesTo b old new = Continues b old (steps_left b old.walk) new (steps_left 
 abbrev pub CountsNoMore : List ℕ → Chunks → Chunks → Type 0
 CountsNoMore b old new = new.runs + runs_left b new ≤ old.runs + runs_left b old
 
--- what becomes of the count of Runs in a call that may fail: it never falls, and a fault adds none
+-- the count of Runs never falls in a call, and after a fault no more of them are counted and to be
+-- counted than before
 pub record CountsRuns {T : Type 0} (contents : Option (List ℕ)) (old new : Chunks) (result : Result T ImageFault) :
     Type 0 where
   pub rises : old.runs ≤ new.runs
   pub fault : OnErr result (ForContents contents (λ b. CountsNoMore b old new))
 
--- a Run with a chunk left was found, of fewer that may come; else all is seen of an image of these
--- contents
+-- a Run with a chunk left was found, and fewer steps are left than steps and chunks were before; else
+-- all is seen of an image of these contents
 pub record FindsNextRun (contents : Option (List ℕ)) (old new : Chunks) (found : Bool) : Type 0 where
   pub more : found ≡ true → new.run_cursor.next < new.run_cursor.count
   pub falls : found ≡ true → most_steps_left new.walk < ahead old

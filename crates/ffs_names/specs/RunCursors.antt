@@ -33,6 +33,6 @@ abbrev pub last_place : RunCursor → ℕ
 last_place cursor = cursor.place + 512 * (cursor.next - 1)
 
 -- a chunk is what an image of these contents has at that place, in the volume
-pub record IsLastChunk (v : Layout) (contents : Option (List ℕ)) (cursor : RunCursor) (chunk : List ℕ) : Type 0 where
+pub record IsGivenChunk (v : Layout) (contents : Option (List ℕ)) (cursor : RunCursor) (chunk : List ℕ) : Type 0 where
   pub bytes : ForContents contents (λ b. chunk ≡ piece (last_place cursor) 512 b)
   pub inside : last_place cursor + 512 ≤ v.size * v.fsize

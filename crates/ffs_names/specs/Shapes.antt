@@ -38,7 +38,8 @@ pub record BeginsDirectory (v : Layout) (inode : Inode) (cut : ℕ) (r : Entries
   pub to_read : (b : List ℕ) → entries_to_read b r ≤ replayed_runs v cut fresh_replay (steps_of v inode b)
   pub held : (blocks : Blocks) (w : Window) → HoldsEntries blocks w r
 
--- no entry comes any more of a reading in a volume of this geometry, and it takes no read
+-- no entry comes any more of a reading in a volume of this geometry; it shows no right shape, and
+-- takes no read
 pub record HasStopped (g : Geometry) (r : Entries) : Type 0 where
   pub entries : (b : List ℕ) → to_come b r ≡ []
   pub shape : (b : List ℕ) → has_right_shape b r ≡ false

@@ -17,7 +17,7 @@ pub record IsUntouched (old new : Workspace) : Type 0 where
   pub runs_again : new.runs_again ≡ old.runs_again
 
 -- what a survey leaves: the workspace is ready for the next call, and the image was only read
-pub record SurveyLeaves {T : Type 0} (v : Layout) (d d' : Device) (old new : Workspace) (result : Result T ImageFault) :
+pub record LeavesClaims {T : Type 0} (v : Layout) (d d' : Device) (old new : Workspace) (result : Result T ImageFault) :
     Type 0 where
   pub same : IsUntouched old new
   pub ready : IsReady v d' new

@@ -48,7 +48,7 @@ pub struct Chunks {
 
 impl Chunks {
     ghost use Rattle.ffs_names.specs.Costs.{to_read, BeginsAtChunk, BeginsReads, HoldsReading, SeesRun};
-    ghost use Rattle.ffs_names.specs.RunCursors.{last_place, IsLastChunk};
+    ghost use Rattle.ffs_names.specs.RunCursors.{last_place, IsGivenChunk};
     ghost use Rattle.ffs_names.specs.Readings.{all_chunks, rest, CanSee, ContinuesTo, CountsNoMore, CountsRuns, FindsNextRun, GivesChunk, BeginsAt, IsSame, LeavesReading};
     ghost use Rattle.ffs_names.specs.Leaves.{LeavesChunks, LeavesWalk};
 
@@ -120,7 +120,7 @@ impl Chunks {
         ensures chunk { ForContents (I.device image.old).contents (λ b. MatchResult result
             (GivesChunk b (all_chunks b) self.old self.new chunk.new)
             (λ _. CountsNoMore b self.old self.new)) }
-        ensures place { IfOk result (λ o. IfSome o (λ _. IsLastChunk self.old.walk.geometry.layout
+        ensures place { IfOk result (λ o. IfSome o (λ _. IsGivenChunk self.old.walk.geometry.layout
             (I.device image.old).contents self.new.run_cursor chunk.new)) }
         ensures reads { HoldsReading blocks.old window.old self.old
             → ForContents (I.device image.old).contents (λ b. TakesReads (I.reads image.old)
@@ -228,7 +228,7 @@ impl Chunks {
             window.old }
         ensures chunk { IfOk result (λ offset. ForContents (I.device image.old).contents
             (λ b. GivesChunk b (rest b) self.old self.new chunk.new offset)) }
-        ensures place { IfOk result (λ o. IfSome o (λ _. IsLastChunk self.old.walk.geometry.layout
+        ensures place { IfOk result (λ o. IfSome o (λ _. IsGivenChunk self.old.walk.geometry.layout
             (I.device image.old).contents self.new.run_cursor chunk.new)) }
         ensures runs { CountsRuns (I.device image.old).contents self.old self.new result }
         ensures budget { MatchResult result

@@ -55,7 +55,7 @@ fn has_right_size(inode: &Inode) -> bool
 }
 
 impl Entries {
-    ghost use Rattle.ffs_names.specs.{Costs.{entries_to_read, HoldsEntries}, Leaves.LeavesLook, Readings.LeavesReading};
+    ghost use Rattle.ffs_names.specs.{Costs.{entries_to_read, HoldsEntries}, Leaves.LeavesBlocks, Readings.LeavesReading};
     ghost use Rattle.ffs_names.specs.Shapes.{has_right_shape, BeginsDirectory, GivesEntry, HasEnded, HasStopped, IsChunkOver, IsSameChunk, TakesEntry};
     ghost use Rattle.ffs_names.specs.Entering.{left, last_name, GivesFromChunk};
 
@@ -223,7 +223,7 @@ impl Entries {
             → ForContents (I.device image.old).contents (λ b. TakesReads (I.reads image.old)
             (I.reads image.new) (entries_to_read b self.old) (entries_to_read b self.new)
             (HoldsEntries blocks.new w self.new) result) }
-        ensures leaves { LeavesLook self.old.chunks self.new.chunks (I.device image.old)
+        ensures leaves { LeavesBlocks self.old.chunks self.new.chunks (I.device image.old)
             (I.device image.new) blocks.new result }
     {
         if !self.right_so_far {

@@ -3,7 +3,7 @@
 ghost use Rattle.std.specs.Prelude.{◌+◌, ◌≤◌, OnOk};
 ghost use Rattle.ffs_image.specs.{Device.ForContents, Reads.ReadAfter};
 ghost use Rattle.ffs_workspace.specs.{Ready.IsReady, Holds.{HoldsClaims, HoldsReferences, HoldsStarts, HoldsSurvey}};
-ghost use Rattle.ffs_names.specs.{Surveys.{FlagsCalm, IsUntouched, SurveyLeaves}, Costs.{directories_cost, SweepsOnce}};
+ghost use Rattle.ffs_names.specs.{Surveys.{FlagsCalm, IsUntouched, LeavesClaims}, Costs.{directories_cost, SweepsOnce}};
 
 use crate::entries::Entries;
 use crate::reader::DirectoryReader;
@@ -97,7 +97,7 @@ pub fn survey<I: Image>(
     ensures reads { SweepsOnce geometry.now.layout (I.device image.old).contents
         (λ b. HoldsClaims geometry.now.layout b workspace.old) (I.reads image.old)
         (I.reads image.new) }
-    ensures leaves { SurveyLeaves geometry.now.layout (I.device image.old) (I.device image.new)
+    ensures leaves { LeavesClaims geometry.now.layout (I.device image.old) (I.device image.new)
         workspace.old workspace.new result }
 {
     let mut limited = LimitedImage::new(image, sweep_reads(geometry));

@@ -24,7 +24,7 @@ use ffs_names::is_one_dot;
 use ffs_paths::{DirectoryPath, EntryPaths, KeptParent, PathBuffer, PathText};
 use ffs_report::{DotLine, Line, OutFault, Output, Report, RunFault};
 use ffs_volume::{Attr, Role};
-use ffs_workspace::{Workspace, line_reads};
+use ffs_workspace::{PATH_READS, Workspace, line_reads};
 
 /// An entry of a directory, with its role there.
 #[derive(Clone, Copy, Debug)]
@@ -88,7 +88,7 @@ fn path_reads(geometry: &Geometry) -> Option<u64>
         × (n ≡ path_reads)) }
 {
     match line_reads(geometry) {
-        Some(reads) => Some(reads / 2),
+        Some(_) => Some(PATH_READS),
         None => None,
     }
 }

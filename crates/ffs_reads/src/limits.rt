@@ -5,7 +5,7 @@ ghost use Rattle.ffs_reads.specs.Limits.{in_u64, part_reads};
 
 use crate::parts::Part;
 use ffs_layout::Layout;
-use ffs_workspace::{LINE_READS, OTHER_RUNS};
+use ffs_workspace::{LINE_READS, RUNS_WITHOUT_CLAIM};
 
 /// The superblock, and the last copy of it.
 pub const OPENING_READS: u64 = 2;
@@ -19,7 +19,7 @@ fn sweep_reads(layout: &Layout) -> u64
 {
     let inodes = u64::from(layout.ncg) * u64::from(layout.ipg);
     inodes
-        .saturating_mul(1 + OTHER_RUNS)
+        .saturating_mul(1 + RUNS_WITHOUT_CLAIM)
         .saturating_add(layout.size.into())
 }
 

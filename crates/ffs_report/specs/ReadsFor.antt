@@ -2,8 +2,8 @@
 use Rattle.std.specs.Prelude.{◌≤◌, ◌+◌, ℕ, List, Result}
 use Rattle.ffs_report.specs.{Known.ForBytes, Paid.Paid, Progress.Progress, declared.fault.RunFault.RunFault}
 
--- an image whose bytes are known was read no more often than they have messages, and any image no
--- more often than messages were begun
+-- where the image's bytes are known it was read at most `many` of them times, and any image at most
+-- once for each message that was begun
 pub record ReadsFor {T : Type 0} (knows : List ℕ → Type 0) (many : List ℕ → ℕ) (old new : Progress)
     (before after : ℕ) (result : Result T RunFault) : Type 0 where
   pub known : ForBytes knows (λ bytes. after ≤ before + many bytes)

@@ -11,14 +11,15 @@ pub record StartsOver {S : Type 0} (name : GName) (writer : S) (out : Counted S)
   pub failures : out.failures ≡ 0
 
 -- a call of a writer that is muted by a failure: it has failed from then on just where its answer
--- is an error. Once it has failed, it and the writer below are untouched; before, that one is asked
+-- is an error. Once it has failed, it and the writer below are untouched; before, `asked` holds of that
+-- one
 pub record IsMuted {S T E : Type 0} (old new : MutedWriter S) (result : Result T E) (asked : Type 0) : Type 0 where
   pub failed : IsErr result ↔ (new.failed ≡ true)
   pub muted : OnTrue old.failed (new ≡ old)
   pub passed : OnFalse old.failed asked
 
--- a write of bytes passes on what a fuse still passes on of them, which it lessens by what was
--- taken; with nothing left it is an error that no writer below is asked for
+-- of a write that isn't empty the writer below is asked for as many bytes as the fuse has left, and
+-- what it took burns; with nothing left such a write is an error, and no writer is asked
 pub record BurnsAtWrite {S : Type 0} (was_written : S → List ℕ → Result ℕ Error → S → Type 0) (old new : FuseWriter S)
     (bytes : List ℕ) (result : Result ℕ Error) : Type 0 where
   pub left : MatchResult result (λ n. new.left + n ≡ old.left) (λ _. new.left ≡ old.left)

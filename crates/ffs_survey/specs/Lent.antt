@@ -58,7 +58,7 @@ lent_in l = record {
 pub record SameLists (old new : Lists) : Type 0 where
   pub lent : lent_in new ≡ lent_in old
 
--- and references, named inodes and calm directories as they were
+-- a call leaves the lists that it was lent, and references, named inodes and calm flags as they were
 pub record KeepsCounts (old new : Lists) : Type 0 where
   pub same : SameLists old new
   pub references : new.references.now.items ≡ old.references.now.items
@@ -70,7 +70,7 @@ pub record KeepsReached (old new : Lists) : Type 0 where
   pub reached : new.reached.now ≡ old.reached.now
   pub calm : new.calm.now ≡ old.calm.now
 
--- only parents change
+-- parents and the queue alone may change
 pub record ChangesParents (old new : Lists) : Type 0 where
   pub counts : KeepsCounts old new
   pub kept : KeepsReached old new
@@ -127,13 +127,13 @@ module _ {S : Type 0} (D : Ghosts S) where
     pub read : ReadAfter (D.device old) (D.device new) result
     pub counted : (b : List ℕ) → D.knows (D.base old) b → D.reads new ≤ D.reads old + cost (D.cost (D.base old) b)
 
-  -- and the lists that it was lent
+  -- a call leaves the reader so, and the lists that it was lent
   pub record LeavesLent {T : Type 0} (cost : (ℕ → ℕ) → ℕ) (old new : S) (l l' : Lists)
       (result : Result T ImageFault) : Type 0 where
     pub reader : LeavesDirectories cost old new result
     pub lists : SameLists l l'
 
-  -- and what is reached and calm as it was
+  -- a call leaves the reader and its lists so, and what is reached and calm as it was
   pub record LeavesReached {T : Type 0} (cost : (ℕ → ℕ) → ℕ) (old new : S) (l l' : Lists)
       (result : Result T ImageFault) : Type 0 where
     pub lent : LeavesLent cost old new l l' result
@@ -147,8 +147,9 @@ module _ {S : Type 0} (D : Ghosts S) where
     pub read : ReadAfter (D.device old) (D.device new) result
     pub counted : (b : List ℕ) → D.knows (D.base old) b → D.held old → D.reads new ≤ D.reads old + D.to_read old b
 
-  -- all directories that are reached from inode 2 are read, each once, and references counted on from
-  -- what the lists held. No inode has more than 2^59 of them then
+  -- all directories that are reached from inode 2 are read, each once, references are counted on from
+  -- what the lists held, and only calm directories have a flag. No inode has more than 2^59 references
+  -- then
   pub record ReadsEachReached (old new : S) (l l' : Lists) : Type 0 where
     pub counts : CountsAtMost (2 ^ 59) l'
     pub part : ForKnown old (λ entries right_shape. IsReachedPart (graph_with l.kinds.now entries)

@@ -45,8 +45,8 @@ pub record IsSameBlock (old new : Frame) : Type 0 where
   pub first : new.first ≡ old.first
   pub used : new.used ≡ old.used
 
--- the next item of a frame is taken, and then its block was read; where a read failed none is. In
--- both cases the frame stays in its block
+-- the next item of a frame is taken, and its block counts as read then; where a read failed none is.
+-- In both cases the frame stays in its block
 pub record TakesItem (v : Layout) (contents : Option (List ℕ)) (span : ℕ) (old new : Frame)
     (result : Result Item ImageFault) : Type 0 where
   pub item : IfOk result (IsNextItem v contents span old new)

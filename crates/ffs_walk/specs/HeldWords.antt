@@ -27,8 +27,8 @@ pub record PassesWord (blocks : Blocks) (old new : Walk) : Type 0 where
       ∷ steps_left bytes new)
   pub held : IsInHeldBlock blocks new
 
--- a walk passes over the next word of the single indirect block that it is in, in each case where
--- that block is held; no other block is then to be read
+-- a walk passes over the next word of the single indirect block that it is in, and over the step at
+-- that word where the block is held; no block more is to be read then
 pub record PassesNextWord (old new : Walk) : Type 0 where
   pub word : (blocks : Blocks) → IsInHeldBlock blocks old → PassesWord blocks old new
   pub falls : most_steps_left new < most_steps_left old

@@ -85,7 +85,7 @@ pub record Stops (old new : Walk) : Type 0 where
   pub triple : new.triple.used ≡ 0
   pub top : new.used ≡ 0
 
--- a walk in a volume that has no step left
+-- a walk of this geometry that is over
 pub record IsEndedWalk (g : Geometry) (w : Walk) : Type 0 where
   pub over : IsOver w
   pub geometry : w.geometry ≡ g
@@ -118,8 +118,8 @@ pub record Enters (w : Walk) (span address first : ℕ) (made : Step) (frame : F
   pub fits : FrameFits w.geometry.layout w.logical_blocks span frame
   pub counted : IsEntered made frame
 
--- an item of a level comes next in a walk: it is of one of the inode's logical blocks, and nothing is
--- left in the indirect blocks below it
+-- an item of a level was taken in a walk: a word's logical block is one of the inode and isn't direct,
+-- and nothing is left in the indirect blocks of the levels below
 pub record ComesNext (level : ℕ) (w : Walk) (item : Item) : Type 0 where
   pub below : IsBelow w.logical_blocks item
   pub single : 1 ≤ level → IsSpent w.single
@@ -135,20 +135,21 @@ pub record IsFirstOf (level : ℕ) (item : Item) (old new : Walk) (step : Step) 
   pub same : SameFileBlocks old new
   pub counted : EntersOnly old new (entered step)
 
--- the next step of a walk is given, or a read failed; a walk that is over stays so
+-- the next step of a walk is taken, or a read failed, which doesn't end the walk; a walk that is over
+-- stays as it is
 pub record GivesStep (contents : Option (List ℕ)) (old new : Walk) (result : Result (Option Step) ImageFault) :
     Type 0 where
   pub step : IfOk result (IsNextStep contents old new)
   pub over : IsOver old → (result ≡ Ok None) × (new ≡ old)
   pub same : SameFileBlocks old new
 
--- the step at the next of the inode's own addresses is given, whatever the image holds
+-- the step at the next of the inode's own addresses is taken, whatever the image holds
 pub record IsTopStep (old new : Walk) (answer : Option Step) : Type 0 where
   pub gives : (contents : Option (List ℕ)) → GivesStep contents old new (Ok answer)
   pub counted : EntersOnly old new (entered_by answer)
 
 -- the next step of a walk is taken, and the walk has the others left; it is over after a failed
--- read. Only a block that was still to be read is read
+-- read. Where the blocks that were read are held, only one that was still to be read is read
 pub record TakesStep (d d' : Device) (reads reads' : ℕ) (before after : Blocks) (old new : Walk)
     (result : Result (Option Step) ImageFault) : Type 0 where
   pub step : IfOk result (IsNextStep d.contents old new)

@@ -67,7 +67,7 @@ pub record HoldsBlockAt (v : Layout) (contents : Option (List ℕ)) (level at : 
   pub address : held_address level blocks ≡ Some at
   pub bytes : ForContents contents (λ b. level_bytes v level blocks ≡ block_bytes v b at)
 
--- the block at an address may be asked for, for a level: it is in range, and blocks can be walked
+-- the block at an address may be asked for, for a level: it is in range, and a walk may read
 pub record CanFill (v : Layout) (d : Device) (level at : ℕ) (blocks : Blocks) : Type 0 where
   pub is_level : level < 3
   pub in_range : IsTrue (is_run_in_range v at v.frag)

@@ -6,16 +6,15 @@ ghost use Rattle.ffs_workspace.specs.Places.{AreChunksNumbered};
 use ffs_layout::Geometry;
 use ffs_volume::constants::{DIRBLKSIZ, MAXPATHLEN};
 
-/// How many reads a path takes at most: for that of the parent a chunk for each name that has room,
-/// and for one that has none, and a chunk for the directory's own name.
+/// How many reads a path takes at most: for its parent's path one chunk for each name that has room
+/// and one for a name that has none, then one for the directory's own name.
 pub const PATH_READS: u64 = MAXPATHLEN as u64 / 2 + 2;
 
 /// How many reads a message of phase 2 takes at most: two paths and an inode.
 pub const LINE_READS: u64 = 2 * PATH_READS + 1;
 
-/// How many Runs of an inode may claim no fragment that was free: eleven bad ones, and eleven with
-/// dup offers.
-pub const OTHER_RUNS: u64 = 22;
+/// How many Runs of an inode may claim no fragment: eleven bad ones, and eleven with dup offers.
+pub const RUNS_WITHOUT_CLAIM: u64 = 22;
 
 /// How many chunks of an image have a number that a place can note.
 const NUMBERED_CHUNKS: u64 = (1 << 31) - 1;
@@ -26,7 +25,7 @@ pub fn sweep_reads(geometry: &Geometry) -> u64
     ensures { result ≡ sweep_reads geometry.now.layout }
 {
     let inodes = u64::from(geometry.layout.ncg) * u64::from(geometry.layout.ipg);
-    inodes + (u64::from(geometry.layout.size) + OTHER_RUNS * inodes)
+    inodes + (u64::from(geometry.layout.size) + RUNS_WITHOUT_CLAIM * inodes)
 }
 
 /// At most how many reads are made for what a message of phase 2 shows, on a volume of less than
