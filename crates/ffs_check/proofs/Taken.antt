@@ -8,7 +8,7 @@ use Rattle.ffs_volume.specs.{Disk.{Outcome.outcome, Superblock.Superblock}, Repo
 use Rattle.ffs_report.specs.Progress.{Progress}
 use Rattle.ffs_layout.specs.{declared.superblock.Super.Super, Super.{ReadsSuper, superblock_in}}
 use Rattle.ffs_workspace.specs.Lengths.{held_of}
-use Rattle.ffs_check.specs.{PhaseEnds.SaysPhases, Opening.SaysOpening, Taken.{AsksMemory, TakesOf, TakesOfSystem}}
+use Rattle.ffs_check.specs.{PhaseEnds.SaysPhases, Opening.SaysOpening, Taken.{AsksMemory, TakesOfMemory, TakesOfSystem}}
 use Rattle.ffs_check.specs.Taken.{TakesWorkspace}
 
 accepted_by : (image image' : Device) (sector : Option ℕ) (s : Superblock) → ReadsSuper image image' sector (Ok s) →
@@ -48,7 +48,7 @@ opened_for_memory image on old new name sector end o e = grind (arith, not_broke
 
 -- a check over the memory of the system, which was new
 pub of_system : (image : Device) (sector : Option ℕ) (end : End) (memory memory' : SystemMemory) →
-    account_of memory ≡ unused → TakesOf image sector (account_of memory) (account_of memory') end →
+    account_of memory ≡ unused → TakesOfMemory image sector (account_of memory) (account_of memory') end →
     TakesOfSystem image sector end
 of_system image sector end memory memory' begun taken =
     record { memory = memory; memory' = memory'; begun = begun; taken = taken }

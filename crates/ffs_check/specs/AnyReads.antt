@@ -25,7 +25,7 @@ pub record PhasesRead {Sent : Type 0} (whole broken : Sent → Sent → List Mes
   pub known : ForBytes knows (λ bytes. PhasesReadWithin s bytes before after)
   pub any : AreChunksNumbered s.layout → ReadsByMessages whole broken (phase_reads s.layout) old new before after
 
--- the same up to their answer, for the messages that were begun
+-- the same, by what the phases answered: of any image for the messages that were begun
 pub record PhasesPay {T : Type 0} (knows : List ℕ → Type 0) (s : Superblock) (old new : Progress) (before after : ℕ)
     (result : Result T RunFault) : Type 0 where
   pub known : ForBytes knows (λ bytes. PhasesReadWithin s bytes before after)

@@ -52,7 +52,7 @@ pub record OpeningOf {Sent : Type 0} (whole broken : Sent → Sent → List Mess
   pub ends : OpeningEnds whole broken image image' old new name asked_sector found result
 
 -- an accepted volume lies within the image, and a superblock that can't be read is a failed read, or
--- lies past the image's end. It is read, and its last copy
+-- lies past the image's end. Two reads are made at most: of the superblock, and of its last copy
 pub record AnswersOpening (image image' : Device) (asked_sector : Option ℕ) (before after : ℕ)
     (result : Result Super End) : Type 0 where
   pub found : MatchResult result (λ super. super.geometry.layout.size * super.geometry.layout.fsize ≤ image.size)

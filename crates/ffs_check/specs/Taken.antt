@@ -29,7 +29,7 @@ abbrev pub Takes : Device → Option ℕ → Account → Account → Type 0
 Takes image asked_sector old new = (new ≡ old) ⊎ TakesWorkspace image asked_sector old new
 
 -- what a check takes of a memory. It ends as `NoMemory` only where a request was refused
-pub record TakesOf (image : Device) (asked_sector : Option ℕ) (old new : Account) (end : End) : Type 0 where
+pub record TakesOfMemory (image : Device) (asked_sector : Option ℕ) (old new : Account) (end : End) : Type 0 where
   pub takes : Takes image asked_sector old new
   pub refused : end ≡ NoMemory → RefusedOneMore old new
 
@@ -39,4 +39,4 @@ pub record TakesOfSystem (image : Device) (asked_sector : Option ℕ) (end : End
   pub memory : SystemMemory
   pub memory' : SystemMemory
   pub begun : account_of memory ≡ unused
-  pub taken : TakesOf image asked_sector (account_of memory) (account_of memory') end
+  pub taken : TakesOfMemory image asked_sector (account_of memory) (account_of memory') end

@@ -6,8 +6,9 @@ use Rattle.ffs_workspace.specs.{declared.workspace.Workspace.Workspace, Leaves.L
 use Rattle.ffs_workspace.specs.Ready.{IsReady}
 use Rattle.ffs_connectivity.specs.Leaders.{HasLeaders}
 
--- x is an inode of the volume, and it is known which directories represent their cycle
-pub record CanFindLost (v : Layout) (d : Device) (w : Workspace) (x : ℕ) : Type 0 where
+-- the workspace is ready, x is an inode of the volume, and it is known which directories represent
+-- their cycle
+pub record CanReportLost (v : Layout) (d : Device) (w : Workspace) (x : ℕ) : Type 0 where
   pub ready : IsReady v d w
   pub number : (2 ≤ x) × (x < inodes_of v)
   pub leaders : HasLeaders w

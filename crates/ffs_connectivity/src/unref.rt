@@ -4,7 +4,7 @@ ghost use Rattle.std.specs.Prelude.{length, map};
 ghost use Rattle.ffs_report.specs.{Progress.progress, PhaseOutcome.PhaseOutcome, ReadsFor.ReadsFor};
 ghost use Rattle.ffs_volume.specs.{Messages.Kinds.of_tree, Directories.Volumes.volume_of};
 ghost use Rattle.ffs_workspace.specs.{Found.WithSurvey, Ready.StaysReady};
-ghost use Rattle.ffs_connectivity.specs.{Lines.unref_dir_lines, Phase3.CanFindLost};
+ghost use Rattle.ffs_connectivity.specs.{Lines.unref_dir_lines, Phase3.CanReportLost};
 
 use ffs_image::Image;
 use ffs_layout::Geometry;
@@ -25,7 +25,7 @@ pub fn check_inode<I: Image, W: Output>(
     number: u32,
     report: &mut Report<'_, W>,
 ) -> Result<(), RunFault>
-    requires { CanFindLost geometry.now.layout (I.device image.old) workspace.old number }
+    requires { CanReportLost geometry.now.layout (I.device image.old) workspace.old number }
     ensures prints { PhaseOutcome
         (WithSurvey geometry.now.layout (I.device image.old) workspace.old)
         (λ bytes. map of_tree (unref_dir_lines (volume_of geometry.now.layout bytes) number))

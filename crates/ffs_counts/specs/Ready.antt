@@ -12,7 +12,7 @@ pub record HasElements (w : Workspace) (number : ℕ) : Type 0 where
   pub named : number < vec_len w.named
   pub references : number < vec_len w.references
 
--- x is an allocated inode of the volume
+-- the workspace is ready, and x is an allocated inode of the volume
 pub record CanCheckUsed (v : Layout) (d : Device) (w : Workspace) (x : ℕ) : Type 0 where
   pub ready : IsReady v d w
   pub number : x < inodes_of v

@@ -31,8 +31,8 @@ pub record CanReadRecord (v : Layout) (d : Device) (c : ℕ) (t : Table) : Type 
   pub group : c < v.ncg
   pub ready : CanReadInodes v d t
 
--- the record of group c is read with those round it, and the answer is where it is in the window of
--- the table
+-- the record of group c is read with those round it, by one read at most, and the answer is where it
+-- is in the window of the table
 pub record ReadsRecord (v : Layout) (d d' : Device) (before after : ℕ) (c : ℕ) (t : Table)
     (result : Result ℕ ImageFault) : Type 0 where
   pub there : IfOk result (HoldsRecord v d.contents t.window c)

@@ -8,7 +8,7 @@ use Rattle.ffs_workspace.specs.{declared.workspace.Workspace.Workspace, Places.A
 use Rattle.ffs_workspace.proofs.Readiness.{ready_same}
 use Rattle.ffs_paths.specs.{Reads.{OnlyReads, ReadsAtMost}, KeptParents.{KeepsParent, PathLeaves}}
 use Rattle.ffs_paths.specs.declared.kept_parent.KeptParent.{KeptParent}
-use Rattle.ffs_pathnames.{specs.{DirectoryContext.DirectoryContext, Ready.GatherLeaves}, proofs.LineCounts.knows_places}
+use Rattle.ffs_pathnames.{specs.{DirectoryContext.DirectoryContext, Ready.LimitedPathLeaves}, proofs.LineCounts.knows_places}
 
 -- what was gathered over a limited image leaves of the image below and of the workspace; where a
 -- read was refused, what is kept of the parent is forgotten
@@ -16,9 +16,9 @@ pub record IsGathered {T : Type 0} (n : ℕ) (v : Layout) (d d' : Device) (name_
     (w w' : Workspace) (s : KeptParent) (spent : Bool) (r : Result T ImageFault) : Type 0 where
   pub same_image : name_lent ≡ name
   pub all : (b : List ℕ) (x : ℕ) → DirectoryContext v d.contents w x b → spent ≡ true → ⊥
-  pub leaves : spent ≡ false → GatherLeaves n v d d' count count' w w' s r
+  pub leaves : spent ≡ false → LimitedPathLeaves n v d d' count count' w w' s r
   pub forgets : spent ≡ true → (x : T) (s' : KeptParent) → KeepsParent v d'.contents w' s'
-      → GatherLeaves n v d d' count count' w w' s' (Ok x)
+      → LimitedPathLeaves n v d d' count count' w w' s' (Ok x)
 
 -- the image below gives what the one above does
 module _ {T : Type 0} {v : Layout} {d d' l' : Device} {w w' : Workspace} {name_lent name : GName}

@@ -5,10 +5,10 @@ use Rattle.ffs_image.specs.{Device.Device, declared.image.ImageFault.ImageFault}
 use Rattle.ffs_volume.specs.declared.Layout.{Layout}
 use Rattle.ffs_walk.specs.declared.{blocks.Blocks.Blocks, window.Window.Window}
 use Rattle.ffs_workspace.specs.{declared.workspace.{Windows.Windows, Workspace.Workspace}, Ready.IsReady}
-use Rattle.ffs_paths.{specs.{declared.kept_parent.KeptParent.KeptParent, Reads.ReadsUpTo}, proofs.Keeping.kept_on}
+use Rattle.ffs_paths.{specs.{declared.kept_parent.KeptParent.KeptParent, Reads.OnlyReadsFew}, proofs.Keeping.kept_on}
 use Rattle.ffs_paths.proofs.{Climbed.{few_more, few_then}, Keeping.{reads_then, kept_parent_held}}
 use Rattle.ffs_names.specs.Windows.{CanReadChunks, CanWalkDir}
-use Rattle.ffs_pathnames.specs.Ready.{GatherLeaves, ReadyWith}
+use Rattle.ffs_pathnames.specs.Ready.{LimitedPathLeaves, ReadyWith}
 
 -- a workspace with other blocks and another chunk in its windows
 abbrev pub with_chunk : Workspace → Blocks → Window → Workspace
@@ -67,8 +67,8 @@ can_read_in v d w r = grind arith
 -- what a call leaves that gathered a path, and another that only read
 pub leaves_read : {S T : Type 0} {n m count count' count'' : ℕ} {v : Layout} {d d' d'' : Device}
     {w w' w'' : Workspace} {s : KeptParent} {x : S} (result : Result T ImageFault) →
-    GatherLeaves n v d d' count count' w w' s (Ok x) → ReadsUpTo 1 v d' d'' count' count'' w' w'' result → n + 1 ≤ m
-    → GatherLeaves m v d d'' count count'' w w'' s result
+    LimitedPathLeaves n v d d' count count' w w' s (Ok x) → OnlyReadsFew 1 v d' d'' count' count'' w' w'' result → n + 1 ≤ m
+    → LimitedPathLeaves m v d d'' count count'' w w'' s result
 leaves_read (Ok y) path read more = record {
   path = record {
     reads = reads_then path.path.reads read.reads;
@@ -88,8 +88,8 @@ leaves_read (Err e) path read more = record {
 
 -- where gathering a path failed
 pub gather_failed : {S T : Type 0} {n m count count' : ℕ} {v : Layout} {d d' : Device} {w w' : Workspace}
-    {s : KeptParent} (fault : ImageFault) → GatherLeaves {T = S} n v d d' count count' w w' s (Err fault) → n ≤ m
-    → GatherLeaves {T = T} m v d d' count count' w w' s (Err fault)
+    {s : KeptParent} (fault : ImageFault) → LimitedPathLeaves {T = S} n v d d' count count' w w' s (Err fault) → n ≤ m
+    → LimitedPathLeaves {T = T} m v d d' count count' w w' s (Err fault)
 gather_failed fault left more =
     let path = left.path.reads in
     record {

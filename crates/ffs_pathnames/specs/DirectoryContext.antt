@@ -35,7 +35,7 @@ abbrev pub KeepsPath : Layout → Device → Workspace → ℕ → (old new : En
 KeepsPath v d w x old new =
     ForBytes (KnowsPath v d.contents w x old) (λ b. BeginsPathOf (graph_of (volume_of v b)) x new)
 
--- a call makes the path of x, and where it fails, the path that is begun, if any, still is that of x
+-- a call makes the path of x; also where it fails, the path that is begun, if any, is that of x
 pub record MakesPath {T : Type 0} (v : Layout) (contents : Option (List ℕ)) (w : Workspace) (x : ℕ)
     (old new : EntryTexts) (result : Result T ImageFault) : Type 0 where
   pub made : OnOk result (ForBytes (KnowsPath v contents w x old) (λ b.

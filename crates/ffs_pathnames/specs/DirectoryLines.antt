@@ -8,7 +8,8 @@ use Rattle.ffs_names.specs.Costs.{directories_cost}
 use Rattle.ffs_workspace.specs.{Places.{AreChunksNumbered, AreNoted}, declared.workspace.Workspace.Workspace}
 use Rattle.ffs_pathnames.specs.LineReads.{ReadsByLines}
 
--- these lines are said, by what is known of the bytes, and the image is read for no more than these
+-- these lines are said, by what is known of the bytes, and the image is read for no more than these;
+-- any image for no more than the messages that were begun
 pub record ReportsLines {T : Type 0} (v : Layout) (knows : List ℕ → Type 0) (lines : List ℕ → List TreeMessage)
     (w w' : Workspace) (said said' : Progress) (count count' : ℕ) (result : Result T RunFault) : Type 0 where
   pub text : PhaseReports knows (λ b. map of_tree (lines b)) said said' result
@@ -16,7 +17,8 @@ pub record ReportsLines {T : Type 0} (v : Layout) (knows : List ℕ → Type 0) 
   pub paid : AreChunksNumbered v → Paid line_reads said said' count count' result
 
 -- these lines of a directory are said, by what is known of the bytes. Its own blocks are read `own`
--- times at most, which are taken of the reads that are left, and the rest is read for the lines
+-- times at most, which are taken of the reads that are left, and the rest is read for the lines; of
+-- any image for no more than the messages that were begun
 pub record ReportsDirectory {T : Type 0} (v : Layout) (w : Workspace) (knows : List ℕ → Type 0) (own : List ℕ → ℕ)
     (lines : List ℕ → List TreeMessage) (said said' : Progress) (count count' left left' : ℕ)
     (result : Result T RunFault) : Type 0 where
@@ -27,7 +29,8 @@ pub record ReportsDirectory {T : Type 0} (v : Layout) (w : Workspace) (knows : L
   pub paid : AreChunksNumbered v → Paid line_reads said said' (count + left) (count' + left') result
 
 -- these lines of all directories are said, by what is known of the bytes. Each directory's own
--- blocks are read thrice at most, as its place is noted first, and the rest is read for the lines
+-- blocks are read thrice at most, as its place is noted first, and the rest is read for the lines; of
+-- any image for no more than the messages that were begun
 pub record ReportsTree {T : Type 0} (v : Layout) (knows : List ℕ → Type 0) (lines : List ℕ → List TreeMessage)
     (said said' : Progress) (count count' : ℕ) (result : Result T RunFault) : Type 0 where
   pub text : PhaseReports knows (λ b. map of_tree (lines b)) said said' result

@@ -9,7 +9,8 @@ use Rattle.ffs_pathnames.specs.DirectoryContext.{DirectoryContext, KeepsPath, Kn
 use Rattle.ffs_pathnames.specs.{LineReads.ReadsByLines, declared.one_entry.EntryTexts.EntryTexts}
 
 -- lines of entries of the directory x are said, those of the volume; the path that is begun, if
--- any, is still that of x; and the image is read for no more than these lines
+-- any, is still that of x; and the image is read for no more than these lines, any image for no more
+-- than the messages that were begun
 pub record ReportsEntries {T : Type 0} (v : Layout) (d : Device) (w w' : Workspace) (x : ℕ) (t t' : EntryTexts)
     (lines : Volume → List TreeMessage) (said said' : Progress) (reads reads' : ℕ) (result : Result T RunFault) :
     Type 0 where

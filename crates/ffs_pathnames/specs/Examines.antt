@@ -22,8 +22,9 @@ pub record ExamineLeaves {T : Type 0} (v : Layout) (d d' : Device) (old new : Wo
   pub ready : IsReady v d' new
   pub read : ReadAfter d d' result
 
--- whether a Gap of it is kept, whether its chunks are sound, the chunk at the start of the file,
--- whether nothing may be reported of its entries; and each inode that belongs to it is stamped
+-- what a look at the directory d finds: whether a Gap of it is kept, whether its chunks are sound, the
+-- chunk at the start of the file, whether nothing may be reported of its entries; and each inode that
+-- belongs to it is stamped
 pub record IsLookedAt (v : Layout) (b : List ℕ) (d : ℕ) (old : Workspace) (f : FirstLook) (start : List ℕ)
     (new : Workspace) : Type 0 where
   pub gap : f.gap ≡ (volume_of v b).gap d
@@ -33,7 +34,7 @@ pub record IsLookedAt (v : Layout) (b : List ℕ) (d : ℕ) (old : Workspace) (f
   pub stamps : (passed_of new).stamps
       ≡ after_looks (volume_of v b) d (passed_of old).stamps (roled_entries (volume_of v b) d)
 
--- and its inode is read
+-- the same, and its inode is the image's
 pub record IsExamined (v : Layout) (b : List ℕ) (d : ℕ) (old : Workspace) (e : Examination) (start : List ℕ)
     (new : Workspace) : Type 0 where
   pub inode : e.inode ≡ inode_of v b d

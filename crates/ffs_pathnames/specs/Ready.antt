@@ -30,7 +30,8 @@ pub record ReadyToCheck (v : Layout) (d : Device) (w : Workspace) (s : KeptParen
   pub path : ReadyToPath v d w s x
   pub low : 2 ≤ x
 
--- and its entries can be reported, by its cut
+-- a path of the directory x can be made, and its cut is the one that is noted: its entries can be
+-- reported
 pub record ReadyToReport (v : Layout) (d : Device) (w : Workspace) (s : KeptParent) (x : Directory) : Type 0 where
   pub path : ReadyToPath v d w s x.number
   pub cut : x.cut ≡ cut_in (slice_index w.notes.items x.number)
@@ -41,9 +42,9 @@ abbrev pub ReadyAfter : {T E : Type 0} → Layout → Device → Workspace → K
 ReadyAfter v d w s (Ok x) = ReadyWith v d w s
 ReadyAfter v d w s (Err e) = IsReady v d w
 
--- what a call leaves that gathers what messages show: it makes a path of n reads at most, where each
--- place is noted, and no more, of any image, where each chunk has a number
-pub record GatherLeaves {T : Type 0} (n : ℕ) (v : Layout) (d d' : Device) (count count' : ℕ) (w w' : Workspace)
+-- what a call leaves that makes paths, and reads what messages show. It makes n reads at most: by known
+-- bytes where each place is noted, and of any image where each chunk has a number
+pub record LimitedPathLeaves {T : Type 0} (n : ℕ) (v : Layout) (d d' : Device) (count count' : ℕ) (w w' : Workspace)
     (s : KeptParent) (result : Result T ImageFault) : Type 0 where
   pub path : PathLeaves n v d d' count count' w w' s result
   pub most : AreChunksNumbered v → count' ≤ count + n

@@ -17,7 +17,7 @@ stamps_of (p ∷ ps) (w ∷ ws) = stamp_of p w ∷ stamps_of ps ws
 abbrev pub KeepPlaces : (old new : List ℕ) → Type 0
 KeepPlaces old new = (x : ℕ) → place_in (slice_index new x) ≡ place_in (slice_index old x)
 
--- and there are as many
+-- there are as many words, and each notes the same place
 pub record KeepsWords (old new : Vec ℕ Global) : Type 0 where
   pub places : KeepPlaces old.items new.items
   pub long : vec_len new ≡ vec_len old

@@ -271,7 +271,8 @@ fn is_shape_right(size: u64, gap: bool, sound: bool) -> bool
     size >= MINDIRSIZE && size % DIRBLKSIZ as u64 == 0 && !gap && sound
 }
 
-/// Whether nothing is reported of a directory before its entries (`header_silent`).
+/// Whether nothing is reported of a directory before its entries (`header_silent` of
+/// `proofs/HeaderLaws`).
 pub fn is_in_order(header: HeaderFacts<'_>) -> bool
     ensures { result ≡ is_header_right header.entry }
 {

@@ -8,13 +8,13 @@ ghost use Rattle.ffs_pathnames.specs.{SaysNames.SaysNames, EntryLines.ReportsEnt
 ghost use Rattle.ffs_pathnames.specs.Gathers.{AreAsLong, passed_of, asks_attr, asks_path, extra_reported, is_silent};
 ghost use Rattle.ffs_pathnames.specs.{Gathers.plain_lines_by, DirectoryContext.{DirectoryContext, KeepsPath}};
 ghost use Rattle.ffs_pathnames.specs.{DirectoryContext.{KnowsPath, MakesPath}, Ready.{ReadyToPath, ReadyWhere}};
-ghost use Rattle.ffs_pathnames.specs.Ready.{GatherLeaves, LinesLeave, PathLeaves};
+ghost use Rattle.ffs_pathnames.specs.Ready.{LimitedPathLeaves, LinesLeave, PathLeaves};
 ghost use Rattle.ffs_layout.specs.Entry.{entry_value};
 ghost use Rattle.ffs_report.specs.{Known.ForBytes, Progress.progress};
 ghost use Rattle.ffs_workspace.specs.{Lengths.IsFor, Holds.{HoldsClaims, HoldsSurvey}, Places.AreChunksNumbered};
 ghost use Rattle.ffs_workspace.specs.{Ready.IsReady, declared.workspace.Workspace.Workspace as WorkspaceIn};
 ghost use Rattle.ffs_paths.specs.{KeptParents.KeepsParent, DirectoryPaths.IsPathOf, LastPaths.last_path};
-ghost use Rattle.ffs_paths.specs.Reads.{IsReadyFor, ReadsUpTo};
+ghost use Rattle.ffs_paths.specs.Reads.{IsReadyFor, OnlyReadsFew};
 
 use crate::inodes::Inodes;
 use crate::verdict::{Verdict, entry_verdict, say_verdict};
@@ -132,7 +132,7 @@ fn make_paths<I: Image>(
         texts.old.kept_parent dir }
     ensures makes { MakesPath geometry.now.layout (I.device image.old).contents workspace.old dir
         texts.old texts.new result }
-    ensures leaves { GatherLeaves path_reads geometry.now.layout (I.device image.old)
+    ensures leaves { LimitedPathLeaves path_reads geometry.now.layout (I.device image.old)
         (I.device image.new) (I.reads image.old) (I.reads image.new) workspace.old workspace.new
         texts.new.kept_parent result }
 {
@@ -163,7 +163,7 @@ fn put_path<I: Image>(
     ensures path { OnOk result ((x : ℕ) → ForBytes (DirectoryContext geometry.now.layout
         (I.device image.old).contents workspace.old x) (λ b.
         path.new.items ≡ dir_path (graph_of (volume_of geometry.now.layout b)) dir)) }
-    ensures leaves { GatherLeaves path_reads geometry.now.layout (I.device image.old)
+    ensures leaves { LimitedPathLeaves path_reads geometry.now.layout (I.device image.old)
         (I.device image.new) (I.reads image.old) (I.reads image.new) workspace.old workspace.new
         kept_parent.new result }
 {
@@ -192,7 +192,7 @@ fn begin_paths<I: Image>(
         texts.old.kept_parent dir }
     ensures makes { MakesPath geometry.now.layout (I.device image.old).contents workspace.old dir
         texts.old texts.new result }
-    ensures leaves { GatherLeaves path_reads geometry.now.layout (I.device image.old)
+    ensures leaves { LimitedPathLeaves path_reads geometry.now.layout (I.device image.old)
         (I.device image.new) (I.reads image.old) (I.reads image.new) workspace.old workspace.new
         texts.new.kept_parent result }
 {
@@ -215,7 +215,7 @@ pub fn read_attr<I: Image>(
     requires { IsReadyFor geometry.now.layout (I.device image.old) workspace.old number }
     ensures attr { IfOk result (λ a. ForContents (I.device image.old).contents
         (λ b. a ≡ attributes (volume_of geometry.now.layout b) number)) }
-    ensures reads { ReadsUpTo 1 geometry.now.layout (I.device image.old) (I.device image.new)
+    ensures reads { OnlyReadsFew 1 geometry.now.layout (I.device image.old) (I.device image.new)
         (I.reads image.old) (I.reads image.new) workspace.old workspace.new result }
 {
     let inode = workspace
@@ -253,7 +253,7 @@ fn gather_path<I: Image>(
         (I.device image.old).contents workspace.old x) (λ b. IsTrue wanted
         → texts.new.directory.items ≡ dir_path (graph_of (volume_of geometry.now.layout b)) dir)) }
     ensures same { (texts.new.begun ≡ texts.old.begun) × (texts.new.paths ≡ texts.old.paths) }
-    ensures leaves { GatherLeaves path_reads geometry.now.layout (I.device image.old)
+    ensures leaves { LimitedPathLeaves path_reads geometry.now.layout (I.device image.old)
         (I.device image.new) (I.reads image.old) (I.reads image.new) workspace.old workspace.new
         texts.new.kept_parent result }
 {
@@ -292,7 +292,7 @@ fn gather_inode<I: Image>(
         → IsEnough (volume_of geometry.now.layout b) verdict.now dir entry.now.number
         entry.now.name.now a (last_path paths.new) path)) }
     ensures same { paths.new.directory ≡ paths.old.directory }
-    ensures reads { ReadsUpTo 1 geometry.now.layout (I.device image.old) (I.device image.new)
+    ensures reads { OnlyReadsFew 1 geometry.now.layout (I.device image.old) (I.device image.new)
         (I.reads image.old) (I.reads image.new) workspace.old workspace.new result }
 {
     let wants_attr = asks(verdict).0;
@@ -324,7 +324,7 @@ fn gather<I: Image>(
         entry.now.name.now a (last_path texts.new.paths) texts.new.directory.items)) }
     ensures same { (texts.new.begun ≡ texts.old.begun)
         × (texts.new.paths.directory ≡ texts.old.paths.directory) }
-    ensures leaves { GatherLeaves (path_reads + 1) geometry.now.layout (I.device image.old)
+    ensures leaves { LimitedPathLeaves (path_reads + 1) geometry.now.layout (I.device image.old)
         (I.device image.new) (I.reads image.old) (I.reads image.new) workspace.old workspace.new
         texts.new.kept_parent result }
 {
@@ -365,7 +365,7 @@ fn gather_entry<I: Image>(
         entry.now.entry.name.now a (last_path texts.new.paths) texts.new.directory.items)) }
     ensures path { KeepsPath geometry.now.layout (I.device image.old) workspace.old
         entry.now.dir texts.old texts.new }
-    ensures leaves { GatherLeaves line_reads geometry.now.layout (I.device image.old)
+    ensures leaves { LimitedPathLeaves line_reads geometry.now.layout (I.device image.old)
         (I.device image.new) (I.reads image.old) (I.reads image.new) workspace.old workspace.new
         texts.new.kept_parent result }
 {
@@ -392,7 +392,7 @@ fn gather_extra<I: Image>(
         texts.new.directory.items ≡ dir_path (graph_of (volume_of geometry.now.layout b)) dir)) }
     ensures path { KeepsPath geometry.now.layout (I.device image.old) workspace.old
         dir texts.old texts.new }
-    ensures leaves { GatherLeaves line_reads geometry.now.layout (I.device image.old)
+    ensures leaves { LimitedPathLeaves line_reads geometry.now.layout (I.device image.old)
         (I.device image.new) (I.reads image.old) (I.reads image.new) workspace.old workspace.new
         texts.new.kept_parent result }
 {
@@ -520,7 +520,7 @@ pub fn gather_dir<I: Image>(
     ensures shown { IfOk result (λ a. ForBytes (DirectoryContext geometry.now.layout
         (I.device image.old).contents workspace.old dir)
         (λ b. IsShownOf (volume_of geometry.now.layout b) dir a path.new.items)) }
-    ensures leaves { GatherLeaves line_reads geometry.now.layout (I.device image.old)
+    ensures leaves { LimitedPathLeaves line_reads geometry.now.layout (I.device image.old)
         (I.device image.new) (I.reads image.old) (I.reads image.new) workspace.old workspace.new
         kept_parent.new result }
 {

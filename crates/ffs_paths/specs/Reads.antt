@@ -32,7 +32,7 @@ pub record ReadsFew (most reads reads' : ℕ) (before after : Workspace) : Type 
   pub blocks : after.windows.blocks ≡ before.windows.blocks
 
 -- a call that makes so many reads at most leaves all of the workspace but its windows
-pub record ReadsUpTo {T : Type 0} (most : ℕ) (v : Layout) (old new : Device) (count count' : ℕ)
+pub record OnlyReadsFew {T : Type 0} (most : ℕ) (v : Layout) (old new : Device) (count count' : ℕ)
     (before after : Workspace) (result : Result T ImageFault) : Type 0 where
   pub reads : OnlyReads v old new before after result
   pub counted : ReadsFew most count count' before after
@@ -52,7 +52,7 @@ ReadsAtMost most v d before after reads reads' = (b : List ℕ) → KnowsPlaces 
 
 -- a call that makes so many reads at most for a path, where each place is noted, leaves all of the
 -- workspace but its windows
-pub record ReadsForPath {T : Type 0} (most : ℕ) (v : Layout) (old new : Device) (count count' : ℕ)
+pub record OnlyReadsAtMost {T : Type 0} (most : ℕ) (v : Layout) (old new : Device) (count count' : ℕ)
     (before after : Workspace) (result : Result T ImageFault) : Type 0 where
   pub reads : OnlyReads v old new before after result
   pub counted : ReadsAtMost most v old before after count count'

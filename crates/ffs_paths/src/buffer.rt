@@ -71,7 +71,7 @@ fn bytes_from(bytes: &[u8; MAXPATHLEN], start: usize) -> &[u8]
     &bytes[start..]
 }
 
-/// Writes what names end with, `/` and a name.
+/// Writes these names, `/` and a name.
 fn put_from(names: &[u8], name: &[u8], text: &mut PathText)
     requires { length text.old.items + length names.now + 1 + length name.now ≤ 1024 }
     ensures { text.new.items ≡ text.old.items ++ names.now ++ 47 ∷ name.now }

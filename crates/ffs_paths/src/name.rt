@@ -8,7 +8,7 @@ ghost use Rattle.ffs_volume.specs.Directories.Roles.{roled_from};
 ghost use Rattle.ffs_layout.specs.Entry.{entry_value};
 ghost use Rattle.ffs_workspace.specs.{Places.IsNoted, Ready.IsReady};
 ghost use Rattle.ffs_paths.specs.{Climbing.{name_in, IsNameIn}, Reads.{ForTree, IsReadyFor, OnlyReads, ReadsFew}};
-ghost use Rattle.ffs_paths.specs.{NameTexts.name_bytes, Reads.ReadsUpTo};
+ghost use Rattle.ffs_paths.specs.{NameTexts.name_bytes, Reads.OnlyReadsFew};
 
 use crate::name_text::NameText;
 use ffs_image::{Image, ImageFault};
@@ -74,7 +74,7 @@ fn find_by_place<I: Image>(
     ensures some { IfOk result (λ found. found ≡ true → 0 < length (name_bytes name.new)) }
     ensures found { IfOk result (λ found. ForContents (I.device image.old).contents (λ b.
         IsNoted geometry.now.layout b workspace.old.queue.items dir → found ≡ true)) }
-    ensures leaves { ReadsUpTo 1 geometry.now.layout (I.device image.old) (I.device image.new)
+    ensures leaves { OnlyReadsFew 1 geometry.now.layout (I.device image.old) (I.device image.new)
         (I.reads image.old) (I.reads image.new) workspace.old workspace.new result }
 {
     let Some(chunk) = noted_chunk(workspace.queue[dir as usize]) else {

@@ -6,7 +6,7 @@ ghost use Rattle.ffs_volume.specs.Directories.{Graph.Graph, Graph.level, Parents
 ghost use Rattle.ffs_volume.specs.Directories.Paths.{dir_path, entry_path, names_down};
 ghost use Rattle.ffs_workspace.specs.Holds.{bool_at};
 ghost use Rattle.ffs_paths.specs.{Buffers.HoldsNames, Climbing.in_room, Climbing.path_in, Reads.ReadsFew};
-ghost use Rattle.ffs_paths.specs.Reads.{climb_reads, ForTree, IsReadyFor, KnowsPlaces, OnlyReads, ReadsForPath};
+ghost use Rattle.ffs_paths.specs.Reads.{climb_reads, ForTree, IsReadyFor, KnowsPlaces, OnlyReads, OnlyReadsAtMost};
 ghost use Rattle.ffs_paths.specs.{DirectoryPaths.HoldsPath, DirectoryPaths.IsPathOf, Slashes.AreSingle};
 
 use crate::buffer::{LONGEST_NAME, PathBuffer, PathText};
@@ -141,7 +141,7 @@ pub fn put_directory<I: Image>(
     requires { IsReadyFor geometry.now.layout (I.device image.old) workspace.old dir }
     ensures path { OnOk result (ForTree geometry.now.layout (I.device image.old) workspace.old
         (λ g. IsPathOf g dir path.new)) }
-    ensures leaves { ReadsForPath climb_reads geometry.now.layout (I.device image.old)
+    ensures leaves { OnlyReadsAtMost climb_reads geometry.now.layout (I.device image.old)
         (I.device image.new) (I.reads image.old) (I.reads image.new) workspace.old workspace.new
         result }
 {
@@ -165,7 +165,7 @@ pub fn directory_path<I: Image>(
     requires { IsReadyFor geometry.now.layout (I.device image.old) workspace.old dir }
     ensures path { IfOk result (λ path.
         ForTree geometry.now.layout (I.device image.old) workspace.old (λ g. IsPathOf g dir path)) }
-    ensures leaves { ReadsForPath climb_reads geometry.now.layout (I.device image.old)
+    ensures leaves { OnlyReadsAtMost climb_reads geometry.now.layout (I.device image.old)
         (I.device image.new) (I.reads image.old) (I.reads image.new) workspace.old workspace.new
         result }
 {
@@ -193,7 +193,7 @@ pub fn path_of<I: Image>(
     requires { IsReadyFor geometry.now.layout (I.device image.old) workspace.old dir }
     ensures path { OnOk result (ForTree geometry.now.layout (I.device image.old) workspace.old
         (λ g. text.new.items ≡ path_in g dir (option_map (λ n. n.now) name.entry))) }
-    ensures leaves { ReadsForPath climb_reads geometry.now.layout (I.device image.old)
+    ensures leaves { OnlyReadsAtMost climb_reads geometry.now.layout (I.device image.old)
         (I.device image.new) (I.reads image.old) (I.reads image.new) workspace.old workspace.new
         result }
 {
