@@ -138,11 +138,13 @@ impl PathBuffer {
         text.clear();
         if self.cut {
             text.push(b'?');
-            text.try_extend_from_slice(bytes_from(&self.bytes, self.short)).unwrap();
+            text.try_extend_from_slice(bytes_from(&self.bytes, self.short))
+                .unwrap();
         } else if self.start == MAXPATHLEN {
             text.push(b'/');
         } else {
-            text.try_extend_from_slice(bytes_from(&self.bytes, self.start)).unwrap();
+            text.try_extend_from_slice(bytes_from(&self.bytes, self.start))
+                .unwrap();
         }
     }
 
