@@ -1,28 +1,25 @@
 -- How an inode's part of the block check continues, and how many Runs it is seen to have.
 use Rattle.std.proofs.Common.{◌+◌, ◌<◌, ◌^◌, false, arith, OnOk, ◌≡◌, ℕ, List, [], ◌++◌, append-nil, Option, Result, Ok}
-use Rattle.std.proofs.{Common.{Err, ap, ◌∙◌, refl, ◌≤◌, true, subst}, lemmas.Bool.Decides.nat_tests}
+use Rattle.std.proofs.{Common.{Err, ap, ◌∙◌, refl, ◌≤◌, true}, lemmas.Bool.Decides.nat_tests}
 use Rattle.std.proofs.lemmas.List.Sums.{count_by-le-length}
 use Rattle.ffs_volume.{proofs.Potentials.{step_moves, moves_then}, specs.Blocks.BlockCheck.{class_lines, count_lines}}
-use Rattle.ffs_volume.{specs.Blocks.{BlockCheck.owner_lines, Claims.Claims}, proofs.Results.on_ok as ok_then}
-use Rattle.ffs_volume.specs.Blocks.Claims.{at_next_inode, after_steps, after_owner, lines_of_steps, is_open, after_step}
-use Rattle.ffs_volume.specs.Blocks.{Inodes.{class_of, inode_of}, Owners.{Owner, owner_of}, Steps.steps_of}
-use Rattle.ffs_volume.specs.{Messages.Kinds.Message, Laws.ClaimBounds.{used_bits, ClaimBound}}
-use Rattle.ffs_volume.specs.{Laws.{Geometry.IsAcceptedLayout, RunLengths.HasLength}, declared.Class.Class}
-use Rattle.ffs_volume.specs.declared.{Class.TheVariants.Free, Inode.Inode, Layout.Layout, Step.Step}
-use Rattle.ffs_report.proofs.Reporting.{of_part, of_begins, of_says, of_stops, reports_same, reports_knowing}
-use Rattle.ffs_report.specs.{Known.{ForBytes, IsContents}, PhaseOutcome.{SaidOf, StoppedOf, ImageAfter, PhaseReports}}
-use Rattle.ffs_report.specs.{Progress.{Progress, Said, Stopped}, declared.fault.RunFault.RunFault}
+use Rattle.ffs_volume.specs.Blocks.{BlockCheck.owner_lines, Claims.{Claims, at_next_inode, after_steps, after_owner}}
+use Rattle.ffs_volume.specs.Blocks.{Claims.{lines_of_steps, is_open, after_step}, Inodes.{class_of, inode_of}}
+use Rattle.ffs_volume.specs.{Blocks.{Owners.owner_of, Steps.steps_of}, Laws.ClaimBounds.{used_bits, ClaimBound}}
+use Rattle.ffs_volume.specs.{Laws.{Geometry.IsAcceptedLayout, RunLengths.HasLength}, Messages.Kinds.Message}
+use Rattle.ffs_volume.specs.declared.{Class.{Class, TheVariants.Free}, Inode.Inode, Layout.Layout, Step.Step}
+use Rattle.ffs_report.{proofs.Reporting.{of_part, of_begins, of_says, of_stops}, specs.Known.{ForBytes, IsContents}}
+use Rattle.ffs_report.specs.{PhaseOutcome.{SaidOf, StoppedOf, ImageAfter}, Progress.{Progress, Said, Stopped}}
+use Rattle.ffs_report.specs.declared.fault.RunFault.{RunFault}
 use Rattle.ffs_image.specs.Device.{Device}
 use Rattle.ffs_layout.specs.declared.geometry.Geometry.{Geometry}
 use Rattle.ffs_walk.specs.{Windows.KeepsBlocks, declared.blocks.Blocks.Blocks}
-use Rattle.ffs_claims.proofs.Frames.{found_none, found_then, ready_still, ready_walked, image_from}
-use Rattle.ffs_claims.{proofs.StepsContinue.lines_append, specs.{Area.IsDataArea, Claiming.{CanClaim, ClaimsInArea}}}
-use Rattle.ffs_claims.specs.Claiming.{FewRuns, StepsLeave, SeesNext, CanClaimInode, ClaimsInode, InodeLeaves}
-use Rattle.ffs_claims.specs.{Leaves.{HasBegun, SameFound, Stored}, Lines.{of_lines, counted_owner}}
-use Rattle.ffs_claims.specs.declared.{area.DataArea.DataArea, claim.Sweep.Sweep}
+use Rattle.ffs_claims.proofs.{Frames.{found_none, found_then, ready_still, ready_walked}, StepsContinue.lines_append}
+use Rattle.ffs_claims.specs.{Area.IsDataArea, Claiming.{CanClaim, ClaimsInArea, FewRuns, StepsLeave, SeesNext}}
+use Rattle.ffs_claims.specs.{Leaves.HasBegun, Lines.{of_lines, owner_with, counted_owner}}
+use Rattle.ffs_claims.specs.declared.area.DataArea.{DataArea}
 use Rattle.ffs_maps.proofs.Bits.{bits_long}
-use Rattle.ffs_workspace.{proofs.Readiness.ready_table, specs.{Holds.claims_of, Lengths.IsFor, Tables.ReadsInode}}
-use Rattle.ffs_workspace.specs.declared.{table.Table.Table, workspace.Workspace.Workspace}
+use Rattle.ffs_workspace.specs.{Holds.claims_of, Lengths.IsFor, declared.workspace.Workspace.Workspace}
 
 -- ---- how many Runs an inode is seen to have, and how many offers it keeps
 -- a step more keeps the bound
@@ -46,8 +43,7 @@ kept_room u {w = w} made free m = grind (arith, nat_tests, used_below)
 
 -- so there is room to count them
 pub sees_next : {v : Layout} {u w : Workspace} {area : DataArea} → IsAcceptedLayout v → HasBegun u → IsFor v w →
-    IsDataArea v area → is_open (claims_of w) ≡ true → ClaimBound (claims_of u) (claims_of w) →
-    SeesNext v w area (2 ^ 62)
+    IsDataArea v area → is_open (claims_of w) ≡ true → ClaimBound (claims_of u) (claims_of w) → SeesNext v w area
 sees_next {u = u} g begun made only_data uncut m =
     let numbers = g.numbers in
     let kept = kept_room u made uncut m in
@@ -82,11 +78,6 @@ abbrev pub rest_lines : Layout → ℕ → Inode → Class → Claims → List �
 rest_lines v number i class s1 bytes =
     of_lines (lines_of_steps v number s1 (steps_of v i bytes))
     ++ of_lines (count_lines v (counted_owner number class i.blocks) (after_steps v s1 (steps_of v i bytes)))
-
--- an inode that was read, as one that may own fragments
-abbrev owner_with : Layout → List ℕ → ℕ → Inode → Owner
-owner_with v bytes number i =
-    record { number = number; class = class_of v i; steps = steps_of v i bytes; blocks = i.blocks }
 
 parts : (v : Layout) (number : ℕ) (i : Inode) (s : Claims) (bytes : List ℕ) →
     of_lines (owner_lines v s (owner_with v bytes number i)) ≡ of_lines (class_lines number (class_of v i))
@@ -132,16 +123,18 @@ pub stored_runs : (u : Workspace) {w : Workspace} →
     w ≡ record u { kinds = w.kinds; marked = w.marked; notes = w.notes; references = w.references } → SameRuns u w
 stored_runs u e = rw e (record { seen = refl; again = refl; used = refl })
 
-pub begun_found : (u : Workspace) {w : Workspace} → w ≡ record u { bad = 0; dups = 0; kept = 0; tail = false } →
-    SameFound u w
-begun_found u e = rw e (record { kinds = refl; marked = refl; notes = refl; references = refl; again = refl })
-
 pub begun : (u : Workspace) {w : Workspace} → w ≡ record u { bad = 0; dups = 0; kept = 0; tail = false } →
     u.runs_seen < 2 ^ 40 → HasBegun w
 begun u e few = rw e (record { bad = refl; dups = refl; kept = refl; runs = omega arith })
 
+-- an inode by its number
+pub owner_is : (v : Layout) (bytes : List ℕ) (number : ℕ) (i : Inode) → i ≡ inode_of v bytes number →
+    owner_with v bytes number i ≡ owner_of v bytes number
+unfolding owner_of
+owner_is v bytes number i e = ap (λ x. owner_with v bytes number x) e
+
 -- a fact of an Ok answer, of an image that gives the same
-ok_where : {T E : Type 0} (r : Result T E) (contents contents' : Option (List ℕ)) (P Q : List ℕ → Type 0) →
+pub ok_where : {T E : Type 0} (r : Result T E) (contents contents' : Option (List ℕ)) (P Q : List ℕ → Type 0) →
     contents' ≡ contents →
     ForBytes (IsContents contents) (λ bytes. P bytes → Q bytes) → OnOk r (ForBytes (IsContents contents') P) →
     OnOk r (ForBytes (IsContents contents) Q)
@@ -160,70 +153,3 @@ free_claims v number i s bytes h = ap (after_steps v (at_next_inode s)) (free_st
 pub free_silent : (v : Layout) (number : ℕ) (i : Inode) (s : Claims) (bytes : List ℕ) → class_of v i ≡ Free →
     owner_lines v s (owner_with v bytes number i) ≡ []
 free_silent v number i s bytes h = rw (h, free_steps v i bytes h) refl
-
--- ---- an inode that was read
--- the workspace where a block of the inode table was read
-abbrev pub with_table : Workspace → Table → Workspace
-with_table w table = record w { windows = record w.windows { table = table } }
-
--- it may claim then
-pub can_read : {g : Geometry} {d d' : Device} {w : Workspace} {sweep : Sweep} {number : ℕ} {i : Inode} {table : Table} →
-    ReadsInode g.layout d d' number table (Ok i) → CanClaimInode g d w sweep number →
-    CanClaimInode g d' (with_table w table) sweep number
-can_read {g = g} {d = d} {d' = d'} {w = w} {table = table} r can =
-    let ready = ready_table g.layout d d' w table (ap (λ x. x.contents) r.read) (ap (λ x. x.size) r.read) r.kept
-    can.claim.ready in
-    grind arith
-
--- what was found of it is kept
-pub stored_from : {number : ℕ} {class class' : Class} {i : Inode} {u w w' : Workspace} → SameFound u w →
-    class ≡ class' → Stored number class i w w' → Stored number class' i u w'
-stored_from found e p = grind arith
-
--- what it leaves, by what was read of it
-pub record ClaimsRead {T : Type 0} (g : Geometry) (number : ℕ) (i : Inode) (d d' : Device) (reads reads' : ℕ)
-    (a b : Progress) (old new : Workspace) (sweep : Sweep) (result : Result T RunFault) : Type 0 where
-  pub text : PhaseReports (IsContents d.contents) (λ bytes.
-      of_lines (owner_lines g.layout (claims_of old) (owner_with g.layout bytes number i))) a b result
-  pub claims : OnOk result (ForBytes (IsContents d.contents) (λ bytes.
-      claims_of new ≡ after_owner g.layout (claims_of old) (owner_with g.layout bytes number i)))
-  pub stored : OnOk result (Stored number (class_of g.layout i) i old new)
-  pub left : InodeLeaves g.layout d d' old new sweep.area result
-  pub walk : sweep.walk.geometry ≡ g
-  pub counted : reads' + old.runs_seen ≤ reads + new.runs_seen
-
--- and by its number
-owner_is : (v : Layout) (bytes : List ℕ) (number : ℕ) (i : Inode) → i ≡ inode_of v bytes number →
-    owner_with v bytes number i ≡ owner_of v bytes number
-unfolding owner_of
-owner_is v bytes number i e = ap (λ x. owner_with v bytes number x) e
-
-pub claims_inode : {T : Type 0} {g : Geometry} {number reads reads' now : ℕ} {d d' d'' : Device} {a b : Progress}
-    {old new : Workspace} {sweep : Sweep} {r : Result T RunFault} {i : Inode} {table : Table} →
-    ReadsInode g.layout d d' number table (Ok i) → now ≤ reads + 1 →
-    ClaimsRead g number i d' d'' now reads' a b (with_table old table) new sweep r →
-    ClaimsInode g number d d'' reads reads' a b old new sweep r
-claims_inode {T = T} {g = g} {number = number} {d = d} {d'' = d''} {old = old} {new = new} {r = r} {i = i} read few p =
-    let v = g.layout in
-    let s = claims_of old in
-    let gives = ap (λ x. x.contents) read.read in
-    let owner : ForBytes (IsContents d.contents) (λ bytes. owner_with v bytes number i ≡ owner_of v bytes number) =
-    λ bytes t. owner_is v bytes number i (read.inode bytes t) in
-    record {
-      text = reports_same T _ _ _ _ _ r (λ bytes t. ap (λ o. of_lines (owner_lines v s o)) (owner bytes t))
-          (reports_knowing T _ _ _ _ _ r (λ bytes t. gives ∙ t) p.text);
-      claims = ok_where r _ _ (λ bytes. claims_of new ≡ after_owner v s (owner_with v bytes number i)) _ gives
-          (λ bytes t h. h ∙ ap (after_owner v s) (owner bytes t)) p.claims;
-      stored = ok_then r _ _ (λ h bytes t. subst (λ (x : Inode). Stored number (class_of v x) x old new)
-          (read.inode bytes t) (record { kinds = h.kinds; marked = h.marked; notes = h.notes; starts = h.starts }))
-          p.stored;
-      left = record {
-        image = image_from d'' r read.read p.left.image;
-        claim = p.left.claim;
-        bound = p.left.bound;
-        moves = p.left.moves;
-        again = p.left.again;
-      };
-      walk = p.walk;
-      counted = omega (arith, p.counted, few);
-    }

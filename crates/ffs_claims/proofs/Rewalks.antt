@@ -1,25 +1,27 @@
 -- How a second walk over an inode continues.
 use Rattle.std.proofs.Common.{◌≡◌, ◌≢◌, ◌≤◌, ℕ, replicate, ◌+◌, Bool, true, List, [], ◌∷◌, ◌++◌, map, Option, arith}
-use Rattle.std.proofs.{Common.{refl, ap, ◌∙◌, ◌<◌, ◌-◌, ◌^◌, Ok}, lemmas.Bool.Decides.nat_tests}
+use Rattle.std.proofs.{Common.{refl, ap, ◌∙◌, ◌<◌, ◌-◌, ◌^◌, Result, Ok}, lemmas.Bool.Decides.nat_tests}
 use Rattle.std.specs.List.{range_with_len}
 use Rattle.ffs_volume.{proofs.ReplayLaws.{counted_same, gaps_seen}, specs.Blocks.BlockCheck.first_offer_lines}
 use Rattle.ffs_volume.specs.{Blocks.KeptOffers.offer_of, Encodings.Replay.{Replay, fresh_replay, is_replay_open}}
 use Rattle.ffs_volume.specs.Encodings.ReplayCounts.{seen_run, replayed_runs, replay_step_by_cut}
-use Rattle.ffs_volume.specs.{Messages.Kinds.Message, declared.{BlockMessage.BlockMessage, Layout.Layout, Step.Step}}
-use Rattle.ffs_volume.specs.declared.Step.TheVariants.{Run, Gap}
+use Rattle.ffs_volume.specs.{Messages.Kinds.Message, declared.{BlockMessage.BlockMessage, Inode.Inode, Layout.Layout}}
+use Rattle.ffs_volume.specs.declared.Step.{Step, TheVariants.{Run, Gap}}
 use Rattle.ffs_image.specs.Device.{Device}
-use Rattle.ffs_report.{proofs.Reporting.of_says, specs.{Known.ForBytes, PhaseOutcome.SaidOf, Progress.{Progress, Said}}}
+use Rattle.ffs_report.{proofs.Reporting.{reports_same, reports_knowing, of_says}, specs.Known.{IsContents, ForBytes}}
+use Rattle.ffs_report.specs.{PhaseOutcome.SaidOf, Progress.{Progress, Said}, declared.fault.RunFault.RunFault}
 use Rattle.ffs_maps.specs.Bits.{bits_of}
 use Rattle.ffs_walk.specs.{Keepings.{run_taken, replay_in}, Rests.steps_left, Windows.KeepsBlocks}
 use Rattle.ffs_walk.specs.declared.{blocks.Blocks.Blocks, keeping.Keeping.Keeping, walk.Walk.Walk}
 use Rattle.ffs_workspace.specs.{Lengths.set_count, declared.workspace.{Windows.Windows, Workspace.Workspace}}
 use Rattle.ffs_layout.specs.declared.geometry.Geometry.{Geometry}
-use Rattle.ffs_claims.proofs.{Frames.{ready_still, ready_walked, claims_then, claims_still}, Reportings.Reporting}
-use Rattle.ffs_claims.proofs.Reportings.{reporting_over, reporting_more, reporting_ends, reported_from, reported_none}
-use Rattle.ffs_claims.proofs.{Reportings.{reported_to, lines_split}, RescanCounts.{looked_none, looked_next}}
-use Rattle.ffs_claims.{proofs.RescanCounts.again_gaps, specs.{Lines.of_lines, Reporting.{ReportsOnly, RewalkLeaves}}}
-use Rattle.ffs_claims.specs.{Reporting.after_first, Rescan.{step_offers_again, offers_again}, RescanRuns.RoseBy}
-use Rattle.ffs_claims.specs.RescanRuns.{Rewalked, runs_until_reported, steps_runs_again, RunsPay, StepReported, Counted}
+use Rattle.ffs_claims.proofs.Frames.{ready_still, ready_walked, image_from, claims_then, claims_still, claims_none}
+use Rattle.ffs_claims.proofs.{Inodes.ok_where, Reportings.{reporting_over, Reporting, reporting_begins, reporting_more}}
+use Rattle.ffs_claims.proofs.Reportings.{reporting_ends, reported_from, reported_to, lines_split}
+use Rattle.ffs_claims.{proofs.RescanCounts.{looked_none, looked_next, again_gaps}, specs.Lines.of_lines}
+use Rattle.ffs_claims.specs.{Reporting.{ReportsOnly, RewalkLeaves, after_first}, Rescan.step_offers_again}
+use Rattle.ffs_claims.specs.{Rescan.offers_again, RescanRuns.{Rewalks, RoseBy, Rewalked, runs_until_reported}}
+use Rattle.ffs_claims.specs.RescanRuns.{steps_runs_again, RunsPay, StepReported, Counted}
 
 pub open_first : (cut : ℕ) → is_replay_open cut fresh_replay ≡ true
 open_first cut = grind (arith, nat_tests)
@@ -63,13 +65,10 @@ pub record Rewalking (v : Layout) (i cut : ℕ) (all : List Step) (r : Replay) (
       (steps_runs_again v i cut r R))
       (runs_until_reported (bits_of u.duplicates) (steps_runs_again v i cut fresh_replay all))
 
-pub rewalk_begins : {v : Layout} {i cut : ℕ} {all : List Step} {r : Replay} {R : List Step} {w : Workspace}
-    {windows : Windows} → r ≡ fresh_replay → R ≡ all → Rewalking v i cut all r R w (record w { windows = windows })
-rewalk_begins {w = w} e same = rw (e, same) (record {
-  reported = record { past = []; whole = refl; reported = reported_to _ _ _ (reported_none w) refl refl };
-  runs = omega arith;
-  count = λ _. refl;
-})
+pub rewalk_begins : {v : Layout} {i cut : ℕ} {all : List Step} {r : Replay} {R : List Step} {w : Workspace} →
+    r ≡ fresh_replay → R ≡ all → Rewalking v i cut all r R w w
+rewalk_begins {w = w} e same = rw (e, same)
+    (record { reported = reporting_begins _ w; runs = omega arith; count = λ _. refl })
 
 -- a step more
 pub rewalk_on : {v : Layout} {i cut : ℕ} {all : List Step} {step : Step} {k k' : Keeping} {R R' : List Step}
@@ -123,6 +122,26 @@ rereads_on e same kept only p =
 pub rewalked_to : {v : Layout} {i cut : ℕ} {all : List Step} {u w : Workspace} {windows : Windows} →
     Rewalked v i cut all u w → Rewalked v i cut all u (record w { windows = windows })
 rewalked_to p = record { reported = reported_to _ _ _ p.reported refl refl; count = p.count }
+
+pub rewalked_from : {v : Layout} {i cut : ℕ} {all : List Step} {u w : Workspace} {windows : Windows} →
+    Rewalked v i cut all (record u { windows = windows }) w → Rewalked v i cut all u w
+rewalked_from {u = u} p = record { reported = reported_from u _ _ p.reported refl refl; count = p.count }
+
+-- an inode was read before, as the image gives it
+pub rewalks_from : {T : Type 0} {v : Layout} {n cut : ℕ} {d' d'' : Device} {a b : Progress} {u w : Workspace}
+    {windows : Windows} {r : Result T RunFault} (i : Inode) (d : Device) (inode : List ℕ → Inode) → d' ≡ d →
+    ForBytes (IsContents d.contents) (λ bytes. i ≡ inode bytes) →
+    Rewalks v n cut (λ _. i) d' d'' a b (record u { windows = windows }) w r → Rewalks v n cut inode d d'' a b u w r
+rewalks_from {T = T} {v = v} {n = n} {cut = cut} {d' = d'} {d'' = d''} {u = u} {r = r} i d inode e h p =
+    let gives : ForBytes (IsContents d.contents) (IsContents d'.contents) = λ bytes t. ap (λ x. x.contents) e ∙ t in
+    let image = image_from d'' r e p.left.image in
+    let claims = claims_then (claims_still (claims_none u)) p.left.claims in
+    record {
+      text = grind (arith, reports_same, reports_knowing);
+      rewalked = grind (arith, ok_where, rewalked_from);
+      runs = grind arith;
+      left = grind arith;
+    }
 
 -- a step more is reported
 pub rewalk_said : {knows : List ℕ → Type 0} {all : List ℕ → List Message} {a b c : Progress} {v : Layout} {i cut : ℕ}

@@ -10,13 +10,10 @@ use Rattle.ffs_volume.specs.Blocks.{Inodes.addresses_needed, Steps.{steps_of, st
 use Rattle.ffs_volume.specs.{Blocks.Steps.last_length_of, Disk.Areas.is_run_in_range, Messages.Kinds.Message}
 use Rattle.ffs_volume.specs.{Messages.Kinds.of_blocks, declared.{BlockMessage.BlockMessage, Inode.Inode, Layout.Layout}}
 use Rattle.ffs_volume.specs.declared.Step.{Step, TheVariants.Gap}
-use Rattle.ffs_report.proofs.{Reporting.{of_says, of_same, to_begins, to_says, to_stops}, Reports.said_none}
-use Rattle.ffs_report.{proofs.Reports.{stopped_more, said_then, stopped_after}, specs.Known.ForBytes}
-use Rattle.ffs_report.specs.{PhaseOutcome.{SaidOf, SaidTo}, Progress.{Progress, Said, Stopped}}
+use Rattle.ffs_report.proofs.{Reporting.{of_says, of_same}, Reports.{stopped_more, said_then, stopped_after}}
+use Rattle.ffs_report.specs.{Known.ForBytes, PhaseOutcome.SaidOf, Progress.{Progress, Said, Stopped}}
 use Rattle.ffs_walk.specs.{Rests.steps_left, declared.walk.Walk.Walk}
-use Rattle.ffs_workspace.specs.{Holds.claims_of, Lengths.IsFor, declared.workspace.Workspace.Workspace}
-use Rattle.ffs_claims.{proofs.Frames.{offers_none, offers_then}, specs.{Leaves.OffersOnly, Lines.of_lines}}
-use Rattle.ffs_claims.specs.{Lines.{has_dup_line, bad_lines, dup_lines}, declared.area.Run.Run}
+use Rattle.ffs_claims.specs.Lines.{of_lines, has_dup_line, bad_lines}
 
 pub lines_append : (xs ys : List BlockMessage) → of_lines (xs ++ ys) ≡ of_lines xs ++ of_lines ys
 lines_append xs ys = map-append of_blocks xs ys
@@ -29,7 +26,7 @@ pub dup_below : (v : Layout) (s : Claims) (f : ℕ) → has_dup_line v s f ≡ t
 dup_below v s f e = let below = in_range_below v f in grind arith
 
 -- an offer is kept at most once, and no Run is seen by it
-offer_kept : (v : Layout) (s s' : Claims) (f : ℕ) → s' ≡ after_offer v s f → s'.kept ≤ s.kept + 1
+pub offer_kept : (v : Layout) (s s' : Claims) (f : ℕ) → s' ≡ after_offer v s f → s'.kept ≤ s.kept + 1
 offer_kept v s s' f now = rw now (grind arith)
 
 -- a Run from its first fragment on, and from a later one
@@ -41,71 +38,18 @@ pub range_next : (start len place f : ℕ) → place < len → f ≡ start + pla
     range_with_len (start + place) (len - place) ≡ f ∷ range_with_len (start + (place + 1)) (len - (place + 1))
 range_next start len place f h is_place = grind (arith, range_more)
 
--- the next offer of a Run is claimed
-offers_after : (v : Layout) (s s' : Claims) (start len place f : ℕ) → place < len → f ≡ start + place →
+-- the next offer of a Run is taken
+pub offers_after : (v : Layout) (s s' : Claims) (start len place f : ℕ) → place < len → f ≡ start + place →
     s' ≡ after_offer v s f → after_offers v s (range_with_len (start + place) (len - place))
     ≡ after_offers v s' (range_with_len (start + (place + 1)) (len - (place + 1)))
 offers_after v s s' start len place f h is_place now = grind (arith, range_next)
 
 -- and reported
-offers_more : (v : Layout) (inode : ℕ) (s s' : Claims) (start len place f : ℕ) → place < len → f ≡ start + place →
+pub offers_more : (v : Layout) (inode : ℕ) (s s' : Claims) (start len place f : ℕ) → place < len → f ≡ start + place →
     s' ≡ after_offer v s f → of_lines (lines_of_offers v inode s (range_with_len (start + place) (len - place)))
     ≡ of_lines (offer_lines v inode s f)
     ++ of_lines (lines_of_offers v inode s' (range_with_len (start + (place + 1)) (len - (place + 1))))
 offers_more v inode s s' start len place f h is_place now = grind (arith, range_next, lines_append)
-
--- where the taking of a Run's offers is, with those from a place on still to come
-pub record Taking (v : Layout) (inode : ℕ) (run : Run) (place : ℕ) (u w : Workspace) (a b : Progress) : Type 0 where
-  pub only : OffersOnly v u w
-  pub kept : w.kept ≤ u.kept + place
-  pub claims : after_offers v (claims_of u) (range_with_len run.start run.len)
-      ≡ after_offers v (claims_of w) (range_with_len (run.start + place) (run.len - place))
-  pub said : SaidTo
-      (of_lines (lines_of_offers v inode (claims_of w) (range_with_len (run.start + place) (run.len - place))))
-      (of_lines (lines_of_offers v inode (claims_of u) (range_with_len run.start run.len))) a b
-
-pub taking_begins : {v : Layout} {inode : ℕ} {run : Run} {w : Workspace} {a : Progress} → IsFor v w →
-    Taking v inode run 0 w w a a
-taking_begins {v = v} {inode = inode} {run = run} {w = w} made = record {
-  only = offers_none made;
-  kept = omega arith;
-  claims = ap (after_offers v (claims_of w)) (from_start run.start run.len);
-  said = rw (← from_start run.start run.len) (to_begins _ _);
-}
-
--- the next one is taken, and has no line, or has a DUP line that is said or stops
-module _ {v : Layout} {inode : ℕ} {run : Run} {place : ℕ} {u w : Workspace} {a b : Progress} (w' : Workspace) (f : ℕ)
-    (low : place < run.len) (is_place : f ≡ run.start + place) (now : claims_of w' ≡ after_offer v (claims_of w) f)
-    (t : Taking v inode run place u w a b) where
-  more : of_lines (lines_of_offers v inode (claims_of w) (range_with_len (run.start + place) (run.len - place)))
-      ≡ of_lines (offer_lines v inode (claims_of w) f) ++ of_lines (lines_of_offers v inode (claims_of w')
-      (range_with_len (run.start + (place + 1)) (run.len - (place + 1))))
-  more = offers_more v inode (claims_of w) (claims_of w') run.start run.len place f low is_place now
-
-  on : {c : Progress} → OffersOnly v w w' → Said b c (of_lines (offer_lines v inode (claims_of w) f)) →
-      Taking v inode run (place + 1) u w' a c
-  on only out = record {
-    only = offers_then t.only only;
-    kept = omega (arith, t.kept, offer_kept v (claims_of w) (claims_of w') f now);
-    claims = t.claims ∙ offers_after v (claims_of w) (claims_of w') run.start run.len place f low is_place now;
-    said = to_says _ _ _ _ _ _ _ t.said more out;
-  }
-
-  pub taking_silent : OffersOnly v w w' → has_dup_line v (claims_of w) f ≡ false →
-      Taking v inode run (place + 1) u w' a b
-  taking_silent only e = on only (rw e (said_none b))
-
-  pub taking_dup : {c : Progress} → OffersOnly v w w' → has_dup_line v (claims_of w) f ≡ true →
-      Said b c (of_lines (dup_lines inode f (w.dups == 10))) → Taking v inode run (place + 1) u w' a c
-  taking_dup {c = c} only e out =
-      let said : Said b c (of_lines (offer_lines v inode (claims_of w) f)) = rw e out in on only said
-
-  pub taking_stops : {c : Progress} → has_dup_line v (claims_of w) f ≡ true →
-      Stopped b c (of_lines (dup_lines inode f (w.dups == 10))) →
-      Stopped a c (of_lines (lines_of_offers v inode (claims_of u) (range_with_len run.start run.len)))
-  taking_stops {c = c} e out =
-      let stopped : Stopped b c (of_lines (offer_lines v inode (claims_of w) f)) = rw e out in
-      to_stops _ _ _ _ _ _ _ t.said more stopped
 
 -- once an inode is cut its steps change nothing, and nothing is reported of them
 pub cut_over : (v : Layout) (inode : ℕ) (s : Claims) (steps : List Step) → is_open s ≡ false →

@@ -14,11 +14,14 @@ pub record HasBegun (w : Workspace) : Type 0 where
   pub kept : w.kept ≡ 0
   pub runs : w.runs_seen < 2 ^ 61
 
--- the workspace was made for the volume, the current inode can keep so many offers more, and these
--- are in range if they are said to be
-pub record CanOffer (v : Layout) (w : Workspace) (more : ℕ) (in_range fit : Bool) : Type 0 where
+-- the workspace was made for the volume, and the current inode can keep so many offers more
+pub record HasRoomForOffers (v : Layout) (w : Workspace) (more : ℕ) : Type 0 where
   pub made : IsFor v w
   pub room : w.kept + more ≤ 2 ^ 63
+
+-- the current inode can keep so many offers more, and these are in range if they are said to be
+pub record CanOffer (v : Layout) (w : Workspace) (more : ℕ) (in_range fit : Bool) : Type 0 where
+  pub room : HasRoomForOffers v w more
   pub known : IsTrue in_range → fit ≡ true
 
 -- the claims are these, and the answer is whether the inode's next step is seen

@@ -1,9 +1,9 @@
 -- The lines of the block check, as messages of a report.
 use Rattle.std.specs.{List.range_with_len, Prelude.{ℕ, ◌+◌, ◌-◌, Bool, ◌&&◌, nat_lt, if◌then◌else◌, List, [], ◌∷◌, map}}
-use Rattle.ffs_volume.specs.Blocks.{Claims.{Claims, is_set}, Owners.{Owner, owner_of}}
+use Rattle.ffs_volume.specs.Blocks.{Claims.{Claims, is_set}, Inodes.class_of, Owners.{Owner, owner_of}, Steps.steps_of}
 use Rattle.ffs_volume.specs.{Disk.Areas.is_fragment_in_range, Messages.Kinds.{Message, of_blocks}}
 use Rattle.ffs_volume.specs.declared.BlockMessage.{BlockMessage, TheVariants.{Bad, Dup, ManyBad, ManyDup}}
-use Rattle.ffs_volume.specs.declared.{Class.Class, Layout.Layout, constants.TheConstants.MAXDUP}
+use Rattle.ffs_volume.specs.declared.{Class.Class, Inode.Inode, Layout.Layout, constants.TheConstants.MAXDUP}
 use Rattle.ffs_workspace.specs.Lengths.{inodes_of}
 
 -- the messages of a report
@@ -20,6 +20,11 @@ dup_lines inode f is_eleventh = Dup f inode ∷ (if is_eleventh then ManyDup ino
 
 abbrev pub bad_lines : ℕ → ℕ → Bool → List BlockMessage
 bad_lines inode start is_eleventh = Bad start inode ∷ (if is_eleventh then ManyBad inode ∷ [] else [])
+
+-- an inode by its number, as one that may own fragments
+abbrev pub owner_with : Layout → List ℕ → ℕ → Inode → Owner
+owner_with v image number i =
+    record { number = number; class = class_of v i; steps = steps_of v i image; blocks = i.blocks }
 
 -- the inodes from one on
 abbrev pub owners_from : Layout → List ℕ → ℕ → List Owner

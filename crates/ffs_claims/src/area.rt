@@ -1,7 +1,7 @@
 //! Runs, and the data area: data fragments around the last Run that was in range.
 
-ghost use Rattle.std.specs.Prelude.{◌<◌, ◌↔◌, IsTrue};
-ghost use Rattle.ffs_volume.specs.declared.Layout.{Layout};
+ghost use Rattle.std.specs.Prelude.{◌≡◌, ◌<◌, ◌↔◌, IsTrue, true, ℕ};
+ghost use Rattle.ffs_volume.specs.{Disk.Areas.is_run_in_range, declared.Layout.Layout};
 
 use ffs_layout::Geometry;
 
@@ -10,9 +10,8 @@ use ffs_layout::Geometry;
 pub struct Run {
     /// The first fragment.
     pub start: u32,
-    /// How many fragments there are: at least one.
+    /// How many fragments there are.
     pub len: u32,
-    pub ghost some: { 0 < len },
 }
 
 /// Consecutive fragments, from `start` on and below `end`. Each Run that lies in them is in range.
@@ -25,7 +24,7 @@ pub struct DataArea {
 }
 
 impl DataArea {
-    ghost use Rattle.ffs_claims.specs.Area.{IsAreaAround, IsDataArea, FindsRun, HasRun};
+    ghost use Rattle.ffs_claims.specs.Area.{IsDataArea, HasRun};
 
     /// No fragments.
     pub fn empty() -> DataArea
@@ -38,8 +37,10 @@ impl DataArea {
     /// there, and else those after it.
     #[tactic(auto, using(ffs_volume::proofs::AreaLaws::group_below))]
     fn around(geometry: &Geometry, start: u32) -> DataArea
-        requires { start < geometry.now.layout.size }
-        ensures { IsAreaAround geometry.now.layout result start }
+        requires inside { start < geometry.now.layout.size }
+        ensures area { IsDataArea geometry.now.layout result }
+        ensures run { (len : ℕ) → 0 < len → is_run_in_range geometry.now.layout start len ≡ true
+            → HasRun result start len }
     {
         let group = start / geometry.layout.fpg;
         let base = geometry.cgbase(group);
@@ -68,17 +69,20 @@ impl DataArea {
     /// Whether a Run is in range. If so, it lies in the area from then on.
     #[inline(always)]
     #[tactic(auto, using(crate::proofs::UnclaimedRuns::run_below))]
-    pub fn in_range(&mut self, geometry: &Geometry, run: Run) -> bool
-        requires { IsDataArea geometry.now.layout self.old }
-        ensures { FindsRun geometry.now.layout self.new run.start run.len result }
+    pub fn in_range(&mut self, geometry: &Geometry, start: u32, len: u32) -> bool
+        requires some { 0 < len }
+        requires area { IsDataArea geometry.now.layout self.old }
+        ensures value { result ≡ is_run_in_range geometry.now.layout start len }
+        ensures area { IsDataArea geometry.now.layout self.new }
+        ensures run { IsTrue result → HasRun self.new start len }
     {
-        if self.contains(run.start, run.len) {
+        if self.contains(start, len) {
             return true;
         }
-        if !geometry.in_range(run.start, run.len) {
+        if !geometry.in_range(start, len) {
             return false;
         }
-        *self = DataArea::around(geometry, run.start);
+        *self = DataArea::around(geometry, start);
         true
     }
 }

@@ -1,13 +1,14 @@
 //! The offers of Runs, and what is reported of them.
 
-ghost use Rattle.std.specs.Prelude.{◌≡◌, ◌+◌, ◌≤◌, ◌^◌, IsTrue, true};
-ghost use Rattle.ffs_volume.specs.Blocks.Claims.{after_offer, after_run, after_step, run_lines, step_lines};
+ghost use Rattle.std.specs.{List.range_with_len, Prelude.{◌≡◌, ◌+◌, ◌<◌, ◌≤◌, OnOk, IfOk, IsTrue, true}};
+ghost use Rattle.ffs_volume.specs.Blocks.Claims.{after_offer, after_offers, after_run, after_step, offer_lines};
+ghost use Rattle.ffs_volume.specs.Blocks.Claims.{lines_of_offers, run_lines, step_lines};
 ghost use Rattle.ffs_volume.specs.{Disk.Areas.{is_fragment_in_range, is_run_in_range}, Laws.RunLengths.HasLength};
-ghost use Rattle.ffs_report.specs.Progress.{progress};
+ghost use Rattle.ffs_report.specs.Progress.{progress, Says};
 ghost use Rattle.ffs_walk.specs.Counts.{entered};
 ghost use Rattle.ffs_workspace.specs.Holds.{claims_of};
-ghost use Rattle.ffs_claims.specs.{Claiming.{ClaimsStep, SeesNext, TakesOffers}, Lines.has_dup_line};
-ghost use Rattle.ffs_claims.specs.Leaves.{CanOffer, OffersOnly};
+ghost use Rattle.ffs_claims.specs.{Claiming.{ClaimsStep, SeesNext}, Leaves.{AreClaims, CanOffer, HasRoomForOffers}};
+ghost use Rattle.ffs_claims.specs.{Leaves.OffersOnly, Lines.{of_lines, has_dup_line}};
 ghost use Rattle.ffs_volume.specs.Blocks.Claims as claims;
 
 use crate::area::{DataArea, Run};
@@ -64,6 +65,31 @@ fn take(workspace: &mut Workspace, geometry: &Geometry, fragment: u64, in_range:
     true
 }
 
+/// Takes one offer, and reports what is wrong with it.
+fn offer<W: Output>(
+    workspace: &mut Workspace,
+    geometry: &Geometry,
+    number: u32,
+    fragment: u64,
+    in_range: bool,
+    report: &mut Report<'_, W>,
+) -> Result<(), OutFault>
+    requires { CanOffer geometry.now.layout workspace.old 1 in_range
+        (is_fragment_in_range geometry.now.layout fragment) }
+    ensures said { Says (progress W.sink report.old) (progress W.sink report.new)
+        (of_lines (offer_lines geometry.now.layout number (claims_of workspace.old) fragment))
+        result }
+    ensures claims { claims_of workspace.new
+        ≡ after_offer geometry.now.layout (claims_of workspace.old) fragment }
+    ensures only { OffersOnly geometry.now.layout workspace.old workspace.new }
+{
+    let is_eleventh = workspace.dups == MAXDUP;
+    if !take(workspace, geometry, fragment, in_range) {
+        return Ok(());
+    }
+    say_dup(report, number, fragment as u32, is_eleventh)
+}
+
 /// Takes the offers of a Run, one after another, and reports what is wrong with them. `in_range`
 /// says that the Run is in range.
 fn offers<W: Output>(
@@ -76,24 +102,83 @@ fn offers<W: Output>(
 ) -> Result<(), OutFault>
     requires { CanOffer geometry.now.layout workspace.old run.len in_range
         (is_run_in_range geometry.now.layout run.start run.len) }
-    ensures { TakesOffers geometry.now.layout number run (progress W.sink report.old)
-        (progress W.sink report.new) workspace.old workspace.new result }
+    ensures said { Says (progress W.sink report.old) (progress W.sink report.new)
+        (of_lines (lines_of_offers geometry.now.layout number (claims_of workspace.old)
+        (range_with_len run.start run.len))) result }
+    ensures claims { OnOk result (claims_of workspace.new
+        ≡ after_offers geometry.now.layout (claims_of workspace.old)
+        (range_with_len run.start run.len)) }
+    ensures only { OffersOnly geometry.now.layout workspace.old workspace.new }
 {
     for index in 0..run.len {
-        let fragment = u64::from(run.start) + u64::from(index);
-        let is_eleventh = workspace.dups == MAXDUP;
-        if !take(workspace, geometry, fragment, in_range) {
-            continue;
-        }
-        say_dup(report, number, fragment as u32, is_eleventh)?;
+        offer(
+            workspace,
+            geometry,
+            number,
+            u64::from(run.start) + u64::from(index),
+            in_range,
+            report,
+        )?;
     }
     Ok(())
 }
 
-/// Takes a Run of the current inode: one in range is claimed at once where its fragments are all
-/// unclaimed and lie in one word of the map. No fragment past the volume is in range: so a bad Run
-/// that begins there is kept at once, unless it is the eleventh, which cuts the inode; nothing of it
-/// is claimed or dup. Other offers are taken one by one. Returns whether the next step is seen.
+/// Takes a Run in range of the current inode: it is claimed at once where its fragments are all
+/// unclaimed and lie in one word of the map. Returns whether the next step is seen.
+fn run_in_range<W: Output>(
+    workspace: &mut Workspace,
+    geometry: &Geometry,
+    number: u32,
+    run: Run,
+    report: &mut Report<'_, W>,
+) -> Result<bool, OutFault>
+    requires can { CanOffer geometry.now.layout workspace.old run.len true
+        (is_run_in_range geometry.now.layout run.start run.len) }
+    requires some { 0 < run.len }
+    requires open { claims.is_open (claims_of workspace.old) ≡ true }
+    ensures said { Says (progress W.sink report.old) (progress W.sink report.new)
+        (of_lines (lines_of_offers geometry.now.layout number (claims_of workspace.old)
+        (range_with_len run.start run.len))) result }
+    ensures claims { IfOk result (AreClaims workspace.new
+        (after_offers geometry.now.layout (claims_of workspace.old)
+        (range_with_len run.start run.len))) }
+    ensures only { OffersOnly geometry.now.layout workspace.old workspace.new }
+{
+    if workspace.used.claim(run.start, run.len) {
+        workspace.kept += u64::from(run.len);
+        return Ok(true);
+    }
+    offers(workspace, geometry, number, run, true, report)?;
+    Ok(is_open(workspace))
+}
+
+/// Takes the offers of a bad Run of the current inode, which isn't cut. No fragment past the volume
+/// is in range: so a Run that begins there is kept at once, and nothing of it is claimed or dup.
+fn offers_of_bad_run<W: Output>(
+    workspace: &mut Workspace,
+    geometry: &Geometry,
+    number: u32,
+    run: Run,
+    report: &mut Report<'_, W>,
+) -> Result<(), OutFault>
+    requires room { HasRoomForOffers geometry.now.layout workspace.old run.len }
+    requires uncut { workspace.old.dups ≤ MAXDUP }
+    ensures said { Says (progress W.sink report.old) (progress W.sink report.new)
+        (of_lines (lines_of_offers geometry.now.layout number (claims_of workspace.old)
+        (range_with_len run.start run.len))) result }
+    ensures claims { OnOk result (claims_of workspace.new
+        ≡ after_offers geometry.now.layout (claims_of workspace.old)
+        (range_with_len run.start run.len)) }
+    ensures only { OffersOnly geometry.now.layout workspace.old workspace.new }
+{
+    if run.start >= geometry.layout.size {
+        workspace.kept += u64::from(run.len);
+        return Ok(());
+    }
+    offers(workspace, geometry, number, run, false, report)
+}
+
+/// Takes a Run of the current inode. Returns whether the next step is seen.
 fn run<W: Output>(
     workspace: &mut Workspace,
     geometry: &Geometry,
@@ -102,7 +187,8 @@ fn run<W: Output>(
     run: Run,
     report: &mut Report<'_, W>,
 ) -> Result<bool, OutFault>
-    requires { SeesNext geometry.now.layout workspace.old area.old (2 ^ 62) }
+    requires next { SeesNext geometry.now.layout workspace.old area.old }
+    requires some { 0 < run.len }
     ensures claiming { ClaimsStep geometry.now.layout
         (run_lines geometry.now.layout number (claims_of workspace.old) run.start run.len)
         (after_run geometry.now.layout (claims_of workspace.old) run.start run.len)
@@ -111,13 +197,8 @@ fn run<W: Output>(
     ensures runs { workspace.new.runs_seen ≡ workspace.old.runs_seen + 1 }
 {
     workspace.runs_seen += 1;
-    if area.in_range(geometry, run) {
-        if workspace.used.claim(run.start, run.len) {
-            workspace.kept += u64::from(run.len);
-            return Ok(true);
-        }
-        offers(workspace, geometry, number, run, true, report)?;
-        return Ok(is_open(workspace));
+    if area.in_range(geometry, run.start, run.len) {
+        return run_in_range(workspace, geometry, number, run, report);
     }
     let is_eleventh = workspace.bad == MAXBAD;
     workspace.bad += 1;
@@ -125,11 +206,7 @@ fn run<W: Output>(
     if is_eleventh {
         return Ok(false);
     }
-    if run.start >= geometry.layout.size {
-        workspace.kept += u64::from(run.len);
-        return Ok(is_open(workspace));
-    }
-    offers(workspace, geometry, number, run, false, report)?;
+    offers_of_bad_run(workspace, geometry, number, run, report)?;
     Ok(is_open(workspace))
 }
 
@@ -145,7 +222,7 @@ pub fn step<W: Output>(
     step: Step,
     report: &mut Report<'_, W>,
 ) -> Result<bool, OutFault>
-    requires next { SeesNext geometry.now.layout workspace.old area.old (2 ^ 62) }
+    requires next { SeesNext geometry.now.layout workspace.old area.old }
     requires length { HasLength geometry.now.layout.frag step }
     ensures claiming { ClaimsStep geometry.now.layout
         (step_lines geometry.now.layout number (claims_of workspace.old) step)

@@ -12,8 +12,8 @@ use Rattle.ffs_claims.proofs.StepsContinue.{gaps_over, claims_on, lines_on, step
 use Rattle.ffs_claims.{proofs.claim.claim.Goals.{in-Gap, in_default-matches}, specs.Lines.of_lines}
 use Rattle.ffs_claims.proofs.claim.claim.Goals as goal
 
-pub returns-then-not-has_steps : goal.returns-then-not-has_steps
-returns-then-not-has_steps g c =
+pub returns-then-not-has_steps-clause-claiming : goal.returns-then-not-has_steps-clause-claiming
+returns-then-not-has_steps-clause-claiming g c =
     let v = c.args.geometry.now.layout in
     let s = claims_of c.args.workspace.now in
     let none = λ (bytes : List ℕ). without_steps v c.args.claimant.now.inode.now bytes
@@ -23,20 +23,18 @@ returns-then-not-has_steps g c =
       text = says_none
           (λ bytes t. ap (λ xs. of_lines (lines_of_steps v c.args.claimant.now.number s xs)) (none bytes));
       claims = λ bytes t. sym (ap (after_steps v s) (none bytes));
-      left = claiming_none c.requires.can.claim;
-      walk = c.requires.can.walk;
-      counted = omega arith;
+      left = claiming_none c.requires.ready;
     }
 
 pub loop-next-init : goal.loop-next-init
 loop-next-init g c =
     let v = c.args.geometry.now.layout in
     let s = claims_of c.args.workspace.now in
-    let walk = rw c.requires.can.walk at c.restart.ensures.walk c.requires.class in
+    let walk = rw c.requires.walk at c.restart.ensures.walk c.requires.class in
     record {
-      left = claiming_none c.requires.can.claim;
-      open_still = rw (c.requires.can.begun.bad, c.requires.can.begun.dups) refl;
-      geometry = c.restart.ensures.geometry ∙ c.requires.can.walk;
+      left = claiming_none c.requires.ready;
+      open_still = rw (c.requires.begun.bad, c.requires.begun.dups) refl;
+      geometry = c.restart.ensures.geometry ∙ c.requires.walk;
       held = top_held c.restart.new.self c.restart.ensures.top _;
       counted = omega (arith, top_unread c.restart.new.self c.restart.ensures.top);
       claims = λ bytes t. ap (after_steps v s) (walk.steps bytes);
@@ -47,8 +45,8 @@ loop-next-init g c =
 pub next-requires : goal.next-requires
 next-requires g c = can_walk c.loop-next.invariant.geometry c.loop-next.invariant.left.claim.ready
 
-pub returns-in_err-next : goal.returns-in_err-next
-returns-in_err-next g c =
+pub returns-in_err-next-clause-claiming : goal.returns-in_err-next-clause-claiming
+returns-in_err-next-clause-claiming g c =
     let p = err_from_is_err_and c.from_residual.result c.from_residual.ensures.1 in
     let inv = c.loop-next.invariant in
     let err = c.in_err-next.ensures.leaves.read in
@@ -58,19 +56,17 @@ returns-in_err-next g c =
       text = of_reads _ _ _ _ _ inv.said;
       claims = tt;
       left = grind arith;
-      walk = c.next.ensures.same.geometry ∙ inv.geometry;
-      counted = omega (arith, inv.counted, (c.in_err-next.ensures.counted inv.held).most);
     })
 
 pub step-requires-clause-next : goal.step-requires-clause-next
 step-requires-clause-next g c =
     let inv = c.loop-next.invariant in
     let read = claiming_walked c.in_ok-next.ensures.leaves.read inv.geometry c.next.ensures.leaves.kept inv.left in
-    sees_next c.args.geometry.now.sound c.requires.can.begun read.claim.ready.made read.claim.only_data inv.open_still
+    sees_next c.args.geometry.now.sound c.requires.begun read.claim.ready.made read.claim.only_data inv.open_still
     read.moves
 
-pub returns-in_err-seen : goal.returns-in_err-seen
-returns-in_err-seen g c =
+pub returns-in_err-seen-clause-claiming : goal.returns-in_err-seen-clause-claiming
+returns-in_err-seen-clause-claiming g c =
     let p = err_from_is_err_and c.from_residual-in_err-seen.result c.from_residual-in_err-seen.ensures.1 in
     let inv = c.loop-next.invariant in
     let v = c.args.geometry.now.layout in
@@ -83,13 +79,6 @@ returns-in_err-seen g c =
           c.in-Some.next next refl) c.in_err-seen.ensures.claiming.said;
       claims = tt;
       left = claiming_on read.image c.step.ensures.claiming.left (omega (arith, c.step.ensures.runs)) tt read;
-      walk = c.in_ok-next.ensures.same.geometry ∙ inv.geometry;
-      counted = omega (
-        arith,
-        rw c.in-Some.is at (c.in_ok-next.ensures.counted inv.held).paid,
-        inv.counted,
-        c.step.ensures.counted,
-      );
     })
 
 pub loop-next-preserved-then-matches : goal.loop-next-preserved-then-matches
@@ -126,18 +115,15 @@ loop-next-preserved-then-matches g c =
           ∙ ap of_lines (gaps_over v c.args.claimant.now.number s c.skip_gaps.result (rest bytes)).1);
     }
 
-pub claim_words-requires : goal.claim_words-requires
-claim_words-requires g c =
+pub claim_words-requires-clause-next : goal.claim_words-requires-clause-next
+claim_words-requires-clause-next g c =
     let inv = c.loop-next.invariant in
     let sound = c.args.geometry.now.sound in
     let left = c.step.ensures.claiming.left in
     let now = c.in_ok-seen.ensures.claiming.claims in
-    record {
-      next = sees_next sound c.requires.can.begun left.only.made left.only_data (sym now.uncut ∙ c.if-not-seen.false)
-          (moves_on c.in-Some.next inv.left.claim.ready.made sound.sizes.frag_high
-          (rw (inv.geometry, c.in-Some.is) at c.in_ok-next.ensures.step.fits).length now.claims_are inv.left.moves);
-      geometry = c.in_ok-next.ensures.same.geometry ∙ inv.geometry;
-    }
+    sees_next sound c.requires.begun left.only.made left.only_data (sym now.uncut ∙ c.if-not-seen.false)
+    (moves_on c.in-Some.next inv.left.claim.ready.made sound.sizes.frag_high
+    (rw (inv.geometry, c.in-Some.is) at c.in_ok-next.ensures.step.fits).length now.claims_are inv.left.moves)
 
 pub loop-next-preserved : goal.loop-next-preserved
 loop-next-preserved g c =
@@ -172,8 +158,8 @@ loop-next-preserved g c =
           c.in_ok-seen.ensures.claiming.said;
     }
 
-pub returns-then-not-seen : goal.returns-then-not-seen
-returns-then-not-seen g c =
+pub returns-then-not-seen-clause-claiming : goal.returns-then-not-seen-clause-claiming
+returns-then-not-seen-clause-claiming g c =
     let inv = c.loop-next.invariant in
     let v = c.args.geometry.now.layout in
     let s = claims_of c.loop-next.workspace in
@@ -194,17 +180,10 @@ returns-then-not-seen g c =
           (moves_on c.in-Some.next inv.left.claim.ready.made c.args.geometry.now.sound.sizes.frag_high
           (rw (inv.geometry, c.in-Some.is) at c.in_ok-next.ensures.step.fits).length now.claims_are inv.left.moves)
           read;
-      walk = c.in_ok-next.ensures.same.geometry ∙ inv.geometry;
-      counted = omega (
-        arith,
-        rw c.in-Some.is at (c.in_ok-next.ensures.counted inv.held).paid,
-        inv.counted,
-        c.step.ensures.counted,
-      );
     }
 
-pub returns-in_default : goal.returns-in_default
-returns-in_default g c =
+pub returns-in_default-clause-claiming : goal.returns-in_default-clause-claiming
+returns-in_default-clause-claiming g c =
     let inv = c.loop-next.invariant in
     let v = c.args.geometry.now.layout in
     let s = claims_of c.loop-next.workspace in
@@ -214,6 +193,4 @@ returns-in_default g c =
           (λ bytes t. ap (λ xs. of_lines (lines_of_steps v c.args.claimant.now.number s xs)) (over bytes t));
       claims = λ bytes t. sym (ap (after_steps v s) (over bytes t)) ∙ inv.claims bytes t;
       left = claiming_walked c.in_ok-next.ensures.leaves.read inv.geometry c.next.ensures.leaves.kept inv.left;
-      walk = c.in_ok-next.ensures.same.geometry ∙ inv.geometry;
-      counted = omega (arith, rw c.in_default.is at (c.in_ok-next.ensures.counted inv.held).paid, inv.counted);
     }

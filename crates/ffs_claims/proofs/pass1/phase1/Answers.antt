@@ -36,8 +36,8 @@ loop-number-init g c =
       said = says_heading (λ bytes k. first_lines v bytes s (c.reserve.ensures.claims k.1)) c.in_ok-say.ensures.said;
     }
 
-pub claim_inode-requires : goal.claim_inode-requires
-claim_inode-requires g c =
+pub claim_inode-requires-clause-ready : goal.claim_inode-requires-clause-ready
+claim_inode-requires-clause-ready g c =
     let inv = c.loop-number.invariant in
     let numbers = c.args.geometry.now.sound.numbers in
     let used = used_below inv.ready.ready.made in
@@ -53,11 +53,11 @@ returns-in_err-claim_inode-clause-prints g c =
     let n = c.loop-number.number in
     rw (p.1, p.2) (record {
       image = image_from {T = Unit {0}} (g.I.Image.device c.claim_inode.new.image)
-          (Err c.in_err-claim_inode.field-0.0) inv.device c.in_err-claim_inode.ensures.left.image;
+          (Err c.in_err-claim_inode.field-0.0) inv.device c.in_err-claim_inode.ensures.claiming.left.image;
       text = of_fault (Unit {0}) (Unit {0}) _ _ _ _ _ _ _ _ c.in_err-claim_inode.field-0.0
           inv.said (λ bytes t. lines_next v bytes s (after_owner v s (owner_of v bytes n)) n (omega arith) refl)
           (reports_knowing (Unit {0}) _ _ _ _ _ (Err c.in_err-claim_inode.field-0.0)
-          (λ bytes k. ap (λ d. d.contents) inv.device ∙ k.0) c.in_err-claim_inode.ensures.text);
+          (λ bytes k. ap (λ d. d.contents) inv.device ∙ k.0) c.in_err-claim_inode.ensures.claiming.text);
     })
 
 pub loop-number-preserved : goal.loop-number-preserved
@@ -69,24 +69,24 @@ loop-number-preserved g c =
     let n = c.loop-number.number in
     let contents = ap (λ d. d.contents) inv.device in
     let lt : n < inodes_of v = omega arith in
-    let now = c.in_ok-claim_inode.ensures.claims in
+    let now = c.in_ok-claim_inode.ensures.claiming.claims in
     let after : ForBytes (WithFresh v (g.I.Image.device c.args.image.now) c.args.workspace.now)
     (λ bytes. s' ≡ after_owner v (claims_before v bytes n) (owner_of v bytes n)) = λ bytes k. now bytes (contents ∙ k.0)
     ∙ ap (λ t. after_owner v t (owner_of v bytes n)) (inv.claims bytes k) in
     record {
-      ready = c.claim_inode.ensures.left.claim;
+      ready = c.claim_inode.ensures.claiming.left.claim;
       walk = c.claim_inode.ensures.walk;
-      device = c.in_ok-claim_inode.ensures.left.image ∙ inv.device;
+      device = c.in_ok-claim_inode.ensures.claiming.left.image ∙ inv.device;
       low = omega arith;
       high = λ h. omega arith;
-      runs = omega (arith, inv.runs, inv.low, c.in_ok-claim_inode.ensures.left.moves);
+      runs = omega (arith, inv.runs, inv.low, c.in_ok-claim_inode.ensures.claiming.left.moves);
       reads = omega (arith, inv.reads, inv.low, c.claim_inode.ensures.counted);
-      again = c.claim_inode.ensures.left.again ∙ inv.again;
+      again = c.claim_inode.ensures.claiming.left.again ∙ inv.again;
       claims = λ bytes k. after bytes k ∙ sym (before_next v bytes n inv.low);
       found = λ bytes k. found_next inv.low lt inv.ready.ready.made (after bytes k)
           (c.in_ok-claim_inode.ensures.stored bytes (contents ∙ k.0)) (inv.found bytes k);
       said = of_part _ _ _ _ _ _ _ _ inv.said (λ bytes k. lines_next v bytes s s' n lt (now bytes (contents ∙ k.0)))
-          (said_knows _ _ _ _ _ _ (λ bytes k. contents ∙ k.0) c.in_ok-claim_inode.ensures.text);
+          (said_knows _ _ _ _ _ _ (λ bytes k. contents ∙ k.0) c.in_ok-claim_inode.ensures.claiming.text);
     }
 
 pub returns-clause-prints : goal.returns-clause-prints

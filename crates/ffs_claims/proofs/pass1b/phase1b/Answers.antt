@@ -1,12 +1,27 @@
-use Rattle.std.proofs.{Common.{◌≡◌, ◌∙◌, false, ap, arith, sym}, lemmas.Bool.both_ways}
+use Rattle.std.proofs.Common.{◌≡◌, ◌∙◌, false, ap, arith, sym, ℕ, List, OnOk, Result, Ok, Err}
+use Rattle.std.proofs.lemmas.Bool.{both_ways}
 use Rattle.ffs_image.specs.Device.{Device}
-use Rattle.ffs_volume.proofs.Results.{on_ok as ok_then}
-use Rattle.ffs_report.specs.Known.{ForBytes}
+use Rattle.ffs_volume.specs.declared.Layout.{Layout}
+use Rattle.ffs_report.specs.{Known.ForBytes, declared.fault.RunFault.RunFault}
+use Rattle.ffs_workspace.specs.{declared.workspace.Workspace.Workspace, Holds.{HoldsClaims, HoldsStarts}}
 use Rattle.ffs_workspace.{specs.Found.WithPhase1, proofs.Readiness.ready_same}
+use Rattle.ffs_claims.specs.{Phases.IsLeftByPhase1b, RescanRuns.rescan_runs}
 use Rattle.ffs_claims.proofs.Limited.{image_over, phase_served, runs_fit, runs_within}
 use Rattle.ffs_claims.proofs.pass1b.phase1b.Goals.{After-is_spent}
 use Rattle.ffs_claims.proofs.pass1b.phase1b.Given as given
 use Rattle.ffs_claims.proofs.pass1b.phase1b.Goals as goal
+
+-- what the scan leaves is known where the bytes are
+left_by : {T : Type 0} (v : Layout) (w : Workspace) (knows known : List ℕ → Type 0) (r : Result T RunFault) →
+    ForBytes knows known → OnOk r (ForBytes known (λ bytes. HoldsClaims v bytes w × HoldsStarts v bytes w)) →
+    OnOk r (ForBytes known (λ bytes. w.runs_again ≡ rescan_runs v bytes)) →
+    OnOk r (ForBytes knows (λ bytes. IsLeftByPhase1b v bytes w))
+left_by v w knows known (Ok x) more holds count = λ bytes k. record {
+  claims = (holds bytes (more bytes k)).0;
+  starts = (holds bytes (more bytes k)).1;
+  count = count bytes (more bytes k);
+}
+left_by v w knows known (Err e) more holds count = tt
 
 -- what is known of the bytes is known of the limited image
 known : (g : given.Over) (c : After-is_spent g) →
@@ -67,8 +82,8 @@ returns-clause-prints g c =
 pub returns-clause-leaves : goal.returns-clause-leaves
 returns-clause-leaves g c =
     let at = (goal.at.returns-clause-leaves g c).After-is_spent in
-    ok_then c.rescan_inodes-scanned.result _ _ (λ h bytes k. h bytes (known g at bytes k))
-    c.rescan_inodes-scanned.ensures.leaves
+    left_by _ c.rescan_inodes-scanned.new.workspace _ _ c.rescan_inodes-scanned.result (known g at)
+    c.rescan_inodes-scanned.ensures.holds c.rescan_inodes-scanned.ensures.count
 
 pub returns-clause-reads : goal.returns-clause-reads
 returns-clause-reads g c =

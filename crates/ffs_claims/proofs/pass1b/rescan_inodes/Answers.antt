@@ -63,7 +63,7 @@ returns-in_err-rewalk_inode-clause-prints g c =
     let fault : Result (Unit {0}) RunFault = Err c.in_err-rewalk_inode.field-0.0 in
     rw (p.1, p.2) (record {
       image = image_from (g.I.Image.device c.rewalk_inode.new.image) fault inv.device
-          c.in_err-rewalk_inode.ensures.left.image;
+          c.in_err-rewalk_inode.ensures.rewalks.left.image;
       text = of_fault (Unit {0}) (Unit {0}) _ (λ bytes. of_lines (first_offer_lines d (kept_from v bytes n)))
           (λ bytes. of_lines (first_offer_lines d (offers_at v bytes notes n)))
           (λ bytes. of_lines (first_offer_lines (after_first d (offers_at v bytes notes n))
@@ -71,7 +71,7 @@ returns-in_err-rewalk_inode-clause-prints g c =
           _ _ _ _ c.in_err-rewalk_inode.field-0.0 inv.said (λ bytes k. lines_split d _ _ _ _ (kept_next v bytes notes n
           (is_noted c.args.geometry.now.sound inv.low (omega arith) inv.claims k.1)) refl)
           (reports_knowing (Unit {0}) _ _ _ _ _ fault (λ bytes k. ap (λ d. d.contents) inv.device ∙ k.0)
-          c.in_err-rewalk_inode.ensures.text);
+          c.in_err-rewalk_inode.ensures.rewalks.text);
     })
 
 pub returns-in_err-rewalk_inode-clause-runs : goal.returns-in_err-rewalk_inode-clause-runs
@@ -81,7 +81,7 @@ returns-in_err-rewalk_inode-clause-runs g c = λ bytes k.
     let n = c.loop-number.number in
     let on = runs_on v bytes _ n (is_noted c.args.geometry.now.sound inv.low (omega arith) inv.claims k.1) in
     let most = runs_most v bytes (n + 1) (omega arith) (λ h. omega arith) in
-    omega (arith, inv.runs bytes k, c.rewalk_inode.ensures.runs bytes (ap (λ d. d.contents) inv.device ∙ k.0))
+    omega (arith, inv.runs bytes k, c.rewalk_inode.ensures.rewalks.runs bytes (ap (λ d. d.contents) inv.device ∙ k.0))
 
 pub loop-number-preserved : goal.loop-number-preserved
 loop-number-preserved g c =
@@ -93,7 +93,7 @@ loop-number-preserved g c =
     let d' = bits_of c.rewalk_inode.new.workspace.duplicates in
     let notes = c.loop-number.workspace.notes.items in
     let image = ap (λ d. d.contents) inv.device in
-    let rewalks = c.in_ok-rewalk_inode.ensures in
+    let rewalks = c.in_ok-rewalk_inode.ensures.rewalks in
     let noted : ForBytes (WithPhase1 v (g.I.Image.device c.args.image.now) c.args.workspace.now)
     (λ bytes. IsNoted v bytes notes n) = λ bytes k. is_noted sound inv.low (omega arith) inv.claims k.1 in
     let on : ForBytes (WithPhase1 v (g.I.Image.device c.args.image.now) c.args.workspace.now) (λ bytes.
@@ -137,12 +137,12 @@ returns-then-not-has_dups g c =
         text = of_same _ _ (λ bytes. []) _ _ _ inv.said
             (λ bytes k. ap of_lines (none_first d (kept_from v bytes n) none));
       };
-      leaves = λ bytes k. record {
-        claims = claims_hold v bytes c.args.workspace.now _ k.1 inv.claims (reporting_over none (inv.reported bytes k));
-        starts = starts_hold v bytes c.args.workspace.now _ k.1 inv.claims;
-        count = omega (arith, inv.count bytes k, looked_none d (runs_from v bytes n) none);
-      };
+      holds = λ bytes k. (
+        claims_hold v bytes c.args.workspace.now _ k.1 inv.claims (reporting_over none (inv.reported bytes k)),
+        starts_hold v bytes c.args.workspace.now _ k.1 inv.claims,
+      );
       runs = λ bytes k. omega (arith, inv.runs bytes k, runs_most v bytes n inv.low inv.high);
+      count = λ bytes k. omega (arith, inv.count bytes k, looked_none d (runs_from v bytes n) none);
       reads = runs_pay_all _ _ _ inv.reads (numbers_most n (inodes_of v) inv.high);
       seen = inv.claims.seen;
       ready = inv.ready;
@@ -161,13 +161,13 @@ returns-after-loop-number g c =
         text = of_same _ _ (λ bytes. []) _ _ _ inv.said (λ bytes k. ap (λ os. of_lines (first_offer_lines d os))
             (kept_end v bytes (claims_before v bytes n) n past));
       };
-      leaves = λ bytes k. record {
-        claims = claims_hold v bytes c.args.workspace.now _ k.1 inv.claims
-            (reporting_ends (inv.reported bytes k) (kept_end v bytes (claims_before v bytes n) n past));
-        starts = starts_hold v bytes c.args.workspace.now _ k.1 inv.claims;
-        count = omega (arith, inv.count bytes k, looked_end v bytes d (claims_before v bytes n) n past);
-      };
+      holds = λ bytes k. (
+        claims_hold v bytes c.args.workspace.now _ k.1 inv.claims
+            (reporting_ends (inv.reported bytes k) (kept_end v bytes (claims_before v bytes n) n past)),
+        starts_hold v bytes c.args.workspace.now _ k.1 inv.claims,
+      );
       runs = λ bytes k. omega (arith, inv.runs bytes k, runs_most v bytes n inv.low inv.high);
+      count = λ bytes k. omega (arith, inv.count bytes k, looked_end v bytes d (claims_before v bytes n) n past);
       reads = runs_pay_all _ _ _ inv.reads (numbers_most n (inodes_of v) inv.high);
       seen = inv.claims.seen;
       ready = inv.ready;

@@ -1,5 +1,5 @@
 use Rattle.std.proofs.Common.{◌≡◌, ◌≢◌, ◌+◌, true, slice_index}
-use Rattle.ffs_volume.specs.Blocks.{BlockCheck.first_offer_lines, Inodes.inode_of, Steps.steps_of}
+use Rattle.ffs_volume.specs.Blocks.{BlockCheck.first_offer_lines, Steps.steps_of}
 use Rattle.ffs_volume.specs.Encodings.Replay.{fresh_replay, is_replay_open}
 use Rattle.ffs_report.specs.{Known.ForBytes, Known.IsContents, PhaseOutcome.SaidOf, Progress.progress}
 use Rattle.ffs_maps.specs.Bits.{bits_of}
@@ -7,27 +7,27 @@ use Rattle.ffs_walk.specs.{Counts.AreHeld, Counts.unread, Keepings.replay_in, Re
 use Rattle.ffs_workspace.specs.{Lengths.set_count, Notes.cut_in}
 use Rattle.ffs_claims.proofs.Rewalks.{Rereads, Rewalking}
 use Rattle.ffs_claims.specs.{Lines.of_lines, Rescan.offers_again, RescanRuns.RunsPay}
-use Rattle.ffs_claims.proofs.pass1b.rewalk_inode.Given as goal
+use Rattle.ffs_claims.proofs.pass1b.rewalk.Given as goal
 
 abbrev pub invariant-loop-next : goal.invariant-loop-next
 invariant-loop-next g l = let v = l.geometry.layout in
-    let noted = cut_in (slice_index l.fn.workspace.notes.items l.number) in
-    let knows = IsContents (g.I.Image.device l.fn.image).contents in record {
-      left : Rereads v (g.I.Image.device l.fn.image) (g.I.Image.device l.image) l.fn.workspace l.workspace;
+    let noted = cut_in (slice_index l.initial.workspace.notes.items l.number) in
+    let knows = IsContents (g.I.Image.device l.initial.image).contents in record {
+      left : Rereads v (g.I.Image.device l.initial.image) (g.I.Image.device l.image) l.initial.workspace l.workspace;
       cut : l.keeping.cut ≡ noted;
       going : is_replay_open noted (replay_in l.keeping) ≡ true;
       pending : set_count (bits_of l.workspace.duplicates) ≢ 0;
       geometry : l.walk.geometry ≡ l.geometry;
       held : AreHeld l.workspace.windows.blocks l.walk;
-      counted : RunsPay (g.I.Image.reads l.fn.image + 1) (g.I.Image.reads l.image + unread l.walk)
-          l.fn.workspace.runs_again l.workspace.runs_again;
-      walk : ForBytes knows (λ bytes. Rewalking v l.number noted (steps_of v (inode_of v bytes l.number) bytes)
-          (replay_in l.keeping) (steps_left bytes l.walk) l.fn.workspace l.workspace);
+      counted : RunsPay (g.I.Image.reads l.initial.image) (g.I.Image.reads l.image + unread l.walk)
+          l.initial.workspace.runs_again l.workspace.runs_again;
+      walk : ForBytes knows (λ bytes. Rewalking v l.number noted (steps_of v l.inode bytes) (replay_in l.keeping)
+          (steps_left bytes l.walk) l.initial.workspace l.workspace);
       said : SaidOf knows (λ bytes. of_lines (first_offer_lines (bits_of l.workspace.duplicates)
           (offers_again v l.number noted (replay_in l.keeping) (steps_left bytes l.walk))))
-          (λ bytes. of_lines (first_offer_lines (bits_of l.fn.workspace.duplicates)
-          (offers_again v l.number noted fresh_replay (steps_of v (inode_of v bytes l.number) bytes))))
-          (progress g.W.Output.sink l.fn.report) (progress g.W.Output.sink l.report);
+          (λ bytes. of_lines (first_offer_lines (bits_of l.initial.workspace.duplicates)
+          (offers_again v l.number noted fresh_replay (steps_of v l.inode bytes))))
+          (progress g.W.Output.sink l.initial.report) (progress g.W.Output.sink l.report);
     }
 
 abbrev pub decreases-loop-next : goal.decreases-loop-next

@@ -1,0 +1,225 @@
+use Rattle.std.proofs.Common.{ℕ, ◌≡◌, ◌++◌, replicate, [], arith, refl, ap, ◌∙◌, sym, List, slice_index}
+use Rattle.std.proofs.lemmas.Result.{err_from_is_err_and}
+use Rattle.ffs_volume.specs.{Blocks.BlockCheck.first_offer_lines, Encodings.Replay.is_replay_open}
+use Rattle.ffs_volume.specs.{Encodings.ReplayCounts.replay_step_by_cut, declared.Step.TheVariants.Gap}
+use Rattle.ffs_report.{proofs.Reporting.{of_begins, of_stops, of_reads, of_same}, specs.Known.{ForBytes, IsContents}}
+use Rattle.ffs_maps.specs.Bits.{bits_of}
+use Rattle.ffs_walk.{proofs.Counted.{top_held, top_unread}, specs.{Keepings.replay_in, Rests.steps_left}}
+use Rattle.ffs_workspace.specs.{Lengths.set_count, Notes.cut_in}
+use Rattle.ffs_claims.proofs.{Duplicates.{none_first, none_left, some_left}, Frames.{can_walk, claims_none, ready_read}}
+use Rattle.ffs_claims.proofs.{Frames.ready_walked, RescanCounts.{looked_stopped, again_gaps, again_stopped}}
+use Rattle.ffs_claims.proofs.{RescanCounts.looked_over, Rewalks.{open_first, offers_none, lines_step, runs_next}}
+use Rattle.ffs_claims.proofs.Rewalks.{rewalk_begins, rewalk_on, rewalk_gaps, rewalk_ends, rewalk_over, rewalk_said}
+use Rattle.ffs_claims.{proofs.Rewalks.{rewalked_to, runs_pay_on, runs_pay_ends, rereads_on}, specs.Lines.of_lines}
+use Rattle.ffs_claims.proofs.pass1b.rewalk.Goals as goal
+
+pub loop-next-init : goal.loop-next-init
+loop-next-init g c =
+    let v = c.args.geometry.now.layout in
+    let n = c.args.number in
+    let d = bits_of c.args.workspace.now.duplicates in
+    let cut = cut_in (slice_index c.args.workspace.now.notes.items c.args.number) in
+    let begun = c.start-keeping.ensures.fresh in
+    let steps = c.start-walk.ensures.steps in
+    record {
+      left = record { image = refl; ready = c.requires.can.ready; claims = claims_none c.args.workspace.now };
+      cut = c.start-keeping.ensures.cut ∙ c.cut_of-cut.ensures;
+      going = ap (is_replay_open cut) begun ∙ open_first cut;
+      pending = c.requires.can.pending;
+      geometry = c.start-walk.ensures.geometry;
+      held = top_held c.start-walk.result c.start-walk.ensures.top _;
+      counted = record {
+        rises = λ _. omega arith;
+        paid = λ _. omega (arith, top_unread c.start-walk.result c.start-walk.ensures.top);
+      };
+      walk = λ bytes t. rewalk_begins begun (steps bytes);
+      said = of_same _ _ _ _ _ _ (of_begins _ _ _) (λ bytes t. rw (begun, steps bytes) refl);
+    }
+
+pub next-requires : goal.next-requires
+next-requires g c = can_walk c.loop-next.invariant.geometry c.loop-next.invariant.left.ready
+
+pub returns-in_err-next-clause-rewalks : goal.returns-in_err-next-clause-rewalks
+returns-in_err-next-clause-rewalks g c =
+    let p = err_from_is_err_and c.from_residual.result c.from_residual.ensures.1 in
+    let inv = c.loop-next.invariant in
+    let err = c.in_err-next.ensures.leaves.read in
+    let ready = ready_read {d' = g.I.Image.device c.next.new.image} err.contents err.size inv.geometry
+    c.next.ensures.leaves.kept inv.left.ready in
+    rw (p.1, p.2) (record {
+      text = of_reads _ _ _ _ _ inv.said;
+      rewalked = tt;
+      runs = λ bytes t. omega (arith, (inv.walk bytes t).runs);
+      left = grind arith;
+    })
+
+pub report_again-requires-clause-can : goal.report_again-requires-clause-can
+report_again-requires-clause-can g c =
+    let inv = c.loop-next.invariant in
+    let read = ready_walked c.in_ok-next.ensures.leaves.read inv.geometry c.next.ensures.leaves.kept inv.left.ready in
+    record { made = read.made; number_fits = c.requires.can.number_fits }
+
+pub returns-in_err-report_again-clause-rewalks : goal.returns-in_err-report_again-clause-rewalks
+returns-in_err-report_again-clause-rewalks g c =
+    let from = c.from_residual-in_err-report_again in
+    let p = err_from_is_err_and from.result from.ensures.1 in
+    let inv = c.loop-next.invariant in
+    let v = c.args.geometry.now.layout in
+    let n = c.args.number in
+    let d = bits_of c.loop-next.workspace.duplicates in
+    let cut = cut_in (slice_index c.args.workspace.now.notes.items c.args.number) in
+    let r = replay_in c.loop-next.keeping in
+    let r' = replay_step_by_cut v cut r c.in-Some.next in
+    let on = rereads_on c.in_ok-next.ensures.leaves.read inv.geometry c.next.ensures.leaves.kept
+    c.report_again.ensures.only inv.left in
+    let next = rw (inv.left.image, c.in-Some.is) at c.in_ok-next.ensures.step.steps in
+    rw (p.1, p.2) (record {
+      text = of_stops _ _ _ _ _ _ _ _ inv.said (λ bytes t. lines_step v n cut r r' c.in-Some.next
+          (steps_left bytes c.loop-next.walk) (steps_left bytes c.next.new.self) d _ (next bytes t) refl refl)
+          (rw inv.cut at c.in_err-report_again.ensures.said);
+      rewalked = tt;
+      runs = λ bytes t.
+          let rest = runs_next v cut r r' c.in-Some.next (steps_left bytes c.loop-next.walk)
+          (steps_left bytes c.next.new.self) (next bytes t) refl in
+          omega (arith, (inv.walk bytes t).runs, rw inv.cut at c.report_again.ensures.runs.most);
+      left = record { image = on.image; ready = on.ready; claims = on.claims };
+    })
+
+pub loop-next-preserved-then-matches : goal.loop-next-preserved-then-matches
+loop-next-preserved-then-matches g c =
+    let inv = c.loop-next.invariant in
+    let v = c.args.geometry.now.layout in
+    let n = c.args.number in
+    let cut = cut_in (slice_index c.args.workspace.now.notes.items c.args.number) in
+    let d' = bits_of c.report_again.new.workspace.duplicates in
+    let r' = replay_in c.report_again.new.keeping in
+    let on = rereads_on c.in_ok-next.ensures.leaves.read inv.geometry c.next.ensures.leaves.kept
+    c.report_again.ensures.only inv.left in
+    let reads = c.in_ok-next.ensures.counted inv.held in
+    let did = c.in_ok-report_again.ensures.reported in
+    let same = c.in_ok-next.ensures.same.geometry ∙ inv.geometry in
+    let next = rw (inv.left.image, c.in-Some.is) at c.in_ok-next.ensures.step.steps in
+    let gaps : ForBytes (IsContents (g.I.Image.device c.args.image.now).contents)
+    (λ bytes. steps_left bytes c.next.new.self ≡ replicate c.skip_gaps.result Gap ++ steps_left bytes
+    c.skip_gaps.new.self) =
+    λ bytes t. c.skip_gaps.ensures.steps (g.I.Image.device c.next.new.image).contents (rw same on.ready.windows.blocks)
+    bytes (ap (λ d. d.contents) on.image ∙ t) in
+    record {
+      left = on;
+      cut = did.cut ∙ inv.cut;
+      going = rw (did.cut ∙ inv.cut) at (sym c.is_replay_open.ensures ∙ c.if-not-is_replay_open.false);
+      pending = some_left _ _ c.has_dups.ensures c.if-not-has_dups.false;
+      geometry = c.skip_gaps.ensures.same.geometry ∙ same;
+      held = c.skip_gaps.ensures.counted.held _ (rw c.report_again.ensures.only.windows reads.held);
+      counted = runs_pay_on _ _ _ _ _ _ inv.counted c.report_again.ensures.counted (rw c.in-Some.is at reads.paid)
+          c.skip_gaps.ensures.counted.unread;
+      walk = λ bytes t. rewalk_gaps c.skip_gaps.result (gaps bytes t)
+          (rewalk_on inv.cut (next bytes t) inv.going inv.pending did c.report_again.ensures.runs (inv.walk bytes t));
+      said = rewalk_said c.loop-next.walk c.next.new.self _ inv.cut inv.said next did (λ bytes t. rw (
+        gaps bytes t,
+        (again_gaps v n cut r' c.skip_gaps.result (steps_left bytes c.skip_gaps.new.self)).0,
+      ) refl)
+          c.in_ok-report_again.ensures.said;
+    }
+
+pub loop-next-preserved : goal.loop-next-preserved
+loop-next-preserved g c =
+    let inv = c.loop-next.invariant in
+    let d' = bits_of c.report_again.new.workspace.duplicates in
+    let r' = replay_in c.report_again.new.keeping in
+    let on = rereads_on c.in_ok-next.ensures.leaves.read inv.geometry c.next.ensures.leaves.kept
+    c.report_again.ensures.only inv.left in
+    let reads = c.in_ok-next.ensures.counted inv.held in
+    let did = c.in_ok-report_again.ensures.reported in
+    let next = rw (inv.left.image, c.in-Some.is) at c.in_ok-next.ensures.step.steps in
+    record {
+      left = on;
+      cut = did.cut ∙ inv.cut;
+      going = rw (did.cut ∙ inv.cut) at (sym c.is_replay_open.ensures ∙ c.if-not-is_replay_open.false);
+      pending = some_left _ _ c.has_dups.ensures c.if-not-has_dups.false;
+      geometry = c.in_ok-next.ensures.same.geometry ∙ inv.geometry;
+      held = rw c.report_again.ensures.only.windows reads.held;
+      counted = runs_pay_on _ _ _ _ _ _ inv.counted c.report_again.ensures.counted (rw c.in-Some.is at reads.paid)
+          (omega arith);
+      walk = λ bytes t.
+          rewalk_on inv.cut (next bytes t) inv.going inv.pending did c.report_again.ensures.runs (inv.walk bytes t);
+      said = rewalk_said c.loop-next.walk c.next.new.self _ inv.cut inv.said next did (λ bytes t. refl)
+          c.in_ok-report_again.ensures.said;
+    }
+
+pub returns-then-not-is_replay_open-clause-rewalks : goal.returns-then-not-is_replay_open-clause-rewalks
+returns-then-not-is_replay_open-clause-rewalks g c =
+    let inv = c.loop-next.invariant in
+    let d' = bits_of c.report_again.new.workspace.duplicates in
+    let did = c.in_ok-report_again.ensures.reported in
+    let shut = rw (did.cut ∙ inv.cut) at (sym c.is_replay_open.ensures ∙ c.if-not-is_replay_open.true) in
+    let next = rw (inv.left.image, c.in-Some.is) at c.in_ok-next.ensures.step.steps in
+    let walk = λ (bytes : List ℕ) (t : IsContents (g.I.Image.device c.args.image.now).contents bytes).
+    rewalk_on inv.cut (next bytes t) inv.going inv.pending did c.report_again.ensures.runs (inv.walk bytes t) in
+    let none = λ (bytes : List ℕ). again_stopped c.args.geometry.now.layout c.args.number _ _
+    (steps_left bytes c.next.new.self) shut in
+    record {
+      text = rewalk_said c.loop-next.walk c.next.new.self (λ bytes. []) inv.cut inv.said next did
+          (λ bytes t. ap (first_offer_lines d') (none bytes).0) c.in_ok-report_again.ensures.said;
+      rewalked = λ bytes t. rewalk_ends (none bytes).0 (looked_stopped _ _ _ _ _ d' shut) (walk bytes t);
+      runs = λ bytes t. omega (arith, (walk bytes t).runs);
+      left = rereads_on c.in_ok-next.ensures.leaves.read inv.geometry c.next.ensures.leaves.kept
+          c.report_again.ensures.only inv.left;
+    }
+
+pub returns-then-not-has_dups-clause-rewalks : goal.returns-then-not-has_dups-clause-rewalks
+returns-then-not-has_dups-clause-rewalks g c =
+    let inv = c.loop-next.invariant in
+    let d' = bits_of c.report_again.new.workspace.duplicates in
+    let did = c.in_ok-report_again.ensures.reported in
+    let none = none_left (set_count d') _ c.has_dups.ensures c.if-not-has_dups.true in
+    let next = rw (inv.left.image, c.in-Some.is) at c.in_ok-next.ensures.step.steps in
+    let walk = λ (bytes : List ℕ) (t : IsContents (g.I.Image.device c.args.image.now).contents bytes).
+    rewalk_on inv.cut (next bytes t) inv.going inv.pending did c.report_again.ensures.runs (inv.walk bytes t) in
+    record {
+      text = rewalk_said c.loop-next.walk c.next.new.self (λ bytes. []) inv.cut inv.said next did
+          (λ bytes t. none_first d' _ none) c.in_ok-report_again.ensures.said;
+      rewalked = λ bytes t. rewalk_over none (walk bytes t);
+      runs = λ bytes t. omega (arith, (walk bytes t).runs);
+      left = rereads_on c.in_ok-next.ensures.leaves.read inv.geometry c.next.ensures.leaves.kept
+          c.report_again.ensures.only inv.left;
+    }
+
+pub returns-in_default-clause-rewalks : goal.returns-in_default-clause-rewalks
+returns-in_default-clause-rewalks g c =
+    let inv = c.loop-next.invariant in
+    let d = bits_of c.loop-next.workspace.duplicates in
+    let ready = ready_walked c.in_ok-next.ensures.leaves.read inv.geometry c.next.ensures.leaves.kept inv.left.ready in
+    let over = rw (inv.left.image, c.in_default.is) at c.in_ok-next.ensures.step.steps in
+    let none = λ (bytes : List ℕ) (t : IsContents (g.I.Image.device c.args.image.now).contents bytes).
+    offers_none c.args.geometry.now.layout c.args.number _ (replay_in c.loop-next.keeping) _ (over bytes t) in
+    record {
+      text = of_same _ _ _ _ _ _ inv.said (λ bytes t. ap (λ os. of_lines (first_offer_lines d os)) (none bytes t));
+      rewalked = λ bytes t. rewalked_to (rewalk_ends (none bytes t) (looked_over _ _ _ _ _ d (over bytes t))
+          (inv.walk bytes t));
+      runs = λ bytes t. omega (arith, (inv.walk bytes t).runs);
+      left = grind arith;
+    }
+
+pub returns-in_err-next-clause-counted : goal.returns-in_err-next-clause-counted
+returns-in_err-next-clause-counted g c =
+    let reads = c.in_err-next.ensures.counted c.loop-next.invariant.held in grind arith
+
+pub returns-in_err-report_again-clause-counted : goal.returns-in_err-report_again-clause-counted
+returns-in_err-report_again-clause-counted g c =
+    runs_pay_ends _ _ _ _ _ c.loop-next.invariant.counted c.report_again.ensures.counted
+    (rw c.in-Some.is at (c.in_ok-next.ensures.counted c.loop-next.invariant.held).paid)
+
+pub returns-then-not-is_replay_open-clause-counted : goal.returns-then-not-is_replay_open-clause-counted
+returns-then-not-is_replay_open-clause-counted g c =
+    runs_pay_ends _ _ _ _ _ c.loop-next.invariant.counted c.report_again.ensures.counted
+    (rw c.in-Some.is at (c.in_ok-next.ensures.counted c.loop-next.invariant.held).paid)
+
+pub returns-then-not-has_dups-clause-counted : goal.returns-then-not-has_dups-clause-counted
+returns-then-not-has_dups-clause-counted g c =
+    runs_pay_ends _ _ _ _ _ c.loop-next.invariant.counted c.report_again.ensures.counted
+    (rw c.in-Some.is at (c.in_ok-next.ensures.counted c.loop-next.invariant.held).paid)
+
+pub returns-in_default-clause-counted : goal.returns-in_default-clause-counted
+returns-in_default-clause-counted g c =
+    let paid = rw c.in_default.is at (c.in_ok-next.ensures.counted c.loop-next.invariant.held).paid in grind arith
