@@ -3,7 +3,8 @@
 //! A `Memory` grants lists of a fixed length, and counts the bytes granted and the requests
 //! refused. A `FixedList` lends its elements; a `FilledList` and `ZeroedWords` hold one value, or
 //! 0, until an element is set, and their memory is touched only up to the last element that was
-//! set. A `FuseMemory` refuses one request of another memory, for tests.
+//! set. A `FuseMemory` refuses one request of another memory, for tests. `copy_short` copies bytes,
+//! and is fast where they are few.
 //!
 //! ```text
 //! let mut memory = SystemMemory::new(alloc);
@@ -19,6 +20,7 @@ mod filled_list;
 mod fixed_list;
 mod fuse;
 mod memory;
+mod short_copy;
 mod system;
 mod touching;
 mod zeroed_words;
@@ -27,5 +29,6 @@ pub use filled_list::FilledList;
 pub use fixed_list::FixedList;
 pub use fuse::FuseMemory;
 pub use memory::Memory;
+pub use short_copy::copy_short;
 pub use system::SystemMemory;
 pub use zeroed_words::ZeroedWords;

@@ -6,6 +6,7 @@ ghost use Rattle.ffs_paths.specs.{Climbing.in_room, DirectoryPaths.IsPathOf, Ent
 
 use crate::buffer::PathText;
 use crate::path::DirectoryPath;
+use ffs_memory::copy_short;
 use ffs_volume::constants::MAXPATHLEN;
 
 /// The path of a directory, and the path of the entry of it that was asked for last.
@@ -77,7 +78,7 @@ impl EntryPaths {
             return;
         }
         let end = begins + name.len();
-        self.bytes[begins..end].copy_from_slice(name);
+        copy_short(&mut self.bytes[begins..end], name);
         self.length = end;
     }
 

@@ -2,6 +2,7 @@
 
 ghost use Rattle.std.specs.Prelude.{◌≡◌, ◌≤◌, [], length as length_of};
 
+use ffs_memory::copy_short;
 use ffs_volume::constants::DIRBLKSIZ;
 
 /// The text of a name. It has no more bytes than the chunk that it is in.
@@ -44,7 +45,7 @@ impl NameText {
         ensures { name_bytes self.new ≡ name.now }
     {
         let end = name.len();
-        self.bytes[0..end].copy_from_slice(name);
+        copy_short(&mut self.bytes[0..end], name);
         self.length = end;
     }
 

@@ -2,16 +2,11 @@
 ghost use Rattle.std.specs.Prelude.{◌≡◌, ◌≤◌, ◌*◌, length, take};
 
 use crate::output::{OutFault, Output};
+use ffs_memory::copy_short;
 
 /// The room for a line and its questions, in bytes. A path has at most 1,024 and a name 255; only
 /// the name of an image may be longer.
 const LINE_ROOM: usize = 2048;
-
-/// The bytes of a pair. The machine moves them at once.
-const PAIR: usize = 2;
-
-/// The bytes of a word, which it moves at once too.
-const WORD: usize = 4;
 
 /// An output in memory that has room for one line. A piece for which no room is left is refused.
 #[derive(Drop)]
@@ -52,36 +47,6 @@ impl LineBuffer {
     }
 }
 
-/// Copies bytes by their first and their last `some`, which may overlap: two moves.
-#[inline(always)]
-fn copy_ends(to: &mut [u8], from: &[u8], some: usize)
-    requires length { length to.old ≡ length from.now }
-    requires ends { (some ≤ length from.now) × (length from.now ≤ 2 * some) }
-    ensures { to.new ≡ from.now }
-{
-    let last = from.len() - some;
-    to[..some].copy_from_slice(&from[..some]);
-    to[last..].copy_from_slice(&from[last..]);
-}
-
-/// Copies bytes. Numbers and most names are short, and a call of a copy takes longer than they do.
-#[inline(always)]
-fn copy_bytes(to: &mut [u8], from: &[u8])
-    requires { length to.old ≡ length from.now }
-    ensures { to.new ≡ from.now }
-{
-    let len = from.len();
-    if len > 2 * WORD {
-        to.copy_from_slice(from);
-    } else if len >= WORD {
-        copy_ends(to, from, WORD);
-    } else if len >= PAIR {
-        copy_ends(to, from, PAIR);
-    } else if len > 0 {
-        to[0] = from[0];
-    }
-}
-
 impl Output for LineBuffer {
     ghost use Rattle.std.specs.Prelude.{Some, None};
 
@@ -98,7 +63,7 @@ impl Output for LineBuffer {
             return Err(OutFault);
         }
         let end = self.used + piece.len();
-        copy_bytes(&mut self.room[self.used..end], piece);
+        copy_short(&mut self.room[self.used..end], piece);
         self.used = end;
         Ok(piece.len())
     }

@@ -6,7 +6,7 @@ use ffs_check::args::Args;
 use ffs_check::check::check_in;
 use ffs_image::MemoryImage;
 use ffs_layout::Order;
-use ffs_memory::{FilledList, FuseMemory, Memory, SystemMemory, ZeroedWords};
+use ffs_memory::{FilledList, FuseMemory, Memory, SystemMemory, ZeroedWords, copy_short};
 use ffs_report::Counted;
 use ffs_samples::{base, put, put_super};
 use ffs_volume::End;
@@ -339,6 +339,20 @@ static SORTED: [(NumberCall, u64); 31] = [
 #[test]
 fn part_sorted(rt: HostRuntime) -> Result<(), Fail> {
     number_answers(&rt, 8, &SORTED)?;
+    Ok(())
+}
+
+/// A text is copied whole, whether it is copied byte by byte, by words or by a call: each length up
+/// to twelve bytes.
+#[test]
+fn short_texts_copied(rt: HostRuntime) -> Result<(), Fail> {
+    let text = *b"Reclinations";
+    for len in 0..text.len() + 1 {
+        let mut room = [b'.'; 13];
+        copy_short(&mut room[..len], &text[..len]);
+        same(&rt, &&room[..len], &&text[..len]);
+        same(&rt, &room[len], &b'.');
+    }
     Ok(())
 }
 
