@@ -6,7 +6,6 @@ ghost use Rattle.ffs_volume.specs.Directories.Paths.{dir_path_of_names, path_byt
 ghost use Rattle.ffs_paths.specs.Slashes.{AreSingle, PutsBefore, from_slash};
 
 use arrayvec::ArrayVec;
-use ffs_memory::copy_short;
 use ffs_volume::constants::MAXPATHLEN;
 
 /// The text of a path.
@@ -44,7 +43,7 @@ fn put_before(bytes: &mut [u8; MAXPATHLEN], end: usize, name: &[u8]) -> usize
 {
     let start = end - name.len() - 1;
     bytes[start] = b'/';
-    copy_short(&mut bytes[start + 1..end], name);
+    bytes[start + 1..end].copy_from_slice(name);
     start
 }
 
