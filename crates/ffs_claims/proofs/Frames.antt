@@ -81,11 +81,6 @@ pub ready_begun : {l : Layout} {d : Device} {u w : Workspace} →
     w ≡ record u { bad = 0; dups = 0; kept = 0; tail = false } → IsReady l d u → IsReady l d w
 ready_begun e r = grind arith
 
--- or its second count of Runs changes
-pub ready_unseen : {l : Layout} {d : Device} {w : Workspace} {runs : ℕ} → IsReady l d w →
-    IsReady l d (record w { runs_again = runs })
-ready_unseen r = grind arith
-
 stored_length : {T : Type 0} (old new : Vec T Global) (number : ℕ) (x : T) (n : ℕ) → vec_len old ≡ n →
     new.items ≡ slice_set old.items number x → vec_len new ≡ n
 stored_length old new number x n e s = omega (arith, ap length s, length-set old.items number x, old.ok, new.ok, e)

@@ -73,8 +73,9 @@ pub record Reporting (rest all : List Offer) (old new : Workspace) : Type 0 wher
   pub whole : past ++ rest ≡ all
   pub reported : OffersReported past old new
 
-pub reporting_begins : (all : List Offer) (w : Workspace) → Reporting all all w w
-reporting_begins all w = record { past = []; whole = refl; reported = reported_none w }
+pub reporting_begins : {rest all : List Offer} (u w : Workspace) → rest ≡ all → w.duplicates ≡ u.duplicates →
+    w.marked ≡ u.marked → Reporting rest all u w
+reporting_begins u w e d m = record { past = []; whole = e; reported = reported_to u u w (reported_none u) d m }
 
 pub reporting_more : {rest part rest' all : List Offer} {u v w : Workspace} → Reporting rest all u v →
     rest ≡ part ++ rest' → OffersReported part v w → Reporting rest' all u w
@@ -83,10 +84,6 @@ reporting_more {part = part} {rest' = rest'} t e p = record {
   whole = append_assoc t.past part rest' ∙ ap (λ xs. t.past ++ xs) (sym e) ∙ t.whole;
   reported = reported_then t.past part t.reported p;
 }
-
-pub reporting_same : {rest rest' all : List Offer} {u v : Workspace} → Reporting rest all u v → rest ≡ rest' →
-    Reporting rest' all u v
-reporting_same {all = all} {u = u} {v = v} t e = subst (λ xs. Reporting xs all u v) e t
 
 pub reporting_ends : {rest all : List Offer} {u v : Workspace} → Reporting rest all u v → rest ≡ [] →
     OffersReported all u v

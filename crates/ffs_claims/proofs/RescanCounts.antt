@@ -180,17 +180,6 @@ module _ (v : Layout) (i cut : ℕ) (r : Replay) where
   again_gaps zero R = (refl, refl)
   again_gaps (suc n) R = again_gaps n R
 
--- where a second walk ends, no Run is left to see
-pub looked_stopped : (v : Layout) (i cut : ℕ) (r : Replay) (R : List Step) (dup : List Bool) →
-    is_replay_open cut r ≡ false → runs_until_reported dup (steps_runs_again v i cut r R) ≡ 0
-unfolding runs_until_reported
-looked_stopped v i cut r R dup q = ap (runs_until_reported dup) (again_stopped v i cut r R q).1
-
-pub looked_over : (v : Layout) (i cut : ℕ) (r : Replay) (R : List Step) (dup : List Bool) → R ≡ [] →
-    runs_until_reported dup (steps_runs_again v i cut r R) ≡ 0
-unfolding runs_until_reported steps_runs_again
-looked_over v i cut r R dup e = rw e refl
-
 -- ---- the rescan looks at no Run that phase 1 didn't see
 -- each Run that is seen is counted once
 step_seen : (v : Layout) (i : ℕ) (s : Claims) (step : Step) → s.runs + length (step_runs v i s step)

@@ -15,11 +15,11 @@ use Rattle.ffs_volume.specs.declared.Step.{Step, TheVariants.Run}
 use Rattle.ffs_maps.specs.Bits.{bits_of}
 use Rattle.ffs_workspace.{proofs.NoteLaws.cut_is_noted, specs.Holds.{all_claims, HoldsPhase1, HoldsStarts, HoldsClaims}}
 use Rattle.ffs_workspace.specs.{Lengths.inodes_of, Notes.cut_in, declared.workspace.Workspace.Workspace}
-use Rattle.ffs_claims.proofs.{Duplicates.marked_total, Numbers.{before_end, before_first, is_inside}}
-use Rattle.ffs_claims.proofs.{Reportings.{Reporting, reported_none, reported_to}, RescanCounts.looked_both}
-use Rattle.ffs_claims.{proofs.{RescanCounts.{runs_leave, inode_again}, StepsContinue.range_more}, specs.Lines.of_lines}
+use Rattle.ffs_claims.proofs.{Duplicates.marked_total, Numbers.{before_end, is_inside}}
+use Rattle.ffs_claims.proofs.RescanCounts.{looked_both}
+use Rattle.ffs_claims.{proofs.{RescanCounts.{runs_leave, inode_again}, StepsContinue.range_more}}
 use Rattle.ffs_claims.specs.{Lines.owners_from, Reporting.{after_first, OffersReported, SameClaims}}
-use Rattle.ffs_claims.specs.{Rescan.offers_again, RescanRuns.{owners_runs, runs_until_reported, rescan_runs}}
+use Rattle.ffs_claims.specs.{Rescan.offers_again, RescanRuns.{owners_runs, runs_until_reported}}
 use Rattle.ffs_claims.specs.RescanRuns.{steps_runs_again}
 
 -- the offers that the inode n keeps, replayed by its noted cut, and those of each of its Runs
@@ -94,21 +94,6 @@ pub looked_end : (v : Layout) (bytes : List ℕ) (dup : List Bool) (s : Claims) 
     runs_until_reported dup (owners_runs v s (owners_from v bytes n)) ≡ 0
 unfolding owners_runs runs_until_reported
 looked_end v bytes dup s n past = let none : inodes_of v - n ≡ 0 = omega arith in rw none refl
-
--- all are left
-pub looked_first : (v : Layout) (bytes : List ℕ) (dup : List Bool) → dup ≡ (all_claims v bytes).dup →
-    runs_until_reported dup (runs_from v bytes 2) ≡ rescan_runs v bytes
-unfolding owners_of all_claims rescan_runs
-looked_first v bytes dup e = rw (before_first v bytes, e) refl
-
-pub all_lines : (v : Layout) (bytes : List ℕ) (dup : List Bool) → dup ≡ (all_claims v bytes).dup →
-    of_lines (phase1b_lines v (owners_of v bytes)) ≡ of_lines (first_offer_lines dup (kept_from v bytes 2))
-unfolding phase1b_lines owners_of all_claims
-all_lines v bytes dup e = rw (before_first v bytes, e) refl
-
-pub all_kept : (v : Layout) (bytes : List ℕ) → kept_from v bytes 2 ≡ kept_in_owners v (no_claims v) (owners_of v bytes)
-unfolding owners_of
-all_kept v bytes = rw (before_first v bytes) refl
 
 -- the count of Runs of an inode more
 pub runs_on : (v : Layout) (bytes notes : List ℕ) (n : ℕ) → IsNoted v bytes notes n →
@@ -218,9 +203,3 @@ pub starts_hold : (v : Layout) (bytes : List ℕ) (old new : Workspace) → Hold
 starts_hold v bytes old new h same = record {
   starts = λ x. ap (λ k. slice_index k.items x) same.references ∙ h.starts x;
 }
-
--- nothing is reported yet
-pub reported_same : (u w : Workspace) (all : List Offer) → w.duplicates ≡ u.duplicates → w.marked ≡ u.marked →
-    Reporting all all u w
-reported_same u w all d m =
-    record { past = []; whole = refl; reported = reported_to u u w (reported_none u) d m }
