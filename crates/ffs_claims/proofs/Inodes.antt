@@ -1,9 +1,9 @@
 -- How an inode's part of the block check continues, and how many Runs it is seen to have.
 use Rattle.std.proofs.Common.{◌+◌, ◌<◌, ◌^◌, false, arith, OnOk, ◌≡◌, ℕ, List, [], ◌++◌, append-nil, Option, Result, Ok}
-use Rattle.std.proofs.{Common.{Err, ap, ◌∙◌, refl, ◌≤◌, true}, lemmas.Bool.Decides.nat_tests}
+use Rattle.std.proofs.{Common.{Err, ◌∙◌, refl, ◌≤◌, true}, lemmas.Bool.Decides.nat_tests}
 use Rattle.std.proofs.lemmas.List.Sums.{count_by-le-length}
 use Rattle.ffs_volume.{proofs.Potentials.{step_moves, moves_then}, specs.Blocks.BlockCheck.{class_lines, count_lines}}
-use Rattle.ffs_volume.specs.Blocks.{BlockCheck.owner_lines, Claims.{Claims, at_next_inode, after_steps, after_owner}}
+use Rattle.ffs_volume.specs.Blocks.{BlockCheck.owner_lines, Claims.{Claims, at_next_inode, after_steps}}
 use Rattle.ffs_volume.specs.Blocks.{Claims.{lines_of_steps, is_open, after_step}, Inodes.{class_of}}
 use Rattle.ffs_volume.specs.{Blocks.{Steps.steps_of}, Laws.ClaimBounds.{used_bits, ClaimBound}}
 use Rattle.ffs_volume.specs.{Laws.{Geometry.IsAcceptedLayout, RunLengths.HasLength}, Messages.Kinds.Message}
@@ -136,15 +136,7 @@ pub ok_where : {T E : Type 0} (r : Result T E) (contents contents' : Option (Lis
 ok_where (Ok x) contents contents' P Q e more h = λ bytes t. more bytes t (h bytes (e ∙ t))
 ok_where (Err x) contents contents' P Q e more h = h
 
--- a free inode has no steps: it claims nothing, and nothing is reported of it
-free_steps : (v : Layout) (i : Inode) (bytes : List ℕ) → class_of v i ≡ Free → steps_of v i bytes ≡ []
+-- a free inode has no steps
+pub free_steps : (v : Layout) (i : Inode) (bytes : List ℕ) → class_of v i ≡ Free → steps_of v i bytes ≡ []
 unfolding steps_of
 free_steps v i bytes h = rw h refl
-
-pub free_claims : (v : Layout) (number : ℕ) (i : Inode) (s : Claims) (bytes : List ℕ) → class_of v i ≡ Free →
-    after_owner v s (owner_with v bytes number i) ≡ at_next_inode s
-free_claims v number i s bytes h = ap (after_steps v (at_next_inode s)) (free_steps v i bytes h)
-
-pub free_silent : (v : Layout) (number : ℕ) (i : Inode) (s : Claims) (bytes : List ℕ) → class_of v i ≡ Free →
-    owner_lines v s (owner_with v bytes number i) ≡ []
-free_silent v number i s bytes h = rw (h, free_steps v i bytes h) refl

@@ -69,21 +69,18 @@ kept_next v bytes notes n p =
     let again = inode_again v n (claims_before v bytes n) (steps_of v (inode_of v bytes n) bytes) in
     grind (arith, range_more, before_next, cut_noted)
 
--- its Runs, and those of the inodes after it
-runs_next_inode : (v : Layout) (bytes notes : List ℕ) (n : ℕ) → IsNoted v bytes notes n →
-    runs_from v bytes n ≡ runs_at v bytes notes n ++ runs_from v bytes (n + 1)
-unfolding owner_of owners_runs
-runs_next_inode v bytes notes n p =
-    let high = p.high in
-    let again = inode_again v n (claims_before v bytes n) (steps_of v (inode_of v bytes n) bytes) in
-    grind (arith, range_more, before_next, cut_noted)
-
+-- its Runs are looked at, and those of the inodes after it
 pub looked_on : (v : Layout) (bytes notes : List ℕ) (n : ℕ) (dup dup' : List Bool) → IsNoted v bytes notes n →
     dup' ≡ after_first dup (offers_at v bytes notes n) → runs_until_reported dup (runs_from v bytes n)
     ≡ runs_until_reported dup (runs_at v bytes notes n) + runs_until_reported dup' (runs_from v bytes (n + 1))
+unfolding owner_of owners_runs
 looked_on v bytes notes n dup dup' p d =
+    let high = p.high in
+    let again = inode_again v n (claims_before v bytes n) (steps_of v (inode_of v bytes n) bytes) in
+    let next : runs_from v bytes n ≡ runs_at v bytes notes n ++ runs_from v bytes (n + 1) =
+    grind (arith, range_more, before_next, cut_noted) in
     let left = runs_leave v n (cut_in (slice_index notes n)) fresh_replay dup (steps_of v (inode_of v bytes n) bytes) in
-    rw (d, runs_next_inode v bytes notes n p, looked_both dup (runs_at v bytes notes n) _, left) refl
+    rw (d, next, looked_both dup (runs_at v bytes notes n) _, left) refl
 
 -- no inode is left
 pub kept_end : (v : Layout) (bytes : List ℕ) (s : Claims) (n : ℕ) → inodes_of v ≤ n →

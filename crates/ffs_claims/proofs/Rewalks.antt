@@ -1,17 +1,16 @@
 -- How a second walk over an inode continues.
-use Rattle.std.proofs.Common.{◌≡◌, ◌≢◌, ◌≤◌, ℕ, replicate, ◌+◌, Bool, true, List, [], ◌∷◌, ◌++◌, map, Option, arith}
+use Rattle.std.proofs.Common.{◌≡◌, ◌≢◌, ◌≤◌, ℕ, replicate, ◌+◌, Bool, true, List, [], ◌∷◌, ◌++◌, arith}
 use Rattle.std.proofs.{Common.{refl, ap, ◌∙◌, ◌<◌, ◌-◌, ◌^◌, Result, Ok}}
-use Rattle.std.specs.List.{range_with_len}
 use Rattle.ffs_volume.{proofs.ReplayLaws.{counted_same, gaps_seen}, specs.Blocks.BlockCheck.first_offer_lines}
-use Rattle.ffs_volume.specs.{Blocks.KeptOffers.offer_of, Encodings.Replay.{Replay, fresh_replay, is_replay_open}}
+use Rattle.ffs_volume.specs.{Encodings.Replay.{Replay, fresh_replay, is_replay_open}}
 use Rattle.ffs_volume.specs.Encodings.ReplayCounts.{seen_run, replayed_runs, replay_step_by_cut}
 use Rattle.ffs_volume.specs.{Messages.Kinds.Message, declared.{BlockMessage.BlockMessage, Inode.Inode, Layout.Layout}}
-use Rattle.ffs_volume.specs.declared.Step.{Step, TheVariants.{Run, Gap}}
+use Rattle.ffs_volume.specs.declared.Step.{Step, TheVariants.{Gap}}
 use Rattle.ffs_image.specs.Device.{Device}
 use Rattle.ffs_report.{proofs.Reporting.{reports_same, reports_knowing, of_says}, specs.Known.{IsContents, ForBytes}}
 use Rattle.ffs_report.specs.{PhaseOutcome.SaidOf, Progress.{Progress, Said}, declared.fault.RunFault.RunFault}
 use Rattle.ffs_maps.specs.Bits.{bits_of}
-use Rattle.ffs_walk.specs.{Keepings.{run_taken, replay_in}, Rests.steps_left, Windows.KeepsBlocks}
+use Rattle.ffs_walk.specs.{Keepings.{replay_in}, Rests.steps_left, Windows.KeepsBlocks}
 use Rattle.ffs_walk.specs.declared.{blocks.Blocks.Blocks, keeping.Keeping.Keeping, walk.Walk.Walk}
 use Rattle.ffs_workspace.specs.{Lengths.set_count, declared.workspace.{Windows.Windows, Workspace.Workspace}}
 use Rattle.ffs_layout.specs.declared.geometry.Geometry.{Geometry}
@@ -22,12 +21,6 @@ use Rattle.ffs_claims.{proofs.RescanCounts.{looked_none, looked_next, again_gaps
 use Rattle.ffs_claims.specs.{Reporting.{ReportsOnly, RewalkLeaves, after_first}, Rescan.step_offers_again}
 use Rattle.ffs_claims.specs.{Rescan.offers_again, RescanRuns.{Rewalks, RoseBy, Rewalked, runs_until_reported}}
 use Rattle.ffs_claims.specs.RescanRuns.{steps_runs_again, RunsPay, StepReported, Counted}
-
--- the offers of a Run that is seen are as many as are taken
-pub offers_of_run : (v : Layout) (i cut : ℕ) (r : Replay) (start len : ℕ) (block : Option ℕ) {taken : ℕ} →
-    is_replay_open cut r ≡ true → taken ≡ run_taken v cut r start len →
-    step_offers_again v i cut r (Run start len block) ≡ map (offer_of i) (range_with_len start taken)
-offers_of_run v i cut r start len block seen count = rw (seen, count) refl
 
 offers_next : (v : Layout) (i cut : ℕ) (r r' : Replay) (step : Step) (R R' : List Step) → R ≡ step ∷ R' →
     r' ≡ replay_step_by_cut v cut r step →

@@ -4,7 +4,7 @@ use Rattle.std.proofs.Common.{arith, rules, refl, ap, ◌∙◌, sym, replicate,
 use Rattle.std.{proofs.lemmas.{Bool.{cases_Bool, Decides.nat_tests}, List.map-append}, specs.Int.div_ceil}
 use Rattle.std.specs.List.{range_with_len}
 use Rattle.ffs_volume.{proofs.{Sizes.no_blocks}, specs.Blocks.Claims.{Claims, is_open}}
-use Rattle.ffs_volume.specs.Blocks.Claims.{after_offer, after_offers, after_step, after_steps, offer_lines}
+use Rattle.ffs_volume.specs.Blocks.Claims.{after_offer, after_step, after_steps, offer_lines}
 use Rattle.ffs_volume.specs.Blocks.Claims.{lines_of_offers, step_lines, lines_of_steps, run_lines}
 use Rattle.ffs_volume.specs.Blocks.{Inodes.addresses_needed, Steps.{steps_of, steps_of_addresses, is_walked}}
 use Rattle.ffs_volume.specs.{Blocks.Steps.last_length_of, Disk.Areas.is_run_in_range, Messages.Kinds.Message}
@@ -30,13 +30,7 @@ pub range_next : (start len place f : ℕ) → place < len → f ≡ start + pla
     range_with_len (start + place) (len - place) ≡ f ∷ range_with_len (start + (place + 1)) (len - (place + 1))
 range_next start len place f h is_place = grind (arith, range_more)
 
--- the next offer of a Run is taken
-pub offers_after : (v : Layout) (s s' : Claims) (start len place f : ℕ) → place < len → f ≡ start + place →
-    s' ≡ after_offer v s f → after_offers v s (range_with_len (start + place) (len - place))
-    ≡ after_offers v s' (range_with_len (start + (place + 1)) (len - (place + 1)))
-offers_after v s s' start len place f h is_place now = grind (arith, range_next)
-
--- and reported
+-- the next offer of a Run is reported
 pub offers_more : (v : Layout) (inode : ℕ) (s s' : Claims) (start len place f : ℕ) → place < len → f ≡ start + place →
     s' ≡ after_offer v s f → of_lines (lines_of_offers v inode s (range_with_len (start + place) (len - place)))
     ≡ of_lines (offer_lines v inode s f)

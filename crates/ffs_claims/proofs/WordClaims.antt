@@ -26,11 +26,6 @@ run_claims {v = v} {old = old} start block uncut some fits clear now =
       silent = λ number. rw (is_run, uncut, fits) (whole.silent number);
     }
 
--- a word's step has a length
-word_length : (v : Layout) (address block : ℕ) → 0 < v.frag → HasLength v.frag (word_step v.frag address block)
-word_length v address block some =
-    cond_holds (HasLength v.frag) (nat_eq address 0) _ _ (λ _. tt) (λ _. (some, omega arith))
-
 -- one word
 pub words_once : {v : Layout} {a b : Workspace} {x y : Walk} {address : ℕ} → 0 < v.frag → v.frag ≤ 8 → IsFor v a →
     x.geometry.layout ≡ v → address ≡ next_address a.windows.blocks x → PassesWord a.windows.blocks x y →
@@ -49,7 +44,8 @@ words_once {v = v} {a = a} {b = b} {x = x} {y = y} {address = address} some smal
       claims = λ contents holds bytes e. rw (next contents holds bytes e, now) refl;
       lines = λ contents holds bytes e number. let silent = silently.silent number in grind arith;
       uncut = did.uncut;
-      moves = moves_on step made small (word_length v address block some) now (stays (claims_of a));
+      moves = moves_on step made small (cond_holds (HasLength v.frag) (nat_eq address 0) _ _ (λ _. tt)
+          (λ _. (some, omega arith))) now (stays (claims_of a));
       only = did.only;
       falls = omega (arith, falls);
       same = same;

@@ -1,12 +1,12 @@
 use Rattle.std.proofs.{Common.{arith, refl, [], ap, ◌∙◌, ◌≡◌, sym}, lemmas.Result.err_from_is_err_and}
-use Rattle.ffs_volume.{proofs.Potentials.kept_bound, specs.Blocks.{Claims.after_steps, Steps.steps_of}}
+use Rattle.ffs_volume.{proofs.Potentials.kept_bound, specs.Blocks.{Claims.{after_steps, at_next_inode}, Steps.steps_of}}
 use Rattle.ffs_volume.specs.declared.Class.TheVariants.{Free}
 use Rattle.ffs_report.proofs.Reporting.{of_fault, of_says, of_stops, says_none}
 use Rattle.ffs_maps.proofs.Bits.{bits_long}
 use Rattle.ffs_workspace.specs.Holds.{claims_of}
 use Rattle.ffs_claims.proofs.{Frames.{ready_begun, ready_stored}, Inodes.{begun, begun_runs, stored_runs}}
-use Rattle.ffs_claims.proofs.Inodes.{steps_reported, class_said, class_stopped, free_claims, free_silent, used_below}
-use Rattle.ffs_claims.{proofs.claim.claim_read_inode.Goals.{in-Free, in_default}, specs.Lines.of_lines}
+use Rattle.ffs_claims.proofs.Inodes.{steps_reported, class_said, class_stopped, free_steps, used_below}
+use Rattle.ffs_claims.{proofs.claim.claim_read_inode.Goals.{in-Free, in_default}}
 use Rattle.ffs_claims.proofs.claim.claim_read_inode.Goals as goal
 
 pub say_count-requires : goal.say_count-requires
@@ -107,8 +107,8 @@ returns-then-matches-clause-claims g c =
     let b = begun_runs c.args.workspace.now c.begin.ensures in
     let s = stored_runs c.begin.new.workspace c.store.ensures.rest in
     record {
-      text = says_none (λ bytes t. ap of_lines (free_silent v _ _ old bytes free));
+      text = says_none (λ bytes t. rw (free, free_steps v _ bytes free) refl);
       claims = λ bytes t. ap claims_of c.store.ensures.rest ∙ ap claims_of c.begin.ensures
-          ∙ sym (free_claims v c.args.claimant.now.number _ old bytes free);
+          ∙ sym (ap (after_steps v (at_next_inode old)) (free_steps v _ bytes free));
       left = grind arith;
     }

@@ -2,13 +2,12 @@ use Rattle.std.proofs.{Common.arith, Common.ap, Common.◌+◌, Common.◌∙◌
 use Rattle.ffs_volume.{proofs.Potentials.each_ok, specs.Disk.Areas.is_fragment_in_range}
 use Rattle.ffs_report.proofs.Reporting.{to_begins, to_says, to_stops}
 use Rattle.ffs_claims.proofs.Frames.{offers_none, offers_then}
-use Rattle.ffs_claims.proofs.StepsContinue.{offers_after, offers_more, from_start}
+use Rattle.ffs_claims.proofs.StepsContinue.{range_next, offers_more, from_start}
 use Rattle.ffs_claims.proofs.offer.offers.Goals as goal
 
 pub returns-in_err-offer : goal.returns-in_err-offer
 returns-in_err-offer g c =
-    let p = err_from_is_err_and c.from_residual.result c.from_residual.ensures.1 in
-    rw (p.1) (record {
+    rw ((err_from_is_err_and c.from_residual.result c.from_residual.ensures.1).1) (record {
       said = to_stops _ _ _ _ _ _ _ c.loop-index.invariant.said (offers_more c.args.geometry.now.layout _ _ _
           c.args.run.start c.args.run.len c.loop-index.index (c.from.result + c.from-in-loop-index.result)
           c.loop-index-test.true (omega arith) c.offer.ensures.taken.claims) c.in_err-offer.ensures.said;
@@ -25,8 +24,8 @@ loop-index-preserved g c =
     record {
       only = offers_then inv.only c.offer.ensures.taken.only;
       kept = grind arith;
-      claims = inv.claims ∙ offers_after v _ _ run.start run.len c.loop-index.index f c.loop-index-test.true
-          (omega arith) c.offer.ensures.taken.claims;
+      claims = inv.claims ∙ rw (range_next run.start run.len c.loop-index.index f c.loop-index-test.true (omega arith))
+          (rw c.offer.ensures.taken.claims refl);
       said = to_says _ _ _ _ _ _ _ inv.said
           (offers_more v _ _ _ run.start run.len c.loop-index.index f c.loop-index-test.true (omega arith)
           c.offer.ensures.taken.claims) c.in_ok-offer.ensures.said;

@@ -20,12 +20,11 @@ fits : (g : given.Over) (c : After-is_spent g) →
     ForBytes (WithPhase1 c.args.geometry.now.layout (g.I.Image.device c.args.image.now) c.args.workspace.now)
     (λ bytes. c.is_spent.result ≡ false)
 fits g c bytes k =
-    let v = c.args.geometry.now.layout in
     let scanned = c.rescan_inodes-scanned.ensures in
     let back = phase_served (rw c.new-limited.ensures.device at scanned.prints) c.is_spent.ensures.below in
     let sound = c.args.geometry.now.sound in
     let runs = scanned.reads.runs bytes (known g c bytes k) in
-    let bounded = runs_bounded v bytes sound in
+    let bounded = runs_bounded c.args.geometry.now.layout bytes sound in
     let reads = scanned.reads.reads (omega (arith, sound.numbers.inodes_below, sound.numbers.size_below)) in
     back.few (omega (arith, c.new-limited.ensures.asked, c.sweep_reads.ensures))
 
@@ -45,8 +44,7 @@ returns-then-is_spent-clause-leaves g c = λ bytes k.
 pub returns-then-is_spent-clause-reads : goal.returns-then-is_spent-clause-reads
 returns-then-is_spent-clause-reads g c =
     let at = (goal.at.returns-then-is_spent-clause-reads g c).After-is_spent in
-    let runs = c.rescan_inodes-scanned.ensures.reads.runs in
-    grind (arith, known g at, runs)
+    grind (arith, known g at, c.rescan_inodes-scanned.ensures.reads.runs)
 
 pub returns-then-is_spent-clause-ready : goal.returns-then-is_spent-clause-ready
 returns-then-is_spent-clause-ready g c =
@@ -60,8 +58,7 @@ pub returns-clause-prints : goal.returns-clause-prints
 returns-clause-prints g c =
     let back = phase_served (rw c.new-limited.ensures.device at c.rescan_inodes-scanned.ensures.prints)
     c.is_spent.ensures.below in
-    let image = c.image-2-1.given.1 back.same_image ∙ c.drop-limited-2.ensures.below in
-    rw image (back.answered c.if-is_spent.false)
+    rw (c.image-2-1.given.1 back.same_image ∙ c.drop-limited-2.ensures.below) (back.answered c.if-is_spent.false)
 
 pub returns-clause-leaves : goal.returns-clause-leaves
 returns-clause-leaves g c =
@@ -72,8 +69,7 @@ returns-clause-leaves g c =
 pub returns-clause-reads : goal.returns-clause-reads
 returns-clause-reads g c =
     let at = (goal.at.returns-clause-reads g c).After-is_spent in
-    let runs = c.rescan_inodes-scanned.ensures.reads.runs in
-    grind (arith, known g at, runs)
+    grind (arith, known g at, c.rescan_inodes-scanned.ensures.reads.runs)
 
 pub returns-clause-ready : goal.returns-clause-ready
 returns-clause-ready g c =

@@ -1,6 +1,6 @@
 use Rattle.std.proofs.Common.{Result, rules, ◌≡◌, ◌≤◌, ◌+◌, ◌-◌, ◌^◌, ◌<◌, ◌∷◌, [], arith, refl, ap, ◌∙◌, Err}
 use Rattle.std.proofs.lemmas.Result.{err_from_is_err_and}
-use Rattle.ffs_volume.specs.Blocks.BlockCheck.{first_offer_lines, phase1b_lines}
+use Rattle.ffs_volume.{proofs.RunBounds.runs_bounded, specs.Blocks.BlockCheck.{first_offer_lines, phase1b_lines}}
 use Rattle.ffs_volume.specs.Blocks.{KeptSteps.claims_before}
 use Rattle.ffs_volume.specs.{Blocks.Owners.owners_of, Messages.Kinds.phase1b}
 use Rattle.ffs_report.proofs.Reporting.{of_begins, of_says, of_part, of_fault, of_stops, of_same, reports_knowing}
@@ -10,7 +10,7 @@ use Rattle.ffs_workspace.specs.{Found.WithPhase1, Holds.all_claims, Lengths.inod
 use Rattle.ffs_claims.proofs.Duplicates.{none_first, none_left}
 use Rattle.ffs_claims.proofs.{Frames.claims_then, Frames.image_from, Numbers.numbers_most}
 use Rattle.ffs_claims.proofs.Reportings.{reporting_more, reporting_ends, reporting_begins, lines_split, reporting_over}
-use Rattle.ffs_claims.proofs.{RescanCounts.look_fits, RescanCounts.looked_none, Rescanned.IsNoted, Rescanned.is_noted}
+use Rattle.ffs_claims.proofs.{RescanCounts.look_most, RescanCounts.looked_none, Rescanned.IsNoted, Rescanned.is_noted}
 use Rattle.ffs_claims.proofs.Rescanned.{offers_at, runs_at, kept_from, runs_from, looked_on, looked_end}
 use Rattle.ffs_claims.proofs.Rescanned.{kept_next, kept_end, runs_on, runs_most, claims_hold}
 use Rattle.ffs_claims.proofs.{Numbers.before_first, Rescanned.starts_hold, Rewalks.runs_pay_all, Rewalks.runs_pay_then}
@@ -120,7 +120,15 @@ loop-number-preserved g c =
       reads = runs_pay_then _ _ _ _ inv.reads c.rewalk_inode.ensures.counted (omega (arith, inv.low));
       count = λ bytes k.
           let fits : c.loop-number.workspace.runs_again + runs_until_reported d (runs_at v bytes notes n) < 2 ^ 64 =
-          omega (arith, inv.count bytes k, look_fits v bytes sound, on bytes k) in
+          omega (
+            arith,
+            inv.count bytes k,
+            on bytes k,
+            look_most v bytes,
+            runs_bounded v bytes sound,
+            sound.numbers.inodes_below,
+            sound.numbers.size_below,
+          ) in
           omega (arith, inv.count bytes k, on bytes k, (rewalks.rewalked bytes (image ∙ k.0)).count fits);
       reported = λ bytes k. reporting_more (inv.reported bytes k) (kept_next v bytes notes n (noted bytes k))
           (rewalks.rewalked bytes (image ∙ k.0)).reported;

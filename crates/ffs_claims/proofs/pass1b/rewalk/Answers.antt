@@ -96,9 +96,7 @@ pub loop-next-preserved-then-matches : goal.loop-next-preserved-then-matches
 loop-next-preserved-then-matches g c =
     let inv = c.loop-next.invariant in
     let v = c.args.geometry.now.layout in
-    let n = c.args.number in
     let cut = cut_in (slice_index c.args.workspace.now.notes.items c.args.number) in
-    let d' = bits_of c.report_again.new.workspace.duplicates in
     let r' = replay_in c.report_again.new.keeping in
     let on = rereads_on c.in_ok-next.ensures.leaves.read inv.geometry c.next.ensures.leaves.kept
     c.report_again.ensures.only inv.left in
@@ -124,7 +122,7 @@ loop-next-preserved-then-matches g c =
           (rewalk_on inv.cut (next bytes t) inv.going inv.pending did c.report_again.ensures.runs (inv.walk bytes t));
       said = rewalk_said c.loop-next.walk c.next.new.self _ inv.cut inv.said next did (λ bytes t. rw (
         gaps bytes t,
-        (again_gaps v n cut r' c.skip_gaps.result (steps_left bytes c.skip_gaps.new.self)).0,
+        (again_gaps v c.args.number cut r' c.skip_gaps.result (steps_left bytes c.skip_gaps.new.self)).0,
       ) refl)
           c.in_ok-report_again.ensures.said;
     }
@@ -132,8 +130,6 @@ loop-next-preserved-then-matches g c =
 pub loop-next-preserved : goal.loop-next-preserved
 loop-next-preserved g c =
     let inv = c.loop-next.invariant in
-    let d' = bits_of c.report_again.new.workspace.duplicates in
-    let r' = replay_in c.report_again.new.keeping in
     let on = rereads_on c.in_ok-next.ensures.leaves.read inv.geometry c.next.ensures.leaves.kept
     c.report_again.ensures.only inv.left in
     let reads = c.in_ok-next.ensures.counted inv.held in

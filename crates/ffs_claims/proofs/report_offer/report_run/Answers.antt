@@ -17,9 +17,8 @@ loop-index-init g c =
 
 pub returns-in_err-report_offer : goal.returns-in_err-report_offer
 returns-in_err-report_offer g c =
-    let p = err_from_is_err_and c.from_residual.result c.from_residual.ensures.1 in
     let f = c.from.result + c.from-in-loop-index.result in
-    rw (p.1) (record {
+    rw ((err_from_is_err_and c.from_residual.result c.from_residual.ensures.1).1) (record {
       said = to_stops _ _ _ _ _ _ _ c.loop-index.invariant.said (lines_split _ _ _ (offer_of c.args.number f ∷ []) _
           (run_next c.args.number c.args.start c.args.len c.loop-index.index f c.loop-index-test.true (omega arith))
           refl) c.in_err-report_offer.ensures.said;
