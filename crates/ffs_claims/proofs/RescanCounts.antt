@@ -1,16 +1,15 @@
 -- An inode replayed by its cut keeps what it kept, and how many Runs the rescan looks at.
 use Rattle.std.proofs.Common.{◌≡◌, ◌≢◌, ℕ, zero, suc, ◌+◌, Bool, true, false, ◌==◌, if◌then◌else◌, List, [], ◌∷◌, ◌++◌}
-use Rattle.std.proofs.Common.{map, replicate, arith, refl, ap, ◌∙◌, sym, inl, inr, eq-eqb, ne_eqb, ◌≤◌}
-use Rattle.std.proofs.{Common.{length, nat_lt, Option, ◌-◌}, lemmas.Bool.{cases_eq, cases_Bool, Decides.nat_tests}}
+use Rattle.std.proofs.Common.{map, replicate, arith, refl, ap, ◌∙◌, sym, inl, inr, eq-eqb, ne_eqb, ◌≤◌, length, nat_lt}
+use Rattle.std.proofs.{Common.{Option, ◌-◌}, lemmas.Bool.{cases_eq, cases_Bool, Decides.nat_tests}}
 use Rattle.std.{proofs.lemmas.List.length-append, specs.List.range_with_len}
 use Rattle.ffs_volume.proofs.{Potentials.{cond_holds, offers_keep}, PrefixLaws.full_offers, ReplayIsKeeping.replay_of}
 use Rattle.ffs_volume.proofs.{ReplayIsKeeping.{seen_replays, step_replays, step_few}, ReplayLaws.offers_runs}
-use Rattle.ffs_volume.{specs.Blocks.Claims.{after_offers, Claims, no_claims}}
-use Rattle.ffs_volume.specs.Blocks.Claims.{at_next_inode, is_open, after_step, after_steps, after_owner, after_owners}
-use Rattle.ffs_volume.specs.Blocks.{Claims.after_offer, KeptOffers.{Offer, offer_of, kept_in_run, kept_in_offers}}
-use Rattle.ffs_volume.specs.Blocks.{KeptOffers.{kept_in_step, kept_in_steps}, Owners.{Owner, owners_of}}
-use Rattle.ffs_volume.specs.Encodings.Replay.{Replay, is_replay_open, fresh_replay, cut_of, replay_after_step}
-use Rattle.ffs_volume.specs.{Encodings.ReplayCounts.{seen_run, replay_step_by_cut}}
+use Rattle.ffs_volume.specs.Blocks.Claims.{after_offers, Claims, no_claims, at_next_inode, is_open, after_step}
+use Rattle.ffs_volume.specs.Blocks.{Claims.{after_steps, after_owner, after_owners, after_offer}, KeptOffers.Offer}
+use Rattle.ffs_volume.specs.Blocks.KeptOffers.{offer_of, kept_in_run, kept_in_offers, kept_in_step, kept_in_steps}
+use Rattle.ffs_volume.specs.{Blocks.Owners.{Owner, owners_of}, Encodings.Replay.{Replay, is_replay_open, fresh_replay}}
+use Rattle.ffs_volume.specs.Encodings.{Replay.{cut_of, replay_after_step}, ReplayCounts.{seen_run, replay_step_by_cut}}
 use Rattle.ffs_volume.specs.{Report.Whole.run_count, declared.{Layout.Layout, Step.{Step, TheVariants.{Run, Tail}}}}
 use Rattle.ffs_volume.specs.declared.Step.TheVariants.{Gap}
 use Rattle.ffs_walk.specs.Keepings.{run_taken}

@@ -15,12 +15,10 @@ use Rattle.ffs_volume.specs.declared.Step.{Step, TheVariants.Run}
 use Rattle.ffs_maps.specs.Bits.{bits_of}
 use Rattle.ffs_workspace.{proofs.NoteLaws.cut_is_noted, specs.Holds.{all_claims, HoldsPhase1, HoldsStarts, HoldsClaims}}
 use Rattle.ffs_workspace.specs.{Lengths.inodes_of, Notes.cut_in, declared.workspace.Workspace.Workspace}
-use Rattle.ffs_claims.proofs.{Duplicates.marked_total, Numbers.{before_end, is_inside}}
-use Rattle.ffs_claims.proofs.RescanCounts.{looked_both}
-use Rattle.ffs_claims.{proofs.{RescanCounts.{runs_leave, inode_again}, StepsContinue.range_more}}
+use Rattle.ffs_claims.proofs.{Duplicates.marked_total, Numbers.{before_end, is_inside}, RescanCounts.looked_both}
+use Rattle.ffs_claims.proofs.{RescanCounts.{runs_leave, inode_again}, StepsContinue.range_more}
 use Rattle.ffs_claims.specs.{Lines.owners_from, Reporting.{after_first, OffersReported, SameClaims}}
-use Rattle.ffs_claims.specs.{Rescan.offers_again, RescanRuns.{owners_runs, runs_until_reported}}
-use Rattle.ffs_claims.specs.RescanRuns.{steps_runs_again}
+use Rattle.ffs_claims.specs.{Rescan.offers_again, RescanRuns.{owners_runs, runs_until_reported, steps_runs_again}}
 
 -- the offers that the inode n keeps, replayed by its noted cut, and those of each of its Runs
 abbrev pub offers_at : Layout → List ℕ → List ℕ → ℕ → List Offer

@@ -1,15 +1,14 @@
 -- How offers, steps and inodes continue.
-use Rattle.std.proofs.Common.{◌≡◌, ℕ, zero, suc, ◌+◌, ◌-◌, ◌<◌, Bool, false, ◌==◌, List, [], ◌∷◌, ◌++◌}
-use Rattle.std.proofs.Common.{arith, rules, refl, ap, ◌∙◌, sym, replicate, ◌&&◌, not, if◌then◌else◌, inl, inr}
+use Rattle.std.proofs.Common.{◌≡◌, ℕ, zero, suc, ◌+◌, ◌-◌, ◌<◌, Bool, false, ◌==◌, List, [], ◌∷◌, ◌++◌, arith, rules}
+use Rattle.std.proofs.Common.{refl, ap, ◌∙◌, sym, replicate, ◌&&◌, not, if◌then◌else◌, inl, inr}
 use Rattle.std.{proofs.lemmas.{Bool.{cases_Bool, Decides.nat_tests}, List.map-append}, specs.Int.div_ceil}
 use Rattle.std.specs.List.{range_with_len}
-use Rattle.ffs_volume.{proofs.{Sizes.no_blocks}, specs.Blocks.Claims.{Claims, is_open}}
-use Rattle.ffs_volume.specs.Blocks.Claims.{after_offer, after_step, after_steps, offer_lines}
-use Rattle.ffs_volume.specs.Blocks.Claims.{lines_of_offers, step_lines, lines_of_steps, run_lines}
-use Rattle.ffs_volume.specs.Blocks.{Inodes.addresses_needed, Steps.{steps_of, steps_of_addresses, is_walked}}
-use Rattle.ffs_volume.specs.{Blocks.Steps.last_length_of, Disk.Areas.is_run_in_range, Messages.Kinds.Message}
-use Rattle.ffs_volume.specs.{Messages.Kinds.of_blocks, declared.{BlockMessage.BlockMessage, Inode.Inode, Layout.Layout}}
-use Rattle.ffs_volume.specs.declared.Step.{Step, TheVariants.Gap}
+use Rattle.ffs_volume.{proofs.Sizes.no_blocks, specs.Blocks.Claims.{Claims, is_open, after_offer, after_step}}
+use Rattle.ffs_volume.specs.Blocks.Claims.{after_steps, offer_lines, lines_of_offers, step_lines, lines_of_steps}
+use Rattle.ffs_volume.specs.Blocks.{Claims.run_lines, Inodes.addresses_needed, Steps.{steps_of, steps_of_addresses}}
+use Rattle.ffs_volume.specs.{Blocks.Steps.{is_walked, last_length_of}, Disk.Areas.is_run_in_range}
+use Rattle.ffs_volume.specs.{Messages.Kinds.{Message, of_blocks}, declared.{BlockMessage.BlockMessage, Inode.Inode}}
+use Rattle.ffs_volume.specs.declared.{Layout.Layout, Step.{Step, TheVariants.Gap}}
 use Rattle.ffs_report.proofs.{Reporting.{of_says, of_same}, Reports.{stopped_more, said_then, stopped_after}}
 use Rattle.ffs_report.specs.{Known.ForBytes, PhaseOutcome.SaidOf, Progress.{Progress, Said, Stopped}}
 use Rattle.ffs_walk.specs.{Rests.steps_left, declared.walk.Walk.Walk}

@@ -1,10 +1,9 @@
 -- What calls leave of a workspace as it was.
 use Rattle.std.specs.Prelude.{◌≡◌, ◌+◌, ◌<◌, ◌≤◌, ◌^◌, ◌||◌, ℕ, Bool, IsTrue, true, min, slice_set, vec_len}
-use Rattle.ffs_volume.specs.Blocks.Inodes.{is_unknown}
-use Rattle.ffs_volume.specs.Encodings.{Kinds.kind_of, Links.start_of, Replay.cut_of}
+use Rattle.ffs_volume.specs.{Blocks.Inodes.is_unknown, Encodings.{Kinds.kind_of, Links.start_of, Replay.cut_of}}
 use Rattle.ffs_volume.specs.declared.{Class.Class, Inode.Inode, Layout.Layout}
-use Rattle.ffs_workspace.specs.Holds.{claims_of, has_blame}
-use Rattle.ffs_workspace.specs.{Lengths.IsFor, Notes.note_of, declared.workspace.Workspace.Workspace}
+use Rattle.ffs_workspace.specs.{Holds.{claims_of, has_blame}, Lengths.IsFor, Notes.note_of}
+use Rattle.ffs_workspace.specs.declared.workspace.Workspace.{Workspace}
 
 -- the current inode has no bad Run, no dup offer and no kept one yet, and there is room to count
 -- its Runs: any bound far above `runs_limit`, and far below 2^64, serves

@@ -4,8 +4,7 @@ use Rattle.ffs_volume.{specs.declared.Inode.Inode, proofs.Results.on_ok as ok_th
 use Rattle.ffs_report.{proofs.Reporting.{reads_first, reports_same, reports_knowing}, specs.Known.ForBytes}
 use Rattle.ffs_report.specs.Known.{IsContents}
 use Rattle.ffs_workspace.{proofs.Readiness.ready_table, specs.Holds.claims_of}
-use Rattle.ffs_claims.{proofs.Inodes.{ok_where, used_below}, specs.{Leaves.Stored, Lines.of_lines}}
-use Rattle.ffs_claims.specs.Lines.{owner_with}
+use Rattle.ffs_claims.{proofs.Inodes.{ok_where, used_below}, specs.{Leaves.Stored, Lines.{of_lines, owner_with}}}
 use Rattle.ffs_claims.proofs.claim.claim_inode.Goals as goal
 
 pub claim_read_inode-requires-clause-can : goal.claim_read_inode-requires-clause-can

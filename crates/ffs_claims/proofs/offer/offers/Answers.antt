@@ -1,8 +1,7 @@
-use Rattle.std.proofs.{Common.arith, Common.ap, Common.◌+◌, Common.◌∙◌, Common.refl, lemmas.Result.err_from_is_err_and}
+use Rattle.std.proofs.{Common.{arith, ap, ◌+◌, ◌∙◌, refl}, lemmas.Result.err_from_is_err_and}
 use Rattle.ffs_volume.{proofs.Potentials.each_ok, specs.Disk.Areas.is_fragment_in_range}
 use Rattle.ffs_report.proofs.Reporting.{to_begins, to_says, to_stops}
-use Rattle.ffs_claims.proofs.Frames.{offers_none, offers_then}
-use Rattle.ffs_claims.proofs.StepsContinue.{range_next, offers_more, from_start}
+use Rattle.ffs_claims.proofs.{Frames.{offers_none, offers_then}, StepsContinue.{range_next, offers_more, from_start}}
 use Rattle.ffs_claims.proofs.offer.offers.Goals as goal
 
 pub returns-in_err-offer : goal.returns-in_err-offer

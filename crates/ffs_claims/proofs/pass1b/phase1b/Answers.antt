@@ -3,8 +3,7 @@ use Rattle.ffs_image.specs.Device.{Device}
 use Rattle.ffs_volume.proofs.{Results.on_ok as ok_then, RunBounds.runs_bounded}
 use Rattle.ffs_report.specs.Known.{ForBytes}
 use Rattle.ffs_workspace.{specs.Found.WithPhase1, proofs.Readiness.ready_same}
-use Rattle.ffs_claims.proofs.Limited.{phase_served}
-use Rattle.ffs_claims.proofs.pass1b.phase1b.Goals.{After-is_spent}
+use Rattle.ffs_claims.proofs.{Limited.phase_served, pass1b.phase1b.Goals.After-is_spent}
 use Rattle.ffs_claims.proofs.pass1b.phase1b.Given as given
 use Rattle.ffs_claims.proofs.pass1b.phase1b.Goals as goal
 

@@ -1,19 +1,17 @@
 use Rattle.std.proofs.Common.{Result, rules, ◌≡◌, ◌≤◌, ◌+◌, ◌-◌, ◌^◌, ◌<◌, ◌∷◌, [], arith, refl, ap, ◌∙◌, Err}
 use Rattle.std.proofs.lemmas.Result.{err_from_is_err_and}
 use Rattle.ffs_volume.{proofs.RunBounds.runs_bounded, specs.Blocks.BlockCheck.{first_offer_lines, phase1b_lines}}
-use Rattle.ffs_volume.specs.Blocks.{KeptSteps.claims_before}
-use Rattle.ffs_volume.specs.{Blocks.Owners.owners_of, Messages.Kinds.phase1b}
+use Rattle.ffs_volume.specs.{Blocks.{KeptSteps.claims_before, Owners.owners_of}, Messages.Kinds.phase1b}
 use Rattle.ffs_report.proofs.Reporting.{of_begins, of_says, of_part, of_fault, of_stops, of_same, reports_knowing}
-use Rattle.ffs_report.{proofs.Reporting.said_knows, specs.Known.ForBytes, specs.declared.fault.RunFault.RunFault}
+use Rattle.ffs_report.{proofs.Reporting.said_knows, specs.{Known.ForBytes, declared.fault.RunFault.RunFault}}
 use Rattle.ffs_maps.specs.Bits.{bits_of}
-use Rattle.ffs_workspace.specs.{Found.WithPhase1, Holds.all_claims, Lengths.inodes_of, Lengths.set_count}
-use Rattle.ffs_claims.proofs.Duplicates.{none_first, none_left}
-use Rattle.ffs_claims.proofs.{Frames.claims_then, Frames.image_from, Numbers.numbers_most}
-use Rattle.ffs_claims.proofs.Reportings.{reporting_more, reporting_ends, reporting_begins, lines_split, reporting_over}
-use Rattle.ffs_claims.proofs.{RescanCounts.look_most, RescanCounts.looked_none, Rescanned.IsNoted, Rescanned.is_noted}
-use Rattle.ffs_claims.proofs.Rescanned.{offers_at, runs_at, kept_from, runs_from, looked_on, looked_end}
-use Rattle.ffs_claims.proofs.Rescanned.{kept_next, kept_end, runs_on, runs_most, claims_hold}
-use Rattle.ffs_claims.proofs.{Numbers.before_first, Rescanned.starts_hold, Rewalks.runs_pay_all, Rewalks.runs_pay_then}
+use Rattle.ffs_workspace.specs.{Found.WithPhase1, Holds.all_claims, Lengths.{inodes_of, set_count}}
+use Rattle.ffs_claims.proofs.{Duplicates.{none_first, none_left}, Frames.{claims_then, image_from}}
+use Rattle.ffs_claims.proofs.{Numbers.{numbers_most, before_first}, Reportings.{reporting_more, reporting_ends}}
+use Rattle.ffs_claims.proofs.{Reportings.{reporting_begins, lines_split, reporting_over}, RescanCounts.look_most}
+use Rattle.ffs_claims.proofs.{RescanCounts.looked_none, Rescanned.{IsNoted, is_noted, offers_at, runs_at, kept_from}}
+use Rattle.ffs_claims.proofs.Rescanned.{runs_from, looked_on, looked_end, kept_next, kept_end, runs_on, runs_most}
+use Rattle.ffs_claims.proofs.{Rescanned.{claims_hold, starts_hold}, Rewalks.{runs_pay_all, runs_pay_then}}
 use Rattle.ffs_claims.specs.{Lines.of_lines, Reporting.after_first, RescanRuns.{runs_until_reported, rescan_runs}}
 use Rattle.ffs_claims.proofs.pass1b.rescan_inodes.Goals as goal
 
@@ -119,16 +117,10 @@ loop-number-preserved g c =
           omega (arith, inv.runs bytes k, rewalks.runs bytes (image ∙ k.0));
       reads = runs_pay_then _ _ _ _ inv.reads c.rewalk_inode.ensures.counted (omega (arith, inv.low));
       count = λ bytes k.
+          let most = look_most v bytes in
+          let few = runs_bounded v bytes sound in
           let fits : c.loop-number.workspace.runs_again + runs_until_reported d (runs_at v bytes notes n) < 2 ^ 64 =
-          omega (
-            arith,
-            inv.count bytes k,
-            on bytes k,
-            look_most v bytes,
-            runs_bounded v bytes sound,
-            sound.numbers.inodes_below,
-            sound.numbers.size_below,
-          ) in
+          omega (arith, inv.count bytes k, on bytes k, sound.numbers.inodes_below, sound.numbers.size_below) in
           omega (arith, inv.count bytes k, on bytes k, (rewalks.rewalked bytes (image ∙ k.0)).count fits);
       reported = λ bytes k. reporting_more (inv.reported bytes k) (kept_next v bytes notes n (noted bytes k))
           (rewalks.rewalked bytes (image ∙ k.0)).reported;

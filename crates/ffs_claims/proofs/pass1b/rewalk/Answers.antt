@@ -7,11 +7,10 @@ use Rattle.ffs_maps.specs.Bits.{bits_of}
 use Rattle.ffs_walk.{proofs.Counted.{top_held, top_unread}, specs.{Keepings.replay_in, Rests.steps_left}}
 use Rattle.ffs_workspace.specs.{Lengths.set_count, Notes.cut_in}
 use Rattle.ffs_claims.proofs.{Duplicates.{none_first, none_left, some_left}, Frames.{can_walk, claims_none, ready_read}}
-use Rattle.ffs_claims.proofs.{Frames.ready_walked, RescanCounts.{again_gaps, again_stopped}}
-use Rattle.ffs_claims.proofs.Rewalks.{offers_none, lines_step, runs_next}
-use Rattle.ffs_claims.proofs.Rewalks.{rewalk_begins, rewalk_on, rewalk_gaps, rewalk_ends, rewalk_over, rewalk_said}
-use Rattle.ffs_claims.{proofs.Rewalks.{rewalked_to, runs_pay_on, runs_pay_ends, rereads_on}, specs.Lines.of_lines}
-use Rattle.ffs_claims.specs.RescanRuns.{runs_until_reported, steps_runs_again}
+use Rattle.ffs_claims.proofs.{Frames.ready_walked, RescanCounts.{again_gaps, again_stopped}, Rewalks.offers_none}
+use Rattle.ffs_claims.proofs.Rewalks.{lines_step, runs_next, rewalk_begins, rewalk_on, rewalk_gaps, rewalk_ends}
+use Rattle.ffs_claims.proofs.Rewalks.{rewalk_over, rewalk_said, rewalked_to, runs_pay_on, runs_pay_ends, rereads_on}
+use Rattle.ffs_claims.specs.{Lines.of_lines, RescanRuns.{runs_until_reported, steps_runs_again}}
 use Rattle.ffs_claims.proofs.pass1b.rewalk.Goals as goal
 
 pub loop-next-init : goal.loop-next-init
