@@ -19,7 +19,6 @@ use Rattle.ffs_volume.specs.declared.BlockMessage.TheVariants.{ManyBad, PartTrun
 use Rattle.ffs_volume.specs.declared.{BlockMessage.TheVariants.BlockCount, Class.{Class, TheVariants.Partial}}
 use Rattle.ffs_volume.specs.declared.{Class.TheVariants.Unknown, Layout.Layout, Step.{Step, TheVariants.{Run, Tail}}}
 use Rattle.ffs_volume.specs.declared.Step.TheVariants.{Gap}
-use Rattle.ffs_maps.specs.Bits.{bits_of}
 use Rattle.ffs_workspace.specs.Holds.{marked_by_phase1_at, all_claims, HoldsPhase1, HoldsClaims, has_blame}
 use Rattle.ffs_workspace.specs.{Lengths.{set_count, inodes_of}, declared.workspace.Workspace.Workspace}
 use Rattle.ffs_claims.proofs.Numbers.{before_first}
@@ -37,18 +36,15 @@ more_holds R true more x x' y y' first second = first refl
 more_holds R false more x x' y y' first second = second refl
 
 -- ---- what holds of the offers, Runs and steps of an inode, and of their lines
--- R is of claims, lines and the claims after them. It holds where nothing happens, of each offer,
--- of a Run that is counted, of a bad one and of a Tail, of the lines of the inode's class and count,
--- and of two parts one after the other
+-- R is of claims, lines and the claims after them. It holds where nothing is bad or dup, of a dup
+-- offer, of a bad Run and of a Tail, of the lines of the inode's class and count, and of two parts one
+-- after the other
 record HoldsOfEach (v : Layout) (i : ℕ) (R : Claims → List BlockMessage → Claims → Type 0) : Type 0 where
-  none : (s : Claims) → R s [] s
+  quiet : (s t : Claims) → t.bad ≡ s.bad → t.dups ≡ s.dups → t.dup ≡ s.dup → R s [] t
   after : (s t u : Claims) (xs ys : List BlockMessage) → R s xs t → R t ys u → R s (xs ++ ys) u
-  kept : (s : Claims) → R s [] (record s { kept = s.kept + 1 })
-  claimed : (s : Claims) (f : ℕ) → R s [] (record s { kept = s.kept + 1; used = slice_set s.used f true })
   dup : (s : Claims) (f : ℕ) (many : Bool) → is_fragment_in_range v f ≡ true →
       R s (Dup f i ∷ (if many then ManyDup i ∷ [] else []))
       (record s { kept = s.kept + 1; dups = s.dups + 1; dup = slice_set s.dup f true })
-  seen : (s : Claims) → R s [] (record s { runs = s.runs + 1 })
   bad : (s : Claims) (start : ℕ) (many : Bool) →
       R s (Bad start i ∷ (if many then ManyBad i ∷ [] else [])) (record s { runs = s.runs + 1; bad = s.bad + 1 })
   tail : (s : Claims) (first : Bool) → R s (if first then PartTrunc i ∷ [] else []) (record s { tail = true })
@@ -57,41 +53,42 @@ record HoldsOfEach (v : Layout) (i : ℕ) (R : Claims → List BlockMessage → 
   count : (s : Claims) (found right : ℕ) → R s (BlockCount i found right ∷ []) s
 
 module _ {v : Layout} {i : ℕ} {R : Claims → List BlockMessage → Claims → Type 0} (p : HoldsOfEach v i R) where
+  none : (s : Claims) → R s [] s
+  none s = p.quiet s s refl refl refl
+
   offer_holds : (s : Claims) (f : ℕ) → R s (offer_lines v i s f) (after_offer v s f)
   offer_holds s f =
       more_holds (R s) (nat_lt s.dups 11) _ _ _ _ _
       (λ _. more_holds (R s) (is_fragment_in_range v f) (is_set s.used f) _ _ _ _
-      (λ ok. conds_hold (R s) (is_set s.used f) _ _ _ _ (λ _. p.dup s f (s.dups == 10) ok) (λ _. p.claimed s f))
-      (λ _. p.kept s)) (λ _. p.none s)
+      (λ ok. conds_hold (R s) (is_set s.used f) _ _ _ _ (λ _. p.dup s f (s.dups == 10) ok)
+      (λ _. p.quiet s _ refl refl refl)) (λ _. p.quiet s _ refl refl refl)) (λ _. none s)
 
   offers_hold : (s : Claims) (fs : List ℕ) → R s (lines_of_offers v i s fs) (after_offers v s fs)
-  offers_hold s [] = p.none s
+  offers_hold s [] = none s
   offers_hold s (f ∷ fs) = p.after s _ _ _ _ (offer_holds s f) (offers_hold (after_offer v s f) fs)
 
   run_holds : (s : Claims) (start len : ℕ) → R s (run_lines v i s start len) (after_run v s start len)
   run_holds s start len =
       let fs = range_with_len start len in
       conds_hold (R s) (is_run_in_range v start len) _ _ _ _
-      (λ _. p.after s _ _ [] _ (p.seen s) (offers_hold (record s { runs = s.runs + 1 }) fs))
+      (λ _. p.after s _ _ [] _ (p.quiet s _ refl refl refl) (offers_hold (record s { runs = s.runs + 1 }) fs))
       (λ _. conds_hold (λ ls. R s (Bad start i ∷ ls)) (s.bad == 10) _ _ _ _ (λ _. p.bad s start true)
       (λ _. p.after s _ _ (Bad start i ∷ []) _ (p.bad s start false)
       (offers_hold (record s { runs = s.runs + 1; bad = s.bad + 1 }) fs)))
 
   step_holds : (s : Claims) (step : Step) → R s (step_lines v i s step) (after_step v s step)
-  step_holds s Gap = p.none s
-  step_holds s Tail =
-      more_holds (R s) (is_open s) (not s.tail) _ _ _ _ (λ _. p.tail s (not s.tail)) (λ _. p.none s)
-  step_holds s (Run start len block) =
-      conds_hold (R s) (is_open s) _ _ _ _ (λ _. run_holds s start len) (λ _. p.none s)
+  step_holds s Gap = none s
+  step_holds s Tail = more_holds (R s) (is_open s) (not s.tail) _ _ _ _ (λ _. p.tail s (not s.tail)) (λ _. none s)
+  step_holds s (Run start len block) = conds_hold (R s) (is_open s) _ _ _ _ (λ _. run_holds s start len) (λ _. none s)
 
   steps_hold : (s : Claims) (steps : List Step) → R s (lines_of_steps v i s steps) (after_steps v s steps)
-  steps_hold s [] = p.none s
+  steps_hold s [] = none s
   steps_hold s (step ∷ steps) = p.after s _ _ _ _ (step_holds s step) (steps_hold (after_step v s step) steps)
 
   class_holds : (s : Claims) (class : Class) → R s (class_lines i class) s
   class_holds s Partial = p.partial s
   class_holds s Unknown = p.unknown s
-  class_holds s other = p.none s
+  class_holds s other = none s
 
 owner_holds : {v : Layout} {R : Claims → List BlockMessage → Claims → Type 0} (o : Owner) → HoldsOfEach v o.number R →
     (s : Claims) → R (at_next_inode s) (owner_lines v s o) (after_owner v s o)
@@ -100,7 +97,7 @@ owner_holds {v = v} {R = R} o p s =
     p.after _ _ _ _ _ (class_holds p (at_next_inode s) o.class) (p.after _ _ _ _ _
     (steps_hold p (at_next_inode s) o.steps)
     (cond_holds (λ ls. R end ls end) (is_file_or_dir o.class && (is_open end && not (o.blocks == _))) _ _
-    (λ _. p.count end _ _) (λ _. p.none end)))
+    (λ _. p.count end _ _) (λ _. none p end)))
 
 -- ---- blame
 abbrev blamed : ℕ → ℕ → Claims → Bool
@@ -111,12 +108,9 @@ Blames x i s lines t = (list_any (blames x) lines || blamed x i s) ≡ blamed x 
 
 blames_hold : (v : Layout) (x i : ℕ) → HoldsOfEach v i (Blames x i)
 blames_hold v x i = record {
-  none = λ s. refl;
+  quiet = λ s t bad dups dup. rw (bad, dups) refl;
   after = λ s t u xs ys p q. let both = list_any-append (blames x) xs ys in grind arith;
-  kept = λ s. refl;
-  claimed = λ s f. refl;
   dup = λ s f many ok. grind (arith, nat_tests);
-  seen = λ s. refl;
   bad = λ s start many. grind (arith, nat_tests);
   tail = λ s first. grind arith;
   partial = λ s. refl;
@@ -197,12 +191,9 @@ dups_then s t u xs ys p q = let both = list_any-append is_dup_line xs ys in (gri
 
 dups_hold : (v : Layout) (i : ℕ) → HoldsOfEach v i (λ s lines t. length s.dup ≡ v.size → DupsAreReported s lines t)
 dups_hold v i = record {
-  none = λ s h. (refl, refl);
+  quiet = λ s t bad dups dup h. rw dup (refl, refl);
   after = λ s t u xs ys p q h. dups_then s t u xs ys (p h) (q ((p h).1 ∙ h));
-  kept = λ s h. (refl, refl);
-  claimed = λ s f h. (refl, refl);
   dup = λ s f many ok h. grind (arith, in_range_below, set_any, length-set);
-  seen = λ s h. (refl, refl);
   bad = λ s start many h. (grind arith, refl);
   tail = λ s first h. (grind arith, refl);
   partial = λ s h. (refl, refl);
@@ -263,11 +254,6 @@ no_rescan v image w none h = record {
     silent : (x : ℕ) → (is_inode_number v x && list_any (blames x) (phase1b_lines v (owners_of v image))) ≡ false
     silent x = ap (λ ls. is_inode_number v x && list_any (blames x) ls) lines
         ∙ and-false (is_inode_number v x)
-
--- what phase 1 leaves to report
-pub dups_are : (v : Layout) (image : List ℕ) (w : Workspace) → HoldsPhase1 v image w →
-    any_set (bits_of w.duplicates) ≡ has_rescan v (owners_of v image)
-dups_are v image w h = ap any_set h.dup ∙ rescan_is v image
 
 -- whether something is left to report
 pub some_left : (n : ℕ) (some : Bool) → some ≡ not (n == 0) → some ≡ true → n ≢ 0

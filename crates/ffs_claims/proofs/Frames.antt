@@ -28,9 +28,6 @@ pub claims_still : {u w : Workspace} {windows : Windows} → SameClaims u w →
     SameClaims u (record w { windows = windows })
 claims_still p = search rules
 
-pub only_none : {l : Layout} {w : Workspace} → IsFor l w → ClaimsOnly l w w
-only_none {w = w} made = record { made = made; windows = refl; found = found_none w }
-
 pub only_then : {l : Layout} {u v w : Workspace} → ClaimsOnly l u v → ClaimsOnly l v w → ClaimsOnly l u w
 only_then p q = grind arith
 
@@ -40,7 +37,7 @@ pub offers_claimed : {l : Layout} {w : Workspace} {map : FragmentMap} {kept : �
 offers_claimed m size = grind arith
 
 pub offers_none : {l : Layout} {w : Workspace} → IsFor l w → OffersOnly l w w
-offers_none made = record { claiming = only_none made; runs = refl }
+offers_none {w = w} made = let found = found_none w in grind arith
 
 pub offers_then : {l : Layout} {u v w : Workspace} → OffersOnly l u v → OffersOnly l v w → OffersOnly l u w
 offers_then p q = grind arith
@@ -80,11 +77,6 @@ ready_walked e same kept r = ready_read (ap (λ x. x.contents) e) (ap (λ x. x.s
 pub ready_begun : {l : Layout} {d : Device} {u w : Workspace} →
     w ≡ record u { bad = 0; dups = 0; kept = 0; tail = false } → IsReady l d u → IsReady l d w
 ready_begun e r = grind arith
-
--- or its second count of Runs changes
-pub ready_unseen : {l : Layout} {d : Device} {w : Workspace} {runs : ℕ} → IsReady l d w →
-    IsReady l d (record w { runs_again = runs })
-ready_unseen r = grind arith
 
 stored_length : {T : Type 0} (old new : Vec T Global) (number : ℕ) (x : T) (n : ℕ) → vec_len old ≡ n →
     new.items ≡ slice_set old.items number x → vec_len new ≡ n

@@ -1,11 +1,11 @@
 -- How an inode's part of the block check continues, and how many Runs it is seen to have.
 use Rattle.std.proofs.Common.{◌+◌, ◌<◌, ◌^◌, false, arith, OnOk, ◌≡◌, ℕ, List, [], ◌++◌, append-nil, Option, Result, Ok}
-use Rattle.std.proofs.{Common.{Err, ap, ◌∙◌, refl, ◌≤◌, true}, lemmas.Bool.Decides.nat_tests}
+use Rattle.std.proofs.{Common.{Err, ◌∙◌, refl, ◌≤◌, true}, lemmas.Bool.Decides.nat_tests}
 use Rattle.std.proofs.lemmas.List.Sums.{count_by-le-length}
 use Rattle.ffs_volume.{proofs.Potentials.{step_moves, moves_then}, specs.Blocks.BlockCheck.{class_lines, count_lines}}
-use Rattle.ffs_volume.specs.Blocks.{BlockCheck.owner_lines, Claims.{Claims, at_next_inode, after_steps, after_owner}}
-use Rattle.ffs_volume.specs.Blocks.{Claims.{lines_of_steps, is_open, after_step}, Inodes.{class_of, inode_of}}
-use Rattle.ffs_volume.specs.{Blocks.{Owners.owner_of, Steps.steps_of}, Laws.ClaimBounds.{used_bits, ClaimBound}}
+use Rattle.ffs_volume.specs.Blocks.{BlockCheck.owner_lines, Claims.{Claims, at_next_inode, after_steps}}
+use Rattle.ffs_volume.specs.Blocks.{Claims.{lines_of_steps, is_open, after_step}, Inodes.{class_of}}
+use Rattle.ffs_volume.specs.{Blocks.{Steps.steps_of}, Laws.ClaimBounds.{used_bits, ClaimBound}}
 use Rattle.ffs_volume.specs.{Laws.{Geometry.IsAcceptedLayout, RunLengths.HasLength}, Messages.Kinds.Message}
 use Rattle.ffs_volume.specs.declared.{Class.{Class, TheVariants.Free}, Inode.Inode, Layout.Layout, Step.Step}
 use Rattle.ffs_report.{proofs.Reporting.{of_part, of_begins, of_says, of_stops}, specs.Known.{ForBytes, IsContents}}
@@ -43,7 +43,8 @@ kept_room u {w = w} made free m = grind (arith, nat_tests, used_below)
 
 -- so there is room to count them
 pub sees_next : {v : Layout} {u w : Workspace} {area : DataArea} → IsAcceptedLayout v → HasBegun u → IsFor v w →
-    IsDataArea v area → is_open (claims_of w) ≡ true → ClaimBound (claims_of u) (claims_of w) → SeesNext v w area
+    IsDataArea v area → is_open (claims_of w) ≡ true → ClaimBound (claims_of u) (claims_of w) →
+    SeesNext v w area (2 ^ 62)
 sees_next {u = u} g begun made only_data uncut m =
     let numbers = g.numbers in
     let kept = kept_room u made uncut m in
@@ -127,12 +128,6 @@ pub begun : (u : Workspace) {w : Workspace} → w ≡ record u { bad = 0; dups =
     u.runs_seen < 2 ^ 40 → HasBegun w
 begun u e few = rw e (record { bad = refl; dups = refl; kept = refl; runs = omega arith })
 
--- an inode by its number
-pub owner_is : (v : Layout) (bytes : List ℕ) (number : ℕ) (i : Inode) → i ≡ inode_of v bytes number →
-    owner_with v bytes number i ≡ owner_of v bytes number
-unfolding owner_of
-owner_is v bytes number i e = ap (λ x. owner_with v bytes number x) e
-
 -- a fact of an Ok answer, of an image that gives the same
 pub ok_where : {T E : Type 0} (r : Result T E) (contents contents' : Option (List ℕ)) (P Q : List ℕ → Type 0) →
     contents' ≡ contents →
@@ -141,15 +136,7 @@ pub ok_where : {T E : Type 0} (r : Result T E) (contents contents' : Option (Lis
 ok_where (Ok x) contents contents' P Q e more h = λ bytes t. more bytes t (h bytes (e ∙ t))
 ok_where (Err x) contents contents' P Q e more h = h
 
--- a free inode has no steps: it claims nothing, and nothing is reported of it
-free_steps : (v : Layout) (i : Inode) (bytes : List ℕ) → class_of v i ≡ Free → steps_of v i bytes ≡ []
+-- a free inode has no steps
+pub free_steps : (v : Layout) (i : Inode) (bytes : List ℕ) → class_of v i ≡ Free → steps_of v i bytes ≡ []
 unfolding steps_of
 free_steps v i bytes h = rw h refl
-
-pub free_claims : (v : Layout) (number : ℕ) (i : Inode) (s : Claims) (bytes : List ℕ) → class_of v i ≡ Free →
-    after_owner v s (owner_with v bytes number i) ≡ at_next_inode s
-free_claims v number i s bytes h = ap (after_steps v (at_next_inode s)) (free_steps v i bytes h)
-
-pub free_silent : (v : Layout) (number : ℕ) (i : Inode) (s : Claims) (bytes : List ℕ) → class_of v i ≡ Free →
-    owner_lines v s (owner_with v bytes number i) ≡ []
-free_silent v number i s bytes h = rw (h, free_steps v i bytes h) refl

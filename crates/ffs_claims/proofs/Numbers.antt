@@ -1,9 +1,9 @@
 -- The inodes one after another.
-use Rattle.std.proofs.Common.{◌≡◌, ℕ, zero, suc, ◌+◌, ◌-◌, ◌<◌, ◌≤◌, true, false, ◌||◌, if◌then◌else◌, nat_lt, List, []}
+use Rattle.std.proofs.Common.{◌≡◌, ℕ, zero, suc, ◌+◌, ◌-◌, ◌<◌, ◌≤◌, true, false, ◌||◌, if◌then◌else◌, nat_lt, List}
 use Rattle.std.proofs.Common.{◌++◌, length, map, get_or, replicate, min, slice_set, arith, refl, ap, ◌∙◌}
 use Rattle.std.proofs.lemmas.{Bool.Decides.nat_tests, List.{get_or-set_same, get_or-set_other}}
 use Rattle.std.specs.List.{range_with_len}
-use Rattle.ffs_volume.specs.Blocks.{BlockCheck.{owner_lines, lines_of_owners, phase1_lines}, Claims.{Claims, no_claims}}
+use Rattle.ffs_volume.specs.Blocks.{BlockCheck.{owner_lines, lines_of_owners}, Claims.{Claims, no_claims}}
 use Rattle.ffs_volume.specs.Blocks.{Claims.{after_owner, after_owners}, Inodes.{inode_of, class_of, is_unknown}}
 use Rattle.ffs_volume.specs.Blocks.{KeptSteps.claims_before, Owners.{owner_of, owners_of}}
 use Rattle.ffs_volume.specs.{Directories.Volumes.is_inode_number, Encodings.{Kinds.kind_at, Links.start_at}}
@@ -38,10 +38,6 @@ pub lines_next : (v : Layout) (bytes : List ℕ) (s s' : Claims) (x : ℕ) → x
 lines_next v bytes s s' x low now =
     rw (range_more x (inodes_of v - x) (inodes_of v - (x + 1)) (omega arith), now)
     (lines_append (owner_lines v s (owner_of v bytes x)) _)
-
-pub lines_end : (v : Layout) (bytes : List ℕ) (s : Claims) (x : ℕ) → inodes_of v ≤ x →
-    of_lines (lines_of_owners v s (owners_from v bytes x)) ≡ []
-lines_end v bytes s x past = let none : inodes_of v - x ≡ 0 = omega arith in rw none refl
 
 -- ---- lists that are filled up to a number
 abbrev FilledTo : {A : Type 0} → A → (ℕ → A) → List A → ℕ → Type 0
@@ -131,9 +127,3 @@ found_all {v = v} {bytes = bytes} {n = n} past all found = record {
   notes = filled_end v 0 (note_at v bytes) _ n past (note_out v bytes) found.notes;
   starts = filled_end v 0 (start_at v bytes) _ n past (λ x out. rw out refl) found.starts;
 }
-
--- the lines of all inodes
-pub first_lines : (v : Layout) (bytes : List ℕ) (s : Claims) → s ≡ no_claims v →
-    of_lines (phase1_lines v (owners_of v bytes)) ≡ of_lines (lines_of_owners v s (owners_from v bytes 2))
-unfolding phase1_lines owners_of
-first_lines v bytes s e = rw e refl

@@ -2,9 +2,7 @@
 use Rattle.std.proofs.Common.{◌≡◌, append_assoc, append-nil, subst, ℕ, ◌+◌, ◌-◌, ◌<◌, ◌≤◌, Bool, false, if◌then◌else◌}
 use Rattle.std.proofs.{Common.{List, [], ◌∷◌, ◌++◌, map, slice_set, arith, refl, ap, ◌∙◌, sym}, Math.Bool.or_assoc}
 use Rattle.std.{proofs.{Math.Bool.or-false, lemmas.List.Folds.list_any-append}, specs.List.range_with_len}
-use Rattle.std.specs.List.{slice_index_or}
 use Rattle.ffs_volume.specs.Blocks.{BlockCheck.first_offer_lines, Claims.is_set, KeptOffers.{Offer, offer_of}}
-use Rattle.ffs_report.{proofs.Reports.said_none, specs.Progress.{Progress, Said}}
 use Rattle.ffs_maps.specs.Bits.{bits_of}
 use Rattle.ffs_workspace.specs.{Holds.bool_at, Lengths.set_count, declared.workspace.Workspace.Workspace}
 use Rattle.ffs_claims.proofs.{Duplicates.{none_clear, none_first}, StepsContinue.{range_next, lines_append}}
@@ -39,9 +37,6 @@ pub none_after : (bits : List Bool) (os : List Offer) → set_count bits ≡ 0 �
 none_after bits [] e = refl
 none_after bits (o ∷ os) e = rw (none_clear bits o.fragment e) (none_after bits os e)
 
-pub none_reported : (w : Workspace) (os : List Offer) → set_count (bits_of w.duplicates) ≡ 0 → OffersReported os w w
-none_reported w os e = grind (arith, none_after, none_first, or-false)
-
 -- what is reported is of the map and the marks alone
 pub reported_from : {offers : List Offer} (u u' w : Workspace) → OffersReported offers u' w →
     u'.duplicates ≡ u.duplicates → u'.marked ≡ u.marked → OffersReported offers u w
@@ -51,16 +46,6 @@ reported_from {offers = offers} u u' w t d m =
 pub reported_to : {offers : List Offer} (u w w' : Workspace) → OffersReported offers u w → w'.duplicates ≡ w.duplicates
     → w'.marked ≡ w.marked → OffersReported offers u w'
 reported_to u w w' t d m = record { dup = rw d t.dup; marked = λ x. rw m (t.marked x) }
-
--- an offer that isn't reported
-pub reported_out : (old : Workspace) (i f : ℕ) → slice_index_or (bits_of old.duplicates) f false ≡ false →
-    OffersReported (offer_of i f ∷ []) old old
-reported_out old i f e =
-    record { dup = sym (rw e refl); marked = λ x. rw e (sym (or-false (bool_at old.marked.items x))) }
-
-pub said_out : (dup : List Bool) (i f : ℕ) (a : Progress) → slice_index_or dup f false ≡ false →
-    Said a a (of_lines (first_offer_lines dup (offer_of i f ∷ [])))
-said_out dup i f a e = rw e (said_none a)
 
 pub reported_then : {u v w : Workspace} (xs ys : List Offer) → OffersReported xs u v → OffersReported ys v w →
     OffersReported (xs ++ ys) u w
@@ -73,8 +58,9 @@ pub record Reporting (rest all : List Offer) (old new : Workspace) : Type 0 wher
   pub whole : past ++ rest ≡ all
   pub reported : OffersReported past old new
 
-pub reporting_begins : (all : List Offer) (w : Workspace) → Reporting all all w w
-reporting_begins all w = record { past = []; whole = refl; reported = reported_none w }
+pub reporting_begins : {rest all : List Offer} (u w : Workspace) → rest ≡ all → w.duplicates ≡ u.duplicates →
+    w.marked ≡ u.marked → Reporting rest all u w
+reporting_begins u w e d m = record { past = []; whole = e; reported = reported_to u u w (reported_none u) d m }
 
 pub reporting_more : {rest part rest' all : List Offer} {u v w : Workspace} → Reporting rest all u v →
     rest ≡ part ++ rest' → OffersReported part v w → Reporting rest' all u w
@@ -83,10 +69,6 @@ reporting_more {part = part} {rest' = rest'} t e p = record {
   whole = append_assoc t.past part rest' ∙ ap (λ xs. t.past ++ xs) (sym e) ∙ t.whole;
   reported = reported_then t.past part t.reported p;
 }
-
-pub reporting_same : {rest rest' all : List Offer} {u v : Workspace} → Reporting rest all u v → rest ≡ rest' →
-    Reporting rest' all u v
-reporting_same {all = all} {u = u} {v = v} t e = subst (λ xs. Reporting xs all u v) e t
 
 pub reporting_ends : {rest all : List Offer} {u v : Workspace} → Reporting rest all u v → rest ≡ [] →
     OffersReported all u v
@@ -97,7 +79,8 @@ reporting_ends {u = u} {v = v} t e = subst (λ xs. OffersReported xs u v)
 pub reporting_over : {rest all : List Offer} {u w : Workspace} → set_count (bits_of w.duplicates) ≡ 0 →
     Reporting rest all u w → OffersReported all u w
 reporting_over {rest = rest} {w = w} e t =
-    reporting_ends (reporting_more t (sym (append-nil rest)) (none_reported w rest e)) refl
+    let none : OffersReported rest w w = grind (arith, none_after, none_first, or-false) in
+    reporting_ends (reporting_more t (sym (append-nil rest)) none) refl
 
 -- the next offer of a Run, and past the last one
 pub run_next : (i start len index f : ℕ) → index < len → f ≡ start + index →

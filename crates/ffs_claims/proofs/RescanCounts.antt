@@ -1,16 +1,15 @@
 -- An inode replayed by its cut keeps what it kept, and how many Runs the rescan looks at.
 use Rattle.std.proofs.Common.{◌≡◌, ◌≢◌, ℕ, zero, suc, ◌+◌, Bool, true, false, ◌==◌, if◌then◌else◌, List, [], ◌∷◌, ◌++◌}
-use Rattle.std.proofs.Common.{map, replicate, arith, refl, ap, ◌∙◌, sym, inl, inr, eq-eqb, ne_eqb, ◌<◌, ◌≤◌, ◌^◌}
-use Rattle.std.proofs.{Common.{length, nat_lt, Option, ◌-◌}, lemmas.Bool.{cases_eq, cases_Bool, Decides.nat_tests}}
+use Rattle.std.proofs.Common.{map, replicate, arith, refl, ap, ◌∙◌, sym, inl, inr, eq-eqb, ne_eqb, ◌≤◌, length, nat_lt}
+use Rattle.std.proofs.{Common.{Option, ◌-◌}, lemmas.Bool.{cases_eq, cases_Bool, Decides.nat_tests}}
 use Rattle.std.{proofs.lemmas.List.length-append, specs.List.range_with_len}
 use Rattle.ffs_volume.proofs.{Potentials.{cond_holds, offers_keep}, PrefixLaws.full_offers, ReplayIsKeeping.replay_of}
 use Rattle.ffs_volume.proofs.{ReplayIsKeeping.{seen_replays, step_replays, step_few}, ReplayLaws.offers_runs}
-use Rattle.ffs_volume.{proofs.RunBounds.runs_bounded, specs.Blocks.Claims.{after_offers, Claims, no_claims}}
-use Rattle.ffs_volume.specs.Blocks.Claims.{at_next_inode, is_open, after_step, after_steps, after_owner, after_owners}
-use Rattle.ffs_volume.specs.Blocks.{Claims.after_offer, KeptOffers.{Offer, offer_of, kept_in_run, kept_in_offers}}
-use Rattle.ffs_volume.specs.Blocks.{KeptOffers.{kept_in_step, kept_in_steps}, Owners.{Owner, owners_of}}
-use Rattle.ffs_volume.specs.Encodings.Replay.{Replay, is_replay_open, fresh_replay, cut_of, replay_after_step}
-use Rattle.ffs_volume.specs.{Encodings.ReplayCounts.{seen_run, replay_step_by_cut}, Laws.Geometry.IsAcceptedLayout}
+use Rattle.ffs_volume.specs.Blocks.Claims.{after_offers, Claims, no_claims, at_next_inode, is_open, after_step}
+use Rattle.ffs_volume.specs.Blocks.{Claims.{after_steps, after_owner, after_owners, after_offer}, KeptOffers.Offer}
+use Rattle.ffs_volume.specs.Blocks.KeptOffers.{offer_of, kept_in_run, kept_in_offers, kept_in_step, kept_in_steps}
+use Rattle.ffs_volume.specs.{Blocks.Owners.{Owner, owners_of}, Encodings.Replay.{Replay, is_replay_open, fresh_replay}}
+use Rattle.ffs_volume.specs.Encodings.{Replay.{cut_of, replay_after_step}, ReplayCounts.{seen_run, replay_step_by_cut}}
 use Rattle.ffs_volume.specs.{Report.Whole.run_count, declared.{Layout.Layout, Step.{Step, TheVariants.{Run, Tail}}}}
 use Rattle.ffs_volume.specs.declared.Step.TheVariants.{Gap}
 use Rattle.ffs_walk.specs.Keepings.{run_taken}
@@ -180,17 +179,6 @@ module _ (v : Layout) (i cut : ℕ) (r : Replay) where
   again_gaps zero R = (refl, refl)
   again_gaps (suc n) R = again_gaps n R
 
--- where a second walk ends, no Run is left to see
-pub looked_stopped : (v : Layout) (i cut : ℕ) (r : Replay) (R : List Step) (dup : List Bool) →
-    is_replay_open cut r ≡ false → runs_until_reported dup (steps_runs_again v i cut r R) ≡ 0
-unfolding runs_until_reported
-looked_stopped v i cut r R dup q = ap (runs_until_reported dup) (again_stopped v i cut r R q).1
-
-pub looked_over : (v : Layout) (i cut : ℕ) (r : Replay) (R : List Step) (dup : List Bool) → R ≡ [] →
-    runs_until_reported dup (steps_runs_again v i cut r R) ≡ 0
-unfolding runs_until_reported steps_runs_again
-looked_over v i cut r R dup e = rw e refl
-
 -- ---- the rescan looks at no Run that phase 1 didn't see
 -- each Run that is seen is counted once
 step_seen : (v : Layout) (i : ℕ) (s : Claims) (step : Step) → s.runs + length (step_runs v i s step)
@@ -231,8 +219,3 @@ look_most v bytes =
     let runs = owners_runs v (no_claims v) (owners_of v bytes) in
     let most = looked_most (after_owners v (no_claims v) (owners_of v bytes)).dup runs in
     omega (arith, owners_seen v (no_claims v) (owners_of v bytes))
-
--- and the Runs that are seen are bounded
-pub look_fits : (v : Layout) (bytes : List ℕ) → IsAcceptedLayout v → rescan_runs v bytes < 2 ^ 64
-look_fits v bytes g =
-    omega (arith, runs_bounded v bytes g, look_most v bytes, g.numbers.inodes_below, g.numbers.size_below)

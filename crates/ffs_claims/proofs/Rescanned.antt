@@ -15,12 +15,10 @@ use Rattle.ffs_volume.specs.declared.Step.{Step, TheVariants.Run}
 use Rattle.ffs_maps.specs.Bits.{bits_of}
 use Rattle.ffs_workspace.{proofs.NoteLaws.cut_is_noted, specs.Holds.{all_claims, HoldsPhase1, HoldsStarts, HoldsClaims}}
 use Rattle.ffs_workspace.specs.{Lengths.inodes_of, Notes.cut_in, declared.workspace.Workspace.Workspace}
-use Rattle.ffs_claims.proofs.{Duplicates.marked_total, Numbers.{before_end, before_first, is_inside}}
-use Rattle.ffs_claims.proofs.{Reportings.{Reporting, reported_none, reported_to}, RescanCounts.looked_both}
-use Rattle.ffs_claims.{proofs.{RescanCounts.{runs_leave, inode_again}, StepsContinue.range_more}, specs.Lines.of_lines}
+use Rattle.ffs_claims.proofs.{Duplicates.marked_total, Numbers.{before_end, is_inside}, RescanCounts.looked_both}
+use Rattle.ffs_claims.proofs.{RescanCounts.{runs_leave, inode_again}, StepsContinue.range_more}
 use Rattle.ffs_claims.specs.{Lines.owners_from, Reporting.{after_first, OffersReported, SameClaims}}
-use Rattle.ffs_claims.specs.{Rescan.offers_again, RescanRuns.{owners_runs, runs_until_reported, rescan_runs}}
-use Rattle.ffs_claims.specs.RescanRuns.{steps_runs_again}
+use Rattle.ffs_claims.specs.{Rescan.offers_again, RescanRuns.{owners_runs, runs_until_reported, steps_runs_again}}
 
 -- the offers that the inode n keeps, replayed by its noted cut, and those of each of its Runs
 abbrev pub offers_at : Layout → List ℕ → List ℕ → ℕ → List Offer
@@ -69,21 +67,18 @@ kept_next v bytes notes n p =
     let again = inode_again v n (claims_before v bytes n) (steps_of v (inode_of v bytes n) bytes) in
     grind (arith, range_more, before_next, cut_noted)
 
--- its Runs, and those of the inodes after it
-runs_next_inode : (v : Layout) (bytes notes : List ℕ) (n : ℕ) → IsNoted v bytes notes n →
-    runs_from v bytes n ≡ runs_at v bytes notes n ++ runs_from v bytes (n + 1)
-unfolding owner_of owners_runs
-runs_next_inode v bytes notes n p =
-    let high = p.high in
-    let again = inode_again v n (claims_before v bytes n) (steps_of v (inode_of v bytes n) bytes) in
-    grind (arith, range_more, before_next, cut_noted)
-
+-- its Runs are looked at, and those of the inodes after it
 pub looked_on : (v : Layout) (bytes notes : List ℕ) (n : ℕ) (dup dup' : List Bool) → IsNoted v bytes notes n →
     dup' ≡ after_first dup (offers_at v bytes notes n) → runs_until_reported dup (runs_from v bytes n)
     ≡ runs_until_reported dup (runs_at v bytes notes n) + runs_until_reported dup' (runs_from v bytes (n + 1))
+unfolding owner_of owners_runs
 looked_on v bytes notes n dup dup' p d =
+    let high = p.high in
+    let again = inode_again v n (claims_before v bytes n) (steps_of v (inode_of v bytes n) bytes) in
+    let next : runs_from v bytes n ≡ runs_at v bytes notes n ++ runs_from v bytes (n + 1) =
+    grind (arith, range_more, before_next, cut_noted) in
     let left = runs_leave v n (cut_in (slice_index notes n)) fresh_replay dup (steps_of v (inode_of v bytes n) bytes) in
-    rw (d, runs_next_inode v bytes notes n p, looked_both dup (runs_at v bytes notes n) _, left) refl
+    rw (d, next, looked_both dup (runs_at v bytes notes n) _, left) refl
 
 -- no inode is left
 pub kept_end : (v : Layout) (bytes : List ℕ) (s : Claims) (n : ℕ) → inodes_of v ≤ n →
@@ -94,21 +89,6 @@ pub looked_end : (v : Layout) (bytes : List ℕ) (dup : List Bool) (s : Claims) 
     runs_until_reported dup (owners_runs v s (owners_from v bytes n)) ≡ 0
 unfolding owners_runs runs_until_reported
 looked_end v bytes dup s n past = let none : inodes_of v - n ≡ 0 = omega arith in rw none refl
-
--- all are left
-pub looked_first : (v : Layout) (bytes : List ℕ) (dup : List Bool) → dup ≡ (all_claims v bytes).dup →
-    runs_until_reported dup (runs_from v bytes 2) ≡ rescan_runs v bytes
-unfolding owners_of all_claims rescan_runs
-looked_first v bytes dup e = rw (before_first v bytes, e) refl
-
-pub all_lines : (v : Layout) (bytes : List ℕ) (dup : List Bool) → dup ≡ (all_claims v bytes).dup →
-    of_lines (phase1b_lines v (owners_of v bytes)) ≡ of_lines (first_offer_lines dup (kept_from v bytes 2))
-unfolding phase1b_lines owners_of all_claims
-all_lines v bytes dup e = rw (before_first v bytes, e) refl
-
-pub all_kept : (v : Layout) (bytes : List ℕ) → kept_from v bytes 2 ≡ kept_in_owners v (no_claims v) (owners_of v bytes)
-unfolding owners_of
-all_kept v bytes = rw (before_first v bytes) refl
 
 -- the count of Runs of an inode more
 pub runs_on : (v : Layout) (bytes notes : List ℕ) (n : ℕ) → IsNoted v bytes notes n →
@@ -218,9 +198,3 @@ pub starts_hold : (v : Layout) (bytes : List ℕ) (old new : Workspace) → Hold
 starts_hold v bytes old new h same = record {
   starts = λ x. ap (λ k. slice_index k.items x) same.references ∙ h.starts x;
 }
-
--- nothing is reported yet
-pub reported_same : (u w : Workspace) (all : List Offer) → w.duplicates ≡ u.duplicates → w.marked ≡ u.marked →
-    Reporting all all u w
-reported_same u w all d m =
-    record { past = []; whole = refl; reported = reported_to u u w (reported_none u) d m }

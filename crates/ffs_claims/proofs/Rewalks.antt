@@ -1,17 +1,16 @@
 -- How a second walk over an inode continues.
-use Rattle.std.proofs.Common.{◌≡◌, ◌≢◌, ◌≤◌, ℕ, replicate, ◌+◌, Bool, true, List, [], ◌∷◌, ◌++◌, map, Option, arith}
-use Rattle.std.proofs.{Common.{refl, ap, ◌∙◌, ◌<◌, ◌-◌, ◌^◌, Result, Ok}, lemmas.Bool.Decides.nat_tests}
-use Rattle.std.specs.List.{range_with_len}
+use Rattle.std.proofs.Common.{◌≡◌, ◌≢◌, ◌≤◌, ℕ, replicate, ◌+◌, Bool, true, List, [], ◌∷◌, ◌++◌, arith}
+use Rattle.std.proofs.{Common.{refl, ap, ◌∙◌, ◌<◌, ◌-◌, ◌^◌, Result, Ok}}
 use Rattle.ffs_volume.{proofs.ReplayLaws.{counted_same, gaps_seen}, specs.Blocks.BlockCheck.first_offer_lines}
-use Rattle.ffs_volume.specs.{Blocks.KeptOffers.offer_of, Encodings.Replay.{Replay, fresh_replay, is_replay_open}}
+use Rattle.ffs_volume.specs.{Encodings.Replay.{Replay, fresh_replay, is_replay_open}}
 use Rattle.ffs_volume.specs.Encodings.ReplayCounts.{seen_run, replayed_runs, replay_step_by_cut}
 use Rattle.ffs_volume.specs.{Messages.Kinds.Message, declared.{BlockMessage.BlockMessage, Inode.Inode, Layout.Layout}}
-use Rattle.ffs_volume.specs.declared.Step.{Step, TheVariants.{Run, Gap}}
+use Rattle.ffs_volume.specs.declared.Step.{Step, TheVariants.{Gap}}
 use Rattle.ffs_image.specs.Device.{Device}
 use Rattle.ffs_report.{proofs.Reporting.{reports_same, reports_knowing, of_says}, specs.Known.{IsContents, ForBytes}}
 use Rattle.ffs_report.specs.{PhaseOutcome.SaidOf, Progress.{Progress, Said}, declared.fault.RunFault.RunFault}
 use Rattle.ffs_maps.specs.Bits.{bits_of}
-use Rattle.ffs_walk.specs.{Keepings.{run_taken, replay_in}, Rests.steps_left, Windows.KeepsBlocks}
+use Rattle.ffs_walk.specs.{Keepings.{replay_in}, Rests.steps_left, Windows.KeepsBlocks}
 use Rattle.ffs_walk.specs.declared.{blocks.Blocks.Blocks, keeping.Keeping.Keeping, walk.Walk.Walk}
 use Rattle.ffs_workspace.specs.{Lengths.set_count, declared.workspace.{Windows.Windows, Workspace.Workspace}}
 use Rattle.ffs_layout.specs.declared.geometry.Geometry.{Geometry}
@@ -22,15 +21,6 @@ use Rattle.ffs_claims.{proofs.RescanCounts.{looked_none, looked_next, again_gaps
 use Rattle.ffs_claims.specs.{Reporting.{ReportsOnly, RewalkLeaves, after_first}, Rescan.step_offers_again}
 use Rattle.ffs_claims.specs.{Rescan.offers_again, RescanRuns.{Rewalks, RoseBy, Rewalked, runs_until_reported}}
 use Rattle.ffs_claims.specs.RescanRuns.{steps_runs_again, RunsPay, StepReported, Counted}
-
-pub open_first : (cut : ℕ) → is_replay_open cut fresh_replay ≡ true
-open_first cut = grind (arith, nat_tests)
-
--- the offers of a Run that is seen are as many as are taken
-pub offers_of_run : (v : Layout) (i cut : ℕ) (r : Replay) (start len : ℕ) (block : Option ℕ) {taken : ℕ} →
-    is_replay_open cut r ≡ true → taken ≡ run_taken v cut r start len →
-    step_offers_again v i cut r (Run start len block) ≡ map (offer_of i) (range_with_len start taken)
-offers_of_run v i cut r start len block seen count = rw (seen, count) refl
 
 offers_next : (v : Layout) (i cut : ℕ) (r r' : Replay) (step : Step) (R R' : List Step) → R ≡ step ∷ R' →
     r' ≡ replay_step_by_cut v cut r step →
@@ -68,7 +58,7 @@ pub record Rewalking (v : Layout) (i cut : ℕ) (all : List Step) (r : Replay) (
 pub rewalk_begins : {v : Layout} {i cut : ℕ} {all : List Step} {r : Replay} {R : List Step} {w : Workspace} →
     r ≡ fresh_replay → R ≡ all → Rewalking v i cut all r R w w
 rewalk_begins {w = w} e same = rw (e, same)
-    (record { reported = reporting_begins _ w; runs = omega arith; count = λ _. refl })
+    (record { reported = reporting_begins w w refl refl refl; runs = omega arith; count = λ _. refl })
 
 -- a step more
 pub rewalk_on : {v : Layout} {i cut : ℕ} {all : List Step} {step : Step} {k k' : Keeping} {R R' : List Step}
@@ -128,11 +118,12 @@ pub rewalked_from : {v : Layout} {i cut : ℕ} {all : List Step} {u w : Workspac
 rewalked_from {u = u} p = record { reported = reported_from u _ _ p.reported refl refl; count = p.count }
 
 -- an inode was read before, as the image gives it
-pub rewalks_from : {T : Type 0} {v : Layout} {n cut : ℕ} {d' d'' : Device} {a b : Progress} {u w : Workspace}
-    {windows : Windows} {r : Result T RunFault} (i : Inode) (d : Device) (inode : List ℕ → Inode) → d' ≡ d →
-    ForBytes (IsContents d.contents) (λ bytes. i ≡ inode bytes) →
-    Rewalks v n cut (λ _. i) d' d'' a b (record u { windows = windows }) w r → Rewalks v n cut inode d d'' a b u w r
-rewalks_from {T = T} {v = v} {n = n} {cut = cut} {d' = d'} {d'' = d''} {u = u} {r = r} i d inode e h p =
+pub rewalks_from : {T : Type 0} {v : Layout} {n cut reads now reads' : ℕ} {d' d'' : Device} {a b : Progress}
+    {u w : Workspace} {windows : Windows} {r : Result T RunFault} (i : Inode) (d : Device) (inode : List ℕ → Inode) →
+    d' ≡ d → ForBytes (IsContents d.contents) (λ bytes. i ≡ inode bytes) → now ≤ reads →
+    Rewalks v n cut (λ _. i) d' d'' now reads' a b (record u { windows = windows }) w r →
+    Rewalks v n cut inode d d'' reads reads' a b u w r
+rewalks_from {T = T} {v = v} {n = n} {cut = cut} {d' = d'} {d'' = d''} {u = u} {r = r} i d inode e h few p =
     let gives : ForBytes (IsContents d.contents) (IsContents d'.contents) = λ bytes t. ap (λ x. x.contents) e ∙ t in
     let image = image_from d'' r e p.left.image in
     let claims = claims_then (claims_still (claims_none u)) p.left.claims in
@@ -141,6 +132,7 @@ rewalks_from {T = T} {v = v} {n = n} {cut = cut} {d' = d'} {d'' = d''} {u = u} {
       rewalked = grind (arith, ok_where, rewalked_from);
       runs = grind arith;
       left = grind arith;
+      counted = grind arith;
     }
 
 -- a step more is reported

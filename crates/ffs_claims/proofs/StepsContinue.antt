@@ -1,33 +1,24 @@
 -- How offers, steps and inodes continue.
-use Rattle.std.proofs.Common.{◌≡◌, ℕ, zero, suc, ◌+◌, ◌-◌, ◌<◌, ◌≤◌, Bool, true, false, ◌==◌, List, [], ◌∷◌, ◌++◌}
-use Rattle.std.proofs.Common.{arith, rules, refl, ap, ◌∙◌, sym, replicate, ◌&&◌, not, if◌then◌else◌, inl, inr}
+use Rattle.std.proofs.Common.{◌≡◌, ℕ, zero, suc, ◌+◌, ◌-◌, ◌<◌, Bool, false, ◌==◌, List, [], ◌∷◌, ◌++◌, arith, rules}
+use Rattle.std.proofs.Common.{refl, ap, ◌∙◌, sym, replicate, ◌&&◌, not, if◌then◌else◌, inl, inr}
 use Rattle.std.{proofs.lemmas.{Bool.{cases_Bool, Decides.nat_tests}, List.map-append}, specs.Int.div_ceil}
 use Rattle.std.specs.List.{range_with_len}
-use Rattle.ffs_volume.{proofs.{Potentials.in_range_below, Sizes.no_blocks}, specs.Blocks.Claims.{Claims, is_open}}
-use Rattle.ffs_volume.specs.Blocks.Claims.{after_offer, after_offers, after_step, after_steps, offer_lines}
-use Rattle.ffs_volume.specs.Blocks.Claims.{lines_of_offers, step_lines, lines_of_steps, run_lines}
-use Rattle.ffs_volume.specs.Blocks.{Inodes.addresses_needed, Steps.{steps_of, steps_of_addresses, is_walked}}
-use Rattle.ffs_volume.specs.{Blocks.Steps.last_length_of, Disk.Areas.is_run_in_range, Messages.Kinds.Message}
-use Rattle.ffs_volume.specs.{Messages.Kinds.of_blocks, declared.{BlockMessage.BlockMessage, Inode.Inode, Layout.Layout}}
-use Rattle.ffs_volume.specs.declared.Step.{Step, TheVariants.Gap}
+use Rattle.ffs_volume.{proofs.Sizes.no_blocks, specs.Blocks.Claims.{Claims, is_open, after_offer, after_step}}
+use Rattle.ffs_volume.specs.Blocks.Claims.{after_steps, offer_lines, lines_of_offers, step_lines, lines_of_steps}
+use Rattle.ffs_volume.specs.Blocks.{Claims.run_lines, Inodes.addresses_needed, Steps.{steps_of, steps_of_addresses}}
+use Rattle.ffs_volume.specs.{Blocks.Steps.{is_walked, last_length_of}, Disk.Areas.is_run_in_range}
+use Rattle.ffs_volume.specs.{Messages.Kinds.{Message, of_blocks}, declared.{BlockMessage.BlockMessage, Inode.Inode}}
+use Rattle.ffs_volume.specs.declared.{Layout.Layout, Step.{Step, TheVariants.Gap}}
 use Rattle.ffs_report.proofs.{Reporting.{of_says, of_same}, Reports.{stopped_more, said_then, stopped_after}}
 use Rattle.ffs_report.specs.{Known.ForBytes, PhaseOutcome.SaidOf, Progress.{Progress, Said, Stopped}}
 use Rattle.ffs_walk.specs.{Rests.steps_left, declared.walk.Walk.Walk}
-use Rattle.ffs_claims.specs.Lines.{of_lines, has_dup_line, bad_lines}
+use Rattle.ffs_claims.specs.Lines.{of_lines, bad_lines}
 
 pub lines_append : (xs ys : List BlockMessage) → of_lines (xs ++ ys) ≡ of_lines xs ++ of_lines ys
 lines_append xs ys = map-append of_blocks xs ys
 
 pub range_more : (j n m : ℕ) → n ≡ m + 1 → range_with_len j n ≡ j ∷ range_with_len (j + 1) m
 range_more j n m e = rw e (search rules)
-
--- a dup offer is a fragment of the volume
-pub dup_below : (v : Layout) (s : Claims) (f : ℕ) → has_dup_line v s f ≡ true → f < v.size
-dup_below v s f e = let below = in_range_below v f in grind arith
-
--- an offer is kept at most once, and no Run is seen by it
-pub offer_kept : (v : Layout) (s s' : Claims) (f : ℕ) → s' ≡ after_offer v s f → s'.kept ≤ s.kept + 1
-offer_kept v s s' f now = rw now (grind arith)
 
 -- a Run from its first fragment on, and from a later one
 pub from_start : (start len : ℕ) → range_with_len start len ≡ range_with_len (start + 0) (len - 0)
@@ -38,13 +29,7 @@ pub range_next : (start len place f : ℕ) → place < len → f ≡ start + pla
     range_with_len (start + place) (len - place) ≡ f ∷ range_with_len (start + (place + 1)) (len - (place + 1))
 range_next start len place f h is_place = grind (arith, range_more)
 
--- the next offer of a Run is taken
-pub offers_after : (v : Layout) (s s' : Claims) (start len place f : ℕ) → place < len → f ≡ start + place →
-    s' ≡ after_offer v s f → after_offers v s (range_with_len (start + place) (len - place))
-    ≡ after_offers v s' (range_with_len (start + (place + 1)) (len - (place + 1)))
-offers_after v s s' start len place f h is_place now = grind (arith, range_next)
-
--- and reported
+-- the next offer of a Run is reported
 pub offers_more : (v : Layout) (inode : ℕ) (s s' : Claims) (start len place f : ℕ) → place < len → f ≡ start + place →
     s' ≡ after_offer v s f → of_lines (lines_of_offers v inode s (range_with_len (start + place) (len - place)))
     ≡ of_lines (offer_lines v inode s f)

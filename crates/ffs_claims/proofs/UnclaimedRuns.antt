@@ -19,16 +19,13 @@ quiet_more : {v : Layout} {s : Claims} (t : Claims) {u : Claims} {start len : �
 quiet_more {v = v} {s = s} t {start = start} {len = len} now silent more = grind arith
 
 -- a Run past the end of the volume: no fragment of it is in range, so they are only counted
-past_end : (v : Layout) (f : ℕ) → v.size ≤ f → is_fragment_in_range v f ≡ false
-unfolding is_fragment_in_range
-past_end v f past = grind (arith, nat_tests)
-
 pub only_kept : (v : Layout) (s : Claims) (start len : ℕ) → nat_lt s.dups 11 ≡ true → v.size ≤ start →
     IsQuiet v s start len (record s { kept = s.kept + len })
+unfolding is_fragment_in_range
 only_kept v s start zero few past =
     let sum : s.kept + 0 ≡ s.kept = omega arith in rw sum (record { claims = refl; silent = λ inode. refl })
 only_kept v s start (suc len) few past =
-    let out = past_end v start past in
+    let out : is_fragment_in_range v start ≡ false = grind (arith, nat_tests) in
     let sum : s.kept + suc len ≡ s.kept + 1 + len = omega arith in
     rw sum (quiet_more (record s { kept = s.kept + 1 }) (rw (few, out) refl) (λ inode. rw (few, out) refl)
     (only_kept v (record s { kept = s.kept + 1 }) (start + 1) len few (omega arith)))
@@ -108,14 +105,11 @@ pub record Lies (v : Layout) (start len : ℕ) : Type 0 where
   pub group : start + len ≤ cgbase v (start / v.fpg) + v.fpg
   pub before : start < cgdmin v (start / v.fpg) → start + len ≤ cgsblock v (start / v.fpg)
 
-base_below : (v : Layout) (start : ℕ) → cgbase v (start / v.fpg) ≤ start
-unfolding cgbase
-base_below v start = mul-div-le start v.fpg
-
 pub lies : (v : Layout) (start len : ℕ) → IsAcceptedLayout v → 0 < len → is_run_in_range v start len ≡ true
     → Lies v start len
+unfolding cgbase
 lies v start len g some fits =
     let apart : is_apart v start len ≡ true = sym (in_range_is v g start len some) ∙ fits in
-    let base = base_below v start in
+    let base : cgbase v (start / v.fpg) ≤ start = mul-div-le start v.fpg in
     let next = base_above v (start / v.fpg) in
     grind (arith, nat_tests)

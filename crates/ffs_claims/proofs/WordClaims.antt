@@ -8,8 +8,8 @@ use Rattle.ffs_maps.specs.Bits.{bits_of, AreClear, set_run}
 use Rattle.ffs_walk.specs.{Counts.EntersOnly, HeldWords.{PassesWord, next_address, word_step}, Rests.SameFileBlocks}
 use Rattle.ffs_walk.specs.{Rests.{most_steps_left, steps_left}, Windows.BlocksHold, declared.walk.Walk.Walk}
 use Rattle.ffs_workspace.specs.{Holds.claims_of, Lengths.IsFor, declared.workspace.Workspace.Workspace}
-use Rattle.ffs_claims.{proofs.{Frames.only_then, Inodes.moves_on, UnclaimedRuns.whole_is}, specs.Leaves.ClaimsOnly}
-use Rattle.ffs_claims.specs.SilentWords.{ClaimsSilently, ClaimsWords}
+use Rattle.ffs_claims.proofs.{Frames.only_then, Inodes.moves_on, UnclaimedRuns.whole_is}
+use Rattle.ffs_claims.specs.SilentWords.{ClaimsAddress, ClaimsSilently, ClaimsWords}
 
 -- a Run in range of which all fragments are unclaimed
 pub run_claims : {v : Layout} {old new : Workspace} (start block : ℕ) → is_open (claims_of old) ≡ true → start ≢ 0 →
@@ -26,35 +26,30 @@ run_claims {v = v} {old = old} start block uncut some fits clear now =
       silent = λ number. rw (is_run, uncut, fits) (whole.silent number);
     }
 
--- a word's step has a length
-word_length : (v : Layout) (address block : ℕ) → 0 < v.frag → HasLength v.frag (word_step v.frag address block)
-word_length v address block some =
-    cond_holds (HasLength v.frag) (nat_eq address 0) _ _ (λ _. tt) (λ _. (some, omega arith))
-
 -- one word
 pub words_once : {v : Layout} {a b : Workspace} {x y : Walk} {address : ℕ} → 0 < v.frag → v.frag ≤ 8 → IsFor v a →
     x.geometry.layout ≡ v → address ≡ next_address a.windows.blocks x → PassesWord a.windows.blocks x y →
-    ((block : ℕ) → ClaimsSilently v (word_step v.frag address block) a b) → is_open (claims_of b) ≡ true →
-    ClaimsOnly v a b → most_steps_left y < most_steps_left x → SameFileBlocks x y → a.runs_seen ≤ b.runs_seen →
-    EntersOnly x y 0 → ClaimsWords v a b x y
-words_once {v = v} {a = a} {b = b} {x = x} {y = y} {address = address} some small made layout is passes claims uncut
-    only
-    falls same rises counted =
+    ClaimsAddress v address a b → most_steps_left y < most_steps_left x → SameFileBlocks x y → EntersOnly x y 0 →
+    ClaimsWords v a b x y
+words_once {v = v} {a = a} {b = b} {x = x} {y = y} {address = address} some small made layout is passes did falls
+    same counted =
     let block = x.single.first + x.single.next in
     let step = word_step v.frag address block in
-    let now : claims_of b ≡ after_step v (claims_of a) step = (claims block).claims in
+    let silently = did.claims block in
+    let now : claims_of b ≡ after_step v (claims_of a) step = silently.claims in
     let next : (contents : Option (List ℕ)) → BlocksHold v contents a.windows.blocks →
     ForContents contents (λ bytes. steps_left bytes x ≡ step ∷ steps_left bytes y) = λ contents holds bytes e.
     rw (is, sym layout) (passes.steps contents (rw layout holds) bytes e) in
     record {
       claims = λ contents holds bytes e. rw (next contents holds bytes e, now) refl;
-      lines = λ contents holds bytes e number. grind arith;
-      uncut = uncut;
-      moves = moves_on step made small (word_length v address block some) now (stays (claims_of a));
-      only = only;
+      lines = λ contents holds bytes e number. let silent = silently.silent number in grind arith;
+      uncut = did.uncut;
+      moves = moves_on step made small (cond_holds (HasLength v.frag) (nat_eq address 0) _ _ (λ _. tt)
+          (λ _. (some, omega arith))) now (stays (claims_of a));
+      only = did.only;
       falls = omega (arith, falls);
       same = same;
-      rises = rises;
+      rises = did.rises;
       counted = counted;
     }
 

@@ -1,37 +1,67 @@
 -- What inodes ask for before they claim, and what they leave.
-use Rattle.std.specs.Prelude.{◌≡◌, ℕ, ◌+◌, ◌<◌, ◌≤◌, ◌^◌, Bool, true, List, Result, OnOk, IfOk}
-use Rattle.ffs_volume.specs.Blocks.{BlockCheck.owner_lines, Claims.Claims, Claims.after_owner, Claims.after_steps}
-use Rattle.ffs_volume.specs.Blocks.{Claims.is_open, Claims.lines_of_steps, Owners.Owner, Steps.steps_of}
-use Rattle.ffs_volume.specs.Laws.ClaimBounds.{used_bits, ClaimBound}
-use Rattle.ffs_volume.specs.declared.{BlockMessage.BlockMessage, Inode.Inode, Layout.Layout}
+use Rattle.std.specs.{List.range_with_len, Prelude.{◌≡◌, ℕ, ◌+◌, ◌<◌, ◌≤◌, ◌^◌, Bool, true, List, Result, OnOk, IfOk}}
+use Rattle.ffs_volume.specs.Blocks.{BlockCheck.owner_lines, Claims.{Claims, after_offer, after_offers, after_owner}}
+use Rattle.ffs_volume.specs.Blocks.Claims.{after_steps, is_open, lines_of_offers, lines_of_steps, no_claims}
+use Rattle.ffs_volume.specs.{Blocks.{Inodes.class_of, Owners.Owner, Steps.steps_of}, Disk.Areas.is_run_in_range}
+use Rattle.ffs_volume.specs.Laws.{ClaimBounds.{used_bits, ClaimBound}, RunLengths.HasLength}
+use Rattle.ffs_volume.specs.declared.{BlockMessage.BlockMessage, Class.Class, Inode.Inode, Layout.Layout, Step.Step}
 use Rattle.ffs_image.specs.Device.{Device}
-use Rattle.ffs_report.specs.{Known.ForBytes, Known.IsContents, PhaseOutcome.ImageAfter, PhaseOutcome.PhaseReports}
-use Rattle.ffs_report.specs.{Progress.Progress, Progress.Says, declared.fault.RunFault.RunFault}
-use Rattle.ffs_workspace.specs.{Holds.claims_of, Lengths.IsFor, Lengths.inodes_of, Ready.IsReady}
+use Rattle.ffs_report.specs.{Known.{ForBytes, IsContents}, PhaseOutcome.{ImageAfter, PhaseReports}, Progress.Progress}
+use Rattle.ffs_report.specs.{Progress.Says, declared.fault.RunFault.RunFault}
+use Rattle.ffs_layout.specs.declared.geometry.Geometry.{Geometry}
+use Rattle.ffs_workspace.specs.{Holds.{IsFresh, claims_of}, Lengths.{IsFor, inodes_of}, Ready.IsReady}
 use Rattle.ffs_workspace.specs.declared.workspace.Workspace.{Workspace}
-use Rattle.ffs_claims.specs.{Area.IsDataArea, Leaves.AreClaims, Leaves.ClaimsOnly, Leaves.SameFound, Lines.of_lines}
-use Rattle.ffs_claims.specs.declared.area.DataArea.{DataArea}
+use Rattle.ffs_claims.specs.{Area.IsDataArea, Leaves.{CanOffer, ClaimsOnly, HasBegun, OffersOnly, SameFound}}
+use Rattle.ffs_claims.specs.{Lines.of_lines, declared.{area.{DataArea.DataArea, Run.Run}, claim.Sweep.Sweep}}
+
+-- in a workspace as it was made just the reserved fragments are used then; no Run is seen yet, and
+-- the rest is as claiming leaves it
+pub record Reserves (v : Layout) (old new : Workspace) : Type 0 where
+  pub claims : IsFresh v old → claims_of new ≡ no_claims v
+  pub runs : new.runs_seen ≡ 0
+  pub only : ClaimsOnly v old new
 
 -- inodes can claim: the workspace is ready, and each Run that lies in the area is in range
 pub record CanClaim (v : Layout) (d : Device) (w : Workspace) (area : DataArea) : Type 0 where
   pub ready : IsReady v d w
   pub only_data : IsDataArea v area
 
--- an inode can claim: it has a number, and more Runs can be counted than inodes have. For the count
--- of Runs any bound far above `runs_limit`, and far below 2^64, serves
-pub record CanClaimInode (v : Layout) (d : Device) (w : Workspace) (area : DataArea) (number : ℕ) : Type 0 where
-  pub claim : CanClaim v d w area
-  pub number_fits : number < inodes_of v
+-- an inode can claim in a sweep: it has a number, the walk is over the volume, and more Runs can be
+-- counted than inodes have. Any bound far above `runs_limit`, and far below 2^64, serves for the count
+pub record CanClaimInode (g : Geometry) (d : Device) (w : Workspace) (sweep : Sweep) (number : ℕ) : Type 0 where
+  pub claim : CanClaim g.layout d w sweep.area
+  pub walk : sweep.walk.geometry ≡ g
+  pub number_fits : number < inodes_of g.layout
   pub runs : w.runs_seen < 2 ^ 40
 
+-- the steps of the current inode can claim: this is its class, the walk is over the volume, and the
+-- inode has no bad Run, no dup offer and no kept offer yet
+pub record CanClaimSteps (g : Geometry) (d : Device) (w : Workspace) (sweep : Sweep) (class : Class) (i : Inode)
+    : Type 0 where
+  pub class_is : class ≡ class_of g.layout i
+  pub claim : CanClaim g.layout d w sweep.area
+  pub walk : sweep.walk.geometry ≡ g
+  pub begun : HasBegun w
+
 -- the next step of an inode can be seen: the inode isn't cut, and there is room to count its
--- fragments and Runs. Any bounds far above `runs_limit`, and far below 2^64, serve
-pub record SeesNext (v : Layout) (w : Workspace) (area : DataArea) : Type 0 where
+-- fragments and Runs. Any bounds far above `runs_limit`, and far below 2^64, serve as `most`
+pub record SeesNext (v : Layout) (w : Workspace) (area : DataArea) (most : ℕ) : Type 0 where
   pub made : IsFor v w
   pub only_data : IsDataArea v area
   pub uncut : is_open (claims_of w) ≡ true
-  pub room : w.kept < 2 ^ 62
-  pub runs : w.runs_seen < 2 ^ 62
+  pub room : w.kept < most
+  pub runs : w.runs_seen < most
+
+-- a step can be seen as an inode's next one: it has a step's length
+pub record SeesStep (v : Layout) (w : Workspace) (area : DataArea) (step : Step) : Type 0 where
+  pub next : SeesNext v w area (2 ^ 62)
+  pub length : HasLength v.frag step
+
+-- the offers of a Run can be taken: the inode isn't cut, it can keep so many offers more, and these
+-- are in range if they are said to be
+pub record SeesOffers (v : Layout) (w : Workspace) (run : Run) (in_range : Bool) : Type 0 where
+  pub uncut : is_open (claims_of w) ≡ true
+  pub offer : CanOffer v w run.len in_range (is_run_in_range v run.start run.len)
 
 -- what claiming leaves of the workspace and of the area
 pub record ClaimsInArea (v : Layout) (old new : Workspace) (area : DataArea) : Type 0 where
@@ -53,40 +83,64 @@ pub record StepsLeave {T : Type 0} (v : Layout) (d d' : Device) (old new : Works
   pub moves : OnOk result (ClaimBound (claims_of old) (claims_of new))
   pub found : SameFound old new
 
--- what an inode leaves: the same, and the Runs of phase 1b as they were
-pub record InodeLeaves {T : Type 0} (v : Layout) (d d' : Device) (old new : Workspace) (area : DataArea)
-    (result : Result T RunFault) : Type 0 where
+-- what an inode leaves: the same but for what was found, and the Runs of phase 1b as they were. Each
+-- read is paid by a Run that is seen
+pub record InodeLeaves {T : Type 0} (g : Geometry) (d d' : Device) (reads reads' : ℕ) (old new : Workspace)
+    (sweep : Sweep) (result : Result T RunFault) : Type 0 where
   pub image : ImageAfter d d' result
-  pub claim : CanClaim v d' new area
-  pub bound : FewRuns v old new
+  pub claim : CanClaim g.layout d' new sweep.area
+  pub walk : sweep.walk.geometry ≡ g
+  pub bound : FewRuns g.layout old new
   pub moves : OnOk result (new.runs_seen + used_bits (claims_of old)
       ≤ old.runs_seen + used_bits (claims_of new) + 22)
   pub again : new.runs_again ≡ old.runs_again
+  pub counted : reads' + old.runs_seen ≤ reads + new.runs_seen
 
--- a step of an inode claims what it offers: these lines are said, the claims are these then, and
+-- an offer is taken: the claims are those after it, and the rest is as offers leave it
+pub record TakesOffer (v : Layout) (fragment : ℕ) (old new : Workspace) : Type 0 where
+  pub claims : claims_of new ≡ after_offer v (claims_of old) fragment
+  pub only : OffersOnly v old new
+
+-- the offers of a Run are taken, one after another: their lines are said, the claims are those after
+-- them, and the rest is as offers leave it
+pub record TakesOffers {T E : Type 0} (v : Layout) (number : ℕ) (run : Run) (progress progress' : Progress)
+    (old new : Workspace) (result : Result T E) : Type 0 where
+  pub said : Says progress progress'
+      (of_lines (lines_of_offers v number (claims_of old) (range_with_len run.start run.len))) result
+  pub claims : OnOk result (claims_of new ≡ after_offers v (claims_of old) (range_with_len run.start run.len))
+  pub only : OffersOnly v old new
+
+-- a step of an inode claims what it offers: these lines are said, the claims are these then, and the
+-- answer is whether the next step is seen. At least so many Runs and at most one is seen by it, and
 -- the rest is as claiming leaves it
-pub record ClaimsStep {E : Type 0} (v : Layout) (lines : List BlockMessage) (after : Claims)
+pub record ClaimsStep {E : Type 0} (v : Layout) (lines : List BlockMessage) (after : Claims) (least : ℕ)
     (progress progress' : Progress) (old new : Workspace) (area : DataArea) (result : Result Bool E) : Type 0 where
   pub said : Says progress progress' (of_lines lines) result
-  pub claims : IfOk result (AreClaims new after)
+  pub claims : OnOk result (claims_of new ≡ after)
+  pub seen : IfOk result (λ seen. seen ≡ is_open (claims_of new))
+  pub counted : old.runs_seen + least ≤ new.runs_seen
+  pub runs : new.runs_seen ≤ old.runs_seen + 1
   pub left : ClaimsInArea v old new area
 
--- the steps of an inode claim what they offer: their lines are reported, and the claims are those
--- after them
-pub record ClaimsSteps {T : Type 0} (v : Layout) (number : ℕ) (inode : Inode) (d d' : Device)
-    (progress progress' : Progress) (old new : Workspace) (area : DataArea) (result : Result T RunFault) : Type 0 where
+-- the steps of an inode claim what they offer: their lines are reported, the claims are those after
+-- them, the next inode can be walked over, and each read is paid by a Run that is seen
+pub record ClaimsSteps {T : Type 0} (g : Geometry) (number : ℕ) (inode : Inode) (d d' : Device) (reads reads' : ℕ)
+    (progress progress' : Progress) (old new : Workspace) (sweep : Sweep) (result : Result T RunFault) : Type 0 where
   pub text : PhaseReports (IsContents d.contents)
-      (λ bytes. of_lines (lines_of_steps v number (claims_of old) (steps_of v inode bytes))) progress progress' result
+      (λ bytes. of_lines (lines_of_steps g.layout number (claims_of old) (steps_of g.layout inode bytes)))
+      progress progress' result
   pub claims : OnOk result (ForBytes (IsContents d.contents) (λ bytes.
-      claims_of new ≡ after_steps v (claims_of old) (steps_of v inode bytes)))
-  pub left : StepsLeave v d d' old new area result
+      claims_of new ≡ after_steps g.layout (claims_of old) (steps_of g.layout inode bytes)))
+  pub left : StepsLeave g.layout d d' old new sweep.area result
+  pub walk : sweep.walk.geometry ≡ g
+  pub counted : reads' + old.runs_seen ≤ reads + new.runs_seen
 
 -- an inode claims as an owner of fragments: its lines are reported, and the claims are those after
 -- it
-pub record ClaimsOwner {T : Type 0} (v : Layout) (owner : List ℕ → Owner) (d d' : Device)
-    (progress progress' : Progress) (old new : Workspace) (area : DataArea) (result : Result T RunFault) : Type 0 where
-  pub text : PhaseReports (IsContents d.contents) (λ bytes. of_lines (owner_lines v (claims_of old) (owner bytes)))
-      progress progress' result
+pub record ClaimsOwner {T : Type 0} (g : Geometry) (owner : List ℕ → Owner) (d d' : Device) (reads reads' : ℕ)
+    (progress progress' : Progress) (old new : Workspace) (sweep : Sweep) (result : Result T RunFault) : Type 0 where
+  pub text : PhaseReports (IsContents d.contents)
+      (λ bytes. of_lines (owner_lines g.layout (claims_of old) (owner bytes))) progress progress' result
   pub claims : OnOk result (ForBytes (IsContents d.contents) (λ bytes.
-      claims_of new ≡ after_owner v (claims_of old) (owner bytes)))
-  pub left : InodeLeaves v d d' old new area result
+      claims_of new ≡ after_owner g.layout (claims_of old) (owner bytes)))
+  pub left : InodeLeaves g d d' reads reads' old new sweep result

@@ -1,10 +1,9 @@
 -- What calls leave of a workspace as it was.
 use Rattle.std.specs.Prelude.{◌≡◌, ◌+◌, ◌<◌, ◌≤◌, ◌^◌, ◌||◌, ℕ, Bool, IsTrue, true, min, slice_set, vec_len}
-use Rattle.ffs_volume.specs.Blocks.{Claims.Claims, Claims.is_open, Inodes.is_unknown}
-use Rattle.ffs_volume.specs.Encodings.{Kinds.kind_of, Links.start_of, Replay.cut_of}
+use Rattle.ffs_volume.specs.{Blocks.Inodes.is_unknown, Encodings.{Kinds.kind_of, Links.start_of, Replay.cut_of}}
 use Rattle.ffs_volume.specs.declared.{Class.Class, Inode.Inode, Layout.Layout}
-use Rattle.ffs_workspace.specs.Holds.{claims_of, has_blame}
-use Rattle.ffs_workspace.specs.{Lengths.IsFor, Notes.note_of, declared.workspace.Workspace.Workspace}
+use Rattle.ffs_workspace.specs.{Holds.{claims_of, has_blame}, Lengths.IsFor, Notes.note_of}
+use Rattle.ffs_workspace.specs.declared.workspace.Workspace.{Workspace}
 
 -- the current inode has no bad Run, no dup offer and no kept one yet, and there is room to count
 -- its Runs: any bound far above `runs_limit`, and far below 2^64, serves
@@ -14,20 +13,12 @@ pub record HasBegun (w : Workspace) : Type 0 where
   pub kept : w.kept ≡ 0
   pub runs : w.runs_seen < 2 ^ 61
 
--- the workspace was made for the volume, and the current inode can keep so many offers more
-pub record HasRoomForOffers (v : Layout) (w : Workspace) (more : ℕ) : Type 0 where
+-- the workspace was made for the volume, the current inode can keep so many offers more, and these
+-- are in range if they are said to be
+pub record CanOffer (v : Layout) (w : Workspace) (more : ℕ) (in_range fit : Bool) : Type 0 where
   pub made : IsFor v w
   pub room : w.kept + more ≤ 2 ^ 63
-
--- the current inode can keep so many offers more, and these are in range if they are said to be
-pub record CanOffer (v : Layout) (w : Workspace) (more : ℕ) (in_range fit : Bool) : Type 0 where
-  pub room : HasRoomForOffers v w more
   pub known : IsTrue in_range → fit ≡ true
-
--- the claims are these, and the answer is whether the inode's next step is seen
-pub record AreClaims (w : Workspace) (claims : Claims) (seen : Bool) : Type 0 where
-  pub claims_are : claims_of w ≡ claims
-  pub uncut : seen ≡ is_open (claims_of w)
 
 -- what was found of inodes is as it was, and the Runs of phase 1b
 pub record SameFound (old new : Workspace) : Type 0 where

@@ -1,13 +1,14 @@
 -- What phase 1b has reported, and what it leaves to report.
-use Rattle.std.specs.List.{list_any}
-use Rattle.std.specs.Prelude.{◌≡◌, ◌≢◌, ◌<◌, ℕ, Bool, Result, false, ◌||◌, if◌then◌else◌, List, [], ◌∷◌, slice_set}
-use Rattle.ffs_volume.specs.Blocks.{BlockCheck.blames, BlockCheck.first_offer_lines, Claims.is_set, KeptOffers.Offer}
+use Rattle.std.specs.{List.{list_any, range_with_len}, Prelude.{◌≡◌, ◌≢◌, ◌<◌, ℕ, Bool, Result, OnOk, false, ◌||◌}}
+use Rattle.std.specs.Prelude.{if◌then◌else◌, List, [], ◌∷◌, map, slice_set}
+use Rattle.ffs_volume.specs.Blocks.{BlockCheck.{blames, first_offer_lines}, Claims.is_set, KeptOffers.{Offer, offer_of}}
 use Rattle.ffs_volume.specs.declared.Layout.{Layout}
 use Rattle.ffs_image.specs.Device.{Device}
-use Rattle.ffs_report.specs.{PhaseOutcome.ImageAfter, declared.fault.RunFault.RunFault}
+use Rattle.ffs_report.specs.{PhaseOutcome.ImageAfter, Progress.{Progress, Says}, declared.fault.RunFault.RunFault}
 use Rattle.ffs_maps.specs.Bits.{bits_of}
 use Rattle.ffs_workspace.specs.{Holds.bool_at, Lengths.IsFor, Lengths.inodes_of, Lengths.set_count, Ready.IsReady}
 use Rattle.ffs_workspace.specs.declared.workspace.Workspace.{Workspace}
+use Rattle.ffs_claims.specs.Lines.{of_lines}
 
 -- the fragments whose first kept offer is still to be reported, after some offers
 abbrev pub after_first : List Bool → List Offer → List Bool
@@ -40,6 +41,15 @@ pub record ReportsOnly (v : Layout) (old new : Workspace) : Type 0 where
 pub record OffersReportedOnly (v : Layout) (old new : Workspace) : Type 0 where
   pub reporting : ReportsOnly v old new
   pub runs : new.runs_again ≡ old.runs_again
+
+-- the kept offers of a Run are gone over: those are reported that are the first of a fragment with a
+-- DUP line, and the rest is as reporting leaves it
+pub record ReportsRun {T E : Type 0} (v : Layout) (number start len : ℕ) (progress progress' : Progress)
+    (old new : Workspace) (result : Result T E) : Type 0 where
+  pub said : Says progress progress' (of_lines (first_offer_lines (bits_of old.duplicates)
+      (map (offer_of number) (range_with_len start len)))) result
+  pub reported : OnOk result (OffersReported (map (offer_of number) (range_with_len start len)) old new)
+  pub only : OffersReportedOnly v old new
 
 -- first kept offers of an inode can be reported: the workspace was made for the volume, and the
 -- inode has a number

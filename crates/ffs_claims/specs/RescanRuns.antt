@@ -1,21 +1,21 @@
 -- How many Runs phase 1b looks at: those that are seen, in order, until each fragment with a DUP
 -- line has its first kept offer reported.
 use Rattle.std.specs.{List.range_with_len, Prelude.{◌≡◌, ◌<◌, ◌≤◌, ℕ, ◌+◌, ◌-◌, ◌^◌, Bool, List, [], ◌∷◌, ◌++◌, ◌==◌}}
-use Rattle.std.specs.Prelude.{if◌then◌else◌, map, Result, OnOk}
+use Rattle.std.specs.Prelude.{if◌then◌else◌, map, Result, OnOk, true}
 use Rattle.ffs_volume.specs.Blocks.{BlockCheck.first_offer_lines, Claims.{Claims, no_claims, at_next_inode, is_open}}
 use Rattle.ffs_volume.specs.Blocks.{Claims.{after_step, after_owner, after_owners}, KeptOffers.{Offer, kept_in_run}}
 use Rattle.ffs_volume.specs.Blocks.{KeptOffers.offer_of, Owners.{Owner, owners_of}, Steps.steps_of}
 use Rattle.ffs_volume.specs.Encodings.{Replay.{Replay, is_replay_open, fresh_replay}, ReplayCounts.replayed_runs}
-use Rattle.ffs_volume.specs.{Encodings.ReplayCounts.replay_step_by_cut, declared.{Inode.Inode, Layout.Layout}}
-use Rattle.ffs_volume.specs.declared.Step.{Step, TheVariants.{Run, Tail, Gap}}
+use Rattle.ffs_volume.specs.{Encodings.ReplayCounts.{replay_step_by_cut, seen_run}, Laws.RunLengths.HasLength}
+use Rattle.ffs_volume.specs.declared.{Inode.Inode, Layout.Layout, Step.{Step, TheVariants.{Run, Tail, Gap}}}
 use Rattle.ffs_image.specs.Device.{Device}
-use Rattle.ffs_report.specs.{Known.{ForBytes, IsContents}, PhaseOutcome.PhaseReports, Progress.Progress}
+use Rattle.ffs_report.specs.{Known.{ForBytes, IsContents}, PhaseOutcome.PhaseReports, Progress.{Progress, Says}}
 use Rattle.ffs_report.specs.declared.fault.RunFault.{RunFault}
 use Rattle.ffs_maps.specs.Bits.{bits_of}
-use Rattle.ffs_walk.specs.{Keepings.{replay_in, run_taken}, declared.keeping.Keeping.Keeping}
+use Rattle.ffs_walk.specs.{Counts.entered, Keepings.{replay_in, run_taken}, declared.keeping.Keeping.Keeping}
 use Rattle.ffs_workspace.specs.{Lengths.set_count, declared.workspace.Workspace.Workspace}
-use Rattle.ffs_claims.specs.{Lines.of_lines, Reporting.{after_first, OffersReported, RewalkLeaves}, Rescan.offers_again}
-use Rattle.ffs_claims.specs.Rescan.{step_offers_again}
+use Rattle.ffs_claims.specs.{Lines.of_lines, Reporting.{after_first, CanReport, OffersReported, ReportsOnly}}
+use Rattle.ffs_claims.specs.{Reporting.RewalkLeaves, Rescan.{offers_again, step_offers_again}}
 
 -- the kept offers of each Run that is seen: of a step, of steps, and of inodes
 abbrev pub step_runs : Layout → ℕ → Claims → Step → List (List Offer)
@@ -77,6 +77,24 @@ pub record StepReported (v : Layout) (inode : ℕ) (step : Step) (k k' : Keeping
   pub next : replay_in k' ≡ replay_step_by_cut v k.cut (replay_in k) step
   pub cut : k'.cut ≡ k.cut
 
+-- a step of an inode can be gone over: first kept offers of the inode can be reported, the inode isn't
+-- cut before the step, and the step has a length
+pub record CanReportStep (v : Layout) (w : Workspace) (number : ℕ) (k : Keeping) (step : Step) : Type 0 where
+  pub can : CanReport v w number
+  pub going : is_replay_open k.cut (replay_in k) ≡ true
+  pub length : HasLength v.frag step
+
+-- a step of an inode is gone over: of the offers that it keeps those are reported that are the first
+-- of a fragment with a DUP line, its Run is counted, and the rest is as reporting leaves it
+pub record ReportsStep {T E : Type 0} (v : Layout) (inode : ℕ) (step : Step) (k k' : Keeping)
+    (progress progress' : Progress) (old new : Workspace) (result : Result T E) : Type 0 where
+  pub said : Says progress progress' (of_lines (first_offer_lines (bits_of old.duplicates)
+      (step_offers_again v inode k.cut (replay_in k) step))) result
+  pub reported : OnOk result (StepReported v inode step k k' old new)
+  pub runs : Counted old.runs_again new.runs_again (seen_run k.cut (replay_in k) step)
+  pub counted : new.runs_again < 2 ^ 64 - 1 → old.runs_again + entered step ≤ new.runs_again
+  pub only : ReportsOnly v old new
+
 -- an inode with this cut was walked over again: its kept offers were gone over, and its Runs were
 -- counted up to the one that reports the last fragment with a DUP line
 pub record Rewalked (v : Layout) (inode cut : ℕ) (steps : List Step) (old new : Workspace) : Type 0 where
@@ -85,9 +103,9 @@ pub record Rewalked (v : Layout) (inode cut : ℕ) (steps : List Step) (old new 
       (steps_runs_again v inode cut fresh_replay steps))
 
 -- an inode with this cut is walked over again: of its kept offers those are reported that are the
--- first of a fragment with a DUP line, and its Runs are counted
+-- first of a fragment with a DUP line, and its Runs are counted, which pay for the reads
 pub record Rewalks {T : Type 0} (v : Layout) (number cut : ℕ) (inode : List ℕ → Inode) (d d' : Device)
-    (progress progress' : Progress) (old new : Workspace) (result : Result T RunFault) : Type 0 where
+    (reads reads' : ℕ) (progress progress' : Progress) (old new : Workspace) (result : Result T RunFault) : Type 0 where
   pub text : PhaseReports (IsContents d.contents) (λ bytes. of_lines (first_offer_lines (bits_of old.duplicates)
       (offers_again v number cut fresh_replay (steps_of v (inode bytes) bytes)))) progress progress' result
   pub rewalked : OnOk result (ForBytes (IsContents d.contents) (λ bytes.
@@ -95,3 +113,4 @@ pub record Rewalks {T : Type 0} (v : Layout) (number cut : ℕ) (inode : List �
   pub runs : ForBytes (IsContents d.contents) (λ bytes.
       new.runs_again ≤ old.runs_again + replayed_runs v cut fresh_replay (steps_of v (inode bytes) bytes))
   pub left : RewalkLeaves v d d' old new result
+  pub counted : RunsPay reads reads' old.runs_again new.runs_again

@@ -1,26 +1,32 @@
 -- What the words of an indirect block claim with nothing to report.
-use Rattle.std.specs.Prelude.{◌≡◌, ℕ, ◌<◌, ◌≤◌, ◌^◌, true, List, [], Option}
+use Rattle.std.specs.Prelude.{◌≡◌, ℕ, ◌≤◌, ◌^◌, true, List, [], Option}
 use Rattle.ffs_volume.specs.Blocks.Claims.{after_step, after_steps, is_open, lines_of_steps, step_lines}
 use Rattle.ffs_volume.specs.{Laws.ClaimBounds.ClaimBound, declared.Layout.Layout, declared.Step.Step}
 use Rattle.ffs_image.specs.Device.{ForContents}
-use Rattle.ffs_walk.specs.{Counts.EntersOnly, Rests.SameFileBlocks, Rests.most_steps_left, Rests.steps_left}
+use Rattle.ffs_layout.specs.declared.geometry.Geometry.{Geometry}
+use Rattle.ffs_walk.specs.{Counts.EntersOnly, HeldWords.word_step, Rests.{SameFileBlocks, most_steps_left, steps_left}}
 use Rattle.ffs_walk.specs.{Windows.BlocksHold, declared.walk.Walk.Walk}
-use Rattle.ffs_workspace.specs.{Holds.claims_of, Lengths.IsFor, declared.workspace.Workspace.Workspace}
-use Rattle.ffs_claims.specs.{Area.IsDataArea, Leaves.ClaimsOnly, declared.area.DataArea.DataArea}
+use Rattle.ffs_workspace.specs.{Holds.claims_of, declared.workspace.Workspace.Workspace}
+use Rattle.ffs_claims.specs.{Claiming.SeesNext, Leaves.ClaimsOnly, declared.area.DataArea.DataArea}
 
--- a word of an inode can be seen: the inode isn't cut, and there is room to count its fragments and
--- Runs
-pub record SeesWord (v : Layout) (w : Workspace) (area : DataArea) : Type 0 where
-  pub made : IsFor v w
-  pub only_data : IsDataArea v area
-  pub uncut : is_open (claims_of w) ≡ true
-  pub room : w.kept < 2 ^ 63
-  pub runs : w.runs_seen < 2 ^ 63
+-- what the next words of an indirect block offer can be claimed: the inode's next step can be seen,
+-- and its walk is over the volume
+pub record CanClaimWords (g : Geometry) (w : Workspace) (area : DataArea) (walk : Walk) : Type 0 where
+  pub next : SeesNext g.layout w area (2 ^ 62)
+  pub geometry : walk.geometry ≡ g
 
 -- a step claims what it offers, and nothing is reported of it
 pub record ClaimsSilently (v : Layout) (step : Step) (old new : Workspace) : Type 0 where
   pub claims : claims_of new ≡ after_step v (claims_of old) step
   pub silent : (number : ℕ) → step_lines v number (claims_of old) step ≡ []
+
+-- the step of an address of an indirect block claims what it offers, wherever in the file it is:
+-- nothing is reported of it, and the inode isn't cut by it
+pub record ClaimsAddress (v : Layout) (address : ℕ) (old new : Workspace) : Type 0 where
+  pub claims : (block : ℕ) → ClaimsSilently v (word_step v.frag address block) old new
+  pub uncut : is_open (claims_of new) ≡ true
+  pub only : ClaimsOnly v old new
+  pub rises : old.runs_seen ≤ new.runs_seen
 
 -- a walk passes over steps that claim what they offer: what it has left means the same claims and
 -- lines as before

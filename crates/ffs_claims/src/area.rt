@@ -1,7 +1,7 @@
 //! Runs, and the data area: data fragments around the last Run that was in range.
 
-ghost use Rattle.std.specs.Prelude.{◌≡◌, ◌<◌, ◌↔◌, IsTrue, true, ℕ};
-ghost use Rattle.ffs_volume.specs.{Disk.Areas.is_run_in_range, declared.Layout.Layout};
+ghost use Rattle.std.specs.Prelude.{◌<◌, ◌↔◌, IsTrue};
+ghost use Rattle.ffs_volume.specs.declared.Layout.{Layout};
 
 use ffs_layout::Geometry;
 
@@ -10,8 +10,9 @@ use ffs_layout::Geometry;
 pub struct Run {
     /// The first fragment.
     pub start: u32,
-    /// How many fragments there are.
+    /// How many fragments there are: at least one.
     pub len: u32,
+    pub ghost some: { 0 < len },
 }
 
 /// Consecutive fragments, from `start` on and below `end`. Each Run that lies in them is in range.
@@ -24,7 +25,7 @@ pub struct DataArea {
 }
 
 impl DataArea {
-    ghost use Rattle.ffs_claims.specs.Area.{IsDataArea, HasRun};
+    ghost use Rattle.ffs_claims.specs.Area.{IsAreaAround, IsDataArea, FindsRun, HasRun};
 
     /// No fragments.
     pub fn empty() -> DataArea
@@ -37,10 +38,8 @@ impl DataArea {
     /// there, and else those after it.
     #[tactic(auto, using(ffs_volume::proofs::AreaLaws::group_below))]
     fn around(geometry: &Geometry, start: u32) -> DataArea
-        requires inside { start < geometry.now.layout.size }
-        ensures area { IsDataArea geometry.now.layout result }
-        ensures run { (len : ℕ) → 0 < len → is_run_in_range geometry.now.layout start len ≡ true
-            → HasRun result start len }
+        requires { start < geometry.now.layout.size }
+        ensures { IsAreaAround geometry.now.layout result start }
     {
         let group = start / geometry.layout.fpg;
         let base = geometry.cgbase(group);
@@ -72,9 +71,7 @@ impl DataArea {
     pub fn in_range(&mut self, geometry: &Geometry, start: u32, len: u32) -> bool
         requires some { 0 < len }
         requires area { IsDataArea geometry.now.layout self.old }
-        ensures value { result ≡ is_run_in_range geometry.now.layout start len }
-        ensures area { IsDataArea geometry.now.layout self.new }
-        ensures run { IsTrue result → HasRun self.new start len }
+        ensures { FindsRun geometry.now.layout self.new start len result }
     {
         if self.contains(start, len) {
             return true;

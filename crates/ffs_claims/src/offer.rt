@@ -1,14 +1,13 @@
 //! The offers of Runs, and what is reported of them.
 
-ghost use Rattle.std.specs.{List.range_with_len, Prelude.{◌≡◌, ◌+◌, ◌<◌, ◌≤◌, OnOk, IfOk, IsTrue, true}};
-ghost use Rattle.ffs_volume.specs.Blocks.Claims.{after_offer, after_offers, after_run, after_step, offer_lines};
-ghost use Rattle.ffs_volume.specs.Blocks.Claims.{lines_of_offers, run_lines, step_lines};
-ghost use Rattle.ffs_volume.specs.{Disk.Areas.{is_fragment_in_range, is_run_in_range}, Laws.RunLengths.HasLength};
+ghost use Rattle.std.specs.Prelude.{◌≡◌, ◌^◌, IfOk, IsTrue, false, true};
+ghost use Rattle.ffs_volume.specs.Blocks.Claims.{after_run, after_step, offer_lines, run_lines, step_lines};
+ghost use Rattle.ffs_volume.specs.Disk.Areas.{is_fragment_in_range, is_run_in_range};
 ghost use Rattle.ffs_report.specs.Progress.{progress, Says};
 ghost use Rattle.ffs_walk.specs.Counts.{entered};
 ghost use Rattle.ffs_workspace.specs.Holds.{claims_of};
-ghost use Rattle.ffs_claims.specs.{Claiming.{ClaimsStep, SeesNext}, Leaves.{AreClaims, CanOffer, HasRoomForOffers}};
-ghost use Rattle.ffs_claims.specs.{Leaves.OffersOnly, Lines.{of_lines, has_dup_line}};
+ghost use Rattle.ffs_claims.specs.Claiming.{ClaimsStep, SeesNext, SeesOffers, SeesStep, TakesOffer, TakesOffers};
+ghost use Rattle.ffs_claims.specs.{Leaves.CanOffer, Lines.{has_dup_line, of_lines}};
 ghost use Rattle.ffs_volume.specs.Blocks.Claims as claims;
 
 use crate::area::{DataArea, Run};
@@ -44,10 +43,8 @@ fn fragment_in_range(geometry: &Geometry, fragment: u64, in_range: bool) -> bool
 fn take(workspace: &mut Workspace, geometry: &Geometry, fragment: u64, in_range: bool) -> bool
     requires { CanOffer geometry.now.layout workspace.old 1 in_range
         (is_fragment_in_range geometry.now.layout fragment) }
-    ensures claims { claims_of workspace.new
-        ≡ after_offer geometry.now.layout (claims_of workspace.old) fragment }
+    ensures taken { TakesOffer geometry.now.layout fragment workspace.old workspace.new }
     ensures dup { result ≡ has_dup_line geometry.now.layout (claims_of workspace.old) fragment }
-    ensures only { OffersOnly geometry.now.layout workspace.old workspace.new }
 {
     if workspace.dups > MAXDUP {
         return false;
@@ -79,9 +76,7 @@ fn offer<W: Output>(
     ensures said { Says (progress W.sink report.old) (progress W.sink report.new)
         (of_lines (offer_lines geometry.now.layout number (claims_of workspace.old) fragment))
         result }
-    ensures claims { claims_of workspace.new
-        ≡ after_offer geometry.now.layout (claims_of workspace.old) fragment }
-    ensures only { OffersOnly geometry.now.layout workspace.old workspace.new }
+    ensures taken { TakesOffer geometry.now.layout fragment workspace.old workspace.new }
 {
     let is_eleventh = workspace.dups == MAXDUP;
     if !take(workspace, geometry, fragment, in_range) {
@@ -102,13 +97,8 @@ fn offers<W: Output>(
 ) -> Result<(), OutFault>
     requires { CanOffer geometry.now.layout workspace.old run.len in_range
         (is_run_in_range geometry.now.layout run.start run.len) }
-    ensures said { Says (progress W.sink report.old) (progress W.sink report.new)
-        (of_lines (lines_of_offers geometry.now.layout number (claims_of workspace.old)
-        (range_with_len run.start run.len))) result }
-    ensures claims { OnOk result (claims_of workspace.new
-        ≡ after_offers geometry.now.layout (claims_of workspace.old)
-        (range_with_len run.start run.len)) }
-    ensures only { OffersOnly geometry.now.layout workspace.old workspace.new }
+    ensures { TakesOffers geometry.now.layout number run (progress W.sink report.old)
+        (progress W.sink report.new) workspace.old workspace.new result }
 {
     for index in 0..run.len {
         offer(
@@ -132,17 +122,10 @@ fn run_in_range<W: Output>(
     run: Run,
     report: &mut Report<'_, W>,
 ) -> Result<bool, OutFault>
-    requires can { CanOffer geometry.now.layout workspace.old run.len true
-        (is_run_in_range geometry.now.layout run.start run.len) }
-    requires some { 0 < run.len }
-    requires open { claims.is_open (claims_of workspace.old) ≡ true }
-    ensures said { Says (progress W.sink report.old) (progress W.sink report.new)
-        (of_lines (lines_of_offers geometry.now.layout number (claims_of workspace.old)
-        (range_with_len run.start run.len))) result }
-    ensures claims { IfOk result (AreClaims workspace.new
-        (after_offers geometry.now.layout (claims_of workspace.old)
-        (range_with_len run.start run.len))) }
-    ensures only { OffersOnly geometry.now.layout workspace.old workspace.new }
+    requires { SeesOffers geometry.now.layout workspace.old run true }
+    ensures taken { TakesOffers geometry.now.layout number run (progress W.sink report.old)
+        (progress W.sink report.new) workspace.old workspace.new result }
+    ensures seen { IfOk result (λ seen. seen ≡ claims.is_open (claims_of workspace.new)) }
 {
     if workspace.used.claim(run.start, run.len) {
         workspace.kept += u64::from(run.len);
@@ -161,15 +144,9 @@ fn offers_of_bad_run<W: Output>(
     run: Run,
     report: &mut Report<'_, W>,
 ) -> Result<(), OutFault>
-    requires room { HasRoomForOffers geometry.now.layout workspace.old run.len }
-    requires uncut { workspace.old.dups ≤ MAXDUP }
-    ensures said { Says (progress W.sink report.old) (progress W.sink report.new)
-        (of_lines (lines_of_offers geometry.now.layout number (claims_of workspace.old)
-        (range_with_len run.start run.len))) result }
-    ensures claims { OnOk result (claims_of workspace.new
-        ≡ after_offers geometry.now.layout (claims_of workspace.old)
-        (range_with_len run.start run.len)) }
-    ensures only { OffersOnly geometry.now.layout workspace.old workspace.new }
+    requires { SeesOffers geometry.now.layout workspace.old run false }
+    ensures { TakesOffers geometry.now.layout number run (progress W.sink report.old)
+        (progress W.sink report.new) workspace.old workspace.new result }
 {
     if run.start >= geometry.layout.size {
         workspace.kept += u64::from(run.len);
@@ -187,14 +164,12 @@ fn run<W: Output>(
     run: Run,
     report: &mut Report<'_, W>,
 ) -> Result<bool, OutFault>
-    requires next { SeesNext geometry.now.layout workspace.old area.old }
-    requires some { 0 < run.len }
-    ensures claiming { ClaimsStep geometry.now.layout
+    requires { SeesNext geometry.now.layout workspace.old area.old (2 ^ 62) }
+    ensures { ClaimsStep geometry.now.layout
         (run_lines geometry.now.layout number (claims_of workspace.old) run.start run.len)
-        (after_run geometry.now.layout (claims_of workspace.old) run.start run.len)
+        (after_run geometry.now.layout (claims_of workspace.old) run.start run.len) 1
         (progress W.sink report.old) (progress W.sink report.new) workspace.old workspace.new
         area.new result }
-    ensures runs { workspace.new.runs_seen ≡ workspace.old.runs_seen + 1 }
 {
     workspace.runs_seen += 1;
     if area.in_range(geometry, run.start, run.len) {
@@ -222,15 +197,12 @@ pub fn step<W: Output>(
     step: Step,
     report: &mut Report<'_, W>,
 ) -> Result<bool, OutFault>
-    requires next { SeesNext geometry.now.layout workspace.old area.old }
-    requires length { HasLength geometry.now.layout.frag step }
-    ensures claiming { ClaimsStep geometry.now.layout
+    requires { SeesStep geometry.now.layout workspace.old area.old step }
+    ensures { ClaimsStep geometry.now.layout
         (step_lines geometry.now.layout number (claims_of workspace.old) step)
-        (after_step geometry.now.layout (claims_of workspace.old) step)
+        (after_step geometry.now.layout (claims_of workspace.old) step) (entered step)
         (progress W.sink report.old) (progress W.sink report.new) workspace.old workspace.new
         area.new result }
-    ensures runs { workspace.new.runs_seen ≤ workspace.old.runs_seen + 1 }
-    ensures counted { workspace.old.runs_seen + entered step ≤ workspace.new.runs_seen }
 {
     match step {
         Step::Run { start, len, .. } => {

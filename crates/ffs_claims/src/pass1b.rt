@@ -1,19 +1,12 @@
 //! Phase 1b: rescan for more dups (fsck(8)).
 
-ghost use Rattle.std.specs.Prelude.{◌≡◌, ◌+◌, ◌-◌, ◌*◌, ◌<◌, ◌≤◌, ◌^◌, ◌∷◌, OnOk, true, slice_index};
-ghost use Rattle.ffs_volume.specs.Blocks.{BlockCheck.{first_offer_lines, phase1b_lines}, Inodes.inode_of};
-ghost use Rattle.ffs_volume.specs.{Blocks.Owners.owners_of, Encodings.ReplayCounts.seen_run, Laws.RunLengths.HasLength};
-ghost use Rattle.ffs_volume.specs.Report.Whole.{run_count};
-ghost use Rattle.ffs_report.specs.{Known.ForBytes, PhaseOutcome.PhaseOutcome, Progress.{progress, Says}};
-ghost use Rattle.ffs_maps.specs.Bits.{bits_of};
-ghost use Rattle.ffs_walk.specs.{Counts.entered, Keepings.replay_in};
-ghost use Rattle.ffs_workspace.specs.{Found.WithPhase1, Holds.{HoldsClaims, HoldsStarts}, Notes.cut_in, Ready.IsReady};
-ghost use Rattle.ffs_claims.specs.{Lines.of_lines, Phases.{IsLeftByPhase1b, Phase1bReads}};
-ghost use Rattle.ffs_claims.specs.Reporting.{CanReport, CanRewalk, ReportsOnly};
-ghost use Rattle.ffs_claims.specs.{Rescan.step_offers_again, RescanRuns.{Counted, Rewalks, RunsPay, StepReported}};
-ghost use Rattle.ffs_claims.specs.RescanRuns.{rescan_runs};
+ghost use Rattle.std.specs.Prelude.{◌+◌, ◌∷◌, OnOk, slice_index};
+ghost use Rattle.ffs_volume.specs.Blocks.{BlockCheck.phase1b_lines, Inodes.inode_of, Owners.owners_of};
+ghost use Rattle.ffs_report.specs.{Known.ForBytes, PhaseOutcome.PhaseOutcome, Progress.progress};
+ghost use Rattle.ffs_workspace.specs.{Found.WithPhase1, Notes.cut_in, Ready.IsReady};
+ghost use Rattle.ffs_claims.specs.{Lines.of_lines, Phases.{IsLeftByPhase1b, Phase1bReads, RescanReads}};
+ghost use Rattle.ffs_claims.specs.{Reporting.CanRewalk, RescanRuns.{CanReportStep, ReportsStep, Rewalks}};
 ghost use Rattle.ffs_volume.specs.Messages.Kinds as messages;
-ghost use Rattle.ffs_volume.specs.Encodings.Replay as replays;
 
 use crate::report_offer::report_run;
 use ffs_image::{Image, LimitedImage};
@@ -33,20 +26,10 @@ fn report_again<W: Output>(
     step: Step,
     report: &mut Report<'_, W>,
 ) -> Result<(), OutFault>
-    requires can { CanReport geometry.now.layout workspace.old number }
-    requires going { replays.is_replay_open keeping.old.cut (replay_in keeping.old) ≡ true }
-    requires length { HasLength geometry.now.layout.frag step }
-    ensures said { Says (progress W.sink report.old) (progress W.sink report.new)
-        (of_lines (first_offer_lines (bits_of workspace.old.duplicates)
-        (step_offers_again geometry.now.layout number keeping.old.cut (replay_in keeping.old)
-        step))) result }
-    ensures reported { OnOk result (StepReported geometry.now.layout number step keeping.old
-        keeping.new workspace.old workspace.new) }
-    ensures runs { Counted workspace.old.runs_again workspace.new.runs_again
-        (seen_run keeping.old.cut (replay_in keeping.old) step) }
-    ensures counted { workspace.new.runs_again < 2 ^ 64 - 1
-        → workspace.old.runs_again + entered step ≤ workspace.new.runs_again }
-    ensures only { ReportsOnly geometry.now.layout workspace.old workspace.new }
+    requires { CanReportStep geometry.now.layout workspace.old number keeping.old step }
+    ensures { ReportsStep geometry.now.layout number step keeping.old keeping.new
+        (progress W.sink report.old) (progress W.sink report.new) workspace.old workspace.new
+        result }
 {
     match step {
         Step::Run { start, len, .. } => {
@@ -67,13 +50,12 @@ fn rewalk<I: Image, W: Output>(
     inode: &Inode,
     report: &mut Report<'_, W>,
 ) -> Result<(), RunFault>
-    requires can { CanRewalk geometry.now.layout (I.device image.old) workspace.old number }
-    ensures rewalks { Rewalks geometry.now.layout number
+    requires { CanRewalk geometry.now.layout (I.device image.old) workspace.old number }
+    ensures { Rewalks geometry.now.layout number
         (cut_in (slice_index workspace.old.notes.items number)) (λ _. inode.now)
-        (I.device image.old) (I.device image.new) (progress W.sink report.old)
-        (progress W.sink report.new) workspace.old workspace.new result }
-    ensures counted { RunsPay (I.reads image.old) (I.reads image.new) workspace.old.runs_again
-        workspace.new.runs_again }
+        (I.device image.old) (I.device image.new) (I.reads image.old) (I.reads image.new)
+        (progress W.sink report.old) (progress W.sink report.new) workspace.old workspace.new
+        result }
 {
     let cut = workspace.cut_of(number);
     let mut keeping = Keeping::start(cut);
@@ -101,14 +83,13 @@ fn rewalk_inode<I: Image, W: Output>(
     number: u32,
     report: &mut Report<'_, W>,
 ) -> Result<(), RunFault>
-    requires can { CanRewalk geometry.now.layout (I.device image.old) workspace.old number }
-    ensures rewalks { Rewalks geometry.now.layout number
+    requires { CanRewalk geometry.now.layout (I.device image.old) workspace.old number }
+    ensures { Rewalks geometry.now.layout number
         (cut_in (slice_index workspace.old.notes.items number))
         (λ bytes. inode_of geometry.now.layout bytes number) (I.device image.old)
-        (I.device image.new) (progress W.sink report.old) (progress W.sink report.new)
-        workspace.old workspace.new result }
-    ensures counted { RunsPay (I.reads image.old + 1) (I.reads image.new)
-        workspace.old.runs_again workspace.new.runs_again }
+        (I.device image.new) (I.reads image.old + 1) (I.reads image.new)
+        (progress W.sink report.old) (progress W.sink report.new) workspace.old workspace.new
+        result }
 {
     let inode = workspace.windows.table.inode(geometry, number, image)?;
     rewalk(geometry, image, workspace, number, &inode, report)
@@ -131,18 +112,11 @@ fn rescan_inodes<I: Image, W: Output>(
         (phase1b_lines geometry.now.layout (owners_of geometry.now.layout bytes)))
         (I.device image.old) (I.device image.new) (progress W.sink report.old)
         (progress W.sink report.new) result }
-    ensures holds { OnOk result (ForBytes
+    ensures leaves { OnOk result (ForBytes
         (WithPhase1 geometry.now.layout (I.device image.old) workspace.old)
-        (λ bytes. HoldsClaims geometry.now.layout bytes workspace.new
-        × HoldsStarts geometry.now.layout bytes workspace.new)) }
-    ensures runs { ForBytes (WithPhase1 geometry.now.layout (I.device image.old) workspace.old)
-        (λ bytes. workspace.new.runs_again ≤ run_count geometry.now.layout bytes) }
-    ensures count { OnOk result (ForBytes
-        (WithPhase1 geometry.now.layout (I.device image.old) workspace.old)
-        (λ bytes. workspace.new.runs_again ≡ rescan_runs geometry.now.layout bytes)) }
-    ensures reads { workspace.new.runs_again < 2 ^ 64 - 1 → I.reads image.new ≤ I.reads image.old
-        + geometry.now.layout.ncg * geometry.now.layout.ipg + workspace.new.runs_again }
-    ensures seen { workspace.new.runs_seen ≡ workspace.old.runs_seen }
+        (λ bytes. IsLeftByPhase1b geometry.now.layout bytes workspace.new)) }
+    ensures reads { RescanReads geometry.now.layout (I.device image.old) workspace.old
+        workspace.new (I.reads image.old) (I.reads image.new) }
     ensures ready { IsReady geometry.now.layout (I.device image.new) workspace.new }
 {
     workspace.runs_again = 0;

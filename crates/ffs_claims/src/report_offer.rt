@@ -1,10 +1,11 @@
 //! The first kept offers of fragments that have a DUP line, reported once each.
 
-ghost use Rattle.std.specs.{List.range_with_len, Prelude.{[], ◌∷◌, OnOk, map}};
+ghost use Rattle.std.specs.Prelude.{[], ◌∷◌};
 ghost use Rattle.ffs_volume.specs.Blocks.{BlockCheck.first_offer_lines, KeptOffers.offer_of};
 ghost use Rattle.ffs_report.specs.Progress.{progress, Says};
 ghost use Rattle.ffs_maps.specs.Bits.{bits_of};
-ghost use Rattle.ffs_claims.specs.{Lines.of_lines, Reporting.{CanReport, OffersReported, OffersReportedOnly}};
+ghost use Rattle.ffs_claims.specs.Lines.{of_lines};
+ghost use Rattle.ffs_claims.specs.Reporting.{CanReport, OffersReported, OffersReportedOnly, ReportsRun};
 
 use ffs_layout::Geometry;
 use ffs_report::{Line, OutFault, Output, Report};
@@ -56,14 +57,9 @@ pub fn report_run<W: Output>(
     len: u32,
     report: &mut Report<'_, W>,
 ) -> Result<(), OutFault>
-    requires can { CanReport geometry.now.layout workspace.old number }
-    ensures said { Says (progress W.sink report.old) (progress W.sink report.new)
-        (of_lines (first_offer_lines (bits_of workspace.old.duplicates)
-        (map (offer_of number) (range_with_len start len)))) result }
-    ensures reported { OnOk result (OffersReported
-        (map (offer_of number) (range_with_len start len))
-        workspace.old workspace.new) }
-    ensures only { OffersReportedOnly geometry.now.layout workspace.old workspace.new }
+    requires { CanReport geometry.now.layout workspace.old number }
+    ensures { ReportsRun geometry.now.layout number start len (progress W.sink report.old)
+        (progress W.sink report.new) workspace.old workspace.new result }
 {
     for index in 0..len {
         report_offer(

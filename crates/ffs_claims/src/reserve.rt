@@ -1,10 +1,10 @@
 //! The fragments that no inode may claim.
 
 ghost use Rattle.std.specs.Prelude.{◌≡◌, false, replicate};
-ghost use Rattle.ffs_volume.specs.Blocks.Claims.{no_claims, reserved_map};
+ghost use Rattle.ffs_volume.specs.Blocks.Claims.{reserved_map};
 ghost use Rattle.ffs_maps.specs.Bits.{bits_of};
-ghost use Rattle.ffs_workspace.specs.{Holds.claims_of, Holds.IsFresh, Lengths.IsFor};
-ghost use Rattle.ffs_claims.specs.Leaves.{ClaimsOnly};
+ghost use Rattle.ffs_workspace.specs.Lengths.{IsFor};
+ghost use Rattle.ffs_claims.specs.Claiming.{Reserves};
 
 use crate::store::begin;
 use ffs_layout::Geometry;
@@ -31,11 +31,8 @@ fn set_reserved(map: &mut FragmentMap, geometry: &Geometry)
 /// Sets the reserved fragments in the map `used`, and the count of Runs and all counts of the
 /// current inode to 0.
 pub fn reserve(workspace: &mut Workspace, geometry: &Geometry)
-    requires made { IsFor geometry.now.layout workspace.old }
-    ensures claims { IsFresh geometry.now.layout workspace.old → claims_of workspace.new
-        ≡ no_claims geometry.now.layout }
-    ensures runs { workspace.new.runs_seen ≡ 0 }
-    ensures only { ClaimsOnly geometry.now.layout workspace.old workspace.new }
+    requires { IsFor geometry.now.layout workspace.old }
+    ensures { Reserves geometry.now.layout workspace.old workspace.new }
 {
     begin(workspace);
     workspace.runs_seen = 0;

@@ -72,8 +72,7 @@ fn start_of(class: Class, inode: &Inode) -> u64
 #[inline(always)]
 fn store_note(list: &mut FilledList<u32>, number: usize, note: u32)
     requires { number < vec_len list.old }
-    ensures items { list.new.items ≡ slice_set list.old.items number note }
-    ensures len { vec_len list.new ≡ vec_len list.old }
+    ensures { list.new.items ≡ slice_set list.old.items number note }
 {
     if list[number] != note {
         list.set(number, note);
@@ -85,8 +84,7 @@ fn store_note(list: &mut FilledList<u32>, number: usize, note: u32)
 #[inline(always)]
 fn store_start(list: &mut FilledList<u64>, number: usize, start: u64)
     requires { number < vec_len list.old }
-    ensures items { list.new.items ≡ slice_set list.old.items number start }
-    ensures len { vec_len list.new ≡ vec_len list.old }
+    ensures { list.new.items ≡ slice_set list.old.items number start }
 {
     if list[number] != start {
         list.set(number, start);

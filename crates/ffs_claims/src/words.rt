@@ -1,11 +1,8 @@
 //! The words of an indirect block that are claimed with nothing to report.
 
-ghost use Rattle.std.specs.Prelude.{◌≡◌, ◌≤◌, false, true, IsTrue, ℕ};
-ghost use Rattle.ffs_volume.specs.Blocks.Claims.{is_open};
-ghost use Rattle.ffs_walk.specs.HeldWords.{IsInHeldBlock, word_step};
-ghost use Rattle.ffs_workspace.specs.Holds.{claims_of};
-ghost use Rattle.ffs_claims.specs.{Claiming.SeesNext, Leaves.ClaimsOnly};
-ghost use Rattle.ffs_claims.specs.SilentWords.{ClaimsSilently, ClaimsWords, SeesWord};
+ghost use Rattle.std.specs.Prelude.{◌≡◌, ◌^◌, false, IsTrue};
+ghost use Rattle.ffs_walk.specs.HeldWords.{IsInHeldBlock};
+ghost use Rattle.ffs_claims.specs.{Claiming.SeesNext, SilentWords.{CanClaimWords, ClaimsAddress, ClaimsWords}};
 
 use crate::area::DataArea;
 use ffs_layout::Geometry;
@@ -22,13 +19,10 @@ fn claim_address(
     area: &DataArea,
     address: u32,
 ) -> bool
-    requires { SeesWord geometry.now.layout workspace.old area.now }
-    ensures claims { IsTrue result → (block : ℕ) → ClaimsSilently geometry.now.layout
-        (word_step geometry.now.layout.frag address block) workspace.old workspace.new }
+    requires { SeesNext geometry.now.layout workspace.old area.now (2 ^ 63) }
+    ensures claimed { IsTrue result
+        → ClaimsAddress geometry.now.layout address workspace.old workspace.new }
     ensures kept { result ≡ false → workspace.new ≡ workspace.old }
-    ensures uncut { is_open (claims_of workspace.new) ≡ true }
-    ensures only { ClaimsOnly geometry.now.layout workspace.old workspace.new }
-    ensures rises { workspace.old.runs_seen ≤ workspace.new.runs_seen }
 {
     if address == 0 {
         return true;
@@ -54,8 +48,7 @@ fn claim_held_words(
     area: &DataArea,
     walk: &mut Walk,
 )
-    requires next { SeesNext geometry.now.layout workspace.old area.now }
-    requires geometry { walk.old.geometry ≡ geometry.now }
+    requires can { CanClaimWords geometry.now workspace.old area.now walk.old }
     requires held { IsInHeldBlock workspace.old.windows.blocks walk.old }
     ensures { ClaimsWords geometry.now.layout workspace.old workspace.new walk.old walk.new }
 {
@@ -75,8 +68,7 @@ fn claim_held_words(
 /// that the steps of these words would leave.
 #[inline(always)]
 pub fn claim_words(workspace: &mut Workspace, geometry: &Geometry, area: &DataArea, walk: &mut Walk)
-    requires next { SeesNext geometry.now.layout workspace.old area.now }
-    requires geometry { walk.old.geometry ≡ geometry.now }
+    requires { CanClaimWords geometry.now workspace.old area.now walk.old }
     ensures { ClaimsWords geometry.now.layout workspace.old workspace.new walk.old walk.new }
 {
     if walk.is_in_held_block(&workspace.windows.blocks) {

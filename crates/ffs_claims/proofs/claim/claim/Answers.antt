@@ -12,27 +12,29 @@ use Rattle.ffs_claims.proofs.StepsContinue.{gaps_over, claims_on, lines_on, step
 use Rattle.ffs_claims.{proofs.claim.claim.Goals.{in-Gap, in_default-matches}, specs.Lines.of_lines}
 use Rattle.ffs_claims.proofs.claim.claim.Goals as goal
 
-pub returns-then-not-has_steps-clause-claiming : goal.returns-then-not-has_steps-clause-claiming
-returns-then-not-has_steps-clause-claiming g c =
+pub returns-then-not-has_steps : goal.returns-then-not-has_steps
+returns-then-not-has_steps g c =
     let v = c.args.geometry.now.layout in
     let s = claims_of c.args.workspace.now in
     let none = λ (bytes : List ℕ). without_steps v c.args.claimant.now.inode.now bytes
     (omega (arith, c.args.geometry.now.sound.sizes.bsize_low))
-    (sym (c.has_steps.ensures c.requires.class) ∙ c.if-not-has_steps.true) in
+    (sym (c.has_steps.ensures c.requires.class_is) ∙ c.if-not-has_steps.true) in
     record {
       text = says_none
           (λ bytes t. ap (λ xs. of_lines (lines_of_steps v c.args.claimant.now.number s xs)) (none bytes));
       claims = λ bytes t. sym (ap (after_steps v s) (none bytes));
-      left = claiming_none c.requires.ready;
+      left = claiming_none c.requires.claim;
+      walk = c.requires.walk;
+      counted = omega arith;
     }
 
 pub loop-next-init : goal.loop-next-init
 loop-next-init g c =
     let v = c.args.geometry.now.layout in
     let s = claims_of c.args.workspace.now in
-    let walk = rw c.requires.walk at c.restart.ensures.walk c.requires.class in
+    let walk = rw c.requires.walk at c.restart.ensures.walk c.requires.class_is in
     record {
-      left = claiming_none c.requires.ready;
+      left = claiming_none c.requires.claim;
       open_still = rw (c.requires.begun.bad, c.requires.begun.dups) refl;
       geometry = c.restart.ensures.geometry ∙ c.requires.walk;
       held = top_held c.restart.new.self c.restart.ensures.top _;
@@ -45,8 +47,8 @@ loop-next-init g c =
 pub next-requires : goal.next-requires
 next-requires g c = can_walk c.loop-next.invariant.geometry c.loop-next.invariant.left.claim.ready
 
-pub returns-in_err-next-clause-claiming : goal.returns-in_err-next-clause-claiming
-returns-in_err-next-clause-claiming g c =
+pub returns-in_err-next : goal.returns-in_err-next
+returns-in_err-next g c =
     let p = err_from_is_err_and c.from_residual.result c.from_residual.ensures.1 in
     let inv = c.loop-next.invariant in
     let err = c.in_err-next.ensures.leaves.read in
@@ -56,17 +58,22 @@ returns-in_err-next-clause-claiming g c =
       text = of_reads _ _ _ _ _ inv.said;
       claims = tt;
       left = grind arith;
+      walk = c.next.ensures.same.geometry ∙ inv.geometry;
+      counted = omega (arith, inv.counted, (c.in_err-next.ensures.counted inv.held).most);
     })
 
-pub step-requires-clause-next : goal.step-requires-clause-next
-step-requires-clause-next g c =
+pub step-requires : goal.step-requires
+step-requires g c =
     let inv = c.loop-next.invariant in
     let read = claiming_walked c.in_ok-next.ensures.leaves.read inv.geometry c.next.ensures.leaves.kept inv.left in
-    sees_next c.args.geometry.now.sound c.requires.begun read.claim.ready.made read.claim.only_data inv.open_still
-    read.moves
+    record {
+      next = sees_next c.args.geometry.now.sound c.requires.begun read.claim.ready.made read.claim.only_data
+          inv.open_still read.moves;
+      length = (rw (inv.geometry, c.in-Some.is) at c.in_ok-next.ensures.step.fits).length;
+    }
 
-pub returns-in_err-seen-clause-claiming : goal.returns-in_err-seen-clause-claiming
-returns-in_err-seen-clause-claiming g c =
+pub returns-in_err-seen : goal.returns-in_err-seen
+returns-in_err-seen g c =
     let p = err_from_is_err_and c.from_residual-in_err-seen.result c.from_residual-in_err-seen.ensures.1 in
     let inv = c.loop-next.invariant in
     let v = c.args.geometry.now.layout in
@@ -74,11 +81,14 @@ returns-in_err-seen-clause-claiming g c =
     let read = claiming_walked c.in_ok-next.ensures.leaves.read inv.geometry c.next.ensures.leaves.kept inv.left in
     let next = rw (inv.left.image, c.in-Some.is) at c.in_ok-next.ensures.step.steps in
     let few = seen_bound c.args.workspace.now read.claim.ready.made inv.open_still read.moves in
+    let paid = rw c.in-Some.is at (c.in_ok-next.ensures.counted inv.held).paid in
     rw (p.1, p.2) (record {
       text = of_stops _ _ _ _ _ _ _ _ inv.said (lines_on v _ s _ c.loop-next.sweep.walk c.next.new.self
-          c.in-Some.next next refl) c.in_err-seen.ensures.claiming.said;
+          c.in-Some.next next refl) c.in_err-seen.ensures.said;
       claims = tt;
-      left = claiming_on read.image c.step.ensures.claiming.left (omega (arith, c.step.ensures.runs)) tt read;
+      left = claiming_on read.image c.step.ensures.left (omega (arith, c.step.ensures.runs)) tt read;
+      walk = c.in_ok-next.ensures.same.geometry ∙ inv.geometry;
+      counted = omega (arith, paid, inv.counted, c.step.ensures.counted);
     })
 
 pub loop-next-preserved-then-matches : goal.loop-next-preserved-then-matches
@@ -115,15 +125,18 @@ loop-next-preserved-then-matches g c =
           ∙ ap of_lines (gaps_over v c.args.claimant.now.number s c.skip_gaps.result (rest bytes)).1);
     }
 
-pub claim_words-requires-clause-next : goal.claim_words-requires-clause-next
-claim_words-requires-clause-next g c =
+pub claim_words-requires : goal.claim_words-requires
+claim_words-requires g c =
     let inv = c.loop-next.invariant in
     let sound = c.args.geometry.now.sound in
-    let left = c.step.ensures.claiming.left in
-    let now = c.in_ok-seen.ensures.claiming.claims in
-    sees_next sound c.requires.begun left.only.made left.only_data (sym now.uncut ∙ c.if-not-seen.false)
-    (moves_on c.in-Some.next inv.left.claim.ready.made sound.sizes.frag_high
-    (rw (inv.geometry, c.in-Some.is) at c.in_ok-next.ensures.step.fits).length now.claims_are inv.left.moves)
+    let left = c.step.ensures.left in
+    let now = c.in_ok-seen.ensures in
+    record {
+      next = sees_next sound c.requires.begun left.only.made left.only_data (sym now.seen ∙ c.if-not-seen.false)
+          (moves_on c.in-Some.next inv.left.claim.ready.made sound.sizes.frag_high
+          (rw (inv.geometry, c.in-Some.is) at c.in_ok-next.ensures.step.fits).length now.claims inv.left.moves);
+      geometry = c.in_ok-next.ensures.same.geometry ∙ inv.geometry;
+    }
 
 pub loop-next-preserved : goal.loop-next-preserved
 loop-next-preserved g c =
@@ -136,8 +149,8 @@ loop-next-preserved g c =
     let words = c.claim_words.ensures in
     let reads = c.in_ok-next.ensures.counted inv.held in
     let paid = rw c.in-Some.is at reads.paid in
-    let left = c.step.ensures.claiming.left in
-    let now = c.in_ok-seen.ensures.claiming.claims.claims_are in
+    let left = c.step.ensures.left in
+    let now = c.in_ok-seen.ensures.claims in
     let claimed = ready_still left.only.made left.only.windows read.claim.ready in
     let moves = moves_then _ (claims_of c.step.new.workspace) _
     (moves_on c.in-Some.next inv.left.claim.ready.made c.args.geometry.now.sound.sizes.frag_high
@@ -155,35 +168,38 @@ loop-next-preserved g c =
           (λ bytes t. sym (words.claims image claimed.windows.blocks bytes (gives ∙ t)));
       said = steps_said v n s (claims_of c.step.new.workspace) c.loop-next.sweep.walk c.next.new.self _ c.in-Some.next
           inv.said next now (λ bytes t. sym (words.lines image claimed.windows.blocks bytes (gives ∙ t) n))
-          c.in_ok-seen.ensures.claiming.said;
+          c.in_ok-seen.ensures.said;
     }
 
-pub returns-then-not-seen-clause-claiming : goal.returns-then-not-seen-clause-claiming
-returns-then-not-seen-clause-claiming g c =
+pub returns-then-not-seen : goal.returns-then-not-seen
+returns-then-not-seen g c =
     let inv = c.loop-next.invariant in
     let v = c.args.geometry.now.layout in
     let s = claims_of c.loop-next.workspace in
     let s' = claims_of c.step.new.workspace in
     let n = c.args.claimant.now.number in
     let read = claiming_walked c.in_ok-next.ensures.leaves.read inv.geometry c.next.ensures.leaves.kept inv.left in
-    let now = c.in_ok-seen.ensures.claiming.claims in
+    let now = c.in_ok-seen.ensures in
     let few = seen_bound c.args.workspace.now read.claim.ready.made inv.open_still read.moves in
-    let cut : is_open s' ≡ false = sym now.uncut ∙ c.if-not-seen.true in
+    let cut : is_open s' ≡ false = sym now.seen ∙ c.if-not-seen.true in
     let next = rw (inv.left.image, c.in-Some.is) at c.in_ok-next.ensures.step.steps in
+    let paid = rw c.in-Some.is at (c.in_ok-next.ensures.counted inv.held).paid in
     record {
       text = steps_said v n s s' c.loop-next.sweep.walk c.next.new.self (λ bytes. []) c.in-Some.next inv.said next
-          now.claims_are (λ bytes t. (cut_over v n s' (steps_left bytes c.next.new.self) cut).1)
-          c.in_ok-seen.ensures.claiming.said;
-      claims = claims_on v s c.loop-next.sweep.walk c.next.new.self (λ bytes. s') c.in-Some.next next now.claims_are
+          now.claims (λ bytes t. (cut_over v n s' (steps_left bytes c.next.new.self) cut).1)
+          c.in_ok-seen.ensures.said;
+      claims = claims_on v s c.loop-next.sweep.walk c.next.new.self (λ bytes. s') c.in-Some.next next now.claims
           inv.claims (λ bytes t. (cut_over v n s' (steps_left bytes c.next.new.self) cut).0);
-      left = claiming_on read.image c.step.ensures.claiming.left (omega (arith, c.step.ensures.runs))
+      left = claiming_on read.image c.step.ensures.left (omega (arith, c.step.ensures.runs))
           (moves_on c.in-Some.next inv.left.claim.ready.made c.args.geometry.now.sound.sizes.frag_high
-          (rw (inv.geometry, c.in-Some.is) at c.in_ok-next.ensures.step.fits).length now.claims_are inv.left.moves)
+          (rw (inv.geometry, c.in-Some.is) at c.in_ok-next.ensures.step.fits).length now.claims inv.left.moves)
           read;
+      walk = c.in_ok-next.ensures.same.geometry ∙ inv.geometry;
+      counted = omega (arith, paid, inv.counted, c.step.ensures.counted);
     }
 
-pub returns-in_default-clause-claiming : goal.returns-in_default-clause-claiming
-returns-in_default-clause-claiming g c =
+pub returns-in_default : goal.returns-in_default
+returns-in_default g c =
     let inv = c.loop-next.invariant in
     let v = c.args.geometry.now.layout in
     let s = claims_of c.loop-next.workspace in
@@ -193,4 +209,6 @@ returns-in_default-clause-claiming g c =
           (λ bytes t. ap (λ xs. of_lines (lines_of_steps v c.args.claimant.now.number s xs)) (over bytes t));
       claims = λ bytes t. sym (ap (after_steps v s) (over bytes t)) ∙ inv.claims bytes t;
       left = claiming_walked c.in_ok-next.ensures.leaves.read inv.geometry c.next.ensures.leaves.kept inv.left;
+      walk = c.in_ok-next.ensures.same.geometry ∙ inv.geometry;
+      counted = omega (arith, rw c.in_default.is at (c.in_ok-next.ensures.counted inv.held).paid, inv.counted);
     }

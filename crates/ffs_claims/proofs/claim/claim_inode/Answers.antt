@@ -4,24 +4,23 @@ use Rattle.ffs_volume.{specs.declared.Inode.Inode, proofs.Results.on_ok as ok_th
 use Rattle.ffs_report.{proofs.Reporting.{reads_first, reports_same, reports_knowing}, specs.Known.ForBytes}
 use Rattle.ffs_report.specs.Known.{IsContents}
 use Rattle.ffs_workspace.{proofs.Readiness.ready_table, specs.Holds.claims_of}
-use Rattle.ffs_claims.{proofs.Inodes.{owner_is, ok_where, used_below}, specs.{Leaves.Stored, Lines.of_lines}}
-use Rattle.ffs_claims.specs.Lines.{owner_with}
+use Rattle.ffs_claims.{proofs.Inodes.{ok_where, used_below}, specs.{Leaves.Stored, Lines.{of_lines, owner_with}}}
 use Rattle.ffs_claims.proofs.claim.claim_inode.Goals as goal
 
-pub claim_read_inode-requires-clause-ready : goal.claim_read_inode-requires-clause-ready
-claim_read_inode-requires-clause-ready g c =
+pub claim_read_inode-requires-clause-can : goal.claim_read_inode-requires-clause-can
+claim_read_inode-requires-clause-can g c =
     let ok = c.in_ok-inode.ensures.reads.read in
     let ready = ready_table c.args.geometry.now.layout (g.I.Image.device c.args.image.now)
     (g.I.Image.device c.inode.new.image) c.args.workspace.now c.inode.new.self (ap (λ d. d.contents) ok)
-    (ap (λ d. d.size) ok) c.inode.ensures.reads.kept c.requires.ready.claim.ready in
+    (ap (λ d. d.size) ok) c.inode.ensures.reads.kept c.requires.claim.ready in
     grind arith
 
-pub returns-in_err-inode-clause-claiming : goal.returns-in_err-inode-clause-claiming
-returns-in_err-inode-clause-claiming g c =
+pub returns-in_err-inode-clause-claims : goal.returns-in_err-inode-clause-claims
+returns-in_err-inode-clause-claims g c =
     let p = err_from_is_err_and c.from_residual.result c.from_residual.ensures.1 in
     let v = c.args.geometry.now.layout in
     let err = c.in_err-inode.ensures.reads.read in
-    let can = c.requires.ready.claim in
+    let can = c.requires.claim in
     let few = used_below can.ready.made in
     let ready = ready_table v (g.I.Image.device c.args.image.now) (g.I.Image.device c.inode.new.image)
     c.args.workspace.now c.inode.new.self err.contents err.size c.inode.ensures.reads.kept can.ready in
@@ -31,8 +30,9 @@ returns-in_err-inode-clause-claiming g c =
       left = grind arith;
     })
 
-pub returns-clause-claiming : goal.returns-clause-claiming
-returns-clause-claiming g c =
+pub returns-clause-claims : goal.returns-clause-claims
+unfolding owner_of
+returns-clause-claims g c =
     let v = c.args.geometry.now.layout in
     let s = claims_of c.args.workspace.now in
     let n = c.args.number in
@@ -40,8 +40,8 @@ returns-clause-claiming g c =
     let gives = ap (λ d. d.contents) c.in_ok-inode.ensures.reads.read in
     let owner : ForBytes (IsContents (g.I.Image.device c.args.image.now).contents)
     (λ bytes. owner_with v bytes n i ≡ owner_of v bytes n) =
-    λ bytes t. owner_is v bytes n i (c.in_ok-inode.ensures.reads.inode bytes t) in
-    let did = c.claim_read_inode.ensures.claiming in
+    λ bytes t. ap (λ x. owner_with v bytes n x) (c.in_ok-inode.ensures.reads.inode bytes t) in
+    let did = c.claim_read_inode.ensures.claims in
     let image = rw (c.in_ok-inode.ensures.reads.read) at did.left.image in
     record {
       text = reports_same (Unit {0}) _ _ _ _ _ c.claim_read_inode.result

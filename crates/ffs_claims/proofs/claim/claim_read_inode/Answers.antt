@@ -1,35 +1,40 @@
 use Rattle.std.proofs.{Common.{arith, refl, [], ap, ◌∙◌, ◌≡◌, sym}, lemmas.Result.err_from_is_err_and}
-use Rattle.ffs_volume.{proofs.Potentials.kept_bound, specs.Blocks.{Claims.after_steps, Steps.steps_of}}
+use Rattle.ffs_volume.{proofs.Potentials.kept_bound, specs.Blocks.{Claims.{after_steps, at_next_inode}, Steps.steps_of}}
 use Rattle.ffs_volume.specs.declared.Class.TheVariants.{Free}
 use Rattle.ffs_report.proofs.Reporting.{of_fault, of_says, of_stops, says_none}
 use Rattle.ffs_maps.proofs.Bits.{bits_long}
 use Rattle.ffs_workspace.specs.Holds.{claims_of}
 use Rattle.ffs_claims.proofs.{Frames.{ready_begun, ready_stored}, Inodes.{begun, begun_runs, stored_runs}}
-use Rattle.ffs_claims.proofs.Inodes.{steps_reported, class_said, class_stopped, free_claims, free_silent, used_below}
-use Rattle.ffs_claims.{proofs.claim.claim_read_inode.Goals.{in-Free, in_default}, specs.Lines.of_lines}
+use Rattle.ffs_claims.proofs.Inodes.{steps_reported, class_said, class_stopped, free_steps, used_below}
+use Rattle.ffs_claims.{proofs.claim.claim_read_inode.Goals.{in-Free, in_default}}
 use Rattle.ffs_claims.proofs.claim.claim_read_inode.Goals as goal
 
 pub say_count-requires : goal.say_count-requires
 say_count-requires g c =
-    let b = begun c.args.workspace.now c.begin.ensures c.requires.ready.runs in
-    let made = c.claim.ensures.claiming.left.claim.ready.made in
+    let b = begun c.args.workspace.now c.begin.ensures c.requires.can.runs in
+    let made = c.claim.ensures.left.claim.ready.made in
     omega (
       arith,
       c.args.geometry.now.sound.numbers.size_below,
       kept_bound (claims_of c.begin.new.workspace) (claims_of c.claim.new.workspace) c.args.geometry.now.layout.size
           (bits_long c.claim.new.workspace.used ∙ made.used) (omega arith) (omega arith) b.kept
-          c.in_ok-claim.ensures.claiming.left.moves,
+          c.in_ok-claim.ensures.left.moves,
     )
 
-pub claim-requires-clause-ready : goal.claim-requires-clause-ready
-claim-requires-clause-ready g c =
-    let can = c.requires.ready.claim in
-    record { ready = ready_begun c.begin.ensures can.ready; only_data = can.only_data }
+pub claim-requires : goal.claim-requires
+claim-requires g c =
+    let can = c.requires.can in
+    record {
+      class_is = c.requires.class;
+      claim = record { ready = ready_begun c.begin.ensures can.claim.ready; only_data = can.claim.only_data };
+      walk = can.walk;
+      begun = begun c.args.workspace.now c.begin.ensures can.runs;
+    }
 
-pub returns-in_err-say_class-clause-claiming : goal.returns-in_err-say_class-clause-claiming
-returns-in_err-say_class-clause-claiming g c =
+pub returns-in_err-say_class-clause-claims : goal.returns-in_err-say_class-clause-claims
+returns-in_err-say_class-clause-claims g c =
     let p = err_from_is_err_and c.from_residual.result c.from_residual.ensures.1 in
-    let ready = ready_begun c.begin.ensures c.requires.ready.claim.ready in
+    let ready = ready_begun c.begin.ensures c.requires.can.claim.ready in
     let few = used_below ready.made in
     let b = begun_runs c.args.workspace.now c.begin.ensures in
     rw (p.1, p.2) (record {
@@ -38,57 +43,57 @@ returns-in_err-say_class-clause-claiming g c =
       left = grind arith;
     })
 
-pub returns-in_err-claim-clause-claiming : goal.returns-in_err-claim-clause-claiming
-returns-in_err-claim-clause-claiming g c =
+pub returns-in_err-claim-clause-claims : goal.returns-in_err-claim-clause-claims
+returns-in_err-claim-clause-claims g c =
     let p = err_from_is_err_and c.from_residual-in_err-claim.result c.from_residual-in_err-claim.ensures.1 in
     let v = c.args.geometry.now.layout in
     let s1 = claims_of c.begin.new.workspace in
     let b = begun_runs c.args.workspace.now c.begin.ensures in
-    let left = c.claim.ensures.claiming.left in
+    let left = c.claim.ensures.left in
     rw (p.1, p.2) (record {
       text = of_fault (Unit {0}) (Unit {0}) _ _ _ _ _ _ _ _ _
           (class_said v _ _ (claims_of c.args.workspace.now) (ap claims_of c.begin.ensures) c.requires.class
-          c.in_ok-say_class.ensures) (λ bytes t. refl) c.in_err-claim.ensures.claiming.text;
+          c.in_ok-say_class.ensures) (λ bytes t. refl) c.in_err-claim.ensures.text;
       claims = tt;
       left = grind arith;
     })
 
-pub returns-in_err-say_count-clause-claiming : goal.returns-in_err-say_count-clause-claiming
-returns-in_err-say_count-clause-claiming g c =
+pub returns-in_err-say_count-clause-claims : goal.returns-in_err-say_count-clause-claims
+returns-in_err-say_count-clause-claims g c =
     let p = err_from_is_err_and c.from_residual-in_err-say_count.result c.from_residual-in_err-say_count.ensures.1 in
     let v = c.args.geometry.now.layout in
     let b = begun_runs c.args.workspace.now c.begin.ensures in
-    let left = c.claim.ensures.claiming.left in
+    let left = c.claim.ensures.left in
     rw (p.1, p.2) (record {
       text = of_stops _ _ (λ bytes. []) _ _ _ _ _ (steps_reported v _ _ (claims_of c.args.workspace.now)
           (ap claims_of c.begin.ensures) c.requires.class c.in_ok-say_class.ensures
-          c.in_ok-claim.ensures.claiming.text c.in_ok-claim.ensures.claiming.claims) (λ bytes t. refl)
+          c.in_ok-claim.ensures.text c.in_ok-claim.ensures.claims) (λ bytes t. refl)
           c.in_err-say_count.ensures;
       claims = tt;
       left = grind arith;
     })
 
-pub returns-clause-claiming : goal.returns-clause-claiming
-returns-clause-claiming g c =
+pub returns-clause-claims : goal.returns-clause-claims
+returns-clause-claims g c =
     let v = c.args.geometry.now.layout in
     let b = begun_runs c.args.workspace.now c.begin.ensures in
     let s = stored_runs c.claim.new.workspace c.store-2.ensures.rest in
-    let zero = begun c.args.workspace.now c.begin.ensures c.requires.ready.runs in
-    let left = c.claim.ensures.claiming.left in
+    let zero = begun c.args.workspace.now c.begin.ensures c.requires.can.runs in
+    let left = c.claim.ensures.left in
     let ready = ready_stored c.store-2.ensures.stored c.store-2.ensures.rest left.claim.ready in
-    let m = c.in_ok-claim.ensures.claiming.left.moves in
+    let m = c.in_ok-claim.ensures.left.moves in
     record {
       text = of_says _ _ (λ bytes. []) _ _ _ _ _ (steps_reported v _ _ (claims_of c.args.workspace.now)
           (ap claims_of c.begin.ensures) c.requires.class c.in_ok-say_class.ensures
-          c.in_ok-claim.ensures.claiming.text c.in_ok-claim.ensures.claiming.claims) (λ bytes t. refl)
+          c.in_ok-claim.ensures.text c.in_ok-claim.ensures.claims) (λ bytes t. refl)
           c.in_ok-say_count.ensures;
-      claims = λ bytes t. ap claims_of c.store-2.ensures.rest ∙ c.in_ok-claim.ensures.claiming.claims bytes t
+      claims = λ bytes t. ap claims_of c.store-2.ensures.rest ∙ c.in_ok-claim.ensures.claims bytes t
           ∙ ap (λ s. after_steps v s (steps_of v c.args.claimant.now.inode.now bytes)) (ap claims_of c.begin.ensures);
       left = grind arith;
     }
 
-pub returns-then-matches-clause-claiming : goal.returns-then-matches-clause-claiming
-returns-then-matches-clause-claiming g c =
+pub returns-then-matches-clause-claims : goal.returns-then-matches-clause-claims
+returns-then-matches-clause-claims g c =
     let v = c.args.geometry.now.layout in
     let old = claims_of c.args.workspace.now in
     let is_free : c.args.claimant.now.class ≡ Free = elim c.match-matches.branch [
@@ -96,14 +101,14 @@ returns-then-matches-clause-claiming g c =
       | in_default w ↦ cc
     ] in
     let free = sym c.requires.class ∙ is_free in
-    let begun = ready_begun c.begin.ensures c.requires.ready.claim.ready in
+    let begun = ready_begun c.begin.ensures c.requires.can.claim.ready in
     let ready = ready_stored c.store.ensures.stored c.store.ensures.rest begun in
     let few = used_below begun.made in
     let b = begun_runs c.args.workspace.now c.begin.ensures in
     let s = stored_runs c.begin.new.workspace c.store.ensures.rest in
     record {
-      text = says_none (λ bytes t. ap of_lines (free_silent v _ _ old bytes free));
+      text = says_none (λ bytes t. rw (free, free_steps v _ bytes free) refl);
       claims = λ bytes t. ap claims_of c.store.ensures.rest ∙ ap claims_of c.begin.ensures
-          ∙ sym (free_claims v c.args.claimant.now.number _ old bytes free);
+          ∙ sym (ap (after_steps v (at_next_inode old)) (free_steps v _ bytes free));
       left = grind arith;
     }

@@ -1,17 +1,18 @@
-use Rattle.std.proofs.{Common.arith, Common.ap, Common.◌+◌, Common.◌∙◌, Common.refl, lemmas.Result.err_from_is_err_and}
+use Rattle.std.proofs.{Common.{arith, ap, ◌+◌, ◌∙◌, refl}, lemmas.Result.err_from_is_err_and}
 use Rattle.ffs_volume.{proofs.Potentials.each_ok, specs.Disk.Areas.is_fragment_in_range}
 use Rattle.ffs_report.proofs.Reporting.{to_begins, to_says, to_stops}
-use Rattle.ffs_workspace.specs.Holds.{claims_of}
-use Rattle.ffs_claims.proofs.Frames.{offers_none, offers_then}
-use Rattle.ffs_claims.proofs.StepsContinue.{offers_after, offers_more, offer_kept, from_start}
+use Rattle.ffs_claims.proofs.{Frames.{offers_none, offers_then}, StepsContinue.{range_next, offers_more, from_start}}
 use Rattle.ffs_claims.proofs.offer.offers.Goals as goal
 
-pub returns-in_err-offer-clause-said : goal.returns-in_err-offer-clause-said
-returns-in_err-offer-clause-said g c =
-    let p = err_from_is_err_and c.from_residual.result c.from_residual.ensures.1 in
-    rw (p.1) (to_stops _ _ _ _ _ _ _ c.loop-index.invariant.said (offers_more c.args.geometry.now.layout _ _ _
-    c.args.run.start c.args.run.len c.loop-index.index (c.from.result + c.from-in-loop-index.result)
-    c.loop-index-test.true (omega arith) c.offer.ensures.claims) c.in_err-offer.ensures.said)
+pub returns-in_err-offer : goal.returns-in_err-offer
+returns-in_err-offer g c =
+    rw ((err_from_is_err_and c.from_residual.result c.from_residual.ensures.1).1) (record {
+      said = to_stops _ _ _ _ _ _ _ c.loop-index.invariant.said (offers_more c.args.geometry.now.layout _ _ _
+          c.args.run.start c.args.run.len c.loop-index.index (c.from.result + c.from-in-loop-index.result)
+          c.loop-index-test.true (omega arith) c.offer.ensures.taken.claims) c.in_err-offer.ensures.said;
+      claims = tt;
+      only = offers_then c.loop-index.invariant.only c.offer.ensures.taken.only;
+    })
 
 pub loop-index-preserved : goal.loop-index-preserved
 loop-index-preserved g c =
@@ -20,19 +21,19 @@ loop-index-preserved g c =
     let run = c.args.run in
     let f = c.from.result + c.from-in-loop-index.result in
     record {
-      only = offers_then inv.only c.offer.ensures.only;
-      kept = omega (arith, inv.kept, offer_kept v (claims_of c.loop-index.workspace) _ f c.offer.ensures.claims);
-      claims = inv.claims ∙ offers_after v _ _ run.start run.len c.loop-index.index f c.loop-index-test.true
-          (omega arith) c.offer.ensures.claims;
+      only = offers_then inv.only c.offer.ensures.taken.only;
+      kept = grind arith;
+      claims = inv.claims ∙ rw (range_next run.start run.len c.loop-index.index f c.loop-index-test.true (omega arith))
+          (rw c.offer.ensures.taken.claims refl);
       said = to_says _ _ _ _ _ _ _ inv.said
           (offers_more v _ _ _ run.start run.len c.loop-index.index f c.loop-index-test.true (omega arith)
-          c.offer.ensures.claims) c.in_ok-offer.ensures.said;
+          c.offer.ensures.taken.claims) c.in_ok-offer.ensures.said;
     }
 
 pub loop-index-init : goal.loop-index-init
 loop-index-init g c =
     rw (← from_start c.args.run.start c.args.run.len) (record {
-      only = offers_none c.requires.room.made;
+      only = offers_none c.requires.made;
       kept = omega arith;
       claims = refl;
       said = to_begins _ _;
@@ -42,10 +43,8 @@ pub offer-requires : goal.offer-requires
 offer-requires g c =
     let inv = c.loop-index.invariant in
     record {
-      room = record {
-        made = inv.only.claiming.made;
-        room = omega (arith, inv.kept, c.requires.room.room, c.loop-index-test.true);
-      };
+      made = inv.only.claiming.made;
+      room = omega (arith, inv.kept, c.requires.room, c.loop-index-test.true);
       known = λ fits. ap (is_fragment_in_range c.args.geometry.now.layout) (omega arith)
           ∙ each_ok _ c.args.run.start c.args.run.len c.loop-index.index (c.requires.known fits)
           c.loop-index-test.true;

@@ -13,5 +13,5 @@ returns-then-run-geometry g c =
     record {
       said = rw (kept.silent c.args.number) (said_none _);
       claims = rw more (sym kept.claims);
-      only = offers_claimed c.requires.room.made refl;
+      only = offers_claimed c.requires.offer.made refl;
     }

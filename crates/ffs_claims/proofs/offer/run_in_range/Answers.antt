@@ -1,4 +1,5 @@
-use Rattle.std.proofs.{Common.{◌≡◌, true, nat_lt, arith, refl, sym}, lemmas.Bool.Decides.nat_tests}
+use Rattle.std.proofs.Common.{◌≡◌, true, nat_lt, arith, refl, sym}
+use Rattle.std.proofs.lemmas.{Bool.Decides.nat_tests, Result.err_from_is_err_and}
 use Rattle.ffs_report.proofs.Reports.{said_none}
 use Rattle.ffs_workspace.specs.Holds.{claims_of}
 use Rattle.ffs_claims.proofs.{Frames.offers_claimed, UnclaimedRuns.{whole_is, run_below}}
@@ -6,20 +7,32 @@ use Rattle.ffs_claims.proofs.offer.run_in_range.Goals as goal
 
 pub claim-requires-clause-below : goal.claim-requires-clause-below
 claim-requires-clause-below g c =
-    let fits = c.requires.can.known refl in
-    omega (arith, run_below _ c.args.run.start c.args.run.len c.requires.some fits, c.requires.can.room.made.used)
+    let fits = c.requires.offer.known refl in
+    omega (arith, run_below _ c.args.run.start c.args.run.len c.args.run.some fits, c.requires.offer.made.used)
 
 pub returns-then-claim : goal.returns-then-claim
 returns-then-claim g c =
     let few : nat_lt c.args.workspace.now.dups 11 ≡ true = grind (arith, nat_tests) in
     let whole = whole_is c.args.geometry.now.layout (claims_of c.args.workspace.now) c.args.run.start c.args.run.len few
-    (c.requires.can.known refl) (c.claim.ensures.clear c.if-claim.true) in
+    (c.requires.offer.known refl) (c.claim.ensures.clear c.if-claim.true) in
     let more : c.from.result ≡ c.args.run.len = omega arith in
     record {
-      said = rw (whole.silent c.args.number) (said_none _);
-      claims = record {
-        claims_are = rw (c.claim.ensures.claimed c.if-claim.true, more) (sym whole.claims);
-        uncut = sym c.requires.open;
+      taken = record {
+        said = rw (whole.silent c.args.number) (said_none _);
+        claims = rw (c.claim.ensures.claimed c.if-claim.true, more) (sym whole.claims);
+        only = offers_claimed c.requires.offer.made c.claim.ensures.size;
       };
-      only = offers_claimed c.requires.can.room.made c.claim.ensures.size;
+      seen = sym c.requires.uncut;
     }
+
+-- one that isn't claimed at once: the map is as it was
+pub returns-in_err-offers-clause-taken : goal.returns-in_err-offers-clause-taken
+returns-in_err-offers-clause-taken g c =
+    let p = err_from_is_err_and c.from_residual.result c.from_residual.ensures.1 in
+    let did = rw (c.claim.ensures.kept c.if-claim.false) at c.in_err-offers.ensures in
+    rw (p.1) (record { said = did.said; claims = tt; only = did.only })
+
+pub returns-clause-taken : goal.returns-clause-taken
+returns-clause-taken g c =
+    let did = rw (c.claim.ensures.kept c.if-claim.false) at c.in_ok-offers.ensures in
+    record { said = did.said; claims = did.claims; only = did.only }

@@ -9,9 +9,11 @@ returns-then-claim c =
     let ok = sym c.fragment_in_range.ensures ∙ c.if-not-fragment_in_range.false in
     let unset = rw c.if-claim.true at (was_set c.claim.ensures) in
     record {
+      taken = record {
+        claims = rw (few, ok, unset, is_set_now c.claim.ensures) refl;
+        only = offers_claimed c.requires.made c.claim.ensures.size;
+      };
       dup = rw (few, ok, unset) refl;
-      claims = rw (few, ok, unset, is_set_now c.claim.ensures) refl;
-      only = offers_claimed c.requires.room.made c.claim.ensures.size;
     }
 
 -- it was claimed before
@@ -20,9 +22,11 @@ returns c =
     let few : nat_lt c.args.workspace.now.dups 11 ≡ true = grind (arith, nat_tests) in
     let ok = sym c.fragment_in_range.ensures ∙ c.if-not-fragment_in_range.false in
     let set = rw c.if-claim.false at (was_set c.claim.ensures) in
-    let kept = c.set.ensures.size ∙ c.requires.room.made.duplicates in
+    let kept = c.set.ensures.size ∙ c.requires.made.duplicates in
     record {
+      taken = record {
+        claims = rw (few, ok, set, c.claim.ensures.kept c.if-claim.false, c.set.ensures.bits) refl;
+        only = search rules;
+      };
       dup = rw (few, ok, set) refl;
-      claims = rw (few, ok, set, c.claim.ensures.kept c.if-claim.false, c.set.ensures.bits) refl;
-      only = search rules;
     }

@@ -1,12 +1,12 @@
-use Rattle.std.proofs.{Common.{◌≡◌, rules, arith, refl, sym, ◌≤◌, ◌<◌, ap, ◌∙◌, Err}, lemmas.Result.err_from_is_err_and}
-use Rattle.ffs_volume.{proofs.OwnerLaws.before_next, specs.Blocks.{Claims.after_owner, KeptSteps.claims_before}}
-use Rattle.ffs_volume.specs.{Blocks.Owners.owner_of, Report.Whole.run_count}
+use Rattle.std.proofs.{Common.{◌≡◌, rules, arith, refl, sym, ◌-◌, ◌≤◌, ◌<◌, ap, ◌∙◌, Err}, lemmas.Result.err_from_is_err_and}
+use Rattle.ffs_volume.{proofs.OwnerLaws.before_next, specs.Blocks.{BlockCheck.phase1_lines, Claims.after_owner}}
+use Rattle.ffs_volume.specs.{Blocks.{KeptSteps.claims_before, Owners.{owner_of, owners_of}}, Report.Whole.run_count}
 use Rattle.ffs_report.proofs.Reporting.{of_part, of_fault, of_same, reports_knowing, says_heading, stops_heading}
 use Rattle.ffs_report.{proofs.Reporting.said_knows, specs.Known.ForBytes}
 use Rattle.ffs_workspace.specs.{Found.WithFresh, Holds.{claims_of, all_claims}, Lengths.inodes_of}
-use Rattle.ffs_claims.proofs.{Duplicates.dups_are, Frames.{image_from, ready_still}, Inodes.used_below}
+use Rattle.ffs_claims.proofs.{Duplicates.{any_set, rescan_is}, Frames.{image_from, ready_still}, Inodes.used_below}
 use Rattle.ffs_claims.proofs.Numbers.{found_begins, found_next, found_all, numbers_most, before_first, before_end}
-use Rattle.ffs_claims.proofs.Numbers.{lines_next, lines_end, first_lines}
+use Rattle.ffs_claims.proofs.Numbers.{lines_next}
 use Rattle.ffs_claims.proofs.pass1.phase1.Goals as goal
 
 pub returns-in_err-say-clause-prints : goal.returns-in_err-say-clause-prints
@@ -15,9 +15,9 @@ returns-in_err-say-clause-prints g c =
     rw (p.1, p.2) (record { image = search rules; text = stops_heading c.in_err-say.ensures.said })
 
 pub loop-number-init : goal.loop-number-init
+unfolding phase1_lines owners_of
 loop-number-init g c =
     let v = c.args.geometry.now.layout in
-    let s = claims_of c.reserve.new.workspace in
     let found = c.reserve.ensures.only.found in
     record {
       ready = record {
@@ -33,11 +33,11 @@ loop-number-init g c =
       again = found.again;
       claims = λ bytes k. c.reserve.ensures.claims k.1 ∙ sym (before_first v bytes);
       found = λ bytes k. found_begins bytes k.1 found;
-      said = says_heading (λ bytes k. first_lines v bytes s (c.reserve.ensures.claims k.1)) c.in_ok-say.ensures.said;
+      said = says_heading (λ bytes k. rw (c.reserve.ensures.claims k.1) refl) c.in_ok-say.ensures.said;
     }
 
-pub claim_inode-requires-clause-ready : goal.claim_inode-requires-clause-ready
-claim_inode-requires-clause-ready g c =
+pub claim_inode-requires : goal.claim_inode-requires
+claim_inode-requires g c =
     let inv = c.loop-number.invariant in
     let numbers = c.args.geometry.now.sound.numbers in
     let used = used_below inv.ready.ready.made in
@@ -53,11 +53,11 @@ returns-in_err-claim_inode-clause-prints g c =
     let n = c.loop-number.number in
     rw (p.1, p.2) (record {
       image = image_from {T = Unit {0}} (g.I.Image.device c.claim_inode.new.image)
-          (Err c.in_err-claim_inode.field-0.0) inv.device c.in_err-claim_inode.ensures.claiming.left.image;
+          (Err c.in_err-claim_inode.field-0.0) inv.device c.in_err-claim_inode.ensures.claims.left.image;
       text = of_fault (Unit {0}) (Unit {0}) _ _ _ _ _ _ _ _ c.in_err-claim_inode.field-0.0
           inv.said (λ bytes t. lines_next v bytes s (after_owner v s (owner_of v bytes n)) n (omega arith) refl)
           (reports_knowing (Unit {0}) _ _ _ _ _ (Err c.in_err-claim_inode.field-0.0)
-          (λ bytes k. ap (λ d. d.contents) inv.device ∙ k.0) c.in_err-claim_inode.ensures.claiming.text);
+          (λ bytes k. ap (λ d. d.contents) inv.device ∙ k.0) c.in_err-claim_inode.ensures.claims.text);
     })
 
 pub loop-number-preserved : goal.loop-number-preserved
@@ -69,34 +69,31 @@ loop-number-preserved g c =
     let n = c.loop-number.number in
     let contents = ap (λ d. d.contents) inv.device in
     let lt : n < inodes_of v = omega arith in
-    let now = c.in_ok-claim_inode.ensures.claiming.claims in
+    let now = c.in_ok-claim_inode.ensures.claims.claims in
     let after : ForBytes (WithFresh v (g.I.Image.device c.args.image.now) c.args.workspace.now)
     (λ bytes. s' ≡ after_owner v (claims_before v bytes n) (owner_of v bytes n)) = λ bytes k. now bytes (contents ∙ k.0)
     ∙ ap (λ t. after_owner v t (owner_of v bytes n)) (inv.claims bytes k) in
     record {
-      ready = c.claim_inode.ensures.claiming.left.claim;
-      walk = c.claim_inode.ensures.walk;
-      device = c.in_ok-claim_inode.ensures.claiming.left.image ∙ inv.device;
+      ready = c.claim_inode.ensures.claims.left.claim;
+      walk = c.claim_inode.ensures.claims.left.walk;
+      device = c.in_ok-claim_inode.ensures.claims.left.image ∙ inv.device;
       low = omega arith;
       high = λ h. omega arith;
-      runs = omega (arith, inv.runs, inv.low, c.in_ok-claim_inode.ensures.claiming.left.moves);
-      reads = omega (arith, inv.reads, inv.low, c.claim_inode.ensures.counted);
-      again = c.claim_inode.ensures.claiming.left.again ∙ inv.again;
+      runs = omega (arith, inv.runs, inv.low, c.in_ok-claim_inode.ensures.claims.left.moves);
+      reads = omega (arith, inv.reads, inv.low, c.claim_inode.ensures.claims.left.counted);
+      again = c.claim_inode.ensures.claims.left.again ∙ inv.again;
       claims = λ bytes k. after bytes k ∙ sym (before_next v bytes n inv.low);
       found = λ bytes k. found_next inv.low lt inv.ready.ready.made (after bytes k)
           (c.in_ok-claim_inode.ensures.stored bytes (contents ∙ k.0)) (inv.found bytes k);
       said = of_part _ _ _ _ _ _ _ _ inv.said (λ bytes k. lines_next v bytes s s' n lt (now bytes (contents ∙ k.0)))
-          (said_knows _ _ _ _ _ _ (λ bytes k. contents ∙ k.0) c.in_ok-claim_inode.ensures.claiming.text);
+          (said_knows _ _ _ _ _ _ (λ bytes k. contents ∙ k.0) c.in_ok-claim_inode.ensures.claims.text);
     }
 
 pub returns-clause-prints : goal.returns-clause-prints
 returns-clause-prints g c =
     let inv = c.loop-number.invariant in
-    record {
-      image = inv.device;
-      text = of_same _ _ _ _ _ _ inv.said
-          (λ bytes k. lines_end _ bytes (claims_of c.loop-number.workspace) c.loop-number.number (omega arith));
-    }
+    let none : inodes_of c.args.geometry.now.layout - c.loop-number.number ≡ 0 = omega arith in
+    record { image = inv.device; text = of_same _ _ _ _ _ _ inv.said (λ bytes k. rw none refl) }
 
 pub returns-clause-leaves : goal.returns-clause-leaves
 unfolding run_count all_claims
@@ -107,7 +104,7 @@ returns-clause-leaves g c = λ bytes k.
     (inv.found bytes k) in
     record {
       holds = holds;
-      dups = dups_are c.args.geometry.now.layout bytes c.loop-number.workspace holds;
+      dups = ap any_set holds.dup ∙ rescan_is c.args.geometry.now.layout bytes;
       count = holds.runs;
     }
 

@@ -1,27 +1,11 @@
-use Rattle.std.proofs.Common.{◌≡◌, ◌∙◌, false, ap, arith, sym, ℕ, List, OnOk, Result, Ok, Err}
-use Rattle.std.proofs.lemmas.Bool.{both_ways}
+use Rattle.std.proofs.{Common.{◌≡◌, ◌∙◌, false, ap, arith}, lemmas.Bool.both_ways}
 use Rattle.ffs_image.specs.Device.{Device}
-use Rattle.ffs_volume.specs.declared.Layout.{Layout}
-use Rattle.ffs_report.specs.{Known.ForBytes, declared.fault.RunFault.RunFault}
-use Rattle.ffs_workspace.specs.{declared.workspace.Workspace.Workspace, Holds.{HoldsClaims, HoldsStarts}}
+use Rattle.ffs_volume.proofs.{Results.on_ok as ok_then, RunBounds.runs_bounded}
+use Rattle.ffs_report.specs.Known.{ForBytes}
 use Rattle.ffs_workspace.{specs.Found.WithPhase1, proofs.Readiness.ready_same}
-use Rattle.ffs_claims.specs.{Phases.IsLeftByPhase1b, RescanRuns.rescan_runs}
-use Rattle.ffs_claims.proofs.Limited.{image_over, phase_served, runs_fit, runs_within}
-use Rattle.ffs_claims.proofs.pass1b.phase1b.Goals.{After-is_spent}
+use Rattle.ffs_claims.proofs.{Limited.phase_served, pass1b.phase1b.Goals.After-is_spent}
 use Rattle.ffs_claims.proofs.pass1b.phase1b.Given as given
 use Rattle.ffs_claims.proofs.pass1b.phase1b.Goals as goal
-
--- what the scan leaves is known where the bytes are
-left_by : {T : Type 0} (v : Layout) (w : Workspace) (knows known : List ℕ → Type 0) (r : Result T RunFault) →
-    ForBytes knows known → OnOk r (ForBytes known (λ bytes. HoldsClaims v bytes w × HoldsStarts v bytes w)) →
-    OnOk r (ForBytes known (λ bytes. w.runs_again ≡ rescan_runs v bytes)) →
-    OnOk r (ForBytes knows (λ bytes. IsLeftByPhase1b v bytes w))
-left_by v w knows known (Ok x) more holds count = λ bytes k. record {
-  claims = (holds bytes (more bytes k)).0;
-  starts = (holds bytes (more bytes k)).1;
-  count = count bytes (more bytes k);
-}
-left_by v w knows known (Err e) more holds count = tt
 
 -- what is known of the bytes is known of the limited image
 known : (g : given.Over) (c : After-is_spent g) →
@@ -35,14 +19,13 @@ fits : (g : given.Over) (c : After-is_spent g) →
     ForBytes (WithPhase1 c.args.geometry.now.layout (g.I.Image.device c.args.image.now) c.args.workspace.now)
     (λ bytes. c.is_spent.result ≡ false)
 fits g c bytes k =
-    let v = c.args.geometry.now.layout in
     let scanned = c.rescan_inodes-scanned.ensures in
     let back = phase_served (rw c.new-limited.ensures.device at scanned.prints) c.is_spent.ensures.below in
     let sound = c.args.geometry.now.sound in
-    let runs = scanned.runs bytes (known g c bytes k) in
-    let reads = scanned.reads (runs_fit v bytes _ sound runs) in
-    let within = runs_within v bytes _ sound runs in
-    back.few (omega (arith, reads, within, c.new-limited.ensures.asked, c.sweep_reads.ensures))
+    let runs = scanned.reads.runs bytes (known g c bytes k) in
+    let bounded = runs_bounded c.args.geometry.now.layout bytes sound in
+    let reads = scanned.reads.reads (omega (arith, sound.numbers.inodes_below, sound.numbers.size_below)) in
+    back.few (omega (arith, c.new-limited.ensures.asked, c.sweep_reads.ensures))
 
 pub returns-then-is_spent-clause-prints : goal.returns-then-is_spent-clause-prints
 returns-then-is_spent-clause-prints g c =
@@ -60,42 +43,37 @@ returns-then-is_spent-clause-leaves g c = λ bytes k.
 pub returns-then-is_spent-clause-reads : goal.returns-then-is_spent-clause-reads
 returns-then-is_spent-clause-reads g c =
     let at = (goal.at.returns-then-is_spent-clause-reads g c).After-is_spent in
-    let runs = c.rescan_inodes-scanned.ensures.runs in
-    grind (arith, known g at, runs)
+    grind (arith, known g at, c.rescan_inodes-scanned.ensures.reads.runs)
 
 pub returns-then-is_spent-clause-ready : goal.returns-then-is_spent-clause-ready
 returns-then-is_spent-clause-ready g c =
-    let prints = rw c.new-limited.ensures.device at c.rescan_inodes-scanned.ensures.prints in
-    let back = phase_served prints c.is_spent.ensures.below in
+    let back = phase_served (rw c.new-limited.ensures.device at c.rescan_inodes-scanned.ensures.prints)
+    c.is_spent.ensures.below in
     let image = c.image-1.given.1 back.same_image ∙ c.drop-limited.ensures.below in
-    let over = image_over _ _ c.rescan_inodes-scanned.result prints.image in
-    rw image (ready_same c.args.geometry.now.layout _ _ c.rescan_inodes-scanned.new.workspace
-    (back.contents ∙ sym over.contents) (back.size ∙ sym over.size) c.rescan_inodes-scanned.ensures.ready)
+    rw image (ready_same c.args.geometry.now.layout _ _ c.rescan_inodes-scanned.new.workspace back.contents back.size
+    c.rescan_inodes-scanned.ensures.ready)
 
 pub returns-clause-prints : goal.returns-clause-prints
 returns-clause-prints g c =
     let back = phase_served (rw c.new-limited.ensures.device at c.rescan_inodes-scanned.ensures.prints)
     c.is_spent.ensures.below in
-    let image = c.image-2-1.given.1 back.same_image ∙ c.drop-limited-2.ensures.below in
-    rw image (back.answered c.if-is_spent.false)
+    rw (c.image-2-1.given.1 back.same_image ∙ c.drop-limited-2.ensures.below) (back.answered c.if-is_spent.false)
 
 pub returns-clause-leaves : goal.returns-clause-leaves
 returns-clause-leaves g c =
     let at = (goal.at.returns-clause-leaves g c).After-is_spent in
-    left_by _ c.rescan_inodes-scanned.new.workspace _ _ c.rescan_inodes-scanned.result (known g at)
-    c.rescan_inodes-scanned.ensures.holds c.rescan_inodes-scanned.ensures.count
+    ok_then c.rescan_inodes-scanned.result _ _ (λ h bytes k. h bytes (known g at bytes k))
+    c.rescan_inodes-scanned.ensures.leaves
 
 pub returns-clause-reads : goal.returns-clause-reads
 returns-clause-reads g c =
     let at = (goal.at.returns-clause-reads g c).After-is_spent in
-    let runs = c.rescan_inodes-scanned.ensures.runs in
-    grind (arith, known g at, runs)
+    grind (arith, known g at, c.rescan_inodes-scanned.ensures.reads.runs)
 
 pub returns-clause-ready : goal.returns-clause-ready
 returns-clause-ready g c =
-    let prints = rw c.new-limited.ensures.device at c.rescan_inodes-scanned.ensures.prints in
-    let back = phase_served prints c.is_spent.ensures.below in
+    let back = phase_served (rw c.new-limited.ensures.device at c.rescan_inodes-scanned.ensures.prints)
+    c.is_spent.ensures.below in
     let image = c.image-2-1.given.1 back.same_image ∙ c.drop-limited-2.ensures.below in
-    let over = image_over _ _ c.rescan_inodes-scanned.result prints.image in
-    rw image (ready_same c.args.geometry.now.layout _ _ c.rescan_inodes-scanned.new.workspace
-    (back.contents ∙ sym over.contents) (back.size ∙ sym over.size) c.rescan_inodes-scanned.ensures.ready)
+    rw image (ready_same c.args.geometry.now.layout _ _ c.rescan_inodes-scanned.new.workspace back.contents back.size
+    c.rescan_inodes-scanned.ensures.ready)

@@ -1,32 +1,25 @@
-use Rattle.std.proofs.{Common.{inl, inr, arith, refl}, lemmas.Result.on_ok_weaker}
+use Rattle.std.proofs.{Common.{inl, inr, arith, refl, rules}, lemmas.Result.on_ok_weaker}
 use Rattle.ffs_report.{proofs.Reports.said_none, specs.Progress.progress}
-use Rattle.ffs_walk.specs.Keepings.{replay_in}
-use Rattle.ffs_claims.proofs.{Frames.reports_none, Reportings.{reported_from, reported_none}, Rewalks.offers_of_run}
+use Rattle.ffs_claims.proofs.{Frames.reports_none, Reportings.{reported_from, reported_none}}
 use Rattle.ffs_claims.proofs.pass1b.report_again.Goals as goal
 
-pub returns-in-Run-clause-said : goal.returns-in-Run-clause-said
-returns-in-Run-clause-said g c =
+pub returns-in-Run : goal.returns-in-Run
+returns-in-Run g c =
     let r = c.in-Run in
-    let k = c.args.keeping.now in
-    let count = (c.take-taken.ensures.replays c.args.geometry.now.layout r.start r.block c.in_range.ensures).count in
-    rw (
-      r.is,
-      offers_of_run c.args.geometry.now.layout c.args.number k.cut (replay_in k) r.start r.len
-          r.block c.requires.going count,
-    ) c.report_run.ensures.said
-
-pub returns-in-Run-clause-reported : goal.returns-in-Run-clause-reported
-returns-in-Run-clause-reported g c =
-    let r = c.in-Run in
-    let k = c.args.keeping.now in
     let replays = c.take-taken.ensures.replays c.args.geometry.now.layout r.start r.block c.in_range.ensures in
-    let same = offers_of_run c.args.geometry.now.layout c.args.number k.cut (replay_in k) r.start r.len r.block
-    c.requires.going replays.count in
-    rw r.is (on_ok_weaker c.report_run.result (λ p. record {
-      reported = rw same (reported_from c.args.workspace.now _ c.report_run.new.workspace p refl refl);
-      next = replays.after;
-      cut = c.take-taken.ensures.cut;
-    }) c.report_run.ensures.reported)
+    let did = c.report_run.ensures in
+    rw r.is (record {
+      said = rw (c.requires.going, ← replays.count) did.said;
+      reported = on_ok_weaker c.report_run.result (λ p. record {
+        reported = rw (c.requires.going, ← replays.count)
+            (reported_from c.args.workspace.now _ c.report_run.new.workspace p refl refl);
+        next = replays.after;
+        cut = c.take-taken.ensures.cut;
+      }) did.reported;
+      runs = grind arith;
+      counted = grind arith;
+      only = search rules;
+    })
 
 pub returns-in-Tail : goal.returns-in-Tail
 returns-in-Tail g c =

@@ -1,20 +1,18 @@
-use Rattle.std.proofs.Common.{Result, rules, ◌≡◌, ◌≤◌, ◌+◌, ◌-◌, ◌^◌, ◌<◌, ◌∷◌, [], arith, refl, sym, ap, ◌∙◌, Err}
+use Rattle.std.proofs.Common.{Result, rules, ◌≡◌, ◌≤◌, ◌+◌, ◌-◌, ◌^◌, ◌<◌, ◌∷◌, [], arith, refl, ap, ◌∙◌, Err}
 use Rattle.std.proofs.lemmas.Result.{err_from_is_err_and}
-use Rattle.ffs_volume.specs.Blocks.BlockCheck.{first_offer_lines, phase1b_lines}
-use Rattle.ffs_volume.specs.Blocks.{Claims.no_claims, KeptOffers.kept_in_owners, KeptSteps.claims_before}
-use Rattle.ffs_volume.specs.{Blocks.Owners.owners_of, Messages.Kinds.phase1b}
+use Rattle.ffs_volume.{proofs.RunBounds.runs_bounded, specs.Blocks.BlockCheck.{first_offer_lines, phase1b_lines}}
+use Rattle.ffs_volume.specs.{Blocks.{KeptSteps.claims_before, Owners.owners_of}, Messages.Kinds.phase1b}
 use Rattle.ffs_report.proofs.Reporting.{of_begins, of_says, of_part, of_fault, of_stops, of_same, reports_knowing}
-use Rattle.ffs_report.{proofs.Reporting.said_knows, specs.Known.ForBytes, specs.declared.fault.RunFault.RunFault}
+use Rattle.ffs_report.{proofs.Reporting.said_knows, specs.{Known.ForBytes, declared.fault.RunFault.RunFault}}
 use Rattle.ffs_maps.specs.Bits.{bits_of}
-use Rattle.ffs_workspace.specs.{Found.WithPhase1, Lengths.inodes_of, Lengths.set_count}
-use Rattle.ffs_claims.proofs.Duplicates.{none_first, none_left}
-use Rattle.ffs_claims.proofs.{Frames.claims_then, Frames.image_from, Frames.ready_unseen, Numbers.numbers_most}
-use Rattle.ffs_claims.proofs.Reportings.{reporting_more, reporting_ends, reporting_same, lines_split, reporting_over}
-use Rattle.ffs_claims.proofs.{RescanCounts.look_fits, RescanCounts.looked_none, Rescanned.IsNoted, Rescanned.is_noted}
-use Rattle.ffs_claims.proofs.Rescanned.{offers_at, runs_at, kept_from, runs_from, looked_on, looked_end, looked_first}
-use Rattle.ffs_claims.proofs.Rescanned.{kept_next, kept_end, runs_on, runs_most, claims_hold, reported_same, all_lines}
-use Rattle.ffs_claims.proofs.{Rescanned.all_kept, Rescanned.starts_hold, Rewalks.runs_pay_all, Rewalks.runs_pay_then}
-use Rattle.ffs_claims.specs.{Lines.of_lines, Reporting.after_first, RescanRuns.runs_until_reported}
+use Rattle.ffs_workspace.specs.{Found.WithPhase1, Holds.all_claims, Lengths.{inodes_of, set_count}}
+use Rattle.ffs_claims.proofs.{Duplicates.{none_first, none_left}, Frames.{claims_then, image_from}}
+use Rattle.ffs_claims.proofs.{Numbers.{numbers_most, before_first}, Reportings.{reporting_more, reporting_ends}}
+use Rattle.ffs_claims.proofs.{Reportings.{reporting_begins, lines_split, reporting_over}, RescanCounts.look_most}
+use Rattle.ffs_claims.proofs.{RescanCounts.looked_none, Rescanned.{IsNoted, is_noted, offers_at, runs_at, kept_from}}
+use Rattle.ffs_claims.proofs.Rescanned.{runs_from, looked_on, looked_end, kept_next, kept_end, runs_on, runs_most}
+use Rattle.ffs_claims.proofs.{Rescanned.{claims_hold, starts_hold}, Rewalks.{runs_pay_all, runs_pay_then}}
+use Rattle.ffs_claims.specs.{Lines.of_lines, Reporting.after_first, RescanRuns.{runs_until_reported, rescan_runs}}
 use Rattle.ffs_claims.proofs.pass1b.rescan_inodes.Goals as goal
 
 pub returns-in_err-say-clause-prints : goal.returns-in_err-say-clause-prints
@@ -30,25 +28,25 @@ returns-in_err-say-clause-prints g c =
     })
 
 pub loop-number-init : goal.loop-number-init
+unfolding phase1b_lines owners_of all_claims rescan_runs
 loop-number-init g c =
     let v = c.args.geometry.now.layout in
     let d = bits_of c.args.workspace.now.duplicates in
+    let ready = c.requires.ready in
     record {
-      ready = ready_unseen c.requires.ready;
+      ready = grind arith;
       device = refl;
       claims = record { used = refl; kinds = refl; notes = refl; references = refl; seen = refl };
       low = omega arith;
       high = λ h. omega arith;
       runs = λ bytes k. omega arith;
       reads = record { rises = λ _. omega arith; paid = λ _. omega arith };
-      count = λ bytes k. omega (arith, looked_first v bytes d k.1.dup);
-      reported = λ bytes k. reporting_same
-          (reported_same c.args.workspace.now _ (kept_in_owners v (no_claims v) (owners_of v bytes)) refl refl)
-          (sym (all_kept v bytes));
+      count = λ bytes k. rw (before_first v bytes, k.1.dup) (omega arith);
+      reported = λ bytes k. reporting_begins c.args.workspace.now _ (rw (before_first v bytes) refl) refl refl;
       said = of_says _ (λ bytes. phase1b ∷ of_lines (phase1b_lines v (owners_of v bytes)))
           (λ bytes. of_lines (first_offer_lines d (kept_from v bytes 2))) _ (phase1b ∷ []) _ _ _
           (of_begins _ (λ bytes. phase1b ∷ of_lines (phase1b_lines v (owners_of v bytes))) _)
-          (λ bytes k. ap (λ xs. phase1b ∷ xs) (all_lines v bytes d k.1.dup)) c.in_ok-say.ensures.said;
+          (λ bytes k. rw (before_first v bytes, k.1.dup) refl) c.in_ok-say.ensures.said;
     }
 
 pub returns-in_err-rewalk_inode-clause-prints : goal.returns-in_err-rewalk_inode-clause-prints
@@ -63,7 +61,7 @@ returns-in_err-rewalk_inode-clause-prints g c =
     let fault : Result (Unit {0}) RunFault = Err c.in_err-rewalk_inode.field-0.0 in
     rw (p.1, p.2) (record {
       image = image_from (g.I.Image.device c.rewalk_inode.new.image) fault inv.device
-          c.in_err-rewalk_inode.ensures.rewalks.left.image;
+          c.in_err-rewalk_inode.ensures.left.image;
       text = of_fault (Unit {0}) (Unit {0}) _ (λ bytes. of_lines (first_offer_lines d (kept_from v bytes n)))
           (λ bytes. of_lines (first_offer_lines d (offers_at v bytes notes n)))
           (λ bytes. of_lines (first_offer_lines (after_first d (offers_at v bytes notes n))
@@ -71,17 +69,25 @@ returns-in_err-rewalk_inode-clause-prints g c =
           _ _ _ _ c.in_err-rewalk_inode.field-0.0 inv.said (λ bytes k. lines_split d _ _ _ _ (kept_next v bytes notes n
           (is_noted c.args.geometry.now.sound inv.low (omega arith) inv.claims k.1)) refl)
           (reports_knowing (Unit {0}) _ _ _ _ _ fault (λ bytes k. ap (λ d. d.contents) inv.device ∙ k.0)
-          c.in_err-rewalk_inode.ensures.rewalks.text);
+          c.in_err-rewalk_inode.ensures.text);
     })
 
-pub returns-in_err-rewalk_inode-clause-runs : goal.returns-in_err-rewalk_inode-clause-runs
-returns-in_err-rewalk_inode-clause-runs g c = λ bytes k.
+pub returns-in_err-rewalk_inode-clause-reads : goal.returns-in_err-rewalk_inode-clause-reads
+returns-in_err-rewalk_inode-clause-reads g c =
     let v = c.args.geometry.now.layout in
     let inv = c.loop-number.invariant in
     let n = c.loop-number.number in
-    let on = runs_on v bytes _ n (is_noted c.args.geometry.now.sound inv.low (omega arith) inv.claims k.1) in
-    let most = runs_most v bytes (n + 1) (omega arith) (λ h. omega arith) in
-    omega (arith, inv.runs bytes k, c.rewalk_inode.ensures.rewalks.runs bytes (ap (λ d. d.contents) inv.device ∙ k.0))
+    let did = c.rewalk_inode.ensures in
+    let last : n < inodes_of v = omega arith in
+    record {
+      runs = λ bytes k.
+          let on = runs_on v bytes _ n (is_noted c.args.geometry.now.sound inv.low last inv.claims k.1) in
+          let most = runs_most v bytes (n + 1) (omega arith) (λ h. omega arith) in
+          omega (arith, inv.runs bytes k, did.runs bytes (ap (λ d. d.contents) inv.device ∙ k.0));
+      reads = runs_pay_all _ _ _ (runs_pay_then _ _ _ (n - 1) inv.reads did.counted (omega arith))
+          (omega (arith, last, inv.low));
+      seen = did.left.claims.seen ∙ inv.claims.seen;
+    }
 
 pub loop-number-preserved : goal.loop-number-preserved
 loop-number-preserved g c =
@@ -93,7 +99,7 @@ loop-number-preserved g c =
     let d' = bits_of c.rewalk_inode.new.workspace.duplicates in
     let notes = c.loop-number.workspace.notes.items in
     let image = ap (λ d. d.contents) inv.device in
-    let rewalks = c.in_ok-rewalk_inode.ensures.rewalks in
+    let rewalks = c.in_ok-rewalk_inode.ensures in
     let noted : ForBytes (WithPhase1 v (g.I.Image.device c.args.image.now) c.args.workspace.now)
     (λ bytes. IsNoted v bytes notes n) = λ bytes k. is_noted sound inv.low (omega arith) inv.claims k.1 in
     let on : ForBytes (WithPhase1 v (g.I.Image.device c.args.image.now) c.args.workspace.now) (λ bytes.
@@ -111,8 +117,10 @@ loop-number-preserved g c =
           omega (arith, inv.runs bytes k, rewalks.runs bytes (image ∙ k.0));
       reads = runs_pay_then _ _ _ _ inv.reads c.rewalk_inode.ensures.counted (omega (arith, inv.low));
       count = λ bytes k.
+          let most = look_most v bytes in
+          let few = runs_bounded v bytes sound in
           let fits : c.loop-number.workspace.runs_again + runs_until_reported d (runs_at v bytes notes n) < 2 ^ 64 =
-          omega (arith, inv.count bytes k, look_fits v bytes sound, on bytes k) in
+          omega (arith, inv.count bytes k, on bytes k, sound.numbers.inodes_below, sound.numbers.size_below) in
           omega (arith, inv.count bytes k, on bytes k, (rewalks.rewalked bytes (image ∙ k.0)).count fits);
       reported = λ bytes k. reporting_more (inv.reported bytes k) (kept_next v bytes notes n (noted bytes k))
           (rewalks.rewalked bytes (image ∙ k.0)).reported;
@@ -137,14 +145,16 @@ returns-then-not-has_dups g c =
         text = of_same _ _ (λ bytes. []) _ _ _ inv.said
             (λ bytes k. ap of_lines (none_first d (kept_from v bytes n) none));
       };
-      holds = λ bytes k. (
-        claims_hold v bytes c.args.workspace.now _ k.1 inv.claims (reporting_over none (inv.reported bytes k)),
-        starts_hold v bytes c.args.workspace.now _ k.1 inv.claims,
-      );
-      runs = λ bytes k. omega (arith, inv.runs bytes k, runs_most v bytes n inv.low inv.high);
-      count = λ bytes k. omega (arith, inv.count bytes k, looked_none d (runs_from v bytes n) none);
-      reads = runs_pay_all _ _ _ inv.reads (numbers_most n (inodes_of v) inv.high);
-      seen = inv.claims.seen;
+      leaves = λ bytes k. record {
+        claims = claims_hold v bytes c.args.workspace.now _ k.1 inv.claims (reporting_over none (inv.reported bytes k));
+        starts = starts_hold v bytes c.args.workspace.now _ k.1 inv.claims;
+        count = omega (arith, inv.count bytes k, looked_none d (runs_from v bytes n) none);
+      };
+      reads = record {
+        runs = λ bytes k. omega (arith, inv.runs bytes k, runs_most v bytes n inv.low inv.high);
+        reads = runs_pay_all _ _ _ inv.reads (numbers_most n (inodes_of v) inv.high);
+        seen = inv.claims.seen;
+      };
       ready = inv.ready;
     }
 
@@ -161,22 +171,16 @@ returns-after-loop-number g c =
         text = of_same _ _ (λ bytes. []) _ _ _ inv.said (λ bytes k. ap (λ os. of_lines (first_offer_lines d os))
             (kept_end v bytes (claims_before v bytes n) n past));
       };
-      holds = λ bytes k. (
-        claims_hold v bytes c.args.workspace.now _ k.1 inv.claims
-            (reporting_ends (inv.reported bytes k) (kept_end v bytes (claims_before v bytes n) n past)),
-        starts_hold v bytes c.args.workspace.now _ k.1 inv.claims,
-      );
-      runs = λ bytes k. omega (arith, inv.runs bytes k, runs_most v bytes n inv.low inv.high);
-      count = λ bytes k. omega (arith, inv.count bytes k, looked_end v bytes d (claims_before v bytes n) n past);
-      reads = runs_pay_all _ _ _ inv.reads (numbers_most n (inodes_of v) inv.high);
-      seen = inv.claims.seen;
+      leaves = λ bytes k. record {
+        claims = claims_hold v bytes c.args.workspace.now _ k.1 inv.claims
+            (reporting_ends (inv.reported bytes k) (kept_end v bytes (claims_before v bytes n) n past));
+        starts = starts_hold v bytes c.args.workspace.now _ k.1 inv.claims;
+        count = omega (arith, inv.count bytes k, looked_end v bytes d (claims_before v bytes n) n past);
+      };
+      reads = record {
+        runs = λ bytes k. omega (arith, inv.runs bytes k, runs_most v bytes n inv.low inv.high);
+        reads = runs_pay_all _ _ _ inv.reads (numbers_most n (inodes_of v) inv.high);
+        seen = inv.claims.seen;
+      };
       ready = inv.ready;
     }
-
-pub returns-in_err-rewalk_inode-clause-reads : goal.returns-in_err-rewalk_inode-clause-reads
-returns-in_err-rewalk_inode-clause-reads g c =
-    let inv = c.loop-number.invariant in
-    let most : c.loop-number.number < inodes_of c.args.geometry.now.layout = omega arith in
-    runs_pay_all _ _ _
-    (runs_pay_then _ _ _ (c.loop-number.number - 1) inv.reads c.rewalk_inode.ensures.counted (omega arith))
-    (omega (arith, most, inv.low))

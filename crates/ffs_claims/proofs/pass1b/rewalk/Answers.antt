@@ -1,31 +1,29 @@
-use Rattle.std.proofs.Common.{ℕ, ◌≡◌, ◌++◌, replicate, [], arith, refl, ap, ◌∙◌, sym, List, slice_index}
-use Rattle.std.proofs.lemmas.Result.{err_from_is_err_and}
-use Rattle.ffs_volume.specs.{Blocks.BlockCheck.first_offer_lines, Encodings.Replay.is_replay_open}
+use Rattle.std.proofs.Common.{ℕ, ◌≡◌, ◌++◌, replicate, [], arith, refl, ap, ◌∙◌, sym, true, List, slice_index}
+use Rattle.std.proofs.lemmas.{Bool.Decides.nat_tests, Result.err_from_is_err_and}
+use Rattle.ffs_volume.specs.{Blocks.BlockCheck.first_offer_lines, Encodings.Replay.{fresh_replay, is_replay_open}}
 use Rattle.ffs_volume.specs.{Encodings.ReplayCounts.replay_step_by_cut, declared.Step.TheVariants.Gap}
 use Rattle.ffs_report.{proofs.Reporting.{of_begins, of_stops, of_reads, of_same}, specs.Known.{ForBytes, IsContents}}
 use Rattle.ffs_maps.specs.Bits.{bits_of}
 use Rattle.ffs_walk.{proofs.Counted.{top_held, top_unread}, specs.{Keepings.replay_in, Rests.steps_left}}
 use Rattle.ffs_workspace.specs.{Lengths.set_count, Notes.cut_in}
 use Rattle.ffs_claims.proofs.{Duplicates.{none_first, none_left, some_left}, Frames.{can_walk, claims_none, ready_read}}
-use Rattle.ffs_claims.proofs.{Frames.ready_walked, RescanCounts.{looked_stopped, again_gaps, again_stopped}}
-use Rattle.ffs_claims.proofs.{RescanCounts.looked_over, Rewalks.{open_first, offers_none, lines_step, runs_next}}
-use Rattle.ffs_claims.proofs.Rewalks.{rewalk_begins, rewalk_on, rewalk_gaps, rewalk_ends, rewalk_over, rewalk_said}
-use Rattle.ffs_claims.{proofs.Rewalks.{rewalked_to, runs_pay_on, runs_pay_ends, rereads_on}, specs.Lines.of_lines}
+use Rattle.ffs_claims.proofs.{Frames.ready_walked, RescanCounts.{again_gaps, again_stopped}, Rewalks.offers_none}
+use Rattle.ffs_claims.proofs.Rewalks.{lines_step, runs_next, rewalk_begins, rewalk_on, rewalk_gaps, rewalk_ends}
+use Rattle.ffs_claims.proofs.Rewalks.{rewalk_over, rewalk_said, rewalked_to, runs_pay_on, runs_pay_ends, rereads_on}
+use Rattle.ffs_claims.specs.{Lines.of_lines, RescanRuns.{runs_until_reported, steps_runs_again}}
 use Rattle.ffs_claims.proofs.pass1b.rewalk.Goals as goal
 
 pub loop-next-init : goal.loop-next-init
 loop-next-init g c =
-    let v = c.args.geometry.now.layout in
-    let n = c.args.number in
-    let d = bits_of c.args.workspace.now.duplicates in
     let cut = cut_in (slice_index c.args.workspace.now.notes.items c.args.number) in
     let begun = c.start-keeping.ensures.fresh in
+    let first : is_replay_open cut fresh_replay ≡ true = grind (arith, nat_tests) in
     let steps = c.start-walk.ensures.steps in
     record {
-      left = record { image = refl; ready = c.requires.can.ready; claims = claims_none c.args.workspace.now };
+      left = record { image = refl; ready = c.requires.ready; claims = claims_none c.args.workspace.now };
       cut = c.start-keeping.ensures.cut ∙ c.cut_of-cut.ensures;
-      going = ap (is_replay_open cut) begun ∙ open_first cut;
-      pending = c.requires.can.pending;
+      going = ap (is_replay_open cut) begun ∙ first;
+      pending = c.requires.pending;
       geometry = c.start-walk.ensures.geometry;
       held = top_held c.start-walk.result c.start-walk.ensures.top _;
       counted = record {
@@ -39,11 +37,12 @@ loop-next-init g c =
 pub next-requires : goal.next-requires
 next-requires g c = can_walk c.loop-next.invariant.geometry c.loop-next.invariant.left.ready
 
-pub returns-in_err-next-clause-rewalks : goal.returns-in_err-next-clause-rewalks
-returns-in_err-next-clause-rewalks g c =
+pub returns-in_err-next : goal.returns-in_err-next
+returns-in_err-next g c =
     let p = err_from_is_err_and c.from_residual.result c.from_residual.ensures.1 in
     let inv = c.loop-next.invariant in
     let err = c.in_err-next.ensures.leaves.read in
+    let reads = c.in_err-next.ensures.counted inv.held in
     let ready = ready_read {d' = g.I.Image.device c.next.new.image} err.contents err.size inv.geometry
     c.next.ensures.leaves.kept inv.left.ready in
     rw (p.1, p.2) (record {
@@ -51,16 +50,21 @@ returns-in_err-next-clause-rewalks g c =
       rewalked = tt;
       runs = λ bytes t. omega (arith, (inv.walk bytes t).runs);
       left = grind arith;
+      counted = grind arith;
     })
 
-pub report_again-requires-clause-can : goal.report_again-requires-clause-can
-report_again-requires-clause-can g c =
+pub report_again-requires : goal.report_again-requires
+report_again-requires g c =
     let inv = c.loop-next.invariant in
     let read = ready_walked c.in_ok-next.ensures.leaves.read inv.geometry c.next.ensures.leaves.kept inv.left.ready in
-    record { made = read.made; number_fits = c.requires.can.number_fits }
+    record {
+      can = record { made = read.made; number_fits = c.requires.number_fits };
+      going = rw inv.cut inv.going;
+      length = (rw (inv.geometry, c.in-Some.is) at c.in_ok-next.ensures.step.fits).length;
+    }
 
-pub returns-in_err-report_again-clause-rewalks : goal.returns-in_err-report_again-clause-rewalks
-returns-in_err-report_again-clause-rewalks g c =
+pub returns-in_err-report_again : goal.returns-in_err-report_again
+returns-in_err-report_again g c =
     let from = c.from_residual-in_err-report_again in
     let p = err_from_is_err_and from.result from.ensures.1 in
     let inv = c.loop-next.invariant in
@@ -83,15 +87,15 @@ returns-in_err-report_again-clause-rewalks g c =
           (steps_left bytes c.next.new.self) (next bytes t) refl in
           omega (arith, (inv.walk bytes t).runs, rw inv.cut at c.report_again.ensures.runs.most);
       left = record { image = on.image; ready = on.ready; claims = on.claims };
+      counted = runs_pay_ends _ _ _ _ _ inv.counted c.report_again.ensures.counted
+          (rw c.in-Some.is at (c.in_ok-next.ensures.counted inv.held).paid);
     })
 
 pub loop-next-preserved-then-matches : goal.loop-next-preserved-then-matches
 loop-next-preserved-then-matches g c =
     let inv = c.loop-next.invariant in
     let v = c.args.geometry.now.layout in
-    let n = c.args.number in
     let cut = cut_in (slice_index c.args.workspace.now.notes.items c.args.number) in
-    let d' = bits_of c.report_again.new.workspace.duplicates in
     let r' = replay_in c.report_again.new.keeping in
     let on = rereads_on c.in_ok-next.ensures.leaves.read inv.geometry c.next.ensures.leaves.kept
     c.report_again.ensures.only inv.left in
@@ -117,7 +121,7 @@ loop-next-preserved-then-matches g c =
           (rewalk_on inv.cut (next bytes t) inv.going inv.pending did c.report_again.ensures.runs (inv.walk bytes t));
       said = rewalk_said c.loop-next.walk c.next.new.self _ inv.cut inv.said next did (λ bytes t. rw (
         gaps bytes t,
-        (again_gaps v n cut r' c.skip_gaps.result (steps_left bytes c.skip_gaps.new.self)).0,
+        (again_gaps v c.args.number cut r' c.skip_gaps.result (steps_left bytes c.skip_gaps.new.self)).0,
       ) refl)
           c.in_ok-report_again.ensures.said;
     }
@@ -125,8 +129,6 @@ loop-next-preserved-then-matches g c =
 pub loop-next-preserved : goal.loop-next-preserved
 loop-next-preserved g c =
     let inv = c.loop-next.invariant in
-    let d' = bits_of c.report_again.new.workspace.duplicates in
-    let r' = replay_in c.report_again.new.keeping in
     let on = rereads_on c.in_ok-next.ensures.leaves.read inv.geometry c.next.ensures.leaves.kept
     c.report_again.ensures.only inv.left in
     let reads = c.in_ok-next.ensures.counted inv.held in
@@ -147,8 +149,9 @@ loop-next-preserved g c =
           c.in_ok-report_again.ensures.said;
     }
 
-pub returns-then-not-is_replay_open-clause-rewalks : goal.returns-then-not-is_replay_open-clause-rewalks
-returns-then-not-is_replay_open-clause-rewalks g c =
+pub returns-then-not-is_replay_open : goal.returns-then-not-is_replay_open
+unfolding runs_until_reported
+returns-then-not-is_replay_open g c =
     let inv = c.loop-next.invariant in
     let d' = bits_of c.report_again.new.workspace.duplicates in
     let did = c.in_ok-report_again.ensures.reported in
@@ -161,14 +164,16 @@ returns-then-not-is_replay_open-clause-rewalks g c =
     record {
       text = rewalk_said c.loop-next.walk c.next.new.self (λ bytes. []) inv.cut inv.said next did
           (λ bytes t. ap (first_offer_lines d') (none bytes).0) c.in_ok-report_again.ensures.said;
-      rewalked = λ bytes t. rewalk_ends (none bytes).0 (looked_stopped _ _ _ _ _ d' shut) (walk bytes t);
+      rewalked = λ bytes t. rewalk_ends (none bytes).0 (ap (runs_until_reported d') (none bytes).1) (walk bytes t);
       runs = λ bytes t. omega (arith, (walk bytes t).runs);
       left = rereads_on c.in_ok-next.ensures.leaves.read inv.geometry c.next.ensures.leaves.kept
           c.report_again.ensures.only inv.left;
+      counted = runs_pay_ends _ _ _ _ _ inv.counted c.report_again.ensures.counted
+          (rw c.in-Some.is at (c.in_ok-next.ensures.counted inv.held).paid);
     }
 
-pub returns-then-not-has_dups-clause-rewalks : goal.returns-then-not-has_dups-clause-rewalks
-returns-then-not-has_dups-clause-rewalks g c =
+pub returns-then-not-has_dups : goal.returns-then-not-has_dups
+returns-then-not-has_dups g c =
     let inv = c.loop-next.invariant in
     let d' = bits_of c.report_again.new.workspace.duplicates in
     let did = c.in_ok-report_again.ensures.reported in
@@ -183,43 +188,25 @@ returns-then-not-has_dups-clause-rewalks g c =
       runs = λ bytes t. omega (arith, (walk bytes t).runs);
       left = rereads_on c.in_ok-next.ensures.leaves.read inv.geometry c.next.ensures.leaves.kept
           c.report_again.ensures.only inv.left;
+      counted = runs_pay_ends _ _ _ _ _ inv.counted c.report_again.ensures.counted
+          (rw c.in-Some.is at (c.in_ok-next.ensures.counted inv.held).paid);
     }
 
-pub returns-in_default-clause-rewalks : goal.returns-in_default-clause-rewalks
-returns-in_default-clause-rewalks g c =
+pub returns-in_default : goal.returns-in_default
+unfolding runs_until_reported steps_runs_again
+returns-in_default g c =
     let inv = c.loop-next.invariant in
     let d = bits_of c.loop-next.workspace.duplicates in
     let ready = ready_walked c.in_ok-next.ensures.leaves.read inv.geometry c.next.ensures.leaves.kept inv.left.ready in
     let over = rw (inv.left.image, c.in_default.is) at c.in_ok-next.ensures.step.steps in
+    let paid = rw c.in_default.is at (c.in_ok-next.ensures.counted inv.held).paid in
     let none = λ (bytes : List ℕ) (t : IsContents (g.I.Image.device c.args.image.now).contents bytes).
     offers_none c.args.geometry.now.layout c.args.number _ (replay_in c.loop-next.keeping) _ (over bytes t) in
     record {
       text = of_same _ _ _ _ _ _ inv.said (λ bytes t. ap (λ os. of_lines (first_offer_lines d os)) (none bytes t));
-      rewalked = λ bytes t. rewalked_to (rewalk_ends (none bytes t) (looked_over _ _ _ _ _ d (over bytes t))
+      rewalked = λ bytes t. rewalked_to (rewalk_ends (none bytes t) (rw (over bytes t) refl)
           (inv.walk bytes t));
       runs = λ bytes t. omega (arith, (inv.walk bytes t).runs);
       left = grind arith;
+      counted = grind arith;
     }
-
-pub returns-in_err-next-clause-counted : goal.returns-in_err-next-clause-counted
-returns-in_err-next-clause-counted g c =
-    let reads = c.in_err-next.ensures.counted c.loop-next.invariant.held in grind arith
-
-pub returns-in_err-report_again-clause-counted : goal.returns-in_err-report_again-clause-counted
-returns-in_err-report_again-clause-counted g c =
-    runs_pay_ends _ _ _ _ _ c.loop-next.invariant.counted c.report_again.ensures.counted
-    (rw c.in-Some.is at (c.in_ok-next.ensures.counted c.loop-next.invariant.held).paid)
-
-pub returns-then-not-is_replay_open-clause-counted : goal.returns-then-not-is_replay_open-clause-counted
-returns-then-not-is_replay_open-clause-counted g c =
-    runs_pay_ends _ _ _ _ _ c.loop-next.invariant.counted c.report_again.ensures.counted
-    (rw c.in-Some.is at (c.in_ok-next.ensures.counted c.loop-next.invariant.held).paid)
-
-pub returns-then-not-has_dups-clause-counted : goal.returns-then-not-has_dups-clause-counted
-returns-then-not-has_dups-clause-counted g c =
-    runs_pay_ends _ _ _ _ _ c.loop-next.invariant.counted c.report_again.ensures.counted
-    (rw c.in-Some.is at (c.in_ok-next.ensures.counted c.loop-next.invariant.held).paid)
-
-pub returns-in_default-clause-counted : goal.returns-in_default-clause-counted
-returns-in_default-clause-counted g c =
-    let paid = rw c.in_default.is at (c.in_ok-next.ensures.counted c.loop-next.invariant.held).paid in grind arith

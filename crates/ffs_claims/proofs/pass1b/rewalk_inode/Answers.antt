@@ -9,19 +9,24 @@ rewalk-requires g c =
     let ok = c.in_ok-inode.ensures.reads.read in
     let ready = ready_table c.args.geometry.now.layout (g.I.Image.device c.args.image.now)
     (g.I.Image.device c.inode.new.image) c.args.workspace.now c.inode.new.self (ap (λ d. d.contents) ok)
-    (ap (λ d. d.size) ok) c.inode.ensures.reads.kept c.requires.can.ready in
+    (ap (λ d. d.size) ok) c.inode.ensures.reads.kept c.requires.ready in
     grind arith
 
-pub returns-in_err-inode-clause-rewalks : goal.returns-in_err-inode-clause-rewalks
-returns-in_err-inode-clause-rewalks g c =
+pub returns-in_err-inode : goal.returns-in_err-inode
+returns-in_err-inode g c =
     let p = err_from_is_err_and c.from_residual.result c.from_residual.ensures.1 in
     let err = c.in_err-inode.ensures.reads.read in
     let ready = ready_table c.args.geometry.now.layout (g.I.Image.device c.args.image.now)
     (g.I.Image.device c.inode.new.image) c.args.workspace.now c.inode.new.self err.contents err.size
-    c.inode.ensures.reads.kept c.requires.can.ready in
-    rw (p.1, p.2)
-    (record { text = reads_first; rewalked = tt; runs = λ bytes t. omega arith; left = grind arith })
+    c.inode.ensures.reads.kept c.requires.ready in
+    rw (p.1, p.2) (record {
+      text = reads_first;
+      rewalked = tt;
+      runs = λ bytes t. omega arith;
+      left = grind arith;
+      counted = record { rises = λ _. omega arith; paid = λ _. omega (arith, c.inode.ensures.counted) };
+    })
 
-pub returns-clause-rewalks : goal.returns-clause-rewalks
-returns-clause-rewalks g c = rewalks_from c.in_ok-inode.inode (g.I.Image.device c.args.image.now) _
-    c.in_ok-inode.ensures.reads.read c.in_ok-inode.ensures.reads.inode c.rewalk.ensures.rewalks
+pub returns : goal.returns
+returns g c = rewalks_from c.in_ok-inode.inode (g.I.Image.device c.args.image.now) _
+    c.in_ok-inode.ensures.reads.read c.in_ok-inode.ensures.reads.inode c.inode.ensures.counted c.rewalk.ensures

@@ -1,6 +1,7 @@
-use Rattle.std.proofs.{Common.false, Common.arith, Common.◌∙◌, Math.ListN.get_or-eq_default}
+use Rattle.std.proofs.{Common.{false, arith, ◌∙◌, refl, sym}, Math.{Bool.or-false, ListN.get_or-eq_default}}
+use Rattle.ffs_report.proofs.Reports.{said_none}
 use Rattle.ffs_maps.{proofs.Bits.bits_long, specs.Bits.bits_of}
-use Rattle.ffs_claims.proofs.{Frames.offers_reported_none, Reportings.reported_out, Reportings.said_out}
+use Rattle.ffs_claims.proofs.Frames.{offers_reported_none}
 use Rattle.ffs_claims.proofs.report_offer.report_offer.Goals as goal
 
 pub returns-then-fragment-from : goal.returns-then-fragment-from
@@ -9,7 +10,7 @@ returns-then-fragment-from g c =
     let out = get_or-eq_default (bits_of c.args.workspace.now.duplicates) false {n = c.args.fragment}
     (omega (arith, size)) in
     record {
-      said = said_out _ c.args.number c.args.fragment _ out;
-      reported = reported_out _ c.args.number c.args.fragment out;
+      said = rw out (said_none _);
+      reported = record { dup = sym (rw out refl); marked = λ x. rw out (sym (or-false _)) };
       only = offers_reported_none c.requires.can.made;
     }

@@ -10,22 +10,21 @@ use Rattle.ffs_claims.proofs.report_offer.report_run.Goals as goal
 pub loop-index-init : goal.loop-index-init
 loop-index-init g c =
     rw (← from_start c.args.start c.args.len) (record {
-      only = offers_reported_none c.requires.can.made;
-      reported = reporting_begins _ c.args.workspace.now;
+      only = offers_reported_none c.requires.made;
+      reported = reporting_begins c.args.workspace.now _ refl refl refl;
       said = to_begins _ _;
     })
 
-pub returns-in_err-report_offer-clause-said : goal.returns-in_err-report_offer-clause-said
-returns-in_err-report_offer-clause-said g c =
-    let p = err_from_is_err_and c.from_residual.result c.from_residual.ensures.1 in
+pub returns-in_err-report_offer : goal.returns-in_err-report_offer
+returns-in_err-report_offer g c =
     let f = c.from.result + c.from-in-loop-index.result in
-    rw (p.1) (to_stops _ _ _ _ _ _ _ c.loop-index.invariant.said (lines_split _ _ _ (offer_of c.args.number f ∷ []) _
-    (run_next c.args.number c.args.start c.args.len c.loop-index.index f c.loop-index-test.true (omega arith)) refl)
-    c.in_err-report_offer.ensures.said)
-
-pub returns-in_err-report_offer-clause-only : goal.returns-in_err-report_offer-clause-only
-returns-in_err-report_offer-clause-only g c =
-    offers_reported_then c.loop-index.invariant.only c.report_offer.ensures.only
+    rw ((err_from_is_err_and c.from_residual.result c.from_residual.ensures.1).1) (record {
+      said = to_stops _ _ _ _ _ _ _ c.loop-index.invariant.said (lines_split _ _ _ (offer_of c.args.number f ∷ []) _
+          (run_next c.args.number c.args.start c.args.len c.loop-index.index f c.loop-index-test.true (omega arith))
+          refl) c.in_err-report_offer.ensures.said;
+      reported = tt;
+      only = offers_reported_then c.loop-index.invariant.only c.report_offer.ensures.only;
+    })
 
 pub loop-index-preserved : goal.loop-index-preserved
 loop-index-preserved g c =
@@ -41,13 +40,13 @@ loop-index-preserved g c =
           c.in_ok-report_offer.ensures.said;
     }
 
-pub returns-clause-said : goal.returns-clause-said
-returns-clause-said g c =
-    to_ends _ _ _ _ c.loop-index.invariant.said (ap
-    (λ (os : List Offer). of_lines (first_offer_lines (bits_of c.loop-index.workspace.duplicates) os))
-    (run_over c.args.number c.args.start c.args.len c.loop-index.index (omega arith)))
-
-pub returns-clause-reported : goal.returns-clause-reported
-returns-clause-reported g c =
+pub returns : goal.returns
+returns g c =
     let inv = c.loop-index.invariant in
-    reporting_ends inv.reported (run_over c.args.number c.args.start c.args.len c.loop-index.index (omega arith))
+    let over = run_over c.args.number c.args.start c.args.len c.loop-index.index (omega arith) in
+    record {
+      said = to_ends _ _ _ _ inv.said
+          (ap (λ (os : List Offer). of_lines (first_offer_lines (bits_of c.loop-index.workspace.duplicates) os)) over);
+      reported = reporting_ends inv.reported over;
+      only = inv.only;
+    }

@@ -1,11 +1,14 @@
-use Rattle.std.proofs.Common.{ap, ◌∙◌}
+use Rattle.std.proofs.Common.{ap, ◌∙◌, rules}
 use Rattle.ffs_maps.specs.Bits.{bits_of}
 use Rattle.ffs_workspace.specs.Holds.{claims_of}
 use Rattle.ffs_claims.proofs.Reserved.{reserved_claims}
 use Rattle.ffs_claims.proofs.reserve.reserve.Goals as goal
 
-pub returns-clause-claims : goal.returns-clause-claims
-returns-clause-claims c = λ fresh.
-    reserved_claims c.args.geometry.now.layout (claims_of c.args.workspace.now) (claims_of c.begin.new.workspace)
-    (bits_of c.set_reserved.new.map) (ap claims_of c.begin.ensures) fresh.duplicates
-    (c.set_reserved.ensures.bits (ap (λ w. bits_of w.used) c.begin.ensures ∙ fresh.used))
+pub returns : goal.returns
+returns c = record {
+  claims = λ fresh. reserved_claims c.args.geometry.now.layout (claims_of c.args.workspace.now)
+      (claims_of c.begin.new.workspace) (bits_of c.set_reserved.new.map) (ap claims_of c.begin.ensures) fresh.duplicates
+      (c.set_reserved.ensures.bits (ap (λ w. bits_of w.used) c.begin.ensures ∙ fresh.used));
+  runs = search rules;
+  only = search rules;
+}

@@ -1,4 +1,4 @@
-use Rattle.std.proofs.Common.{refl, arith}
+use Rattle.std.proofs.Common.{refl, arith, rules}
 use Rattle.ffs_claims.proofs.{UnclaimedRuns.run_below, WordClaims.run_claims}
 use Rattle.ffs_claims.proofs.words.claim_address.Goals as goal
 
@@ -10,11 +10,16 @@ claim-requires-clause-below c =
     let fits = c.requires.only_data.runs c.args.address v.frag run.first run.last some in
     omega (arith, run_below v c.args.address v.frag some fits, c.requires.made.used)
 
-pub returns-clause-claims : goal.returns-clause-claims
-returns-clause-claims c = λ t block.
+pub returns-clause-claimed : goal.returns-clause-claimed
+returns-clause-claimed c = λ t.
     let run = c.contains.ensures.0 c.if-not-contains.false in
     let fits = c.requires.only_data.runs c.args.address c.args.geometry.now.layout.frag run.first run.last
     c.args.geometry.now.sound.sizes.frag_low in
-    run_claims c.args.address block c.requires.uncut c.if-address-eq0.false fits
-    (c.claim.ensures.clear c.if-not-claim.false)
-    (rw (c.claim.ensures.claimed c.if-not-claim.false, c.from.ensures) refl)
+    record {
+      claims = λ block. run_claims c.args.address block c.requires.uncut c.if-address-eq0.false fits
+          (c.claim.ensures.clear c.if-not-claim.false)
+          (rw (c.claim.ensures.claimed c.if-not-claim.false, c.from.ensures) refl);
+      uncut = search rules;
+      only = search rules;
+      rises = omega arith;
+    }

@@ -9,7 +9,7 @@ returns-then-not-claim_address c =
 
 pub claim_address-requires : goal.claim_address-requires
 claim_address-requires c =
-    let next = c.requires.next in
+    let next = c.requires.can.next in
     let words = c.loop-geometry.invariant.words in
     let size = c.args.geometry.now.sound.numbers.size_below in
     let kept = kept_room c.args.workspace.now words.only.made words.uncut words.moves in
@@ -21,13 +21,12 @@ loop-geometry-preserved c =
     let inv = c.loop-geometry.invariant in
     let passes = c.pass_word.ensures.word c.loop-geometry.workspace.windows.blocks inv.held in
     let sizes = c.args.geometry.now.sound.sizes in
+    let did = c.claim_address.ensures.claimed c.if-not-claim_address.false in
     record {
       words = words_then inv.words (words_once sizes.frag_low sizes.frag_high inv.words.only.made
-          (ap (λ k. k.layout) (inv.words.same.geometry ∙ c.requires.geometry)) c.next_address-address.ensures passes
-          (c.claim_address.ensures.claims c.if-not-claim_address.false) c.claim_address.ensures.uncut
-          c.claim_address.ensures.only c.pass_word.ensures.falls c.pass_word.ensures.same
-          c.claim_address.ensures.rises c.pass_word.ensures.counted);
-      held = rw c.claim_address.ensures.only.windows passes.held;
+          (ap (λ k. k.layout) (inv.words.same.geometry ∙ c.requires.can.geometry)) c.next_address-address.ensures passes
+          did c.pass_word.ensures.falls c.pass_word.ensures.same c.pass_word.ensures.counted);
+      held = rw did.only.windows passes.held;
     }
 
 pub pass_word-requires-clause-left : goal.pass_word-requires-clause-left

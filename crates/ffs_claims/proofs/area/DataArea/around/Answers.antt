@@ -6,9 +6,9 @@ use Rattle.ffs_claims.proofs.area.DataArea.around.Goals as goal
 pub returns-then-start-data : goal.returns-then-start-data
 returns-then-start-data c =
     let v = c.args.geometry.now.layout in
-    let group : c.args.start / v.fpg < v.ncg = group_below v c.args.start c.args.geometry.now.sound c.requires.inside in
+    let group : c.args.start / v.fpg < v.ncg = group_below v c.args.start c.args.geometry.now.sound c.requires in
     record {
-      area = record {
+      only_data = record {
         runs = λ s n low high some. before_metadata v (c.args.start / v.fpg) s n c.args.geometry.now.sound group
             (rw c.cgbase-base.ensures.value at low) (rw c.cgsblock.ensures at high) some;
       };
@@ -20,11 +20,11 @@ returns-then-start-data c =
 pub returns : goal.returns
 returns c =
     let v = c.args.geometry.now.layout in
-    let group : c.args.start / v.fpg < v.ncg = group_below v c.args.start c.args.geometry.now.sound c.requires.inside in
+    let group : c.args.start / v.fpg < v.ncg = group_below v c.args.start c.args.geometry.now.sound c.requires in
     let next : cgbase v (c.args.start / v.fpg + 1) ≡ cgbase v (c.args.start / v.fpg) + v.fpg =
     base_above v (c.args.start / v.fpg) in
     record {
-      area = record {
+      only_data = record {
         runs = λ s n low high some. after_metadata v (c.args.start / v.fpg) s n c.args.geometry.now.sound group
             (rw c.cgdmin-data.ensures.value at low) (omega (arith, next, high)) (omega (arith, high)) some;
       };
