@@ -38,8 +38,7 @@ impl LineBuffer {
 
     /// Drops what it holds.
     pub fn clear(&mut self)
-        ensures empty { self.new.used ≡ 0 }
-        ensures failures { self.new.failures ≡ self.old.failures }
+        ensures { (self.new.used ≡ 0) × (self.new.failures ≡ self.old.failures) }
     {
         self.used = 0;
     }
@@ -55,8 +54,8 @@ impl LineBuffer {
 /// Copies bytes by their first and their last `some`, which may overlap: two moves.
 #[inline(always)]
 fn copy_ends(to: &mut [u8], from: &[u8], some: usize)
-    requires length { length to.old ≡ length from.now }
-    requires ends { (some ≤ length from.now) × (length from.now ≤ 2 * some) }
+    requires { (length to.old ≡ length from.now) × (some ≤ length from.now)
+        × (length from.now ≤ 2 * some) }
     ensures { to.new ≡ from.now }
 {
     let last = from.len() - some;
