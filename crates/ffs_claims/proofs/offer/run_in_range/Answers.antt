@@ -4,10 +4,10 @@ use Rattle.ffs_workspace.specs.Holds.{claims_of}
 use Rattle.ffs_claims.proofs.{Frames.offers_claimed, UnclaimedRuns.{whole_is, run_below}}
 use Rattle.ffs_claims.proofs.offer.run_in_range.Goals as goal
 
-pub claim-requires-clause-below : goal.claim-requires-clause-below
-claim-requires-clause-below g c =
-    let fits = c.requires.can.known refl in
-    omega (arith, run_below _ c.args.run.start c.args.run.len c.requires.some fits, c.requires.can.room.made.used)
+pub claim-requires : goal.claim-requires
+claim-requires g c =
+    let within = run_below _ c.args.run.start c.args.run.len c.requires.some (c.requires.can.known refl) in
+    record { some = c.requires.some; below = omega (arith, within, c.requires.can.room.made.used) }
 
 pub returns-then-claim : goal.returns-then-claim
 returns-then-claim g c =
