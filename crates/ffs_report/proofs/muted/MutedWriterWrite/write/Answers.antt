@@ -10,8 +10,7 @@ returns-in-Ok-2 g c =
       asked = record {
         failed = search rules;
         muted = rw c.if-self.false tt;
-        passed = rw c.if-self.false
-            (record { answer = _; tried = tried; reported = search rules; some = search rules });
+        passed = rw c.if-self.false (record { answer = _; tried = tried; reported = search rules; some = search rules });
       };
     }
 
@@ -24,7 +23,6 @@ returns-in-Err g c =
       asked = record {
         failed = search rules;
         muted = rw c.if-self.false tt;
-        passed = rw c.if-self.false
-            (record { answer = _; tried = tried; reported = search rules; some = search rules });
+        passed = rw c.if-self.false (record { answer = _; tried = tried; reported = search rules; some = search rules });
       };
     }
