@@ -6,7 +6,7 @@ use Rattle.ffs_volume.specs.declared.{Layout.Layout, Order.Order, SuperFault.{Su
 use Rattle.ffs_volume.specs.{Laws.Geometry.IsAcceptedLayout, Disk.Outcome.{copy_place, super_sector}}
 use Rattle.ffs_volume.specs.Disk.Superblock.{layout_of, superblock_of}
 use Rattle.ffs_volume.proofs.{AreaLaws.copy_inside, SearchLaws.is_some-none}
-use Rattle.ffs_layout.specs.{declared.superblock.Super.Super, Copies.{IsUnreadCopy, IsCopyFault}, Super.superblock_in}
+use Rattle.ffs_layout.specs.Copies.{IsUnreadCopy, IsCopyFault}
 
 -- where no sector is asked for, the superblock is read at that of the primary one
 pub default_sector : (sector : Option ℕ) → unwrap_or sector 16 ≡ super_sector sector
@@ -30,7 +30,7 @@ copy_fault v old new sector order bytes answer at geometry v_is inside none at_i
       | inr past ↦ let held = copy_inside v geometry in absurd (omega (arith, past.1))
     ]
 
-pub seen_layout : (super : Super) (order : Order) (bytes : List ℕ) → superblock_in super ≡ superblock_of order bytes →
-    super.geometry.layout ≡ layout_of order bytes
+pub own_layout : (v : Layout) (order : Order) (bytes : List ℕ) → v ≡ layout_of order bytes →
+    record (superblock_of order bytes) { layout = v } ≡ superblock_of order bytes
 unfolding superblock_of
-seen_layout super order bytes e = ap (λ s. s.layout) e
+own_layout v order bytes e = ap (λ layout. record (superblock_of order bytes) { layout = layout }) e

@@ -1,6 +1,6 @@
 //! Reads an entry of a directory from its chunk.
 
-ghost use Rattle.std.specs.{Prelude.{IsTrue, ◌≡◌, ◌+◌, ◌≤◌, ◌==◌, ◌||◌, length}, List.list_any};
+ghost use Rattle.std.specs.Prelude.{IsTrue, ◌≡◌, ◌+◌, ◌≤◌, length};
 ghost use Rattle.ffs_volume.specs.Directories.Entries.{has_valid_type_and_name, is_valid_record_length};
 ghost use Rattle.ffs_volume.specs.Disk.Numbers.{u16_at as u16_in, u32_at as u32_in};
 ghost use Rattle.ffs_layout.specs.Entry.{IsEntryAt, any_nul_or_slash};
@@ -65,7 +65,7 @@ fn has_nul_or_slash_in_eight(bytes: &[u8]) -> bool
 /// some in common with those before.
 #[inline(always)]
 fn has_nul_or_slash(bytes: &[u8]) -> bool
-    ensures { result ≡ (list_any (λ b. b == 0) bytes.now || list_any (λ b. b == 47) bytes.now) }
+    ensures { result ≡ any_nul_or_slash bytes.now }
 {
     let Some(last) = bytes.last_chunk::<8>() else {
         return has_nul_or_slash_in_eight(bytes);

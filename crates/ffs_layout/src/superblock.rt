@@ -116,11 +116,12 @@ impl Super {
     }
 }
 
-/// The superblock in the bytes, whose layout is accepted.
+/// The superblock in the bytes, with its accepted layout.
 #[tactic(auto, unfolding(ffs_volume::specs::Disk::Superblock::superblock_of))]
 fn make_super(order: Order, bytes: &[u8; SUPERBLOCK_BYTES], geometry: Geometry) -> Super
-    requires { geometry.layout ≡ layout_of order bytes.now }
-    ensures { superblock_in result ≡ superblock_of order bytes.now }
+    ensures { superblock_in result ≡ record (superblock_of order bytes.now) {
+      layout = geometry.layout;
+    } }
 {
     let mut mount = [0; MAXMNTLEN];
     mount.copy_from_slice(&bytes[212..724]);

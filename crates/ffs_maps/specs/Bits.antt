@@ -37,6 +37,11 @@ pub record IsSomeInWord (start len n : ℕ) : Type 0 where
   pub some : 0 < len
   pub run : IsInWord start len n
 
+-- a run isn't empty, and lies in a map of n fragments
+pub record IsSomeRun (start len n : ℕ) : Type 0 where
+  pub some : 0 < len
+  pub below : start + len ≤ n
+
 -- the fragments from `start` on and below `end` are a part of a map of n fragments
 pub record IsPart (start end n : ℕ) : Type 0 where
   pub order : start ≤ end

@@ -45,7 +45,7 @@ pub struct FragmentMap {
 }
 
 impl FragmentMap {
-    ghost use Rattle.ffs_maps.specs.Bits.{bits_of, set_run, is_clear, ClaimsRun, HasBits, IsInWord, IsPart, IsSomeInWord, MakesMap};
+    ghost use Rattle.ffs_maps.specs.Bits.{bits_of, set_run, is_clear, ClaimsRun, HasBits, IsInWord, IsPart, IsSomeInWord, IsSomeRun, MakesMap};
 
     /// A map with no bit set, in the memory of an allocator.
     ///
@@ -232,8 +232,7 @@ impl FragmentMap {
     /// Sets the bits of a run that lies in one word, where none of them is set. Returns whether it
     /// did.
     pub fn claim(&mut self, start: u32, len: u32) -> bool
-        requires some { 0 < len }
-        requires below { start + len ≤ self.old.size }
+        requires { IsSomeRun start len self.old.size }
         ensures { ClaimsRun self.old self.new start len result }
     {
         let low = start % 64;

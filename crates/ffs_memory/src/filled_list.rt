@@ -1,6 +1,6 @@
 //! Lists that hold one value until another is set.
-ghost use Rattle.std.specs.Prelude.{◌≡◌, ◌<◌, ◌≤◌, slice_index_or, vec_capacity, vec_len};
-ghost use Rattle.ffs_memory.specs.{Account.IsFilled, Filled.{Sets, SetsAll, SortsPart}};
+ghost use Rattle.std.specs.Prelude.{◌≡◌, ◌<◌, ◌≤◌, slice_index_or, vec_len};
+ghost use Rattle.ffs_memory.specs.Filled.{filled, Sets, SetsAll, SortsPart};
 
 use crate::touching::touch;
 use std::marker::Model;
@@ -28,10 +28,9 @@ impl<T> Model for FilledList<T> {
 }
 
 impl<T: Copy> FilledList<T> {
-    /// A list of as many elements as the empty `room` has room for, each of them `value`.
+    /// The elements of `room`, and then as many of `value` as it has room for besides.
     pub(crate) fn over(room: Vec<T>, value: T) -> FilledList<T>
-        requires { vec_len room ≡ 0 }
-        ensures { IsFilled (vec_capacity room) value result }
+        ensures { result ≡ filled room value }
     {
         FilledList {
             touched: room,

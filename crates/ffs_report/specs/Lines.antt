@@ -1,13 +1,6 @@
 -- The message of a line.
-use Rattle.ffs_volume.specs.Messages.Kinds.{Message, location, opening, bad_super, cannot_read, cannot_alloc}
-use Rattle.ffs_volume.specs.Messages.Kinds.{optimization, minfree, mounted, phase1, phase1b, phase2, phase3, phase4}
-use Rattle.ffs_volume.specs.Messages.Kinds.{phase5, of_blocks, of_tree, summary, TreeMessage, root_none, root_not_dir}
-use Rattle.ffs_volume.specs.Messages.Kinds.{root_suspect, dir_short, dir_length, dir_empty, dir_corrupt, missing_dot}
-use Rattle.ffs_volume.specs.Messages.Kinds.{missing_dot_first, number_dot, kind_dot, missing_dotdot}
-use Rattle.ffs_volume.specs.Messages.Kinds.{missing_dotdot_second, number_dotdot, kind_dotdot, extra_dot, extra_dotdot}
-use Rattle.ffs_volume.specs.Messages.Kinds.{out_of_range, whiteout, unallocated, dup_bad, zero_dir, extraneous}
-use Rattle.ffs_volume.specs.Messages.Kinds.{kind_entry, unref_dir, dead_marked, dead_zero, unref, unref_zero}
-use Rattle.ffs_volume.specs.Messages.Kinds.{link_count}
+use Rattle.ffs_volume.specs.Messages.Kinds.{Message, TreeMessage}
+use Rattle.ffs_volume.specs.Messages.Kinds as messages
 use Rattle.ffs_report.specs.declared.line.{Line.Line, Heading.Heading as HeadingLine, DirectoryLine.DirectoryLine}
 use Rattle.ffs_report.specs.declared.line.{DotLine.DotLine, EntryLine.EntryLine, ReferenceLine.ReferenceLine}
 use Rattle.ffs_report.specs.declared.line.Line.TheVariants.{Location, Opening, BadSuper, CannotRead, CannotAlloc}
@@ -25,64 +18,64 @@ use Rattle.ffs_report.specs.declared.line.ReferenceLine.TheVariants.{UnrefDir, D
 use Rattle.ffs_report.specs.declared.line.ReferenceLine.TheVariants.{LinkCount}
 
 abbrev pub heading_message : HeadingLine → Message
-heading_message Phase1 = phase1
-heading_message Phase1b = phase1b
-heading_message Phase2 = phase2
-heading_message Phase3 = phase3
-heading_message Phase4 = phase4
-heading_message Phase5 = phase5
+heading_message Phase1 = messages.phase1
+heading_message Phase1b = messages.phase1b
+heading_message Phase2 = messages.phase2
+heading_message Phase3 = messages.phase3
+heading_message Phase4 = messages.phase4
+heading_message Phase5 = messages.phase5
 
 abbrev pub directory_message : DirectoryLine → TreeMessage
-directory_message RootNone = root_none
-directory_message RootNotDir = root_not_dir
-directory_message RootSuspect = root_suspect
-directory_message (DirShort attr path) = dir_short attr path.now
-directory_message (DirLength path size) = dir_length path.now size
-directory_message (DirEmpty path) = dir_empty path.now
-directory_message (DirCorrupt attr path) = dir_corrupt attr path.now
+directory_message RootNone = messages.root_none
+directory_message RootNotDir = messages.root_not_dir
+directory_message RootSuspect = messages.root_suspect
+directory_message (DirShort attr path) = messages.dir_short attr path.now
+directory_message (DirLength path size) = messages.dir_length path.now size
+directory_message (DirEmpty path) = messages.dir_empty path.now
+directory_message (DirCorrupt attr path) = messages.dir_corrupt attr path.now
 
 abbrev pub dot_message : DotLine → TreeMessage
-dot_message (MissingDot attr path) = missing_dot attr path.now
-dot_message (MissingDotFirst attr path name) = missing_dot_first attr path.now name.now
-dot_message (NumberDot attr path) = number_dot attr path.now
-dot_message (KindDot attr path) = kind_dot attr path.now
-dot_message (MissingDotdot attr path) = missing_dotdot attr path.now
-dot_message (MissingDotdotSecond attr path name) = missing_dotdot_second attr path.now name.now
-dot_message (NumberDotdot attr path) = number_dotdot attr path.now
-dot_message (KindDotdot attr path) = kind_dotdot attr path.now
-dot_message (ExtraDot attr path) = extra_dot attr path.now
-dot_message (ExtraDotdot attr path) = extra_dotdot attr path.now
+dot_message (MissingDot attr path) = messages.missing_dot attr path.now
+dot_message (MissingDotFirst attr path name) = messages.missing_dot_first attr path.now name.now
+dot_message (NumberDot attr path) = messages.number_dot attr path.now
+dot_message (KindDot attr path) = messages.kind_dot attr path.now
+dot_message (MissingDotdot attr path) = messages.missing_dotdot attr path.now
+dot_message (MissingDotdotSecond attr path name) = messages.missing_dotdot_second attr path.now name.now
+dot_message (NumberDotdot attr path) = messages.number_dotdot attr path.now
+dot_message (KindDotdot attr path) = messages.kind_dotdot attr path.now
+dot_message (ExtraDot attr path) = messages.extra_dot attr path.now
+dot_message (ExtraDotdot attr path) = messages.extra_dotdot attr path.now
 
 abbrev pub entry_message : EntryLine → TreeMessage
-entry_message (OutOfRange number path) = out_of_range number path.now
-entry_message (Whiteout number path) = whiteout number path.now
-entry_message (Unallocated attr path) = unallocated attr path.now
-entry_message (DupBad label attr path) = dup_bad attr label path.now
-entry_message (ZeroDir attr path) = zero_dir attr path.now
-entry_message (Extraneous path dir) = extraneous path.now dir.now
-entry_message (KindEntry label attr path) = kind_entry attr label path.now
+entry_message (OutOfRange number path) = messages.out_of_range number path.now
+entry_message (Whiteout number path) = messages.whiteout number path.now
+entry_message (Unallocated attr path) = messages.unallocated attr path.now
+entry_message (DupBad label attr path) = messages.dup_bad attr label path.now
+entry_message (ZeroDir attr path) = messages.zero_dir attr path.now
+entry_message (Extraneous path dir) = messages.extraneous path.now dir.now
+entry_message (KindEntry label attr path) = messages.kind_entry attr label path.now
 
 abbrev pub reference_message : ReferenceLine → TreeMessage
-reference_message (UnrefDir attr) = unref_dir attr
-reference_message (DeadMarked label attr) = dead_marked label attr
-reference_message (DeadZero attr) = dead_zero attr
-reference_message (Unref label attr) = unref label attr
-reference_message (UnrefZero label attr) = unref_zero label attr
-reference_message (LinkCount label attr count right) = link_count label attr count right
+reference_message (UnrefDir attr) = messages.unref_dir attr
+reference_message (DeadMarked label attr) = messages.dead_marked label attr
+reference_message (DeadZero attr) = messages.dead_zero attr
+reference_message (Unref label attr) = messages.unref label attr
+reference_message (UnrefZero label attr) = messages.unref_zero label attr
+reference_message (LinkCount label attr count right) = messages.link_count label attr count right
 
 abbrev pub message_of : Line → Message
-message_of (Location sector) = location sector
-message_of (Opening name) = opening name.now
-message_of (BadSuper fault) = bad_super fault
-message_of (CannotRead sector) = cannot_read sector
-message_of CannotAlloc = cannot_alloc
-message_of Optimization = optimization
-message_of (Minfree value) = minfree value
-message_of (Mounted mount) = mounted mount.now
+message_of (Location sector) = messages.location sector
+message_of (Opening name) = messages.opening name.now
+message_of (BadSuper fault) = messages.bad_super fault
+message_of (CannotRead sector) = messages.cannot_read sector
+message_of CannotAlloc = messages.cannot_alloc
+message_of Optimization = messages.optimization
+message_of (Minfree value) = messages.minfree value
+message_of (Mounted mount) = messages.mounted mount.now
 message_of (Heading heading) = heading_message heading
-message_of (Block message) = of_blocks message
-message_of (Directory line) = of_tree (directory_message line)
-message_of (Dot line) = of_tree (dot_message line)
-message_of (Entry line) = of_tree (entry_message line)
-message_of (Reference line) = of_tree (reference_message line)
-message_of (Summary files used free frags blocks tenths) = summary files used free frags blocks tenths
+message_of (Block message) = messages.of_blocks message
+message_of (Directory line) = messages.of_tree (directory_message line)
+message_of (Dot line) = messages.of_tree (dot_message line)
+message_of (Entry line) = messages.of_tree (entry_message line)
+message_of (Reference line) = messages.of_tree (reference_message line)
+message_of (Summary files used free frags blocks tenths) = messages.summary files used free frags blocks tenths

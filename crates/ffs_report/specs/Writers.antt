@@ -1,8 +1,8 @@
 -- What the writers around another one leave.
-use Rattle.std.specs.Prelude.{◌≡◌, ℕ, ◌+◌, ◌<◌, ◌↔◌, true, List, length, take, Result, IsErr, MatchResult}
+use Rattle.std.specs.Prelude.{◌≡◌, ℕ, ◌+◌, ◌<◌, ◌↔◌, true, List, length, take, Option, Some, Result, IsErr, MatchResult}
 use Rattle.std.specs.{Bool.{OnTrue, OnFalse}, Borrow.GName, declared.io.Error.Error}
+use Rattle.ffs_report.specs.{Outlet.IsReported, Sink.{Sink, Puts}, declared.muted.MutedWriter.MutedWriter}
 use Rattle.ffs_report.specs.declared.{counted.Counted.Counted, fuse.FuseWriter.FuseWriter}
-use Rattle.ffs_report.specs.declared.muted.MutedWriter.{MutedWriter}
 
 -- an output holds the reference of this name to the writer, and no put has failed yet
 pub record StartsOver {S : Type 0} (name : GName) (writer : S) (out : Counted S) : Type 0 where
@@ -10,25 +10,40 @@ pub record StartsOver {S : Type 0} (name : GName) (writer : S) (out : Counted S)
   pub inner : out.inner.now ≡ writer
   pub failures : out.failures ≡ 0
 
+-- what an output took is what its writer holds
+abbrev pub counted_sink : {S : Type 0} → (S → Option (List ℕ)) → Counted S → Sink
+counted_sink contents c =
+    record { taken = contents c.inner.now; failures = c.failures; lent = Some c.inner.ghost_name }
+
+-- a put of a piece is one write, whose answer it reports
+pub record PutsOnce {S E : Type 0} (contents : S → Option (List ℕ))
+    (was_written : S → List ℕ → Result ℕ Error → S → Type 0) (old new : Counted S) (piece : List ℕ)
+    (result : Result ℕ E) : Type 0 where
+  pub puts : Puts (counted_sink contents old) (counted_sink contents new) piece result
+  pub answer : Result ℕ Error
+  pub written : was_written old.inner.now piece answer new.inner.now
+  pub reported : IsReported answer result
+
 -- a call of a writer that is muted by a failure: it has failed from then on just where its answer
--- is an error. Once it has failed, it and the writer below are untouched; before, `asked` holds of that
--- one
-pub record IsMuted {S T E : Type 0} (old new : MutedWriter S) (result : Result T E) (asked : Type 0) : Type 0 where
+-- is an error. Once it has failed, it and the writer below are untouched; before, `was_asked` holds
+-- of that one
+pub record IsMuted {S T E : Type 0} (was_asked : S → Result T E → S → Type 0) (old : MutedWriter S)
+    (result : Result T E) (new : MutedWriter S) : Type 0 where
   pub failed : IsErr result ↔ (new.failed ≡ true)
   pub muted : OnTrue old.failed (new ≡ old)
-  pub passed : OnFalse old.failed asked
+  pub passed : OnFalse old.failed (was_asked old.inner result new.inner)
 
 -- of a write that isn't empty the writer below is asked for as many bytes as the fuse has left, and
 -- what it took burns; with nothing left such a write is an error, and no writer is asked
-pub record BurnsAtWrite {S : Type 0} (was_written : S → List ℕ → Result ℕ Error → S → Type 0) (old new : FuseWriter S)
-    (bytes : List ℕ) (result : Result ℕ Error) : Type 0 where
+pub record BurnsAtWrite {S : Type 0} (was_written : S → List ℕ → Result ℕ Error → S → Type 0) (old : FuseWriter S)
+    (bytes : List ℕ) (result : Result ℕ Error) (new : FuseWriter S) : Type 0 where
   pub left : MatchResult result (λ n. new.left + n ≡ old.left) (λ _. new.left ≡ old.left)
   pub blown : old.left ≡ 0 → 0 < length bytes → IsErr result
   pub shut : old.left ≡ 0 → new ≡ old
   pub passed : 0 < length bytes → 0 < old.left → was_written old.inner (take old.left bytes) result new.inner
 
 -- a flush is passed on, and burns nothing of a fuse
-pub record PassesFlush {S : Type 0} (was_flushed : S → Result (Unit {0}) Error → S → Type 0) (old new : FuseWriter S)
-    (result : Result (Unit {0}) Error) : Type 0 where
+pub record PassesFlush {S : Type 0} (was_flushed : S → Result (Unit {0}) Error → S → Type 0) (old : FuseWriter S)
+    (result : Result (Unit {0}) Error) (new : FuseWriter S) : Type 0 where
   pub flushed : was_flushed old.inner result new.inner
   pub left : new.left ≡ old.left

@@ -33,8 +33,7 @@ impl LineBuffer {
 
     /// Drops what it holds.
     pub fn clear(&mut self)
-        ensures empty { self.new.used ≡ 0 }
-        ensures failures { self.new.failures ≡ self.old.failures }
+        ensures { (self.new.used ≡ 0) × (self.new.failures ≡ self.old.failures) }
     {
         self.used = 0;
     }

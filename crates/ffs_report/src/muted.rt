@@ -1,7 +1,7 @@
 //! A writer that is muted by its first failure.
-ghost use Rattle.std.specs.{Prelude.{◌≡◌, ◌<◌, length, false, IfOk}, Io.KnownBytes.Keeps};
+ghost use Rattle.std.specs.Prelude.{◌≡◌, false};
 ghost use Rattle.ffs_image.specs.Interrupted.{IsTriedAgain};
-ghost use Rattle.ffs_report.specs.{Outlet.{TakesSome, WritesThrough}, Writers.IsMuted};
+ghost use Rattle.ffs_report.specs.{Outlet.{AnswersFlush, AnswersWrite, WritesThrough}, Writers.IsMuted};
 
 use crate::outlet::Outlet;
 use ffs_image::is_interrupted;
@@ -45,9 +45,8 @@ fn error_when_muted() -> io::Error {
 
 /// One write, tried again where a signal interrupts it.
 fn write_uninterrupted<S: Outlet>(inner: &mut S, buf: &[u8]) -> io::Result<usize>
-    ensures takes { TakesSome (S.contents inner.old) (S.contents inner.new) buf.now result }
-    ensures tried { IsTriedAgain (λ writer. S.was_written writer buf.now) inner.old inner.new
-        result }
+    ensures { AnswersWrite S.contents (λ old piece answer new. IsTriedAgain
+        (λ writer. S.was_written writer piece) old new answer) inner.old inner.new buf.now result }
 {
     for _ in 0..u64::MAX {
         let answer = inner.write_once(buf);
@@ -64,11 +63,9 @@ impl<S: Outlet> Write for MutedWriter<S> {
     /// # Errors
     /// Those of the writer below, a write that takes nothing, and each write after a failure.
     fn write(&mut self, buf: &[u8]) -> io::Result<usize>
-        ensures takes { TakesSome (S.contents self.old.inner) (S.contents self.new.inner) buf.now
+        ensures { AnswersWrite (λ w. S.contents w.inner)
+            (λ w piece. IsMuted (WritesThrough S.was_written piece) w) self.old self.new buf.now
             result }
-        ensures some { 0 < length buf.now → IfOk result (λ n. 0 < n) }
-        ensures muted { IsMuted self.old self.new result
-            (WritesThrough S.was_written self.old.inner self.new.inner buf.now result) }
     {
         if self.failed {
             return Err(error_when_muted());
@@ -89,9 +86,8 @@ impl<S: Outlet> Write for MutedWriter<S> {
     /// # Errors
     /// Those of the writer below, and each flush after a failure.
     fn flush(&mut self) -> io::Result<()>
-        ensures bytes { Keeps (S.contents self.old.inner) (S.contents self.new.inner) }
-        ensures muted { IsMuted self.old self.new result
-            (S.was_flushed self.old.inner result self.new.inner) }
+        ensures { AnswersFlush (λ w. S.contents w.inner) (IsMuted S.was_flushed)
+            self.old self.new result }
     {
         let flushed = if self.failed {
             Err(error_when_muted())

@@ -3,8 +3,8 @@
 //! What is over this trait can say how often it asks, and what it does with the answer. A std
 //! writer doesn't say that: of each, the two lines of the impl at the end of this file are trusted
 //! to ask it once.
-ghost use Rattle.std.specs.{Prelude.{ℕ, List, Option, Result}, Io.KnownBytes.Keeps, declared.io.Error.Error};
-ghost use Rattle.ffs_report.specs.Outlet.{TakesSome};
+ghost use Rattle.std.specs.{Prelude.{ℕ, List, Option, Result}, declared.io.Error.Error};
+ghost use Rattle.ffs_report.specs.Outlet.{AnswersFlush, AnswersWrite};
 
 use std::io;
 use std::io::Write;
@@ -25,16 +25,14 @@ pub trait Outlet {
     /// # Errors
     /// The write failed, or a signal interrupted it. It took nothing then.
     fn write_once(&mut self, buf: &[u8]) -> io::Result<usize>
-        ensures takes { TakesSome (contents self.old) (contents self.new) buf.now result }
-        ensures once { was_written self.old buf.now result self.new };
+        ensures { AnswersWrite contents was_written self.old self.new buf.now result };
 
     /// Flushes what it gathered.
     ///
     /// # Errors
     /// The flush failed.
     fn flush_once(&mut self) -> io::Result<()>
-        ensures bytes { Keeps (contents self.old) (contents self.new) }
-        ensures once { was_flushed self.old result self.new };
+        ensures { AnswersFlush contents was_flushed self.old self.new result };
 }
 
 impl<S: Write> Outlet for S {

@@ -12,13 +12,9 @@ count_from p (bit ∷ bits) a h =
     let here : p a ≡ bit = ap p (omega arith) ∙ h 0 in
     let more : count_by p (range_with_len (a + 1) (length bits)) ≡ set_count bits =
     count_from p bits (a + 1) (λ i. ap p (omega arith) ∙ h (suc i)) in
-    omega (
-      arith,
-      sum_by-cons (λ f. if p f then 1 else 0) a (range_with_len (a + 1) (length bits)),
-      ap {B = ℕ} (λ (b : Bool). if b then 1 else 0) here,
-      more,
-      sum_by-cons (λ (b : Bool). if b then 1 else 0) bit bits,
-    )
+    let places = sum_by-cons (λ f. if p f then 1 else 0) a (range_with_len (a + 1) (length bits)) in
+    let set = sum_by-cons (λ (b : Bool). if b then 1 else 0) bit bits in
+    omega (arith, places, ap {B = ℕ} (λ (b : Bool). if b then 1 else 0) here, more, set)
 
 pub count_all : (bits : List Bool) → set_among bits 0 (length bits) ≡ set_count bits
 count_all bits = grind (arith, count_from)

@@ -17,6 +17,11 @@ place_in word = if nat_lt word (2 ^ 31) then word else word - 2 ^ 31
 abbrev pub is_due : ℕ → Bool
 is_due word = not (nat_lt word (2 ^ 31))
 
+-- a word with the same place, whose parent entry is due as is said
+pub record KeepsPlace (due_now : Bool) (old new : ℕ) : Type 0 where
+  pub due : is_due new ≡ due_now
+  pub place : place_in new ≡ place_in old
+
 -- the word that notes the chunk with this number, and none where 31 bits have no room for it
 abbrev pub place_of : ℕ → ℕ
 place_of chunk = if nat_lt chunk (2 ^ 31 - 1) then chunk + 1 else 0

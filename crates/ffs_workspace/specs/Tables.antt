@@ -18,6 +18,11 @@ pub record DividesBlock (v : Layout) (n : ℕ) : Type 0 where
 abbrev pub DividesBlocks : ℕ → Type 0
 DividesBlocks n = (v : Layout) → IsAcceptedLayout v → DividesBlock v n
 
+-- the inode table is whole pieces of n inodes, and one of them has the inode x
+pub record HasPiece (v : Layout) (n x : ℕ) : Type 0 where
+  pub number : x < v.ncg * v.ipg
+  pub count : DividesBlock v n
+
 -- the byte where the piece of n inodes of the inode table begins that has the inode x
 abbrev pub table_place : Layout → ℕ → ℕ → ℕ
 table_place v n x = (cgstart v (x / v.ipg) + v.iblkno) * v.fsize + x % v.ipg / n * (n * DINODE_SIZE)
@@ -46,6 +51,11 @@ pub record CanReadInodes (v : Layout) (d : Device) (t : Table) : Type 0 where
 -- the inode x of the volume can be read
 pub record CanReadInode (v : Layout) (d : Device) (x : ℕ) (t : Table) : Type 0 where
   pub number : x < v.ncg * v.ipg
+  pub ready : CanReadInodes v d t
+
+-- the piece of n inodes that has the inode x can be read
+pub record CanReadPiece (v : Layout) (d : Device) (n x : ℕ) (t : Table) : Type 0 where
+  pub piece : HasPiece v n x
   pub ready : CanReadInodes v d t
 
 -- what is left of the table holds what the image gives

@@ -1,5 +1,5 @@
 //! How often parts of a check read the image at most.
-ghost use Rattle.std.specs.Prelude.{◌≡◌, Some, IfSome};
+ghost use Rattle.std.specs.Prelude.{◌≡◌, SomeIff};
 ghost use Rattle.ffs_volume.specs.Report.Reads.{line_reads, sweep_reads};
 ghost use Rattle.ffs_workspace.specs.Places.{AreChunksNumbered};
 
@@ -32,9 +32,7 @@ pub fn sweep_reads(geometry: &Geometry) -> u64
 /// 2^40 bytes. None on a larger one: there no place is noted of some parent entries, and a path may
 /// search a directory.
 pub fn line_reads(geometry: &Geometry) -> Option<u64>
-    ensures numbered { AreChunksNumbered geometry.now.layout → result ≡ Some line_reads }
-    ensures limited { IfSome result (λ n. AreChunksNumbered geometry.now.layout
-        × (n ≡ line_reads)) }
+    ensures { SomeIff result (AreChunksNumbered geometry.now.layout) line_reads }
 {
     let bytes = u64::from(geometry.layout.size) * u64::from(geometry.layout.fsize);
     if bytes > DIRBLKSIZ as u64 * NUMBERED_CHUNKS {

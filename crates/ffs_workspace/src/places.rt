@@ -1,7 +1,7 @@
 //! Where the parent entry of a directory is in the image, in 32 bits.
 
 ghost use Rattle.std.specs.Prelude.{◌≡◌, suc, false, true, MatchOption};
-ghost use Rattle.ffs_workspace.specs.Places.{place_in, is_due, place_of};
+ghost use Rattle.ffs_workspace.specs.Places.{place_in, is_due, place_of, KeepsPlace};
 
 /// The bit of a word that says that the parent entry is due. The bits below it are the place: 0
 /// where none is noted, else 1 more than the number of the chunk.
@@ -29,8 +29,7 @@ pub fn is_due(word: u32) -> bool
 #[inline(always)]
 #[tactic(auto, using(crate::proofs::PlaceLaws::or_due))]
 pub fn due(word: u32) -> u32
-    ensures due { is_due result ≡ true }
-    ensures place { place_in result ≡ place_in word }
+    ensures { KeepsPlace true word result }
 {
     word | DUE
 }
@@ -38,8 +37,7 @@ pub fn due(word: u32) -> u32
 /// A word with the same place, whose parent entry isn't due: it is passed.
 #[inline(always)]
 pub fn passed(word: u32) -> u32
-    ensures passed { is_due result ≡ false }
-    ensures place { place_in result ≡ place_in word }
+    ensures { KeepsPlace false word result }
 {
     word & !DUE
 }
@@ -48,7 +46,7 @@ pub fn passed(word: u32) -> u32
 /// room for it. Its parent entry isn't due.
 #[inline(always)]
 pub fn place_of(chunk: u64) -> u32
-    ensures value { result ≡ place_of chunk }
+    ensures { result ≡ place_of chunk }
 {
     if chunk < u64::from(DUE - 1) {
         chunk as u32 + 1

@@ -1,8 +1,8 @@
 //! Inodes, read by pieces of their table. `Table` is the `Window` of `ffs_walk` with the number of
 //! the inode that it starts at; no walk reads an inode, so it is here, beside the notes on inodes.
 
-ghost use Rattle.std.specs.Prelude.{◌≡◌, ◌*◌, ◌<◌, ◌↔◌, IsTrue};
-ghost use Rattle.ffs_workspace.specs.Tables.{DividesBlock, table_place};
+ghost use Rattle.std.specs.Prelude.{◌≡◌, ◌↔◌, IsTrue};
+ghost use Rattle.ffs_workspace.specs.Tables.{HasPiece, table_place};
 
 use ffs_image::{Image, ImageFault};
 use ffs_layout::{Geometry, decode_inode};
@@ -22,8 +22,7 @@ const PART_INODES: u32 = 32;
 #[inline(always)]
 #[tactic(auto, using(crate::proofs::TablePlaces::piece_laws))]
 fn piece_place(geometry: &Geometry, number: u32, count: u32) -> u64
-    requires number { number < geometry.now.layout.ncg * geometry.now.layout.ipg }
-    requires count { DividesBlock geometry.now.layout count }
+    requires { HasPiece geometry.now.layout count number }
     ensures { result ≡ table_place geometry.now.layout count number }
 {
     let group = number / geometry.layout.ipg;
@@ -44,7 +43,7 @@ pub struct Table {
 }
 
 impl Table {
-    ghost use Rattle.ffs_workspace.specs.Tables.{CanReadInode, CanReadInodes, DividesBlocks, HoldsInode};
+    ghost use Rattle.ffs_workspace.specs.Tables.{CanReadInode, CanReadPiece, DividesBlocks, HoldsInode};
     ghost use Rattle.ffs_workspace.specs.Tables.{IsEmptyTable, LoadsInode, ReadsInodeOnce, ReadsPiece};
 
     /// A table that holds no inode. It takes no memory.
@@ -82,8 +81,7 @@ impl Table {
         count: u32,
         image: &mut I,
     ) -> Result<(), ImageFault>
-        requires inode { CanReadInode geometry.now.layout (I.device image.old) number self.old }
-        requires count { DividesBlock geometry.now.layout count }
+        requires { CanReadPiece geometry.now.layout (I.device image.old) count number self.old }
         ensures { ReadsPiece geometry.now.layout (I.device image.old) (I.device image.new)
             (I.reads image.old) (I.reads image.new) number self.new result }
     {
@@ -127,8 +125,7 @@ impl Table {
         number: u32,
         image: &mut I,
     ) -> Result<Inode, ImageFault>
-        requires number { number < geometry.now.layout.ncg * geometry.now.layout.ipg }
-        requires ready { CanReadInodes geometry.now.layout (I.device image.old) self.old }
+        requires { CanReadInode geometry.now.layout (I.device image.old) number self.old }
         ensures { ReadsInodeOnce geometry.now.layout (I.device image.old) (I.device image.new)
             (I.reads image.old) (I.reads image.new) number self.old self.new result }
     {
@@ -169,8 +166,7 @@ impl Table {
         number: u32,
         image: &mut I,
     ) -> Result<Inode, ImageFault>
-        requires number { number < geometry.now.layout.ncg * geometry.now.layout.ipg }
-        requires ready { CanReadInodes geometry.now.layout (I.device image.old) self.old }
+        requires { CanReadInode geometry.now.layout (I.device image.old) number self.old }
         ensures { ReadsInodeOnce geometry.now.layout (I.device image.old) (I.device image.new)
             (I.reads image.old) (I.reads image.new) number self.old self.new result }
     {

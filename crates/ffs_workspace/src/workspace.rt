@@ -152,8 +152,7 @@ impl Workspace {
     /// How many bytes its lists and buffers take.
     pub fn held(&self) -> u64
         requires { (geometry : Geometry) × IsFor geometry.layout self.now }
-        ensures value { (v : Layout) → IsFor v self.now → result ≡ held_of v }
-        ensures bound { (v : Layout) → IsFor v self.now → result ≤ held_limit v }
+        ensures { (v : Layout) → IsFor v self.now → (result ≡ held_of v) × (result ≤ held_limit v) }
     {
         let maps = self.used.held() + self.duplicates.held();
         let bytes = self.kinds.len()

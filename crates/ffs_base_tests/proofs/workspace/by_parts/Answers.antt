@@ -1,22 +1,29 @@
-use Rattle.std.{proofs.Common.{◌∙◌, sym, subst}, specs.Prelude.{◌*◌, ◌≤◌}}
+use Rattle.std.{proofs.Common.{◌∙◌, arith, sym, subst}, specs.Prelude.{◌*◌, ◌≤◌}}
 use Rattle.ffs_image.specs.Device.{Device}
 use Rattle.ffs_base_tests.proofs.workspace.by_parts.Goals as goal
 
-pub inode_by_part-requires-2-clause-ready : goal.inode_by_part-requires-2-clause-ready
-inode_by_part-requires-2-clause-ready g c =
+pub inode_by_part-requires-2 : goal.inode_by_part-requires-2
+inode_by_part-requires-2 g c =
     let v = c.args.geometry.now.layout in
+    let read = sym c.in_ok-far.ensures.reads.read in
     record {
-      volume = subst (λ (d : Device). v.size * v.fsize ≤ d.size) (sym c.in_ok-far.ensures.reads.read) c.requires.ready.volume;
-      made = c.inode_by_part.ensures.reads.kept.made;
-      holds = c.inode_by_part.ensures.reads.kept.holds;
+      number = omega (arith, c.requires.inodes);
+      ready = record {
+        volume = subst (λ (d : Device). v.size * v.fsize ≤ d.size) read c.requires.ready.volume;
+        made = c.inode_by_part.ensures.reads.kept.made;
+        holds = c.inode_by_part.ensures.reads.kept.holds;
+      };
     }
 
-pub inode_by_part-requires-3-clause-ready : goal.inode_by_part-requires-3-clause-ready
-inode_by_part-requires-3-clause-ready g c =
+pub inode_by_part-requires-3 : goal.inode_by_part-requires-3
+inode_by_part-requires-3 g c =
     let v = c.args.geometry.now.layout in
+    let read = sym (c.in_ok-next.ensures.reads.read ∙ c.in_ok-far.ensures.reads.read) in
     record {
-      volume = subst (λ (d : Device). v.size * v.fsize ≤ d.size)
-          (sym (c.in_ok-next.ensures.reads.read ∙ c.in_ok-far.ensures.reads.read)) c.requires.ready.volume;
-      made = c.inode_by_part-2.ensures.reads.kept.made;
-      holds = c.inode_by_part-2.ensures.reads.kept.holds;
+      number = omega (arith, c.requires.inodes);
+      ready = record {
+        volume = subst (λ (d : Device). v.size * v.fsize ≤ d.size) read c.requires.ready.volume;
+        made = c.inode_by_part-2.ensures.reads.kept.made;
+        holds = c.inode_by_part-2.ensures.reads.kept.holds;
+      };
     }

@@ -5,10 +5,11 @@ use Rattle.ffs_workspace.specs.Holds.{claims_of}
 use Rattle.ffs_claims.proofs.{Frames.offers_claimed, UnclaimedRuns.{whole_is, run_below}}
 use Rattle.ffs_claims.proofs.offer.run_in_range.Goals as goal
 
-pub claim-requires-clause-below : goal.claim-requires-clause-below
-claim-requires-clause-below g c =
+pub claim-requires : goal.claim-requires
+claim-requires g c =
     let fits = c.requires.offer.known refl in
-    omega (arith, run_below _ c.args.run.start c.args.run.len c.args.run.some fits, c.requires.offer.made.used)
+    let within = run_below _ c.args.run.start c.args.run.len c.args.run.some fits in
+    record { some = c.args.run.some; below = omega (arith, within, c.requires.offer.made.used) }
 
 pub returns-then-claim : goal.returns-then-claim
 returns-then-claim g c =

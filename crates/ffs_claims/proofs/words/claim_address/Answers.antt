@@ -2,13 +2,14 @@ use Rattle.std.proofs.Common.{refl, arith, rules}
 use Rattle.ffs_claims.proofs.{UnclaimedRuns.run_below, WordClaims.run_claims}
 use Rattle.ffs_claims.proofs.words.claim_address.Goals as goal
 
-pub claim-requires-clause-below : goal.claim-requires-clause-below
-claim-requires-clause-below c =
+pub claim-requires : goal.claim-requires
+claim-requires c =
     let v = c.args.geometry.now.layout in
     let run = c.contains.ensures.0 c.if-not-contains.false in
     let some = c.args.geometry.now.sound.sizes.frag_low in
     let fits = c.requires.only_data.runs c.args.address v.frag run.first run.last some in
-    omega (arith, run_below v c.args.address v.frag some fits, c.requires.made.used)
+    let within = run_below v c.args.address v.frag some fits in
+    record { some = some; below = omega (arith, within, c.requires.made.used) }
 
 pub returns-clause-claimed : goal.returns-clause-claimed
 returns-clause-claimed c = λ t.

@@ -2,7 +2,7 @@ use Rattle.std.proofs.Common.{◌≡◌, ◌*◌, ◌/◌, Some, Ok, Err, arith,
 use Rattle.std.proofs.lemmas.Result.{err_from_is_err_and}
 use Rattle.ffs_volume.{specs.declared.SuperFault.TheVariants.CannotRead, proofs.OutcomeLaws.no_read_fault}
 use Rattle.ffs_layout.proofs.Answering.{past_end, magic, fault, disagree, accepted, copy_sector}
-use Rattle.ffs_layout.proofs.Copying.{default_sector, seen_layout}
+use Rattle.ffs_layout.proofs.Copying.{default_sector, own_layout}
 use Rattle.ffs_image.proofs.Devices.{reported_length, faulted_there}
 use Rattle.ffs_layout.proofs.superblock.read_super.Goals as goal
 
@@ -85,9 +85,7 @@ pub returns-clause-found : goal.returns-clause-found
 returns-clause-found g c =
     let copy = c.in_ok-read_copy.ensures.copied in
     let inside = rw (c.size.ensures, copy.same) at c.in_ok-geometry.ensures.in_image in
-    let layout = seen_layout c.make_super.result c.in-Some.order _ c.make_super.ensures
-    ∙ sym (c.in_ok-geometry.ensures.layout ∙ c.decode.ensures) in
-    rw layout inside
+    rw (ap (λ s. s.layout) c.make_super.ensures) inside
 
 pub returns-clause-answer : goal.returns-clause-answer
 returns-clause-answer g c =
@@ -101,5 +99,6 @@ returns-clause-answer g c =
       λ b e.
           sym (accepted _ _ c.args.sector _ long start _ copy.inside copy.bytes _
           (sym c.in-Some.ensures) good compared.agrees b e
-          ∙ ap Ok (sym c.make_super.ensures)),
+          ∙ ap Ok (sym (c.make_super.ensures
+          ∙ own_layout _ _ _ (c.in_ok-geometry.ensures.layout ∙ c.decode.ensures)))),
     )

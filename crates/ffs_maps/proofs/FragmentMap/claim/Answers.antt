@@ -36,11 +36,8 @@ overflow_add-self c =
     let fits : c.args.start % 64 + c.args.len ≤ 64 = omega (arith, c.if-len-low.false) in
     let clear = clear_run m.words.list m.size c.args.start c.args.len fits c.requires.below
     (c.claim.ensures.clear.0 c.if-not-claim.false) in
-    omega (
-      arith,
-      raised m c.args.start c.args.len c.requires.below clear,
-      few_among (set_run (bits_of m) c.args.start c.args.len) 0 m.size,
-    )
+    let few = few_among (set_run (bits_of m) c.args.start c.args.len) 0 m.size in
+    omega (arith, raised m c.args.start c.args.len c.requires.below clear, few)
 
 pub invariant_of-self-2 : goal.invariant_of-self-2
 invariant_of-self-2 c =

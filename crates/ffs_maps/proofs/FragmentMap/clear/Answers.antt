@@ -6,26 +6,18 @@ use Rattle.ffs_maps.proofs.FragmentMap.clear.Goals as goal
 pub overflow_sub-self : goal.overflow_sub-self
 overflow_sub-self c =
     let m = c.args.self.now in
-    omega (
-      arith,
-      lowered (bits_of m) m.size c.args.fragment m.ones c.from.result c.get.result (bits_long m) c.requires m.counted
-          c.get.ensures c.from.ensures,
-    )
+    omega (arith, lowered (bits_of m) _ _ _ _ _ (bits_long m) c.requires m.counted c.get.ensures c.from.ensures)
 
 pub invariant_of-self : goal.invariant_of-self
 invariant_of-self c =
     let m = c.args.self.now in
+    let fewer = lowered (bits_of m) _ _ _ _ _ (bits_long m) c.requires m.counted c.get.ensures c.from.ensures in
+    let now = ap (λ ws. bits_of_words ws.list m.size) c.set.ensures
+    ∙ clear_bits m.words.list m.size c.args.fragment c.get-word.result c.requires (omega (arith, m.enough))
+    c.get-word.ensures in
     record {
       enough = omega (arith, m.enough, ap (λ ws. length ws.list) c.set.ensures, length-set {A = ℕ});
-      counted = omega (
-        arith,
-        lowered (bits_of m) m.size c.args.fragment m.ones c.from.result c.get.result (bits_long m) c.requires m.counted
-            c.get.ensures c.from.ensures,
-        ap (λ bits. set_among bits 0 m.size)
-            (ap (λ ws. bits_of_words ws.list m.size) c.set.ensures
-            ∙ clear_bits m.words.list m.size c.args.fragment c.get-word.result c.requires (omega (arith, m.enough))
-            c.get-word.ensures),
-      );
+      counted = omega (arith, fewer, ap (λ bits. set_among bits 0 m.size) now);
     }
 
 pub returns : goal.returns

@@ -6,20 +6,15 @@ use Rattle.ffs_maps.proofs.FragmentMap.set.Goals as goal
 pub overflow_add-self : goal.overflow_add-self
 overflow_add-self c =
     let m = c.args.self.now in
-    omega (
-      arith,
-      raised (bits_of m) m.size c.args.fragment m.ones c.from.result c.get.result (bits_long m) c.requires m.counted
-          c.get.ensures c.from.ensures,
-      few_among (slice_set (bits_of m) c.args.fragment true) 0 m.size,
-    )
+    let more = raised (bits_of m) _ _ _ _ _ (bits_long m) c.requires m.counted c.get.ensures c.from.ensures in
+    omega (arith, more, few_among (slice_set (bits_of m) c.args.fragment true) 0 m.size)
 
 pub invariant_of-self : goal.invariant_of-self
 invariant_of-self c =
     let m = c.args.self.now in
     record {
       enough = omega (arith, m.enough, ap (λ ws. length ws.list) c.set.ensures, length-set {A = ℕ});
-      counted = raised (bits_of m) m.size c.args.fragment m.ones c.from.result c.get.result (bits_long m) c.requires
-          m.counted c.get.ensures c.from.ensures
+      counted = raised (bits_of m) _ _ _ _ _ (bits_long m) c.requires m.counted c.get.ensures c.from.ensures
           ∙ ap (λ bits. set_among bits 0 m.size)
           (sym (ap (λ ws. bits_of_words ws.list m.size) c.set.ensures
           ∙ set_bits m.words.list m.size c.args.fragment c.get-word.result c.requires (omega (arith, m.enough))

@@ -9,12 +9,9 @@ overflow_sub-self c = search (arith, few_among)
 pub overflow_add-self : goal.overflow_add-self
 overflow_add-self c =
     let m = c.args.self.now in
-    omega (
-      arith,
-      run_raised (bits_of m) m.size c.args.start c.args.len m.ones c.count_in_word.result (bits_long m)
-          c.requires.run.below m.counted c.count_in_word.ensures,
-      few_among (set_run (bits_of m) c.args.start c.args.len) 0 m.size,
-    )
+    let more = run_raised (bits_of m) _ c.args.start c.args.len _ _ (bits_long m) c.requires.run.below m.counted
+    c.count_in_word.ensures in
+    omega (arith, more, few_among (set_run (bits_of m) c.args.start c.args.len) 0 m.size)
 
 pub invariant_of-self : goal.invariant_of-self
 invariant_of-self c =

@@ -63,10 +63,10 @@ loop-dir-preserved g c =
                 ∙ ap (λ (x : Workspace). record x { windows = new.windows; queue = new.queue }) inv.lists;
             ready = noted.leaves.ready;
             low = omega arith;
-            passed = passed_next old new.queue.items dir w.passed.result inside w.passed.ensures.passed set_due
+            passed = passed_next old new.queue.items dir w.passed.result inside w.passed.ensures.due set_due
                 inv.passed;
             only = only_fewer first.parents.items old new.queue.items dir w.passed.result inside
-                w.passed.ensures.passed set_due inv.only;
+                w.passed.ensures.due set_due inv.only;
             reads = λ b t claims survey.
                 let is = parent_is_dir survey (inv.only dir due) in
                 let took = noted.reads b (ap (λ d. d.contents) inv.same ∙ t) (claims_noted lists claims) is in

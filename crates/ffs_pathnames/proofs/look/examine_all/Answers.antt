@@ -20,12 +20,13 @@ known g c b k =
       read.inode b k.gives_bytes,
     )
 
-pub inode_by_part-requires-clause-number : goal.inode_by_part-requires-clause-number
-inode_by_part-requires-clause-number g c = c.requires.ready.number
-
-pub inode_by_part-requires-clause-ready : goal.inode_by_part-requires-clause-ready
-inode_by_part-requires-clause-ready g c =
-    let r = c.requires.ready.ready in record { volume = r.volume; made = r.made.table; holds = r.windows.table }
+pub inode_by_part-requires : goal.inode_by_part-requires
+inode_by_part-requires g c =
+    let r = c.requires.ready.ready in
+    record {
+      number = c.requires.ready.number;
+      ready = record { volume = r.volume; made = r.made.table; holds = r.windows.table };
+    }
 
 pub cut_of-requires : goal.cut_of-requires
 cut_of-requires g c = omega (arith, c.requires.ready.ready.made.notes, c.requires.ready.number)

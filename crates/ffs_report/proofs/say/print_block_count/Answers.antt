@@ -5,8 +5,7 @@ pub returns-in_err-print_number : goal.returns-in_err-print_number
 returns-in_err-print_number g c = search (printing, c.in_err-print_number.ensures)
 
 pub returns-in_err-print_count : goal.returns-in_err-print_count
-returns-in_err-print_count g c =
-    search (printing, c.in_ok-print_number.ensures, c.in_err-print_count.ensures)
+returns-in_err-print_count g c = search (printing, c.in_ok-print_number.ensures, c.in_err-print_count.ensures)
 
 pub returns : goal.returns
 returns g c = search (printing, c.in_ok-print_number.ensures, c.in_ok-print_count.ensures, c.print_count-2.ensures)

@@ -5,8 +5,7 @@ pub returns-in_err-print_shown : goal.returns-in_err-print_shown
 returns-in_err-print_shown g c = search (printing, c.in_err-print_shown.ensures)
 
 pub returns-in_err-print : goal.returns-in_err-print
-returns-in_err-print g c =
-    search (printing, c.in_ok-print_shown.ensures, c.in_err-print.ensures)
+returns-in_err-print g c = search (printing, c.in_ok-print_shown.ensures, c.in_err-print.ensures)
 
 pub returns-in_err-print_shown-2 : goal.returns-in_err-print_shown-2
 returns-in_err-print_shown-2 g c =

@@ -5,8 +5,7 @@ pub returns-in_err-print : goal.returns-in_err-print
 returns-in_err-print g c = search (printing, c.in_err-print.ensures)
 
 pub returns-in_err-print_attr : goal.returns-in_err-print_attr
-returns-in_err-print_attr g c =
-    search (printing, c.in_ok-print.ensures, c.in_err-print_attr.ensures)
+returns-in_err-print_attr g c = search (printing, c.in_ok-print.ensures, c.in_err-print_attr.ensures)
 
 pub returns : goal.returns
 returns g c = search (printing, c.in_ok-print.ensures, c.in_ok-print_attr.ensures, c.print-2.ensures)

@@ -9,19 +9,11 @@ pub returns-in_err-print_signed : goal.returns-in_err-print_signed
 returns-in_err-print_signed g c =
     let narrow : to_z w16 (of_z w16 c.args.count) ≡ c.args.count = grind (arith, to_z-of_z) in
     let wide : to_z w64 (of_z w64 c.args.count) ≡ c.args.count = grind (arith, to_z-of_z) in
-    search (
-      printing,
-      c.in_ok-print_kind.ensures,
-      (rw (narrow, wide) at c.in_err-print_signed.ensures),
-    )
+    search (printing, c.in_ok-print_kind.ensures, (rw (narrow, wide) at c.in_err-print_signed.ensures))
 
 pub returns : goal.returns
 returns g c =
     let narrow : to_z w16 (of_z w16 c.args.count) ≡ c.args.count = grind (arith, to_z-of_z) in
     let wide : to_z w64 (of_z w64 c.args.count) ≡ c.args.count = grind (arith, to_z-of_z) in
-    search (
-      printing,
-      c.in_ok-print_kind.ensures,
-      (rw (narrow, wide) at c.in_ok-print_signed.ensures),
-      c.print_count.ensures,
-    )
+    let signed = rw (narrow, wide) at c.in_ok-print_signed.ensures in
+    search (printing, c.in_ok-print_kind.ensures, signed, c.print_count.ensures)

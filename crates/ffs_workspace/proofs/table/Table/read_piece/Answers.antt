@@ -10,7 +10,7 @@ returns g c = record {
       made = record {
         room = search rules;
         inodes = inodes_there c.args.geometry.now.layout c.args.count c.args.number _ c.args.geometry.now.sound
-            c.requires.count refl refl (c.in_ok-fill.ensures.fills.place.0 ∙ c.piece_place-place.ensures)
+            c.requires.piece.count refl refl (c.in_ok-fill.ensures.fills.place.0 ∙ c.piece_place-place.ensures)
             c.in_ok-fill.ensures.fills.place.1;
       };
       holds = c.fill.ensures.fills.holds;
