@@ -107,6 +107,11 @@ pub record AreEmptyBlocks (list : FixedList ℕ) (blocks : Blocks) : Type 0 wher
   pub buffer : blocks.buffer ≡ list
   pub holds : (v : Layout) (contents : Option (List ℕ)) → BlocksHold v contents blocks
 
+-- these bytes have the words from an index on and below another
+pub record HasWords (block : List ℕ) (next end : ℕ) : Type 0 where
+  pub order : next ≤ end
+  pub fits : 4 * end ≤ length block
+
 -- from index `next` on the words of a block are zero up to `end`, where a word stands that isn't
 -- zero, or the used ones end
 pub record EndsZeros (v : Layout) (block : List ℕ) (next used end : ℕ) : Type 0 where

@@ -4,8 +4,8 @@ use Rattle.ffs_walk.proofs.FrameSteps.{word_taken, less_left}
 use Rattle.ffs_walk.proofs.frame.Frame.take.Goals as goal
 use Rattle.ffs_walk.proofs.frame.Frame.take.Goals.{then-self+else-any_from, else-self}
 
-pub returns-clause-takes : goal.returns-clause-takes
-returns-clause-takes g c =
+pub returns : goal.returns
+returns g c =
     let no : c.args.self.now.unread ≡ true → any_nonzero_from c.args.geometry.now.layout c.bytes-block.result.now
     c.args.self.now.used ≡ false =
     elim c.if-self.branch [
@@ -22,10 +22,11 @@ returns-clause-takes g c =
         steps = rw (c.from.ensures, known)
             (word_taken c.args.geometry.now.layout _ c.args.span c.args.self.now c.bytes-block.result.now
             c.word-address.result
-            c.requires.item.left (λ b tells. c.bytes-block.ensures.bytes ∙ c.in_ok-fill.ensures.held.bytes b tells) no
+            c.requires.left (λ b tells. c.bytes-block.ensures.bytes ∙ c.in_ok-fill.ensures.held.bytes b tells) no
             c.word-address.ensures);
-        falls = rw known (λ most. less_left most c.args.self.now c.requires.item.left);
+        falls = rw known (λ most. less_left most c.args.self.now c.requires.left);
       };
+      block = search rules;
       read = known;
       same = search rules;
     }

@@ -9,6 +9,7 @@ returns-then-self c =
     let w = c.args.self.now in
     let top = c.requires in
     record {
+      none = λ e. refl;
       gives = λ contents. record {
         step = record {
           steps = λ bytes tells. top_ends bytes w (omega arith) top.single top.double top.triple;
@@ -29,6 +30,7 @@ returns-then-block-lt-NDADDR c =
     let step = rw c.from-block.ensures at c.data.ensures.step in
     let first : first_block w.geometry.layout.nindir w.next ≡ w.next = grind (arith, nat_tests) in
     record {
+      none = λ e. absurd (cc);
       gives = λ contents. gives_one _ _ _ _ (λ h. omega (arith, h.top)) (λ bytes tells.
           let none = no_rests bytes w c.requires in
           top_next bytes w 0 w.next c.data.result [] (omega arith) c.requires (omega arith) first
@@ -44,6 +46,7 @@ returns-in-12 c =
     let w = c.args.self.now in
     let enters = c.enter-step.ensures in
     record {
+      none = λ e. absurd (cc);
       gives = λ contents. gives_one _ _ _ _ (λ h. omega (arith, h.top)) (λ bytes tells.
           let none = no_rests bytes w c.requires in
           top_next bytes w 1 12 _ _ (omega arith) c.requires (omega arith) (rw c.in-12.is refl)
@@ -59,6 +62,7 @@ returns-in-13 c =
     let w = c.args.self.now in
     let enters = c.enter-step-in-13.ensures in
     record {
+      none = λ e. absurd (cc);
       gives = λ contents. gives_one _ _ _ _ (λ h. omega (arith, h.top)) (λ bytes tells.
           let none = no_rests bytes w c.requires in
           let made = rw c.from-words.ensures at (enters.steps bytes (steps_at (file_blocks_of w) bytes 1)) in
@@ -76,6 +80,7 @@ returns-in_default c =
     let enters = c.enter-step-in_default.ensures in
     let is : w.next ≡ 14 = omega (arith, w.in_array) in
     record {
+      none = λ e. absurd (cc);
       gives = λ contents. gives_one _ _ _ _ (λ h. omega (arith, h.top)) (λ bytes tells.
           let none = no_rests bytes w c.requires in
           let made = rw c.from-words.ensures at (enters.steps bytes (steps_at (file_blocks_of w) bytes 2)) in
