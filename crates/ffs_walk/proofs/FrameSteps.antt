@@ -54,12 +54,7 @@ item_below g blocks span f (Word address block) some fits from = grind (arith, w
 pub can_take : (g : Layout) (d : Device) (blocks span level : ℕ) (f : Frame) (held : Blocks) → 0 < span →
     FrameFits g blocks span f → blocks < 2 ^ 53 → f.next < f.used → level < 3 → CanWalk g d held →
     CanTake g d span level f held
-can_take g d blocks span level f held some fits small h lt walk = record {
-  left = h;
-  words = grind arith;
-  small = grind arith;
-  ready = record { is_level = lt; in_range = fits.in_range_there h; ready = walk };
-}
+can_take g d blocks span level f held some fits small h lt walk = grind arith
 
 -- an address that isn't zero
 pub is_set : (address : ℕ) → (address ≡ 0 → ⊥) → (address == 0) ≡ false

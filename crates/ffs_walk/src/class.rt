@@ -58,6 +58,7 @@ fn is_short_symlink(geometry: &Geometry, inode: &Inode) -> bool
 
 /// Whether an address isn't zero.
 #[inline(always)]
+#[tactic(auto, using(crate::proofs::AnySet::or_set, crate::proofs::AnySet::any_more))]
 fn any_nonzero(addresses: &[u32; 15]) -> bool
     ensures { result ≡ inodes.any_nonzero addresses.now }
 {
@@ -104,7 +105,7 @@ pub fn has_steps(geometry: &Geometry, inode: &Inode, class: Class) -> bool
 }
 
 /// The greatest size of a file, in bytes, whose blocks the fifteen addresses reach.
-#[tactic(auto, using(crate::proofs::Sizes::products_small))]
+#[tactic(auto, using(crate::proofs::Sizes::products_small, crate::proofs::Sizes::size_small))]
 fn greatest_size(geometry: &Geometry) -> u64
     ensures { result ≡ (12 + geometry.now.layout.nindir + geometry.now.layout.nindir *
         geometry.now.layout.nindir + geometry.now.layout.nindir * geometry.now.layout.nindir *

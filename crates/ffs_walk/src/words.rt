@@ -26,6 +26,7 @@ pub fn word(geometry: &Geometry, block: &[u8], index: u32) -> u32
 /// Whether one of the bytes isn't zero. All are looked at, with no test of each that ends the loop:
 /// the machine takes many together.
 #[inline(always)]
+#[tactic(auto, using(crate::proofs::AnySet::or_set, std::proofs::lemmas::List::Folds::list_any_more, std::proofs::lemmas::Grind::common_steps))]
 fn any_set(bytes: &[u8]) -> bool
     ensures { result ≡ any_nonzero bytes.now }
 {

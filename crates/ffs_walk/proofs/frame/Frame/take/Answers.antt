@@ -1,4 +1,4 @@
-use Rattle.std.proofs.Common.{rules, ◌≡◌, ◌∙◌, sym, ap, true, false}
+use Rattle.std.proofs.Common.{arith, rules, ◌≡◌, ◌∙◌, sym, ap, true, false}
 use Rattle.ffs_volume.specs.Blocks.Steps.{any_nonzero_from}
 use Rattle.ffs_walk.proofs.FrameSteps.{word_taken, less_left}
 use Rattle.ffs_walk.proofs.frame.Frame.take.Goals as goal
@@ -8,14 +8,8 @@ pub returns : goal.returns
 returns g c =
     let no : c.args.self.now.unread ≡ true → any_nonzero_from c.args.geometry.now.layout c.bytes-block.result.now
     c.args.self.now.used ≡ false =
-    elim c.if-self.branch [
-      | then-self+else-any_from w ↦ (λ h. sym w.any_from.ensures ∙ w.if-any_from.false)
-      | else-self w ↦ (λ h. (cc))
-    ] in
-    let known : c.if-self.self.1.1.1.1.1.0 ≡ false = elim c.if-self.branch [
-      | then-self+else-any_from w ↦ ap (λ s. s.1.1.1.1.1.0) w.self-is
-      | else-self w ↦ ap (λ s. s.1.1.1.1.1.0) w.self-is ∙ w.if-self.false
-    ] in
+    grind arith in
+    let known : c.if-self.self.1.1.1.1.1.0 ≡ false = grind arith in
     record {
       item = record {
         item = search rules;
