@@ -1,7 +1,7 @@
 -- Whether an address isn't zero: of all, and of those from an index on, by a bit for each.
 use mir.Val.{bool_byte}
 use Rattle.std.proofs.Common.{zero, suc, Bool, true, false, inl, inr, ◌≡◌, ◌==◌, ◌||◌, ◌+◌, ◌-◌, ◌*◌, ◌/◌, ◌%◌, ◌^◌}
-use Rattle.std.proofs.Common.{◌<◌, ◌≤◌, ◌∙◌, ap, refl, ℕ, List, length, get_or, take, drop, not, bit_or, arith}
+use Rattle.std.proofs.Common.{◌<◌, ◌≤◌, ◌∙◌, refl, ℕ, List, length, get_or, take, drop, not, bit_or, arith}
 use Rattle.std.proofs.{Common.length-drop, lemmas.{Bool.{cases_lt, Decides.nat_tests}, List.Folds.list_any_more}}
 use Rattle.std.proofs.{lemmas.{List.get_or-drop, Nat.{le_or_l, le-div, or_lt, pow_pos, shl_below}}, Math.Pow.pow_mono}
 use Rattle.std.specs.Int.Bits.{or_shifted_r}

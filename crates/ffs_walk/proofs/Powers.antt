@@ -1,7 +1,7 @@
 -- Blocks and fragments have sizes that are powers of two. A shift divides by one, and a mask gives
 -- the remainder.
 use Rattle.std.proofs.Common.{zero, suc, ◌≡◌, ◌==◌, ◌-◌, ◌/◌, ◌%◌, ◌^◌, ◌<◌, ◌≤◌, ℕ, List, [], ◌∷◌, true, refl, sym, ap}
-use Rattle.std.{proofs.Common.{◌∙◌, arith, bit_and, inl, inr, subst}, specs.Int.{IsPowerOfTwo, trailing_zeros, w32}}
+use Rattle.std.{proofs.Common.{arith, bit_and, inl, inr, subst}, specs.Int.{IsPowerOfTwo, trailing_zeros, w32}}
 use Rattle.std.{specs.Int.Count.count_trailing_zeros, proofs.lemmas.{Nat.and_mask, Bool.{or_cases, cases_lt}}}
 use Rattle.std.proofs.{lemmas.Bool.Decides.nat_tests, Math.{Nat.pow-suc, Pow.pow_mono}}
 use Rattle.ffs_volume.{proofs.GeometryLaws.shape_holds, specs.{declared.Layout.Layout, Laws.Geometry.IsAcceptedLayout}}

@@ -1,10 +1,10 @@
 -- Blocks of which one is read anew.
-use Rattle.std.proofs.Common.{◌≡◌, ◌≢◌, ℕ, ◌+◌, ◌-◌, ◌*◌, ◌<◌, ◌≤◌, List, length, take, drop, Option, Some, None, ◌⊎◌}
-use Rattle.std.{proofs.Common.{inl, inr, arith, sym, ap, ◌∙◌, slice_set}, specs.Prelude.{Vec, vec_len}}
+use Rattle.std.proofs.Common.{◌≡◌, ◌≢◌, ℕ, ◌+◌, ◌-◌, ◌*◌, ◌<◌, ◌≤◌, List, length, take, Option, Some, None, ◌⊎◌}
+use Rattle.std.{proofs.Common.{inl, inr, arith, ap, slice_set}, specs.Prelude.{Vec, vec_len}}
 use Rattle.std.{specs.Vec.with_items, proofs.lemmas.List.{drop-take, get_or-set_same, get_or-set_other, length-set}}
 use Rattle.std.proofs.lemmas.{List.{length-take-le, length-drop, with_items_is}, Slice.take-put_mid_below}
 use Rattle.std.proofs.lemmas.Slice.{drop-put_mid, between-put_mid}
-use borrow.Rule.Slice.PartMut.{put_mid, mid_of, same_len_mid}
+use borrow.Rule.Slice.PartMut.{put_mid, same_len_mid}
 use Rattle.ffs_image.specs.Device.{ForContents}
 use Rattle.ffs_volume.specs.{Disk.Numbers.piece, Blocks.Steps.block_bytes, declared.Layout.Layout}
 use Rattle.ffs_walk.specs.{declared.blocks.Blocks.Blocks, Windows.{BlocksHold, level_bytes, held_address}}

@@ -1,6 +1,6 @@
 -- A word isn't zero where one of its bytes isn't, in either byte order.
-use Rattle.std.proofs.Common.{◌≡◌, ℕ, zero, suc, ◌==◌, ◌+◌, ◌-◌, ◌*◌, ◌<◌, ◌≤◌, Bool, true, false, not, ◌||◌, List, []}
-use Rattle.std.proofs.Common.{leb, ◌&&◌, ◌∷◌, length, take, drop, arith, refl, ap, sym, ◌∙◌, length-drop}
+use Rattle.std.proofs.Common.{◌≡◌, ℕ, zero, suc, ◌==◌, ◌+◌, ◌-◌, ◌*◌, ◌<◌, ◌≤◌, true, false, not, List, []}
+use Rattle.std.proofs.Common.{leb, ◌&&◌, ◌∷◌, length, take, drop, arith, refl, length-drop}
 use Rattle.std.{proofs.{Math.Seq.take-add, lemmas.List.{drop-drop, Folds.list_any-append}}, specs.List.list_any}
 use Rattle.std.specs.List.{range_with_len, slice_range}
 use Rattle.ffs_volume.specs.{declared.{Layout.Layout, Order.{Order, TheVariants.{Little, Big}}}, Disk.Numbers.number}

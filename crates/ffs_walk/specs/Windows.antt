@@ -83,6 +83,13 @@ pub record FillsBlock {T : Type 0} (v : Layout) (d d' : Device) (reads reads' le
   pub counted : reads' ≤ reads + 1
   pub again : held_address level before ≡ Some at → reads' ≤ reads
 
+-- `size` bytes of a place may be asked for: the image has them, and the window has room for them and
+-- holds what the image gives
+pub record CanFillWindow (d : Device) (at size : ℕ) (w : Window) : Type 0 where
+  pub room : size ≤ vec_len w.buffer
+  pub inside : at + size ≤ d.size
+  pub holds : WindowHolds d.contents w
+
 -- a window with the room that it had holds `size` bytes of a place, or after a failed read none. They
 -- are read at most once, and not where it held just these
 pub record FillsWindow {T : Type 0} (d d' : Device) (reads reads' at size : ℕ) (before after : Window)
