@@ -1,5 +1,6 @@
 use Rattle.ffs_walk.{proofs.WalkSteps.{gives_one, some_words, spent_rest}, specs.Rests.{most_at, file_blocks_of}}
-use Rattle.ffs_walk.proofs.{FrameSteps.can_take, GapSteps.{in_first, in_second, in_third}, Counted.{double_reads, triple_reads}}
+use Rattle.ffs_walk.proofs.{FrameSteps.can_take, GapSteps.{in_first, in_second, in_third}}
+use Rattle.ffs_walk.proofs.Counted.{double_reads, triple_reads}
 use Rattle.std.proofs.{Common.{arith, refl, rules, ◌∙◌}, Math.Nat.mul-pos}
 use Rattle.ffs_volume.specs.Blocks.Steps.{steps_at}
 use Rattle.ffs_walk.proofs.walk.Walk.advance.Goals as goal
