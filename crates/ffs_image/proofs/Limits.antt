@@ -14,26 +14,20 @@ pub read_over : {T : Type 0} (old new : Device) (r : Result T ImageFault) → Re
 read_over old new (Ok x) h = grind arith
 read_over old new (Err fault) h = record { lent = h.lent; contents = h.contents; size = h.size }
 
--- the image below was read no more often than the limit
-pub limit_kept : {lent below : Device} {name_lent name : GName} {reads reads' left asked limit : ℕ}
-    {spent : Bool} {above above' : Device} →
-    GivesBack lent below name_lent name reads reads' limit left asked spent above above' →
-    reads' ≤ reads + limit
-limit_kept g = grind arith
+module _ {lent below : Device} {name_lent name : GName} {reads reads' limit left asked : ℕ} {spent : Bool}
+    {above above' : Device} (g : GivesBack lent below name_lent name reads reads' limit left asked spent above above')
+  where
+    -- the image below was read no more often than the limit
+    pub limit_kept : reads' ≤ reads + limit
+    limit_kept = grind arith
 
--- nor more often than the limited image was asked
-pub asked_kept : {lent below : Device} {name_lent name : GName} {reads reads' left asked limit : ℕ}
-    {spent : Bool} {above above' : Device} →
-    GivesBack lent below name_lent name reads reads' limit left asked spent above above' →
-    reads' ≤ reads + asked
-asked_kept g = grind arith
+    -- nor more often than the limited image was asked
+    pub asked_kept : reads' ≤ reads + asked
+    asked_kept = grind arith
 
--- no read is refused where no more are asked for than the limit
-pub never_refused : {lent below : Device} {name_lent name : GName} {reads reads' left asked limit : ℕ}
-    {spent : Bool} {above above' : Device} →
-    GivesBack lent below name_lent name reads reads' limit left asked spent above above' →
-    asked ≤ limit → spent ≡ false
-never_refused g few = grind arith
+    -- no read is refused where no more are asked for than the limit
+    pub never_refused : asked ≤ limit → spent ≡ false
+    never_refused few = grind arith
 
 -- what a part that read a limited image leaves of the image below: its reads, and its answer's
 -- meaning, where none was refused
@@ -48,12 +42,12 @@ pub record ServedBy {T : Type 0} (lent below : Device) (name_lent name : GName) 
   pub refused : spent ≡ true → below ≡ lent
   pub read : spent ≡ false → ReadAfter lent below r
 
-served_back : {T : Type 0} (lent below : Device) (name_lent name : GName) (reads reads' limit left asked : ℕ) (s : Bool)
-    (above' : Device) (r : Result T ImageFault) → ReadAfter (limited_device lent name_lent reads limit) above' r →
+served_back : {T : Type 0} {lent below : Device} {name_lent name : GName} {reads reads' limit left asked : ℕ} {s : Bool}
+    {above' : Device} (r : Result T ImageFault) → ReadAfter (limited_device lent name_lent reads limit) above' r →
     GivesBack lent below name_lent name reads reads' limit left asked s
     (limited_device lent name_lent reads limit) above' →
     ServedBy lent below name_lent name reads reads' limit asked s r
-served_back lent below name_lent name reads reads' limit left asked s above' r h g = grind arith
+served_back r h g = grind arith
 
 -- the contract of the part, with the clause of the limited image on what is below
 pub served : {T : Type 0} {lent below : Device} {name_lent name : GName} {reads reads' limit left asked : ℕ} {s : Bool}
@@ -65,5 +59,4 @@ pub served : {T : Type 0} {lent below : Device} {name_lent name : GName} {reads 
     ServedBy lent below name_lent name reads reads' limit asked s r
 served {lent = lent} {name_lent = name_lent} {reads = reads} {limit = limit} {above' = above'} {r = r} h back =
     let over = read_over (limited_device lent name_lent reads limit) above' r h in
-    served_back lent _ name_lent _ reads _ limit _ _ _ above' r h
-    (back lent name_lent reads limit over.lent over.contents over.size)
+    served_back r h (back lent name_lent reads limit over.lent over.contents over.size)

@@ -1,6 +1,7 @@
 -- What a source of an image's bytes gives, and what a read does to it.
 use Rattle.std.specs.Prelude.{◌≡◌, ◌+◌, ◌-◌, ◌<◌, ◌≤◌, ℕ, zero, suc, List, length, drop, take}
-use Rattle.std.specs.Prelude.{Option, Result, Ok, Err, OnOk, IfOk, MatchResult}
+use Rattle.std.specs.Prelude.{Option, Result, Ok, Err, OnOk, IfOk, IfSome, MatchResult}
+use Rattle.std.specs.{Io.ReadsAtMost, Result.result_unwrap_or, declared.io.Error.Error}
 use Rattle.ffs_image.specs.Device.{ForContents, Rose}
 
 -- what contracts know of a source, as `Device` of an image, but for the last sector: its bytes
@@ -24,6 +25,18 @@ pub record IsFailed (old new : SourceState) : Type 0 where
 abbrev pub SourceAfter : {T E : Type 0} → SourceState → SourceState → Result T E → Type 0
 SourceAfter old new (Ok x) = new ≡ old
 SourceAfter old new (Err fault) = IsFailed old new
+
+-- a file was asked for its end: that is where its bytes end, or 0 where it has none. They stay
+pub record GivesEnd (old new : Option (List ℕ)) (result : Result ℕ Error) : Type 0 where
+  pub bytes : IfSome old (λ b. length b ≡ result_unwrap_or result 0)
+  pub kept : new ≡ old
+
+-- a file was read: the answer is how many of these bytes are its bytes at a place, or that the read
+-- failed. Its bytes stay
+pub record GivesBytes (old new : Option (List ℕ)) (at : ℕ) (xs : List ℕ) (result : Result ℕ Error) : Type 0 where
+  pub bound : ReadsAtMost result xs
+  pub bytes : IfOk result (λ n. AreAt old at (take n xs))
+  pub kept : new ≡ old
 
 -- the answer of a read at a place: how many of these bytes are the source's there, at least one, or
 -- the read failed

@@ -1,5 +1,5 @@
 //! An image in a file.
-ghost use Rattle.std.specs.Prelude.{◌≡◌, ◌+◌, ◌≤◌, length, IfOk, IfErr};
+ghost use Rattle.std.specs.Prelude.{◌≡◌, ◌+◌, ◌≤◌, length, IfOk, MatchResult};
 ghost use Rattle.ffs_image.specs.{Faults.open_fault_of, Reads.ReadsBytes, Source.ReadsThrough, System.IsOpened};
 ghost use Rattle.ffs_image.specs.System.{OpenFails};
 
@@ -64,12 +64,11 @@ impl<F: RawFile + Drop> SourceImage<OpenedFile<F>> {
     /// # Errors
     /// The file can't be opened, or is a FIFO, whose opening would wait for a writer.
     pub fn open<Y: System<File = F>>(system: &Y, name: &str) -> Result<RawImage<F>, OpenFault>
-        ensures opened { IfOk result (λ image. IsOpened Y.was_looked_up Y.was_opened F.was_sought
-            system.now name.now image.source.file image.source.size) }
+        ensures opens { MatchResult result (λ image. IsOpened Y.was_looked_up Y.was_opened
+            F.was_sought system.now name.now image.source.file image.source.size)
+            (OpenFails Y.was_looked_up Y.was_opened system.now name.now) }
         ensures failures { IfOk result (λ image. (image.source.failures ≡ 0)
             × (image.failed_sector ≡ 0)) }
-        ensures refused { IfErr result (OpenFails Y.was_looked_up Y.was_opened system.now
-            name.now) }
     {
         let source = OpenedFile::open(system, name)?;
         Ok(SourceImage {
@@ -111,8 +110,6 @@ impl<S: Source> Image for SourceImage<S> {
         requires { at + length buf.old ≤ (S.state self.old.source).size }
         ensures bytes { ReadsBytes (⟦<SourceImage<S> as Image>⟧.device self.old)
             (⟦<SourceImage<S> as Image>⟧.device self.new) at buf.new result }
-        ensures counted { ⟦<SourceImage<S> as Image>⟧.reads self.new ≤
-            ⟦<SourceImage<S> as Image>⟧.reads self.old + 1 }
 
         // Which reads of the source it takes.
         ensures source { ReadsThrough S.was_read self.old.source self.new.source at

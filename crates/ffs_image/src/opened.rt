@@ -1,6 +1,6 @@
 //! A file that is open for reading alone.
-ghost use Rattle.std.specs.{Prelude.{◌≡◌, length, take, IfOk, IfErr}, Io.ReadsAtMost};
-ghost use Rattle.ffs_image.specs.{Device.ForContents, Interrupted.IsTriedAgain, Source.{AreAt, GivesSome}};
+ghost use Rattle.std.specs.{Prelude.{◌≡◌, length, IfOk, MatchResult}};
+ghost use Rattle.ffs_image.specs.{Device.ForContents, Interrupted.IsTriedAgain, Source.{GivesBytes, GivesSome}};
 ghost use Rattle.ffs_image.specs.System.{IsEndOf, IsOpened, OpenFails, SomeOf};
 
 use crate::file::OpenFault;
@@ -31,9 +31,7 @@ fn size_of<F: RawFile>(file: &mut F) -> u64
 
 /// Reads a file at a place, and again where a signal interrupts that.
 fn read_uninterrupted<F: RawFile>(file: &mut F, buf: &mut [u8], at: u64) -> io::Result<usize>
-    ensures bound { ReadsAtMost result buf.new }
-    ensures bytes { IfOk result (λ n. AreAt (F.contents file.old) at (take n buf.new)) }
-    ensures kept { F.contents file.new ≡ F.contents file.old }
+    ensures gives { GivesBytes (F.contents file.old) (F.contents file.new) at buf.new result }
     ensures tried { IsTriedAgain (λ old. F.was_read old at (length buf.old)) file.old file.new
         result }
 {
@@ -53,11 +51,10 @@ impl<F: RawFile + Drop> OpenedFile<F> {
         system: &Y,
         name: &str,
     ) -> Result<OpenedFile<F>, OpenFault>
-        ensures opened { IfOk result (λ opened. IsOpened Y.was_looked_up Y.was_opened F.was_sought
-            system.now name.now opened.file opened.size) }
+        ensures opens { MatchResult result (λ opened. IsOpened Y.was_looked_up Y.was_opened
+            F.was_sought system.now name.now opened.file opened.size)
+            (OpenFails Y.was_looked_up Y.was_opened system.now name.now) }
         ensures failures { IfOk result (λ opened. opened.failures ≡ 0) }
-        ensures refused { IfErr result (OpenFails Y.was_looked_up Y.was_opened system.now
-            name.now) }
     {
         match system.is_fifo(name) {
             Ok(false) => {}

@@ -6,9 +6,8 @@
 //! this file: its metadata reports which name is that of a FIFO; its open opens the file of the
 //! name as given, for reading alone; its seek to the end gives the number of bytes; its `read_at`
 //! gives bytes of that place, or an error.
-ghost use Rattle.std.specs.Prelude.{◌≡◌, ◌≤◌, ℕ, Bool, List, length, take, Option, Result, IfOk, IfSome};
-ghost use Rattle.std.specs.{Io.ReadsAtMost, Result.result_unwrap_or, declared.io.Error.Error};
-ghost use Rattle.ffs_image.specs.Source.{AreAt};
+ghost use Rattle.std.specs.{Prelude.{ℕ, Bool, List, length, Option, Result}, declared.io.Error.Error};
+ghost use Rattle.ffs_image.specs.Source.{GivesBytes, GivesEnd};
 
 use std::fs::File;
 use std::io::{Seek, SeekFrom};
@@ -33,8 +32,7 @@ pub trait RawFile {
     /// # Errors
     /// It can't be sought: it has no bytes.
     fn end(&mut self) -> io::Result<u64>
-        ensures bytes { IfSome (contents self.old) (λ b. length b ≡ result_unwrap_or result 0) }
-        ensures kept { contents self.new ≡ contents self.old }
+        ensures gives { GivesEnd (contents self.old) (contents self.new) result }
         ensures once { was_sought self.old result self.new };
 
     /// Reads some of the bytes at a place, and returns how many.
@@ -42,9 +40,7 @@ pub trait RawFile {
     /// # Errors
     /// The read failed, or a signal interrupted it. The buffer's content is unspecified then.
     fn read_once(&mut self, buf: &mut [u8], at: u64) -> io::Result<usize>
-        ensures bound { ReadsAtMost result buf.new }
-        ensures bytes { IfOk result (λ n. AreAt (contents self.old) at (take n buf.new)) }
-        ensures kept { contents self.new ≡ contents self.old }
+        ensures gives { GivesBytes (contents self.old) (contents self.new) at buf.new result }
         ensures once { was_read self.old at (length buf.old) result self.new };
 }
 

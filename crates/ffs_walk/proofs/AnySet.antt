@@ -1,7 +1,7 @@
 -- Whether an address isn't zero: of all, and of those from an index on, by a bit for each.
 use mir.Val.{bool_byte}
 use Rattle.std.proofs.Common.{zero, suc, Bool, true, false, inl, inr, ◌≡◌, ◌==◌, ◌||◌, ◌+◌, ◌-◌, ◌*◌, ◌/◌, ◌%◌, ◌^◌}
-use Rattle.std.proofs.Common.{◌<◌, ◌≤◌, ◌∙◌, ap, refl, ℕ, List, length, get_or, take, drop, not, bit_or, arith}
+use Rattle.std.proofs.Common.{◌<◌, ◌≤◌, ◌∙◌, refl, ℕ, List, length, get_or, take, drop, not, bit_or, arith}
 use Rattle.std.proofs.{Common.length-drop, lemmas.{Bool.{cases_lt, Decides.nat_tests}, List.Folds.list_any_more}}
 use Rattle.std.proofs.{lemmas.{List.get_or-drop, Nat.{le_or_l, le-div, or_lt, pow_pos, shl_below}}, Math.Pow.pow_mono}
 use Rattle.std.specs.Int.Bits.{or_shifted_r}
@@ -49,12 +49,9 @@ bits_more xs from i bits b h fits is (k, e) =
     let (one, set) = bit_of (not (get_or xs i 0 == 0)) b is in
     let double : 2 ^ i ≤ 2 ^ (i + 1) = pow_mono (omega arith) in
     let room : 2 ^ (i + 1) ≤ 2 ^ 32 = pow_mono {j = 32} (omega (arith, fits)) in
-    let shifted : b * 2 ^ i < 2 ^ (1 + i) = shl_below b 1 i one in
-    let flip : 2 ^ (1 + i) ≡ 2 ^ (i + 1) = ap (λ n. 2 ^ n) (omega arith) in
-    let below : b * 2 ^ i < 2 ^ (i + 1) = omega (arith, shifted, flip) in
-    let whole : b * 2 ^ i % 2 ^ 32 ≡ b * 2 ^ i = omega (arith, below, room) in
-    let small : bit_or bits (b * 2 ^ i) < 2 ^ (i + 1) =
-    or_lt (i + 1) bits (b * 2 ^ i) (omega (arith, k, double)) below in
+    let shifted : b * 2 ^ i < 2 ^ (i + 1) = grind (arith, shl_below b 1 i one) in
+    let whole : b * 2 ^ i % 2 ^ 32 ≡ b * 2 ^ i = omega (arith, shifted, room) in
+    let small = or_lt (i + 1) bits (b * 2 ^ i) (omega (arith, k, double)) shifted in
     let answer : any_nonzero (take (i + 1 - from) (drop from xs)) ≡ not (bit_or bits (b * 2 ^ i) / 2 ^ from == 0) =
     elim (cases_lt i from) [
       | inl before ↦

@@ -3,9 +3,10 @@ use Rattle.std.proofs.Common.{◌≡◌, ℕ, ◌+◌, ◌-◌, ◌*◌, ◌<◌
 use Rattle.std.proofs.{Common.{Option, arith, refl, ◌==◌}, lemmas.Bool.Decides.nat_tests}
 use Rattle.ffs_volume.specs.{declared.{Layout.Layout, Step.Step}, Blocks.Steps.{block_bytes, address_in, tail_of}}
 use Rattle.ffs_volume.specs.Blocks.Steps.{any_nonzero_from, steps_under, address_at, indirect_addresses_needed}
-use Rattle.ffs_walk.specs.{declared.frame.{Frame.Frame, Item.Item}, Frames.{frame_rest, frame_left, IsFrom}}
+use Rattle.ffs_walk.specs.{declared.frame.{Frame.Frame, Item.Item}, Frames.{CanTake, frame_rest, frame_left, IsFrom}}
 use Rattle.ffs_walk.specs.{declared.frame.Item.TheVariants.{UnusedWord, Word}, Fits.{FrameFits, IsBelow}}
-use Rattle.ffs_image.specs.Device.{ForContents}
+use Rattle.ffs_walk.specs.{declared.blocks.Blocks.Blocks, Windows.CanWalk}
+use Rattle.ffs_image.specs.Device.{Device, ForContents}
 
 -- the steps under the words from `next` on are those at the next word and then the rest
 pub next_word : (g : Layout) (bytes : List ℕ) (child : ℕ → ℕ → List Step) (span address first next used : ℕ) →
@@ -49,9 +50,11 @@ pub item_below : (g : Layout) (blocks span : ℕ) (f : Frame) (item : Item) → 
 item_below g blocks span f UnusedWord some fits from = tt
 item_below g blocks span f (Word address block) some fits from = grind (arith, word_below)
 
-pub word_fits : (g : Layout) (blocks span : ℕ) (f : Frame) → 0 < span → FrameFits g blocks span f → blocks < 2 ^ 53 →
-    f.next < f.used → f.first + f.next * span < 2 ^ 64
-word_fits g blocks span f some fits small h = grind arith
+-- the next item of a frame that fits, and has a word left, may be taken
+pub can_take : (g : Layout) (d : Device) (blocks span level : ℕ) (f : Frame) (held : Blocks) → 0 < span →
+    FrameFits g blocks span f → blocks < 2 ^ 53 → f.next < f.used → level < 3 → CanWalk g d held →
+    CanTake g d span level f held
+can_take g d blocks span level f held some fits small h lt walk = grind arith
 
 -- an address that isn't zero
 pub is_set : (address : ℕ) → (address ≡ 0 → ⊥) → (address == 0) ≡ false

@@ -1,7 +1,7 @@
 -- Blocks and fragments have sizes that are powers of two. A shift divides by one, and a mask gives
 -- the remainder.
 use Rattle.std.proofs.Common.{zero, suc, ◌≡◌, ◌==◌, ◌-◌, ◌/◌, ◌%◌, ◌^◌, ◌<◌, ◌≤◌, ℕ, List, [], ◌∷◌, true, refl, sym, ap}
-use Rattle.std.{proofs.Common.{◌∙◌, arith, bit_and, inl, inr, subst}, specs.Int.{IsPowerOfTwo, trailing_zeros, w32}}
+use Rattle.std.{proofs.Common.{arith, bit_and, inl, inr, subst}, specs.Int.{IsPowerOfTwo, trailing_zeros, w32}}
 use Rattle.std.{specs.Int.Count.count_trailing_zeros, proofs.lemmas.{Nat.and_mask, Bool.{or_cases, cases_lt}}}
 use Rattle.std.proofs.{lemmas.Bool.Decides.nat_tests, Math.{Nat.pow-suc, Pow.pow_mono}}
 use Rattle.ffs_volume.{proofs.GeometryLaws.shape_holds, specs.{declared.Layout.Layout, Laws.Geometry.IsAcceptedLayout}}
@@ -57,13 +57,8 @@ zeros_of_power (suc w) (suc k) h =
 -- so it is 2 to the power of the zeros that it ends with
 pub power_of_zeros : (n : ℕ) → IsPowerOfTwo n → n < 2 ^ 32 → n ≡ 2 ^ trailing_zeros w32 n
 power_of_zeros n p small = elim (cases_lt p.0 32) [
-  | inl less ↦
-      let e = p.1 in
-      e ∙ ap (λ k. 2 ^ k) (sym (ap (λ m. count_trailing_zeros 32 m) e ∙ zeros_of_power 32 p.0 less))
-  | inr more ↦
-      let e = p.1 in
-      let above : 2 ^ 32 ≤ 2 ^ p.0 = pow_mono more in
-      absurd (omega (arith, e, above, small))
+  | inl less ↦ let zeros = zeros_of_power 32 p.0 less in grind (arith, p.1, zeros)
+  | inr more ↦ let above : 2 ^ 32 ≤ 2 ^ p.0 = pow_mono more in absurd (omega (arith, p.1, above, small))
 ]
 
 -- a shift by the zeros that a power of two ends with divides by it

@@ -9,11 +9,9 @@ products_small a b m n h k = grind arith
 
 pub size_small : (a b : ℕ) → a ≤ 16384 → b ≤ 65536 → (12 + a + a * a + a * a * a) * b < 18446744073709551616
 size_small a b h k =
-    let squared : a * a ≤ 16384 * 16384 = products_small a a 16384 16384 h h in
-    let cubed : a * a * a ≤ 268435456 * 16384 = products_small (a * a) a 268435456 16384 squared h in
-    let whole : (12 + a + a * a + a * a * a) * b ≤ 4398315044876 * 65536 =
-    products_small (12 + a + a * a + a * a * a) b 4398315044876 65536 (omega (arith, squared, cubed)) k in
-    omega (arith, whole)
+    let squared = products_small a a 16384 16384 h h in
+    let cubed = products_small (a * a) a 268435456 16384 squared h in
+    omega (arith, products_small (12 + a + a * a + a * a * a) b 4398315044876 65536 (omega (arith, squared, cubed)) k)
 
 -- fifteen addresses always reach 2^31 bytes
 pub size_large : (a b : ℕ) → 1024 ≤ a → 4096 ≤ b → 2147483647 < (12 + a + a * a + a * a * a) * b

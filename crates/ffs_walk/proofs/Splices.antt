@@ -1,10 +1,10 @@
 -- Blocks of which one is read anew.
-use Rattle.std.proofs.Common.{◌≡◌, ◌≢◌, ℕ, ◌+◌, ◌-◌, ◌*◌, ◌<◌, ◌≤◌, List, length, take, drop, Option, Some, None, ◌⊎◌}
-use Rattle.std.{proofs.Common.{inl, inr, arith, sym, ap, ◌∙◌, slice_set}, specs.Prelude.{Vec, vec_len}}
+use Rattle.std.proofs.Common.{◌≡◌, ◌≢◌, ℕ, ◌+◌, ◌-◌, ◌*◌, ◌<◌, ◌≤◌, List, length, take, Option, Some, None, ◌⊎◌}
+use Rattle.std.{proofs.Common.{inl, inr, arith, ap, slice_set}, specs.Prelude.{Vec, vec_len}}
 use Rattle.std.{specs.Vec.with_items, proofs.lemmas.List.{drop-take, get_or-set_same, get_or-set_other, length-set}}
 use Rattle.std.proofs.lemmas.{List.{length-take-le, length-drop, with_items_is}, Slice.take-put_mid_below}
 use Rattle.std.proofs.lemmas.Slice.{drop-put_mid, between-put_mid}
-use borrow.Rule.Slice.PartMut.{put_mid, mid_of, same_len_mid}
+use borrow.Rule.Slice.PartMut.{put_mid, same_len_mid}
 use Rattle.ffs_image.specs.Device.{ForContents}
 use Rattle.ffs_volume.specs.{Disk.Numbers.piece, Blocks.Steps.block_bytes, declared.Layout.Layout}
 use Rattle.ffs_walk.specs.{declared.blocks.Blocks.Blocks, Windows.{BlocksHold, level_bytes, held_address}}
@@ -13,8 +13,7 @@ use Rattle.ffs_walk.specs.{declared.blocks.Blocks.Blocks, Windows.{BlocksHold, l
 pub piece_kept : (a k p n : ℕ) (xs ys : List ℕ) → a + k ≤ length xs → length ys ≡ k → (p + n ≤ a) ⊎ (a + k ≤ p) →
     piece p n (put_mid a k xs ys) ≡ piece p n xs
 piece_kept a k p n xs ys h len (inl below) =
-    sym (drop-take p n (put_mid a k xs ys))
-    ∙ (ap (drop p) (take-put_mid_below a k xs ys (p + n) below (omega arith)) ∙ drop-take p n xs)
+    rw (← drop-take p n (put_mid a k xs ys), take-put_mid_below a k xs ys (p + n) below (omega arith)) (drop-take p n xs)
 piece_kept a k p n xs ys h len (inr above) = ap (take n) (drop-put_mid a k xs ys p above (omega arith) len)
 
 -- where one level's part is written, the other levels hold what they held
@@ -41,13 +40,7 @@ some_is a b e = cc
 pub written_is : {Z : Type 0} (buffer : Vec ℕ Z) (a k : ℕ) (items ys : List ℕ) → items ≡ buffer.items → length ys ≡ k →
     a + k ≤ vec_len buffer →
     (with_items buffer (put_mid a k items ys)).items ≡ put_mid a k buffer.items ys
-written_is buffer a k items ys is len room =
-    let count : vec_len buffer ≡ length buffer.items = buffer.ok.0 in
-    let mid : length (mid_of a k buffer.items) ≡ k =
-    length-take-le k (drop a buffer.items) (rw (length-drop a buffer.items) (omega arith)) in
-    let same : length (put_mid a k buffer.items ys) ≡ vec_len buffer = same_len_mid a k buffer.items ys (len ∙ sym mid)
-    ∙ sym count in
-    rw is (with_items_is buffer (put_mid a k buffer.items ys) same)
+written_is buffer a k items ys is len room = grind (arith, with_items_is, same_len_mid, length-take-le, length-drop)
 
 -- after a failed read a level holds nothing
 pub held_without : (v : Layout) (contents contents' : Option (List ℕ)) (old : Blocks) (level k : ℕ) (items ys : List ℕ)

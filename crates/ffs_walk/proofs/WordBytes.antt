@@ -1,6 +1,6 @@
 -- A word isn't zero where one of its bytes isn't, in either byte order.
-use Rattle.std.proofs.Common.{◌≡◌, ℕ, zero, suc, ◌==◌, ◌+◌, ◌-◌, ◌*◌, ◌<◌, ◌≤◌, Bool, true, false, not, ◌||◌, List, []}
-use Rattle.std.proofs.Common.{leb, ◌&&◌, ◌∷◌, length, take, drop, arith, refl, ap, sym, ◌∙◌, length-drop}
+use Rattle.std.proofs.Common.{◌≡◌, ℕ, zero, suc, ◌==◌, ◌+◌, ◌-◌, ◌*◌, ◌<◌, ◌≤◌, true, false, not, List, []}
+use Rattle.std.proofs.Common.{leb, ◌&&◌, ◌∷◌, length, take, drop, arith, refl, length-drop}
 use Rattle.std.{proofs.{Math.Seq.take-add, lemmas.List.{drop-drop, Folds.list_any-append}}, specs.List.list_any}
 use Rattle.std.specs.List.{range_with_len, slice_range}
 use Rattle.ffs_volume.specs.{declared.{Layout.Layout, Order.{Order, TheVariants.{Little, Big}}}, Disk.Numbers.number}
@@ -27,18 +27,18 @@ words_set : (v : Layout) (block : List ℕ) (n first : ℕ) → 4 * (first + n) 
 unfolding u32_at
 words_set v block zero first h = refl
 words_set v block (suc n) first h =
-    let set : ℕ → Bool = λ a. not (a == 0) in
     let xs = drop (4 * first) block in
     let e : 4 * suc n ≡ 4 + 4 * n = omega arith in
     let f : 4 * first + 4 ≡ 4 * (first + 1) = omega arith in
-    ap (λ k. any_nonzero (take k xs)) e
-    ∙ ap any_nonzero (take-add 4 (4 * n) xs)
-    ∙ list_any-append set (take 4 xs) (take (4 * n) (drop 4 xs))
-    ∙ ap (λ b. b || any_nonzero (take (4 * n) (drop 4 xs)))
-    (word_set v.order xs (omega (arith, h, length-drop (4 * first) block)))
-    ∙ ap (λ ys. not (address_in v block first == 0) || any_nonzero (take (4 * n) ys))
-    (drop-drop 4 (4 * first) block ∙ ap (λ k. drop k block) f)
-    ∙ ap (λ b. not (address_in v block first == 0) || b) (words_set v block n (first + 1) (omega (arith, h)))
+    rw (
+      e,
+      take-add 4 (4 * n) xs,
+      list_any-append (λ a. not (a == 0)) (take 4 xs) (take (4 * n) (drop 4 xs)),
+      word_set v.order xs (omega (arith, h, length-drop (4 * first) block)),
+      drop-drop 4 (4 * first) block,
+      f,
+      words_set v block n (first + 1) (omega (arith, h)),
+    ) refl
 
 -- the bytes of the words from an index on
 pub any_byte_from : (v : Layout) (block : List ℕ) (used : ℕ) → used ≤ v.nindir → 4 * v.nindir ≤ length block →
@@ -56,12 +56,7 @@ pub no_byte : (v : Layout) (block : List ℕ) (first n k : ℕ) → 4 * (first +
     any_nonzero (slice_range block (4 * first) (4 * (first + n))) ≡ false → first ≤ k → k < first + n →
     address_in v block k ≡ 0
 no_byte v block first n k fits none low high =
-    let e : 4 * (first + n) - 4 * first ≡ 4 * n = omega arith in
-    let f : first + (k - first) ≡ k = omega (arith, low) in
-    ap (λ j. address_in v block j) (sym f)
-    ∙ none_set (λ j. address_in v block j) n first (k - first)
-    (sym (words_set v block n first fits) ∙ ap (λ m. any_nonzero (take m (drop (4 * first) block))) (sym e) ∙ none)
-    (omega (arith, low, high))
+    grind (arith, words_set v block n first fits, none_set (λ j. address_in v block j) n first (k - first))
 
 -- the words from an index on and below another are zero
 pub record ZerosTo (v : Layout) (block : List ℕ) (next used place : ℕ) : Type 0 where

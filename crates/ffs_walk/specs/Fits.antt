@@ -1,5 +1,5 @@
 -- How a frame fits into a walk.
-use Rattle.std.specs.Prelude.{ℕ, ◌+◌, ◌*◌, ◌^◌, ◌<◌, ◌≤◌, ◌≡◌, false, IsTrue}
+use Rattle.std.specs.Prelude.{ℕ, ◌<◌, ◌≤◌, ◌≡◌, ◌↔◌, Bool, false, IsTrue}
 use Rattle.ffs_volume.specs.{declared.Layout.Layout, Disk.Areas.is_run_in_range, Blocks.Steps.indirect_addresses_needed}
 use Rattle.ffs_walk.specs.declared.frame.{Frame.Frame, Item.{Item, TheVariants.{UnusedWord, Word}}}
 
@@ -14,6 +14,11 @@ pub record FrameFits (v : Layout) (blocks span : ℕ) (f : Frame) : Type 0 where
 abbrev pub IsSpent : Frame → Type 0
 IsSpent f = (f.next ≡ f.used) × (f.unread ≡ false)
 
+-- whether a word is left in the frame: where none is, nothing is
+pub record TellsLeft (f : Frame) (answer : Bool) : Type 0 where
+  pub left : IsTrue answer ↔ (f.next < f.used)
+  pub spent : answer ≡ false → IsSpent f
+
 -- the frame has no words
 pub record HasNoWords (f : Frame) : Type 0 where
   pub used : f.used ≡ 0
@@ -23,13 +28,13 @@ pub record HasNoWords (f : Frame) : Type 0 where
 abbrev pub IsIndirect : ℕ → ℕ → Type 0
 IsIndirect blocks block = (12 ≤ block) × (block < blocks)
 
+-- an indirect block of an inode with `blocks` logical blocks may be entered: `span` of them lie under
+-- each word, from `first` on
+pub record CanEnter (blocks span first : ℕ) : Type 0 where
+  pub some : 0 < span
+  pub indirect : IsIndirect blocks first
+
 -- the item's logical block is one of the inode, and isn't direct
 abbrev pub IsBelow : ℕ → Item → Type 0
 IsBelow blocks UnusedWord = Unit {0}
 IsBelow blocks (Word address block) = IsIndirect blocks block
-
--- the frame has an item left, and its logical block is a number
-pub record HasItem (v : Layout) (span : ℕ) (f : Frame) : Type 0 where
-  pub left : f.next < f.used
-  pub words : f.used ≤ v.nindir
-  pub small : f.first + f.next * span < 2 ^ 64

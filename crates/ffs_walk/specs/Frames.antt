@@ -1,10 +1,11 @@
 -- What is left in an indirect block that a walk is in.
-use Rattle.std.specs.Prelude.{ℕ, true, false, ◌+◌, ◌-◌, ◌*◌, ◌<◌, ◌≤◌, ◌≡◌, List, [], ◌∷◌, ◌++◌, Option}
+use Rattle.std.specs.Prelude.{ℕ, true, false, ◌+◌, ◌-◌, ◌*◌, ◌^◌, ◌<◌, ◌≤◌, ◌≡◌, List, [], ◌∷◌, ◌++◌, Option}
 use Rattle.std.specs.Prelude.{Result, OnOk, IfOk, if◌then◌else◌}
-use Rattle.ffs_image.specs.{Device.ForContents, declared.image.ImageFault.ImageFault}
+use Rattle.ffs_image.specs.{Device.{Device, ForContents}, declared.image.ImageFault.ImageFault}
 use Rattle.ffs_volume.specs.{declared.{Layout.Layout, Step.{Step, TheVariants.Tail}}, Blocks.Steps.block_bytes}
 use Rattle.ffs_volume.specs.Blocks.Steps.{tail_of, any_nonzero_from, steps_under}
-use Rattle.ffs_walk.specs.declared.frame.{Frame.Frame, Item.{Item, TheVariants.{UnusedWord, Word}}}
+use Rattle.ffs_walk.specs.declared.{blocks.Blocks.Blocks, frame.{Frame.Frame, Item.Item}}
+use Rattle.ffs_walk.specs.{declared.frame.Item.TheVariants.{UnusedWord, Word}, Counts.ReadsFrame, Windows.CanFill}
 
 -- the steps that a frame has left, where `child` has the steps at an address
 abbrev pub frame_rest : Layout → List ℕ → (ℕ → ℕ → List Step) → ℕ → Frame → List Step
@@ -45,10 +46,19 @@ pub record IsSameBlock (old new : Frame) : Type 0 where
   pub first : new.first ≡ old.first
   pub used : new.used ≡ old.used
 
+-- the next item of a frame may be taken, for a level: it has one left, whose logical block is a
+-- number, and its block may be asked for
+pub record CanTake (v : Layout) (d : Device) (span level : ℕ) (f : Frame) (blocks : Blocks) : Type 0 where
+  pub left : f.next < f.used
+  pub words : f.used ≤ v.nindir
+  pub small : f.first + f.next * span < 2 ^ 64
+  pub ready : CanFill v d level f.address blocks
+
 -- the next item of a frame is taken, and its block counts as read then; where a read failed none is.
 -- In both cases the frame stays in its block
-pub record TakesItem (v : Layout) (contents : Option (List ℕ)) (span : ℕ) (old new : Frame)
-    (result : Result Item ImageFault) : Type 0 where
-  pub item : IfOk result (IsNextItem v contents span old new)
+pub record TakesItem (v : Layout) (d d' : Device) (reads reads' span level : ℕ) (old new : Frame)
+    (before after : Blocks) (result : Result Item ImageFault) : Type 0 where
+  pub item : IfOk result (IsNextItem v d.contents span old new)
+  pub block : ReadsFrame v d d' reads reads' level old new before after result
   pub read : OnOk result (new.unread ≡ false)
   pub same : IsSameBlock old new

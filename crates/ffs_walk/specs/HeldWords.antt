@@ -2,13 +2,23 @@
 use Rattle.std.specs.Prelude.{◌≡◌, ◌==◌, ◌+◌, ◌<◌, ℕ, List, ◌∷◌, Option, Some, false, if◌then◌else◌}
 use Rattle.ffs_image.specs.Device.{ForContents}
 use Rattle.ffs_volume.specs.{declared.Step.{Step, TheVariants.{Run, Gap}}, Blocks.Steps.address_in}
-use Rattle.ffs_walk.specs.{declared.{blocks.Blocks.Blocks, walk.Walk.Walk}, Windows.{BlocksHold, held_address}}
+use Rattle.ffs_walk.specs.{declared.{blocks.Blocks.Blocks, walk.Walk.Walk}, Windows.{BlocksHold, HasRoom, held_address}}
 use Rattle.ffs_walk.specs.{Counts.EntersOnly, Windows.level_bytes, Rests.{SameFileBlocks, most_steps_left, steps_left}}
 
 -- the single indirect block that a walk is in is held, and was read before
 pub record IsInHeldBlock (blocks : Blocks) (w : Walk) : Type 0 where
   pub read : w.single.unread ≡ false
   pub held : held_address 0 blocks ≡ Some w.single.address
+
+-- a word is left of the single indirect block that a walk is in, which was read before
+pub record IsReadWord (w : Walk) : Type 0 where
+  pub read : w.single.unread ≡ false
+  pub left : w.single.next < w.single.used
+
+-- a word is left of that block, and the buffer has room for blocks
+pub record CanSeeWord (blocks : Blocks) (w : Walk) : Type 0 where
+  pub room : HasRoom w.geometry.layout blocks
+  pub left : w.single.next < w.single.used
 
 -- the address at the next word of the single indirect block that a walk is in
 abbrev pub next_address : Blocks → Walk → ℕ

@@ -1,6 +1,19 @@
--- What holds of each step, whatever the image holds.
-use Rattle.std.specs.Prelude.{ℕ, ◌<◌, IfSome}
+-- How long the file of an inode is, and what holds of each of its steps, whatever the image holds.
+use Rattle.std.specs.Prelude.{ℕ, ◌≡◌, ◌<◌, ◌≤◌, ◌^◌, IfSome, if◌then◌else◌}
 use Rattle.ffs_volume.specs.{declared.Step.{Step, TheVariants.{Run, Tail, Gap}}, Laws.RunLengths.HasLength}
+use Rattle.ffs_volume.specs.declared.{Class.Class, Inode.Inode, Layout.Layout}
+use Rattle.ffs_volume.specs.Blocks.{Inodes.{class_of, logical_blocks_of}, Steps.{is_walked, last_length_of}}
+
+-- the last logical block of an inode has so many fragments, where it is direct: some, and no more
+-- than a block
+pub record IsLastLength (v : Layout) (inode : Inode) (len : ℕ) : Type 0 where
+  pub value : len ≡ last_length_of v inode
+  pub within : (0 < len) × (len ≤ v.frag)
+
+-- a walk over an inode goes over so many logical blocks, if this is the inode's class
+pub record AreWalkedBlocks (v : Layout) (inode : Inode) (class : Class) (blocks : ℕ) : Type 0 where
+  pub value : class ≡ class_of v inode → blocks ≡ (if is_walked v inode then logical_blocks_of v inode else 0)
+  pub small : blocks < 2 ^ 53
 
 -- a Run of data is that of a logical block of the inode
 abbrev pub IsWithin : ℕ → Step → Type 0

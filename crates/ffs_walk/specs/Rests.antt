@@ -143,8 +143,18 @@ pub record GivesStep (contents : Option (List ℕ)) (old new : Walk) (result : R
   pub over : IsOver old → (result ≡ Ok None) × (new ≡ old)
   pub same : SameFileBlocks old new
 
--- the step at the next of the inode's own addresses is taken, whatever the image holds
+-- the next step of a walk is taken, or a read failed, which doesn't end the walk: what is given and
+-- what is left. Where the blocks that were read are held, only one that was still to be read is read
+pub record Advances (d d' : Device) (reads reads' : ℕ) (before after : Blocks) (old new : Walk)
+    (result : Result (Option Step) ImageFault) : Type 0 where
+  pub gives : GivesStep d.contents old new result
+  pub leaves : BlocksAfter old.geometry.layout d d' before after result
+  pub counted : AreHeld before old → StepReads reads reads' after old new result
+
+-- the step at the next of the inode's own addresses is taken, whatever the image holds; where there
+-- is none, the walk stays as it is
 pub record IsTopStep (old new : Walk) (answer : Option Step) : Type 0 where
+  pub none : answer ≡ None → new ≡ old
   pub gives : (contents : Option (List ℕ)) → GivesStep contents old new (Ok answer)
   pub counted : EntersOnly old new (entered_by answer)
 

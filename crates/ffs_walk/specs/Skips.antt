@@ -3,7 +3,7 @@ use Rattle.std.specs.Prelude.{◌≡◌, ◌+◌, ◌<◌, ◌≤◌, ◌++◌, 
 use Rattle.ffs_image.specs.Device.{ForContents}
 use Rattle.ffs_volume.specs.{declared.{Layout.Layout, Step.{Step, TheVariants.Gap}}, Blocks.Steps.address_in}
 use Rattle.ffs_walk.specs.{declared.{blocks.Blocks.Blocks, frame.Frame.Frame, walk.Walk.Walk}, Fits.IsSpent}
-use Rattle.ffs_walk.specs.{Windows.{BlocksHold, held_address, level_bytes}, Frames.{IsSameBlock, frame_left}}
+use Rattle.ffs_walk.specs.{Windows.{BlocksHold, HasLevel, held_address, level_bytes}, Frames.{IsSameBlock, frame_left}}
 use Rattle.ffs_walk.specs.{Frames.frame_rest, Rests.{IsAtTop, SameFileBlocks, most_steps_left, steps_left}}
 use Rattle.ffs_walk.specs.Counts.{EntersOnly}
 
@@ -29,6 +29,11 @@ pub record HasPassedGaps (old new : Walk) (blocks : Blocks) : Type 0 where
   pub triple : IsSpent old.single → IsSpent old.double → old.triple.next < old.triple.used
       → HasNoGapNext old.geometry.layout 2 blocks new.triple
   pub top : IsAtTop old → new.next < new.used → 0 < slice_index new.addresses new.next
+
+-- words of a frame may be passed over: it has no more of them than a block, and this is a level
+pub record CanSkip (v : Layout) (level : ℕ) (f : Frame) (blocks : Blocks) : Type 0 where
+  pub words : f.used ≤ v.nindir
+  pub ready : HasLevel v level blocks
 
 -- a frame passes over so many words of zero, which mean as many gaps at every level, and none
 -- follows that is known

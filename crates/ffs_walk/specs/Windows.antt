@@ -83,6 +83,13 @@ pub record FillsBlock {T : Type 0} (v : Layout) (d d' : Device) (reads reads' le
   pub counted : reads' ≤ reads + 1
   pub again : held_address level before ≡ Some at → reads' ≤ reads
 
+-- `size` bytes of a place may be asked for: the image has them, and the window has room for them and
+-- holds what the image gives
+pub record CanFillWindow (d : Device) (at size : ℕ) (w : Window) : Type 0 where
+  pub room : size ≤ vec_len w.buffer
+  pub inside : at + size ≤ d.size
+  pub holds : WindowHolds d.contents w
+
 -- a window with the room that it had holds `size` bytes of a place, or after a failed read none. They
 -- are read at most once, and not where it held just these
 pub record FillsWindow {T : Type 0} (d d' : Device) (reads reads' at size : ℕ) (before after : Window)
@@ -106,6 +113,11 @@ pub record IsEmptyWindow (list : FixedList ℕ) (w : Window) : Type 0 where
 pub record AreEmptyBlocks (list : FixedList ℕ) (blocks : Blocks) : Type 0 where
   pub buffer : blocks.buffer ≡ list
   pub holds : (v : Layout) (contents : Option (List ℕ)) → BlocksHold v contents blocks
+
+-- these bytes have the words from an index on and below another
+pub record HasWords (block : List ℕ) (next end : ℕ) : Type 0 where
+  pub order : next ≤ end
+  pub fits : 4 * end ≤ length block
 
 -- from index `next` on the words of a block are zero up to `end`, where a word stands that isn't
 -- zero, or the used ones end

@@ -3,6 +3,7 @@
 ghost use Rattle.std.specs.Prelude.{◌≡◌, ◌==◌, ◌&&◌, ◌*◌, ◌+◌, ◌<◌, ◌≤◌, ◌^◌, drop, not, if◌then◌else◌};
 ghost use Rattle.ffs_volume.specs.Blocks.Inodes as inodes;
 ghost use Rattle.ffs_volume.specs.Blocks.Steps as steps;
+ghost use Rattle.ffs_walk.specs.Lengths.{AreWalkedBlocks, IsLastLength};
 
 use crate::pieces::{after_pieces, pieces_of};
 use ffs_layout::Geometry;
@@ -31,8 +32,7 @@ pub fn addresses_needed(words: u64, blocks: u64) -> u32
 /// How many fragments the last logical block has, where it is direct.
 #[tactic(auto, using(crate::proofs::Powers::bsize_power, crate::proofs::Powers::fsize_power))]
 pub fn last_length(geometry: &Geometry, inode: &Inode) -> u32
-    ensures value { result ≡ steps.last_length_of geometry.now.layout inode.now }
-    ensures within { (0 < result) × (result ≤ geometry.now.layout.frag) }
+    ensures { IsLastLength geometry.now.layout inode.now result }
 {
     let over = after_pieces(inode.size, geometry.layout.bsize);
     if over == 0 {
@@ -58,6 +58,7 @@ fn is_short_symlink(geometry: &Geometry, inode: &Inode) -> bool
 
 /// Whether an address isn't zero.
 #[inline(always)]
+#[tactic(auto, using(crate::proofs::AnySet::or_set, crate::proofs::AnySet::any_more))]
 fn any_nonzero(addresses: &[u32; 15]) -> bool
     ensures { result ≡ inodes.any_nonzero addresses.now }
 {
@@ -104,7 +105,7 @@ pub fn has_steps(geometry: &Geometry, inode: &Inode, class: Class) -> bool
 }
 
 /// The greatest size of a file, in bytes, whose blocks the fifteen addresses reach.
-#[tactic(auto, using(crate::proofs::Sizes::products_small))]
+#[tactic(auto, using(crate::proofs::Sizes::products_small, crate::proofs::Sizes::size_small))]
 fn greatest_size(geometry: &Geometry) -> u64
     ensures { result ≡ (12 + geometry.now.layout.nindir + geometry.now.layout.nindir *
         geometry.now.layout.nindir + geometry.now.layout.nindir * geometry.now.layout.nindir *
@@ -120,9 +121,8 @@ fn greatest_size(geometry: &Geometry) -> u64
 #[cold]
 #[inline(never)]
 fn is_refused_size(geometry: &Geometry, kind: u16, size: u64) -> bool
-    requires { 2147483647 < size }
-    ensures { (inode : Inode) → inodes.type_of inode.mode ≡ kind → inode.size ≡ size
-        → result ≡ inodes.is_too_large geometry.now.layout inode }
+    ensures { 2147483647 < size → (inode : Inode) → inodes.type_of inode.mode ≡ kind
+        → inode.size ≡ size → result ≡ inodes.is_too_large geometry.now.layout inode }
 {
     kind == u16::from(DT_DIR) || greatest_size(geometry) < size
 }
@@ -150,10 +150,7 @@ fn logical_blocks_of(geometry: &Geometry, inode: &Inode) -> u64
 
 /// How many logical blocks of an inode of the class a walk goes over.
 pub fn walked_blocks(geometry: &Geometry, inode: &Inode, class: Class) -> u64
-    ensures value { class ≡ inodes.class_of geometry.now.layout inode.now
-        → result ≡ (if steps.is_walked geometry.now.layout inode.now
-        then inodes.logical_blocks_of geometry.now.layout inode.now else 0) }
-    ensures small { result < 2 ^ 53 }
+    ensures { AreWalkedBlocks geometry.now.layout inode.now class result }
 {
     if is_walked(geometry, inode, class) {
         logical_blocks_of(geometry, inode)

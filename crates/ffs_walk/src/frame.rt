@@ -1,6 +1,6 @@
 //! The position of a walk in an indirect block.
 
-ghost use Rattle.std.specs.Prelude.{◌≡◌, ◌<◌, ◌≤◌, IsTrue, false, not, ◌||◌, nat_lt, ◌↔◌};
+ghost use Rattle.std.specs.Prelude.{◌≤◌, IsTrue, not, ◌||◌, nat_lt};
 
 use crate::blocks::Blocks;
 use crate::words::{any_from, word, zeros_end};
@@ -35,8 +35,8 @@ pub enum Item {
 }
 
 impl Frame {
-    ghost use Rattle.ffs_walk.specs.{Counts.ReadsFrame, Fits.{HasItem, HasNoWords, IsSpent}, Frames.TakesItem};
-    ghost use Rattle.ffs_walk.specs.{Skips.PassesZeros, Windows.{CanFill, HasLevel}};
+    ghost use Rattle.ffs_walk.specs.{Fits.{HasNoWords, TellsLeft}, Frames.{CanTake, TakesItem}};
+    ghost use Rattle.ffs_walk.specs.Skips.{CanSkip, PassesZeros};
 
     /// A frame of no words, in no block.
     pub fn spent() -> Frame
@@ -53,8 +53,7 @@ impl Frame {
 
     /// Whether an item is left.
     pub fn is_left(&self) -> bool
-        ensures left { IsTrue result ↔ (self.now.next < self.now.used) }
-        ensures spent { result ≡ false → IsSpent self.now }
+        ensures { TellsLeft self.now result }
     {
         self.next < self.used
     }
@@ -73,14 +72,10 @@ impl Frame {
         image: &mut I,
         blocks: &mut Blocks,
     ) -> Result<Item, ImageFault>
-        requires item { HasItem geometry.now.layout span self.old }
-        requires ready { CanFill geometry.now.layout (I.device image.old) level self.old.address
-            blocks.old }
-        ensures takes { TakesItem geometry.now.layout (I.device image.old).contents span self.old
-            self.new result }
-        ensures reads { ReadsFrame geometry.now.layout (I.device image.old) (I.device image.new)
-            (I.reads image.old) (I.reads image.new) level self.old self.new blocks.old blocks.new
-            result }
+        requires { CanTake geometry.now.layout (I.device image.old) span level self.old blocks.old }
+        ensures { TakesItem geometry.now.layout (I.device image.old) (I.device image.new)
+            (I.reads image.old) (I.reads image.new) span level self.old self.new blocks.old
+            blocks.new result }
     {
         blocks.fill(geometry, level, self.address, image)?;
         let block = blocks.bytes(geometry, level);
@@ -100,8 +95,7 @@ impl Frame {
     /// before: how many there are. Each means a gap, at every level.
     #[inline(always)]
     pub fn skip_gaps(&mut self, geometry: &Geometry, level: usize, blocks: &Blocks) -> u32
-        requires words { self.old.used ≤ geometry.now.layout.nindir }
-        requires level { HasLevel geometry.now.layout level blocks.now }
+        requires { CanSkip geometry.now.layout level self.old blocks.now }
         ensures { PassesZeros geometry.now.layout level blocks.now self.old self.new result }
     {
         if self.unread || blocks.held[level] != Some(self.address) {

@@ -50,11 +50,12 @@ pub struct Walk {
 }
 
 impl Walk {
-    ghost use Rattle.ffs_walk.specs.{Fits.IsIndirect, Skips.{EndsZeroAddresses, PassesGaps}};
-    ghost use Rattle.ffs_walk.specs.Rests.{ComesNext, Enters, GivesStep, IsAtTop, IsDataStep, IsFirstOf};
+    ghost use Rattle.ffs_walk.specs.{Fits.{CanEnter, IsIndirect}, Skips.{EndsZeroAddresses, PassesGaps}};
+    ghost use Rattle.ffs_walk.specs.Rests.{Advances, ComesNext, Enters, IsAtTop, IsDataStep, IsFirstOf};
     ghost use Rattle.ffs_walk.specs.Rests.{IsEndedWalk, IsTopStep, IsWalkByClass, IsWalkOf, Stops, TakesStep};
-    ghost use Rattle.ffs_walk.specs.{Counts.{AreHeld, StepReads}, Windows.{BlocksAfter, CanWalk, HasRoom}};
-    ghost use Rattle.ffs_walk.specs.HeldWords.{IsInHeldBlock, PassesNextWord, next_address};
+    ghost use Rattle.ffs_walk.specs.Windows.{CanWalk, HasRoom};
+    ghost use Rattle.ffs_walk.specs.HeldWords.{CanSeeWord, IsInHeldBlock, IsReadWord, PassesNextWord};
+    ghost use Rattle.ffs_walk.specs.HeldWords.{next_address};
     ghost use Rattle.ffs_walk.specs.declared.blocks.Blocks.{Blocks};
 
     /// The step at the address of a data block.
@@ -94,8 +95,7 @@ impl Walk {
 
     /// The first step at the address of an indirect block, and the frame for the others.
     fn enter(&self, span: u64, address: u32, first: u64) -> (Step, Frame)
-        requires span { 0 < span }
-        requires first { IsIndirect self.now.logical_blocks first }
+        requires { CanEnter self.now.logical_blocks span first }
         ensures { Enters self.now span address first result.0 result.1 }
     {
         if address == 0 {
@@ -219,11 +219,8 @@ impl Walk {
         blocks: &mut Blocks,
     ) -> Result<Option<Step>, ImageFault>
         requires { CanWalk self.old.geometry.layout (I.device image.old) blocks.old }
-        ensures gives { GivesStep (I.device image.old).contents self.old self.new result }
-        ensures leaves { BlocksAfter self.old.geometry.layout (I.device image.old)
-            (I.device image.new) blocks.old blocks.new result }
-        ensures counted { AreHeld blocks.old self.old → StepReads (I.reads image.old)
-            (I.reads image.new) blocks.new self.old self.new result }
+        ensures { Advances (I.device image.old) (I.device image.new) (I.reads image.old)
+            (I.reads image.new) blocks.old blocks.new self.old self.new result }
     {
         let words = u64::from(self.geometry.layout.nindir);
         if self.single.is_left() {
@@ -297,8 +294,7 @@ impl Walk {
     /// block: how many there are.
     #[inline(never)]
     fn skip_zero_addresses(&mut self) -> u32
-        requires { IsAtTop self.old }
-        ensures { (blocks : Blocks) → PassesGaps blocks self.old self.new result }
+        ensures { IsAtTop self.old → (blocks : Blocks) → PassesGaps blocks self.old self.new result }
     {
         let end = self.zero_addresses_end();
         let gaps = end - self.next;
@@ -345,8 +341,7 @@ impl Walk {
     /// The address at the next word of the single indirect block that the walk is in.
     #[inline(always)]
     pub fn next_address(&self, blocks: &Blocks) -> u32
-        requires room { HasRoom self.now.geometry.layout blocks.now }
-        requires left { self.now.single.next < self.now.single.used }
+        requires { CanSeeWord blocks.now self.now }
         ensures { result ≡ next_address blocks.now self.now }
     {
         let block = blocks.bytes(&self.geometry, 0);
@@ -358,8 +353,7 @@ impl Walk {
     #[inline(always)]
     #[tactic(auto, using(crate::proofs::WordSteps::word_first))]
     pub fn pass_word(&mut self)
-        requires read { self.old.single.unread ≡ false }
-        requires left { self.old.single.next < self.old.single.used }
+        requires { IsReadWord self.old }
         ensures { PassesNextWord self.old self.new }
     {
         self.single.next += 1;

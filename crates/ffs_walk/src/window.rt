@@ -2,7 +2,7 @@
 //! the workspace, read into one. `Table` of `ffs_workspace` is a window on inodes, made of this
 //! one; `Blocks` holds a walk's indirect blocks by their addresses, and has a buffer of its own.
 
-ghost use Rattle.std.specs.Prelude.{◌≡◌, ◌+◌, ◌≤◌, ◌↔◌, IsTrue, vec_len};
+ghost use Rattle.std.specs.Prelude.{◌≡◌, ◌≤◌, ◌↔◌, IsTrue, vec_len};
 
 use ffs_image::{Image, ImageFault};
 use ffs_memory::FixedList;
@@ -19,7 +19,7 @@ pub struct Window {
 }
 
 impl Window {
-    ghost use Rattle.ffs_walk.specs.Windows.{FillsWindow, IsEmptyWindow, WindowHolds, held_bytes};
+    ghost use Rattle.ffs_walk.specs.Windows.{CanFillWindow, FillsWindow, IsEmptyWindow, held_bytes};
 
     /// A window that holds nothing. It takes no memory.
     pub fn over(buffer: FixedList<u8>) -> Window
@@ -49,9 +49,7 @@ impl Window {
         place: u64,
         length: usize,
     ) -> Result<(), ImageFault>
-        requires room { length ≤ vec_len self.old.buffer }
-        requires inside { place + length ≤ (I.device image.old).size }
-        requires holds { WindowHolds (I.device image.old).contents self.old }
+        requires { CanFillWindow (I.device image.old) place length self.old }
         ensures fills { FillsWindow (I.device image.old) (I.device image.new) (I.reads image.old)
             (I.reads image.new) place length self.old self.new result }
     {

@@ -29,5 +29,8 @@ loop-geometry-preserved c =
       held = rw did.only.windows passes.held;
     }
 
-pub pass_word-requires-clause-left : goal.pass_word-requires-clause-left
-pass_word-requires-clause-left c = c.has_word.ensures.0 c.loop-geometry-test.true
+pub pass_word-requires : goal.pass_word-requires
+pass_word-requires c = record {
+  read = c.loop-geometry.invariant.held.read;
+  left = c.has_word.ensures.0 c.loop-geometry-test.true;
+}

@@ -2,17 +2,16 @@ use Rattle.std.proofs.Common.{arith, ap, rules, ◌∙◌, ◌*◌}
 use Rattle.ffs_counts.{specs.Records.{first_read, records_read}, proofs.RecordPlaces.{record_there, records_inside}}
 use Rattle.ffs_counts.proofs.groups.read_summaries.Goals as goal
 
-pub fill-requires-clause-inside : goal.fill-requires-clause-inside
-fill-requires-clause-inside g c =
+pub fill-requires : goal.fill-requires
+fill-requires g c =
     let v = c.args.geometry.now.layout in
     let first = first_read c.args.group in
-    omega (
-      arith,
-      c.summary_place-place.ensures,
-      c.min-count.ensures,
-      records_inside v first (records_read v first) c.args.geometry.now.sound (omega (arith, c.requires.group)),
-      c.requires.ready.volume,
-    )
+    let inside = records_inside v first (records_read v first) c.args.geometry.now.sound (omega (arith, c.requires.group)) in
+    record {
+      room = search rules;
+      inside = omega (arith, c.summary_place-place.ensures, c.min-count.ensures, inside, c.requires.ready.volume);
+      holds = search rules;
+    }
 
 pub returns : goal.returns
 returns g c = record {

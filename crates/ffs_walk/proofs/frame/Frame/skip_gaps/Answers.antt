@@ -9,13 +9,9 @@ returns c = record {
       gaps_passed c.args.geometry.now.layout bytes child span (c.zeros_end-next.result - c.args.self.now.next)
       c.zeros_end-next.result c.args.self.now c.bytes.result.now gap
       c.if-self.false (omega (arith, c.zeros_end-next.ensures.within.0)) c.zeros_end-next.ensures.within.1
-      (c.bytes.ensures.bytes ∙ holds.block c.args.level c.requires.level.is_level c.args.self.now.address here bytes e)
+      (c.bytes.ensures.bytes ∙ holds.block c.args.level c.requires.ready.is_level c.args.self.now.address here bytes e)
       c.zeros_end-next.ensures.zeros;
-  falls = λ most. omega (
-    arith,
-    fewer c.args.self.now.used c.args.self.now.next c.zeros_end-next.result most
-        c.zeros_end-next.ensures.within.0,
-  );
+  falls = λ most. grind (arith, fewer);
   next = search rules;
   passed = search rules;
   same = search rules;

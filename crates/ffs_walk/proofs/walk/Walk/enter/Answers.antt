@@ -18,7 +18,7 @@ returns c =
       fits = record {
         words = omega (arith, used);
         in_range_there = λ h. sym c.if-not-in_range.ensures;
-        indirect = λ h. c.requires.first.0;
+        indirect = λ h. c.requires.indirect.0;
       };
       counted = record { unread = omega arith; held = λ level blocks read left. absurd (cc) };
     }

@@ -1,24 +1,15 @@
 use Rattle.ffs_volume.specs.Blocks.Steps.{first_block, steps_at}
 use Rattle.std.proofs.{lemmas.Bool.Decides.nat_tests, Common.{◌≡◌, ◌∙◌, [], refl, arith, rules}}
-use Rattle.ffs_walk.{proofs.WalkSteps.{gives_one, no_rests, top_next, top_ends, most_below, top_falls}, specs.Rests.most_at}
+use Rattle.ffs_walk.{proofs.WalkSteps.{no_rests, top_gives, top_next, top_ends, most_below, top_falls}, specs.Rests.most_at}
 use Rattle.ffs_walk.{specs.Rests.file_blocks_of, proofs.Counted.{enters_none, enters_single, enters_double, enters_triple}}
 use Rattle.ffs_walk.proofs.walk.Walk.step_at_top.Goals as goal
 
 pub returns-then-self : goal.returns-then-self
 returns-then-self c =
     let w = c.args.self.now in
-    let top = c.requires in
     record {
-      gives = λ contents. record {
-        step = record {
-          steps = λ bytes tells. top_ends bytes w (omega arith) top.single top.double top.triple;
-          fits = tt;
-          falls = tt;
-          over = λ e. record { single = top.single; double = top.double; triple = top.triple; top = omega arith };
-        };
-        over = λ e. (refl, refl);
-        same = record { geometry = refl; blocks = refl };
-      };
+      none = λ e. refl;
+      gives = λ contents. grind (arith, top_ends);
       counted = enters_none _ _ _ refl refl refl;
     }
 
@@ -28,46 +19,37 @@ returns-then-block-lt-NDADDR c =
     let w = c.args.self.now in
     let step = rw c.from-block.ensures at c.data.ensures.step in
     let first : first_block w.geometry.layout.nindir w.next ≡ w.next = grind (arith, nat_tests) in
-    record {
-      gives = λ contents. gives_one _ _ _ _ (λ h. omega (arith, h.top)) (λ bytes tells.
-          let none = no_rests bytes w c.requires in
-          top_next bytes w 0 w.next c.data.result [] (omega arith) c.requires (omega arith) first
-          (rw step refl) ∙ rw (none.0, none.1, none.2) refl) (search rules)
-          (top_falls _ _ _ _ _ _ _ _ _ (omega arith) (omega (arith, most_below _ w.geometry.sound)))
-          (record { geometry = refl; blocks = refl });
-      counted = enters_none _ _ _ refl refl refl;
-    }
+    top_gives _ _ _ (omega arith) (λ bytes.
+    let none = no_rests bytes w c.requires in
+    top_next bytes w 0 w.next c.data.result [] (omega arith) c.requires (omega arith) first
+    (rw step refl) ∙ rw (none.0, none.1, none.2) refl) (search rules)
+    (top_falls _ _ _ _ _ _ _ _ _ (omega arith) (omega (arith, most_below _ w.geometry.sound)))
+    (record { geometry = refl; blocks = refl }) (enters_none _ _ _ refl refl refl)
 
 pub returns-in-12 : goal.returns-in-12
 unfolding steps_at
 returns-in-12 c =
     let w = c.args.self.now in
     let enters = c.enter-step.ensures in
-    record {
-      gives = λ contents. gives_one _ _ _ _ (λ h. omega (arith, h.top)) (λ bytes tells.
-          let none = no_rests bytes w c.requires in
-          top_next bytes w 1 12 _ _ (omega arith) c.requires (omega arith) (rw c.in-12.is refl)
-          (enters.steps bytes (steps_at (file_blocks_of w) bytes 0)) ∙ rw (none.1, none.2) refl) (search rules)
-          (top_falls _ _ _ _ _ _ _ _ _ (omega arith) (omega (arith, most_below _ w.geometry.sound, enters.left 1)))
-          (record { geometry = refl; blocks = refl });
-      counted = enters_single _ _ _ _ enters.counted refl refl refl;
-    }
+    top_gives _ _ _ (omega arith) (λ bytes.
+    let none = no_rests bytes w c.requires in
+    top_next bytes w 1 12 _ _ (omega arith) c.requires (omega arith) (rw c.in-12.is refl)
+    (enters.steps bytes (steps_at (file_blocks_of w) bytes 0)) ∙ rw (none.1, none.2) refl) (search rules)
+    (top_falls _ _ _ _ _ _ _ _ _ (omega arith) (omega (arith, most_below _ w.geometry.sound, enters.left 1)))
+    (record { geometry = refl; blocks = refl }) (enters_single _ _ _ _ enters.counted refl refl refl)
 
 pub returns-in-13 : goal.returns-in-13
 unfolding steps_at
 returns-in-13 c =
     let w = c.args.self.now in
     let enters = c.enter-step-in-13.ensures in
-    record {
-      gives = λ contents. gives_one _ _ _ _ (λ h. omega (arith, h.top)) (λ bytes tells.
-          let none = no_rests bytes w c.requires in
-          let made = rw c.from-words.ensures at (enters.steps bytes (steps_at (file_blocks_of w) bytes 1)) in
-          top_next bytes w 2 _ _ _ (omega arith) c.requires (omega arith) (rw c.in-13.is refl) made
-          ∙ rw (none.0, none.2) refl) (search rules) (top_falls _ _ _ _ _ _ _ _ _ (omega arith)
-          (omega (arith, most_below _ w.geometry.sound, enters.left (most_at w.geometry.layout.nindir 1))))
-          (record { geometry = refl; blocks = refl });
-      counted = enters_double _ _ _ _ enters.counted refl refl refl;
-    }
+    top_gives _ _ _ (omega arith) (λ bytes.
+    let none = no_rests bytes w c.requires in
+    let made = rw c.from-words.ensures at (enters.steps bytes (steps_at (file_blocks_of w) bytes 1)) in
+    top_next bytes w 2 _ _ _ (omega arith) c.requires (omega arith) (rw c.in-13.is refl) made
+    ∙ rw (none.0, none.2) refl) (search rules) (top_falls _ _ _ _ _ _ _ _ _ (omega arith)
+    (omega (arith, most_below _ w.geometry.sound, enters.left (most_at w.geometry.layout.nindir 1))))
+    (record { geometry = refl; blocks = refl }) (enters_double _ _ _ _ enters.counted refl refl refl)
 
 pub returns-in_default : goal.returns-in_default
 unfolding steps_at
@@ -75,13 +57,10 @@ returns-in_default c =
     let w = c.args.self.now in
     let enters = c.enter-step-in_default.ensures in
     let is : w.next ≡ 14 = omega (arith, w.in_array) in
-    record {
-      gives = λ contents. gives_one _ _ _ _ (λ h. omega (arith, h.top)) (λ bytes tells.
-          let none = no_rests bytes w c.requires in
-          let made = rw c.from-words.ensures at (enters.steps bytes (steps_at (file_blocks_of w) bytes 2)) in
-          top_next bytes w 3 _ _ _ (omega arith) c.requires (omega arith) (rw is refl) made
-          ∙ rw (none.0, none.1) refl) (search rules) (top_falls _ _ _ _ _ _ _ _ _ (omega arith)
-          (omega (arith, most_below _ w.geometry.sound, enters.left (most_at w.geometry.layout.nindir 2))))
-          (record { geometry = refl; blocks = refl });
-      counted = enters_triple _ _ _ _ enters.counted refl refl refl;
-    }
+    top_gives _ _ _ (omega arith) (λ bytes.
+    let none = no_rests bytes w c.requires in
+    let made = rw c.from-words.ensures at (enters.steps bytes (steps_at (file_blocks_of w) bytes 2)) in
+    top_next bytes w 3 _ _ _ (omega arith) c.requires (omega arith) (rw is refl) made
+    ∙ rw (none.0, none.1) refl) (search rules) (top_falls _ _ _ _ _ _ _ _ _ (omega arith)
+    (omega (arith, most_below _ w.geometry.sound, enters.left (most_at w.geometry.layout.nindir 2))))
+    (record { geometry = refl; blocks = refl }) (enters_triple _ _ _ _ enters.counted refl refl refl)
