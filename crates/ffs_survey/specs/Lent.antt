@@ -8,7 +8,7 @@ use Rattle.ffs_survey.specs.declared.lists.{CurrentDir.CurrentDir as LentDir}
 use Rattle.ffs_survey.specs.{declared.directories.Directories.Ghosts, Survey.{number_at, bool_at, graph_with, most_start}}
 use Rattle.ffs_survey.specs.{Calm.{CurrentDir, AreCalm, IsFlagged}, Costs.costs_below}
 use Rattle.ffs_survey.specs.Discover.{Extends, Found, IsReachedDir, IsReachedPart, SameResult, from_entries}
-use Rattle.ffs_survey.specs.{Discover.{is_unreached_dir, nothing, unset}, Lists.AreLists}
+use Rattle.ffs_survey.specs.{Discover.{is_unreached_dir, nothing, unset}, Levels.ReadsUnreached, Lists.{AreLists, GrowsBy}}
 
 -- what the lists hold
 abbrev pub all_found : Lists → Found
@@ -72,8 +72,7 @@ pub record KeepsReached (old new : Lists) : Type 0 where
   pub reached : new.reached.now ≡ old.reached.now
   pub calm : new.calm.now ≡ old.calm.now
 
--- the entry e of the directory d gives the parent d to what it names, where that isn't reached and has none yet; parents
--- and the queue alone may change
+-- the entry e gives the parent d to a directory that it names, isn't reached and has none. Only parents may change
 pub record Adopts (d : ℕ) (e : RoledEntry) (old new : Lists) : Type 0 where
   pub parent : (x : ℕ) → x < length old.kinds.now → number_at new.parents.now.items x
       ≡ cond ((number_at old.parents.now.items x == 0) && (is_unreached_dir old.kinds.now old.reached.now x
@@ -98,8 +97,7 @@ CountsAtMost most l = (x : ℕ) → x < length l.kinds.now → number_at l.refer
 abbrev pub HasRoomAfter : ℕ → Lists → Type 0
 HasRoomAfter top l = top + unset l.reached.now ≤ length l.queue.now.items
 
--- what an entry of this directory names can be discovered: the directory is seen with the kinds of the lists, and the
--- queue has room
+-- what an entry of this directory names can be discovered: its kinds are those of the lists, and the queue has room
 pub record CanVisit (current : LentDir) (top : ℕ) (l : Lists) : Type 0 where
   pub kinds : current.kinds.now ≡ l.kinds.now
   pub room : HasRoomAfter top l
@@ -176,9 +174,16 @@ module _ {S : Type 0} (D : Ghosts S) where
     pub lent : LeavesLent cost old new l l' result
     pub kept : KeepsReached l l'
 
-  -- the current directory d, of which no entry is left, is flagged where its entries are calm and its shape is right. The
-  -- call leaves the reader ready over the same base, and only reads the image, at most as often as what is left of the
-  -- directory needs
+  -- the directory d, which isn't reached, is read: no inode gets more than 2^28 references by it
+  pub record AddsUnreached {T : Type 0} (d : ℕ) (old new : S) (l l' : Lists) (result : Result T ImageFault)
+      : Type 0 where
+    pub grown : OnOk result (GrowsBy (length l.kinds.now) (2 ^ 28) l.references.now.items l'.references.now.items)
+    pub read : OnOk result (ForKnown old (λ entries right_shape.
+        ReadsUnreached l.kinds.now d (entries d) (all_found l) (all_found l')))
+    pub leaves : LeavesReached (λ cost. cost d) old new l l' result
+
+  -- the current directory d, of which no entry is left, is flagged where its entries are calm and its shape is right. A
+  -- call leaves the reader ready over the same base, and only reads the image, as often as is left at most
   pub record FlagsIfCalm {T : Type 0} (d : ℕ) (all_calm : Bool) (old new : S) (flags flags' : List Bool)
       (result : Result T ImageFault) : Type 0 where
     pub flagged : OnOk result ((b : List ℕ) → D.knows (D.base old) b → D.ended old b

@@ -29,12 +29,6 @@ pub record Discovers (n most top end : ℕ) (reads : Found → Found → Type 0)
   pub kept : take top new.queue ≡ old.queue
   pub read : reads old new
 
--- what the reading of a directory that isn't reached makes of what was found, as `reads` says it: no
--- count below n grows by more than `most`
-pub record Adds (n most : ℕ) (reads : Found → Found → Type 0) (old new : Found) : Type 0 where
-  pub grown : GrowsBy n most old.references new.references
-  pub read : reads old new
-
 -- these reached directories are read
 pub record ReadsDirs (kinds : List ℕ) (marked : List Bool) (dirs : List ℕ) (entries : ℕ → List RoledEntry)
     (right_shape : ℕ → Bool) (old new : Found) : Type 0 where

@@ -3,9 +3,9 @@ ghost use Rattle.std.specs.Prelude.{◌≡◌, ◌*◌, ◌-◌, ◌^◌, ◌&&�
 ghost use Rattle.std.specs.List.{sum_by};
 ghost use Rattle.ffs_volume.specs.Directories.Roles.{is_plain as is_plain_role};
 ghost use Rattle.ffs_survey.specs.{Reading.roled_of, Lists.CountLists, Survey.bool_at};
-ghost use Rattle.ffs_survey.specs.Lent.{all_found, found_up_to, current_of, ForKnown, CanVisit, CanCount, CanReach};
-ghost use Rattle.ffs_survey.specs.Lent.{CanReadLevel, Visits, Adopts, FlagsIfCalm, LeavesLent, LeavesReached};
-ghost use Rattle.ffs_survey.specs.Levels.{Adds, Discovers, ReadsReached, ReadsDirs, ReadsUnreached};
+ghost use Rattle.ffs_survey.specs.Lent.{found_up_to, current_of, ForKnown, CanVisit, CanCount, CanReach, CanReadLevel};
+ghost use Rattle.ffs_survey.specs.Lent.{Adopts, AddsUnreached, FlagsIfCalm, LeavesLent, Visits};
+ghost use Rattle.ffs_survey.specs.Levels.{Discovers, ReadsReached, ReadsDirs};
 ghost use Rattle.ffs_survey.specs.Calm.{is_calm_kind, is_calm_plain, is_calm_entry};
 ghost use Rattle.ffs_survey.specs.Discover.{IsCounted, is_unreached_dir as is_unreached_dir_at};
 
@@ -234,12 +234,8 @@ pub fn read_unreached<D: Directories>(
     lists: &mut Lists,
 ) -> Result<(), ImageFault>
     requires { CanCount D.Directories (2 ^ 60) directories.old lists.old }
-    ensures adds { OnOk result (Adds (length lists.old.kinds.now) (2 ^ 28)
-        (λ old new. ForKnown D.Directories directories.old (λ entries right_shape.
-        ReadsUnreached lists.old.kinds.now from (entries from) old new))
-        (all_found lists.old) (all_found lists.new)) }
-    ensures leaves { LeavesReached D.Directories (λ cost. cost from) directories.old
-        directories.new lists.old lists.new result }
+    ensures { AddsUnreached D.Directories from directories.old directories.new lists.old lists.new
+        result }
 {
     directories.start(from)?;
     while let Some(entry) = directories.next()? {
