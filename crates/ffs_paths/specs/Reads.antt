@@ -17,12 +17,6 @@ pub record CanClimb (v : Layout) (d : Device) (w : Workspace) (x : ℕ) : Type 0
   pub number : x < v.ncg * v.ipg
   pub reached : bool_at w.reached.items x ≡ true
 
--- the workspace is ready for reads of the directory x, and of the directory p as its parent
-pub record CanFindName (v : Layout) (d : Device) (w : Workspace) (x p : ℕ) : Type 0 where
-  pub ready : IsReady v d w
-  pub number : x < v.ncg * v.ipg
-  pub parent : p < v.ncg * v.ipg
-
 -- all of the workspace but its windows is as it was, and so is the chunk of the current directory;
 -- it is ready for the next read
 pub record OnlyReads {T : Type 0} (v : Layout) (old new : Device) (before after : Workspace)
@@ -49,8 +43,7 @@ pub record OnlyReadsFew {T : Type 0} (most : ℕ) (v : Layout) (old new : Device
   pub reads : OnlyReads v old new before after result
   pub counted : ReadsFew most count count' before after
 
--- a call that looks for the name of the directory x leaves all of the workspace but its windows, and makes one read at
--- most where the place of x is noted
+-- the same of a call for the name of the directory x: it makes one read at most where the place of x is noted
 pub record ReadsName {T : Type 0} (v : Layout) (old new : Device) (count count' x : ℕ) (before after : Workspace)
     (result : Result T ImageFault) : Type 0 where
   pub reads : OnlyReads v old new before after result

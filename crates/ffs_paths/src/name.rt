@@ -1,10 +1,10 @@
 //! The name of a directory in its parent.
 
-ghost use Rattle.std.specs.Prelude.{◌≡◌, ◌==◌, ◌&&◌, false, IfOk, OnOk};
+ghost use Rattle.std.specs.Prelude.{◌≡◌, ◌==◌, ◌&&◌, false, max, IfOk, OnOk};
 ghost use Rattle.ffs_volume.specs.Directories.{Entries.entries_of, Roles.{is_plain, role_of, roled_from}};
 ghost use Rattle.ffs_layout.specs.Entry.{entry_value};
 ghost use Rattle.ffs_paths.specs.{Climbing.{FindsFirstName, FindsName, FindsNoted, IsNameIn}, NameTexts.name_bytes};
-ghost use Rattle.ffs_paths.specs.Reads.{ForTree, IsReadyFor, CanFindName, OnlyReads, OnlyReadsFew, ReadsName};
+ghost use Rattle.ffs_paths.specs.Reads.{ForTree, IsReadyFor, OnlyReads, OnlyReadsFew, ReadsName};
 
 use crate::name_text::NameText;
 use ffs_image::{Image, ImageFault};
@@ -134,7 +134,7 @@ pub fn find_name<I: Image>(
     dir: u32,
     name: &mut NameText,
 ) -> Result<(), ImageFault>
-    requires { CanFindName geometry.now.layout (I.device image.old) workspace.old dir parent }
+    requires { IsReadyFor geometry.now.layout (I.device image.old) workspace.old (max dir parent) }
     ensures finds { OnOk result (FindsName geometry.now.layout (I.device image.old) workspace.old
         dir parent (name_bytes name.new)) }
     ensures leaves { ReadsName geometry.now.layout (I.device image.old) (I.device image.new)
