@@ -65,6 +65,11 @@ pub tree_on : {T : Type 0} {v : Layout} {d d' : Device} {w w' : Workspace} {x : 
     OnlyReads v d d' w w' (Ok x) → ForTree v d' w' P → ForTree v d w P
 tree_on {v = v} {w = w} {w' = w'} P r known = grind (arith, claims_held, survey_held)
 
+-- so what is kept then is right for the tree before
+pub kept_before : {T : Type 0} {v : Layout} {d d' : Device} {w w' : Workspace} {x : T} {s : KeptParent} →
+    OnlyReads v d d' w w' (Ok x) → KeepsParent v d'.contents w' s → ForTree v d w (λ g. IsKeptParent g s)
+kept_before {s = s} r k = tree_on (λ g. IsKeptParent g s) r k.right
+
 -- ---- what reads into the windows leave of a workspace
 -- the image gives what it gave, whether a read failed or not
 same_image : {T : Type 0} (d d' : Device) (result : Result T ImageFault) → ReadAfter d d' result →

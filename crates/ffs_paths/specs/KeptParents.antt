@@ -5,7 +5,7 @@ use Rattle.ffs_volume.specs.declared.Layout.{Layout}
 use Rattle.ffs_volume.specs.Directories.{Graph.Graph, Parents.graph_of, Paths.path_names, Volumes.volume_of}
 use Rattle.ffs_workspace.specs.{declared.workspace.Workspace.Workspace, Ready.IsReady, Places.place_in}
 use Rattle.ffs_workspace.specs.Holds.{HoldsClaims, HoldsSurvey}
-use Rattle.ffs_paths.specs.{DirectoryPaths.IsPathOf, Reads.{OnlyReads, ReadsAtMost}, Slashes.AreSingle}
+use Rattle.ffs_paths.specs.{Climbing.IsParentOf, DirectoryPaths.IsPathOf, Reads.{OnlyReads, ReadsAtMost}, Slashes.AreSingle}
 use Rattle.ffs_paths.specs.NameTexts.{name_bytes}
 use Rattle.ffs_paths.specs.declared.kept_parent.KeptParent.{KeptParent}
 
@@ -43,6 +43,11 @@ pub record ReadyToPath (v : Layout) (d : Device) (w : Workspace) (s : KeptParent
   pub ready : IsReady v d w
   pub kept_parent : KeepsParent v d.contents w s
   pub number : x < v.ncg * v.ipg
+
+-- a path of the inode x can be made by that of its parent p, which the survey found
+pub record CanKeepChild (v : Layout) (d : Device) (w : Workspace) (s : KeptParent) (p x : ℕ) : Type 0 where
+  pub ready : ReadyToPath v d w s x
+  pub parent : IsParentOf w x p
 
 -- what a call leaves that makes so many reads at most for a path, where each place is noted; where
 -- it failed, nothing of a directory and its children may be right

@@ -1,15 +1,21 @@
 -- What a call that only reads the image leaves of a workspace, and how often it reads.
-use Rattle.std.specs.Prelude.{◌≡◌, ◌+◌, ◌*◌, ◌/◌, ◌<◌, ◌≤◌, ℕ, List, Option, Result, Some}
-use Rattle.ffs_image.specs.{Device.Device, Reads.ReadAfter, declared.image.ImageFault.ImageFault}
+use Rattle.std.specs.Prelude.{◌≡◌, ◌+◌, ◌*◌, ◌/◌, ◌<◌, ◌≤◌, ℕ, List, Option, Result, Some, true}
+use Rattle.ffs_image.specs.{Device.{Device, ForContents}, Reads.ReadAfter, declared.image.ImageFault.ImageFault}
 use Rattle.ffs_volume.specs.declared.{constants.TheConstants.MAXPATHLEN, Layout.Layout}
 use Rattle.ffs_volume.specs.Directories.{Graph.Graph, Parents.graph_of, Volumes.volume_of}
-use Rattle.ffs_workspace.specs.{declared.workspace.Workspace.Workspace, Places.AreNoted, Ready.IsReady}
-use Rattle.ffs_workspace.specs.Holds.{HoldsClaims, HoldsSurvey}
+use Rattle.ffs_workspace.specs.{declared.workspace.Workspace.Workspace, Places.{AreNoted, IsNoted}, Ready.IsReady}
+use Rattle.ffs_workspace.specs.Holds.{bool_at, HoldsClaims, HoldsSurvey}
 
 -- the workspace is ready for reads of the inode x
 pub record IsReadyFor (v : Layout) (d : Device) (w : Workspace) (x : ℕ) : Type 0 where
   pub ready : IsReady v d w
   pub number : x < v.ncg * v.ipg
+
+-- the same, and the directory x is reached
+pub record CanClimb (v : Layout) (d : Device) (w : Workspace) (x : ℕ) : Type 0 where
+  pub ready : IsReady v d w
+  pub number : x < v.ncg * v.ipg
+  pub reached : bool_at w.reached.items x ≡ true
 
 -- all of the workspace but its windows is as it was, and so is the chunk of the current directory;
 -- it is ready for the next read
@@ -36,6 +42,12 @@ pub record OnlyReadsFew {T : Type 0} (most : ℕ) (v : Layout) (old new : Device
     (before after : Workspace) (result : Result T ImageFault) : Type 0 where
   pub reads : OnlyReads v old new before after result
   pub counted : ReadsFew most count count' before after
+
+-- the same of a call for the name of the directory x: it makes one read at most where the place of x is noted
+pub record ReadsName {T : Type 0} (v : Layout) (old new : Device) (count count' x : ℕ) (before after : Workspace)
+    (result : Result T ImageFault) : Type 0 where
+  pub reads : OnlyReads v old new before after result
+  pub counted : ForContents old.contents (λ b. IsNoted v b before.queue.items x → ReadsFew 1 count count' before after)
 
 -- the image gives these bytes, the workspace holds what the block check and the survey leave, and
 -- it notes the place of each directory that is reached

@@ -3,7 +3,7 @@
 ghost use Rattle.std.specs.Prelude.{◌≡◌, ◌+◌, ◌-◌, ◌<◌, ◌≤◌, ℕ, not, ◌&&◌, nat_lt, List, [], ◌∷◌, ◌++◌, length, drop};
 ghost use Rattle.std.specs.Prelude.{Some};
 ghost use Rattle.ffs_volume.specs.Directories.Paths.{dir_path_of_names, path_bytes};
-ghost use Rattle.ffs_paths.specs.Slashes.{AreSingle, PutsBefore, from_slash};
+ghost use Rattle.ffs_paths.specs.Slashes.{AreSingle, FitsBefore, IsFirstSlash, PutsBefore};
 
 use arrayvec::ArrayVec;
 use ffs_volume::constants::MAXPATHLEN;
@@ -36,10 +36,8 @@ pub struct PathBuffer {
 
 /// Puts `/` and a name before what is from `end` on. Returns where they begin.
 fn put_before(bytes: &mut [u8; MAXPATHLEN], end: usize, name: &[u8]) -> usize
-    requires room { length name.now < end }
-    requires end { end ≤ 1024 }
-    ensures put { PutsBefore bytes.old end name.now bytes.new result }
-    ensures following { (k : ℕ) → end ≤ k → drop k bytes.new ≡ drop k bytes.old }
+    requires { FitsBefore end name.now }
+    ensures { PutsBefore bytes.old end name.now bytes.new result }
 {
     let start = end - name.len() - 1;
     bytes[start] = b'/';
@@ -50,9 +48,7 @@ fn put_before(bytes: &mut [u8; MAXPATHLEN], end: usize, name: &[u8]) -> usize
 /// Where the first `/` from a place on is, or the end.
 #[tactic(auto, using(crate::proofs::LongestEnds::slash_none))]
 fn slash_from(bytes: &[u8; MAXPATHLEN], place: usize) -> usize
-    requires { place ≤ 1024 }
-    ensures first { drop result bytes.now ≡ from_slash (drop place bytes.now) }
-    ensures within { (place ≤ result) × (result ≤ 1024) }
+    ensures { IsFirstSlash bytes.now place result }
 {
     for at in place..MAXPATHLEN {
         if bytes[at] == b'/' {
@@ -170,8 +166,7 @@ impl PathBuffer {
 
     /// What is from `from` on, and a name after it.
     fn longer(&self, from: usize, name: &[u8], cut: bool) -> PathBuffer
-        requires from { from ≤ 1024 }
-        requires room { length name.now < from }
+        requires { FitsBefore from name.now }
         ensures { IsLonger self.now from name.now cut result }
     {
         let mut bytes = [0u8; MAXPATHLEN];

@@ -1,10 +1,11 @@
 //! The path of a directory's parent, kept for the directory that comes next.
 
-ghost use Rattle.std.specs.Prelude.{◌≡◌, ◌<◌, true, ℕ, List, Option, IfOk, OnOk, IfSome, vec_len};
+ghost use Rattle.std.specs.Prelude.{◌≡◌, ◌<◌, true, ℕ, List, Option, IfOk, OnOk, IfSome, min, vec_len};
 ghost use Rattle.ffs_volume.specs.{declared.Layout.Layout, Directories.Paths.dir_path, Report.Reads.path_reads};
 ghost use Rattle.ffs_workspace.specs.declared.workspace.Workspace.{Workspace as WorkspaceIn};
-ghost use Rattle.ffs_paths.specs.{Climbing.IsParentOf, DirectoryPaths.IsPathOf, KeptParents.{KeepsParent, ReadyToPath}};
-ghost use Rattle.ffs_paths.specs.{KeptParents.PathLeaves, Reads.{ForTree, climb_reads}};
+ghost use Rattle.ffs_paths.specs.{Climbing.IsParentOf, DirectoryPaths.IsPathOf};
+ghost use Rattle.ffs_paths.specs.KeptParents.{CanKeepChild, KeepsParent, PathLeaves, ReadyToPath};
+ghost use Rattle.ffs_paths.specs.Reads.{ForTree, climb_reads};
 
 use crate::buffer::{PathBuffer, PathText};
 use crate::name::find_name;
@@ -17,8 +18,7 @@ use ffs_workspace::Workspace;
 
 /// The parent of a directory that is reached and isn't the root.
 fn parent_of(workspace: &Workspace, dir: u32) -> Option<u32>
-    requires reached { dir < vec_len workspace.now.reached }
-    requires parents { dir < vec_len workspace.now.parents }
+    requires { dir < min (vec_len workspace.now.reached) (vec_len workspace.now.parents) }
     ensures { IfSome result (λ p. IsParentOf workspace.now dir p) }
 {
     if dir <= ROOTINO || !is_reached(workspace, dir) {
@@ -72,9 +72,8 @@ impl KeptParent {
         workspace: &mut Workspace,
         dir: u32,
     ) -> Result<(), ImageFault>
-        requires ready { ReadyToPath geometry.now.layout (I.device image.old) workspace.old
-            self.old dir }
-        requires some { 0 < dir }
+        requires { ReadyToPath geometry.now.layout (I.device image.old) workspace.old self.old
+            dir }
         ensures kept { OnOk result (self.new.parent ≡ dir) }
         ensures leaves { PathLeaves climb_reads geometry.now.layout (I.device image.old)
             (I.device image.new) (I.reads image.old) (I.reads image.new) workspace.old workspace.new
@@ -102,9 +101,8 @@ impl KeptParent {
         parent: u32,
         dir: u32,
     ) -> Result<(), ImageFault>
-        requires ready { ReadyToPath geometry.now.layout (I.device image.old) workspace.old
-            self.old dir }
-        requires parent { IsParentOf workspace.old dir parent }
+        requires { CanKeepChild geometry.now.layout (I.device image.old) workspace.old self.old
+            parent dir }
         ensures child { OnOk result (self.new.child ≡ dir) }
         ensures leaves { PathLeaves path_reads geometry.now.layout (I.device image.old)
             (I.device image.new) (I.reads image.old) (I.reads image.new) workspace.old workspace.new

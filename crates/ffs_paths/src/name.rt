@@ -1,14 +1,10 @@
 //! The name of a directory in its parent.
 
-ghost use Rattle.std.specs.Prelude.{◌≡◌, ◌*◌, ◌<◌, ◌≤◌, ◌==◌, ◌&&◌, ℕ, true, false, IfOk, OnOk, length};
-ghost use Rattle.std.specs.List.{list_any};
-ghost use Rattle.ffs_image.specs.Device.{ForContents};
-ghost use Rattle.ffs_volume.specs.Directories.{Entries.entries_of, Graph.is_naming_entry, Roles.{is_plain, role_of}};
-ghost use Rattle.ffs_volume.specs.Directories.Roles.{roled_from};
+ghost use Rattle.std.specs.Prelude.{◌≡◌, ◌==◌, ◌&&◌, false, max, IfOk, OnOk};
+ghost use Rattle.ffs_volume.specs.Directories.{Entries.entries_of, Roles.{is_plain, role_of, roled_from}};
 ghost use Rattle.ffs_layout.specs.Entry.{entry_value};
-ghost use Rattle.ffs_workspace.specs.{Places.IsNoted, Ready.IsReady};
-ghost use Rattle.ffs_paths.specs.{Climbing.{name_in, IsNameIn}, Reads.{ForTree, IsReadyFor, OnlyReads, ReadsFew}};
-ghost use Rattle.ffs_paths.specs.{NameTexts.name_bytes, Reads.OnlyReadsFew};
+ghost use Rattle.ffs_paths.specs.{Climbing.{FindsFirstName, FindsName, FindsNoted, IsNameIn}, NameTexts.name_bytes};
+ghost use Rattle.ffs_paths.specs.Reads.{ForTree, IsReadyFor, OnlyReads, OnlyReadsFew, ReadsName};
 
 use crate::name_text::NameText;
 use ffs_image::{Image, ImageFault};
@@ -39,11 +35,8 @@ fn is_named_by(index: usize, entry: &Entry<'_>, inode: u32) -> bool
 /// Finds the name of an inode in a chunk, by its first plain entry there. Returns whether there is
 /// one.
 fn find_in_chunk(order: Order, chunk: &[u8; DIRBLKSIZ], number: u32, name: &mut NameText) -> bool
-    ensures name { result ≡ true → name_bytes name.new
-        ≡ name_in number (roled_from false 0 (entries_of order chunk.now)) }
-    ensures some { result ≡ true → 0 < length (name_bytes name.new) }
-    ensures found { list_any (is_naming_entry number)
-        (roled_from false 0 (entries_of order chunk.now)) ≡ true → result ≡ true }
+    ensures { FindsFirstName number (roled_from false 0 (entries_of order chunk.now))
+        (name_bytes name.new) result }
 {
     let mut place = 0usize;
     let mut index = 0usize;
@@ -68,12 +61,8 @@ fn find_by_place<I: Image>(
     name: &mut NameText,
 ) -> Result<bool, ImageFault>
     requires { IsReadyFor geometry.now.layout (I.device image.old) workspace.old dir }
-    ensures name { IfOk result (λ found. found ≡ true
-        → ForTree geometry.now.layout (I.device image.old) workspace.old
-        (λ g. (parent : ℕ) → IsNameIn g dir parent (name_bytes name.new))) }
-    ensures some { IfOk result (λ found. found ≡ true → 0 < length (name_bytes name.new)) }
-    ensures found { IfOk result (λ found. ForContents (I.device image.old).contents (λ b.
-        IsNoted geometry.now.layout b workspace.old.queue.items dir → found ≡ true)) }
+    ensures finds { IfOk result (FindsNoted geometry.now.layout (I.device image.old) workspace.old
+        dir (name_bytes name.new)) }
     ensures leaves { OnlyReadsFew 1 geometry.now.layout (I.device image.old) (I.device image.new)
         (I.reads image.old) (I.reads image.new) workspace.old workspace.new result }
 {
@@ -106,8 +95,7 @@ pub fn search_name<I: Image>(
     dir: u32,
     name: &mut NameText,
 ) -> Result<(), ImageFault>
-    requires ready { IsReady geometry.now.layout (I.device image.old) workspace.old }
-    requires parent { parent < geometry.now.layout.ncg * geometry.now.layout.ipg }
+    requires { IsReadyFor geometry.now.layout (I.device image.old) workspace.old parent }
     ensures name { OnOk result (ForTree geometry.now.layout (I.device image.old) workspace.old
         (λ g. IsNameIn g dir parent (name_bytes name.new))) }
     ensures reads { OnlyReads geometry.now.layout (I.device image.old) (I.device image.new)
@@ -146,18 +134,11 @@ pub fn find_name<I: Image>(
     dir: u32,
     name: &mut NameText,
 ) -> Result<(), ImageFault>
-    requires ready { IsReadyFor geometry.now.layout (I.device image.old) workspace.old dir }
-    requires parent { parent < geometry.now.layout.ncg * geometry.now.layout.ipg }
-    ensures name { OnOk result (ForTree geometry.now.layout (I.device image.old) workspace.old
-        (λ g. IsNameIn g dir parent (name_bytes name.new))) }
-    ensures some { OnOk result (ForContents (I.device image.old).contents (λ b.
-        IsNoted geometry.now.layout b workspace.old.queue.items dir
-        → 0 < length (name_bytes name.new))) }
-    ensures reads { OnlyReads geometry.now.layout (I.device image.old) (I.device image.new)
-        workspace.old workspace.new result }
-    ensures counted { ForContents (I.device image.old).contents (λ b.
-        IsNoted geometry.now.layout b workspace.old.queue.items dir
-        → ReadsFew 1 (I.reads image.old) (I.reads image.new) workspace.old workspace.new) }
+    requires { IsReadyFor geometry.now.layout (I.device image.old) workspace.old (max dir parent) }
+    ensures finds { OnOk result (FindsName geometry.now.layout (I.device image.old) workspace.old
+        dir parent (name_bytes name.new)) }
+    ensures leaves { ReadsName geometry.now.layout (I.device image.old) (I.device image.new)
+        (I.reads image.old) (I.reads image.new) dir workspace.old workspace.new result }
 {
     if find_by_place(geometry, image, workspace, dir, name)? {
         return Ok(());

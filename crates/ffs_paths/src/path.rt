@@ -2,11 +2,11 @@
 
 ghost use Rattle.std.specs.Prelude.{◌≡◌, ◌<◌, ◌≤◌, ℕ, List, [], ◌∷◌, ◌++◌, length, vec_len, Some, option_map, IfOk};
 ghost use Rattle.std.specs.Prelude.{OnOk};
-ghost use Rattle.ffs_volume.specs.Directories.{Graph.Graph, Graph.level, Parents.graph_of, Volumes.volume_of};
+ghost use Rattle.ffs_volume.specs.Directories.Graph.{Graph, level};
 ghost use Rattle.ffs_volume.specs.Directories.Paths.{dir_path, entry_path, names_down};
 ghost use Rattle.ffs_workspace.specs.Holds.{bool_at};
-ghost use Rattle.ffs_paths.specs.{Buffers.HoldsNames, Climbing.in_room, Climbing.path_in, Reads.ReadsFew};
-ghost use Rattle.ffs_paths.specs.Reads.{climb_reads, ForTree, IsReadyFor, KnowsPlaces, OnlyReads, OnlyReadsAtMost};
+ghost use Rattle.ffs_paths.specs.{Buffers.HoldsNames, Climbing.{in_room, path_in}};
+ghost use Rattle.ffs_paths.specs.Reads.{climb_reads, CanClimb, ForTree, IsReadyFor, OnlyReadsAtMost};
 ghost use Rattle.ffs_paths.specs.{DirectoryPaths.HoldsPath, DirectoryPaths.IsPathOf, Slashes.AreSingle};
 
 use crate::buffer::{LONGEST_NAME, PathBuffer, PathText};
@@ -94,16 +94,13 @@ fn climb<I: Image>(
     dir: u32,
     path: &mut PathBuffer,
 ) -> Result<(), ImageFault>
-    requires { IsReadyFor geometry.now.layout (I.device image.old) workspace.old dir }
+    requires { CanClimb geometry.now.layout (I.device image.old) workspace.old dir }
     ensures path { OnOk result
         (ForTree geometry.now.layout (I.device image.old) workspace.old (λ g.
         (k : ℕ) → level g dir ≡ Some k → HoldsNames path.new (names_down g k dir))) }
-    ensures reads { OnlyReads geometry.now.layout (I.device image.old) (I.device image.new)
-        workspace.old workspace.new result }
-    ensures counted { (b : List ℕ) (k : ℕ)
-        → KnowsPlaces geometry.now.layout (I.device image.old).contents workspace.old b
-        → level (graph_of (volume_of geometry.now.layout b)) dir ≡ Some k
-        → ReadsFew climb_reads (I.reads image.old) (I.reads image.new) workspace.old workspace.new }
+    ensures leaves { OnlyReadsAtMost climb_reads geometry.now.layout (I.device image.old)
+        (I.device image.new) (I.reads image.old) (I.reads image.new) workspace.old workspace.new
+        result }
 {
     let count = workspace.notes.len();
     path.clear();

@@ -47,16 +47,8 @@ pub next_room : {here mid : Lists} {new : Vec ℕ Global} {low high end : ℕ} {
     Discovers (length here.kinds.now) ((high - low) * 2 ^ 28) high end reads (found_up_to here high)
     (found_up_to mid end) → SortsPart mid.queue.now new high end →
     HasRoomForLevel high end mid.references.now.items mid.reached.now new.items
-next_room {here = here} {mid = mid} {new = new} {high = high} {end = end} same room found sorted = record {
-  ordered = found.ordered;
-  room = let ends : end + unset mid.reached.now ≡ high + unset here.reached.now = found.ends in
-      omega (arith, ends, room.room, sorted.len, new.ok.0, mid.queue.now.ok.0, queue_long same);
-  counted = λ x l.
-      let kinds = kinds_long same in
-      let before = room.counted x (omega (arith, l, kinds, here.long.references_long, mid.long.references_long)) in
-      let grown = found.grown x (omega (arith, l, kinds, mid.long.references_long)) in
-      omega (arith, room.ordered, before, grown);
-}
+next_room {here = here} {mid = mid} {new = new} {high = high} {end = end} same room found sorted =
+    grind (arith, kinds_long, queue_long)
 
 pub next_at : {old : List ℕ} {mid new : Vec ℕ Global} {r r' : List Bool} {p p' : List ℕ} {low high end : ℕ}
     (kinds : List ℕ) (entries : ℕ → List RoledEntry) → 2 < length kinds → Extends high end old mid.items →

@@ -43,9 +43,7 @@ part-suc c n (y ∷ q) =
 
 part-zero : (c : ℕ → ℕ) (q : List ℕ) → part c 0 q ≡ 0
 part-zero c [] = refl
-part-zero c (y ∷ q) =
-    let b = cond-false (nat_lt y 0) (c y) 0 (le-ltb y 0 (omega arith)) in
-    omega (arith, sum_by-cons (λ s. cond (nat_lt s 0) (c s) 0) y q, b, part-zero c q)
+part-zero c (y ∷ q) = grind (arith, sum_by-cons, cond-false, le-ltb, part-zero c q)
 
 part-is : (c : ℕ → ℕ) (r : ℕ → Bool) (q : List ℕ) → ((s : ℕ) → occurrences s q ≡ bit (r s)) → (n : ℕ) →
     part c n q ≡ costs_below r c n

@@ -6,7 +6,8 @@ use mathlib.Core.Path.{fun_ext}
 use Rattle.ffs_volume.{proofs.Unreached.{IsLost, lost-from}, specs.Directories.Graph.{Graph, parent, parent_by}}
 use Rattle.ffs_volume.{specs.Directories.Graph.{is_dead_in, none_or_dead, is_unref_dir_in}, proofs.Graphs.IsSane}
 use Rattle.ffs_volume.{proofs.SearchLaws.first_below-some, specs.Directories.Climb.is_leader_within}
-use Rattle.ffs_survey.{proofs.Discovered.dir_below, specs.{Cycles.parent_in, Survey.{IsTree, number_at}}}
+use Rattle.ffs_survey.{proofs.Discovered.dir_below, specs.{Cycles.parent_in, Survey.{AreNamed, IsTree, number_at}}}
+use Rattle.ffs_survey.specs.Survey.{dead_at, suspect_at}
 
 -- what a parent is
 record IsParent (v : Graph) (s : ℕ) : Type 0 where
@@ -38,6 +39,11 @@ up_is_parent v p x l h = grind (arith, nat_tests)
 none_or_dead_is : (v : Graph) (suspect : ℕ → Bool) (p : List ℕ) (d : ℕ) → Holds v p d →
     none_or_dead v suspect (parent v d) ≡ cond (number_at p d == 0) true (is_dead_in v suspect (number_at p d))
 none_or_dead_is v suspect p d h = grind (arith, nat_tests)
+
+-- whether an inode is dead in a graph, by a list of what is named in it
+pub dead_is : {v : Graph} {kinds : List ℕ} {named : List Bool} {dead : Bool} (marked : List Bool) (x : ℕ) →
+    AreNamed v kinds named → x < length kinds → dead ≡ dead_at kinds marked named x → dead ≡ is_dead_in v (suspect_at kinds marked) x
+dead_is {v = v} marked x n below is = grind arith
 
 -- what is kept, with a parent list of full length
 tree-sane : {v : Graph} {kinds : List ℕ} {r : List Bool} {p : List ℕ} → IsTree v kinds r p → IsSane v

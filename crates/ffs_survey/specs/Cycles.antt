@@ -1,7 +1,8 @@
 -- Walks along parents, in `walk_of`: of each number 1 more than the start of the walk that passed
 -- it, 0 where none did.
-use Rattle.std.specs.Prelude.{◌≡◌, ◌≢◌, ℕ, ◌<◌, ◌≤◌, ◌^◌, ◌==◌, ◌||◌, nat_le, Bool, cond, List, length, All}
-use Rattle.std.specs.{Prelude.{Option, None, Some}, List.sum_by}
+use Rattle.std.specs.Prelude.{◌≡◌, ◌≢◌, ℕ, ◌+◌, ◌<◌, ◌≤◌, ◌^◌, ◌==◌, ◌||◌, nat_le, Bool, cond, List, length, All}
+use Rattle.std.specs.{Prelude.{Option, None, Some, MatchOption, vec_len}, List.sum_by}
+use Rattle.std.specs.declared.{vec.Vec.Vec, alloc.Global.Global}
 use Rattle.ffs_volume.specs.Directories.Climb.{climb, IsOnCycle, IsLeader}
 use Rattle.ffs_survey.specs.{Survey.number_at, Discover.bit}
 
@@ -54,6 +55,13 @@ pub record FindsCycle (f : ℕ → Option ℕ) (n : ℕ) (old new : List ℕ) (f
   pub cycle : IsOnCycle f found
   pub short : cycle.steps_less_one < n
   pub only : (x : ℕ) → IsMet old new x → IsOnCycle f x → (k : ℕ) × (climb f k found ≡ Some x)
+
+-- a walk from `start` is noted, and the cycle that it closed is found
+pub record NotesWalk (parents : List ℕ) (start : ℕ) (old new : Vec ℕ Global) (result : Option ℕ) : Type 0 where
+  pub walked : Walked (parent_in parents) start (start + 1) old.items new.items
+  pub long : vec_len new ≡ vec_len old
+  pub cycle : MatchOption result ((x : ℕ) → IsMet old.items new.items x → IsOnCycle (parent_in parents) x → ⊥)
+      (λ found. FindsCycle (parent_in parents) (length parents) old.items new.items found)
 
 -- e is the least number on the cycle of `found`
 pub record IsLeastOn (f : ℕ → Option ℕ) (n found e : ℕ) : Type 0 where

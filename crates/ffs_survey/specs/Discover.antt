@@ -4,7 +4,7 @@ use Rattle.std.specs.Prelude.{◌||◌, length, take, if◌then◌else◌, List,
 use Rattle.std.specs.{Prelude.{unwrap_or, find, count_by}, List.{list_any, sum_by}}
 use Rattle.ffs_volume.specs.{Directories.{Roles.{RoledEntry, refers}, Climb.is_value}, Disk.Search.first_below}
 use Rattle.ffs_volume.specs.Directories.Graph.{Graph, is_naming_entry, is_naming_dir, edge, within, level, parent}
-use Rattle.ffs_survey.specs.Survey.{bool_at, number_at, dir_at, counted_in, most_start}
+use Rattle.ffs_survey.specs.Survey.{bool_at, number_at, dir_at, counted_in}
 
 -- what a survey has found so far: references, named and reached inodes, parents, calm directories,
 -- and the queue
@@ -162,11 +162,3 @@ pub record Extends (top end : ℕ) (old new : List ℕ) : Type 0 where
 pub record IsReachedDir (kinds : List ℕ) (reached : List Bool) (d : ℕ) : Type 0 where
   pub dir : dir_at kinds d ≡ true
   pub is_reached : bool_at reached d ≡ true
-
--- nothing is found yet, and no count of references is past the greatest start
-pub record NothingFound (found : Found) : Type 0 where
-  pub starts : (x : ℕ) → number_at found.references x ≤ most_start
-  pub named : (x : ℕ) → bool_at found.named x ≡ false
-  pub reached : (x : ℕ) → bool_at found.reached x ≡ false
-  pub parents : (x : ℕ) → number_at found.parents x ≡ 0
-  pub calm : (x : ℕ) → bool_at found.calm x ≡ false

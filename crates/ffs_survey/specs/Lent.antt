@@ -1,12 +1,14 @@
 -- What a call needs of the lists of a survey and of its reader, and what it leaves of them.
 use Rattle.std.specs.{Prelude.{◌≡◌, ℕ, ◌+◌, ◌^◌, ◌<◌, ◌≤◌, All, Bool, List, Result, length, take, drop}, Borrow.GName}
-use Rattle.std.specs.Prelude.{vec_len}
+use Rattle.std.specs.Prelude.{vec_len, false, ◌==◌, ◌&&◌, cond, OnOk, [], ◌∷◌}
 use Rattle.ffs_image.specs.{Reads.ReadAfter, declared.image.ImageFault.ImageFault}
-use Rattle.ffs_volume.specs.Directories.Roles.{RoledEntry}
-use Rattle.ffs_survey.specs.declared.lists.{Lists.Lists, NumberLists.NumberLists, CurrentDir.CurrentDir as LentDir}
-use Rattle.ffs_survey.specs.{declared.directories.Directories.Ghosts, Survey.{number_at, bool_at, graph_with}}
-use Rattle.ffs_survey.specs.{Calm.{CurrentDir, AreCalm}, Costs.costs_below}
-use Rattle.ffs_survey.specs.Discover.{Found, unset, IsReachedDir, IsReachedPart}
+use Rattle.ffs_volume.specs.Directories.{Graph.is_naming_entry, Roles.RoledEntry}
+use Rattle.ffs_survey.specs.declared.lists.{Lists.Lists, KnownInodes.KnownInodes, NumberLists.NumberLists}
+use Rattle.ffs_survey.specs.declared.lists.{CurrentDir.CurrentDir as LentDir}
+use Rattle.ffs_survey.specs.{declared.directories.Directories.Ghosts, Survey.{number_at, bool_at, graph_with, most_start}}
+use Rattle.ffs_survey.specs.{Calm.{CurrentDir, AreCalm, IsFlagged}, Costs.costs_below}
+use Rattle.ffs_survey.specs.Discover.{Extends, Found, IsReachedDir, IsReachedPart, SameResult, from_entries}
+use Rattle.ffs_survey.specs.{Discover.{is_unreached_dir, nothing, unset}, Levels.ReadsUnreached, Lists.{AreLists, GrowsBy}}
 
 -- what the lists hold
 abbrev pub all_found : Lists → Found
@@ -70,8 +72,11 @@ pub record KeepsReached (old new : Lists) : Type 0 where
   pub reached : new.reached.now ≡ old.reached.now
   pub calm : new.calm.now ≡ old.calm.now
 
--- parents and the queue alone may change
-pub record ChangesParents (old new : Lists) : Type 0 where
+-- the entry e gives the parent d to a directory that it names, isn't reached and has none. Only parents may change
+pub record Adopts (d : ℕ) (e : RoledEntry) (old new : Lists) : Type 0 where
+  pub parent : (x : ℕ) → x < length old.kinds.now → number_at new.parents.now.items x
+      ≡ cond ((number_at old.parents.now.items x == 0) && (is_unreached_dir old.kinds.now old.reached.now x
+      && is_naming_entry x e)) d (number_at old.parents.now.items x)
   pub counts : KeepsCounts old new
   pub kept : KeepsReached old new
 
@@ -92,12 +97,42 @@ CountsAtMost most l = (x : ℕ) → x < length l.kinds.now → number_at l.refer
 abbrev pub HasRoomAfter : ℕ → Lists → Type 0
 HasRoomAfter top l = top + unset l.reached.now ≤ length l.queue.now.items
 
+-- what an entry of this directory names can be discovered: its kinds are those of the lists, and the queue has room
+pub record CanVisit (current : LentDir) (top : ℕ) (l : Lists) : Type 0 where
+  pub kinds : current.kinds.now ≡ l.kinds.now
+  pub room : HasRoomAfter top l
+
+-- what the entry e of the directory d names is discovered: the queue, which ended at `top`, keeps what
+-- it had and ends at `end`, with what is newly reached; nothing is counted
+pub record Visits (d : ℕ) (e : RoledEntry) (top end : ℕ) (old new : Lists) : Type 0 where
+  pub ends : end + unset new.reached.now ≡ top + unset old.reached.now
+  pub same_result : SameResult (from_entries old.kinds.now d (e ∷ [])) old.reached.now old.parents.now.items
+      (take top old.queue.now.items) nothing new.reached.now new.parents.now.items (take end new.queue.now.items)
+  pub extends : Extends top end old.queue.now.items new.queue.now.items
+  pub counts : KeepsCounts old new
+
 module _ {S : Type 0} (D : Ghosts S) where
   -- P holds of the entries of each directory and of which directories have a right shape, by each
   -- list of bytes that the reader's base knows to be the image's
   abbrev pub ForKnown : S → ((ℕ → List RoledEntry) → (ℕ → Bool) → Type 0) → Type 0
   ForKnown reader P =
       (b : List ℕ) → D.knows (D.base reader) b → P (D.entries (D.base reader) b) (D.right_shape (D.base reader) b)
+
+  -- the reader is ready, and these lists have an entry for every inode
+  pub record CanSurvey (reader : S) (inodes : KnownInodes) (numbers : NumberLists) (named reached calm : List Bool)
+      : Type 0 where
+    pub ready : D.ready reader
+    pub lists : AreLists inodes.kinds.now inodes.marked.now numbers.references.now.items named reached
+        numbers.parents.now.items calm numbers.queue.now.items
+
+  -- the reader is ready, nothing is found yet, and no count of references is past the greatest start
+  pub record CanBegin (reader : S) (l : Lists) : Type 0 where
+    pub ready : D.ready reader
+    pub starts : (x : ℕ) → number_at l.references.now.items x ≤ most_start
+    pub named : (x : ℕ) → bool_at l.named.now x ≡ false
+    pub reached : (x : ℕ) → bool_at l.reached.now x ≡ false
+    pub parents : (x : ℕ) → number_at l.parents.now.items x ≡ 0
+    pub calm : (x : ℕ) → bool_at l.calm.now x ≡ false
 
   -- the reader is ready, and no inode has more than `most` references
   pub record CanCount (most : ℕ) (reader : S) (l : Lists) : Type 0 where
@@ -139,9 +174,20 @@ module _ {S : Type 0} (D : Ghosts S) where
     pub lent : LeavesLent cost old new l l' result
     pub kept : KeepsReached l l'
 
-  -- a call leaves the reader ready over the same base, and only reads the image, at most as often as
-  -- what is left of the current directory needs
-  pub record LeavesCurrent {T : Type 0} (old new : S) (result : Result T ImageFault) : Type 0 where
+  -- the directory d, which isn't reached, is read: no inode gets more than 2^28 references by it
+  pub record AddsUnreached {T : Type 0} (d : ℕ) (old new : S) (l l' : Lists) (result : Result T ImageFault)
+      : Type 0 where
+    pub grown : OnOk result (GrowsBy (length l.kinds.now) (2 ^ 28) l.references.now.items l'.references.now.items)
+    pub read : OnOk result (ForKnown old (λ entries right_shape.
+        ReadsUnreached l.kinds.now d (entries d) (all_found l) (all_found l')))
+    pub leaves : LeavesReached (λ cost. cost d) old new l l' result
+
+  -- the current directory d, of which no entry is left, is flagged where its entries are calm and its shape is right. A
+  -- call leaves the reader ready over the same base, and only reads the image, as often as is left at most
+  pub record FlagsIfCalm {T : Type 0} (d : ℕ) (all_calm : Bool) (old new : S) (flags flags' : List Bool)
+      (result : Result T ImageFault) : Type 0 where
+    pub flagged : OnOk result ((b : List ℕ) → D.knows (D.base old) b → D.ended old b
+        → IsFlagged d all_calm (D.right_shape_so_far old b) flags flags')
     pub is_ready : D.ready new
     pub same : D.base new ≡ D.base old
     pub read : ReadAfter (D.device old) (D.device new) result

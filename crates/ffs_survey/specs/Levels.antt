@@ -1,17 +1,9 @@
 -- What the reading of directories makes of what a survey has found.
-use Rattle.std.specs.Prelude.{◌≡◌, ℕ, ◌+◌, ◌<◌, ◌≤◌, ◌==◌, Bool, ◌&&◌, cond, List, [], ◌∷◌, length, take}
+use Rattle.std.specs.Prelude.{◌≡◌, ℕ, ◌+◌, ◌<◌, ◌≤◌, ◌==◌, Bool, ◌&&◌, cond, List, length, take}
 use Rattle.ffs_volume.specs.Directories.Roles.{RoledEntry}
 use Rattle.ffs_survey.specs.{Survey.{bool_at, number_at, graph_with, IsSurvey}, Calm.{are_calm, AreCalm, IsFlagged}}
-use Rattle.ffs_survey.specs.Discover.{Found, SameResult, Counts, Extends, from_entries, from_dirs, nothing, count_in}
+use Rattle.ffs_survey.specs.Discover.{Found, SameResult, Counts, from_entries, from_dirs, nothing, count_in}
 use Rattle.ffs_survey.specs.{Discover.{any_in, count_of, any_of, none, never, is_unreached_dir, unset}, Lists.GrowsBy}
-
--- what the entry e of the directory d names is discovered: the queue, which ended at `top`, keeps what
--- it had and ends at `end`, with what is newly reached
-pub record Visits (kinds : List ℕ) (d : ℕ) (e : RoledEntry) (top end : ℕ) (old new : Found) : Type 0 where
-  pub ends : end + unset new.reached ≡ top + unset old.reached
-  pub same_result : SameResult (from_entries kinds d (e ∷ [])) old.reached old.parents (take top old.queue) nothing
-      new.reached new.parents (take end new.queue)
-  pub extends : Extends top end old.queue new.queue
 
 -- the reached directory d with these entries is read
 pub record ReadsReached (kinds : List ℕ) (marked : List Bool) (d : ℕ) (entries : List RoledEntry) (right_shape : Bool)
@@ -35,12 +27,6 @@ pub record Discovers (n most top end : ℕ) (reads : Found → Found → Type 0)
   pub ends : end + unset new.reached ≡ top + unset old.reached
   pub ordered : top ≤ end
   pub kept : take top new.queue ≡ old.queue
-  pub read : reads old new
-
--- what the reading of a directory that isn't reached makes of what was found, as `reads` says it: no
--- count below n grows by more than `most`
-pub record Adds (n most : ℕ) (reads : Found → Found → Type 0) (old new : Found) : Type 0 where
-  pub grown : GrowsBy n most old.references new.references
   pub read : reads old new
 
 -- these reached directories are read

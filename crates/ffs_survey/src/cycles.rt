@@ -1,8 +1,8 @@
 //! Cycles of parents.
-ghost use Rattle.std.specs.Prelude.{◌≡◌, ◌<◌, ◌+◌, ℕ, length, MatchOption, false, vec_len};
-ghost use Rattle.ffs_volume.specs.Directories.Climb.{IsOnCycle, is_leader_within};
+ghost use Rattle.std.specs.Prelude.{◌≡◌, ◌<◌, ◌+◌, ℕ, length, false, vec_len};
+ghost use Rattle.ffs_volume.specs.Directories.Climb.{is_leader_within};
 ghost use Rattle.ffs_survey.specs.Survey.{bool_at};
-ghost use Rattle.ffs_survey.specs.Cycles.{parent_in, CanFollow, ComesBack, IsMet, CanMarkLeaders, Walked, FindsCycle, IsLeastOn};
+ghost use Rattle.ffs_survey.specs.Cycles.{parent_in, CanFollow, ComesBack, CanMarkLeaders, NotesWalk, IsLeastOn};
 
 use crate::numbers::number_of;
 use ffs_memory::FilledList;
@@ -15,14 +15,7 @@ use ffs_memory::FilledList;
 /// none did.
 fn walk(start: u32, parents: &FilledList<u32>, walk_of: &mut FilledList<u32>) -> Option<u32>
     requires { CanFollow parents.now.items walk_of.old.items start }
-    ensures walked { Walked (parent_in parents.now.items) start (start + 1) walk_of.old.items
-        walk_of.new.items }
-    ensures walks_long { vec_len walk_of.new ≡ vec_len walk_of.old }
-    ensures cycle { MatchOption result
-        ((x : ℕ) → IsMet walk_of.old.items walk_of.new.items x
-        → IsOnCycle (parent_in parents.now.items) x → ⊥)
-        (λ found. FindsCycle (parent_in parents.now.items) (length parents.now.items)
-        walk_of.old.items walk_of.new.items found) }
+    ensures { NotesWalk parents.now.items start walk_of.old walk_of.new result }
 {
     let mut at = start;
     // `steps` is for the proof that the walk ends.

@@ -1,12 +1,12 @@
 //! What one directory, and one level of directories, names.
-ghost use Rattle.std.specs.Prelude.{◌≡◌, ◌==◌, ◌*◌, ◌-◌, ℕ, ◌<◌, ◌^◌, ◌&&◌, nat_le, cond, List, [], length, drop, take, IfOk, OnOk};
+ghost use Rattle.std.specs.Prelude.{◌≡◌, ◌*◌, ◌-◌, ◌^◌, ◌&&◌, nat_le, [], length, drop, take, IfOk, OnOk};
 ghost use Rattle.std.specs.List.{sum_by};
-ghost use Rattle.ffs_volume.specs.Directories.{Roles.{is_plain as is_plain_role}, Graph.is_naming_entry};
-ghost use Rattle.ffs_survey.specs.{Reading.roled_of, Lists.CountLists, Survey.{bool_at, number_at}};
-ghost use Rattle.ffs_survey.specs.Lent.{all_found, found_up_to, current_of, ForKnown, HasRoomAfter, CanCount, CanReach};
-ghost use Rattle.ffs_survey.specs.Lent.{CanReadLevel, KeepsCounts, ChangesParents, LeavesCurrent, LeavesLent, LeavesReached};
-ghost use Rattle.ffs_survey.specs.Levels.{Adds, Discovers, Visits, ReadsReached, ReadsDirs, ReadsUnreached};
-ghost use Rattle.ffs_survey.specs.Calm.{is_calm_kind, is_calm_plain, is_calm_entry, IsFlagged};
+ghost use Rattle.ffs_volume.specs.Directories.Roles.{is_plain as is_plain_role};
+ghost use Rattle.ffs_survey.specs.{Reading.roled_of, Lists.CountLists, Survey.bool_at};
+ghost use Rattle.ffs_survey.specs.Lent.{found_up_to, current_of, ForKnown, CanVisit, CanCount, CanReach, CanReadLevel};
+ghost use Rattle.ffs_survey.specs.Lent.{Adopts, AddsUnreached, FlagsIfCalm, LeavesLent, Visits};
+ghost use Rattle.ffs_survey.specs.Levels.{Discovers, ReadsReached, ReadsDirs};
+ghost use Rattle.ffs_survey.specs.Calm.{is_calm_kind, is_calm_plain, is_calm_entry};
 ghost use Rattle.ffs_survey.specs.Discover.{IsCounted, is_unreached_dir as is_unreached_dir_at};
 
 use crate::directories::Directories;
@@ -57,11 +57,8 @@ fn is_new(entry: EntryHead, kinds: &[u8], lists: &Lists) -> bool
 /// Discovers what an entry of the current directory names: flags it as reached, gives it its
 /// parent and puts it into the queue. `top` is where the queue ends; returns where it ends then.
 fn visit(entry: EntryHead, current: &CurrentDir, lists: &mut Lists, top: usize) -> usize
-    requires kinds { current.now.kinds.now ≡ lists.old.kinds.now }
-    requires room { HasRoomAfter top lists.old }
-    ensures visits { Visits lists.old.kinds.now current.now.dir (roled_of entry []) top result
-        (all_found lists.old) (all_found lists.new) }
-    ensures leaves { KeepsCounts lists.old lists.new }
+    requires { CanVisit current.now top lists.old }
+    ensures { Visits current.now.dir (roled_of entry []) top result lists.old lists.new }
 {
     if !is_new(entry, current.kinds, lists) {
         return top;
@@ -129,11 +126,9 @@ fn flag_calm<D: Directories>(
     count: u32,
     calm: &mut [bool],
 ) -> Result<(), ImageFault>
-    requires ready { D.ready directories.old }
-    ensures flags { OnOk result ((b : List ℕ) → D.knows (D.base directories.old) b
-        → D.ended directories.old b → IsFlagged from (calm_so_far && nat_le 2 count)
-        (D.right_shape_so_far directories.old b) calm.old calm.new) }
-    ensures leaves { LeavesCurrent D.Directories directories.old directories.new result }
+    requires { D.ready directories.old }
+    ensures { FlagsIfCalm D.Directories from (calm_so_far && nat_le 2 count) directories.old
+        directories.new calm.old calm.new result }
 {
     let number = from as usize;
     if !calm_so_far || count < 2 || number >= calm.len() {
@@ -216,12 +211,7 @@ pub fn read_level<D: Directories>(
 /// Gives the parent `from` to what an entry of this directory names: a directory that isn't reached
 /// and has no parent yet.
 fn adopt(entry: EntryHead, from: u32, lists: &mut Lists)
-    ensures parent { (x : ℕ) → x < length lists.old.kinds.now
-        → number_at lists.new.parents.now.items x
-        ≡ cond ((number_at lists.old.parents.now.items x == 0)
-        && (is_unreached_dir_at lists.old.kinds.now lists.old.reached.now x
-        && is_naming_entry x (roled_of entry []))) from (number_at lists.old.parents.now.items x) }
-    ensures leaves { ChangesParents lists.old lists.new }
+    ensures { Adopts from (roled_of entry []) lists.old lists.new }
 {
     if !is_new(entry, lists.kinds, lists) {
         return;
@@ -243,14 +233,9 @@ pub fn read_unreached<D: Directories>(
     from: u32,
     lists: &mut Lists,
 ) -> Result<(), ImageFault>
-    requires can { CanCount D.Directories (2 ^ 60) directories.old lists.old }
-    requires from { 0 < from }
-    ensures adds { OnOk result (Adds (length lists.old.kinds.now) (2 ^ 28)
-        (λ old new. ForKnown D.Directories directories.old (λ entries right_shape.
-        ReadsUnreached lists.old.kinds.now from (entries from) old new))
-        (all_found lists.old) (all_found lists.new)) }
-    ensures leaves { LeavesReached D.Directories (λ cost. cost from) directories.old
-        directories.new lists.old lists.new result }
+    requires { CanCount D.Directories (2 ^ 60) directories.old lists.old }
+    ensures { AddsUnreached D.Directories from directories.old directories.new lists.old lists.new
+        result }
 {
     directories.start(from)?;
     while let Some(entry) = directories.next()? {

@@ -1,6 +1,6 @@
 //! Which inodes are suspect or dead, and of which directories UNREF DIR is reported.
-ghost use Rattle.std.specs.Prelude.{◌≡◌, ◌≢◌, ◌<◌, length, MatchOption};
-ghost use Rattle.ffs_volume.specs.Directories.Graph.{Graph, is_dead_in, is_unref_dir_in};
+ghost use Rattle.std.specs.Prelude.{◌≡◌, ◌≢◌, ◌<◌, length, min, MatchOption};
+ghost use Rattle.ffs_volume.specs.Directories.Graph.{Graph, is_unref_dir_in};
 ghost use Rattle.ffs_survey.specs.Survey.{suspect_at, dead_at, IsTree, AreNamed, number_at};
 
 use crate::lists::Surveyed;
@@ -11,8 +11,7 @@ use ffs_volume::kinds::Kind;
 
 /// Whether an inode is suspect: marked, or a directory of size 0.
 pub fn is_suspect(kinds: &[u8], marked: &[bool], number: usize) -> bool
-    requires kinds { number < length kinds.now }
-    requires marked { number < length marked.now }
+    requires { number < min (length kinds.now) (length marked.now) }
     ensures { result ≡ suspect_at kinds.now marked.now number }
 {
     let kind = Kind {
@@ -23,12 +22,8 @@ pub fn is_suspect(kinds: &[u8], marked: &[bool], number: usize) -> bool
 
 /// Whether an inode is dead: suspect, not the root, and named by no plain entry.
 pub fn is_dead(kinds: &[u8], marked: &[bool], named: &[bool], number: u32) -> bool
-    requires kinds { number < length kinds.now }
-    requires marked { number < length marked.now }
-    requires named { number < length named.now }
-    ensures lists { result ≡ dead_at kinds.now marked.now named.now number }
-    ensures graph { (graph : Graph) → AreNamed graph kinds.now named.now → result
-        ≡ is_dead_in graph (suspect_at kinds.now marked.now) number }
+    requires { number < min (length kinds.now) (min (length marked.now) (length named.now)) }
+    ensures { result ≡ dead_at kinds.now marked.now named.now number }
 {
     is_suspect(kinds, marked, number as usize) && number != ROOTINO && !named[number as usize]
 }

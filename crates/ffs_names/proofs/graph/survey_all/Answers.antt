@@ -86,8 +86,8 @@ returns-clause-calm g c = on_ok c.survey-surveyed.result _ _ (λ s b t h.
     (with_items_is w.flags n.calm (search rules)) calm)
     c.survey-surveyed.ensures.found
 
-pub survey-surveyed-requires-clause-lists : goal.survey-surveyed-requires-clause-lists
-survey-surveyed-requires-clause-lists g c = grind (arith, some_inodes, kinds)
+pub survey-surveyed-requires : goal.survey-surveyed-requires
+survey-surveyed-requires g c = record { ready = search rules; lists = grind (arith, some_inodes, kinds) }
 
 pub returns-clause-reads : goal.returns-clause-reads
 returns-clause-reads g c = λ b t h.

@@ -22,19 +22,22 @@ bytes_are : (g : given.Over) (c : goal.After-find_in_chunk g) (b : List ℕ) →
 bytes_are g c b t = c.in-Some-as_array.ensures.cases.same ∙ (c.bytes.ensures ∙ (c.in_ok-fill.ensures.fills.bytes b t
     ∙ ap (λ k. piece (512 * k) 512 b) c.from.ensures))
 
-pub returns-clause-name : goal.returns-clause-name
-returns-clause-name g c = λ found b t claims survey parent is dir.
-    c.find_in_chunk.ensures.name found
-    ∙ (ap (λ xs. name_in c.args.dir (roled_from false 0 (entries_of c.args.geometry.now.layout.order xs)))
-    (bytes_are g c b t) ∙ survey.places c.args.dir parent c.in-Some.chunk (chunk_is g c) is)
-
-pub returns-clause-found : goal.returns-clause-found
-returns-clause-found g c = λ b t noted.
+pub returns-clause-finds : goal.returns-clause-finds
+returns-clause-finds g c =
     let v = c.args.geometry.now.layout in
-    let same : noted.chunk ≡ c.in-Some.chunk = let e = sym noted.place ∙ chunk_is g c in omega arith in
-    c.find_in_chunk.ensures.found
-    (ap (λ xs. list_any (is_naming_entry c.args.dir) (roled_from false 0 (entries_of v.order xs))) (bytes_are g c b t)
-    ∙ (ap (λ k. list_any (is_naming_entry c.args.dir) (entries_in_chunk v b k)) (sym same) ∙ noted.named))
+    record {
+      name = λ found b t claims survey parent is dir.
+          c.find_in_chunk.ensures.name found
+          ∙ (ap (λ xs. name_in c.args.dir (roled_from false 0 (entries_of v.order xs))) (bytes_are g c b t)
+          ∙ survey.places c.args.dir parent c.in-Some.chunk (chunk_is g c) is);
+      some = c.find_in_chunk.ensures.some;
+      found = λ b t noted.
+          let same : noted.chunk ≡ c.in-Some.chunk = let e = sym noted.place ∙ chunk_is g c in omega arith in
+          c.find_in_chunk.ensures.found
+          (ap (λ xs. list_any (is_naming_entry c.args.dir) (roled_from false 0 (entries_of v.order xs)))
+          (bytes_are g c b t)
+          ∙ (ap (λ k. list_any (is_naming_entry c.args.dir) (entries_in_chunk v b k)) (sym same) ∙ noted.named));
+    }
 
 pub returns-clause-leaves : goal.returns-clause-leaves
 returns-clause-leaves g c =

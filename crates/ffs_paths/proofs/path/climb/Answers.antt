@@ -1,6 +1,7 @@
 use Rattle.std.proofs.Common.{◌≡◌, ◌<◌, ◌∙◌, ◌∷◌, ap, length, sym, subst, arith, ℕ, slice_index}
 use Rattle.std.proofs.lemmas.List.{get_or_default}
-use Rattle.ffs_volume.specs.Directories.{Graph.Graph, Parents.graph_of, Volumes.volume_of}
+use Rattle.ffs_volume.{proofs.LevelLaws.reached-level, specs.Directories.{Graph.Graph, Parents.graph_of}}
+use Rattle.ffs_volume.specs.Directories.Volumes.{volume_of}
 use Rattle.ffs_paths.specs.{Climbing.IsNameIn, Buffers.HoldsNames, NameTexts.name_bytes}
 use Rattle.ffs_paths.proofs.Climbed.{climb_more, few_more, few_then, noted_here, short_way}
 use Rattle.ffs_paths.proofs.{Keeping.{reads_then, tree_on}, WaysUp.parent_is}
@@ -42,33 +43,41 @@ up-preserved g c =
     c.index-parent.ensures ∙ get_or_default c.up.workspace.parents.items c.up.at p 0 (omega arith) in
     record {
       at = omega (arith, c.requires.ready.made.notes, c.if-parent-count.false);
-      reads = reads_then i.reads found.reads;
+      reads = reads_then i.reads found.leaves.reads;
       path = λ b t claims survey k l.
           let G : Graph = graph_of (volume_of c.args.geometry.now.layout b) in
           let way = i.path b t claims survey k l in
           let above = parent_is G way.left c.up.at p way.level c.if-at-eq-ROOTINO.false
           (is ∙ (ap (λ w. slice_index w.parents.items c.up.at) i.reads.lists ∙ survey.parents c.up.at)) in
           let name = c.as_slice.ensures.value ∙ tree_on (λ g. IsNameIn g c.up.at p (name_bytes c.find_name.new.name)) i.reads
-          found.name b t claims survey above.is above.dir in
+          found.finds.name b t claims survey above.is above.dir in
           way_up p c.push_front.new.self way above (λ following held.
           subst (λ n. HoldsNames c.push_front.new.self (n ∷ following)) name (c.push_front.ensures following held));
-      counted = λ b k knows l.
+      counted = λ b knows.
           let t = ap (λ d. d.contents) i.reads.read ∙ knows.gives_bytes in
-          let way = i.path b knows.gives_bytes knows.claims knows.survey k l in
+          let l = reached-level _ c.args.dir (sym (knows.survey.reached c.args.dir) ∙ c.requires.reached) in
+          let way = i.path b knows.gives_bytes knows.claims knows.survey l.0 l.1 in
           let noted = noted_here way.left c.up.at knows i.reads.lists way.level c.if-at-eq-ROOTINO.false in
-          climb_more c.as_slice.result.now (i.counted b k knows l) c.if-path.false (found.counted b t noted)
-          (subst (λ name. 0 < length name) (sym c.as_slice.ensures.value) (found.some b t noted)) c.push_front.ensures;
+          climb_more c.as_slice.result.now (i.counted b knows) c.if-path.false (found.leaves.counted b t noted)
+          (subst (λ name. 0 < length name) (sym c.as_slice.ensures.value) (found.finds.some b t noted)) c.push_front.ensures;
     }
 
 -- a read failed, with names that have room
-pub returns-in_err-find_name-clause-counted : goal.returns-in_err-find_name-clause-counted
-returns-in_err-find_name-clause-counted g c = λ b k knows l.
-    let i = c.up.invariant in
-    let way = i.path b knows.gives_bytes knows.claims knows.survey k l in
-    let h = i.counted b k knows l in
-    few_more (few_then h.few
-    (c.in_err-find_name.ensures.counted b (ap (λ d. d.contents) i.reads.read ∙ knows.gives_bytes)
-    (noted_here way.left c.up.at knows i.reads.lists way.level c.if-at-eq-ROOTINO.false))) (short_way h c.if-path.false)
+pub returns-in_err-find_name-clause-leaves : goal.returns-in_err-find_name-clause-leaves
+returns-in_err-find_name-clause-leaves g c = let i = c.up.invariant in record {
+  reads = grind (arith, reads_then);
+  counted = λ b knows.
+      let l = reached-level _ c.args.dir (sym (knows.survey.reached c.args.dir) ∙ c.requires.reached) in
+      let way = i.path b knows.gives_bytes knows.claims knows.survey l.0 l.1 in
+      let h = i.counted b knows in
+      few_more (few_then h.few
+      (c.in_err-find_name.ensures.leaves.counted b (ap (λ d. d.contents) i.reads.read ∙ knows.gives_bytes)
+      (noted_here way.left c.up.at knows i.reads.lists way.level c.if-at-eq-ROOTINO.false)))
+      (short_way h c.if-path.false);
+}
 
-pub returns-clause-counted : goal.returns-clause-counted
-returns-clause-counted g c = λ b k knows l. let h = c.up.invariant.counted b k knows l in few_more h.few h.most
+pub returns-clause-leaves : goal.returns-clause-leaves
+returns-clause-leaves g c = let i = c.up.invariant in record {
+  reads = i.reads;
+  counted = λ b knows. let h = i.counted b knows in few_more h.few h.most;
+}

@@ -1,5 +1,5 @@
 use Rattle.std.proofs.Common.{◌≡◌, ℕ, ◌<◌, ◌*◌, List, Some, Ok}
-use Rattle.ffs_volume.specs.Directories.{Graph.level, Parents.graph_of, Volumes.volume_of}
+use Rattle.ffs_volume.specs.Directories.Graph.{level}
 use Rattle.ffs_paths.{specs.Reads.{ForTree, KnowsPlaces, OnlyReads}, proofs.{Climbed.HasClimbed, WaysUp.IsOnWay}}
 use Rattle.ffs_paths.proofs.path.climb.Given as goal
 
@@ -10,7 +10,6 @@ invariant-up g l = let device = g.I.Image.device in record {
       (Ok tt);
   path : ForTree l.geometry.layout (device l.fn.image) l.fn.workspace
       (λ tree. (k : ℕ) → level tree l.dir ≡ Some k → IsOnWay tree k l.dir l.at l.step l.path);
-  counted : (b : List ℕ) (k : ℕ) → KnowsPlaces l.geometry.layout (device l.fn.image).contents l.fn.workspace b
-      → level (graph_of (volume_of l.geometry.layout b)) l.dir ≡ Some k
+  counted : (b : List ℕ) → KnowsPlaces l.geometry.layout (device l.fn.image).contents l.fn.workspace b
       → HasClimbed l.step (g.I.Image.reads l.fn.image) (g.I.Image.reads l.image) l.fn.workspace l.workspace l.path;
 }

@@ -5,10 +5,3 @@ use Rattle.ffs_paths.proofs.path.put_directory.Goals as goal
 
 pub returns-in_ok-climb-clause-path : goal.returns-in_ok-climb-clause-path
 returns-in_ok-climb-clause-path g c = grind (arith, reached-level, down_single)
-
--- the way up is climbed, whether a read failed or not
-pub returns-in_err-climb-clause-leaves : goal.returns-in_err-climb-clause-leaves
-returns-in_err-climb-clause-leaves g c = grind (arith, reached-level)
-
-pub returns-in_ok-climb-clause-leaves : goal.returns-in_ok-climb-clause-leaves
-returns-in_ok-climb-clause-leaves g c = grind (arith, reached-level)

@@ -10,7 +10,7 @@ loop-start-preserved c =
     record {
       long = grind arith;
       closed = walk.walked.closed;
-      older = older_after walk.walked (omega (arith, walk.walks_long)) inv.older;
+      older = older_after walk.walked (omega (arith, walk.long)) inv.older;
       begun = grind arith;
       marks = marks_found c.loop-start.leaders (omega (arith, least.low, inv.marks.long)) walk.walked
           (rw c.in-Some.is at walk.cycle) least inv.marks;
@@ -23,7 +23,7 @@ loop-start-preserved-in_default c =
     record {
       long = grind arith;
       closed = walk.walked.closed;
-      older = older_after walk.walked (omega (arith, walk.walks_long)) inv.older;
+      older = older_after walk.walked (omega (arith, walk.long)) inv.older;
       begun = grind arith;
       marks = marks_none walk.walked walk.cycle inv.marks;
     }

@@ -55,13 +55,13 @@ pub returns-then-next-eq0 : goal.returns-then-next-eq0
 returns-then-next-eq0 c =
     let h = here c.requires c.up.invariant.walking (omega (arith, c.requires.walks)) c.set.ensures.items in
     let w = walked_none h (inl (sym c.number_of-next.ensures ∙ c.if-next-eq0.true)) in
-    record { walked = w.0; walks_long = c.set.ensures.len ∙ c.up.invariant.long; cycle = w.1 }
+    record { walked = w.0; long = c.set.ensures.len ∙ c.up.invariant.long; cycle = w.1 }
 
 pub returns-then-next-len : goal.returns-then-next-len
 returns-then-next-len c =
     let h = here c.requires c.up.invariant.walking (omega (arith, c.requires.walks)) c.set.ensures.items in
     let w = walked_none h (inr (omega (arith, c.number_of-next.ensures))) in
-    record { walked = w.0; walks_long = c.set.ensures.len ∙ c.up.invariant.long; cycle = w.1 }
+    record { walked = w.0; long = c.set.ensures.len ∙ c.up.invariant.long; cycle = w.1 }
 
 pub returns-then-seen-start : goal.returns-then-seen-start
 returns-then-seen-start c =
@@ -73,7 +73,7 @@ returns-then-seen-start c =
     let old = c.requires.older p 0 (omega (arith, low, c.requires.walks)) in
     record {
       walked = walked_some h up (λ z. absurd (omega (arith, seen)));
-      walks_long = c.set.ensures.len ∙ c.up.invariant.long;
+      long = c.set.ensures.len ∙ c.up.invariant.long;
       cycle = finds_cycle p (length c.args.parents.now.items) (mark_some c.args.start) h.short h.state up
           (omega (arith, old)) seen low;
     }
@@ -86,7 +86,7 @@ returns-then-seen-ne0 c =
     c.if-seen-ne0.true (c.number_of-seen.ensures ∙ z) in
     record {
       walked = walked_some h up some;
-      walks_long = c.set.ensures.len ∙ c.up.invariant.long;
+      long = c.set.ensures.len ∙ c.up.invariant.long;
       cycle = λ x. no_cycle_old c.number_of-next.result h.closed h.state up
           (λ z. c.if-seen-start.false (c.number_of-seen.ensures ∙ h.state.trace.fresh _ z some));
     }

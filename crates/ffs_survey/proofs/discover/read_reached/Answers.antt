@@ -21,7 +21,7 @@ loop-entry-preserved g c =
     let current = current_in old c.args.from c.number_of-parent.result in
     let counted = c.count_entry.ensures in
     let visited = c.visit-high.ensures in
-    let same_result = rw (same_kinds inv.lent.same) at visited.visits.same_result in
+    let same_result = rw (same_kinds inv.lent.same) at visited.same_result in
     let right : c.if-calm_so_far.calm_so_far ≡ (c.loop-entry.calm_so_far
     && is_calm_entry current (bool_at c.loop-entry.lists.reached.now) c.loop-entry.count e)
     = elim c.if-calm_so_far.branch [
@@ -30,21 +30,21 @@ loop-entry-preserved g c =
     ] in
     record {
       lent = still_by g.D.Directories (search rules) (search rules) (search rules)
-          (visited.leaves.same.lent ∙ inv.lent.same.lent);
+          (visited.counts.same.lent ∙ inv.lent.same.lent);
       reads = λ b k. omega (arith, (read b k (inv.held b k)).paid, inv.reads b k);
       held = λ b k. (read b k (inv.held b k)).held;
-      flags = visited.leaves.calm ∙ inv.flags;
-      room = omega (arith, visited.visits.ends, inv.room, queue_long visited.leaves.same);
-      extends = extends_on inv.extends visited.visits.extends;
+      flags = visited.counts.calm ∙ inv.flags;
+      room = omega (arith, visited.ends, inv.room, queue_long visited.counts.same);
+      extends = extends_on inv.extends visited.extends;
       left = omega (arith, inv.left, fell);
       grown = λ x l.
-          let now = ap (λ items. number_at items x) visited.leaves.references in
+          let now = ap (λ items. number_at items x) visited.counts.references in
           omega (arith, inv.grown x l, counted.counts x l, now, bit-le (refers x e), fell);
       counted = omega (arith, inv.counted, fell);
-      high = omega (arith, visited.visits.ends, inv.high);
+      high = omega (arith, visited.ends, inv.high);
       same_result = λ b k.
           entry_step old.kinds.now c.args.from e (rest b) (rw (cut b k) at (inv.same_result b k)) same_result;
-      counts = λ b k. rw (visited.leaves.references, visited.leaves.named)
+      counts = λ b k. rw (visited.counts.references, visited.counts.named)
           (entry_counted e (rest b) (rw (cut b k) at (inv.counts b k)) counted.counts counted.names);
       calm_so_far = λ b k. calm_step current c.loop-entry.count e (rest b) c.loop-entry.calm_so_far same_result right
           (rw (cut b k) at (inv.calm_so_far b k));

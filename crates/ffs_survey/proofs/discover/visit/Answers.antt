@@ -1,4 +1,4 @@
-use Rattle.std.proofs.{Common.{arith, ◌∙◌, sym, []}, lemmas.Grind.common_steps}
+use Rattle.std.proofs.{Common.{arith, rules, ◌∙◌, sym, []}, lemmas.Grind.common_steps}
 use Rattle.ffs_survey.{specs.Reading.roled_of, proofs.Discovered.{visit_hit, unset-set, new_entry}}
 use Rattle.ffs_survey.proofs.discover.visit.Goals as goal
 
@@ -9,8 +9,8 @@ set-requires-2 c =
     (sym c.is_new.ensures ∙ c.if-not-is_new.false) in
     omega (arith, unset-set lists.reached.now c.args.entry.number (omega (arith, n.below)) n.unmarked)
 
-pub returns-clause-visits : goal.returns-clause-visits
-returns-clause-visits c =
+pub returns : goal.returns
+returns c =
     let lists = c.args.lists.now in
     let n = new_entry lists.kinds.now lists.reached.now (roled_of c.args.entry [])
     (sym c.is_new.ensures ∙ c.if-not-is_new.false) in
@@ -21,4 +21,5 @@ returns-clause-visits c =
       same_result = rw (c.set.ensures.items, c.set-2.ensures.items) (visit_hit lists.queue.now.items
           c.args.current.now.dir c.args.top n (omega (arith, b)) (omega (arith, b)) (omega (arith, u)));
       extends = grind (arith, common_steps);
+      counts = search rules;
     }

@@ -10,7 +10,7 @@ use Rattle.ffs_survey.proofs.levels.survey_reached.Goals as goal
 pub loop-low-init : goal.loop-low-init
 loop-low-init g c =
     let old = c.args.lists.now in
-    let begins = c.requires.begins in
+    let begins = c.requires in
     record {
       lent = still_by g.D.Directories (search rules) (search rules) (search rules) refl;
       reads = λ b k. omega arith;
@@ -102,7 +102,7 @@ returns-clause-found g c =
 pub returns-then-not-is_dir-clause-found : goal.returns-then-not-is_dir-clause-found
 returns-then-not-is_dir-clause-found g c =
     let old = c.args.lists.now in
-    let begins = c.requires.begins in
+    let begins = c.requires in
     record {
       counts = λ x l. omega (arith, begins.starts x);
       part = λ b k.

@@ -1,6 +1,6 @@
 use Rattle.std.proofs.{Common.{◌≡◌, ℕ, Bool, List, arith, ◌∙◌, sym, true, false, ◌≢◌}, lemmas.Bool.ne_eqb}
 use Rattle.ffs_volume.{proofs.Unreached.IsLost, specs.Directories.Graph.{Graph, is_dead_in}}
-use Rattle.ffs_survey.{proofs.UnrefLaws.{unref_is, parent-below}, specs.Survey.{IsTree, bool_at, dir_at, suspect_at}}
+use Rattle.ffs_survey.{proofs.UnrefLaws.{dead_is, unref_is, parent-below}, specs.Survey.{IsTree, bool_at, dir_at, suspect_at}}
 use Rattle.ffs_survey.proofs.unref.is_unref.Goals as goal
 
 -- a directory that passed the first four tests
@@ -14,7 +14,7 @@ returns-in_default c = λ v n t.
     let found = c.args.found.now in
     let unref = unref_is {suspect = suspect_at found.kinds.now found.marked.now} found.whole.parents_long t
     (is_lost {d = c.args.dir} t (sym c.is_dir.ensures ∙ c.if-not-is_dir.false) c.if-dir-eq-ROOTINO.false
-    c.if-found-dir.false (sym (c.is_dead.ensures.graph v n) ∙ c.if-is_dead.false)) in
+    c.if-found-dir.false (sym (dead_is _ c.args.dir n c.requires c.is_dead.ensures) ∙ c.if-is_dead.false)) in
     sym (rw c.in_default.ensures at unref)
 
 pub returns-then-parent-found : goal.returns-then-parent-found
@@ -25,7 +25,7 @@ returns c = λ v n t.
     let found = c.args.found.now in
     let unref = unref_is {suspect = suspect_at found.kinds.now found.marked.now} found.whole.parents_long t
     (is_lost {d = c.args.dir} t (sym c.is_dir.ensures ∙ c.if-not-is_dir.false) c.if-dir-eq-ROOTINO.false
-    c.if-found-dir.false (sym (c.is_dead.ensures.graph v n) ∙ c.if-is_dead.false)) in
+    c.if-found-dir.false (sym (dead_is _ c.args.dir n c.requires c.is_dead.ensures) ∙ c.if-is_dead.false)) in
     let some = ne_eqb c.in-Some.parent 0 c.in-Some.ensures.1 in
-    let alive = sym (c.is_dead-2.ensures.graph v n) ∙ c.if-is_dead-2.false in
+    let alive = sym (dead_is _ c.in-Some.parent n (omega arith) c.is_dead-2.ensures) ∙ c.if-is_dead-2.false in
     found.whole.cycles c.args.dir ∙ sym (rw (← c.in-Some.ensures.0, some, alive) at unref)

@@ -10,13 +10,13 @@ pub returns-then-start-gt0 : goal.returns-then-start-gt0
 returns-then-start-gt0 c = λ names h.
     let room = has_parts c.args.self.now.cut _ _ c.if-not-has_room.ensures in
     room_holds _ (c.args.name.now ∷ names) room.0
-    (c.put_before-start.ensures.put.bytes ∙ ap (λ b. 47 ∷ c.args.name.now ++ b) (h.whole room.0)) refl
+    (c.put_before-start.ensures.bytes ∙ ap (λ b. 47 ∷ c.args.name.now ++ b) (h.whole room.0)) refl
     c.if-start-gt0.true
 
 pub returns-else-start-gt0 : goal.returns-else-start-gt0
 returns-else-start-gt0 c = λ names h.
     let room = has_parts c.args.self.now.cut _ _ c.if-not-has_room.ensures in
     first_full _ c.args.self.now c.args.name.now names h room.0
-    (c.put_before-start.ensures.put.bytes ∙ ap (λ b. 47 ∷ c.args.name.now ++ b) (h.whole room.0))
+    (c.put_before-start.ensures.bytes ∙ ap (λ b. 47 ∷ c.args.name.now ++ b) (h.whole room.0))
     (omega (arith, c.if-start-gt0.false))
     (c.put_before-start.ensures.following c.args.self.now.short c.args.self.now.ordered)

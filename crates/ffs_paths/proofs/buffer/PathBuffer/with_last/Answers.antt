@@ -11,6 +11,6 @@ pub returns : goal.returns
 returns c = λ names h single.
     let s = c.args.self.now in
     last_cut c.longer-2.result s names c.args.name.now c.slash_from-from.result c.longer-2.ensures h single
-    (omega (arith, c.requires)) (omega (arith, c.slash_from-from.ensures.within.0, c.max.ensures))
+    (omega (arith, c.requires)) (omega (arith, c.requires, c.slash_from-from.ensures.from, c.max.ensures))
     (no_room s names c.args.name.now h c.if-has_room.ensures)
     (c.slash_from-from.ensures.first ∙ ap (λ i. from_slash (drop i s.bytes)) c.max.ensures)

@@ -23,13 +23,13 @@ returns g c =
     let above = tree_on (λ g. IsKeptParent g first) reads kept.leaves.kept_parent.right b t claims survey in
     kept_parent_is v b w s survey of (above.path of.some)
     (subst (λ p. IsNameIn (graph_of (volume_of v b)) c.args.dir p (name_bytes s.name)) (sym kept.kept)
-    (tree_on (λ g. IsNameIn g c.args.dir c.args.parent (name_bytes s.name)) reads c.in_ok-find_name.ensures.name b t
+    (tree_on (λ g. IsNameIn g c.args.dir c.args.parent (name_bytes s.name)) reads c.in_ok-find_name.ensures.finds.name b t
     claims survey)) in
     record {
       child = refl;
-      leaves = leaves_kept s (reads_then reads c.in_ok-find_name.ensures.reads)
+      leaves = leaves_kept s (reads_then reads c.in_ok-find_name.ensures.leaves.reads)
           (λ b knows. few_then (kept.leaves.counted b knows)
-          (c.in_ok-find_name.ensures.counted b (ap (λ d. d.contents) reads.read ∙ knows.gives_bytes)
+          (c.in_ok-find_name.ensures.leaves.counted b (ap (λ d. d.contents) reads.read ∙ knows.gives_bytes)
           (noted_child knows of reads.lists))) holds;
     }
 
@@ -41,7 +41,7 @@ returns-in_err-find_name-clause-leaves g c =
     record {
       reads = grind (arith, err_from_is_err_and, reads_then);
       counted = λ b knows. few_then (kept.leaves.counted b knows)
-          (c.in_err-find_name.ensures.counted b (ap (λ d. d.contents) reads.read ∙ knows.gives_bytes)
+          (c.in_err-find_name.ensures.leaves.counted b (ap (λ d. d.contents) reads.read ∙ knows.gives_bytes)
           (noted_child knows c.requires.parent reads.lists));
       kept_parent = grind (arith, err_from_is_err_and);
     }

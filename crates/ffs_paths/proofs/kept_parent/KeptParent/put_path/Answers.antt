@@ -1,6 +1,6 @@
 use Rattle.std.proofs.Common.{◌≡◌, sym, subst, arith}
 use Rattle.ffs_volume.specs.Directories.{Parents.graph_of, Paths.dir_path, Volumes.volume_of}
-use Rattle.ffs_paths.{specs.{Climbing.IsParentOf, KeptParents.IsKeptParent}, proofs.{WaysUp.child_put, Keeping.tree_on}}
+use Rattle.ffs_paths.{specs.Climbing.IsParentOf, proofs.{WaysUp.child_put, Keeping.kept_before}}
 use Rattle.ffs_paths.proofs.kept_parent.KeptParent.put_path.Goals as goal
 
 pub returns-clause-path : goal.returns-clause-path
@@ -9,6 +9,6 @@ returns-clause-path g c = λ b t claims survey.
     let kept = c.in_ok-keep_child.ensures in
     let s = c.keep_child.new.self in
     let G = graph_of (volume_of c.args.geometry.now.layout b) in
-    let holds = tree_on (λ g. IsKeptParent g s) kept.leaves.reads kept.leaves.kept_parent.right b t claims survey in
+    let holds = kept_before kept.leaves.reads kept.leaves.kept_parent b t claims survey in
     subst (λ d. c.put_entry.new.text.items ≡ dir_path G d) kept.child
     (child_put G s _ holds (omega (arith, of.below, kept.child)) (rw c.as_slice.ensures.value at c.put_entry.ensures))
