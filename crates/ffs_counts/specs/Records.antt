@@ -2,10 +2,11 @@
 use Rattle.std.specs.{List.slice_range, Prelude.{ℕ, ◌≡◌, ◌+◌, ◌-◌, ◌*◌, ◌%◌, ◌<◌, ◌≤◌, List, Option, Result, IfOk, min}}
 use Rattle.ffs_image.specs.{Device.{Device, ForContents}, Reads.ReadAfter, declared.ImageFault.ImageFault}
 use Rattle.ffs_volume.specs.{declared.{constants.TheConstants.CSUM_SIZE, Layout.Layout}, Disk.Areas.summary_place}
-use Rattle.ffs_volume.specs.Groups.Records.{summary_record}
+use Rattle.ffs_volume.specs.Groups.{GroupCheck.group_lines, Records.summary_record}
 use Rattle.ffs_walk.specs.{Windows.held_bytes, declared.window.Window.Window}
 use Rattle.ffs_maps.specs.Bits.{bits_of}
-use Rattle.ffs_groups.specs.{Check.AreCounts, Free.free_in, Inodes.class_in, declared.counts.Counts.Counts}
+use Rattle.ffs_groups.specs.{Check.{AreCounts, lines_of}, Free.free_in, Inodes.class_in}
+use Rattle.ffs_groups.specs.declared.{check.GroupFindings.GroupFindings, counts.Counts.Counts}
 use Rattle.ffs_workspace.specs.{Tables.{CanReadInodes, TableAfter}, declared.table.Table.Table}
 use Rattle.ffs_workspace.specs.{Ready.{IsReady, StaysReady}, declared.workspace.Workspace.Workspace}
 
@@ -45,9 +46,12 @@ pub record CanReadGroup (v : Layout) (d : Device) (w : Workspace) (c : ℕ) (rig
   pub counts : AreCounts v (free_in (bits_of w.used) v.size) (class_in w.kinds.items) c right
   pub ready : IsReady v d w
 
--- a group's block and its summary record were read, each once at most, and only windows have changed
-pub record GroupIsRead {T : Type 0} (v : Layout) (d d' : Device) (before after : ℕ) (old new : Workspace)
-    (result : Result T ImageFault) : Type 0 where
+-- the block of group c and its summary record were read, each once at most, what is found in them is
+-- reported as in what the image gives, and only windows have changed
+pub record GroupIsRead (v : Layout) (d d' : Device) (before after : ℕ) (old new : Workspace) (c : ℕ)
+    (result : Result GroupFindings ImageFault) : Type 0 where
+  pub found : IfOk result (λ f. ForContents d.contents
+      (λ b. lines_of f c ≡ group_lines v b (free_in (bits_of old.used) v.size) (class_in old.kinds.items) c))
   pub read : ReadAfter d d' result
   pub counted : after ≤ before + 2
   pub stays : StaysReady v d' old new

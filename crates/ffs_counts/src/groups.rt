@@ -1,10 +1,5 @@
 //! The records of a cylinder group, read from an image.
 
-ghost use Rattle.std.specs.Prelude.{◌≡◌, IfOk};
-ghost use Rattle.ffs_image.specs.Device.{ForContents};
-ghost use Rattle.ffs_volume.specs.Groups.GroupCheck.{group_lines};
-ghost use Rattle.ffs_maps.specs.Bits.{bits_of};
-ghost use Rattle.ffs_groups.specs.{Check.lines_of, Free.free_in, Inodes.class_in};
 ghost use Rattle.ffs_counts.specs.Records.{CanReadGroup, CanReadRecord, GroupIsRead, ReadsRecord};
 
 use ffs_groups::{Counts, GroupFindings, Usage, compare_group};
@@ -57,12 +52,8 @@ pub fn read_group<I: Image>(
 ) -> Result<GroupFindings, ImageFault>
     requires { CanReadGroup geometry.now.layout (I.device image.old) workspace.old group
         counts.now }
-    ensures found { IfOk result (λ f. ForContents (I.device image.old).contents (λ bytes.
-        lines_of f group ≡ group_lines geometry.now.layout bytes
-        (free_in (bits_of workspace.old.used) geometry.now.layout.size)
-        (class_in workspace.old.kinds.items) group)) }
-    ensures leaves { GroupIsRead geometry.now.layout (I.device image.old) (I.device image.new)
-        (I.reads image.old) (I.reads image.new) workspace.old workspace.new result }
+    ensures { GroupIsRead geometry.now.layout (I.device image.old) (I.device image.new)
+        (I.reads image.old) (I.reads image.new) workspace.old workspace.new group result }
 {
     let windows = &mut workspace.windows;
     let at = read_summaries(geometry, image, &mut windows.table, group)?;

@@ -61,10 +61,11 @@ fn reserved_count(geometry: &Geometry) -> u32
 }
 
 /// How many fragments are claimed; reserved ones don't count. Their bits were all set before any
-/// was claimed. In a map that lacks some the difference stops at 0, and nothing is said of it.
+/// was claimed. In a map that lacks some the difference stops at 0, and nothing is said of it, nor
+/// of a map of another size.
 fn claimed_count(geometry: &Geometry, used: &FragmentMap) -> u32
-    requires { used.now.size ≡ geometry.now.layout.size }
-    ensures { HasReserved geometry.now.layout (bits_of used.now)
+    ensures { used.now.size ≡ geometry.now.layout.size
+        → HasReserved geometry.now.layout (bits_of used.now)
         → result ≡ claimed_in geometry.now.layout (bits_of used.now) }
 {
     used.count_ones().saturating_sub(reserved_count(geometry))

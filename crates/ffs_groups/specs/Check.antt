@@ -7,6 +7,8 @@ use Rattle.ffs_volume.specs.Groups.Records.{GroupCounts, right_group_counts, rig
 use Rattle.ffs_volume.specs.Groups.Records.{has_right_record, maps_fit, has_right_maps, has_right_sums}
 use Rattle.ffs_volume.specs.Groups.GroupCheck.{unless}
 use Rattle.ffs_layout.specs.declared.group.GroupSummary.{GroupSummary}
+use Rattle.ffs_maps.specs.{Bits.bits_of, declared.FragmentMap.FragmentMap}
+use Rattle.ffs_groups.specs.{Free.free_in, Inodes.class_in, Inputs.HasMaps}
 use Rattle.ffs_groups.specs.declared.counts.{Counts.Counts, SummaryCounts.SummaryCounts}
 use Rattle.ffs_groups.specs.declared.check.GroupFindings.{GroupFindings}
 
@@ -40,10 +42,18 @@ lines_of f c =
     then unless f.counts_right FreeCounts ++ (unless f.maps_right MapsWrong ++ unless f.sums_right GroupSums)
     else GroupMagic c ∷ unless f.counts_right FreeCounts
 
--- a record of the summary area and a group block, each of its length
-pub record HasRecords (v : Layout) (csum cg : List ℕ) : Type 0 where
-  pub summary : length csum ≡ 16
-  pub block : length cg ≡ v.cgsize
+-- the maps of group c can be compared: a map of used fragments and the kinds of inodes are there, and
+-- its group block
+pub record CanCompareMaps (v : Layout) (mapped : ℕ) (kinds : List ℕ) (c : ℕ) (block : List ℕ) : Type 0 where
+  pub maps : HasMaps v mapped kinds c
+  pub block_length : length block ≡ v.cgsize
+
+-- so can all records of group c: its right counts are there too, and its record of the summary area
+pub record CanCompareGroup (v : Layout) (used : FragmentMap) (kinds : List ℕ) (c : ℕ) (counts : Counts)
+    (summary block : List ℕ) : Type 0 where
+  pub maps : CanCompareMaps v used.size kinds c block
+  pub counts_right : AreCounts v (free_in (bits_of used) v.size) (class_in kinds) c counts
+  pub summary_length : length summary ≡ 16
 
 -- each finding says whether the records of group c are right: in the summary area, and in its group
 -- block

@@ -40,6 +40,11 @@ pub record Grown (b f : ℕ) (r : ℕ → ℕ) (old new : FreeCounts) : Type 0 w
   pub fragments : new.fragments ≡ old.fragments + f
   pub frsum : (k : ℕ) → slice_index new.frsum k ≡ slice_index old.frsum k + r k
 
+-- a stretch is no longer than a block can be, and the counts have room for it
+pub record HasRoomToEnd (stretch limit : ℕ) (counts : FreeCounts) : Type 0 where
+  pub few : stretch ≤ 8
+  pub below : AreBelow limit counts
+
 -- a word has room for `blocks` blocks, and the counts have room for what these add
 pub record HasRoomToCount (blocks frag limit : ℕ) (counts : FreeCounts) : Type 0 where
   pub some : 0 < frag

@@ -1,6 +1,6 @@
 -- What a group is counted from: a map of used fragments, and the kinds of the inodes.
-use Rattle.std.specs.Prelude.{◌≡◌, ◌*◌, ◌<◌, ℕ, List, length}
-use Rattle.ffs_volume.specs.declared.Layout.{Layout}
+use Rattle.std.specs.{Prelude.{◌≡◌, ◌+◌, ◌*◌, ◌<◌, ◌≤◌, ℕ, List, length}, Int.div_ceil}
+use Rattle.ffs_volume.specs.{declared.Layout.Layout, Groups.Records.group_size}
 
 -- a map is of as many fragments as the volume has, and c is a group of it
 pub record HasFragments (v : Layout) (mapped c : ℕ) : Type 0 where
@@ -16,3 +16,19 @@ pub record HasInodes (v : Layout) (listed : List ℕ) (c : ℕ) : Type 0 where
 pub record HasMaps (v : Layout) (mapped : ℕ) (listed : List ℕ) (c : ℕ) : Type 0 where
   pub fragments : HasFragments v mapped c
   pub inodes : HasInodes v listed c
+
+-- the map of group c that is compared with the fragments lies in a group block of `size` bytes, from a
+-- place on
+pub record HasFragmentMap (v : Layout) (mapped c size place : ℕ) : Type 0 where
+  pub fragments : HasFragments v mapped c
+  pub inside : place + div_ceil v.fpg 8 ≤ size
+
+-- so does the map that is compared with the kinds
+pub record HasInodeMap (v : Layout) (listed : List ℕ) (c size place : ℕ) : Type 0 where
+  pub inodes : HasInodes v listed c
+  pub inside : place + div_ceil v.ipg 8 ≤ size
+
+-- group c has n fragments, no more than groups have
+pub record IsGroupSize (v : Layout) (c n : ℕ) : Type 0 where
+  pub value : n ≡ group_size v c
+  pub within : n ≤ v.fpg

@@ -1,11 +1,11 @@
 //! The records of a cylinder group, compared with what they should be.
 
-ghost use Rattle.std.specs.{Prelude.{◌≡◌, ◌+◌, ◌*◌, ◌<◌, ◌==◌, ◌&&◌, nat_le, length}, Int.div_ceil};
+ghost use Rattle.std.specs.{Prelude.{◌≡◌, ◌+◌, ◌*◌, ◌<◌, ◌==◌, ◌&&◌, nat_le}, Int.div_ceil};
 ghost use Rattle.ffs_volume.specs.{Disk.{Areas.cgbase, Numbers.all_below}, Groups.Records.{has_bits, is_used_inode}};
 ghost use Rattle.ffs_volume.specs.Groups.Records.{group_size};
 ghost use Rattle.ffs_maps.specs.Bits.{bits_of};
-ghost use Rattle.ffs_groups.specs.Check.{AreCounts, AreFound, HasRecords, has_bits_of, same_counts, same_frsum_at};
-ghost use Rattle.ffs_groups.specs.{Free.free_in, Inodes.class_in, Inputs.HasMaps};
+ghost use Rattle.ffs_groups.specs.Check.{AreFound, CanCompareGroup, CanCompareMaps, has_bits_of, same_counts, same_frsum_at};
+ghost use Rattle.ffs_groups.specs.{Free.free_in, Inodes.class_in};
 
 use crate::counts::{Counts, SummaryCounts};
 use crate::maps::{group_fragments, same_fragment_map, same_inode_map};
@@ -88,9 +88,8 @@ fn maps_are_right(
     found: &Group,
     block: &[u8],
 ) -> bool
-    requires maps { HasMaps geometry.now.layout usage.now.fragments.now.size usage.now.kinds.now
-        group }
-    requires block { length block.now ≡ geometry.now.layout.cgsize }
+    requires { CanCompareMaps geometry.now.layout usage.now.fragments.now.size usage.now.kinds.now
+        group block.now }
     ensures { result
         ≡ ((nat_le (found.now.iusedoff + div_ceil geometry.now.layout.ipg 8)
         geometry.now.layout.cgsize
@@ -132,12 +131,8 @@ pub fn compare_group(
     summary: &[u8],
     block: &[u8],
 ) -> GroupFindings
-    requires maps { HasMaps geometry.now.layout usage.now.fragments.now.size usage.now.kinds.now
-        group }
-    requires counts { AreCounts geometry.now.layout
-        (free_in (bits_of usage.now.fragments.now) geometry.now.layout.size)
-        (class_in usage.now.kinds.now) group counts.now }
-    requires records { HasRecords geometry.now.layout summary.now block.now }
+    requires { CanCompareGroup geometry.now.layout usage.now.fragments.now usage.now.kinds.now group
+        counts.now summary.now block.now }
     ensures { AreFound geometry.now.layout
         (free_in (bits_of usage.now.fragments.now) geometry.now.layout.size)
         (class_in usage.now.kinds.now) group summary.now block.now result }

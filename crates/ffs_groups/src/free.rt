@@ -2,8 +2,8 @@
 
 ghost use Rattle.std.specs.Prelude.{◌≡◌, ◌+◌, ◌-◌, ◌*◌, ◌/◌, ◌^◌, ◌<◌, ◌≤◌, count_by, ◌==◌, IfSome, ℕ};
 ghost use Rattle.ffs_volume.specs.Groups.Records.{free_stretches, stretch_of};
-ghost use Rattle.ffs_maps.specs.Bits.{bits_of};
-ghost use Rattle.ffs_groups.specs.Free.{word_bits, whole_in, loose_in, stretches_in, AreBelow, HasBlocks, HasRoomToCount, Grown, Added, AreFree, bits_from, free_in};
+ghost use Rattle.ffs_maps.specs.Bits.{bits_of, IsPart};
+ghost use Rattle.ffs_groups.specs.Free.{word_bits, whole_in, loose_in, stretches_in, HasBlocks, HasRoomToCount, HasRoomToEnd, Grown, Added, AreFree, bits_from, free_in};
 ghost use Rattle.ffs_groups.specs.Inputs.{HasFragments};
 
 use crate::maps::group_fragments;
@@ -17,8 +17,7 @@ pub const FRAGMENTS_AT_ONCE: u32 = 2048;
 /// Whether the fragments from `start` on and below `end` are all free (`Some(true)`), or none is
 /// (`Some(false)`); else `None`.
 pub fn are_free(used: &FragmentMap, start: u32, end: u32) -> Option<bool>
-    requires order { start ≤ end }
-    requires below { end ≤ used.now.size }
+    requires { IsPart start end used.now.size }
     ensures { IfSome result (λ free. (k : ℕ) → k < end - start
         → free_in (bits_of used.now) used.now.size (start + k) ≡ free) }
 {
@@ -51,8 +50,7 @@ pub struct FreeCounts {
 impl FreeCounts {
     /// Counts a stretch of `stretch` free fragments, unless that is 0.
     fn end_stretch(&mut self, stretch: u32)
-        requires stretch { stretch ≤ 8 }
-        requires below { AreBelow (2 ^ 64 - 1) self.old }
+        requires { HasRoomToEnd stretch (2 ^ 64 - 1) self.old }
         ensures { Grown 0 0 (λ k. count_by (λ n. n == k) (stretch_of stretch)) self.old self.new }
     {
         if stretch > 0 {

@@ -2,11 +2,12 @@
 //!
 //! A map's first bit is the lowest of its first byte, in both orders of bytes.
 
-ghost use Rattle.std.specs.{Prelude.{ℕ, ◌≡◌, ◌+◌, ◌*◌, ◌<◌, ◌≤◌, length, nat_eq}, Int.{bit_at, div_ceil}};
+ghost use Rattle.std.specs.{Prelude.{ℕ, ◌≡◌, ◌+◌, ◌*◌, ◌<◌, ◌≤◌, length, nat_eq}, Int.bit_at};
 ghost use Rattle.ffs_volume.specs.{Disk.{Numbers.all_below, Areas.cgbase}, Groups.Records.bit_at as map_bit};
 ghost use Rattle.ffs_volume.specs.Groups.Records.{same_bit, has_bits, is_used_inode, group_size};
 ghost use Rattle.ffs_maps.specs.Bits.{bits_of};
-ghost use Rattle.ffs_groups.specs.{Free.free_in, Inodes.class_in, Inputs.{HasFragments, HasInodes}};
+ghost use Rattle.ffs_groups.specs.{Free.free_in, Inodes.class_in};
+ghost use Rattle.ffs_groups.specs.Inputs.{HasFragmentMap, HasInodeMap, IsGroupSize};
 ghost use Rattle.ffs_groups.specs.MapParts.{AreFewIn, HasWords, IsClearAt, SetsBit};
 
 use crate::free::{FRAGMENTS_AT_ONCE, are_free};
@@ -88,8 +89,7 @@ pub fn same_inode_map(
     block: &[u8],
     place: u32,
 ) -> bool
-    requires inodes { HasInodes geometry.now.layout kinds.now group }
-    requires inside { place + div_ceil geometry.now.layout.ipg 8 ≤ length block.now }
+    requires { HasInodeMap geometry.now.layout kinds.now group (length block.now) place }
     ensures { result ≡ has_bits block.now place geometry.now.layout.ipg
         (λ k. is_used_inode (class_in kinds.now) (group * geometry.now.layout.ipg + k)) }
 {
@@ -114,8 +114,7 @@ pub fn same_inode_map(
 #[tactic(auto, unfolding(ffs_volume::specs::Disk::Areas::cgbase))]
 pub fn group_fragments(geometry: &Geometry, group: u32) -> u32
     requires { group < geometry.now.layout.ncg }
-    ensures value { result ≡ group_size geometry.now.layout group }
-    ensures within { result ≤ geometry.now.layout.fpg }
+    ensures { IsGroupSize geometry.now.layout group result }
 {
     geometry
         .layout
@@ -200,8 +199,7 @@ pub fn same_fragment_map(
     block: &[u8],
     place: u32,
 ) -> bool
-    requires fragments { HasFragments geometry.now.layout used.now.size group }
-    requires inside { place + div_ceil geometry.now.layout.fpg 8 ≤ length block.now }
+    requires { HasFragmentMap geometry.now.layout used.now.size group (length block.now) place }
     ensures { result ≡ has_bits block.now place (group_size geometry.now.layout group)
         (λ k. free_in (bits_of used.now) geometry.now.layout.size
         (cgbase geometry.now.layout group + k)) }

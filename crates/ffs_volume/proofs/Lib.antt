@@ -3,7 +3,6 @@ pub mod Reading
 pub mod PathBound
 pub mod DirectoryExamples
 pub mod BlockExamples
-pub mod StepExamples
 pub mod OpeningExamples
 pub mod LawsHold
 pub mod LinkLaws

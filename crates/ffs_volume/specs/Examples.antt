@@ -4,3 +4,4 @@ pub mod Images
 pub mod OpeningExamples
 pub mod BlockExamples
 pub mod DirectoryExamples
+pub mod ExamplesHold

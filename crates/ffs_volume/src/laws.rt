@@ -2,10 +2,8 @@
 //! contract.
 
 ghost use Rattle.ffs_volume.specs.Laws.Accepted.{AcceptedFit};
-ghost use Rattle.ffs_volume.specs.Examples.BlockExamples.{ClassExamples, ClaimExamples, GroupExamples, StepExamples};
-ghost use Rattle.ffs_volume.specs.Examples.DirectoryExamples.{EntryExamples, PathnameExamples, ReferenceExamples};
 ghost use Rattle.ffs_volume.specs.Laws.Meanings.{AllPathsFit, AreLongest, KeptAreFirst, LevelsAreLeast, SumsAreWhole};
-ghost use Rattle.ffs_volume.specs.Examples.OpeningExamples.{AreaExamples, OpeningExamples, SuperblockExamples};
+ghost use Rattle.ffs_volume.specs.Examples.ExamplesHold.{ExamplesHold};
 
 /// The layout of an accepted superblock meets each condition of `IsAcceptedLayout`, and its
 /// fragments lie in the image.
@@ -42,14 +40,5 @@ pub fn sums_are_whole()
 
 /// What the definitions say of worked examples, most of them in both orders of bytes.
 pub fn examples_hold()
-    ensures superblocks { SuperblockExamples }
-    ensures areas { AreaExamples }
-    ensures opening { OpeningExamples }
-    ensures classes { ClassExamples }
-    ensures steps { StepExamples }
-    ensures claims { ClaimExamples }
-    ensures groups { GroupExamples }
-    ensures entries { EntryExamples }
-    ensures pathnames { PathnameExamples }
-    ensures references { ReferenceExamples }
+    ensures { ExamplesHold }
 {}

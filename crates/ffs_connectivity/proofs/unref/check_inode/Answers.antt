@@ -1,9 +1,9 @@
-use Rattle.std.proofs.{Common.{◌≡◌, ◌∷◌, [], map, refl, sym, ◌∙◌, arith, true}, lemmas.Result.err_from_is_err_and}
+use Rattle.std.proofs.{Common.{◌≡◌, ◌∷◌, [], map, refl, sym, ◌∙◌, arith, rules, true}, lemmas.Result.err_from_is_err_and}
 use Rattle.ffs_volume.specs.{Directories.{Connectivity.is_unref_dir, Volumes.volume_of}, Messages.Kinds.of_tree}
 use Rattle.ffs_volume.specs.Messages.Kinds.{unref_dir}
 use Rattle.ffs_report.{specs.Known.ForBytes, proofs.Paying.{paid_none, paid_reads, paid_says, paid_stops}}
 use Rattle.ffs_report.proofs.Reporting.{reads_first, says_all, says_none, stops_all}
-use Rattle.ffs_workspace.specs.Found.{WithSurvey}
+use Rattle.ffs_workspace.{specs.Found.WithSurvey, proofs.Readiness.ready_table}
 use Rattle.ffs_connectivity.{specs.Lines.unref_dir_lines, proofs.UnrefLines.{attributes_are, unref_dir_is, one_line}}
 use Rattle.ffs_connectivity.proofs.{UnrefLines.{silent, heard}, unref.check_inode.Goals.After-is_unref-unref}
 use Rattle.ffs_connectivity.proofs.unref.check_inode.Goals.{After-of}
@@ -26,31 +26,35 @@ heard_of : (g : given.Over) (c : After-of g) →
     ≡ of_tree (unref_dir c.of.result) ∷ [])
 heard_of g c bytes k e = grind (arith, heard, attributes_are)
 
-pub returns-then-not-unref-clause-prints : goal.returns-then-not-unref-clause-prints
-returns-then-not-unref-clause-prints g c =
-    let test = tested g (goal.at.returns-then-not-unref-clause-prints g c).After-is_unref-unref in
-    record { image = refl; text = says_none (λ bytes k. silent _ _ (test bytes k ∙ c.if-not-unref.true)) }
+pub returns-then-not-unref : goal.returns-then-not-unref
+returns-then-not-unref g c =
+    let test = tested g (goal.at.returns-then-not-unref g c).After-is_unref-unref in
+    record {
+      prints = record { image = refl; text = says_none (λ bytes k. silent _ _ (test bytes k ∙ c.if-not-unref.true)) };
+      reads = record { known = λ bytes k. omega arith; paid = paid_none (omega arith) };
+      stays = search rules;
+    }
 
-pub returns-in_err-inode-clause-prints : goal.returns-in_err-inode-clause-prints
-returns-in_err-inode-clause-prints g c = grind (arith, err_from_is_err_and, reads_first)
+pub returns-in_err-inode : goal.returns-in_err-inode
+returns-in_err-inode g c = record {
+  prints = grind (arith, err_from_is_err_and, reads_first);
+  reads = grind (arith, tested, one_line, err_from_is_err_and, paid_reads);
+  stays = search rules;
+}
 
-pub returns-in_err-say-clause-prints : goal.returns-in_err-say-clause-prints
-returns-in_err-say-clause-prints g c = grind (arith, err_from_is_err_and, stops_all, heard_of, tested)
+pub returns-in_err-say : goal.returns-in_err-say
+returns-in_err-say g c = record {
+  prints = grind (arith, err_from_is_err_and, stops_all, heard_of, tested);
+  reads = grind (arith, tested, one_line, err_from_is_err_and, paid_stops);
+  stays = grind (arith, ready_table);
+}
 
-pub returns-clause-prints : goal.returns-clause-prints
-returns-clause-prints g c = grind (arith, says_all, heard_of, tested)
-
-pub returns-then-not-unref-clause-reads : goal.returns-then-not-unref-clause-reads
-returns-then-not-unref-clause-reads g c = record { known = λ bytes k. omega arith; paid = paid_none (omega arith) }
-
-pub returns-in_err-inode-clause-reads : goal.returns-in_err-inode-clause-reads
-returns-in_err-inode-clause-reads g c = grind (arith, tested, one_line, err_from_is_err_and, paid_reads)
-
-pub returns-in_err-say-clause-reads : goal.returns-in_err-say-clause-reads
-returns-in_err-say-clause-reads g c = grind (arith, tested, one_line, err_from_is_err_and, paid_stops)
-
-pub returns-clause-reads : goal.returns-clause-reads
-returns-clause-reads g c = record {
-  known = grind (arith, tested, one_line);
-  paid = paid_says _ c.in_ok-say.ensures.said (omega arith) c.in_ok-inode.ensures.counted;
+pub returns : goal.returns
+returns g c = record {
+  prints = grind (arith, says_all, heard_of, tested);
+  reads = record {
+    known = grind (arith, tested, one_line);
+    paid = paid_says _ c.in_ok-say.ensures.said (omega arith) c.in_ok-inode.ensures.counted;
+  };
+  stays = search rules;
 }

@@ -35,65 +35,61 @@ stays : (g : given.Over) (c : In_ok-inode g) →
     })
 stays g c = grind (arith, ready_table)
 
-pub returns-then-is_right-clause-prints : goal.returns-then-is_right-clause-prints
-returns-then-is_right-clause-prints g c = record {
-  image = search rules;
-  text = says_none (λ bytes k. ap (λ (ls : List TreeMessage). map of_tree ls)
-      (met_lines c.args.geometry.now.layout bytes c.args.workspace.now c.args.number c.requires.number k.1
-      c.requires.used (sym c.is_right.ensures ∙ c.if-is_right.true)));
+pub returns-then-is_right : goal.returns-then-is_right
+returns-then-is_right g c = record {
+  prints = record {
+    image = search rules;
+    text = says_none (λ bytes k. ap (λ (ls : List TreeMessage). map of_tree ls)
+        (met_lines c.args.geometry.now.layout bytes c.args.workspace.now c.args.number c.requires.number k.1
+        c.requires.used (sym c.is_right.ensures ∙ c.if-is_right.true)));
+  };
+  reads = record { known = λ bytes k. omega arith; paid = paid_none (omega arith) };
+  stays = search rules;
 }
 
-pub returns-in_err-inode-clause-prints : goal.returns-in_err-inode-clause-prints
-returns-in_err-inode-clause-prints g c = grind (arith, err_from_is_err_and, reads_first)
-
-pub returns-in_err-say_line-clause-prints : goal.returns-in_err-say_line-clause-prints
-returns-in_err-say_line-clause-prints g c =
-    let p = err_from_is_err_and c.from_residual-in_err-say_line.result c.from_residual-in_err-say_line.ensures.1 in
-    let at = goal.at.returns-in_err-say_line-clause-prints g c in
-    rw (p.1, p.2) (record {
-      image = search rules;
-      text = stops_all (lines_are g at.After-line_for-line) c.in_err-say_line.ensures;
-    })
-
-pub returns-clause-prints : goal.returns-clause-prints
-returns-clause-prints g c =
-    let at = goal.at.returns-clause-prints g c in
-    record { image = search rules; text = says_all (lines_are g at.After-line_for-line) c.in_ok-say_line.ensures }
-
-pub returns-in_err-say_line-clause-stays : goal.returns-in_err-say_line-clause-stays
-returns-in_err-say_line-clause-stays g c = stays g (goal.at.returns-in_err-say_line-clause-stays g c).In_ok-inode
-
-pub returns-clause-stays : goal.returns-clause-stays
-returns-clause-stays g c = stays g (goal.at.returns-clause-stays g c).In_ok-inode
-
-pub returns-then-is_right-clause-reads : goal.returns-then-is_right-clause-reads
-returns-then-is_right-clause-reads g c = record { known = λ bytes k. omega arith; paid = paid_none (omega arith) }
-
-pub returns-in_err-inode-clause-reads : goal.returns-in_err-inode-clause-reads
-returns-in_err-inode-clause-reads g c = record {
-  known = λ bytes k.
-      let line = one g (goal.at.returns-in_err-inode-clause-reads g c).After-inode bytes k in
-      omega (arith, line, c.in_err-inode.ensures.counted);
-  paid = grind (arith, err_from_is_err_and, paid_reads);
+pub returns-in_err-inode : goal.returns-in_err-inode
+returns-in_err-inode g c = record {
+  prints = grind (arith, err_from_is_err_and, reads_first);
+  reads = record {
+    known = λ bytes k.
+        let line = one g (goal.at.returns-in_err-inode g c).After-inode bytes k in
+        omega (arith, line, c.in_err-inode.ensures.counted);
+    paid = grind (arith, err_from_is_err_and, paid_reads);
+  };
+  stays = grind (arith, ready_table);
 }
 
-pub returns-in_err-say_line-clause-reads : goal.returns-in_err-say_line-clause-reads
-returns-in_err-say_line-clause-reads g c =
+pub returns-in_err-say_line : goal.returns-in_err-say_line
+returns-in_err-say_line g c =
     let p = err_from_is_err_and c.from_residual-in_err-say_line.result c.from_residual-in_err-say_line.ensures.1 in
-    let at = goal.at.returns-in_err-say_line-clause-reads g c in
+    let at = goal.at.returns-in_err-say_line g c in
     rw (p.1, p.2) (record {
-      known = λ bytes k.
-          let line = one g at.After-inode bytes k in
-          omega (arith, line, c.in_ok-inode.ensures.counted);
-      paid = paid_stops _ c.in_err-say_line.ensures (some g at.After-line_for-line) c.in_ok-inode.ensures.counted;
+      prints = record {
+        image = search rules;
+        text = stops_all (lines_are g at.After-line_for-line) c.in_err-say_line.ensures;
+      };
+      reads = record {
+        known = λ bytes k.
+            let line = one g at.After-inode bytes k in
+            omega (arith, line, c.in_ok-inode.ensures.counted);
+        paid = paid_stops _ c.in_err-say_line.ensures (some g at.After-line_for-line) c.in_ok-inode.ensures.counted;
+      };
+      stays = stays g at.In_ok-inode;
     })
 
-pub returns-clause-reads : goal.returns-clause-reads
-returns-clause-reads g c =
-    let at = goal.at.returns-clause-reads g c in
+pub returns : goal.returns
+returns g c =
+    let at = goal.at.returns g c in
     record {
-      known = λ bytes k.
-          let line = one g at.After-inode bytes k in
-          omega (arith, line, c.in_ok-inode.ensures.counted);
-      paid = paid_says _ c.in_ok-say_line.ensures (some g at.After-line_for-line) c.in_ok-inode.ensures.counted;
+      prints = record {
+        image = search rules;
+        text = says_all (lines_are g at.After-line_for-line) c.in_ok-say_line.ensures;
+      };
+      reads = record {
+        known = λ bytes k.
+            let line = one g at.After-inode bytes k in
+            omega (arith, line, c.in_ok-inode.ensures.counted);
+        paid = paid_says _ c.in_ok-say_line.ensures (some g at.After-line_for-line) c.in_ok-inode.ensures.counted;
+      };
+      stays = stays g at.In_ok-inode;
     }

@@ -64,12 +64,12 @@ loop-group-preserved g c =
     let n = c.loop-group.group in
     let counts = c.group_counts-counts in
     record {
-      device = c.in_ok-found.ensures.leaves.read ∙ inv.device;
+      device = c.in_ok-found.ensures.read ∙ inv.device;
       stays = record {
-        held = held_on w c.loop-group.workspace _ inv.stays.held c.in_ok-found.ensures.leaves.stays.held;
-        ready = c.in_ok-found.ensures.leaves.stays.ready;
+        held = held_on w c.loop-group.workspace _ inv.stays.held c.in_ok-found.ensures.stays.held;
+        ready = c.in_ok-found.ensures.stays.ready;
       };
-      reads = omega (arith, inv.reads, c.in_ok-found.ensures.leaves.counted);
+      reads = omega (arith, inv.reads, c.in_ok-found.ensures.counted);
       up = up_next n c.loop-group.totals _ counts.result.summary inv.up c.add.ensures (omega (arith, counts.type_inv))
           (omega (arith, counts.type_inv)) (omega (arith, counts.type_inv)) (omega (arith, counts.type_inv));
       totals = totals_next v (free_of v w) (class_in w.kinds.items) n c.loop-group.totals _ _ inv.totals c.add.ensures
@@ -99,11 +99,11 @@ returns-clause-prints g c = record {
 
 pub returns-in_err-found-clause-reads : goal.returns-in_err-found-clause-reads
 returns-in_err-found-clause-reads g c =
-    omega (arith, c.loop-group.invariant.reads, c.in_err-found.ensures.leaves.counted, c.loop-group-test.true)
+    omega (arith, c.loop-group.invariant.reads, c.in_err-found.ensures.counted, c.loop-group-test.true)
 
 pub returns-in_err-say_group-clause-reads : goal.returns-in_err-say_group-clause-reads
 returns-in_err-say_group-clause-reads g c =
-    omega (arith, c.loop-group.invariant.reads, c.in_ok-found.ensures.leaves.counted, c.loop-group-test.true)
+    omega (arith, c.loop-group.invariant.reads, c.in_ok-found.ensures.counted, c.loop-group-test.true)
 
 pub returns-in_err-say_unless-clause-reads : goal.returns-in_err-say_unless-clause-reads
 returns-in_err-say_unless-clause-reads g c = omega (arith, c.loop-group.invariant.reads, c.loop-group.auto.group-end)

@@ -1,31 +1,29 @@
-use Rattle.std.proofs.Common.{arith, ◌≡◌, ◌+◌, ◌-◌, ap, sym, ◌∙◌, slice_index}
+use Rattle.std.proofs.Common.{arith, ◌≡◌, ◌+◌, ◌-◌, ◌^◌, ap, sym, ◌∙◌, slice_index}
 use Rattle.ffs_groups.proofs.Adding.{free_next, used_next, stretch_grows, stretch_ends, bit_set, bit_clear}
 use Rattle.ffs_groups.proofs.Adding.{stretches_within, free_within}
-use Rattle.ffs_groups.proofs.free.FreeCounts.add_loose.Goals.{then-bits-index-eq1, else-bits-index-eq1}
+use Rattle.ffs_groups.specs.Free.{AreBelow}
+use Rattle.ffs_groups.proofs.free.FreeCounts.add_loose.Goals.{At-loop-index, then-bits-index-eq1, else-bits-index-eq1}
 use Rattle.ffs_groups.proofs.free.FreeCounts.add_loose.Goals as goal
 
 pub overflow_add-self : goal.overflow_add-self
 overflow_add-self c = grind (arith, free_within)
 
-pub end_stretch-requires-clause-below : goal.end_stretch-requires-clause-below
-end_stretch-requires-clause-below c =
+-- the counts have room for one stretch more
+below : (c : At-loop-index) → AreBelow (2 ^ 64 - 1) c.loop-index.self
+below c =
     let now = c.loop-index.invariant in
-    let below = c.requires.below in
+    let old = c.requires.below in
     record {
-      blocks = omega (arith, now.blocks, below.blocks);
-      fragments = omega (arith, now.fragments, free_within c.args.bits c.args.frag, below.fragments);
-      frsum = λ k. omega (arith, now.frsum k, stretches_within c.args.bits c.args.frag k, below.frsum k);
+      blocks = omega (arith, now.blocks, old.blocks);
+      fragments = omega (arith, now.fragments, free_within c.args.bits c.args.frag, old.fragments);
+      frsum = λ k. omega (arith, now.frsum k, stretches_within c.args.bits c.args.frag k, old.frsum k);
     }
 
-pub end_stretch-requires-2-clause-below : goal.end_stretch-requires-2-clause-below
-end_stretch-requires-2-clause-below c =
-    let now = c.loop-index.invariant in
-    let below = c.requires.below in
-    record {
-      blocks = omega (arith, now.blocks, below.blocks);
-      fragments = omega (arith, now.fragments, free_within c.args.bits c.args.frag, below.fragments);
-      frsum = λ k. omega (arith, now.frsum k, stretches_within c.args.bits c.args.frag k, below.frsum k);
-    }
+pub end_stretch-requires : goal.end_stretch-requires
+end_stretch-requires c = record { few = omega arith; below = below (goal.at.end_stretch-requires c).At-loop-index }
+
+pub end_stretch-requires-2 : goal.end_stretch-requires-2
+end_stretch-requires-2 c = record { few = omega arith; below = below (goal.at.end_stretch-requires-2 c).At-loop-index }
 
 pub loop-index-preserved : goal.loop-index-preserved
 loop-index-preserved c =
