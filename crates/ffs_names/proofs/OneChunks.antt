@@ -9,6 +9,7 @@ use Rattle.ffs_volume.specs.Directories.{Entries.{bytes_read, chunks_of, has_gap
 use Rattle.ffs_volume.specs.{Directories.Roles.{RoledEntry, roled_chunk}, Disk.Areas.is_run_in_range}
 use Rattle.ffs_volume.specs.{Laws.Geometry.IsAcceptedLayout, Encodings.Replay.{fresh_replay, replayed_steps}}
 use Rattle.ffs_volume.specs.Encodings.ReplayCounts.{replayed_runs}
+use Rattle.ffs_layout.specs.declared.geometry.Geometry.{Geometry}
 use Rattle.ffs_walk.{proofs.Counted.{top_held, top_unread}, specs.{Rests.{IsAtTop, IsOver}, Keepings.replay_in}}
 use Rattle.ffs_workspace.proofs.NoteLaws.{IsOneChunkAt}
 use Rattle.ffs_names.specs.{Costs.BeginsAtChunk, OneChunk.one_chunk_at, Readings.{chunks_in, gap_after}}
@@ -92,15 +93,17 @@ chunks_of_one : (v : Layout) (a : ℕ) (b : List ℕ) → IsAcceptedLayout v →
 chunks_of_one v a b g some inside = rw (one_replayed v a b g some inside, inside) refl
 
 -- so a reading of it begins that has the chunks of that Run to give, and whose walk is over
-pub begins_at_chunk : {v : Layout} {a : ℕ} {c : Chunks} → IsAcceptedLayout v → (a == 0) ≡ false →
-    is_run_in_range v a 1 ≡ true → c.walk.geometry.layout ≡ v → IsOver c.walk →
+pub begins_at_chunk : {q : Geometry} {a : ℕ} {c : Chunks} → IsAcceptedLayout q.layout → (a == 0) ≡ false →
+    is_run_in_range q.layout a 1 ≡ true → c.walk.geometry ≡ q → IsOver c.walk →
     ((b : List ℕ) → cursor_chunks c.walk.geometry.layout b c.run_cursor
     ≡ run_chunks (reading_by c.walk.geometry.layout b 512) a 1 (0 * c.walk.geometry.layout.bsize)) →
-    c.run_cursor.next ≡ 0 → c.budget ≡ 1 → c.gap ≡ false → BeginsAtChunk v a c
-begins_at_chunk {v = v} {a = a} {c = c} g some inside layout over found first budget gap =
+    c.run_cursor.next ≡ 0 → c.budget ≡ 1 → c.gap ≡ false → BeginsAtChunk q a c
+begins_at_chunk {q = q} {a = a} {c = c} g some inside same over found first budget gap =
+    let v = q.layout in
     let top : IsAtTop c.walk = record { single = over.single; double = over.double; triple = over.triple } in
     record {
-      chunks = λ b. rw (budget, found b, over_rest b c.walk over, layout)
+      geometry = same;
+      chunks = λ b. rw (budget, found b, over_rest b c.walk over, same)
           (ap (take 1) (sym (chunks_of_one v a b g some inside)) ∙ all_taken v (one_chunk_at a) b 0 g);
       gap = gap;
       gap_left = λ b. ap (gap_after c) (over_rest b c.walk over)

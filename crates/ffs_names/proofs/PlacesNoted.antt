@@ -5,7 +5,7 @@ use Rattle.std.proofs.Common.{flat_map, if◌then◌else◌, is_some, option_map
 use Rattle.std.{specs.List.list_any, proofs.{Math.Bool.and-false, lemmas.Bool.{Decides.nat_tests, and_from, and_parts}}}
 use Rattle.std.proofs.lemmas.Bool.{both_ways, cases_eq, cond-false, eq-eqb, eqb-false, eqb-true, leb-true, lt-ltb}
 use Rattle.std.proofs.lemmas.{Bool.{ltb-true, ne_eqb, not_from_false, not-true}, List.Folds.list_any-append}
-use Rattle.std.{proofs.lemmas.List.{get_or-set_other, get_or-set_same}, specs.declared.vec.Vec.Vec}
+use Rattle.std.{proofs.lemmas.List.{get_or_past, get_or-set_other, get_or-set_same}, specs.declared.vec.Vec.Vec}
 use Rattle.std.specs.declared.alloc.Global.{Global}
 use Rattle.ffs_image.specs.Device.{Device}
 use Rattle.ffs_layout.specs.{Entry.entry_value, declared.entry.Entry.Entry as CodeEntry}
@@ -300,6 +300,11 @@ passed_next old new i word low passed keeps before x l = keeps x ∙ elim (cases
   | inr o ↦ set_other is_due old i word x o ∙ before x (omega arith)
 ]
 
+-- no word is due where none of those that there are is
+pub none_due : (ws : List ℕ) (n : ℕ) → length ws ≤ n → ((x : ℕ) → x < n → is_due (slice_index ws x) ≡ false) → (x : ℕ) →
+    is_due (slice_index ws x) ≡ false
+none_due ws n long passed x = grind (arith, get_or_past)
+
 -- ---- directories that are reached
 -- p is the parent of x, a directory that is reached and isn't the root
 pub record IsUnder (g : Graph) (x p : ℕ) : Type 0 where
@@ -350,8 +355,8 @@ dir_number : (v : Layout) (b : List ℕ) (x : ℕ) → is_dir (volume_of v b) x 
 unfolding volume_of volume_with
 dir_number v b x h = grind (arith, and_parts, leb-true, ltb-true)
 
-pub coming_first : {v : Layout} {b : List ℕ} {w : Workspace} {words : List ℕ} → length w.reached.items ≡ inodes_of v →
-    BeginsNotes w.reached.items w.parents.items words → HoldsSurvey v b w → AreComing v b words
+pub coming_first : {v : Layout} {b : List ℕ} {w : Workspace} {words : Vec ℕ Global} → length w.reached.items ≡ inodes_of v →
+    BeginsNotes w.reached.items w.parents.items words → HoldsSurvey v b w → AreComing v b words.items
 coming_first {v = v} {b = b} {w = w} {words = words} long begins survey x p under =
     grind (arith, dir_number, edge-parts, eqb-false)
 

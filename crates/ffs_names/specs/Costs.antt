@@ -3,8 +3,9 @@
 use Rattle.std.specs.Prelude.{◌≡◌, ℕ, ◌+◌, ◌*◌, ◌<◌, ◌≤◌, ◌==◌, Bool, true, false, ◌&&◌, ◌||◌, nat_lt, if◌then◌else◌}
 use Rattle.std.specs.{Prelude.{List, ◌∷◌, Option}, List.flat_map}
 use Rattle.ffs_image.specs.Device.{ForContents}
-use Rattle.ffs_volume.specs.declared.{Layout.Layout, Step.{Step, TheVariants.Run}}
-use Rattle.ffs_volume.specs.{Blocks.{Inodes.inode_of, Steps.steps_of}, Directories.{Entries.has_gap, Roles.is_dir}}
+use Rattle.ffs_volume.specs.declared.{Class.Class, Inode.Inode, Layout.Layout, Step.{Step, TheVariants.Run}}
+use Rattle.ffs_volume.specs.Blocks.{Inodes.{class_of, inode_of}, Steps.steps_of}
+use Rattle.ffs_volume.specs.Directories.{Entries.has_gap, Roles.is_dir}
 use Rattle.ffs_volume.specs.{Directories.Volumes.volume_of, Encodings.Replay.{cut_at, fresh_replay, replayed_steps}}
 use Rattle.ffs_volume.specs.Directories.Roles.{roled_chunk, roled_entries}
 use Rattle.ffs_volume.specs.{Encodings.ReplayCounts.replayed_runs, Report.Reads.sweep_reads}
@@ -12,7 +13,7 @@ use Rattle.ffs_layout.specs.declared.geometry.Geometry.{Geometry}
 use Rattle.ffs_walk.specs.{Counts.{AreHeld, entered, unread}, declared.{blocks.Blocks.Blocks, window.Window.Window}}
 use Rattle.ffs_survey.specs.Costs.{costs_all}
 use Rattle.ffs_names.specs.{OneChunk.one_chunk_at, Readings.{chunks_in, gap_left, rest, runs_after, runs_left}}
-use Rattle.ffs_names.specs.Readings.{Continues}
+use Rattle.ffs_names.specs.Readings.{BeginsAt, Continues}
 use Rattle.ffs_names.specs.declared.{chunks.Chunks.Chunks, entries.Entries.Entries, run_cursor.RunCursor.RunCursor}
 
 -- 1 where the current Run has chunks and is still to be read: none of them was given yet
@@ -40,13 +41,26 @@ pub record BeginsReads (g : Geometry) (c : Chunks) : Type 0 where
   pub to_read : (b : List ℕ) → to_read b c ≡ runs_left b c
   pub held : (blocks : Blocks) (w : Window) → HoldsReading blocks w c
 
--- a reading begins of a directory of one chunk, at an address; its Run is seen already
-pub record BeginsAtChunk (v : Layout) (address : ℕ) (c : Chunks) : Type 0 where
-  pub chunks : (b : List ℕ) → rest b c ≡ chunks_in v b (one_chunk_at address) 0
+-- it is one of the directory with this inode and this cut
+pub record BeginsReading (g : Geometry) (inode : Inode) (cut : ℕ) (c : Chunks) : Type 0 where
+  pub begins : BeginsAt g.layout inode cut c
+  pub reads : BeginsReads g c
+
+-- it is one of that directory, if this is the inode's class
+pub record BeginsByClass (g : Geometry) (inode : Inode) (class : Class) (cut : ℕ) (c : Chunks) : Type 0 where
+  pub begins : class ≡ class_of g.layout inode → BeginsAt g.layout inode cut c
+  pub reads : BeginsReads g c
+
+-- a reading begins of a directory of one chunk, at an address in a volume of this geometry; its Run is
+-- seen already
+pub record BeginsAtChunk (g : Geometry) (address : ℕ) (c : Chunks) : Type 0 where
+  pub geometry : c.walk.geometry ≡ g
+  pub chunks : (b : List ℕ) → rest b c ≡ chunks_in g.layout b (one_chunk_at address) 0
   pub gap : c.gap ≡ false
   pub gap_left : (b : List ℕ) → gap_left b c
-      ≡ has_gap (replayed_steps v 0 fresh_replay (steps_of v (one_chunk_at address) b))
-  pub to_read : (b : List ℕ) → to_read b c ≤ replayed_runs v 0 fresh_replay (steps_of v (one_chunk_at address) b)
+      ≡ has_gap (replayed_steps g.layout 0 fresh_replay (steps_of g.layout (one_chunk_at address) b))
+  pub to_read : (b : List ℕ) → to_read b c
+      ≤ replayed_runs g.layout 0 fresh_replay (steps_of g.layout (one_chunk_at address) b)
   pub held : (blocks : Blocks) (w : Window) → HoldsReading blocks w c
 
 -- a Run is seen: the reading continues with the steps after it. The walk stays, and the Run takes

@@ -1,5 +1,5 @@
 -- Where the current Run lies.
-use Rattle.std.specs.Prelude.{◌≡◌, ℕ, ◌+◌, ◌*◌, ◌%◌, ◌<◌, ◌≤◌, IsTrue}
+use Rattle.std.specs.Prelude.{◌≡◌, ℕ, ◌+◌, ◌*◌, ◌%◌, ◌<◌, ◌≤◌, ◌^◌, IsTrue}
 use Rattle.ffs_volume.specs.{declared.{constants.TheConstants.DIRBLKSIZ, Layout.Layout}, Disk.Areas.is_run_in_range}
 use Rattle.ffs_names.specs.declared.run_cursor.RunCursor.{RunCursor}
 
@@ -10,8 +10,10 @@ pub record CursorFits (v : Layout) (cursor : RunCursor) : Type 0 where
   pub in_volume : cursor.place + cursor.length ≤ v.size * v.fsize
   pub aligned : cursor.place % DIRBLKSIZ ≡ 0
 
--- a Run of data of a block at most, in range
-pub record IsBlockRun (v : Layout) (start len : ℕ) : Type 0 where
+-- a Run of data of a block at most can be begun: it is in range, and of its directory no more than 2^31
+-- bytes are read
+pub record CanBeginRun (v : Layout) (taken start len : ℕ) : Type 0 where
+  pub bytes_to_read : taken ≤ 2 ^ 31
   pub some : 0 < len
   pub short : len ≤ v.frag
   pub in_range : IsTrue (is_run_in_range v start len)

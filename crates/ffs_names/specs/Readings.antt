@@ -5,10 +5,9 @@ use Rattle.ffs_volume.specs.{declared.{Layout.Layout, Inode.Inode, Step.Step}, D
 use Rattle.ffs_volume.specs.{Blocks.Steps.steps_of, Directories.Entries.{Chunk, chunk_of, chunks_of, has_gap}}
 use Rattle.ffs_volume.specs.{Directories.Entries.bytes_read, Encodings.Replay.{is_replay_open, fresh_replay}}
 use Rattle.ffs_volume.specs.{Encodings.{Replay.replayed_steps, ReplayCounts.replayed_runs}, Laws.RunLengths.HasLength}
-use Rattle.ffs_walk.specs.{Rests.{most_steps_left, steps_left}, declared.{blocks.Blocks.Blocks, window.Window.Window}}
-use Rattle.ffs_walk.specs.Keepings.{replay_in}
-use Rattle.ffs_image.specs.{Device.{Device, ForContents}, Reads.ReadAfter, declared.image.ImageFault.ImageFault}
-use Rattle.ffs_names.specs.{Windows.CanReadChunks, RunCursors.{cursor_chunks, reading_by}}
+use Rattle.ffs_walk.specs.{Keepings.replay_in, Rests.{most_steps_left, steps_left}}
+use Rattle.ffs_image.specs.{Device.ForContents, declared.image.ImageFault.ImageFault}
+use Rattle.ffs_names.specs.RunCursors.{cursor_chunks, reading_by}
 use Rattle.ffs_names.specs.declared.chunks.Chunks.{Chunks}
 
 -- the chunks of steps to come
@@ -70,13 +69,6 @@ pub record CanSee (c : Chunks) (run : Step) : Type 0 where
   pub length : HasLength c.walk.geometry.layout.frag run
   pub seen : is_replay_open c.keeping.cut (replay_in c.keeping) ≡ true
   pub empty : c.run_cursor.next ≡ c.run_cursor.count
-
--- what a call leaves that gives the next chunk or the next entry
-pub record LeavesReading {T : Type 0} (old new : Chunks) (device device' : Device) (blocks : Blocks) (chunk : Window)
-    (result : Result T ImageFault) : Type 0 where
-  pub geometry : new.walk.geometry ≡ old.walk.geometry
-  pub ready : CanReadChunks old.walk.geometry.layout device' blocks chunk
-  pub read : ReadAfter device device' result
 
 -- a reading of an image of these bytes with these steps to come continues as one that has these
 pub record Continues (b : List ℕ) (old : Chunks) (before : List Step) (new : Chunks) (after : List Step) : Type 0 where

@@ -1,7 +1,7 @@
 -- What a reading of a directory shows of its shape.
 use Rattle.std.specs.Prelude.{◌≡◌, ◌<◌, ◌≤◌, ◌^◌, ℕ, ◌+◌, ◌==◌, Bool, true, false, not, ◌&&◌, ◌||◌, List, [], ◌∷◌}
 use Rattle.std.specs.{Prelude.{sum_by, Option, is_some, MatchOption, IfNone}, List.flat_map}
-use Rattle.ffs_volume.specs.{declared.{Layout.Layout, Inode.Inode}, Blocks.Steps.steps_of}
+use Rattle.ffs_volume.specs.{declared.{Class.Class, Layout.Layout, Inode.Inode}, Blocks.{Inodes.class_of, Steps.steps_of}}
 use Rattle.ffs_volume.specs.declared.constants.TheConstants.{DIRBLKSIZ}
 use Rattle.ffs_volume.specs.Directories.Entries.{entries_from, entry_at, has_gap}
 use Rattle.ffs_volume.specs.{Directories.{Roles.roled_chunk, PathnameCheck.are_sound}, Encodings.Replay.fresh_replay}
@@ -38,6 +38,16 @@ pub record BeginsDirectory (v : Layout) (inode : Inode) (cut : ℕ) (r : Entries
   pub to_read : (b : List ℕ) → entries_to_read b r ≤ replayed_runs v cut fresh_replay (steps_of v inode b)
   pub held : (blocks : Blocks) (w : Window) → HoldsEntries blocks w r
 
+-- it begins so in a volume of this geometry
+pub record BeginsIn (g : Geometry) (inode : Inode) (cut : ℕ) (r : Entries) : Type 0 where
+  pub begins : BeginsDirectory g.layout inode cut r
+  pub geometry : r.chunks.walk.geometry ≡ g
+
+-- it does, if this is the inode's class
+pub record RestartsIn (g : Geometry) (inode : Inode) (class : Class) (cut : ℕ) (r : Entries) : Type 0 where
+  pub begins : class ≡ class_of g.layout inode → BeginsDirectory g.layout inode cut r
+  pub geometry : r.chunks.walk.geometry ≡ g
+
 -- no entry comes any more of a reading in a volume of this geometry; it shows no right shape, and
 -- takes no read
 pub record HasStopped (g : Geometry) (r : Entries) : Type 0 where
@@ -72,3 +82,8 @@ pub record IsSameChunk (old new : Entries) : Type 0 where
   pub chunk : new.chunk ≡ old.chunk
   pub right_so_far : new.right_so_far ≡ old.right_so_far
   pub fills : fills new ≡ fills old
+
+-- the next entry of the current chunk was taken, if one is left, and what it leaves is the same
+pub record TakesFromChunk (old new : Entries) (answer : Option EntryHead) : Type 0 where
+  pub taken : MatchOption answer (IsChunkOver old new) (TakesEntry old new)
+  pub same : IsSameChunk old new

@@ -5,6 +5,7 @@ use Rattle.ffs_volume.specs.{declared.Layout.Layout, Directories.{Roles.roled_en
 use Rattle.ffs_survey.specs.Calm.{AreCalm}
 use Rattle.ffs_names.specs.RightShapes.{is_right_directory}
 use Rattle.ffs_workspace.specs.{declared.workspace.Workspace.Workspace, Ready.IsReady}
+use Rattle.ffs_workspace.specs.Holds.{HoldsReferences, HoldsStarts, HoldsSurvey}
 
 -- the claims, kinds, marks and notes of a workspace, and its counts of Runs
 pub record IsUntouched (old new : Workspace) : Type 0 where
@@ -27,3 +28,10 @@ pub record LeavesClaims {T : Type 0} (v : Layout) (d d' : Device) (old new : Wor
 pub record FlagsCalm (v : Layout) (b : List ℕ) (w : Workspace) : Type 0 where
   pub calm : AreCalm w.kinds.items w.marked.items w.reached.items w.parents.items (roled_entries (volume_of v b))
       (is_right_directory (volume_of v b)) w.flags.items
+
+-- what a survey finds is held, references are counted on from where they start, and only calm
+-- directories have a flag
+pub record IsSurveyed (v : Layout) (b : List ℕ) (old new : Workspace) : Type 0 where
+  pub survey : HoldsSurvey v b new
+  pub references : HoldsStarts v b old → HoldsReferences v b new
+  pub calm : FlagsCalm v b new

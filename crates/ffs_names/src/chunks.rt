@@ -1,14 +1,12 @@
 //! The chunks of a directory.
 
-ghost use Rattle.std.specs.Prelude.{◌≡◌, ◌==◌, ◌&&◌, ◌+◌, ◌≤◌, ◌<◌, ◌^◌, true, not};
-ghost use Rattle.std.specs.Prelude.{Ok, None, IfOk, IfSome, MatchBool, MatchOption, MatchResult};
+ghost use Rattle.std.specs.Prelude.{◌≡◌, ◌==◌, ◌&&◌, ◌≤◌, ◌<◌, ◌^◌, true, not, IfOk, MatchBool, MatchResult};
 ghost use Rattle.ffs_image.specs.Device.{ForContents};
 ghost use Rattle.ffs_volume.specs.{Disk.Areas.is_run_in_range, Directories.Entries.bytes_read};
 ghost use Rattle.ffs_volume.specs.declared.Step.TheVariants.{Run};
 ghost use Rattle.ffs_names.specs.{Fits.CursorFits, SeenRuns.RunsAreSeen, Windows.{CanWalkDir, CanReadChunks}};
 ghost use Rattle.ffs_survey.specs.Costs.{TakesReads};
 ghost use Rattle.ffs_walk.specs.Rests.{IsOver};
-ghost use Rattle.ffs_volume.specs.Blocks.Inodes as inodes;
 
 use crate::gap::end_walk;
 use crate::run_cursor::RunCursor;
@@ -47,10 +45,10 @@ pub struct Chunks {
 }
 
 impl Chunks {
-    ghost use Rattle.ffs_names.specs.Costs.{to_read, BeginsAtChunk, BeginsReads, HoldsReading, SeesRun};
-    ghost use Rattle.ffs_names.specs.RunCursors.{last_place, IsGivenChunk};
-    ghost use Rattle.ffs_names.specs.Readings.{all_chunks, rest, CanSee, ContinuesTo, CountsNoMore, CountsRuns, FindsNextRun, GivesChunk, BeginsAt, IsSame, LeavesReading};
-    ghost use Rattle.ffs_names.specs.Leaves.{LeavesChunks, LeavesWalk};
+    ghost use Rattle.ffs_names.specs.Costs.{to_read, BeginsAtChunk, BeginsByClass, BeginsReading, HoldsReading, SeesRun};
+    ghost use Rattle.ffs_names.specs.RunCursors.{last_place};
+    ghost use Rattle.ffs_names.specs.Readings.{all_chunks, rest, CanSee, ContinuesTo, CountsNoMore, FindsNextRun, GivesChunk, IsSame};
+    ghost use Rattle.ffs_names.specs.Leaves.{LeavesChunks, LeavesNext, LeavesWalk};
 
     /// Looks at the Run that comes next in the walk: one of data that is kept whole, and is in
     /// range, becomes the current Run. Any other has no chunks.
@@ -85,8 +83,8 @@ impl Chunks {
         ensures continues { ForContents (I.device image.old).contents (λ b. MatchResult result
             (λ _. ContinuesTo b self.old self.new) (λ _. CountsNoMore b self.old self.new)) }
         ensures found { IfOk result (FindsNextRun (I.device image.old).contents self.old self.new) }
-        ensures leaves { LeavesWalk self.old self.new (I.device image.old) (I.device image.new)
-            (I.reads image.old) (I.reads image.new) blocks.old blocks.new result }
+        ensures leaves { LeavesWalk I.Image self.old self.new image.old image.new blocks.old
+            blocks.new result }
     {
         'steps: while self.run_cursor.next == self.run_cursor.count {
             if !self.keeping.is_replay_open() {
@@ -120,14 +118,12 @@ impl Chunks {
         ensures chunk { ForContents (I.device image.old).contents (λ b. MatchResult result
             (GivesChunk b (all_chunks b) self.old self.new chunk.new)
             (λ _. CountsNoMore b self.old self.new)) }
-        ensures place { IfOk result (λ o. IfSome o (λ _. IsGivenChunk self.old.walk.geometry.layout
-            (I.device image.old).contents self.new.run_cursor chunk.new)) }
         ensures reads { HoldsReading blocks.old window.old self.old
             → ForContents (I.device image.old).contents (λ b. TakesReads (I.reads image.old)
             (I.reads image.new) (to_read b self.old) (to_read b self.new)
             (HoldsReading blocks.new window.new self.new) result) }
-        ensures leaves { LeavesChunks self.old self.new (I.device image.old) (I.device image.new)
-            blocks.new window.new result }
+        ensures leaves { LeavesChunks I.Image self.old self.new image.old image.new blocks.new
+            window.new chunk.new result }
     {
         if !self.advance(image, blocks)? {
             return Ok(None);
@@ -142,8 +138,7 @@ impl Chunks {
     /// eleventh dup offer cut it, else 0.
     #[inline(always)]
     pub fn start(geometry: &Geometry, inode: &Inode, cut: u32) -> Chunks
-        ensures begins { BeginsAt geometry.now.layout inode.now cut result }
-        ensures reads { BeginsReads geometry.now result }
+        ensures { BeginsReading geometry.now inode.now cut result }
     {
         Chunks::of_class(geometry, inode, class_of(geometry, inode), cut)
     }
@@ -151,9 +146,7 @@ impl Chunks {
     /// A reading as `start` begins it, if this is the inode's class.
     #[inline(always)]
     pub fn of_class(geometry: &Geometry, inode: &Inode, class: Class, cut: u32) -> Chunks
-        ensures begins { class ≡ inodes.class_of geometry.now.layout inode.now
-            → BeginsAt geometry.now.layout inode.now cut result }
-        ensures reads { BeginsReads geometry.now result }
+        ensures { BeginsByClass geometry.now inode.now class cut result }
     {
         let bytes_to_read = bytes_read(inode.size);
         Chunks {
@@ -172,9 +165,7 @@ impl Chunks {
     /// this is its class.
     #[inline(always)]
     pub fn restart(&mut self, inode: &Inode, class: Class, cut: u32)
-        ensures begins { class ≡ inodes.class_of self.old.walk.geometry.layout inode.now
-            → BeginsAt self.old.walk.geometry.layout inode.now cut self.new }
-        ensures reads { BeginsReads self.old.walk.geometry self.new }
+        ensures { BeginsByClass self.old.walk.geometry inode.now class cut self.new }
     {
         let bytes_to_read = bytes_read(inode.size);
         self.run_cursor = RunCursor::empty();
@@ -194,10 +185,9 @@ impl Chunks {
     #[inline(always)]
     pub fn restart_at(&mut self, address: u32) -> bool
         ensures begins { MatchBool result
-            (BeginsAtChunk self.old.walk.geometry.layout address self.new) (self.new ≡ self.old) }
+            (BeginsAtChunk self.old.walk.geometry address self.new) (self.new ≡ self.old) }
         ensures value { result ≡ (not (address == 0)
             && is_run_in_range self.old.walk.geometry.layout address 1) }
-        ensures geometry { self.new.walk.geometry ≡ self.old.walk.geometry }
     {
         if address == 0 || !self.walk.geometry.in_range(address, 1) {
             return false;
@@ -228,21 +218,12 @@ impl Chunks {
             window.old }
         ensures chunk { IfOk result (λ offset. ForContents (I.device image.old).contents
             (λ b. GivesChunk b (rest b) self.old self.new chunk.new offset)) }
-        ensures place { IfOk result (λ o. IfSome o (λ _. IsGivenChunk self.old.walk.geometry.layout
-            (I.device image.old).contents self.new.run_cursor chunk.new)) }
-        ensures runs { CountsRuns (I.device image.old).contents self.old self.new result }
-        ensures budget { MatchResult result
-            (λ o. MatchOption o (self.new.budget ≡ self.old.budget)
-            (λ _. self.new.budget + 1 ≡ self.old.budget))
-            (λ _. self.new.budget ≡ 0) }
-        ensures over { self.old.budget ≡ 0
-            → (result ≡ Ok None) × (I.reads image.new ≤ I.reads image.old) }
         ensures reads { HoldsReading blocks.old window.old self.old
             → ForContents (I.device image.old).contents (λ b. TakesReads (I.reads image.old)
             (I.reads image.new) (to_read b self.old) (to_read b self.new)
             (HoldsReading blocks.new window.new self.new) result) }
-        ensures leaves { LeavesReading self.old self.new (I.device image.old)
-            (I.device image.new) blocks.new window.new result }
+        ensures leaves { LeavesNext I.Image self.old self.new image.old image.new blocks.new
+            window.new chunk.new result }
     {
         if self.budget == 0 {
             return Ok(None);

@@ -1,12 +1,11 @@
 //! The entries of a directory.
 
-ghost use Rattle.std.specs.Prelude.{◌≡◌, ◌+◌, ◌-◌, ◌*◌, ◌/◌, ◌<◌, ◌≤◌, ◌^◌, IfOk, IfSome, MatchOption};
+ghost use Rattle.std.specs.Prelude.{◌≡◌, ◌+◌, ◌-◌, ◌*◌, ◌/◌, ◌≤◌, ◌^◌, IfOk};
 ghost use Rattle.ffs_image.specs.Device.{ForContents};
 ghost use Rattle.ffs_names.specs.{OneChunk.one_chunk_at as one_chunk, RightShapes.is_right_size, Windows.CanWalkDir};
 ghost use Rattle.ffs_names.specs.Windows.{CanReadChunks};
 ghost use Rattle.ffs_survey.specs.Costs.{TakesReads};
 ghost use Rattle.ffs_walk.specs.declared.window.Window.{Window};
-ghost use Rattle.ffs_volume.specs.Blocks.Inodes as inodes;
 
 use crate::chunks::Chunks;
 use crate::gap::gap_of;
@@ -55,15 +54,14 @@ fn has_right_size(inode: &Inode) -> bool
 }
 
 impl Entries {
-    ghost use Rattle.ffs_names.specs.{Costs.{entries_to_read, HoldsEntries}, Leaves.LeavesBlocks, Readings.LeavesReading};
-    ghost use Rattle.ffs_names.specs.Shapes.{has_right_shape, BeginsDirectory, GivesEntry, HasEnded, HasStopped, IsChunkOver, IsSameChunk, TakesEntry};
-    ghost use Rattle.ffs_names.specs.Entering.{left, last_name, GivesFromChunk};
+    ghost use Rattle.ffs_names.specs.{Costs.{entries_to_read, HoldsEntries}, Leaves.{LeavesBlocks, LeavesEntries}};
+    ghost use Rattle.ffs_names.specs.Shapes.{has_right_shape, BeginsIn, GivesEntry, HasEnded, HasStopped, RestartsIn, TakesFromChunk};
+    ghost use Rattle.ffs_names.specs.Entering.{last_name};
 
     /// A reading of the directory with this inode. `cut` is how many offers it keeps where its
     /// eleventh dup offer cut it, else 0.
     pub fn start(geometry: &Geometry, inode: &Inode, cut: u32) -> Entries
-        ensures begins { BeginsDirectory geometry.now.layout inode.now cut result }
-        ensures geometry { result.chunks.walk.geometry ≡ geometry.now }
+        ensures { BeginsIn geometry.now inode.now cut result }
     {
         let chunks = Chunks::start(geometry, inode, cut);
         Entries {
@@ -101,9 +99,7 @@ impl Entries {
     /// is its class.
     #[inline(always)]
     pub fn restart(&mut self, inode: &Inode, class: Class, cut: u32)
-        ensures begins { class ≡ inodes.class_of self.old.chunks.walk.geometry.layout inode.now
-            → BeginsDirectory self.old.chunks.walk.geometry.layout inode.now cut self.new }
-        ensures geometry { self.new.chunks.walk.geometry ≡ self.old.chunks.walk.geometry }
+        ensures { RestartsIn self.old.chunks.walk.geometry inode.now class cut self.new }
     {
         self.place = DIRBLKSIZ;
         self.index = 0;
@@ -116,9 +112,7 @@ impl Entries {
     /// one chunk, at this address, and isn't cut.
     #[inline(always)]
     pub fn restart_at(&mut self, address: u32)
-        ensures begins { BeginsDirectory self.old.chunks.walk.geometry.layout
-            (one_chunk address) 0 self.new }
-        ensures geometry { self.new.chunks.walk.geometry ≡ self.old.chunks.walk.geometry }
+        ensures { BeginsIn self.old.chunks.walk.geometry (one_chunk address) 0 self.new }
     {
         self.place = DIRBLKSIZ;
         if !self.chunks.restart_at(address) {
@@ -141,9 +135,7 @@ impl Entries {
     /// Takes the entry at `place`, if one is there.
     #[inline(always)]
     pub(crate) fn take(&mut self) -> Option<EntryHead>
-        ensures taken { MatchOption result (IsChunkOver self.old self.new)
-            (TakesEntry self.old self.new) }
-        ensures same { IsSameChunk self.old self.new }
+        ensures { TakesFromChunk self.old self.new result }
     {
         let Some(entry) = entry_at(self.order, &self.chunk, self.place) else {
             return None;
@@ -177,15 +169,12 @@ impl Entries {
             blocks.old window.old }
         ensures entry { IfOk result (λ head. ForContents (I.device image.old).contents
             (λ b. GivesEntry b self.old self.new head)) }
-        ensures place { IfOk result (λ o. IfSome o (λ _.
-            GivesFromChunk (I.device image.old).contents self.old self.new)) }
-        ensures left { IfOk result (λ head. IfSome head (λ _. left self.new < left self.old)) }
         ensures reads { HoldsEntries blocks.old window.old self.old
             → ForContents (I.device image.old).contents (λ b. TakesReads (I.reads image.old)
             (I.reads image.new) (entries_to_read b self.old) (entries_to_read b self.new)
             (HoldsEntries blocks.new window.new self.new) result) }
-        ensures leaves { LeavesReading self.old.chunks self.new.chunks (I.device image.old)
-            (I.device image.new) blocks.new window.new result }
+        ensures leaves { LeavesEntries I.Image self.old self.new image.old image.new blocks.new
+            window.new result }
     {
         'chunks: loop {
             match self.take() {

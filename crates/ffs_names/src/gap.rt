@@ -1,8 +1,7 @@
 //! Whether a hole of a directory is kept.
-ghost use Rattle.std.specs.Prelude.{◌≡◌, ◌||◌, IfOk, IsTrue};
-ghost use Rattle.ffs_image.specs.Device.{ForContents};
+ghost use Rattle.std.specs.Prelude.{IsTrue};
 ghost use Rattle.ffs_walk.specs.Rests.{IsOver};
-ghost use Rattle.ffs_names.specs.{Windows.CanWalkDir, Readings.gap_left, Leaves.LeavesWalk};
+ghost use Rattle.ffs_names.specs.{Windows.CanWalkDir, Leaves.{EndsWalk, LooksForGap}};
 
 use crate::chunks::Chunks;
 use ffs_image::{Image, ImageFault};
@@ -31,8 +30,7 @@ fn is_walk_over(chunks: &Chunks) -> bool
 #[inline(always)]
 pub(crate) fn end_walk(walk: &mut Walk, known: bool)
     requires { IsTrue known → IsOver walk.old }
-    ensures over { IsOver walk.new }
-    ensures geometry { walk.new.geometry ≡ walk.old.geometry }
+    ensures { EndsWalk walk.old walk.new }
 {
     if !known && !is_over(walk) {
         *walk = Walk::ended(&walk.geometry);
@@ -47,10 +45,8 @@ fn find_gap<I: Image>(
     chunks: &mut Chunks,
 ) -> Result<bool, ImageFault>
     requires { CanWalkDir chunks.old.walk.geometry.layout (I.device image.old) blocks.old }
-    ensures gap { IfOk result (λ g. ForContents (I.device image.old).contents (λ b.
-        g ≡ (chunks.old.gap || gap_left b chunks.old))) }
-    ensures leaves { LeavesWalk chunks.old chunks.new (I.device image.old) (I.device image.new)
-        (I.reads image.old) (I.reads image.new) blocks.old blocks.new result }
+    ensures { LooksForGap I.Image chunks.old chunks.new image.old image.new blocks.old blocks.new
+        result }
 {
     'runs: while chunks.advance(image, blocks)? {
         // Its chunks are passed over.
@@ -71,10 +67,8 @@ pub fn gap_of<I: Image>(
     chunks: &mut Chunks,
 ) -> Result<bool, ImageFault>
     requires { CanWalkDir chunks.old.walk.geometry.layout (I.device image.old) blocks.old }
-    ensures gap { IfOk result (λ g. ForContents (I.device image.old).contents (λ b.
-        g ≡ (chunks.old.gap || gap_left b chunks.old))) }
-    ensures leaves { LeavesWalk chunks.old chunks.new (I.device image.old) (I.device image.new)
-        (I.reads image.old) (I.reads image.new) blocks.old blocks.new result }
+    ensures { LooksForGap I.Image chunks.old chunks.new image.old image.new blocks.old blocks.new
+        result }
 {
     if is_walk_over(chunks) {
         return Ok(chunks.gap);

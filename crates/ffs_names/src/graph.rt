@@ -1,9 +1,9 @@
 //! The survey of a volume's directories.
 
 ghost use Rattle.std.specs.Prelude.{◌+◌, ◌≤◌, OnOk};
-ghost use Rattle.ffs_image.specs.{Device.ForContents, Reads.ReadAfter};
-ghost use Rattle.ffs_workspace.specs.{Ready.IsReady, Holds.{HoldsClaims, HoldsReferences, HoldsStarts, HoldsSurvey}};
-ghost use Rattle.ffs_names.specs.{Surveys.{FlagsCalm, IsUntouched, LeavesClaims}, Costs.{directories_cost, SweepsOnce}};
+ghost use Rattle.ffs_image.specs.Device.{ForContents};
+ghost use Rattle.ffs_workspace.specs.{Ready.IsReady, Holds.HoldsClaims};
+ghost use Rattle.ffs_names.specs.{Surveys.{IsSurveyed, LeavesClaims}, Costs.{directories_cost, SweepsOnce}};
 
 use crate::entries::Entries;
 use crate::reader::DirectoryReader;
@@ -24,20 +24,12 @@ fn survey_all<I: Image>(
     requires { IsReady geometry.now.layout (I.device image.old) workspace.old }
     ensures survey { OnOk result (ForContents (I.device image.old).contents
         (λ b. HoldsClaims geometry.now.layout b workspace.old
-        → HoldsSurvey geometry.now.layout b workspace.new)) }
-    ensures references { OnOk result (ForContents (I.device image.old).contents
-        (λ b. HoldsClaims geometry.now.layout b workspace.old
-        → HoldsStarts geometry.now.layout b workspace.old
-        → HoldsReferences geometry.now.layout b workspace.new)) }
-    ensures calm { OnOk result (ForContents (I.device image.old).contents
-        (λ b. HoldsClaims geometry.now.layout b workspace.old
-        → FlagsCalm geometry.now.layout b workspace.new)) }
+        → IsSurveyed geometry.now.layout b workspace.old workspace.new)) }
     ensures reads { ForContents (I.device image.old).contents
         (λ b. HoldsClaims geometry.now.layout b workspace.old
         → I.reads image.new ≤ I.reads image.old + directories_cost geometry.now.layout b) }
-    ensures same { IsUntouched workspace.old workspace.new }
-    ensures ready { IsReady geometry.now.layout (I.device image.new) workspace.new }
-    ensures read { ReadAfter (I.device image.old) (I.device image.new) result }
+    ensures leaves { LeavesClaims geometry.now.layout (I.device image.old) (I.device image.new)
+        workspace.old workspace.new result }
 {
     let mut reader = DirectoryReader {
         geometry: *geometry,
@@ -86,14 +78,7 @@ pub fn survey<I: Image>(
     requires { IsReady geometry.now.layout (I.device image.old) workspace.old }
     ensures survey { OnOk result (ForContents (I.device image.old).contents
         (λ b. HoldsClaims geometry.now.layout b workspace.old
-        → HoldsSurvey geometry.now.layout b workspace.new)) }
-    ensures references { OnOk result (ForContents (I.device image.old).contents
-        (λ b. HoldsClaims geometry.now.layout b workspace.old
-        → HoldsStarts geometry.now.layout b workspace.old
-        → HoldsReferences geometry.now.layout b workspace.new)) }
-    ensures calm { OnOk result (ForContents (I.device image.old).contents
-        (λ b. HoldsClaims geometry.now.layout b workspace.old
-        → FlagsCalm geometry.now.layout b workspace.new)) }
+        → IsSurveyed geometry.now.layout b workspace.old workspace.new)) }
     ensures reads { SweepsOnce geometry.now.layout (I.device image.old).contents
         (λ b. HoldsClaims geometry.now.layout b workspace.old) (I.reads image.old)
         (I.reads image.new) }

@@ -1,18 +1,18 @@
 //! Where the parent entries of directories are in the image.
 
-ghost use Rattle.std.specs.Prelude.{◌≡◌, ◌+◌, ◌<◌, ◌≤◌, ◌^◌, ◌∷◌, [], ℕ, true, false, IfOk, OnOk, MatchResult};
-ghost use Rattle.std.specs.{Prelude.{length, slice_index, vec_len}, List.flat_map};
+ghost use Rattle.std.specs.Prelude.{◌≡◌, ◌+◌, ◌<◌, ◌≤◌, ◌^◌, ◌∷◌, [], true, false, IfOk, OnOk, MatchResult};
+ghost use Rattle.std.specs.{Prelude.{length, vec_len}, List.flat_map};
 ghost use Rattle.ffs_image.specs.Device.{ForContents};
 ghost use Rattle.ffs_layout.specs.Entry.{entry_value};
 ghost use Rattle.ffs_volume.specs.Directories.{Entries.entries_of, Roles.{is_dir, role_of as role_in, roled_chunk}};
-ghost use Rattle.ffs_volume.specs.Directories.{Roles.{roled_entries, roled_from}, Volumes.volume_of};
-ghost use Rattle.ffs_workspace.specs.{Holds.{HoldsClaims, HoldsSurvey}, Lengths.inodes_of, Notes.note_at};
-ghost use Rattle.ffs_workspace.specs.{Places.is_due, Ready.IsReady, Tables.{CanReadInodes, TableAfter}};
-ghost use Rattle.ffs_names.specs.Noting.{is_child, BeginsNotes, CanNote, HoldsPlaces, LeavesPlaces, NotesChildren};
-ghost use Rattle.ffs_names.specs.Noting.{NotesChunk, NotesEntries};
-ghost use Rattle.ffs_names.specs.{Readings.rest, Costs.{directories_cost, directory_cost, to_read, BeginsChunks}};
-ghost use Rattle.ffs_names.specs.{Costs.{BeginsReads, HoldsReading, SweepsOnce}, Leaves.LeavesWindows};
-ghost use Rattle.ffs_names.specs.Windows.{CanReadChunks};
+ghost use Rattle.ffs_volume.specs.Directories.{Roles.roled_from, Volumes.volume_of};
+ghost use Rattle.ffs_workspace.specs.{Holds.{HoldsClaims, HoldsSurvey}, Notes.note_at};
+ghost use Rattle.ffs_workspace.specs.{Ready.IsReady, Tables.{CanReadInode, TableAfter}};
+ghost use Rattle.ffs_names.specs.Noting.{is_child, BeginsNotes, CanNote, CanNoteChunks, CanNoteDirectory};
+ghost use Rattle.ffs_names.specs.Noting.{HoldsPlaces, LeavesChildren, LeavesNoted, LeavesPlaces, NotesDirectory};
+ghost use Rattle.ffs_names.specs.Noting.{NotesEntries, NotesInWords};
+ghost use Rattle.ffs_names.specs.Costs.{directories_cost, directory_cost, BeginsChunks, BeginsReads, SweepsOnce};
+ghost use Rattle.ffs_names.specs.{Readings.rest};
 
 use crate::chunks::Chunks;
 use crate::reader::one_chunk_at;
@@ -47,10 +47,9 @@ fn note_entry(
     words: &mut FilledList<u32>,
 )
     requires { CanNote parents.now words.old dir place }
-    ensures noted { NotesChunk parents.now.items words.old.items words.new.items dir place
+    ensures { NotesInWords parents.now words.old words.new dir place
         (record { role = role_in false 0 (entry_value entry.now); entry = entry_value entry.now }
         ∷ []) }
-    ensures long { vec_len words.new ≡ vec_len words.old }
 {
     // Whether an entry is plain depends neither on its index nor on its chunk's place in the file:
     // any will do here.
@@ -75,9 +74,8 @@ fn note_chunk(
     words: &mut FilledList<u32>,
 )
     requires { CanNote parents.now words.old dir place }
-    ensures noted { NotesChunk parents.now.items words.old.items words.new.items dir place
+    ensures { NotesInWords parents.now words.old words.new dir place
         (roled_from false 0 (entries_of order chunk.now)) }
-    ensures long { vec_len words.new ≡ vec_len words.old }
 {
     let mut at = 0usize;
     'entries: while let Some(entry) = entry_at(order, chunk, at) {
@@ -100,20 +98,13 @@ fn note_chunks<I: Image>(
     parents: &FilledList<u32>,
     words: &mut FilledList<u32>,
 ) -> Result<(), ImageFault>
-    requires ready { CanReadChunks chunks.old.walk.geometry.layout (I.device image.old)
-        windows.old.blocks windows.old.chunk }
-    requires dir { 0 < dir }
-    requires lengths { vec_len parents.now ≡ vec_len words.old }
+    requires { CanNoteChunks chunks.old.walk.geometry.layout (I.device image.old) windows.old
+        parents.now words.old dir }
     ensures noted { OnOk result (ForContents (I.device image.old).contents
         (λ b. NotesEntries chunks.old.walk.geometry.layout b parents.now.items words.old.items
         words.new.items dir (flat_map roled_chunk (rest b chunks.old)))) }
-    ensures children { NotesChildren parents.now.items words.old.items words.new.items dir }
-    ensures long { vec_len words.new ≡ vec_len words.old }
-    ensures reads { HoldsReading windows.old.blocks windows.old.chunk chunks.old
-        → ForContents (I.device image.old).contents
-        (λ b. I.reads image.new ≤ I.reads image.old + to_read b chunks.old) }
-    ensures leaves { LeavesWindows chunks.old chunks.new (I.device image.old)
-        (I.device image.new) windows.old windows.new result }
+    ensures leaves { LeavesNoted I.Image chunks.old chunks.new image.old image.new windows.old
+        windows.new parents.now words.old words.new dir result }
 {
     let order = chunks.walk.geometry.layout.order;
     let mut chunk = [0u8; DIRBLKSIZ];
@@ -144,8 +135,7 @@ fn chunks_of<I: Image>(
     dir: u32,
     note: u32,
 ) -> Result<Chunks, ImageFault>
-    requires dir { dir < inodes_of geometry.now.layout }
-    requires ready { CanReadInodes geometry.now.layout (I.device image.old) table.old }
+    requires { CanReadInode geometry.now.layout (I.device image.old) dir table.old }
     ensures chunks { ForContents (I.device image.old).contents
         (λ b. note ≡ note_at geometry.now.layout b dir
         → is_dir (volume_of geometry.now.layout b) dir ≡ true → MatchResult result
@@ -175,21 +165,14 @@ fn note_directory<I: Image>(
     workspace: &mut Workspace,
     dir: u32,
 ) -> Result<(), ImageFault>
-    requires dir { (0 < dir) × (dir < inodes_of geometry.now.layout) }
-    requires ready { IsReady geometry.now.layout (I.device image.old) workspace.old }
-    ensures noted { OnOk result (ForContents (I.device image.old).contents
+    requires { CanNoteDirectory geometry.now.layout (I.device image.old) workspace.old dir }
+    ensures notes { ForContents (I.device image.old).contents
         (λ b. HoldsClaims geometry.now.layout b workspace.old
         → is_dir (volume_of geometry.now.layout b) dir ≡ true
-        → NotesEntries geometry.now.layout b workspace.old.parents.items workspace.old.queue.items
-        workspace.new.queue.items dir (roled_entries (volume_of geometry.now.layout b) dir))) }
-    ensures children { NotesChildren workspace.old.parents.items workspace.old.queue.items
-        workspace.new.queue.items dir }
-    ensures reads { ForContents (I.device image.old).contents
-        (λ b. HoldsClaims geometry.now.layout b workspace.old
-        → is_dir (volume_of geometry.now.layout b) dir ≡ true
-        → I.reads image.new ≤ I.reads image.old + directory_cost geometry.now.layout b dir) }
-    ensures leaves { LeavesPlaces geometry.now.layout (I.device image.old) (I.device image.new)
-        workspace.old workspace.new result }
+        → NotesDirectory geometry.now.layout b workspace.old workspace.new dir
+        (I.reads image.old) (I.reads image.new) result) }
+    ensures leaves { LeavesChildren geometry.now.layout (I.device image.old) (I.device image.new)
+        workspace.old workspace.new dir result }
 {
     let note = workspace.notes[dir as usize];
     let table = &mut workspace.windows.table;
@@ -209,8 +192,7 @@ fn note_directory<I: Image>(
 fn flag_parents(reached: &[bool], parents: &FilledList<u32>, words: &mut FilledList<u32>)
     requires lengths { (vec_len parents.now ≡ length reached.now)
         × (vec_len words.old ≡ length reached.now) × (length reached.now < 2 ^ 31) }
-    ensures begins { BeginsNotes reached.now parents.now.items words.new.items }
-    ensures long { vec_len words.new ≡ vec_len words.old }
+    ensures { BeginsNotes reached.now parents.now.items words.new }
 {
     words.fill(0);
     let count = reached.len() as u32;
@@ -241,8 +223,6 @@ fn note_all<I: Image>(
         (λ b. HoldsClaims geometry.now.layout b workspace.old
         → HoldsSurvey geometry.now.layout b workspace.old
         → I.reads image.new ≤ I.reads image.old + directories_cost geometry.now.layout b) }
-    ensures none_due { OnOk result ((x : ℕ)
-        → is_due (slice_index workspace.new.queue.items x) ≡ false) }
     ensures leaves { LeavesPlaces geometry.now.layout (I.device image.old) (I.device image.new)
         workspace.old workspace.new result }
 {
@@ -279,8 +259,6 @@ pub fn note_places<I: Image>(
     ensures reads { SweepsOnce geometry.now.layout (I.device image.old).contents
         (λ b. HoldsClaims geometry.now.layout b workspace.old
         × HoldsSurvey geometry.now.layout b workspace.old) (I.reads image.old) (I.reads image.new) }
-    ensures none_due { OnOk result ((x : ℕ)
-        → is_due (slice_index workspace.new.queue.items x) ≡ false) }
     ensures leaves { LeavesPlaces geometry.now.layout (I.device image.old) (I.device image.new)
         workspace.old workspace.new result }
 {

@@ -30,7 +30,7 @@ pub struct RunCursor {
 impl RunCursor {
     ghost use Rattle.ffs_names.specs.RunCursors.{BeginsRun, HasNoChunks};
     ghost use Rattle.ffs_names.specs.Leaves.{LeavesRun};
-    ghost use Rattle.ffs_names.specs.Fits.{IsBlockRun};
+    ghost use Rattle.ffs_names.specs.Fits.{CanBeginRun};
     ghost use Rattle.ffs_names.specs.Windows.{CanReadRun};
 
     /// No chunks.
@@ -55,8 +55,7 @@ impl RunCursor {
         len: u32,
         block: u64,
     ) -> RunCursor
-        requires run { IsBlockRun geometry.now.layout start len }
-        requires bytes_to_read { bytes_to_read ≤ 2 ^ 31 }
+        requires { CanBeginRun geometry.now.layout bytes_to_read start len }
         ensures { BeginsRun geometry.now.layout bytes_to_read start len block result }
     {
         if block >= 1 << 31 {

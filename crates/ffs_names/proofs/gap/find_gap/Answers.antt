@@ -22,35 +22,38 @@ runs-preserved g c =
     }
 
 -- no step is left
-pub returns-clause-gap : goal.returns-clause-gap
-returns-clause-gap g c = grind (arith, gap_ended)
-
-pub returns-clause-leaves : goal.returns-clause-leaves
-returns-clause-leaves g c =
+pub returns : goal.returns
+returns g c =
     let inv = c.runs.invariant in
     let went = c.in_ok-advance.ensures.leaves in
     record {
-      same = same_more went.same inv.kept;
-      ready = rw inv.kept.geometry at went.ready;
-      read = went.read ∙ inv.same;
-      counted = λ w h b t.
-          let old = inv.reads w h b t in
-          let took = went.counted w old.1 b (ap (λ d. d.contents) inv.same ∙ t) in
-          record { most = omega (arith, took.most, old.0); paid = omega (arith, took.paid, old.0); held = took.held };
+      gap = grind (arith, gap_ended);
+      leaves = record {
+        same = same_more went.same inv.kept;
+        ready = rw inv.kept.geometry at went.ready;
+        read = went.read ∙ inv.same;
+        counted = λ w h b t.
+            let old = inv.reads w h b t in
+            let took = went.counted w old.1 b (ap (λ d. d.contents) inv.same ∙ t) in
+            record { most = omega (arith, took.most, old.0); paid = omega (arith, took.paid, old.0); held = took.held };
+      };
     }
 
 -- a read failed
-pub returns-in_err-advance-clause-leaves : goal.returns-in_err-advance-clause-leaves
-returns-in_err-advance-clause-leaves g c =
+pub returns-in_err-advance : goal.returns-in_err-advance
+returns-in_err-advance g c =
     let inv = c.runs.invariant in
     let failed = c.in_err-advance.ensures.leaves in
     let p = err_from_is_err_and c.from_residual.result c.from_residual.ensures.1 in
     rw (p.1, p.2) (record {
-      same = same_more failed.same inv.kept;
-      ready = rw inv.kept.geometry at failed.ready;
-      read = rw inv.same at failed.read;
-      counted = λ w h b t.
-          let old = inv.reads w h b t in
-          let took = failed.counted w old.1 b (ap (λ d. d.contents) inv.same ∙ t) in
-          record { most = omega (arith, took.most, old.0); paid = tt; held = tt };
+      gap = tt;
+      leaves = record {
+        same = same_more failed.same inv.kept;
+        ready = rw inv.kept.geometry at failed.ready;
+        read = rw inv.same at failed.read;
+        counted = λ w h b t.
+            let old = inv.reads w h b t in
+            let took = failed.counted w old.1 b (ap (λ d. d.contents) inv.same ∙ t) in
+            record { most = omega (arith, took.most, old.0); paid = tt; held = tt };
+      };
     })

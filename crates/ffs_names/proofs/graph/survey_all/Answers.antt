@@ -28,62 +28,49 @@ kinds : (g : given.Over) (c : After-survey-surveyed g) (b : List ℕ) →
     slice_index c.deref-2.result.now x ≡ kind_at c.args.geometry.now.layout b x
 kinds g c b h x = ap (λ ks. slice_index ks x) c.deref-2.ensures.value ∙ h.kinds x
 
-pub returns-clause-read : goal.returns-clause-read
-returns-clause-read g c = grind arith
-
-pub returns-clause-ready : goal.returns-clause-ready
-returns-clause-ready g c =
+pub returns-clause-leaves : goal.returns-clause-leaves
+returns-clause-leaves g c =
     let v = c.args.geometry.now.layout in
     let image = c.image-1.given.1 (sym (ap (λ x. x.image_lent) c.survey-surveyed.ensures.leaves.same)) in
     let same = ap (λ x. x.layout) c.survey-surveyed.ensures.leaves.same in
     let r = c.survey-surveyed.ensures.leaves.is_ready.0 in
     let table = subst (λ l. IsTableOf l c.survey-surveyed.new.directories.windows.now.table) same r.table in
     record {
-      made = search rules;
-      volume = rw (image, ← same) r.volume;
-      windows = record {
-        table = rw image r.table_holds;
-        blocks = rw (image, ← same) r.blocks_hold;
-        chunk = rw image r.chunk_holds;
-        names = rw image r.names_hold;
+      same = search rules;
+      ready = record {
+        made = search rules;
+        volume = rw (image, ← same) r.volume;
+        windows = record {
+          table = rw image r.table_holds;
+          blocks = rw (image, ← same) r.blocks_hold;
+          chunk = rw image r.chunk_holds;
+          names = rw image r.names_hold;
+        };
       };
+      read = grind arith;
     }
 
 pub returns-clause-survey : goal.returns-clause-survey
-returns-clause-survey g c =
+returns-clause-survey g c = on_ok c.survey-surveyed.result _ _ (λ s b t h.
     let at = (goal.at.returns-clause-survey g c).After-survey-surveyed in
+    let v = c.args.geometry.now.layout in
     let w = c.args.workspace.now in
     let n = c.survey-surveyed.new in
-    let named = with_items_is w.named n.named (search rules) in
-    let reached = with_items_is w.reached n.reached (search rules) in
-    on_ok c.survey-surveyed.result _ _ (λ s b t h.
     let counts = n.numbers.references.now.items in
-    let survey = volume_survey (base g at) b c.deref-2.result.now {counts = counts} (search rules) (kinds g at b h)
-    (s b (known g at b t h)).survey in
-    holds_survey c.args.geometry.now.layout b _ _ counts n.named n.reached n.numbers.parents.now.items named reached
-    (search rules) (filled_noted _ _ _ _ c.fill.ensures.items) survey)
-    c.survey-surveyed.ensures.found
-
-pub returns-clause-references : goal.returns-clause-references
-returns-clause-references g c = on_ok c.survey-surveyed.result _ _ (λ s b t h starts.
-    let at = (goal.at.returns-clause-references g c).After-survey-surveyed in
-    let survey = volume_survey (base g at) b c.deref-2.result.now (search rules) (kinds g at b h)
-    (s b (known g at b t h)).survey in
-    holds_references c.args.geometry.now.layout b c.args.workspace.now _ (search rules) (search rules) starts survey)
-    c.survey-surveyed.ensures.found
-
-pub returns-clause-calm : goal.returns-clause-calm
-returns-clause-calm g c = on_ok c.survey-surveyed.result _ _ (λ s b t h.
-    let at = (goal.at.returns-clause-calm g c).After-survey-surveyed in
-    let w = c.args.workspace.now in
-    let n = c.survey-surveyed.new in
     let parents = n.numbers.parents.now.items in
-    let calm = volume_calm (base g at) b c.deref-2.result.now c.deref-3.result.now n.reached parents n.calm
-    (s b (known g at b t h)).calm in
-    holds_calm c.args.geometry.now.layout b _ c.deref-2.result.now c.deref-3.result.now n.reached parents n.calm
-    (sym c.deref-2.ensures.value) (sym c.deref-3.ensures.value)
-    (with_items_is w.reached n.reached (search rules)) (search rules)
-    (with_items_is w.flags n.calm (search rules)) calm)
+    let reached = with_items_is w.reached n.reached (search rules) in
+    let found = s b (known g at b t h) in
+    let survey = volume_survey (base g at) b c.deref-2.result.now {counts = counts} (search rules) (kinds g at b h)
+    found.survey in
+    record {
+      survey = holds_survey v b _ _ counts n.named n.reached parents (with_items_is w.named n.named (search rules)) reached
+          (search rules) (filled_noted _ _ _ _ c.fill.ensures.items) survey;
+      references = λ starts. holds_references v b w _ (search rules) (search rules) starts survey;
+      calm = holds_calm v b _ c.deref-2.result.now c.deref-3.result.now n.reached parents n.calm
+          (sym c.deref-2.ensures.value) (sym c.deref-3.ensures.value) reached (search rules)
+          (with_items_is w.flags n.calm (search rules))
+          (volume_calm (base g at) b c.deref-2.result.now c.deref-3.result.now n.reached parents n.calm found.calm);
+    })
     c.survey-surveyed.ensures.found
 
 pub survey-surveyed-requires : goal.survey-surveyed-requires

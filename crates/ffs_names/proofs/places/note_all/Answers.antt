@@ -5,16 +5,16 @@ use Rattle.ffs_volume.proofs.Sizes.{some_inodes}
 use Rattle.ffs_workspace.specs.{Lengths.inodes_of, Places.{is_due, place_in}, declared.workspace.Workspace.Workspace}
 use Rattle.ffs_survey.proofs.Costs.{cost_take, costs_rise}
 use Rattle.ffs_names.{specs.{Costs.directory_cost, Noting.{BeginsNotes, KeepsToRead}}, proofs.PlacesNoted.claims_noted}
-use Rattle.ffs_names.proofs.PlacesNoted.{coming_end, coming_first, coming_noted, only_fewer, parent_is_dir, passed_next}
-use Rattle.ffs_names.proofs.PlacesNoted.{places_after, places_same, set_other, set_same, survey_noted}
+use Rattle.ffs_names.proofs.PlacesNoted.{coming_end, coming_first, coming_noted, none_due, only_fewer, parent_is_dir}
+use Rattle.ffs_names.proofs.PlacesNoted.{passed_next, places_after, places_same, set_other, set_same, survey_noted}
 use Rattle.ffs_names.proofs.places.note_all.Goals.{then-is_due+in_ok-note_directory, else-is_due}
 use Rattle.ffs_names.proofs.places.note_all.Goals as goal
 
 pub loop-dir-init : goal.loop-dir-init
 loop-dir-init g c =
     let w = c.args.workspace.now in
-    let begins : BeginsNotes w.reached.items w.parents.items c.flag_parents.new.words.items =
-    rw c.deref.ensures.value at c.flag_parents.ensures.begins in
+    let begins : BeginsNotes w.reached.items w.parents.items c.flag_parents.new.words =
+    rw c.deref.ensures.value at c.flag_parents.ensures in
     let long : length w.reached.items ≡ inodes_of c.args.geometry.now.layout =
     sym (ap length c.deref.ensures.value) ∙ (c.deref.ensures.len ∙ c.requires.made.reached) in
     record {
@@ -50,7 +50,7 @@ loop-dir-preserved g c =
           let same : (x : ℕ) → place_in (slice_index mid.queue.items x) ≡ place_in (slice_index old x) =
           λ x. rw set (set_same place_in old dir w.passed.result inside (w.passed.ensures.place ∙ ap place_in word) x) in
           let set_due : KeepsToRead (slice_set old dir w.passed.result) new.queue.items =
-          rw set at noted.children.to_read in
+          rw set at noted.leaves.children.to_read in
           let due : is_due (slice_index old dir) ≡ true =
           ap is_due (sym word) ∙ (sym c.is_due.ensures ∙ w.if-is_due.true) in
           let other : (x : ℕ) → x ≢ dir → is_due (slice_index mid.queue.items x) ≡ is_due (slice_index old x) =
@@ -69,18 +69,19 @@ loop-dir-preserved g c =
                 w.passed.ensures.due set_due inv.only;
             reads = λ b t claims survey.
                 let is = parent_is_dir survey (inv.only dir due) in
-                let took = noted.reads b (ap (λ d. d.contents) inv.same ∙ t) (claims_noted lists claims) is in
+                let took = noted.notes b (ap (λ d. d.contents) inv.same ∙ t) (claims_noted lists claims) is in
                 let more = cost_take (λ s. true) (directory_cost v b) dir refl in
-                omega (arith, took, more, inv.reads b t claims survey);
+                omega (arith, took.counted, more, inv.reads b t claims survey);
             places = λ b t claims survey.
                 let right = places_same v b old mid.queue.items same (inv.places b t claims survey) in
                 places_after (survey_noted lists survey right)
-                (noted.noted b (ap (λ d. d.contents) inv.same ∙ t) (claims_noted lists claims)) noted.children right;
+                (λ is. (noted.notes b (ap (λ d. d.contents) inv.same ∙ t) (claims_noted lists claims) is).noted)
+                noted.leaves.children right;
             noted = λ b t claims survey numbered.
                 let right = places_same v b old mid.queue.items same (inv.places b t claims survey) in
                 coming_noted old (survey_noted lists survey right) numbered same other
-                (noted.noted b (ap (λ d. d.contents) inv.same ∙ t) (claims_noted lists claims)) noted.children
-                (inv.noted b t claims survey numbered);
+                (λ is. (noted.notes b (ap (λ d. d.contents) inv.same ∙ t) (claims_noted lists claims) is).noted)
+                noted.leaves.children (inv.noted b t claims survey numbered);
           })
       | else-is_due w ↦
           rw (w.image-is, w.workspace-is) (record {
@@ -110,7 +111,14 @@ returns-clause-places g c = λ b t claims survey.
 
 -- what is left
 pub returns-clause-leaves : goal.returns-clause-leaves
-returns-clause-leaves g c = grind arith
+returns-clause-leaves g c =
+    let inv = c.loop-dir.invariant in
+    record {
+      lists = inv.lists;
+      ready = inv.ready;
+      read = inv.same;
+      none_due = none_due c.loop-dir.workspace.queue.items c.loop-dir.dir (grind (arith, common_steps)) inv.passed;
+    }
 
 pub returns-in_err-note_directory-clause-leaves : goal.returns-in_err-note_directory-clause-leaves
 returns-in_err-note_directory-clause-leaves g c = grind (arith, err_from_is_err_and)
@@ -134,8 +142,8 @@ returns-in_err-note_directory-clause-reads g c = λ b t claims survey.
     let mid : Workspace = record c.loop-dir.workspace { queue = c.set.new.self } in
     let lists : mid ≡ record first { windows = mid.windows; queue = mid.queue } =
     ap (λ (x : Workspace). record x { queue = c.set.new.self }) inv.lists in
-    let took = c.in_err-note_directory.ensures.reads b (ap (λ d. d.contents) inv.same ∙ t) (claims_noted lists claims)
-    (parent_is_dir survey (inv.only dir due)) in
+    let took = (c.in_err-note_directory.ensures.notes b (ap (λ d. d.contents) inv.same ∙ t) (claims_noted lists claims)
+    (parent_is_dir survey (inv.only dir due))).counted in
     let more = cost_take (λ s. true) (directory_cost v b) dir refl in
     let all = costs_rise (λ s. true) (directory_cost v b) (dir + 1) (v.ncg * v.ipg) (omega arith) in
     omega (arith, took, more, all, inv.reads b t claims survey)

@@ -16,9 +16,12 @@ entries-preserved c =
           c.note_entry.ensures.noted h);
     })
 
-pub returns-clause-noted : goal.returns-clause-noted
-returns-clause-noted c =
+pub returns : goal.returns
+returns c =
     let order = c.args.order in
     let chunk = c.args.chunk.now in
     let end = none_there order chunk c.entries.at c.entry_at.result c.in_default.is c.entry_at.ensures.value in
-    c.entries.invariant.noted c.entries.words.items (notes_end (entries_end order chunk c.entries.at end))
+    record {
+      noted = c.entries.invariant.noted c.entries.words.items (notes_end (entries_end order chunk c.entries.at end));
+      long = c.entries.invariant.long;
+    }

@@ -21,8 +21,8 @@ chunks-preserved g c =
       whole = let fits = c.next.new.self.cursor_fits in omega (arith, c.last_place.ensures, fits.aligned);
       number = c.place_of-place.ensures.value;
       some = c.if-place-eq0.false;
-      inside = rw (sym c.last_place.ensures, inv.geometry) at (rw c.in-Some.is at went.place).inside;
-      held = (rw c.in-Some.is at went.place).bytes b (now b t)
+      inside = rw (sym c.last_place.ensures, inv.geometry) at (rw c.in-Some.is at went.leaves.place).inside;
+      held = (rw c.in-Some.is at went.leaves.place).bytes b (now b t)
           ∙ ap (λ (n : ℕ). piece n 512 b) (sym c.last_place.ensures);
       next = ((rw c.in-Some.is at went.chunk) b (now b t)).chunks
           ∙ ap (λ q. chunk_of q.layout.order c.in-Some._offset c.next.new.chunk ∷ rest b c.next.new.self) inv.geometry;
@@ -49,7 +49,7 @@ returns-then-place-eq0-clause-noted g c = λ b t.
     let inv = c.chunks.invariant in
     let v = c.args.chunks.now.walk.geometry.layout in
     let inside : c.last_place.result + 512 ≤ v.size * v.fsize =
-    rw (sym c.last_place.ensures, inv.geometry) at (rw c.in-Some.is at c.in_ok-_offset.ensures.place).inside in
+    rw (sym c.last_place.ensures, inv.geometry) at (rw c.in-Some.is at c.in_ok-_offset.ensures.leaves.place).inside in
     record {
       places = inv.noted b t;
       all = λ numbered x child named before.
@@ -74,10 +74,3 @@ returns-clause-leaves g c = grind arith
 
 pub returns-then-place-eq0-clause-leaves : goal.returns-then-place-eq0-clause-leaves
 returns-then-place-eq0-clause-leaves g c = grind arith
-
--- the reads that were made
-pub returns-clause-reads : goal.returns-clause-reads
-returns-clause-reads g c = grind arith
-
-pub returns-then-place-eq0-clause-reads : goal.returns-then-place-eq0-clause-reads
-returns-then-place-eq0-clause-reads g c = grind arith

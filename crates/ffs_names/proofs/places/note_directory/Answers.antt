@@ -13,20 +13,16 @@ note_is : (g : given.Over) (c : After-chunks_of g) (b : List ℕ) →
     c.index-note.result.now ≡ note_at c.args.geometry.now.layout b c.args.dir
 note_is g c b notes = grind (arith, common_steps, get_or_default_zero)
 
-pub returns-clause-noted : goal.returns-clause-noted
-returns-clause-noted g c = on_ok c.note_chunks.result _ _ (λ s b t claims dir.
+pub returns-clause-notes : goal.returns-clause-notes
+returns-clause-notes g c = λ b t claims dir.
     let begun = c.in_ok-chunks.ensures in
-    let note = note_is g (goal.at.returns-clause-noted g c).After-chunks_of b claims.notes in
-    rw ((begun.chunks b t note dir).chunks, ap (λ x. x.layout) begun.begins.geometry)
-    at (s b (ap (λ d. d.contents) begun.leaves.read ∙ t)))
-    c.note_chunks.ensures.noted
+    let now = ap (λ d. d.contents) begun.leaves.read ∙ t in
+    let begins = begun.chunks b t (note_is g (goal.at.returns-clause-notes g c).After-chunks_of b claims.notes) dir in
+    record {
+      noted = on_ok c.note_chunks.result _ _
+          (λ s. rw (begins.chunks, ap (λ x. x.layout) begun.begins.geometry) at (s b now)) c.note_chunks.ensures.noted;
+      counted = omega (arith, begins.within, c.note_chunks.ensures.leaves.counted (begun.begins.held _ _) b now);
+    }
 
 pub returns-clause-leaves : goal.returns-clause-leaves
 returns-clause-leaves g c = grind (arith, ready_noted, contents_kept)
-
-pub returns-clause-reads : goal.returns-clause-reads
-returns-clause-reads g c = λ b t claims dir.
-    let begun = c.in_ok-chunks.ensures in
-    let note = note_is g (goal.at.returns-clause-reads g c).After-chunks_of b claims.notes in
-    let went = c.note_chunks.ensures.reads (begun.begins.held _ _) b (ap (λ d. d.contents) begun.leaves.read ∙ t) in
-    omega (arith, (begun.chunks b t note dir).within, went)

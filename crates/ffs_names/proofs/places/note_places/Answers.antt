@@ -30,4 +30,5 @@ returns-then-is_spent-clause-leaves g c =
         };
       };
       read = back.refused c.if-is_spent.true;
+      none_due = grind (arith, common_steps);
     })

@@ -12,12 +12,10 @@ invariant_of-result c =
       no_walk = λ on. absurd (both_ways _ refl on);
     }
 
-pub returns-clause-begins : goal.returns-clause-begins
-returns-clause-begins c = λ known.
-    begins_at c.args.geometry.now.sound (ap (λ x. x.layout) c.of_class.ensures.geometry)
-    (c.of_class.ensures.walk known).steps c.start.ensures.cut c.start.ensures.fresh
-    (c.empty.ensures.none c.of_class.result.geometry.layout)
-    c.bytes_read-bytes_to_read.ensures.value refl refl refl
-
-pub returns-clause-reads : goal.returns-clause-reads
-returns-clause-reads c = begins_reads c.of_class.ensures.geometry c.of_class.ensures.top c.empty.ensures.next
+pub returns : goal.returns
+returns c = record {
+  begins = λ known. begins_at c.args.geometry.now.sound (ap (λ x. x.layout) c.of_class.ensures.geometry)
+      (c.of_class.ensures.walk known).steps c.start.ensures.cut c.start.ensures.fresh
+      (c.empty.ensures.none c.of_class.result.geometry.layout) c.bytes_read-bytes_to_read.ensures.value refl refl refl;
+  reads = begins_reads c.of_class.ensures.geometry c.of_class.ensures.top c.empty.ensures.next;
+}

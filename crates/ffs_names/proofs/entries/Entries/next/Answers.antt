@@ -50,7 +50,7 @@ chunks-preserved g c =
     let next = c.in_ok-next.ensures in
     let over = c.in-None.ensures.taken in
     let none = over.left in
-    let budget = rw c.in-Some-2.is at next.budget in
+    let budget = rw c.in-Some-2.is at next.leaves.budget in
     let geometry = ap (λ x. x.walk.geometry) same.chunks ∙ i.geometry in
     record {
       entries = λ b t.
@@ -63,12 +63,12 @@ chunks-preserved g c =
           shape_came s.right_so_far s.order s.chunks.walk.geometry.layout.order s.chunk s.place (rest b s.chunks)
           c.in-Some-2.offset c.next.new.chunk (rest b c.next.new.self) _ _ none (sym s.same_order) o.chunks o.gap
           ∙ (shape_same b _ _ _ _ _ _ same.right_so_far same.fills same.chunks ∙ i.shape b t);
-      place = λ b t held low. (rw c.in-Some-2.is at next.place).bytes b (ap (λ d. d.contents) i.device ∙ t);
-      inside = λ held low. rw c.next.ensures.leaves.geometry ((rw c.in-Some-2.is at next.place).inside);
+      place = λ b t held low. (rw c.in-Some-2.is at next.leaves.place).bytes b (ap (λ d. d.contents) i.device ∙ t);
+      inside = λ held low. rw c.next.ensures.leaves.geometry ((rw c.in-Some-2.is at next.leaves.place).inside);
       reads = λ held b t.
           let now = taken g (goal.at.chunks-preserved g c).After-take held b t in
           let took = continues_by_chunks b s.right_so_far _ s.chunks c.next.new.self _ _ _ _ _ _ _
-          (λ e. (and_parts s.right_so_far _ e).0) (omega (arith, budget)) (λ e. (next.over e).1)
+          (λ e. (and_parts s.right_so_far _ e).0) (omega (arith, budget)) (λ e. (next.leaves.over e).1)
           (λ h. next.reads h b (ap (λ d. d.contents) i.device ∙ t)) now.1 in
           (omega (arith, took.paid, now.0), took.held);
       left = omega (arith, budget, ap (λ x. x.budget) same.chunks, i.left);
@@ -77,8 +77,8 @@ chunks-preserved g c =
       device = next.leaves.read ∙ i.device;
     }
 
-pub returns-in-Some-clause-place : goal.returns-in-Some-clause-place
-returns-in-Some-clause-place g c = grind arith
+pub returns-in-Some-clause-leaves : goal.returns-in-Some-clause-leaves
+returns-in-Some-clause-leaves g c = grind arith
 
 -- a read failed
 pub returns-in_err-next-clause-leaves : goal.returns-in_err-next-clause-leaves
@@ -94,9 +94,9 @@ returns-in-None-2-clause-reads g c = λ held b t.
     let s = c.take.new.self in
     let next = c.in_ok-next.ensures in
     let now = taken g (goal.at.returns-in-None-2-clause-reads g c).After-take held b t in
-    let budget = rw c.in-None-2.is at next.budget in
+    let budget = rw c.in-None-2.is at next.leaves.budget in
     let took = continues_by_chunks b s.right_so_far _ s.chunks c.next.new.self _ _ _ _ _ _ _
-    (λ e. (and_parts s.right_so_far _ e).0) (omega (arith, budget)) (λ e. (next.over e).1)
+    (λ e. (and_parts s.right_so_far _ e).0) (omega (arith, budget)) (λ e. (next.leaves.over e).1)
     (λ h. next.reads h b (ap (λ d. d.contents) c.chunks.invariant.device ∙ t)) now.1 in
     record { most = omega (arith, took.most, now.0); paid = omega (arith, took.paid, now.0); held = took.held }
 
@@ -107,7 +107,7 @@ returns-in_err-next-clause-reads g c =
     let next = c.in_err-next.ensures in
     let now = taken g (goal.at.returns-in_err-next-clause-reads g c).After-take held b t in
     let took = continues_by_chunks b s.right_so_far s.right_so_far s.chunks c.next.new.self _ _ _ _ _ _ _
-    (λ h. h) (omega (arith, next.budget)) (λ e. (next.over e).1)
+    (λ h. h) (omega (arith, next.leaves.budget)) (λ e. (next.leaves.over e).1)
     (λ h. next.reads h b (ap (λ d. d.contents) c.chunks.invariant.device ∙ t)) now.1 in
     record { most = omega (arith, took.most, now.0); paid = tt; held = tt })
 

@@ -2,9 +2,13 @@ use Rattle.std.proofs.Common.{arith, refl, rules}
 use Rattle.ffs_names.proofs.Shaped.{begins_directory}
 use Rattle.ffs_names.proofs.entries.Entries.restart.Goals as goal
 
-pub returns-clause-begins : goal.returns-clause-begins
-returns-clause-begins c = λ known.
-    let begins = c.restart.ensures.begins known in
+pub returns : goal.returns
+returns c =
     let reads = c.restart.ensures.reads in
-    begins_directory refl (search rules) begins.chunks begins.gap begins.gap_left
-    (λ b. omega (arith, reads.to_read b, begins.runs_left b)) reads.held
+    record {
+      begins = λ known.
+          let begins = c.restart.ensures.begins known in
+          begins_directory refl (search rules) begins.chunks begins.gap begins.gap_left
+          (λ b. omega (arith, reads.to_read b, begins.runs_left b)) reads.held;
+      geometry = reads.geometry;
+    }

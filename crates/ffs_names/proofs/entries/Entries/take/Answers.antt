@@ -3,21 +3,23 @@ use Rattle.ffs_layout.specs.Entry.{entry_value}
 use Rattle.ffs_names.{specs.Readings.rest, proofs.{Entered.take_reported, Shaped.fills_next}}
 use Rattle.ffs_names.proofs.entries.Entries.take.Goals as goal
 
-pub returns-clause-taken : goal.returns-clause-taken
-returns-clause-taken c =
+pub returns : goal.returns
+returns c =
     let s = c.args.self.now in
     let low = c.in-Some.ensures.room.0 in
     let high = c.in-Some.ensures.room.1 in
+    let entry = entry_value c.in-Some.entry in
     record {
-      entries = λ b. take_reported s.first s.index s.order s.chunk s.place (entry_value c.in-Some.entry)
-          c.role_of-role.result (rest b s.chunks) c.in-Some.ensures.some c.role_of-role.ensures
-          c.in-Some.ensures.name.0;
-      left = omega arith;
-      place = omega arith;
+      taken = record {
+        entries = λ b. take_reported s.first s.index s.order s.chunk s.place entry c.role_of-role.result
+            (rest b s.chunks) c.in-Some.ensures.some c.role_of-role.ensures c.in-Some.ensures.name.0;
+        left = omega arith;
+        place = omega arith;
+      };
+      same = record {
+        chunks = refl;
+        chunk = refl;
+        right_so_far = refl;
+        fills = fills_next s.order s.chunk s.place entry c.in-Some.ensures.some;
+      };
     }
-
-pub returns-clause-same : goal.returns-clause-same
-returns-clause-same c =
-    let s = c.args.self.now in
-    let fills = fills_next s.order s.chunk s.place (entry_value c.in-Some.entry) c.in-Some.ensures.some in
-    record { chunks = refl; chunk = refl; right_so_far = refl; fills = fills }

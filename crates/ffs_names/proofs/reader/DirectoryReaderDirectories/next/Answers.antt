@@ -14,7 +14,7 @@ pub returns-clause-reader : goal.returns-clause-reader
 returns-clause-reader g c = grind (arith, contents_kept)
 
 pub returns-clause-left : goal.returns-clause-left
-returns-clause-left g c = rw c.in-None.ensures.taken.same at c.next.ensures.left
+returns-clause-left g c = rw c.in-None.ensures.taken.same at c.next.ensures.leaves.left
 
 pub returns-clause-rest : goal.returns-clause-rest
 returns-clause-rest g c = IfOk-weaker c.next.result _ _
