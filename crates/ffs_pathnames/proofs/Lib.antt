@@ -18,3 +18,4 @@ pub mod Carrying
 pub mod Skipping
 mod SilentLaws
 pub mod LimitedLaws
+pub mod EntryReports

@@ -1,6 +1,6 @@
 -- What is known of an image's bytes during the pathname check of a directory.
-use Rattle.std.specs.Prelude.{◌≡◌, ℕ, true, IsTrue, List, OnOk, Option, Result, Some}
-use Rattle.ffs_image.specs.{Device.Device, declared.image.ImageFault.ImageFault}
+use Rattle.std.specs.Prelude.{◌≡◌, ℕ, true, IsTrue, List, Option, Some}
+use Rattle.ffs_image.specs.Device.{Device}
 use Rattle.ffs_report.specs.Known.{ForBytes}
 use Rattle.ffs_volume.specs.{declared.Layout.Layout, Blocks.Inodes.inode_of}
 use Rattle.ffs_volume.specs.Directories.{Graph.Graph, Parents.graph_of, Roles.is_dir, Volumes.volume_of}
@@ -34,13 +34,6 @@ pub record KnowsPath (v : Layout) (contents : Option (List ℕ)) (w : Workspace)
 abbrev pub KeepsPath : Layout → Device → Workspace → ℕ → (old new : EntryTexts) → Type 0
 KeepsPath v d w x old new =
     ForBytes (KnowsPath v d.contents w x old) (λ b. BeginsPathOf (graph_of (volume_of v b)) x new)
-
--- a call makes the path of x; also where it fails, the path that is begun, if any, is that of x
-pub record MakesPath {T : Type 0} (v : Layout) (contents : Option (List ℕ)) (w : Workspace) (x : ℕ)
-    (old new : EntryTexts) (result : Result T ImageFault) : Type 0 where
-  pub made : OnOk result (ForBytes (KnowsPath v contents w x old) (λ b.
-      IsPathOf (graph_of (volume_of v b)) x new.paths.directory))
-  pub path : ForBytes (KnowsPath v contents w x old) (λ b. BeginsPathOf (graph_of (volume_of v b)) x new)
 
 -- the bytes are those of a directory's context, and the inode that was read is that of the
 -- directory

@@ -1,17 +1,26 @@
--- What is gathered for the messages on an entry.
+-- What is gathered for the messages on an entry, and by which calls.
 use Rattle.std.specs.Prelude.{◌≡◌, ℕ, ◌<◌, ◌^◌, ◌==◌, Bool, true, false, not, ◌||◌, ◌&&◌, IsTrue, List, length, vec_len}
-use Rattle.ffs_volume.specs.{Blocks.Inodes.is_allocated, Messages.Kinds.TreeMessage, Directories.Paths.entry_path}
+use Rattle.std.specs.Prelude.{◌+◌, ◌≤◌, Result, IfOk, OnOk}
+use Rattle.ffs_image.specs.{Device.ForContents, declared.image.{Image.Ghosts, ImageFault.ImageFault}}
+use Rattle.ffs_volume.specs.{Blocks.Inodes.is_allocated, Messages.Kinds.TreeMessage, Directories.Volumes.volume_of}
 use Rattle.ffs_volume.specs.declared.{constants.TheConstants.ROOTINO, Attr.Attr, Layout.Layout}
-use Rattle.ffs_volume.specs.Directories.{Entries.Entry, Entries.entries_of, Parents.graph_of, Paths.dir_path}
+use Rattle.ffs_volume.specs.Directories.{Entries.{Entry, entries_of}, Parents.graph_of, Paths.{dir_path, entry_path}}
 use Rattle.ffs_volume.specs.Directories.Roles.{Volume, RoledEntry, is_dir, is_suspect, roled_from}
 use Rattle.ffs_volume.specs.Directories.PathnameCheck.{attributes, extra_lines, has_wrong_type, label_of}
+use Rattle.ffs_volume.specs.Report.Reads.{line_reads, path_reads}
 use Rattle.ffs_layout.specs.Entry.{entry_value}
+use Rattle.ffs_report.specs.Known.{ForBytes}
+use Rattle.ffs_workspace.specs.Places.{AreChunksNumbered}
+use Rattle.ffs_paths.specs.{DirectoryPaths.IsPathOf, KeptParents.PathLeaves, LastPaths.last_path, Reads.OnlyReadsFew}
+use Rattle.ffs_paths.specs.declared.{entry_paths.EntryPaths.EntryPaths, kept_parent.KeptParent.KeptParent}
+use Rattle.ffs_pathnames.specs.{DirectoryContext.{DirectoryContext, KeepsPath, KnowsPath}, Ready.LimitedPathLeaves}
 use Rattle.ffs_pathnames.specs.{declared.inodes.Inodes.Inodes, Verdicts.verdict_reported, Sees.Sees, Stamps.stamps_of}
-use Rattle.ffs_pathnames.specs.declared.{entries.DirectoryChunk.DirectoryChunk, one_entry.DirectoryEntry.DirectoryEntry}
+use Rattle.ffs_pathnames.specs.declared.entries.DirectoryChunk.{DirectoryChunk}
+use Rattle.ffs_pathnames.specs.declared.one_entry.{DirectoryEntry.DirectoryEntry, EntryTexts.EntryTexts}
 use Rattle.ffs_pathnames.specs.declared.verdict.{EntryDefects.EntryDefects, Verdict.Verdict, Verdict.TheVariants.Named}
 use Rattle.ffs_pathnames.specs.declared.verdict.Verdict.TheVariants.{OutOfRange, BadWhiteout, Whiteout, Unallocated}
 use Rattle.ffs_pathnames.specs.PassedNames.{PassedNames, is_stamped, is_flagged, roled_reported, plain_reported}
-use Rattle.ffs_workspace.specs.declared.workspace.Workspace.{Workspace}
+use Rattle.ffs_workspace.specs.{declared.workspace.Workspace.Workspace, Holds.{HoldsClaims, HoldsSurvey}, Lengths.IsFor}
 
 -- the messages are the same as with the volume's own attributes and paths
 abbrev pub IsEnough : Volume → Verdict → ℕ → ℕ → List ℕ → Attr → List ℕ → List ℕ → Type 0
@@ -98,6 +107,12 @@ pub record IsVerdict (vol : Volume) (s : ℕ) (m : PassedNames) (e : Entry) (ver
       ≡ verdict_reported verdict e.number (attributes vol e.number) (entry_path (graph_of vol) s e.name)
       (dir_path (graph_of vol) e.number)
 
+-- a verdict by what the workspace holds, in the volume of whose bytes that is right
+pub record IsVerdictIn (w : Workspace) (s : ℕ) (e : Entry) (answer : Verdict) : Type 0 where
+  pub below : IsTrue (asks_attr answer) → e.number < vec_len w.kinds
+  pub verdict : (v : Layout) (b : List ℕ) → IsFor v w → HoldsClaims v b w → HoldsSurvey v b w
+      → IsVerdict (volume_of v b) s (passed_of w) e answer
+
 -- the lists that say something of each inode are as long as one another
 pub record AreAsLong (w : Workspace) : Type 0 where
   pub marked : vec_len w.marked ≡ vec_len w.kinds
@@ -105,3 +120,87 @@ pub record AreAsLong (w : Workspace) : Type 0 where
   pub flags : vec_len w.flags ≡ vec_len w.kinds
   pub queue : vec_len w.queue ≡ vec_len w.kinds
   pub few : vec_len w.kinds < 2 ^ 31
+
+-- of calls that gather what messages show, and only read the image
+module _ {S : Type 0} (I : Ghosts S) (v : Layout) (old new : S) (w w' : Workspace) where
+  -- with n reads at most, for paths, too
+  abbrev pub ReadsForPaths : {T : Type 0} → ℕ → KeptParent → Result T ImageFault → Type 0
+  ReadsForPaths n s result =
+      LimitedPathLeaves n v (I.device old) (I.device new) (I.reads old) (I.reads new) w w' s result
+
+  -- the attributes of the inode x, in one read
+  pub record ReadsAttr (x : ℕ) (result : Result Attr ImageFault) : Type 0 where
+    pub attr : IfOk result (λ a. ForContents (I.device old).contents (λ b. a ≡ attributes (volume_of v b) x))
+    pub reads : OnlyReadsFew 1 v (I.device old) (I.device new) (I.reads old) (I.reads new) w w' result
+
+  -- the path of the directory x is made; also where that fails, one that is begun is that of x
+  pub record MakesPath {T : Type 0} (x : ℕ) (t t' : EntryTexts) (result : Result T ImageFault) : Type 0 where
+    pub made : OnOk result (ForBytes (KnowsPath v (I.device old).contents w x t) (λ b.
+        IsPathOf (graph_of (volume_of v b)) x t'.paths.directory))
+    pub path : KeepsPath v (I.device old) w x t t'
+    pub leaves : PathLeaves path_reads v (I.device old) (I.device new) (I.reads old) (I.reads new) w w' t'.kept_parent
+        result
+
+  -- the same, with no more reads of any image
+  pub record MakesPathLimited {T : Type 0} (x : ℕ) (t t' : EntryTexts) (result : Result T ImageFault) : Type 0 where
+    pub makes : MakesPath x t t' result
+    pub most : AreChunksNumbered v → I.reads new ≤ I.reads old + path_reads
+
+  -- the path of the directory x is put into a text, whichever directory y is checked
+  pub record PutsPath {T : Type 0} (x : ℕ) (text : List ℕ) (s : KeptParent) (result : Result T ImageFault)
+      : Type 0 where
+    pub path : OnOk result ((y : ℕ) → ForBytes (DirectoryContext v (I.device old).contents w y) (λ b.
+        text ≡ dir_path (graph_of (volume_of v b)) x))
+    pub leaves : ReadsForPaths path_reads s result
+
+  -- the same, where it is wanted; the paths of entries and of their directory stay
+  pub record PutsWanted {T : Type 0} (wanted : Bool) (x : ℕ) (t t' : EntryTexts) (result : Result T ImageFault)
+      : Type 0 where
+    pub path : OnOk result ((y : ℕ) → ForBytes (DirectoryContext v (I.device old).contents w y) (λ b.
+        IsTrue wanted → t'.directory.items ≡ dir_path (graph_of (volume_of v b)) x))
+    pub same : (t'.begun ≡ t.begun) × (t'.paths ≡ t.paths)
+    pub leaves : ReadsForPaths path_reads t'.kept_parent result
+
+  -- all that the messages of a verdict on an entry show but paths of directories, in one read
+  pub record GathersInode (e : Entry) (verdict : Verdict) (p p' : EntryPaths) (result : Result Attr ImageFault)
+      : Type 0 where
+    pub enough : IfOk result (λ a. ForContents (I.device old).contents (λ b. (dir : ℕ) (path : List ℕ)
+        → IsPathOf (graph_of (volume_of v b)) dir p.directory
+        → (IsTrue (asks_path verdict) → path ≡ dir_path (graph_of (volume_of v b)) e.number)
+        → IsEnough (volume_of v b) verdict dir e.number e.name a (last_path p') path))
+    pub same : p'.directory ≡ p.directory
+    pub reads : OnlyReadsFew 1 v (I.device old) (I.device new) (I.reads old) (I.reads new) w w' result
+
+  -- all that they show, where the path of the entry's directory is made
+  pub record GathersNamed (e : Entry) (verdict : Verdict) (t t' : EntryTexts) (result : Result Attr ImageFault)
+      : Type 0 where
+    pub enough : IfOk result (λ a. (dir : ℕ) → ForBytes (DirectoryContext v (I.device old).contents w dir) (λ b.
+        IsPathOf (graph_of (volume_of v b)) dir t.paths.directory
+        → IsEnough (volume_of v b) verdict dir e.number e.name a (last_path t'.paths) t'.directory.items))
+    pub same : (t'.begun ≡ t.begun) × (t'.paths.directory ≡ t.paths.directory)
+    pub leaves : ReadsForPaths (path_reads + 1) t'.kept_parent result
+
+  -- all that they show; the path that is begun, if any, still is that of the entry's directory
+  pub record GathersEntry (e : DirectoryEntry) (verdict : Verdict) (t t' : EntryTexts) (result : Result Attr ImageFault)
+      : Type 0 where
+    pub enough : IfOk result (λ a. ForBytes (KnowsPath v (I.device old).contents w e.dir t) (λ b.
+        IsEnough (volume_of v b) verdict e.dir e.entry.number e.entry.name.now a (last_path t'.paths)
+        t'.directory.items))
+    pub path : KeepsPath v (I.device old) w e.dir t t'
+    pub leaves : ReadsForPaths line_reads t'.kept_parent result
+
+  -- what the message on an extra entry of the directory x shows: its attributes and its path; the
+  -- path that is begun, if any, still is that of x
+  pub record GathersExtra (x : ℕ) (t t' : EntryTexts) (result : Result Attr ImageFault) : Type 0 where
+    pub attr : IfOk result (λ a. ForBytes (DirectoryContext v (I.device old).contents w x) (λ b.
+        a ≡ attributes (volume_of v b) x))
+    pub text : OnOk result (ForBytes (KnowsPath v (I.device old).contents w x t) (λ b.
+        t'.directory.items ≡ dir_path (graph_of (volume_of v b)) x))
+    pub path : KeepsPath v (I.device old) w x t t'
+    pub leaves : ReadsForPaths line_reads t'.kept_parent result
+
+  -- what messages on the directory x itself show: its attributes and its path
+  pub record GathersDir (x : ℕ) (path : List ℕ) (s : KeptParent) (result : Result Attr ImageFault) : Type 0 where
+    pub shown : IfOk result (λ a. ForBytes (DirectoryContext v (I.device old).contents w x) (λ b.
+        IsShownOf (volume_of v b) x a path))
+    pub leaves : ReadsForPaths line_reads s result

@@ -9,10 +9,9 @@ use Rattle.ffs_paths.specs.{Reads.IsReadyFor, declared.kept_parent.KeptParent.Ke
 use Rattle.ffs_pathnames.specs.{declared.look.Directory.Directory, Stamps.KeepPlaces}
 pub use Rattle.ffs_paths.specs.KeptParents.{ReadyWith, ReadyToPath, PathLeaves}
 
--- paths can be made, and one of the inode x, where it is wanted
-pub record ReadyWhere (wanted : Bool) (v : Layout) (d : Device) (w : Workspace) (s : KeptParent) (x : ℕ) :
-    Type 0 where
-  pub paths : ReadyWith v d w s
+-- all is ready for a call, and the inode x is there, where it is wanted
+pub record ReadyWhere (wanted : Bool) (v : Layout) (x : ℕ) (is_ready : Type 0) : Type 0 where
+  pub ready : is_ready
   pub number : IsTrue wanted → x < v.ncg * v.ipg
 
 -- the directory x can be looked at: it is the root or one after it

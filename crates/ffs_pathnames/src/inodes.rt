@@ -24,7 +24,7 @@ pub struct Inodes<'a> {
 impl<'a> Inodes<'a> {
     ghost use Rattle.ffs_volume.specs.Encodings.Kinds.{is_dir_kind, is_allocated_kind, is_unknown_kind, type_of_kind};
     ghost use Rattle.ffs_survey.specs.Survey.{suspect_at};
-    ghost use Rattle.ffs_pathnames.specs.Stamps.{stamps_of};
+    ghost use Rattle.ffs_pathnames.specs.{Sees.HasWordOf, Stamps.stamps_of};
     ghost use Rattle.ffs_volume.specs.declared.constants.TheConstants as constants;
 
     /// How many inodes there are.
@@ -91,8 +91,7 @@ impl<'a> Inodes<'a> {
     /// The inode's parent, where the entry there is due by the inode's word (`is_due`), else 0.
     #[tactic(auto, using(std::proofs::lemmas::List::get_or_read_under, crate::proofs::StampLaws::stamp_at, crate::proofs::StampLaws::none_stamped))]
     pub fn stamp(&self, words: &FilledList<u32>, inode: u32) -> u32
-        requires inode { inode < length self.now.kinds.now }
-        requires words { length words.now.items ≡ length self.now.kinds.now }
+        requires { HasWordOf self.now inode words.now.items }
         ensures { result ≡ slice_index
             (stamps_of self.now.parents.now.items words.now.items) inode }
     {

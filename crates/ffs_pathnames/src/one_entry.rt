@@ -1,20 +1,17 @@
 //! The lines of a plain entry.
-ghost use Rattle.std.specs.Prelude.{◌≡◌, ◌+◌, ◌*◌, ◌<◌, ℕ, List, Option, Some, OnOk, IfOk, IsTrue, vec_len, IfSome};
-ghost use Rattle.ffs_image.specs.Device.{ForContents};
-ghost use Rattle.ffs_volume.specs.Directories.{PathnameCheck.{attributes, extra_lines}, Parents.graph_of};
-ghost use Rattle.ffs_volume.specs.{Directories.{Paths.dir_path, Volumes.volume_of}, declared.Layout.Layout};
-ghost use Rattle.ffs_volume.specs.Report.Reads.{line_reads, path_reads};
-ghost use Rattle.ffs_pathnames.specs.{SaysNames.SaysNames, EntryLines.ReportsEntries, Gathers.{IsEnough, IsShownOf, IsVerdict}};
-ghost use Rattle.ffs_pathnames.specs.Gathers.{AreAsLong, passed_of, asks_attr, asks_path, extra_reported, is_silent};
-ghost use Rattle.ffs_pathnames.specs.{Gathers.plain_lines_by, DirectoryContext.{DirectoryContext, KeepsPath}};
-ghost use Rattle.ffs_pathnames.specs.{DirectoryContext.{KnowsPath, MakesPath}, Ready.{ReadyToPath, ReadyWhere}};
-ghost use Rattle.ffs_pathnames.specs.Ready.{LimitedPathLeaves, LinesLeave, PathLeaves};
+ghost use Rattle.std.specs.Prelude.{◌≡◌, ℕ, List, Option, SomeIff};
+ghost use Rattle.ffs_volume.specs.{declared.Layout.Layout, Report.Reads.path_reads};
+ghost use Rattle.ffs_pathnames.specs.{SaysNames.SaysNames, EntryLines.ReportsEntries};
+ghost use Rattle.ffs_pathnames.specs.Gathers.{AreAsLong, IsVerdictIn, asks_attr, asks_path, extra_reported, is_silent};
+ghost use Rattle.ffs_pathnames.specs.Gathers.{plain_lines_by, ReadsAttr, MakesPath, MakesPathLimited};
+ghost use Rattle.ffs_pathnames.specs.Gathers.{PutsPath, PutsWanted, GathersInode, GathersNamed, GathersEntry};
+ghost use Rattle.ffs_pathnames.specs.{Gathers.{GathersExtra, GathersDir}, Ready.{ReadyToPath, ReadyWhere, ReadyWith, LinesLeave}};
+ghost use Rattle.ffs_volume.specs.Directories.PathnameCheck.{extra_lines};
 ghost use Rattle.ffs_layout.specs.Entry.{entry_value};
-ghost use Rattle.ffs_report.specs.{Known.ForBytes, Progress.progress};
-ghost use Rattle.ffs_workspace.specs.{Lengths.IsFor, Holds.{HoldsClaims, HoldsSurvey}, Places.AreChunksNumbered};
-ghost use Rattle.ffs_workspace.specs.{Ready.IsReady, declared.workspace.Workspace.Workspace as WorkspaceIn};
-ghost use Rattle.ffs_paths.specs.{KeptParents.KeepsParent, DirectoryPaths.IsPathOf, LastPaths.last_path};
-ghost use Rattle.ffs_paths.specs.Reads.{IsReadyFor, OnlyReadsFew};
+ghost use Rattle.ffs_report.specs.Progress.{progress};
+ghost use Rattle.ffs_workspace.specs.{declared.workspace.Workspace.Workspace as WorkspaceIn, Ready.IsReady};
+ghost use Rattle.ffs_workspace.specs.Places.{AreChunksNumbered};
+ghost use Rattle.ffs_paths.specs.{KeptParents.KeepsParent, Reads.IsReadyFor};
 
 use crate::inodes::Inodes;
 use crate::verdict::{Verdict, entry_verdict, say_verdict};
@@ -83,9 +80,7 @@ fn forget_parent(kept_parent: &mut KeptParent)
 /// At most how many reads are made for a path, where each chunk of the volume is numbered
 /// (`line_reads`).
 fn path_reads(geometry: &Geometry) -> Option<u64>
-    ensures numbered { AreChunksNumbered geometry.now.layout → result ≡ Some path_reads }
-    ensures limited { IfSome result (λ n. AreChunksNumbered geometry.now.layout
-        × (n ≡ path_reads)) }
+    ensures { SomeIff result (AreChunksNumbered geometry.now.layout) path_reads }
 {
     match line_reads(geometry) {
         Some(_) => Some(PATH_READS),
@@ -103,11 +98,8 @@ fn make_paths_freely<I: Image>(
 ) -> Result<(), ImageFault>
     requires { ReadyToPath geometry.now.layout (I.device image.old) workspace.old
         texts.old.kept_parent dir }
-    ensures makes { MakesPath geometry.now.layout (I.device image.old).contents workspace.old dir
-        texts.old texts.new result }
-    ensures leaves { PathLeaves path_reads geometry.now.layout (I.device image.old)
-        (I.device image.new) (I.reads image.old) (I.reads image.new) workspace.old workspace.new
-        texts.new.kept_parent result }
+    ensures { MakesPath I.Image geometry.now.layout image.old image.new workspace.old workspace.new
+        dir texts.old texts.new result }
 {
     let path = texts.kept_parent.path_to(geometry, image, workspace, dir)?;
     texts.paths = EntryPaths::of(path);
@@ -130,11 +122,8 @@ fn make_paths<I: Image>(
 ) -> Result<(), ImageFault>
     requires { ReadyToPath geometry.now.layout (I.device image.old) workspace.old
         texts.old.kept_parent dir }
-    ensures makes { MakesPath geometry.now.layout (I.device image.old).contents workspace.old dir
-        texts.old texts.new result }
-    ensures leaves { LimitedPathLeaves path_reads geometry.now.layout (I.device image.old)
-        (I.device image.new) (I.reads image.old) (I.reads image.new) workspace.old workspace.new
-        texts.new.kept_parent result }
+    ensures { MakesPathLimited I.Image geometry.now.layout image.old image.new workspace.old
+        workspace.new dir texts.old texts.new result }
 {
     let Some(limit) = path_reads(geometry) else {
         return make_paths_freely(geometry, image, workspace, texts, dir);
@@ -160,12 +149,8 @@ fn put_path<I: Image>(
 ) -> Result<(), ImageFault>
     requires { ReadyToPath geometry.now.layout (I.device image.old) workspace.old kept_parent.old
         dir }
-    ensures path { OnOk result ((x : ℕ) → ForBytes (DirectoryContext geometry.now.layout
-        (I.device image.old).contents workspace.old x) (λ b.
-        path.new.items ≡ dir_path (graph_of (volume_of geometry.now.layout b)) dir)) }
-    ensures leaves { LimitedPathLeaves path_reads geometry.now.layout (I.device image.old)
-        (I.device image.new) (I.reads image.old) (I.reads image.new) workspace.old workspace.new
-        kept_parent.new result }
+    ensures { PutsPath I.Image geometry.now.layout image.old image.new workspace.old workspace.new
+        dir path.new.items kept_parent.new result }
 {
     let Some(limit) = path_reads(geometry) else {
         return kept_parent.put_path(geometry, image, workspace, dir, path);
@@ -190,11 +175,8 @@ fn begin_paths<I: Image>(
 ) -> Result<(), ImageFault>
     requires { ReadyToPath geometry.now.layout (I.device image.old) workspace.old
         texts.old.kept_parent dir }
-    ensures makes { MakesPath geometry.now.layout (I.device image.old).contents workspace.old dir
-        texts.old texts.new result }
-    ensures leaves { LimitedPathLeaves path_reads geometry.now.layout (I.device image.old)
-        (I.device image.new) (I.reads image.old) (I.reads image.new) workspace.old workspace.new
-        texts.new.kept_parent result }
+    ensures { MakesPathLimited I.Image geometry.now.layout image.old image.new workspace.old
+        workspace.new dir texts.old texts.new result }
 {
     if texts.begun {
         return Ok(());
@@ -213,10 +195,8 @@ pub fn read_attr<I: Image>(
     number: u32,
 ) -> Result<Attr, ImageFault>
     requires { IsReadyFor geometry.now.layout (I.device image.old) workspace.old number }
-    ensures attr { IfOk result (λ a. ForContents (I.device image.old).contents
-        (λ b. a ≡ attributes (volume_of geometry.now.layout b) number)) }
-    ensures reads { OnlyReadsFew 1 geometry.now.layout (I.device image.old) (I.device image.new)
-        (I.reads image.old) (I.reads image.new) workspace.old workspace.new result }
+    ensures { ReadsAttr I.Image geometry.now.layout image.old image.new workspace.old workspace.new
+        number result }
 {
     let inode = workspace
         .windows
@@ -228,8 +208,7 @@ pub fn read_attr<I: Image>(
 /// Whether a verdict asks for the attributes of the inode that the entry names, and whether for its
 /// path.
 fn asks(verdict: &Verdict) -> (bool, bool)
-    ensures attr { result.0 ≡ asks_attr verdict.now }
-    ensures directory { result.1 ≡ asks_path verdict.now }
+    ensures { result ≡ (asks_attr verdict.now, asks_path verdict.now) }
 {
     match verdict {
         Verdict::OutOfRange | Verdict::BadWhiteout | Verdict::Whiteout => (false, false),
@@ -247,15 +226,10 @@ fn gather_path<I: Image>(
     wanted: bool,
     dir: u32,
 ) -> Result<(), ImageFault>
-    requires { ReadyWhere wanted geometry.now.layout (I.device image.old) workspace.old
-        texts.old.kept_parent dir }
-    ensures path { OnOk result ((x : ℕ) → ForBytes (DirectoryContext geometry.now.layout
-        (I.device image.old).contents workspace.old x) (λ b. IsTrue wanted
-        → texts.new.directory.items ≡ dir_path (graph_of (volume_of geometry.now.layout b)) dir)) }
-    ensures same { (texts.new.begun ≡ texts.old.begun) × (texts.new.paths ≡ texts.old.paths) }
-    ensures leaves { LimitedPathLeaves path_reads geometry.now.layout (I.device image.old)
-        (I.device image.new) (I.reads image.old) (I.reads image.new) workspace.old workspace.new
-        texts.new.kept_parent result }
+    requires { ReadyWhere wanted geometry.now.layout dir (ReadyWith geometry.now.layout
+        (I.device image.old) workspace.old texts.old.kept_parent) }
+    ensures { PutsWanted I.Image geometry.now.layout image.old image.new workspace.old workspace.new
+        wanted dir texts.old texts.new result }
 {
     if !wanted {
         return Ok(());
@@ -282,18 +256,10 @@ fn gather_inode<I: Image>(
     entry: &Entry<'_>,
     verdict: &Verdict,
 ) -> Result<Attr, ImageFault>
-    requires ready { IsReady geometry.now.layout (I.device image.old) workspace.old }
-    requires number { IsTrue (asks_attr verdict.now) → entry.now.number
-        < geometry.now.layout.ncg * geometry.now.layout.ipg }
-    ensures enough { IfOk result (λ a. ForContents (I.device image.old).contents (λ b. (dir : ℕ)
-        (path : List ℕ) → IsPathOf (graph_of (volume_of geometry.now.layout b)) dir
-        paths.old.directory → (IsTrue (asks_path verdict.now)
-        → path ≡ dir_path (graph_of (volume_of geometry.now.layout b)) entry.now.number)
-        → IsEnough (volume_of geometry.now.layout b) verdict.now dir entry.now.number
-        entry.now.name.now a (last_path paths.new) path)) }
-    ensures same { paths.new.directory ≡ paths.old.directory }
-    ensures reads { OnlyReadsFew 1 geometry.now.layout (I.device image.old) (I.device image.new)
-        (I.reads image.old) (I.reads image.new) workspace.old workspace.new result }
+    requires { ReadyWhere (asks_attr verdict.now) geometry.now.layout entry.now.number
+        (IsReady geometry.now.layout (I.device image.old) workspace.old) }
+    ensures { GathersInode I.Image geometry.now.layout image.old image.new workspace.old
+        workspace.new (entry_value entry.now) verdict.now paths.old paths.new result }
 {
     let wants_attr = asks(verdict).0;
     paths.put(entry.name);
@@ -315,18 +281,10 @@ fn gather<I: Image>(
     entry: &Entry<'_>,
     verdict: &Verdict,
 ) -> Result<Attr, ImageFault>
-    requires { ReadyWhere (asks_attr verdict.now) geometry.now.layout (I.device image.old)
-        workspace.old texts.old.kept_parent entry.now.number }
-    ensures enough { IfOk result (λ a. (dir : ℕ) → ForBytes (DirectoryContext
-        geometry.now.layout (I.device image.old).contents workspace.old dir) (λ b.
-        IsPathOf (graph_of (volume_of geometry.now.layout b)) dir texts.old.paths.directory →
-        IsEnough (volume_of geometry.now.layout b) verdict.now dir entry.now.number
-        entry.now.name.now a (last_path texts.new.paths) texts.new.directory.items)) }
-    ensures same { (texts.new.begun ≡ texts.old.begun)
-        × (texts.new.paths.directory ≡ texts.old.paths.directory) }
-    ensures leaves { LimitedPathLeaves (path_reads + 1) geometry.now.layout (I.device image.old)
-        (I.device image.new) (I.reads image.old) (I.reads image.new) workspace.old workspace.new
-        texts.new.kept_parent result }
+    requires { ReadyWhere (asks_attr verdict.now) geometry.now.layout entry.now.number
+        (ReadyWith geometry.now.layout (I.device image.old) workspace.old texts.old.kept_parent) }
+    ensures { GathersNamed I.Image geometry.now.layout image.old image.new workspace.old
+        workspace.new (entry_value entry.now) verdict.now texts.old texts.new result }
 {
     let wants_path = asks(verdict).1;
     gather_path(geometry, image, workspace, texts, wants_path, entry.number)?;
@@ -355,19 +313,11 @@ fn gather_entry<I: Image>(
     entry: &DirectoryEntry<'_>,
     verdict: &Verdict,
 ) -> Result<Attr, ImageFault>
-    requires ready { ReadyToPath geometry.now.layout (I.device image.old) workspace.old
-        texts.old.kept_parent entry.now.dir }
-    requires number { IsTrue (asks_attr verdict.now) → entry.now.entry.number
-        < geometry.now.layout.ncg * geometry.now.layout.ipg }
-    ensures enough { IfOk result (λ a. ForBytes (KnowsPath geometry.now.layout
-        (I.device image.old).contents workspace.old entry.now.dir texts.old) (λ b.
-        IsEnough (volume_of geometry.now.layout b) verdict.now entry.now.dir entry.now.entry.number
-        entry.now.entry.name.now a (last_path texts.new.paths) texts.new.directory.items)) }
-    ensures path { KeepsPath geometry.now.layout (I.device image.old) workspace.old
-        entry.now.dir texts.old texts.new }
-    ensures leaves { LimitedPathLeaves line_reads geometry.now.layout (I.device image.old)
-        (I.device image.new) (I.reads image.old) (I.reads image.new) workspace.old workspace.new
-        texts.new.kept_parent result }
+    requires { ReadyWhere (asks_attr verdict.now) geometry.now.layout entry.now.entry.number
+        (ReadyToPath geometry.now.layout (I.device image.old) workspace.old texts.old.kept_parent
+        entry.now.dir) }
+    ensures { GathersEntry I.Image geometry.now.layout image.old image.new workspace.old
+        workspace.new entry.now verdict.now texts.old texts.new result }
 {
     begin_paths(geometry, image, workspace, texts, entry.dir)?;
     gather(geometry, image, workspace, texts, &entry.entry, verdict)
@@ -384,17 +334,8 @@ fn gather_extra<I: Image>(
 ) -> Result<Attr, ImageFault>
     requires { ReadyToPath geometry.now.layout (I.device image.old) workspace.old
         texts.old.kept_parent dir }
-    ensures attr { IfOk result (λ a. ForBytes (DirectoryContext geometry.now.layout
-        (I.device image.old).contents workspace.old dir)
-        (λ b. a ≡ attributes (volume_of geometry.now.layout b) dir)) }
-    ensures text { OnOk result (ForBytes (KnowsPath geometry.now.layout
-        (I.device image.old).contents workspace.old dir texts.old) (λ b.
-        texts.new.directory.items ≡ dir_path (graph_of (volume_of geometry.now.layout b)) dir)) }
-    ensures path { KeepsPath geometry.now.layout (I.device image.old) workspace.old
-        dir texts.old texts.new }
-    ensures leaves { LimitedPathLeaves line_reads geometry.now.layout (I.device image.old)
-        (I.device image.new) (I.reads image.old) (I.reads image.new) workspace.old workspace.new
-        texts.new.kept_parent result }
+    ensures { GathersExtra I.Image geometry.now.layout image.old image.new workspace.old
+        workspace.new dir texts.old texts.new result }
 {
     begin_paths(geometry, image, workspace, texts, dir)?;
     let paths = &texts.paths;
@@ -404,11 +345,8 @@ fn gather_extra<I: Image>(
 
 /// The verdict on a plain entry, by what the workspace holds.
 fn verdict_of(workspace: &Workspace, dir: u32, entry: &Entry<'_>) -> Verdict
-    requires lists { AreAsLong workspace.now }
-    ensures below { IsTrue (asks_attr result) → entry.now.number < vec_len workspace.now.kinds }
-    ensures verdict { (v : Layout) (b : List ℕ) → IsFor v workspace.now
-        → HoldsClaims v b workspace.now → HoldsSurvey v b workspace.now
-        → IsVerdict (volume_of v b) dir (passed_of workspace.now) (entry_value entry.now) result }
+    requires { AreAsLong workspace.now }
+    ensures { IsVerdictIn workspace.now dir (entry_value entry.now) result }
 {
     let inodes = Inodes {
         kinds: workspace.kinds.as_slice(),
@@ -517,12 +455,8 @@ pub fn gather_dir<I: Image>(
 ) -> Result<Attr, ImageFault>
     requires { ReadyToPath geometry.now.layout (I.device image.old) workspace.old kept_parent.old
         dir }
-    ensures shown { IfOk result (λ a. ForBytes (DirectoryContext geometry.now.layout
-        (I.device image.old).contents workspace.old dir)
-        (λ b. IsShownOf (volume_of geometry.now.layout b) dir a path.new.items)) }
-    ensures leaves { LimitedPathLeaves line_reads geometry.now.layout (I.device image.old)
-        (I.device image.new) (I.reads image.old) (I.reads image.new) workspace.old workspace.new
-        kept_parent.new result }
+    ensures { GathersDir I.Image geometry.now.layout image.old image.new workspace.old workspace.new
+        dir path.new.items kept_parent.new result }
 {
     put_path(geometry, image, workspace, kept_parent, dir, path)?;
     read_attr(geometry, image, workspace, dir)

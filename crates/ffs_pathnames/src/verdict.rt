@@ -1,12 +1,10 @@
 //! The verdict on a plain entry, and what is reported by it.
-ghost use Rattle.std.specs.Prelude.{◌≡◌, ◌<◌, length};
-ghost use Rattle.ffs_volume.specs.{Directories.Roles.Volume, Messages.Kinds.reported};
+ghost use Rattle.ffs_volume.specs.Messages.Kinds.{reported};
 ghost use Rattle.ffs_layout.specs.Entry.{entry_value};
-ghost use Rattle.ffs_pathnames.specs.{Gathers.{AreDefectsOf, IsVerdictBy}, Stamps.KeepsWords, Sees.Sees};
-ghost use Rattle.ffs_pathnames.specs.{Sees.{HasFlagAndWord, passed_in}, SaysNames.SaysNames};
+ghost use Rattle.ffs_pathnames.specs.{Gathers.{AreDefectsOf, IsVerdictBy}, SaysNames.SaysNames};
+ghost use Rattle.ffs_pathnames.specs.Sees.{HasFlagAndWord, HasFlagAndWordOf, PassesEntry, passed_in};
 ghost use Rattle.ffs_pathnames.specs.Verdicts.{suspect_message, links_reported, defects_reported, verdict_reported};
 ghost use Rattle.ffs_report.specs.Progress.{progress};
-ghost use Rattle.ffs_pathnames.specs.PassedNames as names;
 
 use crate::header::{LineIf, NameLine, say_line, say_two};
 use crate::inodes::Inodes;
@@ -56,8 +54,7 @@ fn defects_of(
     words: &FilledList<u32>,
     entry: &Entry<'_>,
 ) -> EntryDefects
-    requires inode { entry.now.number < length inodes.now.kinds.now }
-    requires passed { HasFlagAndWord inodes.now flags.now words.now.items }
+    requires { HasFlagAndWordOf inodes.now entry.now.number flags.now words.now.items }
     ensures { AreDefectsOf inodes.now dir (passed_in inodes.now flags.now words.now.items)
         (entry_value entry.now) result }
 {
@@ -114,11 +111,8 @@ pub fn pass(
     entry: &Entry<'_>,
 )
     requires { HasFlagAndWord inodes.now flags.old words.old.items }
-    ensures after { (vol : Volume) → Sees vol inodes.now →
-        names.after_roled vol dir (passed_in inodes.now flags.old words.old.items)
-        (record { role = role; entry = entry_value entry.now })
-        ≡ passed_in inodes.now flags.new words.new.items }
-    ensures words { KeepsWords words.old words.new }
+    ensures { PassesEntry inodes.now dir (record { role = role; entry = entry_value entry.now })
+        flags.old flags.new words.old words.new }
 {
     if role != Role::Plain {
         return;

@@ -5,10 +5,10 @@ use Rattle.ffs_pathnames.proofs.one_entry.gather_dir.Goals as goal
 pub put_path-requires : goal.put_path-requires
 put_path-requires g c = c.requires
 
-pub returns-in_err-put_path-clause-leaves : goal.returns-in_err-put_path-clause-leaves
-returns-in_err-put_path-clause-leaves g c =
+pub returns-in_err-put_path : goal.returns-in_err-put_path
+returns-in_err-put_path g c =
     let p = err_from_is_err_and c.from_residual.result c.from_residual.ensures.1 in
-    rw (p.1, p.2) (gather_failed _ c.in_err-put_path.ensures.leaves (omega arith))
+    rw (p.1, p.2) (record { shown = tt; leaves = gather_failed _ c.in_err-put_path.ensures.leaves (omega arith) })
 
 pub read_attr-requires : goal.read_attr-requires
 read_attr-requires g c = record {
@@ -16,20 +16,15 @@ read_attr-requires g c = record {
   number = c.requires.number;
 }
 
-pub returns-clause-leaves : goal.returns-clause-leaves
-returns-clause-leaves g c = leaves_read c.read_attr.result c.in_ok-put_path.ensures.leaves c.read_attr.ensures.reads
-    (omega arith)
-
-pub returns-in_err-put_path-clause-shown : goal.returns-in_err-put_path-clause-shown
-returns-in_err-put_path-clause-shown g c =
-    let p = err_from_is_err_and c.from_residual.result c.from_residual.ensures.1 in rw p.1 tt
-
-pub returns-clause-shown : goal.returns-clause-shown
-returns-clause-shown g c =
+pub returns : goal.returns
+returns g c =
     let path = c.in_ok-put_path.ensures in
-    if_ok c.read_attr.result _ _
-    (λ a h b k. record {
-      attr = h b (ap (λ d. d.contents) path.leaves.path.reads.read ∙ k.gives_bytes);
-      path_is = path.path c.args.dir b k;
-    })
-    c.read_attr.ensures.attr
+    record {
+      shown = if_ok c.read_attr.result _ _
+          (λ a h b k. record {
+            attr = h b (ap (λ d. d.contents) path.leaves.path.reads.read ∙ k.gives_bytes);
+            path_is = path.path c.args.dir b k;
+          })
+          c.read_attr.ensures.attr;
+      leaves = leaves_read c.read_attr.result path.leaves c.read_attr.ensures.reads (omega arith);
+    }

@@ -1,22 +1,26 @@
-use Rattle.std.proofs.Common.{refl, sym, ap, ◌∙◌}
+use Rattle.std.proofs.Common.{arith, refl, sym, ap, ◌∙◌}
 use Rattle.ffs_volume.specs.Directories.Volumes.{volume_of}
 use Rattle.ffs_layout.specs.Entry.{entry_value}
 use Rattle.ffs_pathnames.{specs.Gathers.passed_of, specs.PassedNames.plain_reported, proofs.SeesLaws.sees}
 use Rattle.ffs_pathnames.proofs.one_entry.verdict_of.Goals as goal
 
-pub returns-clause-verdict : goal.returns-clause-verdict
-returns-clause-verdict c = λ v b made h r.
+pub returns : goal.returns
+returns c =
     let w = c.args.workspace.now in
-    let shows = sees v b w _ (record {
-      kinds = c.as_slice.ensures.value;
-      marked = c.as_slice-2.ensures.value;
-      parents = refl;
-      count = c.as_slice.ensures.len ∙ made.kinds;
-    }) h r in
     let e = entry_value c.args.entry.now in
     record {
-      linked = c.entry_verdict.ensures.linked (volume_of v b) shows;
-      reported = sym (ap (λ ms. plain_reported (volume_of v b) c.args.dir
-          (record { flags = ms; stamps = (passed_of w).stamps }) e) c.as_slice-3.ensures.value)
-          ∙ c.entry_verdict.ensures.reported (volume_of v b) shows;
+      below = λ q. omega (arith, c.entry_verdict.ensures.below q, c.as_slice.ensures.len);
+      verdict = λ v b made h r.
+          let shows = sees v b w _ (record {
+            kinds = c.as_slice.ensures.value;
+            marked = c.as_slice-2.ensures.value;
+            parents = refl;
+            count = c.as_slice.ensures.len ∙ made.kinds;
+          }) h r in
+          record {
+            linked = c.entry_verdict.ensures.linked (volume_of v b) shows;
+            reported = sym (ap (λ ms. plain_reported (volume_of v b) c.args.dir
+                (record { flags = ms; stamps = (passed_of w).stamps }) e) c.as_slice-3.ensures.value)
+                ∙ c.entry_verdict.ensures.reported (volume_of v b) shows;
+          };
     }

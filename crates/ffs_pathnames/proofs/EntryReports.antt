@@ -1,0 +1,48 @@
+-- The lines of an entry, one at least, for which texts were gathered.
+use Rattle.std.proofs.Common.{◌≡◌, ◌≤◌, ap, ℕ, List, length, map, Result, Ok, Err}
+use Rattle.ffs_image.specs.{Device.Device, declared.image.ImageFault.ImageFault}
+use Rattle.ffs_volume.specs.{declared.Layout.Layout, Directories.{Roles.Volume, Volumes.volume_of}}
+use Rattle.ffs_volume.specs.{Messages.Kinds.{TreeMessage, of_tree}, Report.Reads.line_reads}
+use Rattle.ffs_report.specs.{Known.ForBytes, Progress.{Progress, Said, Stopped}}
+use Rattle.ffs_report.proofs.{Paying.{paid_reads, paid_says, paid_stops}, Reporting.{reads_first, says_all, stops_all}}
+use Rattle.ffs_report.specs.declared.fault.RunFault.TheVariants.{Read, Out}
+use Rattle.ffs_workspace.specs.declared.workspace.Workspace.{Workspace}
+use Rattle.ffs_paths.specs.declared.kept_parent.KeptParent.{KeptParent}
+use Rattle.ffs_pathnames.specs.{DirectoryContext.{DirectoryContext, KeepsPath, KnowsPath}, Ready.LimitedPathLeaves}
+use Rattle.ffs_pathnames.specs.{EntryLines.ReportsEntries, declared.one_entry.EntryTexts.EntryTexts}
+use Rattle.ffs_pathnames.proofs.LineCounts.{by_line, knows_places, some_said}
+
+module _ {S : Type 0} {v : Layout} {d d' : Device} {w w' : Workspace} {x : ℕ} {t t' : EntryTexts} {s : KeptParent}
+    {lines : Volume → List TreeMessage} {reads reads' : ℕ} {r : Result S ImageFault}
+    (keeps : KeepsPath v d w x t t') (left : LimitedPathLeaves line_reads v d d' reads reads' w w' s r)
+    (some : ForBytes (DirectoryContext v d.contents w x) (λ bytes. 1 ≤ length (lines (volume_of v bytes)))) where
+  -- a read failed
+  pub entry_unread : {T : Type 0} {a : Progress} {fault : _} →
+      ReportsEntries {T = T} v d w w' x t t' lines a a reads reads' (Err (Read fault))
+  entry_unread = record {
+    text = reads_first;
+    path = keeps;
+    counted = λ bytes k noted. by_line _ (left.path.counted bytes (knows_places _ _ _ _ bytes k noted)) (some bytes k);
+    paid = λ numbered. paid_reads (left.most numbered);
+  }
+
+  -- the lines were said, or the output failed among them
+  pub entry_said : {T : Type 0} {a b : Progress} {y : T} (ms : List TreeMessage) → 1 ≤ length ms →
+      ForBytes (KnowsPath v d.contents w x t) (λ bytes. lines (volume_of v bytes) ≡ ms) → Said a b (map of_tree ms) →
+      ReportsEntries v d w w' x t t' lines a b reads reads' (Ok y)
+  entry_said ms many right said = record {
+    text = says_all (λ bytes k. ap (map of_tree) (right bytes k)) said;
+    path = keeps;
+    counted = λ bytes k noted. by_line _ (left.path.counted bytes (knows_places _ _ _ _ bytes k noted)) (some bytes k);
+    paid = λ numbered. paid_says _ said (some_said _ many) (left.most numbered);
+  }
+
+  pub entry_stopped : {T : Type 0} {a b : Progress} {fault : _} (ms : List TreeMessage) → 1 ≤ length ms →
+      ForBytes (KnowsPath v d.contents w x t) (λ bytes. lines (volume_of v bytes) ≡ ms) → Stopped a b (map of_tree ms) →
+      ReportsEntries {T = T} v d w w' x t t' lines a b reads reads' (Err (Out fault))
+  entry_stopped ms many right stopped = record {
+    text = stops_all (λ bytes k. ap (map of_tree) (right bytes k)) stopped;
+    path = keeps;
+    counted = λ bytes k noted. by_line _ (left.path.counted bytes (knows_places _ _ _ _ bytes k noted)) (some bytes k);
+    paid = λ numbered. paid_stops _ stopped (some_said _ many) (left.most numbered);
+  }
