@@ -1,5 +1,5 @@
 -- What the lists of a workspace show of a volume.
-use Rattle.std.specs.Prelude.{◌≡◌, ℕ, Bool, List, ◌≤◌, ◌/◌, ◌==◌, true, false, length, slice_index}
+use Rattle.std.specs.Prelude.{◌≡◌, ℕ, Bool, List, ◌<◌, ◌≤◌, ◌/◌, ◌==◌, true, false, length, slice_index}
 use Rattle.ffs_volume.specs.{Blocks.Inodes.is_allocated, Blocks.Inodes.is_unknown, Encodings.Kinds.class_of_kind}
 use Rattle.ffs_volume.specs.Directories.Roles.{Volume, is_dir, is_suspect}
 use Rattle.ffs_volume.specs.Directories.{Climb.is_value, Graph.parent, Parents.graph_of}
@@ -37,3 +37,8 @@ pub record HasFlagAndWord (i : Inodes) (flags : List Bool) (words : List ℕ) : 
 pub record CanStamp (i : Inodes) (s : ℕ) (words : List ℕ) : Type 0 where
   pub each : length words ≡ length i.kinds.now
   pub dir : 2 ≤ s
+
+-- and the inode x has kind, mark and parent, too
+pub record CanStampInode (i : Inodes) (s : ℕ) (words : List ℕ) (x : ℕ) : Type 0 where
+  pub stamp : CanStamp i s words
+  pub inode : x < length i.kinds.now
