@@ -5,7 +5,7 @@ use Rattle.ffs_pathnames.proofs.{LineCounts.lines_long, LookLaws.quiet_silent, H
 use Rattle.ffs_pathnames.proofs.{PassedLaws.{IsDirectory, right_reported}, BetweenLaws.{unstamped, looked}}
 use Rattle.ffs_pathnames.proofs.BetweenLaws.{looked_right, quiet_next, reported_next}
 use Rattle.ffs_pathnames.specs.{declared.look.Examination.Examination, Examines.{IsExamined, LeavesAllButDue}}
-use Rattle.ffs_pathnames.specs.{Begins.{dir_header_lines, started_entry, IsDirectoryBegun}, PassedRight.AreRightBefore}
+use Rattle.ffs_pathnames.specs.{Begins.{AreFirstTwo, dir_header_lines, IsDirectoryBegun}, PassedRight.AreRightBefore}
 use Rattle.ffs_pathnames.specs.{Header.header_reported, PassedNames.{PassedNames, are_quiet, entries_reported}}
 use Rattle.ffs_pathnames.specs.PassedNames.{after_entries}
 use Rattle.ffs_volume.specs.{declared.Layout.Layout, Blocks.Inodes.inode_of, Directories.{Entries.Entry, Graph.parent}}
@@ -47,12 +47,11 @@ attr_size v b d = refl
 pub starts_are : (v : Layout) (b : List ℕ) (d : ℕ) (old new : Workspace) (e : Examination) (start : List ℕ)
     (above : Option ℕ) (first second : Option Entry) →
     IsExamined v b d old e start new → above ≡ parent (graph_of (volume_of v b)) d →
-    first ≡ started_entry 0 e.look.started v.order start →
-    second ≡ started_entry 1 e.look.started v.order start →
+    AreFirstTwo first second e.look.started v.order start →
     header_reported (attributes (volume_of v b) d) (dir_path (graph_of (volume_of v b)) d) d above e.look.gap
     e.look.sound first second ≡ dir_header_lines (volume_of v b) d
 unfolding dir_header_lines start_entry
-starts_are v b d old new e start above first second f p q r = grind arith
+starts_are v b d old new e start above first second f p two = grind arith
 
 pub begun_is : (v : Layout) (b : List ℕ) (d : ℕ) (old new more : Workspace) (e : Examination) (start : List ℕ) →
     IsExamined v b d old e start new → LeavesAllButDue old new → more ≡ record new { windows = more.windows } →

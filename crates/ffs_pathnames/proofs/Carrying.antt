@@ -15,8 +15,7 @@ use Rattle.ffs_names.specs.Surveys.{IsUntouched}
 use Rattle.ffs_workspace.specs.{declared.workspace.Workspace.Workspace, Lengths.{IsFor, inodes_of}, Holds.bool_at}
 use Rattle.ffs_workspace.specs.{Holds.{HoldsClaims, HoldsReferences, HoldsSurvey}, Leaves.LeavesSurvey}
 use Rattle.ffs_workspace.proofs.{KindLaws.{reports_at, suspect_is}, Leaving.{claims_left, survey_left, leaves_all}}
-use Rattle.ffs_report.specs.declared.fault.RunFault.{RunFault, TheVariants.Read}
-use Rattle.ffs_pathnames.specs.{RootAnswers.AtReadFault, Gathers.passed_of, DirectoryContext.DirectoryContext}
+use Rattle.ffs_pathnames.specs.{Gathers.passed_of, DirectoryContext.DirectoryContext}
 use Rattle.ffs_pathnames.specs.Before.{IsNonePassed, IsBefore, IsBeforeNoted, is_checked, root_reported}
 use Rattle.ffs_pathnames.specs.{Calm.IsSilentDirectory, PassedRight.AreRightBefore, Stamps.KeepPlaces}
 use Rattle.ffs_pathnames.proofs.{Begun.{directory_is, quiet_parts}, StampLaws.{noted_kept, stamps_length}}
@@ -37,11 +36,6 @@ pub if_both : {T E : Type 0} (r : Result T E) (P Q R : T → Type 0) → ((x : T
     → IfOk r R
 if_both (Ok x) P Q R f p q = f x p q
 if_both (Err e) P Q R f p q = tt
-
--- where a read failed
-pub at_fault : {T : Type 0} (r : Result T RunFault) (P : Type 0) → P → AtReadFault r P
-at_fault (Err (Read fault)) P h = h
-at_fault r P h = tt
 
 -- a survey leaves what the block check found
 pub claims_untouched : (v : Layout) (b : List ℕ) (old new : Workspace) → IsUntouched old new → HoldsClaims v b old →

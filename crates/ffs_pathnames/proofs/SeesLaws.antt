@@ -1,6 +1,6 @@
 -- What a workspace shows, and what is read of directories, is the volume's.
 use Rattle.std.proofs.Common.{◌≡◌, ◌≤◌, refl, sym, ap, ◌∙◌, ℕ, true, false, ◌==◌, List, length, Option, Some, None}
-use Rattle.std.{proofs.Common.{arith, ne_eqb}, specs.{Option.unwrap_or, List.flat_map}}
+use Rattle.std.{proofs.Common.{arith, ne_eqb, slice_index}, specs.{Option.unwrap_or, List.flat_map}}
 use Rattle.ffs_volume.specs.declared.{Layout.Layout, Class.{Class, TheVariants.{Partial, File, Dir}}, Inode.Inode}
 use Rattle.ffs_volume.specs.Blocks.{Inodes.{is_file_or_dir, is_allocated, is_unknown, inode_of}, Steps.steps_of}
 use Rattle.ffs_volume.{specs.{Laws.Geometry.IsAcceptedLayout, Directories.Climb.is_value}, proofs.CutLaws.replay_at}
@@ -9,6 +9,7 @@ use Rattle.ffs_volume.specs.Directories.Volumes.{volume_of, volume_with, is_inod
 use Rattle.ffs_volume.specs.Encodings.Replay.{cut_at, fresh_replay, replayed_steps}
 use Rattle.ffs_workspace.specs.{declared.workspace.Workspace.Workspace, Lengths.inodes_of, Holds.HoldsClaims}
 use Rattle.ffs_workspace.{specs.Holds.HoldsSurvey, proofs.KindLaws.{reports_at, dir_is, suspect_is, type_is, class_is}}
+use Rattle.ffs_workspace.{specs.Notes.cut_in, proofs.NoteLaws.cut_is_noted}
 use Rattle.ffs_names.specs.Readings.{chunks_in}
 use Rattle.ffs_pathnames.specs.{declared.inodes.Inodes.Inodes, Sees.Sees}
 
@@ -44,6 +45,11 @@ sees v b w i s h r =
 -- those of an inode with this cut (`chunks_in`), as a name that proofs here don't look into
 unfoldable pub chunks_read : Layout → Inode → ℕ → List ℕ → List Chunk
 chunks_read v i cut b = chunks_in v b i cut
+
+-- the cut that is noted
+pub cut_here : {v : Layout} {w : Workspace} {cut : ℕ} {b : List ℕ} (x : ℕ) → IsAcceptedLayout v →
+    cut ≡ cut_in (slice_index w.notes.items x) → HoldsClaims v b w → cut ≡ cut_at v b x
+cut_here {v = v} {b = b} x sound is h = is ∙ (ap cut_in (h.notes x) ∙ cut_is_noted v b x sound)
 
 pub chunks_are : (v : Layout) (b : List ℕ) (d : ℕ) {i : Inode} {cut : ℕ} → IsAcceptedLayout v →
     is_inode_number v d ≡ true → i ≡ inode_of v b d → cut ≡ cut_at v b d →

@@ -1,21 +1,23 @@
 -- What is known between two directories of the pathname check.
 use Rattle.std.specs.Prelude.{◌≡◌, ◌<◌, ◌≤◌, ℕ, Bool, true, false, not, ◌&&◌, ◌||◌, ◌==◌, if◌then◌else◌, List, [], ◌∷◌}
 use Rattle.std.specs.Prelude.{Option, Some, slice_index, vec_len}
+use Rattle.ffs_image.specs.Device.{Device}
 use Rattle.ffs_volume.specs.{declared.{constants.TheConstants.DT_DIR, Layout.Layout}, Messages.Kinds.TreeMessage}
 use Rattle.ffs_volume.specs.Messages.Kinds.{reported, root_none, root_not_dir, root_suspect}
 use Rattle.ffs_volume.specs.{Directories.Volumes.volume_of, Encodings.Kinds.{is_dir_kind, is_empty_dir_kind}}
 use Rattle.ffs_workspace.specs.{declared.workspace.Workspace.Workspace, Leaves.LeavesSurvey, Places.AreChunksNumbered}
-use Rattle.ffs_workspace.specs.{Places.AreNoted, Holds.{bool_at, HoldsClaims, HoldsSurvey}}
+use Rattle.ffs_workspace.specs.{Places.AreNoted, Holds.{bool_at, HoldsClaims, HoldsSurvey}, Ready.IsReady}
 use Rattle.ffs_pathnames.specs.{Gathers.{AreAsLong, passed_of}, PassedRight.AreRightBefore}
 use Rattle.ffs_survey.specs.Survey.{suspect_at}
 
 -- what was found stays; the flags of suspect inodes are taken away, and no others; nothing is
--- stamped
+-- stamped; and a workspace that was ready still is
 pub record IsNonePassed (old new : Workspace) : Type 0 where
   pub survey : LeavesSurvey old new
   pub flags : (x : ℕ) → bool_at new.flags.items x
       ≡ (bool_at old.flags.items x && not (suspect_at old.kinds.items old.marked.items x))
   pub stamps : (x : ℕ) → slice_index (passed_of new).stamps x ≡ 0
+  pub ready : (v : Layout) (d : Device) → IsReady v d old → IsReady v d new
 
 -- the image gives the bytes, the workspace holds what the block check and the survey leave, and
 -- what it remembers of the names that were passed before d is right
@@ -35,6 +37,11 @@ pub record IsBeforeNoted (v : Layout) (contents : Option (List ℕ)) (w : Worksp
 abbrev pub is_checked : Workspace → ℕ → Bool
 is_checked w x = (slice_index w.kinds.items x == DT_DIR)
     && (bool_at w.marked.items x || not (bool_at w.flags.items x))
+
+-- the lists say something of each inode, and x is one
+pub record ListsInode (w : Workspace) (x : ℕ) : Type 0 where
+  pub lists : AreAsLong w
+  pub number : x < vec_len w.kinds
 
 -- the lists say something of each of so many inodes, and the root is one
 pub record ListsInodes (w : Workspace) (n : ℕ) : Type 0 where

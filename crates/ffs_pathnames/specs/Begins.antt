@@ -22,6 +22,11 @@ number_if n = if n == 0 then None else Some n
 abbrev pub started_entry : ℕ → Bool → Order → List ℕ → Option Entry
 started_entry i started order start = option_and_then (λ c. nth_entry i c.entries) (start_chunk [] started order start)
 
+-- these are the first two entries of that chunk
+pub record AreFirstTwo (one two : Option Entry) (started : Bool) (order : Order) (start : List ℕ) : Type 0 where
+  pub first : one ≡ started_entry 0 started order start
+  pub second : two ≡ started_entry 1 started order start
+
 -- its inode is read, its entries were looked at, and each inode that belongs to it is stamped
 pub record IsDirectoryBegun (v : Layout) (b : List ℕ) (d : ℕ) (old : Workspace) (e : Examination) (new : Workspace)
     :

@@ -1,12 +1,14 @@
 -- What is reported of entries of a directory.
-use Rattle.std.specs.Prelude.{ℕ, List, Result, map}
+use Rattle.std.specs.Prelude.{◌≡◌, ℕ, List, OnOk, Result, map}
 use Rattle.ffs_image.specs.Device.{Device}
 use Rattle.ffs_report.specs.{Paid.Paid, Progress.Progress, PhaseOutcome.PhaseReports, declared.fault.RunFault.RunFault}
+use Rattle.ffs_report.specs.Known.{ForBytes}
 use Rattle.ffs_volume.specs.{declared.Layout.Layout, Directories.{Roles.Volume, Volumes.volume_of}}
 use Rattle.ffs_volume.specs.{Messages.Kinds.{TreeMessage, of_tree}, Report.Reads.line_reads}
 use Rattle.ffs_workspace.specs.{Places.AreChunksNumbered, declared.workspace.Workspace.Workspace}
 use Rattle.ffs_pathnames.specs.DirectoryContext.{DirectoryContext, KeepsPath, KnowsPath}
-use Rattle.ffs_pathnames.specs.{LineReads.ReadsByLines, declared.one_entry.EntryTexts.EntryTexts}
+use Rattle.ffs_pathnames.specs.{LineReads.ReadsByLines, declared.one_entry.EntryTexts.EntryTexts, Gathers.passed_of}
+use Rattle.ffs_pathnames.specs.{PassedNames.PassedNames, Ready.{LinesLeave, PhaseLeaves}}
 
 -- lines of entries of the directory x are said, those of the volume; the path that is begun, if
 -- any, is still that of x; and the image is read for no more than these lines, any image for no more
@@ -18,3 +20,20 @@ pub record ReportsEntries {T : Type 0} (v : Layout) (d : Device) (w w' : Workspa
   pub path : KeepsPath v d w x t t'
   pub counted : ReadsByLines v (DirectoryContext v d.contents w x) (λ b. lines (volume_of v b)) w w' reads reads'
   pub paid : AreChunksNumbered v → Paid line_reads said said' reads reads' result
+
+-- such lines are said, and all of the workspace but its windows stays
+pub record ReportsOneEntry {T : Type 0} (v : Layout) (d d' : Device) (w w' : Workspace) (x : ℕ) (t t' : EntryTexts)
+    (messages : Volume → List TreeMessage) (said said' : Progress) (reads reads' : ℕ) (result : Result T RunFault) :
+    Type 0 where
+  pub lines : ReportsEntries v d w w' x t t' messages said said' reads reads' result
+  pub leaves : LinesLeave v d d' w w' t'.kept_parent result
+
+-- such lines are said, and the entries are passed: `after` says which names are passed then. The
+-- chunk of the current directory is as it was
+pub record PassesEntries {T : Type 0} (v : Layout) (d d' : Device) (w w' : Workspace) (x : ℕ) (t t' : EntryTexts)
+    (messages : Volume → List TreeMessage) (after : Volume → PassedNames) (said said' : Progress) (reads reads' : ℕ)
+    (result : Result T RunFault) : Type 0 where
+  pub lines : ReportsEntries v d w w' x t t' messages said said' reads reads' result
+  pub passed : OnOk result (ForBytes (DirectoryContext v d.contents w x) (λ b. after (volume_of v b) ≡ passed_of w'))
+  pub leaves : PhaseLeaves v d d' w w' t'.kept_parent result
+  pub chunk : w'.windows.chunk ≡ w.windows.chunk

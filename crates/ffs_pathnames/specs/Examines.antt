@@ -1,6 +1,7 @@
 -- What of a workspace stays, and what is found of a directory.
-use Rattle.std.specs.{Prelude.{◌≡◌, ℕ, ◌==◌, List, [], Result}, List.find}
+use Rattle.std.specs.{Prelude.{◌≡◌, ◌+◌, ◌≤◌, ℕ, ◌==◌, IfOk, List, [], Result}, List.find}
 use Rattle.ffs_image.specs.{Device.Device, Reads.ReadAfter, declared.image.ImageFault.ImageFault}
+use Rattle.ffs_report.specs.Known.{ForBytes}
 use Rattle.ffs_volume.specs.{declared.Layout.Layout, Blocks.Inodes.inode_of, Directories.Roles.roled_entries}
 use Rattle.ffs_volume.specs.Directories.{PathnameCheck.are_sound, Volumes.volume_of}
 use Rattle.ffs_pathnames.specs.{declared.look.{Examination.Examination, FirstLook.FirstLook}, Gathers.passed_of}
@@ -39,3 +40,22 @@ pub record IsExamined (v : Layout) (b : List ℕ) (d : ℕ) (old : Workspace) (e
     (new : Workspace) : Type 0 where
   pub inode : e.inode ≡ inode_of v b d
   pub look : IsLookedAt v b d old e.look start new
+
+-- a look at a directory finds this, by what is known of the bytes, and makes `cost` reads at most
+pub record Examines {T : Type 0} (v : Layout) (d d' : Device) (old new : Workspace) (knows : List ℕ → Type 0)
+    (cost : List ℕ → ℕ) (finds : T → List ℕ → Type 0) (count count' : ℕ) (result : Result T ImageFault) :
+    Type 0 where
+  pub found : IfOk result (λ x. ForBytes knows (finds x))
+  pub reads : ForBytes knows (λ b. count' ≤ count + cost b)
+  pub leaves : ExamineLeaves v d d' old new result
+
+-- the same of a look that takes its reads of those that are left: it finds this where they suffice,
+-- and makes no more than these, of any image
+pub record ExaminesWithin {T : Type 0} (v : Layout) (d d' : Device) (old new : Workspace) (knows : List ℕ → Type 0)
+    (cost : List ℕ → ℕ) (finds : T → List ℕ → Type 0) (count count' left left' : ℕ) (result : Result T ImageFault) :
+    Type 0 where
+  pub found : IfOk result (λ x. ForBytes knows (λ b. cost b ≤ left → finds x b))
+  pub reads : ForBytes knows (λ b. count' ≤ count + cost b)
+  pub kept : ForBytes knows (λ b. left ≤ left' + cost b)
+  pub most : count' + left' ≤ count + left
+  pub leaves : ExamineLeaves v d d' old new result

@@ -1,15 +1,25 @@
--- What a look at the entries of a chunk finds.
-use Rattle.std.specs.Prelude.{◌≡◌, ℕ, Bool, List}
-use Rattle.ffs_volume.specs.{declared.Order.Order, Directories.{Entries.{entries_of, is_sound}, Roles.{Volume, roled_from}}}
+-- What a look at an entry, and at those of a chunk, finds.
+use Rattle.std.specs.{Prelude.{◌≡◌, ℕ, Bool, List}, declared.{alloc.Global.Global, vec.Vec.Vec}}
+use Rattle.ffs_volume.specs.{declared.Order.Order, Directories.Entries.{entries_of, is_sound}}
+use Rattle.ffs_volume.specs.Directories.Roles.{RoledEntry, Volume, roled_from}
 use Rattle.ffs_pathnames.specs.declared.{look.ChunkLook.ChunkLook, inodes.Inodes.Inodes}
-use Rattle.ffs_pathnames.specs.{PassedNames.{are_quiet, after_looks}, Sees.{Sees, stamps_in}}
+use Rattle.ffs_pathnames.specs.{PassedNames.{are_quiet, after_look, after_looks}, Sees.{Sees, stamps_in}}
+use Rattle.ffs_pathnames.specs.Stamps.{KeepsWords}
+
+-- the inode that an entry names is stamped where it belongs to the directory d, by the words before
+-- and after, which note the same places
+pub record StampsEntry (inodes : Inodes) (d : ℕ) (e : RoledEntry) (old new : Vec ℕ Global) : Type 0 where
+  pub after : (vol : Volume) → Sees vol inodes
+      → stamps_in inodes new.items ≡ after_look vol d (stamps_in inodes old.items) e
+  pub words : KeepsWords old new
 
 -- of a chunk's entries: whether nothing may be reported of them, and whether they fill it; and each
 -- inode that belongs to the directory d is stamped, by the words before and after
-pub record IsChunkLook (inodes : Inodes) (d : ℕ) (order : Order) (first : Bool) (chunk old : List ℕ)
-    (f : ChunkLook) (new : List ℕ) : Type 0 where
+pub record IsChunkLook (inodes : Inodes) (d : ℕ) (order : Order) (first : Bool) (chunk : List ℕ)
+    (f : ChunkLook) (old new : Vec ℕ Global) : Type 0 where
   pub quiet : (vol : Volume) → Sees vol inodes
-      → f.quiet ≡ are_quiet vol d (stamps_in inodes old) (roled_from first 0 (entries_of order chunk))
-  pub stamps : (vol : Volume) → Sees vol inodes → stamps_in inodes new
-      ≡ after_looks vol d (stamps_in inodes old) (roled_from first 0 (entries_of order chunk))
+      → f.quiet ≡ are_quiet vol d (stamps_in inodes old.items) (roled_from first 0 (entries_of order chunk))
+  pub stamps : (vol : Volume) → Sees vol inodes → stamps_in inodes new.items
+      ≡ after_looks vol d (stamps_in inodes old.items) (roled_from first 0 (entries_of order chunk))
   pub sound : f.sound ≡ is_sound order chunk
+  pub words : KeepsWords old new

@@ -1,6 +1,6 @@
 -- What reading the next chunk of a directory gives, takes and leaves. Where each chunk of the volume
 -- has a number, no more than the reads that are left are made for it.
-use Rattle.std.specs.Prelude.{◌≡◌, ◌+◌, ◌≤◌, ℕ, List, Option, IfSome, Result}
+use Rattle.std.specs.Prelude.{◌≡◌, ◌+◌, ◌≤◌, ℕ, IfOk, List, Option, IfSome, Result}
 use Rattle.ffs_image.specs.{Device.{Device, ForContents}, Reads.ReadAfter, declared.image.ImageFault.ImageFault}
 use Rattle.ffs_names.specs.{Costs.{to_read, HoldsReading}, Readings.{rest, GivesChunk}, Windows.CanReadChunks}
 use Rattle.ffs_names.specs.declared.chunks.Chunks.{Chunks}
@@ -37,3 +37,10 @@ pub record NextLeaves (old new : Chunks) (d d' : Device) (windows windows' : Win
   pub ready : CanReadChunks old.walk.geometry.layout d' windows'.blocks windows'.chunk
   pub read : ReadAfter d d' result
   pub others : windows' ≡ record windows { blocks = windows'.blocks; chunk = windows'.chunk }
+
+-- a reading of the next chunk gives one, takes reads of those that are left, and leaves the windows
+pub record ReadsNext (d d' : Device) (windows windows' : Windows) (old new : Chunks) (bytes : List ℕ)
+    (count count' left left' : ℕ) (result : Result (Option ℕ) ImageFault) : Type 0 where
+  pub chunk : IfOk result (GivesNext d.contents windows old new bytes left)
+  pub takes : TakesNext d.contents windows windows' old new count count' left left' result
+  pub leaves : NextLeaves old new d d' windows windows' result

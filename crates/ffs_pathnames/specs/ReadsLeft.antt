@@ -4,7 +4,6 @@ use Rattle.ffs_image.specs.{Device.Device, declared.image.ImageFault.ImageFault}
 use Rattle.ffs_volume.specs.{declared.Layout.Layout, Directories.Volumes.volume_of}
 use Rattle.ffs_workspace.specs.declared.workspace.Workspace.{Workspace}
 use Rattle.ffs_names.specs.Costs.{directory_cost, directory_runs}
-use Rattle.ffs_report.specs.Known.{ForBytes}
 use Rattle.ffs_pathnames.specs.{declared.look.Directory.Directory, DirectoryContext.{DirectoryContext, KnowsDirectory}}
 use Rattle.ffs_pathnames.specs.{Before.IsBeforeNoted, Gathers.passed_of, PassedRight.AreRightBefore}
 
@@ -28,13 +27,6 @@ pub record LeftForBoth (v : Layout) (device : Device) (w : Workspace) (d left : 
 -- next one
 abbrev pub LeftForNext : Layout → Device → Workspace → (d left : ℕ) → List ℕ → Type 0
 LeftForNext v device w d left b = IsBeforeNoted v device.contents w d b × (2 * directory_cost v b d ≤ left)
-
--- a look at a directory makes `cost` reads at most, by what is known of the bytes, and takes them of
--- those that are left: none more than these, of any image
-pub record TakesLook (knows : List ℕ → Type 0) (cost : List ℕ → ℕ) (count count' left left' : ℕ) : Type 0 where
-  pub reads : ForBytes knows (λ b. count' ≤ count + cost b)
-  pub kept : ForBytes knows (λ b. left ≤ left' + cost b)
-  pub most : count' + left' ≤ count + left
 
 -- a call takes at most `before` of the reads that are left. Without a fault, `after` of these are
 -- left to later calls

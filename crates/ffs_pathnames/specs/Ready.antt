@@ -57,12 +57,6 @@ pub record PhaseLeaves {T : Type 0} (v : Layout) (d d' : Device) (w w' : Workspa
   pub places : KeepPlaces w.queue.items w'.queue.items
   pub ready : ReadyAfter v d' w' s result
 
--- the same of a call that reports entries: the chunk of the current directory is as it was, too
-pub record EntriesLeave {T : Type 0} (v : Layout) (d d' : Device) (w w' : Workspace) (s : KeptParent)
-    (result : Result T RunFault) : Type 0 where
-  pub phase : PhaseLeaves v d d' w w' s result
-  pub chunk : w'.windows.chunk ≡ w.windows.chunk
-
 -- the same of a call that changes nothing of the workspace but its windows; the chunk of the
 -- current directory is as it was
 pub record LinesLeave {T : Type 0} (v : Layout) (d d' : Device) (w w' : Workspace) (s : KeptParent)
@@ -71,11 +65,3 @@ pub record LinesLeave {T : Type 0} (v : Layout) (d d' : Device) (w w' : Workspac
   pub lists : w' ≡ record w { windows = w'.windows }
   pub chunk : w'.windows.chunk ≡ w.windows.chunk
   pub ready : ReadyAfter v d' w' s result
-
--- what the check of all directories leaves: the image, but for a read that failed, and how often
--- inodes are referred to
-pub record TreeLeaves {T : Type 0} (v : Layout) (d d' : Device) (w w' : Workspace) (result : Result T RunFault) :
-    Type 0 where
-  pub image : ImageAfter d d' result
-  pub references : w'.references ≡ w.references
-  pub ready : IsReady v d' w'

@@ -56,3 +56,8 @@ pub record PassesEntry (i : Inodes) (s : ℕ) (e : RoledEntry) (flags flags' : L
 pub record CanStamp (i : Inodes) (s : ℕ) (words : List ℕ) : Type 0 where
   pub each : length words ≡ length i.kinds.now
   pub dir : 2 ≤ s
+
+-- and the inode x has kind, mark and parent, too
+pub record CanStampInode (i : Inodes) (s : ℕ) (words : List ℕ) (x : ℕ) : Type 0 where
+  pub stamp : CanStamp i s words
+  pub inode : x < length i.kinds.now

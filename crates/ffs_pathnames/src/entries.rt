@@ -1,14 +1,12 @@
 //! A second reading of a directory, and the lines of its entries, one after another.
-ghost use Rattle.std.specs.Prelude.{◌≡◌, ◌↔◌, IsTrue, OnOk, IfOk};
+ghost use Rattle.std.specs.Prelude.{◌≡◌, ◌↔◌, IsTrue};
 ghost use Rattle.ffs_names.specs.{Costs.directory_runs, Windows.CanReadChunks};
 ghost use Rattle.ffs_volume.specs.Directories.Volumes.{volume_of};
-ghost use Rattle.ffs_report.specs.{Known.ForBytes, Progress.progress};
+ghost use Rattle.ffs_report.specs.Progress.{progress};
 ghost use Rattle.ffs_workspace.specs.Places.{AreChunksNumbered};
 ghost use Rattle.ffs_pathnames.specs.Gathers.{passed_of, roled_in, roled_lines_by, roled_value};
-ghost use Rattle.ffs_pathnames.specs.Ready.{ReadyToPath, ReadyToReport, PhaseLeaves, EntriesLeave, LinesLeave};
-ghost use Rattle.ffs_pathnames.specs.{ReadsLeft.LeftForRuns, NextChunks.{GivesNext, TakesNext, NextLeaves}};
-ghost use Rattle.ffs_pathnames.specs.{DirectoryContext.DirectoryContext, DirectoryLines.ReportsDirectory};
-ghost use Rattle.ffs_pathnames.specs.EntryLines.{ReportsEntries};
+ghost use Rattle.ffs_pathnames.specs.{Ready.{ReadyToPath, ReadyToReport}, ReadsLeft.LeftForRuns, NextChunks.ReadsNext};
+ghost use Rattle.ffs_pathnames.specs.{DirectoryLines.ReportsDirectory, EntryLines.{PassesEntries, ReportsOneEntry}};
 ghost use Rattle.ffs_pathnames.specs.PassedNames as names;
 
 use crate::inodes::Inodes;
@@ -48,13 +46,9 @@ fn next_chunk<I: Image>(
 ) -> Result<Option<u64>, ImageFault>
     requires { CanReadChunks chunks.old.walk.geometry.layout (I.device image.old)
         windows.old.blocks windows.old.chunk }
-    ensures chunk { IfOk result (λ offset. GivesNext (I.device image.old).contents windows.old
-        chunks.old chunks.new bytes.new reads_left.old offset) }
-    ensures takes { TakesNext (I.device image.old).contents windows.old windows.new
-        chunks.old chunks.new (I.reads image.old) (I.reads image.new)
+    ensures { ReadsNext (I.device image.old) (I.device image.new) windows.old windows.new
+        chunks.old chunks.new bytes.new (I.reads image.old) (I.reads image.new)
         reads_left.old reads_left.new result }
-    ensures leaves { NextLeaves chunks.old chunks.new (I.device image.old) (I.device image.new)
-        windows.old windows.new result }
 {
     if !are_chunks_numbered(&chunks.walk.geometry) {
         return chunks.next(image, &mut windows.blocks, &mut windows.chunk, bytes);
@@ -82,22 +76,17 @@ pub fn report_directory<I: Image, W: Output>(
 ) -> Result<(), RunFault>
     requires { ReadyToReport geometry.now.layout (I.device image.old) workspace.old
         checking.old.texts.kept_parent directory.now }
-    ensures lines { ReportsDirectory geometry.now.layout workspace.old
+    ensures { ReportsDirectory geometry.now.layout (I.device image.old) (I.device image.new)
+        workspace.old workspace.new checking.old checking.new
         (LeftForRuns geometry.now.layout (I.device image.old) workspace.old directory.now
         checking.old.reads_left)
         (λ b. directory_runs geometry.now.layout b directory.now.number)
         (λ b. names.directory_reported (volume_of geometry.now.layout b) directory.now.number
         (passed_of workspace.old))
+        (λ _ b. names.after_directory (volume_of geometry.now.layout b) directory.now.number
+        (passed_of workspace.old) ≡ passed_of workspace.new)
         (progress W.sink report.old) (progress W.sink report.new)
-        (I.reads image.old) (I.reads image.new)
-        checking.old.reads_left checking.new.reads_left result }
-    ensures passed { OnOk result (ForBytes
-        (LeftForRuns geometry.now.layout (I.device image.old) workspace.old directory.now
-        checking.old.reads_left)
-        (λ b. names.after_directory (volume_of geometry.now.layout b) directory.now.number
-        (passed_of workspace.old) ≡ passed_of workspace.new)) }
-    ensures leaves { PhaseLeaves geometry.now.layout (I.device image.old) (I.device image.new)
-        workspace.old workspace.new checking.new.texts.kept_parent result }
+        (I.reads image.old) (I.reads image.new) result }
 {
     let mut chunks = Chunks::start(geometry, &directory.inode, directory.cut);
     let mut bytes = [0u8; DIRBLKSIZ];
@@ -146,15 +135,13 @@ fn report_by_role<I: Image, W: Output>(
     report: &mut Report<'_, W>,
     entry: &DirectoryEntry<'_>,
 ) -> Result<(), RunFault>
-    requires ready { ReadyToPath geometry.now.layout (I.device image.old) workspace.old
+    requires { ReadyToPath geometry.now.layout (I.device image.old) workspace.old
         texts.old.kept_parent entry.now.dir }
-    ensures lines { ReportsEntries geometry.now.layout (I.device image.old) workspace.old
-        workspace.new entry.now.dir texts.old texts.new
+    ensures { ReportsOneEntry geometry.now.layout (I.device image.old) (I.device image.new)
+        workspace.old workspace.new entry.now.dir texts.old texts.new
         (λ v. roled_lines_by v workspace.old entry.now)
         (progress W.sink report.old) (progress W.sink report.new)
         (I.reads image.old) (I.reads image.new) result }
-    ensures leaves { LinesLeave geometry.now.layout (I.device image.old) (I.device image.new)
-        workspace.old workspace.new texts.new.kept_parent result }
 {
     match entry.role {
         Role::Empty => Ok(()),
@@ -178,19 +165,14 @@ pub fn report_entry<I: Image, W: Output>(
     report: &mut Report<'_, W>,
     entry: &DirectoryEntry<'_>,
 ) -> Result<(), RunFault>
-    requires ready { ReadyToPath geometry.now.layout (I.device image.old) workspace.old
+    requires { ReadyToPath geometry.now.layout (I.device image.old) workspace.old
         texts.old.kept_parent entry.now.dir }
-    ensures lines { ReportsEntries geometry.now.layout (I.device image.old) workspace.old
-        workspace.new entry.now.dir texts.old texts.new
+    ensures { PassesEntries geometry.now.layout (I.device image.old) (I.device image.new)
+        workspace.old workspace.new entry.now.dir texts.old texts.new
         (λ v. roled_lines_by v workspace.old entry.now)
+        (λ v. names.after_roled v entry.now.dir (passed_of workspace.old) (roled_value entry.now))
         (progress W.sink report.old) (progress W.sink report.new)
         (I.reads image.old) (I.reads image.new) result }
-    ensures passed { OnOk result (ForBytes (DirectoryContext geometry.now.layout
-        (I.device image.old).contents workspace.old entry.now.dir)
-        (λ b. names.after_roled (volume_of geometry.now.layout b) entry.now.dir
-        (passed_of workspace.old) (roled_value entry.now) ≡ passed_of workspace.new)) }
-    ensures leaves { EntriesLeave geometry.now.layout (I.device image.old) (I.device image.new)
-        workspace.old workspace.new texts.new.kept_parent result }
 {
     report_by_role(geometry, image, workspace, texts, report, entry)?;
     let inodes = Inodes {
@@ -223,19 +205,14 @@ pub fn report_chunk<I: Image, W: Output>(
 ) -> Result<(), RunFault>
     requires { ReadyToPath geometry.now.layout (I.device image.old) workspace.old
         texts.old.kept_parent chunk.now.dir }
-    ensures lines { ReportsEntries geometry.now.layout (I.device image.old) workspace.old
-        workspace.new chunk.now.dir texts.old texts.new
+    ensures { PassesEntries geometry.now.layout (I.device image.old) (I.device image.new)
+        workspace.old workspace.new chunk.now.dir texts.old texts.new
         (λ v. names.entries_reported v chunk.now.dir (passed_of workspace.old)
+        (roled_in geometry.now.layout chunk.now))
+        (λ v. names.after_entries v chunk.now.dir (passed_of workspace.old)
         (roled_in geometry.now.layout chunk.now))
         (progress W.sink report.old) (progress W.sink report.new)
         (I.reads image.old) (I.reads image.new) result }
-    ensures passed { OnOk result (ForBytes (DirectoryContext geometry.now.layout
-        (I.device image.old).contents workspace.old chunk.now.dir)
-        (λ b. names.after_entries (volume_of geometry.now.layout b) chunk.now.dir
-        (passed_of workspace.old) (roled_in geometry.now.layout chunk.now)
-        ≡ passed_of workspace.new)) }
-    ensures leaves { EntriesLeave geometry.now.layout (I.device image.old) (I.device image.new)
-        workspace.old workspace.new texts.new.kept_parent result }
 {
     let order = geometry.layout.order;
     let mut place = 0usize;

@@ -1,12 +1,11 @@
 //! A first look at a directory: whether anything may be reported of it.
-ghost use Rattle.std.specs.Prelude.{◌≡◌, ◌+◌, ◌≤◌, IfOk, true, false, ◌<◌, ◌==◌, List, ◌∷◌, ◌&&◌, ◌||◌, not, length};
+ghost use Rattle.std.specs.Prelude.{◌≡◌, ◌+◌, ◌≤◌, true, false, ◌<◌, ◌==◌, List, ◌∷◌, ◌&&◌, ◌||◌, not, length};
 ghost use Rattle.std.specs.Prelude.{slice_index};
-ghost use Rattle.ffs_report.specs.Known.{ForBytes};
 ghost use Rattle.ffs_names.specs.Costs.{directory_cost, directory_runs};
-ghost use Rattle.ffs_pathnames.specs.{DirectoryContext.{DirectoryContext, KnowsDirectory}, Looks.IsChunkLook};
-ghost use Rattle.ffs_pathnames.specs.{Examines.{ExamineLeaves, IsExamined, IsLookedAt}, Reads.start_chunk};
-ghost use Rattle.ffs_pathnames.specs.{ReadsLeft.{LeftForLook, TakesLook}, Ready.{ReadyToLook, ReadyToRead}};
-ghost use Rattle.ffs_pathnames.specs.{Sees.{CanStamp, Sees, stamps_in}, Stamps.KeepsWords};
+ghost use Rattle.ffs_pathnames.specs.DirectoryContext.{DirectoryContext, KnowsDirectory};
+ghost use Rattle.ffs_pathnames.specs.{Examines.{Examines, ExaminesWithin, IsExamined, IsLookedAt}, Reads.start_chunk};
+ghost use Rattle.ffs_pathnames.specs.{Looks.{IsChunkLook, StampsEntry}, Ready.{ReadyToLook, ReadyToRead}};
+ghost use Rattle.ffs_pathnames.specs.Sees.{CanStamp, CanStampInode, Sees, stamps_in};
 ghost use Rattle.ffs_volume.specs.{declared.{Order.Order, Role.Role}, Directories.Entries.{Chunk, chunk_of}};
 ghost use Rattle.ffs_volume.specs.Directories.{Roles.Volume, PathnameCheck.is_bad_whiteout};
 ghost use Rattle.ffs_layout.specs.Entry.{entry_value};
@@ -39,14 +38,12 @@ fn examine_all<I: Image>(
     start: &mut [u8; DIRBLKSIZ],
 ) -> Result<Examination, ImageFault>
     requires { ReadyToLook geometry.now.layout (I.device image.old) workspace.old dir }
-    ensures found { IfOk result (λ e. ForBytes
+    ensures { Examines geometry.now.layout (I.device image.old) (I.device image.new)
+        workspace.old workspace.new
         (DirectoryContext geometry.now.layout (I.device image.old).contents workspace.old dir)
-        (λ b. IsExamined geometry.now.layout b dir workspace.old e start.new workspace.new)) }
-    ensures reads { ForBytes
-        (DirectoryContext geometry.now.layout (I.device image.old).contents workspace.old dir)
-        (λ b. I.reads image.new ≤ I.reads image.old + directory_cost geometry.now.layout b dir) }
-    ensures leaves { ExamineLeaves geometry.now.layout (I.device image.old) (I.device image.new)
-        workspace.old workspace.new result }
+        (λ b. directory_cost geometry.now.layout b dir)
+        (λ e b. IsExamined geometry.now.layout b dir workspace.old e start.new workspace.new)
+        (I.reads image.old) (I.reads image.new) result }
 {
     let inode = workspace.windows.table.inode_by_part(geometry, dir, image)?;
     let directory = Directory {
@@ -103,15 +100,12 @@ pub fn examine<I: Image>(
     start: &mut [u8; DIRBLKSIZ],
 ) -> Result<Examination, ImageFault>
     requires { ReadyToLook geometry.now.layout (I.device image.old) workspace.old dir }
-    ensures found { IfOk result (λ e. ForBytes
-        (LeftForLook geometry.now.layout (I.device image.old) workspace.old dir reads_left.old)
-        (λ b. IsExamined geometry.now.layout b dir workspace.old e start.new workspace.new)) }
-    ensures takes { TakesLook
+    ensures { ExaminesWithin geometry.now.layout (I.device image.old) (I.device image.new)
+        workspace.old workspace.new
         (DirectoryContext geometry.now.layout (I.device image.old).contents workspace.old dir)
-        (λ b. directory_cost geometry.now.layout b dir) (I.reads image.old) (I.reads image.new)
-        reads_left.old reads_left.new }
-    ensures leaves { ExamineLeaves geometry.now.layout (I.device image.old) (I.device image.new)
-        workspace.old workspace.new result }
+        (λ b. directory_cost geometry.now.layout b dir)
+        (λ e b. IsExamined geometry.now.layout b dir workspace.old e start.new workspace.new)
+        (I.reads image.old) (I.reads image.new) reads_left.old reads_left.new result }
 {
     let mut limited = LimitedImage::new(image, *reads_left);
     let examined = examine_all(geometry, &mut limited, workspace, dir, start);
@@ -178,16 +172,13 @@ pub fn look_directory<I: Image>(
     start: &mut [u8; DIRBLKSIZ],
 ) -> Result<FirstLook, ImageFault>
     requires { ReadyToRead geometry.now.layout (I.device image.old) workspace.old directory.now }
-    ensures found { IfOk result (λ f. ForBytes
+    ensures { Examines geometry.now.layout (I.device image.old) (I.device image.new)
+        workspace.old workspace.new
         (KnowsDirectory geometry.now.layout (I.device image.old) workspace.old directory.now)
-        (λ b. IsLookedAt geometry.now.layout b directory.now.number workspace.old f start.new
-        workspace.new)) }
-    ensures reads { ForBytes
-        (KnowsDirectory geometry.now.layout (I.device image.old) workspace.old directory.now)
-        (λ b. I.reads image.new
-        ≤ I.reads image.old + directory_runs geometry.now.layout b directory.now.number) }
-    ensures leaves { ExamineLeaves geometry.now.layout (I.device image.old) (I.device image.new)
-        workspace.old workspace.new result }
+        (λ b. directory_runs geometry.now.layout b directory.now.number)
+        (λ f b. IsLookedAt geometry.now.layout b directory.now.number workspace.old f start.new
+        workspace.new)
+        (I.reads image.old) (I.reads image.new) result }
 {
     let inodes = Inodes {
         kinds: workspace.kinds.as_slice(),
@@ -233,8 +224,7 @@ pub fn is_bad_whiteout(entry: &Entry<'_>) -> bool
 /// is in its parent, and the first there: the first look stamps the inode when it meets that one, so
 /// there the entry is the parent entry whose inode isn't stamped.
 fn is_quiet_inode(inodes: &Inodes<'_>, dir: u32, words: &FilledList<u32>, entry: &Entry<'_>) -> bool
-    requires inode { entry.now.number < length inodes.now.kinds.now }
-    requires words { CanStamp inodes.now dir words.now.items }
+    requires { CanStampInode inodes.now dir words.now.items entry.now.number }
     ensures { (vol : Volume) → Sees vol inodes.now → result
         ≡ names.is_inode_quiet vol dir (stamps_in inodes.now words.now.items)
         (entry_value entry.now) }
@@ -255,7 +245,7 @@ fn is_quiet_inode(inodes: &Inodes<'_>, dir: u32, words: &FilledList<u32>, entry:
 
 /// Whether nothing is reported of a plain entry.
 fn is_quiet_plain(inodes: &Inodes<'_>, dir: u32, words: &FilledList<u32>, entry: &Entry<'_>) -> bool
-    requires words { CanStamp inodes.now dir words.now.items }
+    requires { CanStamp inodes.now dir words.now.items }
     ensures { (vol : Volume) → Sees vol inodes.now → result
         ≡ names.is_plain_quiet vol dir (stamps_in inodes.now words.now.items)
         (entry_value entry.now) }
@@ -278,7 +268,7 @@ pub fn is_quiet(
     role: Role,
     entry: &Entry<'_>,
 ) -> bool
-    requires words { CanStamp inodes.now dir words.now.items }
+    requires { CanStamp inodes.now dir words.now.items }
     ensures { (vol : Volume) → Sees vol inodes.now → result
         ≡ names.is_quiet vol dir (stamps_in inodes.now words.now.items)
         (record { role = role; entry = entry_value entry.now }) }
@@ -299,11 +289,9 @@ pub fn stamp(
     role: Role,
     entry: &Entry<'_>,
 )
-    requires words { CanStamp inodes.now dir words.old.items }
-    ensures after { (vol : Volume) → Sees vol inodes.now → stamps_in inodes.now words.new.items
-        ≡ names.after_look vol dir (stamps_in inodes.now words.old.items)
-        (record { role = role; entry = entry_value entry.now }) }
-    ensures words { KeepsWords words.old words.new }
+    requires { CanStamp inodes.now dir words.old.items }
+    ensures { StampsEntry inodes.now dir (record { role = role; entry = entry_value entry.now })
+        words.old words.new }
 {
     if role != Role::Plain {
         return;
@@ -337,9 +325,7 @@ pub fn look_chunk(
     words: &mut FilledList<u32>,
 ) -> ChunkLook
     requires { CanStamp inodes.now dir words.old.items }
-    ensures look { IsChunkLook inodes.now dir order first chunk.now words.old.items result
-        words.new.items }
-    ensures words { KeepsWords words.old words.new }
+    ensures { IsChunkLook inodes.now dir order first chunk.now result words.old words.new }
 {
     let mut place = 0usize;
     let mut index = 0usize;

@@ -3,11 +3,9 @@ ghost use Rattle.std.specs.Prelude.{◌≡◌, ◌∷◌, length, map, ◌&&◌,
 ghost use Rattle.ffs_report.specs.{PhaseOutcome.PhaseOutcome, Progress.progress};
 ghost use Rattle.ffs_volume.specs.Directories.{PathnameCheck.pathname_lines, Volumes.volume_of};
 ghost use Rattle.ffs_volume.specs.{Encodings.Kinds.is_dir_kind, Messages.Kinds.of_tree};
-ghost use Rattle.ffs_volume.specs.declared.Layout.{Layout};
 ghost use Rattle.ffs_workspace.specs.{Found.WithClaims, Holds.bool_at, Ready.IsReady};
 ghost use Rattle.ffs_pathnames.specs.{Before.{root_reported, IsNonePassed}, Gathers.AreAsLong};
 ghost use Rattle.ffs_pathnames.specs.{Phase2.{Phase2Ends, Phase2Reads}, RootAnswers.is_go, SaysNames.SaysNames};
-ghost use Rattle.ffs_image.specs.Device.{Device};
 ghost use Rattle.ffs_survey.specs.Survey.{suspect_at};
 ghost use Rattle.ffs_volume.specs.Messages.Kinds as messages;
 
@@ -124,10 +122,8 @@ fn clear_suspects(inodes: &Inodes<'_>, flags: &mut [bool])
 /// are left out, since nothing can be reported of them.
 #[tactic(auto, using(ffs_workspace::proofs::PlaceLaws::filled_noted, std::proofs::lemmas::List::with_items_is, crate::proofs::StampLaws::none_due, crate::proofs::StampLaws::none_stamped))]
 pub fn clear_passed(workspace: &mut Workspace)
-    requires lengths { AreAsLong workspace.old }
-    ensures clear { IsNonePassed workspace.old workspace.new }
-    ensures ready { (v : Layout) (d : Device) → IsReady v d workspace.old
-        → IsReady v d workspace.new }
+    requires { AreAsLong workspace.old }
+    ensures { IsNonePassed workspace.old workspace.new }
 {
     let inodes = Inodes {
         kinds: workspace.kinds.as_slice(),

@@ -1,19 +1,17 @@
 //! The pathname check of one directory after another, from the root on.
-ghost use Rattle.std.specs.Prelude.{suc, ◌≡◌, ◌-◌, ◌*◌, ◌<◌, ◌≤◌, ℕ, true, false, OnOk, IfOk, vec_len, List, option_map};
-ghost use Rattle.ffs_report.specs.{Known.ForBytes, Progress.progress};
+ghost use Rattle.std.specs.Prelude.{suc, ◌≡◌, ◌-◌, ◌*◌, ◌<◌, ◌≤◌, ℕ, true, false, vec_len, List, option_map};
+ghost use Rattle.ffs_report.specs.Progress.{progress};
 ghost use Rattle.ffs_volume.specs.{declared.Layout.Layout, Messages.Kinds.lines_from};
 ghost use Rattle.ffs_volume.specs.Directories.{Parents.graph_of, Graph.parent, Volumes.volume_of};
-ghost use Rattle.ffs_volume.specs.Directories.PathnameCheck.{continues_after_root, directory_lines, pathname_lines};
-ghost use Rattle.ffs_volume.specs.Directories.PathnameCheck.{sized_dir_lines};
+ghost use Rattle.ffs_volume.specs.Directories.PathnameCheck.{directory_lines, pathname_lines, sized_dir_lines};
 ghost use Rattle.ffs_names.specs.Costs.{directory_cost};
 ghost use Rattle.ffs_pathnames.specs.{ReadsLeft.{LeftForNext, LeftForBoth, LeftForLook}, PassedRight.AreRightBefore};
-ghost use Rattle.ffs_pathnames.specs.Before.{ListsInodes, IsBefore, IsBeforeNoted, IsFirstChecked, is_checked};
-ghost use Rattle.ffs_pathnames.specs.{Gathers.{AreAsLong, passed_of}, RootAnswers.{AtReadFault, is_go}};
-ghost use Rattle.ffs_pathnames.specs.Ready.{ReadyToCheck, ReadyToPath, PhaseLeaves, TreeLeaves, LinesLeave};
-ghost use Rattle.ffs_pathnames.specs.Begins.{dir_header_lines, started_entry, IsDirectoryBegun};
+ghost use Rattle.ffs_pathnames.specs.Before.{ListsInode, ListsInodes, IsBeforeNoted, IsFirstChecked, is_checked};
+ghost use Rattle.ffs_pathnames.specs.{Gathers.passed_of, RootAnswers.AnswersRoot, Ready.{ReadyToCheck, ReadyToPath}};
+ghost use Rattle.ffs_pathnames.specs.Begins.{AreFirstTwo, dir_header_lines, IsDirectoryBegun};
 ghost use Rattle.ffs_pathnames.specs.{Header.header_lines, DirectoryContext.KnowsHeader};
 ghost use Rattle.ffs_pathnames.specs.DirectoryLines.{ReportsDirectory, ReportsLines, ReportsTree};
-ghost use Rattle.ffs_workspace.specs.{Holds.{HoldsClaims, HoldsSurvey}, Lengths.inodes_of, Ready.IsReady};
+ghost use Rattle.ffs_workspace.specs.{Holds.HoldsSurvey, Lengths.inodes_of, Ready.IsReady};
 ghost use Rattle.ffs_layout.specs.Entry.{entry_value};
 
 use crate::entries::report_directory;
@@ -33,8 +31,7 @@ use ffs_workspace::{Workspace, sweep_reads};
 /// Whether an inode is a directory that isn't of size 0 and isn't known to be calm. That a marked
 /// one is flagged doesn't mean that it is calm, but that an entry has named it.
 fn is_checked(workspace: &Workspace, number: u32) -> bool
-    requires kinds { number < vec_len workspace.now.kinds }
-    requires lists { AreAsLong workspace.now }
+    requires { ListsInode workspace.now number }
     ensures { result ≡ is_checked workspace.now number }
 {
     let index = number as usize;
@@ -66,21 +63,16 @@ fn check_inode<I: Image, W: Output>(
 ) -> Result<(), RunFault>
     requires { ReadyToCheck geometry.now.layout (I.device image.old) workspace.old
         checking.old.texts.kept_parent number }
-    ensures lines { ReportsDirectory geometry.now.layout workspace.old
+    ensures { ReportsDirectory geometry.now.layout (I.device image.old) (I.device image.new)
+        workspace.old workspace.new checking.old checking.new
         (LeftForNext geometry.now.layout (I.device image.old) workspace.old number
         checking.old.reads_left)
         (λ b. 2 * directory_cost geometry.now.layout b number)
         (λ b. directory_lines (volume_of geometry.now.layout b) number)
+        (λ _ b. IsBeforeNoted geometry.now.layout (I.device image.old).contents
+        workspace.new (suc number) b)
         (progress W.sink report.old) (progress W.sink report.new)
-        (I.reads image.old) (I.reads image.new)
-        checking.old.reads_left checking.new.reads_left result }
-    ensures before { OnOk result (ForBytes
-        (LeftForNext geometry.now.layout (I.device image.old) workspace.old number
-        checking.old.reads_left)
-        (λ b. IsBeforeNoted geometry.now.layout (I.device image.old).contents
-        workspace.new (suc number) b)) }
-    ensures leaves { PhaseLeaves geometry.now.layout (I.device image.old) (I.device image.new)
-        workspace.old workspace.new checking.new.texts.kept_parent result }
+        (I.reads image.old) (I.reads image.new) result }
 {
     if is_checked(workspace, number) {
         return check_directory(geometry, image, workspace, checking, report, number);
@@ -98,22 +90,16 @@ fn check_inodes<I: Image, W: Output>(
     report: &mut Report<'_, W>,
 ) -> Result<(), RunFault>
     requires { IsReady geometry.now.layout (I.device image.old) workspace.old }
-    ensures lines { ReportsTree geometry.now.layout
-        (λ b. IsBefore geometry.now.layout (I.device image.old).contents workspace.old 2 b)
+    ensures tree { ReportsTree geometry.now.layout (I.device image.old) (I.device image.new)
+        workspace.old workspace.new
         (λ b. lines_from (directory_lines (volume_of geometry.now.layout b)) 2
         (inodes_of geometry.now.layout - 2))
         (progress W.sink report.old) (progress W.sink report.new)
         (I.reads image.old) (I.reads image.new) result }
-    ensures holds { OnOk result (ForBytes
-        (λ b. IsBefore geometry.now.layout (I.device image.old).contents workspace.old 2 b)
-        (λ b. HoldsClaims geometry.now.layout b workspace.new
-        × HoldsSurvey geometry.now.layout b workspace.new)) }
 
     // Where no directory is checked, nothing is read.
     ensures unchecked { ((x : ℕ) → 2 ≤ x → x < inodes_of geometry.now.layout
         → is_checked workspace.old x ≡ false) → workspace.new ≡ workspace.old }
-    ensures leaves { TreeLeaves geometry.now.layout (I.device image.old) (I.device image.new)
-        workspace.old workspace.new result }
 {
     let count = geometry.layout.ncg * geometry.layout.ipg;
     let first = first_checked(workspace, count);
@@ -144,25 +130,12 @@ pub fn check_tree<I: Image, W: Output>(
     report: &mut Report<'_, W>,
 ) -> Result<Root, RunFault>
     requires { IsReady geometry.now.layout (I.device image.old) workspace.old }
-    ensures lines { ReportsTree geometry.now.layout
-        (λ b. IsBefore geometry.now.layout (I.device image.old).contents workspace.old 2 b)
+    ensures tree { ReportsTree geometry.now.layout (I.device image.old) (I.device image.new)
+        workspace.old workspace.new
         (λ b. pathname_lines (volume_of geometry.now.layout b))
         (progress W.sink report.old) (progress W.sink report.new)
         (I.reads image.old) (I.reads image.new) result }
-    ensures goes { IfOk result (λ root. ForBytes
-        (λ b. IsBefore geometry.now.layout (I.device image.old).contents workspace.old 2 b)
-        (λ b. is_go root ≡ continues_after_root (volume_of geometry.now.layout b))) }
-
-    // A read failed only where the run continues after the root.
-    ensures fault { AtReadFault result (ForBytes
-        (λ b. IsBefore geometry.now.layout (I.device image.old).contents workspace.old 2 b)
-        (λ b. continues_after_root (volume_of geometry.now.layout b) ≡ true)) }
-    ensures holds { OnOk result (ForBytes
-        (λ b. IsBefore geometry.now.layout (I.device image.old).contents workspace.old 2 b)
-        (λ b. HoldsClaims geometry.now.layout b workspace.new
-        × HoldsSurvey geometry.now.layout b workspace.new)) }
-    ensures leaves { TreeLeaves geometry.now.layout (I.device image.old) (I.device image.new)
-        workspace.old workspace.new result }
+    ensures root { AnswersRoot geometry.now.layout (I.device image.old) workspace.old result }
 {
     let kind = workspace.kinds[ROOTINO as usize];
     let marked = workspace.marked[ROOTINO as usize];
@@ -205,8 +178,8 @@ fn first_two<'a>(
     started: bool,
     start: &'a [u8; DIRBLKSIZ],
 ) -> (Option<Entry<'a>>, Option<Entry<'a>>)
-    ensures first { option_map entry_value result.0 ≡ started_entry 0 started order start.now }
-    ensures second { option_map entry_value result.1 ≡ started_entry 1 started order start.now }
+    ensures { AreFirstTwo (option_map entry_value result.0) (option_map entry_value result.1)
+        started order start.now }
 {
     if !started {
         return (None, None);
@@ -231,13 +204,12 @@ fn report_header<I: Image, W: Output>(
 ) -> Result<(), RunFault>
     requires { ReadyToPath geometry.now.layout (I.device image.old) workspace.old kept_parent.old
         header.number }
-    ensures lines { ReportsLines geometry.now.layout
+    ensures { ReportsLines geometry.now.layout (I.device image.old) (I.device image.new)
+        workspace.old workspace.new kept_parent.new
         (KnowsHeader geometry.now.layout (I.device image.old) workspace.old header.entry)
         (λ b. header_lines (volume_of geometry.now.layout b) header.entry)
-        workspace.old workspace.new (progress W.sink report.old) (progress W.sink report.new)
+        (progress W.sink report.old) (progress W.sink report.new)
         (I.reads image.old) (I.reads image.new) result }
-    ensures leaves { LinesLeave geometry.now.layout (I.device image.old) (I.device image.new)
-        workspace.old workspace.new kept_parent.new result }
 {
     if is_in_order(header) {
         return Ok(());
@@ -269,20 +241,15 @@ fn begin_directory<I: Image, W: Output>(
 ) -> Result<Examination, RunFault>
     requires { ReadyToCheck geometry.now.layout (I.device image.old) workspace.old
         checking.old.texts.kept_parent dir }
-    ensures lines { ReportsDirectory geometry.now.layout workspace.old
+    ensures { ReportsDirectory geometry.now.layout (I.device image.old) (I.device image.new)
+        workspace.old workspace.new checking.old checking.new
         (LeftForLook geometry.now.layout (I.device image.old) workspace.old dir
         checking.old.reads_left)
         (λ b. directory_cost geometry.now.layout b dir)
         (λ b. dir_header_lines (volume_of geometry.now.layout b) dir)
+        (λ e b. IsDirectoryBegun geometry.now.layout b dir workspace.old e workspace.new)
         (progress W.sink report.old) (progress W.sink report.new)
-        (I.reads image.old) (I.reads image.new)
-        checking.old.reads_left checking.new.reads_left result }
-    ensures begun { IfOk result (λ e. ForBytes
-        (LeftForLook geometry.now.layout (I.device image.old) workspace.old dir
-        checking.old.reads_left)
-        (λ b. IsDirectoryBegun geometry.now.layout b dir workspace.old e workspace.new)) }
-    ensures leaves { PhaseLeaves geometry.now.layout (I.device image.old) (I.device image.new)
-        workspace.old workspace.new checking.new.texts.kept_parent result }
+        (I.reads image.old) (I.reads image.new) result }
 {
     let mut start = [0u8; DIRBLKSIZ];
     let examined = examine(
@@ -330,21 +297,16 @@ pub fn check_directory<I: Image, W: Output>(
 ) -> Result<(), RunFault>
     requires { ReadyToCheck geometry.now.layout (I.device image.old) workspace.old
         checking.old.texts.kept_parent dir }
-    ensures lines { ReportsDirectory geometry.now.layout workspace.old
+    ensures { ReportsDirectory geometry.now.layout (I.device image.old) (I.device image.new)
+        workspace.old workspace.new checking.old checking.new
         (LeftForBoth geometry.now.layout (I.device image.old) workspace.old dir
         checking.old.reads_left)
         (λ b. 2 * directory_cost geometry.now.layout b dir)
         (λ b. sized_dir_lines (volume_of geometry.now.layout b) dir)
+        (λ _ b. AreRightBefore (volume_of geometry.now.layout b) (suc dir)
+        (passed_of workspace.new))
         (progress W.sink report.old) (progress W.sink report.new)
-        (I.reads image.old) (I.reads image.new)
-        checking.old.reads_left checking.new.reads_left result }
-    ensures passed { OnOk result (ForBytes
-        (LeftForBoth geometry.now.layout (I.device image.old) workspace.old dir
-        checking.old.reads_left)
-        (λ b. AreRightBefore (volume_of geometry.now.layout b) (suc dir)
-        (passed_of workspace.new))) }
-    ensures leaves { PhaseLeaves geometry.now.layout (I.device image.old) (I.device image.new)
-        workspace.old workspace.new checking.new.texts.kept_parent result }
+        (I.reads image.old) (I.reads image.new) result }
 {
     let examined = begin_directory(geometry, image, workspace, checking, report, dir)?;
     if examined.look.quiet {

@@ -1,42 +1,49 @@
-use Rattle.std.proofs.Common.{arith, refl}
-use Rattle.ffs_report.proofs.{Reporting.says_none, Paying.paid_none}
-use Rattle.ffs_pathnames.{proofs.LineCounts.few_none, specs.PassedNames.roled_reported}
+use Rattle.std.proofs.Common.{◌≡◌, arith, refl, ap, ℕ, List, [], Ok, map}
+use Rattle.ffs_image.specs.Device.{Device}
+use Rattle.ffs_volume.specs.{declared.Layout.Layout, Directories.Roles.Volume, Messages.Kinds.{TreeMessage, of_tree}}
+use Rattle.ffs_report.{specs.Progress.Progress, proofs.{Reporting.says_none, Paying.paid_none}}
+use Rattle.ffs_workspace.specs.declared.workspace.Workspace.{Workspace}
+use Rattle.ffs_pathnames.specs.{EntryLines.ReportsOneEntry, Ready.ReadyToPath, PassedNames.roled_reported}
+use Rattle.ffs_pathnames.{specs.declared.one_entry.EntryTexts.EntryTexts, proofs.LineCounts.few_none}
 use Rattle.ffs_pathnames.proofs.entries.report_by_role.Goals as goal
 
-pub returns-in-Empty-clause-lines : goal.returns-in-Empty-clause-lines
-unfolding roled_reported
-returns-in-Empty-clause-lines g c =
-    record {
-      text = rw c.in-Empty.is (says_none (λ b k. refl));
-      path = λ b k. k.path;
-      counted = λ b k noted. few_none;
-      paid = λ numbered. paid_none (omega arith);
-    }
+-- where there is no line, nothing changes
+nothing_said : {v : Layout} {d : Device} {w : Workspace} {x : ℕ} {t : EntryTexts} {lines : Volume → List TreeMessage}
+    {said : Progress} {reads : ℕ} → ReadyToPath v d w t.kept_parent x → ((vol : Volume) → lines vol ≡ []) →
+    ReportsOneEntry {T = Unit {0}} v d d w w x t t lines said said reads reads (Ok tt)
+nothing_said r none = record {
+  lines = record {
+    text = says_none (λ b k. ap (map of_tree) (none _));
+    path = λ b k. k.path;
+    counted = λ b k noted. few_none;
+    paid = λ numbered. paid_none (omega arith);
+  };
+  leaves = record {
+    image = refl;
+    lists = refl;
+    chunk = refl;
+    ready = record { ready = r.ready; kept_parent = r.kept_parent };
+  };
+}
 
-pub returns-in-Dot-clause-lines : goal.returns-in-Dot-clause-lines
+pub returns-in-Empty : goal.returns-in-Empty
 unfolding roled_reported
-returns-in-Dot-clause-lines g c =
-    record {
-      text = rw c.in-Dot.is (says_none (λ b k. refl));
-      path = λ b k. k.path;
-      counted = λ b k noted. few_none;
-      paid = λ numbered. paid_none (omega arith);
-    }
+returns-in-Empty g c = rw c.in-Empty.is (nothing_said c.requires (λ v. refl))
 
-pub returns-in-Dotdot-clause-lines : goal.returns-in-Dotdot-clause-lines
+pub returns-in-Dot : goal.returns-in-Dot
 unfolding roled_reported
-returns-in-Dotdot-clause-lines g c =
-    record {
-      text = rw c.in-Dotdot.is (says_none (λ b k. refl));
-      path = λ b k. k.path;
-      counted = λ b k noted. few_none;
-      paid = λ numbered. paid_none (omega arith);
-    }
+returns-in-Dot g c = rw c.in-Dot.is (nothing_said c.requires (λ v. refl))
 
-pub returns-in-Extra-clause-lines : goal.returns-in-Extra-clause-lines
+pub returns-in-Dotdot : goal.returns-in-Dotdot
 unfolding roled_reported
-returns-in-Extra-clause-lines g c = rw c.in-Extra.is c.report_extra.ensures.lines
+returns-in-Dotdot g c = rw c.in-Dotdot.is (nothing_said c.requires (λ v. refl))
 
-pub returns-in-Plain-clause-lines : goal.returns-in-Plain-clause-lines
+pub returns-in-Extra : goal.returns-in-Extra
 unfolding roled_reported
-returns-in-Plain-clause-lines g c = rw c.in-Plain.is c.report_plain.ensures.lines
+returns-in-Extra g c =
+    rw c.in-Extra.is (record { lines = c.report_extra.ensures.lines; leaves = c.report_extra.ensures.leaves })
+
+pub returns-in-Plain : goal.returns-in-Plain
+unfolding roled_reported
+returns-in-Plain g c =
+    rw c.in-Plain.is (record { lines = c.report_plain.ensures.lines; leaves = c.report_plain.ensures.leaves })

@@ -57,39 +57,35 @@ entries-init g c = record {
   paid = λ numbered. paid_none (omega arith);
 }
 
-pub returns-in_err-report_entry-clause-lines : goal.returns-in_err-report_entry-clause-lines
-returns-in_err-report_entry-clause-lines g c =
-    let at = (goal.at.returns-in_err-report_entry-clause-lines g c).After-role_of in
+pub returns-in_err-report_entry : goal.returns-in_err-report_entry
+returns-in_err-report_entry g c =
+    let at = (goal.at.returns-in_err-report_entry g c).After-role_of in
     let v = c.args.geometry.now.layout in
     let x = c.args.chunk.now in
     let m = passed_of c.entries.workspace in
     let inv = c.entries.invariant in
     let lines = c.in_err-report_entry.ensures.lines in
-    let p = err_from_is_err_and c.from_residual.result c.from_residual.ensures.1 in
-    record {
-      text = rw (p.1, p.2) (of_fault (Unit {0}) (Unit {0}) _ _ _ _ _ _ _ _ c.in_err-report_entry.field-0.0 inv.said
-          (λ b k. entry_reported (volume_of v b) x.dir m _ _ _ (next g at) refl)
-          (reports_knowing (Unit {0}) _ _ _ _ _ (Err c.in_err-report_entry.field-0.0) (know_path g at) lines.text));
-      path = λ b k. lines.path b (know_path g at b k);
-      counted = λ b k noted. read_all (read_more _ _ (inv.counted b k noted)
-          (entry_counted (volume_of v b) x.dir m _ _ _ (next g at) refl)
-          (lines.counted b (know g at b k) (noted_kept v b _ _ inv.places noted)));
-      paid = λ numbered. rw (p.1, p.2) (paid_then (inv.paid numbered) (lines.paid numbered));
-    }
-
-pub returns-in_err-report_entry-clause-leaves : goal.returns-in_err-report_entry-clause-leaves
-returns-in_err-report_entry-clause-leaves g c =
-    let inv = c.entries.invariant in
-    let left = c.in_err-report_entry.ensures.leaves.phase in
+    let left = c.in_err-report_entry.ensures.leaves in
     let p = err_from_is_err_and c.from_residual.result c.from_residual.ensures.1 in
     rw (p.1, p.2) (record {
-      phase = record {
+      lines = record {
+        text = of_fault (Unit {0}) (Unit {0}) _ _ _ _ _ _ _ _ c.in_err-report_entry.field-0.0 inv.said
+            (λ b k. entry_reported (volume_of v b) x.dir m _ _ _ (next g at) refl)
+            (reports_knowing (Unit {0}) _ _ _ _ _ (Err c.in_err-report_entry.field-0.0) (know_path g at) lines.text);
+        path = λ b k. lines.path b (know_path g at b k);
+        counted = λ b k noted. read_all (read_more _ _ (inv.counted b k noted)
+            (entry_counted (volume_of v b) x.dir m _ _ _ (next g at) refl)
+            (lines.counted b (know g at b k) (noted_kept v b _ _ inv.places noted)));
+        paid = λ numbered. paid_then (inv.paid numbered) (lines.paid numbered);
+      };
+      passed = tt;
+      leaves = record {
         image = image_same (Unit {0}) (Unit {0}) _ _ _ c.in_err-report_entry.field-0.0 inv.device left.image;
         survey = leaves_more _ _ _ inv.survey left.survey;
         places = keep_more _ _ _ inv.places left.places;
         ready = left.ready;
       };
-      chunk = c.in_err-report_entry.ensures.leaves.chunk ∙ inv.chunk;
+      chunk = c.in_err-report_entry.ensures.chunk ∙ inv.chunk;
     })
 
 pub entries-preserved : goal.entries-preserved
@@ -105,11 +101,11 @@ entries-preserved g c =
     rw c.from-place.ensures (record {
       place = omega arith;
       index = omega arith;
-      ready = ok.leaves.phase.ready;
-      device = ok.leaves.phase.image ∙ inv.device;
-      survey = leaves_more _ _ _ inv.survey ok.leaves.phase.survey;
-      places = keep_more _ _ _ inv.places ok.leaves.phase.places;
-      chunk = ok.leaves.chunk ∙ inv.chunk;
+      ready = ok.leaves.ready;
+      device = ok.leaves.image ∙ inv.device;
+      survey = leaves_more _ _ _ inv.survey ok.leaves.survey;
+      places = keep_more _ _ _ inv.places ok.leaves.places;
+      chunk = ok.chunk ∙ inv.chunk;
       path = λ b k. ok.lines.path b (know_path g at b k);
       passed = λ b k. entry_passed (volume_of v b) x.dir m (next g at) (ok.passed b (know g at b k)) (inv.passed b k);
       said = of_part _ _ _ _ _ _ _ _ inv.said
@@ -121,8 +117,8 @@ entries-preserved g c =
       paid = λ numbered. paid_then (inv.paid numbered) (ok.lines.paid numbered);
     })
 
-pub returns-clause-lines : goal.returns-clause-lines
-returns-clause-lines g c =
+pub returns : goal.returns
+returns g c =
     let v = c.args.geometry.now.layout in
     let x = c.args.chunk.now in
     let m = passed_of c.entries.workspace in
@@ -130,25 +126,14 @@ returns-clause-lines g c =
     let end = none_left v.order x.bytes.now x.first c.entries.index c.entries.place
     (none v.order x.bytes.now c.entries.place c.entry_at.result c.in_default.is c.entry_at.ensures.value) in
     record {
-      text = of_same _ _ (λ b. []) _ _ _ inv.said
-          (λ b k. ap (λ es. map of_tree (entries_reported (volume_of v b) x.dir m es)) end);
-      path = inv.path;
-      counted = λ b k noted. read_all (inv.counted b k noted);
-      paid = inv.paid;
-    }
-
-pub returns-clause-leaves : goal.returns-clause-leaves
-returns-clause-leaves g c =
-    let inv = c.entries.invariant in
-    record {
-      phase = record { image = inv.device; survey = inv.survey; places = inv.places; ready = inv.ready };
+      lines = record {
+        text = of_same _ _ (λ b. []) _ _ _ inv.said
+            (λ b k. ap (λ es. map of_tree (entries_reported (volume_of v b) x.dir m es)) end);
+        path = inv.path;
+        counted = λ b k noted. read_all (inv.counted b k noted);
+        paid = inv.paid;
+      };
+      passed = λ b k. inv.passed b k ∙ ap (after_entries (volume_of v b) x.dir m) end;
+      leaves = record { image = inv.device; survey = inv.survey; places = inv.places; ready = inv.ready };
       chunk = inv.chunk;
     }
-
-pub returns-clause-passed : goal.returns-clause-passed
-returns-clause-passed g c = λ b k.
-    let v = c.args.geometry.now.layout in
-    let x = c.args.chunk.now in
-    let end = none_left v.order x.bytes.now x.first c.entries.index c.entries.place
-    (none v.order x.bytes.now c.entries.place c.entry_at.result c.in_default.is c.entry_at.ensures.value) in
-    c.entries.invariant.passed b k ∙ ap (after_entries (volume_of v b) x.dir (passed_of c.entries.workspace)) end

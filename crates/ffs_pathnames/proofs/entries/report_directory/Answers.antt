@@ -3,18 +3,17 @@ use Rattle.std.{proofs.{Common.inr, lemmas.{Bool.both_ways, Result.err_from_is_e
 use Rattle.ffs_image.specs.Device.{Faulted}
 use Rattle.ffs_volume.{proofs.Numbered.as_many, specs.Directories.{Entries.{Chunk, chunk_of}, Roles.roled_chunk}}
 use Rattle.ffs_volume.specs.{Directories.Volumes.volume_of, Messages.Kinds.of_tree}
-use Rattle.ffs_workspace.{specs.{Notes.cut_in, Leaves.LeavesSurvey}, proofs.NoteLaws.cut_is_noted}
-use Rattle.ffs_workspace.specs.{Places.AreChunksNumbered, declared.workspace.Workspace.Workspace}
+use Rattle.ffs_workspace.specs.{Leaves.LeavesSurvey, Places.AreChunksNumbered, declared.workspace.Workspace.Workspace}
 use Rattle.ffs_workspace.proofs.Leaving.{leaves_all, leaves_more, windows_leave}
 use Rattle.ffs_names.{specs.{Readings.rest, Costs.{directory_runs, to_read, HoldsReading}}, proofs.DirCosts.runs_are}
-use Rattle.ffs_report.{specs.PhaseOutcome.ImageAfter, proofs.Reporting.{of_begins, of_reads, of_same, of_part}}
+use Rattle.ffs_report.proofs.Reporting.{of_begins, of_reads, of_same, of_part}
 use Rattle.ffs_report.proofs.{Reporting.{of_fault, said_knows, reports_knowing}, Paying.{paid_beside, paid_failed}}
 use Rattle.ffs_report.proofs.Paying.{paid_none, paid_then, paid_within}
 use Rattle.ffs_pathnames.specs.{Gathers.passed_of, DirectoryContext.DirectoryContext, PassedNames.after_entries}
 use Rattle.ffs_pathnames.{specs.PassedNames.entries_reported, proofs.StampLaws.{keep_more, noted_kept}}
-use Rattle.ffs_pathnames.proofs.{Passing.{chunk_reported, chunk_passed, knows_on, all_read}, ReadyLaws.can_read_in}
-use Rattle.ffs_pathnames.{proofs.ReadyLaws.{windows_next, windows_read}, specs.ReadsLeft.LeftForRuns}
-use Rattle.ffs_pathnames.proofs.{LimitedLaws.numbered_or_not, LineCounts.lines_long}
+use Rattle.ffs_pathnames.proofs.{Begun.image_same, Passing.{chunk_reported, chunk_passed, knows_on, all_read}}
+use Rattle.ffs_pathnames.{proofs.ReadyLaws.{can_read_in, windows_next, windows_read}, specs.ReadsLeft.LeftForRuns}
+use Rattle.ffs_pathnames.proofs.{LimitedLaws.numbered_or_not, LineCounts.lines_long, SeesLaws.cut_here}
 use Rattle.ffs_pathnames.proofs.entries.report_directory.{Given.Over, Goals.After-next_chunk}
 use Rattle.ffs_pathnames.proofs.entries.report_directory.Goals as goal
 
@@ -31,6 +30,10 @@ now g c b k = ap (λ d. d.contents) c.chunks.invariant.device ∙ k.0.0.gives_by
 numbers : (g : Over) (c : After-next_chunk g) → AreChunksNumbered c.chunks.chunks.walk.geometry.layout →
     AreChunksNumbered c.args.geometry.now.layout
 numbers g c n = subst (λ q. AreChunksNumbered q.layout) c.chunks.invariant.geometry n
+
+numbered_there : (g : Over) (c : After-next_chunk g) → AreChunksNumbered c.args.geometry.now.layout →
+    AreChunksNumbered c.chunks.chunks.walk.geometry.layout
+numbered_there g c n = subst (λ q. AreChunksNumbered q.layout) (sym c.chunks.invariant.geometry) n
 
 -- the reads that are left suffice for the chunks to come
 enough : (g : Over) (c : After-next_chunk g) (b : List ℕ) → Known g c b →
@@ -66,8 +69,7 @@ chunks-init g c =
     let m = passed_of c.args.workspace.now in
     let known = LeftForRuns v (g.I.Image.device c.args.image.now) c.args.workspace.now x
     c.args.checking.now.reads_left in
-    let cut = λ (b : List ℕ) (k : known b). c.requires.cut
-    ∙ (ap cut_in (k.0.0.claims.notes x.number) ∙ cut_is_noted v b x.number c.args.geometry.now.sound) in
+    let cut = λ (b : List ℕ) (k : known b). cut_here x.number c.args.geometry.now.sound c.requires.cut k.0.0.claims in
     let seen = λ (b : List ℕ) (k : known b). all_read v b x.number x.inode x.cut (rest b c.start-chunks.result)
     c.args.geometry.now.sound k.0.0.dir k.0.1 (cut b k) (c.start-chunks.ensures.begins.chunks b) in
     let lines = λ (b : List ℕ) (k : known b).
@@ -93,21 +95,6 @@ chunks-init g c =
       said = of_same _ _ _ _ _ _ (of_begins _ _ _) lines;
     }
 
-pub returns-in_err-offset-clause-leaves : goal.returns-in_err-offset-clause-leaves
-returns-in_err-offset-clause-leaves g c =
-    let at = (goal.at.returns-in_err-offset-clause-leaves g c).After-next_chunk in
-    let inv = c.chunks.invariant in
-    let read = c.in_err-offset.ensures in
-    let p = err_from_is_err_and c.from_residual.result c.from_residual.ensures.1 in
-    rw (p.1, p.2) (record {
-      image = subst (λ d. Faulted d (g.I.Image.device c.next_chunk.new.image) c.in_err-offset.field-0.0.sector) inv.device
-          read.leaves.read;
-      survey = kept_between g at;
-      places = inv.places;
-      ready = windows_read _ _ _ c.chunks.workspace _ inv.ready.ready read.leaves.read.contents read.leaves.others
-          (rw inv.geometry at read.leaves.ready);
-    })
-
 pub next_chunk-requires : goal.next_chunk-requires
 next_chunk-requires g c = let inv = c.chunks.invariant in rw inv.geometry (can_read_in _ _ _ inv.ready.ready)
 
@@ -118,19 +105,6 @@ report_chunk-requires g c =
     let next = windows_next _ _ _ c.chunks.workspace _ _ inv.ready read.leaves.read read.leaves.others
     (rw inv.geometry at read.leaves.ready) in
     record { ready = next.ready; kept_parent = next.kept_parent; number = c.requires.path.number }
-
-pub returns-clause-leaves : goal.returns-clause-leaves
-returns-clause-leaves g c =
-    let at = (goal.at.returns-clause-leaves g c).After-next_chunk in
-    let inv = c.chunks.invariant in
-    let read = c.in_ok-offset.ensures in
-    record {
-      image = read.leaves.read ∙ inv.device;
-      survey = kept_between g at;
-      places = inv.places;
-      ready = windows_next _ _ _ c.chunks.workspace _ _ inv.ready read.leaves.read read.leaves.others
-          (rw inv.geometry at read.leaves.ready);
-    }
 
 pub chunks-preserved : goal.chunks-preserved
 chunks-preserved g c =
@@ -147,16 +121,16 @@ chunks-preserved g c =
     let next = λ (b : List ℕ) (k : Known g at b). (came.chunk b (now g at b k) (room g at b k)).chunks ∙ ap
     (λ q. chunk_of q.layout.order c.in-Some.offset c.next_chunk.new.bytes ∷ rest b c.next_chunk.new.chunks) inv.geometry in
     record {
-      ready = ok.leaves.phase.ready;
-      device = ok.leaves.phase.image ∙ (read.leaves.read ∙ inv.device);
+      ready = ok.leaves.ready;
+      device = ok.leaves.image ∙ (read.leaves.read ∙ inv.device);
       geometry = read.leaves.geometry ∙ inv.geometry;
-      survey = leaves_more _ _ _ (kept_between g at) ok.leaves.phase.survey;
-      places = keep_more _ _ _ inv.places ok.leaves.phase.places;
+      survey = leaves_more _ _ _ (kept_between g at) ok.leaves.survey;
+      places = keep_more _ _ _ inv.places ok.leaves.places;
       held = λ b k noted.
           let took = read.takes.reads (inv.held b k noted) b (now g at b k) (enough g at b k) in
           let few = c.report_chunk.ensures.lines.counted b (known b k)
           (noted_kept v b c.args.workspace.now.queue.items c.chunks.workspace.queue.items inv.places noted) in
-          rw (few.blocks, c.report_chunk.ensures.leaves.chunk) took.held;
+          rw (few.blocks, c.report_chunk.ensures.chunk) took.held;
       reads = λ b k noted.
           let took = read.takes.reads (inv.held b k noted) b (now g at b k) (enough g at b k) in
           let few = c.report_chunk.ensures.lines.counted b (known b k)
@@ -165,12 +139,12 @@ chunks-preserved g c =
           (ok.passed b (known b k))) in
           omega (arith, took.paid, few.count, long, inv.reads b k noted);
       spent = λ b k numbered.
-          let n = subst (λ q. AreChunksNumbered q.layout) (sym inv.geometry) numbered in
+          let n = numbered_there g at numbered in
           let took = read.takes.kept n (room g at b k n).0 b (now g at b k) (room g at b k n).1 in
           omega (arith, took.paid, inv.spent b k numbered);
       unlimited = λ none. read.takes.unlimited (λ n. none (numbers g at n)) ∙ inv.unlimited none;
       paid = λ numbered.
-          let n = subst (λ q. AreChunksNumbered q.layout) (sym inv.geometry) numbered in
+          let n = numbered_there g at numbered in
           let looked = paid_within (inv.paid numbered) (omega arith) (read.takes.most n) in
           paid_then looked (paid_beside c.next_chunk.new.reads_left (ok.lines.paid numbered));
       path = λ b k. c.report_chunk.ensures.lines.path b (record { knows = known b k; path = inv.path b k });
@@ -182,31 +156,6 @@ chunks-preserved g c =
           { knows = known b k; path = inv.path b k }) ok.lines.text);
     }
 
-pub returns-in_err-report_chunk-clause-leaves : goal.returns-in_err-report_chunk-clause-leaves
-returns-in_err-report_chunk-clause-leaves g c =
-    let at = (goal.at.returns-in_err-report_chunk-clause-leaves g c).After-next_chunk in
-    let inv = c.chunks.invariant in
-    let left = c.in_err-report_chunk.ensures.leaves.phase in
-    let p = err_from_is_err_and c.from_residual-in_err-report_chunk.result
-    c.from_residual-in_err-report_chunk.ensures.1 in
-    rw (p.1, p.2) (record {
-      image = subst (λ d. ImageAfter {T = Unit {0}} d (g.I.Image.device c.report_chunk.new.image)
-          (Err c.in_err-report_chunk.field-0.0)) (c.in_ok-offset.ensures.leaves.read ∙ inv.device) left.image;
-      survey = leaves_more _ _ _ (kept_between g at) left.survey;
-      places = keep_more _ _ _ inv.places left.places;
-      ready = left.ready;
-    })
-
-pub returns-clause-passed : goal.returns-clause-passed
-returns-clause-passed g c = λ b k.
-    let at = (goal.at.returns-clause-passed g c).After-next_chunk in
-    let v = c.args.geometry.now.layout in
-    let x = c.args.directory.now in
-    let inv = c.chunks.invariant in
-    let came = rw c.in_default.is at c.in_ok-offset.ensures.chunk in
-    inv.passed b k ∙ ap (λ cs. after_entries (volume_of v b) x.number (passed_of c.chunks.workspace)
-    (flat_map roled_chunk cs)) (came.chunk b (now g at b k) (room g at b k)).chunks.0
-
 -- the reads that are left
 left_of : (g : Over) (c : After-next_chunk g) (b : List ℕ) → Known g c b →
     c.args.checking.now.reads_left
@@ -214,7 +163,7 @@ left_of : (g : Over) (c : After-next_chunk g) (b : List ℕ) → Known g c b →
 left_of g c b k = elim (numbered_or_not c.args.geometry.now.layout) [
   | inl numbered ↦
       let inv = c.chunks.invariant in
-      let n = subst (λ q. AreChunksNumbered q.layout) (sym inv.geometry) numbered in
+      let n = numbered_there g c numbered in
       let took = c.next_chunk.ensures.takes.kept n (room g c b k n).0 b (now g c b k) (room g c b k n).1 in
       omega (arith, took.most, inv.spent b k numbered)
   | inr none ↦
@@ -222,26 +171,34 @@ left_of g c b k = elim (numbered_or_not c.args.geometry.now.layout) [
       omega (arith, same)
 ]
 
--- what is said, and what is read for it
-pub returns-in_err-offset-clause-lines : goal.returns-in_err-offset-clause-lines
-returns-in_err-offset-clause-lines g c =
-    let at = (goal.at.returns-in_err-offset-clause-lines g c).After-next_chunk in
+-- what is said, what is read for it, and what is left
+pub returns-in_err-offset : goal.returns-in_err-offset
+returns-in_err-offset g c =
+    let at = (goal.at.returns-in_err-offset g c).After-next_chunk in
     let inv = c.chunks.invariant in
+    let read = c.in_err-offset.ensures in
     let p = err_from_is_err_and c.from_residual.result c.from_residual.ensures.1 in
     rw (p.1, p.2) (record {
       text = of_reads _ _ _ _ _ inv.said;
       reads = λ b k noted.
-          let most = (c.next_chunk.ensures.takes.reads (inv.held b k noted) b (now g at b k) (enough g at b k)).most in
+          let most = (read.takes.reads (inv.held b k noted) b (now g at b k) (enough g at b k)).most in
           omega (arith, most, inv.reads b k noted);
       kept = left_of g at;
-      paid = λ numbered.
-          let n = subst (λ q. AreChunksNumbered q.layout) (sym inv.geometry) numbered in
-          paid_then (inv.paid numbered) (paid_failed (c.next_chunk.ensures.takes.most n));
+      paid = λ numbered. paid_then (inv.paid numbered) (paid_failed (read.takes.most (numbered_there g at numbered)));
+      holds = tt;
+      leaves = record {
+        image = subst (λ d. Faulted d (g.I.Image.device c.next_chunk.new.image) c.in_err-offset.field-0.0.sector)
+            inv.device read.leaves.read;
+        survey = kept_between g at;
+        places = inv.places;
+        ready = windows_read _ _ _ c.chunks.workspace _ inv.ready.ready read.leaves.read.contents read.leaves.others
+            (rw inv.geometry at read.leaves.ready);
+      };
     })
 
-pub returns-in_err-report_chunk-clause-lines : goal.returns-in_err-report_chunk-clause-lines
-returns-in_err-report_chunk-clause-lines g c =
-    let at = (goal.at.returns-in_err-report_chunk-clause-lines g c).After-next_chunk in
+pub returns-in_err-report_chunk : goal.returns-in_err-report_chunk
+returns-in_err-report_chunk g c =
+    let at = (goal.at.returns-in_err-report_chunk g c).After-next_chunk in
     let v = c.args.geometry.now.layout in
     let x = c.args.directory.now in
     let inv = c.chunks.invariant in
@@ -252,46 +209,64 @@ returns-in_err-report_chunk-clause-lines g c =
     let came = rw c.in-Some.is at read.chunk in
     let next = λ (b : List ℕ) (k : Known g at b). (came.chunk b (now g at b k) (room g at b k)).chunks ∙ ap
     (λ q. chunk_of q.layout.order c.in-Some.offset c.next_chunk.new.bytes ∷ rest b c.next_chunk.new.chunks) inv.geometry in
+    let fault = c.in_err-report_chunk.field-0.0 in
+    let lines = c.in_err-report_chunk.ensures.lines in
+    let left = c.in_err-report_chunk.ensures.leaves in
     let p = err_from_is_err_and c.from_residual-in_err-report_chunk.result
     c.from_residual-in_err-report_chunk.ensures.1 in
     rw (p.1, p.2) (record {
-      text = of_fault (Unit {0}) (Unit {0}) _ _ _ _ _ _ _ _ c.in_err-report_chunk.field-0.0 inv.said
+      text = of_fault (Unit {0}) (Unit {0}) _ _ _ _ _ _ _ _ fault inv.said
           (λ b k. chunk_reported (volume_of v b) x.number m here _ _ (next b k) refl)
-          (reports_knowing (Unit {0}) _ _ _ _ _ (Err c.in_err-report_chunk.field-0.0)
-          (λ b k. record { knows = known b k; path = inv.path b k })
-          c.in_err-report_chunk.ensures.lines.text);
+          (reports_knowing (Unit {0}) _ _ _ _ _ (Err fault)
+          (λ b k. record { knows = known b k; path = inv.path b k }) lines.text);
       reads = λ b k noted.
           let took = read.takes.reads (inv.held b k noted) b (now g at b k) (enough g at b k) in
-          let few = c.report_chunk.ensures.lines.counted b (known b k)
+          let few = lines.counted b (known b k)
           (noted_kept v b c.args.workspace.now.queue.items c.chunks.workspace.queue.items inv.places noted) in
           let long = lines_long _ _ _ (chunk_reported (volume_of v b) x.number m here _ _ (next b k) refl) in
           omega (arith, took.paid, few.count, long, inv.reads b k noted);
       kept = left_of g at;
       paid = λ numbered.
-          let n = subst (λ q. AreChunksNumbered q.layout) (sym inv.geometry) numbered in
           let looked = paid_within
           {before' = g.I.Image.reads c.args.image.now + c.args.checking.now.reads_left} (inv.paid numbered)
-          (omega arith) (c.next_chunk.ensures.takes.most n) in
-          paid_then looked (paid_beside c.next_chunk.new.reads_left (c.in_err-report_chunk.ensures.lines.paid numbered));
+          (omega arith) (read.takes.most (numbered_there g at numbered)) in
+          paid_then looked (paid_beside c.next_chunk.new.reads_left (lines.paid numbered));
+      holds = tt;
+      leaves = record {
+        image = image_same (Unit {0}) (Unit {0}) _ _ _ fault (read.leaves.read ∙ inv.device) left.image;
+        survey = leaves_more _ _ _ (kept_between g at) left.survey;
+        places = keep_more _ _ _ inv.places left.places;
+        ready = left.ready;
+      };
     })
 
-pub returns-clause-lines : goal.returns-clause-lines
-returns-clause-lines g c =
-    let at = (goal.at.returns-clause-lines g c).After-next_chunk in
+pub returns : goal.returns
+returns g c =
+    let at = (goal.at.returns g c).After-next_chunk in
     let v = c.args.geometry.now.layout in
     let x = c.args.directory.now in
     let inv = c.chunks.invariant in
     let m = passed_of c.chunks.workspace in
-    let came = rw c.in_default.is at c.in_ok-offset.ensures.chunk in
+    let read = c.in_ok-offset.ensures in
+    let came = rw c.in_default.is at read.chunk in
+    let none = λ (b : List ℕ) (k : Known g at b). (came.chunk b (now g at b k) (room g at b k)).chunks.0 in
     record {
       text = of_same _ _ (λ b. []) _ _ _ inv.said
           (λ b k. ap (λ cs. map of_tree (entries_reported (volume_of v b) x.number m (flat_map roled_chunk cs)))
-          (came.chunk b (now g at b k) (room g at b k)).chunks.0);
+          (none b k));
       reads = λ b k noted.
-          let most = (c.next_chunk.ensures.takes.reads (inv.held b k noted) b (now g at b k) (enough g at b k)).most in
+          let most = (read.takes.reads (inv.held b k noted) b (now g at b k) (enough g at b k)).most in
           omega (arith, most, inv.reads b k noted);
       kept = left_of g at;
       paid = λ numbered.
-          let n = subst (λ q. AreChunksNumbered q.layout) (sym inv.geometry) numbered in
-          paid_within (inv.paid numbered) (omega arith) (c.next_chunk.ensures.takes.most n);
+          paid_within (inv.paid numbered) (omega arith) (read.takes.most (numbered_there g at numbered));
+      holds = λ b k. inv.passed b k
+          ∙ ap (λ cs. after_entries (volume_of v b) x.number m (flat_map roled_chunk cs)) (none b k);
+      leaves = record {
+        image = read.leaves.read ∙ inv.device;
+        survey = kept_between g at;
+        places = inv.places;
+        ready = windows_next _ _ _ c.chunks.workspace _ _ inv.ready read.leaves.read read.leaves.others
+            (rw inv.geometry at read.leaves.ready);
+      };
     }

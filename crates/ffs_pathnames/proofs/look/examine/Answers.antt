@@ -1,8 +1,8 @@
-use Rattle.std.proofs.{Common.{◌∙◌, ◌≡◌, ◌≤◌, ℕ, List, ap, arith, false, sym, subst}, lemmas.Bool.both_ways}
+use Rattle.std.proofs.{Common.{◌∙◌, ◌≡◌, ◌≤◌, ◌+◌, ℕ, List, ap, arith, false, sym, subst}, lemmas.Bool.both_ways}
 use Rattle.ffs_image.{specs.{Device.Device, Limited.reads_asked}, proofs.Limits.read_over}
 use Rattle.ffs_workspace.proofs.Readiness.{ready_same}
 use Rattle.ffs_names.specs.Costs.{directory_cost}
-use Rattle.ffs_pathnames.{specs.{DirectoryContext.DirectoryContext, ReadsLeft.TakesLook}, proofs.Carrying.if_ok}
+use Rattle.ffs_pathnames.{specs.DirectoryContext.DirectoryContext, proofs.Carrying.if_ok}
 use Rattle.ffs_pathnames.proofs.{LimitedLaws.{LookedBy, looked}, look.examine.{Given.Over, Goals.After-is_spent}}
 use Rattle.ffs_pathnames.proofs.look.examine.Goals as goal
 
@@ -33,67 +33,55 @@ answered g c b k enough =
     (after g c).served.few (omega (arith, asked, c.new-limited.ensures.asked, enough))
 
 -- the reads that it made, and those that are left
-taken : (g : Over) (c : After-is_spent g) → TakesLook
-    (DirectoryContext c.args.geometry.now.layout (g.I.Image.device c.args.image.now).contents c.args.workspace.now
-    c.args.dir) (λ b. directory_cost c.args.geometry.now.layout b c.args.dir) (g.I.Image.reads c.args.image.now)
-    (g.I.Image.reads c.examine_all-examined.new.image.below.now) c.args.reads_left.now
-    c.examine_all-examined.new.image.left
-taken g c =
+taken : (g : Over) (c : After-is_spent g) (b : List ℕ) → DirectoryContext c.args.geometry.now.layout
+    (g.I.Image.device c.args.image.now).contents c.args.workspace.now c.args.dir b →
+    (g.I.Image.reads c.examine_all-examined.new.image.below.now
+    ≤ g.I.Image.reads c.args.image.now + directory_cost c.args.geometry.now.layout b c.args.dir)
+    × (c.args.reads_left.now
+    ≤ c.examine_all-examined.new.image.left + directory_cost c.args.geometry.now.layout b c.args.dir)
+taken g c b k =
     let back = after g c in
-    record {
-      reads = λ b k.
-          let asked = c.examine_all-examined.ensures.reads b (known g c b k) in
-          omega (arith, back.served.as_asked, asked, c.new-limited.ensures.asked);
-      kept = λ b k.
-          let asked = c.examine_all-examined.ensures.reads b (known g c b k) in
-          omega (arith, back.kept, asked, c.new-limited.ensures.asked);
-      most = back.most;
-    }
+    let asked = c.examine_all-examined.ensures.reads b (known g c b k) in
+    let none = c.new-limited.ensures.asked in
+    (omega (arith, back.served.as_asked, asked, none), omega (arith, back.kept, asked, none))
 
-pub returns-then-is_spent-clause-takes : goal.returns-then-is_spent-clause-takes
-returns-then-is_spent-clause-takes g c =
-    let at = (goal.at.returns-then-is_spent-clause-takes g c).After-is_spent in
-    let image = c.image-1.given.1 (after g at).served.same_image ∙ c.drop-limited.ensures.below in
-    rw (image, c.left.ensures.value) (taken g at)
-
-pub returns-clause-takes : goal.returns-clause-takes
-returns-clause-takes g c =
-    let at = (goal.at.returns-clause-takes g c).After-is_spent in
-    let image = c.image-2-1.given.1 (after g at).served.same_image ∙ c.drop-limited-2.ensures.below in
-    rw (image, c.left.ensures.value) (taken g at)
-
-pub returns-then-is_spent-clause-found : goal.returns-then-is_spent-clause-found
-returns-then-is_spent-clause-found g c = λ b k.
-    let at = (goal.at.returns-then-is_spent-clause-found g c).After-is_spent in
-    absurd (both_ways _ (answered g at b k.0 k.1) c.if-is_spent.true)
-
-pub returns-clause-found : goal.returns-clause-found
-returns-clause-found g c =
-    let at = (goal.at.returns-clause-found g c).After-is_spent in
-    if_ok c.examine_all-examined.result _ _ (λ e h b k. h b (known g at b k.0)) c.examine_all-examined.ensures.found
-
-pub returns-then-is_spent-clause-leaves : goal.returns-then-is_spent-clause-leaves
-returns-then-is_spent-clause-leaves g c =
-    let back = after g (goal.at.returns-then-is_spent-clause-leaves g c).After-is_spent in
+pub returns-then-is_spent : goal.returns-then-is_spent
+returns-then-is_spent g c =
+    let at = (goal.at.returns-then-is_spent g c).After-is_spent in
+    let back = after g at in
     let left = c.examine_all-examined.ensures.leaves in
     let image = c.image-1.given.1 back.served.same_image ∙ c.drop-limited.ensures.below in
     let over = read_over _ _ c.examine_all-examined.result (rw c.new-limited.ensures.device at left.read) in
-    rw image (record {
-      lists = left.lists;
-      ready = ready_same c.args.geometry.now.layout _ _ _ (back.served.contents ∙ sym over.contents)
-          (back.served.size ∙ sym over.size) left.ready;
-      read = back.served.refused c.if-is_spent.true;
+    rw (image, c.left.ensures.value) (record {
+      found = λ b k enough. absurd (both_ways _ (answered g at b k enough) c.if-is_spent.true);
+      reads = λ b k. (taken g at b k).0;
+      kept = λ b k. (taken g at b k).1;
+      most = back.most;
+      leaves = record {
+        lists = left.lists;
+        ready = ready_same c.args.geometry.now.layout _ _ _ (back.served.contents ∙ sym over.contents)
+            (back.served.size ∙ sym over.size) left.ready;
+        read = back.served.refused c.if-is_spent.true;
+      };
     })
 
-pub returns-clause-leaves : goal.returns-clause-leaves
-returns-clause-leaves g c =
-    let back = after g (goal.at.returns-clause-leaves g c).After-is_spent in
+pub returns : goal.returns
+returns g c =
+    let at = (goal.at.returns g c).After-is_spent in
+    let back = after g at in
     let left = c.examine_all-examined.ensures.leaves in
     let image = c.image-2-1.given.1 back.served.same_image ∙ c.drop-limited-2.ensures.below in
     let over = read_over _ _ c.examine_all-examined.result (rw c.new-limited.ensures.device at left.read) in
-    rw image (record {
-      lists = left.lists;
-      ready = ready_same c.args.geometry.now.layout _ _ _ (back.served.contents ∙ sym over.contents)
-          (back.served.size ∙ sym over.size) left.ready;
-      read = back.served.read c.if-is_spent.false;
+    rw (image, c.left.ensures.value) (record {
+      found = if_ok c.examine_all-examined.result _ _ (λ e h b k enough. h b (known g at b k))
+          c.examine_all-examined.ensures.found;
+      reads = λ b k. (taken g at b k).0;
+      kept = λ b k. (taken g at b k).1;
+      most = back.most;
+      leaves = record {
+        lists = left.lists;
+        ready = ready_same c.args.geometry.now.layout _ _ _ (back.served.contents ∙ sym over.contents)
+            (back.served.size ∙ sym over.size) left.ready;
+        read = back.served.read c.if-is_spent.false;
+      };
     })

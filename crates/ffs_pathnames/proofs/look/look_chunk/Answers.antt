@@ -33,5 +33,5 @@ entries-preserved c =
       sound = length_on c.args.order c.args.chunk.now c.entries.place e there c.entries.invariant.sound;
     })
 
-pub returns-clause-look : goal.returns-clause-look
-returns-clause-look c = grind (arith, none, none_left, and-true, length_ends)
+pub returns : goal.returns
+returns c = grind (arith, none, none_left, and-true, length_ends)

@@ -3,12 +3,12 @@ use Rattle.std.{proofs.lemmas.Result.err_from_is_err_and, specs.List.{flat_map, 
 use Rattle.ffs_image.specs.Device.{Faulted}
 use Rattle.ffs_volume.specs.{Blocks.Inodes.inode_of, Directories.{Entries.{Chunk, chunk_of}, Roles.roled_chunk}}
 use Rattle.ffs_volume.specs.Directories.{PathnameCheck.are_sound, Volumes.volume_of}
-use Rattle.ffs_workspace.{specs.Notes.cut_in, proofs.NoteLaws.cut_is_noted}
+use Rattle.ffs_workspace.specs.Holds.{HoldsClaims, HoldsSurvey}
 use Rattle.ffs_names.{specs.Readings.{rest, gap_left}, proofs.{DirCosts.runs_are, DirLaws.{dir_is, dir_size}}}
 use Rattle.ffs_pathnames.specs.{Gathers.passed_of, PassedNames.{are_quiet, after_looks}, Stamps.stamps_of}
 use Rattle.ffs_pathnames.{specs.Reads.start_chunk, proofs.StampLaws.{queue_leaves, words_more}}
-use Rattle.ffs_pathnames.proofs.{SeesLaws.{chunks_are, chunks_read, gap_is, seen_are, sees}, ReadyLaws.can_read_in}
-use Rattle.ffs_pathnames.proofs.ReadyLaws.{can_read_more, others_stay, ready_looked}
+use Rattle.ffs_pathnames.proofs.SeesLaws.{chunks_are, chunks_read, cut_here, gap_is, seen_are, sees}
+use Rattle.ffs_pathnames.proofs.ReadyLaws.{can_read_in, can_read_more, others_stay, ready_looked}
 use Rattle.ffs_pathnames.proofs.Looking.{chunk_quiet, chunk_stamps, chunk_sound, all_quiet, all_stamps, all_sound}
 use Rattle.ffs_pathnames.proofs.look.look_directory.Goals as goal
 
@@ -54,7 +54,13 @@ chunks-preserved g c =
     let made = c.requires.look.ready.ready.made in
     let inv = c.chunks.invariant in
     let old = stamps_of c.args.workspace.now.parents.items c.chunks.words.items in
-    let look = c.look_chunk-looked.ensures.look in
+    let look = c.look_chunk-looked.ensures in
+    let seen = λ (b : List ℕ) (h : HoldsClaims v b w) (r : HoldsSurvey v b w). sees v b w _ (record {
+      kinds = c.as_slice.ensures.value;
+      marked = c.as_slice-2.ensures.value;
+      parents = refl;
+      count = c.as_slice.ensures.len ∙ made.kinds;
+    }) h r in
     let now = λ (b : List ℕ) (t : (g.I.Image.device c.args.image.now).contents ≡ Some b). ap (λ d. d.contents) inv.same
     ∙ t in
     let read = rw c.in-Some.is at c.in_ok-offset.ensures.chunk in
@@ -66,29 +72,14 @@ chunks-preserved g c =
     record {
       same = c.in_ok-offset.ensures.leaves.read ∙ inv.same;
       geometry = c.in_ok-offset.ensures.leaves.geometry ∙ inv.geometry;
-      words = words_more inv.words c.look_chunk-looked.ensures.words;
+      words = words_more inv.words look.words;
       others = others_stay c.args.workspace.now.windows c.chunks.windows c.next.new.blocks c.next.new.window inv.others;
       ready = rw inv.geometry at c.in_ok-offset.ensures.leaves.ready;
       quiet = λ b t h r small. chunk_quiet (volume_of v b) x.number old c.chunks.quiet (next b t)
-          (look.quiet (volume_of v b) (sees v b w _ (record {
-            kinds = c.as_slice.ensures.value;
-            marked = c.as_slice-2.ensures.value;
-            parents = refl;
-            count = c.as_slice.ensures.len ∙ made.kinds;
-          }) h r))
-          (look.stamps (volume_of v b) (sees v b w _ (record {
-            kinds = c.as_slice.ensures.value;
-            marked = c.as_slice-2.ensures.value;
-            parents = refl;
-            count = c.as_slice.ensures.len ∙ made.kinds;
-          }) h r)) (inv.quiet b t h r small);
+          (look.quiet (volume_of v b) (seen b h r)) (look.stamps (volume_of v b) (seen b h r))
+          (inv.quiet b t h r small);
       stamps = λ b t h r small. chunk_stamps (volume_of v b) x.number old (next b t)
-          (look.stamps (volume_of v b) (sees v b w _ (record {
-            kinds = c.as_slice.ensures.value;
-            marked = c.as_slice-2.ensures.value;
-            parents = refl;
-            count = c.as_slice.ensures.len ∙ made.kinds;
-          }) h r)) (inv.stamps b t h r small);
+          (look.stamps (volume_of v b) (seen b h r)) (inv.stamps b t h r small);
       sound = λ b t h. chunk_sound c.chunks.sound (next b t) look.sound (inv.sound b t h);
       gap = λ b t. inv.gap b t ∙ sym (read b (now b t)).gap;
       started = λ b t h. inv.started b t h ∙ (ap (λ l. start_chunk l c.chunks.started order c.chunks.start) (next b t)
@@ -105,127 +96,108 @@ next-requires g c = let inv = c.chunks.invariant in rw inv.geometry inv.ready
 pub gap_of-requires : goal.gap_of-requires
 gap_of-requires g c = let read = c.in_ok-offset.ensures in rw read.leaves.geometry read.leaves.ready.walk
 
-pub returns-clause-found : goal.returns-clause-found
-returns-clause-found g c = λ b k.
+pub returns : goal.returns
+returns g c =
     let v = c.args.geometry.now.layout in
     let x = c.args.directory.now in
     let w = c.args.workspace.now in
     let sound = c.args.geometry.now.sound in
-    let dir = dir_is v b x.number k.0.dir in
-    let small = subst (λ i. i.size < 2 ^ 31) (sym k.1) (dir_size v (inode_of v b x.number) dir.1) in
-    let cut = c.requires.cut ∙ (ap cut_in (k.0.claims.notes x.number) ∙ cut_is_noted v b x.number sound) in
-    let chunks = chunks_are v b x.number sound dir.0 k.1 cut in
     let inv = c.chunks.invariant in
-    let t = k.0.gives_bytes in
-    let now = ap (λ d. d.contents) inv.same ∙ t in
-    let later = ap (λ d. d.contents) (c.in_ok-offset.ensures.leaves.read ∙ inv.same) ∙ t in
-    let read = (rw c.in_default.is at c.in_ok-offset.ensures.chunk) b now in
-    let none = read.chunks.0 in
+    let next = c.in_ok-offset.ensures in
+    let read = next.leaves in
+    let gap = c.in_ok-gap.ensures in
     record {
-      gap = c.in_ok-gap.ensures.gap b later ∙ (read.gap ∙ (sym (inv.gap b t) ∙ gap_is v b x.number sound dir.0 k.1 cut));
-      sound = all_sound c.chunks.sound none (inv.sound b t small) ∙ ap are_sound chunks;
-      started = sym (ap (find (λ e. e.offset == 0)) chunks) ∙ (inv.started b t small
-          ∙ ap (λ l. start_chunk l c.chunks.started v.order c.chunks.start) none);
-      quiet = all_quiet (volume_of v b) x.number _ c.chunks.quiet none (inv.quiet b t k.0.claims k.0.survey small)
-          ∙ ap (are_quiet (volume_of v b) x.number (passed_of w).stamps) (seen_are v b x.number _ chunks);
-      stamps = all_stamps (volume_of v b) x.number _ none (inv.stamps b t k.0.claims k.0.survey small)
-          ∙ ap (after_looks (volume_of v b) x.number (passed_of w).stamps) (seen_are v b x.number _ chunks);
+      found = λ b k.
+          let dir = dir_is v b x.number k.0.dir in
+          let small = subst (λ i. i.size < 2 ^ 31) (sym k.1) (dir_size v (inode_of v b x.number) dir.1) in
+          let cut = cut_here x.number sound c.requires.cut k.0.claims in
+          let chunks = chunks_are v b x.number sound dir.0 k.1 cut in
+          let t = k.0.gives_bytes in
+          let now = ap (λ d. d.contents) inv.same ∙ t in
+          let later = ap (λ d. d.contents) (read.read ∙ inv.same) ∙ t in
+          let came = (rw c.in_default.is at next.chunk) b now in
+          let none = came.chunks.0 in
+          record {
+            gap = gap.gap b later ∙ (came.gap ∙ (sym (inv.gap b t) ∙ gap_is v b x.number sound dir.0 k.1 cut));
+            sound = all_sound c.chunks.sound none (inv.sound b t small) ∙ ap are_sound chunks;
+            started = sym (ap (find (λ e. e.offset == 0)) chunks) ∙ (inv.started b t small
+                ∙ ap (λ l. start_chunk l c.chunks.started v.order c.chunks.start) none);
+            quiet = all_quiet (volume_of v b) x.number _ c.chunks.quiet none (inv.quiet b t k.0.claims k.0.survey small)
+                ∙ ap (are_quiet (volume_of v b) x.number (passed_of w).stamps) (seen_are v b x.number _ chunks);
+            stamps = all_stamps (volume_of v b) x.number _ none (inv.stamps b t k.0.claims k.0.survey small)
+                ∙ ap (after_looks (volume_of v b) x.number (passed_of w).stamps) (seen_are v b x.number _ chunks);
+          };
+      reads = λ b k.
+          let t = k.0.gives_bytes in
+          let cut = cut_here x.number c.args.geometry.now.sound c.requires.cut k.0.claims in
+          let took = next.reads (inv.held b t) b (ap (λ d. d.contents) inv.same ∙ t) in
+          let most = (gap.leaves.counted c.next.new.window took.held b
+          (ap (λ d. d.contents) (read.read ∙ inv.same) ∙ t)).most in
+          omega (arith, most, took.paid, inv.reads b t, runs_are v b x.number x.inode x.cut k.1 cut);
+      leaves = record {
+        lists = queue_leaves w _ refl inv.words.places;
+        ready = ready_looked v _ _ w _ _ c.requires.look.ready.ready
+            (ap (λ d. d.contents) (gap.leaves.read ∙ (read.read ∙ inv.same)))
+            (others_stay w.windows c.chunks.windows c.gap_of.new.blocks c.next.new.window inv.others)
+            (can_read_more v _ _ _ _ _ (rw inv.geometry at read.ready) (ap (λ d. d.contents) gap.leaves.read)
+            (rw (read.geometry ∙ inv.geometry) at gap.leaves.ready)) inv.words.long;
+        read = gap.leaves.read ∙ (read.read ∙ inv.same);
+      };
     }
 
--- the reads
-pub returns-in_err-offset-clause-reads : goal.returns-in_err-offset-clause-reads
-returns-in_err-offset-clause-reads g c = λ b k.
-    let v = c.args.geometry.now.layout in
-    let x = c.args.directory.now in
-    let inv = c.chunks.invariant in
-    let t = k.0.gives_bytes in
-    let cut = c.requires.cut ∙ (ap cut_in (k.0.claims.notes x.number) ∙ cut_is_noted v b x.number
-    c.args.geometry.now.sound) in
-    let most = (c.next.ensures.reads (inv.held b t) b (ap (λ d. d.contents) inv.same ∙ t)).most in
-    omega (arith, most, inv.reads b t, runs_are v b x.number x.inode x.cut k.1 cut)
-
-pub returns-in_err-gap-clause-reads : goal.returns-in_err-gap-clause-reads
-returns-in_err-gap-clause-reads g c = λ b k.
-    let v = c.args.geometry.now.layout in
-    let x = c.args.directory.now in
-    let inv = c.chunks.invariant in
-    let t = k.0.gives_bytes in
-    let cut = c.requires.cut ∙ (ap cut_in (k.0.claims.notes x.number) ∙ cut_is_noted v b x.number
-    c.args.geometry.now.sound) in
-    let took = c.in_ok-offset.ensures.reads (inv.held b t) b (ap (λ d. d.contents) inv.same ∙ t) in
-    let most = (c.gap_of.ensures.leaves.counted c.next.new.window took.held b
-    (ap (λ d. d.contents) (c.in_ok-offset.ensures.leaves.read ∙ inv.same) ∙ t)).most in
-    omega (arith, most, took.paid, inv.reads b t, runs_are v b x.number x.inode x.cut k.1 cut)
-
-pub returns-clause-reads : goal.returns-clause-reads
-returns-clause-reads g c = λ b k.
-    let v = c.args.geometry.now.layout in
-    let x = c.args.directory.now in
-    let inv = c.chunks.invariant in
-    let t = k.0.gives_bytes in
-    let cut = c.requires.cut ∙ (ap cut_in (k.0.claims.notes x.number) ∙ cut_is_noted v b x.number
-    c.args.geometry.now.sound) in
-    let took = c.in_ok-offset.ensures.reads (inv.held b t) b (ap (λ d. d.contents) inv.same ∙ t) in
-    let most = (c.gap_of.ensures.leaves.counted c.next.new.window took.held b
-    (ap (λ d. d.contents) (c.in_ok-offset.ensures.leaves.read ∙ inv.same) ∙ t)).most in
-    omega (arith, most, took.paid, inv.reads b t, runs_are v b x.number x.inode x.cut k.1 cut)
-
 -- a read failed
-pub returns-in_err-offset-clause-found : goal.returns-in_err-offset-clause-found
-returns-in_err-offset-clause-found g c =
-    let p = err_from_is_err_and c.from_residual.result c.from_residual.ensures.1 in rw p.1 tt
-
-pub returns-in_err-gap-clause-found : goal.returns-in_err-gap-clause-found
-returns-in_err-gap-clause-found g c =
-    let p = err_from_is_err_and c.from_residual-in_err-gap.result c.from_residual-in_err-gap.ensures.1 in rw p.1 tt
-
--- what is left
-pub returns-in_err-offset-clause-leaves : goal.returns-in_err-offset-clause-leaves
-returns-in_err-offset-clause-leaves g c =
+pub returns-in_err-offset : goal.returns-in_err-offset
+returns-in_err-offset g c =
+    let v = c.args.geometry.now.layout in
+    let x = c.args.directory.now in
     let w = c.args.workspace.now in
     let inv = c.chunks.invariant in
     let read = c.in_err-offset.ensures.leaves in
     let p = err_from_is_err_and c.from_residual.result c.from_residual.ensures.1 in
     rw (p.1, p.2) (record {
-      lists = queue_leaves w _ refl inv.words.places;
-      ready = ready_looked c.args.geometry.now.layout _ _ w _ _ c.requires.look.ready.ready
-          (read.read.contents ∙ ap (λ d. d.contents) inv.same)
-          (others_stay w.windows c.chunks.windows c.next.new.blocks c.next.new.window inv.others)
-          (rw inv.geometry at read.ready) inv.words.long;
-      read = subst (λ d. Faulted d (g.I.Image.device c.next.new.image) c.in_err-offset.field-0.0.sector) inv.same
-          read.read;
+      found = tt;
+      reads = λ b k.
+          let t = k.0.gives_bytes in
+          let cut = cut_here x.number c.args.geometry.now.sound c.requires.cut k.0.claims in
+          let most = (c.next.ensures.reads (inv.held b t) b (ap (λ d. d.contents) inv.same ∙ t)).most in
+          omega (arith, most, inv.reads b t, runs_are v b x.number x.inode x.cut k.1 cut);
+      leaves = record {
+        lists = queue_leaves w _ refl inv.words.places;
+        ready = ready_looked v _ _ w _ _ c.requires.look.ready.ready
+            (read.read.contents ∙ ap (λ d. d.contents) inv.same)
+            (others_stay w.windows c.chunks.windows c.next.new.blocks c.next.new.window inv.others)
+            (rw inv.geometry at read.ready) inv.words.long;
+        read = subst (λ d. Faulted d (g.I.Image.device c.next.new.image) c.in_err-offset.field-0.0.sector) inv.same
+            read.read;
+      };
     })
 
-pub returns-in_err-gap-clause-leaves : goal.returns-in_err-gap-clause-leaves
-returns-in_err-gap-clause-leaves g c =
+pub returns-in_err-gap : goal.returns-in_err-gap
+returns-in_err-gap g c =
+    let v = c.args.geometry.now.layout in
+    let x = c.args.directory.now in
     let w = c.args.workspace.now in
     let inv = c.chunks.invariant in
     let read = c.in_ok-offset.ensures.leaves in
     let gap = c.in_err-gap.ensures.leaves in
     let p = err_from_is_err_and c.from_residual-in_err-gap.result c.from_residual-in_err-gap.ensures.1 in
     rw (p.1, p.2) (record {
-      lists = queue_leaves w _ refl inv.words.places;
-      ready = ready_looked c.args.geometry.now.layout _ _ w _ _ c.requires.look.ready.ready
-          (gap.read.contents ∙ ap (λ d. d.contents) (read.read ∙ inv.same))
-          (others_stay w.windows c.chunks.windows c.gap_of.new.blocks c.next.new.window inv.others)
-          (can_read_more c.args.geometry.now.layout _ _ _ _ _ (rw inv.geometry at read.ready) gap.read.contents
-          (rw (read.geometry ∙ inv.geometry) at gap.ready)) inv.words.long;
-      read = subst (λ d. Faulted d (g.I.Image.device c.gap_of.new.image) c.in_err-gap.field-0.0.sector)
-          (read.read ∙ inv.same) gap.read;
+      found = tt;
+      reads = λ b k.
+          let t = k.0.gives_bytes in
+          let cut = cut_here x.number c.args.geometry.now.sound c.requires.cut k.0.claims in
+          let took = c.in_ok-offset.ensures.reads (inv.held b t) b (ap (λ d. d.contents) inv.same ∙ t) in
+          let most = (c.gap_of.ensures.leaves.counted c.next.new.window took.held b
+          (ap (λ d. d.contents) (read.read ∙ inv.same) ∙ t)).most in
+          omega (arith, most, took.paid, inv.reads b t, runs_are v b x.number x.inode x.cut k.1 cut);
+      leaves = record {
+        lists = queue_leaves w _ refl inv.words.places;
+        ready = ready_looked v _ _ w _ _ c.requires.look.ready.ready
+            (gap.read.contents ∙ ap (λ d. d.contents) (read.read ∙ inv.same))
+            (others_stay w.windows c.chunks.windows c.gap_of.new.blocks c.next.new.window inv.others)
+            (can_read_more v _ _ _ _ _ (rw inv.geometry at read.ready) gap.read.contents
+            (rw (read.geometry ∙ inv.geometry) at gap.ready)) inv.words.long;
+        read = subst (λ d. Faulted d (g.I.Image.device c.gap_of.new.image) c.in_err-gap.field-0.0.sector)
+            (read.read ∙ inv.same) gap.read;
+      };
     })
-
-pub returns-clause-leaves : goal.returns-clause-leaves
-returns-clause-leaves g c =
-    let w = c.args.workspace.now in
-    let inv = c.chunks.invariant in
-    let read = c.in_ok-offset.ensures.leaves in
-    let gap = c.in_ok-gap.ensures.leaves in
-    record {
-      lists = queue_leaves w _ refl inv.words.places;
-      ready = ready_looked c.args.geometry.now.layout _ _ w _ _ c.requires.look.ready.ready
-          (ap (λ d. d.contents) (gap.read ∙ (read.read ∙ inv.same)))
-          (others_stay w.windows c.chunks.windows c.gap_of.new.blocks c.next.new.window inv.others)
-          (can_read_more c.args.geometry.now.layout _ _ _ _ _ (rw inv.geometry at read.ready)
-          (ap (λ d. d.contents) gap.read) (rw (read.geometry ∙ inv.geometry) at gap.ready)) inv.words.long;
-      read = gap.read ∙ (read.read ∙ inv.same);
-    }

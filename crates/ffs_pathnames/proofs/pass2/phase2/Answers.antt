@@ -1,4 +1,4 @@
-use Rattle.std.proofs.Common.{[], ◌∷◌, List, ℕ, refl, ap, ◌∙◌, inl, inr, arith, ◌≡◌, true, Some, OnOk, IfOk, Result, Ok}
+use Rattle.std.proofs.Common.{[], ◌∷◌, List, ℕ, refl, ap, ◌∙◌, inl, inr, arith, ◌≡◌, Some, OnOk, Result, Ok}
 use Rattle.std.proofs.{Common.{Err, rules}, lemmas.Result.err_from_is_err_and}
 use Rattle.ffs_image.specs.Device.{Device}
 use Rattle.ffs_report.proofs.Reporting.{of_reads, of_last, reports_knowing, says_heading, stops_heading}
@@ -6,10 +6,9 @@ use Rattle.ffs_report.proofs.Paying.{paid_said, paid_text, paid_then}
 use Rattle.ffs_report.specs.{Known.ForBytes, Progress.Progress, declared.fault.RunFault.RunFault}
 use Rattle.ffs_report.specs.declared.fault.RunFault.TheVariants.{Read, Out}
 use Rattle.ffs_volume.{specs.Messages.Kinds.phase2, proofs.RunBounds.runs_bounded}
-use Rattle.ffs_volume.specs.{declared.Layout.Layout, Directories.PathnameCheck.continues_after_root}
-use Rattle.ffs_volume.specs.Directories.Volumes.{volume_of}
+use Rattle.ffs_volume.specs.{declared.Layout.Layout}
 use Rattle.ffs_pathnames.specs.{declared.pass2.Root.Root, Before.IsBefore, Phase2.Phase2Ends}
-use Rattle.ffs_pathnames.specs.RootAnswers.{AtReadFault, is_go}
+use Rattle.ffs_pathnames.specs.RootAnswers.{AnswersRoot}
 use Rattle.ffs_pathnames.proofs.Carrying.{claims_untouched, before_first, references_on}
 use Rattle.ffs_pathnames.proofs.{SilentLaws.calm_silent, pass2.phase2.{Given.Over, Goals.After-check_tree}}
 use Rattle.ffs_names.proofs.RunSums.{costs_bounded}
@@ -27,25 +26,23 @@ before_tree g c b t h =
     let clear = c.clear_passed.ensures in
     let claims = claims_untouched v b _ _ found.leaves.same h in
     before_first v _ b _ _ (ap (λ d. d.contents) found.leaves.read ∙ t) claims (found.survey b t h)
-    (clear.ready v _ found.leaves.ready).made clear.clear
+    (clear.ready v _ found.leaves.ready).made clear
     (calm_silent v b _ c.args.geometry.now.sound found.leaves.ready.made claims (found.survey b t h) (found.calm b t h))
 
 -- the phase ends as the check of the tree does
-ends_by : (v : Layout) (d : Device) (known : List ℕ → Type 0) (old new : Workspace) (before after : Progress)
-    (r : Result Root RunFault) → ForBytes (WithClaims v d old) known →
-    ForBytes (WithClaims v d old) (λ b. HoldsStarts v b old → HoldsReferences v b new) →
-    IfOk r (λ root. ForBytes known (λ b. is_go root ≡ continues_after_root (volume_of v b))) →
-    AtReadFault r (ForBytes known (λ b. continues_after_root (volume_of v b) ≡ true)) →
-    OnOk r (ForBytes known (λ b. HoldsClaims v b new × HoldsSurvey v b new)) →
+ends_by : (v : Layout) (d d' : Device) (old w new : Workspace) (before after : Progress) (r : Result Root RunFault) →
+    ForBytes (WithClaims v d old) (IsBefore v d'.contents w 2) →
+    ForBytes (WithClaims v d old) (λ b. HoldsStarts v b old → HoldsReferences v b new) → AnswersRoot v d' w r →
+    OnOk r (ForBytes (IsBefore v d'.contents w 2) (λ b. HoldsClaims v b new × HoldsSurvey v b new)) →
     Phase2Ends v d old new before after r
-ends_by v d known old new before after (Ok root) more references goes on holds = λ b k. record {
-  goes = goes b (more b k);
+ends_by v d d' old w new before after (Ok root) more references answer holds = λ b k. record {
+  goes = answer b (more b k);
   claims = (holds b (more b k)).0;
   survey = (holds b (more b k)).1;
   references = references b k;
 }
-ends_by v d known old new before after (Err (Read fault)) more references goes on holds = inr (λ b k. on b (more b k))
-ends_by v d known old new before after (Err (Out fault)) more references goes on holds = tt
+ends_by v d d' old w new before after (Err (Read fault)) more references answer holds = inr (λ b k. answer b (more b k))
+ends_by v d d' old w new before after (Err (Out fault)) more references answer holds = tt
 
 pub returns-in_err-say-clause-prints : goal.returns-in_err-say-clause-prints
 returns-in_err-say-clause-prints g c =
@@ -75,17 +72,18 @@ returns-clause-prints g c = record {
   image = search rules;
   text = of_last Root _ _ _ _ _ _ _ c.check_tree.result (says_heading (λ b k. refl) c.in_ok-say.ensures.said)
       (λ b k. refl) (reports_knowing Root _ _ _ _ _ c.check_tree.result
-      (λ b k. before_tree g (goal.at.returns-clause-prints g c).After-check_tree b k.0 k.1) c.check_tree.ensures.lines.text);
+      (λ b k. before_tree g (goal.at.returns-clause-prints g c).After-check_tree b k.0 k.1) c.check_tree.ensures.tree.text);
 }
 
 pub returns-clause-leaves : goal.returns-clause-leaves
 returns-clause-leaves g c =
     let v = c.args.geometry.now.layout in
-    let tree = c.check_tree.ensures in
-    ends_by v (g.I.Image.device c.args.image.now) _ _ _ _ _ c.check_tree.result
+    let tree = c.check_tree.ensures.tree in
+    ends_by v (g.I.Image.device c.args.image.now) (g.I.Image.device c.survey.new.image) _ c.clear_passed.new.workspace _
+    _ _ c.check_tree.result
     (λ b k. before_tree g (goal.at.returns-clause-leaves g c).After-check_tree b k.0 k.1)
-    (λ b k starts. references_on v b _ _ (tree.leaves.references ∙ c.clear_passed.ensures.clear.survey.references)
-    (c.in_ok-survey.ensures.references b k.0 k.1 starts)) tree.goes tree.fault tree.holds
+    (λ b k starts. references_on v b _ _ (tree.references ∙ c.clear_passed.ensures.survey.references)
+    (c.in_ok-survey.ensures.references b k.0 k.1 starts)) c.check_tree.ensures.root tree.holds
 
 pub check_tree-requires : goal.check_tree-requires
 check_tree-requires g c = c.clear_passed.ensures.ready _ _ c.in_ok-survey.ensures.leaves.ready
@@ -109,5 +107,5 @@ returns-clause-reads g c = record {
   known = grind (arith, costs_bounded, runs_bounded, before_tree);
   paid = λ numbered. paid_then
       (paid_said (phase2 ∷ []) c.in_ok-say.ensures.said (omega (arith, c.survey.ensures.reads.most)))
-      (c.check_tree.ensures.lines.paid numbered);
+      (c.check_tree.ensures.tree.paid numbered);
 }

@@ -25,7 +25,7 @@ known g c b k = (
   knows_on c.args.geometry.now.layout _ _ c.args.workspace.now c.examine.new.workspace c.args.dir b
       (ap (λ d. d.contents) c.in_ok-examined.ensures.leaves.read) c.in_ok-examined.ensures.leaves.lists.survey
       c.in_ok-examined.ensures.leaves.lists.places k.0,
-  ap (λ i. i.size) (c.in_ok-examined.ensures.found b k).inode,
+  ap (λ i. i.size) (c.in_ok-examined.ensures.found b k.0 k.1).inode,
 )
 
 -- the lines are the directory's
@@ -39,9 +39,9 @@ lines_are : (g : Over) (c : After-report_header g) (b : List ℕ) → LeftForLoo
 lines_are g c b k =
     let v = c.args.geometry.now.layout in
     starts_are v b c.args.dir c.args.workspace.now c.examine.new.workspace c.in_ok-examined.examined _ _ _ _
-    (c.in_ok-examined.ensures.found b k) (c.parent_of-parent.ensures v b
+    (c.in_ok-examined.ensures.found b k.0 k.1) (c.parent_of-parent.ensures v b
     (survey_left v b _ _ c.in_ok-examined.ensures.leaves.lists.survey k.0.survey))
-    c.first_two.ensures.first c.first_two.ensures.second
+    c.first_two.ensures
 
 -- the reads
 reads_few : (g : Over) (c : After-report_header g) (b : List ℕ) → LeftForLook c.args.geometry.now.layout
@@ -52,8 +52,8 @@ reads_few : (g : Over) (c : After-report_header g) (b : List ℕ) → LeftForLoo
     + line_reads * length (dir_header_lines (volume_of c.args.geometry.now.layout b) c.args.dir))
 reads_few g c b k noted =
     let lists = c.in_ok-examined.ensures.leaves.lists in
-    let examined = c.examine.ensures.takes.reads b k.0 in
-    let said = (c.report_header.ensures.lines.counted b (known g c b k)
+    let examined = c.examine.ensures.reads b k.0 in
+    let said = (c.report_header.ensures.counted b (known g c b k)
     (noted_kept c.args.geometry.now.layout b _ c.examine.new.workspace.queue.items lists.places noted)).count in
     let now = rw (lines_are g c b k) at said in
     omega (arith, examined, now)
@@ -68,13 +68,6 @@ report_header-requires g c =
       number = c.requires.path.number;
     }
 
-pub returns-clause-begun : goal.returns-clause-begun
-returns-clause-begun g c = λ b k.
-    begun_is c.args.geometry.now.layout b c.args.dir c.args.workspace.now c.examine.new.workspace _
-    c.in_ok-examined.examined
-    _ (c.in_ok-examined.ensures.found b k) c.in_ok-examined.ensures.leaves.lists
-    c.in_ok-report_header.ensures.leaves.lists
-
 pub examine-requires : goal.examine-requires
 examine-requires g c = record {
   ready = record { ready = c.requires.path.ready; number = c.requires.path.number };
@@ -82,91 +75,72 @@ examine-requires g c = record {
 }
 
 -- a read failed
-pub returns-in_err-examined-clause-begun : goal.returns-in_err-examined-clause-begun
-returns-in_err-examined-clause-begun g c =
-    let p = err_from_is_err_and c.from_residual.result c.from_residual.ensures.1 in rw p.1 tt
-
-pub returns-in_err-report_header-clause-begun : goal.returns-in_err-report_header-clause-begun
-returns-in_err-report_header-clause-begun g c =
-    let p = err_from_is_err_and c.from_residual-in_err-report_header.result
-    c.from_residual-in_err-report_header.ensures.1 in
-    rw p.1 tt
-
-pub returns-in_err-examined-clause-leaves : goal.returns-in_err-examined-clause-leaves
-returns-in_err-examined-clause-leaves g c =
-    let left = c.in_err-examined.ensures.leaves in
-    let p = err_from_is_err_and c.from_residual.result c.from_residual.ensures.1 in
-    rw (p.1, p.2) (record {
-      image = left.read;
-      survey = left.lists.survey;
-      places = left.lists.places;
-      ready = left.ready;
-    })
-
-pub returns-in_err-report_header-clause-leaves : goal.returns-in_err-report_header-clause-leaves
-returns-in_err-report_header-clause-leaves g c =
-    let one = c.in_ok-examined.ensures.leaves in
-    let two = c.in_err-report_header.ensures.leaves in
-    let p = err_from_is_err_and c.from_residual-in_err-report_header.result
-    c.from_residual-in_err-report_header.ensures.1 in
-    rw (p.1, p.2) (record {
-      image = image_same (Unit {0}) Examination _ _ _ c.in_err-report_header.field-0.0 one.read two.image;
-      survey = leaves_more _ _ _ one.lists.survey (windows_leave _ _ two.lists);
-      places = keep_more _ _ _ one.lists.places (windows_keep c.examine.new.workspace c.report_header.new.workspace
-          two.lists);
-      ready = two.ready;
-    })
-
-pub returns-clause-leaves : goal.returns-clause-leaves
-returns-clause-leaves g c =
-    let one = c.in_ok-examined.ensures.leaves in
-    let two = c.in_ok-report_header.ensures.leaves in
-    record {
-      image = two.image ∙ one.read;
-      survey = leaves_more _ _ _ one.lists.survey (windows_leave _ _ two.lists);
-      places = keep_more _ _ _ one.lists.places (windows_keep c.examine.new.workspace c.report_header.new.workspace
-          two.lists);
-      ready = two.ready;
-    }
-
--- what is said, and what is read for it
-pub returns-in_err-examined-clause-lines : goal.returns-in_err-examined-clause-lines
-returns-in_err-examined-clause-lines g c =
-    let takes = c.examine.ensures.takes in
+pub returns-in_err-examined : goal.returns-in_err-examined
+returns-in_err-examined g c =
+    let looks = c.in_err-examined.ensures in
+    let left = looks.leaves in
     let p = err_from_is_err_and c.from_residual.result c.from_residual.ensures.1 in
     rw (p.1, p.2) (record {
       text = of_reads _ _ _ _ _ (of_begins _ _ _);
-      reads = λ b k noted. omega (arith, takes.reads b k.0);
-      kept = λ b k. takes.kept b k.0;
-      paid = λ numbered. paid_failed takes.most;
+      reads = λ b k noted. omega (arith, looks.reads b k.0);
+      kept = λ b k. looks.kept b k.0;
+      paid = λ numbered. paid_failed looks.most;
+      holds = tt;
+      leaves = record {
+        image = left.read;
+        survey = left.lists.survey;
+        places = left.lists.places;
+        ready = left.ready;
+      };
     })
 
-pub returns-in_err-report_header-clause-lines : goal.returns-in_err-report_header-clause-lines
-returns-in_err-report_header-clause-lines g c =
-    let at = (goal.at.returns-in_err-report_header-clause-lines g c).After-report_header in
-    let takes = c.examine.ensures.takes in
-    let said = c.in_err-report_header.ensures.lines in
+pub returns-in_err-report_header : goal.returns-in_err-report_header
+returns-in_err-report_header g c =
+    let at = (goal.at.returns-in_err-report_header g c).After-report_header in
+    let looks = c.in_ok-examined.ensures in
+    let lists = looks.leaves.lists in
+    let said = c.in_err-report_header.ensures in
     let p = err_from_is_err_and c.from_residual-in_err-report_header.result
     c.from_residual-in_err-report_header.ensures.1 in
     rw (p.1, p.2) (record {
       text = fault_same (Unit {0}) Examination _ _ _ _ _ _ c.in_err-report_header.field-0.0
           (known g at) (λ b k. ap (map of_tree) (lines_are g at b k)) said.text;
       reads = reads_few g at;
-      kept = λ b k. takes.kept b k.0;
+      kept = λ b k. looks.kept b k.0;
       paid = λ numbered. paid_fault c.in_err-report_header.field-0.0
-          (paid_then (paid_none {T = Unit {0}} {x = tt} takes.most)
+          (paid_then (paid_none {T = Unit {0}} {x = tt} looks.most)
           (paid_beside c.examine.new.reads_left (said.paid numbered)));
+      holds = tt;
+      leaves = record {
+        image = image_same (Unit {0}) Examination _ _ _ c.in_err-report_header.field-0.0 looks.leaves.read
+            said.leaves.image;
+        survey = leaves_more _ _ _ lists.survey (windows_leave _ _ said.leaves.lists);
+        places = keep_more _ _ _ lists.places (windows_keep c.examine.new.workspace c.report_header.new.workspace
+            said.leaves.lists);
+        ready = said.leaves.ready;
+      };
     })
 
-pub returns-clause-lines : goal.returns-clause-lines
-returns-clause-lines g c =
-    let at = (goal.at.returns-clause-lines g c).After-report_header in
-    let takes = c.examine.ensures.takes in
-    let said = c.in_ok-report_header.ensures.lines in
+pub returns : goal.returns
+returns g c =
+    let at = (goal.at.returns g c).After-report_header in
+    let looks = c.in_ok-examined.ensures in
+    let lists = looks.leaves.lists in
+    let said = c.in_ok-report_header.ensures in
     record {
       text = said_same _ _ _ _ _ _ (known g at) (λ b k. ap (map of_tree) (lines_are g at b k)) said.text;
       reads = reads_few g at;
-      kept = λ b k. takes.kept b k.0;
-      paid = λ numbered. paid_answer (paid_then (paid_none {T = Unit {0}} {x = tt} takes.most)
+      kept = λ b k. looks.kept b k.0;
+      paid = λ numbered. paid_answer (paid_then (paid_none {T = Unit {0}} {x = tt} looks.most)
           (paid_beside c.examine.new.reads_left (said.paid numbered)));
+      holds = λ b k.
+          begun_is c.args.geometry.now.layout b c.args.dir c.args.workspace.now c.examine.new.workspace _
+          c.in_ok-examined.examined _ (looks.found b k.0 k.1) lists said.leaves.lists;
+      leaves = record {
+        image = said.leaves.image ∙ looks.leaves.read;
+        survey = leaves_more _ _ _ lists.survey (windows_leave _ _ said.leaves.lists);
+        places = keep_more _ _ _ lists.places (windows_keep c.examine.new.workspace c.report_header.new.workspace
+            said.leaves.lists);
+        ready = said.leaves.ready;
+      };
     }

@@ -1,14 +1,15 @@
 use Rattle.std.proofs.Common.{refl, sym, ap, subst, ◌∙◌, ℕ, List, Err, length, arith}
 use Rattle.std.proofs.{lemmas.Result.err_from_is_err_and, Math.Nat.mul-le-mul_left}
-use Rattle.ffs_volume.{specs.{Report.Reads.line_reads, Directories.PathnameCheck.sized_dir_lines}, proofs.Results.on_ok}
+use Rattle.ffs_volume.specs.{Report.Reads.line_reads, Directories.PathnameCheck.sized_dir_lines}
 use Rattle.ffs_volume.specs.Directories.{Roles.roled_entries, Volumes.volume_of}
 use Rattle.ffs_report.{specs.PhaseOutcome.ImageAfter, proofs.Reporting.{of_begins, of_part, of_fault, of_last}}
 use Rattle.ffs_report.proofs.{Reporting.{said_knows, reports_knowing}, Paying.{paid_answer, paid_fault, paid_then}}
 use Rattle.ffs_workspace.proofs.Leaving.{leaves_more}
 use Rattle.ffs_pathnames.specs.{declared.look.Examination.Examination, Begins.dir_header_lines, Gathers.passed_of}
-use Rattle.ffs_pathnames.{specs.PassedNames.entries_reported, proofs.Begun.{said_same, directory_is, lines_parts}}
+use Rattle.ffs_pathnames.{specs.PassedNames.entries_reported, proofs.Begun.{image_same, said_same, directory_is, lines_parts}}
 use Rattle.ffs_pathnames.proofs.Begun.{quiet_parts, reported_parts, quiet_after, reported_after, starts_within}
 use Rattle.ffs_pathnames.proofs.{Passing.knows_on, StampLaws.{keep_more, noted_kept}, LineCounts.checked_twice}
+use Rattle.ffs_pathnames.proofs.Carrying.{if_ok}
 use Rattle.ffs_pathnames.{proofs.LineCounts.lines_long, specs.ReadsLeft.{LeftForBoth, LeftForLook, LeftForRuns}}
 use Rattle.ffs_pathnames.proofs.tree.check_directory.{Given.Over, Goals.{After-begin_directory, After-report_directory}}
 use Rattle.ffs_names.{specs.Costs.{directory_cost, directory_runs}, proofs.DirCosts.cost_is as cost_of_dir}
@@ -35,12 +36,12 @@ second g c b k =
     let v = c.args.geometry.now.layout in
     let for_look : LeftForLook v (g.I.Image.device c.args.image.now) c.args.workspace.now c.args.dir
     c.args.checking.now.reads_left b = (k.knows, omega (arith, k.enough)) in
-    let kept = c.begin_directory.ensures.lines.kept b for_look in
+    let kept = c.begin_directory.ensures.kept b for_look in
     let left = c.in_ok-examined.ensures.leaves in (
       (
         knows_on v _ _ c.args.workspace.now c.begin_directory.new.workspace c.args.dir b
             (ap (λ d. d.contents) left.image) left.survey left.places k.knows,
-        (c.in_ok-examined.ensures.begun b for_look).inode,
+        (c.in_ok-examined.ensures.holds b for_look).inode,
       ),
       omega (arith, k.enough, kept, cost_of_dir v b c.args.dir k.knows.dir),
     )
@@ -57,10 +58,11 @@ report_directory-requires g c =
       cut = c.cut_of.ensures;
     }
 
-pub returns-in_err-examined-clause-lines : goal.returns-in_err-examined-clause-lines
-returns-in_err-examined-clause-lines g c =
-    let at = (goal.at.returns-in_err-examined-clause-lines g c).After-begin_directory in
-    let begun = c.in_err-examined.ensures.lines in
+pub returns-in_err-examined : goal.returns-in_err-examined
+returns-in_err-examined g c =
+    let at = (goal.at.returns-in_err-examined g c).After-begin_directory in
+    let begun = c.in_err-examined.ensures in
+    let left = begun.leaves in
     let p = err_from_is_err_and c.from_residual.result c.from_residual.ensures.1 in
     rw (p.1, p.2) (record {
       text = of_fault Examination (Unit {0}) _ _ _ _ _ _ _ _ c.in_err-examined.field-0.0 (of_begins _ _ _)
@@ -71,91 +73,75 @@ returns-in_err-examined-clause-lines g c =
           omega (arith, begun.reads b (first g at b k) noted, within);
       kept = λ b k. omega (arith, begun.kept b (first g at b k));
       paid = λ numbered. paid_fault c.in_err-examined.field-0.0 (begun.paid numbered);
+      holds = tt;
+      leaves = record {
+        image = image_same Examination (Unit {0}) _ _ _ c.in_err-examined.field-0.0 refl left.image;
+        survey = left.survey;
+        places = left.places;
+        ready = left.ready;
+      };
     })
 
-pub returns-then-examined-clause-lines : goal.returns-then-examined-clause-lines
-returns-then-examined-clause-lines g c =
-    let at = (goal.at.returns-then-examined-clause-lines g c).After-begin_directory in
+pub returns-then-examined : goal.returns-then-examined
+returns-then-examined g c =
+    let at = (goal.at.returns-then-examined g c).After-begin_directory in
     let v = c.args.geometry.now.layout in
-    let begun = c.in_ok-examined.ensures.lines in
+    let m = passed_of c.args.workspace.now in
+    let begun = c.in_ok-examined.ensures in
+    let left = begun.leaves in
+    let quiet = λ (b : List ℕ) (k : Known g at b). sym (begun.holds b (first g at b k)).quiet ∙ c.if-examined.true in
     record {
       text = said_same _ _ _ _ _ _ (first g at)
-          (λ b k. quiet_parts (volume_of v b) c.args.dir (passed_of c.args.workspace.now)
-          (directory_is (volume_of v b) c.args.dir c.requires.low k.knows.dir) k.passed
-          (sym (c.in_ok-examined.ensures.begun b (first g at b k)).quiet ∙ c.if-examined.true))
-          begun.text;
+          (λ b k. quiet_parts (volume_of v b) c.args.dir m
+          (directory_is (volume_of v b) c.args.dir c.requires.low k.knows.dir) k.passed (quiet b k)) begun.text;
       reads = λ b k noted.
           let within = mul-le-mul_left line_reads (starts_within (volume_of v b) c.args.dir) in
           omega (arith, begun.reads b (first g at b k) noted, within);
       kept = λ b k. omega (arith, begun.kept b (first g at b k));
       paid = λ numbered. paid_answer (begun.paid numbered);
+      holds = λ b k. quiet_after (volume_of v b) c.args.dir m _ k.passed (quiet b k)
+          (begun.holds b (first g at b k)).passed;
+      leaves = record { image = left.image; survey = left.survey; places = left.places; ready = left.ready };
     }
 
-pub returns-then-examined-clause-passed : goal.returns-then-examined-clause-passed
-returns-then-examined-clause-passed g c = λ b k.
-    let at = (goal.at.returns-then-examined-clause-passed g c).After-begin_directory in
+pub returns : goal.returns
+returns g c =
+    let at = goal.at.returns g c in
     let v = c.args.geometry.now.layout in
-    quiet_after (volume_of v b) c.args.dir (passed_of c.args.workspace.now) (passed_of c.begin_directory.new.workspace)
-    k.passed (sym (c.in_ok-examined.ensures.begun b (first g at b k)).quiet ∙ c.if-examined.true)
-    (c.in_ok-examined.ensures.begun b (first g at b k)).passed
-
-pub returns-clause-lines : goal.returns-clause-lines
-returns-clause-lines g c =
-    let at = goal.at.returns-clause-lines g c in
-    let v = c.args.geometry.now.layout in
+    let before = passed_of c.args.workspace.now in
     let m = passed_of c.begin_directory.new.workspace in
-    let one = c.in_ok-examined.ensures.lines in
-    let two = c.report_directory.ensures.lines in
+    let one = c.in_ok-examined.ensures in
+    let two = c.report_directory.ensures in
+    let first_of = first g at.After-begin_directory in
+    let second_of = second g at.After-report_directory in
+    let dir = λ (b : List ℕ) (k : Known g at.After-begin_directory b).
+    directory_is (volume_of v b) c.args.dir c.requires.low k.knows.dir in
     let parts = λ (b : List ℕ) (k : Known g at.After-begin_directory b).
-    reported_parts (volume_of v b) c.args.dir (passed_of c.args.workspace.now) m
-    (directory_is (volume_of v b) c.args.dir c.requires.low k.knows.dir) k.passed
-    (c.in_ok-examined.ensures.begun b (first g at.After-begin_directory b k)).passed in
+    reported_parts (volume_of v b) c.args.dir before m (dir b k) k.passed (one.holds b (first_of b k)).passed in
     record {
       text = of_last _ _ _ _ _ _ _ _ c.report_directory.result
-          (of_part _ _ _ _ _ _ _ _ (of_begins _ _ _) parts
-          (said_knows _ _ _ _ _ _ (first g at.After-begin_directory) one.text))
-          (λ b k. refl)
-          (reports_knowing _ _ _ _ _ _ c.report_directory.result (second g at.After-report_directory) two.text);
+          (of_part _ _ _ _ _ _ _ _ (of_begins _ _ _) parts (said_knows _ _ _ _ _ _ first_of one.text))
+          (λ b k. refl) (reports_knowing _ _ _ _ _ _ c.report_directory.result second_of two.text);
       reads = λ b k noted.
           checked_twice line_reads _ _ _ (directory_cost v b c.args.dir) (directory_runs v b c.args.dir)
           (length (dir_header_lines (volume_of v b) c.args.dir))
           (length (entries_reported (volume_of v b) c.args.dir m (roled_entries (volume_of v b) c.args.dir)))
-          (length (sized_dir_lines (volume_of v b) c.args.dir))
-          (one.reads b (first g at.After-begin_directory b k) noted)
-          (two.reads b (second g at.After-report_directory b k)
-          (noted_kept v b c.args.workspace.now.queue.items c.begin_directory.new.workspace.queue.items
-          c.in_ok-examined.ensures.leaves.places noted))
+          (length (sized_dir_lines (volume_of v b) c.args.dir)) (one.reads b (first_of b k) noted)
+          (two.reads b (second_of b k) (noted_kept v b c.args.workspace.now.queue.items
+          c.begin_directory.new.workspace.queue.items one.leaves.places noted))
           (cost_of_dir v b c.args.dir k.knows.dir) (lines_long _ _ _ (parts b k));
       kept = λ b k.
-          omega (
-            arith,
-            one.kept b (first g at.After-begin_directory b k),
-            two.kept b (second g at.After-report_directory b k),
-            cost_of_dir v b c.args.dir k.knows.dir,
-          );
+          let cost = cost_of_dir v b c.args.dir k.knows.dir in
+          omega (arith, one.kept b (first_of b k), two.kept b (second_of b k), cost);
       paid = λ numbered. paid_then (one.paid numbered) (two.paid numbered);
-    }
-
-pub returns-clause-passed : goal.returns-clause-passed
-returns-clause-passed g c =
-    let at = goal.at.returns-clause-passed g c in
-    let v = c.args.geometry.now.layout in
-    on_ok c.report_directory.result _ _
-    (λ p b k. reported_after (volume_of v b) c.args.dir (passed_of c.args.workspace.now)
-    (passed_of c.begin_directory.new.workspace) (passed_of c.report_directory.new.workspace)
-    (directory_is (volume_of v b) c.args.dir c.requires.low k.knows.dir) k.passed
-    (c.in_ok-examined.ensures.begun b (first g at.After-begin_directory b k)).passed
-    (p b (second g at.After-report_directory b k)))
-    c.report_directory.ensures.passed
-
-pub returns-clause-leaves : goal.returns-clause-leaves
-returns-clause-leaves g c =
-    let begun = c.in_ok-examined.ensures.leaves in
-    let left = c.report_directory.ensures.leaves in
-    record {
-      image = subst (λ d. ImageAfter d (g.I.Image.device c.report_directory.new.image) c.report_directory.result)
-          begun.image left.image;
-      survey = leaves_more _ _ _ begun.survey left.survey;
-      places = keep_more _ _ _ begun.places left.places;
-      ready = left.ready;
+      holds = if_ok c.report_directory.result _ _
+          (λ x p b k. reported_after (volume_of v b) c.args.dir before m _ (dir b k) k.passed
+          (one.holds b (first_of b k)).passed (p b (second_of b k))) two.holds;
+      leaves = record {
+        image = subst (λ d. ImageAfter d (g.I.Image.device c.report_directory.new.image) c.report_directory.result)
+            one.leaves.image two.leaves.image;
+        survey = leaves_more _ _ _ one.leaves.survey two.leaves.survey;
+        places = keep_more _ _ _ one.leaves.places two.leaves.places;
+        ready = two.leaves.ready;
+      };
     }

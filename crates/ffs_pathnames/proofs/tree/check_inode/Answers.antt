@@ -1,10 +1,10 @@
 use Rattle.std.proofs.Common.{refl, sym, ap, ◌∙◌, ◌≡◌, ◌==◌, ℕ, List, true, map, [], slice_index, arith}
 use Rattle.std.proofs.lemmas.Bool.{and_parts}
 use Rattle.ffs_image.specs.Device.{Device}
-use Rattle.ffs_volume.{specs.{declared.Layout.Layout, Messages.Kinds.of_tree}, proofs.Results.on_ok}
-use Rattle.ffs_workspace.specs.declared.workspace.Workspace.{Workspace}
+use Rattle.ffs_volume.specs.{declared.Layout.Layout, Messages.Kinds.of_tree}
+use Rattle.ffs_workspace.{specs.declared.workspace.Workspace.Workspace, proofs.Leaving.leaves_all}
 use Rattle.ffs_report.proofs.{Paying.paid_none, Reporting.{of_begins, of_same, reports_same, reports_knowing}}
-use Rattle.ffs_pathnames.proofs.Carrying.{directory_context, lines_looked, lines_skipped, noted_next, before_skipped}
+use Rattle.ffs_pathnames.proofs.Carrying.{directory_context, if_ok, lines_looked, lines_skipped, noted_next, before_skipped}
 use Rattle.ffs_pathnames.specs.ReadsLeft.{LeftForBoth, LeftForNext}
 use Rattle.ffs_pathnames.proofs.tree.check_inode.Goals as goal
 
@@ -13,21 +13,10 @@ both : {v : Layout} {device : Device} {w : Workspace} {d left : ℕ} {b : List �
     (slice_index w.kinds.items d == 4) ≡ true → LeftForNext v device w d left b → LeftForBoth v device w d left b
 both looked k = record { knows = directory_context looked k.0; passed = k.0.before.passed; enough = k.1 }
 
-pub returns-then-is_checked-clause-before : goal.returns-then-is_checked-clause-before
-returns-then-is_checked-clause-before g c =
+pub returns-then-is_checked : goal.returns-then-is_checked
+returns-then-is_checked g c =
     let looked = (and_parts _ _ (sym c.is_checked.ensures ∙ c.if-is_checked.true)).0 in
-    on_ok c.check_directory.result _ _
-    (λ h b k. noted_next refl c.check_directory.ensures.leaves.survey c.check_directory.ensures.leaves.places
-    (h b (both looked k)) k.0)
-    c.check_directory.ensures.passed
-
-pub returns-clause-before : goal.returns-clause-before
-returns-clause-before g c = grind (arith, before_skipped)
-
-pub returns-then-is_checked-clause-lines : goal.returns-then-is_checked-clause-lines
-returns-then-is_checked-clause-lines g c =
-    let looked = (and_parts _ _ (sym c.is_checked.ensures ∙ c.if-is_checked.true)).0 in
-    let checked = c.check_directory.ensures.lines in
+    let checked = c.check_directory.ensures in
     record {
       text = reports_same (Unit {0}) _ _ _ _ _ c.check_directory.result
           (λ b k. sym (ap (map of_tree) (lines_looked looked k.0.before)))
@@ -35,14 +24,29 @@ returns-then-is_checked-clause-lines g c =
       reads = λ b k noted. rw (lines_looked looked k.0.before) (checked.reads b (both looked k) noted);
       kept = λ b k. checked.kept b (both looked k);
       paid = checked.paid;
+      holds = if_ok c.check_directory.result _ _
+          (λ x h b k. noted_next refl checked.leaves.survey checked.leaves.places (h b (both looked k)) k.0)
+          checked.holds;
+      leaves = checked.leaves;
     }
 
-pub returns-clause-lines : goal.returns-clause-lines
-returns-clause-lines g c =
+pub returns : goal.returns
+returns g c =
     let other = sym c.is_checked.ensures ∙ c.if-is_checked.false in
+    let ready = c.requires.path in
     record {
       text = of_same _ _ (λ b. []) _ _ _ (of_begins _ _ _) (λ b k. lines_skipped c.requires.low other k.0.before);
       reads = λ b k noted. omega arith;
       kept = λ b k. omega arith;
       paid = λ numbered. paid_none (omega arith);
+      holds = λ b k. record {
+        before = before_skipped c.args.geometry.now.sound other k.0.before;
+        noted = k.0.noted;
+      };
+      leaves = record {
+        image = refl;
+        survey = leaves_all _;
+        places = λ x. refl;
+        ready = record { ready = ready.ready; kept_parent = ready.kept_parent };
+      };
     }

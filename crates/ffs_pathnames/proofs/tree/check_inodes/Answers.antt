@@ -6,7 +6,7 @@ use Rattle.ffs_volume.specs.Directories.Volumes.{volume_of}
 use Rattle.ffs_report.proofs.Reporting.{of_begins, of_same, of_part, of_fault, of_reads, said_knows, reports_knowing}
 use Rattle.ffs_report.proofs.Paying.{paid_failed, paid_none, paid_then, paid_within}
 use Rattle.ffs_workspace.specs.{declared.workspace.Workspace.Workspace, Lengths.inodes_of}
-use Rattle.ffs_pathnames.{specs.Before.{IsBeforeNoted, IsBefore}, proofs.Carrying.noted_reported}
+use Rattle.ffs_pathnames.{specs.Before.{IsBeforeNoted, IsBefore}, proofs.{Begun.image_same, Carrying.noted_reported}}
 use Rattle.ffs_pathnames.{proofs.Skipping.{noted_before, unseen}, specs.ReadsLeft.LeftForNext}
 use Rattle.ffs_pathnames.proofs.tree.check_inodes.{Given.Over, Goals.After-check_inode}
 use Rattle.ffs_survey.proofs.Costs.{cost_take, costs_rise}
@@ -25,9 +25,6 @@ next g c b k =
     let taken = cost_take (λ s. true) (directory_cost v b) n refl in
     let rise = costs_rise (λ s. true) (directory_cost v b) (n + 1) (inodes_of v) (omega arith) in
     (noted_reported (ap (λ d. d.contents) inv.device) (inv.before b k), omega (arith, inv.left b k, taken, rise))
-
-pub returns-then-first-count-clause-holds : goal.returns-then-first-count-clause-holds
-returns-then-first-count-clause-holds g c = λ b k. (k.claims, k.survey)
 
 pub loop-number-init : goal.loop-number-init
 loop-number-init g c =
@@ -76,33 +73,25 @@ loop-number-preserved g c =
       references = ok.leaves.survey.references ∙ inv.references;
       reads = λ b k numbered.
           let taken = cost_take (λ s. true) (directory_cost v b) n refl in
-          let here = c.check_inode.ensures.lines.reads b (next g at b k) ((inv.before b k).noted numbered) in
+          let here = ok.reads b (next g at b k) ((inv.before b k).noted numbered) in
           let long = next_long (directory_lines (volume_of v b)) n (inodes_of v) (omega arith) in
           omega (arith, taken, here, long, inv.reads b k numbered);
       left = λ b k.
           let taken = cost_take (λ s. true) (directory_cost v b) n refl in
-          let kept = c.check_inode.ensures.lines.kept b (next g at b k) in
+          let kept = ok.kept b (next g at b k) in
           omega (arith, inv.left b k, taken, kept);
-      paid = λ numbered. paid_then (inv.paid numbered) (ok.lines.paid numbered);
+      paid = λ numbered. paid_then (inv.paid numbered) (ok.paid numbered);
       before = λ b k. subst (λ d. IsBeforeNoted v (g.I.Image.device c.args.image.now).contents c.check_inode.new.workspace d
           b) q
-          (noted_reported (sym (ap (λ d. d.contents) inv.device))
-          (ok.before b (next g at b k)));
+          (noted_reported (sym (ap (λ d. d.contents) inv.device)) (ok.holds b (next g at b k)));
       said = of_part _ _ _ _ _ _ _ _ inv.said
           (λ b k. from_next (directory_lines (volume_of v b)) n (inodes_of v) (omega arith))
-          (said_knows _ _ _ _ _ _
-          (next g at) ok.lines.text);
+          (said_knows _ _ _ _ _ _ (next g at) ok.text);
     }
 
-pub returns-in_err-check_inode-clause-leaves : goal.returns-in_err-check_inode-clause-leaves
-returns-in_err-check_inode-clause-leaves g c = grind (arith, err_from_is_err_and)
-
-pub returns-clause-holds : goal.returns-clause-holds
-returns-clause-holds g c = λ b k. let now = (c.loop-number.invariant.before b k).before in (now.claims, now.survey)
-
--- what is said, and what is read for it
-pub returns-then-first-count-clause-lines : goal.returns-then-first-count-clause-lines
-returns-then-first-count-clause-lines g c =
+-- what is said, what is read for it, and what is left
+pub returns-then-first-count-clause-tree : goal.returns-then-first-count-clause-tree
+returns-then-first-count-clause-tree g c =
     let v = c.args.geometry.now.layout in
     let first = c.first_checked-first in
     let all = λ (b : List ℕ). map of_tree (lines_from (directory_lines (volume_of v b)) 2 (inodes_of v - 2)) in
@@ -113,24 +102,33 @@ returns-then-first-count-clause-lines g c =
           ∙ from_end (directory_lines (volume_of v b)) first.result (inodes_of v) (omega arith));
       reads = λ b k numbered. omega arith;
       paid = λ numbered. paid_none (omega arith);
+      image = refl;
+      holds = λ b k. (k.claims, k.survey);
+      references = refl;
+      ready = c.requires;
     }
 
-pub returns-in_err-note_places-clause-lines : goal.returns-in_err-note_places-clause-lines
-returns-in_err-note_places-clause-lines g c =
+pub returns-in_err-note_places-clause-tree : goal.returns-in_err-note_places-clause-tree
+returns-in_err-note_places-clause-tree g c =
+    let noted = c.in_err-note_places.ensures in
     let p = err_from_is_err_and c.from_residual.result c.from_residual.ensures.1 in
     rw (p.1, p.2) (record {
       text = of_reads _ _ _ _ _ (of_begins _ _ _);
-      reads = λ b k numbered. omega (arith, c.note_places.ensures.reads.each b k.gives_bytes (k.claims, k.survey));
-      paid = λ numbered. paid_failed (omega (arith, c.in_err-note_places.ensures.reads.most));
+      reads = λ b k numbered. omega (arith, noted.reads.each b k.gives_bytes (k.claims, k.survey));
+      paid = λ numbered. paid_failed (omega (arith, noted.reads.most));
+      image = noted.leaves.read;
+      holds = tt;
+      references = ap (λ (w : Workspace). w.references) noted.leaves.lists;
+      ready = noted.leaves.ready;
     })
 
-pub returns-in_err-check_inode-clause-lines : goal.returns-in_err-check_inode-clause-lines
-returns-in_err-check_inode-clause-lines g c =
-    let at = (goal.at.returns-in_err-check_inode-clause-lines g c).After-check_inode in
+pub returns-in_err-check_inode-clause-tree : goal.returns-in_err-check_inode-clause-tree
+returns-in_err-check_inode-clause-tree g c =
+    let at = (goal.at.returns-in_err-check_inode-clause-tree g c).After-check_inode in
     let v = c.args.geometry.now.layout in
     let inv = c.loop-number.invariant in
     let n = c.loop-number.number in
-    let said = c.in_err-check_inode.ensures.lines in
+    let said = c.in_err-check_inode.ensures in
     let p = err_from_is_err_and c.from_residual-in_err-check_inode.result
     c.from_residual-in_err-check_inode.ensures.1 in
     rw (p.1, p.2) (record {
@@ -144,10 +142,14 @@ returns-in_err-check_inode-clause-lines g c =
           let rise = costs_rise (λ s. true) (directory_cost v b) (n + 1) (inodes_of v) (omega arith) in
           omega (arith, here, long, taken, rise, inv.reads b k numbered);
       paid = λ numbered. paid_within (paid_then (inv.paid numbered) (said.paid numbered)) (omega arith) (omega arith);
+      image = image_same (Unit {0}) (Unit {0}) _ _ _ c.in_err-check_inode.field-0.0 inv.device said.leaves.image;
+      holds = tt;
+      references = said.leaves.survey.references ∙ inv.references;
+      ready = said.leaves.ready;
     })
 
-pub returns-clause-lines : goal.returns-clause-lines
-returns-clause-lines g c =
+pub returns-clause-tree : goal.returns-clause-tree
+returns-clause-tree g c =
     let v = c.args.geometry.now.layout in
     let inv = c.loop-number.invariant in
     record {
@@ -157,4 +159,8 @@ returns-clause-lines g c =
           let rise = costs_rise (λ s. true) (directory_cost v b) c.loop-number.number (inodes_of v) (omega arith) in
           omega (arith, rise, inv.reads b k numbered);
       paid = λ numbered. paid_within (inv.paid numbered) (omega arith) (omega arith);
+      image = inv.device;
+      holds = λ b k. let now = (inv.before b k).before in (now.claims, now.survey);
+      references = inv.references;
+      ready = inv.ready.ready;
     }

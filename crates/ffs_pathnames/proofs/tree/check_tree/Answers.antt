@@ -1,17 +1,21 @@
 use Rattle.std.proofs.Common.{◌≡◌, ◌≤◌, ◌++◌, ◌+◌, ◌*◌, Bool, slice_index, [], List, ℕ, map, refl, sym, ◌∙◌, append-nil}
-use Rattle.std.proofs.{Common.{true, false, arith, length, Result}, lemmas.Result.err_from_is_err_and}
+use Rattle.std.proofs.{Common.{true, false, arith, length, Result, Err}, lemmas.Result.err_from_is_err_and}
 use Rattle.ffs_workspace.specs.{Holds.HoldsClaims, Places.AreChunksNumbered}
 use Rattle.ffs_pathnames.{specs.Before.{IsBefore, root_reported}, proofs.LineCounts.lines_long}
 use Rattle.ffs_names.specs.Costs.{directories_cost}
-use Rattle.ffs_pathnames.proofs.Carrying.{at_fault, goes_is, root_kind_is, root_marked_is, tree_is, tree_lines}
+use Rattle.ffs_pathnames.proofs.Carrying.{goes_is, on_all, root_kind_is, root_marked_is, tree_is, tree_lines}
 use Rattle.ffs_pathnames.proofs.tree.check_tree.{Given.Over, Goals.{After-report_root, After-check_inodes}}
 use Rattle.ffs_volume.specs.{Encodings.Kinds.is_dir_kind, Directories.Volumes.volume_of, Messages.Kinds.of_tree}
-use Rattle.ffs_volume.specs.{Directories.PathnameCheck.pathname_lines, Report.Reads.line_reads}
+use Rattle.ffs_volume.specs.{Directories.PathnameCheck.{continues_after_root, pathname_lines}, Report.Reads.line_reads}
 use Rattle.ffs_report.proofs.{Reporting.{of_begins, of_says, of_stops, of_part, of_fault}, Paying.paid_said}
 use Rattle.ffs_report.proofs.Paying.{paid_answer, paid_fault, paid_text, paid_then}
 use Rattle.ffs_volume.specs.{declared.Layout.Layout, Messages.Kinds.TreeMessage}
-use Rattle.ffs_report.specs.{PhaseOutcome.PhaseReports, Progress.Progress, declared.fault.RunFault.RunFault}
-use Rattle.ffs_pathnames.specs.DirectoryLines.{ReportsTree}
+use Rattle.ffs_image.specs.Device.{Device}
+use Rattle.ffs_report.specs.{Known.ForBytes, PhaseOutcome.{ImageAfter, PhaseReports}, Progress.Progress}
+use Rattle.ffs_report.specs.declared.fault.RunFault.{RunFault, TheVariants.{Read, Out}}
+use Rattle.ffs_workspace.specs.{Ready.IsReady, declared.workspace.Workspace.Workspace}
+use Rattle.ffs_pathnames.{specs.{DirectoryLines.ReportsTree, RootAnswers.AnswersRoot}, proofs.Begun.image_same}
+use Rattle.ffs_pathnames.specs.declared.pass2.Root.{Root}
 use Rattle.ffs_pathnames.proofs.tree.check_tree.Goals as goal
 
 -- what the kind of the root that was read says
@@ -30,24 +34,34 @@ lines_are g c b goes h q = tree_is c.args.geometry.now.layout b c.args.workspace
     (root_marked_is c.args.geometry.now.layout c.args.workspace.now _ c.args.geometry.now.sound c.requires.made
     c.index-marked.ensures) h q
 
-pub returns-in-Stop-clause-goes : goal.returns-in-Stop-clause-goes
-returns-in-Stop-clause-goes g c = λ b k. c.in-Stop.ensures ∙ goes_is c.args.geometry.now.layout b c.args.workspace.now _
-    (kind_is g (goal.at.returns-in-Stop-clause-goes g c).After-report_root) k.claims
+-- the answer is that of the volume
+goes : (g : Over) (c : After-report_root g) (b : List ℕ) →
+    IsBefore c.args.geometry.now.layout (g.I.Image.device c.args.image.now).contents c.args.workspace.now 2 b →
+    is_dir_kind c.index-kind.result.now ≡ continues_after_root (volume_of c.args.geometry.now.layout b)
+goes g c b k = goes_is c.args.geometry.now.layout b c.args.workspace.now _ (kind_is g c) k.claims
 
-pub returns-in_err-check_inodes-in-Go-clause-fault : goal.returns-in_err-check_inodes-in-Go-clause-fault
-returns-in_err-check_inodes-in-Go-clause-fault g c =
-    let read = (goal.at.returns-in_err-check_inodes-in-Go-clause-fault g c).After-report_root in
-    at_fault c.from_residual-in_err-check_inodes-in-Go.result _
-    (λ b k. sym (c.in-Go.ensures ∙ goes_is c.args.geometry.now.layout b c.args.workspace.now _ (kind_is g read)
-    k.claims))
+-- a read failed where the run continues
+read_where_goes : {v : Layout} (d : Device) {w : Workspace} (fault : RunFault) →
+    ForBytes (IsBefore v d.contents w 2) (λ b. continues_after_root (volume_of v b) ≡ true) →
+    AnswersRoot v d w (Err fault)
+read_where_goes d (Read fault) on = on
+read_where_goes d (Out fault) on = tt
 
-pub returns-in_ok-check_inodes-in-Go-clause-goes : goal.returns-in_ok-check_inodes-in-Go-clause-goes
-returns-in_ok-check_inodes-in-Go-clause-goes g c = λ b k.
-    c.in-Go.ensures ∙ goes_is c.args.geometry.now.layout b c.args.workspace.now _
-    (kind_is g (goal.at.returns-in_ok-check_inodes-in-Go-clause-goes g c).After-report_root) k.claims
+pub returns-in-Stop-clause-root : goal.returns-in-Stop-clause-root
+returns-in-Stop-clause-root g c = λ b k.
+    c.in-Stop.ensures ∙ goes g (goal.at.returns-in-Stop-clause-root g c).After-report_root b k
 
-pub returns-in-Stop-clause-holds : goal.returns-in-Stop-clause-holds
-returns-in-Stop-clause-holds g c = λ b k. (k.claims, k.survey)
+pub returns-in_err-check_inodes-in-Go-clause-root : goal.returns-in_err-check_inodes-in-Go-clause-root
+returns-in_err-check_inodes-in-Go-clause-root g c =
+    let at = (goal.at.returns-in_err-check_inodes-in-Go-clause-root g c).After-report_root in
+    let p = err_from_is_err_and c.from_residual-in_err-check_inodes-in-Go.result
+    c.from_residual-in_err-check_inodes-in-Go.ensures.1 in
+    rw (p.1, p.2) (read_where_goes (g.I.Image.device c.args.image.now) c.in_err-check_inodes-in-Go.field-0.0
+    (λ b k. sym (c.in-Go.ensures ∙ goes g at b k)))
+
+pub returns-in_ok-check_inodes-in-Go-clause-root : goal.returns-in_ok-check_inodes-in-Go-clause-root
+returns-in_ok-check_inodes-in-Go-clause-root g c = λ b k.
+    c.in-Go.ensures ∙ goes g (goal.at.returns-in_ok-check_inodes-in-Go-clause-root g c).After-report_root b k
 
 -- the reads
 reads_few : (g : Over) (c : After-check_inodes g) (b : List ℕ) →
@@ -62,61 +76,76 @@ reads_few : (g : Over) (c : After-check_inodes g) (b : List ℕ) →
 reads_few g c b is k numbered =
     let v = c.args.geometry.now.layout in
     let long = lines_long (pathname_lines (volume_of v b)) _ (tree_lines v b true) is in
-    omega (arith, long, c.check_inodes.ensures.lines.reads b k numbered)
+    omega (arith, long, c.check_inodes.ensures.tree.reads b k numbered)
 
--- what is said, and what is read for it
+-- what is said, what is read for it, and what is left
 -- nothing is read
-only_said : {T : Type 0} {v : Layout} {knows : List ℕ → Type 0} {lines : List ℕ → List TreeMessage}
-    {said said' : Progress} {count : ℕ} (r : Result T RunFault) →
-    PhaseReports knows (λ b. map of_tree (lines b)) said said' r → ReportsTree v knows lines said said' count count r
-only_said r text = record {
+only_said : {T : Type 0} {v : Layout} {d : Device} {w : Workspace} {lines : List ℕ → List TreeMessage}
+    {said said' : Progress} {count : ℕ} (r : Result T RunFault) → ImageAfter d d r → IsReady v d w →
+    PhaseReports (IsBefore v d.contents w 2) (λ b. map of_tree (lines b)) said said' r →
+    ReportsTree v d d w w lines said said' count count r
+only_said r image ready text = record {
   text = text;
   reads = λ b k numbered. omega arith;
   paid = λ numbered. paid_text _ _ r text (omega arith);
+  image = image;
+  holds = on_all r _ (λ b k. (k.claims, k.survey));
+  references = refl;
+  ready = ready;
 }
 
-pub returns-in_err-report_root-clause-lines : goal.returns-in_err-report_root-clause-lines
-returns-in_err-report_root-clause-lines g c =
+pub returns-in_err-report_root-clause-tree : goal.returns-in_err-report_root-clause-tree
+returns-in_err-report_root-clause-tree g c =
+    let at = (goal.at.returns-in_err-report_root-clause-tree g c).After-report_root in
     let p = err_from_is_err_and c.from_residual.result c.from_residual.ensures.1 in
-    rw (p.1, p.2) (only_said _ (of_stops _ _ _ _ _ _ _ _ (of_begins _ _ _)
-    (λ b k. lines_are g (goal.at.returns-in_err-report_root-clause-lines g c).After-report_root b _ k.claims refl)
-    c.in_err-report_root.ensures))
+    rw (p.1, p.2) (only_said _ refl c.requires (of_stops _ _ _ _ _ _ _ _ (of_begins _ _ _)
+    (λ b k. lines_are g at b _ k.claims refl) c.in_err-report_root.ensures))
 
-pub returns-in-Stop-clause-lines : goal.returns-in-Stop-clause-lines
-returns-in-Stop-clause-lines g c = only_said _ (of_says _ _ (λ b. []) _ _ _ _ _ (of_begins _ _ _)
-    (λ b k. lines_are g (goal.at.returns-in-Stop-clause-lines g c).After-report_root b false k.claims c.in-Stop.ensures)
-    c.in_ok-report_root.ensures)
+pub returns-in-Stop-clause-tree : goal.returns-in-Stop-clause-tree
+returns-in-Stop-clause-tree g c =
+    let at = (goal.at.returns-in-Stop-clause-tree g c).After-report_root in
+    only_said _ refl c.requires (of_says _ _ (λ b. []) _ _ _ _ _ (of_begins _ _ _)
+    (λ b k. lines_are g at b false k.claims c.in-Stop.ensures) c.in_ok-report_root.ensures)
 
-pub returns-in_err-check_inodes-in-Go-clause-lines : goal.returns-in_err-check_inodes-in-Go-clause-lines
-returns-in_err-check_inodes-in-Go-clause-lines g c =
-    let at = goal.at.returns-in_err-check_inodes-in-Go-clause-lines g c in
-    let said = c.in_err-check_inodes-in-Go.ensures.lines in
+pub returns-in_err-check_inodes-in-Go-clause-tree : goal.returns-in_err-check_inodes-in-Go-clause-tree
+returns-in_err-check_inodes-in-Go-clause-tree g c =
+    let at = goal.at.returns-in_err-check_inodes-in-Go-clause-tree g c in
+    let tree = c.in_err-check_inodes-in-Go.ensures.tree in
+    let fault = c.in_err-check_inodes-in-Go.field-0.0 in
     let are = λ (b : List ℕ)
     (k : IsBefore c.args.geometry.now.layout (g.I.Image.device c.args.image.now).contents c.args.workspace.now 2 b).
     lines_are g at.After-report_root b true k.claims c.in-Go.ensures in
     let p = err_from_is_err_and c.from_residual-in_err-check_inodes-in-Go.result
     c.from_residual-in_err-check_inodes-in-Go.ensures.1 in
     rw (p.1, p.2) (record {
-      text = of_fault (Unit {0}) (Unit {0}) _ _ _ (λ b. []) _ _ _ _ c.in_err-check_inodes-in-Go.field-0.0
+      text = of_fault (Unit {0}) (Unit {0}) _ _ _ (λ b. []) _ _ _ _ fault
           (of_says _ _ _ _ _ _ _ _ (of_begins _ _ _) are c.in_ok-report_root.ensures)
-          (λ b k. sym (append-nil _)) said.text;
+          (λ b k. sym (append-nil _)) tree.text;
       reads = λ b k. reads_few g at.After-check_inodes b (are b k) k;
-      paid = λ numbered. paid_fault c.in_err-check_inodes-in-Go.field-0.0
-          (paid_then (paid_said _ c.in_ok-report_root.ensures (omega arith)) (said.paid numbered));
+      paid = λ numbered. paid_fault fault
+          (paid_then (paid_said _ c.in_ok-report_root.ensures (omega arith)) (tree.paid numbered));
+      image = image_same (Unit {0}) Root _ _ _ fault refl tree.image;
+      holds = tt;
+      references = tree.references;
+      ready = tree.ready;
     })
 
-pub returns-in_ok-check_inodes-in-Go-clause-lines : goal.returns-in_ok-check_inodes-in-Go-clause-lines
-returns-in_ok-check_inodes-in-Go-clause-lines g c =
-    let at = goal.at.returns-in_ok-check_inodes-in-Go-clause-lines g c in
-    let said = c.in_ok-check_inodes-in-Go.ensures.lines in
+pub returns-in_ok-check_inodes-in-Go-clause-tree : goal.returns-in_ok-check_inodes-in-Go-clause-tree
+returns-in_ok-check_inodes-in-Go-clause-tree g c =
+    let at = goal.at.returns-in_ok-check_inodes-in-Go-clause-tree g c in
+    let tree = c.in_ok-check_inodes-in-Go.ensures.tree in
     let are = λ (b : List ℕ)
     (k : IsBefore c.args.geometry.now.layout (g.I.Image.device c.args.image.now).contents c.args.workspace.now 2 b).
     lines_are g at.After-report_root b true k.claims c.in-Go.ensures in
     record {
       text = of_part _ _ _ (λ b. []) _ _ _ _
           (of_says _ _ _ _ _ _ _ _ (of_begins _ _ _) are c.in_ok-report_root.ensures)
-          (λ b k. sym (append-nil _)) said.text;
+          (λ b k. sym (append-nil _)) tree.text;
       reads = λ b k. reads_few g at.After-check_inodes b (are b k) k;
       paid = λ numbered. paid_answer
-          (paid_then (paid_said _ c.in_ok-report_root.ensures (omega arith)) (said.paid numbered));
+          (paid_then (paid_said _ c.in_ok-report_root.ensures (omega arith)) (tree.paid numbered));
+      image = tree.image;
+      holds = tree.holds;
+      references = tree.references;
+      ready = tree.ready;
     }

@@ -5,25 +5,22 @@ use Rattle.ffs_pathnames.proofs.FirstTwo.{none_found, first_found, second_found}
 use Rattle.ffs_names.proofs.PlacesNoted.{none_there as none}
 use Rattle.ffs_pathnames.proofs.tree.first_two.Goals as goal
 
-pub returns-in-None-clause-first : goal.returns-in-None-clause-first
-returns-in-None-clause-first c =
+pub returns-in-None : goal.returns-in-None
+returns-in-None c =
     let start = c.args.start.now in
-    none_found c.args.order start 0 c.args.started
-    (none c.args.order start 0 c.entry_at.result c.in-None.is c.entry_at.ensures.value)
+    let none = none c.args.order start 0 c.entry_at.result c.in-None.is c.entry_at.ensures.value in
+    record {
+      first = none_found c.args.order start 0 c.args.started none;
+      second = none_found c.args.order start 1 c.args.started none;
+    }
 
-pub returns-in-None-clause-second : goal.returns-in-None-clause-second
-returns-in-None-clause-second c =
+pub returns-in-Some : goal.returns-in-Some
+returns-in-Some c =
     let start = c.args.start.now in
-    none_found c.args.order start 1 c.args.started
-    (none c.args.order start 0 c.entry_at.result c.in-None.is c.entry_at.ensures.value)
-
-pub returns-in-Some-clause-first : goal.returns-in-Some-clause-first
-returns-in-Some-clause-first c =
-    first_found c.args.order c.args.start.now c.args.started (entry_value c.in-Some.entry) c.if-not-started.false
-    (sym c.entry_at.ensures.value ∙ ap (option_map entry_value) c.in-Some.is)
-
-pub returns-in-Some-clause-second : goal.returns-in-Some-clause-second
-returns-in-Some-clause-second c =
-    second_found c.args.order c.args.start.now c.args.started (entry_value c.in-Some.entry) _ c.if-not-started.false
-    (sym c.entry_at.ensures.value ∙ ap (option_map entry_value) c.in-Some.is)
-    (c.entry_at-second.ensures.value ∙ ap (entry_at c.args.order c.args.start.now) c.from.ensures)
+    let started = c.if-not-started.false in
+    let one = sym c.entry_at.ensures.value ∙ ap (option_map entry_value) c.in-Some.is in
+    let two = c.entry_at-second.ensures.value ∙ ap (entry_at c.args.order start) c.from.ensures in
+    record {
+      first = first_found c.args.order start c.args.started (entry_value c.in-Some.entry) started one;
+      second = second_found c.args.order start c.args.started (entry_value c.in-Some.entry) _ started one two;
+    }

@@ -1,4 +1,4 @@
-use Rattle.std.proofs.Common.{arith, ◌≡◌, sym, ap, ◌∙◌, ℕ, List, [], map, append-nil, option_map, ◌≤◌, ◌++◌, length}
+use Rattle.std.proofs.Common.{arith, ◌≡◌, refl, sym, ap, ◌∙◌, ℕ, List, [], map, append-nil, option_map, ◌≤◌, ◌++◌, length}
 use Rattle.std.proofs.lemmas.Result.{err_from_is_err_and}
 use Rattle.ffs_volume.specs.{Messages.Kinds.of_tree, Directories.{PathnameCheck.attributes, Parents.graph_of}}
 use Rattle.ffs_volume.specs.Directories.{Paths.dir_path, Volumes.volume_of}
@@ -46,8 +46,8 @@ lines_are g c b k =
       k.1 ∙ sym (attr_size v b c.args.header.number),
     ) (sym (append-nil _))
 
-pub returns-then-is_in_order-clause-lines : goal.returns-then-is_in_order-clause-lines
-returns-then-is_in_order-clause-lines g c =
+pub returns-then-is_in_order : goal.returns-then-is_in_order
+returns-then-is_in_order g c =
     let v = c.args.geometry.now.layout in
     let s = c.args.header in
     record {
@@ -61,40 +61,59 @@ returns-then-is_in_order-clause-lines g c =
       };
       counted = λ b k noted. few_none;
       paid = λ numbered. paid_none (omega arith);
+      leaves = record {
+        image = refl;
+        lists = refl;
+        chunk = refl;
+        ready = record { ready = c.requires.ready; kept_parent = c.requires.kept_parent };
+      };
     }
 
-pub returns-in_err-attr-clause-lines : goal.returns-in_err-attr-clause-lines
-returns-in_err-attr-clause-lines g c =
-    let at = (goal.at.returns-in_err-attr-clause-lines g c).After-gather_dir in
+pub returns-in_err-attr : goal.returns-in_err-attr
+returns-in_err-attr g c =
+    let at = (goal.at.returns-in_err-attr g c).After-gather_dir in
+    let left = c.in_err-attr.ensures.leaves in
+    let read = left.path.reads in
     let p = err_from_is_err_and c.from_residual.result c.from_residual.ensures.1 in
     rw (p.1, p.2) (record {
       text = of_reads _ _ _ _ _ (of_begins _ _ _);
-      counted = λ b k noted. by_line _ (c.in_err-attr.ensures.leaves.path.counted b (knows_places _ _ _ _ b k.0 noted))
-          (some_line g at b k);
-      paid = λ numbered. paid_reads (c.gather_dir.ensures.leaves.most numbered);
+      counted = λ b k noted. by_line _ (left.path.counted b (knows_places _ _ _ _ b k.0 noted)) (some_line g at b k);
+      paid = λ numbered. paid_reads (left.most numbered);
+      leaves = record { image = read.read; lists = read.lists; chunk = read.chunk; ready = read.ready };
     })
 
-pub returns-in_err-say_header-clause-lines : goal.returns-in_err-say_header-clause-lines
-returns-in_err-say_header-clause-lines g c =
-    let at = goal.at.returns-in_err-say_header-clause-lines g c in
+pub returns-in_err-say_header : goal.returns-in_err-say_header
+returns-in_err-say_header g c =
+    let at = goal.at.returns-in_err-say_header g c in
+    let left = c.in_ok-attr.ensures.leaves in
+    let read = left.path.reads in
     let p = err_from_is_err_and c.from_residual-in_err-say_header.result c.from_residual-in_err-say_header.ensures.1 in
     rw (p.1, p.2) (record {
       text = of_stops _ _ (λ b. []) _ _ _ _ _ (of_begins _ _ _) (lines_are g at.After-say_header)
           c.in_err-say_header.ensures;
-      counted = λ b k noted. by_line _ (c.in_ok-attr.ensures.leaves.path.counted b (knows_places _ _ _ _ b k.0 noted))
+      counted = λ b k noted. by_line _ (left.path.counted b (knows_places _ _ _ _ b k.0 noted))
           (some_line g at.After-gather_dir b k);
       paid = λ numbered. paid_stops _ c.in_err-say_header.ensures (some_said_of g at.After-say_header)
-          (c.gather_dir.ensures.leaves.most numbered);
+          (left.most numbered);
+      leaves = record { image = read.read; lists = read.lists; chunk = read.chunk; ready = read.ready };
     })
 
-pub returns-clause-lines : goal.returns-clause-lines
-returns-clause-lines g c =
-    let at = goal.at.returns-clause-lines g c in
+pub returns : goal.returns
+returns g c =
+    let at = goal.at.returns g c in
+    let left = c.in_ok-attr.ensures.leaves in
+    let read = left.path.reads in
     record {
       text = of_says _ _ (λ b. []) _ _ _ _ _ (of_begins _ _ _) (lines_are g at.After-say_header)
           c.in_ok-say_header.ensures;
-      counted = λ b k noted. by_line _ (c.in_ok-attr.ensures.leaves.path.counted b (knows_places _ _ _ _ b k.0 noted))
+      counted = λ b k noted. by_line _ (left.path.counted b (knows_places _ _ _ _ b k.0 noted))
           (some_line g at.After-gather_dir b k);
       paid = λ numbered. paid_says _ c.in_ok-say_header.ensures (some_said_of g at.After-say_header)
-          (c.gather_dir.ensures.leaves.most numbered);
+          (left.most numbered);
+      leaves = record {
+        image = read.read;
+        lists = read.lists;
+        chunk = read.chunk;
+        ready = record { ready = read.ready; kept_parent = left.path.kept_parent };
+      };
     }
