@@ -8,7 +8,7 @@ pub record AreFewIn (most size first many : ℕ) : Type 0 where
 
 -- so many words of a map from a place on lie in a block of so many bytes, and the fragments from
 -- `base` on that they are of lie in the map of the volume
-pub record HasWords (mapped size base place words : ℕ) : Type 0 where
+pub record HasMapWords (mapped size base place words : ℕ) : Type 0 where
   pub inside : place + 8 * words ≤ size
   pub below : base + 64 * words ≤ mapped
   pub fits : base + 64 * words < 2 ^ 32

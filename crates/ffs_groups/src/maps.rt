@@ -8,7 +8,7 @@ ghost use Rattle.ffs_volume.specs.Groups.Records.{same_bit, has_bits, is_used_in
 ghost use Rattle.ffs_maps.specs.Bits.{bits_of};
 ghost use Rattle.ffs_groups.specs.{Free.free_in, Inodes.class_in};
 ghost use Rattle.ffs_groups.specs.Inputs.{HasFragmentMap, HasInodeMap, IsGroupSize};
-ghost use Rattle.ffs_groups.specs.MapParts.{AreFewIn, HasWords, IsClearAt, SetsBit};
+ghost use Rattle.ffs_groups.specs.MapParts.{AreFewIn, HasMapWords, IsClearAt, SetsBit};
 
 use crate::free::{FRAGMENTS_AT_ONCE, are_free};
 use crate::inodes::{are_used, is_used_at};
@@ -157,7 +157,7 @@ fn same_words(used: &FragmentMap, base: u32, block: &[u8], place: usize, words: 
 /// What `same_words` answers. Mostly all these fragments are free, or none is: then no word is made
 /// of `used`.
 fn same_stretch(used: &FragmentMap, base: u32, block: &[u8], place: usize, words: u32) -> bool
-    requires { HasWords used.now.size (length block.now) base place words }
+    requires { HasMapWords used.now.size (length block.now) base place words }
     ensures { result ≡ has_bits block.now place (64 * words)
         (λ k. free_in (bits_of used.now) used.now.size (base + k)) }
 {
@@ -169,7 +169,7 @@ fn same_stretch(used: &FragmentMap, base: u32, block: &[u8], place: usize, words
 
 /// What `same_words` answers, of any number of words: `WORDS_AT_ONCE` of them at a time.
 fn same_stretches(used: &FragmentMap, base: u32, block: &[u8], place: usize, words: u32) -> bool
-    requires { HasWords used.now.size (length block.now) base place words }
+    requires { HasMapWords used.now.size (length block.now) base place words }
     ensures { result ≡ has_bits block.now place (64 * words)
         (λ k. free_in (bits_of used.now) used.now.size (base + k)) }
 {
