@@ -19,6 +19,6 @@ returns-then-stamp-dir c = record {
       after_pass v c.args.inodes.now c.args.dir c.passed.result c.is_suspect.result flags _ c.args.words.now.items _
       c.args.role (entry_value c.args.entry.now) s plain
       (subst (λ n. x < n) c.count.ensures c.if-entry-count.false) c.is_suspect.ensures flagged
-      (sym c.stamp.ensures ∙ c.if-stamp-dir.true) c.set.ensures.items c.passed.ensures.passed;
+      (sym c.stamp.ensures ∙ c.if-stamp-dir.true) c.set.ensures.items c.passed.ensures.due;
   words = grind (arith, common_steps);
 }
