@@ -1,18 +1,14 @@
 -- What a phase that read through a limited image leaves of the image below it, and of its report.
 use Rattle.std.{specs.Borrow.GName, proofs.Common.{◌≡◌, ◌≤◌, ℕ, Bool, true, false}}
-use Rattle.std.proofs.{Common.{List, ap, sym, Result, Ok, Err, inl, inr, ◌∙◌}, lemmas.Bool.cases_Bool}
+use Rattle.std.proofs.{Common.{List, arith, refl, sym, Result, Ok, Err, inl, inr, ◌∙◌}, lemmas.Bool.cases_Bool}
 use Rattle.ffs_volume.specs.{Messages.Kinds.Message}
-use Rattle.ffs_image.{specs.{Device.Device, Limited.{GivesBack, limited_device}}, proofs.Limits.{StaysOver, never_refused}}
+use Rattle.ffs_image.{specs.{Device.Device, Limited.{GivesBack, limited_device}}, proofs.Limits.StaysOver}
 use Rattle.ffs_report.specs.{Known.ForBytes, Progress.Progress, PhaseOutcome.{ImageAfter, PhaseOutcome, PhaseReports}}
 use Rattle.ffs_report.specs.declared.fault.RunFault.{RunFault, TheVariants.{Read, Out}}
 
 -- ---- the image
 same_over : {old new : Device} → new ≡ old → StaysOver old new
-same_over e = record {
-  lent = ap (λ (d : Device). d.lent) e;
-  contents = ap (λ (d : Device). d.contents) e;
-  size = ap (λ (d : Device). d.size) e;
-}
+same_over e = rw e (record { lent = refl; contents = refl; size = refl })
 
 pub image_over : {T : Type 0} (old new : Device) (r : Result T RunFault) → ImageAfter old new r → StaysOver old new
 image_over old new (Ok x) h = same_over h
@@ -74,7 +70,7 @@ phase_served {lent = lent} {below = below} {name_lent = name_lent} {reads = read
       same_image = sym g.same_image;
       contents = stays.contents ∙ sym over.contents;
       size = stays.size ∙ sym over.size;
-      few = λ e. never_refused g e;
+      few = λ e. grind arith;
       refused = λ x e none. record { image = g.refused e; text = refused_text g r x e none p.image p.text };
       answered = λ e. record { image = image_through g r e p.image; text = p.text };
     }

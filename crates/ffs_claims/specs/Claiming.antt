@@ -34,6 +34,12 @@ pub record CanClaimInode (g : Geometry) (d : Device) (w : Workspace) (sweep : Sw
   pub number_fits : number < inodes_of g.layout
   pub runs : w.runs_seen < 2 ^ 40
 
+-- an inode that was read can claim: this is its class
+pub record CanClaimRead (g : Geometry) (d : Device) (w : Workspace) (sweep : Sweep) (number : ℕ) (class : Class)
+    (i : Inode) : Type 0 where
+  pub class_is : class ≡ class_of g.layout i
+  pub can : CanClaimInode g d w sweep number
+
 -- the steps of the current inode can claim: this is its class, the walk is over the volume, and the
 -- inode has no bad Run, no dup offer and no kept offer yet
 pub record CanClaimSteps (g : Geometry) (d : Device) (w : Workspace) (sweep : Sweep) (class : Class) (i : Inode)

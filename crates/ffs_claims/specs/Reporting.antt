@@ -42,6 +42,11 @@ pub record OffersReportedOnly (v : Layout) (old new : Workspace) : Type 0 where
   pub reporting : ReportsOnly v old new
   pub runs : new.runs_again ≡ old.runs_again
 
+-- a kept offer is gone over: it is reported, if it is to be, and the rest is as offers leave it
+pub record ReportsOffer (v : Layout) (offer : Offer) (old new : Workspace) : Type 0 where
+  pub reported : OffersReported (offer ∷ []) old new
+  pub only : OffersReportedOnly v old new
+
 -- the kept offers of a Run are gone over: those are reported that are the first of a fragment with a
 -- DUP line, and the rest is as reporting leaves it
 pub record ReportsRun {T E : Type 0} (v : Layout) (number start len : ℕ) (progress progress' : Progress)

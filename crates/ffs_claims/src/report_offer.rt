@@ -4,8 +4,7 @@ ghost use Rattle.std.specs.Prelude.{[], ◌∷◌};
 ghost use Rattle.ffs_volume.specs.Blocks.{BlockCheck.first_offer_lines, KeptOffers.offer_of};
 ghost use Rattle.ffs_report.specs.Progress.{progress, Says};
 ghost use Rattle.ffs_maps.specs.Bits.{bits_of};
-ghost use Rattle.ffs_claims.specs.Lines.{of_lines};
-ghost use Rattle.ffs_claims.specs.Reporting.{CanReport, OffersReported, OffersReportedOnly, ReportsRun};
+ghost use Rattle.ffs_claims.specs.{Lines.of_lines, Reporting.{CanReport, ReportsOffer, ReportsRun}};
 
 use ffs_layout::Geometry;
 use ffs_report::{Line, OutFault, Output, Report};
@@ -21,13 +20,13 @@ fn report_offer<W: Output>(
     fragment: u64,
     report: &mut Report<'_, W>,
 ) -> Result<(), OutFault>
-    requires can { CanReport geometry.now.layout workspace.old number }
+    requires { CanReport geometry.now.layout workspace.old number }
     ensures said { Says (progress W.sink report.old) (progress W.sink report.new)
         (of_lines (first_offer_lines (bits_of workspace.old.duplicates)
         (offer_of number fragment ∷ [])))
         result }
-    ensures reported { OffersReported (offer_of number fragment ∷ []) workspace.old workspace.new }
-    ensures only { OffersReportedOnly geometry.now.layout workspace.old workspace.new }
+    ensures reported { ReportsOffer geometry.now.layout (offer_of number fragment) workspace.old
+        workspace.new }
 {
     if fragment >= u64::from(geometry.layout.size) {
         return Ok(());

@@ -7,8 +7,9 @@ use Rattle.ffs_workspace.{proofs.Readiness.ready_table, specs.Holds.claims_of}
 use Rattle.ffs_claims.{proofs.Inodes.{ok_where, used_below}, specs.{Leaves.Stored, Lines.{of_lines, owner_with}}}
 use Rattle.ffs_claims.proofs.claim.claim_inode.Goals as goal
 
-pub claim_read_inode-requires-clause-can : goal.claim_read_inode-requires-clause-can
-claim_read_inode-requires-clause-can g c =
+pub claim_read_inode-requires : goal.claim_read_inode-requires
+claim_read_inode-requires g c =
+    let class = c.class_of.ensures in
     let ok = c.in_ok-inode.ensures.reads.read in
     let ready = ready_table c.args.geometry.now.layout (g.I.Image.device c.args.image.now)
     (g.I.Image.device c.inode.new.image) c.args.workspace.now c.inode.new.self (ap (λ d. d.contents) ok)

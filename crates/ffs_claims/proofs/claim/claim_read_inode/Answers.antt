@@ -25,7 +25,7 @@ pub claim-requires : goal.claim-requires
 claim-requires g c =
     let can = c.requires.can in
     record {
-      class_is = c.requires.class;
+      class_is = c.requires.class_is;
       claim = record { ready = ready_begun c.begin.ensures can.claim.ready; only_data = can.claim.only_data };
       walk = can.walk;
       begun = begun c.args.workspace.now c.begin.ensures can.runs;
@@ -38,7 +38,7 @@ returns-in_err-say_class-clause-claims g c =
     let few = used_below ready.made in
     let b = begun_runs c.args.workspace.now c.begin.ensures in
     rw (p.1, p.2) (record {
-      text = class_stopped _ _ _ (claims_of c.args.workspace.now) c.requires.class c.in_err-say_class.ensures;
+      text = class_stopped _ _ _ (claims_of c.args.workspace.now) c.requires.class_is c.in_err-say_class.ensures;
       claims = tt;
       left = grind arith;
     })
@@ -52,7 +52,7 @@ returns-in_err-claim-clause-claims g c =
     let left = c.claim.ensures.left in
     rw (p.1, p.2) (record {
       text = of_fault (Unit {0}) (Unit {0}) _ _ _ _ _ _ _ _ _
-          (class_said v _ _ (claims_of c.args.workspace.now) (ap claims_of c.begin.ensures) c.requires.class
+          (class_said v _ _ (claims_of c.args.workspace.now) (ap claims_of c.begin.ensures) c.requires.class_is
           c.in_ok-say_class.ensures) (λ bytes t. refl) c.in_err-claim.ensures.text;
       claims = tt;
       left = grind arith;
@@ -66,7 +66,7 @@ returns-in_err-say_count-clause-claims g c =
     let left = c.claim.ensures.left in
     rw (p.1, p.2) (record {
       text = of_stops _ _ (λ bytes. []) _ _ _ _ _ (steps_reported v _ _ (claims_of c.args.workspace.now)
-          (ap claims_of c.begin.ensures) c.requires.class c.in_ok-say_class.ensures
+          (ap claims_of c.begin.ensures) c.requires.class_is c.in_ok-say_class.ensures
           c.in_ok-claim.ensures.text c.in_ok-claim.ensures.claims) (λ bytes t. refl)
           c.in_err-say_count.ensures;
       claims = tt;
@@ -84,7 +84,7 @@ returns-clause-claims g c =
     let m = c.in_ok-claim.ensures.left.moves in
     record {
       text = of_says _ _ (λ bytes. []) _ _ _ _ _ (steps_reported v _ _ (claims_of c.args.workspace.now)
-          (ap claims_of c.begin.ensures) c.requires.class c.in_ok-say_class.ensures
+          (ap claims_of c.begin.ensures) c.requires.class_is c.in_ok-say_class.ensures
           c.in_ok-claim.ensures.text c.in_ok-claim.ensures.claims) (λ bytes t. refl)
           c.in_ok-say_count.ensures;
       claims = λ bytes t. ap claims_of c.store-2.ensures.rest ∙ c.in_ok-claim.ensures.claims bytes t
@@ -100,7 +100,7 @@ returns-then-matches-clause-claims g c =
       | in-Free w ↦ w.in-Free.is
       | in_default w ↦ cc
     ] in
-    let free = sym c.requires.class ∙ is_free in
+    let free = sym c.requires.class_is ∙ is_free in
     let begun = ready_begun c.begin.ensures c.requires.can.claim.ready in
     let ready = ready_stored c.store.ensures.stored c.store.ensures.rest begun in
     let few = used_below begun.made in

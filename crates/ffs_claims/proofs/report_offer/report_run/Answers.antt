@@ -23,7 +23,7 @@ returns-in_err-report_offer g c =
           (run_next c.args.number c.args.start c.args.len c.loop-index.index f c.loop-index-test.true (omega arith))
           refl) c.in_err-report_offer.ensures.said;
       reported = tt;
-      only = offers_reported_then c.loop-index.invariant.only c.report_offer.ensures.only;
+      only = offers_reported_then c.loop-index.invariant.only c.report_offer.ensures.reported.only;
     })
 
 pub loop-index-preserved : goal.loop-index-preserved
@@ -33,10 +33,10 @@ loop-index-preserved g c =
     let f = c.from.result + c.from-in-loop-index.result in
     let next = run_next n c.args.start c.args.len c.loop-index.index f c.loop-index-test.true (omega arith) in
     record {
-      only = offers_reported_then inv.only c.report_offer.ensures.only;
-      reported = reporting_more inv.reported next c.report_offer.ensures.reported;
+      only = offers_reported_then inv.only c.report_offer.ensures.reported.only;
+      reported = reporting_more inv.reported next c.report_offer.ensures.reported.reported;
       said = to_says _ _ _ _ _ _ _ inv.said
-          (lines_split _ _ _ (offer_of n f ∷ []) _ next c.report_offer.ensures.reported.dup)
+          (lines_split _ _ _ (offer_of n f ∷ []) _ next c.report_offer.ensures.reported.reported.dup)
           c.in_ok-report_offer.ensures.said;
     }
 
