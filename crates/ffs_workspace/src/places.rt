@@ -46,7 +46,7 @@ pub fn passed(word: u32) -> u32
 /// room for it. Its parent entry isn't due.
 #[inline(always)]
 pub fn place_of(chunk: u64) -> u32
-    ensures { result ≡ place_of chunk }
+    ensures value { result ≡ place_of chunk }
 {
     if chunk < u64::from(DUE - 1) {
         chunk as u32 + 1
