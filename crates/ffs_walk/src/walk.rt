@@ -294,7 +294,8 @@ impl Walk {
     /// block: how many there are.
     #[inline(never)]
     fn skip_zero_addresses(&mut self) -> u32
-        ensures { IsAtTop self.old → (blocks : Blocks) → PassesGaps blocks self.old self.new result }
+        ensures { IsAtTop self.old → (blocks : Blocks)
+            → PassesGaps blocks self.old self.new result }
     {
         let end = self.zero_addresses_end();
         let gaps = end - self.next;
