@@ -115,7 +115,7 @@ pub record AreEmptyBlocks (list : FixedList ℕ) (blocks : Blocks) : Type 0 wher
   pub holds : (v : Layout) (contents : Option (List ℕ)) → BlocksHold v contents blocks
 
 -- these bytes have the words from an index on and below another
-pub record HasWords (block : List ℕ) (next end : ℕ) : Type 0 where
+pub record HasWordsBetween (block : List ℕ) (next end : ℕ) : Type 0 where
   pub order : next ≤ end
   pub fits : 4 * end ≤ length block
 

@@ -2,7 +2,7 @@
 
 ghost use Rattle.std.specs.{Prelude.{◌≡◌, ◌*◌, ◌+◌, ◌≤◌, length, nat_le, not, ◌&&◌}, List.slice_range};
 ghost use Rattle.ffs_volume.specs.Blocks.{Inodes.any_nonzero, Steps.{any_nonzero_from, address_in}};
-ghost use Rattle.ffs_walk.specs.Windows.{EndsZeros, HasWords};
+ghost use Rattle.ffs_walk.specs.Windows.{EndsZeros, HasWordsBetween};
 
 use ffs_layout::{Geometry, u32_at};
 
@@ -42,7 +42,7 @@ fn any_set(bytes: &[u8]) -> bool
 #[inline(never)]
 #[tactic(auto, using(crate::proofs::WordBytes::any_byte_from))]
 pub fn any_from(geometry: &Geometry, block: &[u8], used: u32) -> bool
-    requires { HasWords block.now used geometry.now.layout.nindir }
+    requires { HasWordsBetween block.now used geometry.now.layout.nindir }
     ensures { result ≡ any_nonzero_from geometry.now.layout block.now used }
 {
     let first = WORD_BYTES * used as usize;
@@ -54,7 +54,7 @@ pub fn any_from(geometry: &Geometry, block: &[u8], used: u32) -> bool
 /// inlined, so that a count that is known gives a length that is known.
 #[inline(always)]
 fn are_zeros(block: &[u8], index: u32, used: u32, words: u32) -> bool
-    requires { HasWords block.now index used }
+    requires { HasWordsBetween block.now index used }
     ensures { result ≡ (nat_le (index + words) used
         && not (any_nonzero (slice_range block.now (4 * index) (4 * (index + words))))) }
 {
@@ -69,7 +69,7 @@ fn are_zeros(block: &[u8], index: u32, used: u32, words: u32) -> bool
 /// The first index from `next` on whose word isn't zero, and `used` where there is none below it.
 /// Where a few words are zero, many are looked at together.
 pub fn zeros_end(geometry: &Geometry, block: &[u8], next: u32, used: u32) -> u32
-    requires { HasWords block.now next used }
+    requires { HasWordsBetween block.now next used }
     ensures { EndsZeros geometry.now.layout block.now next used result }
 {
     let mut index = next;

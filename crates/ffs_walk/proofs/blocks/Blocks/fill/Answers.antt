@@ -5,13 +5,7 @@ use Rattle.ffs_walk.proofs.Splices.{held_without, held_with}
 use Rattle.ffs_walk.proofs.blocks.Blocks.fill.Goals as goal
 
 pub returns-in_err-read_at : goal.returns-in_err-read_at
-returns-in_err-read_at g c = record {
-  held = grind (arith, common_steps);
-  leaves = grind (arith, held_without);
-  others = grind (arith, common_steps);
-  counted = search rules;
-  again = grind (arith, common_steps);
-}
+returns-in_err-read_at g c = grind (arith, common_steps, held_without)
 
 pub returns : goal.returns
 returns g c =

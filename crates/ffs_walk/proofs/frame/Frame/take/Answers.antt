@@ -1,14 +1,10 @@
-use Rattle.std.proofs.Common.{arith, rules, ◌≡◌, ◌∙◌, true, false}
-use Rattle.ffs_volume.specs.Blocks.Steps.{any_nonzero_from}
+use Rattle.std.proofs.Common.{arith, rules, ◌≡◌, ◌∙◌, false}
 use Rattle.ffs_walk.proofs.FrameSteps.{word_taken, less_left}
 use Rattle.ffs_walk.proofs.frame.Frame.take.Goals as goal
 use Rattle.ffs_walk.proofs.frame.Frame.take.Goals.{then-self+else-any_from, else-self}
 
 pub returns : goal.returns
 returns g c =
-    let no : c.args.self.now.unread ≡ true → any_nonzero_from c.args.geometry.now.layout c.bytes-block.result.now
-    c.args.self.now.used ≡ false =
-    grind arith in
     let known : c.if-self.self.1.1.1.1.1.0 ≡ false = grind arith in
     record {
       item = record {
@@ -16,8 +12,8 @@ returns g c =
         steps = rw (c.from.ensures, known)
             (word_taken c.args.geometry.now.layout _ c.args.span c.args.self.now c.bytes-block.result.now
             c.word-address.result
-            c.requires.left (λ b tells. c.bytes-block.ensures.bytes ∙ c.in_ok-fill.ensures.held.bytes b tells) no
-            c.word-address.ensures);
+            c.requires.left (λ b tells. c.bytes-block.ensures.bytes ∙ c.in_ok-fill.ensures.held.bytes b tells)
+            (grind arith) c.word-address.ensures);
         falls = rw known (λ most. less_left most c.args.self.now c.requires.left);
       };
       block = search rules;
