@@ -1,7 +1,6 @@
 //! A path that is put together from its end.
 
-ghost use Rattle.std.specs.Prelude.{◌≡◌, ◌+◌, ◌-◌, ◌<◌, ◌≤◌, ℕ, not, ◌&&◌, nat_lt, List, [], ◌∷◌, ◌++◌, length, drop};
-ghost use Rattle.std.specs.Prelude.{Some};
+ghost use Rattle.std.specs.Prelude.{◌≡◌, ◌+◌, ◌<◌, ◌≤◌, ℕ, not, ◌&&◌, nat_lt, List, [], ◌∷◌, ◌++◌, length, drop, Some};
 ghost use Rattle.ffs_volume.specs.Directories.Paths.{dir_path_of_names, path_bytes};
 ghost use Rattle.ffs_paths.specs.Slashes.{AreSingle, FitsBefore, IsFirstSlash, PutsBefore};
 

@@ -3,9 +3,8 @@
 ghost use Rattle.std.specs.Prelude.{◌≡◌, ◌<◌, true, ℕ, List, Option, IfOk, OnOk, IfSome, min, vec_len};
 ghost use Rattle.ffs_volume.specs.{declared.Layout.Layout, Directories.Paths.dir_path, Report.Reads.path_reads};
 ghost use Rattle.ffs_workspace.specs.declared.workspace.Workspace.{Workspace as WorkspaceIn};
-ghost use Rattle.ffs_paths.specs.{Climbing.IsParentOf, DirectoryPaths.IsPathOf};
+ghost use Rattle.ffs_paths.specs.{Climbing.IsParentOf, DirectoryPaths.IsPathOf, Reads.{ForTree, climb_reads}};
 ghost use Rattle.ffs_paths.specs.KeptParents.{CanKeepChild, KeepsParent, PathLeaves, ReadyToPath};
-ghost use Rattle.ffs_paths.specs.Reads.{ForTree, climb_reads};
 
 use crate::buffer::{PathBuffer, PathText};
 use crate::name::find_name;

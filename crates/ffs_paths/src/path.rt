@@ -1,13 +1,10 @@
 //! The path of a directory, for all lines on it and on its entries.
 
-ghost use Rattle.std.specs.Prelude.{◌≡◌, ◌<◌, ◌≤◌, ℕ, List, [], ◌∷◌, ◌++◌, length, vec_len, Some, option_map, IfOk};
-ghost use Rattle.std.specs.Prelude.{OnOk};
-ghost use Rattle.ffs_volume.specs.Directories.Graph.{Graph, level};
-ghost use Rattle.ffs_volume.specs.Directories.Paths.{dir_path, entry_path, names_down};
+ghost use Rattle.std.specs.Prelude.{◌≡◌, ◌<◌, ◌≤◌, ℕ, List, [], ◌∷◌, ◌++◌, length, vec_len, Some, option_map, IfOk, OnOk};
+ghost use Rattle.ffs_volume.specs.Directories.{Graph.{Graph, level}, Paths.{dir_path, entry_path, names_down}};
 ghost use Rattle.ffs_workspace.specs.Holds.{bool_at};
-ghost use Rattle.ffs_paths.specs.{Buffers.HoldsNames, Climbing.{in_room, path_in}};
-ghost use Rattle.ffs_paths.specs.Reads.{climb_reads, CanClimb, ForTree, IsReadyFor, OnlyReadsAtMost};
-ghost use Rattle.ffs_paths.specs.{DirectoryPaths.HoldsPath, DirectoryPaths.IsPathOf, Slashes.AreSingle};
+ghost use Rattle.ffs_paths.specs.{Buffers.HoldsNames, Climbing.{in_room, path_in}, DirectoryPaths.{HoldsPath, IsPathOf}};
+ghost use Rattle.ffs_paths.specs.{Reads.{climb_reads, CanClimb, ForTree, IsReadyFor, OnlyReadsAtMost}, Slashes.AreSingle};
 
 use crate::buffer::{LONGEST_NAME, PathBuffer, PathText};
 use crate::name::find_name;

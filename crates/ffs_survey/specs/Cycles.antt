@@ -3,8 +3,8 @@
 use Rattle.std.specs.Prelude.{◌≡◌, ◌≢◌, ℕ, ◌+◌, ◌<◌, ◌≤◌, ◌^◌, ◌==◌, ◌||◌, nat_le, Bool, cond, List, length, All}
 use Rattle.std.specs.{Prelude.{Option, None, Some, MatchOption, vec_len}, List.sum_by}
 use Rattle.std.specs.declared.{vec.Vec.Vec, alloc.Global.Global}
-use Rattle.ffs_volume.specs.Directories.Climb.{climb, IsOnCycle, IsLeader}
-use Rattle.ffs_survey.specs.{Survey.number_at, Discover.bit}
+use Rattle.ffs_volume.specs.Directories.Climb.{climb, is_leader_within, IsOnCycle, IsLeader}
+use Rattle.ffs_survey.specs.{Survey.{bool_at, number_at}, Discover.bit}
 
 -- the parent that a list holds of x: 0 and numbers past the list are none
 abbrev pub parent_in : List ℕ → ℕ → Option ℕ
@@ -75,3 +75,8 @@ pub record CanMarkLeaders (parents walk_of : List ℕ) (leaders : List Bool) : T
   pub few : length parents < 2 ^ 31
   pub walks : length walk_of ≡ length parents
   pub leaders_long : length leaders ≡ length parents
+
+-- each number that is the least on a cycle of parents is flagged, and the list of walks keeps its length
+pub record MarksEachLeader (parents : List ℕ) (walk_of walk_of' : Vec ℕ Global) (leaders : List Bool) : Type 0 where
+  pub leads : (x : ℕ) → bool_at leaders x ≡ is_leader_within (parent_in parents) (length parents) x
+  pub walks_long : vec_len walk_of' ≡ vec_len walk_of

@@ -1,8 +1,7 @@
 //! Cycles of parents.
-ghost use Rattle.std.specs.Prelude.{◌≡◌, ◌<◌, ◌+◌, ℕ, length, false, vec_len};
-ghost use Rattle.ffs_volume.specs.Directories.Climb.{is_leader_within};
-ghost use Rattle.ffs_survey.specs.Survey.{bool_at};
-ghost use Rattle.ffs_survey.specs.Cycles.{parent_in, CanFollow, ComesBack, CanMarkLeaders, NotesWalk, IsLeastOn};
+ghost use Rattle.std.specs.Prelude.{length};
+ghost use Rattle.ffs_survey.specs.Cycles.{parent_in, CanFollow, CanMarkLeaders, ComesBack, IsLeastOn, MarksEachLeader};
+ghost use Rattle.ffs_survey.specs.Cycles.{NotesWalk};
 
 use crate::numbers::number_of;
 use ffs_memory::FilledList;
@@ -66,9 +65,7 @@ fn least_on(found: u32, parents: &FilledList<u32>) -> u32
 #[tactic(auto, using(crate::proofs::Walks::past_leader))]
 pub fn mark_leaders(parents: &FilledList<u32>, walk_of: &mut FilledList<u32>, leaders: &mut [bool])
     requires { CanMarkLeaders parents.now.items walk_of.old.items leaders.old }
-    ensures leads { (x : ℕ) → bool_at leaders.new x
-        ≡ is_leader_within (parent_in parents.now.items) (length parents.now.items) x }
-    ensures walks_long { vec_len walk_of.new ≡ vec_len walk_of.old }
+    ensures { MarksEachLeader parents.now.items walk_of.old walk_of.new leaders.new }
 {
     walk_of.fill(0);
     leaders.fill(false);

@@ -1,4 +1,4 @@
-use Rattle.std.proofs.Common.{◌≡◌, ◌+◌, ◌*◌, ◌∙◌, ap, refl, sym, suc, ℕ, List, Some, true, false, subst, arith, slice_index}
+use Rattle.std.proofs.Common.{◌≡◌, ◌*◌, ◌∙◌, ap, refl, sym, suc, ℕ, List, Some, false, arith, slice_index}
 use Rattle.std.{proofs.lemmas.List.get_or_default, specs.List.list_any}
 use Rattle.ffs_volume.specs.{Disk.Numbers.piece, Directories.{Entries.entries_of, Roles.roled_from}}
 use Rattle.ffs_volume.specs.Directories.Graph.{is_naming_entry}

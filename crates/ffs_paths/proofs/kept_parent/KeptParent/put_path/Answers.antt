@@ -1,4 +1,4 @@
-use Rattle.std.proofs.Common.{◌≡◌, sym, subst, arith}
+use Rattle.std.proofs.Common.{◌≡◌, subst, arith}
 use Rattle.ffs_volume.specs.Directories.{Parents.graph_of, Paths.dir_path, Volumes.volume_of}
 use Rattle.ffs_paths.{specs.Climbing.IsParentOf, proofs.{WaysUp.child_put, Keeping.kept_before}}
 use Rattle.ffs_paths.proofs.kept_parent.KeptParent.put_path.Goals as goal
