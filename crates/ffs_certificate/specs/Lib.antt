@@ -8,3 +8,4 @@ pub mod ReportExamples
 pub mod BlocksRise
 pub mod MessageExamples
 pub mod KeptExamples
+pub mod WorkedExamples

@@ -11,8 +11,7 @@
 
 ghost use Rattle.ffs_certificate.specs.{BlocksRise.AllBlocksRise, Bounded.ClaimsAreBounded};
 ghost use Rattle.ffs_certificate.specs.{Certificate.{BlocksAndGroups, KeepingByRule}, Conditions.ConditionsAreReported};
-ghost use Rattle.ffs_certificate.specs.{DirsCertificate.SilentIsRight, KeptExamples.KeptExamples};
-ghost use Rattle.ffs_certificate.specs.{MessageExamples.MessageExamples, ReportExamples.ReportExamples};
+ghost use Rattle.ffs_certificate.specs.{DirsCertificate.SilentIsRight, WorkedExamples.WorkedExamples};
 ghost use Rattle.ffs_certificate.specs.ReportRight.{ReportIsRight, StopIsReported};
 
 /// A law of the definitions: a silent check of blocks and groups certifies them.
@@ -58,9 +57,7 @@ pub fn conditions_are_reported()
 /// Whole reports of small images: the base image in both orders, which is so consistent, and images
 /// with a defect; the bytes of messages; and the steps that an inode keeps.
 pub fn examples_hold()
-    ensures kept { KeptExamples }
-    ensures reports { ReportExamples }
-    ensures messages { MessageExamples }
+    ensures { WorkedExamples }
 {}
 
 /// The Runs of an inode hold each logical block once at most, in order, and none past its size.

@@ -121,11 +121,6 @@ pub any_at : (size : ℕ) (out at at' : Sink) (before after : ℕ) → at ≡ at
     ReadsAny size out at' before after
 any_at size out at at' before after e r = subst (λ to. ReadsAny size out to before after) e r
 
-pub rest_at : (knows : List ℕ → Type 0) (s : Superblock) (out at at' : Sink) (before after : ℕ) → at ≡ at' →
-    PhasesRead Printed BrokeOffIn knows s out at before after →
-    PhasesRead Printed BrokeOffIn knows s out at' before after
-rest_at knows s out at at' before after e r = rw (← e) r
-
 -- the phases alone were said to a report that had just begun, and printed
 pub rest_reads : {knows : List ℕ → Type 0} (s : Superblock) (output : GName) (sink : Sink) (c : Progress)
     (before after : ℕ) → PhasesRead Said Stopped knows s (starts output sink) c before after →

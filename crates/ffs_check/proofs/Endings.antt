@@ -11,7 +11,8 @@ use Rattle.ffs_report.specs.{Sink.Sink, Known.{ForBytes, IsContents}, PhaseOutco
 use Rattle.ffs_report.{specs.Progress.{Said, Stopped, starts}, proofs.Reports.{has_defect-append, stopped_more}}
 use Rattle.ffs_report.specs.declared.fault.RunFault.{RunFault, TheVariants.{Read, Out}}
 use Rattle.ffs_pathnames.specs.{declared.pass2.Root.Root, RootAnswers.is_go}
-use Rattle.ffs_check.specs.PhaseEnds.{EndsAs, IsEndByRoot, PrintsPhases, ReportsOrStopsEarly, SaysPhases, SaysReadFault}
+use Rattle.ffs_check.specs.PhaseEnds.{EndsAs, IsEndByRoot, PhasesEnd, ReportsOrStopsEarly, SaysPhases, SaysReadFault}
+use Rattle.ffs_check.specs.Ends.{BrokeOffIn, Printed}
 use Rattle.ffs_check.proofs.EndLaws.{ends_printed, line_after}
 
 -- what an image's bytes determine, and nothing for an image that doesn't give them
@@ -104,13 +105,9 @@ ran_known had_defect knows known s image image' a b end more ran = grind (arith,
 pub prints_phases : (had_defect : Bool) (s : Superblock) → had_defect ≡ has_defect (super_lines s) →
     (knows : List ℕ → Type 0) (image image' : Device) (output : GName) (sink : Sink) (new : Progress) (end : End) →
     SaysPhases had_defect knows s image image' (starts output sink) new end →
-    PrintsPhases knows s image image' sink new.sink end
+    PhasesEnd Printed BrokeOffIn (λ text. has_defect (super_lines s ++ text)) knows s image image' sink new.sink end
 prints_phases had_defect s e knows image image' output sink new end ran =
     grind (arith, ends_printed, end_known, has_defect-append)
-
-pub prints_at : (knows : List ℕ → Type 0) (s : Superblock) (image image' : Device) (out at at' : Sink) (end : End) →
-    at ≡ at' → PrintsPhases knows s image image' out at end → PrintsPhases knows s image image' out at' end
-prints_at knows s image image' out at at' end e prints = rw (← e) prints
 
 -- the settings of an accepted superblock report a defect where one of them isn't what it may be
 settings_defect : (a b : Bool) (x y : Message) → is_defect x ≡ true → is_defect y ≡ true → (xs : List Message) →

@@ -8,7 +8,7 @@ use Rattle.ffs_volume.specs.Report.Opening.{head_lines, super_lines, fault_line}
 use Rattle.ffs_report.{specs.{Sink.Sink, Progress.{Progress, Said, Stopped, starts}}, proofs.Reports.said_then}
 use Rattle.ffs_report.proofs.Reports.{stopped_after, stopped_more}
 use Rattle.ffs_layout.specs.{declared.superblock.Super.Super, Super.{ReadsSuper, superblock_in}}
-use Rattle.ffs_check.specs.{Ends.{BrokeOffIn, Printed}, Opening.{OpeningEnds, PrintsOpening, SaysOpening}}
+use Rattle.ffs_check.specs.{Ends.{BrokeOffIn, Printed}, Opening.{OpeningEnds, OpeningOf, SaysOpening}}
 use Rattle.ffs_check.proofs.EndLaws.{broke_in_line, broke_off}
 
 -- what is found where nothing has been read
@@ -85,5 +85,5 @@ ends_printed image image' output sink new name sector found result ends = grind 
 pub prints_opening : (image image' : Device) (output : GName) (sink : Sink) (new : Progress) (name : List ℕ)
     (sector : Option ℕ) (result : Result Super End) →
     SaysOpening image image' (starts output sink) new name sector result →
-    PrintsOpening image image' sink new.sink name sector result
+    OpeningOf Printed BrokeOffIn image image' sink new.sink name sector result
 prints_opening image image' output sink new name sector result says = grind (arith, ends_printed)

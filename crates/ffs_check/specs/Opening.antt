@@ -5,9 +5,9 @@ use Rattle.ffs_volume.specs.declared.SuperFault.{SuperFault, TheVariants.CannotR
 use Rattle.ffs_volume.specs.{declared.End.{End, TheVariants.{Refused, WriteFault}}, Report.Reads.opening_reads}
 use Rattle.ffs_volume.specs.{Disk.{Superblock.Superblock, Outcome.outcome}, Messages.Kinds.Message}
 use Rattle.ffs_volume.specs.Report.Opening.{fault_line, head_lines, opening_lines}
-use Rattle.ffs_report.specs.{Sink.Sink, Progress.{Progress, Said, Stopped}}
+use Rattle.ffs_report.specs.Progress.{Progress, Said, Stopped}
 use Rattle.ffs_layout.specs.{declared.superblock.Super.Super, Super.{IsUnreadable, ReadsSuper, superblock_in}}
-use Rattle.ffs_check.specs.Ends.{BrokeOffIn, BrokeOffInLine, Printed}
+use Rattle.ffs_check.specs.Ends.{BrokeOffInLine}
 
 -- the superblock isn't accepted, and its opening went out, with the fault
 pub record OpeningRefused {Sent : Type 0} (whole : Sent → Sent → List Message → Type 0) (old new : Sent) (name : List ℕ)
@@ -59,12 +59,14 @@ pub record AnswersOpening (image image' : Device) (asked_sector : Option ℕ) (b
       (λ end. (sector : ℕ) → end ≡ Refused (CannotRead sector) → IsUnreadable image image' asked_sector sector)
   pub reads : after ≤ before + opening_reads
 
+-- what the opening answers, and what went out of it
+pub record Opens {Sent : Type 0} (whole broken : Sent → Sent → List Message → Type 0) (image image' : Device)
+    (old new : Sent) (name : List ℕ) (asked_sector : Option ℕ) (before after : ℕ) (result : Result Super End)
+    : Type 0 where
+  pub answers : AnswersOpening image image' asked_sector before after result
+  pub opened : OpeningOf whole broken image image' old new name asked_sector result
+
 -- what the opening says to a report (`OpeningOf`)
 abbrev pub SaysOpening : Device → Device → Progress → Progress → List ℕ → Option ℕ → Result Super End → Type 0
 SaysOpening image image' old new name asked_sector result =
     OpeningOf Said Stopped image image' old new name asked_sector result
-
--- what the opening prints to an output (`OpeningOf`)
-abbrev pub PrintsOpening : Device → Device → Sink → Sink → List ℕ → Option ℕ → Result Super End → Type 0
-PrintsOpening image image' out out' name asked_sector result =
-    OpeningOf Printed BrokeOffIn image image' out out' name asked_sector result

@@ -3,16 +3,17 @@
 use Rattle.std.specs.Prelude.{◌≡◌, ◌⊎◌, ◌<◌, ℕ, Bool, false, ◌||◌, List, [], ◌∷◌, ◌++◌, length, Result, Ok, Err, IfOk}
 use Rattle.ffs_image.specs.Device.{Device, Faulted}
 use Rattle.ffs_volume.specs.declared.End.{End, TheVariants.{ReadFault, WriteFault, NoMemory}}
-use Rattle.ffs_volume.specs.{Disk.Superblock.Superblock, Report.Opening.super_lines}
-use Rattle.ffs_volume.specs.Directories.PathnameCheck.{continues_after_root}
+use Rattle.ffs_volume.specs.{Disk.Superblock.Superblock, Directories.PathnameCheck.continues_after_root}
 use Rattle.ffs_volume.specs.{Directories.Volumes.volume_of, Report.Whole.{end_by, phase_lines}, Messages.Kinds.Message}
-use Rattle.ffs_volume.specs.Messages.Kinds.{cannot_alloc, cannot_read, has_defect}
-use Rattle.ffs_report.specs.{Sink.Sink, Known.{ForBytes, IsContents}, PhaseOutcome.{ImageAfter, SaidOf, StoppedOf}}
+use Rattle.ffs_volume.specs.Messages.Kinds.{cannot_alloc, cannot_read}
+use Rattle.ffs_report.specs.{Known.{ForBytes, IsContents}, PhaseOutcome.{ImageAfter, SaidOf, StoppedOf}}
 use Rattle.ffs_report.specs.{Progress.{Progress, Said, Stopped}, declared.fault.RunFault.{RunFault, TheVariants.Read}}
 use Rattle.ffs_report.specs.declared.fault.RunFault.TheVariants.{Out}
 use Rattle.ffs_pathnames.specs.{declared.pass2.Root.Root, RootAnswers.is_go}
-use Rattle.ffs_workspace.specs.{declared.workspace.Workspace.Workspace, Found.WithFresh}
-use Rattle.ffs_check.specs.Ends.{BrokeOffIn, Ends, Printed}
+use Rattle.ffs_memory.specs.Account.{Account}
+use Rattle.ffs_workspace.specs.{declared.workspace.Workspace.Workspace, Found.WithFresh, Lengths.{IsFor, held_of}}
+use Rattle.ffs_workspace.specs.Ready.{IsReady}
+use Rattle.ffs_check.specs.{AnyReads.{PhasesPay, PhasesRead}, Ends.Ends, Taken.TakesBytes}
 
 -- a read failed before the text was complete: whole messages were said, and others were to come
 pub record SaidNotAll (knows : List ℕ → Type 0) (all : List ℕ → List Message) (old new : Progress) : Type 0 where
@@ -36,6 +37,14 @@ pub record HaveRun (s : Superblock) (d d' : Device) (w : Workspace) (old new : P
   pub text : ReportsOrStopsEarly (WithFresh s.layout d w) (λ bytes. phase_lines bytes s) old new result
   pub goes : IfOk result (λ root. ForBytes (WithFresh s.layout d w)
       (λ bytes. is_go root ≡ continues_after_root (volume_of s.layout bytes)))
+
+-- the phases have run, by so many reads of an image whose bytes are known, and of any image for the
+-- messages that were begun; the workspace is ready for the image as it is now
+pub record RunsPhases (s : Superblock) (d d' : Device) (w w' : Workspace) (old new : Progress) (before after : ℕ)
+    (result : Result Root RunFault) : Type 0 where
+  pub ran : HaveRun s d d' w old new result
+  pub reads : PhasesPay (WithFresh s.layout d w) s old new before after result
+  pub ready : IsReady s.layout d' w'
 
 -- a fault's line was said, and the end is the fault's; or the output failed in it
 abbrev pub LineEnds : Progress → Progress → Message → End → End → Type 0
@@ -93,10 +102,14 @@ abbrev pub SaysPhases : Bool → (List ℕ → Type 0) → Superblock → Device
 SaysPhases had_defect knows s image image' old new end =
     PhasesEnd Said Stopped (λ text. had_defect || new.defect) knows s image image' old new end
 
--- what the phases print to an output, after the opening's messages on the superblock
-abbrev pub PrintsPhases : (List ℕ → Type 0) → Superblock → Device → Device → Sink → Sink → End → Type 0
-PrintsPhases knows s image image' out out' end =
-    PhasesEnd Printed BrokeOffIn (λ text. has_defect (super_lines s ++ text)) knows s image image' out out' end
+-- the phases have run to an end: what went out, how often they read an image that gives its bytes,
+-- and any image, and the workspace's lists keep their lengths
+pub record RunsToEnd {Sent : Type 0} (whole broken : Sent → Sent → List Message → Type 0)
+    (has_defect_by : List Message → Bool) (knows : List ℕ → Type 0) (s : Superblock) (image image' : Device)
+    (w : Workspace) (old new : Sent) (before after : ℕ) (end : End) : Type 0 where
+  pub ran : PhasesEnd whole broken has_defect_by knows s image image' old new end
+  pub reads : PhasesRead whole broken knows s old new before after
+  pub made : IsFor s.layout w
 
 -- what follows an accepted superblock: the memory of the check was refused, and that was said; or
 -- its phases have run
@@ -104,3 +117,11 @@ abbrev pub SaysRest : Superblock → Device → Device → Progress → Progress
 SaysRest s image image' old new end =
     ((image' ≡ image) × SaysRefusal old new end)
     ⊎ SaysPhases false (IsContents image.contents) s image image' old new end
+
+-- what an accepted superblock leads to: what is said, what is taken of the memory, and how often the
+-- image is read
+pub record FollowsAccepted (s : Superblock) (image image' : Device) (old new : Progress) (held held' : Account)
+    (before after : ℕ) (end : End) : Type 0 where
+  pub followed : SaysRest s image image' old new end
+  pub memory : TakesBytes (held_of s.layout) held held' end
+  pub reads : PhasesRead Said Stopped (IsContents image.contents) s old new before after

@@ -1,16 +1,17 @@
 -- The parts of the text after the opening, as the calls that report them are nested, and what is
 -- known of the image's bytes there.
-use Rattle.std.specs.Prelude.{ℕ, Bool, if◌then◌else◌, List, [], ◌∷◌, ◌++◌, map}
+use Rattle.std.specs.Prelude.{ℕ, ◌≤◌, ◌+◌, Bool, if◌then◌else◌, List, [], ◌∷◌, ◌++◌, map, Result, OnOk}
 use Rattle.ffs_image.specs.Device.{Device}
-use Rattle.ffs_report.specs.Known.{IsContents}
+use Rattle.ffs_report.specs.{Known.{ForBytes, IsContents}, PhaseOutcome.PhaseOutcome, Progress.Progress}
+use Rattle.ffs_report.specs.declared.fault.RunFault.{RunFault}
 use Rattle.ffs_volume.specs.{declared.Layout.Layout, Disk.Superblock.Superblock, Blocks.Owners.owners_of}
 use Rattle.ffs_volume.specs.Directories.{Volumes.volume_of, Connectivity.connectivity_lines}
 use Rattle.ffs_volume.specs.{Directories.ReferenceCheck.reference_lines, Messages.Kinds.{Message, phase1, phase2}}
 use Rattle.ffs_volume.specs.Messages.Kinds.{phase3, phase4, phase5, of_blocks, of_tree}
 use Rattle.ffs_volume.specs.{Blocks.BlockCheck.phase1_lines, Directories.PathnameCheck.pathname_lines}
-use Rattle.ffs_volume.specs.{Directories.PathnameCheck.continues_after_root, Report.Whole.rescan_lines}
-use Rattle.ffs_volume.specs.Report.Whole.{group_check_lines, summary_of, file_count, claimed_count}
-use Rattle.ffs_workspace.specs.declared.workspace.Workspace.{Workspace}
+use Rattle.ffs_volume.specs.{Directories.PathnameCheck.continues_after_root, Report.Reads.sweep_reads}
+use Rattle.ffs_volume.specs.Report.Whole.{rescan_lines, group_check_lines, summary_of, file_count, claimed_count}
+use Rattle.ffs_workspace.specs.{declared.workspace.Workspace.Workspace, Holds.{HoldsClaims, HoldsStarts}, Ready.IsReady}
 use Rattle.ffs_claims.specs.Phases.{IsLeftByPhase1}
 
 -- what each phase reports, with its heading
@@ -62,3 +63,12 @@ from_phase1b image s = phase1b_part image s ++ from_phase2 image s
 -- after phase 1: the image gives the bytes, and the workspace is left by it
 abbrev pub IsAfterPhase1 : Layout → Device → Workspace → List ℕ → Type 0
 IsAfterPhase1 v d w bytes = IsContents d.contents bytes × IsLeftByPhase1 v bytes w
+
+-- phase 1b, or nothing where no fragment has a DUP line: its text, what the workspace holds then, no
+-- more reads than of a sweep, and the workspace is ready for the next phase
+pub record Rescans (v : Layout) (d d' : Device) (w w' : Workspace) (old new : Progress) (before after : ℕ)
+    (result : Result (Unit {0}) RunFault) : Type 0 where
+  pub prints : PhaseOutcome (IsAfterPhase1 v d w) (λ bytes. rescan_lines v bytes) d d' old new result
+  pub holds : OnOk result (ForBytes (IsAfterPhase1 v d w) (λ bytes. HoldsClaims v bytes w' × HoldsStarts v bytes w'))
+  pub reads : after ≤ before + sweep_reads v
+  pub ready : IsReady v d' w'

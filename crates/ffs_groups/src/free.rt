@@ -80,6 +80,7 @@ impl FreeCounts {
     }
 
     /// Counts what is free in a block, by the lowest `frag` bits.
+    #[tactic(auto, using(crate::proofs::FreeWords::whole_by_mask, crate::proofs::FreeWords::not_whole_by_mask))]
     fn add_block(&mut self, bits: u64, frag: u32)
         requires { HasRoomToCount 1 frag (2 ^ 63) self.old }
         ensures { Grown (whole_in (word_bits bits 0 frag)) (loose_in (word_bits bits 0 frag))

@@ -71,6 +71,7 @@ struct FewCounts {
 }
 
 /// How many of the inodes from `first` on and below `end` are directories, and how many are free.
+#[tactic(auto, using(ffs_maps::proofs::Counting::count_within))]
 fn few_counts(kinds: &[u8], first: usize, end: usize) -> FewCounts
     requires { AreFew kinds.now first end }
     ensures { AreCounted (class_in kinds.now) first end result.dirs result.free }

@@ -21,6 +21,7 @@ const WORDS_AT_ONCE: u32 = FRAGMENTS_AT_ONCE / 64;
 
 /// The bits in at most eight bytes of a map, the first one lowest. Most words are whole: their
 /// eight bytes are read together.
+#[tactic(auto, using(crate::proofs::MapWords::whole_word, crate::proofs::MapWords::byte_low, crate::proofs::MapWords::byte_high, std::proofs::lemmas::List::take_rest))]
 fn word_at(map: &[u8], place: usize, bytes: usize) -> u64
     requires { AreFewIn 8 (length map.now) place bytes }
     ensures { (k : ℕ) → k < 8 * bytes → nat_eq (bit_at result k) 1 ≡ map_bit map.now place k }
@@ -156,6 +157,7 @@ fn same_words(used: &FragmentMap, base: u32, block: &[u8], place: usize, words: 
 
 /// What `same_words` answers. Mostly all these fragments are free, or none is: then no word is made
 /// of `used`.
+#[tactic(auto, using(crate::proofs::MapWords::same_below))]
 fn same_stretch(used: &FragmentMap, base: u32, block: &[u8], place: usize, words: u32) -> bool
     requires { HasMapWords used.now.size (length block.now) base place words }
     ensures { result ≡ has_bits block.now place (64 * words)

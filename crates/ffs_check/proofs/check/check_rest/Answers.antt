@@ -1,19 +1,28 @@
-use Rattle.std.proofs.Common.{rules, ◌∙◌}
+use Rattle.std.proofs.Common.{rules, ◌∙◌, ◌≡◌, ℕ, Bool, List}
+use Rattle.ffs_image.specs.Device.{Device}
+use Rattle.ffs_volume.specs.{declared.End.End, Disk.Superblock.Superblock, Messages.Kinds.Message}
 use Rattle.ffs_layout.specs.Super.{superblock_in}
-use Rattle.ffs_report.specs.Progress.{progress}
-use Rattle.ffs_check.proofs.{Endings.{opening_defect, prints_phases, prints_at}, AnyReading.{rest_at, rest_reads}}
+use Rattle.ffs_report.specs.{Progress.progress, Sink.Sink}
+use Rattle.ffs_workspace.specs.declared.workspace.Workspace.{Workspace}
+use Rattle.ffs_check.specs.{Ends.{BrokeOffIn, Printed}, PhaseEnds.RunsToEnd}
+use Rattle.ffs_check.proofs.{Endings.{opening_defect, prints_phases}, AnyReading.rest_reads}
 use Rattle.ffs_check.proofs.check.check_rest.Goals as goal
 
-pub returns-clause-prints : goal.returns-clause-prints
-returns-clause-prints g c =
-    let s = superblock_in c.args.superblock.now in
-    prints_at _ s _ _ _ (g.W.Output.sink c.run_to_end.new.report.out.now) _ _ (search rules)
-    (prints_phases _ s (c.opening_defects.ensures ∙ opening_defect s) _ _ _ _ (g.W.Output.sink c.args.out.now)
-    (progress g.W.Output.sink c.run_to_end.new.report) _ (rw c.new-report.ensures at c.run_to_end.ensures.ran))
+-- where an output is is known
+runs_at : {has_defect_by : List Message → Bool} {knows : List ℕ → Type 0} {s : Superblock} {d d' : Device}
+    {w : Workspace} {out : Sink} {before after : ℕ} {end : End} (at : Sink) {at' : Sink} → at ≡ at' →
+    RunsToEnd Printed BrokeOffIn has_defect_by knows s d d' w out at before after end →
+    RunsToEnd Printed BrokeOffIn has_defect_by knows s d d' w out at' before after end
+runs_at at e runs = rw (← e) runs
 
-pub returns-clause-reads : goal.returns-clause-reads
-returns-clause-reads g c =
+pub returns : goal.returns
+returns g c =
     let s = superblock_in c.args.superblock.now in
-    rest_at _ s _ (g.W.Output.sink c.run_to_end.new.report.out.now) _ _ _ (search rules)
-    (rest_reads s _ (g.W.Output.sink c.args.out.now) (progress g.W.Output.sink c.run_to_end.new.report) _ _
-    (rw c.new-report.ensures at c.run_to_end.ensures.reads))
+    let out = g.W.Output.sink c.args.out.now in
+    let said = progress g.W.Output.sink c.run_to_end.new.report in
+    let runs = rw c.new-report.ensures at c.run_to_end.ensures in
+    runs_at (g.W.Output.sink c.run_to_end.new.report.out.now) (search rules) (record {
+      ran = prints_phases _ s (c.opening_defects.ensures ∙ opening_defect s) _ _ _ _ out said _ runs.ran;
+      reads = rest_reads s _ out said _ _ runs.reads;
+      made = runs.made;
+    })

@@ -1,6 +1,5 @@
 use Rattle.std.{proofs.Common.{arith, ℕ, Bool, ◌≡◌, ◌≤◌, ◌+◌, ◌-◌, count_by}, specs.List.range_with_len}
 use mir.Val.{bool_byte}
-use Rattle.ffs_maps.proofs.Counting.{count_within}
 use Rattle.ffs_groups.proofs.Sums.{count_more}
 use Rattle.ffs_groups.proofs.inodes.few_counts.Goals as goal
 
@@ -9,12 +8,6 @@ more : (p : ℕ → Bool) (first inode count r : ℕ) (b : Bool) → first ≤ i
     count ≡ count_by p (range_with_len first (inode - first)) → r ≡ bool_byte b → b ≡ p inode →
     count + r ≡ count_by p (range_with_len first (inode + 1 - first))
 more p first inode count r b low counted is test = grind (arith, count_more)
-
-pub overflow_add-counts : goal.overflow_add-counts
-overflow_add-counts c = grind (arith, count_within)
-
-pub overflow_add-counts-in-loop-inode : goal.overflow_add-counts-in-loop-inode
-overflow_add-counts-in-loop-inode c = grind (arith, count_within)
 
 pub loop-inode-preserved : goal.loop-inode-preserved
 loop-inode-preserved c = grind (arith, more)

@@ -1,12 +1,6 @@
 use Rattle.std.proofs.Common.{arith}
-use Rattle.ffs_groups.proofs.FreeWords.{whole_by_mask, not_whole_by_mask, none_by_mask}
+use Rattle.ffs_groups.proofs.FreeWords.{none_by_mask}
 use Rattle.ffs_groups.proofs.free.FreeCounts.add_block.Goals as goal
-
-pub returns-then-free-full : goal.returns-then-free-full
-returns-then-free-full c = grind (arith, whole_by_mask)
-
-pub returns-then-free-ne0 : goal.returns-then-free-ne0
-returns-then-free-ne0 c = grind (arith, not_whole_by_mask)
 
 pub returns-else-free-ne0 : goal.returns-else-free-ne0
 returns-else-free-ne0 c =
