@@ -52,15 +52,13 @@ holds_references v b old new {starts = starts} e c h s = record {
 
 -- flags of a survey of a volume
 pub volume_calm : (t : Base) (b kinds : List ℕ) (marked marks : List Bool) (parents : List ℕ) (flags : List Bool) →
-    AreCalm kinds marked marks parents (dir_entries t b) (dir_right_shape t b) flags
-    → AreCalm kinds marked marks parents (roled_entries (volume_of t.layout b)) (is_right_directory (volume_of t.layout b))
-    flags
+    AreCalm kinds marked marks parents (dir_entries t b) (dir_right_shape t b) flags → AreCalm kinds marked marks
+    parents (roled_entries (volume_of t.layout b)) (is_right_directory (volume_of t.layout b)) flags
 volume_calm t b kinds marked marks parents flags h d set = grind (arith, and_parts)
 
 -- flags in a workspace
-pub holds_calm : (v : Layout) (b : List ℕ) (w : Workspace) (kinds : List ℕ) (marked marks : List Bool) (parents : List ℕ)
-    (flags : List Bool) → w.kinds.items ≡ kinds → w.marked.items ≡ marked → w.reached.items ≡ marks →
-    w.parents.items ≡ parents → w.flags.items ≡ flags
-    → AreCalm kinds marked marks parents (roled_entries (volume_of v b)) (is_right_directory (volume_of v b)) flags →
-    FlagsCalm v b w
+pub holds_calm : (v : Layout) (b : List ℕ) (w : Workspace) (kinds : List ℕ) (marked marks : List Bool) (parents : List
+    ℕ) (flags : List Bool) → w.kinds.items ≡ kinds → w.marked.items ≡ marked → w.reached.items ≡ marks → w.parents.items
+    ≡ parents → w.flags.items ≡ flags → AreCalm kinds marked marks parents (roled_entries (volume_of v b))
+    (is_right_directory (volume_of v b)) flags → FlagsCalm v b w
 holds_calm v b w kinds marked marks parents flags k m r p f h = record { calm = rw (k, m, r, p, f) h }

@@ -111,14 +111,7 @@ returns-clause-places g c = λ b t claims survey.
 
 -- what is left
 pub returns-clause-leaves : goal.returns-clause-leaves
-returns-clause-leaves g c =
-    let inv = c.loop-dir.invariant in
-    record {
-      lists = inv.lists;
-      ready = inv.ready;
-      read = inv.same;
-      none_due = none_due c.loop-dir.workspace.queue.items c.loop-dir.dir (grind (arith, common_steps)) inv.passed;
-    }
+returns-clause-leaves g c = grind (arith, common_steps, none_due)
 
 pub returns-in_err-note_directory-clause-leaves : goal.returns-in_err-note_directory-clause-leaves
 returns-in_err-note_directory-clause-leaves g c = grind (arith, err_from_is_err_and)

@@ -1,14 +1,12 @@
 use Rattle.std.proofs.{Common.{◌≡◌, ◌∙◌, ◌==◌, true, arith, refl, sym, ap}, lemmas.Bool.Decides.nat_tests}
 use Rattle.ffs_names.{specs.declared.chunks.Chunks.Chunks, proofs.Advances.{SeesBy, no_data, sees_chunks, sees_none}}
-use Rattle.ffs_names.proofs.ReadCounts.{entered_none, first_held, run_at_most}
-use Rattle.ffs_names.proofs.chunks.Chunks.see.Goals.{After-take}
+use Rattle.ffs_names.proofs.{ReadCounts.{entered_none, first_held, run_at_most}, chunks.Chunks.see.Goals.After-take}
 use Rattle.ffs_names.proofs.chunks.Chunks.see.Goals as goal
 
 -- the Run is counted and replayed, and the rest stays, but for the current Run
-seen : (c : After-take) {new : Chunks} → new.walk ≡ c.args.self.now.walk →
-    new.bytes_to_read ≡ c.args.self.now.bytes_to_read → new.keeping ≡ c.take.new.self →
-    new.runs ≡ c.saturating_add-self.result → new.gap ≡ c.args.self.now.gap →
-    SeesBy c.args.self.now new c.args.start c.args.len c.args.block c.take.result
+seen : (c : After-take) {new : Chunks} → new.walk ≡ c.args.self.now.walk → new.bytes_to_read ≡
+    c.args.self.now.bytes_to_read → new.keeping ≡ c.take.new.self → new.runs ≡ c.saturating_add-self.result → new.gap ≡
+    c.args.self.now.gap → SeesBy c.args.self.now new c.args.start c.args.len c.args.block c.take.result
 seen c walk bytes keeping runs gap = record {
   can = c.requires;
   walk = walk;
