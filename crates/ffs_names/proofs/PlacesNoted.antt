@@ -178,9 +178,8 @@ module _ {v : Layout} {b parents old new : List ℕ} {p place at offset : ℕ} {
       (k.noted.places x) none in
       coming x child was.0 ∙ (unnamed_here x was.1).0
 
-  pub waiting_after : (first : List ℕ) (all : List RoledEntry) →
-      AreWaiting v b parents first old p all (flat_map roled_chunk rest) →
-      AreWaiting v b parents first new p all (flat_map roled_chunk later)
+  pub waiting_after : (first : List ℕ) (all : List RoledEntry) → AreWaiting v b parents first old p all (flat_map
+      roled_chunk rest) → AreWaiting v b parents first new p all (flat_map roled_chunk later)
   waiting_after first all waiting x child named before =
       elim (waiting x child named before) [
         | inl done ↦ inl (noted_still (kept_place (is_child parents p x)
@@ -271,11 +270,9 @@ set_same f ws i word low same x = elim (cases_eq x i) [
 ]
 
 -- what the survey found is held, with places that are right, and the claims are
-pub survey_noted : {v : Layout} {b : List ℕ} {old new : Workspace} → new ≡ record old {
-  windows = new.windows;
-  queue =
-      new.queue;
-} → HoldsSurvey v b old → ArePlaces v b new.queue.items → HoldsSurvey v b new
+pub survey_noted : {v : Layout} {b : List ℕ} {old new : Workspace} →
+    new ≡ record old { windows = new.windows; queue = new.queue } → HoldsSurvey v b old →
+    ArePlaces v b new.queue.items → HoldsSurvey v b new
 survey_noted e h right = grind arith
 
 pub claims_noted : {v : Layout} {b : List ℕ} {old new : Workspace} →

@@ -44,8 +44,7 @@ unfolding volume_of volume_with
 holds_references v b old new {starts = starts} e c h s = record {
   counts = λ x l.
       let begun : slice_index starts x ≡ start_at v b x = sym (ap (λ xs. slice_index xs x) e) ∙ h.starts x in
-      let low : min (slice_index starts x) most_start ≡ start_at v b x =
-      omega (arith, begun, start_low v b x) in
+      let low : min (slice_index starts x) most_start ≡ start_at v b x = omega (arith, begun, start_low v b x) in
       ap (λ xs. slice_index xs x) c ∙ s.counts x l ∙ ap (λ k. k + references_to (graph_of (volume_of v b)) x) low
       ∙ ap (λ k. start_at v b x + k) (references_is (volume_of v b) x);
 }

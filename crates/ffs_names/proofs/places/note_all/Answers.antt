@@ -130,8 +130,7 @@ returns-in_err-note_directory-clause-reads g c = λ b t claims survey.
     let inside : dir < length old = grind (arith, common_steps) in
     let word : c.index-word.result.now ≡ slice_index old dir =
     c.index-word.ensures ∙ get_or_default_zero old dir c.index-word.result.now inside in
-    let due : is_due (slice_index old dir) ≡ true =
-    ap is_due (sym word) ∙ (sym c.is_due.ensures ∙ c.if-is_due.true) in
+    let due : is_due (slice_index old dir) ≡ true = ap is_due (sym word) ∙ (sym c.is_due.ensures ∙ c.if-is_due.true) in
     let mid : Workspace = record c.loop-dir.workspace { queue = c.set.new.self } in
     let lists : mid ≡ record first { windows = mid.windows; queue = mid.queue } =
     ap (λ (x : Workspace). record x { queue = c.set.new.self }) inv.lists in

@@ -30,14 +30,12 @@ returns-in-Some-clause-sees c =
     (first_held c.of_run-self.result c.of_run-self.ensures.first)
 
 pub returns-in_default-clause-sees : goal.returns-in_default-clause-sees
-returns-in_default-clause-sees c =
-    sees_none (seen (goal.at.returns-in_default-clause-sees c).After-take refl refl refl refl refl) refl
-    (λ b whole. rw c.in_default.is refl)
+returns-in_default-clause-sees c = sees_none (seen (goal.at.returns-in_default-clause-sees c).After-take refl refl refl
+    refl refl) refl (λ b whole. rw c.in_default.is refl)
 
 pub returns-then-take-len-clause-sees : goal.returns-then-take-len-clause-sees
-returns-then-take-len-clause-sees c =
-    sees_none (seen (goal.at.returns-then-take-len-clause-sees c).After-take refl refl refl refl refl) refl
-    (λ b whole. absurd (grind (arith, nat_tests)))
+returns-then-take-len-clause-sees c = sees_none (seen (goal.at.returns-then-take-len-clause-sees c).After-take refl refl
+    refl refl refl) refl (λ b whole. absurd (grind (arith, nat_tests)))
 
 pub returns-then-not-in_range-clause-sees : goal.returns-then-not-in_range-clause-sees
 returns-then-not-in_range-clause-sees c =
