@@ -65,9 +65,8 @@ abbrev steps_kept : Chunks → List Step → List Step
 steps_kept c steps = replayed_steps c.walk.geometry.layout c.keeping.cut (replay_in c.keeping) steps
 
 -- kept or not, a step without chunks has none, and one that is no Gap is no hole
-no_chunk : (b : List ℕ) (c : Chunks) (step : Step) (kept : Bool) (steps : List Step) →
-    kept_chunks b c (step ∷ steps) ≡ kept_chunks b c steps →
-    kept_chunks b c ((if kept then step ∷ [] else []) ++ steps) ≡ kept_chunks b c steps
+no_chunk : (b : List ℕ) (c : Chunks) (step : Step) (kept : Bool) (steps : List Step) → kept_chunks b c (step ∷ steps) ≡
+    kept_chunks b c steps → kept_chunks b c ((if kept then step ∷ [] else []) ++ steps) ≡ kept_chunks b c steps
 no_chunk b c step true steps e = e
 no_chunk b c step false steps e = refl
 
@@ -91,9 +90,8 @@ pub record OnlyWalks (c c' : Chunks) : Type 0 where
   pub run_cursor : c'.run_cursor ≡ c.run_cursor
   pub runs : c'.runs ≡ c.runs
 
-pub only_walks : {c c' : Chunks} → c'.walk.geometry ≡ c.walk.geometry → c'.keeping ≡ c.keeping →
-    c'.bytes_to_read ≡ c.bytes_to_read → c'.budget ≡ c.budget → c'.run_cursor ≡ c.run_cursor → c'.runs ≡ c.runs →
-    OnlyWalks c c'
+pub only_walks : {c c' : Chunks} → c'.walk.geometry ≡ c.walk.geometry → c'.keeping ≡ c.keeping → c'.bytes_to_read ≡
+    c.bytes_to_read → c'.budget ≡ c.budget → c'.run_cursor ≡ c.run_cursor → c'.runs ≡ c.runs → OnlyWalks c c'
 only_walks e k t n h r = grind arith
 
 pub same_walked : {c c' c'' : Chunks} → IsSame c c' → OnlyWalks c' c'' → IsSame c c''
@@ -135,9 +133,8 @@ pub runs_tail : {v v' : Layout} {old new : List Step} (k : Keeping) → v' ≡ v
     replayed_runs v' k.cut (replay_in k) new ≡ replayed_runs v k.cut (replay_in k) old
 runs_tail k same e = rw (same, e) (omega arith)
 
-pub runs_gaps : {v v' : Layout} {old : List Step} (k : Keeping) (n : ℕ) (new : List Step) → v' ≡ v →
-    old ≡ Gap ∷ (replicate n Gap ++ new) →
-    replayed_runs v' k.cut (replay_in k) new ≡ replayed_runs v k.cut (replay_in k) old
+pub runs_gaps : {v v' : Layout} {old : List Step} (k : Keeping) (n : ℕ) (new : List Step) → v' ≡ v → old ≡ Gap ∷
+    (replicate n Gap ++ new) → replayed_runs v' k.cut (replay_in k) new ≡ replayed_runs v k.cut (replay_in k) old
 runs_gaps {v = v} k n new same e = rw (same, e) (sym (gaps_seen v k.cut (replay_in k) (suc n) new))
 
 -- ---- a Run that is seen
@@ -151,10 +148,9 @@ pub record SeesBy (c c' : Chunks) (start len : ℕ) (block : Option ℕ) (taken 
   pub runs : c'.runs ≡ min (c.runs + 1) (2 ^ 64 - 1)
   pub gap : c'.gap ≡ c.gap
 
-run_chunks_kept : (b : List ℕ) (c : Chunks) (step : Step) (kept : Bool) (steps : List Step) →
-    (if kept then step_chunks (reading_by c.walk.geometry.layout b c.bytes_to_read)
-    (is_run_in_range c.walk.geometry.layout) step else []) ++ kept_chunks b c steps
-    ≡ kept_chunks b c ((if kept then step ∷ [] else []) ++ steps)
+run_chunks_kept : (b : List ℕ) (c : Chunks) (step : Step) (kept : Bool) (steps : List Step) → (if kept then step_chunks
+    (reading_by c.walk.geometry.layout b c.bytes_to_read) (is_run_in_range c.walk.geometry.layout) step else []) ++
+    kept_chunks b c steps ≡ kept_chunks b c ((if kept then step ∷ [] else []) ++ steps)
 run_chunks_kept b c step true steps = refl
 run_chunks_kept b c step false steps = refl
 
@@ -168,10 +164,9 @@ runs_seen {c = c} {start = start} {len = len} {block = block} s steps =
 
 -- the reading continues with the chunks of the Run, where all its offers are kept
 sees : {b : List ℕ} {c c' : Chunks} {start len taken : ℕ} {block : Option ℕ} → SeesBy c c' start len block taken →
-    cursor_chunks c.walk.geometry.layout b c'.run_cursor
-    ≡ (if taken == len then step_chunks (reading_by c.walk.geometry.layout b c.bytes_to_read)
-    (is_run_in_range c.walk.geometry.layout) (Run start len block) else []) → (steps : List Step) →
-    Continues b c (Run start len block ∷ steps) c' steps
+    cursor_chunks c.walk.geometry.layout b c'.run_cursor ≡ (if taken == len then step_chunks (reading_by
+    c.walk.geometry.layout b c.bytes_to_read) (is_run_in_range c.walk.geometry.layout) (Run start len block) else []) →
+    (steps : List Step) → Continues b c (Run start len block ∷ steps) c' steps
 sees {b = b} {c = c} {start = start} {len = len} {block = block} s found steps =
     let v = c.walk.geometry.layout in
     let r = replay_in c.keeping in
@@ -198,12 +193,11 @@ sees {b = b} {c = c} {start = start} {len = len} {block = block} s found steps =
     }
 
 -- and it takes one read at most
-pub sees_chunks : {c c' : Chunks} {start len taken : ℕ} {block : Option ℕ} → SeesBy c c' start len block taken →
-    ((b : List ℕ) → cursor_chunks c.walk.geometry.layout b c'.run_cursor
-    ≡ (if taken == len then step_chunks (reading_by c.walk.geometry.layout b c.bytes_to_read)
-    (is_run_in_range c.walk.geometry.layout) (Run start len block) else [])) →
-    unread_run c'.run_cursor + entered (Run start len block) ≤ 1 → ((w : Window) → HoldsRun w c'.run_cursor) →
-    SeesRun c c' start len block
+pub sees_chunks : {c c' : Chunks} {start len taken : ℕ} {block : Option ℕ} → SeesBy c c' start len block taken → ((b :
+    List ℕ) → cursor_chunks c.walk.geometry.layout b c'.run_cursor ≡ (if taken == len then step_chunks (reading_by
+    c.walk.geometry.layout b c.bytes_to_read) (is_run_in_range c.walk.geometry.layout) (Run start len block) else [])) →
+    unread_run c'.run_cursor + entered (Run start len block) ≤ 1 → ((w : Window) → HoldsRun w c'.run_cursor) → SeesRun c
+    c' start len block
 sees_chunks s found few held = record {
   continues = λ b. sees s (found b);
   walk = s.walk;

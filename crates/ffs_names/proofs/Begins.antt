@@ -48,9 +48,8 @@ all_taken v i b cut g =
     (replayed_steps v cut fresh_replay (steps_of v i b)) (omega (arith, g.sizes.block)) kept in
     take_all _ _ (le-div (length (chunks_in v b i cut)) (bytes_read i.size) 512 (omega arith) (omega arith))
 
-pub begins_at : {v : Layout} {i : Inode} {cut : ℕ} {c : Chunks} → IsAcceptedLayout v → c.walk.geometry.layout ≡ v →
-    ((b : List ℕ) → steps_left b c.walk ≡ steps_of v i b) → c.keeping.cut ≡ cut → replay_in c.keeping ≡ fresh_replay →
-    ((b : List ℕ) → cursor_chunks c.walk.geometry.layout b c.run_cursor ≡ []) →
-    (i.size < 2 ^ 31 → c.bytes_to_read ≡ bytes_read i.size) → c.budget ≡ c.bytes_to_read / 512 → c.runs ≡ 0 →
-    c.gap ≡ false → BeginsAt v i cut c
+pub begins_at : {v : Layout} {i : Inode} {cut : ℕ} {c : Chunks} → IsAcceptedLayout v → c.walk.geometry.layout ≡ v → ((b
+    : List ℕ) → steps_left b c.walk ≡ steps_of v i b) → c.keeping.cut ≡ cut → replay_in c.keeping ≡ fresh_replay → ((b :
+    List ℕ) → cursor_chunks c.walk.geometry.layout b c.run_cursor ≡ []) → (i.size < 2 ^ 31 → c.bytes_to_read ≡
+    bytes_read i.size) → c.budget ≡ c.bytes_to_read / 512 → c.runs ≡ 0 → c.gap ≡ false → BeginsAt v i cut c
 begins_at {v = v} {i = i} {cut = cut} g layout steps is_cut fresh none bytes budget runs gap = grind (arith, all_taken)

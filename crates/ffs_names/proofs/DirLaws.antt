@@ -45,10 +45,8 @@ dir_is v b d h = dir_number (is_inode_number v d) (class_of v (inode_of v b d)) 
 
 -- the entries of a directory
 pub dir_seen : (v : Layout) (b : List ℕ) (d : ℕ) (i : Inode) (cut : ℕ) → IsAcceptedLayout v → is_inode_number v d ≡ true
-    →
-    i ≡ inode_of v b d → cut ≡ cut_at v b d
-    → flat_map roled_chunk (chunks_of (reading_by v b (bytes_read i.size)) (is_run_in_range v)
-    (replayed_steps v cut fresh_replay (steps_of v i b))) ≡ roled_entries (volume_of v b) d
+    → i ≡ inode_of v b d → cut ≡ cut_at v b d → flat_map roled_chunk (chunks_of (reading_by v b (bytes_read i.size))
+    (is_run_in_range v) (replayed_steps v cut fresh_replay (steps_of v i b))) ≡ roled_entries (volume_of v b) d
 unfolding volume_of volume_with chunk_source_of roled_entries
 dir_seen v b d i cut g n e c = rw (e, c, replay_at v b d g n) refl
 
@@ -59,11 +57,9 @@ unfolding kind_at
 kind_dirs v b kinds x h = dirs_of_kinds v b kinds x h
 
 -- the shape of a directory
-pub shape_seen : (v : Layout) (b : List ℕ) (d : ℕ) (i : Inode) (cut : ℕ) → IsAcceptedLayout v →
-    is_inode_number v d ≡ true → i ≡ inode_of v b d → cut ≡ cut_at v b d
-    → (is_right_size i.size &&
-    (are_sound (chunks_of (reading_by v b (bytes_read i.size)) (is_run_in_range v)
-    (replayed_steps v cut fresh_replay (steps_of v i b)))
-    && not (has_gap (replayed_steps v cut fresh_replay (steps_of v i b))))) ≡ is_right_shape (volume_of v b) d
+pub shape_seen : (v : Layout) (b : List ℕ) (d : ℕ) (i : Inode) (cut : ℕ) → IsAcceptedLayout v → is_inode_number v d ≡
+    true → i ≡ inode_of v b d → cut ≡ cut_at v b d → (is_right_size i.size && (are_sound (chunks_of (reading_by v b
+    (bytes_read i.size)) (is_run_in_range v) (replayed_steps v cut fresh_replay (steps_of v i b))) && not (has_gap
+    (replayed_steps v cut fresh_replay (steps_of v i b))))) ≡ is_right_shape (volume_of v b) d
 unfolding volume_of volume_with chunk_source_of
 shape_seen v b d i cut g n e c = rw (e, c, replay_at v b d g n) refl

@@ -40,10 +40,9 @@ take_reported first index order chunk place e role rest h r n = grind (arith, en
 
 -- a chunk came
 pub chunk_came : (first : Bool) (index : ℕ) (order other : Order) (chunk : List ℕ) (place : ℕ) (old : List Chunk)
-    (offset : ℕ) (next : List ℕ) (rest : List Chunk)
-    → is_some (entry_at order chunk place) ≡ false → other ≡ order → old ≡ chunk_of other offset next ∷ rest
-    → roled_from (offset == 0) 0 (entries_from order next 64 0) ++ flat_map roled_chunk rest
-    ≡ roled_from first index (entries_from order chunk 64 place) ++ flat_map roled_chunk old
+    (offset : ℕ) (next : List ℕ) (rest : List Chunk) → is_some (entry_at order chunk place) ≡ false → other ≡ order →
+    old ≡ chunk_of other offset next ∷ rest → roled_from (offset == 0) 0 (entries_from order next 64 0) ++ flat_map
+    roled_chunk rest ≡ roled_from first index (entries_from order chunk 64 place) ++ flat_map roled_chunk old
 chunk_came first index order other chunk place old offset next rest h q r = grind (arith, none_seen, none_from)
 
 -- none came

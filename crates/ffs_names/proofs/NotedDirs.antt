@@ -40,9 +40,8 @@ read_by_chunk v b d a g dir noted =
           ∙ runs_are v b d i 0 refl whole;
     }
 
-pub read_by_cut : (v : Layout) (b : List ℕ) (d : ℕ) {i : Inode} {note : ℕ} → IsAcceptedLayout v →
-    is_dir (volume_of v b) d ≡ true → i ≡ inode_of v b d → note ≡ note_at v b d → note < first_noted →
-    IsReadAs v b d i note
+pub read_by_cut : (v : Layout) (b : List ℕ) (d : ℕ) {i : Inode} {note : ℕ} → IsAcceptedLayout v → is_dir (volume_of v b)
+    d ≡ true → i ≡ inode_of v b d → note ≡ note_at v b d → note < first_noted → IsReadAs v b d i note
 read_by_cut v b d {i = i} {note = note} g dir inode noted low =
     let is = dir_is v b d dir in
     let cut = sym (below_is_cut note low) ∙ (ap cut_in noted ∙ cut_is_noted v b d g) in

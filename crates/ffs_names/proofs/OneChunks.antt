@@ -82,22 +82,19 @@ runs_of_one : (v : Layout) (a : ℕ) (b : List ℕ) → IsAcceptedLayout v → (
 runs_of_one v a b g some = ap (replayed_runs v 0 fresh_replay) (one_run v a b g some)
 
 -- it is kept where the fragment is in range
-one_replayed : (v : Layout) (a : ℕ) (b : List ℕ) → IsAcceptedLayout v → (a == 0) ≡ false
-    → is_run_in_range v a 1 ≡ true
+one_replayed : (v : Layout) (a : ℕ) (b : List ℕ) → IsAcceptedLayout v → (a == 0) ≡ false → is_run_in_range v a 1 ≡ true
     → replayed_steps v 0 fresh_replay (steps_of v (one_chunk_at a) b) ≡ Run a 1 (Some 0) ∷ []
 one_replayed v a b g some inside = rw (one_run v a b g some, inside) refl
 
-chunks_of_one : (v : Layout) (a : ℕ) (b : List ℕ) → IsAcceptedLayout v → (a == 0) ≡ false
-    → is_run_in_range v a 1 ≡ true
+chunks_of_one : (v : Layout) (a : ℕ) (b : List ℕ) → IsAcceptedLayout v → (a == 0) ≡ false → is_run_in_range v a 1 ≡ true
     → chunks_in v b (one_chunk_at a) 0 ≡ run_chunks (reading_by v b 512) a 1 (0 * v.bsize) ++ []
 chunks_of_one v a b g some inside = rw (one_replayed v a b g some inside, inside) refl
 
 -- so a reading of it begins that has the chunks of that Run to give, and whose walk is over
 pub begins_at_chunk : {q : Geometry} {a : ℕ} {c : Chunks} → IsAcceptedLayout q.layout → (a == 0) ≡ false →
-    is_run_in_range q.layout a 1 ≡ true → c.walk.geometry ≡ q → IsOver c.walk →
-    ((b : List ℕ) → cursor_chunks c.walk.geometry.layout b c.run_cursor
-    ≡ run_chunks (reading_by c.walk.geometry.layout b 512) a 1 (0 * c.walk.geometry.layout.bsize)) →
-    c.run_cursor.next ≡ 0 → c.budget ≡ 1 → c.gap ≡ false → BeginsAtChunk q a c
+    is_run_in_range q.layout a 1 ≡ true → c.walk.geometry ≡ q → IsOver c.walk → ((b : List ℕ) → cursor_chunks
+    c.walk.geometry.layout b c.run_cursor ≡ run_chunks (reading_by c.walk.geometry.layout b 512) a 1 (0 *
+    c.walk.geometry.layout.bsize)) → c.run_cursor.next ≡ 0 → c.budget ≡ 1 → c.gap ≡ false → BeginsAtChunk q a c
 begins_at_chunk {q = q} {a = a} {c = c} g some inside same over found first budget gap =
     let v = q.layout in
     let top : IsAtTop c.walk = record { single = over.single; double = over.double; triple = over.triple } in

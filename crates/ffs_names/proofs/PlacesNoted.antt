@@ -36,10 +36,8 @@ none_there order chunk place o e h = sym h ∙ ap (option_map entry_value) e
 notes_none : (parents ws : List ℕ) (p place : ℕ) → NotesChunk parents ws ws p place []
 notes_none parents ws p place = record { places = λ x. simp and-false; to_read = λ x. refl }
 
-then_on : (m n y : Bool) (a b c place : ℕ) → 0 < place →
-    b ≡ (if m && ((a == 0) && (n || false)) then place else a) →
-    c ≡ (if m && ((b == 0) && y) then place else b) →
-    c ≡ (if m && ((a == 0) && (n || y)) then place else a)
+then_on : (m n y : Bool) (a b c place : ℕ) → 0 < place → b ≡ (if m && ((a == 0) && (n || false)) then place else a) → c
+    ≡ (if m && ((b == 0) && y) then place else b) → c ≡ (if m && ((a == 0) && (n || y)) then place else a)
 then_on false n y a b c place low one more = more ∙ one
 then_on true true y a b c place low one more = grind (arith, nat_tests)
 then_on true false true a b c place low one more = grind (arith, nat_tests)
@@ -58,10 +56,9 @@ notes_alike : {parents old new : List ℕ} {p place : ℕ} {es fs : List RoledEn
 notes_alike same h = record { places = λ x. rw (← same x) (h.places x); to_read = h.to_read }
 
 -- an entry of a chunk, and those after it
-pub notes_next : {parents old mid new : List ℕ} {p place : ℕ} {all rest : List Entry} {e : Entry} → 0 < place →
-    all ≡ e ∷ rest → NotesChunk parents old mid p place (record { role = role_of false 0 e; entry = e } ∷ []) →
-    NotesChunk parents mid new p place (roled_from false 0 rest) →
-    NotesChunk parents old new p place (roled_from false 0 all)
+pub notes_next : {parents old mid new : List ℕ} {p place : ℕ} {all rest : List Entry} {e : Entry} → 0 < place → all ≡ e
+    ∷ rest → NotesChunk parents old mid p place (record { role = role_of false 0 e; entry = e } ∷ []) → NotesChunk
+    parents mid new p place (roled_from false 0 rest) → NotesChunk parents old new p place (roled_from false 0 all)
 unfolding roled_from
 notes_next {rest = rest} low is one more =
     rw is (notes_then low one (notes_alike (λ x. any_naming-roled x false false 0 1 rest) more))
@@ -181,9 +178,8 @@ module _ {v : Layout} {b parents old new : List ℕ} {p place at offset : ℕ} {
       (k.noted.places x) none in
       coming x child was.0 ∙ (unnamed_here x was.1).0
 
-  pub waiting_after : (first : List ℕ) (all : List RoledEntry) →
-      AreWaiting v b parents first old p all (flat_map roled_chunk rest) →
-      AreWaiting v b parents first new p all (flat_map roled_chunk later)
+  pub waiting_after : (first : List ℕ) (all : List RoledEntry) → AreWaiting v b parents first old p all (flat_map
+      roled_chunk rest) → AreWaiting v b parents first new p all (flat_map roled_chunk later)
   waiting_after first all waiting x child named before =
       elim (waiting x child named before) [
         | inl done ↦ inl (noted_still (kept_place (is_child parents p x)
@@ -285,9 +281,8 @@ claims_noted e h = rw e (record { used = h.used; kinds = h.kinds; marked = h.mar
 
 -- a workspace is ready after its table, windows of chunks and queue were used
 pub ready_noted : {v : Layout} {d d'' : Device} {w : Workspace} {table : Table} {blocks : Blocks} {chunk : Window}
-    {queue : Vec ℕ Global} (d' : Device) → d'.contents ≡ d.contents → KeepsTable v d'.contents table →
-    d''.contents ≡ d'.contents → CanReadChunks v d'' blocks chunk → vec_len queue ≡ vec_len w.queue → IsReady v d w →
-    IsReady v d''
+    {queue : Vec ℕ Global} (d' : Device) → d'.contents ≡ d.contents → KeepsTable v d'.contents table → d''.contents ≡
+    d'.contents → CanReadChunks v d'' blocks chunk → vec_len queue ≡ vec_len w.queue → IsReady v d w → IsReady v d''
     (record w { queue = queue; windows = record w.windows { table = table; blocks = blocks; chunk = chunk } })
 ready_noted d' first kept second can long r = grind arith
 
@@ -361,12 +356,11 @@ coming_first {v = v} {b = b} {w = w} {words = words} long begins survey x p unde
     grind (arith, dir_number, edge-parts, eqb-false)
 
 -- after the directory d, which was to be read, is noted
-pub coming_noted : {v : Layout} {b : List ℕ} {w : Workspace} {mid new : List ℕ} {d : ℕ} (old : List ℕ) →
-    HoldsSurvey v b w → AreChunksNumbered v → ((x : ℕ) → place_in (slice_index mid x) ≡ place_in (slice_index old x)) →
-    ((x : ℕ) → x ≢ d → is_due (slice_index mid x) ≡ is_due (slice_index old x)) →
-    (is_dir (volume_of v b) d ≡ true →
-    NotesEntries v b w.parents.items mid new d (roled_entries (volume_of v b) d)) →
-    NotesChildren w.parents.items mid new d → AreComing v b old → AreComing v b new
+pub coming_noted : {v : Layout} {b : List ℕ} {w : Workspace} {mid new : List ℕ} {d : ℕ} (old : List ℕ) → HoldsSurvey v b
+    w → AreChunksNumbered v → ((x : ℕ) → place_in (slice_index mid x) ≡ place_in (slice_index old x)) → ((x : ℕ) → x ≢ d
+    → is_due (slice_index mid x) ≡ is_due (slice_index old x)) → (is_dir (volume_of v b) d ≡ true → NotesEntries v b
+    w.parents.items mid new d (roled_entries (volume_of v b) d)) → NotesChildren w.parents.items mid new d → AreComing v
+    b old → AreComing v b new
 coming_noted {v = v} {b = b} {w = w} {mid = mid} {new = new} {d = d} old survey numbered same due noted children coming
     x p under = go (cases_eq p d)
   where

@@ -44,9 +44,8 @@ run_in_block v len g short = grind (arith, mul-le-mul_right)
 
 -- the first of the current chunks is given
 pub cursor_step : (v : Layout) (b : List ℕ) (cursor : RunCursor) (rest : List Chunk) → cursor.next < cursor.count →
-    cursor_chunks v b cursor ++ rest
-    ≡ chunk_of v.order (cursor.offset + 512 * cursor.next) (piece (cursor.place + 512 * cursor.next) 512 b)
-    ∷ (map (λ k. chunk_of v.order (cursor.offset + 512 * k) (piece (cursor.place + 512 * k) 512 b))
+    cursor_chunks v b cursor ++ rest ≡ chunk_of v.order (cursor.offset + 512 * cursor.next) (piece (cursor.place + 512 *
+    cursor.next) 512 b) ∷ (map (λ k. chunk_of v.order (cursor.offset + 512 * k) (piece (cursor.place + 512 * k) 512 b))
     (range_with_len (cursor.next + 1) (cursor.count - (cursor.next + 1))) ++ rest)
 cursor_step v b cursor rest more = rw (range_step cursor.next cursor.count more) refl
 

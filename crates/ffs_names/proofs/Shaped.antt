@@ -36,12 +36,10 @@ fills_begin : (order : Order) (chunk : List ℕ) → fills_from order chunk 0 �
 fills_begin order chunk = rw zero-add refl
 
 -- a chunk came after one was read to its end
-pub shape_came : (s : Bool) (order other : Order) (chunk : List ℕ) (place : ℕ) (old : List Chunk) (offset : ℕ)
-    (next : List ℕ) (rest : List Chunk) (gap gap' : Bool)
-    → is_some (entry_at order chunk place) ≡ false → other ≡ order → old ≡ chunk_of other offset next ∷ rest →
-    gap' ≡ gap
-    → (((s && (place == 512)) && fills_from order next 0) && (are_sound rest && not gap'))
-    ≡ ((s && fills_from order chunk place) && (are_sound old && not gap))
+pub shape_came : (s : Bool) (order other : Order) (chunk : List ℕ) (place : ℕ) (old : List Chunk) (offset : ℕ) (next :
+    List ℕ) (rest : List Chunk) (gap gap' : Bool) → is_some (entry_at order chunk place) ≡ false → other ≡ order → old ≡
+    chunk_of other offset next ∷ rest → gap' ≡ gap → (((s && (place == 512)) && fills_from order next 0) && (are_sound
+    rest && not gap')) ≡ ((s && fills_from order chunk place) && (are_sound old && not gap))
 shape_came s order other chunk place old offset next rest gap gap' none q e same =
     grind (arith, fills_begin, fills_end, none_from)
 
@@ -60,12 +58,11 @@ pub shape_begun : (s s' : Bool) (order : Order) (chunk : List ℕ) (cs cs' : Lis
 shape_begun s s' order chunk cs cs' gap left left' q e g l = rw (fills_whole order chunk, and-true s, q, e, g, l) refl
 
 -- so a reading of entries begins with one of chunks, where the current chunk was read to its end
-pub begins_directory : {v : Layout} {i : Inode} {cut : ℕ} {r : Entries} → r.place ≡ 512 →
-    r.right_so_far ≡ is_right_size i.size →
-    ((b : List ℕ) → i.size < 2 ^ 31 → rest b r.chunks ≡ chunks_in v b i cut) → r.chunks.gap ≡ false →
-    ((b : List ℕ) → gap_left b r.chunks ≡ has_gap (replayed_steps v cut fresh_replay (steps_of v i b))) →
-    ((b : List ℕ) → to_read b r.chunks ≤ replayed_runs v cut fresh_replay (steps_of v i b)) →
-    ((blocks : Blocks) (w : Window) → HoldsReading blocks w r.chunks) → BeginsDirectory v i cut r
+pub begins_directory : {v : Layout} {i : Inode} {cut : ℕ} {r : Entries} → r.place ≡ 512 → r.right_so_far ≡ is_right_size
+    i.size → ((b : List ℕ) → i.size < 2 ^ 31 → rest b r.chunks ≡ chunks_in v b i cut) → r.chunks.gap ≡ false → ((b :
+    List ℕ) → gap_left b r.chunks ≡ has_gap (replayed_steps v cut fresh_replay (steps_of v i b))) → ((b : List ℕ) →
+    to_read b r.chunks ≤ replayed_runs v cut fresh_replay (steps_of v i b)) → ((blocks : Blocks) (w : Window) →
+    HoldsReading blocks w r.chunks) → BeginsDirectory v i cut r
 begins_directory {r = r} place right chunks gap left few held = record {
   entries = λ b small. grind (arith, end_seen);
   shape = λ b small. grind (arith, shape_begun);
@@ -75,7 +72,6 @@ begins_directory {r = r} place right chunks gap left few held = record {
 }
 
 -- an entry was taken
-pub shape_same : (b : List ℕ) (s s' f f' : Bool) (c c' : Chunks) → s' ≡ s → f' ≡ f → c' ≡ c
-    → ((s' && f') && (are_sound (rest b c') && not (c'.gap || gap_left b c')))
-    ≡ ((s && f) && (are_sound (rest b c) && not (c.gap || gap_left b c)))
+pub shape_same : (b : List ℕ) (s s' f f' : Bool) (c c' : Chunks) → s' ≡ s → f' ≡ f → c' ≡ c → ((s' && f') && (are_sound
+    (rest b c') && not (c'.gap || gap_left b c'))) ≡ ((s && f) && (are_sound (rest b c) && not (c.gap || gap_left b c)))
 shape_same b s s' f f' c c' e h q = rw (e, h, q) refl

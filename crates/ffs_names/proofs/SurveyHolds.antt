@@ -44,23 +44,20 @@ unfolding volume_of volume_with
 holds_references v b old new {starts = starts} e c h s = record {
   counts = λ x l.
       let begun : slice_index starts x ≡ start_at v b x = sym (ap (λ xs. slice_index xs x) e) ∙ h.starts x in
-      let low : min (slice_index starts x) most_start ≡ start_at v b x =
-      omega (arith, begun, start_low v b x) in
+      let low : min (slice_index starts x) most_start ≡ start_at v b x = omega (arith, begun, start_low v b x) in
       ap (λ xs. slice_index xs x) c ∙ s.counts x l ∙ ap (λ k. k + references_to (graph_of (volume_of v b)) x) low
       ∙ ap (λ k. start_at v b x + k) (references_is (volume_of v b) x);
 }
 
 -- flags of a survey of a volume
 pub volume_calm : (t : Base) (b kinds : List ℕ) (marked marks : List Bool) (parents : List ℕ) (flags : List Bool) →
-    AreCalm kinds marked marks parents (dir_entries t b) (dir_right_shape t b) flags
-    → AreCalm kinds marked marks parents (roled_entries (volume_of t.layout b)) (is_right_directory (volume_of t.layout b))
-    flags
+    AreCalm kinds marked marks parents (dir_entries t b) (dir_right_shape t b) flags → AreCalm kinds marked marks
+    parents (roled_entries (volume_of t.layout b)) (is_right_directory (volume_of t.layout b)) flags
 volume_calm t b kinds marked marks parents flags h d set = grind (arith, and_parts)
 
 -- flags in a workspace
-pub holds_calm : (v : Layout) (b : List ℕ) (w : Workspace) (kinds : List ℕ) (marked marks : List Bool) (parents : List ℕ)
-    (flags : List Bool) → w.kinds.items ≡ kinds → w.marked.items ≡ marked → w.reached.items ≡ marks →
-    w.parents.items ≡ parents → w.flags.items ≡ flags
-    → AreCalm kinds marked marks parents (roled_entries (volume_of v b)) (is_right_directory (volume_of v b)) flags →
-    FlagsCalm v b w
+pub holds_calm : (v : Layout) (b : List ℕ) (w : Workspace) (kinds : List ℕ) (marked marks : List Bool) (parents : List
+    ℕ) (flags : List Bool) → w.kinds.items ≡ kinds → w.marked.items ≡ marked → w.reached.items ≡ marks → w.parents.items
+    ≡ parents → w.flags.items ≡ flags → AreCalm kinds marked marks parents (roled_entries (volume_of v b))
+    (is_right_directory (volume_of v b)) flags → FlagsCalm v b w
 holds_calm v b w kinds marked marks parents flags k m r p f h = record { calm = rw (k, m, r, p, f) h }

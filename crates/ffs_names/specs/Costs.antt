@@ -4,17 +4,16 @@ use Rattle.std.specs.Prelude.{◌≡◌, ℕ, ◌+◌, ◌*◌, ◌<◌, ◌≤�
 use Rattle.std.specs.{Prelude.{List, ◌∷◌, Option}, List.flat_map}
 use Rattle.ffs_image.specs.Device.{ForContents}
 use Rattle.ffs_volume.specs.declared.{Class.Class, Inode.Inode, Layout.Layout, Step.{Step, TheVariants.Run}}
-use Rattle.ffs_volume.specs.Blocks.{Inodes.{class_of, inode_of}, Steps.steps_of}
-use Rattle.ffs_volume.specs.Directories.{Entries.has_gap, Roles.is_dir}
-use Rattle.ffs_volume.specs.{Directories.Volumes.volume_of, Encodings.Replay.{cut_at, fresh_replay, replayed_steps}}
-use Rattle.ffs_volume.specs.Directories.Roles.{roled_chunk, roled_entries}
-use Rattle.ffs_volume.specs.{Encodings.ReplayCounts.replayed_runs, Report.Reads.sweep_reads}
+use Rattle.ffs_volume.specs.{Blocks.{Inodes.{class_of, inode_of}, Steps.steps_of}, Directories.Entries.has_gap}
+use Rattle.ffs_volume.specs.Directories.{Roles.{is_dir, roled_chunk, roled_entries}, Volumes.volume_of}
+use Rattle.ffs_volume.specs.Encodings.{Replay.{cut_at, fresh_replay, replayed_steps}, ReplayCounts.replayed_runs}
+use Rattle.ffs_volume.specs.Report.Reads.{sweep_reads}
 use Rattle.ffs_layout.specs.declared.geometry.Geometry.{Geometry}
 use Rattle.ffs_walk.specs.{Counts.{AreHeld, entered, unread}, declared.{blocks.Blocks.Blocks, window.Window.Window}}
 use Rattle.ffs_survey.specs.Costs.{costs_all}
 use Rattle.ffs_names.specs.{OneChunk.one_chunk_at, Readings.{chunks_in, gap_left, rest, runs_after, runs_left}}
-use Rattle.ffs_names.specs.Readings.{BeginsAt, Continues}
-use Rattle.ffs_names.specs.declared.{chunks.Chunks.Chunks, entries.Entries.Entries, run_cursor.RunCursor.RunCursor}
+use Rattle.ffs_names.specs.{Readings.{BeginsAt, Continues}, declared.{chunks.Chunks.Chunks, entries.Entries.Entries}}
+use Rattle.ffs_names.specs.declared.run_cursor.RunCursor.{RunCursor}
 
 -- 1 where the current Run has chunks and is still to be read: none of them was given yet
 abbrev pub unread_run : RunCursor → ℕ

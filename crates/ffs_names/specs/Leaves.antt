@@ -42,14 +42,12 @@ pub record EndsWalk (old new : Walk) : Type 0 where
   pub over : IsOver new
   pub geometry : new.geometry ≡ old.geometry
 
--- what a call leaves that reads a chunk: where it is in the image, too
-pub record LeavesChunks {S : Type 0} (I : Ghosts S) (old new : Chunks) (image image' : S) (blocks : Blocks)
-    (w : Window) (chunk : List ℕ) (result : Result (Option ℕ) ImageFault) : Type 0 where
+-- what a call leaves that reads a chunk
+pub record LeavesChunks {T : Type 0} (old new : Chunks) (d d' : Device) (blocks : Blocks) (chunk : Window)
+    (result : Result T ImageFault) : Type 0 where
   pub same : IsSame old new
-  pub ready : CanReadChunks old.walk.geometry.layout (I.device image') blocks w
-  pub read : ReadAfter (I.device image) (I.device image') result
-  pub place : IfOk result (λ o. IfSome o (λ _.
-      IsGivenChunk old.walk.geometry.layout (I.device image).contents new.run_cursor chunk))
+  pub ready : CanReadChunks old.walk.geometry.layout d' blocks chunk
+  pub read : ReadAfter d d' result
 
 -- what a call leaves that gives the next chunk. One chunk fewer may come then, none after a fault, and
 -- where none may come nothing is read

@@ -95,9 +95,8 @@ pub record BeginsNotes (reached : List Bool) (parents : List ℕ) (words : Vec �
   pub long : vec_len words ≡ length reached
   pub none : (x : ℕ) → place_in (slice_index words.items x) ≡ 0
   pub low : (x : ℕ) → x < ROOTINO → is_due (slice_index words.items x) ≡ false
-  pub to_read : (x : ℕ) → ROOTINO < x → x < length reached → bool_at reached x ≡ true →
-      ROOTINO ≤ slice_index parents x → slice_index parents x < length reached →
-      is_due (slice_index words.items (slice_index parents x)) ≡ true
+  pub to_read : (x : ℕ) → ROOTINO < x → x < length reached → bool_at reached x ≡ true → ROOTINO ≤ slice_index parents x
+      → slice_index parents x < length reached → is_due (slice_index words.items (slice_index parents x)) ≡ true
   pub only : (p : ℕ) → is_due (slice_index words.items p) ≡ true → IsParent parents p
 
 -- what the survey found is held with the places, and where words have room for all chunks, a place

@@ -7,8 +7,7 @@ use Rattle.ffs_volume.specs.{Directories.Entries.bytes_read, Encodings.Replay.{i
 use Rattle.ffs_volume.specs.{Encodings.{Replay.replayed_steps, ReplayCounts.replayed_runs}, Laws.RunLengths.HasLength}
 use Rattle.ffs_walk.specs.{Keepings.replay_in, Rests.{most_steps_left, steps_left}}
 use Rattle.ffs_image.specs.{Device.ForContents, declared.image.ImageFault.ImageFault}
-use Rattle.ffs_names.specs.RunCursors.{cursor_chunks, reading_by}
-use Rattle.ffs_names.specs.declared.chunks.Chunks.{Chunks}
+use Rattle.ffs_names.specs.{RunCursors.{cursor_chunks, reading_by}, declared.chunks.Chunks.Chunks}
 
 -- the chunks of steps to come
 abbrev pub chunks_after : List ℕ → Chunks → List Step → List Chunk

@@ -1,6 +1,5 @@
 -- The chunks of the current Run.
-use Rattle.std.specs.Prelude.{◌≡◌, ℕ, ◌+◌, ◌-◌, ◌*◌, ◌≤◌, List, [], map, Option}
-use Rattle.std.specs.List.{range_with_len}
+use Rattle.std.specs.{Prelude.{◌≡◌, ℕ, ◌+◌, ◌-◌, ◌*◌, ◌≤◌, List, [], map, Option}, List.range_with_len}
 use Rattle.ffs_image.specs.Device.{ForContents}
 use Rattle.ffs_volume.specs.{declared.Layout.Layout, Disk.Numbers.piece, Directories.Entries.{Chunk, ChunkSource}}
 use Rattle.ffs_volume.specs.Directories.Entries.{chunk_of, run_chunks}

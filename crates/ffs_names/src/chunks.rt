@@ -1,6 +1,6 @@
 //! The chunks of a directory.
 
-ghost use Rattle.std.specs.Prelude.{◌≡◌, ◌==◌, ◌&&◌, ◌≤◌, ◌<◌, ◌^◌, true, not, IfOk, MatchBool, MatchResult};
+ghost use Rattle.std.specs.Prelude.{◌≡◌, ◌==◌, ◌&&◌, ◌≤◌, ◌<◌, ◌^◌, true, not, IfOk, IfSome, MatchBool, MatchResult};
 ghost use Rattle.ffs_image.specs.Device.{ForContents};
 ghost use Rattle.ffs_volume.specs.{Disk.Areas.is_run_in_range, Directories.Entries.bytes_read};
 ghost use Rattle.ffs_volume.specs.declared.Step.TheVariants.{Run};
@@ -46,7 +46,7 @@ pub struct Chunks {
 
 impl Chunks {
     ghost use Rattle.ffs_names.specs.Costs.{to_read, BeginsAtChunk, BeginsByClass, BeginsReading, HoldsReading, SeesRun};
-    ghost use Rattle.ffs_names.specs.RunCursors.{last_place};
+    ghost use Rattle.ffs_names.specs.RunCursors.{last_place, IsGivenChunk};
     ghost use Rattle.ffs_names.specs.Readings.{all_chunks, rest, CanSee, ContinuesTo, CountsNoMore, FindsNextRun, GivesChunk, IsSame};
     ghost use Rattle.ffs_names.specs.Leaves.{LeavesChunks, LeavesNext, LeavesWalk};
 
@@ -118,12 +118,14 @@ impl Chunks {
         ensures chunk { ForContents (I.device image.old).contents (λ b. MatchResult result
             (GivesChunk b (all_chunks b) self.old self.new chunk.new)
             (λ _. CountsNoMore b self.old self.new)) }
+        ensures place { IfOk result (λ o. IfSome o (λ _. IsGivenChunk self.old.walk.geometry.layout
+            (I.device image.old).contents self.new.run_cursor chunk.new)) }
         ensures reads { HoldsReading blocks.old window.old self.old
             → ForContents (I.device image.old).contents (λ b. TakesReads (I.reads image.old)
             (I.reads image.new) (to_read b self.old) (to_read b self.new)
             (HoldsReading blocks.new window.new self.new) result) }
-        ensures leaves { LeavesChunks I.Image self.old self.new image.old image.new blocks.new
-            window.new chunk.new result }
+        ensures leaves { LeavesChunks self.old self.new (I.device image.old) (I.device image.new)
+            blocks.new window.new result }
     {
         if !self.advance(image, blocks)? {
             return Ok(None);

@@ -1,18 +1,17 @@
 //! Where the parent entries of directories are in the image.
 
-ghost use Rattle.std.specs.Prelude.{◌≡◌, ◌+◌, ◌<◌, ◌≤◌, ◌^◌, ◌∷◌, [], true, false, IfOk, OnOk, MatchResult};
-ghost use Rattle.std.specs.{Prelude.{length, vec_len}, List.flat_map};
+ghost use Rattle.std.specs.Prelude.{◌≡◌, ◌+◌, ◌<◌, ◌≤◌, ◌^◌, ◌∷◌, [], true, false, IfOk, OnOk, MatchResult, length};
+ghost use Rattle.std.specs.{Prelude.vec_len, List.flat_map};
 ghost use Rattle.ffs_image.specs.Device.{ForContents};
 ghost use Rattle.ffs_layout.specs.Entry.{entry_value};
 ghost use Rattle.ffs_volume.specs.Directories.{Entries.entries_of, Roles.{is_dir, role_of as role_in, roled_chunk}};
 ghost use Rattle.ffs_volume.specs.Directories.{Roles.roled_from, Volumes.volume_of};
-ghost use Rattle.ffs_workspace.specs.{Holds.{HoldsClaims, HoldsSurvey}, Notes.note_at};
-ghost use Rattle.ffs_workspace.specs.{Ready.IsReady, Tables.{CanReadInode, TableAfter}};
-ghost use Rattle.ffs_names.specs.Noting.{is_child, BeginsNotes, CanNote, CanNoteChunks, CanNoteDirectory};
-ghost use Rattle.ffs_names.specs.Noting.{HoldsPlaces, LeavesChildren, LeavesNoted, LeavesPlaces, NotesDirectory};
-ghost use Rattle.ffs_names.specs.Noting.{NotesEntries, NotesInWords};
-ghost use Rattle.ffs_names.specs.Costs.{directories_cost, directory_cost, BeginsChunks, BeginsReads, SweepsOnce};
-ghost use Rattle.ffs_names.specs.{Readings.rest};
+ghost use Rattle.ffs_workspace.specs.{Holds.{HoldsClaims, HoldsSurvey}, Notes.note_at, Ready.IsReady};
+ghost use Rattle.ffs_workspace.specs.Tables.{CanReadInode, TableAfter};
+ghost use Rattle.ffs_names.specs.Noting.{is_child, BeginsNotes, CanNote, CanNoteChunks, CanNoteDirectory, HoldsPlaces};
+ghost use Rattle.ffs_names.specs.Noting.{LeavesChildren, LeavesNoted, LeavesPlaces, NotesDirectory, NotesEntries};
+ghost use Rattle.ffs_names.specs.{Noting.NotesInWords, Costs.{directories_cost, directory_cost, BeginsChunks}};
+ghost use Rattle.ffs_names.specs.{Costs.{BeginsReads, SweepsOnce}, Readings.rest};
 
 use crate::chunks::Chunks;
 use crate::reader::one_chunk_at;

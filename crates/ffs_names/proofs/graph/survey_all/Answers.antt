@@ -18,14 +18,12 @@ base g c = record {
   windows_lent = c.reader-3-1.given.0;
 }
 
-known : (g : given.Over) (c : After-survey-surveyed g) (b : List ℕ) →
-    (g.I.Image.device c.args.image.now).contents ≡ Some b →
-    HoldsClaims c.args.geometry.now.layout b c.args.workspace.now → KnowsReader (base g c) b
+known : (g : given.Over) (c : After-survey-surveyed g) (b : List ℕ) → (g.I.Image.device c.args.image.now).contents ≡
+    Some b → HoldsClaims c.args.geometry.now.layout b c.args.workspace.now → KnowsReader (base g c) b
 known g c b t h = grind arith
 
-kinds : (g : given.Over) (c : After-survey-surveyed g) (b : List ℕ) →
-    HoldsClaims c.args.geometry.now.layout b c.args.workspace.now → (x : ℕ) →
-    slice_index c.deref-2.result.now x ≡ kind_at c.args.geometry.now.layout b x
+kinds : (g : given.Over) (c : After-survey-surveyed g) (b : List ℕ) → HoldsClaims c.args.geometry.now.layout b
+    c.args.workspace.now → (x : ℕ) → slice_index c.deref-2.result.now x ≡ kind_at c.args.geometry.now.layout b x
 kinds g c b h x = ap (λ ks. slice_index ks x) c.deref-2.ensures.value ∙ h.kinds x
 
 pub returns-clause-leaves : goal.returns-clause-leaves

@@ -111,14 +111,7 @@ returns-clause-places g c = λ b t claims survey.
 
 -- what is left
 pub returns-clause-leaves : goal.returns-clause-leaves
-returns-clause-leaves g c =
-    let inv = c.loop-dir.invariant in
-    record {
-      lists = inv.lists;
-      ready = inv.ready;
-      read = inv.same;
-      none_due = none_due c.loop-dir.workspace.queue.items c.loop-dir.dir (grind (arith, common_steps)) inv.passed;
-    }
+returns-clause-leaves g c = grind (arith, common_steps, none_due)
 
 pub returns-in_err-note_directory-clause-leaves : goal.returns-in_err-note_directory-clause-leaves
 returns-in_err-note_directory-clause-leaves g c = grind (arith, err_from_is_err_and)
@@ -137,8 +130,7 @@ returns-in_err-note_directory-clause-reads g c = λ b t claims survey.
     let inside : dir < length old = grind (arith, common_steps) in
     let word : c.index-word.result.now ≡ slice_index old dir =
     c.index-word.ensures ∙ get_or_default_zero old dir c.index-word.result.now inside in
-    let due : is_due (slice_index old dir) ≡ true =
-    ap is_due (sym word) ∙ (sym c.is_due.ensures ∙ c.if-is_due.true) in
+    let due : is_due (slice_index old dir) ≡ true = ap is_due (sym word) ∙ (sym c.is_due.ensures ∙ c.if-is_due.true) in
     let mid : Workspace = record c.loop-dir.workspace { queue = c.set.new.self } in
     let lists : mid ≡ record first { windows = mid.windows; queue = mid.queue } =
     ap (λ (x : Workspace). record x { queue = c.set.new.self }) inv.lists in

@@ -1,4 +1,4 @@
-use Rattle.std.proofs.{Common.{◌∙◌, ◌+◌, ◌*◌, ap, arith, rules}, lemmas.{Grind.common_steps, Result.err_from_is_err_and}}
+use Rattle.std.proofs.{Common.{◌∙◌, ◌+◌, ◌*◌, ap, arith}, lemmas.{Grind.common_steps, Result.err_from_is_err_and}}
 use Rattle.ffs_volume.specs.Disk.Numbers.{piece}
 use Rattle.ffs_names.proofs.{ReadCounts.given_one, RunChunks.cursor_step}
 use Rattle.ffs_names.proofs.chunks.Chunks.read.Goals as goal
@@ -16,24 +16,14 @@ returns-in_err-advance-clause-chunk g c = grind (arith, err_from_is_err_and)
 pub returns-in_err-read_chunk-clause-chunk : goal.returns-in_err-read_chunk-clause-chunk
 returns-in_err-read_chunk-clause-chunk g c = grind (arith, err_from_is_err_and)
 
-pub returns-clause-leaves : goal.returns-clause-leaves
-returns-clause-leaves g c =
+pub returns-clause-place : goal.returns-clause-place
+returns-clause-place g c =
     let h = c.advance.new.self.run_cursor in
-    let went = c.in_ok-read_chunk.ensures.leaves in
     let more = c.in_ok-advance.ensures.found.more c.if-not-branch.false in
     record {
-      same = search rules;
-      ready = record {
-        walk = rw went.read c.in_ok-advance.ensures.leaves.ready;
-        room = went.room ∙ c.requires.room;
-        holds = went.holds;
-      };
-      read = went.read ∙ c.in_ok-advance.ensures.leaves.read;
-      place = record {
-        bytes = λ b t. c.in_ok-read_chunk.ensures.chunk b (ap (λ d. d.contents) c.in_ok-advance.ensures.leaves.read ∙ t)
-            ∙ ap (λ n. piece (h.place + 512 * n) 512 b) (omega arith);
-        inside = grind (arith, common_steps);
-      };
+      bytes = λ b t. c.in_ok-read_chunk.ensures.chunk b (ap (λ d. d.contents) c.in_ok-advance.ensures.leaves.read ∙ t)
+          ∙ ap (λ n. piece (h.place + 512 * n) 512 b) (omega arith);
+      inside = grind (arith, common_steps);
     }
 
 pub returns-in_err-advance-clause-reads : goal.returns-in_err-advance-clause-reads

@@ -1,14 +1,12 @@
 use Rattle.std.proofs.{Common.{◌≡◌, ◌∙◌, ◌==◌, true, arith, refl, sym, ap}, lemmas.Bool.Decides.nat_tests}
 use Rattle.ffs_names.{specs.declared.chunks.Chunks.Chunks, proofs.Advances.{SeesBy, no_data, sees_chunks, sees_none}}
-use Rattle.ffs_names.proofs.ReadCounts.{entered_none, first_held, run_at_most}
-use Rattle.ffs_names.proofs.chunks.Chunks.see.Goals.{After-take}
+use Rattle.ffs_names.proofs.{ReadCounts.{entered_none, first_held, run_at_most}, chunks.Chunks.see.Goals.After-take}
 use Rattle.ffs_names.proofs.chunks.Chunks.see.Goals as goal
 
 -- the Run is counted and replayed, and the rest stays, but for the current Run
-seen : (c : After-take) {new : Chunks} → new.walk ≡ c.args.self.now.walk →
-    new.bytes_to_read ≡ c.args.self.now.bytes_to_read → new.keeping ≡ c.take.new.self →
-    new.runs ≡ c.saturating_add-self.result → new.gap ≡ c.args.self.now.gap →
-    SeesBy c.args.self.now new c.args.start c.args.len c.args.block c.take.result
+seen : (c : After-take) {new : Chunks} → new.walk ≡ c.args.self.now.walk → new.bytes_to_read ≡
+    c.args.self.now.bytes_to_read → new.keeping ≡ c.take.new.self → new.runs ≡ c.saturating_add-self.result → new.gap ≡
+    c.args.self.now.gap → SeesBy c.args.self.now new c.args.start c.args.len c.args.block c.take.result
 seen c walk bytes keeping runs gap = record {
   can = c.requires;
   walk = walk;
@@ -32,14 +30,12 @@ returns-in-Some-clause-sees c =
     (first_held c.of_run-self.result c.of_run-self.ensures.first)
 
 pub returns-in_default-clause-sees : goal.returns-in_default-clause-sees
-returns-in_default-clause-sees c =
-    sees_none (seen (goal.at.returns-in_default-clause-sees c).After-take refl refl refl refl refl) refl
-    (λ b whole. rw c.in_default.is refl)
+returns-in_default-clause-sees c = sees_none (seen (goal.at.returns-in_default-clause-sees c).After-take refl refl refl
+    refl refl) refl (λ b whole. rw c.in_default.is refl)
 
 pub returns-then-take-len-clause-sees : goal.returns-then-take-len-clause-sees
-returns-then-take-len-clause-sees c =
-    sees_none (seen (goal.at.returns-then-take-len-clause-sees c).After-take refl refl refl refl refl) refl
-    (λ b whole. absurd (grind (arith, nat_tests)))
+returns-then-take-len-clause-sees c = sees_none (seen (goal.at.returns-then-take-len-clause-sees c).After-take refl refl
+    refl refl refl) refl (λ b whole. absurd (grind (arith, nat_tests)))
 
 pub returns-then-not-in_range-clause-sees : goal.returns-then-not-in_range-clause-sees
 returns-then-not-in_range-clause-sees c =

@@ -8,11 +8,10 @@ use Rattle.ffs_names.proofs.entries.Entries.next.Given as given
 use Rattle.ffs_names.proofs.entries.Entries.next.Goals as goal
 
 -- taking an entry, or finding none, changes no count of reads
-taken : (g : given.Over) (c : After-take g) → HoldsEntries c.args.blocks.now c.args.window.now c.args.self.now →
-    (b : List ℕ) → (g.I.Image.device c.args.image.now).contents ≡ Some b →
-    (g.I.Image.reads c.chunks.image + reads_by b c.take.new.self.right_so_far c.take.new.self.chunks
-    ≤ g.I.Image.reads c.args.image.now + entries_to_read b c.args.self.now)
-    × HoldsBy c.chunks.blocks c.chunks.window c.take.new.self.right_so_far c.take.new.self.chunks
+taken : (g : given.Over) (c : After-take g) → HoldsEntries c.args.blocks.now c.args.window.now c.args.self.now → (b :
+    List ℕ) → (g.I.Image.device c.args.image.now).contents ≡ Some b → (g.I.Image.reads c.chunks.image + reads_by b
+    c.take.new.self.right_so_far c.take.new.self.chunks ≤ g.I.Image.reads c.args.image.now + entries_to_read b
+    c.args.self.now) × HoldsBy c.chunks.blocks c.chunks.window c.take.new.self.right_so_far c.take.new.self.chunks
 taken g c held b t =
     let same = c.take.ensures.same in rw (same.right_so_far, same.chunks) (c.chunks.invariant.reads held b t)
 
