@@ -271,6 +271,7 @@ fn gather_inode<I: Image>(
 
 /// Gathers what the messages on an entry show, once the path of its directory is made: the entry's
 /// path and that of the directory that it names into `texts`, and the attributes of its inode.
+#[tactic(auto, using(std::proofs::lemmas::Result::err_from_is_err_and, crate::proofs::ReadyLaws::gather_failed))]
 #[inline(always)]
 fn gather<I: Image>(
     geometry: &Geometry,
@@ -444,6 +445,7 @@ pub fn report_extra<I: Image, W: Output>(
 ///
 /// # Errors
 /// A read of the image that failed.
+#[tactic(auto, using(std::proofs::lemmas::Result::err_from_is_err_and, crate::proofs::ReadyLaws::gather_failed))]
 pub fn gather_dir<I: Image>(
     geometry: &Geometry,
     image: &mut I,
