@@ -83,6 +83,7 @@ fn say_chunks<W: Output>(
 }
 
 /// Says what is wrong with a directory's size and chunks.
+#[tactic(auto, using(crate::proofs::Saying::first_stops))]
 fn say_shape<W: Output>(
     report: &mut Report<'_, W>,
     attr: Attr,
@@ -223,7 +224,7 @@ fn say_dotdot<W: Output>(
 ///
 /// # Errors
 /// A write of the report that failed.
-#[tactic(auto, unfolding(crate::specs::Header::header_reported))]
+#[tactic(auto, using(crate::proofs::Saying::first_stops), unfolding(crate::specs::Header::header_reported))]
 pub fn say_header<W: Output>(
     report: &mut Report<'_, W>,
     attr: Attr,
@@ -338,6 +339,7 @@ pub fn say_if<W: Output>(report: &mut Report<'_, W>, line: &LineIf<'_>) -> Resul
 ///
 /// # Errors
 /// A write of the report that failed.
+#[tactic(auto, using(crate::proofs::Saying::first_stops))]
 pub fn say_two<W: Output>(
     report: &mut Report<'_, W>,
     first: &LineIf<'_>,

@@ -1,16 +1,15 @@
 //! The lines of a plain entry.
 ghost use Rattle.std.specs.Prelude.{◌≡◌, ℕ, List, Option, SomeIff};
-ghost use Rattle.ffs_volume.specs.{declared.Layout.Layout, Report.Reads.path_reads};
-ghost use Rattle.ffs_pathnames.specs.{SaysNames.SaysNames, EntryLines.ReportsEntries};
-ghost use Rattle.ffs_pathnames.specs.Gathers.{AreAsLong, IsVerdictIn, asks_attr, asks_path, extra_reported, is_silent};
-ghost use Rattle.ffs_pathnames.specs.Gathers.{plain_lines_by, ReadsAttr, MakesPath, MakesPathLimited};
-ghost use Rattle.ffs_pathnames.specs.Gathers.{PutsPath, PutsWanted, GathersInode, GathersNamed, GathersEntry};
-ghost use Rattle.ffs_pathnames.specs.{Gathers.{GathersExtra, GathersDir}, Ready.{ReadyToPath, ReadyWhere, ReadyWith, LinesLeave}};
-ghost use Rattle.ffs_volume.specs.Directories.PathnameCheck.{extra_lines};
+ghost use Rattle.ffs_volume.specs.{declared.Layout.Layout, Directories.PathnameCheck.extra_lines, Report.Reads.path_reads};
+ghost use Rattle.ffs_pathnames.specs.{EntryLines.ReportsEntries, Ready.{ReadyToPath, ReadyWhere, ReadyWith, LinesLeave}};
+ghost use Rattle.ffs_pathnames.specs.{SaysNames.SaysNames, Gathers.{AreAsLong, IsVerdictIn, asks_attr, asks_path}};
+ghost use Rattle.ffs_pathnames.specs.Gathers.{extra_reported, is_silent, plain_lines_by, MakesPath, MakesPathLimited};
+ghost use Rattle.ffs_pathnames.specs.Gathers.{ReadsAttr, PutsPath, PutsWanted, GathersInode, GathersNamed};
+ghost use Rattle.ffs_pathnames.specs.Gathers.{GathersEntry, GathersExtra, GathersDir};
 ghost use Rattle.ffs_layout.specs.Entry.{entry_value};
 ghost use Rattle.ffs_report.specs.Progress.{progress};
-ghost use Rattle.ffs_workspace.specs.{declared.workspace.Workspace.Workspace as WorkspaceIn, Ready.IsReady};
-ghost use Rattle.ffs_workspace.specs.Places.{AreChunksNumbered};
+ghost use Rattle.ffs_workspace.specs.{declared.workspace.Workspace.Workspace as WorkspaceIn, Places.AreChunksNumbered};
+ghost use Rattle.ffs_workspace.specs.Ready.{IsReady};
 ghost use Rattle.ffs_paths.specs.{KeptParents.KeepsParent, Reads.IsReadyFor};
 
 use crate::inodes::Inodes;
@@ -272,6 +271,7 @@ fn gather_inode<I: Image>(
 
 /// Gathers what the messages on an entry show, once the path of its directory is made: the entry's
 /// path and that of the directory that it names into `texts`, and the attributes of its inode.
+#[tactic(auto, using(std::proofs::lemmas::Result::err_from_is_err_and, crate::proofs::ReadyLaws::gather_failed))]
 #[inline(always)]
 fn gather<I: Image>(
     geometry: &Geometry,
@@ -445,6 +445,7 @@ pub fn report_extra<I: Image, W: Output>(
 ///
 /// # Errors
 /// A read of the image that failed.
+#[tactic(auto, using(std::proofs::lemmas::Result::err_from_is_err_and, crate::proofs::ReadyLaws::gather_failed))]
 pub fn gather_dir<I: Image>(
     geometry: &Geometry,
     image: &mut I,

@@ -186,6 +186,7 @@ fn say_links<W: Output>(
 }
 
 /// Says what is wrong with an entry that names an allocated inode.
+#[tactic(auto, using(crate::proofs::Saying::first_stops))]
 fn say_defects<W: Output>(
     report: &mut Report<'_, W>,
     defects: &EntryDefects,

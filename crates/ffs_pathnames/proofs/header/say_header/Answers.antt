@@ -1,10 +1,5 @@
-use Rattle.ffs_pathnames.{specs.Header.header_reported, proofs.Saying.names_then, proofs.Saying.first_stops}
+use Rattle.ffs_pathnames.{specs.Header.header_reported, proofs.Saying.{first_stops, names_then}}
 use Rattle.ffs_pathnames.proofs.header.say_header.Goals as goal
-
-pub returns-in_err-say_shape : goal.returns-in_err-say_shape
-unfolding header_reported
-returns-in_err-say_shape g c =
-    first_stops _ _ _ _ c.from_residual.result c.from_residual.ensures.0 c.in_err-say_shape.ensures
 
 pub returns-in_err-say_dot : goal.returns-in_err-say_dot
 unfolding header_reported

@@ -1,5 +1,5 @@
-use Rattle.std.proofs.{Common.{Bool, ap, arith, sym, ◌∙◌}, lemmas.Result.err_from_is_err_and}
-use Rattle.ffs_pathnames.proofs.{Carrying.if_ok, VerdictLaws.path_asks_attr, ReadyLaws.{gather_failed, leaves_read}}
+use Rattle.std.proofs.Common.{Bool, ap, arith, sym, ◌∙◌}
+use Rattle.ffs_pathnames.proofs.{Carrying.if_ok, VerdictLaws.path_asks_attr, ReadyLaws.leaves_read}
 use Rattle.ffs_pathnames.proofs.one_entry.gather.Goals as goal
 
 pub gather_path-requires : goal.gather_path-requires
@@ -9,16 +9,6 @@ gather_path-requires g c =
       ready = c.requires.ready;
       number = λ q. c.requires.number (path_asks_attr c.args.verdict.now (sym wants ∙ q));
     }
-
-pub returns-in_err-gather_path : goal.returns-in_err-gather_path
-returns-in_err-gather_path g c =
-    let p = err_from_is_err_and c.from_residual.result c.from_residual.ensures.1 in
-    let path = c.in_err-gather_path.ensures in
-    rw (p.1, p.2) (record {
-      enough = tt;
-      same = (path.same.0, ap (λ p. p.directory) path.same.1);
-      leaves = gather_failed _ path.leaves (omega arith);
-    })
 
 pub returns : goal.returns
 returns g c =
