@@ -156,7 +156,6 @@ fn report_by_role<I: Image, W: Output>(
 ///
 /// # Errors
 /// A read of the image that failed, and a write of the report that failed.
-#[tactic(auto, using(std::proofs::lemmas::Result::err_from_is_err_and, ffs_workspace::proofs::Leaving::windows_leave, crate::proofs::StampLaws::windows_keep))]
 pub fn report_entry<I: Image, W: Output>(
     geometry: &Geometry,
     image: &mut I,

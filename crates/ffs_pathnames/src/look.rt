@@ -163,7 +163,6 @@ fn keep_start(
 ///
 /// # Errors
 /// A read of the image that failed.
-#[tactic(auto, using(std::proofs::lemmas::Result::err_from_is_err_and, crate::proofs::ReadyLaws::others_stay))]
 pub fn look_directory<I: Image>(
     geometry: &Geometry,
     image: &mut I,

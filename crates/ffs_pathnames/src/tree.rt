@@ -82,7 +82,7 @@ fn check_inode<I: Image, W: Output>(
 
 /// Prints the lines of each directory and of its entries, in the order of inode numbers. The places
 /// of parent entries are noted first, for the paths, where any directory is checked.
-#[tactic(auto, using(std::proofs::lemmas::Result::err_from_is_err_and, std::proofs::lemmas::Bool::both_ways, ffs_report::proofs::Paying::paid_failed, ffs_survey::proofs::Costs::costs_rise, ffs_volume::proofs::Sizes::some_inodes))]
+#[tactic(auto, using(std::proofs::lemmas::Bool::both_ways, ffs_volume::proofs::Sizes::some_inodes))]
 fn check_inodes<I: Image, W: Output>(
     geometry: &Geometry,
     image: &mut I,
@@ -122,7 +122,7 @@ fn check_inodes<I: Image, W: Output>(
 ///
 /// # Errors
 /// A read of the image that failed, and a write of the report that failed.
-#[tactic(auto, using(std::proofs::lemmas::Result::err_from_is_err_and, ffs_volume::proofs::Sizes::some_inodes, crate::proofs::Begun::image_same))]
+#[tactic(auto, using(ffs_volume::proofs::Sizes::some_inodes))]
 pub fn check_tree<I: Image, W: Output>(
     geometry: &Geometry,
     image: &mut I,

@@ -16,9 +16,12 @@ use Rattle.ffs_paths.proofs.Keeping.{kept_parent_on}
 use Rattle.ffs_layout.specs.Entry.{entry_value}
 use Rattle.ffs_pathnames.proofs.tree.begin_directory.Goals as goal
 
+abbrev Known : (g : Over) → After-report_header g → List ℕ → Type 0
+Known g c = LeftForLook c.args.geometry.now.layout (g.I.Image.device c.args.image.now) c.args.workspace.now c.args.dir
+    c.args.checking.now.reads_left
+
 -- what is known before the lines are printed
-known : (g : Over) (c : After-report_header g) (b : List ℕ) → LeftForLook c.args.geometry.now.layout
-    (g.I.Image.device c.args.image.now) c.args.workspace.now c.args.dir c.args.checking.now.reads_left b →
+known : (g : Over) (c : After-report_header g) (b : List ℕ) → Known g c b →
     DirectoryContext c.args.geometry.now.layout (g.I.Image.device c.examine.new.image).contents c.examine.new.workspace
     c.args.dir b × (c.in_ok-examined.examined.inode.size ≡ (inode_of c.args.geometry.now.layout b c.args.dir).size)
 known g c b k = (
@@ -29,8 +32,7 @@ known g c b k = (
 )
 
 -- the lines are the directory's
-lines_are : (g : Over) (c : After-report_header g) (b : List ℕ) → LeftForLook c.args.geometry.now.layout
-    (g.I.Image.device c.args.image.now) c.args.workspace.now c.args.dir c.args.checking.now.reads_left b →
+lines_are : (g : Over) (c : After-report_header g) (b : List ℕ) → Known g c b →
     header_reported (attributes (volume_of c.args.geometry.now.layout b) c.args.dir)
     (dir_path (graph_of (volume_of c.args.geometry.now.layout b)) c.args.dir) c.args.dir c.parent_of-parent.result
     c.in_ok-examined.examined.look.gap c.in_ok-examined.examined.look.sound
@@ -44,8 +46,7 @@ lines_are g c b k =
     c.first_two.ensures
 
 -- the reads
-reads_few : (g : Over) (c : After-report_header g) (b : List ℕ) → LeftForLook c.args.geometry.now.layout
-    (g.I.Image.device c.args.image.now) c.args.workspace.now c.args.dir c.args.checking.now.reads_left b →
+reads_few : (g : Over) (c : After-report_header g) (b : List ℕ) → Known g c b →
     AreNoted c.args.geometry.now.layout b c.args.workspace.now.queue.items →
     g.I.Image.reads c.report_header.new.image ≤ g.I.Image.reads c.args.image.now
     + (directory_cost c.args.geometry.now.layout b c.args.dir

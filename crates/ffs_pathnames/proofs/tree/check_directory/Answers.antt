@@ -1,10 +1,11 @@
 use Rattle.std.proofs.Common.{refl, sym, ap, subst, ◌∙◌, ℕ, List, Err, length, arith}
 use Rattle.std.proofs.{lemmas.Result.err_from_is_err_and, Math.Nat.mul-le-mul_left}
-use Rattle.ffs_volume.specs.{Report.Reads.line_reads, Directories.PathnameCheck.sized_dir_lines}
+use Rattle.ffs_image.specs.Device.{Device}
+use Rattle.ffs_volume.specs.{declared.Layout.Layout, Report.Reads.line_reads, Directories.PathnameCheck.sized_dir_lines}
 use Rattle.ffs_volume.specs.Directories.{Roles.roled_entries, Volumes.volume_of}
 use Rattle.ffs_report.{specs.PhaseOutcome.ImageAfter, proofs.Reporting.{of_begins, of_part, of_fault, of_last}}
 use Rattle.ffs_report.proofs.{Reporting.{said_knows, reports_knowing}, Paying.{paid_answer, paid_fault, paid_then}}
-use Rattle.ffs_workspace.proofs.Leaving.{leaves_more}
+use Rattle.ffs_workspace.{specs.declared.workspace.Workspace.Workspace, proofs.Leaving.leaves_more}
 use Rattle.ffs_pathnames.specs.{declared.look.Examination.Examination, Begins.dir_header_lines, Gathers.passed_of}
 use Rattle.ffs_pathnames.{specs.PassedNames.entries_reported, proofs.Begun.{image_same, said_same, directory_is, lines_parts}}
 use Rattle.ffs_pathnames.proofs.Begun.{quiet_parts, reported_parts, quiet_after, reported_after, starts_within}
@@ -15,14 +16,14 @@ use Rattle.ffs_pathnames.proofs.tree.check_directory.{Given.Over, Goals.{After-b
 use Rattle.ffs_names.{specs.Costs.{directory_cost, directory_runs}, proofs.DirCosts.cost_is as cost_of_dir}
 use Rattle.ffs_pathnames.proofs.tree.check_directory.Goals as goal
 
--- what is left suffices for the first look
 abbrev Known : (g : Over) → After-begin_directory g → List ℕ → Type 0
 Known g c = LeftForBoth c.args.geometry.now.layout (g.I.Image.device c.args.image.now) c.args.workspace.now c.args.dir
     c.args.checking.now.reads_left
 
-first : (g : Over) (c : After-begin_directory g) (b : List ℕ) → Known g c b → LeftForLook c.args.geometry.now.layout
-    (g.I.Image.device c.args.image.now) c.args.workspace.now c.args.dir c.args.checking.now.reads_left b
-first g c b k = (k.knows, omega (arith, k.enough))
+-- what is left suffices for the first look
+first : {v : Layout} {d : Device} {w : Workspace} {x left : ℕ} {b : List ℕ} → LeftForBoth v d w x left b →
+    LeftForLook v d w x left b
+first k = (k.knows, omega (arith, k.enough))
 
 -- and what it leaves for the second
 second : (g : Over) (c : After-report_directory g) (b : List ℕ) →
@@ -34,14 +35,12 @@ second : (g : Over) (c : After-report_directory g) (b : List ℕ) →
     c.begin_directory.new.checking.reads_left b
 second g c b k =
     let v = c.args.geometry.now.layout in
-    let for_look : LeftForLook v (g.I.Image.device c.args.image.now) c.args.workspace.now c.args.dir
-    c.args.checking.now.reads_left b = (k.knows, omega (arith, k.enough)) in
-    let kept = c.begin_directory.ensures.kept b for_look in
+    let kept = c.begin_directory.ensures.kept b (first k) in
     let left = c.in_ok-examined.ensures.leaves in (
       (
         knows_on v _ _ c.args.workspace.now c.begin_directory.new.workspace c.args.dir b
             (ap (λ d. d.contents) left.image) left.survey left.places k.knows,
-        (c.in_ok-examined.ensures.holds b for_look).inode,
+        (c.in_ok-examined.ensures.holds b (first k)).inode,
       ),
       omega (arith, k.enough, kept, cost_of_dir v b c.args.dir k.knows.dir),
     )
@@ -67,11 +66,11 @@ returns-in_err-examined g c =
     rw (p.1, p.2) (record {
       text = of_fault Examination (Unit {0}) _ _ _ _ _ _ _ _ c.in_err-examined.field-0.0 (of_begins _ _ _)
           (λ b k. lines_parts (volume_of c.args.geometry.now.layout b) c.args.dir _ refl)
-          (reports_knowing Examination _ _ _ _ _ (Err c.in_err-examined.field-0.0) (first g at) begun.text);
+          (reports_knowing Examination _ _ _ _ _ (Err c.in_err-examined.field-0.0) (λ b k. first k) begun.text);
       reads = λ b k noted.
           let within = mul-le-mul_left line_reads (starts_within (volume_of c.args.geometry.now.layout b) c.args.dir) in
-          omega (arith, begun.reads b (first g at b k) noted, within);
-      kept = λ b k. omega (arith, begun.kept b (first g at b k));
+          omega (arith, begun.reads b (first k) noted, within);
+      kept = λ b k. omega (arith, begun.kept b (first k));
       paid = λ numbered. paid_fault c.in_err-examined.field-0.0 (begun.paid numbered);
       holds = tt;
       leaves = record {
@@ -89,18 +88,18 @@ returns-then-examined g c =
     let m = passed_of c.args.workspace.now in
     let begun = c.in_ok-examined.ensures in
     let left = begun.leaves in
-    let quiet = λ (b : List ℕ) (k : Known g at b). sym (begun.holds b (first g at b k)).quiet ∙ c.if-examined.true in
+    let quiet = λ (b : List ℕ) (k : Known g at b). sym (begun.holds b (first k)).quiet ∙ c.if-examined.true in
     record {
-      text = said_same _ _ _ _ _ _ (first g at)
+      text = said_same _ _ _ _ _ _ (λ b k. first k)
           (λ b k. quiet_parts (volume_of v b) c.args.dir m
           (directory_is (volume_of v b) c.args.dir c.requires.low k.knows.dir) k.passed (quiet b k)) begun.text;
       reads = λ b k noted.
           let within = mul-le-mul_left line_reads (starts_within (volume_of v b) c.args.dir) in
-          omega (arith, begun.reads b (first g at b k) noted, within);
-      kept = λ b k. omega (arith, begun.kept b (first g at b k));
+          omega (arith, begun.reads b (first k) noted, within);
+      kept = λ b k. omega (arith, begun.kept b (first k));
       paid = λ numbered. paid_answer (begun.paid numbered);
       holds = λ b k. quiet_after (volume_of v b) c.args.dir m _ k.passed (quiet b k)
-          (begun.holds b (first g at b k)).passed;
+          (begun.holds b (first k)).passed;
       leaves = record { image = left.image; survey = left.survey; places = left.places; ready = left.ready };
     }
 
@@ -112,31 +111,30 @@ returns g c =
     let m = passed_of c.begin_directory.new.workspace in
     let one = c.in_ok-examined.ensures in
     let two = c.report_directory.ensures in
-    let first_of = first g at.After-begin_directory in
     let second_of = second g at.After-report_directory in
     let dir = λ (b : List ℕ) (k : Known g at.After-begin_directory b).
     directory_is (volume_of v b) c.args.dir c.requires.low k.knows.dir in
     let parts = λ (b : List ℕ) (k : Known g at.After-begin_directory b).
-    reported_parts (volume_of v b) c.args.dir before m (dir b k) k.passed (one.holds b (first_of b k)).passed in
+    reported_parts (volume_of v b) c.args.dir before m (dir b k) k.passed (one.holds b (first k)).passed in
     record {
       text = of_last _ _ _ _ _ _ _ _ c.report_directory.result
-          (of_part _ _ _ _ _ _ _ _ (of_begins _ _ _) parts (said_knows _ _ _ _ _ _ first_of one.text))
+          (of_part _ _ _ _ _ _ _ _ (of_begins _ _ _) parts (said_knows _ _ _ _ _ _ (λ b k. first k) one.text))
           (λ b k. refl) (reports_knowing _ _ _ _ _ _ c.report_directory.result second_of two.text);
       reads = λ b k noted.
           checked_twice line_reads _ _ _ (directory_cost v b c.args.dir) (directory_runs v b c.args.dir)
           (length (dir_header_lines (volume_of v b) c.args.dir))
           (length (entries_reported (volume_of v b) c.args.dir m (roled_entries (volume_of v b) c.args.dir)))
-          (length (sized_dir_lines (volume_of v b) c.args.dir)) (one.reads b (first_of b k) noted)
+          (length (sized_dir_lines (volume_of v b) c.args.dir)) (one.reads b (first k) noted)
           (two.reads b (second_of b k) (noted_kept v b c.args.workspace.now.queue.items
           c.begin_directory.new.workspace.queue.items one.leaves.places noted))
           (cost_of_dir v b c.args.dir k.knows.dir) (lines_long _ _ _ (parts b k));
       kept = λ b k.
           let cost = cost_of_dir v b c.args.dir k.knows.dir in
-          omega (arith, one.kept b (first_of b k), two.kept b (second_of b k), cost);
+          omega (arith, one.kept b (first k), two.kept b (second_of b k), cost);
       paid = λ numbered. paid_then (one.paid numbered) (two.paid numbered);
       holds = if_ok c.report_directory.result _ _
           (λ x p b k. reported_after (volume_of v b) c.args.dir before m _ (dir b k) k.passed
-          (one.holds b (first_of b k)).passed (p b (second_of b k))) two.holds;
+          (one.holds b (first k)).passed (p b (second_of b k))) two.holds;
       leaves = record {
         image = subst (λ d. ImageAfter d (g.I.Image.device c.report_directory.new.image) c.report_directory.result)
             one.leaves.image two.leaves.image;

@@ -112,16 +112,15 @@ returns-in_err-check_inodes-in-Go-clause-tree g c =
     let at = goal.at.returns-in_err-check_inodes-in-Go-clause-tree g c in
     let tree = c.in_err-check_inodes-in-Go.ensures.tree in
     let fault = c.in_err-check_inodes-in-Go.field-0.0 in
-    let are = λ (b : List ℕ)
-    (k : IsBefore c.args.geometry.now.layout (g.I.Image.device c.args.image.now).contents c.args.workspace.now 2 b).
-    lines_are g at.After-report_root b true k.claims c.in-Go.ensures in
     let p = err_from_is_err_and c.from_residual-in_err-check_inodes-in-Go.result
     c.from_residual-in_err-check_inodes-in-Go.ensures.1 in
     rw (p.1, p.2) (record {
       text = of_fault (Unit {0}) (Unit {0}) _ _ _ (λ b. []) _ _ _ _ fault
-          (of_says _ _ _ _ _ _ _ _ (of_begins _ _ _) are c.in_ok-report_root.ensures)
+          (of_says _ _ _ _ _ _ _ _ (of_begins _ _ _)
+          (λ b k. lines_are g at.After-report_root b true k.claims c.in-Go.ensures) c.in_ok-report_root.ensures)
           (λ b k. sym (append-nil _)) tree.text;
-      reads = λ b k. reads_few g at.After-check_inodes b (are b k) k;
+      reads = λ b k. reads_few g at.After-check_inodes b
+          (lines_are g at.After-report_root b true k.claims c.in-Go.ensures) k;
       paid = λ numbered. paid_fault fault
           (paid_then (paid_said _ c.in_ok-report_root.ensures (omega arith)) (tree.paid numbered));
       image = image_same (Unit {0}) Root _ _ _ fault refl tree.image;
@@ -134,14 +133,13 @@ pub returns-in_ok-check_inodes-in-Go-clause-tree : goal.returns-in_ok-check_inod
 returns-in_ok-check_inodes-in-Go-clause-tree g c =
     let at = goal.at.returns-in_ok-check_inodes-in-Go-clause-tree g c in
     let tree = c.in_ok-check_inodes-in-Go.ensures.tree in
-    let are = λ (b : List ℕ)
-    (k : IsBefore c.args.geometry.now.layout (g.I.Image.device c.args.image.now).contents c.args.workspace.now 2 b).
-    lines_are g at.After-report_root b true k.claims c.in-Go.ensures in
     record {
       text = of_part _ _ _ (λ b. []) _ _ _ _
-          (of_says _ _ _ _ _ _ _ _ (of_begins _ _ _) are c.in_ok-report_root.ensures)
+          (of_says _ _ _ _ _ _ _ _ (of_begins _ _ _)
+          (λ b k. lines_are g at.After-report_root b true k.claims c.in-Go.ensures) c.in_ok-report_root.ensures)
           (λ b k. sym (append-nil _)) tree.text;
-      reads = λ b k. reads_few g at.After-check_inodes b (are b k) k;
+      reads = λ b k. reads_few g at.After-check_inodes b
+          (lines_are g at.After-report_root b true k.claims c.in-Go.ensures) k;
       paid = λ numbered. paid_answer
           (paid_then (paid_said _ c.in_ok-report_root.ensures (omega arith)) (tree.paid numbered));
       image = tree.image;
