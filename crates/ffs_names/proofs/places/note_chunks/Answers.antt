@@ -19,7 +19,7 @@ chunks-preserved g c =
     c.last_place.result c.in-Some._offset c.next.new.chunk (rest b c.chunks.chunks) (rest b c.next.new.self) = λ b t.
     record {
       whole = let fits = c.next.new.self.cursor_fits in omega (arith, c.last_place.ensures, fits.aligned);
-      number = c.place_of-place.ensures;
+      number = c.place_of-place.ensures.value;
       some = c.if-place-eq0.false;
       inside = rw (sym c.last_place.ensures, inv.geometry) at (rw c.in-Some.is at went.leaves.place).inside;
       held = (rw c.in-Some.is at went.leaves.place).bytes b (now b t)
@@ -54,7 +54,7 @@ returns-then-place-eq0-clause-noted g c = λ b t.
       places = inv.noted b t;
       all = λ numbered x child named before.
           absurd (room_for v c.last_place.result numbered inside
-          (sym c.place_of-place.ensures ∙ c.if-place-eq0.true));
+          (sym c.place_of-place.ensures.value ∙ c.if-place-eq0.true));
     }
 
 pub returns-clause-noted : goal.returns-clause-noted
