@@ -41,8 +41,7 @@ pub record IsTableOf (v : Layout) (t : Table) : Type 0 where
   pub room : vec_len t.window.buffer ≡ v.bsize
   pub inodes : (x : ℕ) → HoldsInode t x → IsInPlace v t x
 
--- inodes of the volume can be read: the image has all of it, and the window holds what the image
--- gives
+-- inodes can be read: the image has all of the volume, and the window holds what the image gives
 pub record CanReadInodes (v : Layout) (d : Device) (t : Table) : Type 0 where
   pub volume : v.size * v.fsize ≤ d.size
   pub made : IsTableOf v t
@@ -77,8 +76,7 @@ pub record ReadsPiece {T : Type 0} (v : Layout) (d d' : Device) (reads reads' x 
   pub leaves : TableAfter v d d' t result
   pub counted : reads' ≤ reads + 1
 
--- the inode x is read: it is the image's, where the image gives its bytes, and the table holds what
--- the image gives
+-- the inode x is read: it is that of the image's bytes, and the table holds what the image gives
 pub record ReadsInode (v : Layout) (d d' : Device) (x : ℕ) (t : Table) (result : Result Inode ImageFault) : Type 0 where
   pub inode : IfOk result (λ i. ForContents d.contents (λ bytes. i ≡ inode_of v bytes x))
   pub kept : KeepsTable v d'.contents t
