@@ -119,11 +119,10 @@ module _ {S : Type 0} (D : Ghosts S) where
       (b : List ℕ) → D.knows (D.base reader) b → P (D.entries (D.base reader) b) (D.right_shape (D.base reader) b)
 
   -- the reader is ready, and these lists have an entry for every inode
-  pub record CanSurvey (reader : S) (inodes : KnownInodes) (numbers : NumberLists) (named reached calm : List Bool)
-      : Type 0 where
+  pub record CanSurvey (reader : S) (i : KnownInodes) (n : NumberLists) (named reached calm : List Bool) : Type 0 where
     pub ready : D.ready reader
-    pub lists : AreLists inodes.kinds.now inodes.marked.now numbers.references.now.items named reached
-        numbers.parents.now.items calm numbers.queue.now.items
+    pub lists : AreLists i.kinds.now i.marked.now n.references.now.items named reached n.parents.now.items calm
+        n.queue.now.items
 
   -- the reader is ready, nothing is found yet, and no count of references is past the greatest start
   pub record CanBegin (reader : S) (l : Lists) : Type 0 where

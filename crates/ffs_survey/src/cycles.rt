@@ -1,7 +1,6 @@
 //! Cycles of parents.
 ghost use Rattle.std.specs.Prelude.{length};
-ghost use Rattle.ffs_survey.specs.Cycles.{parent_in, CanFollow, CanMarkLeaders, ComesBack, IsLeastOn, MarksEachLeader};
-ghost use Rattle.ffs_survey.specs.Cycles.{NotesWalk};
+ghost use Rattle.ffs_survey.specs.Cycles.{parent_in, CanFollow, CanMarkLeaders, ComesBack, IsLeastOn, MarksEachLeader, NotesWalk};
 
 use crate::numbers::number_of;
 use ffs_memory::FilledList;
