@@ -36,18 +36,11 @@ returns-then-not-unref g c =
     }
 
 pub returns-in_err-inode : goal.returns-in_err-inode
-returns-in_err-inode g c = record {
-  prints = grind (arith, err_from_is_err_and, reads_first);
-  reads = grind (arith, tested, one_line, err_from_is_err_and, paid_reads);
-  stays = search rules;
-}
+returns-in_err-inode g c = grind (arith, err_from_is_err_and, reads_first, tested, one_line, paid_reads)
 
 pub returns-in_err-say : goal.returns-in_err-say
-returns-in_err-say g c = record {
-  prints = grind (arith, err_from_is_err_and, stops_all, heard_of, tested);
-  reads = grind (arith, tested, one_line, err_from_is_err_and, paid_stops);
-  stays = grind (arith, ready_table);
-}
+returns-in_err-say g c =
+    grind (arith, err_from_is_err_and, stops_all, heard_of, tested, one_line, paid_stops, ready_table)
 
 pub returns : goal.returns
 returns g c = record {
