@@ -30,7 +30,7 @@ answered g c b t held enough = grind (arith, bytes, both_ways, after)
 pub returns-then-not-are_chunks_numbered-clause-chunk : goal.returns-then-not-are_chunks_numbered-clause-chunk
 returns-then-not-are_chunks_numbered-clause-chunk g c =
     if_both c.next.result _ _ _ (λ o h budget. record { chunk = λ b t enough. h b t; budget = budget })
-    c.next.ensures.chunk (budget_falls c.next.result _ _ c.next.ensures.budget)
+    c.next.ensures.chunk (budget_falls c.next.result _ _ c.next.ensures.leaves.budget)
 
 pub returns-then-not-are_chunks_numbered-clause-takes : goal.returns-then-not-are_chunks_numbered-clause-takes
 returns-then-not-are_chunks_numbered-clause-takes g c = record {
@@ -78,7 +78,7 @@ returns-clause-chunk g c =
     let at = (goal.at.returns-clause-chunk g c).After-is_spent in
     if_both c.next-offset.result _ _ _
     (λ o h budget. record { chunk = λ b t enough. h b (bytes g at b t); budget = budget }) c.next-offset.ensures.chunk
-    (budget_falls c.next-offset.result _ _ c.next-offset.ensures.budget)
+    (budget_falls c.next-offset.result _ _ c.next-offset.ensures.leaves.budget)
 
 pub returns-clause-takes : goal.returns-clause-takes
 returns-clause-takes g c =
