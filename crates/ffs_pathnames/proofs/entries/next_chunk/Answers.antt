@@ -36,7 +36,7 @@ returns-then-not-are_chunks_numbered g c =
     both_ways _ c.if-not-are_chunks_numbered.true (c.are_chunks_numbered.ensures.1 numbered) in
     record {
       chunk = if_both c.next.result _ _ _ (λ o h budget. record { chunk = λ b t enough. h b t; budget = budget })
-          next.chunk (budget_falls c.next.result _ _ next.budget);
+          next.chunk (budget_falls c.next.result _ _ left.budget);
       takes = record {
         reads = λ held b t enough. next.reads held b t;
         kept = λ numbered. absurd (never numbered);
@@ -73,7 +73,7 @@ returns g c = record {
       let at = (goal.at.returns g c).After-is_spent in
       if_both c.next-offset.result _ _ _
       (λ o h budget. record { chunk = λ b t enough. h b (bytes g at b t); budget = budget })
-      c.next-offset.ensures.chunk (budget_falls c.next-offset.result _ _ c.next-offset.ensures.budget);
+      c.next-offset.ensures.chunk (budget_falls c.next-offset.result _ _ c.next-offset.ensures.leaves.budget);
   takes =
       let numbered = c.are_chunks_numbered.ensures.0 c.if-not-are_chunks_numbered.false in
       record {

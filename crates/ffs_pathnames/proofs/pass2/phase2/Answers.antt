@@ -25,9 +25,10 @@ before_tree g c b t h =
     let found = c.in_ok-survey.ensures in
     let clear = c.clear_passed.ensures in
     let claims = claims_untouched v b _ _ found.leaves.same h in
-    before_first v _ b _ _ (ap (λ d. d.contents) found.leaves.read ∙ t) claims (found.survey b t h)
+    before_first v _ b _ _ (ap (λ d. d.contents) found.leaves.read ∙ t) claims (found.survey b t h).survey
     (clear.ready v _ found.leaves.ready).made clear
-    (calm_silent v b _ c.args.geometry.now.sound found.leaves.ready.made claims (found.survey b t h) (found.calm b t h))
+    (calm_silent v b _ c.args.geometry.now.sound found.leaves.ready.made claims (found.survey b t h).survey
+    (found.survey b t h).calm)
 
 -- the phase ends as the check of the tree does
 ends_by : (v : Layout) (d d' : Device) (old w new : Workspace) (before after : Progress) (r : Result Root RunFault) →
@@ -83,7 +84,7 @@ returns-clause-leaves g c =
     _ _ c.check_tree.result
     (λ b k. before_tree g (goal.at.returns-clause-leaves g c).After-check_tree b k.0 k.1)
     (λ b k starts. references_on v b _ _ (tree.references ∙ c.clear_passed.ensures.survey.references)
-    (c.in_ok-survey.ensures.references b k.0 k.1 starts)) c.check_tree.ensures.root tree.holds
+    ((c.in_ok-survey.ensures.survey b k.0 k.1).references starts)) c.check_tree.ensures.root tree.holds
 
 pub check_tree-requires : goal.check_tree-requires
 check_tree-requires g c = c.clear_passed.ensures.ready _ _ c.in_ok-survey.ensures.leaves.ready
