@@ -63,7 +63,12 @@ returns-then-is_spent g c =
         unlimited = λ none. absurd (none numbered);
         most = λ _. grind (arith, after);
       };
-      leaves = grind (arith, after, read_over, can_read_same);
+      leaves = record {
+        geometry = c.next-offset.ensures.leaves.geometry;
+        ready = grind (arith, after, read_over, can_read_same);
+        read = grind (arith, after);
+        others = refl;
+      };
     }
 
 -- none was refused
