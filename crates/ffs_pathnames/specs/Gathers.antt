@@ -121,14 +121,14 @@ pub record AreAsLong (w : Workspace) : Type 0 where
   pub queue : vec_len w.queue ≡ vec_len w.kinds
   pub few : vec_len w.kinds < 2 ^ 31
 
--- of calls that gather what messages show, and only read the image
+-- what calls gather that messages show; they only read the image
 module _ {S : Type 0} (I : Ghosts S) (v : Layout) (old new : S) (w w' : Workspace) where
-  -- with n reads at most, for paths, too
+  -- a call makes n reads at most, for paths, too
   abbrev pub ReadsForPaths : {T : Type 0} → ℕ → KeptParent → Result T ImageFault → Type 0
   ReadsForPaths n s result =
       LimitedPathLeaves n v (I.device old) (I.device new) (I.reads old) (I.reads new) w w' s result
 
-  -- the attributes of the inode x, in one read
+  -- the attributes of the inode x are read, in one read at most
   pub record ReadsAttr (x : ℕ) (result : Result Attr ImageFault) : Type 0 where
     pub attr : IfOk result (λ a. ForContents (I.device old).contents (λ b. a ≡ attributes (volume_of v b) x))
     pub reads : OnlyReadsFew 1 v (I.device old) (I.device new) (I.reads old) (I.reads new) w w' result
@@ -161,7 +161,8 @@ module _ {S : Type 0} (I : Ghosts S) (v : Layout) (old new : S) (w w' : Workspac
     pub same : (t'.begun ≡ t.begun) × (t'.paths ≡ t.paths)
     pub leaves : ReadsForPaths path_reads t'.kept_parent result
 
-  -- all that the messages of a verdict on an entry show but paths of directories, in one read
+  -- all that messages of a verdict on an entry show but paths of directories, in one read at most; the
+  -- path of the entry's directory stays
   pub record GathersInode (e : Entry) (verdict : Verdict) (p p' : EntryPaths) (result : Result Attr ImageFault)
       : Type 0 where
     pub enough : IfOk result (λ a. ForContents (I.device old).contents (λ b. (dir : ℕ) (path : List ℕ)
@@ -171,7 +172,7 @@ module _ {S : Type 0} (I : Ghosts S) (v : Layout) (old new : S) (w w' : Workspac
     pub same : p'.directory ≡ p.directory
     pub reads : OnlyReadsFew 1 v (I.device old) (I.device new) (I.reads old) (I.reads new) w w' result
 
-  -- all that they show, where the path of the entry's directory is made
+  -- all that messages of a verdict on an entry show, where the path of its directory is made; that stays
   pub record GathersNamed (e : Entry) (verdict : Verdict) (t t' : EntryTexts) (result : Result Attr ImageFault)
       : Type 0 where
     pub enough : IfOk result (λ a. (dir : ℕ) → ForBytes (DirectoryContext v (I.device old).contents w dir) (λ b.
@@ -180,7 +181,8 @@ module _ {S : Type 0} (I : Ghosts S) (v : Layout) (old new : S) (w w' : Workspac
     pub same : (t'.begun ≡ t.begun) × (t'.paths.directory ≡ t.paths.directory)
     pub leaves : ReadsForPaths (path_reads + 1) t'.kept_parent result
 
-  -- all that they show; the path that is begun, if any, still is that of the entry's directory
+  -- all that messages of a verdict on an entry show; the path that is begun, if any, still is that of its
+  -- directory
   pub record GathersEntry (e : DirectoryEntry) (verdict : Verdict) (t t' : EntryTexts) (result : Result Attr ImageFault)
       : Type 0 where
     pub enough : IfOk result (λ a. ForBytes (KnowsPath v (I.device old).contents w e.dir t) (λ b.

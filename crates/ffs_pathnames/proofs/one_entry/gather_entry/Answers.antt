@@ -41,8 +41,8 @@ returns g c =
       leaves = record {
         path = record {
           reads = reads_then read left.path.reads;
-          counted = λ b k. few_more (few_then (begun.makes.leaves.counted b k) (left.path.counted b (places_on b read k)))
-              (omega arith);
+          counted = λ b k. few_more (few_then (begun.makes.leaves.counted b k)
+              (left.path.counted b (places_on b read k))) (omega arith);
           kept_parent = left.path.kept_parent;
         };
         most = λ numbered. omega (arith, begun.most numbered, left.most numbered);

@@ -19,7 +19,8 @@ returns g c =
     let begun = c.in_ok-begin_paths.ensures in
     record {
       attr = if_ok c.read_attr.result _ _
-          (λ a h b k. h b (ap (λ d. d.contents) begun.makes.leaves.reads.read ∙ k.gives_bytes)) c.read_attr.ensures.attr;
+          (λ a h b k. h b (ap (λ d. d.contents) begun.makes.leaves.reads.read ∙ k.gives_bytes))
+          c.read_attr.ensures.attr;
       text = on_all c.read_attr.result _
           (λ b k. c.put.ensures (graph_of (volume_of c.args.geometry.now.layout b)) c.args.dir (begun.makes.made b k));
       path = begun.makes.path;

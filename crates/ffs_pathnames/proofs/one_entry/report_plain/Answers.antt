@@ -48,9 +48,10 @@ returns-in_err-attr-clause-lines g c =
 pub returns-in_err-say_verdict-clause-lines : goal.returns-in_err-say_verdict-clause-lines
 returns-in_err-say_verdict-clause-lines g c =
     let at = goal.at.returns-in_err-say_verdict-clause-lines g c in
-    let p = err_from_is_err_and c.from_residual-in_err-say_verdict.result c.from_residual-in_err-say_verdict.ensures.1 in
-    rw (p.1, p.2) (entry_stopped c.gather_entry.ensures.path c.in_ok-attr.ensures.leaves (some_line g at.After-gather_entry)
-    _ (verdict_some c.verdict_of-verdict.result _ _ _ _ (sym c.is_silent.ensures ∙ c.if-is_silent.false))
+    let p = err_from_is_err_and c.from_residual-in_err-say_verdict.result
+    c.from_residual-in_err-say_verdict.ensures.1 in
+    rw (p.1, p.2) (entry_stopped c.gather_entry.ensures.path c.in_ok-attr.ensures.leaves
+    (some_line g at.After-gather_entry) _ (verdict_some c.verdict_of-verdict.result _ _ _ _ (sym c.is_silent.ensures ∙ c.if-is_silent.false))
     (lines_are g at.After-say_verdict) c.in_err-say_verdict.ensures)
 
 pub returns-clause-lines : goal.returns-clause-lines
