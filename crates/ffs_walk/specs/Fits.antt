@@ -15,7 +15,7 @@ abbrev pub IsSpent : Frame → Type 0
 IsSpent f = (f.next ≡ f.used) × (f.unread ≡ false)
 
 -- whether a word is left in the frame: where none is, nothing is
-pub record TellsLeft (f : Frame) (answer : Bool) : Type 0 where
+pub record IsWordLeft (f : Frame) (answer : Bool) : Type 0 where
   pub left : IsTrue answer ↔ (f.next < f.used)
   pub spent : answer ≡ false → IsSpent f
 

@@ -35,7 +35,7 @@ pub enum Item {
 }
 
 impl Frame {
-    ghost use Rattle.ffs_walk.specs.{Fits.{HasNoWords, TellsLeft}, Frames.{CanTake, TakesItem}};
+    ghost use Rattle.ffs_walk.specs.{Fits.{HasNoWords, IsWordLeft}, Frames.{CanTake, TakesItem}};
     ghost use Rattle.ffs_walk.specs.Skips.{CanSkip, PassesZeros};
 
     /// A frame of no words, in no block.
@@ -53,7 +53,7 @@ impl Frame {
 
     /// Whether an item is left.
     pub fn is_left(&self) -> bool
-        ensures { TellsLeft self.now result }
+        ensures { IsWordLeft self.now result }
     {
         self.next < self.used
     }
