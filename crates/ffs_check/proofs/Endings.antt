@@ -12,8 +12,7 @@ use Rattle.ffs_report.{specs.Progress.{Said, Stopped, starts}, proofs.Reports.{h
 use Rattle.ffs_report.specs.declared.fault.RunFault.{RunFault, TheVariants.{Read, Out}}
 use Rattle.ffs_pathnames.specs.{declared.pass2.Root.Root, RootAnswers.is_go}
 use Rattle.ffs_check.specs.PhaseEnds.{EndsAs, IsEndByRoot, PhasesEnd, ReportsOrStopsEarly, SaysPhases, SaysReadFault}
-use Rattle.ffs_check.specs.Ends.{BrokeOffIn, Printed}
-use Rattle.ffs_check.proofs.EndLaws.{ends_printed, line_after}
+use Rattle.ffs_check.{specs.Ends.{BrokeOffIn, Printed}, proofs.EndLaws.{ends_printed, line_after}}
 
 -- what an image's bytes determine, and nothing for an image that doesn't give them
 abbrev pub at_contents : Option (List ℕ) → (List ℕ → List Message) → List Message

@@ -1,8 +1,7 @@
 -- What a check takes of its memory, after an accepted superblock.
 use Rattle.std.proofs.Common.{◌≡◌, arith, inl, inr, sym, subst, ℕ, Bool, true, false, List, Option, Ok, Err}
 use Rattle.ffs_image.specs.Device.{Device, ForContents}
-use Rattle.ffs_memory.specs.{Account.{Account, unused}, System.account_of}
-use Rattle.ffs_memory.specs.declared.system.SystemMemory.{SystemMemory}
+use Rattle.ffs_memory.specs.{Account.{Account, unused}, System.account_of, declared.system.SystemMemory.SystemMemory}
 use Rattle.ffs_volume.specs.declared.End.{End, TheVariants.{Consistent, Defects, RootStop, WriteFault, NoMemory}}
 use Rattle.ffs_volume.specs.{Disk.{Outcome.outcome, Superblock.Superblock}, Report.Whole.end_by}
 use Rattle.ffs_report.specs.Progress.{Progress}

@@ -5,8 +5,7 @@ use Rattle.ffs_image.specs.Device.{Device}
 use Rattle.ffs_volume.specs.{declared.Layout.Layout, Laws.Geometry.IsAcceptedLayout, Messages.Kinds.Message}
 use Rattle.ffs_volume.specs.{Disk.Superblock.Superblock, Report.Reads.{line_reads, opening_reads, phase_reads}}
 use Rattle.ffs_volume.specs.Report.Reads.{reads_limit}
-use Rattle.ffs_report.specs.{Known.ForBytes, Paid.Paid, Progress.Progress, Sink.Sink}
-use Rattle.ffs_report.specs.declared.fault.RunFault.{RunFault}
+use Rattle.ffs_report.specs.{Known.ForBytes, Paid.Paid, Progress.Progress, Sink.Sink, declared.fault.RunFault.RunFault}
 use Rattle.ffs_workspace.specs.Places.{AreChunksNumbered}
 use Rattle.ffs_check.specs.{Ends.{BrokeOffIn, Printed}, ReadsWithin.{PhasesReadWithin, ReadsWithin}}
 

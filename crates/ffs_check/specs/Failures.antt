@@ -4,9 +4,8 @@ use Rattle.std.specs.Prelude.{◌≡◌, ◌⊎◌, ℕ, Option}
 use Rattle.ffs_image.specs.Device.{Device, Rose}
 use Rattle.ffs_report.specs.Sink.{Sink}
 use Rattle.ffs_layout.specs.Super.{IsUnreadable}
-use Rattle.ffs_volume.specs.declared.SuperFault.TheVariants.{CannotRead}
-use Rattle.ffs_volume.specs.declared.End.{End, TheVariants.{Consistent, Defects, Refused, RootStop, ReadFault}}
-use Rattle.ffs_volume.specs.declared.End.TheVariants.{WriteFault, NoMemory}
+use Rattle.ffs_volume.specs.declared.{SuperFault.TheVariants.CannotRead, End.{End, TheVariants.{Consistent, Defects}}}
+use Rattle.ffs_volume.specs.declared.End.TheVariants.{Refused, RootStop, ReadFault, WriteFault, NoMemory}
 
 -- what an end says of the counts of failed reads before and after
 abbrev pub ReadsFailed : End → ℕ → ℕ → Type 0

@@ -1,5 +1,6 @@
--- How the phases of a check end. `knows` is what is known of the image's bytes, and `s` the
--- superblock: with it the bytes determine the text, and whether the check continues after the root.
+-- How the phases of a check end, how often they read, and what they leave. `knows` is what is known of the
+-- image's bytes, and `s` the superblock: with it the bytes determine the text, and whether the check
+-- continues after the root.
 use Rattle.std.specs.Prelude.{◌≡◌, ◌⊎◌, ◌<◌, ℕ, Bool, false, ◌||◌, List, [], ◌∷◌, ◌++◌, length, Result, Ok, Err, IfOk}
 use Rattle.ffs_image.specs.Device.{Device, Faulted}
 use Rattle.ffs_volume.specs.declared.End.{End, TheVariants.{ReadFault, WriteFault, NoMemory}}
@@ -38,8 +39,8 @@ pub record HaveRun (s : Superblock) (d d' : Device) (w : Workspace) (old new : P
   pub goes : IfOk result (λ root. ForBytes (WithFresh s.layout d w)
       (λ bytes. is_go root ≡ continues_after_root (volume_of s.layout bytes)))
 
--- the phases have run, by so many reads of an image whose bytes are known, and of any image for the
--- messages that were begun; the workspace is ready for the image as it is now
+-- the phases have run, with at most so many reads as an image of these bytes asks for, and as any image
+-- does for the messages that were begun; the workspace is ready for the image as it is now
 pub record RunsPhases (s : Superblock) (d d' : Device) (w w' : Workspace) (old new : Progress) (before after : ℕ)
     (result : Result Root RunFault) : Type 0 where
   pub ran : HaveRun s d d' w old new result

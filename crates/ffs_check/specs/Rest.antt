@@ -1,5 +1,5 @@
--- The parts of the text after the opening, as the calls that report them are nested, and what is
--- known of the image's bytes there.
+-- The parts of the text after the opening, as the calls that report them are nested, what is known of
+-- the image's bytes there, and what phase 1b does.
 use Rattle.std.specs.Prelude.{ℕ, ◌≤◌, ◌+◌, Bool, if◌then◌else◌, List, [], ◌∷◌, ◌++◌, map, Result, OnOk}
 use Rattle.ffs_image.specs.Device.{Device}
 use Rattle.ffs_report.specs.{Known.{ForBytes, IsContents}, PhaseOutcome.PhaseOutcome, Progress.Progress}
@@ -65,7 +65,7 @@ abbrev pub IsAfterPhase1 : Layout → Device → Workspace → List ℕ → Type
 IsAfterPhase1 v d w bytes = IsContents d.contents bytes × IsLeftByPhase1 v bytes w
 
 -- phase 1b, or nothing where no fragment has a DUP line: its text, what the workspace holds then, no
--- more reads than of a sweep, and the workspace is ready for the next phase
+-- more reads than those of a sweep, and the workspace is ready for the next phase
 pub record Rescans (v : Layout) (d d' : Device) (w w' : Workspace) (old new : Progress) (before after : ℕ)
     (result : Result (Unit {0}) RunFault) : Type 0 where
   pub prints : PhaseOutcome (IsAfterPhase1 v d w) (λ bytes. rescan_lines v bytes) d d' old new result

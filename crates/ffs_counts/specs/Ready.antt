@@ -1,5 +1,5 @@
--- What the check of references needs of a workspace, which inodes it passes over, and what it leaves
--- at another.
+-- What the check of references needs of a workspace, which inodes it passes over, and what it reports and
+-- leaves at another.
 use Rattle.std.specs.Prelude.{ℕ, ◌≡◌, ◌+◌, ◌<◌, ◌≤◌, List, length, vec_len, true, false, slice_index, map, Result}
 use Rattle.ffs_image.specs.Device.{Device}
 use Rattle.ffs_volume.specs.{declared.Layout.Layout, Blocks.Inodes.is_allocated, Encodings.Kinds.class_of_kind}

@@ -46,8 +46,8 @@ pub record CanReadGroup (v : Layout) (d : Device) (w : Workspace) (c : ℕ) (rig
   pub counts : AreCounts v (free_in (bits_of w.used) v.size) (class_in w.kinds.items) c right
   pub ready : IsReady v d w
 
--- the block of group c and its summary record were read, each once at most, what is found in them is
--- reported as in what the image gives, and only windows have changed
+-- the block of group c and its summary record were read, each once at most, what is found in them gives
+-- the lines of the group by the image's bytes, and only windows have changed
 pub record GroupIsRead (v : Layout) (d d' : Device) (before after : ℕ) (old new : Workspace) (c : ℕ)
     (result : Result GroupFindings ImageFault) : Type 0 where
   pub found : IfOk result (λ f. ForContents d.contents

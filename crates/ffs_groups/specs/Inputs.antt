@@ -17,18 +17,18 @@ pub record HasMaps (v : Layout) (mapped : ℕ) (listed : List ℕ) (c : ℕ) : T
   pub fragments : HasFragments v mapped c
   pub inodes : HasInodes v listed c
 
--- the map of group c that is compared with the fragments lies in a group block of `size` bytes, from a
--- place on
+-- a map of the volume's fragments can be compared with that of group c, which lies in a group block of
+-- `size` bytes from a place on
 pub record HasFragmentMap (v : Layout) (mapped c size place : ℕ) : Type 0 where
   pub fragments : HasFragments v mapped c
   pub inside : place + div_ceil v.fpg 8 ≤ size
 
--- so does the map that is compared with the kinds
+-- and the kinds of the inodes with the other map of group c, which lies so too
 pub record HasInodeMap (v : Layout) (listed : List ℕ) (c size place : ℕ) : Type 0 where
   pub inodes : HasInodes v listed c
   pub inside : place + div_ceil v.ipg 8 ≤ size
 
--- group c has n fragments, no more than groups have
+-- group c has n fragments, at most as many as a group may have
 pub record IsGroupSize (v : Layout) (c n : ℕ) : Type 0 where
   pub value : n ≡ group_size v c
   pub within : n ≤ v.fpg

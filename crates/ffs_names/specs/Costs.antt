@@ -45,7 +45,7 @@ pub record BeginsReading (g : Geometry) (inode : Inode) (cut : ℕ) (c : Chunks)
   pub begins : BeginsAt g.layout inode cut c
   pub reads : BeginsReads g c
 
--- it is one of that directory, if this is the inode's class
+-- a reading begins, and if this is the inode's class, it is one of that directory
 pub record BeginsByClass (g : Geometry) (inode : Inode) (class : Class) (cut : ℕ) (c : Chunks) : Type 0 where
   pub begins : class ≡ class_of g.layout inode → BeginsAt g.layout inode cut c
   pub reads : BeginsReads g c

@@ -1,4 +1,4 @@
--- Where the current Run lies.
+-- Where the current Run lies, and one that is to be the current Run.
 use Rattle.std.specs.Prelude.{◌≡◌, ℕ, ◌+◌, ◌*◌, ◌%◌, ◌<◌, ◌≤◌, ◌^◌, IsTrue}
 use Rattle.ffs_volume.specs.{declared.{constants.TheConstants.DIRBLKSIZ, Layout.Layout}, Disk.Areas.is_run_in_range}
 use Rattle.ffs_names.specs.declared.run_cursor.RunCursor.{RunCursor}

@@ -49,8 +49,9 @@ pub record LeavesChunks {T : Type 0} (old new : Chunks) (d d' : Device) (blocks 
   pub ready : CanReadChunks old.walk.geometry.layout d' blocks chunk
   pub read : ReadAfter d d' result
 
--- what a call leaves that gives the next chunk. One chunk fewer may come then, none after a fault, and
--- where none may come nothing is read
+-- what a call leaves that gives the next chunk, if there is one: where that is in the image, how many Runs
+-- were looked at, and how many chunks may still come. These are one fewer after a chunk and none after a
+-- fault, and where none may come nothing is read
 pub record LeavesNext {S : Type 0} (I : Ghosts S) (old new : Chunks) (image image' : S) (blocks : Blocks) (w : Window)
     (chunk : List ℕ) (result : Result (Option ℕ) ImageFault) : Type 0 where
   pub geometry : new.walk.geometry ≡ old.walk.geometry
@@ -63,7 +64,8 @@ pub record LeavesNext {S : Type 0} (I : Ghosts S) (old new : Chunks) (image imag
       (λ _. new.budget ≡ 0)
   pub over : old.budget ≡ 0 → (result ≡ Ok None) × (I.reads image' ≤ I.reads image)
 
--- what a call leaves that gives the next entry. Fewer may come then
+-- what a call leaves that gives the next entry, if there is one: that is in a chunk of the image, and fewer
+-- may come after it
 pub record LeavesEntries {S : Type 0} (I : Ghosts S) (old new : Entries) (image image' : S) (blocks : Blocks) (w : Window)
     (result : Result (Option EntryHead) ImageFault) : Type 0 where
   pub geometry : new.chunks.walk.geometry ≡ old.chunks.walk.geometry

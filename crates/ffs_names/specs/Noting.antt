@@ -75,7 +75,8 @@ pub record NotesChildren (parents old new : List ℕ) (p : ℕ) : Type 0 where
   pub others : (x : ℕ) → is_child parents p x ≡ false → place_in (slice_index new x) ≡ place_in (slice_index old x)
   pub to_read : KeepsToRead old new
 
--- what a call notes of the entries es of the directory p, and how often it reads the image for them
+-- the places of the entries of the directory p are noted, where no read failed, and the image was read at
+-- most as often as the directory asks for
 pub record NotesDirectory {T : Type 0} (v : Layout) (b : List ℕ) (old new : Workspace) (p reads reads' : ℕ)
     (result : Result T ImageFault) : Type 0 where
   pub noted : OnOk result (NotesEntries v b old.parents.items old.queue.items new.queue.items p
@@ -106,7 +107,8 @@ pub record HoldsPlaces (v : Layout) (b : List ℕ) (w : Workspace) : Type 0 wher
   pub noted : AreChunksNumbered v → AreNoted v b w.queue.items
 
 -- what a call leaves that notes the chunks of p that are to come: the other windows are as they were,
--- only children of p are noted, in as many words, and the image is read as often as the reading may
+-- only children of p are noted, in as many words, and the image is read at most as often as these chunks
+-- ask for
 pub record LeavesNoted {S T : Type 0} (I : Ghosts S) (old new : Chunks) (image image' : S) (before after : Windows)
     (parents words words' : Vec ℕ Global) (p : ℕ) (result : Result T ImageFault) : Type 0 where
   pub geometry : new.walk.geometry ≡ old.walk.geometry
@@ -127,7 +129,8 @@ pub record LeavesChildren {T : Type 0} (v : Layout) (d d' : Device) (old new : W
   pub read : ReadAfter d d' result
   pub children : NotesChildren old.parents.items old.queue.items new.queue.items p
 
--- what a call leaves that notes all places there: no word is due then
+-- what a call leaves that notes all places: only the windows and `queue` change, the workspace is ready, the
+-- image was only read, and no word is due where no read failed
 pub record LeavesPlaces {T : Type 0} (v : Layout) (d d' : Device) (old new : Workspace) (result : Result T ImageFault) :
     Type 0 where
   pub lists : new ≡ record old { windows = new.windows; queue = new.queue }

@@ -43,7 +43,7 @@ pub record BeginsIn (g : Geometry) (inode : Inode) (cut : ℕ) (r : Entries) : T
   pub begins : BeginsDirectory g.layout inode cut r
   pub geometry : r.chunks.walk.geometry ≡ g
 
--- it does, if this is the inode's class
+-- it begins in a volume of this geometry, and if this is the inode's class, it is one of that directory
 pub record RestartsIn (g : Geometry) (inode : Inode) (class : Class) (cut : ℕ) (r : Entries) : Type 0 where
   pub begins : class ≡ class_of g.layout inode → BeginsDirectory g.layout inode cut r
   pub geometry : r.chunks.walk.geometry ≡ g
@@ -83,7 +83,7 @@ pub record IsSameChunk (old new : Entries) : Type 0 where
   pub right_so_far : new.right_so_far ≡ old.right_so_far
   pub fills : fills new ≡ fills old
 
--- the next entry of the current chunk was taken, if one is left, and what it leaves is the same
+-- the next entry of the current chunk was taken, if one is left, and the rest of the reading is as it was
 pub record TakesFromChunk (old new : Entries) (answer : Option EntryHead) : Type 0 where
   pub taken : MatchOption answer (IsChunkOver old new) (TakesEntry old new)
   pub same : IsSameChunk old new

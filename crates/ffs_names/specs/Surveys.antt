@@ -1,4 +1,4 @@
--- What a survey leaves as it was, and which directories it flags.
+-- What a survey finds, which directories it flags, and what it leaves as it was.
 use Rattle.std.specs.Prelude.{◌≡◌, ℕ, List, Result}
 use Rattle.ffs_image.specs.{Device.Device, Reads.ReadAfter, declared.image.ImageFault.ImageFault}
 use Rattle.ffs_volume.specs.{declared.Layout.Layout, Directories.{Roles.roled_entries, Volumes.volume_of}}
@@ -29,8 +29,8 @@ pub record FlagsCalm (v : Layout) (b : List ℕ) (w : Workspace) : Type 0 where
   pub calm : AreCalm w.kinds.items w.marked.items w.reached.items w.parents.items (roled_entries (volume_of v b))
       (is_right_directory (volume_of v b)) w.flags.items
 
--- what a survey finds is held, references are counted on from where they start, and only calm
--- directories have a flag
+-- what a survey finds is held, references are counted on from where they start, if the starts were held,
+-- and only calm directories have a flag
 pub record IsSurveyed (v : Layout) (b : List ℕ) (old new : Workspace) : Type 0 where
   pub survey : HoldsSurvey v b new
   pub references : HoldsStarts v b old → HoldsReferences v b new

@@ -15,12 +15,11 @@ use Rattle.ffs_names.specs.Surveys.{IsUntouched}
 use Rattle.ffs_workspace.specs.{declared.workspace.Workspace.Workspace, Lengths.{IsFor, inodes_of}, Holds.bool_at}
 use Rattle.ffs_workspace.specs.{Holds.{HoldsClaims, HoldsReferences, HoldsSurvey}, Leaves.LeavesSurvey}
 use Rattle.ffs_workspace.proofs.{KindLaws.{reports_at, suspect_is}, Leaving.{claims_left, survey_left, leaves_all}}
-use Rattle.ffs_pathnames.specs.{Gathers.passed_of, DirectoryContext.DirectoryContext}
-use Rattle.ffs_pathnames.specs.Before.{IsNonePassed, IsBefore, IsBeforeNoted, is_checked, root_reported}
-use Rattle.ffs_pathnames.specs.{Calm.IsSilentDirectory, PassedRight.AreRightBefore, Stamps.KeepPlaces}
-use Rattle.ffs_pathnames.proofs.{Begun.{directory_is, quiet_parts}, StampLaws.{noted_kept, stamps_length}}
-use Rattle.ffs_pathnames.proofs.{BetweenLaws.{other_next, silent_next, silent_quiet}, EmptyLaws.{looked_is, looked_dir}}
-use Rattle.ffs_pathnames.proofs.EmptyLaws.{names_none}
+use Rattle.ffs_pathnames.specs.{Gathers.passed_of, DirectoryContext.DirectoryContext, Before.{IsNonePassed, IsBefore}}
+use Rattle.ffs_pathnames.specs.{Before.{IsBeforeNoted, is_checked, root_reported}, Calm.IsSilentDirectory}
+use Rattle.ffs_pathnames.{specs.{PassedRight.AreRightBefore, Stamps.KeepPlaces}, proofs.Begun.directory_is}
+use Rattle.ffs_pathnames.proofs.{Begun.quiet_parts, StampLaws.{noted_kept, stamps_length}, BetweenLaws.other_next}
+use Rattle.ffs_pathnames.proofs.{BetweenLaws.{silent_next, silent_quiet}, EmptyLaws.{looked_is, looked_dir, names_none}}
 use Rattle.ffs_survey.specs.Survey.{suspect_at}
 
 -- a fact of every answer, and of each value that is answered

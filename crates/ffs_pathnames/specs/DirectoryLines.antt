@@ -41,7 +41,8 @@ pub record ReportsDirectory {T : Type 0} (v : Layout) (d d' : Device) (w w' : Wo
 -- these lines of all directories are said, by what is known of the bytes. Each directory's own
 -- blocks are read thrice at most, as its place is noted first, and the rest is read for the lines; of
 -- any image for no more than the messages that were begun. Left are the image, but for a read that
--- failed, what the block check and the survey found, and how often inodes are referred to
+-- failed, a workspace that is ready, and how often inodes are referred to; where nothing failed, also
+-- what the block check and the survey found, by what is known of the bytes
 pub record ReportsTree {T : Type 0} (v : Layout) (d d' : Device) (w w' : Workspace)
     (lines : List ℕ → List TreeMessage) (said said' : Progress) (count count' : ℕ) (result : Result T RunFault) :
     Type 0 where

@@ -1,4 +1,4 @@
--- What of a workspace stays, and what is found of a directory.
+-- What a look at a directory finds, how often it reads for it, and what of a workspace stays.
 use Rattle.std.specs.{Prelude.{◌≡◌, ◌+◌, ◌≤◌, ℕ, ◌==◌, IfOk, List, [], Result}, List.find}
 use Rattle.ffs_image.specs.{Device.Device, Reads.ReadAfter, declared.image.ImageFault.ImageFault}
 use Rattle.ffs_report.specs.Known.{ForBytes}
@@ -41,7 +41,8 @@ pub record IsExamined (v : Layout) (b : List ℕ) (d : ℕ) (old : Workspace) (e
   pub inode : e.inode ≡ inode_of v b d
   pub look : IsLookedAt v b d old e.look start new
 
--- a look at a directory finds this, by what is known of the bytes, and makes `cost` reads at most
+-- a look at a directory finds what `finds` says, by what is known of the bytes, and makes `cost` reads at
+-- most; it leaves all but which words are due
 pub record Examines {T : Type 0} (v : Layout) (d d' : Device) (old new : Workspace) (knows : List ℕ → Type 0)
     (cost : List ℕ → ℕ) (finds : T → List ℕ → Type 0) (count count' : ℕ) (result : Result T ImageFault) :
     Type 0 where

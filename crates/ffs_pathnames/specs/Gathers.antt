@@ -1,4 +1,4 @@
--- What is gathered for the messages on an entry, and by which calls.
+-- What is gathered for the messages on an entry and on a directory.
 use Rattle.std.specs.Prelude.{◌≡◌, ℕ, ◌<◌, ◌^◌, ◌==◌, Bool, true, false, not, ◌||◌, ◌&&◌, IsTrue, List, length, vec_len}
 use Rattle.std.specs.Prelude.{◌+◌, ◌≤◌, Result, IfOk, OnOk}
 use Rattle.ffs_image.specs.{Device.ForContents, declared.image.{Image.Ghosts, ImageFault.ImageFault}}
@@ -107,7 +107,8 @@ pub record IsVerdict (vol : Volume) (s : ℕ) (m : PassedNames) (e : Entry) (ver
       ≡ verdict_reported verdict e.number (attributes vol e.number) (entry_path (graph_of vol) s e.name)
       (dir_path (graph_of vol) e.number)
 
--- a verdict by what the workspace holds, in the volume of whose bytes that is right
+-- this is the verdict on an entry, by the bytes of any volume for which the workspace holds what is right.
+-- Where it asks for attributes, the inode is there
 pub record IsVerdictIn (w : Workspace) (s : ℕ) (e : Entry) (answer : Verdict) : Type 0 where
   pub below : IsTrue (asks_attr answer) → e.number < vec_len w.kinds
   pub verdict : (v : Layout) (b : List ℕ) → IsFor v w → HoldsClaims v b w → HoldsSurvey v b w
@@ -123,7 +124,7 @@ pub record AreAsLong (w : Workspace) : Type 0 where
 
 -- what calls gather that messages show; they only read the image
 module _ {S : Type 0} (I : Ghosts S) (v : Layout) (old new : S) (w w' : Workspace) where
-  -- a call makes n reads at most, for paths, too
+  -- what calls leave that make at most n reads, paths among them, if each chunk has a number
   abbrev pub ReadsForPaths : {T : Type 0} → ℕ → KeptParent → Result T ImageFault → Type 0
   ReadsForPaths n s result =
       LimitedPathLeaves n v (I.device old) (I.device new) (I.reads old) (I.reads new) w w' s result
@@ -141,7 +142,7 @@ module _ {S : Type 0} (I : Ghosts S) (v : Layout) (old new : S) (w w' : Workspac
     pub leaves : PathLeaves path_reads v (I.device old) (I.device new) (I.reads old) (I.reads new) w w' t'.kept_parent
         result
 
-  -- the same, with no more reads of any image
+  -- the same, with at most `path_reads` reads of any image, if each chunk has a number
   pub record MakesPathLimited {T : Type 0} (x : ℕ) (t t' : EntryTexts) (result : Result T ImageFault) : Type 0 where
     pub makes : MakesPath x t t' result
     pub most : AreChunksNumbered v → I.reads new ≤ I.reads old + path_reads
@@ -173,7 +174,7 @@ module _ {S : Type 0} (I : Ghosts S) (v : Layout) (old new : S) (w w' : Workspac
     pub reads : OnlyReadsFew 1 v (I.device old) (I.device new) (I.reads old) (I.reads new) w w' result
 
   -- all that messages of a verdict on an entry show, where the path of its directory is made; that stays
-  pub record GathersNamed (e : Entry) (verdict : Verdict) (t t' : EntryTexts) (result : Result Attr ImageFault)
+  pub record GathersWithPath (e : Entry) (verdict : Verdict) (t t' : EntryTexts) (result : Result Attr ImageFault)
       : Type 0 where
     pub enough : IfOk result (λ a. (dir : ℕ) → ForBytes (DirectoryContext v (I.device old).contents w dir) (λ b.
         IsPathOf (graph_of (volume_of v b)) dir t.paths.directory

@@ -1,10 +1,9 @@
 -- What a look at an entry, and at those of a chunk, finds.
 use Rattle.std.specs.{Prelude.{◌≡◌, ℕ, Bool, List}, declared.{alloc.Global.Global, vec.Vec.Vec}}
-use Rattle.ffs_volume.specs.{declared.Order.Order, Directories.Entries.{entries_of, is_sound}}
-use Rattle.ffs_volume.specs.Directories.Roles.{RoledEntry, Volume, roled_from}
-use Rattle.ffs_pathnames.specs.declared.{look.ChunkLook.ChunkLook, inodes.Inodes.Inodes}
-use Rattle.ffs_pathnames.specs.{PassedNames.{are_quiet, after_look, after_looks}, Sees.{Sees, stamps_in}}
-use Rattle.ffs_pathnames.specs.Stamps.{KeepsWords}
+use Rattle.ffs_volume.specs.{declared.Order.Order, Directories.{Entries.{entries_of, is_sound}, Roles.RoledEntry}}
+use Rattle.ffs_volume.specs.Directories.Roles.{Volume, roled_from}
+use Rattle.ffs_pathnames.specs.{declared.{look.ChunkLook.ChunkLook, inodes.Inodes.Inodes}, PassedNames.are_quiet}
+use Rattle.ffs_pathnames.specs.{PassedNames.{after_look, after_looks}, Sees.{Sees, stamps_in}, Stamps.KeepsWords}
 
 -- the inode that an entry names is stamped where it belongs to the directory d, by the words before
 -- and after, which note the same places
@@ -14,7 +13,8 @@ pub record StampsEntry (inodes : Inodes) (d : ℕ) (e : RoledEntry) (old new : V
   pub words : KeepsWords old new
 
 -- of a chunk's entries: whether nothing may be reported of them, and whether they fill it; and each
--- inode that belongs to the directory d is stamped, by the words before and after
+-- inode that belongs to the directory d is stamped, by the words before and after, which note the same
+-- places
 pub record IsChunkLook (inodes : Inodes) (d : ℕ) (order : Order) (first : Bool) (chunk : List ℕ)
     (f : ChunkLook) (old new : Vec ℕ Global) : Type 0 where
   pub quiet : (vol : Volume) → Sees vol inodes

@@ -2,8 +2,7 @@
 use Rattle.std.specs.Prelude.{List, ◌++◌}
 use Rattle.ffs_volume.specs.Messages.Kinds.{TreeMessage, reported}
 use Rattle.ffs_report.specs.Lines.{directory_message, dot_message, entry_message}
-use Rattle.ffs_pathnames.specs.declared.header.NameLine.{NameLine, TheVariants.{Directory, Dot, Entry}}
-use Rattle.ffs_pathnames.specs.declared.header.LineIf.{LineIf}
+use Rattle.ffs_pathnames.specs.declared.header.{NameLine.{NameLine, TheVariants.{Directory, Dot, Entry}}, LineIf.LineIf}
 
 abbrev pub name_message : NameLine → TreeMessage
 name_message (Directory line) = directory_message line

@@ -38,7 +38,8 @@ pub record NextLeaves (old new : Chunks) (d d' : Device) (windows windows' : Win
   pub read : ReadAfter d d' result
   pub others : windows' ≡ record windows { blocks = windows'.blocks; chunk = windows'.chunk }
 
--- a reading of the next chunk gives one, takes reads of those that are left, and leaves the windows
+-- a reading of the next chunk gives it, or none, takes reads of those that are left, and leaves the other
+-- windows as they were
 pub record ReadsNext (d d' : Device) (windows windows' : Windows) (old new : Chunks) (bytes : List ℕ)
     (count count' left left' : ℕ) (result : Result (Option ℕ) ImageFault) : Type 0 where
   pub chunk : IfOk result (GivesNext d.contents windows old new bytes left)

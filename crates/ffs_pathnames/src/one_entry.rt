@@ -4,7 +4,7 @@ ghost use Rattle.ffs_volume.specs.{declared.Layout.Layout, Directories.PathnameC
 ghost use Rattle.ffs_pathnames.specs.{EntryLines.ReportsEntries, Ready.{ReadyToPath, ReadyWhere, ReadyWith, LinesLeave}};
 ghost use Rattle.ffs_pathnames.specs.{SaysNames.SaysNames, Gathers.{AreAsLong, IsVerdictIn, asks_attr, asks_path}};
 ghost use Rattle.ffs_pathnames.specs.Gathers.{extra_reported, is_silent, plain_lines_by, MakesPath, MakesPathLimited};
-ghost use Rattle.ffs_pathnames.specs.Gathers.{ReadsAttr, PutsPath, PutsWanted, GathersInode, GathersNamed};
+ghost use Rattle.ffs_pathnames.specs.Gathers.{ReadsAttr, PutsPath, PutsWanted, GathersInode, GathersWithPath};
 ghost use Rattle.ffs_pathnames.specs.Gathers.{GathersEntry, GathersExtra, GathersDir};
 ghost use Rattle.ffs_layout.specs.Entry.{entry_value};
 ghost use Rattle.ffs_report.specs.Progress.{progress};
@@ -283,7 +283,7 @@ fn gather<I: Image>(
 ) -> Result<Attr, ImageFault>
     requires { ReadyWhere (asks_attr verdict.now) geometry.now.layout entry.now.number
         (ReadyWith geometry.now.layout (I.device image.old) workspace.old texts.old.kept_parent) }
-    ensures { GathersNamed I.Image geometry.now.layout image.old image.new workspace.old
+    ensures { GathersWithPath I.Image geometry.now.layout image.old image.new workspace.old
         workspace.new (entry_value entry.now) verdict.now texts.old texts.new result }
 {
     let wants_path = asks(verdict).1;

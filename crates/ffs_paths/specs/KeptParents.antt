@@ -1,13 +1,12 @@
 -- What is kept for the path of the next directory.
 use Rattle.std.specs.Prelude.{◌≡◌, ◌*◌, ◌<◌, ℕ, List, [], ◌∷◌, ◌++◌, Option, Some, Result, OnOk, slice_index}
 use Rattle.ffs_image.specs.{Device.Device, declared.image.ImageFault.ImageFault}
-use Rattle.ffs_volume.specs.declared.Layout.{Layout}
-use Rattle.ffs_volume.specs.Directories.{Graph.Graph, Parents.graph_of, Paths.path_names, Volumes.volume_of}
+use Rattle.ffs_volume.specs.{declared.Layout.Layout, Directories.{Graph.Graph, Parents.graph_of, Paths.path_names}}
+use Rattle.ffs_volume.specs.Directories.Volumes.{volume_of}
 use Rattle.ffs_workspace.specs.{declared.workspace.Workspace.Workspace, Ready.IsReady, Places.place_in}
 use Rattle.ffs_workspace.specs.Holds.{HoldsClaims, HoldsSurvey}
-use Rattle.ffs_paths.specs.{Climbing.IsParentOf, DirectoryPaths.IsPathOf, Reads.{OnlyReads, ReadsAtMost}, Slashes.AreSingle}
-use Rattle.ffs_paths.specs.NameTexts.{name_bytes}
-use Rattle.ffs_paths.specs.declared.kept_parent.KeptParent.{KeptParent}
+use Rattle.ffs_paths.specs.{Climbing.IsParentOf, DirectoryPaths.IsPathOf, Reads.{OnlyReads, ReadsAtMost}}
+use Rattle.ffs_paths.specs.{Slashes.AreSingle, NameTexts.name_bytes, declared.kept_parent.KeptParent.KeptParent}
 
 -- the names down to d are those down to s, and one more
 pub record LeadsTo (g : Graph) (s d : ℕ) (name : List ℕ) : Type 0 where

@@ -20,7 +20,7 @@ pub record IsFirstSlash (bytes : List ℕ) (place at : ℕ) : Type 0 where
   pub from : min place 1024 ≤ at
   pub within : at ≤ 1024
 
--- a `/` and a name have room before what is from `end` on
+-- a `/` and a name have room beside what is from `end` on
 pub record FitsBefore (end : ℕ) (name : List ℕ) : Type 0 where
   pub within : end ≤ 1024
   pub room : length name < end

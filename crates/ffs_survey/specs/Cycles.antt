@@ -56,7 +56,7 @@ pub record FindsCycle (f : ℕ → Option ℕ) (n : ℕ) (old new : List ℕ) (f
   pub short : cycle.steps_less_one < n
   pub only : (x : ℕ) → IsMet old new x → IsOnCycle f x → (k : ℕ) × (climb f k found ≡ Some x)
 
--- a walk from `start` is noted, and the cycle that it closed is found
+-- a walk from `start` is noted, and the cycle that it closed, if it closed one, is found
 pub record NotesWalk (parents : List ℕ) (start : ℕ) (old new : Vec ℕ Global) (result : Option ℕ) : Type 0 where
   pub walked : Walked (parent_in parents) start (start + 1) old.items new.items
   pub long : vec_len new ≡ vec_len old

@@ -43,7 +43,7 @@ most_start = NO_LINKS
 abbrev pub start_in : (starts : List ℕ) (x : ℕ) → ℕ
 start_in starts x = min (number_at starts x) most_start
 
--- in a list of starts, each that is past the greatest one becomes that
+-- in a list of starts, each above the greatest that there may be (`most_start`) becomes that
 pub record LimitsStarts (old new : Vec ℕ Global) : Type 0 where
   pub same_length : vec_len new ≡ vec_len old
   pub starts : (x : ℕ) → number_at new.items x ≡ start_in old.items x

@@ -8,7 +8,7 @@ use Rattle.ffs_check.specs.{Ends.{BrokeOffIn, Printed}, PhaseEnds.RunsToEnd}
 use Rattle.ffs_check.proofs.{Endings.{opening_defect, prints_phases}, AnyReading.rest_reads}
 use Rattle.ffs_check.proofs.check.check_rest.Goals as goal
 
--- where an output is is known
+-- the same of an output by another name for it
 runs_at : {has_defect_by : List Message → Bool} {knows : List ℕ → Type 0} {s : Superblock} {d d' : Device}
     {w : Workspace} {out : Sink} {before after : ℕ} {end : End} (at : Sink) {at' : Sink} → at ≡ at' →
     RunsToEnd Printed BrokeOffIn has_defect_by knows s d d' w out at before after end →

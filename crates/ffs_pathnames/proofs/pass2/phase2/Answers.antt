@@ -1,19 +1,16 @@
-use Rattle.std.proofs.Common.{[], ◌∷◌, List, ℕ, refl, ap, ◌∙◌, inl, inr, arith, ◌≡◌, Some, OnOk, Result, Ok}
-use Rattle.std.proofs.{Common.{Err, rules}, lemmas.Result.err_from_is_err_and}
+use Rattle.std.proofs.Common.{[], ◌∷◌, List, ℕ, refl, ap, ◌∙◌, inl, inr, arith, ◌≡◌, Some, OnOk, Result, Ok, Err, rules}
+use Rattle.std.proofs.lemmas.Result.{err_from_is_err_and}
 use Rattle.ffs_image.specs.Device.{Device}
 use Rattle.ffs_report.proofs.Reporting.{of_reads, of_last, reports_knowing, says_heading, stops_heading}
-use Rattle.ffs_report.proofs.Paying.{paid_said, paid_text, paid_then}
-use Rattle.ffs_report.specs.{Known.ForBytes, Progress.Progress, declared.fault.RunFault.RunFault}
-use Rattle.ffs_report.specs.declared.fault.RunFault.TheVariants.{Read, Out}
-use Rattle.ffs_volume.{specs.Messages.Kinds.phase2, proofs.RunBounds.runs_bounded}
-use Rattle.ffs_volume.specs.{declared.Layout.Layout}
-use Rattle.ffs_pathnames.specs.{declared.pass2.Root.Root, Before.IsBefore, Phase2.Phase2Ends}
-use Rattle.ffs_pathnames.specs.RootAnswers.{AnswersRoot}
-use Rattle.ffs_pathnames.proofs.Carrying.{claims_untouched, before_first, references_on}
-use Rattle.ffs_pathnames.proofs.{SilentLaws.calm_silent, pass2.phase2.{Given.Over, Goals.After-check_tree}}
+use Rattle.ffs_report.{proofs.Paying.{paid_said, paid_text, paid_then}, specs.{Known.ForBytes, Progress.Progress}}
+use Rattle.ffs_report.specs.declared.fault.RunFault.{RunFault, TheVariants.{Read, Out}}
+use Rattle.ffs_volume.{specs.{Messages.Kinds.phase2, declared.Layout.Layout}, proofs.RunBounds.runs_bounded}
+use Rattle.ffs_pathnames.specs.{declared.pass2.Root.Root, Before.IsBefore, Phase2.Phase2Ends, RootAnswers.AnswersRoot}
+use Rattle.ffs_pathnames.proofs.{Carrying.{claims_untouched, before_first, references_on}, SilentLaws.calm_silent}
+use Rattle.ffs_pathnames.proofs.pass2.phase2.{Given.Over, Goals.After-check_tree}
 use Rattle.ffs_names.proofs.RunSums.{costs_bounded}
-use Rattle.ffs_workspace.specs.{declared.workspace.Workspace.Workspace, Found.WithClaims}
-use Rattle.ffs_workspace.specs.Holds.{HoldsClaims, HoldsReferences, HoldsStarts, HoldsSurvey}
+use Rattle.ffs_workspace.specs.{declared.workspace.Workspace.Workspace, Found.WithClaims, Holds.HoldsClaims}
+use Rattle.ffs_workspace.specs.Holds.{HoldsReferences, HoldsStarts, HoldsSurvey}
 use Rattle.ffs_pathnames.proofs.pass2.phase2.Goals as goal
 
 -- what is known before the first directory

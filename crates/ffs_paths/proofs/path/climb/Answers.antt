@@ -2,10 +2,9 @@ use Rattle.std.proofs.Common.{◌≡◌, ◌<◌, ◌∙◌, ◌∷◌, ap, leng
 use Rattle.std.proofs.lemmas.List.{get_or_default}
 use Rattle.ffs_volume.{proofs.LevelLaws.reached-level, specs.Directories.{Graph.Graph, Parents.graph_of}}
 use Rattle.ffs_volume.specs.Directories.Volumes.{volume_of}
-use Rattle.ffs_paths.specs.{Climbing.IsNameIn, Buffers.HoldsNames, NameTexts.name_bytes}
-use Rattle.ffs_paths.proofs.Climbed.{climb_more, few_more, few_then, noted_here, short_way}
-use Rattle.ffs_paths.proofs.{Keeping.{reads_then, tree_on}, WaysUp.parent_is}
-use Rattle.ffs_paths.proofs.WaysUp.{way_root, way_cut, way_long, way_up, count_is}
+use Rattle.ffs_paths.{specs.{Climbing.IsNameIn, Buffers.HoldsNames, NameTexts.name_bytes}, proofs.Climbed.climb_more}
+use Rattle.ffs_paths.proofs.{Climbed.{few_more, few_then, noted_here, short_way}, Keeping.{reads_then, tree_on}}
+use Rattle.ffs_paths.proofs.WaysUp.{parent_is, way_root, way_cut, way_long, way_up, count_is}
 use Rattle.ffs_paths.proofs.path.climb.Goals as goal
 
 pub returns-then-at-eq-ROOTINO-clause-path : goal.returns-then-at-eq-ROOTINO-clause-path
