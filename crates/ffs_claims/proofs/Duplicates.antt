@@ -36,7 +36,7 @@ more_holds R true more x x' y y' first second = first refl
 more_holds R false more x x' y y' first second = second refl
 
 -- ---- what holds of the offers, Runs and steps of an inode, and of their lines
--- R is of claims, lines and the claims after them. It holds where nothing is bad or dup, of a dup
+-- R is of claims, lines and the claims after them. It holds where nothing more is bad or dup, of a dup
 -- offer, of a bad Run and of a Tail, of the lines of the inode's class and count, and of two parts one
 -- after the other
 record HoldsOfEach (v : Layout) (i : ℕ) (R : Claims → List BlockMessage → Claims → Type 0) : Type 0 where

@@ -50,7 +50,7 @@ pub record CanClaimSteps (g : Geometry) (d : Device) (w : Workspace) (sweep : Sw
   pub begun : HasBegun w
 
 -- the next step of an inode can be seen: the inode isn't cut, and there is room to count its
--- fragments and Runs. Any bounds far above `runs_limit`, and far below 2^64, serve as `most`
+-- fragments and Runs. Any bound far above `runs_limit`, and far below 2^64, serves as `most`
 pub record SeesNext (v : Layout) (w : Workspace) (area : DataArea) (most : ℕ) : Type 0 where
   pub made : IsFor v w
   pub only_data : IsDataArea v area
@@ -65,7 +65,7 @@ pub record SeesStep (v : Layout) (w : Workspace) (area : DataArea) (step : Step)
 
 -- the offers of a Run can be taken: the inode isn't cut, it can keep so many offers more, and these
 -- are in range if they are said to be
-pub record SeesOffers (v : Layout) (w : Workspace) (run : Run) (in_range : Bool) : Type 0 where
+pub record CanTakeOffers (v : Layout) (w : Workspace) (run : Run) (in_range : Bool) : Type 0 where
   pub uncut : is_open (claims_of w) ≡ true
   pub offer : CanOffer v w run.len in_range (is_run_in_range v run.start run.len)
 
@@ -89,8 +89,8 @@ pub record StepsLeave {T : Type 0} (v : Layout) (d d' : Device) (old new : Works
   pub moves : OnOk result (ClaimBound (claims_of old) (claims_of new))
   pub found : SameFound old new
 
--- what an inode leaves: the same but for what was found, and the Runs of phase 1b as they were. Each
--- read is paid by a Run that is seen
+-- what an inode leaves: the same but for what was found, a walk over the volume, and the Runs of phase
+-- 1b as they were. Each Run that it sees claims a fragment, but for 22, and each read is paid by one
 pub record InodeLeaves {T : Type 0} (g : Geometry) (d d' : Device) (reads reads' : ℕ) (old new : Workspace)
     (sweep : Sweep) (result : Result T RunFault) : Type 0 where
   pub image : ImageAfter d d' result
@@ -117,8 +117,8 @@ pub record TakesOffers {T E : Type 0} (v : Layout) (number : ℕ) (run : Run) (p
   pub only : OffersOnly v old new
 
 -- a step of an inode claims what it offers: these lines are said, the claims are these then, and the
--- answer is whether the next step is seen. At least so many Runs and at most one is seen by it, and
--- the rest is as claiming leaves it
+-- answer is whether the next step is seen. It sees at most one Run, and at least `least`, and the rest is
+-- as claiming leaves it
 pub record ClaimsStep {E : Type 0} (v : Layout) (lines : List BlockMessage) (after : Claims) (least : ℕ)
     (progress progress' : Progress) (old new : Workspace) (area : DataArea) (result : Result Bool E) : Type 0 where
   pub said : Says progress progress' (of_lines lines) result

@@ -6,7 +6,7 @@ ghost use Rattle.ffs_volume.specs.Disk.Areas.{is_fragment_in_range, is_run_in_ra
 ghost use Rattle.ffs_report.specs.Progress.{progress, Says};
 ghost use Rattle.ffs_walk.specs.Counts.{entered};
 ghost use Rattle.ffs_workspace.specs.Holds.{claims_of};
-ghost use Rattle.ffs_claims.specs.Claiming.{ClaimsStep, SeesNext, SeesOffers, SeesStep, TakesOffer, TakesOffers};
+ghost use Rattle.ffs_claims.specs.Claiming.{ClaimsStep, SeesNext, CanTakeOffers, SeesStep, TakesOffer, TakesOffers};
 ghost use Rattle.ffs_claims.specs.{Leaves.CanOffer, Lines.{has_dup_line, of_lines}};
 ghost use Rattle.ffs_volume.specs.Blocks.Claims as claims;
 
@@ -122,7 +122,7 @@ fn run_in_range<W: Output>(
     run: Run,
     report: &mut Report<'_, W>,
 ) -> Result<bool, OutFault>
-    requires { SeesOffers geometry.now.layout workspace.old run true }
+    requires { CanTakeOffers geometry.now.layout workspace.old run true }
     ensures taken { TakesOffers geometry.now.layout number run (progress W.sink report.old)
         (progress W.sink report.new) workspace.old workspace.new result }
     ensures seen { IfOk result (λ seen. seen ≡ claims.is_open (claims_of workspace.new)) }
@@ -144,7 +144,7 @@ fn offers_of_bad_run<W: Output>(
     run: Run,
     report: &mut Report<'_, W>,
 ) -> Result<(), OutFault>
-    requires { SeesOffers geometry.now.layout workspace.old run false }
+    requires { CanTakeOffers geometry.now.layout workspace.old run false }
     ensures { TakesOffers geometry.now.layout number run (progress W.sink report.old)
         (progress W.sink report.new) workspace.old workspace.new result }
 {

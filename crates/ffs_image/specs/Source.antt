@@ -26,7 +26,8 @@ abbrev pub SourceAfter : {T E : Type 0} → SourceState → SourceState → Resu
 SourceAfter old new (Ok x) = new ≡ old
 SourceAfter old new (Err fault) = IsFailed old new
 
--- a file was asked for its end: that is where its bytes end, or 0 where it has none. They stay
+-- a file was asked for its end: that is how many bytes it has, and where it couldn't be said it has none.
+-- Its bytes stay
 pub record GivesEnd (old new : Option (List ℕ)) (result : Result ℕ Error) : Type 0 where
   pub bytes : IfSome old (λ b. length b ≡ result_unwrap_or result 0)
   pub kept : new ≡ old

@@ -116,7 +116,7 @@ impl Super {
     }
 }
 
-/// The superblock in the bytes, with its accepted layout.
+/// The superblock in the bytes, with the layout of the geometry.
 #[tactic(auto, unfolding(ffs_volume::specs::Disk::Superblock::superblock_of))]
 fn make_super(order: Order, bytes: &[u8; SUPERBLOCK_BYTES], geometry: Geometry) -> Super
     ensures { superblock_in result ≡ record (superblock_of order bytes.now) {

@@ -10,12 +10,12 @@ pub record StartsOver {S : Type 0} (name : GName) (writer : S) (out : Counted S)
   pub inner : out.inner.now ≡ writer
   pub failures : out.failures ≡ 0
 
--- what an output took is what its writer holds
+-- what contracts know of an output over a writer: it took what the writer holds
 abbrev pub counted_sink : {S : Type 0} → (S → Option (List ℕ)) → Counted S → Sink
 counted_sink contents c =
     record { taken = contents c.inner.now; failures = c.failures; lent = Some c.inner.ghost_name }
 
--- a put of a piece is one write, whose answer it reports
+-- a put of a piece is one write, whose answer it reports: so much of the piece was taken
 pub record PutsOnce {S E : Type 0} (contents : S → Option (List ℕ))
     (was_written : S → List ℕ → Result ℕ Error → S → Type 0) (old new : Counted S) (piece : List ℕ)
     (result : Result ℕ E) : Type 0 where

@@ -20,7 +20,7 @@
 //! report.say(&Line::Heading(Heading::Phase1))?;
 //! ```
 //!
-//! It rests on `ffs_volume` and `ffs_image`.
+//! It rests on `ffs_volume`, `ffs_image` and `ffs_memory`.
 #![tactic(auto)]
 
 mod counted;

@@ -54,8 +54,8 @@ pub record CanTake (v : Layout) (d : Device) (span level : ℕ) (f : Frame) (blo
   pub small : f.first + f.next * span < 2 ^ 64
   pub ready : CanFill v d level f.address blocks
 
--- the next item of a frame is taken, and its block counts as read then; where a read failed none is.
--- In both cases the frame stays in its block
+-- the next item of a frame is taken, from its block, which is read where it isn't held and counts as read
+-- then; where a read failed none is taken. In both cases the frame stays in its block
 pub record TakesItem (v : Layout) (d d' : Device) (reads reads' span level : ℕ) (old new : Frame)
     (before after : Blocks) (result : Result Item ImageFault) : Type 0 where
   pub item : IfOk result (IsNextItem v d.contents span old new)

@@ -11,11 +11,11 @@ pub record IsInHeldBlock (blocks : Blocks) (w : Walk) : Type 0 where
   pub held : held_address 0 blocks ≡ Some w.single.address
 
 -- a word is left of the single indirect block that a walk is in, which was read before
-pub record IsReadWord (w : Walk) : Type 0 where
+pub record CanPassWord (w : Walk) : Type 0 where
   pub read : w.single.unread ≡ false
   pub left : w.single.next < w.single.used
 
--- a word is left of that block, and the buffer has room for blocks
+-- a word is left of the single indirect block that a walk is in, and the buffer has room for blocks
 pub record CanSeeWord (blocks : Blocks) (w : Walk) : Type 0 where
   pub room : HasRoom w.geometry.layout blocks
   pub left : w.single.next < w.single.used

@@ -30,7 +30,8 @@ pub record HasPassedGaps (old new : Walk) (blocks : Blocks) : Type 0 where
       → HasNoGapNext old.geometry.layout 2 blocks new.triple
   pub top : IsAtTop old → new.next < new.used → 0 < slice_index new.addresses new.next
 
--- words of a frame may be passed over: it has no more of them than a block, and this is a level
+-- words of a frame may be passed over: it has no more of them than a block, and there is room for the
+-- blocks of this level
 pub record CanSkip (v : Layout) (level : ℕ) (f : Frame) (blocks : Blocks) : Type 0 where
   pub words : f.used ≤ v.nindir
   pub ready : HasLevel v level blocks

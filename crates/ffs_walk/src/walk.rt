@@ -54,7 +54,7 @@ impl Walk {
     ghost use Rattle.ffs_walk.specs.Rests.{Advances, ComesNext, Enters, IsAtTop, IsDataStep, IsFirstOf};
     ghost use Rattle.ffs_walk.specs.Rests.{IsEndedWalk, IsTopStep, IsWalkByClass, IsWalkOf, Stops, TakesStep};
     ghost use Rattle.ffs_walk.specs.Windows.{CanWalk, HasRoom};
-    ghost use Rattle.ffs_walk.specs.HeldWords.{CanSeeWord, IsInHeldBlock, IsReadWord, PassesNextWord};
+    ghost use Rattle.ffs_walk.specs.HeldWords.{CanSeeWord, IsInHeldBlock, CanPassWord, PassesNextWord};
     ghost use Rattle.ffs_walk.specs.HeldWords.{next_address};
     ghost use Rattle.ffs_walk.specs.declared.blocks.Blocks.{Blocks};
 
@@ -354,7 +354,7 @@ impl Walk {
     #[inline(always)]
     #[tactic(auto, using(crate::proofs::WordSteps::word_first))]
     pub fn pass_word(&mut self)
-        requires { IsReadWord self.old }
+        requires { CanPassWord self.old }
         ensures { PassesNextWord self.old self.new }
     {
         self.single.next += 1;

@@ -17,7 +17,7 @@ place_in word = if nat_lt word (2 ^ 31) then word else word - 2 ^ 31
 abbrev pub is_due : ℕ → Bool
 is_due word = not (nat_lt word (2 ^ 31))
 
--- a word with the same place, whose parent entry is due as is said
+-- a word with the same place, whose parent entry is due just where `due_now` says so
 pub record KeepsPlace (due_now : Bool) (old new : ℕ) : Type 0 where
   pub due : is_due new ≡ due_now
   pub place : place_in new ≡ place_in old

@@ -76,7 +76,8 @@ pub record ReadsPiece {T : Type 0} (v : Layout) (d d' : Device) (reads reads' x 
   pub leaves : TableAfter v d d' t result
   pub counted : reads' ≤ reads + 1
 
--- the inode x is read: it is that of the image's bytes, and the table holds what the image gives
+-- the inode x is read: it is that of the image's bytes, where the image gives them, and the table holds
+-- what the image gives
 pub record ReadsInode (v : Layout) (d d' : Device) (x : ℕ) (t : Table) (result : Result Inode ImageFault) : Type 0 where
   pub inode : IfOk result (λ i. ForContents d.contents (λ bytes. i ≡ inode_of v bytes x))
   pub kept : KeepsTable v d'.contents t
