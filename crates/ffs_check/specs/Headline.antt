@@ -10,7 +10,8 @@ use Rattle.ffs_report.specs.Sink.{Sink}
 use Rattle.ffs_layout.specs.Super.{IsSuperSector}
 use Rattle.ffs_check.specs.Ends.{BrokeOffIn, Ends, Printed}
 
--- the end of a check that no fault ended, and no refusal of memory
+-- an end that a whole report may have: also that of a refused superblock, and of an inode 2 that is no
+-- directory
 abbrev pub is_completed : End → Bool
 is_completed Consistent = true
 is_completed Defects = true

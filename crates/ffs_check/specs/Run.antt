@@ -69,8 +69,8 @@ RunEnds {I} device reads opens refuses words out out' status =
     RunsAsAsked I device reads opens refuses words out out' status ⊎ (IsRefused words out out' status
     ⊎ HadNoMemory words out out' status)
 
--- a writer was flushed after a run with a status: the status stays where the flush succeeded, and
--- is 8 where it failed
+-- the words weren't refused, and the writer was flushed after the run: the status stays where the
+-- flush succeeded, and is 8 where it failed
 pub record IsFlushed {S : Type 0} (was_flushed : S → Result (Unit {0}) Error → S → Type 0)
     (contents : S → Option (List ℕ)) (old new : S) (ran_status status : ℕ) : Type 0 where
   pub printed : ran_status ≡ 2 → ⊥
@@ -91,7 +91,8 @@ abbrev pub FlushedAfter : {S : Type 0} → (S → Result (Unit {0}) Error → S 
 FlushedAfter was_flushed contents old new ran_status status =
     IsUnprinted old new ran_status status ⊎ IsFlushed was_flushed contents old new ran_status status
 
--- how a run over a writer ends, which is flushed after it
+-- how a run ends whose writer is flushed after it: `out` and `out'` are the writer as an output, before
+-- the run and after it, and `between` is the writer before the flush
 pub record RunEndsFlushed {I S : Type 0} (device : I → Device) (reads : I → ℕ) (opens : List ℕ → I → Type 0)
     (refuses : List ℕ → OpenFault → Type 0) (was_flushed : S → Result (Unit {0}) Error → S → Type 0)
     (contents : S → Option (List ℕ)) (words : List (List ℕ)) (old new : S) (status : ℕ) : Type 0 where

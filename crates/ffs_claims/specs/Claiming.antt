@@ -26,8 +26,8 @@ pub record CanClaim (v : Layout) (d : Device) (w : Workspace) (area : DataArea) 
   pub ready : IsReady v d w
   pub only_data : IsDataArea v area
 
--- an inode can claim in a sweep: it has a number, the walk is over the volume, and more Runs can be
--- counted than inodes have. Any bound far above `runs_limit`, and far below 2^64, serves for the count
+-- an inode can claim in a sweep: it has a number, the walk is over the volume, and the Runs counted so
+-- far leave room for its own. Any bound far above `runs_limit`, and far below 2^64, serves for the count
 pub record CanClaimInode (g : Geometry) (d : Device) (w : Workspace) (sweep : Sweep) (number : ℕ) : Type 0 where
   pub claim : CanClaim g.layout d w sweep.area
   pub walk : sweep.walk.geometry ≡ g
@@ -90,7 +90,7 @@ pub record StepsLeave {T : Type 0} (v : Layout) (d d' : Device) (old new : Works
   pub found : SameFound old new
 
 -- what an inode leaves: the same but for what was found, a walk over the volume, and the Runs of phase
--- 1b as they were. Each Run that it sees claims a fragment, but for 22, and each read is paid by one
+-- 1b as they were. Each Run that it sees claims a fragment, but for 22, and each read is paid by a Run that is seen
 pub record InodeLeaves {T : Type 0} (g : Geometry) (d d' : Device) (reads reads' : ℕ) (old new : Workspace)
     (sweep : Sweep) (result : Result T RunFault) : Type 0 where
   pub image : ImageAfter d d' result

@@ -1,4 +1,4 @@
--- What calls leave of a workspace as it was.
+-- What calls need of a workspace, and what they leave of it as it was.
 use Rattle.std.specs.Prelude.{◌≡◌, ◌+◌, ◌<◌, ◌≤◌, ◌^◌, ◌||◌, ℕ, Bool, IsTrue, true, min, slice_set, vec_len}
 use Rattle.ffs_volume.specs.{Blocks.Inodes.is_unknown, Encodings.{Kinds.kind_of, Links.start_of, Replay.cut_of}}
 use Rattle.ffs_volume.specs.declared.{Class.Class, Inode.Inode, Layout.Layout}
@@ -13,8 +13,8 @@ pub record HasBegun (w : Workspace) : Type 0 where
   pub kept : w.kept ≡ 0
   pub runs : w.runs_seen < 2 ^ 61
 
--- the workspace was made for the volume, the current inode can keep so many offers more, and these
--- are in range if they are said to be
+-- the workspace was made for the volume, the current inode can keep so many offers more, and where
+-- `in_range` says that these are in range, they are (`fit`)
 pub record CanOffer (v : Layout) (w : Workspace) (more : ℕ) (in_range fit : Bool) : Type 0 where
   pub made : IsFor v w
   pub room : w.kept + more ≤ 2 ^ 63

@@ -6,7 +6,7 @@ use Rattle.ffs_volume.specs.declared.BlockMessage.{BlockMessage, TheVariants.{Ba
 use Rattle.ffs_volume.specs.declared.{Class.Class, Inode.Inode, Layout.Layout, constants.TheConstants.MAXDUP}
 use Rattle.ffs_workspace.specs.Lengths.{inodes_of}
 
--- the messages of a report
+-- the messages of the block check's lines
 abbrev pub of_lines : List BlockMessage → List Message
 of_lines lines = map of_blocks lines
 

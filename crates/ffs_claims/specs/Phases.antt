@@ -9,7 +9,7 @@ use Rattle.ffs_workspace.specs.Holds.{HoldsClaims, HoldsPhase1, HoldsStarts}
 use Rattle.ffs_claims.specs.RescanRuns.{rescan_runs}
 
 -- phase 1 leaves what it found in the image's bytes, and the workspace has dups just where phase 1b
--- is to run. It has looked at each Run once
+-- is to run. It has counted each Run that is seen
 pub record IsLeftByPhase1 (v : Layout) (bytes : List ℕ) (w : Workspace) : Type 0 where
   pub holds : HoldsPhase1 v bytes w
   pub dups : has_dups w ≡ has_rescan v (owners_of v bytes)
@@ -31,7 +31,7 @@ pub record IsLeftByPhase1b (v : Layout) (bytes : List ℕ) (w : Workspace) : Typ
 
 -- the rescan reads the image at most once for each inode and once for each Run that it looks at, as
 -- long as the count of Runs has room in a u64. Where the image gives its bytes it looks at no more
--- Runs than phase 1 did, whose count stays
+-- Runs than phase 1 did. The count of phase 1's Runs stays
 pub record RescanReads (v : Layout) (d : Device) (old new : Workspace) (before after : ℕ) : Type 0 where
   pub runs : ForBytes (WithPhase1 v d old) (λ bytes. new.runs_again ≤ run_count v bytes)
   pub reads : new.runs_again < 2 ^ 64 - 1 → after ≤ before + v.ncg * v.ipg + new.runs_again

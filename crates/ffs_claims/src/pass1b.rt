@@ -41,7 +41,7 @@ fn report_again<W: Output>(
     }
 }
 
-/// Walks over the blocks of an inode again, until nothing is left to report.
+/// Walks over the blocks of an inode again, until it is cut or nothing is left to report.
 fn rewalk<I: Image, W: Output>(
     geometry: &Geometry,
     image: &mut I,
@@ -95,7 +95,7 @@ fn rewalk_inode<I: Image, W: Output>(
     rewalk(geometry, image, workspace, number, &inode, report)
 }
 
-/// What `phase1b` does, where each read is answered.
+/// Phase 1b over an image that limits its reads: `phase1b` lends it one.
 ///
 /// # Errors
 /// A read of the image that failed, and a write of the report that failed.
@@ -133,7 +133,9 @@ fn rescan_inodes<I: Image, W: Output>(
 /// Walks over the blocks of the inodes again, until each fragment with a DUP line has its first
 /// kept offer reported: by a DUP line for the first inode that keeps an offer of it.
 ///
-/// The contract gives the text only for a workspace as phase 1 left it.
+/// The contract gives the text only for a workspace as phase 1 left it. No more reads are made than
+/// those of a sweep (`sweep_reads`): where an image that gives other bytes each time asks for more,
+/// it ends there with `Ok`, and what is left isn't reported.
 ///
 /// # Errors
 /// A read of the image that failed, and a write of the report that failed.

@@ -8,8 +8,8 @@ use Rattle.ffs_workspace.specs.{declared.workspace.Workspace.Workspace, Leaves.L
 use Rattle.ffs_workspace.specs.{Found.WithSurvey, Ready.{IsReady, StaysReady}}
 use Rattle.ffs_connectivity.specs.{Leaders.HasLeaders, Lines.unref_dir_lines}
 
--- the workspace is ready, x is an inode of the volume, and it is known which directories represent
--- their cycle
+-- the workspace is ready, x is an inode of the volume, and it is known which directories lead a cycle
+-- of parents
 pub record CanReportLost (v : Layout) (d : Device) (w : Workspace) (x : ℕ) : Type 0 where
   pub ready : IsReady v d w
   pub number : (2 ≤ x) × (x < inodes_of v)

@@ -67,7 +67,7 @@ pub fn phase3<I: Image, W: Output>(
         &mut workspace.queue,
         &mut workspace.flags,
     );
-    // It was lent for the walks over parents: no place of a parent entry is noted now.
+    // `queue` was lent to the walks over parents: no place of a parent entry is noted now.
     workspace.queue.fill(0);
     for number in first..geometry.layout.ncg * geometry.layout.ipg {
         check_inode(geometry, image, workspace, number, report)?;

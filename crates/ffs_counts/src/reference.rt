@@ -12,8 +12,8 @@ use ffs_volume::kinds::Kind;
 use ffs_volume::{Attr, Inode};
 use ffs_workspace::links_start;
 
-/// How many entries refer to an inode, by its number in the workspace's `references`, which started
-/// at `links_start` and grew by 1 for each of them.
+/// How many entries refer to an inode, by its element of the workspace's `references`, which
+/// started at `links_start` and grew by 1 for each of them.
 pub fn references_by(count: u64, inode: &Inode) -> u64
     ensures { result ≡ count - links_start inode.now.nlink }
 {

@@ -103,7 +103,8 @@ fn summary_line(superblock: &Super, files: u32, used: u32) -> Line<'static>
     }
 }
 
-/// The summary (fsck(8)): files, fragments in use, and what is free by the superblock's own counts.
+/// The summary (fsck(8)): files, claimed fragments (reserved ones don't count), and what is free by
+/// the superblock's own counts.
 ///
 /// # Errors
 /// A write of the report that failed.

@@ -10,7 +10,7 @@ use Rattle.ffs_workspace.specs.{declared.workspace.Workspace.Workspace, Found.Wi
 use Rattle.ffs_workspace.specs.Holds.{HoldsClaims, HoldsReferences, HoldsStarts, HoldsSurvey}
 use Rattle.ffs_pathnames.specs.{RootAnswers.is_go, declared.pass2.Root.Root}
 
--- the run continues after the root as the image's bytes say, and the workspace holds what the block
+-- the check continues after the root as the image's bytes say, and the workspace holds what the block
 -- check and the survey found; where it held the starts of counts, it holds the counts of references
 pub record IsLeftByPhase2 (v : Layout) (bytes : List ℕ) (root : Root) (old new : Workspace) : Type 0 where
   pub goes : is_go root ≡ continues_after_root (volume_of v bytes)
@@ -18,8 +18,8 @@ pub record IsLeftByPhase2 (v : Layout) (bytes : List ℕ) (root : Root) (old new
   pub survey : HoldsSurvey v bytes new
   pub references : HoldsStarts v bytes old → HoldsReferences v bytes new
 
--- how phase 2 ends: where a read failed, the heading alone was said, or the run continues after the
--- root
+-- what phase 2 leaves at Ok; where a read failed, that the heading alone was said, or that the check
+-- continues after the root
 abbrev pub Phase2Ends : Layout → Device → (old new : Workspace) → (before after : Progress) → Result Root RunFault →
     Type 0
 Phase2Ends v d old new before after (Ok root) =

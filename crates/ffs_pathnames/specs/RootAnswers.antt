@@ -1,4 +1,4 @@
--- Whether the run continues after the root, and what that says of a read that failed.
+-- Whether the check continues after the root, and what that says of a read that failed.
 use Rattle.std.specs.Prelude.{◌≡◌, Bool, true, false, Result, Ok, Err, ⊤}
 use Rattle.ffs_image.specs.Device.{Device}
 use Rattle.ffs_report.specs.{Known.ForBytes, declared.fault.RunFault.{RunFault, TheVariants.{Read, Out}}}
@@ -11,7 +11,7 @@ abbrev pub is_go : Root → Bool
 is_go Go = true
 is_go Stop = false
 
--- the answer is whether the run continues after the root, as the bytes say, and a read failed only
+-- the answer is whether the check continues after the root, as the bytes say, and a read failed only
 -- where it does
 abbrev pub AnswersRoot : Layout → Device → Workspace → Result Root RunFault → Type 0
 AnswersRoot v d w (Ok root) =

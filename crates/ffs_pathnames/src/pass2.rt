@@ -19,18 +19,17 @@ use ffs_report::{DirectoryLine, Heading, Line, OutFault, Output, Report, RunFaul
 use ffs_volume::kinds::Kind;
 use ffs_workspace::Workspace;
 
-/// Whether the run continues after the root, or stops there since inode 2 is no directory. A phase
-/// that nothing stops answers `Go`.
+/// Whether the check continues after the root, or ends after phase 2 since inode 2 is no directory.
 #[derive(Clone, Copy, Debug, PartialEq, Eq)]
 pub enum Root {
-    /// The run continues.
+    /// The check continues.
     Go,
-    /// The run stops.
+    /// The check ends after phase 2.
     Stop,
 }
 
 /// Surveys the directories, and prints the lines of the root, of each directory and of its entries
-/// (fsck(8), phase 2). Returns whether the run continues after the root.
+/// (fsck(8), phase 2). Returns whether the check continues after the root.
 ///
 /// The text is that of a workspace that holds what the block check found. At `Ok` the workspace
 /// holds what the survey found.
@@ -66,7 +65,7 @@ pub fn phase2<I: Image, W: Output>(
     check_tree(geometry, image, workspace, report)
 }
 
-/// Whether the run continues after a root of this kind.
+/// Whether the check continues after a root of this kind.
 pub fn root_of(kind: u8) -> Root
     ensures { is_go result ≡ is_dir_kind kind }
 {

@@ -117,8 +117,8 @@ fn check_inodes<I: Image, W: Output>(
     Ok(())
 }
 
-/// Prints the lines of the root and, where the run continues after it, of each directory and of its
-/// entries.
+/// Prints the lines of the root and, where the check continues after it, of each directory and of
+/// its entries.
 ///
 /// # Errors
 /// A read of the image that failed, and a write of the report that failed.
