@@ -3,15 +3,15 @@ use Rattle.std.proofs.Common.{arith, ◌≡◌, inl, inr, ap, ℕ, true, List, O
 use Rattle.ffs_image.specs.Device.{Device}
 use Rattle.ffs_volume.specs.{declared.End.{End, TheVariants.{Refused, ReadFault, WriteFault}}, Messages.Kinds.Message}
 use Rattle.ffs_report.specs.Sink.{Sink}
-use Rattle.ffs_check.specs.{Failures.{ReadsFailed, WritesFailed}, Headline.{is_completed, IsCutShort, Headline}}
+use Rattle.ffs_check.specs.{Failures.{ReadsFailed, WritesFailed}, Headline.{can_end_report, IsCutShort, Headline}}
 
-reads_none : (end : End) (old new : ℕ) → is_completed end ≡ true → new ≡ old → ReadsFailed end old new
+reads_none : (end : End) (old new : ℕ) → can_end_report end ≡ true → new ≡ old → ReadsFailed end old new
 reads_none (Refused fault) old new c e = inl e
 reads_none (ReadFault sector) old new c e = absurd (cc)
 reads_none WriteFault old new c e = inl e
 reads_none end old new c e = e
 
-writes_none : (end : End) (old new : ℕ) → is_completed end ≡ true → new ≡ old → WritesFailed end old new
+writes_none : (end : End) (old new : ℕ) → can_end_report end ≡ true → new ≡ old → WritesFailed end old new
 writes_none WriteFault old new c e = absurd (cc)
 writes_none end old new c e = e
 
@@ -34,7 +34,7 @@ module _ (image image' : Device) (name : List ℕ) (sector : Option ℕ) (out ou
     (h : Headline image image' name sector out out' end) where
   pub reads_failed : ReadsFailed end image.failures image'.failures
   reads_failed = elim h.ends [
-    | inl all ↦ reads_none end image.failures image'.failures all.end_is.completed
+    | inl all ↦ reads_none end image.failures image'.failures all.end_is.can_end
         (ap (λ d. d.failures) all.no_read_failed)
     | inr r ↦ elim r [
       | inl short ↦
@@ -46,7 +46,7 @@ module _ (image image' : Device) (name : List ℕ) (sector : Option ℕ) (out ou
 
   pub writes_failed : WritesFailed end out.failures out'.failures
   writes_failed = elim h.ends [
-    | inl all ↦ writes_none end out.failures out'.failures all.end_is.completed all.went_out.failures
+    | inl all ↦ writes_none end out.failures out'.failures all.end_is.can_end all.went_out.failures
     | inr r ↦ elim r [
       | inl short ↦ elim short.ends [
         | inl went ↦ rw went.1 (cut_writes out.failures out'.failures short.cut went.0.failures)

@@ -9,10 +9,10 @@ use Rattle.ffs_volume.specs.Report.Whole.{report_of, report_end}
 use Rattle.ffs_report.specs.{Sink.Sink, Known.IsContents, Progress.{Progress, Said, Stopped, starts}}
 use Rattle.ffs_layout.specs.{declared.superblock.Super.Super, Super.{ReadsSuper, superblock_in}}
 use Rattle.ffs_check.specs.{Ends.Ends, Opening.SaysOpening, PhaseEnds.{IsCutByRead, IsEndByRoot, SaysRefusal, SaysRest}}
-use Rattle.ffs_check.specs.Headline.{is_completed, opened_lines, Headline, IsCutShort, IsEndOfReport}
+use Rattle.ffs_check.specs.Headline.{can_end_report, opened_lines, Headline, IsCutShort, IsEndOfReport}
 use Rattle.ffs_check.proofs.{Openings.{found_of, unfailed_of}, Endings.{at_contents, at_known}, EndLaws.ends_after}
 use Rattle.ffs_check.proofs.{EndLaws.{ends_printed, line_after}, Headlines.{whole_there, defect_there, end_of_there}}
-use Rattle.ffs_check.proofs.Headlines.{end_there, completed_by, certifies}
+use Rattle.ffs_check.proofs.Headlines.{end_there, can_end_by, certifies}
 
 module _ (image : Device) (name : List ℕ) (sector : Option ℕ) (output : GName) (sink : Sink) (s : Superblock)
     (accepted : ForContents image.contents (λ bytes. Ok s ≡ outcome bytes sector))
@@ -58,7 +58,7 @@ module _ (image : Device) (name : List ℕ) (sector : Option ℕ) (output : GNam
         (said.defect ∙ defect_there bytes name sector s text (right bytes t))
         ∙ end_there bytes sector (Ok s) (accepted bytes t) in
         record {
-          completed = ap is_completed e.end_is ∙ completed_by e.continued new.defect;
+          can_end = ap can_end_report e.end_is ∙ can_end_by e.continued new.defect;
           value = last;
           certifies = λ bytes t. certifies bytes name sector (opened_lines name sector s ++ text) end (report bytes t)
               (last bytes t);

@@ -12,7 +12,7 @@ use Rattle.ffs_report.{specs.{Sink.Sink, Progress.{Progress, Said, Stopped, star
 use Rattle.ffs_report.proofs.Reports.{stopped_more}
 use Rattle.ffs_layout.specs.Super.{IsSuperSector, ReadsSuper}
 use Rattle.ffs_certificate.proofs.ReportLaws.{certified}
-use Rattle.ffs_check.specs.{Ends.{BrokeOffIn, BrokeOffInLine, Printed}, Opening.SaysOpening, Headline.is_completed}
+use Rattle.ffs_check.specs.{Ends.{BrokeOffIn, BrokeOffInLine, Printed}, Opening.SaysOpening, Headline.can_end_report}
 use Rattle.ffs_check.{specs.Headline.{Certifies, opened_lines, Headline}, proofs.EndLaws.{broke_off, broke_in_line}}
 use Rattle.ffs_check.proofs.Endings.{at_contents, at_known}
 
@@ -61,8 +61,8 @@ pub end_of_there : (bytes : List ℕ) (s : Superblock) (on defect : Bool) →
 unfolding end_of
 end_of_there bytes s on defect e d = grind arith
 
-pub completed_by : (on defect : Bool) → is_completed (end_by on defect) ≡ true
-completed_by on defect = grind arith
+pub can_end_by : (on defect : Bool) → can_end_report (end_by on defect) ≡ true
+can_end_by on defect = grind arith
 
 -- ---- the certificate
 report_defect : (bytes name : List ℕ) (sector : Option ℕ) (s : Superblock) → outcome bytes sector ≡ Ok s →
@@ -131,7 +131,7 @@ module _ (image image' : Device) (name : List ℕ) (sector : Option ℕ) (output
           no_read_failed = read.0;
           went_out = said.took;
           end_is = record {
-            completed = refl;
+            can_end = refl;
             value = last;
             certifies = λ bytes t. certifies bytes name sector (opening_lines name sector (Err fault)) (Refused fault)
                 (report bytes t) (last bytes t);

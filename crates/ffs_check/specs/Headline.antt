@@ -10,16 +10,16 @@ use Rattle.ffs_report.specs.Sink.{Sink}
 use Rattle.ffs_layout.specs.Super.{IsSuperSector}
 use Rattle.ffs_check.specs.Ends.{BrokeOffIn, Ends, Printed}
 
--- an end that a whole report may have: also that of a refused superblock, and of an inode 2 that is no
+-- an end that a whole report can have: also that of a refused superblock, and of an inode 2 that is no
 -- directory
-abbrev pub is_completed : End → Bool
-is_completed Consistent = true
-is_completed Defects = true
-is_completed (Refused fault) = true
-is_completed RootStop = true
-is_completed (ReadFault sector) = false
-is_completed WriteFault = false
-is_completed NoMemory = false
+abbrev pub can_end_report : End → Bool
+can_end_report Consistent = true
+can_end_report Defects = true
+can_end_report (Refused fault) = true
+can_end_report RootStop = true
+can_end_report (ReadFault sector) = false
+can_end_report WriteFault = false
+can_end_report NoMemory = false
 
 -- status 0, and a report with no defect, are each a certificate that the volume is consistent
 pub record Certifies (image : List ℕ) (s : Superblock) (text : List Message) (end : End) : Type 0 where
@@ -32,7 +32,7 @@ opened_lines name asked_sector s = head_lines name asked_sector ++ super_lines s
 
 -- the end of a whole report; on an accepted superblock it certifies
 pub record IsEndOfReport (image : Device) (asked_sector : Option ℕ) (text : List Message) (end : End) : Type 0 where
-  pub completed : is_completed end ≡ true
+  pub can_end : can_end_report end ≡ true
   pub value : ForContents image.contents (λ bytes. end ≡ report_end bytes asked_sector)
   pub certifies : ForContents image.contents (λ bytes. (s : Superblock) → outcome bytes asked_sector ≡ Ok s
       → Certifies bytes s text end)

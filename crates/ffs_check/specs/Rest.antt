@@ -60,15 +60,15 @@ from_phase2 image s = phase2_part image s ++ after_phase2 (continues_after_root 
 abbrev pub from_phase1b : List ℕ → Superblock → List Message
 from_phase1b image s = phase1b_part image s ++ from_phase2 image s
 
--- after phase 1: the image gives the bytes, and the workspace is left by it
-abbrev pub IsAfterPhase1 : Layout → Device → Workspace → List ℕ → Type 0
-IsAfterPhase1 v d w bytes = IsContents d.contents bytes × IsLeftByPhase1 v bytes w
+-- the image gives the bytes, and the workspace is left by phase 1: `WithPhase1` and more
+abbrev pub WithLeftByPhase1 : Layout → Device → Workspace → List ℕ → Type 0
+WithLeftByPhase1 v d w bytes = IsContents d.contents bytes × IsLeftByPhase1 v bytes w
 
 -- phase 1b, or nothing where no fragment has a DUP line: its text, what the workspace holds then, no
 -- more reads than those of a sweep, and the workspace is ready for the next phase
 pub record Rescans (v : Layout) (d d' : Device) (w w' : Workspace) (old new : Progress) (before after : ℕ)
     (result : Result (Unit {0}) RunFault) : Type 0 where
-  pub prints : PhaseOutcome (IsAfterPhase1 v d w) (λ bytes. rescan_lines v bytes) d d' old new result
-  pub holds : OnOk result (ForBytes (IsAfterPhase1 v d w) (λ bytes. HoldsClaims v bytes w' × HoldsStarts v bytes w'))
+  pub prints : PhaseOutcome (WithLeftByPhase1 v d w) (λ bytes. rescan_lines v bytes) d d' old new result
+  pub holds : OnOk result (ForBytes (WithLeftByPhase1 v d w) (λ bytes. HoldsClaims v bytes w' × HoldsStarts v bytes w'))
   pub reads : after ≤ before + sweep_reads v
   pub ready : IsReady v d' w'

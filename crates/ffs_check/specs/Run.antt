@@ -24,7 +24,7 @@ pub record IsChecked (I : Type 0) (device : I → Device) (reads : I → ℕ) (o
   pub end : End
   pub headline : Headline (device image) (device image') name sector out out' end
   pub memory : TakesOfSystem (device image) sector end
-  pub within : CheckReads (device image) name sector out out' (reads image) (reads image')
+  pub reads_within : CheckReads (device image) name sector out out' (reads image) (reads image')
   pub status_is : status ≡ status_of end
 
 -- no image could be opened under a name, and that was printed
@@ -73,7 +73,7 @@ RunEnds {I} device reads opens refuses words out out' status =
 -- flush succeeded, and is 8 where it failed
 pub record IsFlushed {S : Type 0} (was_flushed : S → Result (Unit {0}) Error → S → Type 0)
     (contents : S → Option (List ℕ)) (old new : S) (ran_status status : ℕ) : Type 0 where
-  pub printed : ran_status ≡ 2 → ⊥
+  pub unrefused : ran_status ≡ 2 → ⊥
   pub answer : Result (Unit {0}) Error
   pub flushed : was_flushed old answer new
   pub kept : Keeps (contents old) (contents new)

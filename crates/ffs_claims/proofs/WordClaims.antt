@@ -44,7 +44,7 @@ words_once {v = v} {a = a} {b = b} {x = x} {y = y} {address = address} some smal
       claims = λ contents holds bytes e. rw (next contents holds bytes e, now) refl;
       lines = λ contents holds bytes e number. let silent = silently.silent number in grind arith;
       uncut = did.uncut;
-      moves = moves_on step made small (cond_holds (HasLength v.frag) (nat_eq address 0) _ _ (λ _. tt)
+      claim_bound = moves_on step made small (cond_holds (HasLength v.frag) (nat_eq address 0) _ _ (λ _. tt)
           (λ _. (some, omega arith))) now (stays (claims_of a));
       only = did.only;
       falls = omega (arith, falls);

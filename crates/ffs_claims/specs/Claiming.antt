@@ -79,14 +79,14 @@ pub record ClaimsInArea (v : Layout) (old new : Workspace) (area : DataArea) : T
 abbrev pub FewRuns : Layout → Workspace → Workspace → Type 0
 FewRuns v old new = new.runs_seen + used_bits (claims_of old) ≤ old.runs_seen + v.size + 22
 
--- what the steps of an inode leave: the image, but for a read that failed, few Runs more, what was
--- found as it was, and all that the next inode asks for
+-- what the steps of an inode leave: the image, but for a read that failed, few Runs more, claims
+-- within the bound (`ClaimBound`), what was found as it was, and all that the next inode asks for
 pub record StepsLeave {T : Type 0} (v : Layout) (d d' : Device) (old new : Workspace) (area : DataArea)
     (result : Result T RunFault) : Type 0 where
   pub image : ImageAfter d d' result
   pub claim : CanClaim v d' new area
   pub bound : FewRuns v old new
-  pub moves : OnOk result (ClaimBound (claims_of old) (claims_of new))
+  pub claim_bound : OnOk result (ClaimBound (claims_of old) (claims_of new))
   pub found : SameFound old new
 
 -- what an inode leaves: the same but for what was found, a walk over the volume, and the Runs of phase
@@ -97,7 +97,7 @@ pub record InodeLeaves {T : Type 0} (g : Geometry) (d d' : Device) (reads reads'
   pub claim : CanClaim g.layout d' new sweep.area
   pub walk : sweep.walk.geometry ≡ g
   pub bound : FewRuns g.layout old new
-  pub moves : OnOk result (new.runs_seen + used_bits (claims_of old)
+  pub runs_claim : OnOk result (new.runs_seen + used_bits (claims_of old)
       ≤ old.runs_seen + used_bits (claims_of new) + 22)
   pub again : new.runs_again ≡ old.runs_again
   pub counted : reads' + old.runs_seen ≤ reads + new.runs_seen

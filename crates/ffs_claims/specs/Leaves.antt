@@ -14,11 +14,11 @@ pub record HasBegun (w : Workspace) : Type 0 where
   pub runs : w.runs_seen < 2 ^ 61
 
 -- the workspace was made for the volume, the current inode can keep so many offers more, and where
--- `in_range` says that these are in range, they are (`fit`)
-pub record CanOffer (v : Layout) (w : Workspace) (more : ℕ) (in_range fit : Bool) : Type 0 where
+-- `in_range` says that these are in range, they are (`are_in_range`)
+pub record CanOffer (v : Layout) (w : Workspace) (more : ℕ) (in_range are_in_range : Bool) : Type 0 where
   pub made : IsFor v w
   pub room : w.kept + more ≤ 2 ^ 63
-  pub known : IsTrue in_range → fit ≡ true
+  pub known : IsTrue in_range → are_in_range ≡ true
 
 -- what was found of inodes is as it was, and the Runs of phase 1b
 pub record SameFound (old new : Workspace) : Type 0 where

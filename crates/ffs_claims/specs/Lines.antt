@@ -16,10 +16,10 @@ has_dup_line v s f = nat_lt s.dups (MAXDUP + 1) && (is_fragment_in_range v f && 
 
 -- what is reported of a dup offer and of a bad Run, the eleventh one or not
 abbrev pub dup_lines : ℕ → ℕ → Bool → List BlockMessage
-dup_lines inode f is_eleventh = Dup f inode ∷ (if is_eleventh then ManyDup inode ∷ [] else [])
+dup_lines number f is_eleventh = Dup f number ∷ (if is_eleventh then ManyDup number ∷ [] else [])
 
 abbrev pub bad_lines : ℕ → ℕ → Bool → List BlockMessage
-bad_lines inode start is_eleventh = Bad start inode ∷ (if is_eleventh then ManyBad inode ∷ [] else [])
+bad_lines number start is_eleventh = Bad start number ∷ (if is_eleventh then ManyBad number ∷ [] else [])
 
 -- an inode by its number, as one that may own fragments
 abbrev pub owner_with : Layout → List ℕ → ℕ → Inode → Owner

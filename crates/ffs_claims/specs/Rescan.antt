@@ -6,13 +6,13 @@ use Rattle.ffs_volume.specs.declared.Step.TheVariants.{Run, Tail, Gap}
 use Rattle.ffs_walk.specs.Keepings.{run_taken}
 
 -- the offers that are kept, of a step and of steps
-abbrev pub step_offers_again : (v : Layout) (inode cut : ℕ) (r : Replay) (step : Step) → List Offer
-step_offers_again v inode cut r (Run start len block) = if is_replay_open cut r
-    then map (offer_of inode) (range_with_len start (run_taken v cut r start len)) else []
-step_offers_again v inode cut r Tail = []
-step_offers_again v inode cut r Gap = []
+abbrev pub step_offers_again : (v : Layout) (number cut : ℕ) (r : Replay) (step : Step) → List Offer
+step_offers_again v number cut r (Run start len block) = if is_replay_open cut r
+    then map (offer_of number) (range_with_len start (run_taken v cut r start len)) else []
+step_offers_again v number cut r Tail = []
+step_offers_again v number cut r Gap = []
 
-unfoldable pub offers_again : (v : Layout) (inode cut : ℕ) (r : Replay) (steps : List Step) → List Offer
-offers_again v inode cut r [] = []
-offers_again v inode cut r (step ∷ steps) =
-    step_offers_again v inode cut r step ++ offers_again v inode cut (replay_step_by_cut v cut r step) steps
+unfoldable pub offers_again : (v : Layout) (number cut : ℕ) (r : Replay) (steps : List Step) → List Offer
+offers_again v number cut r [] = []
+offers_again v number cut r (step ∷ steps) =
+    step_offers_again v number cut r step ++ offers_again v number cut (replay_step_by_cut v cut r step) steps

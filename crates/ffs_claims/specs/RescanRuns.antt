@@ -19,14 +19,14 @@ use Rattle.ffs_claims.specs.{Reporting.RewalkLeaves, Rescan.{offers_again, step_
 
 -- the kept offers of each Run that is seen: of a step, of steps, and of inodes
 abbrev pub step_runs : Layout → ℕ → Claims → Step → List (List Offer)
-step_runs v inode s (Run start len block) = if is_open s then kept_in_run v inode s start len ∷ [] else []
-step_runs v inode s Tail = []
-step_runs v inode s Gap = []
+step_runs v number s (Run start len block) = if is_open s then kept_in_run v number s start len ∷ [] else []
+step_runs v number s Tail = []
+step_runs v number s Gap = []
 
 abbrev pub steps_runs : Layout → ℕ → Claims → List Step → List (List Offer)
-steps_runs v inode s [] = []
-steps_runs v inode s (step ∷ steps) =
-    step_runs v inode s step ++ steps_runs v inode (after_step v s step) steps
+steps_runs v number s [] = []
+steps_runs v number s (step ∷ steps) =
+    step_runs v number s step ++ steps_runs v number (after_step v s step) steps
 
 unfoldable pub owners_runs : Layout → Claims → List Owner → List (List Offer)
 owners_runs v s [] = []
@@ -46,16 +46,16 @@ rescan_runs v image =
     (owners_runs v (no_claims v) (owners_of v image))
 
 -- the kept offers of each Run that is seen, replayed
-abbrev pub step_runs_again : (v : Layout) (inode cut : ℕ) (r : Replay) (step : Step) → List (List Offer)
-step_runs_again v inode cut r (Run start len block) =
-    if is_replay_open cut r then map (offer_of inode) (range_with_len start (run_taken v cut r start len)) ∷ [] else []
-step_runs_again v inode cut r Tail = []
-step_runs_again v inode cut r Gap = []
+abbrev pub step_runs_again : (v : Layout) (number cut : ℕ) (r : Replay) (step : Step) → List (List Offer)
+step_runs_again v number cut r (Run start len block) =
+    if is_replay_open cut r then map (offer_of number) (range_with_len start (run_taken v cut r start len)) ∷ [] else []
+step_runs_again v number cut r Tail = []
+step_runs_again v number cut r Gap = []
 
-unfoldable pub steps_runs_again : (v : Layout) (inode cut : ℕ) (r : Replay) (steps : List Step) → List (List Offer)
-steps_runs_again v inode cut r [] = []
-steps_runs_again v inode cut r (step ∷ steps) =
-    step_runs_again v inode cut r step ++ steps_runs_again v inode cut (replay_step_by_cut v cut r step) steps
+unfoldable pub steps_runs_again : (v : Layout) (number cut : ℕ) (r : Replay) (steps : List Step) → List (List Offer)
+steps_runs_again v number cut r [] = []
+steps_runs_again v number cut r (step ∷ steps) =
+    step_runs_again v number cut r step ++ steps_runs_again v number cut (replay_step_by_cut v cut r step) steps
 
 -- a count rose by so many; it is exact as long as it fits a u64
 abbrev pub RoseBy : ℕ → ℕ → ℕ → Type 0
@@ -72,8 +72,8 @@ pub record RunsPay (reads reads' old new : ℕ) : Type 0 where
   pub paid : new < 2 ^ 64 - 1 → reads' + old ≤ reads + new
 
 -- a step of an inode was gone over: what it keeps is reported, and the next step follows
-pub record StepReported (v : Layout) (inode : ℕ) (step : Step) (k k' : Keeping) (old new : Workspace) : Type 0 where
-  pub reported : OffersReported (step_offers_again v inode k.cut (replay_in k) step) old new
+pub record StepReported (v : Layout) (number : ℕ) (step : Step) (k k' : Keeping) (old new : Workspace) : Type 0 where
+  pub reported : OffersReported (step_offers_again v number k.cut (replay_in k) step) old new
   pub next : replay_in k' ≡ replay_step_by_cut v k.cut (replay_in k) step
   pub cut : k'.cut ≡ k.cut
 
@@ -86,21 +86,21 @@ pub record CanReportStep (v : Layout) (w : Workspace) (number : ℕ) (k : Keepin
 
 -- a step of an inode is gone over: of the offers that it keeps those are reported that are the first
 -- of a fragment with a DUP line, its Run is counted, and the rest is as reporting leaves it
-pub record ReportsStep {T E : Type 0} (v : Layout) (inode : ℕ) (step : Step) (k k' : Keeping)
+pub record ReportsStep {T E : Type 0} (v : Layout) (number : ℕ) (step : Step) (k k' : Keeping)
     (progress progress' : Progress) (old new : Workspace) (result : Result T E) : Type 0 where
   pub said : Says progress progress' (of_lines (first_offer_lines (bits_of old.duplicates)
-      (step_offers_again v inode k.cut (replay_in k) step))) result
-  pub reported : OnOk result (StepReported v inode step k k' old new)
+      (step_offers_again v number k.cut (replay_in k) step))) result
+  pub reported : OnOk result (StepReported v number step k k' old new)
   pub runs : Counted old.runs_again new.runs_again (seen_run k.cut (replay_in k) step)
   pub counted : new.runs_again < 2 ^ 64 - 1 → old.runs_again + entered step ≤ new.runs_again
   pub only : ReportsOnly v old new
 
 -- an inode with this cut was walked over again: its kept offers were gone over, and its Runs were
 -- counted up to the one that reports the last fragment with a DUP line
-pub record Rewalked (v : Layout) (inode cut : ℕ) (steps : List Step) (old new : Workspace) : Type 0 where
-  pub reported : OffersReported (offers_again v inode cut fresh_replay steps) old new
+pub record Rewalked (v : Layout) (number cut : ℕ) (steps : List Step) (old new : Workspace) : Type 0 where
+  pub reported : OffersReported (offers_again v number cut fresh_replay steps) old new
   pub count : RoseBy old.runs_again new.runs_again (runs_until_reported (bits_of old.duplicates)
-      (steps_runs_again v inode cut fresh_replay steps))
+      (steps_runs_again v number cut fresh_replay steps))
 
 -- an inode with this cut is walked over again: of its kept offers those are reported that are the
 -- first of a fragment with a DUP line, and its Runs are counted, which pay for the reads

@@ -39,7 +39,7 @@ pub record ClaimsWords (v : Layout) (old new : Workspace) (walk walk' : Walk) : 
       lines_of_steps v number (claims_of new) (steps_left bytes walk')
       ≡ lines_of_steps v number (claims_of old) (steps_left bytes walk))
   pub uncut : is_open (claims_of new) ≡ true
-  pub moves : ClaimBound (claims_of old) (claims_of new)
+  pub claim_bound : ClaimBound (claims_of old) (claims_of new)
   pub only : ClaimsOnly v old new
   pub falls : most_steps_left walk' ≤ most_steps_left walk
   pub same : SameFileBlocks walk walk'

@@ -39,16 +39,19 @@ pub fn say_class<W: Output>(
 /// A write of the report that failed.
 pub fn say_bad<W: Output>(
     report: &mut Report<'_, W>,
-    inode: u32,
+    number: u32,
     fragment: u32,
     is_eleventh: bool,
 ) -> Result<(), OutFault>
     ensures { Says (progress W.sink report.old) (progress W.sink report.new)
-        (of_lines (bad_lines inode fragment is_eleventh)) result }
+        (of_lines (bad_lines number fragment is_eleventh)) result }
 {
-    report.say(&Line::Block(BlockMessage::Bad { fragment, inode }))?;
+    report.say(&Line::Block(BlockMessage::Bad {
+        fragment,
+        inode: number,
+    }))?;
     if is_eleventh {
-        return report.say(&Line::Block(BlockMessage::ManyBad { inode }));
+        return report.say(&Line::Block(BlockMessage::ManyBad { inode: number }));
     }
     Ok(())
 }
@@ -59,16 +62,19 @@ pub fn say_bad<W: Output>(
 /// A write of the report that failed.
 pub fn say_dup<W: Output>(
     report: &mut Report<'_, W>,
-    inode: u32,
+    number: u32,
     fragment: u32,
     is_eleventh: bool,
 ) -> Result<(), OutFault>
     ensures { Says (progress W.sink report.old) (progress W.sink report.new)
-        (of_lines (dup_lines inode fragment is_eleventh)) result }
+        (of_lines (dup_lines number fragment is_eleventh)) result }
 {
-    report.say(&Line::Block(BlockMessage::Dup { fragment, inode }))?;
+    report.say(&Line::Block(BlockMessage::Dup {
+        fragment,
+        inode: number,
+    }))?;
     if is_eleventh {
-        return report.say(&Line::Block(BlockMessage::ManyDup { inode }));
+        return report.say(&Line::Block(BlockMessage::ManyDup { inode: number }));
     }
     Ok(())
 }

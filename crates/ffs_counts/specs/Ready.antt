@@ -18,16 +18,16 @@ pub record HasElements (w : Workspace) (number : ℕ) : Type 0 where
   pub references : number < vec_len w.references
 
 -- the workspace is ready, and x is an allocated inode of the volume
-pub record CanCheckUsed (v : Layout) (d : Device) (w : Workspace) (x : ℕ) : Type 0 where
+pub record CanCheckAllocated (v : Layout) (d : Device) (w : Workspace) (x : ℕ) : Type 0 where
   pub ready : IsReady v d w
   pub number : x < inodes_of v
-  pub used : is_allocated (class_of_kind (slice_index w.kinds.items x)) ≡ true
+  pub allocated : is_allocated (class_of_kind (slice_index w.kinds.items x)) ≡ true
 
 -- so many inodes from one on are free, and there are none only where that one is allocated
 pub record IsFreeStretch (kinds : List ℕ) (first n : ℕ) : Type 0 where
   pub within : first + n ≤ length kinds
   pub free : (k : ℕ) → k < n → is_allocated (class_in kinds (first + k)) ≡ false
-  pub used : n ≡ 0 → is_allocated (class_in kinds first) ≡ true
+  pub allocated : n ≡ 0 → is_allocated (class_in kinds first) ≡ true
 
 -- the lines of inode x were said, or what a fault leaves of them, by a read at most for each line, and
 -- only windows have changed

@@ -5,11 +5,11 @@ ghost use Rattle.ffs_volume.specs.Messages.Kinds.{of_tree, phase4 as phase4_head
 ghost use Rattle.ffs_volume.specs.Directories.{ReferenceCheck.reference_lines, Volumes.volume_of};
 ghost use Rattle.ffs_report.specs.{Progress.progress, PhaseOutcome.PhaseOutcome, ReadsFor.ReadsFor};
 ghost use Rattle.ffs_workspace.specs.{Found.WithFindings, Ready.{IsReady, StaysReady}};
-ghost use Rattle.ffs_counts.specs.Ready.{CanCheckUsed, ChecksInode, HasElements, IsFreeStretch};
+ghost use Rattle.ffs_counts.specs.Ready.{CanCheckAllocated, ChecksInode, HasElements, IsFreeStretch};
 ghost use Rattle.ffs_counts.specs.References.{is_dead_by, is_met};
 
 use crate::reference::{line_for, references_by, say_line};
-use ffs_groups::are_used;
+use ffs_groups::are_allocated;
 use ffs_image::Image;
 use ffs_layout::Geometry;
 use ffs_report::{Heading, Line, Output, Report, RunFault};
@@ -54,7 +54,7 @@ fn free_stretch(kinds: &[u8], first: usize) -> usize
     if kinds.len() - first < FREE_STRETCH {
         return 1;
     }
-    match are_used(&kinds[first..first + FREE_STRETCH]) {
+    match are_allocated(&kinds[first..first + FREE_STRETCH]) {
         Some(false) => FREE_STRETCH,
         _ => 1,
     }
@@ -68,7 +68,7 @@ fn check_inode<I: Image, W: Output>(
     number: u32,
     report: &mut Report<'_, W>,
 ) -> Result<(), RunFault>
-    requires { CanCheckUsed geometry.now.layout (I.device image.old) workspace.old number }
+    requires { CanCheckAllocated geometry.now.layout (I.device image.old) workspace.old number }
     ensures { ChecksInode geometry.now.layout (I.device image.old) (I.device image.new)
         workspace.old workspace.new number (progress W.sink report.old)
         (progress W.sink report.new) (I.reads image.old) (I.reads image.new) result }

@@ -87,15 +87,15 @@ fn tenths_of(frags: i32, dsize: u32) -> i64
     i64::from(frags) * 1000 / i64::from(dsize)
 }
 
-fn summary_line(superblock: &Super, files: u32, used: u32) -> Line<'static>
-    ensures { message_of result ≡ summary_of (superblock_in superblock.now) files used }
+fn summary_line(superblock: &Super, files: u32, claimed: u32) -> Line<'static>
+    ensures { message_of result ≡ summary_of (superblock_in superblock.now) files claimed }
 {
     let blocks = superblock.cstotal[1];
     let frags = superblock.cstotal[3];
     let layout = &superblock.geometry.layout;
     Line::Summary {
         files,
-        used,
+        used: claimed,
         free: free_in_all(frags, layout.frag as u8, blocks),
         frags,
         blocks,
@@ -123,7 +123,7 @@ pub fn summary<W: Output>(
         device device (progress W.sink report.old) (progress W.sink report.new) result }
 {
     let files = file_count(&workspace.kinds);
-    let used = claimed_count(&superblock.geometry, &workspace.used);
-    report.say(&summary_line(superblock, files, used))?;
+    let claimed = claimed_count(&superblock.geometry, &workspace.used);
+    report.say(&summary_line(superblock, files, claimed))?;
     Ok(())
 }

@@ -25,7 +25,7 @@ fn is_dir_kind(kind: u8) -> bool
 }
 
 /// Whether this is the kind of an inode that is allocated.
-fn is_used_kind(kind: u8) -> bool
+fn is_allocated_kind(kind: u8) -> bool
     ensures { result ≡ is_allocated (class_of_kind kind) }
 {
     Kind { code: kind }.is_allocated()
@@ -37,15 +37,15 @@ pub fn is_used_at(kinds: &[u8], inode: usize) -> bool
     requires { inode < length kinds.now }
     ensures { result ≡ is_used_inode (class_in kinds.now) inode }
 {
-    inode < 2 || is_used_kind(kinds[inode])
+    inode < 2 || is_allocated_kind(kinds[inode])
 }
 
 /// Whether the inodes of some kinds are all allocated (`Some(true)`), or none is (`Some(false)`),
 /// by the least and the greatest kind; else `None`. It sees no number, so inodes 0 and 1 are like
 /// others here.
-pub fn are_used(kinds: &[u8]) -> Option<bool>
-    ensures { IfSome result (λ used. (k : ℕ) → k < length kinds.now
-        → is_allocated (class_of_kind (slice_index kinds.now k)) ≡ used) }
+pub fn are_allocated(kinds: &[u8]) -> Option<bool>
+    ensures { IfSome result (λ allocated. (k : ℕ) → k < length kinds.now
+        → is_allocated (class_of_kind (slice_index kinds.now k)) ≡ allocated) }
 {
     let mut least = u8::MAX;
     let mut most = 0;
@@ -79,7 +79,7 @@ fn few_counts(kinds: &[u8], first: usize, end: usize) -> FewCounts
     let mut counts = FewCounts { dirs: 0, free: 0 };
     for inode in first..end {
         counts.dirs += u8::from(is_dir_kind(kinds[inode]));
-        counts.free += u8::from(!is_used_kind(kinds[inode]));
+        counts.free += u8::from(!is_allocated_kind(kinds[inode]));
     }
     counts
 }

@@ -21,5 +21,5 @@ mod maps;
 
 pub use check::{GroupFindings, Usage, compare_group};
 pub use counts::{Counts, SummaryCounts, group_counts};
-pub use inodes::are_used;
+pub use inodes::are_allocated;
 pub use maps::group_fragments;

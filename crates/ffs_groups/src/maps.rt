@@ -11,7 +11,7 @@ ghost use Rattle.ffs_groups.specs.Inputs.{HasFragmentMap, HasInodeMap, IsGroupSi
 ghost use Rattle.ffs_groups.specs.MapParts.{AreFewIn, HasMapWords, IsClearAt, SetsBit};
 
 use crate::free::{FRAGMENTS_AT_ONCE, are_free};
-use crate::inodes::{are_used, is_used_at};
+use crate::inodes::{are_allocated, is_used_at};
 use byteorder::{ByteOrder, LittleEndian};
 use ffs_layout::Geometry;
 use ffs_maps::FragmentMap;
@@ -59,8 +59,8 @@ fn used_word(kinds: &[u8], first: usize, count: u32) -> u64
         ≡ is_used_inode (class_in kinds.now) (first + k) }
 {
     if first >= 2 {
-        if let Some(used) = are_used(&kinds[first..first + count as usize]) {
-            return filled(used);
+        if let Some(allocated) = are_allocated(&kinds[first..first + count as usize]) {
+            return filled(allocated);
         }
     }
     let mut word = 0;

@@ -16,7 +16,7 @@ use Rattle.ffs_workspace.specs.{declared.workspace.Workspace.Workspace, Lengths.
 use Rattle.ffs_workspace.specs.{Holds.{HoldsClaims, HoldsReferences, HoldsSurvey}, Leaves.LeavesSurvey}
 use Rattle.ffs_workspace.proofs.{KindLaws.{reports_at, suspect_is}, Leaving.{claims_left, survey_left, leaves_all}}
 use Rattle.ffs_pathnames.specs.{Gathers.passed_of, DirectoryContext.DirectoryContext, Before.{IsNonePassed, IsBefore}}
-use Rattle.ffs_pathnames.specs.{Before.{IsBeforeNoted, is_checked, root_reported}, Calm.IsSilentDirectory}
+use Rattle.ffs_pathnames.specs.{Before.{IsBeforeNoted, needs_check, root_reported}, Calm.IsSilentDirectory}
 use Rattle.ffs_pathnames.{specs.{PassedRight.AreRightBefore, Stamps.KeepPlaces}, proofs.Begun.directory_is}
 use Rattle.ffs_pathnames.proofs.{Begun.quiet_parts, StampLaws.{noted_kept, stamps_length}, BetweenLaws.other_next}
 use Rattle.ffs_pathnames.proofs.{BetweenLaws.{silent_next, silent_quiet}, EmptyLaws.{looked_is, looked_dir, names_none}}
@@ -100,7 +100,7 @@ module _ {v : Layout} {contents : Option (List ℕ)} {w : Workspace} {d : ℕ} {
   lines_looked e k = rw (looked_is v b d, ← k.claims.kinds d, e) refl
 
   -- a directory that isn't looked at is calm
-  calm_shown : is_checked w d ≡ false → (slice_index w.kinds.items d == 4) ≡ true → IsBefore v contents w d b →
+  calm_shown : needs_check w d ≡ false → (slice_index w.kinds.items d == 4) ≡ true → IsBefore v contents w d b →
       IsSilentDirectory (volume_of v b) d
   calm_shown h e k =
       let suspect = suspect_shown v b w d k.claims in
@@ -108,7 +108,7 @@ module _ {v : Layout} {contents : Option (List ℕ)} {w : Workspace} {d : ℕ} {
       grind (arith, nat_tests)
 
   -- an inode that isn't looked at, or is left out
-  pub lines_skipped : 2 ≤ d → is_checked w d ≡ false → IsBefore v contents w d b →
+  pub lines_skipped : 2 ≤ d → needs_check w d ≡ false → IsBefore v contents w d b →
       map of_tree (directory_lines (volume_of v b) d) ≡ []
   lines_skipped two h k = elim (cases_Bool (slice_index w.kinds.items d == 4)) [
     | inl e ↦
@@ -119,7 +119,7 @@ module _ {v : Layout} {contents : Option (List ℕ)} {w : Workspace} {d : ℕ} {
     | inr e ↦ rw (looked_is v b d, ← k.claims.kinds d, e) refl
   ]
 
-  pub before_skipped : IsAcceptedLayout v → is_checked w d ≡ false → IsBefore v contents w d b →
+  pub before_skipped : IsAcceptedLayout v → needs_check w d ≡ false → IsBefore v contents w d b →
       IsBefore v contents w (suc d) b
   before_skipped g h k = before_next refl (leaves_all w) (elim (cases_Bool (slice_index w.kinds.items d == 4)) [
     | inl e ↦ silent_next (volume_of v b) d (passed_of w) (calm_shown h e k) k.passed

@@ -5,12 +5,12 @@ use Rattle.ffs_volume.specs.{declared.Layout.Layout, Laws.Geometry.IsAcceptedLay
 use Rattle.ffs_volume.specs.{Directories.{Volumes.volume_of, PathnameCheck.directory_lines}, Messages.Kinds.of_tree}
 use Rattle.ffs_volume.{specs.Messages.Kinds.lines_from, proofs.Numbered.from_next}
 use Rattle.ffs_workspace.specs.{declared.workspace.Workspace.Workspace, Lengths.IsFor, Places.is_due, Holds.HoldsSurvey}
-use Rattle.ffs_pathnames.{specs.Before.{IsBefore, is_checked}, proofs.Carrying.{before_skipped, lines_skipped}}
+use Rattle.ffs_pathnames.{specs.Before.{IsBefore, needs_check}, proofs.Carrying.{before_skipped, lines_skipped}}
 use Rattle.ffs_pathnames.proofs.StampLaws.{none_stamped, stamps_length}
 
 -- none of the inodes from 2 to before n is looked at
 abbrev pub IsUnseen : Workspace → ℕ → Type 0
-IsUnseen w n = (x : ℕ) → 2 ≤ x → x < n → is_checked w x ≡ false
+IsUnseen w n = (x : ℕ) → 2 ≤ x → x < n → needs_check w x ≡ false
 
 -- what is known before the first inode is known before n, and nothing is reported before n
 pub unseen : (v : Layout) (contents : Option (List ℕ)) (w : Workspace) (b : List ℕ) (n end : ℕ) → IsAcceptedLayout v →

@@ -34,8 +34,8 @@ pub record IsBeforeNoted (v : Layout) (contents : Option (List ℕ)) (w : Worksp
 
 -- a directory that isn't of size 0 and isn't known to be calm. That a marked one is flagged doesn't
 -- mean that it is calm, but that an entry has named it
-abbrev pub is_checked : Workspace → ℕ → Bool
-is_checked w x = (slice_index w.kinds.items x == DT_DIR)
+abbrev pub needs_check : Workspace → ℕ → Bool
+needs_check w x = (slice_index w.kinds.items x == DT_DIR)
     && (bool_at w.marked.items x || not (bool_at w.flags.items x))
 
 -- the lists say something of each inode, and x is one
@@ -49,11 +49,11 @@ pub record ListsInodes (w : Workspace) (n : ℕ) : Type 0 where
   pub count : n ≡ vec_len w.kinds
   pub some : 2 ≤ n
 
--- the first directory that is checked, or `count` where none is
-pub record IsFirstChecked (w : Workspace) (count first : ℕ) : Type 0 where
+-- the first directory that needs a check, or `count` where none does
+pub record IsFirstToCheck (w : Workspace) (count first : ℕ) : Type 0 where
   pub range : (2 ≤ first) × (first ≤ count)
-  pub found : first < count → is_checked w first ≡ true
-  pub before : (x : ℕ) → 2 ≤ x → x < first → is_checked w x ≡ false
+  pub found : first < count → needs_check w first ≡ true
+  pub before : (x : ℕ) → 2 ≤ x → x < first → needs_check w x ≡ false
 
 -- what is reported of the root, by its kind and by whether it is marked
 unfoldable pub root_reported : ℕ → Bool → List TreeMessage

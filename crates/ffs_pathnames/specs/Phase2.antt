@@ -20,13 +20,13 @@ pub record IsLeftByPhase2 (v : Layout) (bytes : List ℕ) (root : Root) (old new
 
 -- what phase 2 leaves at Ok; where a read failed, that the heading alone was said, or that the check
 -- continues after the root
-abbrev pub Phase2Ends : Layout → Device → (old new : Workspace) → (before after : Progress) → Result Root RunFault →
+abbrev pub Phase2Ends : Layout → Device → (w w' : Workspace) → (old new : Progress) → Result Root RunFault →
     Type 0
-Phase2Ends v d old new before after (Ok root) =
-    ForBytes (WithClaims v d old) (λ bytes. IsLeftByPhase2 v bytes root old new)
-Phase2Ends v d old new before after (Err (Read fault)) = Said before after (phase2 ∷ [])
-    ⊎ ForBytes (WithClaims v d old) (λ bytes. continues_after_root (volume_of v bytes) ≡ true)
-Phase2Ends v d old new before after (Err (Out fault)) = ⊤
+Phase2Ends v d w w' old new (Ok root) =
+    ForBytes (WithClaims v d w) (λ bytes. IsLeftByPhase2 v bytes root w w')
+Phase2Ends v d w w' old new (Err (Read fault)) = Said old new (phase2 ∷ [])
+    ⊎ ForBytes (WithClaims v d w) (λ bytes. continues_after_root (volume_of v bytes) ≡ true)
+Phase2Ends v d w w' old new (Err (Out fault)) = ⊤
 
 -- on a volume of less than 2^40 bytes (`AreChunksNumbered`) an image that gives its bytes is read at
 -- most `pathname_reads` times, and any image no more than four sweeps, and `line_reads` for each

@@ -6,7 +6,7 @@ ghost use Rattle.ffs_volume.specs.Directories.{Parents.graph_of, Graph.parent, V
 ghost use Rattle.ffs_volume.specs.Directories.PathnameCheck.{directory_lines, pathname_lines, sized_dir_lines};
 ghost use Rattle.ffs_names.specs.Costs.{directory_cost};
 ghost use Rattle.ffs_pathnames.specs.{ReadsLeft.{LeftForNext, LeftForBoth, LeftForLook}, PassedRight.AreRightBefore};
-ghost use Rattle.ffs_pathnames.specs.Before.{ListsInode, ListsInodes, IsBeforeNoted, IsFirstChecked, is_checked};
+ghost use Rattle.ffs_pathnames.specs.Before.{ListsInode, ListsInodes, IsBeforeNoted, IsFirstToCheck, needs_check};
 ghost use Rattle.ffs_pathnames.specs.{Gathers.passed_of, RootAnswers.AnswersRoot, Ready.{ReadyToCheck, ReadyToPath}};
 ghost use Rattle.ffs_pathnames.specs.Begins.{AreFirstTwo, dir_header_lines, IsDirectoryBegun};
 ghost use Rattle.ffs_pathnames.specs.{Header.header_lines, DirectoryContext.KnowsHeader};
@@ -30,22 +30,21 @@ use ffs_workspace::{Workspace, sweep_reads};
 
 /// Whether an inode is a directory that isn't of size 0 and isn't known to be calm. That a marked
 /// one is flagged doesn't mean that it is calm, but that an entry has named it.
-fn is_checked(workspace: &Workspace, number: u32) -> bool
+fn needs_check(workspace: &Workspace, number: u32) -> bool
     requires { ListsInode workspace.now number }
-    ensures { result ≡ is_checked workspace.now number }
+    ensures { result ≡ needs_check workspace.now number }
 {
     let index = number as usize;
     workspace.kinds[index] == DT_DIR && (workspace.marked[index] || !workspace.flags[index])
 }
 
-/// The first directory that is checked (`is_checked`), or `count`, how many inodes there are, where
-/// none is.
-fn first_checked(workspace: &Workspace, count: u32) -> u32
+/// The first directory that needs a check, or `count`, how many inodes there are, where none does.
+fn first_to_check(workspace: &Workspace, count: u32) -> u32
     requires { ListsInodes workspace.now count }
-    ensures { IsFirstChecked workspace.now count result }
+    ensures { IsFirstToCheck workspace.now count result }
 {
     for number in ROOTINO..count {
-        if is_checked(workspace, number) {
+        if needs_check(workspace, number) {
             return number;
         }
     }
@@ -74,7 +73,7 @@ fn check_inode<I: Image, W: Output>(
         (progress W.sink report.old) (progress W.sink report.new)
         (I.reads image.old) (I.reads image.new) result }
 {
-    if is_checked(workspace, number) {
+    if needs_check(workspace, number) {
         return check_directory(geometry, image, workspace, checking, report, number);
     }
     Ok(())
@@ -99,10 +98,10 @@ fn check_inodes<I: Image, W: Output>(
 
     // Where no directory is checked, nothing is read.
     ensures unchecked { ((x : ℕ) → 2 ≤ x → x < inodes_of geometry.now.layout
-        → is_checked workspace.old x ≡ false) → workspace.new ≡ workspace.old }
+        → needs_check workspace.old x ≡ false) → workspace.new ≡ workspace.old }
 {
     let count = geometry.layout.ncg * geometry.layout.ipg;
-    let first = first_checked(workspace, count);
+    let first = first_to_check(workspace, count);
     if first == count {
         return Ok(());
     }

@@ -11,7 +11,7 @@ pub record SaidMany (n : ℕ) (old new : Progress) : Type 0 where
   pub said : Said old new messages
   pub many : n ≡ length messages
 
--- n messages were said, or all but the last of them
+-- at least n messages were said, or all of n but the last
 pub record SaidButOne (n : ℕ) (old new : Progress) : Type 0 where
   pub messages : List Message
   pub said : Said old new messages
@@ -30,7 +30,7 @@ AreBegun n old new (Ok x) = SaidMany n old new
 AreBegun n old new (Err (Read fault)) = SaidButOne n old new
 AreBegun n old new (Err (Out fault)) = StoppedAmong n old new
 
--- some messages were begun, and no more was taken than their price
+-- some messages were begun, and `after` is at most `before` and the price of each of them
 pub record Paid {T : Type 0} (price : ℕ) (old new : Progress) (before after : ℕ) (result : Result T RunFault) :
     Type 0 where
   pub messages : ℕ

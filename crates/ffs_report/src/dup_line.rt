@@ -19,14 +19,14 @@ const ROOM: usize = MOST_DIGITS + DUP.len() + MOST_DIGITS + LINE_END.len();
 #[derive(Drop)]
 pub struct DupLine {
     bytes: [u8; ROOM],
-    /// Where the text after the fragment begins. It goes up to the end of the bytes.
-    end: usize,
+    /// Where the text after the fragment begins; it goes up to the end of `bytes`.
+    tail: usize,
     /// The inode that this text names.
     inode: u32,
     ghost long: { length bytes ≡ ROOM },
-    ghost room: { MOST_DIGITS ≤ end },
-    ghost within: { end ≤ ROOM },
-    ghost ends: { drop end bytes ≡ number_text texts.DUP.now inode texts.LINE_END.now },
+    ghost room: { MOST_DIGITS ≤ tail },
+    ghost within: { tail ≤ ROOM },
+    ghost ends: { drop tail bytes ≡ number_text texts.DUP.now inode texts.LINE_END.now },
 }
 
 /// Puts a text before a place, and returns where it begins.
@@ -48,8 +48,8 @@ impl DupLine {
         let mut bytes = [0; ROOM];
         let number_end = put_before(&mut bytes, ROOM, LINE_END);
         let number = write_digits(inode as u64, &mut bytes, number_end);
-        let end = put_before(&mut bytes, number, DUP);
-        DupLine { bytes, end, inode }
+        let tail = put_before(&mut bytes, number, DUP);
+        DupLine { bytes, tail, inode }
     }
 
     /// The line of a fragment and an inode.
@@ -61,7 +61,7 @@ impl DupLine {
         if inode != self.inode {
             *self = DupLine::new(inode);
         }
-        let start = write_digits(fragment as u64, &mut self.bytes, self.end);
+        let start = write_digits(fragment as u64, &mut self.bytes, self.tail);
         &self.bytes[start..]
     }
 }

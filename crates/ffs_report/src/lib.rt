@@ -34,8 +34,8 @@ mod outlet;
 mod output;
 mod piece;
 pub mod print;
+mod print_line;
 mod report;
-mod say;
 mod tree_lines;
 
 pub use counted::Counted;

@@ -43,9 +43,9 @@ pub enum Line<'a> {
     Entry(EntryLine<'a>),
     /// An inode by the entries that name it.
     Reference(ReferenceLine),
-    /// What the volume holds: its files and directories; the fragments that they use; by the
-    /// superblock's counts, the free fragments in all, the loose ones and the free blocks; and the
-    /// loose ones in tenths of a percent of the data fragments.
+    /// What the volume holds: its files and directories; the claimed fragments, `used` (reserved
+    /// ones don't count); by the superblock's counts, the free fragments in all, the loose ones and
+    /// the free blocks; and the loose ones in tenths of a percent of the data fragments.
     Summary {
         files: u32,
         used: u32,

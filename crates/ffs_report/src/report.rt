@@ -8,16 +8,20 @@ use crate::line::Line;
 use crate::line_buffer::LineBuffer;
 use crate::output::{OutFault, Output};
 use crate::print::print;
-use crate::say::print_gathered;
+use crate::print_line::print_gathered;
 use ffs_volume::BlockMessage;
 
 /// The lines that are said on an output, up to the first one that fails.
 #[derive(Drop)]
 pub struct Report<'a, W> {
     out: &'a mut W,
+    /// The buffer in which a line is gathered.
     text: LineBuffer,
+    /// The last DUP line.
     dup: DupLine,
+    /// Whether a line has failed.
     failed: bool,
+    /// Whether a defect was said.
     defect: bool,
 }
 

@@ -63,25 +63,26 @@ pub record BlocksAfter {T : Type 0} (v : Layout) (d d' : Device) (before after :
   pub read : ReadAfter d d' result
 
 -- the block at an address is held for a level, with the image's bytes, where the image gives them
-pub record HoldsBlockAt (v : Layout) (contents : Option (List ℕ)) (level at : ℕ) (blocks : Blocks) : Type 0 where
-  pub address : held_address level blocks ≡ Some at
-  pub bytes : ForContents contents (λ b. level_bytes v level blocks ≡ block_bytes v b at)
+pub record HoldsBlockAt (v : Layout) (contents : Option (List ℕ)) (level address : ℕ) (blocks : Blocks) : Type 0
+  where
+    pub is_held : held_address level blocks ≡ Some address
+    pub bytes : ForContents contents (λ b. level_bytes v level blocks ≡ block_bytes v b address)
 
 -- the block at an address may be asked for, for a level: it is in range, and a walk may read
-pub record CanFill (v : Layout) (d : Device) (level at : ℕ) (blocks : Blocks) : Type 0 where
+pub record CanFill (v : Layout) (d : Device) (level address : ℕ) (blocks : Blocks) : Type 0 where
   pub is_level : level < 3
-  pub in_range : IsTrue (is_run_in_range v at v.frag)
+  pub in_range : IsTrue (is_run_in_range v address v.frag)
   pub ready : CanWalk v d blocks
 
 -- the block at an address is held for a level, or a read of it failed; the other levels hold what
 -- they held. It is read at most once, and not where it was held already
-pub record FillsBlock {T : Type 0} (v : Layout) (d d' : Device) (reads reads' level at : ℕ) (before after : Blocks)
+pub record FillsBlock {T : Type 0} (v : Layout) (d d' : Device) (reads reads' level address : ℕ) (before after : Blocks)
     (result : Result T ImageFault) : Type 0 where
-  pub held : OnOk result (HoldsBlockAt v d.contents level at after)
+  pub held : OnOk result (HoldsBlockAt v d.contents level address after)
   pub leaves : BlocksAfter v d d' before after result
   pub others : (other : ℕ) → (other ≡ level → ⊥) → held_address other after ≡ held_address other before
   pub counted : reads' ≤ reads + 1
-  pub again : held_address level before ≡ Some at → reads' ≤ reads
+  pub again : held_address level before ≡ Some address → reads' ≤ reads
 
 -- `size` bytes of a place may be asked for: the image has them, and the window has room for them and
 -- holds what the image gives

@@ -48,9 +48,9 @@ marked_by_phase1_at v image x =
 unfoldable pub all_claims : Layout → List ℕ → Claims
 all_claims v image = after_owners v (no_claims v) (owners_of v image)
 
--- what phase 1 leaves: the fragments that are reserved or claimed and those with a Dup line, and
--- for each inode its kind, whether it is marked so far, what is noted of it, and where its count of
--- references starts
+-- what phase 1 leaves: the fragments that are reserved or claimed, those with a DUP line, how many
+-- Runs were seen, and for each inode its kind, whether it is marked so far, what is noted of it,
+-- and where its count of references starts
 pub record HoldsPhase1 (v : Layout) (image : List ℕ) (w : Workspace) : Type 0 where
   pub used : bits_of w.used ≡ (all_claims v image).used
   pub dup : bits_of w.duplicates ≡ (all_claims v image).dup

@@ -1,6 +1,6 @@
--- What a workspace notes of an inode, in 32 bits: how many offers it keeps, where its eleventh dup
--- offer cut it; where it isn't cut and is a directory of one chunk, the address of that chunk, so
--- that the survey needn't read the inode again; else 0.
+-- What a workspace notes of an inode, in 32 bits: its cut, which is how many offers it keeps, if its
+-- eleventh dup offer cut it; where its cut is 0 and it is a directory of one chunk, `first_noted` plus
+-- that chunk's address, so that the survey needn't read the inode again; else 0.
 use Rattle.std.specs.Prelude.{ℕ, Bool, ◌+◌, ◌-◌, ◌^◌, ◌&&◌, ◌==◌, nat_lt, if◌then◌else◌, List, slice_index}
 use Rattle.ffs_volume.specs.declared.{Layout.Layout, Inode.Inode, Class.Class, constants.TheConstants.DIRBLKSIZ}
 use Rattle.ffs_volume.specs.{Blocks.Inodes.{inode_of, is_directory}, Directories.Volumes.class_at}

@@ -54,8 +54,8 @@ pub struct Workspace {
     pub flags: FixedList<bool>,
     /// How many entries refer to each inode, counted on from `links_start`.
     pub references: FilledList<u64>,
-    /// What is noted of each inode (`note_of`): how many offers it keeps where its eleventh dup
-    /// offer cut it, or where the only chunk of a directory is, else 0.
+    /// What is noted of each inode (`note_of`): how many offers it keeps, if its eleventh dup offer
+    /// cut it; if not, 2^31 + 128 plus the address of its chunk for a directory of one; else 0.
     pub notes: FilledList<u32>,
     /// The parent of each directory, or 0.
     pub parents: FilledList<u32>,

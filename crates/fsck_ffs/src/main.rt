@@ -2,8 +2,9 @@
 //! after fsck(8).
 #![tactic(auto)]
 
-use ffs_check::run::run;
+use ffs_check::run::{NOT_COMPLETED, WRONG_WORDS, run};
 use ffs_report::MutedWriter;
+use ffs_volume::texts::CANNOT_ALLOC;
 use std::io::{BufWriter, ErrorKind, LineWriter, Write};
 use std::os::unix::fs::{FileTypeExt, MetadataExt};
 use std::process::ExitCode;
@@ -15,12 +16,7 @@ const BUFFER_SIZE: usize = 65536;
 /// The major number of the devices of memory: null(4), full(4), zero(4).
 const MEMORY_DEVICES: u64 = 1;
 
-/// The status where memory is refused.
-const NO_MEMORY: u8 = 8;
-
-/// The status of arguments that are not text.
-const WRONG_WORDS: u8 = 2;
-
+/// Collects the words, and checks the image that they ask for.
 fn main(rt: HostRuntime) -> ExitCode {
     let words: Vec<String> = match env::args(&rt) {
         Ok(words) => match words.collect(rt.alloc()) {
@@ -77,6 +73,6 @@ fn major(device: u64) -> u64 {
 
 /// Reports that memory was refused before the check began.
 fn no_memory(rt: &HostRuntime) -> ExitCode {
-    let _ = rt.stdout().write_all(b"cannot alloc maps\n");
-    ExitCode::from(NO_MEMORY)
+    let _ = rt.stdout().write_all(CANNOT_ALLOC);
+    ExitCode::from(NOT_COMPLETED)
 }

@@ -68,7 +68,7 @@ step-requires g c =
     let read = claiming_walked c.in_ok-next.ensures.leaves.read inv.geometry c.next.ensures.leaves.kept inv.left in
     record {
       next = sees_next c.args.geometry.now.sound c.requires.begun read.claim.ready.made read.claim.only_data
-          inv.open_still read.moves;
+          inv.open_still read.claim_bound;
       length = (rw (inv.geometry, c.in-Some.is) at c.in_ok-next.ensures.step.fits).length;
     }
 
@@ -80,7 +80,7 @@ returns-in_err-seen g c =
     let s = claims_of c.loop-next.workspace in
     let read = claiming_walked c.in_ok-next.ensures.leaves.read inv.geometry c.next.ensures.leaves.kept inv.left in
     let next = rw (inv.left.image, c.in-Some.is) at c.in_ok-next.ensures.step.steps in
-    let few = seen_bound c.args.workspace.now read.claim.ready.made inv.open_still read.moves in
+    let few = seen_bound c.args.workspace.now read.claim.ready.made inv.open_still read.claim_bound in
     let paid = rw c.in-Some.is at (c.in_ok-next.ensures.counted inv.held).paid in
     rw (p.1, p.2) (record {
       text = of_stops _ _ _ _ _ _ _ _ inv.said (lines_on v _ s _ c.loop-next.sweep.walk c.next.new.self
@@ -134,7 +134,7 @@ claim_words-requires g c =
     record {
       next = sees_next sound c.requires.begun left.only.made left.only_data (sym now.seen ∙ c.if-not-seen.false)
           (moves_on c.in-Some.next inv.left.claim.ready.made sound.sizes.frag_high
-          (rw (inv.geometry, c.in-Some.is) at c.in_ok-next.ensures.step.fits).length now.claims inv.left.moves);
+          (rw (inv.geometry, c.in-Some.is) at c.in_ok-next.ensures.step.fits).length now.claims inv.left.claim_bound);
       geometry = c.in_ok-next.ensures.same.geometry ∙ inv.geometry;
     }
 
@@ -154,7 +154,7 @@ loop-next-preserved g c =
     let claimed = ready_still left.only.made left.only.windows read.claim.ready in
     let moves = moves_then _ (claims_of c.step.new.workspace) _
     (moves_on c.in-Some.next inv.left.claim.ready.made c.args.geometry.now.sound.sizes.frag_high
-    (rw (inv.geometry, c.in-Some.is) at c.in_ok-next.ensures.step.fits).length now inv.left.moves) words.moves in
+    (rw (inv.geometry, c.in-Some.is) at c.in_ok-next.ensures.step.fits).length now inv.left.claim_bound) words.claim_bound in
     let image = (g.I.Image.device c.next.new.image).contents in
     let gives = ap (λ d. d.contents) read.image in
     record {
@@ -180,7 +180,7 @@ returns-then-not-seen g c =
     let n = c.args.claimant.now.number in
     let read = claiming_walked c.in_ok-next.ensures.leaves.read inv.geometry c.next.ensures.leaves.kept inv.left in
     let now = c.in_ok-seen.ensures in
-    let few = seen_bound c.args.workspace.now read.claim.ready.made inv.open_still read.moves in
+    let few = seen_bound c.args.workspace.now read.claim.ready.made inv.open_still read.claim_bound in
     let cut : is_open s' ≡ false = sym now.seen ∙ c.if-not-seen.true in
     let next = rw (inv.left.image, c.in-Some.is) at c.in_ok-next.ensures.step.steps in
     let paid = rw c.in-Some.is at (c.in_ok-next.ensures.counted inv.held).paid in
@@ -192,7 +192,7 @@ returns-then-not-seen g c =
           inv.claims (λ bytes t. (cut_over v n s' (steps_left bytes c.next.new.self) cut).0);
       left = claiming_on read.image c.step.ensures.left (omega (arith, c.step.ensures.runs))
           (moves_on c.in-Some.next inv.left.claim.ready.made c.args.geometry.now.sound.sizes.frag_high
-          (rw (inv.geometry, c.in-Some.is) at c.in_ok-next.ensures.step.fits).length now.claims inv.left.moves)
+          (rw (inv.geometry, c.in-Some.is) at c.in_ok-next.ensures.step.fits).length now.claims inv.left.claim_bound)
           read;
       walk = c.in_ok-next.ensures.same.geometry ∙ inv.geometry;
       counted = omega (arith, paid, inv.counted, c.step.ensures.counted);

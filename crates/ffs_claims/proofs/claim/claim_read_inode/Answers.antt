@@ -18,7 +18,7 @@ say_count-requires g c =
       c.args.geometry.now.sound.numbers.size_below,
       kept_bound (claims_of c.begin.new.workspace) (claims_of c.claim.new.workspace) c.args.geometry.now.layout.size
           (bits_long c.claim.new.workspace.used ∙ made.used) (omega arith) (omega arith) b.kept
-          c.in_ok-claim.ensures.left.moves,
+          c.in_ok-claim.ensures.left.claim_bound,
     )
 
 pub claim-requires : goal.claim-requires
@@ -81,7 +81,7 @@ returns-clause-claims g c =
     let zero = begun c.args.workspace.now c.begin.ensures c.requires.can.runs in
     let left = c.claim.ensures.left in
     let ready = ready_stored c.store-2.ensures.stored c.store-2.ensures.rest left.claim.ready in
-    let m = c.in_ok-claim.ensures.left.moves in
+    let m = c.in_ok-claim.ensures.left.claim_bound in
     record {
       text = of_says _ _ (λ bytes. []) _ _ _ _ _ (steps_reported v _ _ (claims_of c.args.workspace.now)
           (ap claims_of c.begin.ensures) c.requires.class_is c.in_ok-say_class.ensures

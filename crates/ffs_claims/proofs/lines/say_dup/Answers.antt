@@ -7,10 +7,10 @@ use Rattle.ffs_claims.proofs.lines.say_dup.Goals as goal
 pub returns-in_err-say : goal.returns-in_err-say
 returns-in_err-say g c =
     let p = err_from_is_err_and c.from_residual.result c.from_residual.ensures.1 in
-    rw (p.1) (stopped_more _ _ (of_blocks (Dup c.args.fragment c.args.inode) ∷ [])
-    (of_lines (if c.args.is_eleventh then ManyDup c.args.inode ∷ [] else [])) c.in_err-say.ensures.said)
+    rw (p.1) (stopped_more _ _ (of_blocks (Dup c.args.fragment c.args.number) ∷ [])
+    (of_lines (if c.args.is_eleventh then ManyDup c.args.number ∷ [] else [])) c.in_err-say.ensures.said)
 
 pub returns-then-is_eleventh : goal.returns-then-is_eleventh
 returns-then-is_eleventh g c =
-    rw c.if-is_eleventh.true (says_then _ _ _ (of_blocks (Dup c.args.fragment c.args.inode) ∷ [])
-    (of_blocks (ManyDup c.args.inode) ∷ []) _ c.in_ok-say.ensures.said c.say-then-is_eleventh.ensures.said)
+    rw c.if-is_eleventh.true (says_then _ _ _ (of_blocks (Dup c.args.fragment c.args.number) ∷ [])
+    (of_blocks (ManyDup c.args.number) ∷ []) _ c.in_ok-say.ensures.said c.say-then-is_eleventh.ensures.said)

@@ -12,8 +12,8 @@ claim_address-requires c =
     let next = c.requires.can.next in
     let words = c.loop-geometry.invariant.words in
     let size = c.args.geometry.now.sound.numbers.size_below in
-    let kept = kept_room c.args.workspace.now words.only.made words.uncut words.moves in
-    let seen = seen_bound c.args.workspace.now words.only.made words.uncut words.moves in
+    let kept = kept_room c.args.workspace.now words.only.made words.uncut words.claim_bound in
+    let seen = seen_bound c.args.workspace.now words.only.made words.uncut words.claim_bound in
     grind arith
 
 pub loop-geometry-preserved : goal.loop-geometry-preserved

@@ -41,7 +41,7 @@ returns-then-is_right g c = record {
     image = search rules;
     text = says_none (λ bytes k. ap (λ (ls : List TreeMessage). map of_tree ls)
         (met_lines c.args.geometry.now.layout bytes c.args.workspace.now c.args.number c.requires.number k.1
-        c.requires.used (sym c.is_right.ensures ∙ c.if-is_right.true)));
+        c.requires.allocated (sym c.is_right.ensures ∙ c.if-is_right.true)));
   };
   reads = record { known = λ bytes k. omega arith; paid = paid_none (omega arith) };
   stays = search rules;

@@ -21,12 +21,12 @@ line_is g c bytes k =
     let v = c.args.superblock.now.geometry.layout in
     let kinds = c.deref.result.now in
     ap (λ (m : Message). m ∷ []) (sym (c.summary_line.ensures
-    ∙ ap (λ n. summary_of s n c.claimed_count-used.result)
+    ∙ ap (λ n. summary_of s n c.claimed_count-claimed.result)
     (files_are v bytes kinds c.file_count-files.result (length kinds) c.file_count-files.ensures (search (rules, arith))
     (λ x. ap (λ ks. slice_index ks x) c.deref.ensures.value ∙ k.kinds x))
     ∙ ap (λ n. summary_of s (file_count v bytes) n)
-    (used_are v bytes (bits_of c.args.workspace.now.used) c.claimed_count-used.result
-    (c.claimed_count-used.ensures c.requires.used) k.used)))
+    (used_are v bytes (bits_of c.args.workspace.now.used) c.claimed_count-claimed.result
+    (c.claimed_count-claimed.ensures c.requires.used) k.used)))
 
 pub returns-in_err-say : goal.returns-in_err-say
 returns-in_err-say g c =

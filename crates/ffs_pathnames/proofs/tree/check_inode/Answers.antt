@@ -13,9 +13,9 @@ both : {v : Layout} {device : Device} {w : Workspace} {d left : ℕ} {b : List �
     (slice_index w.kinds.items d == 4) ≡ true → LeftForNext v device w d left b → LeftForBoth v device w d left b
 both looked k = record { knows = directory_context looked k.0; passed = k.0.before.passed; enough = k.1 }
 
-pub returns-then-is_checked : goal.returns-then-is_checked
-returns-then-is_checked g c =
-    let looked = (and_parts _ _ (sym c.is_checked.ensures ∙ c.if-is_checked.true)).0 in
+pub returns-then-needs_check : goal.returns-then-needs_check
+returns-then-needs_check g c =
+    let looked = (and_parts _ _ (sym c.needs_check.ensures ∙ c.if-needs_check.true)).0 in
     let checked = c.check_directory.ensures in
     record {
       text = reports_same (Unit {0}) _ _ _ _ _ c.check_directory.result
@@ -32,7 +32,7 @@ returns-then-is_checked g c =
 
 pub returns : goal.returns
 returns g c =
-    let other = sym c.is_checked.ensures ∙ c.if-is_checked.false in
+    let other = sym c.needs_check.ensures ∙ c.if-needs_check.false in
     let ready = c.requires.path in
     record {
       text = of_same _ _ (λ b. []) _ _ _ (of_begins _ _ _) (λ b k. lines_skipped c.requires.low other k.0.before);

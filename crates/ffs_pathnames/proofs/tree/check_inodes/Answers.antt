@@ -29,7 +29,7 @@ next g c b k =
 pub loop-number-init : goal.loop-number-init
 loop-number-init g c =
     let v = c.args.geometry.now.layout in
-    let first = c.first_checked-first in
+    let first = c.first_to_check-first in
     let noted = c.in_ok-note_places.ensures in
     let all = λ (b : List ℕ). map of_tree (lines_from (directory_lines (volume_of v b)) 2 (inodes_of v - 2)) in
     let skipped = λ (b : List ℕ) (k : IsBefore v (g.I.Image.device c.args.image.now).contents c.args.workspace.now 2 b).
@@ -93,7 +93,7 @@ loop-number-preserved g c =
 pub returns-then-first-count-clause-tree : goal.returns-then-first-count-clause-tree
 returns-then-first-count-clause-tree g c =
     let v = c.args.geometry.now.layout in
-    let first = c.first_checked-first in
+    let first = c.first_to_check-first in
     let all = λ (b : List ℕ). map of_tree (lines_from (directory_lines (volume_of v b)) 2 (inodes_of v - 2)) in
     record {
       text = of_same _ all (λ b. []) _ _ _ (of_begins _ all _)

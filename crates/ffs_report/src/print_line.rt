@@ -1,4 +1,4 @@
-//! Prints a line.
+//! Prints a line of a report: the text of each message.
 ghost use Rattle.std.specs.Prelude.{◌≡◌};
 ghost use Rattle.ffs_report.specs.Sink.{Prints};
 ghost use Rattle.ffs_report.specs.Lines.{message_of};
@@ -167,7 +167,7 @@ fn print_block<W: Output>(out: &mut W, message: BlockMessage) -> Result<(), OutF
         BlockMessage::PartAlloc { inode } => print_number(out, PART_ALLOC, inode as u64, CLEAR),
         BlockMessage::UnknownType { inode } => print_number(out, UNKNOWN_TYPE, inode as u64, CLEAR),
         BlockMessage::Bad { fragment, inode } => print_offer(out, fragment, BAD, inode),
-        // `Report::say` prints a DUP by `DupLine`; this row makes the match whole.
+        // `Report::say` prints a DUP by `DupLine`; this arm makes the match exhaustive.
         BlockMessage::Dup { fragment, inode } => print_offer(out, fragment, DUP, inode),
         BlockMessage::ManyBad { inode } => print_number(out, MANY_BAD, inode as u64, CONTINUE),
         BlockMessage::ManyDup { inode } => print_number(out, MANY_DUP, inode as u64, CONTINUE),

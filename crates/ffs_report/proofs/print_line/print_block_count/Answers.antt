@@ -1,5 +1,5 @@
 use Rattle.ffs_report.proofs.Sinks.{printing}
-use Rattle.ffs_report.proofs.say.print_block_count.Goals as goal
+use Rattle.ffs_report.proofs.print_line.print_block_count.Goals as goal
 
 pub returns-in_err-print_number : goal.returns-in_err-print_number
 returns-in_err-print_number g c = search (printing, c.in_err-print_number.ensures)
