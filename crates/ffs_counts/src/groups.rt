@@ -72,6 +72,6 @@ pub fn read_group<I: Image>(
         counts,
         group,
         &records[at..at + RECORD_SIZE],
-        windows.chunk.bytes(),
+        windows.current.bytes(),
     ))
 }

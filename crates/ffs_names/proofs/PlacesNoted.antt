@@ -283,7 +283,7 @@ claims_noted e h = rw e (record { used = h.used; kinds = h.kinds; marked = h.mar
 pub ready_noted : {v : Layout} {d d'' : Device} {w : Workspace} {table : Table} {blocks : Blocks} {chunk : Window}
     {queue : Vec ℕ Global} (d' : Device) → d'.contents ≡ d.contents → KeepsTable v d'.contents table → d''.contents ≡
     d'.contents → CanReadChunks v d'' blocks chunk → vec_len queue ≡ vec_len w.queue → IsReady v d w → IsReady v d''
-    (record w { queue = queue; windows = record w.windows { table = table; blocks = blocks; chunk = chunk } })
+    (record w { queue = queue; windows = record w.windows { table = table; blocks = blocks; current = chunk } })
 ready_noted d' first kept second can long r = grind arith
 
 -- what is passed, where the directory of the next word isn't to be read any more

@@ -25,7 +25,7 @@ pub record CanNote (parents words : Vec ℕ Global) (p place : ℕ) : Type 0 whe
 
 -- the chunks of p that are still to come can be read, and noted
 pub record CanNoteChunks (v : Layout) (d : Device) (w : Windows) (parents words : Vec ℕ Global) (p : ℕ) : Type 0 where
-  pub ready : CanReadChunks v d w.blocks w.chunk
+  pub ready : CanReadChunks v d w.blocks w.current
   pub dir : 0 < p
   pub lengths : vec_len parents ≡ vec_len words
 
@@ -116,7 +116,7 @@ pub record LeavesNoted {S T : Type 0} (I : Ghosts S) (old new : Chunks) (image i
   pub read : ReadAfter (I.device image) (I.device image') result
   pub counted : HoldsReading before.blocks before.chunk old → ForContents (I.device image).contents
       (λ b. I.reads image' ≤ I.reads image + to_read b old)
-  pub others : after ≡ record before { blocks = after.blocks; chunk = after.chunk }
+  pub others : after ≡ record before { blocks = after.blocks; current = after.current }
   pub children : NotesChildren parents.items words.items words'.items p
   pub long : vec_len words' ≡ vec_len words
 

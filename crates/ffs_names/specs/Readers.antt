@@ -37,11 +37,11 @@ pub record IsReaderReady (v : Layout) (device : Device) (windows : Windows) (kin
   pub volume : v.size * v.fsize ≤ device.size
   pub table : IsTableOf v windows.table
   pub blocks : vec_len windows.blocks.buffer ≡ 3 * v.bsize
-  pub chunk : vec_len windows.chunk.buffer ≡ v.bsize
-  pub names : vec_len windows.names.buffer ≡ v.bsize
+  pub current : vec_len windows.current.buffer ≡ v.bsize
+  pub other : vec_len windows.other.buffer ≡ v.bsize
   pub table_holds : WindowHolds device.contents windows.table.window
   pub blocks_hold : BlocksHold v device.contents windows.blocks
-  pub chunk_holds : WindowHolds device.contents windows.chunk
-  pub names_hold : WindowHolds device.contents windows.names
+  pub current_holds : WindowHolds device.contents windows.current
+  pub other_holds : WindowHolds device.contents windows.other
   pub kinds_long : length kinds ≡ inodes_of v
   pub notes_long : length notes ≡ inodes_of v

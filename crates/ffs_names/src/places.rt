@@ -110,7 +110,7 @@ fn note_chunks<I: Image>(
     'chunks: while let Some(_offset) = chunks.next(
         image,
         &mut windows.blocks,
-        &mut windows.chunk,
+        &mut windows.current,
         &mut chunk,
     )? {
         let place = place_of(chunks.last_place() / DIRBLKSIZ as u64);

@@ -84,7 +84,7 @@ impl<I: Image> Directories for DirectoryReader<'_, I> {
 
     ghost to_read = { λ t b. entries_to_read b t.entries };
 
-    ghost held = { λ t. HoldsEntries t.windows.now.blocks t.windows.now.chunk t.entries };
+    ghost held = { λ t. HoldsEntries t.windows.now.blocks t.windows.now.current t.entries };
 
     ghost rest = { λ t b. to_come b t.entries };
 
@@ -125,7 +125,7 @@ impl<I: Image> Directories for DirectoryReader<'_, I> {
         }
         let windows = &mut *self.windows;
         self.entries
-            .next(self.image, &mut windows.blocks, &mut windows.chunk)
+            .next(self.image, &mut windows.blocks, &mut windows.current)
     }
 
     fn has_right_shape(&mut self) -> Result<bool, ImageFault> {

@@ -32,7 +32,7 @@ module _ {T : Type 0} {v : Layout} {d d' l' : Device} {w w' : Workspace} {name_l
   reads_below : spent ≡ false → OnlyReads v (limited_device d name_lent reads limit) l' w w' r →
       OnlyReads v d d' w w' r
   reads_below none o =
-      record { lists = o.lists; chunk = o.chunk; ready = ready_below o; read = back.read none }
+      record { lists = o.lists; current = o.current; ready = ready_below o; read = back.read none }
 
 path_below : {T : Type 0} {n count count' before asked : ℕ} {v : Layout} {d d' l' : Device} {w w' : Workspace}
     {s : KeptParent} {name_lent name : GName} {limit : ℕ} {spent : Bool} (r : Result T ImageFault) →
@@ -70,7 +70,7 @@ gathered {v = v} {d = d} {d' = d'} {w = w} {w' = w'} {name_lent = lent} {name = 
         path = record {
           reads = record {
             lists = path.reads.lists;
-            chunk = path.reads.chunk;
+            current = path.reads.current;
             ready = ready_below below path.reads;
             read = below.refused refused;
           };

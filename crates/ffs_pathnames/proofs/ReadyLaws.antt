@@ -12,13 +12,13 @@ use Rattle.ffs_pathnames.specs.Ready.{LimitedPathLeaves, ReadyWith}
 
 -- a workspace with other blocks and another chunk in its windows
 abbrev pub with_chunk : Workspace → Blocks → Window → Workspace
-with_chunk w blocks chunk = record w { windows = record w.windows { blocks = blocks; chunk = chunk } }
+with_chunk w blocks chunk = record w { windows = record w.windows { blocks = blocks; current = chunk } }
 
 -- the other windows are as they were
 pub others_stay : (w w' : Windows) (blocks : Blocks) (chunk : Window) →
-    w' ≡ record w { blocks = w'.blocks; chunk = w'.chunk }
-    → record w' { blocks = blocks; chunk = chunk } ≡ record w { blocks = blocks; chunk = chunk }
-others_stay w w' blocks chunk same = ap (λ (x : Windows). record x { blocks = blocks; chunk = chunk }) same
+    w' ≡ record w { blocks = w'.blocks; current = w'.current }
+    → record w' { blocks = blocks; current = chunk } ≡ record w { blocks = blocks; current = chunk }
+others_stay w w' blocks chunk same = ap (λ (x : Windows). record x { blocks = blocks; current = chunk }) same
 
 pub ready_read : (v : Layout) (d d' : Device) (w : Workspace) (blocks : Blocks) (chunk : Window) → IsReady v d w
     → d'.contents ≡ d.contents → CanReadChunks v d' blocks chunk → IsReady v d' (with_chunk w blocks chunk)
@@ -36,19 +36,19 @@ ready_next v d d' w s blocks chunk r e can = grind (arith, ready_read, kept_pare
 
 -- the same of windows that are as they were, but for these two
 pub windows_read : (v : Layout) (d d' : Device) (w : Workspace) (windows : Windows) → IsReady v d w
-    → d'.contents ≡ d.contents → windows ≡ record w.windows { blocks = windows.blocks; chunk = windows.chunk }
-    → CanReadChunks v d' windows.blocks windows.chunk → IsReady v d' (record w { windows = windows })
+    → d'.contents ≡ d.contents → windows ≡ record w.windows { blocks = windows.blocks; current = windows.current }
+    → CanReadChunks v d' windows.blocks windows.current → IsReady v d' (record w { windows = windows })
 windows_read v d d' w windows r same others can = grind (arith, ready_read)
 
 pub windows_next : (v : Layout) (d d' : Device) (w : Workspace) (s : KeptParent) (windows : Windows)
-    → ReadyWith v d w s → d' ≡ d → windows ≡ record w.windows { blocks = windows.blocks; chunk = windows.chunk }
-    → CanReadChunks v d' windows.blocks windows.chunk → ReadyWith v d' (record w { windows = windows }) s
+    → ReadyWith v d w s → d' ≡ d → windows ≡ record w.windows { blocks = windows.blocks; current = windows.current }
+    → CanReadChunks v d' windows.blocks windows.current → ReadyWith v d' (record w { windows = windows }) s
 windows_next v d d' w s windows r e others can = grind (arith, ready_next)
 
 -- and where other stamps are in the queue, too
 pub ready_looked : (v : Layout) (d d' : Device) (w : Workspace) (windows : Windows) (queue : Vec ℕ Global) → IsReady v d w
-    → d'.contents ≡ d.contents → windows ≡ record w.windows { blocks = windows.blocks; chunk = windows.chunk }
-    → CanReadChunks v d' windows.blocks windows.chunk → vec_len queue ≡ vec_len w.queue
+    → d'.contents ≡ d.contents → windows ≡ record w.windows { blocks = windows.blocks; current = windows.current }
+    → CanReadChunks v d' windows.blocks windows.current → vec_len queue ≡ vec_len w.queue
     → IsReady v d' (record w { windows = windows; queue = queue })
 ready_looked v d d' w windows queue r same others can long =
     ready_queue v d' (record w { windows = windows }) queue long (windows_read v d d' w windows r same others can)
@@ -61,7 +61,7 @@ can_read_more v d d' blocks blocks' chunk can e walk = grind arith
 
 -- what is ready for reading chunks
 pub can_read_in : (v : Layout) (d : Device) (w : Workspace) → IsReady v d w
-    → CanReadChunks v d w.windows.blocks w.windows.chunk
+    → CanReadChunks v d w.windows.blocks w.windows.current
 can_read_in v d w r = grind arith
 
 -- what a call leaves that gathered a path, and another that only read

@@ -36,4 +36,4 @@ pub record PassesEntries {T : Type 0} (v : Layout) (d d' : Device) (w w' : Works
   pub lines : ReportsEntries v d w w' x t t' messages said said' reads reads' result
   pub passed : OnOk result (ForBytes (DirectoryContext v d.contents w x) (λ b. after (volume_of v b) ≡ passed_of w'))
   pub leaves : PhaseLeaves v d d' w w' t'.kept_parent result
-  pub chunk : w'.windows.chunk ≡ w.windows.chunk
+  pub current : w'.windows.current ≡ w.windows.current

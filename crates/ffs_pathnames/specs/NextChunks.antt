@@ -13,18 +13,18 @@ use Rattle.ffs_pathnames.specs.ReadsLeft.{TakesLeft}
 pub record GivesNext (contents : Option (List ℕ)) (windows : Windows) (old new : Chunks)
     (bytes : List ℕ) (left : ℕ) (answer : Option ℕ) : Type 0 where
   pub chunk : ForContents contents (λ b.
-      (AreChunksNumbered old.walk.geometry.layout → HoldsReading windows.blocks windows.chunk old × (to_read b old ≤ left))
+      (AreChunksNumbered old.walk.geometry.layout → HoldsReading windows.blocks windows.current old × (to_read b old ≤ left))
       → GivesChunk b (rest b) old new bytes answer)
   pub budget : IfSome answer (λ _. new.budget + 1 ≡ old.budget)
 
 -- the reads that it makes, and takes of those that are left
 pub record TakesNext (contents : Option (List ℕ)) (windows windows' : Windows) (old new : Chunks)
     (count count' left left' : ℕ) (result : Result (Option ℕ) ImageFault) : Type 0 where
-  pub reads : HoldsReading windows.blocks windows.chunk old
+  pub reads : HoldsReading windows.blocks windows.current old
       → ForContents contents (λ b. (AreChunksNumbered old.walk.geometry.layout → to_read b old ≤ left)
       → TakesReads count count' (to_read b old) (to_read b new)
-      (HoldsReading windows'.blocks windows'.chunk new) result)
-  pub kept : AreChunksNumbered old.walk.geometry.layout → HoldsReading windows.blocks windows.chunk old
+      (HoldsReading windows'.blocks windows'.current new) result)
+  pub kept : AreChunksNumbered old.walk.geometry.layout → HoldsReading windows.blocks windows.current old
       → ForContents contents (λ b. to_read b old ≤ left
       → TakesLeft left left' (to_read b old) (to_read b new) result)
   pub unlimited : (AreChunksNumbered old.walk.geometry.layout → ⊥) → left' ≡ left
@@ -34,9 +34,9 @@ pub record TakesNext (contents : Option (List ℕ)) (windows windows' : Windows)
 pub record NextLeaves (old new : Chunks) (d d' : Device) (windows windows' : Windows)
     (result : Result (Option ℕ) ImageFault) : Type 0 where
   pub geometry : new.walk.geometry ≡ old.walk.geometry
-  pub ready : CanReadChunks old.walk.geometry.layout d' windows'.blocks windows'.chunk
+  pub ready : CanReadChunks old.walk.geometry.layout d' windows'.blocks windows'.current
   pub read : ReadAfter d d' result
-  pub others : windows' ≡ record windows { blocks = windows'.blocks; chunk = windows'.chunk }
+  pub others : windows' ≡ record windows { blocks = windows'.blocks; current = windows'.current }
 
 -- a reading of the next chunk gives it, or none, takes reads of those that are left, and leaves the other
 -- windows as they were

@@ -57,11 +57,11 @@ pub record PhaseLeaves {T : Type 0} (v : Layout) (d d' : Device) (w w' : Workspa
   pub places : KeepPlaces w.queue.items w'.queue.items
   pub ready : ReadyAfter v d' w' s result
 
--- the same of a call that changes nothing of the workspace but its windows; the chunk of the
+-- the same of a call that changes nothing of the workspace but its windows; the window of the
 -- current directory is as it was
 pub record LinesLeave {T : Type 0} (v : Layout) (d d' : Device) (w w' : Workspace) (s : KeptParent)
     (result : Result T RunFault) : Type 0 where
   pub image : ImageAfter d d' result
   pub lists : w' ≡ record w { windows = w'.windows }
-  pub chunk : w'.windows.chunk ≡ w.windows.chunk
+  pub current : w'.windows.current ≡ w.windows.current
   pub ready : ReadyAfter v d' w' s result

@@ -45,16 +45,16 @@ fn next_chunk<I: Image>(
     reads_left: &mut u64,
 ) -> Result<Option<u64>, ImageFault>
     requires { CanReadChunks chunks.old.walk.geometry.layout (I.device image.old)
-        windows.old.blocks windows.old.chunk }
+        windows.old.blocks windows.old.current }
     ensures { ReadsNext (I.device image.old) (I.device image.new) windows.old windows.new
         chunks.old chunks.new bytes.new (I.reads image.old) (I.reads image.new)
         reads_left.old reads_left.new result }
 {
     if !are_chunks_numbered(&chunks.walk.geometry) {
-        return chunks.next(image, &mut windows.blocks, &mut windows.chunk, bytes);
+        return chunks.next(image, &mut windows.blocks, &mut windows.current, bytes);
     }
     let mut limited = LimitedImage::new(image, *reads_left);
-    let offset = chunks.next(&mut limited, &mut windows.blocks, &mut windows.chunk, bytes);
+    let offset = chunks.next(&mut limited, &mut windows.blocks, &mut windows.current, bytes);
     *reads_left = limited.left();
     if limited.is_spent() {
         return Ok(None);

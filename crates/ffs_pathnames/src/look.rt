@@ -195,7 +195,7 @@ pub fn look_directory<I: Image>(
     'chunks: while let Some(offset) = chunks.next(
         image,
         &mut windows.blocks,
-        &mut windows.chunk,
+        &mut windows.current,
         &mut chunk,
     )? {
         let looked = look_chunk(&inodes, directory.number, order, offset == 0, &chunk, words);

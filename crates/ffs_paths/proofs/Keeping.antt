@@ -34,7 +34,7 @@ kept_on s r k = kept_parent_held _ _ _ _ _ s (ap (λ d. d.contents) r.read) r.li
 -- the same of another answer, which is no fault either
 pub reads_as : {S T : Type 0} {v : Layout} {d d' : Device} {w w' : Workspace} {x : S} {y : T} →
     OnlyReads v d d' w w' (Ok x) → OnlyReads v d d' w w' (Ok y)
-reads_as r = record { lists = r.lists; chunk = r.chunk; ready = r.ready; read = r.read }
+reads_as r = record { lists = r.lists; current = r.current; ready = r.ready; read = r.read }
 
 -- what a call leaves that made a path
 pub leaves_with : {T : Type 0} {most count count' : ℕ} {v : Layout} {d d' : Device} {w w' : Workspace} {x : T}
@@ -51,7 +51,7 @@ leaves_kept s r few kept = leaves_with s (reads_as r) few (record { right = kept
 -- nothing was read yet
 pub no_reads : {T : Type 0} {v : Layout} {d : Device} {w : Workspace} {x : T} → IsReady v d w →
     OnlyReads v d d w w (Ok x)
-no_reads r = record { lists = refl; chunk = refl; ready = r; read = refl }
+no_reads r = record { lists = refl; current = refl; ready = r; read = refl }
 
 -- a call that only reads, after another
 pub reads_then : {S T : Type 0} {v : Layout} {old mid last : Device} {before w after : Workspace} {x : S}
@@ -80,18 +80,18 @@ same_image d d' (Err e) r = (r.contents, r.size)
 -- indirect blocks and a chunk were read
 chunk_read : {T : Type 0} {v : Layout} {d d' : Device} {w : Workspace} {blocks : Blocks} {names : Window}
     {result : Result T ImageFault} → IsReady v d w → CanReadChunks v d' blocks names → ReadAfter d d' result →
-    OnlyReads v d d' w (record w { windows = record w.windows { blocks = blocks; names = names } }) result
+    OnlyReads v d d' w (record w { windows = record w.windows { blocks = blocks; other = names } }) result
 chunk_read {d = d} {d' = d'} {result = result} ready can read = grind (arith, same_image)
 
 pub chunk_then : {S T : Type 0} {v : Layout} {d d' d'' : Device} {w w' : Workspace} {blocks : Blocks} {names : Window}
     {x : S} {result : Result T ImageFault} → OnlyReads v d d' w w' (Ok x) → CanReadChunks v d'' blocks names →
     ReadAfter d' d'' result →
-    OnlyReads v d d'' w (record w' { windows = record w'.windows { blocks = blocks; names = names } }) result
+    OnlyReads v d d'' w (record w' { windows = record w'.windows { blocks = blocks; other = names } }) result
 chunk_then reads can read = reads_then reads (chunk_read reads.ready can read)
 
 -- bytes were read into the window of names
 pub name_read : {T : Type 0} {v : Layout} {d d' : Device} {w : Workspace} {names : Window}
-    {result : Result T ImageFault} → IsReady v d w → vec_len names.buffer ≡ vec_len w.windows.names.buffer
+    {result : Result T ImageFault} → IsReady v d w → vec_len names.buffer ≡ vec_len w.windows.other.buffer
     → WindowHolds d'.contents names → ReadAfter d d' result →
-    OnlyReads v d d' w (record w { windows = record w.windows { names = names } }) result
+    OnlyReads v d d' w (record w { windows = record w.windows { other = names } }) result
 name_read {d = d} {d' = d'} {result = result} ready long holds read = grind (arith, same_image, chunk_read)

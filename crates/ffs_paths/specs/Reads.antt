@@ -17,12 +17,12 @@ pub record CanClimb (v : Layout) (d : Device) (w : Workspace) (x : ℕ) : Type 0
   pub number : x < v.ncg * v.ipg
   pub reached : bool_at w.reached.items x ≡ true
 
--- all of the workspace but its windows is as it was, and so is the chunk of the current directory;
+-- all of the workspace but its windows is as it was, and so is the window of the current directory;
 -- it is ready for the next read
 pub record OnlyReads {T : Type 0} (v : Layout) (old new : Device) (before after : Workspace)
     (result : Result T ImageFault) : Type 0 where
   pub lists : after ≡ record before { windows = after.windows }
-  pub chunk : after.windows.chunk ≡ before.windows.chunk
+  pub current : after.windows.current ≡ before.windows.current
   pub ready : IsReady v new after
   pub read : ReadAfter old new result
 

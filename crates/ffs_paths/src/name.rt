@@ -74,7 +74,7 @@ fn find_by_place<I: Image>(
     if place + DIRBLKSIZ as u64 > end {
         return Ok(false);
     }
-    let window = &mut workspace.windows.names;
+    let window = &mut workspace.windows.other;
     window.fill(image, place, DIRBLKSIZ)?;
     let Some(bytes) = window.bytes().as_array::<DIRBLKSIZ>() else {
         return Ok(false);
@@ -111,7 +111,7 @@ pub fn search_name<I: Image>(
     'entries: while let Some(entry) = entries.next(
         image,
         &mut workspace.windows.blocks,
-        &mut workspace.windows.names,
+        &mut workspace.windows.other,
     )? {
         if names(entry.role, entry.number, dir) {
             name.set(entries.name());

@@ -32,15 +32,15 @@ pub record IsFor (v : Layout) (w : Workspace) : Type 0 where
   pub queue : vec_len w.queue ≡ inodes_of v
   pub table : IsTableOf v w.windows.table
   pub blocks : vec_len w.windows.blocks.buffer ≡ 3 * v.bsize
-  pub chunk : vec_len w.windows.chunk.buffer ≡ v.bsize
-  pub names : vec_len w.windows.names.buffer ≡ v.bsize
+  pub current : vec_len w.windows.current.buffer ≡ v.bsize
+  pub other : vec_len w.windows.other.buffer ≡ v.bsize
 
 -- the windows hold what the image gives
 pub record HoldWindows (v : Layout) (contents : Option (List ℕ)) (w : Workspace) : Type 0 where
   pub table : WindowHolds contents w.windows.table.window
   pub blocks : BlocksHold v contents w.windows.blocks
-  pub chunk : WindowHolds contents w.windows.chunk
-  pub names : WindowHolds contents w.windows.names
+  pub current : WindowHolds contents w.windows.current
+  pub other : WindowHolds contents w.windows.other
 
 -- how many bytes its lists and buffers take: two maps, 25 bytes an inode, six blocks
 abbrev pub held_of : Layout → ℕ

@@ -38,9 +38,9 @@ pub record MakesInMemory {T E : Type 0} (before after : Account) (bytes : ℕ) (
 pub record AreNewWindows (v : Layout) (w : Windows) : Type 0 where
   pub table : IsTableOf v w.table
   pub blocks : vec_len w.blocks.buffer ≡ 3 * v.bsize
-  pub chunk : vec_len w.chunk.buffer ≡ v.bsize
-  pub names : vec_len w.names.buffer ≡ v.bsize
+  pub current : vec_len w.current.buffer ≡ v.bsize
+  pub other : vec_len w.other.buffer ≡ v.bsize
   pub table_holds : (contents : Option (List ℕ)) → WindowHolds contents w.table.window
   pub blocks_hold : (contents : Option (List ℕ)) → BlocksHold v contents w.blocks
-  pub chunk_holds : (contents : Option (List ℕ)) → WindowHolds contents w.chunk
-  pub names_hold : (contents : Option (List ℕ)) → WindowHolds contents w.names
+  pub current_holds : (contents : Option (List ℕ)) → WindowHolds contents w.current
+  pub other_holds : (contents : Option (List ℕ)) → WindowHolds contents w.other

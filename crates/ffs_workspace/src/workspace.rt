@@ -22,10 +22,10 @@ pub struct Windows {
     /// The indirect blocks that a walk is in.
     pub blocks: Blocks,
     /// A data block of the current directory. In phase 5 a group block.
-    pub chunk: Window,
+    pub current: Window,
     /// A data block of another directory, or a name in it: paths are read here, so that the current
-    /// directory stays in `chunk`.
-    pub names: Window,
+    /// directory stays in `current`.
+    pub other: Window,
 }
 
 /// What a check keeps: two maps with a bit for each fragment, 25 bytes for each inode, and six
@@ -164,8 +164,8 @@ impl Workspace {
         let lists = bytes as u64 + 4 * words as u64 + 8 * self.references.len() as u64;
         let buffers = self.windows.table.window.buffer.len()
             + self.windows.blocks.buffer.len()
-            + self.windows.chunk.buffer.len()
-            + self.windows.names.buffer.len();
+            + self.windows.current.buffer.len()
+            + self.windows.other.buffer.len();
         maps + lists + buffers as u64
     }
 
@@ -204,13 +204,13 @@ impl Windows {
         let size = geometry.layout.bsize as usize;
         let table = Table::over(memory.bytes(size)?);
         let blocks = Blocks::over(memory.bytes(3 * size)?);
-        let chunk = Window::over(memory.bytes(size)?);
-        let names = Window::over(memory.bytes(size)?);
+        let current = Window::over(memory.bytes(size)?);
+        let other = Window::over(memory.bytes(size)?);
         Ok(Windows {
             table,
             blocks,
-            chunk,
-            names,
+            current,
+            other,
         })
     }
 }

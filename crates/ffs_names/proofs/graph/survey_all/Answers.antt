@@ -41,8 +41,8 @@ returns-clause-leaves g c =
         windows = record {
           table = rw image r.table_holds;
           blocks = rw (image, ← same) r.blocks_hold;
-          chunk = rw image r.chunk_holds;
-          names = rw image r.names_hold;
+          current = rw image r.current_holds;
+          other = rw image r.other_holds;
         };
       };
       read = grind arith;

@@ -33,7 +33,7 @@ chunks-preserved g c =
       geometry = went.leaves.geometry ∙ inv.geometry;
       ready = rw inv.geometry at went.leaves.ready;
       long = c.note_chunk.ensures.long ∙ inv.long;
-      others = ap (λ (w : Windows). record w { blocks = c.next.new.blocks; chunk = c.next.new.window }) inv.others;
+      others = ap (λ (w : Windows). record w { blocks = c.next.new.blocks; current = c.next.new.window }) inv.others;
       children = children_more c.note_chunk.ensures.noted inv.children;
       reads = λ held b t.
           let old = inv.reads held b t in

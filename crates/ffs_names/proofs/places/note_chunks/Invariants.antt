@@ -9,13 +9,13 @@ abbrev pub invariant-chunks : goal.invariant-chunks
 invariant-chunks g l = let device = g.I.Image.device in record {
   same : device l.image ≡ device l.fn.image;
   geometry : l.chunks.walk.geometry ≡ l.fn.chunks.walk.geometry;
-  ready : CanReadChunks l.fn.chunks.walk.geometry.layout (device l.image) l.windows.blocks l.windows.chunk;
+  ready : CanReadChunks l.fn.chunks.walk.geometry.layout (device l.image) l.windows.blocks l.windows.current;
   long : vec_len l.words ≡ vec_len l.fn.words;
   children : NotesChildren l.parents.items l.fn.words.items l.words.items l.dir;
-  others : l.windows ≡ record l.fn.windows { blocks = l.windows.blocks; chunk = l.windows.chunk };
-  reads : HoldsReading l.fn.windows.blocks l.fn.windows.chunk l.fn.chunks → ForContents (device l.fn.image).contents
+  others : l.windows ≡ record l.fn.windows { blocks = l.windows.blocks; current = l.windows.current };
+  reads : HoldsReading l.fn.windows.blocks l.fn.windows.current l.fn.chunks → ForContents (device l.fn.image).contents
       (λ b. (g.I.Image.reads l.image + to_read b l.chunks ≤ g.I.Image.reads l.fn.image + to_read b l.fn.chunks)
-      × HoldsReading l.windows.blocks l.windows.chunk l.chunks);
+      × HoldsReading l.windows.blocks l.windows.current l.chunks);
   noted : ForContents (device l.fn.image).contents (λ b. HavePlaces l.fn.chunks.walk.geometry.layout b
       l.fn.words.items l.words.items (flat_map roled_chunk (rest b l.fn.chunks)));
   waiting : ForContents (device l.fn.image).contents (λ b. AreWaiting l.fn.chunks.walk.geometry.layout b

@@ -25,8 +25,8 @@ returns-then-is_spent-clause-leaves g c =
         windows = record {
           table = rw same held.table;
           blocks = rw same held.blocks;
-          chunk = rw same held.chunk;
-          names = rw same held.names;
+          current = rw same held.current;
+          other = rw same held.other;
         };
       };
       read = back.refused c.if-is_spent.true;

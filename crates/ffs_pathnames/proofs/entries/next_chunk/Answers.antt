@@ -23,7 +23,7 @@ bytes g c b t = ap (λ (d : Device). d.contents) c.new-limited.ensures.device �
 
 -- no read of known bytes is refused
 answered : (g : Over) (c : After-is_spent g) (b : List ℕ) → (g.I.Image.device c.args.image.now).contents ≡ Some b →
-    HoldsReading c.args.windows.now.blocks c.args.windows.now.chunk c.args.chunks.now →
+    HoldsReading c.args.windows.now.blocks c.args.windows.now.current c.args.chunks.now →
     to_read b c.args.chunks.now ≤ c.args.reads_left.now → c.is_spent.result ≡ true → ⊥
 answered g c b t held enough = grind (arith, bytes, both_ways, after)
 

@@ -21,7 +21,7 @@ nothing_said r none = record {
   leaves = record {
     image = refl;
     lists = refl;
-    chunk = refl;
+    current = refl;
     ready = record { ready = r.ready; kept_parent = r.kept_parent };
   };
 }

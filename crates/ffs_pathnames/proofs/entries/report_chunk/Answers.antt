@@ -49,7 +49,7 @@ entries-init g c = record {
   device = refl;
   survey = leaves_all _;
   places = λ x. refl;
-  chunk = refl;
+  current = refl;
   path = λ b k. k.path;
   passed = λ b k. refl;
   said = of_begins _ _ _;
@@ -85,7 +85,7 @@ returns-in_err-report_entry g c =
         places = keep_more _ _ _ inv.places left.places;
         ready = left.ready;
       };
-      chunk = c.in_err-report_entry.ensures.chunk ∙ inv.chunk;
+      current = c.in_err-report_entry.ensures.current ∙ inv.current;
     })
 
 pub entries-preserved : goal.entries-preserved
@@ -105,7 +105,7 @@ entries-preserved g c =
       device = ok.leaves.image ∙ inv.device;
       survey = leaves_more _ _ _ inv.survey ok.leaves.survey;
       places = keep_more _ _ _ inv.places ok.leaves.places;
-      chunk = ok.chunk ∙ inv.chunk;
+      current = ok.current ∙ inv.current;
       path = λ b k. ok.lines.path b (know_path g at b k);
       passed = λ b k. entry_passed (volume_of v b) x.dir m (next g at) (ok.passed b (know g at b k)) (inv.passed b k);
       said = of_part _ _ _ _ _ _ _ _ inv.said
@@ -135,5 +135,5 @@ returns g c =
       };
       passed = λ b k. inv.passed b k ∙ ap (after_entries (volume_of v b) x.dir m) end;
       leaves = record { image = inv.device; survey = inv.survey; places = inv.places; ready = inv.ready };
-      chunk = inv.chunk;
+      current = inv.current;
     }

@@ -26,7 +26,7 @@ invariant-entries g l =
       device : reported_by l.image ≡ reported_by l.fn.image;
       survey : LeavesSurvey l.fn.workspace l.workspace;
       places : KeepPlaces l.fn.workspace.queue.items l.workspace.queue.items;
-      chunk : l.workspace.windows.chunk ≡ l.fn.workspace.windows.chunk;
+      current : l.workspace.windows.current ≡ l.fn.workspace.windows.current;
       path : ForBytes knows_path (λ b. BeginsPathOf (graph_of (volume_of v b)) x.dir l.texts);
       passed : ForBytes known (λ b. after_entries (volume_of v b) x.dir (passed_of l.fn.workspace) entries
           ≡ after_entries (volume_of v b) x.dir (passed_of l.workspace) left);

@@ -42,7 +42,7 @@ enough g c b k n = omega (arith, c.chunks.invariant.spent b k (numbers g c n), k
 -- what the next chunk was read by is held, and the reads that are left suffice for it
 room : (g : Over) (c : After-next_chunk g) (b : List ℕ) → Known g c b →
     AreChunksNumbered c.chunks.chunks.walk.geometry.layout →
-    HoldsReading c.chunks.workspace.windows.blocks c.chunks.workspace.windows.chunk c.chunks.chunks
+    HoldsReading c.chunks.workspace.windows.blocks c.chunks.workspace.windows.current c.chunks.chunks
     × (to_read b c.chunks.chunks ≤ c.chunks.checking.reads_left)
 room g c b k n = (c.chunks.invariant.held b k (k.0.0.noted (numbers g c n)), enough g c b k n)
 
@@ -84,7 +84,7 @@ chunks-init g c =
       survey = leaves_all _;
       places = λ x. refl;
       held = λ b k noted.
-          c.start-chunks.ensures.reads.held c.args.workspace.now.windows.blocks c.args.workspace.now.windows.chunk;
+          c.start-chunks.ensures.reads.held c.args.workspace.now.windows.blocks c.args.workspace.now.windows.current;
       reads = λ b k noted. let long = as_many _ _ (lines b k) in omega (arith, long, few b k);
       spent = λ b k numbered. omega (arith, few b k);
       unlimited = λ none. refl;
@@ -129,7 +129,7 @@ chunks-preserved g c =
           let took = read.takes.reads (inv.held b k noted) b (now g at b k) (enough g at b k) in
           let few = c.report_chunk.ensures.lines.counted b (known b k)
           (noted_kept v b c.args.workspace.now.queue.items c.chunks.workspace.queue.items inv.places noted) in
-          rw (few.blocks, c.report_chunk.ensures.chunk) took.held;
+          rw (few.blocks, c.report_chunk.ensures.current) took.held;
       reads = λ b k noted.
           let took = read.takes.reads (inv.held b k noted) b (now g at b k) (enough g at b k) in
           let few = c.report_chunk.ensures.lines.counted b (known b k)

@@ -29,7 +29,7 @@ invariant-chunks g l =
           after_entries (volume_of v b) x.number (passed_of l.fn.workspace) (roled_entries (volume_of v b) x.number)
           ≡ after_entries (volume_of v b) x.number (passed_of l.workspace) (flat_map roled_chunk (rest b l.chunks)));
       held : ForBytes known (λ b. AreNoted v b l.fn.workspace.queue.items →
-          HoldsReading l.workspace.windows.blocks l.workspace.windows.chunk l.chunks);
+          HoldsReading l.workspace.windows.blocks l.workspace.windows.current l.chunks);
       reads : ForBytes known (λ b. AreNoted v b l.fn.workspace.queue.items →
           g.I.Image.reads l.image + to_read b l.chunks + line_reads * length (to_come b)
           ≤ g.I.Image.reads l.fn.image + (directory_runs v b x.number + line_reads * length (all b)));

@@ -22,7 +22,7 @@ returns-in_err-report_by_role g c =
         places = windows_keep c.args.workspace.now c.report_by_role.new.workspace left.lists;
         ready = left.ready;
       };
-      chunk = left.chunk;
+      current = left.current;
     })
 
 pub returns : goal.returns
@@ -65,5 +65,5 @@ returns g c =
           kept_parent = kept_parent_on _ _ _ _ _ _ refl surveyed passed.words.places left.ready.kept_parent;
         };
       };
-      chunk = left.chunk;
+      current = left.current;
     }

@@ -30,7 +30,7 @@ chunks-init g c = let first = (passed_of c.args.workspace.now).stamps in record 
       c.start-chunks.ensures.begins.gap_left b);
   started = λ b t h. ap (find (λ x. x.offset == 0)) (sym (c.start-chunks.ensures.begins.chunks b h));
   held = λ b t. c.start-chunks.ensures.reads.held c.args.workspace.now.windows.blocks
-      c.args.workspace.now.windows.chunk;
+      c.args.workspace.now.windows.current;
   reads = λ b t.
       let all = c.start-chunks.ensures.reads.to_read b in
       let runs = c.start-chunks.ensures.begins.runs_left b in

@@ -23,8 +23,8 @@ invariant-chunks g l =
       same : device l.image ≡ device l.initial.image;
       geometry : l.chunks.walk.geometry ≡ l.geometry;
       words : KeepsWords l.initial.words l.words;
-      others : l.windows ≡ record l.initial.windows { blocks = l.windows.blocks; chunk = l.windows.chunk };
-      ready : CanReadChunks v (device l.image) l.windows.blocks l.windows.chunk;
+      others : l.windows ≡ record l.initial.windows { blocks = l.windows.blocks; current = l.windows.current };
+      ready : CanReadChunks v (device l.image) l.windows.blocks l.windows.current;
       quiet : of_bytes (λ b. HoldsClaims v b w → HoldsSurvey v b w → x.inode.size < 2 ^ 31 →
           are_quiet (volume_of v b) x.number before (flat_map roled_chunk (all b))
           ≡ (l.quiet && are_quiet (volume_of v b) x.number now (flat_map roled_chunk (rest b l.chunks))));
@@ -36,7 +36,7 @@ invariant-chunks g l =
           ≡ (l.chunks.gap || gap_left b l.chunks));
       started : of_bytes (λ b. x.inode.size < 2 ^ 31 →
           find (λ c. c.offset == 0) (all b) ≡ start_chunk (rest b l.chunks) l.started l.order l.start);
-      held : of_bytes (λ b. HoldsReading l.windows.blocks l.windows.chunk l.chunks);
+      held : of_bytes (λ b. HoldsReading l.windows.blocks l.windows.current l.chunks);
       reads : of_bytes (λ b. g.I.Image.reads l.image + to_read b l.chunks
           ≤ g.I.Image.reads l.initial.image + replayed_runs v x.cut fresh_replay (steps_of v x.inode b));
     }

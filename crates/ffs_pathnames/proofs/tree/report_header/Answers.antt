@@ -64,7 +64,7 @@ returns-then-is_in_order g c =
       leaves = record {
         image = refl;
         lists = refl;
-        chunk = refl;
+        current = refl;
         ready = record { ready = c.requires.ready; kept_parent = c.requires.kept_parent };
       };
     }
@@ -79,7 +79,7 @@ returns-in_err-attr g c =
       text = of_reads _ _ _ _ _ (of_begins _ _ _);
       counted = λ b k noted. by_line _ (left.path.counted b (knows_places _ _ _ _ b k.0 noted)) (some_line g at b k);
       paid = λ numbered. paid_reads (left.most numbered);
-      leaves = record { image = read.read; lists = read.lists; chunk = read.chunk; ready = read.ready };
+      leaves = record { image = read.read; lists = read.lists; current = read.current; ready = read.ready };
     })
 
 pub returns-in_err-say_header : goal.returns-in_err-say_header
@@ -95,7 +95,7 @@ returns-in_err-say_header g c =
           (some_line g at.After-gather_dir b k);
       paid = λ numbered. paid_stops _ c.in_err-say_header.ensures (some_said_of g at.After-say_header)
           (left.most numbered);
-      leaves = record { image = read.read; lists = read.lists; chunk = read.chunk; ready = read.ready };
+      leaves = record { image = read.read; lists = read.lists; current = read.current; ready = read.ready };
     })
 
 pub returns : goal.returns
@@ -113,7 +113,7 @@ returns g c =
       leaves = record {
         image = read.read;
         lists = read.lists;
-        chunk = read.chunk;
+        current = read.current;
         ready = record { ready = read.ready; kept_parent = left.path.kept_parent };
       };
     }

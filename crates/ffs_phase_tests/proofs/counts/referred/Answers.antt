@@ -18,11 +18,11 @@ returns-clause-made c =
       queue = h.queue;
       table = h.table;
       blocks = h.blocks;
-      chunk = h.chunk;
-      names = h.names;
+      current = h.current;
+      other = h.other;
     }
 
 pub returns-clause-windows : goal.returns-clause-windows
 returns-clause-windows c = λ contents.
     let h = c.in_ok-workspace.ensures.windows contents in
-    record { table = h.table; blocks = h.blocks; chunk = h.chunk; names = h.names }
+    record { table = h.table; blocks = h.blocks; current = h.current; other = h.other }

@@ -16,8 +16,8 @@ returns g c =
         windows = λ contents. record {
           table = new.table_holds contents;
           blocks = new.blocks_hold contents;
-          chunk = new.chunk_holds contents;
-          names = new.names_hold contents;
+          current = new.current_holds contents;
+          other = new.other_holds contents;
         };
       };
       asks = grind (arith, granted_both, both);
