@@ -29,7 +29,7 @@ pub record ReportsOneEntry {T : Type 0} (v : Layout) (d d' : Device) (w w' : Wor
   pub leaves : LinesLeave v d d' w w' t'.kept_parent result
 
 -- such lines are said, and the entries are passed: `after` says which names are passed then. The
--- chunk of the current directory is as it was
+-- window of the current directory is as it was
 pub record PassesEntries {T : Type 0} (v : Layout) (d d' : Device) (w w' : Workspace) (x : ℕ) (t t' : EntryTexts)
     (messages : Volume → List TreeMessage) (after : Volume → PassedNames) (said said' : Progress) (reads reads' : ℕ)
     (result : Result T RunFault) : Type 0 where
