@@ -15,7 +15,7 @@ use Rattle.ffs_image.specs.Device.{Device}
 use Rattle.ffs_layout.specs.declared.geometry.Geometry.{Geometry}
 use Rattle.ffs_walk.specs.{Windows.KeepsBlocks, declared.blocks.Blocks.Blocks}
 use Rattle.ffs_claims.proofs.{Frames.{found_none, found_then, ready_still, ready_walked}, StepsContinue.lines_append}
-use Rattle.ffs_claims.specs.{Area.IsDataArea, Claiming.{CanClaim, ClaimsInArea, FewRuns, StepsLeave, SeesNext}}
+use Rattle.ffs_claims.specs.{Area.IsDataArea, Claiming.{CanClaim, ClaimsInArea, FewRuns, StepsLeave, CanSeeNext}}
 use Rattle.ffs_claims.specs.{Leaves.HasBegun, Lines.{of_lines, owner_with, counted_owner}}
 use Rattle.ffs_claims.specs.declared.area.DataArea.{DataArea}
 use Rattle.ffs_maps.proofs.Bits.{bits_long}
@@ -44,7 +44,7 @@ kept_room u {w = w} made free m = grind (arith, nat_tests, used_below)
 -- so there is room to count them
 pub sees_next : {v : Layout} {u w : Workspace} {area : DataArea} → IsAcceptedLayout v → HasBegun u → IsFor v w →
     IsDataArea v area → is_open (claims_of w) ≡ true → ClaimBound (claims_of u) (claims_of w) →
-    SeesNext v w area (2 ^ 62)
+    CanSeeNext v w area (2 ^ 62)
 sees_next {u = u} g begun made only_data uncut m =
     let numbers = g.numbers in
     let kept = kept_room u made uncut m in

@@ -51,7 +51,7 @@ pub record CanClaimSteps (g : Geometry) (d : Device) (w : Workspace) (sweep : Sw
 
 -- the next step of an inode can be seen: the inode isn't cut, and there is room to count its
 -- fragments and Runs. Any bound far above `runs_limit`, and far below 2^64, serves as `most`
-pub record SeesNext (v : Layout) (w : Workspace) (area : DataArea) (most : ℕ) : Type 0 where
+pub record CanSeeNext (v : Layout) (w : Workspace) (area : DataArea) (most : ℕ) : Type 0 where
   pub made : IsFor v w
   pub only_data : IsDataArea v area
   pub uncut : is_open (claims_of w) ≡ true
@@ -59,8 +59,8 @@ pub record SeesNext (v : Layout) (w : Workspace) (area : DataArea) (most : ℕ) 
   pub runs : w.runs_seen < most
 
 -- a step can be seen as an inode's next one: it has a step's length
-pub record SeesStep (v : Layout) (w : Workspace) (area : DataArea) (step : Step) : Type 0 where
-  pub next : SeesNext v w area (2 ^ 62)
+pub record CanSeeStep (v : Layout) (w : Workspace) (area : DataArea) (step : Step) : Type 0 where
+  pub next : CanSeeNext v w area (2 ^ 62)
   pub length : HasLength v.frag step
 
 -- the offers of a Run can be taken: the inode isn't cut, it can keep so many offers more, and these

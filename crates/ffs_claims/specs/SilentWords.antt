@@ -7,12 +7,12 @@ use Rattle.ffs_layout.specs.declared.geometry.Geometry.{Geometry}
 use Rattle.ffs_walk.specs.{Counts.EntersOnly, HeldWords.word_step, Rests.{SameFileBlocks, most_steps_left, steps_left}}
 use Rattle.ffs_walk.specs.{Windows.BlocksHold, declared.walk.Walk.Walk}
 use Rattle.ffs_workspace.specs.{Holds.claims_of, declared.workspace.Workspace.Workspace}
-use Rattle.ffs_claims.specs.{Claiming.SeesNext, Leaves.ClaimsOnly, declared.area.DataArea.DataArea}
+use Rattle.ffs_claims.specs.{Claiming.CanSeeNext, Leaves.ClaimsOnly, declared.area.DataArea.DataArea}
 
 -- what the next words of an indirect block offer can be claimed: the inode's next step can be seen,
 -- and its walk is over the volume
 pub record CanClaimWords (g : Geometry) (w : Workspace) (area : DataArea) (walk : Walk) : Type 0 where
-  pub next : SeesNext g.layout w area (2 ^ 62)
+  pub next : CanSeeNext g.layout w area (2 ^ 62)
   pub geometry : walk.geometry ≡ g
 
 -- a step claims what it offers, and nothing is reported of it

@@ -6,7 +6,7 @@ ghost use Rattle.ffs_volume.specs.Disk.Areas.{is_fragment_in_range, is_run_in_ra
 ghost use Rattle.ffs_report.specs.Progress.{progress, Says};
 ghost use Rattle.ffs_walk.specs.Counts.{entered};
 ghost use Rattle.ffs_workspace.specs.Holds.{claims_of};
-ghost use Rattle.ffs_claims.specs.Claiming.{ClaimsStep, SeesNext, CanTakeOffers, SeesStep, TakesOffer, TakesOffers};
+ghost use Rattle.ffs_claims.specs.Claiming.{ClaimsStep, CanSeeNext, CanTakeOffers, CanSeeStep, TakesOffer, TakesOffers};
 ghost use Rattle.ffs_claims.specs.{Leaves.CanOffer, Lines.{has_dup_line, of_lines}};
 ghost use Rattle.ffs_volume.specs.Blocks.Claims as claims;
 
@@ -164,7 +164,7 @@ fn run<W: Output>(
     run: Run,
     report: &mut Report<'_, W>,
 ) -> Result<bool, OutFault>
-    requires { SeesNext geometry.now.layout workspace.old area.old (2 ^ 62) }
+    requires { CanSeeNext geometry.now.layout workspace.old area.old (2 ^ 62) }
     ensures { ClaimsStep geometry.now.layout
         (run_lines geometry.now.layout number (claims_of workspace.old) run.start run.len)
         (after_run geometry.now.layout (claims_of workspace.old) run.start run.len) 1
@@ -197,7 +197,7 @@ pub fn step<W: Output>(
     step: Step,
     report: &mut Report<'_, W>,
 ) -> Result<bool, OutFault>
-    requires { SeesStep geometry.now.layout workspace.old area.old step }
+    requires { CanSeeStep geometry.now.layout workspace.old area.old step }
     ensures { ClaimsStep geometry.now.layout
         (step_lines geometry.now.layout number (claims_of workspace.old) step)
         (after_step geometry.now.layout (claims_of workspace.old) step) (entered step)

@@ -2,7 +2,7 @@
 
 ghost use Rattle.std.specs.Prelude.{◌≡◌, ◌^◌, false, IsTrue};
 ghost use Rattle.ffs_walk.specs.HeldWords.{IsInHeldBlock};
-ghost use Rattle.ffs_claims.specs.{Claiming.SeesNext, SilentWords.{CanClaimWords, ClaimsAddress, ClaimsWords}};
+ghost use Rattle.ffs_claims.specs.{Claiming.CanSeeNext, SilentWords.{CanClaimWords, ClaimsAddress, ClaimsWords}};
 
 use crate::area::DataArea;
 use ffs_layout::Geometry;
@@ -19,7 +19,7 @@ fn claim_address(
     area: &DataArea,
     address: u32,
 ) -> bool
-    requires { SeesNext geometry.now.layout workspace.old area.now (2 ^ 63) }
+    requires { CanSeeNext geometry.now.layout workspace.old area.now (2 ^ 63) }
     ensures claimed { IsTrue result
         → ClaimsAddress geometry.now.layout address workspace.old workspace.new }
     ensures kept { result ≡ false → workspace.new ≡ workspace.old }
