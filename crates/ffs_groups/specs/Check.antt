@@ -8,9 +8,8 @@ use Rattle.ffs_volume.specs.Groups.Records.{has_right_record, maps_fit, has_righ
 use Rattle.ffs_volume.specs.Groups.GroupCheck.{unless}
 use Rattle.ffs_layout.specs.declared.group.GroupSummary.{GroupSummary}
 use Rattle.ffs_maps.specs.{Bits.bits_of, declared.FragmentMap.FragmentMap}
-use Rattle.ffs_groups.specs.{Free.free_in, Inodes.class_in, Inputs.HasMaps}
-use Rattle.ffs_groups.specs.declared.counts.{Counts.Counts, SummaryCounts.SummaryCounts}
-use Rattle.ffs_groups.specs.declared.check.GroupFindings.{GroupFindings}
+use Rattle.ffs_groups.specs.{Free.free_in, Inodes.class_in, Inputs.HasMaps, declared.counts.Counts.Counts}
+use Rattle.ffs_groups.specs.declared.{counts.SummaryCounts.SummaryCounts, check.GroupFindings.GroupFindings}
 
 -- the counts of a summary in memory, as the definitions have them
 abbrev pub group_counts_of : SummaryCounts → GroupCounts

@@ -6,8 +6,7 @@ ghost use Rattle.std.specs.{Prelude.{ℕ, ◌≡◌, ◌+◌, ◌*◌, ◌<◌, 
 ghost use Rattle.ffs_volume.specs.{Disk.{Numbers.all_below, Areas.cgbase}, Groups.Records.bit_at as map_bit};
 ghost use Rattle.ffs_volume.specs.Groups.Records.{same_bit, has_bits, is_used_inode, group_size};
 ghost use Rattle.ffs_maps.specs.Bits.{bits_of};
-ghost use Rattle.ffs_groups.specs.{Free.free_in, Inodes.class_in};
-ghost use Rattle.ffs_groups.specs.Inputs.{HasFragmentMap, HasInodeMap, IsGroupSize};
+ghost use Rattle.ffs_groups.specs.{Free.free_in, Inodes.class_in, Inputs.{HasFragmentMap, HasInodeMap, IsGroupSize}};
 ghost use Rattle.ffs_groups.specs.MapParts.{AreFewIn, HasMapWords, IsClearAt, SetsBit};
 
 use crate::free::{FRAGMENTS_AT_ONCE, are_free};

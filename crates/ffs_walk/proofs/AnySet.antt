@@ -1,10 +1,9 @@
 -- Whether an address isn't zero: of all, and of those from an index on, by a bit for each.
 use mir.Val.{bool_byte}
 use Rattle.std.proofs.Common.{zero, suc, Bool, true, false, inl, inr, ◌≡◌, ◌==◌, ◌||◌, ◌+◌, ◌-◌, ◌*◌, ◌/◌, ◌%◌, ◌^◌}
-use Rattle.std.proofs.Common.{◌<◌, ◌≤◌, ◌∙◌, refl, ℕ, List, length, get_or, take, drop, not, bit_or, arith}
-use Rattle.std.proofs.{Common.length-drop, lemmas.{Bool.{cases_lt, Decides.nat_tests}, List.Folds.list_any_more}}
-use Rattle.std.proofs.{lemmas.{List.get_or-drop, Nat.{le_or_l, le-div, or_lt, pow_pos, shl_below}}, Math.Pow.pow_mono}
-use Rattle.std.specs.Int.Bits.{or_shifted_r}
+use Rattle.std.proofs.Common.{◌<◌, ◌≤◌, ◌∙◌, refl, ℕ, List, length, get_or, take, drop, not, bit_or, arith, length-drop}
+use Rattle.std.proofs.lemmas.{Bool.{cases_lt, Decides.nat_tests}, List.{Folds.list_any_more, get_or-drop}, Nat.le_or_l}
+use Rattle.std.{proofs.{lemmas.Nat.{le-div, or_lt, pow_pos, shl_below}, Math.Pow.pow_mono}, specs.Int.Bits.or_shifted_r}
 use Rattle.ffs_volume.specs.Blocks.Inodes.{any_nonzero}
 
 -- two numbers have a bit that is set where one of them isn't zero

@@ -1,6 +1,5 @@
 -- What the requests of a workspace result in.
-use Rattle.std.proofs.Common.{◌+◌, ℕ, refl}
-use Rattle.std.proofs.lemmas.Result.{err_from_is_err_and}
+use Rattle.std.proofs.{Common.{◌+◌, ℕ, refl}, lemmas.Result.err_from_is_err_and}
 use Rattle.ffs_memory.{specs.Account.{Account, Granted}, proofs.Asking.{granted_both, gave_up_after, gave_up_at}}
 use Rattle.ffs_memory.proofs.Asking.{gave_up_within}
 

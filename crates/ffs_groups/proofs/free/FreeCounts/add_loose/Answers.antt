@@ -1,7 +1,6 @@
 use Rattle.std.proofs.Common.{arith, ◌≡◌, ◌+◌, ◌-◌, ◌^◌, ap, sym, ◌∙◌, slice_index}
 use Rattle.ffs_groups.proofs.Adding.{free_next, used_next, stretch_grows, stretch_ends, bit_set, bit_clear}
-use Rattle.ffs_groups.proofs.Adding.{stretches_within, free_within}
-use Rattle.ffs_groups.specs.Free.{AreBelow}
+use Rattle.ffs_groups.{proofs.Adding.{stretches_within, free_within}, specs.Free.AreBelow}
 use Rattle.ffs_groups.proofs.free.FreeCounts.add_loose.Goals.{At-loop-index, then-bits-index-eq1, else-bits-index-eq1}
 use Rattle.ffs_groups.proofs.free.FreeCounts.add_loose.Goals as goal
 
