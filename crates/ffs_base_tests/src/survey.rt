@@ -8,7 +8,7 @@ use ffs_memory::{FilledList, Memory, SystemMemory};
 use ffs_samples::numbers;
 use ffs_survey::{
     Directories, EntryHead, KnownInodes, NumberLists, Surveyed, is_dead, is_dir, is_suspect,
-    is_unref, mark_leaders, survey,
+    is_unref, flag_leaders, survey,
 };
 use ffs_volume::Role;
 use std::alloc::{AllocError, Global};
@@ -235,7 +235,7 @@ fn leaders(alloc: Global) -> Result<([bool; 8], [bool; 4]), AllocError> {
     let parents = numbers(&PARENTS, alloc)?;
     let mut queue = numbers(&[7; 8], alloc)?;
     let mut leaders = [true; 8];
-    mark_leaders(&parents, &mut queue, &mut leaders);
+    flag_leaders(&parents, &mut queue, &mut leaders);
     let surveyed = Surveyed {
         kinds: &KINDS,
         marked: &[false; 8],

@@ -14,9 +14,9 @@ pub line_after : (a b c : Progress) (said : List Message) (line : Message) (faul
 line_after a b c said line fault_end end p ends = grind (arith, said_then)
 
 -- where each part of an end has changed its form, the end has
-pub ends_map : {Sent Sent' : Type 0} {whole broken : Sent → Sent → List Message → Type 0}
-    {whole' broken' : Sent' → Sent' → List Message → Type 0} {image image' : Device} {old new : Sent}
-    {old' new' : Sent'} {text text' : List Message} {IsEnd IsEnd' : End → Type 0}
+pub ends_map : {Target Target' : Type 0} {whole broken : Target → Target → List Message → Type 0}
+    {whole' broken' : Target' → Target' → List Message → Type 0} {image image' : Device} {old new : Target}
+    {old' new' : Target'} {text text' : List Message} {IsEnd IsEnd' : End → Type 0}
     {IsCut IsCut' : List Message → Message → End → Type 0} {end : End} (f : List Message → List Message) →
     (whole old new text → whole' old' new' text') →
     (broken old new text → broken' old' new' text') → (whole old new text → IsEnd end → IsEnd' end) →

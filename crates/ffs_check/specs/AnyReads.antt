@@ -11,28 +11,29 @@ use Rattle.ffs_check.specs.{Ends.{BrokeOffIn, Printed}, ReadsWithin.{PhasesReadW
 
 -- messages went out, or the output failed among them, and there were no more reads than the limit
 -- for so many messages
-pub record ReadsByMessages {Sent : Type 0} (whole broken : Sent → Sent → List Message → Type 0) (limit : ℕ → ℕ)
-    (old new : Sent) (before after : ℕ) : Type 0 where
+pub record ReadsByMessages {Target : Type 0} (whole broken : Target → Target → List Message → Type 0) (limit : ℕ → ℕ)
+    (old new : Target) (before after : ℕ) : Type 0 where
   pub messages : List Message
   pub went_out : whole old new messages ⊎ broken old new messages
   pub most : after ≤ before + limit (length messages)
 
 -- how often the phases read an image whose bytes are known, and any image, for the messages that
 -- went out, on a volume of less than 2^40 bytes (`AreChunksNumbered`)
-pub record PhasesRead {Sent : Type 0} (whole broken : Sent → Sent → List Message → Type 0) (knows : List ℕ → Type 0)
-    (s : Superblock) (old new : Sent) (before after : ℕ) : Type 0 where
+pub record PhasesRead {Target : Type 0} (whole broken : Target → Target → List Message → Type 0) (knows : List ℕ → Type 0)
+    (s : Superblock) (old new : Target) (before after : ℕ) : Type 0 where
   pub known : ForBytes knows (λ bytes. PhasesReadWithin s bytes before after)
   pub any : AreChunksNumbered s.layout → ReadsByMessages whole broken (phase_reads s.layout) old new before after
 
--- the same, by what the phases answered: of any image for the messages that were begun
+-- the same, by what the phases answered: of any image for the messages that were begun, each of which
+-- takes `line_reads` in phase 2, and one read in phases 3 and 4
 pub record PhasesPay {T : Type 0} (knows : List ℕ → Type 0) (s : Superblock) (old new : Progress) (before after : ℕ)
     (result : Result T RunFault) : Type 0 where
   pub known : ForBytes knows (λ bytes. PhasesReadWithin s bytes before after)
   pub paid : AreChunksNumbered s.layout
       → Paid (line_reads + 1) old new (before + phase_reads s.layout 0) after result
 
--- the superblock of a volume that lies in an image of this size was accepted, and the whole check
--- read the image within the limit for what it printed, on a volume of less than 2^40 bytes
+-- for some accepted layout, of a volume that fits an image of this size, the whole check read within
+-- the limit of that layout for what it printed, if the volume has less than 2^40 bytes
 pub record ReadsOfVolume (size : ℕ) (out out' : Sink) (before after : ℕ) : Type 0 where
   pub layout : Layout
   pub accepted : IsAcceptedLayout layout

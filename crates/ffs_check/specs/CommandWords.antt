@@ -53,7 +53,8 @@ refusals words = fault_of program words
 unfoldable pub LacksMemory : List Text → Type 0
 LacksMemory words = ⊤
 
--- the words are refused by an error: they are wrong, or memory was refused
+-- the words are refused by an error: they are wrong, or ask for the help or the version, or memory was
+-- refused
 pub record AreRefusedBy (words : List Text) (error : Error) : Type 0 where
   pub cause : refusals words ≡ [] → kind_of error ≡ OutOfMemory
   pub memory : kind_of error ≡ OutOfMemory → LacksMemory words

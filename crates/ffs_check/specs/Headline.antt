@@ -10,8 +10,7 @@ use Rattle.ffs_report.specs.Sink.{Sink}
 use Rattle.ffs_layout.specs.Super.{IsSuperSector}
 use Rattle.ffs_check.specs.Ends.{BrokeOffIn, Ends, Printed}
 
--- an end that a whole report can have: also that of a refused superblock, and of an inode 2 that is no
--- directory
+-- an end that a whole report can have: also `Refused`, and `RootStop` (inode 2 is no directory)
 abbrev pub can_end_report : End → Bool
 can_end_report Consistent = true
 can_end_report Defects = true
@@ -22,9 +21,9 @@ can_end_report WriteFault = false
 can_end_report NoMemory = false
 
 -- status 0, and a report with no defect, are each a certificate that the volume is consistent
-pub record Certifies (image : List ℕ) (s : Superblock) (text : List Message) (end : End) : Type 0 where
-  pub end_says : (end ≡ Consistent) ↔ IsConsistent image s
-  pub text_says : (has_defect text ≡ false) ↔ IsConsistent image s
+pub record Certifies (bytes : List ℕ) (s : Superblock) (text : List Message) (end : End) : Type 0 where
+  pub end_says : (end ≡ Consistent) ↔ IsConsistent bytes s
+  pub text_says : (has_defect text ≡ false) ↔ IsConsistent bytes s
 
 -- the opening of an accepted superblock, through the mount line
 abbrev pub opened_lines : List ℕ → Option ℕ → Superblock → List Message
@@ -64,7 +63,7 @@ pub record IsCutLater (image image' : Device) (name : List ℕ) (asked_sector : 
 
 -- the memory of the check is refused: what is said before that is the opening, through the mount
 -- line
-pub record IsUnstarted (image image' : Device) (name : List ℕ) (asked_sector : Option ℕ) (said : List Message)
+pub record IsCutByMemory (image image' : Device) (name : List ℕ) (asked_sector : Option ℕ) (said : List Message)
     (line : Message) (end : End) : Type 0 where
   pub no_read_failed : image' ≡ image
   pub found : Superblock
@@ -79,10 +78,10 @@ abbrev pub IsCutShort : Device → Device → List ℕ → Option ℕ → List M
 IsCutShort image image' name asked_sector text said line end =
     IsCutAtSuper image image' name asked_sector said line end
     ⊎ (IsCutLater image image' name asked_sector text said line end
-    ⊎ IsUnstarted image image' name asked_sector said line end)
+    ⊎ IsCutByMemory image image' name asked_sector said line end)
 
--- the headline: `text` is the whole report where the image gives its bytes. It was printed whole,
--- or cut short by a fault, whose line was printed after it, or the output failed
+-- the headline: `text` is the whole report where the image gives its bytes. It was printed whole; or
+-- cut short by a failed read or refused memory, whose line was printed last; or the output failed
 pub record Headline (image image' : Device) (name : List ℕ) (asked_sector : Option ℕ) (out out' : Sink) (end : End)
     : Type 0 where
   pub text : List Message

@@ -10,7 +10,7 @@ use Rattle.ffs_layout.specs.{declared.superblock.Super.Super, Super.{IsUnreadabl
 use Rattle.ffs_check.specs.Ends.{BrokeOffInLine}
 
 -- the superblock isn't accepted, and its opening went out, with the fault
-pub record OpeningRefused {Sent : Type 0} (whole : Sent → Sent → List Message → Type 0) (old new : Sent) (name : List ℕ)
+pub record OpeningRefused {Target : Type 0} (whole : Target → Target → List Message → Type 0) (old new : Target) (name : List ℕ)
     (asked_sector : Option ℕ) (found : Result Superblock SuperFault) (end : End) : Type 0 where
   pub fault : SuperFault
   pub found_is : found ≡ Err fault
@@ -18,8 +18,8 @@ pub record OpeningRefused {Sent : Type 0} (whole : Sent → Sent → List Messag
   pub end_is : end ≡ Refused fault
 
 -- no read had failed, and the output failed within the opening
-pub record OpeningBrokeOff {Sent : Type 0} (broken : Sent → Sent → List Message → Type 0) (image image' : Device)
-    (old new : Sent) (name : List ℕ) (asked_sector : Option ℕ) (found : Result Superblock SuperFault) (end : End)
+pub record OpeningBrokeOff {Target : Type 0} (broken : Target → Target → List Message → Type 0) (image image' : Device)
+    (old new : Target) (name : List ℕ) (asked_sector : Option ℕ) (found : Result Superblock SuperFault) (end : End)
     : Type 0 where
   pub no_read_failed : image' ≡ image
   pub found_is : ForContents image.contents (λ bytes. found ≡ outcome bytes asked_sector)
@@ -27,7 +27,7 @@ pub record OpeningBrokeOff {Sent : Type 0} (broken : Sent → Sent → List Mess
   pub end_is : end ≡ WriteFault
 
 -- the output failed within the line of the superblock's fault
-pub record OpeningBrokeInLine {Sent : Type 0} (whole broken : Sent → Sent → List Message → Type 0) (old new : Sent)
+pub record OpeningBrokeInLine {Target : Type 0} (whole broken : Target → Target → List Message → Type 0) (old new : Target)
     (name : List ℕ) (asked_sector : Option ℕ) (found : Result Superblock SuperFault) (end : End) : Type 0 where
   pub fault : SuperFault
   pub found_is : found ≡ Err fault
@@ -35,8 +35,8 @@ pub record OpeningBrokeInLine {Sent : Type 0} (whole broken : Sent → Sent → 
   pub end_is : end ≡ WriteFault
 
 -- how an opening ended: with an accepted superblock, or in one of these ways
-abbrev pub OpeningEnds : {Sent : Type 0} → (whole broken : Sent → Sent → List Message → Type 0) → Device → Device →
-    Sent → Sent → List ℕ → Option ℕ → Result Superblock SuperFault → Result Super End → Type 0
+abbrev pub OpeningEnds : {Target : Type 0} → (whole broken : Target → Target → List Message → Type 0) → Device → Device →
+    Target → Target → List ℕ → Option ℕ → Result Superblock SuperFault → Result Super End → Type 0
 OpeningEnds whole broken image image' old new name asked_sector found (Ok super) =
     whole old new (opening_lines name asked_sector found) × (found ≡ Ok (superblock_in super))
 OpeningEnds whole broken image image' old new name asked_sector found (Err end) =
@@ -44,9 +44,10 @@ OpeningEnds whole broken image image' old new name asked_sector found (Err end) 
     ⊎ (OpeningBrokeOff broken image image' old new name asked_sector found end
     ⊎ OpeningBrokeInLine whole broken old new name asked_sector found end)
 
--- a superblock or a fault was found as the image gives, and its opening went out
-pub record OpeningOf {Sent : Type 0} (whole broken : Sent → Sent → List Message → Type 0) (image image' : Device)
-    (old new : Sent) (name : List ℕ) (asked_sector : Option ℕ) (result : Result Super End) : Type 0 where
+-- a superblock or a fault was found, as the image has it; its opening went out, or the output failed
+-- in it
+pub record OpeningOf {Target : Type 0} (whole broken : Target → Target → List Message → Type 0) (image image' : Device)
+    (old new : Target) (name : List ℕ) (asked_sector : Option ℕ) (result : Result Super End) : Type 0 where
   pub found : Result Superblock SuperFault
   pub answers : ReadsSuper image image' asked_sector found
   pub ends : OpeningEnds whole broken image image' old new name asked_sector found result
@@ -60,8 +61,8 @@ pub record AnswersOpening (image image' : Device) (asked_sector : Option ℕ) (b
   pub reads : after ≤ before + opening_reads
 
 -- what the opening answers, and what went out of it
-pub record Opens {Sent : Type 0} (whole broken : Sent → Sent → List Message → Type 0) (image image' : Device)
-    (old new : Sent) (name : List ℕ) (asked_sector : Option ℕ) (before after : ℕ) (result : Result Super End)
+pub record Opens {Target : Type 0} (whole broken : Target → Target → List Message → Type 0) (image image' : Device)
+    (old new : Target) (name : List ℕ) (asked_sector : Option ℕ) (before after : ℕ) (result : Result Super End)
     : Type 0 where
   pub answers : AnswersOpening image image' asked_sector before after result
   pub opened : OpeningOf whole broken image image' old new name asked_sector result

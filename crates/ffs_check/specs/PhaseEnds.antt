@@ -88,9 +88,9 @@ pub record IsCutByRead (knows : List ℕ → Type 0) (text : List Message) (imag
 -- the messages of the phases on the image's bytes went out, or what a fault leaves of them.
 -- `has_defect_by` says of their text whether a defect was reported in it or in the opening. No end
 -- is `NoMemory`
-pub record PhasesEnd {Sent : Type 0} (whole broken : Sent → Sent → List Message → Type 0)
+pub record PhasesEnd {Target : Type 0} (whole broken : Target → Target → List Message → Type 0)
     (has_defect_by : List Message → Bool) (knows : List ℕ → Type 0) (s : Superblock) (image image' : Device)
-    (old new : Sent) (end : End) : Type 0 where
+    (old new : Target) (end : End) : Type 0 where
   pub text : List Message
   pub right : ForBytes knows (λ bytes. text ≡ phase_lines bytes s)
   pub ends : Ends whole broken image image' old new text (IsEndByRoot knows s (has_defect_by text))
@@ -105,9 +105,9 @@ SaysPhases had_defect knows s image image' old new end =
 
 -- the phases have run to an end: what went out, how often they read an image that gives its bytes,
 -- and any image, and the workspace's lists keep their lengths
-pub record RunsToEnd {Sent : Type 0} (whole broken : Sent → Sent → List Message → Type 0)
+pub record RunsToEnd {Target : Type 0} (whole broken : Target → Target → List Message → Type 0)
     (has_defect_by : List Message → Bool) (knows : List ℕ → Type 0) (s : Superblock) (image image' : Device)
-    (w : Workspace) (old new : Sent) (before after : ℕ) (end : End) : Type 0 where
+    (w : Workspace) (old new : Target) (before after : ℕ) (end : End) : Type 0 where
   pub ran : PhasesEnd whole broken has_defect_by knows s image image' old new end
   pub reads : PhasesRead whole broken knows s old new before after
   pub made : IsFor s.layout w

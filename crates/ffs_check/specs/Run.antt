@@ -1,4 +1,5 @@
--- What a run of the program prints, and its exit status, by the words after the program's name.
+-- What a run of the program prints, and its exit status, by the words after the program's name: 2
+-- where the words are refused, 8 where no check ran to its end, else that of the check.
 use Rattle.std.specs.{Io.KnownBytes.Keeps, Prelude.{◌≡◌, ◌⊎◌, ℕ, List, [], ◌∷◌, ◌++◌, Option, Result, MatchResult}}
 use Rattle.std.specs.{Prelude.codes, declared.io.Error.Error}
 use Rattle.ffs_image.specs.{Device.Device, declared.file.OpenFault.OpenFault}
@@ -52,7 +53,7 @@ pub record RunsAsAsked (I : Type 0) (device : I → Device) (reads : I → ℕ) 
 
 -- the words are wrong, or ask for the help or the version: nothing is printed to the output
 pub record IsRefused (words : List (List ℕ)) (out out' : Sink) (status : ℕ) : Type 0 where
-  pub wrong : refusals words ≡ [] → ⊥
+  pub refused : refusals words ≡ [] → ⊥
   pub unprinted : out' ≡ out
   pub status_is : status ≡ 2
 
@@ -81,7 +82,7 @@ pub record IsFlushed {S : Type 0} (was_flushed : S → Result (Unit {0}) Error �
 
 -- nothing was printed, and nothing is flushed
 pub record IsUnprinted {S : Type 0} (old new : S) (ran_status status : ℕ) : Type 0 where
-  pub wrong : ran_status ≡ 2
+  pub refused : ran_status ≡ 2
   pub untouched : new ≡ old
   pub status_is : status ≡ 2
 

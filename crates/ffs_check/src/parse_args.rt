@@ -76,8 +76,8 @@ fn matches_of<'a>(alloc: Global, words: &'a [&'a str]) -> Result<ArgMatches<'a>,
 /// Arguments that aren't `-n [-b sector] image`, a call for help or for the version, and memory
 /// that was refused.
 pub fn parse_args<'a>(alloc: Global, words: &'a [&'a str]) -> Result<Args<'a>, Error>
-    // What the arguments ask for. They are refused because they are wrong, or because memory
-    // was refused, where `clap` answered so.
+    // What the arguments ask for. They are refused because they are wrong, or ask for the help or
+    // the version, or because memory was refused, where `clap` answered so.
     ensures { MatchResult result
         (λ args. AskFor (map (λ word. word.now) words.now) args.name.now args.sector)
         (AreRefusedBy (map (λ word. word.now) words.now)) }

@@ -72,7 +72,7 @@ pub is_set_now : {old new : FragmentMap} {f : ℕ} {b : Bool} → ClaimsRun old 
     bits_of new ≡ slice_set (bits_of old) f true
 is_set_now {b = true} c = c.claimed refl
 is_set_now {old = old} {f = f} {b = false} c =
-    ap bits_of (c.kept refl) ∙ sym (ap (slice_set (bits_of old) f) (sym (was_set c)) ∙ set-get_or (bits_of old) f false)
+    ap bits_of (c.unchanged refl) ∙ sym (ap (slice_set (bits_of old) f) (sym (was_set c)) ∙ set-get_or (bits_of old) f false)
 
 -- ---- where the Runs round another Run are in range
 -- a Run before the metadata of a group

@@ -14,8 +14,8 @@ use Rattle.ffs_workspace.specs.declared.workspace.Workspace.{Workspace}
 use Rattle.ffs_claims.specs.{Area.IsDataArea, Leaves.{CanOffer, ClaimsOnly, HasBegun, OffersOnly, SameFound}}
 use Rattle.ffs_claims.specs.{Lines.of_lines, declared.{area.{DataArea.DataArea, Run.Run}, claim.Sweep.Sweep}}
 
--- in a workspace as it was made just the reserved fragments are used then; no Run is seen yet, and
--- the rest is as claiming leaves it
+-- in a workspace as it was made only the reserved fragments are used after the call. No Run is counted
+-- yet, and the rest is as claiming leaves it (`ClaimsOnly`)
 pub record Reserves (v : Layout) (old new : Workspace) : Type 0 where
   pub claims : IsFresh v old → claims_of new ≡ no_claims v
   pub runs : new.runs_seen ≡ 0
@@ -89,8 +89,8 @@ pub record StepsLeave {T : Type 0} (v : Layout) (d d' : Device) (old new : Works
   pub claim_bound : OnOk result (ClaimBound (claims_of old) (claims_of new))
   pub found : SameFound old new
 
--- what an inode leaves: the same but for what was found, a walk over the volume, and the Runs of phase
--- 1b as they were. Each Run that it sees claims a fragment, but for 22, and each read is paid by a Run that is seen
+-- what an inode leaves: what its steps leave but for `found`, a walk over the volume, and the count of phase
+-- 1b's Runs as it was. Each Run that it sees claims a fragment, but for 22, and each read is paid by a Run seen
 pub record InodeLeaves {T : Type 0} (g : Geometry) (d d' : Device) (reads reads' : ℕ) (old new : Workspace)
     (sweep : Sweep) (result : Result T RunFault) : Type 0 where
   pub image : ImageAfter d d' result

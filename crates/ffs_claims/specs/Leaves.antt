@@ -47,7 +47,7 @@ pub record HasInode (number : ℕ) (w : Workspace) : Type 0 where
   pub notes : number < vec_len w.notes
   pub references : number < vec_len w.references
 
--- what was found of the current inode is kept
+-- what was found of the current inode is stored
 pub record Stored (number : ℕ) (class : Class) (i : Inode) (old new : Workspace) : Type 0 where
   pub kinds : new.kinds.items ≡ slice_set old.kinds.items number (kind_of class i)
   pub marked : new.marked.items ≡ slice_set old.marked.items number (is_unknown class || has_blame (claims_of new))

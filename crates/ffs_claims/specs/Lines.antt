@@ -21,15 +21,15 @@ dup_lines number f is_eleventh = Dup f number ∷ (if is_eleventh then ManyDup n
 abbrev pub bad_lines : ℕ → ℕ → Bool → List BlockMessage
 bad_lines number start is_eleventh = Bad start number ∷ (if is_eleventh then ManyBad number ∷ [] else [])
 
--- an inode by its number, as one that may own fragments
+-- the owner with this number whose inode was read: `owner_of` makes it by the number alone
 abbrev pub owner_with : Layout → List ℕ → ℕ → Inode → Owner
 owner_with v image number i =
     record { number = number; class = class_of v i; steps = steps_of v i image; blocks = i.blocks }
 
--- the inodes from one on
+-- the owners of the inode numbers from `number` on, ascending
 abbrev pub owners_from : Layout → List ℕ → ℕ → List Owner
 owners_from v image number = map (owner_of v image) (range_with_len number (inodes_of v - number))
 
--- what an inode's count of sectors is reported by
+-- the owner that `count_lines` looks at: it asks nothing of steps, so there are none
 abbrev pub counted_owner : ℕ → Class → ℕ → Owner
 counted_owner number class blocks = record { number = number; class = class; steps = []; blocks = blocks }

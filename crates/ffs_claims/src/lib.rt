@@ -1,7 +1,7 @@
 //! The block check: which fragments inodes claim, and what is wrong with their claims (phases 1 and
 //! 1b of fsck(8)).
 //!
-//! `phase1` and `phase1b` print the block check's text, and leave classes, claims, notes and marks
+//! `phase1` and `phase1b` print the block check's text, and leave kinds, claims, notes and marks
 //! in the workspace. `phase1` looks at no more than `size + 22 * inodes` Runs, whatever the image
 //! holds, and `phase1b` at no more than it did, where the image gives its bytes.
 //!

@@ -100,6 +100,7 @@ pub fn say_count<W: Output>(
     found: u32,
     report: &mut Report<'_, W>,
 ) -> Result<(), OutFault>
+    // Any bound far above an inode's offers, and below 2^57, serves: the product must fit a u64.
     requires { workspace.now.kept < 2 ^ 40 }
     ensures { Says (progress W.sink report.old) (progress W.sink report.new)
         (of_lines (count_lines geometry.now.layout (counted_owner number class found)

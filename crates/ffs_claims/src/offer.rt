@@ -156,7 +156,7 @@ fn offers_of_bad_run<W: Output>(
 }
 
 /// Takes a Run of the current inode. Returns whether the next step is seen.
-fn run<W: Output>(
+fn take_run<W: Output>(
     workspace: &mut Workspace,
     geometry: &Geometry,
     area: &mut DataArea,
@@ -206,7 +206,7 @@ pub fn step<W: Output>(
 {
     match step {
         Step::Run { start, len, .. } => {
-            run(
+            take_run(
                 workspace,
                 geometry,
                 area,

@@ -18,7 +18,7 @@ use ffs_workspace::{Workspace, sweep_reads};
 
 /// Reports, of the offers of a step that the current inode keeps, those that are the first kept
 /// offer of a fragment with a DUP line.
-fn report_again<W: Output>(
+fn report_step<W: Output>(
     workspace: &mut Workspace,
     geometry: &Geometry,
     number: u32,
@@ -57,11 +57,11 @@ fn rewalk<I: Image, W: Output>(
         (progress W.sink report.old) (progress W.sink report.new) workspace.old workspace.new
         result }
 {
-    let cut = workspace.cut_of(number);
+    let cut = workspace.noted_cut(number);
     let mut keeping = Keeping::start(cut);
     let mut walk = Walk::start(geometry, inode);
     while let Some(next) = walk.next(image, &mut workspace.windows.blocks)? {
-        report_again(workspace, geometry, number, &mut keeping, next, report)?;
+        report_step(workspace, geometry, number, &mut keeping, next, report)?;
         if !keeping.is_replay_open() {
             break;
         }
@@ -95,7 +95,7 @@ fn rewalk_inode<I: Image, W: Output>(
     rewalk(geometry, image, workspace, number, &inode, report)
 }
 
-/// Phase 1b over an image that limits its reads: `phase1b` lends it one.
+/// Phase 1b, with no limit of its own on reads: `phase1b` lends it an image that has one.
 ///
 /// # Errors
 /// A read of the image that failed, and a write of the report that failed.

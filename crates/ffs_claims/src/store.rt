@@ -1,4 +1,4 @@
-//! What is kept of each inode.
+//! What is stored of each inode.
 
 ghost use Rattle.std.specs.Prelude.{◌≡◌, ◌<◌, ◌||◌, false, min, slice_set, vec_len};
 ghost use Rattle.ffs_volume.specs.{Blocks.Inodes.is_unknown, Encodings.{Kinds.kind_of, Links.start_of, Replay.cut_of}};
@@ -6,7 +6,7 @@ ghost use Rattle.ffs_workspace.specs.Holds.{claims_of, has_blame};
 ghost use Rattle.ffs_claims.specs.Leaves.{HasInode, Stored};
 
 use ffs_memory::FilledList;
-use ffs_volume::constants::{DT_DIR, EMPTY_DIR, MAXDUP, UNKNOWN_TYPE};
+use ffs_volume::constants::{DT_DIR, EMPTY_DIR_KIND, MAXDUP, UNKNOWN_KIND};
 use ffs_volume::{Class, Inode};
 use ffs_workspace::{Workspace, links_start, note_of};
 
@@ -27,9 +27,9 @@ fn kind_of(class: Class, inode: &Inode) -> u8
 {
     match class {
         Class::Free | Class::Partial => 0,
-        Class::Unknown => UNKNOWN_TYPE,
-        Class::Dir => if inode.size == 0 { EMPTY_DIR } else { DT_DIR },
-        Class::File => (inode.mode / 4096) as u8,
+        Class::Unknown => UNKNOWN_KIND,
+        Class::Dir => if inode.size == 0 { EMPTY_DIR_KIND } else { DT_DIR },
+        Class::File => (inode.mode / 4096) as u8, // the type: the mode's upper four bits
     }
 }
 
@@ -45,7 +45,7 @@ fn is_marked(workspace: &Workspace, class: Class) -> bool
     }
 }
 
-/// How many offers the current inode keeps, where its eleventh dup offer cut it, else 0.
+/// How many offers the current inode keeps, at most 2^32 - 1, if its eleventh dup offer cut it; else 0.
 #[inline(always)]
 fn cut_of(workspace: &Workspace) -> u32
     ensures { result ≡ min (cut_of (claims_of workspace.now)) 4294967295 }
@@ -91,7 +91,7 @@ fn store_start(list: &mut FilledList<u64>, number: usize, start: u64)
     }
 }
 
-/// Keeps what later phases want of the current inode.
+/// Stores what later phases want of the current inode.
 #[inline(always)]
 pub fn store(workspace: &mut Workspace, number: u32, class: Class, inode: &Inode)
     requires number { HasInode number workspace.old }

@@ -22,7 +22,7 @@ fn claim_address(
     requires { CanSeeNext geometry.now.layout workspace.old area.now (2 ^ 63) }
     ensures claimed { IsTrue result
         → ClaimsAddress geometry.now.layout address workspace.old workspace.new }
-    ensures kept { result ≡ false → workspace.new ≡ workspace.old }
+    ensures unchanged { result ≡ false → workspace.new ≡ workspace.old }
 {
     if address == 0 {
         return true;

@@ -12,7 +12,7 @@ use crate::unref::check_inode;
 use ffs_image::Image;
 use ffs_layout::Geometry;
 use ffs_report::{Heading, Line, Output, Report, RunFault};
-use ffs_survey::{is_dir, mark_leaders};
+use ffs_survey::{is_dir, flag_leaders};
 use ffs_workspace::Workspace;
 
 /// The least number of a directory that isn't reached, or how many inodes there are where each one
@@ -62,7 +62,7 @@ pub fn phase3<I: Image, W: Output>(
     if first as usize == workspace.kinds.len() {
         return Ok(());
     }
-    mark_leaders(
+    flag_leaders(
         &workspace.parents,
         &mut workspace.queue,
         &mut workspace.flags,

@@ -17,7 +17,7 @@ use Rattle.ffs_volume.{specs.Messages.Kinds.{Message, TreeMessage, of_tree, line
 use Rattle.ffs_volume.proofs.{LinkLaws.links_met, Numbered.all_from}
 use Rattle.ffs_workspace.specs.{declared.workspace.Workspace.Workspace, Lengths.inodes_of, Holds.HoldsClaims}
 use Rattle.ffs_workspace.{specs.Holds.{HoldsFindings, bool_at}, proofs.KindLaws.{suspect_is, some_is}}
-use Rattle.ffs_counts.{specs.References.{reference_reported, is_dead_by, is_met}, proofs.Classes.same_test}
+use Rattle.ffs_counts.{specs.References.{reference_reported, is_dead_by, is_right_by}, proofs.Classes.same_test}
 
 pub held_on : (old mid new : Workspace) → mid ≡ record old { windows = mid.windows } →
     new ≡ record mid { windows = new.windows } → new ≡ record old { windows = new.windows }
@@ -116,7 +116,7 @@ lines_begin v b = grind (arith, all_from)
 
 -- where each link has its reference, nothing is reported
 pub met_lines : (v : Layout) (b : List ℕ) (w : Workspace) (i : ℕ) → i < inodes_of v → HoldsFindings v b w →
-    is_allocated (class_of_kind (slice_index w.kinds.items i)) ≡ true → is_met w i ≡ true →
+    is_allocated (class_of_kind (slice_index w.kinds.items i)) ≡ true → is_right_by w i ≡ true →
     reference_lines_at (volume_of v b) i ≡ []
 met_lines v b w i low f used met =
     let parts = and_parts (slice_index w.references.items i == LINKS_MET) (not (is_dead_by w i)) met in
@@ -165,7 +165,7 @@ open_test true true e alive = absurd (cc)
 
 -- an allocated inode that isn't right by the lists of a workspace has one line
 pub unmet_line : (v : Layout) (b : List ℕ) (w : Workspace) (i : ℕ) → i < inodes_of v → HoldsFindings v b w →
-    is_allocated (class_of_kind (slice_index w.kinds.items i)) ≡ true → is_met w i ≡ false →
+    is_allocated (class_of_kind (slice_index w.kinds.items i)) ≡ true → is_right_by w i ≡ false →
     length (reference_lines_at (volume_of v b) i) ≡ 1
 unmet_line v b w i low f used unmet =
     let nlink = (inode_of v b i).nlink in
@@ -185,7 +185,7 @@ fits_small nlink n fits e = let f = rw e at fits in omega (arith, ints)
 
 -- an inode that isn't right by the lists of a workspace has a line, whatever is read of it
 pub unmet_reported : (w : Workspace) (i : ℕ) (m : Bool) (label : Label) (attr : Attr) (nlink : ℤ) (dead : Bool)
-    (count r : ℕ) → is_met w i ≡ false → dead ≡ is_dead_by w i → count ≡ slice_index w.references.items i →
+    (count r : ℕ) → is_right_by w i ≡ false → dead ≡ is_dead_by w i → count ≡ slice_index w.references.items i →
     r ≡ count - links_start nlink → SFits w16 nlink →
     length (reference_reported dead m label attr nlink r) ≡ 1
 unmet_reported w i m label attr nlink dead count r unmet ed ec er fits =

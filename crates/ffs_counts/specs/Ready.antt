@@ -23,8 +23,8 @@ pub record CanCheckAllocated (v : Layout) (d : Device) (w : Workspace) (x : ℕ)
   pub number : x < inodes_of v
   pub allocated : is_allocated (class_of_kind (slice_index w.kinds.items x)) ≡ true
 
--- so many inodes from one on are free, and there are none only where that one is allocated
-pub record IsFreeStretch (kinds : List ℕ) (first n : ℕ) : Type 0 where
+-- so many inodes from `first` on are free, and there are none only where that one is allocated
+pub record AreFreeFrom (kinds : List ℕ) (first n : ℕ) : Type 0 where
   pub within : first + n ≤ length kinds
   pub free : (k : ℕ) → k < n → is_allocated (class_in kinds (first + k)) ≡ false
   pub allocated : n ≡ 0 → is_allocated (class_in kinds first) ≡ true

@@ -26,5 +26,5 @@ abbrev pub is_dead_by : Workspace → ℕ → Bool
 is_dead_by w i = dead_at w.kinds.items w.marked.items w.named.items i
 
 -- whether it isn't dead, and each of its links has its reference
-abbrev pub is_met : Workspace → ℕ → Bool
-is_met w i = (slice_index w.references.items i == LINKS_MET) && not (is_dead_by w i)
+abbrev pub is_right_by : Workspace → ℕ → Bool
+is_right_by w i = (slice_index w.references.items i == LINKS_MET) && not (is_dead_by w i)

@@ -5,8 +5,8 @@ ghost use Rattle.ffs_volume.specs.Messages.Kinds.{of_tree, phase4 as phase4_head
 ghost use Rattle.ffs_volume.specs.Directories.{ReferenceCheck.reference_lines, Volumes.volume_of};
 ghost use Rattle.ffs_report.specs.{Progress.progress, PhaseOutcome.PhaseOutcome, ReadsFor.ReadsFor};
 ghost use Rattle.ffs_workspace.specs.{Found.WithFindings, Ready.{IsReady, StaysReady}};
-ghost use Rattle.ffs_counts.specs.Ready.{CanCheckAllocated, ChecksInode, HasElements, IsFreeStretch};
-ghost use Rattle.ffs_counts.specs.References.{is_dead_by, is_met};
+ghost use Rattle.ffs_counts.specs.Ready.{CanCheckAllocated, ChecksInode, HasElements, AreFreeFrom};
+ghost use Rattle.ffs_counts.specs.References.{is_dead_by, is_right_by};
 
 use crate::reference::{line_for, references_by, say_line};
 use ffs_groups::are_allocated;
@@ -33,29 +33,29 @@ fn is_dead(workspace: &Workspace, number: u32) -> bool
 /// has a reference.
 fn is_right(workspace: &Workspace, number: u32) -> bool
     requires { HasElements workspace.now number }
-    ensures { result ≡ is_met workspace.now number }
+    ensures { result ≡ is_right_by workspace.now number }
 {
     workspace.references[number as usize] == LINKS_MET && !is_dead(workspace, number)
 }
 
 /// How many free inodes are passed over at once.
-const FREE_STRETCH: usize = 64;
+const FREE_AT_ONCE: usize = 64;
 
-/// How many inodes from one on are passed over, since they are free: `FREE_STRETCH`, or only the
-/// first, or none.
+/// How many inodes from `first` on are passed over, since they are free: `FREE_AT_ONCE`, or only
+/// that one, or none.
 #[inline(always)]
-fn free_stretch(kinds: &[u8], first: usize) -> usize
+fn free_from(kinds: &[u8], first: usize) -> usize
     requires { first < length kinds.now }
-    ensures { IsFreeStretch kinds.now first result }
+    ensures { AreFreeFrom kinds.now first result }
 {
     if kinds[first] != 0 {
         return 0;
     }
-    if kinds.len() - first < FREE_STRETCH {
+    if kinds.len() - first < FREE_AT_ONCE {
         return 1;
     }
-    match are_allocated(&kinds[first..first + FREE_STRETCH]) {
-        Some(false) => FREE_STRETCH,
+    match are_allocated(&kinds[first..first + FREE_AT_ONCE]) {
+        Some(false) => FREE_AT_ONCE,
         _ => 1,
     }
 }
@@ -120,7 +120,7 @@ pub fn phase4<I: Image, W: Output>(
     let inodes = geometry.layout.ncg * geometry.layout.ipg;
     let mut number = 0;
     while number < inodes {
-        let free = free_stretch(&workspace.kinds, number as usize);
+        let free = free_from(&workspace.kinds, number as usize);
         if free == 0 {
             check_inode(geometry, image, workspace, number, report)?;
             number += 1;

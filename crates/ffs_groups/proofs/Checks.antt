@@ -7,7 +7,7 @@ use Rattle.ffs_volume.specs.Disk.Numbers.{u32_at, number, all_below}
 use Rattle.ffs_layout.specs.Group.{group_summary_at}
 use Rattle.ffs_groups.specs.declared.{counts.{SummaryCounts.SummaryCounts, Counts.Counts}, free.FreeCounts.FreeCounts}
 use Rattle.ffs_groups.specs.{declared.inodes.InodeCounts.InodeCounts, Check.{has_bits_of, AreCounts, group_counts_of}}
-use Rattle.ffs_groups.specs.{Check.{same_counts, same_frsum_at}, Free.AreFree, Inodes.AreInodes}
+use Rattle.ffs_groups.specs.{Check.{same_counts, same_frsum_at}, Free.AreFreeCounts, Inodes.AreInodeCounts}
 use Rattle.ffs_groups.proofs.MapWords.{same_below}
 
 -- a byte from a place on
@@ -49,7 +49,7 @@ sums_as v free class c block counts h right = grind (arith, bits_are, same_below
 
 -- counts of fragments and of inodes are the counts of a group
 pub are_counts : (v : Layout) (free : ℕ → Bool) (class : ℕ → Class) (c : ℕ) (f : FreeCounts) (i : InodeCounts) →
-    AreFree v free c f → AreInodes v class c i →
+    AreFreeCounts v free c f → AreInodeCounts v class c i →
     AreCounts v free class c (record {
       summary = record { dirs = i.dirs; blocks = f.blocks; inodes = i.free; fragments = f.fragments };
       frsum = f.frsum;

@@ -10,7 +10,7 @@ use Rattle.ffs_volume.specs.Groups.Records.{is_free_block, free_stretches, block
 use Rattle.ffs_volume.specs.{declared.Layout.Layout, Disk.Areas.cgbase}
 use Rattle.ffs_maps.proofs.{WordShifts.{small, bit_shr}, Counting.{sum_split, ones_by, one_on}}
 use Rattle.ffs_groups.specs.{declared.free.FreeCounts.FreeCounts, Free.{word_bits, whole_in, loose_in, stretches_in}}
-use Rattle.ffs_groups.specs.Free.{Added, AreFree, free_in}
+use Rattle.ffs_groups.specs.Free.{Added, AreFreeCounts, free_in}
 pub use Rattle.ffs_maps.proofs.Counting.{sum_const}
 
 -- ---- fragments in a row that are all free, or of which none is
@@ -172,7 +172,7 @@ pub free_there : (v : Layout) (used : List Bool) (c n fragments : ℕ) (new : Fr
     new.fragments ≡ sum_by (λ b. loose_in (block_bits v (free_in used v.size) c b)) (range_with_len 0 n) →
     ((k : ℕ) → slice_index new.frsum k ≡ sum_by (λ b. stretches_in k (block_bits v (free_in used v.size) c b))
     (range_with_len 0 n)) →
-    new.blocks < 2 ^ 32 → new.fragments < 2 ^ 32 → AreFree v (free_in used v.size) c new
+    new.blocks < 2 ^ 32 → new.fragments < 2 ^ 32 → AreFreeCounts v (free_in used v.size) c new
 unfolding right_frsum cgbase
 free_there v used c n fragments new some whole is within size blocks frags frsum blocks_fit fragments_fit =
     let cover = blocks_cover n fragments v.frag some is in

@@ -51,7 +51,7 @@ pub record CanCompareMaps (v : Layout) (mapped : ℕ) (kinds : List ℕ) (c : �
 pub record CanCompareGroup (v : Layout) (used : FragmentMap) (kinds : List ℕ) (c : ℕ) (counts : Counts)
     (summary block : List ℕ) : Type 0 where
   pub maps : CanCompareMaps v used.size kinds c block
-  pub counts_right : AreCounts v (free_in (bits_of used) v.size) (class_in kinds) c counts
+  pub right_counts : AreCounts v (free_in (bits_of used) v.size) (class_in kinds) c counts
   pub summary_length : length summary ≡ 16
 
 -- each finding says whether the records of group c are right: in the summary area, and in its group

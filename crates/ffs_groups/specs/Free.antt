@@ -67,7 +67,7 @@ pub record Added (bits : ℕ → List Bool) (from n : ℕ) (old new : FreeCounts
       ≡ slice_index old.frsum k + sum_by (λ b. stretches_in k (bits b)) (range_with_len from n)
 
 -- what is free in group c is counted
-pub record AreFree (v : Layout) (free : ℕ → Bool) (c : ℕ) (counts : FreeCounts) : Type 0 where
+pub record AreFreeCounts (v : Layout) (free : ℕ → Bool) (c : ℕ) (counts : FreeCounts) : Type 0 where
   pub blocks : counts.blocks ≡ sum_by (λ b. whole_in (block_bits v free c b)) (block_numbers v)
   pub fragments : counts.fragments ≡ sum_by (λ b. loose_in (block_bits v free c b)) (block_numbers v)
   pub frsum : (k : ℕ) → slice_index counts.frsum k ≡ right_frsum v free c k

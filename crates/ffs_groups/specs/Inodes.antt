@@ -22,6 +22,6 @@ pub record AreCounted (class : ℕ → Class) (first end d f : ℕ) : Type 0 whe
   pub free : f ≡ count_by (λ x. not (is_used_inode class x)) (range_with_len first (end - first))
 
 -- the counts are those of the directories and of the free inodes of group c
-pub record AreInodes (v : Layout) (class : ℕ → Class) (c : ℕ) (counts : InodeCounts) : Type 0 where
+pub record AreInodeCounts (v : Layout) (class : ℕ → Class) (c : ℕ) (counts : InodeCounts) : Type 0 where
   pub dirs : counts.dirs ≡ count_by (is_dir_inode class) (group_inodes v c)
   pub free : counts.free ≡ count_by (λ x. not (is_used_inode class x)) (group_inodes v c)

@@ -23,7 +23,7 @@ pub record HasFragmentMap (v : Layout) (mapped c size place : ℕ) : Type 0 wher
   pub fragments : HasFragments v mapped c
   pub inside : place + div_ceil v.fpg 8 ≤ size
 
--- and the kinds of the inodes with the other map of group c, which lies so too
+-- the kinds of the inodes can be compared with the map of inodes of group c, which lies so too
 pub record HasInodeMap (v : Layout) (listed : List ℕ) (c size place : ℕ) : Type 0 where
   pub inodes : HasInodes v listed c
   pub inside : place + div_ceil v.ipg 8 ≤ size

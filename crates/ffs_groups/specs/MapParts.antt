@@ -6,8 +6,8 @@ pub record AreFewIn (most size first many : ℕ) : Type 0 where
   pub few : many ≤ most
   pub inside : first + many ≤ size
 
--- so many words of a map from a place on lie in a block of so many bytes, and the fragments from
--- `base` on that they are of lie in the map of the volume
+-- so many words of a map from a place on lie in a block of so many bytes, and their fragments, from
+-- `base` on, lie in the map of the volume
 pub record HasMapWords (mapped size base place words : ℕ) : Type 0 where
   pub inside : place + 8 * words ≤ size
   pub below : base + 64 * words ≤ mapped

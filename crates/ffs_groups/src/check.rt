@@ -25,7 +25,7 @@ pub struct Usage<'a> {
 /// What is right in the records of a group.
 #[derive(Clone, Copy, Debug)]
 pub struct GroupFindings {
-    /// The group block has its magic number. Where it hasn't, phase 5 reports neither `maps_right`
+    /// The group block has its magic number. Where it hasn't, phase 5 goes by neither `maps_right`
     /// nor `sums_right`.
     pub magic_right: bool,
     /// The record in the summary area is right.

@@ -3,7 +3,7 @@
 ghost use Rattle.std.specs.Prelude.{◌≡◌, ◌+◌, ◌-◌, ◌*◌, ◌/◌, ◌^◌, ◌<◌, ◌≤◌, count_by, ◌==◌, IfSome, ℕ};
 ghost use Rattle.ffs_volume.specs.Groups.Records.{free_stretches, stretch_of};
 ghost use Rattle.ffs_maps.specs.Bits.{bits_of, IsPart};
-ghost use Rattle.ffs_groups.specs.Free.{word_bits, whole_in, loose_in, stretches_in, HasBlocks, HasRoomToCount, HasRoomToEnd, Grown, Added, AreFree, bits_from, free_in};
+ghost use Rattle.ffs_groups.specs.Free.{word_bits, whole_in, loose_in, stretches_in, HasBlocks, HasRoomToCount, HasRoomToEnd, Grown, Added, AreFreeCounts, bits_from, free_in};
 ghost use Rattle.ffs_groups.specs.Inputs.{HasFragments};
 
 use crate::maps::group_fragments;
@@ -161,7 +161,7 @@ impl FreeCounts {
 /// group's blocks that the volume has are looked at.
 pub fn free_counts(geometry: &Geometry, used: &FragmentMap, group: u32) -> FreeCounts
     requires { HasFragments geometry.now.layout used.now.size group }
-    ensures { AreFree geometry.now.layout
+    ensures { AreFreeCounts geometry.now.layout
         (free_in (bits_of used.now) geometry.now.layout.size) group result }
 {
     let frag = geometry.layout.frag;

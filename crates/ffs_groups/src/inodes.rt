@@ -3,7 +3,7 @@
 ghost use Rattle.std.specs.Prelude.{ℕ, ◌≡◌, ◌<◌, length, slice_index, IfSome};
 ghost use Rattle.ffs_volume.specs.{Blocks.Inodes.{is_directory, is_allocated}, Groups.Records.is_used_inode};
 ghost use Rattle.ffs_volume.specs.Encodings.Kinds.{class_of_kind};
-ghost use Rattle.ffs_groups.specs.{Inodes.{AreCounted, AreFew, AreInodes, class_in}, Inputs.HasInodes};
+ghost use Rattle.ffs_groups.specs.{Inodes.{AreCounted, AreFew, AreInodeCounts, class_in}, Inputs.HasInodes};
 
 use ffs_layout::Geometry;
 use ffs_volume::kinds::Kind;
@@ -59,7 +59,7 @@ pub fn are_allocated(kinds: &[u8]) -> Option<bool>
     if least > 0 { Some(true) } else { None }
 }
 
-/// How many inodes are counted in bytes, before the counts are added up: fewer than 256.
+/// How many inodes are counted at once by counters of one byte: fewer than 256, so none wraps.
 const INODES_AT_ONCE: usize = 192;
 
 /// How many of a few inodes are directories, and how many are free. A byte holds each, so that the
@@ -87,7 +87,7 @@ fn few_counts(kinds: &[u8], first: usize, end: usize) -> FewCounts
 /// How many inodes of a group are directories, and how many are free. Inodes 0 and 1 are neither.
 pub fn inode_counts(geometry: &Geometry, kinds: &[u8], group: u32) -> InodeCounts
     requires { HasInodes geometry.now.layout kinds.now group }
-    ensures { AreInodes geometry.now.layout (class_in kinds.now) group result }
+    ensures { AreInodeCounts geometry.now.layout (class_in kinds.now) group result }
 {
     let first = group as usize * geometry.layout.ipg as usize;
     let end = first + geometry.layout.ipg as usize;

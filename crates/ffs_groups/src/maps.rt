@@ -157,7 +157,7 @@ fn same_words(used: &FragmentMap, base: u32, block: &[u8], place: usize, words: 
 /// What `same_words` answers. Mostly all these fragments are free, or none is: then no word is made
 /// of `used`.
 #[tactic(auto, using(crate::proofs::MapWords::same_below))]
-fn same_stretch(used: &FragmentMap, base: u32, block: &[u8], place: usize, words: u32) -> bool
+fn same_words_at_once(used: &FragmentMap, base: u32, block: &[u8], place: usize, words: u32) -> bool
     requires { HasMapWords used.now.size (length block.now) base place words }
     ensures { result ≡ has_bits block.now place (64 * words)
         (λ k. free_in (bits_of used.now) used.now.size (base + k)) }
@@ -169,7 +169,7 @@ fn same_stretch(used: &FragmentMap, base: u32, block: &[u8], place: usize, words
 }
 
 /// What `same_words` answers, of any number of words: `WORDS_AT_ONCE` of them at a time.
-fn same_stretches(used: &FragmentMap, base: u32, block: &[u8], place: usize, words: u32) -> bool
+fn all_same_words(used: &FragmentMap, base: u32, block: &[u8], place: usize, words: u32) -> bool
     requires { HasMapWords used.now.size (length block.now) base place words }
     ensures { result ≡ has_bits block.now place (64 * words)
         (λ k. free_in (bits_of used.now) used.now.size (base + k)) }
@@ -177,7 +177,7 @@ fn same_stretches(used: &FragmentMap, base: u32, block: &[u8], place: usize, wor
     let mut word = 0;
     while word < words {
         let some = WORDS_AT_ONCE.min(words - word);
-        if !same_stretch(
+        if !same_words_at_once(
             used,
             base + 64 * word,
             block,
@@ -208,7 +208,7 @@ pub fn same_fragment_map(
     let fragments = group_fragments(geometry, group);
     let base = geometry.cgbase(group);
     let words = fragments / 64;
-    if !same_stretches(used, base, block, place as usize, words) {
+    if !all_same_words(used, base, block, place as usize, words) {
         return false;
     }
     let left = fragments % 64;

@@ -1,4 +1,4 @@
-//! An image that is read at most so often.
+//! An image with a limit on its reads.
 ghost use Rattle.std.specs.{Prelude.{◌≡◌, ◌+◌, ◌≤◌, ◌||◌, ℕ, true, false}, Borrow.GName};
 ghost use Rattle.ffs_image.specs.{Device.Device, Limited.{after_reads, limited_device, reads_asked}};
 ghost use Rattle.ffs_image.specs.Limited.{GivesBack};
@@ -6,8 +6,8 @@ ghost use Rattle.ffs_image.specs.Limited.{GivesBack};
 use crate::image::{Image, ImageFault};
 use std::snapshot::Snapshot;
 
-/// An image over another one that is lent to it, and that it reads at most so often. Each further
-/// read is refused: it fails, and the image below isn't asked. So is each read after one that
+/// An image over another one that is lent to it, which it reads no more often than its limit. Each
+/// further read is refused: it fails, and the image below isn't asked. So is each read after one that
 /// failed.
 ///
 /// What reads a whole image needs a bound that holds of any image, also of one that gives other
@@ -20,21 +20,23 @@ pub struct LimitedImage<'a, I: Image> {
     left: u64,
     spent: bool,
     failed: bool,
-    fault_sector: u64,
+    /// Where the read below failed, if one did.
+    below_failed_sector: u64,
     failures: u64,
+    /// Where the last read of this image failed or was refused.
     failed_sector: u64,
     ghost few: { left ≤ limit },
     ghost none_left: { spent ≡ true → (left ≡ 0) × (failed ≡ false) },
     ghost within: { I.reads below.now + left ≤ I.reads begins.value + limit },
     ghost one_failed: { I.device below.now ≡ after_reads (I.device begins.value) failed
-        fault_sector },
+        below_failed_sector },
     ghost none_failed: { (failed || spent) ≡ false → failures ≡ 0 },
     ghost some_failed: { failures ≡ 0 → (failed || spent) ≡ false },
-    ghost first_failed: { failures ≡ 1 → failed ≡ true → fault_sector ≡ failed_sector },
+    ghost first_failed: { failures ≡ 1 → failed ≡ true → below_failed_sector ≡ failed_sector },
 }
 
 impl<'a, I: Image> LimitedImage<'a, I> {
-    /// The image below, of which at most so many reads are made.
+    /// The image below, of which at most `limit` reads are made.
     pub fn new(below: &'a mut I, limit: u64) -> LimitedImage<'a, I>
         ensures device { ⟦<LimitedImage<'a, I> as Image>⟧.device result
             ≡ limited_device (I.device below.old) below.entry.ghost_name (I.reads below.old)
@@ -49,7 +51,7 @@ impl<'a, I: Image> LimitedImage<'a, I> {
             left: limit,
             spent: false,
             failed: false,
-            fault_sector: 0,
+            below_failed_sector: 0,
             failures: 0,
             failed_sector: 0,
         }
@@ -62,8 +64,8 @@ impl<'a, I: Image> LimitedImage<'a, I> {
         self.left
     }
 
-    /// Whether the limit refused a read. A call that read this image, and nothing else of the image
-    /// below, then ended by that and by no fault; else the fault that it answers is one of the
+    /// Whether the limit refused a read. If so, a call that read this image alone ended because of
+    /// that, and no read of the image below failed; if not, a fault that it answers is one of the
     /// image below.
     pub fn is_spent(&self) -> bool
         ensures value { result ≡ self.now.spent }
@@ -116,7 +118,7 @@ impl<'a, I: Image> Image for LimitedImage<'a, I> {
                 match self.below.read_at(at, buf) {
                     Ok(()) => return Ok(()),
                     Err(fault) => {
-                        self.fault_sector = fault.sector;
+                        self.below_failed_sector = fault.sector;
                         self.failed = true;
                     }
                 }
@@ -141,7 +143,7 @@ impl<I: Image> Drop for LimitedImage<'_, I> {
             left: _,
             spent: _,
             failed: _,
-            fault_sector: _,
+            below_failed_sector: _,
             failures: _,
             failed_sector: _,
         } = self;

@@ -14,7 +14,7 @@ pub record IsGroupBase (v : Layout) (group fragment : ℕ) : Type 0 where
   pub value : fragment ≡ cgbase v group
   pub below : fragment < v.size
 
--- this is where a group's data begins, at the volume's end at the latest
+-- this is the first fragment for data after a group's inodes, at the volume's end at the latest
 pub record IsDataStart (v : Layout) (group fragment : ℕ) : Type 0 where
   pub value : fragment ≡ cgdmin v group
   pub below : fragment ≤ v.size

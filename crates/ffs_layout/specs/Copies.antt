@@ -17,7 +17,7 @@ pub record IsUnreadCopy (old new : Device) (at : ℕ) (answer : SuperFault) : Ty
   pub cause : Faulted old new (at / DEV_BSIZE) ⊎ ((new ≡ old) × (old.size < at + SUPERBLOCK_BYTES))
 
 -- a superblock is read at a place, by one read at most: its bytes are given, or it can't be read
-pub record ReadsCopy (old new : Device) (reads reads' at : ℕ) (copy : List ℕ)
+pub record ReadsSuperblockBytes (old new : Device) (reads reads' at : ℕ) (copy : List ℕ)
     (result : Result (Unit {0}) SuperFault) : Type 0 where
   pub copied : MatchResult result (λ _. IsCopy old new at copy) (IsUnreadCopy old new at)
   pub counted : reads' ≤ reads + 1

@@ -72,7 +72,7 @@ impl Geometry {
         self.cgstart(group) + self.layout.sblkno
     }
 
-    /// The first fragment of the group's data (fs(5), `cgdmin`).
+    /// The first fragment for data after the group's inodes (fs(5), `cgdmin`).
     pub fn cgdmin(&self, group: u32) -> u32
         requires { group < self.now.layout.ncg }
         ensures { IsDataStart self.now.layout group result }
@@ -126,7 +126,7 @@ impl Geometry {
         fragment < u64::from(self.layout.size) && !self.is_group_metadata(fragment as u32)
     }
 
-    /// Whether the run is in range: all its fragments are, and are of one group.
+    /// Whether the run is in range: consecutive fragments, all in range, and of one group.
     #[tactic(auto, using(ffs_volume::proofs::RunLaws::in_range_is, ffs_volume::proofs::AreaLaws::group_below), unfolding(ffs_volume::specs::Disk::Areas::cgbase))]
     pub fn in_range(&self, start: u32, len: u32) -> bool
         requires { 0 < len }

@@ -38,7 +38,7 @@ impl GroupSummary {
 /// What a group block says of its group (fs(5), `struct cg`).
 #[derive(Clone, Copy, Debug, PartialEq, Eq)]
 pub struct Group {
-    /// 0x090255 in a group block.
+    /// The magic number that was read: `CG_MAGIC` where it is right.
     pub magic: u32,
     /// The group's number.
     pub cgx: i32,

@@ -7,8 +7,8 @@ use crate::numbers::{count_at, i32_at, u32_at};
 use ffs_volume::constants::SUPERBLOCK_BYTES;
 use ffs_volume::{Layout, Order};
 
-/// The layout in the bytes of a superblock (fs(5)). A number that is negative is read as 0, but
-/// `cgoffset` keeps its sign.
+/// The layout in the bytes of a superblock (fs(5)). A negative number is read as 0, but `cgoffset`
+/// keeps its sign, and `cgmask` and `maxsymlinklen` are read unsigned.
 #[tactic(auto, unfolding(ffs_volume::specs::Disk::Superblock::layout_of))]
 pub fn decode(order: Order, bytes: &[u8; SUPERBLOCK_BYTES]) -> Layout
     ensures { result ≡ layout_of order bytes.now }

@@ -33,7 +33,7 @@ fn can_be_fragment_count(n: u32) -> bool
     matches!(n, 1 | 2 | 4 | 8)
 }
 
-/// Whether the sizes of blocks and fragments may be, and the numbers per block and per group fit
+/// Whether the sizes of blocks and fragments are valid, and the numbers per block and per group fit
 /// them.
 #[tactic(auto, using(crate::proofs::LayoutRules::block_size_above, crate::proofs::LayoutRules::fragment_count_above), unfolding(ffs_volume::specs::Disk::Outcome::has_valid_sizes))]
 fn has_sizes(v: &Layout) -> bool
@@ -70,8 +70,8 @@ fn has_numbers(v: &Layout) -> bool
         && ncg * u64::from(v.ipg) < 1 << 31
 }
 
-/// Whether the parts of a group lie in their order, each ends before the next one begins, and a
-/// group block is no longer than a block.
+/// Whether the parts of a group lie in their order after its base, each ends before the next one
+/// begins, and a group block has room for its header (`CG_HEADER`) and fits a block.
 #[tactic(auto, unfolding(ffs_volume::specs::Disk::Outcome::has_valid_parts))]
 fn has_parts(v: &Layout) -> bool
     requires { 0 < v.now.fsize }
@@ -108,7 +108,7 @@ fn has_summary_area(v: &Layout) -> bool
 fn has_valid_layout(v: &Layout) -> bool
     ensures { result ≡ is_valid_layout v.now }
 {
-    // The summary area bounds the number of groups by the size of one.
+    // `groups_fit` is last, since `has_summary_area` bounds how many groups it goes over.
     has_sizes(v) && has_numbers(v) && has_parts(v) && has_summary_area(v) && groups_fit(v)
 }
 

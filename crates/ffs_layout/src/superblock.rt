@@ -4,7 +4,7 @@ ghost use Rattle.std.specs.Prelude.{MatchResult, ℕ, ◌^◌, IsTrue, nat_le, �
 ghost use Rattle.std.specs.List.{list_all};
 ghost use Rattle.ffs_volume.specs.{Disk.Numbers.u32_at, Report.Reads.opening_reads};
 ghost use Rattle.ffs_volume.specs.Disk.Superblock.{layout_of, order_of, superblock_of};
-ghost use Rattle.ffs_layout.specs.{Accepted.IsAccepted, Copies.{ComparesCopy, ReadsCopy}};
+ghost use Rattle.ffs_layout.specs.{Accepted.IsAccepted, Copies.{ComparesCopy, ReadsSuperblockBytes}};
 ghost use Rattle.ffs_layout.specs.Super.{ReadsSuper, IsUnreadable, found_of, superblock_in};
 
 use crate::geometry::Geometry;
@@ -50,13 +50,13 @@ fn agree_at(
 }
 
 /// Reads the bytes of a superblock at a place of the image, in bytes.
-fn read_copy<I: Image>(
+fn read_superblock_bytes<I: Image>(
     image: &mut I,
     at: u64,
     out: &mut [u8; SUPERBLOCK_BYTES],
 ) -> Result<(), SuperFault>
     requires { at < 2 ^ 63 }
-    ensures { ReadsCopy (I.device image.old) (I.device image.new) (I.reads image.old)
+    ensures { ReadsSuperblockBytes (I.device image.old) (I.device image.new) (I.reads image.old)
         (I.reads image.new) at out.new result }
 {
     if image.size() < at + SUPERBLOCK_BYTES as u64 {
@@ -84,7 +84,7 @@ pub struct Super {
     /// Directories, free blocks, free inodes, and the free fragments of blocks that aren't all
     /// free.
     pub cstotal: [i32; 4],
-    /// Where the volume was mounted last, up to the first NUL.
+    /// Where the volume was mounted last: the text ends before the first NUL, if there is one.
     pub mount: [u8; MAXMNTLEN],
 }
 
@@ -93,14 +93,14 @@ impl Super {
     ghost use Rattle.ffs_volume.specs.Report.Opening.{has_valid_minfree, has_valid_optim};
 
     /// Whether `optim` is 0 (time) or 1 (space).
-    pub fn has_optimization(&self) -> bool
+    pub fn has_valid_optim(&self) -> bool
         ensures { result ≡ has_valid_optim (superblock_in self.now) }
     {
         0 <= self.optim && self.optim <= 1
     }
 
     /// Whether `minfree` is a percentage from 0 to 99.
-    pub fn has_minfree(&self) -> bool
+    pub fn has_valid_minfree(&self) -> bool
         ensures { result ≡ has_valid_minfree (superblock_in self.now) }
     {
         0 <= self.minfree && self.minfree <= 99
@@ -112,7 +112,7 @@ impl Super {
         ensures { result ≡ not (has_valid_optim (superblock_in self.now)
             && has_valid_minfree (superblock_in self.now)) }
     {
-        !(self.has_optimization() && self.has_minfree())
+        !(self.has_valid_optim() && self.has_valid_minfree())
     }
 }
 
@@ -160,7 +160,7 @@ fn check_copy<I: Image>(
     let group = geometry.layout.ncg - 1;
     let at = u64::from(geometry.cgsblock(group)) * u64::from(geometry.layout.fsize);
     let mut copy = [0; SUPERBLOCK_BYTES];
-    read_copy(image, at, &mut copy)?;
+    read_superblock_bytes(image, at, &mut copy)?;
     if agree_at(order, &LAYOUT_PLACES, bytes, &copy) {
         Ok(())
     } else {
@@ -172,12 +172,12 @@ fn check_copy<I: Image>(
 /// it is compared with the copy in the last group.
 ///
 /// # Errors
-/// The first fault, in the order of `SuperFault`.
+/// The first fault, in the order of `SuperFault`; an unreadable last copy comes after `Short`.
 #[tactic(auto, using(crate::proofs::Copying::default_sector))]
 pub fn read_super<I: Image>(image: &mut I, sector: Option<u32>) -> Result<Super, SuperFault>
     // An accepted volume lies within the image. What can't be read is a failed read, or lies past
     // the image's end.
-    ensures found { MatchResult result
+    ensures places { MatchResult result
         (λ s. s.geometry.layout.size * s.geometry.layout.fsize ≤ (I.device image.old).size)
         (λ fault. (at : ℕ) → fault ≡ SuperFault.CannotRead at
         → IsUnreadable (I.device image.old) (I.device image.new) sector at) }
@@ -191,7 +191,7 @@ pub fn read_super<I: Image>(image: &mut I, sector: Option<u32>) -> Result<Super,
 {
     let start = u64::from(sector.unwrap_or(SUPERBLOCK_SECTOR as u32)) * DEV_BSIZE;
     let mut bytes = [0; SUPERBLOCK_BYTES];
-    read_copy(image, start, &mut bytes)?;
+    read_superblock_bytes(image, start, &mut bytes)?;
     let Some(order) = order_of_magic(&bytes) else {
         return Err(SuperFault::Magic);
     };

@@ -47,13 +47,13 @@ pub record IsPart (start end n : ℕ) : Type 0 where
   pub order : start ≤ end
   pub below : end ≤ n
 
--- a run is claimed where none of its bits was set, and its bits are set then: else nothing is
+-- a run is claimed only where none of its bits was set, and its bits are set then: else nothing is
 -- changed. One that lies in one word is always claimed where none of its bits was set
 pub record ClaimsRun (old new : FragmentMap) (start len : ℕ) (claimed_now : Bool) : Type 0 where
   pub size : new.size ≡ old.size
   pub clear : IsTrue claimed_now → AreClear (bits_of old) start len
   pub claimed : IsTrue claimed_now → bits_of new ≡ set_run (bits_of old) start len
-  pub kept : claimed_now ≡ false → new ≡ old
+  pub unchanged : claimed_now ≡ false → new ≡ old
   pub one_word : start % 64 + len ≤ 64 → AreClear (bits_of old) start len → IsTrue claimed_now
 
 -- a fragment is of the map, and its bit is clear

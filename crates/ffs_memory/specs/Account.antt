@@ -32,7 +32,8 @@ pub record RequestRefused (old new : Account) : Type 0 where
   pub granted : new.granted ≡ old.granted
   pub rose : RefusedOneMore old new
 
--- the list has n elements, each is x, and its memory has room for no more
+-- the list, a `FixedList` or a `FilledList` (each is seen as a `Vec`), has n elements, each is x, and
+-- its memory has room for no more
 pub record IsFilled {A : Type 0} (n : ℕ) (x : A) (list : FixedList A) : Type 0 where
   pub items : list.items ≡ replicate n x
   pub len : vec_len list ≡ n

@@ -25,7 +25,7 @@ with_bits words index mask = record words {
 pub record ClaimsBits (old new : Words) (index mask : ℕ) (claimed_now : Bool) : Type 0 where
   pub clear : IsTrue claimed_now ↔ (bit_and (slice_index_or old.list index 0) mask ≡ 0)
   pub claimed : IsTrue claimed_now → new ≡ with_bits old index mask
-  pub kept : claimed_now ≡ false → new ≡ old
+  pub unchanged : claimed_now ≡ false → new ≡ old
 
 -- the elements up to an index are touched: each that wasn't before is x, and the memory is the same
 pub record Touches {A : Type 0} (old new : Vec A Global) (index : ℕ) (x : A) : Type 0 where

@@ -26,7 +26,7 @@ impl<M: Memory> FuseMemory<M> {
     pub fn nth(inner: M, k: u64) -> FuseMemory<M>
         ensures { IsFusedMemory M.account ⟦<FuseMemory<M> as Memory>⟧.account inner k result }
     {
-        // At most `u64::MAX`, so `own` adds nothing to it yet.
+        // The count below is at most `u64::MAX`: `own`, which is 0 yet, leaves it as it is.
         let _bounded = inner.refused();
         FuseMemory {
             inner,

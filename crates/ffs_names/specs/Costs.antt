@@ -76,8 +76,8 @@ abbrev pub may_read : Entries → Bool
 may_read r = r.right_so_far || nat_lt 0 r.chunks.budget
 
 -- at most how many reads a reading of entries still takes
-abbrev pub entries_to_read : List ℕ → Entries → ℕ
-entries_to_read b r = if may_read r then to_read b r.chunks else 0
+abbrev pub reads_for_entries : List ℕ → Entries → ℕ
+reads_for_entries b r = if may_read r then to_read b r.chunks else 0
 
 -- what a reading of entries has read and needs again is held
 abbrev pub HoldsEntries : Blocks → Window → Entries → Type 0

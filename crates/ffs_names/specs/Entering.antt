@@ -27,8 +27,8 @@ abbrev pub IsHeld : List ℕ → Entries → Type 0
 IsHeld b r = r.chunk ≡ piece (last_place r.chunks.run_cursor) 512 b
 
 -- the current chunk is held so, if an entry of it may still come
-abbrev pub MayTake : List ℕ → Entries → Type 0
-MayTake b r = r.place < 512 → IsHeld b r
+abbrev pub IsHeldIfLeft : List ℕ → Entries → Type 0
+IsHeldIfLeft b r = r.place < 512 → IsHeld b r
 
 -- the current chunk is in the volume
 abbrev pub IsInside : Entries → Type 0
@@ -38,5 +38,5 @@ IsInside r =
 -- an entry was given. Its chunk lies in the volume, and is what an image of these contents has there;
 -- of the chunk before this is supposed, if an entry of it might still come
 pub record GivesFromChunk (contents : Option (List ℕ)) (old new : Entries) : Type 0 where
-  pub held : ForContents contents (λ b. MayTake b old → IsHeld b new)
+  pub held : ForContents contents (λ b. IsHeldIfLeft b old → IsHeld b new)
   pub inside : (old.place < 512 → IsInside old) → IsInside new

@@ -37,7 +37,7 @@ gap_after c steps = has_gap (replayed_steps c.walk.geometry.layout c.keeping.cut
 abbrev pub gap_left : List ℕ → Chunks → Bool
 gap_left b c = gap_after c (steps_left b c.walk)
 
--- a reading has seen all its steps: it has no chunk left, and no hole
+-- a reading has seen all its steps: it has no chunk left, and no hole still to see
 pub record HasSeenAll (b : List ℕ) (c : Chunks) : Type 0 where
   pub chunks : all_chunks b c ≡ []
   pub gap : gap_left b c ≡ false

@@ -10,7 +10,7 @@ use Rattle.ffs_layout.specs.declared.geometry.Geometry.{Geometry}
 use Rattle.ffs_walk.specs.declared.{blocks.Blocks.Blocks, window.Window.Window}
 use Rattle.ffs_survey.specs.{declared.entry_head.EntryHead.EntryHead, Reading.roled_of}
 use Rattle.ffs_names.specs.{RightShapes.is_right_size, Readings.{rest, gap_left, chunks_in}, Entering.to_come}
-use Rattle.ffs_names.specs.{Entering.{last_name, left}, Costs.{entries_to_read, HoldsEntries}}
+use Rattle.ffs_names.specs.{Entering.{last_name, left}, Costs.{reads_for_entries, HoldsEntries}}
 use Rattle.ffs_names.specs.declared.entries.Entries.{Entries}
 
 -- the entries of the current chunk fill it
@@ -22,7 +22,7 @@ abbrev pub has_right_shape : List ℕ → Entries → Bool
 has_right_shape b r =
     (r.right_so_far && fills r) && (are_sound (rest b r.chunks) && not (r.chunks.gap || gap_left b r.chunks))
 
--- no chunk is left
+-- no chunk is left, and the current one is over
 pub record HasEnded (b : List ℕ) (r : Entries) : Type 0 where
   pub chunks : rest b r.chunks ≡ []
   pub current : fills r ≡ true
@@ -35,7 +35,7 @@ pub record BeginsDirectory (v : Layout) (inode : Inode) (cut : ℕ) (r : Entries
       ≡ (is_right_size inode.size && (are_sound (chunks_in v b inode cut)
       && not (has_gap (replayed_steps v cut fresh_replay (steps_of v inode b)))))
   pub place : r.place ≡ 512
-  pub to_read : (b : List ℕ) → entries_to_read b r ≤ replayed_runs v cut fresh_replay (steps_of v inode b)
+  pub to_read : (b : List ℕ) → reads_for_entries b r ≤ replayed_runs v cut fresh_replay (steps_of v inode b)
   pub held : (blocks : Blocks) (w : Window) → HoldsEntries blocks w r
 
 -- it begins so in a volume of this geometry
@@ -53,7 +53,7 @@ pub record RestartsIn (g : Geometry) (inode : Inode) (class : Class) (cut : ℕ)
 pub record HasStopped (g : Geometry) (r : Entries) : Type 0 where
   pub entries : (b : List ℕ) → to_come b r ≡ []
   pub shape : (b : List ℕ) → has_right_shape b r ≡ false
-  pub reads : (b : List ℕ) → entries_to_read b r ≡ 0
+  pub reads : (b : List ℕ) → reads_for_entries b r ≡ 0
   pub held : (blocks : Blocks) (w : Window) → HoldsEntries blocks w r
   pub geometry : r.chunks.walk.geometry ≡ g
 

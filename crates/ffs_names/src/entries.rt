@@ -54,7 +54,7 @@ fn has_right_size(inode: &Inode) -> bool
 }
 
 impl Entries {
-    ghost use Rattle.ffs_names.specs.{Costs.{entries_to_read, HoldsEntries}, Leaves.{LeavesBlocks, LeavesEntries}};
+    ghost use Rattle.ffs_names.specs.{Costs.{reads_for_entries, HoldsEntries}, Leaves.{LeavesBlocks, LeavesEntries}};
     ghost use Rattle.ffs_names.specs.Shapes.{has_right_shape, BeginsIn, GivesEntry, HasEnded, HasStopped, RestartsIn, TakesFromChunk};
     ghost use Rattle.ffs_names.specs.Entering.{last_name};
 
@@ -171,7 +171,7 @@ impl Entries {
             (λ b. GivesEntry b self.old self.new head)) }
         ensures reads { HoldsEntries blocks.old window.old self.old
             → ForContents (I.device image.old).contents (λ b. TakesReads (I.reads image.old)
-            (I.reads image.new) (entries_to_read b self.old) (entries_to_read b self.new)
+            (I.reads image.new) (reads_for_entries b self.old) (reads_for_entries b self.new)
             (HoldsEntries blocks.new window.new self.new) result) }
         ensures leaves { LeavesEntries I.Image self.old self.new image.old image.new blocks.new
             window.new result }
@@ -210,7 +210,7 @@ impl Entries {
             (λ b. HasEnded b self.old → right ≡ has_right_shape b self.old)) }
         ensures reads { (w : Window) → HoldsEntries blocks.old w self.old
             → ForContents (I.device image.old).contents (λ b. TakesReads (I.reads image.old)
-            (I.reads image.new) (entries_to_read b self.old) (entries_to_read b self.new)
+            (I.reads image.new) (reads_for_entries b self.old) (reads_for_entries b self.new)
             (HoldsEntries blocks.new w self.new) result) }
         ensures leaves { LeavesBlocks self.old.chunks self.new.chunks (I.device image.old)
             (I.device image.new) blocks.new result }

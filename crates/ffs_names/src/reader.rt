@@ -54,7 +54,7 @@ impl<I: Image> Directories for DirectoryReader<'_, I> {
     ghost use Rattle.ffs_names.specs.Readers.{Base as ReaderBase, KnowsReader, dir_entries, dir_right_shape, IsReaderReady};
     ghost use Rattle.ffs_names.specs.Shapes.{has_right_shape, HasEnded};
     ghost use Rattle.ffs_names.specs.Entering.{to_come, left as entries_left, last_name};
-    ghost use Rattle.ffs_names.specs.Costs.{directory_cost, entries_to_read, HoldsEntries};
+    ghost use Rattle.ffs_names.specs.Costs.{directory_cost, reads_for_entries, HoldsEntries};
 
     ghost Base = { ReaderBase };
 
@@ -82,7 +82,7 @@ impl<I: Image> Directories for DirectoryReader<'_, I> {
 
     ghost cost = { λ t b dir. directory_cost t.layout b dir };
 
-    ghost to_read = { λ t b. entries_to_read b t.entries };
+    ghost to_read = { λ t b. reads_for_entries b t.entries };
 
     ghost held = { λ t. HoldsEntries t.windows.now.blocks t.windows.now.current t.entries };
 

@@ -3,7 +3,7 @@ use Rattle.std.proofs.Common.{◌≡◌, ◌≢◌, ℕ, suc, ◌≤◌, true, f
 use Rattle.std.{proofs.Common.{slice_set, arith, sym, ◌∙◌, append_assoc, append-nil}, specs.List.list_any}
 use Rattle.std.proofs.lemmas.{List.{get_or-set_other, get_or-set_same, set_past}, Bool.Decides.nat_tests}
 use Rattle.std.proofs.Math.Bool.{and-false, or-false}
-use Rattle.ffs_pathnames.{proofs.{FirstTwo.parent_edge, PassedLaws.IsDirectory}, specs.Calm.IsSilentDirectory}
+use Rattle.ffs_pathnames.{proofs.{FirstTwo.parent_edge, PassedLaws.IsDirectory}, specs.Silent.IsSilentDirectory}
 use Rattle.ffs_pathnames.proofs.{PassedLaws.{calm_roled, right_after}, LookLaws.{AreStamped, stamped_all}}
 use Rattle.ffs_pathnames.{proofs.LookLaws.{looks_all_long, suspects_unnamed}, specs.PassedNames.{PassedNames, is_calm}}
 use Rattle.ffs_pathnames.specs.PassedNames.{after_roled, after_entries, belongs, after_look, after_looks, are_quiet}

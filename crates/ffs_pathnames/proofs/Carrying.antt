@@ -16,7 +16,7 @@ use Rattle.ffs_workspace.specs.{declared.workspace.Workspace.Workspace, Lengths.
 use Rattle.ffs_workspace.specs.{Holds.{HoldsClaims, HoldsReferences, HoldsSurvey}, Leaves.LeavesSurvey}
 use Rattle.ffs_workspace.proofs.{KindLaws.{reports_at, suspect_is}, Leaving.{claims_left, survey_left, leaves_all}}
 use Rattle.ffs_pathnames.specs.{Gathers.passed_of, DirectoryContext.DirectoryContext, Before.{IsNonePassed, IsBefore}}
-use Rattle.ffs_pathnames.specs.{Before.{IsBeforeNoted, needs_check, root_reported}, Calm.IsSilentDirectory}
+use Rattle.ffs_pathnames.specs.{Before.{IsBeforeNoted, needs_check, root_reported}, Silent.IsSilentDirectory}
 use Rattle.ffs_pathnames.{specs.{PassedRight.AreRightBefore, Stamps.KeepPlaces}, proofs.Begun.directory_is}
 use Rattle.ffs_pathnames.proofs.{Begun.quiet_parts, StampLaws.{noted_kept, stamps_length}, BetweenLaws.other_next}
 use Rattle.ffs_pathnames.proofs.{BetweenLaws.{silent_next, silent_quiet}, EmptyLaws.{looked_is, looked_dir, names_none}}

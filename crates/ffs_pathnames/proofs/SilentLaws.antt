@@ -24,7 +24,7 @@ use Rattle.ffs_workspace.{specs.Holds.HoldsSurvey, proofs.KindLaws.{reports_at, 
 use Rattle.ffs_survey.specs.{Survey.{number_at, dir_at}, Calm.{are_calm, IsCalm, CurrentDir, is_calm_kind}}
 use Rattle.ffs_survey.specs.Calm.{is_calm_plain, is_calm_role, is_calm_entry, reached_after}
 use Rattle.ffs_survey.proofs.CalmLaws.{calm_names_new, calm_new}
-use Rattle.ffs_pathnames.{specs.{Begins.dir_header_lines, Calm.IsSilentDirectory}, proofs.SeesLaws.chunks_read}
+use Rattle.ffs_pathnames.{specs.{Begins.dir_header_lines, Silent.IsSilentDirectory}, proofs.SeesLaws.chunks_read}
 use Rattle.ffs_pathnames.specs.{Header.{dotdot_in, dotdot_reported, is_right_dot}, PassedNames.belongs}
 use Rattle.ffs_pathnames.specs.PassedNames.{after_look, is_plain_quiet, is_role_quiet, is_quiet, are_quiet}
 use Rattle.ffs_pathnames.proofs.{SeesLaws.{chunks_are, settled}, HeaderLaws.{dot_silent, in_order}}

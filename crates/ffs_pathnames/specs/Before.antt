@@ -43,7 +43,7 @@ pub record ListsInode (w : Workspace) (x : ℕ) : Type 0 where
   pub lists : AreAsLong w
   pub number : x < vec_len w.kinds
 
--- the lists say something of each of so many inodes, and the root is one
+-- the lists say something of each of so many inodes, which are no fewer than the root's number
 pub record ListsInodes (w : Workspace) (n : ℕ) : Type 0 where
   pub lists : AreAsLong w
   pub count : n ≡ vec_len w.kinds

@@ -6,7 +6,7 @@ use Rattle.ffs_volume.specs.{Directories.PathnameCheck.are_sound, Blocks.Inodes.
 use Rattle.ffs_volume.specs.Directories.{Roles.nth_entry, Roles.roled_entries, Roles.start_entry, Volumes.volume_of}
 use Rattle.ffs_workspace.specs.declared.workspace.Workspace.{Workspace}
 use Rattle.ffs_pathnames.specs.{declared.look.Examination.Examination, Gathers.passed_of, PassedNames.are_quiet}
-use Rattle.ffs_pathnames.specs.{PassedNames.after_looks, Reads.start_chunk, Header.header_reported}
+use Rattle.ffs_pathnames.specs.{PassedNames.after_looks, StartChunks.start_chunk, Header.header_reported}
 
 -- the lines of a directory on its size, its Gaps, its chunks and its first two entries
 unfoldable pub dir_header_lines : Volume → ℕ → List TreeMessage

@@ -39,8 +39,8 @@ pub record ReportsDirectory {T : Type 0} (v : Layout) (d d' : Device) (w w' : Wo
   pub leaves : PhaseLeaves v d d' w w' c'.texts.kept_parent result
 
 -- these lines of all directories are said, by what is known of the bytes. Each directory's own
--- blocks are read thrice at most, as its place is noted first, and the rest is read for the lines; of
--- any image for no more than the messages that were begun. Left are the image, but for a read that
+-- blocks are read thrice at most, for the places of its children and for both looks, and the rest is
+-- read for the lines; of any image for no more than the messages that were begun. Left are the image, but for a read that
 -- failed, a workspace that is ready, and how often inodes are referred to; where nothing failed, also
 -- what the block check and the survey found, by what is known of the bytes
 pub record ReportsTree {T : Type 0} (v : Layout) (d d' : Device) (w w' : Workspace)

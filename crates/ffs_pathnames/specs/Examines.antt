@@ -5,7 +5,7 @@ use Rattle.ffs_report.specs.Known.{ForBytes}
 use Rattle.ffs_volume.specs.{declared.Layout.Layout, Blocks.Inodes.inode_of, Directories.Roles.roled_entries}
 use Rattle.ffs_volume.specs.Directories.{PathnameCheck.are_sound, Volumes.volume_of}
 use Rattle.ffs_pathnames.specs.{declared.look.{Examination.Examination, FirstLook.FirstLook}, Gathers.passed_of}
-use Rattle.ffs_pathnames.specs.{PassedNames.{are_quiet, after_looks}, Reads.start_chunk, Stamps.KeepPlaces}
+use Rattle.ffs_pathnames.specs.{PassedNames.{are_quiet, after_looks}, StartChunks.start_chunk, Stamps.KeepPlaces}
 use Rattle.ffs_workspace.specs.{declared.workspace.Workspace.Workspace, Leaves.LeavesSurvey, Ready.IsReady}
 
 -- a call leaves what the phases before the pathname check left, the flags, and the places that
@@ -24,8 +24,8 @@ pub record ExamineLeaves {T : Type 0} (v : Layout) (d d' : Device) (old new : Wo
   pub read : ReadAfter d d' result
 
 -- what a look at the directory d finds: whether a Gap of it is kept, whether its chunks are sound, the
--- chunk at the start of the file, whether nothing may be reported of its entries; and each inode that
--- belongs to it is stamped
+-- chunk at the start of the file, whether it is sure that nothing is reported of its entries; and each
+-- inode that belongs to it is stamped
 pub record IsLookedAt (v : Layout) (b : List ℕ) (d : ℕ) (old : Workspace) (f : FirstLook) (start : List ℕ)
     (new : Workspace) : Type 0 where
   pub gap : f.gap ≡ (volume_of v b).gap d

@@ -12,9 +12,9 @@ pub record StampsEntry (inodes : Inodes) (d : ℕ) (e : RoledEntry) (old new : V
       → stamps_in inodes new.items ≡ after_look vol d (stamps_in inodes old.items) e
   pub words : KeepsWords old new
 
--- of a chunk's entries: whether nothing may be reported of them, and whether they fill it; and each
--- inode that belongs to the directory d is stamped, by the words before and after, which note the same
--- places
+-- of a chunk's entries: whether it is sure that nothing is reported of them, and whether they fill it;
+-- and each inode that belongs to the directory d is stamped, by the words before and after, which note
+-- the same places
 pub record IsChunkLook (inodes : Inodes) (d : ℕ) (order : Order) (first : Bool) (chunk : List ℕ)
     (f : ChunkLook) (old new : Vec ℕ Global) : Type 0 where
   pub quiet : (vol : Volume) → Sees vol inodes

@@ -28,8 +28,8 @@ pub record LeftForBoth (v : Layout) (device : Device) (w : Workspace) (d left : 
 abbrev pub LeftForNext : Layout → Device → Workspace → (d left : ℕ) → List ℕ → Type 0
 LeftForNext v device w d left b = IsBeforeNoted v device.contents w d b × (2 * directory_cost v b d ≤ left)
 
--- a call takes at most `before` of the reads that are left. Without a fault, `after` of these are
+-- a call takes at most `allowed` of the reads that are left. Without a fault, `spared` of these are
 -- left to later calls
-pub record TakesLeft {T : Type 0} (left left' before after : ℕ) (result : Result T ImageFault) : Type 0 where
-  pub most : left ≤ left' + before
-  pub paid : OnOk result (left + after ≤ left' + before)
+pub record TakesLeft {T : Type 0} (left left' allowed spared : ℕ) (result : Result T ImageFault) : Type 0 where
+  pub most : left ≤ left' + allowed
+  pub paid : OnOk result (left + spared ≤ left' + allowed)

@@ -35,8 +35,7 @@ pub record ReadyToReport (v : Layout) (d : Device) (w : Workspace) (s : KeptPare
   pub path : ReadyToPath v d w s x.number
   pub cut : x.cut ≡ cut_in (slice_index w.notes.items x.number)
 
--- paths can be made after a call; where it failed, nothing of a directory and its children may be
--- right
+-- paths can be made after a call; where it failed, what is kept of a parent may be wrong
 abbrev pub ReadyAfter : {T E : Type 0} → Layout → Device → Workspace → KeptParent → Result T E → Type 0
 ReadyAfter v d w s (Ok x) = ReadyWith v d w s
 ReadyAfter v d w s (Err e) = IsReady v d w

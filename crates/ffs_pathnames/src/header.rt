@@ -3,11 +3,11 @@ ghost use Rattle.std.specs.Prelude.{◌≡◌, ◌%◌, ◌==◌, ◌&&◌, not,
 ghost use Rattle.ffs_volume.specs.{Directories.PathnameCheck.is_wrong_parent, Messages.Kinds.reported};
 ghost use Rattle.ffs_layout.specs.Entry.{entry_value};
 ghost use Rattle.ffs_report.specs.Progress.{progress};
-ghost use Rattle.ffs_pathnames.specs.{SaysNames.SaysNames, Header.{size_reported, chunks_reported, shape_reported}};
+ghost use Rattle.ffs_pathnames.specs.{SaysTreeMessages.SaysTreeMessages, Header.{size_reported, chunks_reported, shape_reported}};
 ghost use Rattle.ffs_pathnames.specs.Header.{dot_entry_reported, dotdot_entry_reported, dot_in, dotdot_in};
 ghost use Rattle.ffs_pathnames.specs.Header.{dot_reported, dotdot_reported, is_right_dot, is_right_dotdot};
-ghost use Rattle.ffs_pathnames.specs.{Header.{is_header_right, header_lines_of}, NameLines.name_message};
-ghost use Rattle.ffs_pathnames.specs.NameLines.{two_reported};
+ghost use Rattle.ffs_pathnames.specs.{Header.{is_header_right, header_lines_of}, TreeLines.tree_message};
+ghost use Rattle.ffs_pathnames.specs.TreeLines.{two_reported};
 
 use ffs_layout::Entry;
 use ffs_names::{is_one_dot, is_two_dots};
@@ -43,16 +43,16 @@ fn has_partial_chunk(size: u64) -> bool
 
 /// Says that a directory's size is too short, or no multiple of a chunk.
 fn say_size<W: Output>(report: &mut Report<'_, W>, attr: Attr, path: &[u8]) -> Result<(), OutFault>
-    ensures { SaysNames (progress W.sink report.old) (progress W.sink report.new)
+    ensures { SaysTreeMessages (progress W.sink report.old) (progress W.sink report.new)
         (size_reported attr path.now) result }
 {
     let short = LineIf {
         holds: attr.size < MINDIRSIZE,
-        line: NameLine::Directory(DirectoryLine::DirShort { attr, path }),
+        line: TreeLine::Directory(DirectoryLine::DirShort { attr, path }),
     };
     let broken = LineIf {
         holds: has_partial_chunk(attr.size),
-        line: NameLine::Directory(DirectoryLine::DirLength {
+        line: TreeLine::Directory(DirectoryLine::DirLength {
             path,
             size: attr.size,
         }),
@@ -68,16 +68,16 @@ fn say_chunks<W: Output>(
     gap: bool,
     sound: bool,
 ) -> Result<(), OutFault>
-    ensures { SaysNames (progress W.sink report.old) (progress W.sink report.new)
+    ensures { SaysTreeMessages (progress W.sink report.old) (progress W.sink report.new)
         (chunks_reported attr path.now gap sound) result }
 {
     let empty = LineIf {
         holds: gap,
-        line: NameLine::Directory(DirectoryLine::DirEmpty { path }),
+        line: TreeLine::Directory(DirectoryLine::DirEmpty { path }),
     };
     let corrupt = LineIf {
         holds: !sound,
-        line: NameLine::Directory(DirectoryLine::DirCorrupt { attr, path }),
+        line: TreeLine::Directory(DirectoryLine::DirCorrupt { attr, path }),
     };
     say_two(report, &empty, &corrupt)
 }
@@ -91,7 +91,7 @@ fn say_shape<W: Output>(
     gap: bool,
     sound: bool,
 ) -> Result<(), OutFault>
-    ensures { SaysNames (progress W.sink report.old) (progress W.sink report.new)
+    ensures { SaysTreeMessages (progress W.sink report.old) (progress W.sink report.new)
         (shape_reported attr path.now gap sound) result }
 {
     say_size(report, attr, path)?;
@@ -107,16 +107,16 @@ fn say_dot_entry<W: Output>(
     path: &[u8],
     entry: &Entry<'_>,
 ) -> Result<(), OutFault>
-    ensures { SaysNames (progress W.sink report.old) (progress W.sink report.new)
+    ensures { SaysTreeMessages (progress W.sink report.old) (progress W.sink report.new)
         (dot_entry_reported attr path.now number (entry_value entry.now)) result }
 {
     let other = LineIf {
         holds: entry.number != number,
-        line: NameLine::Dot(DotLine::NumberDot { attr, path }),
+        line: TreeLine::Dot(DotLine::NumberDot { attr, path }),
     };
     let kind = LineIf {
         holds: entry.kind != DT_DIR,
-        line: NameLine::Dot(DotLine::KindDot { attr, path }),
+        line: TreeLine::Dot(DotLine::KindDot { attr, path }),
     };
     say_two(report, &other, &kind)
 }
@@ -129,7 +129,7 @@ fn say_dot<W: Output>(
     path: &[u8],
     first: Option<Entry<'_>>,
 ) -> Result<(), OutFault>
-    ensures { SaysNames (progress W.sink report.old) (progress W.sink report.new)
+    ensures { SaysTreeMessages (progress W.sink report.old) (progress W.sink report.new)
         (dot_reported attr path.now number (option_map entry_value first.entry)
         (dot_in (option_map entry_value first.entry))) result }
 {
@@ -163,16 +163,16 @@ fn say_dotdot_entry<W: Output>(
     path: &[u8],
     entry: &Entry<'_>,
 ) -> Result<(), OutFault>
-    ensures { SaysNames (progress W.sink report.old) (progress W.sink report.new)
+    ensures { SaysTreeMessages (progress W.sink report.old) (progress W.sink report.new)
         (dotdot_entry_reported attr path.now parent (entry_value entry.now)) result }
 {
     let other = LineIf {
         holds: is_wrong_parent(parent, entry.number),
-        line: NameLine::Dot(DotLine::NumberDotdot { attr, path }),
+        line: TreeLine::Dot(DotLine::NumberDotdot { attr, path }),
     };
     let kind = LineIf {
         holds: entry.kind != DT_DIR,
-        line: NameLine::Dot(DotLine::KindDotdot { attr, path }),
+        line: TreeLine::Dot(DotLine::KindDotdot { attr, path }),
     };
     say_two(report, &other, &kind)
 }
@@ -195,7 +195,7 @@ fn say_dotdot<W: Output>(
     path: &[u8],
     second: Option<Entry<'_>>,
 ) -> Result<(), OutFault>
-    ensures { SaysNames (progress W.sink report.old) (progress W.sink report.new)
+    ensures { SaysTreeMessages (progress W.sink report.old) (progress W.sink report.new)
         (dotdot_reported attr path.now parent (option_map entry_value second.entry)
         (dotdot_in (option_map entry_value second.entry))) result }
 {
@@ -231,7 +231,7 @@ pub fn say_header<W: Output>(
     path: &[u8],
     header: HeaderFacts<'_>,
 ) -> Result<(), OutFault>
-    ensures { SaysNames (progress W.sink report.old) (progress W.sink report.new)
+    ensures { SaysTreeMessages (progress W.sink report.old) (progress W.sink report.new)
         (header_lines_of attr path.now header.entry) result }
 {
     say_shape(report, attr, path, header.gap, header.sound)?;
@@ -288,7 +288,7 @@ pub fn is_in_order(header: HeaderFacts<'_>) -> bool
 
 /// A line on a directory or on an entry of it.
 #[derive(Clone, Copy, Debug)]
-pub enum NameLine<'a> {
+pub enum TreeLine<'a> {
     /// A line on a directory as a whole.
     Directory(DirectoryLine<'a>),
     /// A line on an entry `.` or `..`.
@@ -303,21 +303,21 @@ pub struct LineIf<'a> {
     /// Whether it is to be reported.
     pub holds: bool,
     /// The line.
-    pub line: NameLine<'a>,
+    pub line: TreeLine<'a>,
 }
 
 /// Says a line.
 ///
 /// # Errors
 /// A write of the report that failed.
-pub fn say_line<W: Output>(report: &mut Report<'_, W>, line: &NameLine<'_>) -> Result<(), OutFault>
-    ensures { SaysNames (progress W.sink report.old) (progress W.sink report.new)
-        (reported true (name_message line.now)) result }
+pub fn say_line<W: Output>(report: &mut Report<'_, W>, line: &TreeLine<'_>) -> Result<(), OutFault>
+    ensures { SaysTreeMessages (progress W.sink report.old) (progress W.sink report.new)
+        (reported true (tree_message line.now)) result }
 {
     match *line {
-        NameLine::Directory(line) => report.say(&Line::Directory(line)),
-        NameLine::Dot(line) => report.say(&Line::Dot(line)),
-        NameLine::Entry(line) => report.say(&Line::Entry(line)),
+        TreeLine::Directory(line) => report.say(&Line::Directory(line)),
+        TreeLine::Dot(line) => report.say(&Line::Dot(line)),
+        TreeLine::Entry(line) => report.say(&Line::Entry(line)),
     }
 }
 
@@ -326,8 +326,8 @@ pub fn say_line<W: Output>(report: &mut Report<'_, W>, line: &NameLine<'_>) -> R
 /// # Errors
 /// A write of the report that failed.
 pub fn say_if<W: Output>(report: &mut Report<'_, W>, line: &LineIf<'_>) -> Result<(), OutFault>
-    ensures { SaysNames (progress W.sink report.old) (progress W.sink report.new)
-        (reported line.now.holds (name_message line.now.line)) result }
+    ensures { SaysTreeMessages (progress W.sink report.old) (progress W.sink report.new)
+        (reported line.now.holds (tree_message line.now.line)) result }
 {
     if line.holds {
         return say_line(report, &line.line);
@@ -345,7 +345,7 @@ pub fn say_two<W: Output>(
     first: &LineIf<'_>,
     second: &LineIf<'_>,
 ) -> Result<(), OutFault>
-    ensures { SaysNames (progress W.sink report.old) (progress W.sink report.new)
+    ensures { SaysTreeMessages (progress W.sink report.old) (progress W.sink report.new)
         (two_reported first.now second.now) result }
 {
     say_if(report, first)?;

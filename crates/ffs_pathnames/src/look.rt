@@ -1,9 +1,9 @@
-//! A first look at a directory: whether anything may be reported of it.
+//! A first look at a directory: whether it is sure that nothing is reported of its entries.
 ghost use Rattle.std.specs.Prelude.{◌≡◌, ◌+◌, ◌≤◌, true, false, ◌<◌, ◌==◌, List, ◌∷◌, ◌&&◌, ◌||◌, not, length};
 ghost use Rattle.std.specs.Prelude.{slice_index};
 ghost use Rattle.ffs_names.specs.Costs.{directory_cost, directory_runs};
 ghost use Rattle.ffs_pathnames.specs.DirectoryContext.{DirectoryContext, KnowsDirectory};
-ghost use Rattle.ffs_pathnames.specs.{Examines.{Examines, ExaminesWithin, IsExamined, IsLookedAt}, Reads.start_chunk};
+ghost use Rattle.ffs_pathnames.specs.{Examines.{Examines, ExaminesWithin, IsExamined, IsLookedAt}, StartChunks.start_chunk};
 ghost use Rattle.ffs_pathnames.specs.{Looks.{IsChunkLook, StampsEntry}, Ready.{ReadyToLook, ReadyToRead}};
 ghost use Rattle.ffs_pathnames.specs.Sees.{CanStamp, CanStampInode, Sees, stamps_in};
 ghost use Rattle.ffs_volume.specs.{declared.{Order.Order, Role.Role}, Directories.Entries.{Chunk, chunk_of}};
@@ -49,14 +49,14 @@ fn examine_all<I: Image>(
     let directory = Directory {
         number: dir,
         inode,
-        cut: workspace.cut_of(dir),
+        cut: workspace.noted_cut(dir),
     };
     let look = look_directory(geometry, image, workspace, &directory, start)?;
     Ok(Examination { inode, look })
 }
 
-/// What is said of a directory of which no more may be read: that its chunks aren't sound, and
-/// nothing of its entries.
+/// What is said of a directory of which no more may be read: that it is too short, is corrupted,
+/// and has neither `.` nor `..`. Nothing is said of its entries.
 fn unexamined() -> Examination
     ensures { result.look ≡ record {
       quiet = true;
@@ -84,10 +84,10 @@ fn unexamined() -> Examination
     }
 }
 
-/// Examines a directory, and puts the chunk at the start of the file into `start`, if one is there.
-/// `reads_left` is how many reads may be made of directories' own blocks; it falls by those that
-/// are made. Only an image that gives other bytes each time asks for more: the directory is then
-/// corrupted.
+/// Examines a directory, stamps the inodes that belong to it, and puts the chunk at the start of
+/// the file into `start`, if one is there. `reads_left` is how many reads may be made of
+/// directories' own blocks; it falls by those that are made. Only an image that gives other bytes
+/// each time asks for more: the result is then that of `unexamined`.
 ///
 /// # Errors
 /// A read of the image that failed.
@@ -123,7 +123,7 @@ pub struct Directory {
     pub number: u32,
     /// Its inode.
     pub inode: Inode,
-    /// Its cut (`Workspace::cut_of`).
+    /// Its cut (`Workspace::noted_cut`).
     pub cut: u32,
 }
 
@@ -159,7 +159,7 @@ fn keep_start(
 }
 
 /// Looks at a directory once: at its entries, its chunks, its holes, and the chunk at the start of
-/// the file, which is put into `start`.
+/// the file, which is put into `start`. The inodes that belong to it are stamped.
 ///
 /// # Errors
 /// A read of the image that failed.
@@ -220,8 +220,8 @@ pub fn is_bad_whiteout(entry: &Entry<'_>) -> bool
 }
 
 /// Whether nothing is reported of an inode that a plain entry names. The parent entry of a directory
-/// is in its parent, and the first there: the first look stamps the inode when it meets that one, so
-/// there the entry is the parent entry whose inode isn't stamped.
+/// is the first in its parent that names it, and the first look stamps the directory there: so an
+/// entry in the parent is the parent entry where the directory isn't stamped yet.
 fn is_quiet_inode(inodes: &Inodes<'_>, dir: u32, words: &FilledList<u32>, entry: &Entry<'_>) -> bool
     requires { CanStampInode inodes.now dir words.now.items entry.now.number }
     ensures { (vol : Volume) → Sees vol inodes.now → result
@@ -314,7 +314,8 @@ pub struct ChunkLook {
     pub sound: bool,
 }
 
-/// Looks at the entries of a chunk; `first` says that it is at the start of the file.
+/// Looks at the entries of a chunk, and stamps the inodes that belong to `dir`; `first` says that
+/// the chunk is at the start of the file.
 pub fn look_chunk(
     inodes: &Inodes<'_>,
     dir: u32,

@@ -1,8 +1,8 @@
-//! The lines of a plain entry.
+//! The lines of a plain or an extra entry, and what lines of entries and directories show.
 ghost use Rattle.std.specs.Prelude.{◌≡◌, ℕ, List, Option, SomeIff};
 ghost use Rattle.ffs_volume.specs.{declared.Layout.Layout, Directories.PathnameCheck.extra_lines, Report.Reads.path_reads};
 ghost use Rattle.ffs_pathnames.specs.{EntryLines.ReportsEntries, Ready.{ReadyToPath, ReadyWhere, ReadyWith, LinesLeave}};
-ghost use Rattle.ffs_pathnames.specs.{SaysNames.SaysNames, Gathers.{AreAsLong, IsVerdictIn, asks_attr, asks_path}};
+ghost use Rattle.ffs_pathnames.specs.{SaysTreeMessages.SaysTreeMessages, Gathers.{AreAsLong, IsVerdictIn, asks_attr, asks_path}};
 ghost use Rattle.ffs_pathnames.specs.Gathers.{extra_reported, is_silent, plain_lines_by, MakesPath, MakesPathLimited};
 ghost use Rattle.ffs_pathnames.specs.Gathers.{ReadsAttr, PutsPath, PutsWanted, GathersInode, GathersWithPath};
 ghost use Rattle.ffs_pathnames.specs.Gathers.{GathersEntry, GathersExtra, GathersDir};
@@ -40,9 +40,9 @@ pub struct EntryTexts {
     pub kept_parent: KeptParent,
     /// Whether the path of the directory that the entries are in was made: the first line makes it.
     pub begun: bool,
-    /// The path of the entry.
+    /// The path of the directory that the entries are in, and that of the last entry.
     pub paths: EntryPaths,
-    /// The path of a directory, as that which the entry names.
+    /// The path of the directory that a line shows: the entry names it, or an extra entry is in it.
     pub directory: PathText,
 }
 
@@ -470,7 +470,7 @@ fn say_extra<W: Output>(
     path: &[u8],
     entry: &Entry<'_>,
 ) -> Result<(), OutFault>
-    ensures { SaysNames (progress W.sink report.old) (progress W.sink report.new)
+    ensures { SaysTreeMessages (progress W.sink report.old) (progress W.sink report.new)
         (extra_lines attr path.now (entry_value entry.now)) result }
 {
     if is_one_dot(entry.name) {

@@ -5,11 +5,11 @@ ghost use Rattle.ffs_volume.specs.Directories.{PathnameCheck.pathname_lines, Vol
 ghost use Rattle.ffs_volume.specs.{Encodings.Kinds.is_dir_kind, Messages.Kinds.of_tree};
 ghost use Rattle.ffs_workspace.specs.{Found.WithClaims, Holds.bool_at, Ready.IsReady};
 ghost use Rattle.ffs_pathnames.specs.{Before.{root_reported, IsNonePassed}, Gathers.AreAsLong};
-ghost use Rattle.ffs_pathnames.specs.{Phase2.{Phase2Ends, Phase2Reads}, RootAnswers.is_go, SaysNames.SaysNames};
+ghost use Rattle.ffs_pathnames.specs.{Phase2.{Phase2Ends, Phase2Reads}, RootAnswers.is_go, SaysTreeMessages.SaysTreeMessages};
 ghost use Rattle.ffs_survey.specs.Survey.{suspect_at};
 ghost use Rattle.ffs_volume.specs.Messages.Kinds as messages;
 
-use crate::header::{LineIf, NameLine, say_if, say_line};
+use crate::header::{LineIf, TreeLine, say_if, say_line};
 use crate::inodes::Inodes;
 use crate::tree::check_tree;
 use ffs_image::Image;
@@ -19,12 +19,12 @@ use ffs_report::{DirectoryLine, Heading, Line, OutFault, Output, Report, RunFaul
 use ffs_volume::kinds::Kind;
 use ffs_workspace::Workspace;
 
-/// Whether the check continues after the root, or ends after phase 2 since inode 2 is no directory.
+/// Whether the check continues after the root, or ends there, in phase 2: inode 2 is no directory.
 #[derive(Clone, Copy, Debug, PartialEq, Eq)]
 pub enum Root {
     /// The check continues.
     Go,
-    /// The check ends after phase 2.
+    /// The check ends after the root's line.
     Stop,
 }
 
@@ -86,21 +86,21 @@ pub fn report_root<W: Output>(
     kind: u8,
     marked: bool,
 ) -> Result<(), OutFault>
-    ensures { SaysNames (progress W.sink report.old) (progress W.sink report.new)
+    ensures { SaysTreeMessages (progress W.sink report.old) (progress W.sink report.new)
         (root_reported kind marked) result }
 {
     let kind = Kind { code: kind };
     if !kind.is_allocated() {
-        return say_line(report, &NameLine::Directory(DirectoryLine::RootNone));
+        return say_line(report, &TreeLine::Directory(DirectoryLine::RootNone));
     }
     if kind.is_dir() {
         let suspect = LineIf {
             holds: marked || kind.is_empty_dir(),
-            line: NameLine::Directory(DirectoryLine::RootSuspect),
+            line: TreeLine::Directory(DirectoryLine::RootSuspect),
         };
         return say_if(report, &suspect);
     }
-    say_line(report, &NameLine::Directory(DirectoryLine::RootNotDir))
+    say_line(report, &TreeLine::Directory(DirectoryLine::RootNotDir))
 }
 
 /// Takes away the flags of suspect inodes, and no others.

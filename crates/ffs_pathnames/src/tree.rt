@@ -314,7 +314,7 @@ pub fn check_directory<I: Image, W: Output>(
     let directory = Directory {
         number: dir,
         inode: examined.inode,
-        cut: workspace.cut_of(dir),
+        cut: workspace.noted_cut(dir),
     };
     report_directory(geometry, image, workspace, checking, report, &directory)
 }

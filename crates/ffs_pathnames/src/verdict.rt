@@ -1,12 +1,12 @@
 //! The verdict on a plain entry, and what is reported by it.
 ghost use Rattle.ffs_volume.specs.Messages.Kinds.{reported};
 ghost use Rattle.ffs_layout.specs.Entry.{entry_value};
-ghost use Rattle.ffs_pathnames.specs.{Gathers.{AreDefectsOf, IsVerdictBy}, SaysNames.SaysNames};
+ghost use Rattle.ffs_pathnames.specs.{Gathers.{AreDefectsOf, IsVerdictBy}, SaysTreeMessages.SaysTreeMessages};
 ghost use Rattle.ffs_pathnames.specs.Sees.{HasFlagAndWord, HasFlagAndWordOf, PassesEntry, passed_in};
 ghost use Rattle.ffs_pathnames.specs.Verdicts.{suspect_message, links_reported, defects_reported, verdict_reported};
 ghost use Rattle.ffs_report.specs.Progress.{progress};
 
-use crate::header::{LineIf, NameLine, say_line, say_two};
+use crate::header::{LineIf, TreeLine, say_line, say_two};
 use crate::inodes::Inodes;
 use crate::look::is_bad_whiteout;
 use ffs_layout::Entry;
@@ -136,7 +136,7 @@ fn say_suspect<W: Output>(
     attr: Attr,
     path: &[u8],
 ) -> Result<(), OutFault>
-    ensures { SaysNames (progress W.sink report.old) (progress W.sink report.new)
+    ensures { SaysTreeMessages (progress W.sink report.old) (progress W.sink report.new)
         (reported defects.now.first_of_suspect (suspect_message defects.now attr path.now)) result }
 {
     if !defects.first_of_suspect {
@@ -145,14 +145,14 @@ fn say_suspect<W: Output>(
     if defects.marked {
         return say_line(
             report,
-            &NameLine::Entry(EntryLine::DupBad {
+            &TreeLine::Entry(EntryLine::DupBad {
                 label: defects.label,
                 attr,
                 path,
             }),
         );
     }
-    say_line(report, &NameLine::Entry(EntryLine::ZeroDir { attr, path }))
+    say_line(report, &TreeLine::Entry(EntryLine::ZeroDir { attr, path }))
 }
 
 /// Says of an entry that it isn't the parent entry of the directory that it names, and that its
@@ -164,19 +164,19 @@ fn say_links<W: Output>(
     path: &[u8],
     directory: &[u8],
 ) -> Result<(), OutFault>
-    ensures { SaysNames (progress W.sink report.old) (progress W.sink report.new)
+    ensures { SaysTreeMessages (progress W.sink report.old) (progress W.sink report.new)
         (links_reported defects.now attr path.now directory.now) result }
 {
     let extraneous = LineIf {
         holds: defects.extraneous,
-        line: NameLine::Entry(EntryLine::Extraneous {
+        line: TreeLine::Entry(EntryLine::Extraneous {
             path,
             dir: directory,
         }),
     };
     let kind = LineIf {
         holds: defects.kind,
-        line: NameLine::Entry(EntryLine::KindEntry {
+        line: TreeLine::Entry(EntryLine::KindEntry {
             label: defects.label,
             attr,
             path,
@@ -194,7 +194,7 @@ fn say_defects<W: Output>(
     path: &[u8],
     directory: &[u8],
 ) -> Result<(), OutFault>
-    ensures { SaysNames (progress W.sink report.old) (progress W.sink report.new)
+    ensures { SaysTreeMessages (progress W.sink report.old) (progress W.sink report.new)
         (defects_reported defects.now attr path.now directory.now) result }
 {
     say_suspect(report, defects, attr, path)?;
@@ -213,22 +213,22 @@ pub fn say_verdict<W: Output>(
     path: &[u8],
     directory: &[u8],
 ) -> Result<(), OutFault>
-    ensures { SaysNames (progress W.sink report.old) (progress W.sink report.new)
+    ensures { SaysTreeMessages (progress W.sink report.old) (progress W.sink report.new)
         (verdict_reported verdict.now number attr path.now directory.now) result }
 {
     match verdict {
         Verdict::OutOfRange => say_line(
             report,
-            &NameLine::Entry(EntryLine::OutOfRange { number, path }),
+            &TreeLine::Entry(EntryLine::OutOfRange { number, path }),
         ),
         Verdict::BadWhiteout => say_line(
             report,
-            &NameLine::Entry(EntryLine::Whiteout { number, path }),
+            &TreeLine::Entry(EntryLine::Whiteout { number, path }),
         ),
         Verdict::Whiteout => Ok(()),
         Verdict::Unallocated => say_line(
             report,
-            &NameLine::Entry(EntryLine::Unallocated { attr, path }),
+            &TreeLine::Entry(EntryLine::Unallocated { attr, path }),
         ),
         Verdict::Named(defects) => say_defects(report, defects, attr, path, directory),
     }

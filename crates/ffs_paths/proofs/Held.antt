@@ -4,7 +4,7 @@ use Rattle.std.proofs.Common.{inl, inr, eq-zero-or-pos, length, drop, max, sym, 
 use Rattle.std.proofs.{Common.{le-ltb, lt-ltb, ltb-true}, lemmas.{List.drop_all, Bool.{Decides.nat_tests, and_parts}}}
 use Rattle.std.proofs.lemmas.Bool.{not-true}
 use Rattle.ffs_volume.specs.Directories.Paths.{joined, longest_end, path_bytes}
-use Rattle.ffs_paths.specs.{declared.buffer.PathBuffer.PathBuffer, Buffers.{HoldsNames, IsLonger}, Slashes.AreSingle}
+use Rattle.ffs_paths.specs.{declared.buffer.PathBuffer.PathBuffer, Buffers.{HoldsNames, IsLonger}, Slashes.HaveNoSlash}
 use Rattle.ffs_paths.{specs.Slashes.from_slash, proofs.LongestEnds.{text_whole, joined-length, end-more, end-whole}}
 use Rattle.ffs_paths.proofs.LongestEnds.{joined-last, last-length, slash_end, end_tail}
 
@@ -53,7 +53,7 @@ first_cut p q name names held cut over short = grind (arith, joined-length, cut_
 
 -- ---- a name more after them: all have room, or not
 pub last_fits : (p q : PathBuffer) (names : List (List ℕ)) (name : List ℕ) → IsLonger q q.start name false p →
-    drop q.start q.bytes ≡ joined names → AreSingle (names ++ name ∷ []) → HoldsNames p (names ++ name ∷ [])
+    drop q.start q.bytes ≡ joined names → HaveNoSlash (names ++ name ∷ []) → HoldsNames p (names ++ name ∷ [])
 last_fits p q names name made whole single =
     let last = names ++ name ∷ [] in
     let all : drop p.start p.bytes ≡ joined last = made.bytes
@@ -67,12 +67,12 @@ last_fits p q names name made whole single =
           ∙ (all ∙ sym (ap joined (end-whole 1023 last (omega arith))))
     ])
 
-first_single : (names : List (List ℕ)) (name : List ℕ) → AreSingle (names ++ name ∷ []) → AreSingle names
+first_single : (names : List (List ℕ)) (name : List ℕ) → HaveNoSlash (names ++ name ∷ []) → HaveNoSlash names
 first_single [] name h = tt
 first_single (x ∷ names) name h = (h.0, first_single names name h.1)
 
 pub last_cut : (p q : PathBuffer) (names : List (List ℕ)) (name : List ℕ) (from : ℕ) → IsLonger q from name true p →
-    HoldsNames q names → AreSingle (names ++ name ∷ []) → length name ≤ 1022 → length name + 2 ≤ from →
+    HoldsNames q names → HaveNoSlash (names ++ name ∷ []) → length name ≤ 1022 → length name + 2 ≤ from →
     1024 < length (joined names) + suc (length name)
     → drop from q.bytes ≡ from_slash (drop (max q.short (length name + 2)) q.bytes) → HoldsNames p (names ++ name ∷ [])
 last_cut p q names name from made held single small low over found =

@@ -4,7 +4,7 @@ use Rattle.std.proofs.Common.{◌++◌, Some, length, drop, max, nat_le, refl, s
 use Rattle.std.proofs.Common.{arith, length-append, length-drop, drop-drop}
 use Rattle.std.proofs.lemmas.{Bool.Decides.nat_tests, Bool.or_parts, List.drop_all}
 use Rattle.ffs_volume.specs.Directories.Paths.{joined, longest_end, path_bytes, dir_path_of_names}
-use Rattle.ffs_paths.specs.Slashes.{AreSingle, from_slash, has_slash}
+use Rattle.ffs_paths.specs.Slashes.{HaveNoSlash, from_slash, has_slash}
 
 -- ---- the text of names that are cut, and of names that have room
 pub text_cut : (names : List (List ℕ)) → 1024 < length (joined names) →
@@ -82,7 +82,7 @@ name_past (x ∷ name) rest (suc from) h =
     name_past name rest from (or_parts (x == 47) (has_slash name) h).1 ∙ ap (λ n. from_slash (drop n rest)) (omega arith)
 
 -- from a place of joined names on it finds the longest end that begins there or later
-pub slash_end : (names : List (List ℕ)) (from most : ℕ) → AreSingle names →
+pub slash_end : (names : List (List ℕ)) (from most : ℕ) → HaveNoSlash names →
     (0 < from → from + most ≡ length (joined names)) → length (joined names) ≤ from + most
     → from_slash (drop from (joined names)) ≡ joined (longest_end most names)
 unfolding longest_end
@@ -96,16 +96,16 @@ slash_end (name ∷ names) (suc from) most h is l =
     ∙ (slash_end names (from - length name) most h.1 (λ past. omega arith) (omega arith)
     ∙ ap joined (sym (end-more most name names (omega arith))))
 
-end_single : (most : ℕ) (names : List (List ℕ)) → AreSingle names → AreSingle (longest_end most names)
+end_single : (most : ℕ) (names : List (List ℕ)) → HaveNoSlash names → HaveNoSlash (longest_end most names)
 unfolding longest_end
 end_single most [] h = tt
 end_single most (name ∷ names) h = elim (nat_le (length (joined (name ∷ names))) most) as (λ b.
-    AreSingle (if b then name ∷ names else longest_end most names)) [ true ↦ h | false ↦ end_single most names h.1 ]
+    HaveNoSlash (if b then name ∷ names else longest_end most names)) [ true ↦ h | false ↦ end_single most names h.1 ]
 
 -- the end of the names with one more: what is from the first `/` on after which that name has room,
 -- and the name
 pub end_tail : (names : List (List ℕ)) (name bytes : List ℕ) (short : ℕ) → short ≤ 1024 → length bytes ≡ 1024
-    → drop short bytes ≡ joined (longest_end 1023 names) → AreSingle names → length name ≤ 1022
+    → drop short bytes ≡ joined (longest_end 1023 names) → HaveNoSlash names → length name ≤ 1022
     → joined (longest_end 1023 (names ++ name ∷ []))
     ≡ from_slash (drop (max short (length name + 2)) bytes) ++ 47 ∷ name
 end_tail names name bytes short low size held single small =

@@ -9,7 +9,7 @@ use Rattle.ffs_volume.specs.Directories.{Entries.{is_well_formed, step_chunks}, 
 use Rattle.ffs_volume.specs.Directories.{Parents.{graph_of, nth_roled}, Paths.{names_down, names_by_parent, name_of}}
 use Rattle.ffs_volume.specs.Directories.{Roles.{RoledEntry, roled_chunk, roled_from, roled_entries}, Volumes.volume_of}
 use Rattle.ffs_volume.specs.Directories.Volumes.{volume_with, chunk_source_of, kept_steps_of_inode}
-use Rattle.ffs_paths.specs.Slashes.{AreSingle, has_slash}
+use Rattle.ffs_paths.specs.Slashes.{HaveNoSlash, has_slash}
 
 -- ---- the name of a well formed entry
 there_single : (order : Order) (chunk : List ℕ) (place : ℕ) → is_well_formed order chunk place ≡ true →
@@ -79,10 +79,10 @@ place_single [] h (Some i) = refl
 place_single (e ∷ es) h (Some zero) = h.0
 place_single (e ∷ es) h (Some (suc i)) = place_single es h.1 (Some i)
 
-pub down_single : (v : Layout) (b : List ℕ) (k d : ℕ) → AreSingle (names_down (graph_of (volume_of v b)) k d)
+pub down_single : (v : Layout) (b : List ℕ) (k d : ℕ) → HaveNoSlash (names_down (graph_of (volume_of v b)) k d)
 unfolding names_down
 down_single v b zero d = tt
-down_single v b (suc k) d = elim (parent (graph_of (volume_of v b)) d) as (λ o. AreSingle
+down_single v b (suc k) d = elim (parent (graph_of (volume_of v b)) d) as (λ o. HaveNoSlash
     (names_by_parent (graph_of (volume_of v b)) (names_down (graph_of (volume_of v b)) k) d o)) [
       | None ↦ tt
       | Some s ↦ append_each (λ name. has_slash name ≡ false) (names_down (graph_of (volume_of v b)) k s) _

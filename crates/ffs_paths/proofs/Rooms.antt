@@ -5,7 +5,7 @@ use Rattle.std.proofs.lemmas.{Slice.take-put_mid, Bool.both_ways}
 use Rattle.ffs_volume.{proofs.{LawsHold.paths_fit, PathBound.path_text-fits}, specs.Directories.Graph.Graph}
 use Rattle.ffs_volume.specs.Directories.Paths.{entry_path, path_names, path_bytes}
 use Rattle.ffs_paths.{proofs.Held.entry-whole, specs.{Buffers.HoldsNames, Climbing.in_room, DirectoryPaths.IsPathOf}}
-use Rattle.ffs_paths.specs.{EntryPaths.BeginsWith, Slashes.AreSingle, declared.path.DirectoryPath.DirectoryPath}
+use Rattle.ffs_paths.specs.{EntryPaths.BeginsWith, Slashes.HaveNoSlash, declared.path.DirectoryPath.DirectoryPath}
 use borrow.Rule.Slice.PartMut.{put_mid}
 
 pub fits : (path : List ℕ) → length path ≤ 1024 → path ≡ in_room path
@@ -22,13 +22,13 @@ entry_in_room g d name h = sym (fits (entry_path g d name) ((paths_fit g d).of_e
 -- what holds of the path of a directory: of one that is reached by all names that its buffer may
 -- hold, and of one that isn't
 pub by_path : (g : Graph) (d : ℕ) (p : DirectoryPath) (P : Option (List (List ℕ)) → Type 0) → IsPathOf g d p
-    → (p.reached ≡ true → (names : List (List ℕ)) → HoldsNames p.names names → AreSingle names → P (Some names))
+    → (p.reached ≡ true → (names : List (List ℕ)) → HoldsNames p.names names → HaveNoSlash names → P (Some names))
     → (p.reached ≡ false → P None) → P (path_names g d)
 by_path g d p P h some none = grind arith
 
 pub entry_is : (g : Graph) (d : ℕ) (name : List ℕ) (p : DirectoryPath) (text : List ℕ) → IsPathOf g d p →
     p.reached ≡ true
-    → ((names : List (List ℕ)) → HoldsNames p.names names → AreSingle names → text ≡ path_bytes (names ++ name ∷ [])) →
+    → ((names : List (List ℕ)) → HoldsNames p.names names → HaveNoSlash names → text ≡ path_bytes (names ++ name ∷ [])) →
     text ≡ in_room (entry_path g d name)
 unfolding entry_path
 entry_is g d name p text h r f = grind (arith, by_path, fits, path_text-fits, both_ways)

@@ -9,7 +9,7 @@ use Rattle.ffs_volume.{specs.Directories.{Paths.entry_path_of_names, Roles.Roled
 use Rattle.ffs_volume.specs.{Directories.Volumes.{volume_of, volume_with}, declared.Layout.Layout}
 use Rattle.ffs_paths.{specs.Climbing.{in_room, name_in, IsNameIn, IsParentOf}, proofs.{Rooms.fits, Held.first_cut}}
 use Rattle.ffs_paths.{proofs.NoSlashes.down_single, specs.{Buffers.HoldsNames, DirectoryPaths.{HoldsPath, IsPathOf}}}
-use Rattle.ffs_paths.specs.{KeptParents.{IsKeptParent, LeadsTo}, NameTexts.name_bytes, Slashes.AreSingle}
+use Rattle.ffs_paths.specs.{KeptParents.{IsKeptParent, LeadsTo}, NameTexts.name_bytes, Slashes.HaveNoSlash}
 use Rattle.ffs_paths.specs.declared.{buffer.PathBuffer.PathBuffer, kept_parent.KeptParent.KeptParent}
 use Rattle.ffs_paths.specs.declared.path.DirectoryPath.{DirectoryPath}
 use Rattle.ffs_survey.specs.ParentLaws.{parent_above, root_level}
@@ -116,14 +116,14 @@ kept_parent_is v b w s survey of path name =
         names = names_down g above.left s.parent;
         to_parent = ap (option_map (λ j. names_down g j s.parent)) above.level;
         to_child = ap (option_map (λ j. names_down g j s.child)) l.1 ∙ ap Some above.down;
-        single = subst AreSingle above.down (down_single v b l.0 s.child);
+        single = subst HaveNoSlash above.down (down_single v b l.0 s.child);
       });
     }
 
 -- the path that is made of that of the parent
 pub child_made : (g : Graph) (s : KeptParent) (made : DirectoryPath) → IsKeptParent g s → 0 < s.child →
     ((names : List (List ℕ)) → HoldsPath s.path (Some names)
-    → AreSingle (names ++ name_bytes s.name ∷ []) → HoldsPath made (Some (names ++ name_bytes s.name ∷ [])))
+    → HaveNoSlash (names ++ name_bytes s.name ∷ []) → HoldsPath made (Some (names ++ name_bytes s.name ∷ [])))
     → IsPathOf g s.child made
 child_made g s made kept some makes = grind arith
 

@@ -6,14 +6,14 @@ use Rattle.ffs_volume.specs.Directories.Volumes.{volume_of}
 use Rattle.ffs_workspace.specs.{declared.workspace.Workspace.Workspace, Ready.IsReady, Places.place_in}
 use Rattle.ffs_workspace.specs.Holds.{HoldsClaims, HoldsSurvey}
 use Rattle.ffs_paths.specs.{Climbing.IsParentOf, DirectoryPaths.IsPathOf, Reads.{OnlyReads, ReadsAtMost}}
-use Rattle.ffs_paths.specs.{Slashes.AreSingle, NameTexts.name_bytes, declared.kept_parent.KeptParent.KeptParent}
+use Rattle.ffs_paths.specs.{Slashes.HaveNoSlash, NameTexts.name_bytes, declared.kept_parent.KeptParent.KeptParent}
 
 -- the names down to d are those down to s, and one more
 pub record LeadsTo (g : Graph) (s d : ℕ) (name : List ℕ) : Type 0 where
   pub names : List (List ℕ)
   pub to_parent : path_names g s ≡ Some names
   pub to_child : path_names g d ≡ Some (names ++ name ∷ [])
-  pub single : AreSingle (names ++ name ∷ [])
+  pub single : HaveNoSlash (names ++ name ∷ [])
 
 -- the path is that of the parent, and the name that of the child in it
 pub record IsKeptParent (g : Graph) (s : KeptParent) : Type 0 where
@@ -49,7 +49,7 @@ pub record CanKeepChild (v : Layout) (d : Device) (w : Workspace) (s : KeptParen
   pub parent : IsParentOf w x p
 
 -- what a call leaves that makes so many reads at most for a path, where each place is noted; where
--- it failed, nothing of a directory and its children may be right
+-- it failed, what is kept of a parent may be wrong
 pub record PathLeaves {T : Type 0} (most : ℕ) (v : Layout) (d d' : Device) (count count' : ℕ) (w w' : Workspace)
     (s : KeptParent) (result : Result T ImageFault) : Type 0 where
   pub reads : OnlyReads v d d' w w' result

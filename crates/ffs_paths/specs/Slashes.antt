@@ -6,8 +6,8 @@ abbrev pub has_slash : List ℕ → Bool
 has_slash name = list_any (λ b. b == 47) name
 
 -- no name has a `/`
-abbrev pub AreSingle : List (List ℕ) → Type 0
-AreSingle names = AllByRecursion (λ name. has_slash name ≡ false) names
+abbrev pub HaveNoSlash : List (List ℕ) → Type 0
+HaveNoSlash names = AllByRecursion (λ name. has_slash name ≡ false) names
 
 -- what is from the first `/` on
 abbrev pub from_slash : List ℕ → List ℕ

@@ -2,7 +2,7 @@
 
 ghost use Rattle.std.specs.Prelude.{◌≡◌, ◌+◌, ◌<◌, ◌≤◌, ℕ, not, ◌&&◌, nat_lt, List, [], ◌∷◌, ◌++◌, length, drop, Some};
 ghost use Rattle.ffs_volume.specs.Directories.Paths.{dir_path_of_names, path_bytes};
-ghost use Rattle.ffs_paths.specs.Slashes.{AreSingle, FitsBefore, IsFirstSlash, PutsBefore};
+ghost use Rattle.ffs_paths.specs.Slashes.{HaveNoSlash, FitsBefore, IsFirstSlash, PutsBefore};
 
 use arrayvec::ArrayVec;
 use ffs_volume::constants::MAXPATHLEN;
@@ -10,10 +10,10 @@ use ffs_volume::constants::MAXPATHLEN;
 /// The text of a path.
 pub type PathText = ArrayVec<u8, MAXPATHLEN>;
 
-/// The bytes of the longest name that has room after `?/`.
+/// How many bytes the longest name has that has room after `?/`.
 pub const LONGEST_NAME: usize = MAXPATHLEN - 2;
 
-/// The names of a path, each after a `/`, as far as they are known: the last one first.
+/// The names of a path, each after a `/`, as far as they are known. The last one is put in first.
 ///
 /// Where they take more than 1,024 bytes it keeps the longest end of whole names of at most 1,023
 /// bytes.
@@ -147,7 +147,7 @@ impl PathBuffer {
     /// room, else `?` and their longest end of at most 1,023 bytes, which is none where that name
     /// alone is longer.
     pub fn put_with(&self, name: &[u8], text: &mut PathText)
-        ensures { (names : List (List ℕ)) → HoldsNames self.now names → AreSingle names
+        ensures { (names : List (List ℕ)) → HoldsNames self.now names → HaveNoSlash names
             → text.new.items ≡ path_bytes (names ++ name.now ∷ []) }
     {
         text.clear();
@@ -189,7 +189,7 @@ impl PathBuffer {
     pub fn with_last(&self, name: &[u8]) -> PathBuffer
         requires { length name.now ≤ 512 }
         ensures { (names : List (List ℕ)) → HoldsNames self.now names
-            → AreSingle (names ++ name.now ∷ []) → HoldsNames result (names ++ name.now ∷ []) }
+            → HaveNoSlash (names ++ name.now ∷ []) → HoldsNames result (names ++ name.now ∷ []) }
     {
         if self.has_room(name) {
             return self.longer(self.start, name, false);

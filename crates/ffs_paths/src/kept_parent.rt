@@ -63,7 +63,7 @@ impl KeptParent {
         }
     }
 
-    /// Keeps the path of this parent, if another one's is kept.
+    /// Keeps the path of this parent, unless it is kept already.
     fn keep_path_of<I: Image>(
         &mut self,
         geometry: &Geometry,

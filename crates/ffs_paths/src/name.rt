@@ -102,7 +102,7 @@ pub fn search_name<I: Image>(
         workspace.old workspace.new result }
 {
     name.clear();
-    let cut = workspace.cut_of(parent);
+    let cut = workspace.noted_cut(parent);
     let inode = workspace
         .windows
         .table

@@ -4,7 +4,7 @@ ghost use Rattle.std.specs.Prelude.{◌≡◌, ◌<◌, ◌≤◌, ℕ, List, []
 ghost use Rattle.ffs_volume.specs.Directories.{Graph.{Graph, level}, Paths.{dir_path, entry_path, names_down}};
 ghost use Rattle.ffs_workspace.specs.Holds.{bool_at};
 ghost use Rattle.ffs_paths.specs.{Buffers.HoldsNames, Climbing.{in_room, path_in}, DirectoryPaths.{HoldsPath, IsPathOf}};
-ghost use Rattle.ffs_paths.specs.{Reads.{climb_reads, CanClimb, ForTree, IsReadyFor, OnlyReadsAtMost}, Slashes.AreSingle};
+ghost use Rattle.ffs_paths.specs.{Reads.{climb_reads, CanClimb, ForTree, IsReadyFor, OnlyReadsAtMost}, Slashes.HaveNoSlash};
 
 use crate::buffer::{LONGEST_NAME, PathBuffer, PathText};
 use crate::name::find_name;
@@ -41,7 +41,7 @@ impl DirectoryPath {
     pub fn child(&self, name: &[u8]) -> DirectoryPath
         requires { length name.now ≤ 512 }
         ensures { (names : List (List ℕ)) → HoldsPath self.now (Some names)
-            → AreSingle (names ++ name.now ∷ [])
+            → HaveNoSlash (names ++ name.now ∷ [])
             → HoldsPath result (Some (names ++ name.now ∷ [])) }
     {
         DirectoryPath {

@@ -13,7 +13,7 @@ ImageAfter old new (Ok x) = new ≡ old
 ImageAfter old new (Err (Read fault)) = Faulted old new fault.sector
 ImageAfter old new (Err (Out fault)) = new ≡ old
 
--- messages were said, and with those that are to come they are all
+-- messages were said, and with `rest`, those that are to come, they are `all`
 pub record SaidTo (rest all : List Message) (old new : Progress) : Type 0 where
   pub messages : List Message
   pub right : messages ++ rest ≡ all

@@ -5,7 +5,7 @@ use Rattle.ffs_report.specs.{Outlet.IsReported, Sink.{Sink, Puts}, declared.mute
 use Rattle.ffs_report.specs.declared.{counted.Counted.Counted, fuse.FuseWriter.FuseWriter}
 
 -- an output holds the reference of this name to the writer, and no put has failed yet
-pub record StartsOver {S : Type 0} (name : GName) (writer : S) (out : Counted S) : Type 0 where
+pub record IsUnfailedOver {S : Type 0} (name : GName) (writer : S) (out : Counted S) : Type 0 where
   pub same_reference : out.inner.ghost_name ≡ name
   pub inner : out.inner.now ≡ writer
   pub failures : out.failures ≡ 0

@@ -5,8 +5,8 @@ ghost use Rattle.std.specs.Prelude.{◌≡◌};
 use crate::output::OutFault;
 use ffs_image::ImageFault;
 
-/// What ends a run before its report is complete: a read of the image that failed, or a write of
-/// the report.
+/// What ends a phase, and with it a run of the program (no Run of fragments): a read of the image
+/// that failed, or a write of the report.
 #[derive(Clone, Copy, Debug, PartialEq, Eq, thiserror::Error)]
 pub enum RunFault {
     /// A read of the image failed, at this sector.

@@ -97,7 +97,7 @@ impl<'a, W: Output> Report<'a, W> {
 
     /// Says a DUP line, of a fragment and an inode. Where a volume has many defects, most of its
     /// lines are of this kind, so what a line shares with the one before it isn't made again.
-    fn say_dup(&mut self, fragment: u32, inode: u32) -> Result<(), OutFault>
+    fn say_dup_line(&mut self, fragment: u32, inode: u32) -> Result<(), OutFault>
         ensures { SaysOne (progress W.sink self.old) (progress W.sink self.new)
             (of_blocks (BlockMessage.Dup fragment inode)) result }
     {
@@ -122,7 +122,9 @@ impl<'a, W: Output> Report<'a, W> {
             (message_of line.now) result }
     {
         match line {
-            Line::Block(BlockMessage::Dup { fragment, inode }) => self.say_dup(*fragment, *inode),
+            Line::Block(BlockMessage::Dup { fragment, inode }) => {
+                self.say_dup_line(*fragment, *inode)
+            }
             _ => self.say_any(line),
         }
     }

@@ -1,7 +1,7 @@
 -- A directory of which nothing can be reported, by what a survey sees where it reads it.
 use Rattle.std.specs.Prelude.{◌≡◌, ℕ, suc, ◌==◌, Bool, true, false, not, ◌&&◌, ◌||◌, nat_le, nat_lt, List, [], ◌∷◌}
 use Rattle.std.specs.{Prelude.length, List.list_any}
-use Rattle.ffs_volume.specs.declared.constants.TheConstants.{WINO, ROOTINO, DT_DIR, DT_WHT, EMPTY_DIR, UNKNOWN_TYPE}
+use Rattle.ffs_volume.specs.declared.constants.TheConstants.{WINO, ROOTINO, DT_DIR, DT_WHT, EMPTY_DIR_KIND, UNKNOWN_KIND}
 use Rattle.ffs_volume.specs.declared.Role.{Role, TheVariants.{Empty, Dot, Dotdot, Extra, Plain}}
 use Rattle.ffs_volume.specs.Directories.{Roles.RoledEntry, Graph.is_naming_entry}
 use Rattle.ffs_survey.specs.Survey.{bool_at, number_at, dir_at}
@@ -18,11 +18,11 @@ pub record CurrentDir : Type 0 where
 -- that is reached
 abbrev pub is_calm_kind : ℕ → Bool → Bool
 is_calm_kind kind reached =
-    not (kind == 0) && (not (kind == EMPTY_DIR) && (not (kind == DT_WHT) && (not (kind == UNKNOWN_TYPE)
+    not (kind == 0) && (not (kind == EMPTY_DIR_KIND) && (not (kind == DT_WHT) && (not (kind == UNKNOWN_KIND)
     && not ((kind == DT_DIR) && reached))))
 
--- a plain entry is a whiteout; or the inode that it names isn't marked, and has the type of the
--- entry
+-- a plain entry is a whiteout; or the inode that it names is one of the volume and isn't marked, and
+-- the type of the entry is its kind, and a calm one
 abbrev pub is_calm_plain : List ℕ → List Bool → (ℕ → Bool) → ℕ → ℕ → Bool
 is_calm_plain kinds marked reached x kind =
     nat_lt x (length kinds) && (((x == WINO) && (kind == DT_WHT)) || (nat_le ROOTINO x && (not (bool_at marked x)

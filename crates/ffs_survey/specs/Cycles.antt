@@ -71,12 +71,12 @@ pub record IsLeastOn (f : ℕ → Option ℕ) (n found e : ℕ) : Type 0 where
   pub on : (k : ℕ) × (climb f k found ≡ Some e)
 
 -- the three lists have an entry for each number
-pub record CanMarkLeaders (parents walk_of : List ℕ) (leaders : List Bool) : Type 0 where
+pub record CanFlagLeaders (parents walk_of : List ℕ) (leaders : List Bool) : Type 0 where
   pub few : length parents < 2 ^ 31
   pub walks : length walk_of ≡ length parents
   pub leaders_long : length leaders ≡ length parents
 
 -- each number that is the least on a cycle of parents is flagged, and the list of walks keeps its length
-pub record MarksEachLeader (parents : List ℕ) (walk_of walk_of' : Vec ℕ Global) (leaders : List Bool) : Type 0 where
+pub record FlagsEachLeader (parents : List ℕ) (walk_of walk_of' : Vec ℕ Global) (leaders : List Bool) : Type 0 where
   pub leads : (x : ℕ) → bool_at leaders x ≡ is_leader_within (parent_in parents) (length parents) x
   pub walks_long : vec_len walk_of' ≡ vec_len walk_of

@@ -22,7 +22,8 @@ pub record AreLists (kinds : List ℕ) (marked : List Bool) (references : List �
   pub calm_long : length calm ≡ length kinds
   pub queue_long : length queue ≡ length kinds
 
--- what a survey found, and for each inode whether it is the least number on a cycle of parents
+-- the lists of a survey have an element for each inode, and `leaders` says which of them is the least
+-- number on a cycle of parents
 pub record AreSurveyed (kinds : List ℕ) (marked named reached : List Bool) (parents : List ℕ) (leaders : List Bool)
     : Type 0 where
   pub marked_long : length marked ≡ length kinds

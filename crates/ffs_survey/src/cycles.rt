@@ -1,6 +1,6 @@
 //! Cycles of parents.
 ghost use Rattle.std.specs.Prelude.{length};
-ghost use Rattle.ffs_survey.specs.Cycles.{parent_in, CanFollow, CanMarkLeaders, ComesBack, IsLeastOn, MarksEachLeader, NotesWalk};
+ghost use Rattle.ffs_survey.specs.Cycles.{parent_in, CanFollow, CanFlagLeaders, ComesBack, IsLeastOn, FlagsEachLeader, NotesWalk};
 
 use crate::numbers::number_of;
 use ffs_memory::FilledList;
@@ -62,9 +62,9 @@ fn least_on(found: u32, parents: &FilledList<u32>) -> u32
 /// the list, is none. Each number is passed once or twice, so the time is linear in their count.
 /// What `walk_of` and `leaders` held before is forgotten.
 #[tactic(auto, using(crate::proofs::Walks::past_leader))]
-pub fn mark_leaders(parents: &FilledList<u32>, walk_of: &mut FilledList<u32>, leaders: &mut [bool])
-    requires { CanMarkLeaders parents.now.items walk_of.old.items leaders.old }
-    ensures { MarksEachLeader parents.now.items walk_of.old walk_of.new leaders.new }
+pub fn flag_leaders(parents: &FilledList<u32>, walk_of: &mut FilledList<u32>, leaders: &mut [bool])
+    requires { CanFlagLeaders parents.now.items walk_of.old.items leaders.old }
+    ensures { FlagsEachLeader parents.now.items walk_of.old walk_of.new leaders.new }
 {
     walk_of.fill(0);
     leaders.fill(false);

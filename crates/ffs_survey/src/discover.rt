@@ -15,7 +15,7 @@ use crate::numbers::{is_dir, number_of};
 use ffs_image::ImageFault;
 use ffs_memory::FilledList;
 use ffs_volume::Role;
-use ffs_volume::constants::{DT_DIR, DT_WHT, EMPTY_DIR, ROOTINO, UNKNOWN_TYPE, WINO};
+use ffs_volume::constants::{DT_DIR, DT_WHT, EMPTY_DIR_KIND, ROOTINO, UNKNOWN_KIND, WINO};
 
 /// Counts an entry for the inode whose number it carries, and flags that inode as named where the
 /// entry is plain.
@@ -77,7 +77,7 @@ fn is_calm_kind(kind: u8, reached: bool) -> bool
     ensures { result ≡ is_calm_kind kind reached }
 {
     match kind {
-        0 | EMPTY_DIR | DT_WHT | UNKNOWN_TYPE => false,
+        0 | EMPTY_DIR_KIND | DT_WHT | UNKNOWN_KIND => false,
         DT_DIR => !reached,
         _ => true,
     }
@@ -141,7 +141,7 @@ fn flag_calm<D: Directories>(
 
 /// Reads the directory `from` of a level: counts its entries, discovers what they name, and flags
 /// it in `calm` if nothing can be reported of it. No count grows by more than 2^28, since a
-/// directory has fewer entries (`Directories::start`). Any bound far above all entries, and far
+/// directory has no more entries (`Directories::start`). Any bound far above all entries, and far
 /// below 2^64, serves for the counts before (2^60).
 fn read_reached<D: Directories>(
     directories: &mut D,

@@ -3,7 +3,7 @@
 //! (`Directories`), and holds no entry.
 //!
 //! `survey` leaves what is reached, parents and references as the definitions have them;
-//! `mark_leaders` flags one directory of each cycle of parents.
+//! `flag_leaders` flags one directory of each cycle of parents.
 //!
 //! It rests on `ffs_volume`, `ffs_image` and `ffs_memory`.
 #![tactic(auto)]
@@ -17,7 +17,7 @@ mod lists;
 mod numbers;
 mod unref;
 
-pub use cycles::mark_leaders;
+pub use cycles::flag_leaders;
 pub use directories::Directories;
 pub use entry_head::{EntryHead, is_plain};
 pub use levels::survey;

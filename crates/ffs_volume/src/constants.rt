@@ -7,7 +7,7 @@ pub const FS_MAGIC: u32 = 0x011954;
 /// The magic number of a group block (fs(5)).
 pub const CG_MAGIC: u32 = 0x090255;
 
-/// The bytes of a sector, the unit of `-b` and of the places of failed reads (fs(5)).
+/// The bytes of a sector: the unit of `-b`, failed reads, and an inode's blocks field (fs(5)).
 pub const DEV_BSIZE: u64 = 512;
 
 /// The bytes of a superblock that are read (fs(5)).
@@ -87,15 +87,15 @@ pub const DT_SOCK: u8 = 12;
 /// The type of a whiteout.
 pub const DT_WHT: u8 = 14;
 
-/// What a workspace keeps as the type of a directory whose size is 0.
-pub const EMPTY_DIR: u8 = 5;
+/// What a workspace stores as the kind of a directory whose size is 0.
+pub const EMPTY_DIR_KIND: u8 = 5;
 
-/// What a workspace keeps as the type of an inode of class Unknown.
-pub const UNKNOWN_TYPE: u8 = 15;
+/// What a workspace stores as the kind of an inode of class Unknown.
+pub const UNKNOWN_KIND: u8 = 15;
 
 /// Where the count of an inode's references ends if there is one for each of its links: it starts
 /// at this number less the links.
 pub const LINKS_MET: u64 = 32768;
 
-/// Where the count of the references of an inode without links starts.
+/// Where the count of the references of an inode starts whose count of links is 0 or negative.
 pub const NO_LINKS: u64 = 32769;

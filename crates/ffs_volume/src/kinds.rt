@@ -1,10 +1,10 @@
 //! What an inode is, in one byte.
 
 use crate::Label;
-use crate::constants::{DT_DIR, EMPTY_DIR, UNKNOWN_TYPE};
+use crate::constants::{DT_DIR, EMPTY_DIR_KIND, UNKNOWN_KIND};
 
-/// What an inode is, as lists keep it: 0 where nothing is allocated, `UNKNOWN_TYPE`, `EMPTY_DIR`
-/// for a directory of size 0, else the type of the file or directory, as in an entry (dir(5)).
+/// What an inode is, as lists keep it: 0 where nothing is allocated, `UNKNOWN_KIND`, for a directory
+/// of size 0 `EMPTY_DIR_KIND`, else the type of the file or directory, as in an entry (dir(5)).
 #[derive(Clone, Copy, Debug, PartialEq, Eq)]
 pub struct Kind {
     /// The number by which a list keeps it.
@@ -28,21 +28,21 @@ impl Kind {
     pub fn is_dir(self) -> bool
         ensures { result ≡ is_dir_kind self.code }
     {
-        self.code == DT_DIR || self.code == EMPTY_DIR
+        self.code == DT_DIR || self.code == EMPTY_DIR_KIND
     }
 
     /// Whether it is a directory of size 0.
     pub fn is_empty_dir(self) -> bool
         ensures { result ≡ is_empty_dir_kind self.code }
     {
-        self.code == EMPTY_DIR
+        self.code == EMPTY_DIR_KIND
     }
 
     /// Whether its class is Unknown.
     pub fn is_unknown(self) -> bool
         ensures { result ≡ is_unknown_kind self.code }
     {
-        self.code == UNKNOWN_TYPE
+        self.code == UNKNOWN_KIND
     }
 
     /// Whether it is a file or a directory.
@@ -64,8 +64,8 @@ impl Kind {
         ensures { result ≡ label_of (class_of_kind self.code) }
     {
         match self.code {
-            DT_DIR | EMPTY_DIR => Label::Dir,
-            0 | UNKNOWN_TYPE => Label::Name,
+            DT_DIR | EMPTY_DIR_KIND => Label::Dir,
+            0 | UNKNOWN_KIND => Label::Name,
             _ => Label::File,
         }
     }

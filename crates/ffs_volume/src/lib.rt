@@ -26,8 +26,8 @@ pub enum Order {
 /// Why a superblock is refused, in the order in which faults are looked for (fs(5)).
 #[derive(Clone, Copy, Debug, PartialEq, Eq)]
 pub enum SuperFault {
-    /// It, or its last copy, can't be read, or it passes the image's end. The sector, of 512 bytes,
-    /// is the one where the read begins.
+    /// It can't be read or passes the image's end; or its last copy can't be read, which is found
+    /// after `Short`. The sector, of 512 bytes, is the one where the read begins.
     CannotRead { sector: u64 },
     /// The magic number isn't right in either byte order.
     Magic,
@@ -175,7 +175,7 @@ pub enum End {
     Defects,
     /// The superblock is refused.
     Refused(SuperFault),
-    /// Inode 2 is no directory, so the check stopped in phase 2.
+    /// Inode 2 is no directory, so the check stopped after the root's line, in phase 2.
     RootStop,
     /// A read at this sector failed.
     ReadFault(u64),
@@ -218,7 +218,7 @@ pub enum BlockMessage {
     ManyBad { inode: u32 },
     /// The eleventh dup offer of an inode.
     ManyDup { inode: u32 },
-    /// An inode with an address past the end of the file.
+    /// An inode with an indirect block that has an address past the end of the file.
     PartTrunc { inode: u32 },
     /// A wrong count of sectors of 512 bytes: `found` is what the inode has in its blocks field,
     /// `right` what its kept fragments have.

@@ -31,7 +31,8 @@ pub struct Walk {
     /// The inode's addresses: twelve direct ones, and a single, a double and a triple indirect one
     /// (fs(5)).
     pub addresses: [u32; 15],
-    /// The single indirect block that the walk is in.
+    /// The indirect block of data addresses that the walk is in: the inode's own, or one under a
+    /// double one.
     pub single: Frame,
     /// The double indirect block that the walk is in.
     pub double: Frame,

@@ -32,7 +32,7 @@ pub record IsFresh (v : Layout) (w : Workspace) : Type 0 where
   pub notes : w.notes.items ≡ replicate (inodes_of v) 0
   pub references : w.references.items ≡ replicate (inodes_of v) 0
 
--- a bad Run or a dup offer was seen
+-- the current inode has a bad Run or a dup offer
 abbrev pub has_blame : Claims → Bool
 has_blame s = not (s.bad == 0 && s.dups == 0)
 
@@ -63,7 +63,7 @@ pub record HoldsPhase1 (v : Layout) (image : List ℕ) (w : Workspace) : Type 0 
 -- what phases 1 and 1b leave: the fragments that are reserved or claimed, and for each inode its
 -- kind, whether it is marked, and what is noted of it
 pub record HoldsClaims (v : Layout) (image : List ℕ) (w : Workspace) : Type 0 where
-  pub used : bits_of w.used ≡ (after_owners v (no_claims v) (owners_of v image)).used
+  pub used : bits_of w.used ≡ (all_claims v image).used
   pub kinds : (x : ℕ) → slice_index w.kinds.items x ≡ kind_at v image x
   pub marked : (x : ℕ) → bool_at w.marked.items x ≡ marked_at v image x
   pub notes : (x : ℕ) → slice_index w.notes.items x ≡ note_at v image x

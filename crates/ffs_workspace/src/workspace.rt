@@ -72,7 +72,7 @@ pub struct Workspace {
     pub runs_again: u64,
     /// How many bad Runs the current inode has so far.
     pub bad: u32,
-    /// How many dup offers the current inode has so far.
+    /// How many dup offers the current inode keeps so far.
     pub dups: u32,
     /// How many offers the current inode keeps so far, bad and dup ones among them.
     pub kept: u64,
@@ -90,7 +90,7 @@ impl Workspace {
     /// Takes all memory of a check of the volume from an allocator, and holds nothing yet.
     ///
     /// # Errors
-    /// The memory was refused. Nothing is taken then.
+    /// The memory was refused. What was granted before is freed.
     pub fn new(alloc: Global, geometry: &Geometry) -> Result<Workspace, AllocError>
         ensures { IfOk result (IsNew geometry.now.layout) }
     {
@@ -100,7 +100,7 @@ impl Workspace {
     /// Takes all memory of a check of the volume, and holds nothing yet.
     ///
     /// # Errors
-    /// The memory was refused. Nothing is held then.
+    /// The memory was refused. What was granted before is freed.
     #[tactic(auto, using(crate::proofs::Requests::refusals))]
     pub fn in_memory<M: Memory>(
         memory: &mut M,
@@ -179,7 +179,7 @@ impl Workspace {
 
     /// How many offers an inode keeps that its eleventh dup offer cut, else 0.
     #[inline(always)]
-    pub fn cut_of(&self, number: u32) -> u32
+    pub fn noted_cut(&self, number: u32) -> u32
         requires { number < vec_len self.now.notes }
         ensures { result ≡ cut_in (slice_index self.now.notes.items number) }
     {

@@ -55,8 +55,8 @@ fn print_report(rt: &HostRuntime, words: &[&str]) -> ExitCode {
     ExitCode::from(status)
 }
 
-/// Whether standard output is a terminal, so that somebody may wait for each line. The devices of
-/// memory, such as /dev/null, are no terminals.
+/// Whether standard output is taken for a terminal, where somebody may wait for each line: it is a
+/// character device, and none of memory, such as /dev/null.
 fn is_watched(rt: &HostRuntime) -> bool {
     match fs::metadata(rt, "/dev/stdout") {
         Ok(metadata) => {

@@ -15,10 +15,10 @@ use Rattle.ffs_volume.specs.{Disk.Areas.{is_fragment_in_range, is_run_in_range, 
 -- of the current inode
 pub record Claims : Type 0 where
   pub used : List Bool  -- the fragments that are reserved or claimed
-  pub dup : List Bool  -- the fragments of dup offers
+  pub dup : List Bool  -- the fragments of kept dup offers
   pub runs : ℕ  -- the Runs that were seen, of all inodes
   pub bad : ℕ  -- the bad Runs of the current inode
-  pub dups : ℕ  -- the dup offers of the current inode
+  pub dups : ℕ  -- the kept dup offers of the current inode
   pub kept : ℕ  -- the kept offers of the current inode
   pub tail : Bool  -- a Tail of the current inode was seen
 

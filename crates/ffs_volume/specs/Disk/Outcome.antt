@@ -51,8 +51,8 @@ has_valid_numbers v =
     && (nat_lt ((v.ncg - 1) * v.fpg) v.size && nat_le v.size (v.ncg * v.fpg))
     && (nat_lt v.size (2 ^ 31) && nat_lt (v.ncg * v.ipg) (2 ^ 31))
 
--- the parts of a group are one after the other; a group block has room for the bytes before its
--- maps, and fits a block
+-- the parts of a group are one after the other, none at its start; a group block has room for the
+-- bytes before its maps, and fits a block
 unfoldable pub has_valid_parts : Layout → Bool
 has_valid_parts v =
     nat_lt 0 v.sblkno

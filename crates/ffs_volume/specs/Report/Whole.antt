@@ -63,7 +63,7 @@ later_phase_lines image s =
     ++ (phase5 ∷ (group_check_lines image s
     ++ (summary_of s (file_count s.layout image) (claimed_count s.layout image) ∷ []))))))
 
--- the phases and the summary; the check stops after phase 2 where inode 2 isn't a directory
+-- the phases and the summary; where inode 2 isn't a directory, the check stops after the root's line
 unfoldable pub phase_lines : List ℕ → Superblock → List Message
 phase_lines image s =
     phase1 ∷ (map of_blocks (phase1_lines s.layout (owners_of s.layout image))

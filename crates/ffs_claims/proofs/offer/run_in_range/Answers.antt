@@ -30,10 +30,10 @@ returns-then-claim g c =
 pub returns-in_err-offers-clause-taken : goal.returns-in_err-offers-clause-taken
 returns-in_err-offers-clause-taken g c =
     let p = err_from_is_err_and c.from_residual.result c.from_residual.ensures.1 in
-    let did = rw (c.claim.ensures.kept c.if-claim.false) at c.in_err-offers.ensures in
+    let did = rw (c.claim.ensures.unchanged c.if-claim.false) at c.in_err-offers.ensures in
     rw (p.1) (record { said = did.said; claims = tt; only = did.only })
 
 pub returns-clause-taken : goal.returns-clause-taken
 returns-clause-taken g c =
-    let did = rw (c.claim.ensures.kept c.if-claim.false) at c.in_ok-offers.ensures in
+    let did = rw (c.claim.ensures.unchanged c.if-claim.false) at c.in_ok-offers.ensures in
     record { said = did.said; claims = did.claims; only = did.only }

@@ -25,7 +25,7 @@ returns c =
     let kept = c.set.ensures.size ∙ c.requires.made.duplicates in
     record {
       taken = record {
-        claims = rw (few, ok, set, c.claim.ensures.kept c.if-claim.false, c.set.ensures.bits) refl;
+        claims = rw (few, ok, set, c.claim.ensures.unchanged c.if-claim.false, c.set.ensures.bits) refl;
         only = search rules;
       };
       dup = rw (few, ok, set) refl;

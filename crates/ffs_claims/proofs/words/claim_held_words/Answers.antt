@@ -5,7 +5,7 @@ use Rattle.ffs_claims.proofs.words.claim_held_words.Goals as goal
 -- a word that isn't claimed changes nothing
 pub returns-then-not-claim_address : goal.returns-then-not-claim_address
 returns-then-not-claim_address c =
-    rw (c.claim_address.ensures.kept c.if-not-claim_address.true) c.loop-geometry.invariant.words
+    rw (c.claim_address.ensures.unchanged c.if-not-claim_address.true) c.loop-geometry.invariant.words
 
 pub claim_address-requires : goal.claim_address-requires
 claim_address-requires c =

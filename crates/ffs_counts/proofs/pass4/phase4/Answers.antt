@@ -7,7 +7,7 @@ use Rattle.ffs_report.proofs.Reporting.{stops_heading}
 use Rattle.ffs_workspace.specs.{declared.workspace.Workspace.Workspace, Found.WithFindings, Lengths.inodes_of}
 use Rattle.ffs_workspace.proofs.Leaving.{findings_held}
 use Rattle.ffs_counts.proofs.Holding.{free_lines, held_on, lines_after, lines_begin}
-use Rattle.ffs_counts.proofs.pass4.phase4.Goals.{After-free_stretch-free, At-loop-number}
+use Rattle.ffs_counts.proofs.pass4.phase4.Goals.{After-free_from-free, At-loop-number}
 use Rattle.ffs_counts.proofs.pass4.phase4.Given as given
 use Rattle.ffs_counts.proofs.pass4.phase4.Goals as goal
 
@@ -18,16 +18,16 @@ known : (g : given.Over) (c : At-loop-number g) →
 known g c bytes k = grind (arith, findings_held)
 
 -- the free inodes that are passed over have no lines
-passed : (g : given.Over) (c : After-free_stretch-free g) →
+passed : (g : given.Over) (c : After-free_from-free g) →
     ForBytes (WithFindings c.args.geometry.now.layout (g.I.Image.device c.args.image.now) c.args.workspace.now)
     (λ bytes. lines_after c.args.geometry.now.layout c.loop-number.number bytes
-    ≡ lines_after c.args.geometry.now.layout (c.loop-number.number + c.free_stretch-free.result) bytes)
+    ≡ lines_after c.args.geometry.now.layout (c.loop-number.number + c.free_from-free.result) bytes)
 passed g c bytes k =
     let inv = c.loop-number.invariant in
     free_lines c.args.geometry.now.layout bytes c.args.workspace.now c.deref.result.now c.loop-number.number
-    c.free_stretch-free.result (inodes_of c.args.geometry.now.layout) k.1.claims
-    (c.deref.ensures.value ∙ ap (λ (w : Workspace). w.kinds.items) inv.held) c.free_stretch-free.ensures.free
-    (omega (arith, c.free_stretch-free.ensures.within, c.deref.ensures.len, inv.ready.made.kinds))
+    c.free_from-free.result (inodes_of c.args.geometry.now.layout) k.1.claims
+    (c.deref.ensures.value ∙ ap (λ (w : Workspace). w.kinds.items) inv.held) c.free_from-free.ensures.free
+    (omega (arith, c.free_from-free.ensures.within, c.deref.ensures.len, inv.ready.made.kinds))
 
 pub returns-in_err-say-clause-prints : goal.returns-in_err-say-clause-prints
 returns-in_err-say-clause-prints g c =

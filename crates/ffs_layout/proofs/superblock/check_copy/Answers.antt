@@ -3,8 +3,8 @@ use Rattle.ffs_volume.specs.Disk.Outcome.{copy_place}
 use Rattle.ffs_layout.proofs.Copying.{copy_fault}
 use Rattle.ffs_layout.proofs.superblock.check_copy.Goals as goal
 
-pub returns-in_err-read_copy : goal.returns-in_err-read_copy
-returns-in_err-read_copy g c =
+pub returns-in_err-read_superblock_bytes : goal.returns-in_err-read_superblock_bytes
+returns-in_err-read_superblock_bytes g c =
     let p = err_from_is_err_and c.from_residual.result c.from_residual.ensures.1 in
     let v = c.args.geometry.now.layout in
     let place : c.from.result * c.from-2.result ≡ copy_place v =
@@ -12,6 +12,6 @@ returns-in_err-read_copy g c =
     record {
       compared = rw (p.1, p.2) (copy_fault v _ _ c.args.sector c.args.order c.args.bytes.now _ _
           c.args.geometry.now.sound c.requires.layout c.requires.in_image
-          (sym c.is_some.ensures ∙ c.if-is_some.false) place c.in_err-read_copy.ensures.copied);
-      counted = c.in_err-read_copy.ensures.counted;
+          (sym c.is_some.ensures ∙ c.if-is_some.false) place c.in_err-read_superblock_bytes.ensures.copied);
+      counted = c.in_err-read_superblock_bytes.ensures.counted;
     }

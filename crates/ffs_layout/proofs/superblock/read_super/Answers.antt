@@ -6,10 +6,10 @@ use Rattle.ffs_layout.proofs.Copying.{default_sector, own_layout}
 use Rattle.ffs_image.proofs.Devices.{reported_length, faulted_there}
 use Rattle.ffs_layout.proofs.superblock.read_super.Goals as goal
 
-pub returns-in_err-read_copy-clause-answer : goal.returns-in_err-read_copy-clause-answer
-returns-in_err-read_copy-clause-answer g c =
+pub returns-in_err-read_superblock_bytes-clause-answer : goal.returns-in_err-read_superblock_bytes-clause-answer
+returns-in_err-read_superblock_bytes-clause-answer g c =
     let p = err_from_is_err_and c.from_residual.result c.from_residual.ensures.1 in
-    let unread = c.in_err-read_copy.ensures.copied in
+    let unread = c.in_err-read_superblock_bytes.ensures.copied in
     let start = c.from-start.ensures ∙ c.unwrap_or.ensures ∙ default_sector c.args.sector in
     let back : c.from-start.result * 512 / 512 ≡ c.from-start.result = omega arith in
     let long = reported_length _ _ (g.met.I.Image.sized c.args.image.now) in
@@ -27,7 +27,7 @@ returns-in_err-read_copy-clause-answer g c =
 
 pub returns-in_default-clause-answer : goal.returns-in_default-clause-answer
 returns-in_default-clause-answer g c =
-    let copy = c.in_ok-read_copy.ensures.copied in
+    let copy = c.in_ok-read_superblock_bytes.ensures.copied in
     let start = c.from-start.ensures ∙ c.unwrap_or.ensures ∙ default_sector c.args.sector in
     let long = reported_length _ _ (g.met.I.Image.sized c.args.image.now) in
     inr (
@@ -36,15 +36,15 @@ returns-in_default-clause-answer g c =
           (magic _ _ c.args.sector _ long start _ copy.inside copy.bytes (sym c.in_default.ensures) b e),
     )
 
-pub returns-in_err-geometry-clause-found : goal.returns-in_err-geometry-clause-found
-returns-in_err-geometry-clause-found g c =
+pub returns-in_err-geometry-clause-places : goal.returns-in_err-geometry-clause-places
+returns-in_err-geometry-clause-places g c =
     let p = err_from_is_err_and c.from_residual-in_err-geometry.result c.from_residual-in_err-geometry.ensures.1 in
     rw (p.1, p.2) (λ at e. absurd (no_read_fault _ _ at (c.in_err-geometry.ensures ∙ ap Some e)))
 
 pub returns-in_err-geometry-clause-answer : goal.returns-in_err-geometry-clause-answer
 returns-in_err-geometry-clause-answer g c =
     let p = err_from_is_err_and c.from_residual-in_err-geometry.result c.from_residual-in_err-geometry.ensures.1 in
-    let copy = c.in_ok-read_copy.ensures.copied in
+    let copy = c.in_ok-read_superblock_bytes.ensures.copied in
     let start = c.from-start.ensures ∙ c.unwrap_or.ensures ∙ default_sector c.args.sector in
     let long = reported_length _ _ (g.met.I.Image.sized c.args.image.now) in
     let refused = rw (c.decode.ensures, c.size.ensures, copy.same) at c.in_err-geometry.ensures in
@@ -57,7 +57,7 @@ returns-in_err-geometry-clause-answer g c =
 pub returns-in_err-check_copy-clause-answer : goal.returns-in_err-check_copy-clause-answer
 returns-in_err-check_copy-clause-answer g c =
     let p = err_from_is_err_and c.from_residual-in_err-check_copy.result c.from_residual-in_err-check_copy.ensures.1 in
-    let copy = c.in_ok-read_copy.ensures.copied in
+    let copy = c.in_ok-read_superblock_bytes.ensures.copied in
     let start = c.from-start.ensures ∙ c.unwrap_or.ensures ∙ default_sector c.args.sector in
     let long = reported_length _ _ (g.met.I.Image.sized c.args.image.now) in
     let good = rw (c.decode.ensures, c.size.ensures, copy.same) at c.in_ok-geometry.ensures.fault in
@@ -81,15 +81,15 @@ returns-in_err-check_copy-clause-answer g c =
       )
     ])
 
-pub returns-clause-found : goal.returns-clause-found
-returns-clause-found g c =
-    let copy = c.in_ok-read_copy.ensures.copied in
+pub returns-clause-places : goal.returns-clause-places
+returns-clause-places g c =
+    let copy = c.in_ok-read_superblock_bytes.ensures.copied in
     let inside = rw (c.size.ensures, copy.same) at c.in_ok-geometry.ensures.in_image in
     rw (ap (λ s. s.layout) c.make_super.ensures) inside
 
 pub returns-clause-answer : goal.returns-clause-answer
 returns-clause-answer g c =
-    let copy = c.in_ok-read_copy.ensures.copied in
+    let copy = c.in_ok-read_superblock_bytes.ensures.copied in
     let start = c.from-start.ensures ∙ c.unwrap_or.ensures ∙ default_sector c.args.sector in
     let long = reported_length _ _ (g.met.I.Image.sized c.args.image.now) in
     let good = rw (c.decode.ensures, c.size.ensures, copy.same) at c.in_ok-geometry.ensures.fault in

@@ -25,7 +25,7 @@ returns-then-not-claim c =
       size = refl;
       clear = λ yes_. absurd (true≢false (sym yes_));
       claimed = λ yes_. absurd (true≢false (sym yes_));
-      kept = λ no. same_map m c.claim.new.self _ _ (c.claim.ensures.kept c.if-not-claim.true);
+      unchanged = λ no. same_map m c.claim.new.self _ _ (c.claim.ensures.unchanged c.if-not-claim.true);
       one_word = λ fits clear. absurd (true≢false (sym (c.claim.ensures.clear.1
           (run_clear m.words.list m.size c.args.start c.args.len fits c.requires.below clear)) ∙ c.if-not-claim.true));
     }

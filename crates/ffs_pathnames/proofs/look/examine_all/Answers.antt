@@ -12,7 +12,7 @@ known : (g : Over) (c : After-look_directory g) (b : List ℕ) → DirectoryCont
     KnowsDirectory c.args.geometry.now.layout (g.I.Image.device c.inode_by_part.new.image)
     (record c.args.workspace.now
     { windows = record c.args.workspace.now.windows { table = c.inode_by_part.new.self } })
-    (record { number = c.args.dir; inode = c.in_ok-inode.inode; cut = c.cut_of.result }) b
+    (record { number = c.args.dir; inode = c.in_ok-inode.inode; cut = c.noted_cut.result }) b
 known g c b k =
     let read = c.in_ok-inode.ensures.reads in (
       knows_on c.args.geometry.now.layout _ _ c.args.workspace.now _ c.args.dir b (ap (λ d. d.contents) read.read)
@@ -38,8 +38,8 @@ inode_by_part-requires g c =
       ready = record { volume = r.volume; made = r.made.table; holds = r.windows.table };
     }
 
-pub cut_of-requires : goal.cut_of-requires
-cut_of-requires g c = omega (arith, c.requires.ready.ready.made.notes, c.requires.ready.number)
+pub noted_cut-requires : goal.noted_cut-requires
+noted_cut-requires g c = omega (arith, c.requires.ready.ready.made.notes, c.requires.ready.number)
 
 pub look_directory-requires : goal.look_directory-requires
 look_directory-requires g c =
@@ -54,7 +54,7 @@ look_directory-requires g c =
         };
         low = c.requires.low;
       };
-      cut = c.cut_of.ensures;
+      cut = c.noted_cut.ensures;
     }
 
 pub returns : goal.returns

@@ -31,7 +31,7 @@ second : (g : Over) (c : After-report_directory g) (b : List ℕ) →
     c.args.checking.now.reads_left b →
     LeftForRuns c.args.geometry.now.layout (g.I.Image.device c.begin_directory.new.image)
     c.begin_directory.new.workspace
-    (record { number = c.args.dir; inode = c.in_ok-examined.examined.inode; cut = c.cut_of.result })
+    (record { number = c.args.dir; inode = c.in_ok-examined.examined.inode; cut = c.noted_cut.result })
     c.begin_directory.new.checking.reads_left b
 second g c b k =
     let v = c.args.geometry.now.layout in
@@ -54,7 +54,7 @@ report_directory-requires g c =
         kept_parent = left.ready.kept_parent;
         number = c.requires.path.number;
       };
-      cut = c.cut_of.ensures;
+      cut = c.noted_cut.ensures;
     }
 
 pub returns-in_err-examined : goal.returns-in_err-examined

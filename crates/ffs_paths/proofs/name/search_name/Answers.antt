@@ -26,7 +26,7 @@ returns-then-names-clause-name g c = λ b t claims survey is dir.
     let i = c.entries.invariant in
     let o = rw c.in-Some.is at c.in_ok-entry.ensures.entry in
     c.set.ensures ∙ (c.name.ensures ∙ sym (ap (name_in c.args.dir) (begun c.args.parent c.args.geometry.now.sound
-    claims dir (c.in_ok-inode.ensures.reads.inode b t) c.cut_of-cut.ensures c.start-entries.ensures.begins)
+    claims dir (c.in_ok-inode.ensures.reads.inode b t) c.noted_cut-cut.ensures c.start-entries.ensures.begins)
     ∙ (i.name b t ∙ (ap (name_in c.args.dir) (o b (ap (λ d. d.contents) i.reads.read ∙ t)).entries
     ∙ name_in-by c.args.dir (roled_of c.in-Some.entry (last_name c.next.new.self)) (to_come b c.next.new.self)
     (sym c.names.ensures ∙ c.if-names.true)))))
@@ -37,7 +37,7 @@ returns-clause-name g c = λ b t claims survey is dir.
     let i = c.entries.invariant in
     let o = rw c.in_default.is at c.in_ok-entry.ensures.entry in
     i.none ∙ sym (ap (name_in c.args.dir) (begun c.args.parent c.args.geometry.now.sound
-    claims dir (c.in_ok-inode.ensures.reads.inode b t) c.cut_of-cut.ensures c.start-entries.ensures.begins)
+    claims dir (c.in_ok-inode.ensures.reads.inode b t) c.noted_cut-cut.ensures c.start-entries.ensures.begins)
     ∙ (i.name b t ∙ ap (name_in c.args.dir) (o b (ap (λ d. d.contents) i.reads.read ∙ t)).entries))
 
 pub entries-preserved : goal.entries-preserved

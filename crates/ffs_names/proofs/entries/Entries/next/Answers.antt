@@ -1,6 +1,6 @@
 use Rattle.std.proofs.{Common.{◌≡◌, ◌∙◌, ◌+◌, ◌≤◌, ℕ, List, Some, ap, sym, arith}, lemmas.Bool.and_parts}
 use Rattle.std.proofs.lemmas.Result.{err_from_is_err_and}
-use Rattle.ffs_names.specs.{Costs.{HoldsEntries, entries_to_read}, Entering.to_come, Readings.rest}
+use Rattle.ffs_names.specs.{Costs.{HoldsEntries, reads_for_entries}, Entering.to_come, Readings.rest}
 use Rattle.ffs_names.proofs.{Entered.{chunk_came, none_came}, EntryCounts.{HoldsBy, continues_by_chunks, reads_by}}
 use Rattle.ffs_names.proofs.Shaped.{shape_came, shape_ended, shape_same, fills_whole}
 use Rattle.ffs_names.proofs.entries.Entries.next.Goals.{After-take}
@@ -10,7 +10,7 @@ use Rattle.ffs_names.proofs.entries.Entries.next.Goals as goal
 -- taking an entry, or finding none, changes no count of reads
 taken : (g : given.Over) (c : After-take g) → HoldsEntries c.args.blocks.now c.args.window.now c.args.self.now → (b :
     List ℕ) → (g.I.Image.device c.args.image.now).contents ≡ Some b → (g.I.Image.reads c.chunks.image + reads_by b
-    c.take.new.self.right_so_far c.take.new.self.chunks ≤ g.I.Image.reads c.args.image.now + entries_to_read b
+    c.take.new.self.right_so_far c.take.new.self.chunks ≤ g.I.Image.reads c.args.image.now + reads_for_entries b
     c.args.self.now) × HoldsBy c.chunks.blocks c.chunks.window c.take.new.self.right_so_far c.take.new.self.chunks
 taken g c held b t =
     let same = c.take.ensures.same in rw (same.right_so_far, same.chunks) (c.chunks.invariant.reads held b t)

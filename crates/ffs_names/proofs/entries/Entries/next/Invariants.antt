@@ -1,7 +1,7 @@
 use Rattle.std.proofs.Common.{◌≡◌, ◌≤◌, ◌<◌, ◌+◌}
 use Rattle.ffs_image.specs.Device.{ForContents}
-use Rattle.ffs_names.specs.{Costs.HoldsEntries, Costs.entries_to_read, Shapes.has_right_shape, Windows.CanReadChunks}
-use Rattle.ffs_names.specs.Entering.{to_come, left, IsInside, MayTake}
+use Rattle.ffs_names.specs.{Costs.HoldsEntries, Costs.reads_for_entries, Shapes.has_right_shape, Windows.CanReadChunks}
+use Rattle.ffs_names.specs.Entering.{to_come, left, IsInside, IsHeldIfLeft}
 use Rattle.ffs_names.proofs.entries.Entries.next.Given as goal
 
 abbrev pub invariant-chunks : goal.invariant-chunks
@@ -9,11 +9,11 @@ invariant-chunks g l = record {
   entries : ForContents (g.I.Image.device l.fn.image).contents (λ b. to_come b l.self ≡ to_come b l.fn.self);
   shape : ForContents (g.I.Image.device l.fn.image).contents
       (λ b. has_right_shape b l.self ≡ has_right_shape b l.fn.self);
-  place : ForContents (g.I.Image.device l.fn.image).contents (λ b. MayTake b l.fn.self → MayTake b l.self);
+  place : ForContents (g.I.Image.device l.fn.image).contents (λ b. IsHeldIfLeft b l.fn.self → IsHeldIfLeft b l.self);
   inside : (l.fn.self.place < 512 → IsInside l.fn.self) → l.self.place < 512 → IsInside l.self;
   reads : HoldsEntries l.fn.blocks l.fn.window l.fn.self → ForContents (g.I.Image.device l.fn.image).contents
-      (λ b. (g.I.Image.reads l.image + entries_to_read b l.self
-      ≤ g.I.Image.reads l.fn.image + entries_to_read b l.fn.self) × HoldsEntries l.blocks l.window l.self);
+      (λ b. (g.I.Image.reads l.image + reads_for_entries b l.self
+      ≤ g.I.Image.reads l.fn.image + reads_for_entries b l.fn.self) × HoldsEntries l.blocks l.window l.self);
   left : left l.self ≤ left l.fn.self;
   geometry : l.self.chunks.walk.geometry ≡ l.fn.self.chunks.walk.geometry;
   ready : CanReadChunks l.fn.self.chunks.walk.geometry.layout (g.I.Image.device l.image) l.blocks l.window;

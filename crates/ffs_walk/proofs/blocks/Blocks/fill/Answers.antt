@@ -25,7 +25,7 @@ returns g c =
     c.in_ok-read_at.ensures.bytes.bytes b tells ∙ rw (size, c.from.ensures, c.from-2.ensures) refl) in
     record {
       held = record {
-        address = here;
+        is_held = here;
         bytes = λ b tells. holds.block level c.requires.is_level c.args.address here b (same ∙ tells);
       };
       leaves = record { kept = record { size = search rules; holds = holds }; read = search rules };

@@ -1,7 +1,7 @@
 use Rattle.std.proofs.{Common.{rules, sym, ◌∙◌, arith}, lemmas.{Bool.Decides.nat_tests, Result.err_from_is_err_and}}
 use Rattle.ffs_workspace.specs.Holds.{claims_of}
 use Rattle.ffs_claims.proofs.StepsContinue.{run_stops, run_stops_later, run_said}
-use Rattle.ffs_claims.proofs.offer.run.Goals as goal
+use Rattle.ffs_claims.proofs.offer.take_run.Goals as goal
 
 pub returns-then-in_range : goal.returns-then-in_range
 returns-then-in_range g c =

@@ -1,6 +1,6 @@
 use Rattle.std.proofs.Common.{arith}
 use Rattle.ffs_layout.proofs.Answering.{taken}
-use Rattle.ffs_layout.proofs.superblock.read_copy.Goals as goal
+use Rattle.ffs_layout.proofs.superblock.read_superblock_bytes.Goals as goal
 
 pub returns-in-Ok : goal.returns-in-Ok
 returns-in-Ok g c = record {

@@ -4,5 +4,5 @@ use Rattle.ffs_volume.specs.Messages.Kinds.{TreeMessage, of_tree}
 use Rattle.ffs_report.specs.Progress.{Progress, Says}
 
 -- the outcome of saying these messages
-abbrev pub SaysNames : {T E : Type 0} → Progress → Progress → List TreeMessage → Result T E → Type 0
-SaysNames old new messages result = Says old new (map of_tree messages) result
+abbrev pub SaysTreeMessages : {T E : Type 0} → Progress → Progress → List TreeMessage → Result T E → Type 0
+SaysTreeMessages old new messages result = Says old new (map of_tree messages) result
