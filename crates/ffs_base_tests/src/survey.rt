@@ -7,8 +7,8 @@ use ffs_image::ImageFault;
 use ffs_memory::{FilledList, Memory, SystemMemory};
 use ffs_samples::numbers;
 use ffs_survey::{
-    Directories, EntryHead, KnownInodes, NumberLists, Surveyed, is_dead, is_dir, is_suspect,
-    is_unref, flag_leaders, survey,
+    Directories, EntryHead, KnownInodes, NumberLists, Surveyed, flag_leaders, is_dead, is_dir,
+    is_suspect, is_unref, survey,
 };
 use ffs_volume::Role;
 use std::alloc::{AllocError, Global};

@@ -7,11 +7,11 @@ use Rattle.ffs_report.proofs.Reports.{stopped_after}
 use Rattle.ffs_check.specs.{Ends.{BrokeOffIn, BrokeOffInLine, Ends, Printed}, PhaseEnds.LineEnds}
 
 -- a fault's line after whole messages
-pub line_after : (a b c : Progress) (said : List Message) (line : Message) (fault_end end : End) → Said a b said →
-    LineEnds b c line fault_end end →
-    (Said a c (said ++ (line ∷ [])) × (end ≡ fault_end))
+pub line_after : (a b c : Progress) (said : List Message) (line : Message) (cut_end end : End) → Said a b said →
+    LineEnds b c line cut_end end →
+    (Said a c (said ++ (line ∷ [])) × (end ≡ cut_end))
     ⊎ (BrokeOffInLine Said Stopped a c said line × (end ≡ WriteFault))
-line_after a b c said line fault_end end p ends = grind (arith, said_then)
+line_after a b c said line cut_end end p ends = grind (arith, said_then)
 
 -- where each part of an end has changed its form, the end has
 pub ends_map : {Target Target' : Type 0} {whole broken : Target → Target → List Message → Type 0}

@@ -57,7 +57,7 @@ module _ (had_defect : Bool) (knows : List ℕ → Type 0) (s : Superblock) (ima
     ends = inr (inl (record {
       said = prefix;
       line = cannot_read sector;
-      fault_end = ReadFault sector;
+      cut_end = ReadFault sector;
       cut = record {
         sector = sector;
         faulted = f;

@@ -29,7 +29,7 @@ module _ (image : Device) (name : List ℕ) (sector : Option ℕ) (output : GNam
       (IsCutShort image image' name sector text) end = inr (inl (record {
         said = opened_lines name sector s;
         line = cannot_alloc;
-        fault_end = NoMemory;
+        cut_end = NoMemory;
         cut = inr (inr (record {
           no_read_failed = none_failed;
           found = s;

@@ -107,7 +107,7 @@ module _ (image image' : Device) (name : List ℕ) (sector : Option ℕ) (output
     ends = inr (inl (record {
       said = head_lines name sector;
       line = fault_line fault;
-      fault_end = Refused fault;
+      cut_end = Refused fault;
       cut = inl (record { faulted = f; place = at; said_is = refl; line_is = ap fault_line e; end_is = ap Refused e });
       ends = ends;
     }));

@@ -1,7 +1,7 @@
--- How a check that prints a text ends: the whole text was sent; or a failed read or refused memory cut
--- it short, and the line that says so was sent last; or the output failed. `Target` is the state of what is printed to, a
--- report (`Progress`) or an output (`Sink`); `whole` and `broken` say of it that messages went out,
--- whole or in part.
+-- How a check that prints a text ends: the whole text went out; or a failed read or refused memory cut
+-- it short, and the line that says so went out last; or the output failed. A `Target` is what is printed
+-- to, a report (`Progress`) or an output (`Sink`); `whole` and `broken` say of it that messages went
+-- out, whole or in part.
 use Rattle.std.specs.Prelude.{◌≡◌, ◌⊎◌, List, [], ◌∷◌, ◌++◌}
 use Rattle.ffs_image.specs.Device.{Device}
 use Rattle.ffs_volume.specs.{declared.End.{End, TheVariants.WriteFault}, Messages.{Kinds.Message, Texts.texts_of}}

@@ -47,10 +47,11 @@ pub record RunsPhases (s : Superblock) (d d' : Device) (w w' : Workspace) (old n
   pub reads : PhasesPay (WithFresh s.layout d w) s old new before after result
   pub ready : IsReady s.layout d' w'
 
--- a fault's line was said, and the end is the fault's; or the output failed in it
+-- the line of a failed read or of refused memory was said, and this is the end; or the output failed
+-- in it
 abbrev pub LineEnds : Progress → Progress → Message → End → End → Type 0
-LineEnds old new line fault_end end =
-    (Said old new (line ∷ []) × (end ≡ fault_end)) ⊎ (Stopped old new (line ∷ []) × (end ≡ WriteFault))
+LineEnds old new line cut_end end =
+    (Said old new (line ∷ []) × (end ≡ cut_end)) ⊎ (Stopped old new (line ∷ []) × (end ≡ WriteFault))
 
 -- the line of a failed read was said, or the output failed in it
 abbrev pub SaysReadFault : Progress → Progress → ℕ → End → Type 0

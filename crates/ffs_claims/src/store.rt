@@ -28,7 +28,11 @@ fn kind_of(class: Class, inode: &Inode) -> u8
     match class {
         Class::Free | Class::Partial => 0,
         Class::Unknown => UNKNOWN_KIND,
-        Class::Dir => if inode.size == 0 { EMPTY_DIR_KIND } else { DT_DIR },
+        Class::Dir => if inode.size == 0 {
+            EMPTY_DIR_KIND
+        } else {
+            DT_DIR
+        },
         Class::File => (inode.mode / 4096) as u8, // the type: the mode's upper four bits
     }
 }

@@ -12,7 +12,7 @@ use crate::unref::check_inode;
 use ffs_image::Image;
 use ffs_layout::Geometry;
 use ffs_report::{Heading, Line, Output, Report, RunFault};
-use ffs_survey::{is_dir, flag_leaders};
+use ffs_survey::{flag_leaders, is_dir};
 use ffs_workspace::Workspace;
 
 /// The least number of a directory that isn't reached, or how many inodes there are where each one
@@ -32,8 +32,8 @@ fn first_unreached(kinds: &[u8], reached: &[bool]) -> u32
 /// Reports each lost directory (neither reached from inode 2 nor dead) that has no parent, has a
 /// dead one, or is the least number on a cycle of parents (fsck(8), phase 3).
 ///
-/// The text is that of a workspace that holds what the block check and the survey of directories
-/// found. What they found is left as it was.
+/// The contract gives the text only for a workspace that holds what the block check and the survey
+/// of directories found. What they found is left as it was.
 ///
 /// # Errors
 /// A read of the image that failed, and a write of the report that failed.

@@ -91,8 +91,8 @@ fn check_inode<I: Image, W: Output>(
 /// Phase 4 (fsck(8)): reports each allocated inode that is dead, has no reference, or has a wrong
 /// count of links.
 ///
-/// The text is that of a workspace that holds what the block check and the survey of directories
-/// found.
+/// The contract gives the text only for a workspace that holds what the block check and the survey
+/// of directories found.
 ///
 /// # Errors
 /// A read of the image that failed, and a write of the report that failed.

@@ -88,7 +88,7 @@ abbrev pub directory_runs : Layout → List ℕ → ℕ → ℕ
 directory_runs v b x = replayed_runs v (cut_at v b x) fresh_replay (steps_of v (inode_of v b x) b)
 
 -- at most how many reads a directory takes: its inode, and each of its Runs that is seen; none
--- another inode
+-- for another inode
 abbrev pub directory_cost : Layout → List ℕ → ℕ → ℕ
 directory_cost v b x = if is_dir (volume_of v b) x then 1 + directory_runs v b x else 0
 

@@ -14,7 +14,7 @@ here r = roled_from r.first r.index (entries_from r.order r.chunk 64 r.place)
 abbrev pub to_come : List ℕ → Entries → List RoledEntry
 to_come b r = here r ++ flat_map roled_chunk (rest b r.chunks)
 
--- at most how many entries are to come, whatever the image holds
+-- at most how many entries are to come, whatever the image holds: 64 of 8 bytes for each chunk
 abbrev pub left : Entries → ℕ
 left r = 64 * r.chunks.budget + (512 - r.place) / 8
 
@@ -36,7 +36,7 @@ IsInside r =
     last_place r.chunks.run_cursor + 512 ≤ r.chunks.walk.geometry.layout.size * r.chunks.walk.geometry.layout.fsize
 
 -- an entry was given. Its chunk lies in the volume, and is what an image of these contents has there;
--- of the chunk before this is supposed, if an entry of it might still come
+-- the same is supposed of the chunk before, if an entry of it might still come
 pub record GivesFromChunk (contents : Option (List ℕ)) (old new : Entries) : Type 0 where
   pub held : ForContents contents (λ b. IsHeldIfLeft b old → IsHeld b new)
   pub inside : (old.place < 512 → IsInside old) → IsInside new

@@ -12,8 +12,8 @@ pub record CursorFits (v : Layout) (cursor : RunCursor) : Type 0 where
 
 -- a Run of data of a block at most can be begun: it is in range, and of its directory no more than 2^31
 -- bytes are read
-pub record CanBeginRun (v : Layout) (taken start len : ℕ) : Type 0 where
-  pub bytes_to_read : taken ≤ 2 ^ 31
+pub record CanBeginRun (v : Layout) (bytes_to_read start len : ℕ) : Type 0 where
+  pub few : bytes_to_read ≤ 2 ^ 31
   pub some : 0 < len
   pub short : len ≤ v.frag
   pub in_range : IsTrue (is_run_in_range v start len)

@@ -12,7 +12,8 @@ cursor_chunks v b cursor = map (λ k. chunk_of v.order (cursor.offset + 512 * k)
 
 -- how a directory is read in an image of these bytes, where this many bytes of it are
 abbrev pub reading_by : Layout → List ℕ → ℕ → ChunkSource
-reading_by v b taken = record { order = v.order; image = b; bsize = v.bsize; fsize = v.fsize; taken = taken }
+reading_by v b bytes_to_read =
+    record { order = v.order; image = b; bsize = v.bsize; fsize = v.fsize; taken = bytes_to_read }
 
 -- a cursor over no chunks, in a volume of any layout
 pub record HasNoChunks (cursor : RunCursor) : Type 0 where
@@ -22,8 +23,8 @@ pub record HasNoChunks (cursor : RunCursor) : Type 0 where
   pub fits : (v : Layout) → CursorFits v cursor
 
 -- the chunks of a Run of this logical block are still to come, where this many bytes are read
-pub record BeginsRun (v : Layout) (taken start len block : ℕ) (cursor : RunCursor) : Type 0 where
-  pub chunks : (b : List ℕ) → cursor_chunks v b cursor ≡ run_chunks (reading_by v b taken) start len (block * v.bsize)
+pub record BeginsRun (v : Layout) (bytes_to_read start len block : ℕ) (cursor : RunCursor) : Type 0 where
+  pub chunks : (b : List ℕ) → cursor_chunks v b cursor ≡ run_chunks (reading_by v b bytes_to_read) start len (block * v.bsize)
   pub first : cursor.next ≡ 0
   pub fits : CursorFits v cursor
 

@@ -7,7 +7,7 @@ use Rattle.ffs_names.specs.RightShapes.{is_right_directory}
 use Rattle.ffs_workspace.specs.{declared.workspace.Workspace.Workspace, Ready.IsReady}
 use Rattle.ffs_workspace.specs.Holds.{HoldsReferences, HoldsStarts, HoldsSurvey}
 
--- the claims, kinds, marks and notes of a workspace, and its counts of Runs
+-- the claims, kinds, marks and notes of a workspace, and its counts of Runs, are as they were
 pub record IsUntouched (old new : Workspace) : Type 0 where
   pub used : new.used ≡ old.used
   pub duplicates : new.duplicates ≡ old.duplicates

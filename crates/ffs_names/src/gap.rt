@@ -26,7 +26,7 @@ fn is_walk_over(chunks: &Chunks) -> bool
     chunks.without_window || is_over(&chunks.walk)
 }
 
-/// Leaves no step of a walk. One that is over already isn't written; `known` says that it is.
+/// Leaves no step of a walk. One that is over already isn't overwritten; `known` says it is over.
 #[inline(always)]
 pub(crate) fn end_walk(walk: &mut Walk, known: bool)
     requires { IsTrue known → IsOver walk.old }

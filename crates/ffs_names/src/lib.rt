@@ -15,15 +15,14 @@
 mod chunks;
 mod entries;
 mod gap;
-mod graph;
 mod places;
 mod reader;
 mod role;
 mod run_cursor;
+mod surveying;
 
 pub use chunks::Chunks;
 pub use entries::Entries;
 pub use gap::gap_of;
-pub use graph::survey;
 pub use places::note_places;
 pub use role::{is_one_dot, is_two_dots, role_of};

@@ -32,8 +32,7 @@ pub(crate) fn one_chunk_at(address: u32) -> Inode
     }
 }
 
-/// Reads the directories of a volume: those that the kinds of inodes name, with what is kept of
-/// them.
+/// Reads the directories of a volume: the inodes whose kind is a directory's, by their kept steps.
 #[derive(Drop)]
 pub struct DirectoryReader<'a, I> {
     /// The volume.

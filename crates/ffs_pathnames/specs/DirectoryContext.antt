@@ -10,7 +10,7 @@ use Rattle.ffs_paths.specs.DirectoryPaths.{IsPathOf}
 use Rattle.ffs_pathnames.specs.declared.{look.Directory.Directory, header.HeaderFacts.HeaderFacts}
 use Rattle.ffs_pathnames.specs.declared.one_entry.EntryTexts.{EntryTexts}
 
--- the image gives them, the workspace holds what the block check and the survey leave, and, where
+-- the image gives these bytes, the workspace holds what the block check and the survey leave, and, where
 -- words have room for the places, that of each directory; and d is a directory
 pub record DirectoryContext (v : Layout) (contents : Option (List ℕ)) (w : Workspace) (d : ℕ) (b : List ℕ) :
     Type 0 where
@@ -24,7 +24,7 @@ pub record DirectoryContext (v : Layout) (contents : Option (List ℕ)) (w : Wor
 abbrev pub BeginsPathOf : Graph → ℕ → EntryTexts → Type 0
 BeginsPathOf g d t = IsTrue t.begun → IsPathOf g d t.paths.directory
 
--- the same, and the path that is begun, if any, is that of the directory d
+-- a directory's context, and the path that is begun, if any, is that of the directory d
 pub record KnowsPath (v : Layout) (contents : Option (List ℕ)) (w : Workspace) (d : ℕ) (t : EntryTexts)
     (b : List ℕ) : Type 0 where
   pub knows : DirectoryContext v contents w d b

@@ -6,7 +6,7 @@ use Rattle.ffs_volume.specs.Directories.Parents.{graph_of}
 use Rattle.ffs_pathnames.specs.{Silent.IsSilentDirectory, PassedNames.{PassedNames, is_flagged, is_calm, is_stamped}}
 use Rattle.ffs_pathnames.specs.PassedNames.{belongs}
 
--- within the directory s, after the entries `done`
+-- what is remembered is right within the directory s, after its entries `done`
 pub record AreRight (vol : Volume) (s : ℕ) (done : List RoledEntry) (m : PassedNames) : Type 0 where
   pub named : (x : ℕ) → x < vol.count → is_suspect vol x ≡ true → x ≢ WINO → x ≢ ROOTINO →
       is_flagged m x ≡ (some_below (λ t. is_naming_dir (graph_of vol) t x) s || list_any (is_naming_entry x) done)
@@ -14,7 +14,7 @@ pub record AreRight (vol : Volume) (s : ℕ) (done : List RoledEntry) (m : Passe
   pub flags_length : length m.flags ≡ vol.count
   pub stamps_length : length m.stamps ≡ vol.count
 
--- between directories, before s
+-- what is remembered is right between directories, before s
 pub record AreRightBefore (vol : Volume) (s : ℕ) (m : PassedNames) : Type 0 where
   pub named : (x : ℕ) → x < vol.count → is_suspect vol x ≡ true → x ≢ WINO → x ≢ ROOTINO
       → is_flagged m x ≡ some_below (λ t. is_naming_dir (graph_of vol) t x) s

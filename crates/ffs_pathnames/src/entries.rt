@@ -54,7 +54,12 @@ fn next_chunk<I: Image>(
         return chunks.next(image, &mut windows.blocks, &mut windows.current, bytes);
     }
     let mut limited = LimitedImage::new(image, *reads_left);
-    let offset = chunks.next(&mut limited, &mut windows.blocks, &mut windows.current, bytes);
+    let offset = chunks.next(
+        &mut limited,
+        &mut windows.blocks,
+        &mut windows.current,
+        bytes,
+    );
     *reads_left = limited.left();
     if limited.is_spent() {
         return Ok(None);
@@ -62,7 +67,7 @@ fn next_chunk<I: Image>(
     offset
 }
 
-/// Prints the lines of the entries of a directory, chunk by chunk, and marks them as passed.
+/// Prints the lines of the entries of a directory, chunk by chunk, and passes them.
 ///
 /// # Errors
 /// A read of the image that failed, and a write of the report that failed.
@@ -152,7 +157,7 @@ fn report_by_role<I: Image, W: Output>(
     }
 }
 
-/// Prints the lines of an entry, and marks it as passed.
+/// Prints the lines of an entry, and passes it.
 ///
 /// # Errors
 /// A read of the image that failed, and a write of the report that failed.
@@ -190,7 +195,7 @@ pub fn report_entry<I: Image, W: Output>(
     Ok(())
 }
 
-/// Prints the lines of the entries of a chunk, and marks them as passed.
+/// Prints the lines of the entries of a chunk, and passes them.
 ///
 /// # Errors
 /// A read of the image that failed, and a write of the report that failed.

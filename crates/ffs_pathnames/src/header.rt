@@ -1,4 +1,4 @@
-//! What is reported of a directory before its entries, and how a single line is.
+//! What is reported of a directory before its entries, and how a single line is said.
 ghost use Rattle.std.specs.Prelude.{◌≡◌, ◌%◌, ◌==◌, ◌&&◌, not, nat_lt, option_map, true};
 ghost use Rattle.ffs_volume.specs.{Directories.PathnameCheck.is_wrong_parent, Messages.Kinds.reported};
 ghost use Rattle.ffs_layout.specs.Entry.{entry_value};

@@ -18,7 +18,7 @@ pub struct Inodes<'a> {
     pub parents: &'a FilledList<u32>,
     ghost marked_long: { length marked.now ≡ length kinds.now },
     ghost parents_long: { vec_len parents.now ≡ length kinds.now },
-    ghost few: { length kinds.now < 2147483648 },
+    ghost few: { length kinds.now < 2 ^ 31 },
 }
 
 impl<'a> Inodes<'a> {

@@ -244,7 +244,7 @@ fn gather_path<I: Image>(
     )
 }
 
-/// Gathers what is shown of an entry besides paths of directories, once that of its own is made:
+/// Gathers what is shown of an entry besides paths of directories, once its directory's is made:
 /// the entry's path, and the attributes of its inode. It reads once at most.
 #[inline(always)]
 fn gather_inode<I: Image>(

@@ -31,8 +31,8 @@ pub enum Root {
 /// Surveys the directories, and prints the lines of the root, of each directory and of its entries
 /// (fsck(8), phase 2). Returns whether the check continues after the root.
 ///
-/// The text is that of a workspace that holds what the block check found. At `Ok` the workspace
-/// holds what the survey found.
+/// The contract gives the text only for a workspace that holds what the block check found. At `Ok`
+/// the workspace holds what the survey found.
 ///
 /// Where a word has room for the number of each chunk (a volume below 2^40 bytes), the image is
 /// read at most `pathname_reads` times, also where a read failed. An image that gives other bytes

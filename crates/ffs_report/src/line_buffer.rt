@@ -1,5 +1,6 @@
 //! The bytes of one line, gathered before they go out.
 ghost use Rattle.std.specs.Prelude.{◌≡◌, ◌≤◌, ◌*◌, length, take};
+ghost use Rattle.ffs_report.specs.declared.line_buffer.TheConstants.{LINE_ROOM};
 
 use crate::output::{OutFault, Output};
 use ffs_memory::copy_short;
@@ -15,8 +16,8 @@ pub struct LineBuffer {
     /// How many bytes it holds, from the start of its room on.
     used: usize,
     failures: u64,
-    ghost in_room: { used ≤ 2048 },
-    ghost long: { length room ≡ 2048 },
+    ghost in_room: { used ≤ LINE_ROOM },
+    ghost long: { length room ≡ LINE_ROOM },
 }
 
 impl LineBuffer {

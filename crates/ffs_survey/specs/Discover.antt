@@ -80,7 +80,7 @@ none x = 0
 abbrev pub never : ℕ → Bool
 never x = false
 
--- The same of the references of the numbers below n, and of which are named: the entries still to
+-- As `SameResult`, of the references of the numbers below n, and of which are named: the entries still to
 -- be read add `count` references to a number, and name it where `name` says so.
 pub record Counts (n : ℕ) (count : ℕ → ℕ) (name : ℕ → Bool) (references : List ℕ) (named : List Bool)
     (count' : ℕ → ℕ) (name' : ℕ → Bool) (references' : List ℕ) (named' : List Bool) : Type 0 where

@@ -1,6 +1,7 @@
 //! Which steps of an inode are kept, replayed.
 
-ghost use Rattle.std.specs.Prelude.{◌≡◌, ◌≤◌, true};
+ghost use Rattle.std.specs.Prelude.{◌≡◌, ◌≤◌, ◌+◌, true};
+ghost use Rattle.ffs_volume.specs.declared.constants.TheConstants as constants;
 ghost use Rattle.ffs_volume.specs.Encodings.Replay.{is_replay_open};
 
 use ffs_volume::constants::MAXBAD;
@@ -14,7 +15,7 @@ pub struct Keeping {
     pub bad: u32,
     /// Its kept offers so far, counted only where there is a cut.
     pub kept: u32,
-    ghost few: { bad ≤ 11 },
+    ghost few: { bad ≤ constants.MAXBAD + 1 },
     ghost within: { kept ≤ cut },
 }
 

@@ -11,7 +11,7 @@ returns-then-block c =
     record {
       chunks = λ b. none.none v b ∙ sym
           (none_far v (reading_by v b c.args.bytes_to_read) c.args.start c.args.len c.args.block c.args.geometry.now.sound
-          (omega (arith, c.if-block.true)) (omega (arith, c.requires.bytes_to_read)));
+          (omega (arith, c.if-block.true)) (omega (arith, c.requires.few)));
       first = none.first;
       fits = none.fits v;
     }

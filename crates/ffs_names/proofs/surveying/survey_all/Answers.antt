@@ -3,9 +3,9 @@ use Rattle.std.proofs.lemmas.List.{with_items_is}
 use Rattle.ffs_volume.{proofs.{Results.on_ok, Sizes.some_inodes}, specs.Encodings.Kinds.kind_at}
 use Rattle.ffs_workspace.{proofs.PlaceLaws.filled_noted, specs.{Holds.HoldsClaims, Tables.IsTableOf}}
 use Rattle.ffs_names.{specs.Readers.{Base, KnowsReader}, proofs.SurveyHolds.{volume_survey, holds_survey, volume_calm}}
-use Rattle.ffs_names.proofs.{SurveyHolds.{holds_calm, holds_references}, graph.survey_all.Goals.After-survey-surveyed}
-use Rattle.ffs_names.proofs.graph.survey_all.Given as given
-use Rattle.ffs_names.proofs.graph.survey_all.Goals as goal
+use Rattle.ffs_names.proofs.{SurveyHolds.{holds_calm, holds_references}, surveying.survey_all.Goals.After-survey-surveyed}
+use Rattle.ffs_names.proofs.surveying.survey_all.Given as given
+use Rattle.ffs_names.proofs.surveying.survey_all.Goals as goal
 
 -- what the reader is over, and that its lists are those of the claims
 abbrev base : (g : given.Over) → After-survey-surveyed g → Base
