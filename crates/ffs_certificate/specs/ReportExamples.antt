@@ -21,8 +21,7 @@ inode_bytes o mode nlink size address =
 unfoldable pub dir_chunk : Order → ℕ → List ℕ → List ℕ
 dir_chunk o d entries = entry_bytes o d 12 4 one_dot ++ (entry_bytes o 2 12 4 two_dots ++ entries)
 
--- a directory inode 3 at fragment 37, and a root whose chunk this is. No superblock, and no group
--- block
+-- a directory inode 3 at fragment 37, and a root whose chunk this is. No superblock, and no group block
 unfoldable pub two_dirs : List ℕ → List ℕ
 two_dirs chunk =
     zero_bytes 28928 ++ (inode_bytes Little 16877 3 512 36 ++ (inode_bytes Little 16877 2 512 37

@@ -61,8 +61,7 @@ pub record IsCutLater (image image' : Device) (name : List ℕ) (asked_sector : 
   pub line_is : line ≡ cannot_read image'.failed_sector
   pub end_is : end ≡ ReadFault image'.failed_sector
 
--- the memory of the check is refused: what is said before that is the opening, through the mount
--- line
+-- the memory of the check is refused: what is said before that is the opening, through the mount line
 pub record IsCutByMemory (image image' : Device) (name : List ℕ) (asked_sector : Option ℕ) (said : List Message)
     (line : Message) (end : End) : Type 0 where
   pub no_read_failed : image' ≡ image

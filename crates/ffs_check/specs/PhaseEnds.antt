@@ -74,8 +74,7 @@ pub record IsEndByRoot (knows : List ℕ → Type 0) (s : Superblock) (defect : 
   pub by_root : ForBytes knows (λ bytes. continued ≡ continues_after_root (volume_of s.layout bytes))
   pub end_is : end ≡ end_by continued defect
 
--- a read failed before the text was complete: whole messages of it were said, and others were to
--- come
+-- a read failed before the text was complete: whole messages of it were said, and others were to come
 pub record IsCutByRead (knows : List ℕ → Type 0) (text : List Message) (image image' : Device) (said : List Message)
     (line : Message) (end : End) : Type 0 where
   pub sector : ℕ

@@ -2,9 +2,9 @@
 //! end, and its arguments.
 //!
 //! `check` prints the report of an image and returns how the check ends. `Headline` is its
-//! contract: where the image gives its bytes, the whole report if no read and no write fails and the
-//! memory is granted, else what the clause says is left of it. `check_rest` is the same after the
-//! mount line.
+//! contract: where the image gives its bytes, the whole report if no read and no write fails and
+//! the memory is granted, else what the clause says is left of it. `check_rest` is the same after
+//! the mount line.
 //!
 //! ```text
 //! let end = check(alloc, &mut image, &args, &mut out);

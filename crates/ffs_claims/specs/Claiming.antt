@@ -89,8 +89,9 @@ pub record StepsLeave {T : Type 0} (v : Layout) (d d' : Device) (old new : Works
   pub claim_bound : OnOk result (ClaimBound (claims_of old) (claims_of new))
   pub found : SameFound old new
 
--- what an inode leaves: what its steps leave but for `found`, a walk over the volume, and the count of phase
--- 1b's Runs as it was. Each Run that it sees claims a fragment, but for 22, and each read is paid by a Run seen
+-- what an inode leaves: what its steps leave but for `found`, a walk over the volume, and the count of
+-- phase 1b's Runs as it was. Each Run that it sees claims a fragment, but for 22, and each read is paid by
+-- a Run seen
 pub record InodeLeaves {T : Type 0} (g : Geometry) (d d' : Device) (reads reads' : ℕ) (old new : Workspace)
     (sweep : Sweep) (result : Result T RunFault) : Type 0 where
   pub image : ImageAfter d d' result
@@ -141,8 +142,7 @@ pub record ClaimsSteps {T : Type 0} (g : Geometry) (number : ℕ) (inode : Inode
   pub walk : sweep.walk.geometry ≡ g
   pub counted : reads' + old.runs_seen ≤ reads + new.runs_seen
 
--- an inode claims as an owner of fragments: its lines are reported, and the claims are those after
--- it
+-- an inode claims as an owner of fragments: its lines are reported, and the claims are those after it
 pub record ClaimsOwner {T : Type 0} (g : Geometry) (owner : List ℕ → Owner) (d d' : Device) (reads reads' : ℕ)
     (progress progress' : Progress) (old new : Workspace) (sweep : Sweep) (result : Result T RunFault) : Type 0 where
   pub text : PhaseReports (IsContents d.contents)

@@ -49,7 +49,8 @@ fn is_marked(workspace: &Workspace, class: Class) -> bool
     }
 }
 
-/// How many offers the current inode keeps, at most 2^32 - 1, if its eleventh dup offer cut it; else 0.
+/// How many offers the current inode keeps, at most 2^32 - 1, if its eleventh dup offer cut it;
+/// else 0.
 #[inline(always)]
 fn cut_of(workspace: &Workspace) -> u32
     ensures { result ≡ min (cut_of (claims_of workspace.now)) 4294967295 }

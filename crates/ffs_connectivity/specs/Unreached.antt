@@ -2,8 +2,7 @@
 use Rattle.std.specs.Prelude.{◌≡◌, ◌<◌, ◌≤◌, ℕ, Bool, List, false, true, length}
 use Rattle.ffs_survey.specs.Discover.{is_unreached_dir}
 
--- the least number of a directory that isn't reached, or how many inodes there are where each one
--- is
+-- the least number of a directory that isn't reached, or how many inodes there are where each one is
 pub record IsFirstUnreached (kinds : List ℕ) (reached : List Bool) (first : ℕ) : Type 0 where
   pub low : first < length kinds → 2 ≤ first
   pub within : first ≤ length kinds

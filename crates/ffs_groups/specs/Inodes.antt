@@ -8,8 +8,7 @@ use Rattle.ffs_groups.specs.declared.inodes.InodeCounts.{InodeCounts}
 abbrev pub class_in : List ℕ → ℕ → Class
 class_in kinds x = class_of_kind (slice_index kinds x)
 
--- the inodes from `first` on and below `end` are past the first two, and so few that a byte counts
--- them
+-- the inodes from `first` on and below `end` are past the first two, and so few that a byte counts them
 pub record AreFew (listed : List ℕ) (first end : ℕ) : Type 0 where
   pub past_two : 2 ≤ first
   pub order : first ≤ end

@@ -1,8 +1,7 @@
 -- What a part that read through a limited image leaves of the image below it.
-use Rattle.std.specs.Borrow.{GName}
-use Rattle.std.proofs.Common.{◌≡◌, ◌≤◌, ◌+◌, ℕ, Bool, true, false, Result, Ok, Err, arith}
-use Rattle.ffs_image.specs.declared.image.ImageFault.{ImageFault}
-use Rattle.ffs_image.specs.{Device.Device, Limited.GivesBack, Limited.limited_device, Reads.ReadAfter}
+use Rattle.std.{specs.Borrow.GName, proofs.Common.{◌≡◌, ◌≤◌, ◌+◌, ℕ, Bool, true, false, Result, Ok, Err, arith}}
+use Rattle.ffs_image.specs.{declared.image.ImageFault.ImageFault, Device.Device, Limited.{GivesBack, limited_device}}
+use Rattle.ffs_image.specs.Reads.{ReadAfter}
 
 -- an image that was only read is over the same images, and gives the same bytes
 pub record StaysOver (old new : Device) : Type 0 where

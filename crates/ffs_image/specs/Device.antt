@@ -30,8 +30,7 @@ ForContents contents P = (bytes : List ℕ) → contents ≡ Some bytes → P by
 abbrev pub Rose : ℕ → ℕ → Type 0
 Rose old new = new ≡ min (old + 1) (2 ^ 64 - 1)
 
--- a read that fails at a sector leaves the image as it was, but for the two numbers about failed
--- reads
+-- a read that fails at a sector leaves the image as it was, but for the two numbers about failed reads
 pub record Faulted (old new : Device) (sector : ℕ) : Type 0 where
   pub contents : new.contents ≡ old.contents
   pub size : new.size ≡ old.size

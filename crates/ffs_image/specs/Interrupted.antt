@@ -28,8 +28,7 @@ pub record IsAnswered {F : Type 0} (was_asked : F → Result ℕ Error → F →
   pub asked : was_asked between answer new
   pub stands : IsInterrupted answer → ⊥
 
--- the answer of the same call, tried again only where a signal interrupted it, u64::MAX times at
--- most
+-- the answer of the same call, tried again only where a signal interrupted it, u64::MAX times at most
 abbrev pub IsTriedAgain : {F : Type 0} → (F → Result ℕ Error → F → Type 0) → F → F → Result ℕ Error → Type 0
 IsTriedAgain was_asked old new answer =
     IsAnswered was_asked old new answer ⊎ (Interruptions was_asked (2 ^ 64 - 1) old new × IsErr answer)

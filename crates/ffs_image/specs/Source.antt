@@ -51,8 +51,7 @@ pub record Fills {T E : Type 0} (old new : SourceState) (at : ℕ) (xs : List �
   pub bytes : OnOk result (AreAt old.contents at xs)
   pub left : SourceAfter old new result
 
--- after the first ones of len bytes at a place, some more were read, by a read of all that were
--- left
+-- after the first ones of len bytes at a place, some more were read, by a read of all that were left
 pub record ReadsMore {S E : Type 0} (was_read : S → ℕ → ℕ → Result ℕ E → S → Type 0) (at len before after : ℕ)
     (old new : S) : Type 0 where
   pub some : ℕ

@@ -1,14 +1,13 @@
 //! An image with a limit on its reads.
 ghost use Rattle.std.specs.{Prelude.{◌≡◌, ◌+◌, ◌≤◌, ◌||◌, ℕ, true, false}, Borrow.GName};
-ghost use Rattle.ffs_image.specs.{Device.Device, Limited.{after_reads, limited_device, reads_asked}};
-ghost use Rattle.ffs_image.specs.Limited.{GivesBack};
+ghost use Rattle.ffs_image.specs.{Device.Device, Limited.{after_reads, limited_device, reads_asked, GivesBack}};
 
 use crate::image::{Image, ImageFault};
 use std::snapshot::Snapshot;
 
 /// An image over another one that is lent to it, which it reads no more often than its limit. Each
-/// further read is refused: it fails, and the image below isn't asked. So is each read after one that
-/// failed.
+/// further read is refused: it fails, and the image below isn't asked. So is each read after one
+/// that failed.
 ///
 /// What reads a whole image needs a bound that holds of any image, also of one that gives other
 /// bytes each time. An image whose bytes stay never reaches the limit, where that is at least what

@@ -79,8 +79,8 @@ fn has_nul_or_slash(bytes: &[u8]) -> bool
     has_nul_or_slash_in_part(last)
 }
 
-/// Whether the record at the place has a type, and holds a valid name: one that isn't empty, without
-/// NUL and `/`, and with a NUL after it.
+/// Whether the record at the place has a type, and holds a valid name: one that isn't empty,
+/// without NUL and `/`, and with a NUL after it.
 #[inline(always)]
 fn has_valid_type_and_name(chunk: &[u8; DIRBLKSIZ], place: usize, len: u16) -> bool
     requires { IsTrue (is_valid_record_length place len) }

@@ -73,7 +73,6 @@ pub record MadeRoom {A : Type 0} (old new : Account) (n size : ℕ) (list : Vec 
 abbrev pub MakesRoom : {A E : Type 0} → Account → Account → ℕ → ℕ → Result (Vec A Global) E → Type 0
 MakesRoom old new n size result = MatchResult result (MadeRoom old new n size) (λ _. RequestRefused old new)
 
--- these bytes were asked for, in one request or in several: all were granted, or a request was
--- refused
+-- these bytes were asked for, in one request or in several: all were granted, or a request was refused
 abbrev pub Asks : {T E : Type 0} → Account → Account → ℕ → Result T E → Type 0
 Asks old new bytes result = MatchResult result (λ _. Granted old new bytes) (λ _. GaveUp old new bytes)

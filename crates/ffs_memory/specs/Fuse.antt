@@ -28,8 +28,7 @@ pub record BurnsAtRequest {M T E : Type 0} (account : M → Account) (old new : 
   pub blown : OnTrue (is_blown old.left) (IsErr result × (new.inner ≡ old.inner))
   pub passed : OnFalse (is_blown old.left) (Asks (account old.inner) (account new.inner) bytes result)
 
--- a memory with a fuse serves one request: as any memory does, and the fuse says which one is
--- refused
+-- a memory with a fuse serves one request: as any memory does, and the fuse says which one is refused
 pub record Serves {M A E : Type 0} (account_below : M → Account) (account_of : FuseMemory M → Account)
     (old new : FuseMemory M) (n bytes : ℕ) (x : A) (result : Result (FixedList A) E) : Type 0 where
   pub given : Gives (account_of old) (account_of new) n bytes x result

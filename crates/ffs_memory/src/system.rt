@@ -27,8 +27,8 @@ impl SystemMemory {
         }
     }
 
-    /// A list of `n` elements that are all written now, each as `value`. The list is this function's
-    /// own and not lent, so all are written in one go.
+    /// A list of `n` elements that are all written now, each as `value`. The list is this
+    /// function's own and not lent, so all are written in one go.
     fn written<T: Copy>(&mut self, n: usize, value: T) -> Result<FixedList<T>, AllocError>
         ensures { Gives (account_of self.old) (account_of self.new) n (type_size T.row * n) value
             result }

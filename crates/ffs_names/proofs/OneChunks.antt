@@ -60,8 +60,7 @@ pub one_chunk_is : {X : Type 0} (v : Layout) (i : Inode) (b : List ℕ) (a : ℕ
     → said 512 (steps_of v (one_chunk_at a) b) ≡ said i.size (steps_of v i b)
 one_chunk_is v i b a said g h = grind (arith, steps_are, one_chunk_class)
 
--- the entries, and whether the shape is right, by the size and the steps of a directory that isn't
--- cut
+-- the entries, and whether the shape is right, by the size and the steps of a directory that isn't cut
 abbrev pub entries_by : (v : Layout) (b : List ℕ) (size : ℕ) (steps : List Step) → List RoledEntry
 entries_by v b size steps = flat_map roled_chunk
     (chunks_of (reading_by v b (bytes_read size)) (is_run_in_range v) (replayed_steps v 0 fresh_replay steps))

@@ -69,8 +69,7 @@ unfolding roled_from
 notes_end {parents = parents} {ws = ws} {p = p} {place = place} is = rw is (notes_none parents ws p place)
 
 -- ---- chunks of a directory
--- of an inode with the parent p of which no place is noted, the entries to come have the first one
--- of p
+-- of an inode with the parent p of which no place is noted, the entries to come have the first one of p
 abbrev pub AreToCome : (parents ws : List ℕ) (p : ℕ) (all rest : List RoledEntry) → Type 0
 AreToCome parents ws p all rest = (x : ℕ) → is_child parents p x ≡ true → place_in (slice_index ws x) ≡ 0 →
     name_in x all ≡ name_in x rest
@@ -339,8 +338,7 @@ level_under g x k h = go (first_below (level_edge g k x) g.count) refl
           },
         )
 
--- a place is noted of each directory that is reached and isn't the root, or its parent is to be
--- read
+-- a place is noted of each directory that is reached and isn't the root, or its parent is to be read
 abbrev pub AreComing : Layout → List ℕ → (words : List ℕ) → Type 0
 AreComing v b words = (x p : ℕ) → IsUnder (graph_of (volume_of v b)) x p →
     IsNoted v b words x ⊎ ((place_in (slice_index words x) ≡ 0) × (is_due (slice_index words p) ≡ true))

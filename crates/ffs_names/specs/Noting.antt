@@ -38,8 +38,7 @@ pub record CanNoteDirectory (v : Layout) (d : Device) (w : Workspace) (p : ℕ) 
 abbrev pub is_child : (parents : List ℕ) (p x : ℕ) → Bool
 is_child parents p x = (slice_index parents x == p) && not (x == ROOTINO)
 
--- p is the parent of x, of which no place is noted yet, and some entries have a plain one that
--- names x
+-- p is the parent of x, of which no place is noted yet, and some entries have a plain one that names x
 abbrev pub is_found : (parents words : List ℕ) (p : ℕ) → List RoledEntry → (x : ℕ) → Bool
 is_found parents words p es x =
     is_child parents p x && ((place_in (slice_index words x) == 0) && list_any (is_naming_entry x) es)
@@ -90,8 +89,8 @@ pub record IsParent (parents : List ℕ) (p : ℕ) : Type 0 where
   pub parent_is : slice_index parents child ≡ p
   pub from_root : ROOTINO ≤ p
 
--- a word for each inode: no place is noted, no number below the root's is to be read, the parent of each reached inode
--- with a number greater than the root's is to be read, and only parents are
+-- a word for each inode: no place is noted, no number below the root's is to be read, the parent of each
+-- reached inode with a number greater than the root's is to be read, and only parents are
 pub record BeginsNotes (reached : List Bool) (parents : List ℕ) (words : Vec ℕ Global) : Type 0 where
   pub long : vec_len words ≡ length reached
   pub none : (x : ℕ) → place_in (slice_index words.items x) ≡ 0
@@ -129,8 +128,8 @@ pub record LeavesChildren {T : Type 0} (v : Layout) (d d' : Device) (old new : W
   pub read : ReadAfter d d' result
   pub children : NotesChildren old.parents.items old.queue.items new.queue.items p
 
--- what a call leaves that notes all places: only the windows and `queue` change, the workspace is ready, the
--- image was only read, and no word is due where no read failed
+-- what a call leaves that notes all places: only the windows and `queue` change, the workspace is ready,
+-- the image was only read, and no word is due where no read failed
 pub record LeavesPlaces {T : Type 0} (v : Layout) (d d' : Device) (old new : Workspace) (result : Result T ImageFault) :
     Type 0 where
   pub lists : new ≡ record old { windows = new.windows; queue = new.queue }

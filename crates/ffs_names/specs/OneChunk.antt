@@ -1,5 +1,4 @@
--- The inode of a directory of one chunk at an address, as far as a reading of its entries asks for
--- it.
+-- The inode of a directory of one chunk at an address, as far as a reading of its entries asks for it.
 use Rattle.std.specs.Prelude.{ℕ, ◌*◌, ◌∷◌, replicate, pos}
 use Rattle.ffs_volume.specs.declared.{constants.TheConstants.DT_DIR, Inode.Inode}
 

@@ -35,8 +35,7 @@ abbrev pub KeepsPath : Layout → Device → Workspace → ℕ → (old new : En
 KeepsPath v d w x old new =
     ForBytes (KnowsPath v d.contents w x old) (λ b. BeginsPathOf (graph_of (volume_of v b)) x new)
 
--- the bytes are those of a directory's context, and the inode that was read is that of the
--- directory
+-- the bytes are those of a directory's context, and the inode that was read is that of the directory
 abbrev pub KnowsDirectory : Layout → Device → Workspace → Directory → List ℕ → Type 0
 KnowsDirectory v d w x b = DirectoryContext v d.contents w x.number b × (x.inode ≡ inode_of v b x.number)
 

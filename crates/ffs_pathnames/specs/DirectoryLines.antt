@@ -12,9 +12,8 @@ use Rattle.ffs_workspace.specs.{Holds.{HoldsClaims, HoldsSurvey}, Ready.IsReady}
 use Rattle.ffs_pathnames.specs.{Before.IsBefore, LineReads.ReadsByLines, Ready.{LinesLeave, PhaseLeaves}}
 use Rattle.ffs_pathnames.specs.declared.tree.Checking.{Checking}
 
--- these lines are said, by what is known of the bytes, and the image is read for no more than
--- these; any image for no more than the messages that were begun. All of the workspace but its
--- windows stays
+-- these lines are said, by what is known of the bytes, and the image is read for no more than these;
+-- any image for no more than the messages that were begun. All of the workspace but its windows stays
 pub record ReportsLines {T : Type 0} (v : Layout) (d d' : Device) (w w' : Workspace) (s : KeptParent)
     (knows : List ℕ → Type 0) (lines : List ℕ → List TreeMessage) (said said' : Progress) (count count' : ℕ)
     (result : Result T RunFault) : Type 0 where
@@ -38,10 +37,10 @@ pub record ReportsDirectory {T : Type 0} (v : Layout) (d d' : Device) (w w' : Wo
   pub holds : IfOk result (λ x. ForBytes knows (after x))
   pub leaves : PhaseLeaves v d d' w w' c'.texts.kept_parent result
 
--- these lines of all directories are said, by what is known of the bytes. Each directory's own
--- blocks are read thrice at most, for the places of its children and for both looks, and the rest is
--- read for the lines; of any image for no more than the messages that were begun. Left are the image, but for a read that
--- failed, a workspace that is ready, and how often inodes are referred to; where nothing failed, also
+-- these lines of all directories are said, by what is known of the bytes. Each directory's own blocks are
+-- read thrice at most, for the places of its children and for both looks, and the rest is read for the
+-- lines; of any image for no more than the messages that were begun. Left are the image, but for a read
+-- that failed, a workspace that is ready, and how often inodes are referred to; where nothing failed, also
 -- what the block check and the survey found, by what is known of the bytes
 pub record ReportsTree {T : Type 0} (v : Layout) (d d' : Device) (w w' : Workspace)
     (lines : List ℕ → List TreeMessage) (said said' : Progress) (count count' : ℕ) (result : Result T RunFault) :

@@ -7,8 +7,7 @@ use Rattle.ffs_names.specs.Costs.{directory_cost, directory_runs}
 use Rattle.ffs_pathnames.specs.{declared.look.Directory.Directory, DirectoryContext.{DirectoryContext, KnowsDirectory}}
 use Rattle.ffs_pathnames.specs.{Before.IsBeforeNoted, Gathers.passed_of, PassedRight.AreRightBefore}
 
--- the bytes are those of a directory's context, and the reads that are left suffice for one look at
--- it
+-- the bytes are those of a directory's context, and the reads that are left suffice for one look at it
 abbrev pub LeftForLook : Layout → Device → Workspace → (d left : ℕ) → List ℕ → Type 0
 LeftForLook v device w d left b = DirectoryContext v device.contents w d b × (directory_cost v b d ≤ left)
 

@@ -3,8 +3,7 @@ use Rattle.std.specs.Prelude.{◌≡◌, ℕ, ◌<◌, ◌==◌, true, false, Li
 use Rattle.ffs_volume.specs.Directories.Roles.{Volume, roled_entries}
 use Rattle.ffs_pathnames.specs.{Begins.dir_header_lines, PassedNames.are_quiet}
 
--- nothing is reported before the entries of x, and nothing of these, where no inode is stamped by x
--- yet
+-- nothing is reported before the entries of x, and nothing of these, where no inode is stamped by x yet
 pub record IsSilentDirectory (vol : Volume) (x : ℕ) : Type 0 where
   pub starts : dir_header_lines vol x ≡ []
   pub entries : (stamps : List ℕ) → ((y : ℕ) → y < vol.count → (slice_index stamps y == x) ≡ false)

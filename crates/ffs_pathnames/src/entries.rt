@@ -31,9 +31,9 @@ fn are_chunks_numbered(geometry: &Geometry) -> bool
 }
 
 /// Reads the next chunk of a directory, and returns its place in the file, in bytes, and None where
-/// no chunk is left. `reads_left` is how many reads may be made of directories' own blocks; it falls
-/// by those that are made. Only an image that gives other bytes each time asks for more: then no
-/// chunk comes any more. On a volume whose chunks aren't all numbered the reads aren't limited.
+/// no chunk is left. `reads_left` is how many reads may be made of directories' own blocks; it
+/// falls by those that are made. Only an image that gives other bytes each time asks for more: then
+/// no chunk comes any more. On a volume whose chunks aren't all numbered the reads aren't limited.
 ///
 /// # Errors
 /// A read of the image that failed.

@@ -219,9 +219,9 @@ pub fn is_bad_whiteout(entry: &Entry<'_>) -> bool
     (entry.number == WINO) != (entry.kind == DT_WHT)
 }
 
-/// Whether nothing is reported of an inode that a plain entry names. The parent entry of a directory
-/// is the first in its parent that names it, and the first look stamps the directory there: so an
-/// entry in the parent is the parent entry where the directory isn't stamped yet.
+/// Whether nothing is reported of an inode that a plain entry names. The parent entry of a
+/// directory is the first in its parent that names it, and the first look stamps the directory
+/// there: so an entry in the parent is the parent entry where the directory isn't stamped yet.
 fn is_quiet_inode(inodes: &Inodes<'_>, dir: u32, words: &FilledList<u32>, entry: &Entry<'_>) -> bool
     requires { CanStampInode inodes.now dir words.now.items entry.now.number }
     ensures { (vol : Volume) → Sees vol inodes.now → result

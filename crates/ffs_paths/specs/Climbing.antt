@@ -38,9 +38,8 @@ pub record IsParentOf (w : Workspace) (dir parent : ℕ) : Type 0 where
   pub some : 0 < parent
   pub inside : parent < vec_len w.parents
 
--- a path of more than 1,024 bytes becomes `?`. Only `?/NAME` can be so long: an entry of an
--- unreached directory whose name has more than 1,022 bytes (none in a real chunk; the contract
--- takes any name).
+-- a path of more than 1,024 bytes becomes `?`. Only `?/NAME` can be so long: an entry of an unreached
+-- directory whose name has more than 1,022 bytes (none in a real chunk; the contract takes any name).
 abbrev pub in_room : List ℕ → List ℕ
 in_room path = if nat_lt 1024 (length path) then 63 ∷ [] else path
 

@@ -43,7 +43,8 @@ pub record OnlyReadsFew {T : Type 0} (most : ℕ) (v : Layout) (old new : Device
   pub reads : OnlyReads v old new before after result
   pub counted : ReadsFew most count count' before after
 
--- the same of a call for the name of the directory x: it makes one read at most where the place of x is noted
+-- the same of a call for the name of the directory x: it makes one read at most where the place of x is
+-- noted
 pub record ReadsName {T : Type 0} (v : Layout) (old new : Device) (count count' x : ℕ) (before after : Workspace)
     (result : Result T ImageFault) : Type 0 where
   pub reads : OnlyReads v old new before after result

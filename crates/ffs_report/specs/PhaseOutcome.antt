@@ -37,8 +37,7 @@ pub record StoppedOf (knows : List ℕ → Type 0) (all : List ℕ → List Mess
   pub right : ForBytes knows (λ bytes. messages ++ rest bytes ≡ all bytes)
   pub stopped : Stopped old new messages
 
--- all messages at Ok, whole ones at a read's fault, a prefix of their bytes at a fault of the
--- output
+-- all messages at Ok, whole ones at a read's fault, a prefix of their bytes at a fault of the output
 abbrev pub PhaseReports : {T : Type 0} → (List ℕ → Type 0) → (List ℕ → List Message) → Progress → Progress
     → Result T RunFault → Type 0
 PhaseReports knows all old new (Ok x) = SaidOf knows (λ bytes. []) all old new

@@ -5,8 +5,7 @@ use Rattle.ffs_image.specs.Device.{Rose}
 use Rattle.ffs_report.specs.{Sink.{Sink, Took}, declared.report.Report.Report}
 use Rattle.ffs_volume.specs.Messages.{Kinds.{Message, has_defect}, Texts.texts_of}
 
--- the reference to its output, what that took, whether a line has failed, and whether a defect was
--- said
+-- the reference to its output, what that took, whether a line has failed, and whether a defect was said
 pub record Progress : Type 0 where
   pub output : GName
   pub sink : Sink

@@ -204,8 +204,7 @@ round_end {f = f} {found = found} {steps = steps} {least = least} n c l r e low 
     }
 
 -- ---- the flags of leaders
--- the flags of leaders, where all numbers that a walk has passed are decided, and no other has a
--- flag
+-- the flags of leaders, where all numbers that a walk has passed are decided, and no other has a flag
 pub record MarksLeaders (f : ℕ → Option ℕ) (n : ℕ) (walk_of : List ℕ) (leader : List Bool) : Type 0 where
   pub long : length leader ≡ n
   pub known : (x : ℕ) → number_at walk_of x ≢ 0 → bool_at leader x ≡ is_leader_within f n x

@@ -67,8 +67,7 @@ abbrev pub AreCalm : List ℕ → List Bool → List Bool → List ℕ → (ℕ 
 AreCalm kinds marked reached parents entries right_shape calm =
     (d : ℕ) → bool_at calm d ≡ true → IsCalm kinds marked reached parents (entries d) (right_shape d) d
 
--- the flag of d is set where all its entries are calm and its shape is right, and no other flag
--- changes
+-- the flag of d is set where all its entries are calm and its shape is right, and no other flag changes
 abbrev pub IsFlagged : ℕ → Bool → Bool → List Bool → List Bool → Type 0
 IsFlagged d all_calm right_shape old new =
     (x : ℕ) → bool_at new x ≡ (bool_at old x || ((x == d) && (nat_lt d (length old) && (all_calm && right_shape))))

@@ -72,8 +72,8 @@ pub record KeepsReached (old new : Lists) : Type 0 where
   pub reached : new.reached.now ≡ old.reached.now
   pub calm : new.calm.now ≡ old.calm.now
 
--- the entry e gives the parent d to a directory that it names, if that isn't reached and has none yet. Parents and
--- the queue alone may change
+-- the entry e gives the parent d to a directory that it names, if that isn't reached and has none yet.
+-- Parents and the queue alone may change
 pub record Adopts (d : ℕ) (e : RoledEntry) (old new : Lists) : Type 0 where
   pub parent : (x : ℕ) → x < length old.kinds.now → number_at new.parents.now.items x
       ≡ cond ((number_at old.parents.now.items x == 0) && (is_unreached_dir old.kinds.now old.reached.now x
@@ -98,7 +98,8 @@ CountsAtMost most l = (x : ℕ) → x < length l.kinds.now → number_at l.refer
 abbrev pub HasRoomAfter : ℕ → Lists → Type 0
 HasRoomAfter top l = top + unset l.reached.now ≤ length l.queue.now.items
 
--- what an entry of this directory names can be discovered: its kinds are those of the lists, and the queue has room
+-- what an entry of this directory names can be discovered: its kinds are those of the lists, and the queue
+-- has room
 pub record CanVisit (current : LentDir) (top : ℕ) (l : Lists) : Type 0 where
   pub kinds : current.kinds.now ≡ l.kinds.now
   pub room : HasRoomAfter top l
@@ -174,8 +175,8 @@ module _ {S : Type 0} (D : Ghosts S) where
     pub lent : LeavesLent cost old new l l' result
     pub kept : KeepsReached l l'
 
-  -- the directory d was read as one that isn't reached. Where all of it was, no inode has got more than 2^28
-  -- references by it
+  -- the directory d was read as one that isn't reached. Where all of it was, no inode has got more than
+  -- 2^28 references by it
   pub record AddsUnreached {T : Type 0} (d : ℕ) (old new : S) (l l' : Lists) (result : Result T ImageFault)
       : Type 0 where
     pub grown : OnOk result (GrowsBy (length l.kinds.now) (2 ^ 28) l.references.now.items l'.references.now.items)
@@ -183,8 +184,9 @@ module _ {S : Type 0} (D : Ghosts S) where
         ReadsUnreached l.kinds.now d (entries d) (all_found l) (all_found l')))
     pub leaves : LeavesReached (λ cost. cost d) old new l l' result
 
-  -- the current directory d, of which no entry is left, is flagged where its entries are calm and its shape is right. The
-  -- reader stays ready over the same base, and the image was read at most as often as the rest of the directory asks for
+  -- the current directory d, of which no entry is left, is flagged where its entries are calm and its shape
+  -- is right. The reader stays ready over the same base, and the image was read at most as often as the
+  -- rest of the directory asks for
   pub record FlagsIfCalm {T : Type 0} (d : ℕ) (all_calm : Bool) (old new : S) (flags flags' : List Bool)
       (result : Result T ImageFault) : Type 0 where
     pub flagged : OnOk result ((b : List ℕ) → D.knows (D.base old) b → D.ended old b

@@ -7,7 +7,7 @@ use ffs_memory::FilledList;
 /// What a survey goes by: what is known of each inode before it.
 #[derive(Clone, Copy)]
 pub struct KnownInodes<'kinds, 'marked> {
-    /// What each inode is: `DT_DIR` for a directory with a size, `EMPTY_DIR_KIND` for one of size 0.
+    /// What each inode is: `DT_DIR` for a directory, but `EMPTY_DIR_KIND` for one of size 0.
     pub kinds: &'kinds [u8],
     /// Whether each inode is marked.
     pub marked: &'marked [bool],
@@ -29,7 +29,7 @@ pub struct NumberLists<'a> {
 /// an entry for every inode. There are more than two inodes, and fewer than 2^31.
 #[derive(Drop)]
 pub struct Lists<'kinds, 'marked, 'named, 'reached, 'calm, 'lists> {
-    /// What each inode is: `DT_DIR` for a directory with a size, `EMPTY_DIR_KIND` for one of size 0.
+    /// What each inode is: `DT_DIR` for a directory, but `EMPTY_DIR_KIND` for one of size 0.
     pub kinds: &'kinds [u8],
     /// Whether each inode is marked.
     pub marked: &'marked [bool],
@@ -52,7 +52,7 @@ pub struct Lists<'kinds, 'marked, 'named, 'reached, 'calm, 'lists> {
 /// The directory whose entries are read, with the lists by which it is found whether they are calm.
 #[derive(Clone, Copy)]
 pub struct CurrentDir<'kinds, 'marked> {
-    /// What each inode is: `DT_DIR` for a directory with a size, `EMPTY_DIR_KIND` for one of size 0.
+    /// What each inode is: `DT_DIR` for a directory, but `EMPTY_DIR_KIND` for one of size 0.
     pub kinds: &'kinds [u8],
     /// Whether each inode is marked.
     pub marked: &'marked [bool],
@@ -66,7 +66,7 @@ pub struct CurrentDir<'kinds, 'marked> {
 /// What a survey left, and which directories lead a cycle of parents.
 #[derive(Clone, Copy)]
 pub struct Surveyed<'a> {
-    /// What each inode is: `DT_DIR` for a directory with a size, `EMPTY_DIR_KIND` for one of size 0.
+    /// What each inode is: `DT_DIR` for a directory, but `EMPTY_DIR_KIND` for one of size 0.
     pub kinds: &'a [u8],
     /// Whether each inode is marked.
     pub marked: &'a [bool],

@@ -65,8 +65,7 @@ alike_same v i r q (step ∷ steps) a =
     let more = alike_same v i (replay_after_step v 0 r step) (replay_after_step v 0 q step) steps one.bad in
     grind arith
 
--- a replay continues in the same way from the kept offers that are counted only where there is a
--- cut
+-- a replay continues in the same way from the kept offers that are counted only where there is a cut
 pub counted_same : (v : Layout) (i cut : ℕ) (r : Replay) (step : Step) (steps : List Step) →
     SameReplay v i cut (replay_after_step v cut r step) (replay_step_by_cut v cut r step) steps
 counted_same v i zero r step steps =

@@ -12,13 +12,12 @@
 -- number of a fragment. A line is a message of the report (folder Messages): a definition with
 -- `lines` in its name gives a list of messages.
 --
--- Definitions. `abbrev` and `unfoldable` both begin one. Which of them it is, and a line
--- `unfolding`, matter to proofs alone. The first line of a definition gives its type, and its
--- equations follow, by patterns: the first that fits is used, and `_` fits anything. `f x y` is the
--- function f of x and y, and `f : A → B → C` says that f takes an A and a B, and gives a C.
--- `λ x. e` is a function, `◌` is the place of an argument, `data` is an enum, and `{M : Type 0}` a
--- type parameter. `record r { f = x }` is the record r with x as its field f. `x.now` is the value
--- of a constant of the program.
+-- Definitions. `abbrev` and `unfoldable` both begin one. Which of them it is, and a line `unfolding`,
+-- matter to proofs alone. The first line of a definition gives its type, and its equations follow, by
+-- patterns: the first that fits is used, and `_` fits anything. `f x y` is the function f of x and y,
+-- and `f : A → B → C` says that f takes an A and a B, and gives a C. `λ x. e` is a function, `◌` is the
+-- place of an argument, `data` is an enum, and `{M : Type 0}` a type parameter. `record r { f = x }` is
+-- the record r with x as its field f. `x.now` is the value of a constant of the program.
 --
 -- Numbers and lists. `zero` is 0 and `suc n` is n + 1. On natural numbers `-` stops at 0, and `/`
 -- and `%` are those of integers. Of an integer `pos n` is n, and `negsuc n` is -(n + 1). `div_ceil`

@@ -1,9 +1,8 @@
 //! Laws and worked examples of the definitions. Nothing runs here: each function states its
 //! contract.
 
-ghost use Rattle.ffs_volume.specs.Laws.Accepted.{AcceptedFit};
-ghost use Rattle.ffs_volume.specs.Laws.Meanings.{AllPathsFit, AreLongest, KeptAreFirst, LevelsAreLeast, SumsAreWhole};
-ghost use Rattle.ffs_volume.specs.Examples.ExamplesHold.{ExamplesHold};
+ghost use Rattle.ffs_volume.specs.Laws.{Accepted.AcceptedFit, Meanings.{AllPathsFit, AreLongest, KeptAreFirst}};
+ghost use Rattle.ffs_volume.specs.{Laws.Meanings.{LevelsAreLeast, SumsAreWhole}, Examples.ExamplesHold.ExamplesHold};
 
 /// The layout of an accepted superblock meets each condition of `IsAcceptedLayout`, and its
 /// fragments lie in the image.

@@ -9,8 +9,7 @@ use Rattle.ffs_walk.specs.declared.keeping.Keeping.{Keeping}
 abbrev pub replay_in : Keeping → Replay
 replay_in k = record { bad = k.bad; kept = k.kept }
 
--- how many offers of a Run that is seen are kept: the first ones; the eleventh bad Run offers
--- nothing
+-- how many offers of a Run that is seen are kept: the first ones; the eleventh bad Run offers nothing
 abbrev pub run_taken : (v : Layout) (cut : ℕ) (r : Replay) (start len : ℕ) → ℕ
 run_taken v cut r start len =
     if is_run_in_range v start len

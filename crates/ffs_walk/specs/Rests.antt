@@ -55,8 +55,7 @@ pub record IsOver (w : Walk) : Type 0 where
   pub triple : IsSpent w.triple
   pub top : w.next ≡ w.used
 
--- none of its indirect blocks has an item left: the next step is at one of the inode's own
--- addresses
+-- none of its indirect blocks has an item left: the next step is at one of the inode's own addresses
 pub record IsAtTop (w : Walk) : Type 0 where
   pub single : IsSpent w.single
   pub double : IsSpent w.double

@@ -1,6 +1,6 @@
-//! A window on an image. Walks use none: it is here for the crates above. `ffs_workspace` has three:
-//! two for directories, and one in its `Table` of inodes. `Blocks` holds a walk's indirect blocks by
-//! their addresses, and has a buffer of its own.
+//! A window on an image. Walks use none: it is here for the crates above. `ffs_workspace` has
+//! three: two for directories, and one in its `Table` of inodes. `Blocks` holds a walk's indirect
+//! blocks by their addresses, and has a buffer of its own.
 
 ghost use Rattle.std.specs.Prelude.{◌≡◌, ◌≤◌, ◌↔◌, IsTrue, vec_len};
 

@@ -77,9 +77,8 @@ pub record HoldsReferences (v : Layout) (image : List ℕ) (w : Workspace) : Typ
   pub counts : (x : ℕ) → x < inodes_of v
       → slice_index w.references.items x ≡ start_at v image x + references (volume_of v image) x
 
--- what the survey leaves of each inode: whether a plain entry names it, whether it is reached from
--- the root, and its parent, or 0 for none. Each place that is noted in `queue` is that of a parent
--- entry
+-- what the survey leaves of each inode: whether a plain entry names it, whether it is reached from the
+-- root, and its parent, or 0 for none. Each place that is noted in `queue` is that of a parent entry
 pub record HoldsSurvey (v : Layout) (image : List ℕ) (w : Workspace) : Type 0 where
   pub named : (x : ℕ) → x < inodes_of v → bool_at w.named.items x ≡ is_named (graph_of (volume_of v image)) x
   pub reached : (x : ℕ) → bool_at w.reached.items x ≡ reached (graph_of (volume_of v image)) x

@@ -35,8 +35,7 @@ name_in d es = name_of (option_and_then (nth_roled es) (first_index (is_naming_e
 abbrev pub entries_in_chunk : Layout → List ℕ → ℕ → List RoledEntry
 entries_in_chunk v b k = roled_from false 0 (entries_of v.order (piece (DIRBLKSIZ * k) DIRBLKSIZ b))
 
--- the first plain entry in the chunk k that names x has the name of the first one of the directory
--- p
+-- the first plain entry in the chunk k that names x has the name of the first one of the directory p
 abbrev pub IsPlaceOf : Layout → List ℕ → (p x k : ℕ) → Type 0
 IsPlaceOf v b p x k = name_in x (entries_in_chunk v b k) ≡ name_in x (roled_entries (volume_of v b) p)
 

@@ -1,9 +1,8 @@
--- Which fragments inodes get. A Run offers its fragments to its inode, in order. An offer is dup
--- where its fragment is in range and used already, by an earlier kept offer or as a reserved one.
--- At its eleventh bad Run or eleventh dup offer an inode is cut: its further steps aren't seen. It
--- keeps each offer that comes before its eleventh bad Run, and no later than its eleventh dup
--- offer. The eleventh dup offer itself is kept, so phase 1b looks for the first offer of its
--- fragment, too.
+-- Which fragments inodes get. A Run offers its fragments to its inode, in order. An offer is dup where
+-- its fragment is in range and used already, by an earlier kept offer or as a reserved one. At its
+-- eleventh bad Run or eleventh dup offer an inode is cut: its further steps aren't seen. It keeps each
+-- offer that comes before its eleventh bad Run, and no later than its eleventh dup offer. The eleventh
+-- dup offer itself is kept, so phase 1b looks for the first offer of its fragment, too.
 use Rattle.std.specs.Prelude.{ℕ, Bool, true, false, ◌+◌, ◌&&◌, not, List, [], ◌∷◌, ◌++◌, ◌==◌, nat_lt, slice_set}
 use Rattle.std.specs.{Prelude.{if◌then◌else◌, map, replicate}, List.{range_with_len, slice_index_or}}
 use Rattle.ffs_volume.specs.declared.{constants.TheConstants.{MAXBAD, MAXDUP}, Layout.Layout, Step.Step}
@@ -46,8 +45,7 @@ at_next_inode s = record s { bad = 0; dups = 0; kept = 0; tail = false }
 abbrev pub is_set : (bits : List Bool) (f : ℕ) → Bool
 is_set bits f = slice_index_or bits f false
 
--- the inode isn't cut, so its next step is seen: it has at most ten bad Runs and at most ten dup
--- offers
+-- the inode isn't cut, so its next step is seen: it has at most ten bad Runs and at most ten dup offers
 abbrev pub is_open : Claims → Bool
 is_open s = nat_lt s.bad (MAXBAD + 1) && nat_lt s.dups (MAXDUP + 1)
 
@@ -64,8 +62,7 @@ after_offer v s f =
     else record s { kept = s.kept + 1 })
     else s
 
--- the lines of one offer: a DUP where it is dup and kept, with EXCESSIVE DUP BLKS after the
--- eleventh
+-- the lines of one offer: a DUP where it is dup and kept, with EXCESSIVE DUP BLKS after the eleventh
 abbrev pub offer_lines : (v : Layout) (inode : ℕ) (s : Claims) (f : ℕ) → List BlockMessage
 offer_lines v inode s f =
     if nat_lt s.dups (MAXDUP + 1) && (is_fragment_in_range v f && is_set s.used f)

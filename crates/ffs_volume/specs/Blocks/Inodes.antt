@@ -99,8 +99,7 @@ abbrev pub is_unknown : Class → Bool
 is_unknown Unknown = true
 is_unknown _ = false
 
--- the class is File, Dir or Unknown: the map of inodes in its group should have such an inode as
--- used
+-- the class is File, Dir or Unknown: the map of inodes in its group should have such an inode as used
 abbrev pub is_allocated : Class → Bool
 is_allocated File = true
 is_allocated Dir = true

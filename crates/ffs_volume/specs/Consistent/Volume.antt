@@ -22,8 +22,7 @@ pub record IsConsistent (image : List ℕ) (s : Superblock) : Type 0 where
   pub runs : AreRunsRight s.layout (owners_of s.layout image)
   -- inode 2 is a directory, and each directory holds what it should
   pub dirs : AreDirsRight (whole_volume s.layout image)
-  -- each directory but the root is named by exactly one plain entry, is reached, and has the right
-  -- `..`
+  -- each directory but the root is named by exactly one plain entry, is reached, and has the right `..`
   pub links : AreLinksRight (whole_volume s.layout image)
   -- each count of links is that of the references
   pub counts : AreCountsRight (whole_volume s.layout image)

@@ -136,8 +136,7 @@ abbrev pub is_first_entry_of_suspect : (vol : Volume) (s j x : ℕ) → Bool
 is_first_entry_of_suspect vol s j x =
     is_suspect vol x && (not (x == ROOTINO) && is_first_naming_entry (graph_of vol) s j x)
 
--- the message on a suspect that an entry names: DUP/BAD where x is marked, else ZERO LENGTH
--- DIRECTORY
+-- the message on a suspect that an entry names: DUP/BAD where x is marked, else ZERO LENGTH DIRECTORY
 abbrev pub message_on_suspect : (vol : Volume) (x : ℕ) (path : List ℕ) → TreeMessage
 message_on_suspect vol x path =
     if vol.marked x then dup_bad (attributes vol x) (label_of (vol.class x)) path else zero_dir (attributes vol x) path

@@ -7,9 +7,8 @@ use Rattle.ffs_volume.specs.declared.{Class.Class, Inode.Inode, Role.{Role, TheV
 use Rattle.ffs_volume.specs.{declared.Role.TheVariants.Plain, Directories.Entries.{Entry, Chunk, is_live}}
 use Rattle.ffs_volume.specs.Blocks.Inodes.{is_directory, is_allocated}
 
--- a volume as the checks of directories see it: the number of its inodes, and of each its class,
--- its fields, whether a Gap of it is kept, its chunks if it is a directory, and whether it is
--- marked
+-- a volume as the checks of directories see it: the number of its inodes, and of each its class, its
+-- fields, whether a Gap of it is kept, its chunks if it is a directory, and whether it is marked
 pub record Volume : Type 0 where
   pub count : ℕ
   pub class : ℕ → Class

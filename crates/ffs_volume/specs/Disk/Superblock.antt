@@ -16,12 +16,11 @@ pub record Superblock : Type 0 where
   pub cstotal : List ℤ
   pub mount : List ℕ
 
--- The layout: the numbers that say where the parts of a volume lie, and those that must be right
--- for it. A negative number is read as 0, which is refused for each field that is read so. cgoffset
--- may be negative, and cgmask is a mask of bits. maxsymlinklen is read unsigned: 0 is valid for it,
--- and says that no symbolic link is short; a negative number is refused as too large. Which format
--- directories have is decided by inodefmt alone, not by maxsymlinklen. `superblock_of` reads a
--- whole `Superblock`.
+-- The layout: the numbers that say where the parts of a volume lie, and those that must be right for
+-- it. A negative number is read as 0, which is refused for each field that is read so. cgoffset may be
+-- negative, and cgmask is a mask of bits. maxsymlinklen is read unsigned: 0 is valid for it, and says
+-- that no symbolic link is short; a negative number is refused as too large. Which format directories
+-- have is decided by inodefmt alone, not by maxsymlinklen. `superblock_of` reads a whole `Superblock`.
 unfoldable pub layout_of : Order → List ℕ → Layout
 layout_of order bytes = record {
   order = order;

@@ -277,8 +277,7 @@ pub record ReferenceExamples : Type 0 where
       × (level (graph_of lost_cycle) 3 ≡ None)
   pub parents : (parent (graph_of twice) 2 ≡ Some 2) × (parent (graph_of twice) 3 ≡ Some 2)
       × (parent (graph_of lost_cycle) 3 ≡ Some 4)
-  -- one of a cycle is reported, and what hangs below it isn't; below a dead directory, the lost one
-  -- is
+  -- one of a cycle is reported, and what hangs below it isn't; below a dead directory, the lost one is
   pub cycle : connectivity_lines lost_cycle ≡ unref_dir (about 3) ∷ []
   pub cycle_below : connectivity_lines (small 6 (λ i. 3) below_entries) ≡ unref_dir (about 3) ∷ []
   pub below_dead : connectivity_lines dead_parent ≡ unref_dir (about 4) ∷ []

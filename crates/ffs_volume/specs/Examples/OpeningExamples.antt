@@ -1,5 +1,4 @@
--- Which superblocks are accepted, the first fault of those that aren't, and what is reported of
--- them.
+-- Which superblocks are accepted, the first fault of those that aren't, and what is reported of them.
 use Rattle.std.specs.Prelude.{ℕ, List, Option, ◌≡◌, [], ◌∷◌, pos, negsuc, Some, None, Ok, Err, take, map, replicate}
 use Rattle.std.specs.{Prelude.{true, false}, List.range_with_len}
 use Rattle.ffs_volume.specs.declared.{Order.TheVariants.{Little, Big}, SuperFault.{SuperFault, TheVariants.CannotRead}}
@@ -17,8 +16,7 @@ use Rattle.ffs_volume.specs.Examples.Images.{two_groups}
 abbrev pub fault_at : ℕ → ℕ → Option SuperFault
 fault_at place number = fault_with (changed Little place number (base_super Little)) (base_super Little)
 
--- the base superblock with a second group of 122 fragments, whose parts begin this much above its
--- base
+-- the base superblock with a second group of 122 fragments, whose parts begin this much above its base
 abbrev pub with_second_group : ℕ → List ℕ
 with_second_group above =
     changed Little 24 above (changed Little 28 0 (changed Little 36 250

@@ -51,8 +51,7 @@ note_reported t MapsWrong = record t { maps = true }
 note_reported t GroupSums = record t { sums = true }
 note_reported t _ = t
 
--- the messages, where each of the three that a report has once is left out if it was reported
--- before
+-- the messages, where each of the three that a report has once is left out if it was reported before
 abbrev pub reported_once : AlreadyReported → List BlockMessage → List BlockMessage
 reported_once t [] = []
 reported_once t (m ∷ ms) = if is_reported t m then reported_once t ms else m ∷ reported_once (note_reported t m) ms

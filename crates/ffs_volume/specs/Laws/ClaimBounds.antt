@@ -11,8 +11,7 @@ used_bits s = count_by (λ b. b) s.used
 abbrev pub potential : Claims → ℕ
 potential s = used_bits s + s.bad + s.dups
 
--- the potential that bounds kept offers: a Run has at most eight of them, so a bad Run counts
--- eightfold
+-- the potential that bounds kept offers: a Run has at most eight of them, so a bad Run counts eightfold
 abbrev pub offers_potential : Claims → ℕ
 offers_potential s = used_bits s + 8 * s.bad + s.dups
 

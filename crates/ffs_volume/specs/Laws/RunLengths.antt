@@ -1,5 +1,4 @@
--- How long the Runs of an inode are: no rule, but a fact of all steps that contracts and proofs
--- need.
+-- How long the Runs of an inode are: no rule, but a fact of all steps that contracts and proofs need.
 use Rattle.std.specs.Prelude.{ℕ, ◌<◌, ◌≤◌}
 use Rattle.ffs_volume.specs.declared.Step.{Step, TheVariants.{Run, Tail, Gap}}
 

@@ -32,8 +32,7 @@ setting_lines s =
 abbrev pub super_lines : Superblock → List Message
 super_lines s = setting_lines s ++ (mounted (before_nul s.mount) ∷ [])
 
--- how a fault of the superblock is reported: a failed read by its own message, any other by its
--- line
+-- how a fault of the superblock is reported: a failed read by its own message, any other by its line
 abbrev pub fault_line : SuperFault → Message
 fault_line (CannotRead sector) = cannot_read sector
 fault_line Magic = bad_super Magic

@@ -78,8 +78,7 @@ reads_few g c b is k numbered =
     let long = lines_long (pathname_lines (volume_of v b)) _ (tree_lines v b true) is in
     omega (arith, long, c.check_inodes.ensures.tree.reads b k numbered)
 
--- what is said, what is read for it, and what is left
--- nothing is read
+-- what is said, what is read for it, and what is left, where nothing is read
 only_said : {T : Type 0} {v : Layout} {d : Device} {w : Workspace} {lines : List ℕ → List TreeMessage}
     {said said' : Progress} {count : ℕ} (r : Result T RunFault) → ImageAfter d d r → IsReady v d w →
     PhaseReports (IsBefore v d.contents w 2) (λ b. map of_tree (lines b)) said said' r →
