@@ -21,14 +21,15 @@ use Rattle.ffs_volume.specs.Groups.Records.{right_frsum, right_total, maps_fit, 
 use Rattle.ffs_volume.specs.Groups.Records.{has_right_sums, has_right_record, has_right_totals}
 use Rattle.ffs_volume.specs.{Groups.GroupCheck.phase5_lines, Messages.Kinds.{lines_below, has_defect, opening, mounted}}
 use Rattle.ffs_volume.specs.Messages.Kinds.{phase1, phase1b, phase2, phase3, phase4, phase5, of_blocks, of_tree}
-use Rattle.ffs_volume.specs.Messages.{Kinds.{summary, dup_bad, unref_dir}, Shown.octal, Texts.texts_of}
-use Rattle.ffs_volume.specs.Report.Whole.{file_count, claimed_count, later_phase_lines, phase_lines, report_lines}
-use Rattle.ffs_volume.specs.Report.Whole.{report_of, report_end, lines_by_outcome, end_by_outcome}
-use Rattle.ffs_volume.specs.{Report.Opening.{setting_lines, head_lines}, Examples.Images.{bytes_in, word, zero_bytes}}
-use Rattle.ffs_volume.specs.Examples.Images.{mount_bytes, base_layout, base_superblock, base_super, base_summary}
-use Rattle.ffs_volume.specs.Examples.Images.{base_group, root_inode, root_chunk, base_image}
-use Rattle.ffs_volume.specs.Examples.{DirectoryExamples.entry_bytes, BlockExamples.blocks_at}
-use Rattle.ffs_volume.proofs.OpeningExamples.{superblock_examples}
+use Rattle.ffs_volume.specs.{Messages.{Kinds.summary, Shown.octal, Texts.texts_of}, Report.Whole.file_count}
+use Rattle.ffs_volume.specs.Report.Whole.{claimed_count, later_phase_lines, phase_lines, report_lines, report_of}
+use Rattle.ffs_volume.specs.Report.{Whole.{report_end, lines_by_outcome, end_by_outcome}, Opening.setting_lines}
+use Rattle.ffs_volume.specs.{Report.Opening.head_lines, Examples.Images.{bytes_in, word, zero_bytes, mount_bytes}}
+use Rattle.ffs_volume.specs.Examples.Images.{base_layout, base_superblock, base_super, base_summary, base_group}
+use Rattle.ffs_volume.specs.Examples.{Images.{root_inode, root_chunk, base_image}, DirectoryExamples.entry_bytes}
+use Rattle.ffs_volume.{specs.Examples.BlockExamples.blocks_at, proofs.OpeningExamples.superblock_examples}
+use Rattle.ffs_volume.specs.declared.tree_lines.{EntryLine.TheVariants.DupBad, ReferenceLine.TheVariants.UnrefDir}
+use Rattle.ffs_volume.specs.declared.tree_lines.TreeLine.TheVariants.{Entry as of_entry, Reference as of_reference}
 use Rattle.ffs_certificate.specs.ReportExamples.{ReportExamples, inode_bytes, dir_chunk, two_dirs, named_dir}
 use Rattle.ffs_certificate.specs.ReportExamples.{unnamed_dir, shared_summary, shared_group, shared_image}
 use Rattle.ffs_certificate.specs.ReportExamples.{shared_superblock, about_file, clean_lines}
@@ -60,8 +61,8 @@ base_big_lines = refl
 
 shared_lines : report_lines shared_image shared_superblock
     ≡ mounted mount_bytes ∷ phase1 ∷ of_blocks (Dup 37 4) ∷ phase1b ∷ of_blocks (Dup 37 3)
-    ∷ phase2 ∷ of_tree (dup_bad (about_file 3) FileLabel (47 ∷ 97 ∷ []))
-    ∷ of_tree (dup_bad (about_file 4) FileLabel (47 ∷ 98 ∷ []))
+    ∷ phase2 ∷ of_tree (of_entry (DupBad FileLabel (about_file 3) (47 ∷ 97 ∷ [])))
+    ∷ of_tree (of_entry (DupBad FileLabel (about_file 4) (47 ∷ 98 ∷ [])))
     ∷ phase3 ∷ phase4 ∷ phase5 ∷ summary 3 2 (pos 93) (pos 5) (pos 22) (pos 52) ∷ []
 unfolding computes longest_end path_bytes names_down dir_path entry_path
 shared_lines = refl
@@ -79,7 +80,7 @@ unfolding computes
 named_references = refl
 
 unnamed : connectivity_lines (volume_of (base_layout Little) unnamed_dir)
-    ≡ unref_dir (record { number = 3; uid = 0; mode = 16877; size = 512; mtime = pos 0 }) ∷ []
+    ≡ of_reference (UnrefDir (record { number = 3; uid = 0; mode = 16877; size = 512; mtime = pos 0 })) ∷ []
 unfolding computes
 unnamed = refl
 

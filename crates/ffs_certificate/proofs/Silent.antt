@@ -15,10 +15,12 @@ use Rattle.ffs_volume.specs.Directories.PathnameCheck.{sized_dir_lines, director
 use Rattle.ffs_volume.specs.Directories.Connectivity.{is_dead, is_unref_dir, connectivity_lines}
 use Rattle.ffs_volume.specs.Directories.ReferenceCheck.{inode_lines, reference_lines_at, reference_lines}
 use Rattle.ffs_volume.specs.{Directories.{Parents.{graph_of, nth_roled}, Paths.entry_path}, Messages.Kinds.lines_below}
-use Rattle.ffs_volume.specs.Messages.Kinds.{unref_dir, whiteout, out_of_range, unallocated}
 use Rattle.ffs_volume.specs.{Blocks.Inodes.{is_allocated}, Disk.Numbers.equals_natural}
 use Rattle.ffs_volume.proofs.Silence.{nil-left, nil-right, nil-both, reported-quiet, reported-silent, if-quiet}
 use Rattle.ffs_volume.proofs.Silence.{else-quiet, then-silent, lines-quiet, lines-silent}
+use Rattle.ffs_volume.specs.declared.tree_lines.EntryLine.TheVariants.{OutOfRange, Unallocated, Whiteout}
+use Rattle.ffs_volume.specs.declared.tree_lines.ReferenceLine.TheVariants.{UnrefDir}
+use Rattle.ffs_volume.specs.declared.tree_lines.TreeLine.TheVariants.{Entry as of_entry, Reference as of_reference}
 
 ruleset quiet = (nil-left, nil-right, reported-quiet, not-false, eqb-true)
 
@@ -49,16 +51,17 @@ named-silent v s j e q = search silent depth 9
 plain-quiet : (v : Volume) (s j : ℕ) (e : Entry) → plain_lines v s j e ≡ [] → IsPlainQuiet v s j e
 unfolding plain_lines
 plain-quiet v s j e h =
-    let a = if-quiet (not (nat_lt e.number v.count)) (out_of_range e.number (entry_path (graph_of v) s e.name)) [] _
+    let a = if-quiet (not (nat_lt e.number v.count))
+    (of_entry (OutOfRange e.number (entry_path (graph_of v) s e.name))) [] _
     h in
-    let b = if-quiet (is_bad_whiteout e) (whiteout e.number (entry_path (graph_of v) s e.name)) [] _ a.1 in
+    let b = if-quiet (is_bad_whiteout e) (of_entry (Whiteout e.number (entry_path (graph_of v) s e.name))) [] _ a.1 in
     record {
       below = not-false _ a.0;
       no_whiteout = b.0;
       named = λ n.
           let c = else-quiet (e.number == 1) _ b.1 n in
           let d = if-quiet (not (is_allocated (v.class e.number)))
-          (unallocated (attributes v e.number) (entry_path (graph_of v) s e.name)) [] _ c in
+          (of_entry (Unallocated (attributes v e.number) (entry_path (graph_of v) s e.name))) [] _ c in
           named-quiet v s j e (not-false _ d.0) d.1;
     }
 
@@ -218,11 +221,12 @@ pathname-silent v q = grind (arith, lines-silent, dir-silent, not-true)
 -- CONNECTIVITY
 pub connectivity-quiet : (v : Volume) → connectivity_lines v ≡ [] → (d : ℕ) → d < v.count → is_unref_dir v d ≡ false
 unfolding connectivity_lines
-connectivity-quiet v h d l = reported-quiet _ (unref_dir (attributes v d)) (lines-quiet _ v.count h d l)
+connectivity-quiet v h d l = reported-quiet _ (of_reference (UnrefDir (attributes v d))) (lines-quiet _ v.count h d l)
 
 pub connectivity-silent : (v : Volume) → ((d : ℕ) → is_unref_dir v d ≡ false) → connectivity_lines v ≡ []
 unfolding connectivity_lines
-connectivity-silent v h = lines-silent _ v.count (λ d l. reported-silent _ (unref_dir (attributes v d)) (h d))
+connectivity-silent v h = lines-silent _ v.count (λ d l. reported-silent _
+    (of_reference (UnrefDir (attributes v d))) (h d))
 
 -- REFERENCES: an inode that is allocated
 pub record IsCountQuiet (v : Volume) (i : ℕ) : Type 0 where

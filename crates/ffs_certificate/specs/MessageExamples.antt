@@ -7,11 +7,15 @@ use Rattle.ffs_volume.specs.declared.{End.TheVariants.NoMemory, Label.TheVariant
 use Rattle.ffs_volume.specs.declared.{Label.TheVariants.Name as NameLabel, Order.TheVariants.Little}
 use Rattle.ffs_volume.specs.{declared.SuperFault.TheVariants.{Magic, Disagree}, Messages.Kinds.{bad_super, cannot_read}}
 use Rattle.ffs_volume.specs.Messages.Kinds.{cannot_alloc, optimization, minfree, mounted, phase1, of_blocks, of_tree}
-use Rattle.ffs_volume.specs.Messages.Kinds.{summary, root_not_dir, root_suspect, dir_length, missing_dot_first}
-use Rattle.ffs_volume.specs.Messages.Kinds.{kind_dotdot, out_of_range, dup_bad, extraneous, kind_entry, dead_marked}
-use Rattle.ffs_volume.specs.{Messages.Kinds.{unref, unref_zero, link_count, is_defect}, Report.Opening.opening_of}
-use Rattle.ffs_volume.specs.{Messages.Texts.texts_of, Report.{Memory.{held_limit, runs_limit}, Whole.report_lines}}
-use Rattle.ffs_volume.specs.{Report.Whole.{report_of, end_by, status_of}, Examples.Images.{base_layout, base_image}}
+use Rattle.ffs_volume.specs.{Messages.{Kinds.{summary, is_defect}, Texts.texts_of}, Report.Opening.opening_of}
+use Rattle.ffs_volume.specs.Report.{Memory.{held_limit, runs_limit}, Whole.{report_lines, report_of, end_by, status_of}}
+use Rattle.ffs_volume.specs.Examples.Images.{base_layout, base_image}
+use Rattle.ffs_volume.specs.declared.tree_lines.DirectoryLine.TheVariants.{DirLength, RootNotDir, RootSuspect}
+use Rattle.ffs_volume.specs.declared.tree_lines.DotLine.TheVariants.{KindDotdot, MissingDotFirst}
+use Rattle.ffs_volume.specs.declared.tree_lines.EntryLine.TheVariants.{DupBad, Extraneous, KindEntry, OutOfRange}
+use Rattle.ffs_volume.specs.declared.tree_lines.ReferenceLine.TheVariants.{DeadMarked, LinkCount, Unref, UnrefZero}
+use Rattle.ffs_volume.specs.declared.tree_lines.TreeLine.TheVariants.{Directory as of_directory, Dot as of_dot}
+use Rattle.ffs_volume.specs.declared.tree_lines.TreeLine.TheVariants.{Entry as of_entry, Reference as of_reference}
 use Rattle.ffs_certificate.specs.ReportExamples.{shared_image, shared_superblock, about_file}
 
 abbrev pub about_most : Attr
@@ -51,24 +55,27 @@ pub record MessageExamples : Type 0 where
       ++ codes "PARTIALLY TRUNCATED INODE I=5\nSALVAGE? no\n\nINCORRECT BLOCK COUNT I=3 (16 should be 96)\n"
       ++ codes "CORRECT? no\n\nCG 1: BAD MAGIC NUMBER\n"
   -- the root, and directories. Control bytes show as question marks
-  pub roots : texts_of (of_tree root_not_dir ∷ of_tree root_suspect ∷ [])
+  pub roots : texts_of (of_tree (of_directory RootNotDir) ∷ of_tree (of_directory RootSuspect) ∷ [])
       ≡ codes "ROOT INODE NOT DIRECTORY\nREALLOCATE? no\n\nFIX? no\n\nDUPS/BAD IN ROOT INODE\nREALLOCATE? no\n\n"
       ++ codes "CONTINUE? yes\n\n"
-  pub dirs : texts_of (of_tree (dir_length (codes "/a") 600)
-      ∷ of_tree (missing_dot_first about_root (codes "/") (98 ∷ 10 ∷ []))
-      ∷ of_tree (kind_dotdot about_root (codes "/")) ∷ [])
+  pub dirs : texts_of (of_tree (of_directory (DirLength (codes "/a") 600))
+      ∷ of_tree (of_dot (MissingDotFirst about_root (codes "/") (98 ∷ 10 ∷ [])))
+      ∷ of_tree (of_dot (KindDotdot about_root (codes "/"))) ∷ [])
       ≡ codes "DIRECTORY /a: LENGTH 600 NOT MULTIPLE OF 512\nADJUST? no\n\nMISSING '.' I=2 OWNER=0 MODE=40755\n"
       ++ codes "SIZE=512 MTIME=0\nDIR=/\nCANNOT FIX, FIRST ENTRY IN DIRECTORY CONTAINS b?\n"
       ++ codes "BAD TYPE VALUE FOR '..' I=2 OWNER=0 MODE=40755\nSIZE=512 MTIME=0\nDIR=/\nFIX? no\n\n"
-  pub entries : texts_of (of_tree (out_of_range 32 (47 ∷ 99 ∷ 10 ∷ 127 ∷ []))
-      ∷ of_tree (extraneous (codes "/b") (codes "/a")) ∷ of_tree (dup_bad (about_file 3) NameLabel (codes "/a"))
-      ∷ of_tree (kind_entry (about_file 3) DirLabel (codes "/a")) ∷ [])
+  pub entries : texts_of (of_tree (of_entry (OutOfRange 32 (47 ∷ 99 ∷ 10 ∷ 127 ∷ [])))
+      ∷ of_tree (of_entry (Extraneous (codes "/b") (codes "/a"))) ∷ of_tree
+      (of_entry (DupBad NameLabel (about_file 3) (codes "/a")))
+      ∷ of_tree (of_entry (KindEntry DirLabel (about_file 3) (codes "/a"))) ∷ [])
       ≡ codes "I OUT OF RANGE I=32\nNAME=/c??\nREMOVE? no\n\n/b IS AN EXTRANEOUS HARD LINK TO DIRECTORY /a\n"
       ++ codes "REMOVE? no\n\nDUP/BAD I=3 OWNER=0 MODE=100644\nSIZE=100 MTIME=0\nNAME=/a\nREMOVE? no\n\n"
       ++ codes "BAD TYPE VALUE I=3 OWNER=0 MODE=100644\nSIZE=100 MTIME=0\nDIR=/a\nFIX? no\n\n"
   -- inodes with the greatest numbers; all that is no directory is called a file
-  pub inodes : texts_of (of_tree (unref FileLabel about_most) ∷ of_tree (unref_zero DirLabel about_root)
-      ∷ of_tree (dead_marked NameLabel (about_file 3)) ∷ of_tree (link_count DirLabel about_root (negsuc 1) 3) ∷ [])
+  pub inodes : texts_of (of_tree (of_reference (Unref FileLabel about_most)) ∷ of_tree
+      (of_reference (UnrefZero DirLabel about_root))
+      ∷ of_tree (of_reference (DeadMarked NameLabel (about_file 3))) ∷ of_tree
+      (of_reference (LinkCount DirLabel about_root (negsuc 1) 3)) ∷ [])
       ≡ codes "UNREF FILE I=5 OWNER=4294967295 MODE=100600\nSIZE=18446744073709551615 MTIME=-1\nRECONNECT? no\n\n"
       ++ codes "CLEAR? no\n\nUNREF DIR I=2 OWNER=0 MODE=40755\nSIZE=512 MTIME=0\nCLEAR? no\n\n"
       ++ codes "BAD/DUP FILE I=3 OWNER=0 MODE=100644\nSIZE=100 MTIME=0\nCLEAR? no\n\n"
@@ -81,7 +88,7 @@ pub record MessageExamples : Type 0 where
       ++ codes "0 files, 0 used, 0 free (0 frags, 0 blocks, 0.0% fragmentation)\n"
   -- which report a defect
   pub defects : map is_defect (cannot_read 16 ∷ mounted [] ∷ phase1 ∷ optimization ∷ of_blocks (Bad 200 3)
-      ∷ of_tree root_suspect ∷ [])
+      ∷ of_tree (of_directory RootSuspect) ∷ [])
       ≡ false ∷ false ∷ false ∷ true ∷ true ∷ true ∷ []
   -- ends and statuses; what a check of the base volume may hold and look at
   pub ends : (end_by true false ≡ Consistent) × (end_by true true ≡ Defects) × (end_by false true ≡ RootStop)

@@ -3,13 +3,16 @@ use Rattle.std.specs.Prelude.{codes, ◌≡◌, ℕ, List, [], ◌∷◌, ◌++�
 use Rattle.ffs_volume.specs.declared.{Order.{Order, TheVariants.{Little, Big}}, Attr.Attr, BlockMessage.TheVariants.Dup}
 use Rattle.ffs_volume.specs.declared.{End.TheVariants.Consistent, Label.TheVariants.File as FileLabel}
 use Rattle.ffs_volume.specs.{Disk.Superblock.Superblock, Messages.Kinds.{Message, opening, mounted, phase1, phase1b}}
-use Rattle.ffs_volume.specs.Messages.Kinds.{phase2, phase3, phase4, phase5, of_blocks, of_tree, summary, dup_bad}
-use Rattle.ffs_volume.specs.{Messages.Kinds.{root_none, unref_dir}, Directories.PathnameCheck.pathname_lines}
-use Rattle.ffs_volume.specs.Directories.{Connectivity.connectivity_lines, ReferenceCheck.reference_lines}
-use Rattle.ffs_volume.specs.{Directories.Volumes.volume_of, Report.Whole.{phase_lines, report_lines, report_of}}
-use Rattle.ffs_volume.specs.{Report.Whole.report_end, Consistent.Volume.IsConsistent, Examples.Images.{bytes_in, word}}
-use Rattle.ffs_volume.specs.Examples.Images.{zero_bytes, mount_bytes, base_layout, base_superblock, base_image}
-use Rattle.ffs_volume.specs.Examples.{Images.root_chunk, DirectoryExamples.{entry_bytes, one_dot, two_dots}}
+use Rattle.ffs_volume.specs.Messages.Kinds.{phase2, phase3, phase4, phase5, of_blocks, of_tree, summary}
+use Rattle.ffs_volume.specs.Directories.{PathnameCheck.pathname_lines, Connectivity.connectivity_lines}
+use Rattle.ffs_volume.specs.{Directories.{ReferenceCheck.reference_lines, Volumes.volume_of}, Report.Whole.phase_lines}
+use Rattle.ffs_volume.specs.{Report.Whole.{report_lines, report_of, report_end}, Consistent.Volume.IsConsistent}
+use Rattle.ffs_volume.specs.Examples.Images.{bytes_in, word, zero_bytes, mount_bytes, base_layout, base_superblock}
+use Rattle.ffs_volume.specs.Examples.{Images.{base_image, root_chunk}, DirectoryExamples.{entry_bytes, one_dot}}
+use Rattle.ffs_volume.specs.{Examples.DirectoryExamples.two_dots, declared.tree_lines.EntryLine.TheVariants.DupBad}
+use Rattle.ffs_volume.specs.declared.tree_lines.{DirectoryLine.TheVariants.RootNone, ReferenceLine.TheVariants.UnrefDir}
+use Rattle.ffs_volume.specs.declared.tree_lines.TreeLine.TheVariants.{Entry as of_entry, Directory as of_directory}
+use Rattle.ffs_volume.specs.declared.tree_lines.TreeLine.TheVariants.{Reference as of_reference}
 
 -- an inode of this mode, count of links and size, with its first address
 unfoldable pub inode_bytes : Order → ℕ → ℕ → ℕ → ℕ → List ℕ
@@ -51,7 +54,8 @@ shared_image =
     zero_bytes 24576 ++ (shared_group ++ (zero_bytes 4164 ++ (inode_bytes Big 16877 2 512 36
     ++ (inode_bytes Big 33188 1 100 37 ++ (inode_bytes Big 33188 1 100 37 ++ (zero_bytes 3456
     ++ (shared_summary ++ (zero_bytes 4080
-    ++ (dir_chunk Big 2 (entry_bytes Big 3 12 8 (97 ∷ []) ++ entry_bytes Big 4 476 8 (98 ∷ [])) ++ zero_bytes 3584)))))))))
+    ++ (dir_chunk Big 2 (entry_bytes Big 3 12 8 (97 ∷ []) ++ entry_bytes Big 4 476 8 (98
+    ∷ [])) ++ zero_bytes 3584)))))))))
 
 unfoldable pub shared_superblock : Superblock
 shared_superblock = record {
@@ -80,14 +84,15 @@ pub record ReportExamples : Type 0 where
   -- two files with one fragment
   pub shared : report_lines shared_image shared_superblock
       ≡ mounted mount_bytes ∷ phase1 ∷ of_blocks (Dup 37 4) ∷ phase1b ∷ of_blocks (Dup 37 3)
-      ∷ phase2 ∷ of_tree (dup_bad (about_file 3) FileLabel (47 ∷ 97 ∷ []))
-      ∷ of_tree (dup_bad (about_file 4) FileLabel (47 ∷ 98 ∷ []))
+      ∷ phase2 ∷ of_tree (of_entry (DupBad FileLabel (about_file 3) (47 ∷ 97 ∷ [])))
+      ∷ of_tree (of_entry (DupBad FileLabel (about_file 4) (47 ∷ 98 ∷ [])))
       ∷ phase3 ∷ phase4 ∷ phase5 ∷ summary 3 2 (pos 93) (pos 5) (pos 22) (pos 52) ∷ []
   -- no root: the run stops
-  pub stopped : phase_lines (zero_bytes 40960) (base_superblock Little) ≡ phase1 ∷ phase2 ∷ of_tree root_none ∷ []
+  pub stopped : phase_lines (zero_bytes 40960) (base_superblock Little)
+      ≡ phase1 ∷ phase2 ∷ of_tree (of_directory RootNone) ∷ []
   -- a directory below the root, and the same without its name
   pub named_pathnames : pathname_lines (volume_of (base_layout Little) named_dir) ≡ []
   pub named_connected : connectivity_lines (volume_of (base_layout Little) named_dir) ≡ []
   pub named_references : reference_lines (volume_of (base_layout Little) named_dir) ≡ []
   pub unnamed : connectivity_lines (volume_of (base_layout Little) unnamed_dir)
-      ≡ unref_dir (record { number = 3; uid = 0; mode = 16877; size = 512; mtime = pos 0 }) ∷ []
+      ≡ of_reference (UnrefDir (record { number = 3; uid = 0; mode = 16877; size = 512; mtime = pos 0 })) ∷ []

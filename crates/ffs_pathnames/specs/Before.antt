@@ -3,12 +3,14 @@ use Rattle.std.specs.Prelude.{◌≡◌, ◌<◌, ◌≤◌, ℕ, Bool, true, fa
 use Rattle.std.specs.Prelude.{Option, Some, slice_index, vec_len}
 use Rattle.ffs_image.specs.Device.{Device}
 use Rattle.ffs_volume.specs.{declared.{constants.TheConstants.DT_DIR, Layout.Layout}, Messages.Kinds.TreeMessage}
-use Rattle.ffs_volume.specs.Messages.Kinds.{reported, root_none, root_not_dir, root_suspect}
+use Rattle.ffs_volume.specs.Messages.Kinds.{reported}
 use Rattle.ffs_volume.specs.{Directories.Volumes.volume_of, Encodings.Kinds.{is_dir_kind, is_empty_dir_kind}}
 use Rattle.ffs_workspace.specs.{declared.workspace.Workspace.Workspace, Leaves.LeavesSurvey, Places.AreChunksNumbered}
 use Rattle.ffs_workspace.specs.{Places.AreNoted, Holds.{bool_at, HoldsClaims, HoldsSurvey}, Ready.IsReady}
 use Rattle.ffs_pathnames.specs.{Gathers.{AreAsLong, passed_of}, PassedRight.AreRightBefore}
 use Rattle.ffs_survey.specs.Survey.{suspect_at}
+use Rattle.ffs_volume.specs.declared.tree_lines.DirectoryLine.TheVariants.{RootNone, RootNotDir, RootSuspect}
+use Rattle.ffs_volume.specs.declared.tree_lines.TreeLine.TheVariants.{Directory as of_directory}
 
 -- what was found stays; the flags of suspect inodes are taken away, and no others; nothing is
 -- stamped; and a workspace that was ready still is
@@ -58,6 +60,6 @@ pub record IsFirstToCheck (w : Workspace) (count first : ℕ) : Type 0 where
 -- what is reported of the root, by its kind and by whether it is marked
 unfoldable pub root_reported : ℕ → Bool → List TreeMessage
 root_reported kind marked =
-    if kind == 0 then root_none ∷ []
-    else (if not (is_dir_kind kind) then root_not_dir ∷ []
-    else reported (marked || is_empty_dir_kind kind) root_suspect)
+    if kind == 0 then of_directory RootNone ∷ []
+    else (if not (is_dir_kind kind) then of_directory RootNotDir ∷ []
+    else reported (marked || is_empty_dir_kind kind) (of_directory RootSuspect))

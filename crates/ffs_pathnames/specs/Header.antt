@@ -5,19 +5,23 @@ use Rattle.ffs_volume.specs.declared.{constants.TheConstants.{DIRBLKSIZ, MINDIRS
 use Rattle.ffs_volume.specs.Directories.PathnameCheck.{is_wrong_parent, missing_dot_lines, missing_dotdot_lines}
 use Rattle.ffs_volume.specs.Directories.{PathnameCheck.attributes, Entries.{Entry, is_live}, Parents.graph_of}
 use Rattle.ffs_volume.specs.Directories.{Paths.dir_path, Roles.{Volume, is_one_dot, is_two_dots, entry_if}}
-use Rattle.ffs_volume.specs.Messages.Kinds.{TreeMessage, reported, dir_short, dir_length, dir_empty, dir_corrupt}
-use Rattle.ffs_volume.specs.Messages.Kinds.{number_dot, kind_dot, number_dotdot, kind_dotdot}
+use Rattle.ffs_volume.specs.Messages.Kinds.{TreeMessage, reported}
 use Rattle.ffs_layout.specs.Entry.{entry_value}
 use Rattle.ffs_pathnames.specs.declared.header.HeaderFacts.{HeaderFacts}
+use Rattle.ffs_volume.specs.declared.tree_lines.DirectoryLine.TheVariants.{DirCorrupt, DirEmpty, DirLength, DirShort}
+use Rattle.ffs_volume.specs.declared.tree_lines.DotLine.TheVariants.{KindDot, KindDotdot, NumberDot, NumberDotdot}
+use Rattle.ffs_volume.specs.declared.tree_lines.TreeLine.TheVariants.{Directory as of_directory, Dot as of_dot}
 
 -- of the size, of whether a Gap is kept, and of whether all chunks are sound
 abbrev pub size_reported : Attr → List ℕ → List TreeMessage
 size_reported about path =
-    reported (nat_lt about.size MINDIRSIZE) (dir_short about path)
-    ++ reported (not (nat_lt about.size MINDIRSIZE) && not (about.size % DIRBLKSIZ == 0)) (dir_length path about.size)
+    reported (nat_lt about.size MINDIRSIZE) (of_directory (DirShort about path))
+    ++ reported (not (nat_lt about.size MINDIRSIZE) && not (about.size % DIRBLKSIZ == 0))
+    (of_directory (DirLength path about.size))
 
 abbrev pub chunks_reported : Attr → List ℕ → Bool → Bool → List TreeMessage
-chunks_reported about path gap sound = reported gap (dir_empty path) ++ reported (not sound) (dir_corrupt about path)
+chunks_reported about path gap sound = reported gap (of_directory (DirEmpty path)) ++ reported (not sound)
+    (of_directory (DirCorrupt about path))
 
 abbrev pub shape_reported : Attr → List ℕ → Bool → Bool → List TreeMessage
 shape_reported about path gap sound = size_reported about path ++ chunks_reported about path gap sound
@@ -30,8 +34,8 @@ abbrev pub dotdot_in : Option Entry → Option Entry
 dotdot_in second = entry_if (λ e. is_live e && is_two_dots e.name) second
 
 abbrev pub dot_entry_reported : Attr → List ℕ → ℕ → Entry → List TreeMessage
-dot_entry_reported about path d e = reported (not (e.number == d)) (number_dot about path)
-    ++ reported (not (e.kind == DT_DIR)) (kind_dot about path)
+dot_entry_reported about path d e = reported (not (e.number == d)) (of_dot (NumberDot about path))
+    ++ reported (not (e.kind == DT_DIR)) (of_dot (KindDot about path))
 
 abbrev pub dot_reported : Attr → List ℕ → ℕ → Option Entry → Option Entry → List TreeMessage
 dot_reported about path d first None = missing_dot_lines about path first
@@ -39,8 +43,9 @@ dot_reported about path d first (Some e) = dot_entry_reported about path d e
 
 -- `parent` is the directory's parent, if it has one
 abbrev pub dotdot_entry_reported : Attr → List ℕ → Option ℕ → Entry → List TreeMessage
-dotdot_entry_reported about path parent e = reported (is_wrong_parent parent e.number) (number_dotdot about path)
-    ++ reported (not (e.kind == DT_DIR)) (kind_dotdot about path)
+dotdot_entry_reported about path parent e = reported (is_wrong_parent parent e.number)
+    (of_dot (NumberDotdot about path))
+    ++ reported (not (e.kind == DT_DIR)) (of_dot (KindDotdot about path))
 
 abbrev pub dotdot_reported : Attr → List ℕ → Option ℕ → Option Entry → Option Entry → List TreeMessage
 dotdot_reported about path parent second None = missing_dotdot_lines about path second

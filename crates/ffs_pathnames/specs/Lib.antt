@@ -1,7 +1,6 @@
 pub mod PassedNames
 pub mod Stamps
 pub mod SaysTreeMessages
-pub mod TreeLines
 pub mod Header
 pub mod Sees
 pub mod Verdicts

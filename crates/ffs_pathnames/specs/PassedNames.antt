@@ -2,12 +2,14 @@
 use Rattle.std.specs.Prelude.{ℕ, ◌==◌, Bool, true, false, not, ◌&&◌, ◌||◌, nat_lt, if◌then◌else◌, List, [], ◌∷◌, ◌++◌}
 use Rattle.std.specs.{Prelude.{slice_index, slice_set}, List.slice_index_or}
 use Rattle.ffs_volume.specs.{declared.{constants.TheConstants.{WINO, ROOTINO}, Role.Role}, Blocks.Inodes.is_allocated}
-use Rattle.ffs_volume.specs.Messages.Kinds.{kind_entry, TreeMessage, reported, out_of_range, whiteout, unallocated}
-use Rattle.ffs_volume.specs.{Messages.Kinds.extraneous, declared.Role.TheVariants.{Empty, Dot, Dotdot, Extra, Plain}}
-use Rattle.ffs_volume.specs.Directories.{Entries.Entry, Climb.is_value, Graph.parent, Parents.graph_of, Paths.dir_path}
-use Rattle.ffs_volume.specs.Directories.{Paths.entry_path, Roles.{Volume, RoledEntry, is_dir, is_suspect, is_plain}}
-use Rattle.ffs_volume.specs.Directories.{Roles.roled_entries, PathnameCheck.{has_wrong_type, extra_lines, attributes}}
-use Rattle.ffs_volume.specs.Directories.PathnameCheck.{label_of, is_bad_whiteout, message_on_suspect}
+use Rattle.ffs_volume.specs.{Messages.Kinds.{TreeMessage, reported}, declared.Role.TheVariants.{Empty, Dot, Dotdot}}
+use Rattle.ffs_volume.specs.{declared.Role.TheVariants.{Extra, Plain}, Directories.{Entries.Entry, Climb.is_value}}
+use Rattle.ffs_volume.specs.Directories.{Graph.parent, Parents.graph_of, Paths.{dir_path, entry_path}, Roles.Volume}
+use Rattle.ffs_volume.specs.Directories.Roles.{RoledEntry, is_dir, is_suspect, is_plain, roled_entries}
+use Rattle.ffs_volume.specs.Directories.PathnameCheck.{has_wrong_type, extra_lines, attributes, label_of}
+use Rattle.ffs_volume.specs.Directories.PathnameCheck.{is_bad_whiteout, message_on_suspect}
+use Rattle.ffs_volume.specs.declared.tree_lines.EntryLine.TheVariants.{Extraneous, KindEntry, OutOfRange, Unallocated}
+use Rattle.ffs_volume.specs.declared.tree_lines.{EntryLine.TheVariants.Whiteout, TreeLine.TheVariants.Entry as of_entry}
 
 -- `flags`: of a suspect inode, whether a plain entry has named it; of any other, whether it is
 -- calm. `stamps`: of an inode, its parent, once the first look at the parent has met its entry
@@ -45,16 +47,17 @@ named_reported vol s m e =
     reported (is_suspect vol e.number && (not (e.number == ROOTINO) && not (is_flagged m e.number)))
     (message_on_suspect vol e.number path)
     ++ (reported (is_dir vol e.number && not (is_stamped s m e.number))
-    (extraneous path (dir_path (graph_of vol) e.number))
-    ++ reported (has_wrong_type vol e) (kind_entry (attributes vol e.number) (label_of (vol.class e.number)) path))
+    (of_entry (Extraneous path (dir_path (graph_of vol) e.number)))
+    ++ reported (has_wrong_type vol e)
+    (of_entry (KindEntry (label_of (vol.class e.number)) (attributes vol e.number) path)))
 
 abbrev pub plain_reported : Volume → ℕ → PassedNames → Entry → List TreeMessage
 plain_reported vol s m e =
     let path = entry_path (graph_of vol) s e.name in
-    if not (nat_lt e.number vol.count) then out_of_range e.number path ∷ []
-    else (if is_bad_whiteout e then whiteout e.number path ∷ []
+    if not (nat_lt e.number vol.count) then of_entry (OutOfRange e.number path) ∷ []
+    else (if is_bad_whiteout e then of_entry (Whiteout e.number path) ∷ []
     else (if e.number == WINO then []
-    else (if not (is_allocated (vol.class e.number)) then unallocated (attributes vol e.number) path ∷ []
+    else (if not (is_allocated (vol.class e.number)) then of_entry (Unallocated (attributes vol e.number) path) ∷ []
     else named_reported vol s m e)))
 
 abbrev pub role_reported : Volume → ℕ → PassedNames → Role → Entry → List TreeMessage

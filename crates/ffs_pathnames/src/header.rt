@@ -6,14 +6,15 @@ ghost use Rattle.ffs_report.specs.Progress.{progress};
 ghost use Rattle.ffs_pathnames.specs.{SaysTreeMessages.SaysTreeMessages, Header.{size_reported, chunks_reported, shape_reported}};
 ghost use Rattle.ffs_pathnames.specs.Header.{dot_entry_reported, dotdot_entry_reported, dot_in, dotdot_in};
 ghost use Rattle.ffs_pathnames.specs.Header.{dot_reported, dotdot_reported, is_right_dot, is_right_dotdot};
-ghost use Rattle.ffs_pathnames.specs.{Header.{is_header_right, header_lines_of}, TreeLines.tree_message};
-ghost use Rattle.ffs_pathnames.specs.TreeLines.{two_reported};
+ghost use Rattle.ffs_pathnames.specs.{Header.{is_header_right, header_lines_of}, SaysTreeMessages.two_reported};
+ghost use Rattle.ffs_volume.specs.Messages.Texts.{tree_message};
 
 use ffs_layout::Entry;
 use ffs_names::{is_one_dot, is_two_dots};
 use ffs_report::{DirectoryLine, DotLine, EntryLine, Line, OutFault, Output, Report};
 use ffs_volume::Attr;
 use ffs_volume::constants::{DIRBLKSIZ, DT_DIR, MINDIRSIZE};
+use ffs_volume::tree_lines::TreeLine;
 
 /// What the lines of a directory before those of its entries depend on.
 #[derive(Clone, Copy, Debug)]
@@ -286,31 +287,23 @@ pub fn is_in_order(header: HeaderFacts<'_>) -> bool
     is_dotdot_right(header.parent, header.second)
 }
 
-/// A line on a directory or on an entry of it.
-#[derive(Clone, Copy, Debug)]
-pub enum TreeLine<'a> {
-    /// A line on a directory as a whole.
-    Directory(DirectoryLine<'a>),
-    /// A line on an entry `.` or `..`.
-    Dot(DotLine<'a>),
-    /// A line on another entry.
-    Entry(EntryLine<'a>),
-}
-
 /// A line, and whether it is to be reported.
 #[derive(Clone, Copy, Debug)]
 pub struct LineIf<'a> {
     /// Whether it is to be reported.
     pub holds: bool,
     /// The line.
-    pub line: TreeLine<'a>,
+    pub line: TreeLine<&'a [u8]>,
 }
 
 /// Says a line.
 ///
 /// # Errors
 /// A write of the report that failed.
-pub fn say_line<W: Output>(report: &mut Report<'_, W>, line: &TreeLine<'_>) -> Result<(), OutFault>
+pub fn say_line<W: Output>(
+    report: &mut Report<'_, W>,
+    line: &TreeLine<&[u8]>,
+) -> Result<(), OutFault>
     ensures { SaysTreeMessages (progress W.sink report.old) (progress W.sink report.new)
         (reported true (tree_message line.now)) result }
 {
@@ -318,6 +311,7 @@ pub fn say_line<W: Output>(report: &mut Report<'_, W>, line: &TreeLine<'_>) -> R
         TreeLine::Directory(line) => report.say(&Line::Directory(line)),
         TreeLine::Dot(line) => report.say(&Line::Dot(line)),
         TreeLine::Entry(line) => report.say(&Line::Entry(line)),
+        TreeLine::Reference(line) => report.say(&Line::Reference(line)),
     }
 }
 

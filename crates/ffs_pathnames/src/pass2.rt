@@ -9,7 +9,7 @@ ghost use Rattle.ffs_pathnames.specs.{Phase2.{Phase2Ends, Phase2Reads}, RootAnsw
 ghost use Rattle.ffs_survey.specs.Survey.{suspect_at};
 ghost use Rattle.ffs_volume.specs.Messages.Kinds as messages;
 
-use crate::header::{LineIf, TreeLine, say_if, say_line};
+use crate::header::{LineIf, say_if, say_line};
 use crate::inodes::Inodes;
 use crate::tree::check_tree;
 use ffs_image::Image;
@@ -17,6 +17,7 @@ use ffs_layout::Geometry;
 use ffs_names::survey;
 use ffs_report::{DirectoryLine, Heading, Line, OutFault, Output, Report, RunFault};
 use ffs_volume::kinds::Kind;
+use ffs_volume::tree_lines::TreeLine;
 use ffs_workspace::Workspace;
 
 /// Whether the check continues after the root, or ends there, in phase 2: inode 2 is no directory.

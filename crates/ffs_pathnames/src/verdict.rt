@@ -6,13 +6,14 @@ ghost use Rattle.ffs_pathnames.specs.Sees.{HasFlagAndWord, HasFlagAndWordOf, Pas
 ghost use Rattle.ffs_pathnames.specs.Verdicts.{suspect_message, links_reported, defects_reported, verdict_reported};
 ghost use Rattle.ffs_report.specs.Progress.{progress};
 
-use crate::header::{LineIf, TreeLine, say_line, say_two};
+use crate::header::{LineIf, say_line, say_two};
 use crate::inodes::Inodes;
 use crate::look::is_bad_whiteout;
 use ffs_layout::Entry;
 use ffs_memory::FilledList;
 use ffs_report::{EntryLine, OutFault, Output, Report};
 use ffs_volume::constants::{ROOTINO, WINO};
+use ffs_volume::tree_lines::TreeLine;
 use ffs_volume::{Attr, Label, Role};
 use ffs_workspace::passed;
 

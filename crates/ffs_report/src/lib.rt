@@ -40,8 +40,9 @@ mod tree_lines;
 
 pub use counted::Counted;
 pub use fault::RunFault;
+pub use ffs_volume::tree_lines::{DirectoryLine, DotLine, EntryLine, ReferenceLine};
 pub use fuse::FuseWriter;
-pub use line::{DirectoryLine, DotLine, EntryLine, Heading, Line, ReferenceLine};
+pub use line::{Heading, Line};
 pub use muted::MutedWriter;
 pub use outlet::Outlet;
 pub use output::{OutFault, Output};

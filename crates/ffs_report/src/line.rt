@@ -1,5 +1,6 @@
 //! The lines of a report.
-use ffs_volume::{Attr, BlockMessage, Label, SuperFault};
+use ffs_volume::tree_lines::{DirectoryLine, DotLine, EntryLine, ReferenceLine};
+use ffs_volume::{BlockMessage, SuperFault};
 
 /// A line of a report, with its questions: what `say` prints (fsck(8)). It is a message of the
 /// report (`Message` of the definitions).
@@ -36,11 +37,11 @@ pub enum Line<'a> {
     /// The block check, or the check of cylinder groups.
     Block(BlockMessage),
     /// A directory as a whole.
-    Directory(DirectoryLine<'a>),
+    Directory(DirectoryLine<&'a [u8]>),
     /// The entries `.` and `..` of a directory.
-    Dot(DotLine<'a>),
+    Dot(DotLine<&'a [u8]>),
     /// A further entry of a directory.
-    Entry(EntryLine<'a>),
+    Entry(EntryLine<&'a [u8]>),
     /// An inode by the entries that name it.
     Reference(ReferenceLine),
     /// What the volume holds: its files and directories; the claimed fragments, `used` (reserved
@@ -71,160 +72,4 @@ pub enum Heading {
     Phase4,
     /// The group check.
     Phase5,
-}
-
-/// What is wrong with a directory as a whole: `attr` has its attributes, `path` is its path
-/// (dir(5)).
-#[derive(Clone, Copy, Debug)]
-pub enum DirectoryLine<'a> {
-    /// Inode 2 isn't allocated.
-    RootNone,
-    /// Inode 2 is no directory.
-    RootNotDir,
-    /// Inode 2 is marked, or has size 0.
-    RootSuspect,
-    /// It has fewer than 24 bytes.
-    DirShort { attr: Attr, path: &'a [u8] },
-    /// Its size, in bytes, is no multiple of 512.
-    DirLength { path: &'a [u8], size: u64 },
-    /// It has a hole (CONTAINS EMPTY BLOCKS). This isn't a directory of size 0.
-    DirEmpty { path: &'a [u8] },
-    /// A chunk of it isn't sound.
-    DirCorrupt { attr: Attr, path: &'a [u8] },
-}
-
-/// What is wrong with the entries `.` and `..` of a directory: `attr` has the directory's
-/// attributes, `path` is its path (dir(5)).
-#[derive(Clone, Copy, Debug)]
-pub enum DotLine<'a> {
-    /// The first entry isn't `.`.
-    MissingDot {
-        attr: Attr,
-        path: &'a [u8],
-    },
-    /// The first entry has this name in place of `.`.
-    MissingDotFirst {
-        attr: Attr,
-        path: &'a [u8],
-        name: &'a [u8],
-    },
-    /// `.` has another number than the directory.
-    NumberDot {
-        attr: Attr,
-        path: &'a [u8],
-    },
-    /// `.` hasn't the type of a directory.
-    KindDot {
-        attr: Attr,
-        path: &'a [u8],
-    },
-    /// The second entry isn't `..`.
-    MissingDotdot {
-        attr: Attr,
-        path: &'a [u8],
-    },
-    /// The second entry has this name in place of `..`.
-    MissingDotdotSecond {
-        attr: Attr,
-        path: &'a [u8],
-        name: &'a [u8],
-    },
-    /// `..` has another number than the directory's parent.
-    NumberDotdot {
-        attr: Attr,
-        path: &'a [u8],
-    },
-    /// `..` hasn't the type of a directory.
-    KindDotdot {
-        attr: Attr,
-        path: &'a [u8],
-    },
-    /// There is a further `.`.
-    ExtraDot {
-        attr: Attr,
-        path: &'a [u8],
-    },
-    /// There is a further `..`.
-    ExtraDotdot {
-        attr: Attr,
-        path: &'a [u8],
-    },
-}
-
-/// What is wrong with an entry: `attr` has the attributes of the inode that it names, `path` is the
-/// entry's path (dir(5)).
-#[derive(Clone, Copy, Debug)]
-pub enum EntryLine<'a> {
-    /// It has a number that no inode of the volume has.
-    OutOfRange {
-        number: u32,
-        path: &'a [u8],
-    },
-    /// It has the number or the type of a whiteout, and not both.
-    Whiteout {
-        number: u32,
-        path: &'a [u8],
-    },
-    /// It names an inode that isn't allocated.
-    Unallocated {
-        attr: Attr,
-        path: &'a [u8],
-    },
-    /// It names an inode that is marked.
-    DupBad {
-        label: Label,
-        attr: Attr,
-        path: &'a [u8],
-    },
-    /// It names a directory of size 0.
-    ZeroDir {
-        attr: Attr,
-        path: &'a [u8],
-    },
-    /// It is a further name of a directory, whose own path is `dir`.
-    Extraneous {
-        path: &'a [u8],
-        dir: &'a [u8],
-    },
-    /// Its type isn't that of the inode.
-    KindEntry {
-        label: Label,
-        attr: Attr,
-        path: &'a [u8],
-    },
-}
-
-/// What is wrong with an inode by the entries that name it: `attr` has its attributes.
-#[derive(Clone, Copy, Debug)]
-pub enum ReferenceLine {
-    /// A directory that can't be reached from the root (phase 3).
-    UnrefDir {
-        attr: Attr,
-    },
-    /// A marked inode that no plain entry names (phase 4, as all that follow).
-    DeadMarked {
-        label: Label,
-        attr: Attr,
-    },
-    /// A directory of size 0 that no plain entry names.
-    DeadZero {
-        attr: Attr,
-    },
-    /// A file or a directory without a reference, whose count of links isn't 0.
-    Unref {
-        label: Label,
-        attr: Attr,
-    },
-    /// A file or a directory without a reference, whose count of links is 0.
-    UnrefZero {
-        label: Label,
-        attr: Attr,
-    },
-    /// A count of links that isn't the right one, the number of references.
-    LinkCount {
-        label: Label,
-        attr: Attr,
-        count: i16,
-        right: u64,
-    },
 }

@@ -1,17 +1,16 @@
 //! Prints what is wrong with directories, their entries and the references to inodes.
 ghost use Rattle.std.specs.Prelude.{◌≡◌};
 ghost use Rattle.ffs_report.specs.Sink.{Prints};
-ghost use Rattle.ffs_report.specs.Lines.{directory_message, dot_message, entry_message, reference_message};
 ghost use Rattle.ffs_volume.specs.declared.Label.TheVariants.{Dir};
-ghost use Rattle.ffs_volume.specs.Messages.Texts.{path_label, file_label, attr_text, inode_text, labelled_text, path_text, name_in_the_way_text, length_text, entry_text, extraneous_text, links_text, tree_message_text};
+ghost use Rattle.ffs_volume.specs.Messages.Texts.{path_label, file_label, attr_text, inode_text, labelled_text, path_text, name_in_the_way_text, length_text, entry_text, extraneous_text, links_text, directory_line_text, dot_line_text, entry_line_text, reference_line_text, directory_message, dot_message, entry_message};
 
-use crate::line::{DirectoryLine, DotLine, EntryLine, ReferenceLine};
 use crate::output::{OutFault, Output};
 use crate::piece::Piece;
 use crate::print::{
     print, print_count, print_number, print_octal, print_pieces, print_shown, print_signed,
 };
 use ffs_volume::texts::*;
+use ffs_volume::tree_lines::{DirectoryLine, DotLine, EntryLine, ReferenceLine};
 use ffs_volume::{Attr, Label};
 
 fn file_label(label: Label) -> &'static [u8]
@@ -192,8 +191,8 @@ fn print_dir<W: Output>(
 ///
 /// # Errors
 /// A write to the output that failed.
-pub fn print_directory<W: Output>(out: &mut W, line: &DirectoryLine<'_>) -> Result<(), OutFault>
-    ensures { Prints (W.sink out.old) (W.sink out.new) (tree_message_text
+pub fn print_directory<W: Output>(out: &mut W, line: &DirectoryLine<&[u8]>) -> Result<(), OutFault>
+    ensures { Prints (W.sink out.old) (W.sink out.new) (directory_line_text
         (directory_message line.now)) result }
 {
     match line {
@@ -224,8 +223,8 @@ pub fn print_directory<W: Output>(out: &mut W, line: &DirectoryLine<'_>) -> Resu
 ///
 /// # Errors
 /// A write to the output that failed.
-pub fn print_dot<W: Output>(out: &mut W, line: &DotLine<'_>) -> Result<(), OutFault>
-    ensures { Prints (W.sink out.old) (W.sink out.new) (tree_message_text
+pub fn print_dot<W: Output>(out: &mut W, line: &DotLine<&[u8]>) -> Result<(), OutFault>
+    ensures { Prints (W.sink out.old) (W.sink out.new) (dot_line_text
         (dot_message line.now)) result }
 {
     match line {
@@ -260,8 +259,8 @@ pub fn print_dot<W: Output>(out: &mut W, line: &DotLine<'_>) -> Result<(), OutFa
 ///
 /// # Errors
 /// A write to the output that failed.
-pub fn print_entry<W: Output>(out: &mut W, line: &EntryLine<'_>) -> Result<(), OutFault>
-    ensures { Prints (W.sink out.old) (W.sink out.new) (tree_message_text
+pub fn print_entry<W: Output>(out: &mut W, line: &EntryLine<&[u8]>) -> Result<(), OutFault>
+    ensures { Prints (W.sink out.old) (W.sink out.new) (entry_line_text
         (entry_message line.now)) result }
 {
     match line {
@@ -297,8 +296,8 @@ pub fn print_entry<W: Output>(out: &mut W, line: &EntryLine<'_>) -> Result<(), O
 /// # Errors
 /// A write to the output that failed.
 pub fn print_reference<W: Output>(out: &mut W, line: &ReferenceLine) -> Result<(), OutFault>
-    ensures { Prints (W.sink out.old) (W.sink out.new) (tree_message_text
-        (reference_message line.now)) result }
+    ensures { Prints (W.sink out.old) (W.sink out.new) (reference_line_text line.now)
+        result }
 {
     match line {
         ReferenceLine::UnrefDir { attr } => print_inode(out, UNREF_DIR, attr, RECONNECT),

@@ -13,6 +13,7 @@ pub mod constants;
 pub mod kinds;
 pub mod laws;
 pub mod texts;
+pub mod tree_lines;
 
 /// The order of the bytes in the numbers of an image.
 #[derive(Clone, Copy, Debug, PartialEq, Eq)]

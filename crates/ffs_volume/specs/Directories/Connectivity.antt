@@ -2,7 +2,9 @@
 use Rattle.std.specs.Prelude.{ℕ, Bool, List}
 use Rattle.ffs_volume.specs.Directories.{Roles.{Volume, is_suspect}, Graph.{is_unref_dir_in, is_dead_in}}
 use Rattle.ffs_volume.specs.{Directories.Parents.graph_of, Messages.Kinds.{TreeMessage, reported, lines_below}}
-use Rattle.ffs_volume.specs.{Messages.Kinds.unref_dir, Directories.PathnameCheck.attributes}
+use Rattle.ffs_volume.specs.{Directories.PathnameCheck.attributes}
+use Rattle.ffs_volume.specs.declared.tree_lines.ReferenceLine.TheVariants.{UnrefDir}
+use Rattle.ffs_volume.specs.declared.tree_lines.TreeLine.TheVariants.{Reference as of_reference}
 
 -- x is dead: suspect, other than 2, and named by no plain entry
 abbrev pub is_dead : Volume → ℕ → Bool
@@ -14,4 +16,5 @@ is_unref_dir vol d = is_unref_dir_in (graph_of vol) (is_suspect vol) d
 
 -- the lines of phase 3
 unfoldable pub connectivity_lines : Volume → List TreeMessage
-connectivity_lines vol = lines_below (λ d. reported (is_unref_dir vol d) (unref_dir (attributes vol d))) vol.count
+connectivity_lines vol = lines_below (λ d. reported (is_unref_dir vol d)
+    (of_reference (UnrefDir (attributes vol d)))) vol.count

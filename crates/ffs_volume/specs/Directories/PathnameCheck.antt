@@ -11,11 +11,16 @@ use Rattle.ffs_volume.specs.{Blocks.Inodes.is_unknown, Directories.Roles.{Volume
 use Rattle.ffs_volume.specs.Directories.Roles.{is_one_dot, is_two_dots, start_entry, dot, dotdot, roled_entries}
 use Rattle.ffs_volume.specs.Directories.{Graph.parent, Parents.{graph_of, is_first_naming_entry, is_parent_entry}}
 use Rattle.ffs_volume.specs.{Directories.Paths.{dir_path, entry_path}, Messages.Kinds.{TreeMessage, reported}}
-use Rattle.ffs_volume.specs.Messages.Kinds.{lines_below, root_none, root_not_dir, root_suspect, dir_short, dir_length}
-use Rattle.ffs_volume.specs.Messages.Kinds.{dir_empty, dir_corrupt, missing_dot, missing_dot_first, number_dot}
-use Rattle.ffs_volume.specs.Messages.Kinds.{kind_dot, missing_dotdot, missing_dotdot_second, number_dotdot, kind_dotdot}
-use Rattle.ffs_volume.specs.Messages.Kinds.{extra_dot, extra_dotdot, out_of_range, whiteout, unallocated, dup_bad}
-use Rattle.ffs_volume.specs.Messages.Kinds.{zero_dir, extraneous, kind_entry}
+use Rattle.ffs_volume.specs.Messages.Kinds.{lines_below}
+use Rattle.ffs_volume.specs.declared.tree_lines.DirectoryLine.TheVariants.{DirCorrupt, DirEmpty, DirLength, DirShort}
+use Rattle.ffs_volume.specs.declared.tree_lines.DirectoryLine.TheVariants.{RootNone, RootNotDir, RootSuspect}
+use Rattle.ffs_volume.specs.declared.tree_lines.DotLine.TheVariants.{ExtraDot, ExtraDotdot, KindDot, KindDotdot}
+use Rattle.ffs_volume.specs.declared.tree_lines.DotLine.TheVariants.{MissingDot, MissingDotFirst, MissingDotdot}
+use Rattle.ffs_volume.specs.declared.tree_lines.DotLine.TheVariants.{MissingDotdotSecond, NumberDot, NumberDotdot}
+use Rattle.ffs_volume.specs.declared.tree_lines.EntryLine.TheVariants.{DupBad, Extraneous, KindEntry, OutOfRange}
+use Rattle.ffs_volume.specs.declared.tree_lines.EntryLine.TheVariants.{Unallocated, Whiteout, ZeroDir}
+use Rattle.ffs_volume.specs.declared.tree_lines.TreeLine.TheVariants.{Directory as of_directory, Dot as of_dot}
+use Rattle.ffs_volume.specs.declared.tree_lines.TreeLine.TheVariants.{Entry as of_entry}
 
 -- what messages show of an inode of this number
 abbrev pub attributes_of : ℕ → Inode → Attr
@@ -40,11 +45,11 @@ label_of Free = NameLabel
 
 -- the message on the root, by its class
 abbrev pub root_lines_of : Volume → Class → List TreeMessage
-root_lines_of vol Free = root_none ∷ []
-root_lines_of vol Partial = root_none ∷ []
-root_lines_of vol File = root_not_dir ∷ []
-root_lines_of vol Unknown = root_not_dir ∷ []
-root_lines_of vol Dir = reported (is_suspect vol ROOTINO) root_suspect
+root_lines_of vol Free = of_directory RootNone ∷ []
+root_lines_of vol Partial = of_directory RootNone ∷ []
+root_lines_of vol File = of_directory RootNotDir ∷ []
+root_lines_of vol Unknown = of_directory RootNotDir ∷ []
+root_lines_of vol Dir = reported (is_suspect vol ROOTINO) (of_directory RootSuspect)
 
 -- the message on the root
 unfoldable pub root_lines : Volume → List TreeMessage
@@ -69,25 +74,26 @@ are_sound chunks = list_all (λ c. c.sound) chunks
 -- the messages on a directory's size, Gaps and chunks
 unfoldable pub shape_lines : Volume → ℕ → List TreeMessage
 shape_lines vol d =
-    reported (is_short vol d) (dir_short (attributes vol d) (dir_path (graph_of vol) d))
-    ++ (reported (has_partial_chunk vol d) (dir_length (dir_path (graph_of vol) d) (vol.inode d).size)
-    ++ (reported (vol.gap d) (dir_empty (dir_path (graph_of vol) d))
-    ++ reported (not (are_sound (vol.chunks d))) (dir_corrupt (attributes vol d) (dir_path (graph_of vol) d))))
+    reported (is_short vol d) (of_directory (DirShort (attributes vol d) (dir_path (graph_of vol) d)))
+    ++ (reported (has_partial_chunk vol d) (of_directory (DirLength (dir_path (graph_of vol) d) (vol.inode d).size))
+    ++ (reported (vol.gap d) (of_directory (DirEmpty (dir_path (graph_of vol) d)))
+    ++ reported (not (are_sound (vol.chunks d)))
+    (of_directory (DirCorrupt (attributes vol d) (dir_path (graph_of vol) d)))))
 
 -- the message where there is no `.`, by the entry that is first; it shows the name of a live entry
 -- other than `..`
 abbrev pub missing_dot_lines : Attr → List ℕ → Option Entry → List TreeMessage
-missing_dot_lines about path None = missing_dot about path ∷ []
+missing_dot_lines about path None = of_dot (MissingDot about path) ∷ []
 missing_dot_lines about path (Some e) =
-    if is_live e && not (is_two_dots e.name) then missing_dot_first about path e.name ∷ []
-    else missing_dot about path ∷ []
+    if is_live e && not (is_two_dots e.name) then of_dot (MissingDotFirst about path e.name) ∷ []
+    else of_dot (MissingDot about path) ∷ []
 
 -- the messages on `.`, by whether there is one
 abbrev pub dot_lines_of : Volume → ℕ → Option Entry → List TreeMessage
 dot_lines_of vol d None = missing_dot_lines (attributes vol d) (dir_path (graph_of vol) d) (start_entry vol d 0)
 dot_lines_of vol d (Some e) =
-    reported (not (e.number == d)) (number_dot (attributes vol d) (dir_path (graph_of vol) d))
-    ++ reported (not (e.kind == DT_DIR)) (kind_dot (attributes vol d) (dir_path (graph_of vol) d))
+    reported (not (e.number == d)) (of_dot (NumberDot (attributes vol d) (dir_path (graph_of vol) d)))
+    ++ reported (not (e.kind == DT_DIR)) (of_dot (KindDot (attributes vol d) (dir_path (graph_of vol) d)))
 
 -- the messages on `.`
 unfoldable pub dot_lines : Volume → ℕ → List TreeMessage
@@ -96,10 +102,10 @@ dot_lines vol d = dot_lines_of vol d (dot vol d)
 -- the message where there is no `..`, by the entry that is second; it shows the name of a live
 -- entry other than `.`
 abbrev pub missing_dotdot_lines : Attr → List ℕ → Option Entry → List TreeMessage
-missing_dotdot_lines about path None = missing_dotdot about path ∷ []
+missing_dotdot_lines about path None = of_dot (MissingDotdot about path) ∷ []
 missing_dotdot_lines about path (Some e) =
-    if is_live e && not (is_one_dot e.name) then missing_dotdot_second about path e.name ∷ []
-    else missing_dotdot about path ∷ []
+    if is_live e && not (is_one_dot e.name) then of_dot (MissingDotdotSecond about path e.name) ∷ []
+    else of_dot (MissingDotdot about path) ∷ []
 
 -- there is a parent, and it isn't n
 abbrev pub is_wrong_parent : Option ℕ → (n : ℕ) → Bool
@@ -112,8 +118,8 @@ dotdot_lines_of vol d None =
     missing_dotdot_lines (attributes vol d) (dir_path (graph_of vol) d) (start_entry vol d 1)
 dotdot_lines_of vol d (Some e) =
     reported (is_wrong_parent (parent (graph_of vol) d) e.number)
-    (number_dotdot (attributes vol d) (dir_path (graph_of vol) d))
-    ++ reported (not (e.kind == DT_DIR)) (kind_dotdot (attributes vol d) (dir_path (graph_of vol) d))
+    (of_dot (NumberDotdot (attributes vol d) (dir_path (graph_of vol) d)))
+    ++ reported (not (e.kind == DT_DIR)) (of_dot (KindDotdot (attributes vol d) (dir_path (graph_of vol) d)))
 
 -- the messages on `..`
 unfoldable pub dotdot_lines : Volume → ℕ → List TreeMessage
@@ -122,7 +128,7 @@ dotdot_lines vol d = dotdot_lines_of vol d (dotdot vol d)
 -- the message on an extra entry
 abbrev pub extra_lines : Attr → List ℕ → Entry → List TreeMessage
 extra_lines about path e =
-    if is_one_dot e.name then extra_dot about path ∷ [] else extra_dotdot about path ∷ []
+    if is_one_dot e.name then of_dot (ExtraDot about path) ∷ [] else of_dot (ExtraDotdot about path) ∷ []
 
 -- the entry has the number of a whiteout, WINO, without its type, DT_WHT, or the type without the
 -- number. A whiteout hides a name of the file system below in a union mount, and names no inode
@@ -139,7 +145,8 @@ is_first_entry_of_suspect vol s j x =
 -- the message on a suspect that an entry names: DUP/BAD where x is marked, else ZERO LENGTH DIRECTORY
 abbrev pub message_on_suspect : (vol : Volume) (x : ℕ) (path : List ℕ) → TreeMessage
 message_on_suspect vol x path =
-    if vol.marked x then dup_bad (attributes vol x) (label_of (vol.class x)) path else zero_dir (attributes vol x) path
+    if vol.marked x then of_entry (DupBad (label_of (vol.class x)) (attributes vol x) path)
+    else of_entry (ZeroDir (attributes vol x) path)
 
 -- x is a directory, and this entry, which names it, isn't its parent entry
 abbrev pub is_extraneous : (vol : Volume) (s j x : ℕ) → Bool
@@ -155,18 +162,19 @@ named_lines vol s j e =
     reported (is_first_entry_of_suspect vol s j e.number)
     (message_on_suspect vol e.number (entry_path (graph_of vol) s e.name))
     ++ (reported (is_extraneous vol s j e.number)
-    (extraneous (entry_path (graph_of vol) s e.name) (dir_path (graph_of vol) e.number))
+    (of_entry (Extraneous (entry_path (graph_of vol) s e.name) (dir_path (graph_of vol) e.number)))
     ++ reported (has_wrong_type vol e)
-    (kind_entry (attributes vol e.number) (label_of (vol.class e.number)) (entry_path (graph_of vol) s e.name)))
+    (of_entry (KindEntry (label_of (vol.class e.number)) (attributes vol e.number)
+    (entry_path (graph_of vol) s e.name))))
 
 -- the messages on any plain entry at index j of the directory s
 unfoldable pub plain_lines : (vol : Volume) (s j : ℕ) (e : Entry) → List TreeMessage
 plain_lines vol s j e =
-    if not (nat_lt e.number vol.count) then out_of_range e.number (entry_path (graph_of vol) s e.name) ∷ []
-    else (if is_bad_whiteout e then whiteout e.number (entry_path (graph_of vol) s e.name) ∷ []
+    if not (nat_lt e.number vol.count) then of_entry (OutOfRange e.number (entry_path (graph_of vol) s e.name)) ∷ []
+    else (if is_bad_whiteout e then of_entry (Whiteout e.number (entry_path (graph_of vol) s e.name)) ∷ []
     else (if e.number == WINO then []
     else (if not (is_allocated (vol.class e.number))
-    then unallocated (attributes vol e.number) (entry_path (graph_of vol) s e.name) ∷ []
+    then of_entry (Unallocated (attributes vol e.number) (entry_path (graph_of vol) s e.name)) ∷ []
     else named_lines vol s j e)))
 
 -- the messages on an entry at index j of the directory s, by its role

@@ -1,21 +1,25 @@
 -- What the check of reference counts, phase 4, reports.
 use Rattle.std.specs.Prelude.{ℕ, ◌==◌, not, List, [], ◌∷◌, if◌then◌else◌}
 use Rattle.ffs_volume.specs.{Disk.Numbers.equals_natural, Directories.Roles.{Volume, is_allocated_inode, references}}
-use Rattle.ffs_volume.specs.Messages.Kinds.{TreeMessage, lines_below, reported, dead_marked, dead_zero, unref}
-use Rattle.ffs_volume.specs.{Messages.Kinds.{unref_zero, link_count}, Directories.PathnameCheck.{attributes, label_of}}
+use Rattle.ffs_volume.specs.Messages.Kinds.{TreeMessage, lines_below, reported}
+use Rattle.ffs_volume.specs.{Directories.PathnameCheck.{attributes, label_of}}
 use Rattle.ffs_volume.specs.Directories.Connectivity.{is_dead}
+use Rattle.ffs_volume.specs.declared.tree_lines.ReferenceLine.TheVariants.{DeadMarked, DeadZero, LinkCount, Unref}
+use Rattle.ffs_volume.specs.declared.tree_lines.ReferenceLine.TheVariants.{UnrefZero}
+use Rattle.ffs_volume.specs.declared.tree_lines.TreeLine.TheVariants.{Reference as of_reference}
 
 -- the message on a dead inode
 abbrev pub dead_lines : Volume → ℕ → List TreeMessage
 dead_lines vol i =
-    if vol.marked i then dead_marked (label_of (vol.class i)) (attributes vol i) ∷ []
-    else dead_zero (attributes vol i) ∷ []
+    if vol.marked i then of_reference (DeadMarked (label_of (vol.class i)) (attributes vol i)) ∷ []
+    else of_reference (DeadZero (attributes vol i)) ∷ []
 
 -- the message on an inode without references
 abbrev pub unref_lines : Volume → ℕ → List TreeMessage
 unref_lines vol i =
-    if equals_natural (vol.inode i).nlink 0 then unref_zero (label_of (vol.class i)) (attributes vol i) ∷ []
-    else unref (label_of (vol.class i)) (attributes vol i) ∷ []
+    if equals_natural (vol.inode i).nlink 0
+    then of_reference (UnrefZero (label_of (vol.class i)) (attributes vol i)) ∷ []
+    else of_reference (Unref (label_of (vol.class i)) (attributes vol i)) ∷ []
 
 -- the message on an allocated inode: it is dead, has no references, or another count of links
 unfoldable pub inode_lines : Volume → ℕ → List TreeMessage
@@ -23,7 +27,7 @@ inode_lines vol i =
     if is_dead vol i then dead_lines vol i
     else (if references vol i == 0 then unref_lines vol i
     else reported (not (equals_natural (vol.inode i).nlink (references vol i)))
-    (link_count (label_of (vol.class i)) (attributes vol i) (vol.inode i).nlink (references vol i)))
+    (of_reference (LinkCount (label_of (vol.class i)) (attributes vol i) (vol.inode i).nlink (references vol i))))
 
 -- the message on the number i: none where it isn't that of an allocated inode
 abbrev pub reference_lines_at : Volume → ℕ → List TreeMessage

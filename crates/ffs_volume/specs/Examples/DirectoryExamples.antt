@@ -8,14 +8,22 @@ use Rattle.ffs_volume.specs.declared.{Role.TheVariants.Plain, Step.TheVariants.{
 use Rattle.ffs_volume.specs.Directories.Entries.{Entry, Chunk, ChunkSource, entry_at, entries_of, is_sound, chunks_of}
 use Rattle.ffs_volume.specs.Directories.{Entries.{has_gap, bytes_read}, Roles.{Volume, role_of, references}}
 use Rattle.ffs_volume.specs.Directories.{Graph.{level, parent}, Parents.graph_of, Paths.{path_bytes, dir_path}}
-use Rattle.ffs_volume.specs.{Directories.Paths.entry_path, Messages.Kinds.{root_none, root_not_dir, root_suspect}}
-use Rattle.ffs_volume.specs.Messages.Kinds.{dir_short, dir_length, dir_empty, missing_dot, missing_dot_first}
-use Rattle.ffs_volume.specs.Messages.Kinds.{number_dot, kind_dot, missing_dotdot, missing_dotdot_second, number_dotdot}
-use Rattle.ffs_volume.specs.Messages.Kinds.{kind_dotdot, extra_dot, extra_dotdot, out_of_range, whiteout, zero_dir}
-use Rattle.ffs_volume.specs.Messages.Kinds.{extraneous, kind_entry, unref_dir, dead_marked, dead_zero, unref}
-use Rattle.ffs_volume.specs.{Messages.Kinds.{unref_zero, link_count}, Directories.PathnameCheck.pathname_lines}
+use Rattle.ffs_volume.specs.{Directories.Paths.entry_path}
+use Rattle.ffs_volume.specs.{Directories.PathnameCheck.pathname_lines}
 use Rattle.ffs_volume.specs.Directories.{Connectivity.connectivity_lines, ReferenceCheck.reference_lines}
 use Rattle.ffs_volume.specs.Examples.Images.{bytes_in, word, zero_bytes, root_chunk}
+use Rattle.ffs_volume.specs.declared.tree_lines.EntryLine.TheVariants.{Extraneous, KindEntry, OutOfRange, Whiteout}
+use Rattle.ffs_volume.specs.declared.tree_lines.EntryLine.TheVariants.{ZeroDir}
+use Rattle.ffs_volume.specs.declared.tree_lines.DotLine.TheVariants.{ExtraDot, ExtraDotdot, KindDot, KindDotdot}
+use Rattle.ffs_volume.specs.declared.tree_lines.DotLine.TheVariants.{MissingDot, MissingDotFirst, MissingDotdot}
+use Rattle.ffs_volume.specs.declared.tree_lines.DotLine.TheVariants.{MissingDotdotSecond, NumberDot, NumberDotdot}
+use Rattle.ffs_volume.specs.declared.tree_lines.DirectoryLine.TheVariants.{DirEmpty, DirLength, DirShort, RootNone}
+use Rattle.ffs_volume.specs.declared.tree_lines.DirectoryLine.TheVariants.{RootNotDir, RootSuspect}
+use Rattle.ffs_volume.specs.declared.tree_lines.ReferenceLine.TheVariants.{DeadMarked, DeadZero, LinkCount, Unref}
+use Rattle.ffs_volume.specs.declared.tree_lines.ReferenceLine.TheVariants.{UnrefDir, UnrefZero}
+use Rattle.ffs_volume.specs.declared.tree_lines.TreeLine.TheVariants.{Entry as of_entry, Dot as of_dot}
+use Rattle.ffs_volume.specs.declared.tree_lines.TreeLine.TheVariants.{Directory as of_directory}
+use Rattle.ffs_volume.specs.declared.tree_lines.TreeLine.TheVariants.{Reference as of_reference}
 
 -- the bytes of an entry: its number, length, type and name
 unfoldable pub entry_bytes : Order → ℕ → ℕ → ℕ → List ℕ → List ℕ
@@ -225,40 +233,46 @@ pub record PathnameExamples : Type 0 where
   pub base : pathname_lines (alone (dots 2 2 [])) ≡ []
   pub cycle : pathname_lines lost_cycle ≡ []
   -- the second of two links; an entry of a directory below the root that names no inode
-  pub second_link : pathname_lines twice ≡ extraneous (47 ∷ 98 ∷ []) (47 ∷ 97 ∷ []) ∷ []
+  pub second_link : pathname_lines twice ≡ of_entry (Extraneous (47 ∷ 98 ∷ []) (47 ∷ 97 ∷ [])) ∷ []
   pub no_inode : pathname_lines (sub (dots 3 2 (entry 99 8 (113 ∷ []) ∷ [])))
-      ≡ out_of_range 99 (47 ∷ 97 ∷ 47 ∷ 113 ∷ []) ∷ []
+      ≡ of_entry (OutOfRange 99 (47 ∷ 97 ∷ 47 ∷ 113 ∷ [])) ∷ []
   -- `.` and `..` that are missing, that have other entries in their places, that are swapped, and
   -- that are wrong
-  pub no_dots : pathname_lines (alone []) ≡ missing_dot (about 2) (47 ∷ []) ∷ missing_dotdot (about 2) (47 ∷ []) ∷ []
+  pub no_dots : pathname_lines (alone [])
+      ≡ of_dot (MissingDot (about 2) (47 ∷ [])) ∷ of_dot (MissingDotdot (about 2) (47 ∷ [])) ∷ []
   pub others_first : pathname_lines (alone (entry 1 14 (97 ∷ []) ∷ entry 1 14 (98 ∷ []) ∷ []))
-      ≡ missing_dot_first (about 2) (47 ∷ []) (97 ∷ []) ∷ missing_dotdot_second (about 2) (47 ∷ []) (98 ∷ []) ∷ []
+      ≡ of_dot (MissingDotFirst (about 2) (47 ∷ []) (97 ∷ []))
+      ∷ of_dot (MissingDotdotSecond (about 2) (47 ∷ []) (98 ∷ [])) ∷ []
   pub turned : pathname_lines (alone (entry 2 4 two_dots ∷ entry 2 4 one_dot ∷ []))
-      ≡ missing_dot (about 2) (47 ∷ []) ∷ missing_dotdot (about 2) (47 ∷ []) ∷ extra_dotdot (about 2) (47 ∷ [])
-      ∷ extra_dot (about 2) (47 ∷ []) ∷ []
+      ≡ of_dot (MissingDot (about 2) (47 ∷ [])) ∷ of_dot (MissingDotdot (about 2) (47 ∷ []))
+      ∷ of_dot (ExtraDotdot (about 2) (47 ∷ []))
+      ∷ of_dot (ExtraDot (about 2) (47 ∷ [])) ∷ []
   pub wrong_dots : pathname_lines (sub (entry 2 8 one_dot ∷ entry 3 8 two_dots ∷ []))
-      ≡ number_dot (about 3) (47 ∷ 97 ∷ []) ∷ kind_dot (about 3) (47 ∷ 97 ∷ []) ∷ number_dotdot (about 3) (47 ∷ 97 ∷ [])
-      ∷ kind_dotdot (about 3) (47 ∷ 97 ∷ []) ∷ []
+      ≡ of_dot (NumberDot (about 3) (47 ∷ 97 ∷ [])) ∷ of_dot (KindDot (about 3) (47 ∷ 97 ∷ []))
+      ∷ of_dot (NumberDotdot (about 3) (47 ∷ 97 ∷ []))
+      ∷ of_dot (KindDotdot (about 3) (47 ∷ 97 ∷ [])) ∷ []
   -- a whiteout that is right and two that aren't; the root entered, with another type
   pub whiteouts : pathname_lines (alone (dots 2 2 (entry 1 14 (97 ∷ []) ∷ entry 1 8 (98 ∷ []) ∷ entry 2 14 (99 ∷ [])
-      ∷ []))) ≡ whiteout 1 (47 ∷ 98 ∷ []) ∷ whiteout 2 (47 ∷ 99 ∷ []) ∷ []
+      ∷ []))) ≡ of_entry (Whiteout 1 (47 ∷ 98 ∷ [])) ∷ of_entry (Whiteout 2 (47 ∷ 99 ∷ [])) ∷ []
   pub root_entered : pathname_lines (alone (dots 2 2 (entry 2 8 (97 ∷ []) ∷ [])))
-      ≡ extraneous (47 ∷ 97 ∷ []) (47 ∷ []) ∷ kind_entry (about 2) DirLabel (47 ∷ 97 ∷ []) ∷ []
+      ≡ of_entry (Extraneous (47 ∷ 97 ∷ []) (47 ∷ [])) ∷ of_entry (KindEntry DirLabel (about 2) (47 ∷ 97 ∷ [])) ∷ []
   -- a directory of size 0, reported at its first entry alone
   pub zero_length : pathname_lines (empty_dir (entry 3 4 (97 ∷ []) ∷ entry 3 4 (98 ∷ []) ∷ []))
-      ≡ zero_dir about_empty (47 ∷ 97 ∷ []) ∷ extraneous (47 ∷ 98 ∷ []) (47 ∷ 97 ∷ []) ∷ []
+      ≡ of_entry (ZeroDir about_empty (47 ∷ 97 ∷ [])) ∷ of_entry (Extraneous (47 ∷ 98 ∷ []) (47 ∷ 97 ∷ [])) ∷ []
   -- the root unallocated, no directory, or marked
-  pub no_root : pathname_lines (record (alone []) { class = λ i. Free }) ≡ root_none ∷ []
-  pub root_file : pathname_lines (record (alone []) { class = λ i. File }) ≡ root_not_dir ∷ []
-  pub root_marked : pathname_lines (record (alone (dots 2 2 [])) { marked = λ i. true }) ≡ root_suspect ∷ []
+  pub no_root : pathname_lines (record (alone []) { class = λ i. Free }) ≡ of_directory RootNone ∷ []
+  pub root_file : pathname_lines (record (alone []) { class = λ i. File }) ≡ of_directory RootNotDir ∷ []
+  pub root_marked : pathname_lines (record (alone (dots 2 2 [])) { marked = λ i. true }) ≡ of_directory RootSuspect ∷ []
   -- a size below 24, which is reported alone, one that is no multiple of 512, and a hole
-  pub too_short : pathname_lines (sized 23) ≡ dir_short (record (about 3) { size = 23 }) (47 ∷ 97 ∷ []) ∷ []
-  pub no_multiple : pathname_lines (sized 600) ≡ dir_length (47 ∷ 97 ∷ []) 600 ∷ []
-  pub hole : pathname_lines (record (sub (dots 3 2 [])) { gap = λ i. i == 3 }) ≡ dir_empty (47 ∷ 97 ∷ []) ∷ []
+  pub too_short : pathname_lines (sized 23)
+      ≡ of_directory (DirShort (record (about 3) { size = 23 }) (47 ∷ 97 ∷ [])) ∷ []
+  pub no_multiple : pathname_lines (sized 600) ≡ of_directory (DirLength (47 ∷ 97 ∷ []) 600) ∷ []
+  pub hole : pathname_lines (record (sub (dots 3 2 [])) { gap = λ i. i == 3 })
+      ≡ of_directory (DirEmpty (47 ∷ 97 ∷ [])) ∷ []
   -- a marked root that is entered is extraneous there, and no more; the type of an unknown inode
   -- isn't compared
   pub marked_root_entered : pathname_lines (record (alone (dots 2 2 (entry 2 4 (97 ∷ []) ∷ []))) { marked = λ i. true })
-      ≡ root_suspect ∷ extraneous (47 ∷ 97 ∷ []) (47 ∷ []) ∷ []
+      ≡ of_directory RootSuspect ∷ of_entry (Extraneous (47 ∷ 97 ∷ []) (47 ∷ [])) ∷ []
   pub unknown_type : pathname_lines (record (small 4 (λ i. 2) (λ i. dots 2 2 (entry 3 8 (97 ∷ []) ∷ [])))
       { class = λ i. if i == 2 then Dir else Unknown }) ≡ []
   -- four names of 255 bytes are whole, five are cut
@@ -278,24 +292,24 @@ pub record ReferenceExamples : Type 0 where
   pub parents : (parent (graph_of twice) 2 ≡ Some 2) × (parent (graph_of twice) 3 ≡ Some 2)
       × (parent (graph_of lost_cycle) 3 ≡ Some 4)
   -- one of a cycle is reported, and what hangs below it isn't; below a dead directory, the lost one is
-  pub cycle : connectivity_lines lost_cycle ≡ unref_dir (about 3) ∷ []
-  pub cycle_below : connectivity_lines (small 6 (λ i. 3) below_entries) ≡ unref_dir (about 3) ∷ []
-  pub below_dead : connectivity_lines dead_parent ≡ unref_dir (about 4) ∷ []
+  pub cycle : connectivity_lines lost_cycle ≡ of_reference (UnrefDir (about 3)) ∷ []
+  pub cycle_below : connectivity_lines (small 6 (λ i. 3) below_entries) ≡ of_reference (UnrefDir (about 3)) ∷ []
+  pub below_dead : connectivity_lines dead_parent ≡ of_reference (UnrefDir (about 4)) ∷ []
   pub none_lost : connectivity_lines twice ≡ []
   -- counts of links
   pub references_counted : map (references twice) (2 ∷ 3 ∷ []) ≡ 3 ∷ 3 ∷ []
   pub base : reference_lines (alone (dots 2 2 [])) ≡ []
   pub cycle_counted : reference_lines lost_cycle ≡ []
-  pub second_link : reference_lines twice ≡ link_count DirLabel (about 3) (pos 2) 3 ∷ []
+  pub second_link : reference_lines twice ≡ of_reference (LinkCount DirLabel (about 3) (pos 2) 3) ∷ []
   pub extra_uncounted : reference_lines (alone (dots 2 2 (entry 2 4 two_dots ∷ []))) ≡ []
   -- dead inodes: a directory of size 0 that nothing names, and a marked one
-  pub dead_empty : reference_lines (empty_dir []) ≡ dead_zero about_empty ∷ []
+  pub dead_empty : reference_lines (empty_dir []) ≡ of_reference (DeadZero about_empty) ∷ []
   pub dead_lines : reference_lines dead_parent
-      ≡ link_count DirLabel (about 2) (pos 2) 3 ∷ dead_marked DirLabel (about 3) ∷ []
+      ≡ of_reference (LinkCount DirLabel (about 2) (pos 2) 3) ∷ of_reference (DeadMarked DirLabel (about 3)) ∷ []
   -- no reference at all: with and without links
   pub unnamed : reference_lines (record (small 4 (λ i. if i == 2 then 2 else 1)
       (λ i. if i == 2 then dots 2 2 [] else [])) { class = λ i. if i == 2 then Dir else File })
-      ≡ unref FileLabel (about 3) ∷ []
+      ≡ of_reference (Unref FileLabel (about 3)) ∷ []
   pub unlinked : reference_lines (record (small 4 (λ i. if i == 2 then 2 else 0)
       (λ i. if i == 2 then dots 2 2 [] else [])) { class = λ i. if i == 2 then Dir else File })
-      ≡ unref_zero FileLabel (about 3) ∷ []
+      ≡ of_reference (UnrefZero FileLabel (about 3)) ∷ []

@@ -1,41 +1,12 @@
 -- The messages of a report, and which of them report a defect.
 use Rattle.std.specs.{Prelude.{ℕ, zero, suc, Bool, true, false, List, [], ◌∷◌, ◌++◌, ℤ}, List.list_any}
-use Rattle.ffs_volume.specs.declared.{Attr.Attr, BlockMessage.BlockMessage, Label.Label, SuperFault.SuperFault}
+use Rattle.ffs_volume.specs.declared.{BlockMessage.BlockMessage, SuperFault.SuperFault, tree_lines.TreeLine.TreeLine}
 
 -- a message on directories, their entries or references. The rules that report them are in the
 -- folder Directories, and the text of each is in `Texts`. Paths and names have the bytes of the
 -- image; a text has `?` in place of control bytes
-pub data TreeMessage : Type 0 where
-  root_none : TreeMessage  -- ROOT INODE UNALLOCATED
-  root_not_dir : TreeMessage
-  root_suspect : TreeMessage  -- DUPS/BAD IN ROOT INODE
-  dir_short : (about : Attr) (path : List ℕ) → TreeMessage  -- DIRECTORY TOO SHORT
-  dir_length : (path : List ℕ) (size : ℕ) → TreeMessage  -- LENGTH %d NOT MULTIPLE OF 512
-  dir_empty : (path : List ℕ) → TreeMessage  -- CONTAINS EMPTY BLOCKS: it has a Gap
-  dir_corrupt : (about : Attr) (path : List ℕ) → TreeMessage  -- DIRECTORY CORRUPTED
-  missing_dot : (about : Attr) (path : List ℕ) → TreeMessage
-  missing_dot_first : (about : Attr) (path name : List ℕ) → TreeMessage  -- MISSING '.', another is first
-  number_dot : (about : Attr) (path : List ℕ) → TreeMessage  -- BAD INODE NUMBER FOR '.'
-  kind_dot : (about : Attr) (path : List ℕ) → TreeMessage  -- BAD TYPE VALUE FOR '.'
-  missing_dotdot : (about : Attr) (path : List ℕ) → TreeMessage
-  missing_dotdot_second : (about : Attr) (path name : List ℕ) → TreeMessage  -- another is second
-  number_dotdot : (about : Attr) (path : List ℕ) → TreeMessage
-  kind_dotdot : (about : Attr) (path : List ℕ) → TreeMessage  -- BAD TYPE VALUE FOR '..'
-  extra_dot : (about : Attr) (path : List ℕ) → TreeMessage
-  extra_dotdot : (about : Attr) (path : List ℕ) → TreeMessage
-  out_of_range : (number : ℕ) (path : List ℕ) → TreeMessage  -- I OUT OF RANGE
-  whiteout : (number : ℕ) (path : List ℕ) → TreeMessage  -- BAD WHITEOUT ENTRY
-  unallocated : (about : Attr) (path : List ℕ) → TreeMessage  -- an entry names a free inode
-  dup_bad : (about : Attr) (label : Label) (path : List ℕ) → TreeMessage  -- DUP/BAD, in phase 2
-  zero_dir : (about : Attr) (path : List ℕ) → TreeMessage  -- ZERO LENGTH DIRECTORY, in phase 2
-  extraneous : (path directory : List ℕ) → TreeMessage  -- IS AN EXTRANEOUS HARD LINK
-  kind_entry : (about : Attr) (label : Label) (path : List ℕ) → TreeMessage  -- BAD TYPE VALUE
-  unref_dir : (about : Attr) → TreeMessage
-  dead_marked : (label : Label) (about : Attr) → TreeMessage  -- BAD/DUP, in phase 4, without entry
-  dead_zero : (about : Attr) → TreeMessage  -- ZERO LENGTH DIR, in phase 4, of one without entry
-  unref : (label : Label) (about : Attr) → TreeMessage  -- UNREF, with links: reconnect it?
-  unref_zero : (label : Label) (about : Attr) → TreeMessage  -- UNREF, without links: clear it?
-  link_count : (label : Label) (about : Attr) (nlink : ℤ) (references : ℕ) → TreeMessage
+abbrev pub TreeMessage : Type 0
+TreeMessage = TreeLine (List ℕ)
 
 -- a message of a report: of the opening, a heading, a message of a phase, the summary, or the end
 -- of a run that isn't completed

@@ -1,7 +1,7 @@
 -- The texts of messages, in bytes: the line of a message, then each of its questions with its
 -- answer and an empty line.
 use Rattle.std.specs.{Prelude.{ℕ, ℤ, ◌/◌, ◌%◌, List, [], ◌∷◌, ◌++◌, map, decimal, unsigned_abs}, List.flat_map}
-use Rattle.std.specs.{List.concat, Fmt.signed_decimal}
+use Rattle.std.specs.{List.concat, Fmt.signed_decimal, Borrow.Bor}
 use Rattle.ffs_volume.specs.declared.{Attr.Attr, BlockMessage.{BlockMessage, TheVariants.{PartAlloc, UnknownType, Bad}}}
 use Rattle.ffs_volume.specs.declared.BlockMessage.TheVariants.{Dup, ManyBad, ManyDup, PartTrunc, BlockCount, GroupMagic}
 use Rattle.ffs_volume.specs.declared.{BlockMessage.TheVariants.{FreeCounts, MapsWrong, GroupSums}, Label.Label}
@@ -10,13 +10,19 @@ use Rattle.ffs_volume.specs.declared.SuperFault.TheVariants.{CannotRead, Magic, 
 use Rattle.ffs_volume.specs.{declared.SuperFault.TheVariants.{Shape, Short, Disagree}, Messages.Kinds.Message}
 use Rattle.ffs_volume.specs.Messages.Kinds.{location, opening, bad_super, cannot_read, cannot_alloc, optimization}
 use Rattle.ffs_volume.specs.Messages.Kinds.{minfree, mounted, phase1, phase1b, phase2, phase3, phase4, phase5}
-use Rattle.ffs_volume.specs.Messages.Kinds.{of_blocks, of_tree, summary, TreeMessage, root_none, root_not_dir}
-use Rattle.ffs_volume.specs.Messages.Kinds.{root_suspect, dir_short, dir_length, dir_empty, dir_corrupt, missing_dot}
-use Rattle.ffs_volume.specs.Messages.Kinds.{missing_dot_first, number_dot, kind_dot, missing_dotdot}
-use Rattle.ffs_volume.specs.Messages.Kinds.{missing_dotdot_second, number_dotdot, kind_dotdot, extra_dot, extra_dotdot}
-use Rattle.ffs_volume.specs.Messages.Kinds.{out_of_range, whiteout, unallocated, dup_bad, zero_dir, extraneous}
-use Rattle.ffs_volume.specs.Messages.Kinds.{kind_entry, unref_dir, dead_marked, dead_zero, unref, unref_zero}
-use Rattle.ffs_volume.specs.Messages.{Kinds.link_count, Shown.{shown, octal, sign_text}}
+use Rattle.ffs_volume.specs.Messages.{Kinds.{of_blocks, of_tree, summary}, Shown.{shown, octal, sign_text}}
+use Rattle.ffs_volume.specs.declared.tree_lines.{TreeLine.TreeLine, DirectoryLine.DirectoryLine, DotLine.DotLine}
+use Rattle.ffs_volume.specs.declared.tree_lines.{EntryLine.EntryLine, ReferenceLine.ReferenceLine}
+use Rattle.ffs_volume.specs.declared.tree_lines.TreeLine.TheVariants.{Directory, Dot, Entry, Reference}
+use Rattle.ffs_volume.specs.declared.tree_lines.DirectoryLine.TheVariants.{RootNone, RootNotDir, RootSuspect, DirShort}
+use Rattle.ffs_volume.specs.declared.tree_lines.DirectoryLine.TheVariants.{DirLength, DirEmpty, DirCorrupt}
+use Rattle.ffs_volume.specs.declared.tree_lines.DotLine.TheVariants.{MissingDot, MissingDotFirst, NumberDot, KindDot}
+use Rattle.ffs_volume.specs.declared.tree_lines.DotLine.TheVariants.{MissingDotdot, MissingDotdotSecond, NumberDotdot}
+use Rattle.ffs_volume.specs.declared.tree_lines.DotLine.TheVariants.{KindDotdot, ExtraDot, ExtraDotdot}
+use Rattle.ffs_volume.specs.declared.tree_lines.EntryLine.TheVariants.{OutOfRange, Whiteout, Unallocated, DupBad}
+use Rattle.ffs_volume.specs.declared.tree_lines.EntryLine.TheVariants.{ZeroDir, Extraneous, KindEntry}
+use Rattle.ffs_volume.specs.declared.tree_lines.ReferenceLine.TheVariants.{UnrefDir, DeadMarked, DeadZero, Unref}
+use Rattle.ffs_volume.specs.declared.tree_lines.ReferenceLine.TheVariants.{UnrefZero, LinkCount}
 use Rattle.ffs_volume.specs.declared.texts.TheConstants as texts
 
 -- the label before a path
@@ -130,41 +136,93 @@ counts_text nlink references = concat (
 abbrev pub links_text : Label → Attr → ℤ → ℕ → List ℕ
 links_text label about nlink references = labelled_text texts.LINK_COUNT.now label about (counts_text nlink references)
 
--- a message on directories, their entries or references
-abbrev pub tree_message_text : TreeMessage → List ℕ
-tree_message_text root_none = texts.ROOT_NONE.now
-tree_message_text root_not_dir = texts.ROOT_NOT_DIR.now
-tree_message_text root_suspect = texts.ROOT_SUSPECT.now
-tree_message_text (dir_short about path) = path_text texts.DIR_SHORT.now about Dir path texts.FIX.now
-tree_message_text (dir_length path size) = length_text path size
-tree_message_text (dir_empty path) = empty_blocks_text path
-tree_message_text (dir_corrupt about path) = path_text texts.DIR_CORRUPT.now about Dir path texts.SALVAGE.now
-tree_message_text (missing_dot about path) = path_text texts.MISSING_DOT.now about Dir path texts.FIX.now
-tree_message_text (missing_dot_first about path name) =
+-- a message on a directory as a whole
+abbrev pub directory_line_text : DirectoryLine (List ℕ) → List ℕ
+directory_line_text RootNone = texts.ROOT_NONE.now
+directory_line_text RootNotDir = texts.ROOT_NOT_DIR.now
+directory_line_text RootSuspect = texts.ROOT_SUSPECT.now
+directory_line_text (DirShort about path) = path_text texts.DIR_SHORT.now about Dir path texts.FIX.now
+directory_line_text (DirLength path size) = length_text path size
+directory_line_text (DirEmpty path) = empty_blocks_text path
+directory_line_text (DirCorrupt about path) = path_text texts.DIR_CORRUPT.now about Dir path texts.SALVAGE.now
+
+-- a message on the entries `.` and `..`
+abbrev pub dot_line_text : DotLine (List ℕ) → List ℕ
+dot_line_text (MissingDot about path) = path_text texts.MISSING_DOT.now about Dir path texts.FIX.now
+dot_line_text (MissingDotFirst about path name) =
     name_in_the_way_text texts.MISSING_DOT.now about path texts.FIRST_ENTRY.now name
-tree_message_text (number_dot about path) = path_text texts.NUMBER_DOT.now about Dir path texts.FIX.now
-tree_message_text (kind_dot about path) = path_text texts.KIND_DOT.now about Dir path texts.FIX.now
-tree_message_text (missing_dotdot about path) = path_text texts.MISSING_DOTDOT.now about Dir path texts.FIX.now
-tree_message_text (missing_dotdot_second about path name) =
+dot_line_text (NumberDot about path) = path_text texts.NUMBER_DOT.now about Dir path texts.FIX.now
+dot_line_text (KindDot about path) = path_text texts.KIND_DOT.now about Dir path texts.FIX.now
+dot_line_text (MissingDotdot about path) = path_text texts.MISSING_DOTDOT.now about Dir path texts.FIX.now
+dot_line_text (MissingDotdotSecond about path name) =
     name_in_the_way_text texts.MISSING_DOTDOT.now about path texts.SECOND_ENTRY.now name
-tree_message_text (number_dotdot about path) =
-    path_text texts.NUMBER_DOTDOT.now about Dir path texts.FIX.now
-tree_message_text (kind_dotdot about path) = path_text texts.KIND_DOTDOT.now about Dir path texts.FIX.now
-tree_message_text (extra_dot about path) = path_text texts.EXTRA_DOT.now about Dir path texts.FIX.now
-tree_message_text (extra_dotdot about path) = path_text texts.EXTRA_DOTDOT.now about Dir path texts.FIX.now
-tree_message_text (out_of_range number path) = entry_text texts.OUT_OF_RANGE.now number path texts.REMOVE.now
-tree_message_text (whiteout number path) = entry_text texts.WHITEOUT.now number path texts.FIX.now
-tree_message_text (unallocated about path) = path_text texts.UNALLOCATED.now about Name path texts.REMOVE.now
-tree_message_text (dup_bad about label path) = path_text texts.DUP_BAD.now about label path texts.REMOVE.now
-tree_message_text (zero_dir about path) = path_text texts.ZERO_DIR.now about Dir path texts.REMOVE.now
-tree_message_text (extraneous path directory) = extraneous_text path directory
-tree_message_text (kind_entry about label path) = path_text texts.KIND_ENTRY.now about label path texts.FIX.now
-tree_message_text (unref_dir about) = inode_text texts.UNREF_DIR.now about texts.RECONNECT.now
-tree_message_text (dead_marked label about) = labelled_text texts.DEAD_MARKED.now label about texts.CLEAR.now
-tree_message_text (dead_zero about) = inode_text texts.DEAD_ZERO.now about texts.CLEAR.now
-tree_message_text (unref label about) = labelled_text texts.UNREF.now label about texts.RECONNECT_OR_CLEAR.now
-tree_message_text (unref_zero label about) = labelled_text texts.UNREF.now label about texts.CLEAR.now
-tree_message_text (link_count label about nlink references) = links_text label about nlink references
+dot_line_text (NumberDotdot about path) = path_text texts.NUMBER_DOTDOT.now about Dir path texts.FIX.now
+dot_line_text (KindDotdot about path) = path_text texts.KIND_DOTDOT.now about Dir path texts.FIX.now
+dot_line_text (ExtraDot about path) = path_text texts.EXTRA_DOT.now about Dir path texts.FIX.now
+dot_line_text (ExtraDotdot about path) = path_text texts.EXTRA_DOTDOT.now about Dir path texts.FIX.now
+
+-- a message on a further entry
+abbrev pub entry_line_text : EntryLine (List ℕ) → List ℕ
+entry_line_text (OutOfRange number path) = entry_text texts.OUT_OF_RANGE.now number path texts.REMOVE.now
+entry_line_text (Whiteout number path) = entry_text texts.WHITEOUT.now number path texts.FIX.now
+entry_line_text (Unallocated about path) = path_text texts.UNALLOCATED.now about Name path texts.REMOVE.now
+entry_line_text (DupBad label about path) = path_text texts.DUP_BAD.now about label path texts.REMOVE.now
+entry_line_text (ZeroDir about path) = path_text texts.ZERO_DIR.now about Dir path texts.REMOVE.now
+entry_line_text (Extraneous path directory) = extraneous_text path directory
+entry_line_text (KindEntry label about path) = path_text texts.KIND_ENTRY.now about label path texts.FIX.now
+
+-- a message on an inode by the entries that name it
+abbrev pub reference_line_text : ReferenceLine → List ℕ
+reference_line_text (UnrefDir about) = inode_text texts.UNREF_DIR.now about texts.RECONNECT.now
+reference_line_text (DeadMarked label about) = labelled_text texts.DEAD_MARKED.now label about texts.CLEAR.now
+reference_line_text (DeadZero about) = inode_text texts.DEAD_ZERO.now about texts.CLEAR.now
+reference_line_text (Unref label about) = labelled_text texts.UNREF.now label about texts.RECONNECT_OR_CLEAR.now
+reference_line_text (UnrefZero label about) = labelled_text texts.UNREF.now label about texts.CLEAR.now
+reference_line_text (LinkCount label about nlink references) = links_text label about nlink references
+
+-- a message on directories, their entries or references
+abbrev pub tree_message_text : TreeLine (List ℕ) → List ℕ
+tree_message_text (Directory line) = directory_line_text line
+tree_message_text (Dot line) = dot_line_text line
+tree_message_text (Entry line) = entry_line_text line
+tree_message_text (Reference line) = reference_line_text line
+
+-- a line of the code as a message: its paths and names by their bytes
+abbrev pub directory_message : DirectoryLine (Bor (List ℕ)) → DirectoryLine (List ℕ)
+directory_message RootNone = RootNone
+directory_message RootNotDir = RootNotDir
+directory_message RootSuspect = RootSuspect
+directory_message (DirShort about path) = DirShort about path.now
+directory_message (DirLength path size) = DirLength path.now size
+directory_message (DirEmpty path) = DirEmpty path.now
+directory_message (DirCorrupt about path) = DirCorrupt about path.now
+
+abbrev pub dot_message : DotLine (Bor (List ℕ)) → DotLine (List ℕ)
+dot_message (MissingDot about path) = MissingDot about path.now
+dot_message (MissingDotFirst about path name) = MissingDotFirst about path.now name.now
+dot_message (NumberDot about path) = NumberDot about path.now
+dot_message (KindDot about path) = KindDot about path.now
+dot_message (MissingDotdot about path) = MissingDotdot about path.now
+dot_message (MissingDotdotSecond about path name) = MissingDotdotSecond about path.now name.now
+dot_message (NumberDotdot about path) = NumberDotdot about path.now
+dot_message (KindDotdot about path) = KindDotdot about path.now
+dot_message (ExtraDot about path) = ExtraDot about path.now
+dot_message (ExtraDotdot about path) = ExtraDotdot about path.now
+
+abbrev pub entry_message : EntryLine (Bor (List ℕ)) → EntryLine (List ℕ)
+entry_message (OutOfRange number path) = OutOfRange number path.now
+entry_message (Whiteout number path) = Whiteout number path.now
+entry_message (Unallocated about path) = Unallocated about path.now
+entry_message (DupBad label about path) = DupBad label about path.now
+entry_message (ZeroDir about path) = ZeroDir about path.now
+entry_message (Extraneous path directory) = Extraneous path.now directory.now
+entry_message (KindEntry label about path) = KindEntry label about path.now
+
+abbrev pub tree_message : TreeLine (Bor (List ℕ)) → TreeLine (List ℕ)
+tree_message (Directory line) = Directory (directory_message line)
+tree_message (Dot line) = Dot (dot_message line)
+tree_message (Entry line) = Entry (entry_message line)
+tree_message (Reference line) = Reference line
 
 -- each number with what is after it; the fragmentation in tenths of a percent, its sign first
 abbrev pub summary_text : (files used : ℕ) (free frags blocks tenths : ℤ) → List ℕ

@@ -1,6 +1,5 @@
 use Rattle.std.proofs.{Common.{◌≡◌, ◌∷◌, [], map, refl, sym, ◌∙◌, arith, rules, true}, lemmas.Result.err_from_is_err_and}
 use Rattle.ffs_volume.specs.{Directories.{Connectivity.is_unref_dir, Volumes.volume_of}, Messages.Kinds.of_tree}
-use Rattle.ffs_volume.specs.Messages.Kinds.{unref_dir}
 use Rattle.ffs_report.{specs.Known.ForBytes, proofs.Paying.{paid_none, paid_reads, paid_says, paid_stops}}
 use Rattle.ffs_report.proofs.Reporting.{reads_first, says_all, says_none, stops_all}
 use Rattle.ffs_workspace.{specs.Found.WithSurvey, proofs.Readiness.ready_table}
@@ -9,6 +8,8 @@ use Rattle.ffs_connectivity.proofs.{UnrefLines.{silent, heard}, unref.check_inod
 use Rattle.ffs_connectivity.proofs.unref.check_inode.Goals.{After-of}
 use Rattle.ffs_connectivity.proofs.unref.check_inode.Given as given
 use Rattle.ffs_connectivity.proofs.unref.check_inode.Goals as goal
+use Rattle.ffs_volume.specs.declared.tree_lines.ReferenceLine.TheVariants.{UnrefDir}
+use Rattle.ffs_volume.specs.declared.tree_lines.TreeLine.TheVariants.{Reference as of_reference}
 
 -- what the test says of the inode
 tested : (g : given.Over) (c : After-is_unref-unref g) →
@@ -23,7 +24,7 @@ heard_of : (g : given.Over) (c : After-of g) →
     ForBytes (WithSurvey c.args.geometry.now.layout (g.I.Image.device c.args.image.now) c.args.workspace.now)
     (λ bytes. is_unref_dir (volume_of c.args.geometry.now.layout bytes) c.args.number ≡ true →
     map of_tree (unref_dir_lines (volume_of c.args.geometry.now.layout bytes) c.args.number)
-    ≡ of_tree (unref_dir c.of.result) ∷ [])
+    ≡ of_tree (of_reference (UnrefDir c.of.result)) ∷ [])
 heard_of g c bytes k e = grind (arith, heard, attributes_are)
 
 pub returns-then-not-unref : goal.returns-then-not-unref
