@@ -62,7 +62,7 @@ module _ (had_defect : Bool) (knows : List ℕ → Type 0) (s : Superblock) (ima
         sector = sector;
         faulted = f;
         rest = at_contents image.contents rest;
-        whole = refl;
+        makes_text = refl;
         more = λ bytes k. rw (at_known image.contents rest bytes (gives bytes k)) (more bytes k);
         line_is = refl;
         end_is = refl;

@@ -76,8 +76,8 @@ module _ (image : Device) (name : List ℕ) (sector : Option ℕ) (output : GNam
       prefix = said;
       rest = c.rest;
       said_is = refl;
-      whole = append_assoc (opened_lines name sector s) said c.rest
-          ∙ ap (λ xs. opened_lines name sector s ++ xs) c.whole;
+      makes_text = append_assoc (opened_lines name sector s) said c.rest
+          ∙ ap (λ xs. opened_lines name sector s ++ xs) c.makes_text;
       more = c.more;
       line_is = c.line_is ∙ ap cannot_read (sym c.faulted.failed_sector);
       end_is = c.end_is ∙ ap ReadFault (sym c.faulted.failed_sector);
@@ -98,7 +98,7 @@ pub found_ends : (image on image' : Device) (name : List ℕ) (sector : Option �
     SaysRest (superblock_in found) on image' p new end → Headline image image' name sector sink new.sink end
 found_ends image on image' name sector output sink p new found end o f =
     let s = superblock_in found in
-    let answers = subst (λ r. ReadsSuper image on sector r) o.ends.1 o.answers in
+    let answers = subst (λ r. ReadsSuper image on sector r) o.ends.1 o.super_is_read in
     follows image name sector output sink s (found_of image on sector s answers) p
     (subst (λ r. Said (starts output sink) p (opening_lines name sector r)) o.ends.1 o.ends.0) image' new end
     (subst (λ d. SaysRest s d image' p new end) (unfailed_of image on sector s answers) f)

@@ -176,12 +176,12 @@ module _ (image image' : Device) (name : List ℕ) (sector : Option ℕ) (output
   opening_ends end o = elim o.ends [
     | inl not_accepted ↦ subst (λ e. Headline image image' name sector sink p.sink e) (sym not_accepted.end_is)
         (refused not_accepted.fault
-        (subst (λ f. ReadsSuper image image' sector f) not_accepted.found_is o.answers) not_accepted.went_out)
+        (subst (λ f. ReadsSuper image image' sector f) not_accepted.found_is o.super_is_read) not_accepted.went_out)
     | inr stops ↦ elim stops [
       | inl stop ↦ subst (λ e. Headline image image' name sector sink p.sink e) (sym stop.end_is)
           (stopped o.found stop.no_read_failed stop.found_is stop.broke_off)
       | inr stop ↦ subst (λ e. Headline image image' name sector sink p.sink e) (sym stop.end_is)
-          (stopped_in_line stop.fault (subst (λ f. ReadsSuper image image' sector f) stop.found_is o.answers)
+          (stopped_in_line stop.fault (subst (λ f. ReadsSuper image image' sector f) stop.found_is o.super_is_read)
           stop.in_line)
     ]
   ]

@@ -35,7 +35,7 @@ module _ (image : Device) (name : List ℕ) (sector : Option ℕ) (old head : Pr
       SaysOpening image image old head name sector (Err WriteFault)
   at_head stopped = record {
     found = found_in image.contents sector;
-    answers = inr (refl, found_there image.contents sector);
+    super_is_read = inr (refl, found_there image.contents sector);
     ends = inr (inl (grind (arith, found_there, stopped_more)));
   }
 
@@ -45,7 +45,7 @@ module _ (image : Device) (name : List ℕ) (sector : Option ℕ) (old head : Pr
           SaysOpening image image' old new name sector (Ok super)
       accepted more = record {
         found = Ok (superblock_in super);
-        answers = answers;
+        super_is_read = answers;
         ends = (said_then old head new (head_lines name sector) (super_lines (superblock_in super)) said more, refl);
       }
 
@@ -53,20 +53,20 @@ module _ (image : Device) (name : List ℕ) (sector : Option ℕ) (old head : Pr
           SaysOpening image image' old new name sector (Err WriteFault)
       at_super stopped = record {
         found = Ok (superblock_in super);
-        answers = answers;
+        super_is_read = answers;
         ends = inr (inl (grind (arith, unfailed_of, found_of, stopped_after)));
       }
 
     module _ (fault : SuperFault) (answers : ReadsSuper image image' sector (Err fault)) where
       pub refused : Said head new (fault_line fault ∷ []) →
           SaysOpening image image' old new name sector (Err (Refused fault))
-      refused more = record { found = Err fault; answers = answers; ends = inl (grind (arith, said_then)) }
+      refused more = record { found = Err fault; super_is_read = answers; ends = inl (grind (arith, said_then)) }
 
       pub at_fault : Stopped head new (fault_line fault ∷ []) →
           SaysOpening image image' old new name sector (Err WriteFault)
       at_fault stopped = record {
         found = Err fault;
-        answers = answers;
+        super_is_read = answers;
         ends = inr (inr (record {
           fault = fault;
           found_is = refl;

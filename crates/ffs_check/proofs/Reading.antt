@@ -64,7 +64,7 @@ pub found_within : (image on : Device) (name : List ℕ) (sector : Option ℕ) (
     ForBytes (IsContents on.contents) (λ bytes. PhasesReadWithin (superblock_in found) bytes between reads') →
     ReadsWithin image name sector reads reads'
 found_within image on name sector start p found reads between reads' o opened follows =
-    let answers = subst (λ r. ReadsSuper image on sector r) o.ends.1 o.answers in
+    let answers = subst (λ r. ReadsSuper image on sector r) o.ends.1 o.super_is_read in
     let still = unfailed_of image on sector (superblock_in found) answers in
     let is = found_of image on sector (superblock_in found) answers in
     record {

@@ -22,7 +22,7 @@ pub takes : (image on : Device) (name : List ℕ) (sector : Option ℕ) (start p
 takes image on name sector start p found old new o a = record {
   found = superblock_in found;
   accepted = accepted_by image on sector (superblock_in found)
-      (subst (λ r. ReadsSuper image on sector r) o.ends.1 o.answers);
+      (subst (λ r. ReadsSuper image on sector r) o.ends.1 o.super_is_read);
   asked = a;
   within = omega arith;
 }

@@ -48,8 +48,8 @@ pub record CutShort {Target : Type 0} (whole broken : Target → Target → List
       ⊎ (BrokeOffInLine whole broken old new said line × (end ≡ WriteFault))
 
 -- a check ended in one of these ways
-abbrev pub Ends : {Target : Type 0} → (whole broken : Target → Target → List Message → Type 0) → Device → Device → Target →
-    Target → List Message → (End → Type 0) → (List Message → Message → End → Type 0) → End → Type 0
+abbrev pub Ends : {Target : Type 0} → (whole broken : Target → Target → List Message → Type 0) → Device → Device →
+    Target → Target → List Message → (End → Type 0) → (List Message → Message → End → Type 0) → End → Type 0
 Ends whole broken image image' old new text IsEnd IsCut end =
     AllWentOut whole image image' old new text IsEnd end
     ⊎ (CutShort whole broken old new IsCut end

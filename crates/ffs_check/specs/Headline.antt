@@ -56,7 +56,7 @@ pub record IsCutLater (image image' : Device) (name : List ℕ) (asked_sector : 
   pub prefix : List Message
   pub rest : List Message
   pub said_is : said ≡ opened_lines name asked_sector found ++ prefix
-  pub whole : said ++ rest ≡ text
+  pub makes_text : said ++ rest ≡ text
   pub more : ForContents image.contents (λ bytes. 0 < length rest)
   pub line_is : line ≡ cannot_read image'.failed_sector
   pub end_is : end ≡ ReadFault image'.failed_sector

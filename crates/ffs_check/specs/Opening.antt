@@ -10,7 +10,8 @@ use Rattle.ffs_layout.specs.{declared.superblock.Super.Super, Super.{IsUnreadabl
 use Rattle.ffs_check.specs.Ends.{BrokeOffInLine}
 
 -- the superblock isn't accepted, and its opening went out, with the fault
-pub record OpeningRefused {Target : Type 0} (whole : Target → Target → List Message → Type 0) (old new : Target) (name : List ℕ)
+pub record OpeningRefused {Target : Type 0} (whole : Target → Target → List Message → Type 0) (old new : Target)
+    (name : List ℕ)
     (asked_sector : Option ℕ) (found : Result Superblock SuperFault) (end : End) : Type 0 where
   pub fault : SuperFault
   pub found_is : found ≡ Err fault
@@ -27,7 +28,8 @@ pub record OpeningBrokeOff {Target : Type 0} (broken : Target → Target → Lis
   pub end_is : end ≡ WriteFault
 
 -- the output failed within the line of the superblock's fault
-pub record OpeningBrokeInLine {Target : Type 0} (whole broken : Target → Target → List Message → Type 0) (old new : Target)
+pub record OpeningBrokeInLine {Target : Type 0} (whole broken : Target → Target → List Message → Type 0)
+    (old new : Target)
     (name : List ℕ) (asked_sector : Option ℕ) (found : Result Superblock SuperFault) (end : End) : Type 0 where
   pub fault : SuperFault
   pub found_is : found ≡ Err fault
@@ -35,8 +37,8 @@ pub record OpeningBrokeInLine {Target : Type 0} (whole broken : Target → Targe
   pub end_is : end ≡ WriteFault
 
 -- how an opening ended: with an accepted superblock, or in one of these ways
-abbrev pub OpeningEnds : {Target : Type 0} → (whole broken : Target → Target → List Message → Type 0) → Device → Device →
-    Target → Target → List ℕ → Option ℕ → Result Superblock SuperFault → Result Super End → Type 0
+abbrev pub OpeningEnds : {Target : Type 0} → (whole broken : Target → Target → List Message → Type 0) →
+    Device → Device → Target → Target → List ℕ → Option ℕ → Result Superblock SuperFault → Result Super End → Type 0
 OpeningEnds whole broken image image' old new name asked_sector found (Ok super) =
     whole old new (opening_lines name asked_sector found) × (found ≡ Ok (superblock_in super))
 OpeningEnds whole broken image image' old new name asked_sector found (Err end) =
@@ -49,14 +51,15 @@ OpeningEnds whole broken image image' old new name asked_sector found (Err end) 
 pub record OpeningOf {Target : Type 0} (whole broken : Target → Target → List Message → Type 0) (image image' : Device)
     (old new : Target) (name : List ℕ) (asked_sector : Option ℕ) (result : Result Super End) : Type 0 where
   pub found : Result Superblock SuperFault
-  pub answers : ReadsSuper image image' asked_sector found
+  pub super_is_read : ReadsSuper image image' asked_sector found
   pub ends : OpeningEnds whole broken image image' old new name asked_sector found result
 
 -- an accepted volume lies within the image, and a superblock that can't be read is a failed read, or
 -- lies past the image's end. Two reads are made at most: of the superblock, and of its last copy
 pub record AnswersOpening (image image' : Device) (asked_sector : Option ℕ) (before after : ℕ)
     (result : Result Super End) : Type 0 where
-  pub found : MatchResult result (λ super. super.geometry.layout.size * super.geometry.layout.fsize ≤ image.size)
+  pub inside_or_unreadable : MatchResult result
+      (λ super. super.geometry.layout.size * super.geometry.layout.fsize ≤ image.size)
       (λ end. (sector : ℕ) → end ≡ Refused (CannotRead sector) → IsUnreadable image image' asked_sector sector)
   pub reads : after ≤ before + opening_reads
 

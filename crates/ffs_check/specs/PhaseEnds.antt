@@ -80,7 +80,7 @@ pub record IsCutByRead (knows : List ℕ → Type 0) (text : List Message) (imag
   pub sector : ℕ
   pub faulted : Faulted image image' sector
   pub rest : List Message
-  pub whole : said ++ rest ≡ text
+  pub makes_text : said ++ rest ≡ text
   pub more : ForBytes knows (λ bytes. 0 < length rest)
   pub line_is : line ≡ cannot_read sector
   pub end_is : end ≡ ReadFault sector

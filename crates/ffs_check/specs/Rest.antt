@@ -16,49 +16,49 @@ use Rattle.ffs_claims.specs.Phases.{IsLeftByPhase1}
 
 -- what each phase reports, with its heading
 abbrev pub phase1_part : List ℕ → Superblock → List Message
-phase1_part image s = phase1 ∷ map of_blocks (phase1_lines s.layout (owners_of s.layout image))
+phase1_part bytes s = phase1 ∷ map of_blocks (phase1_lines s.layout (owners_of s.layout bytes))
 
 abbrev pub phase1b_part : List ℕ → Superblock → List Message
-phase1b_part image s = rescan_lines s.layout image
+phase1b_part bytes s = rescan_lines s.layout bytes
 
 abbrev pub phase2_part : List ℕ → Superblock → List Message
-phase2_part image s = phase2 ∷ map of_tree (pathname_lines (volume_of s.layout image))
+phase2_part bytes s = phase2 ∷ map of_tree (pathname_lines (volume_of s.layout bytes))
 
 abbrev pub phase3_part : List ℕ → Superblock → List Message
-phase3_part image s = phase3 ∷ map of_tree (connectivity_lines (volume_of s.layout image))
+phase3_part bytes s = phase3 ∷ map of_tree (connectivity_lines (volume_of s.layout bytes))
 
 abbrev pub phase4_part : List ℕ → Superblock → List Message
-phase4_part image s = phase4 ∷ map of_tree (reference_lines (volume_of s.layout image))
+phase4_part bytes s = phase4 ∷ map of_tree (reference_lines (volume_of s.layout bytes))
 
 abbrev pub phase5_part : List ℕ → Superblock → List Message
-phase5_part image s = phase5 ∷ group_check_lines image s
+phase5_part bytes s = phase5 ∷ group_check_lines bytes s
 
 abbrev pub summary_part : List ℕ → Superblock → List Message
-summary_part image s = summary_of s (file_count s.layout image) (claimed_count s.layout image) ∷ []
+summary_part bytes s = summary_of s (file_count s.layout bytes) (claimed_count s.layout bytes) ∷ []
 
 -- phase 5 and the summary
 abbrev pub from_phase5 : List ℕ → Superblock → List Message
-from_phase5 image s = phase5_part image s ++ summary_part image s
+from_phase5 bytes s = phase5_part bytes s ++ summary_part bytes s
 
 -- phases 4 and 5 and the summary
 abbrev pub from_phase4 : List ℕ → Superblock → List Message
-from_phase4 image s = phase4_part image s ++ from_phase5 image s
+from_phase4 bytes s = phase4_part bytes s ++ from_phase5 bytes s
 
 -- phases 3 to 5 and the summary
 abbrev pub from_phase3 : List ℕ → Superblock → List Message
-from_phase3 image s = phase3_part image s ++ from_phase4 image s
+from_phase3 bytes s = phase3_part bytes s ++ from_phase4 bytes s
 
 -- the same, where the check continues after the root
 abbrev pub after_phase2 : Bool → List ℕ → Superblock → List Message
-after_phase2 goes image s = if goes then from_phase3 image s else []
+after_phase2 goes bytes s = if goes then from_phase3 bytes s else []
 
 -- phase 2 and what follows it
 abbrev pub from_phase2 : List ℕ → Superblock → List Message
-from_phase2 image s = phase2_part image s ++ after_phase2 (continues_after_root (volume_of s.layout image)) image s
+from_phase2 bytes s = phase2_part bytes s ++ after_phase2 (continues_after_root (volume_of s.layout bytes)) bytes s
 
 -- phase 1b, where it runs, and what follows it
 abbrev pub from_phase1b : List ℕ → Superblock → List Message
-from_phase1b image s = phase1b_part image s ++ from_phase2 image s
+from_phase1b bytes s = phase1b_part bytes s ++ from_phase2 bytes s
 
 -- the image gives the bytes, and the workspace is left by phase 1: `WithPhase1` and more
 abbrev pub WithLeftByPhase1 : Layout → Device → Workspace → List ℕ → Type 0

@@ -13,8 +13,8 @@ abbrev pub unopened_text : List ℕ → List ℕ
 unopened_text name = codes "Can't open " ++ (name ++ (10 ∷ []))
 
 -- a text was printed, or a prefix of it where the output failed
-abbrev pub IsPrinted : Sink → Sink → List ℕ → Type 0
-IsPrinted out out' text = Took out out' text ⊎ BrokeOff out out' text
+abbrev pub IsPrintedOrBrokeOff : Sink → Sink → List ℕ → Type 0
+IsPrintedOrBrokeOff out out' text = Took out out' text ⊎ BrokeOff out out' text
 
 -- an image was opened under a name and checked, and the status is that of its end
 pub record IsChecked (I : Type 0) (device : I → Device) (reads : I → ℕ) (opens : List ℕ → I → Type 0)
@@ -33,7 +33,7 @@ pub record IsOpenFailure (refuses : List ℕ → OpenFault → Type 0) (name : L
     (status : ℕ) : Type 0 where
   pub fault : OpenFault
   pub refused : refuses name fault
-  pub printed : IsPrinted out out' (unopened_text name)
+  pub printed : IsPrintedOrBrokeOff out out' (unopened_text name)
   pub status_is : status ≡ 8
 
 -- the image of a name was checked, or couldn't be opened
@@ -60,7 +60,7 @@ pub record IsRefused (words : List (List ℕ)) (out out' : Sink) (status : ℕ) 
 -- memory was refused while the words were read
 pub record HadNoMemory (words : List (List ℕ)) (out out' : Sink) (status : ℕ) : Type 0 where
   pub lacked : LacksMemory words
-  pub printed : IsPrinted out out' (text_of cannot_alloc)
+  pub printed : IsPrintedOrBrokeOff out out' (text_of cannot_alloc)
   pub status_is : status ≡ 8
 
 -- how a run ends

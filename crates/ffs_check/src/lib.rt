@@ -1,10 +1,11 @@
 //! The whole check of an image of a UFS1 file system, after fsck(8): its opening, its phases, its
 //! end, and its arguments.
 //!
-//! `check` prints the report of an image and returns how the check ends. `Headline` is its
-//! contract: where the image gives its bytes, the whole report if no read and no write fails and
-//! the memory is granted, else what the clause says is left of it. `check_rest` is the same after
-//! the mount line.
+//! `check` prints the report of an image and returns how the check ends. `Headline` is the first
+//! clause of its contract: where the image gives its bytes, the whole report if no read and no
+//! write fails and the memory is granted, else what is left of it. The others say how many reads
+//! and writes failed, what memory is taken, and how often the image is read. `check_rest` prints
+//! the text after the mount line; its clause is `RunsToEnd`.
 //!
 //! ```text
 //! let end = check(alloc, &mut image, &args, &mut out);

@@ -8,7 +8,7 @@ use Rattle.ffs_layout.specs.declared.geometry.Geometry.{Geometry}
 use Rattle.ffs_maps.specs.declared.FragmentMap.{FragmentMap}
 use Rattle.ffs_walk.specs.{Windows.{CanWalk, KeepsBlocks}, declared.blocks.Blocks.Blocks}
 use Rattle.ffs_workspace.specs.{Lengths.IsFor, Ready.IsReady, declared.workspace.{Windows.Windows, Workspace.Workspace}}
-use Rattle.ffs_claims.specs.{Leaves.{SameFound, ClaimsOnly, Stored, OffersOnly}, Reporting.{SameClaims, ReportsOnly}}
+use Rattle.ffs_claims.specs.{Leaves.{SameFound, ClaimsOnly, Stored, OffersOnly}, Reporting.{RescanKeeps, ReportsOnly}}
 use Rattle.ffs_claims.specs.Reporting.{OffersReportedOnly}
 
 pub found_none : (w : Workspace) → SameFound w w
@@ -17,15 +17,15 @@ found_none w = record { kinds = refl; marked = refl; notes = refl; references = 
 pub found_then : {u v w : Workspace} → SameFound u v → SameFound v w → SameFound u w
 found_then p q = grind arith
 
-pub claims_none : (w : Workspace) → SameClaims w w
+pub claims_none : (w : Workspace) → RescanKeeps w w
 claims_none w = record { used = refl; kinds = refl; notes = refl; references = refl; seen = refl }
 
-pub claims_then : {u v w : Workspace} → SameClaims u v → SameClaims v w → SameClaims u w
+pub claims_then : {u v w : Workspace} → RescanKeeps u v → RescanKeeps v w → RescanKeeps u w
 claims_then p q = grind arith
 
 -- the windows are no part of it
-pub claims_still : {u w : Workspace} {windows : Windows} → SameClaims u w →
-    SameClaims u (record w { windows = windows })
+pub claims_still : {u w : Workspace} {windows : Windows} → RescanKeeps u w →
+    RescanKeeps u (record w { windows = windows })
 claims_still p = search rules
 
 pub only_then : {l : Layout} {u v w : Workspace} → ClaimsOnly l u v → ClaimsOnly l v w → ClaimsOnly l u w

@@ -45,7 +45,7 @@ kept_room u {w = w} made free m = grind (arith, nat_tests, used_below)
 pub sees_next : {v : Layout} {u w : Workspace} {area : DataArea} → IsAcceptedLayout v → HasBegun u → IsFor v w →
     IsDataArea v area → is_open (claims_of w) ≡ true → ClaimBound (claims_of u) (claims_of w) →
     CanSeeNext v w area (2 ^ 62)
-sees_next {u = u} g begun made only_data uncut m =
+sees_next {u = u} g begun made all_in_range uncut m =
     let numbers = g.numbers in
     let kept = kept_room u made uncut m in
     let seen = seen_bound u made uncut m in

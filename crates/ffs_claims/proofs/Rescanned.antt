@@ -17,7 +17,7 @@ use Rattle.ffs_workspace.{proofs.NoteLaws.cut_is_noted, specs.Holds.{all_claims,
 use Rattle.ffs_workspace.specs.{Lengths.inodes_of, Notes.cut_in, declared.workspace.Workspace.Workspace}
 use Rattle.ffs_claims.proofs.{Duplicates.marked_total, Numbers.{before_end, is_inside}, RescanCounts.looked_both}
 use Rattle.ffs_claims.proofs.{RescanCounts.{runs_leave, inode_again}, StepsContinue.range_more}
-use Rattle.ffs_claims.specs.{Lines.owners_from, Reporting.{after_first, OffersReported, SameClaims}}
+use Rattle.ffs_claims.specs.{Lines.owners_from, Reporting.{after_first, OffersReported, RescanKeeps}}
 use Rattle.ffs_claims.specs.{Rescan.offers_again, RescanRuns.{owners_runs, runs_until_reported, steps_runs_again}}
 
 -- the offers that the inode n keeps, replayed by its noted cut, and those of each of its Runs
@@ -44,7 +44,7 @@ pub record IsNoted (v : Layout) (bytes notes : List ℕ) (n : ℕ) : Type 0 wher
   cut : cut_in (slice_index notes n) ≡ cut_at v bytes n
 
 pub is_noted : {v : Layout} {bytes : List ℕ} {u w : Workspace} {n : ℕ} → IsAcceptedLayout v → 2 ≤ n → n < inodes_of v →
-    SameClaims u w → HoldsPhase1 v bytes u → IsNoted v bytes w.notes.items n
+    RescanKeeps u w → HoldsPhase1 v bytes u → IsNoted v bytes w.notes.items n
 is_noted {v = v} {bytes = bytes} {n = n} g low high same h = record {
   accepted = g;
   low = low;
@@ -182,7 +182,7 @@ outside v bytes x = known (is_inode_number v x) _ (λ q. blames_none_of x
     past v x q high = grind (arith, nat_tests)
 
 -- all offers are gone over: the workspace holds the claims
-pub claims_hold : (v : Layout) (bytes : List ℕ) (old new : Workspace) → HoldsPhase1 v bytes old → SameClaims old new →
+pub claims_hold : (v : Layout) (bytes : List ℕ) (old new : Workspace) → HoldsPhase1 v bytes old → RescanKeeps old new →
     OffersReported (kept_in_owners v (no_claims v) (owners_of v bytes)) old new → HoldsClaims v bytes new
 unfolding all_claims phase1b_lines
 claims_hold v bytes old new h same t = record {
@@ -193,7 +193,7 @@ claims_hold v bytes old new h same t = record {
 }
 
 -- and where counts of references start
-pub starts_hold : (v : Layout) (bytes : List ℕ) (old new : Workspace) → HoldsPhase1 v bytes old → SameClaims old new →
+pub starts_hold : (v : Layout) (bytes : List ℕ) (old new : Workspace) → HoldsPhase1 v bytes old → RescanKeeps old new →
     HoldsStarts v bytes new
 starts_hold v bytes old new h same = record {
   starts = λ x. ap (λ k. slice_index k.items x) same.references ∙ h.starts x;

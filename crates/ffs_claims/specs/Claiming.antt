@@ -24,10 +24,11 @@ pub record Reserves (v : Layout) (old new : Workspace) : Type 0 where
 -- inodes can claim: the workspace is ready, and each Run that lies in the area is in range
 pub record CanClaim (v : Layout) (d : Device) (w : Workspace) (area : DataArea) : Type 0 where
   pub ready : IsReady v d w
-  pub only_data : IsDataArea v area
+  pub all_in_range : IsDataArea v area
 
--- an inode can claim in a sweep: it has a number, the walk is over the volume, and the Runs counted so
--- far leave room for its own. Any bound far above `runs_limit`, and far below 2^64, serves for the count
+-- an inode can claim in a sweep: its number is one of the volume, the walk is over the volume, and the Runs
+-- counted so far leave room for its own. Any bound far above `runs_limit`, and far below 2^64, serves for
+-- the count
 pub record CanClaimInode (g : Geometry) (d : Device) (w : Workspace) (sweep : Sweep) (number : ℕ) : Type 0 where
   pub claim : CanClaim g.layout d w sweep.area
   pub walk : sweep.walk.geometry ≡ g
@@ -53,7 +54,7 @@ pub record CanClaimSteps (g : Geometry) (d : Device) (w : Workspace) (sweep : Sw
 -- fragments and Runs. Any bound far above `runs_limit`, and far below 2^64, serves as `most`
 pub record CanSeeNext (v : Layout) (w : Workspace) (area : DataArea) (most : ℕ) : Type 0 where
   pub made : IsFor v w
-  pub only_data : IsDataArea v area
+  pub all_in_range : IsDataArea v area
   pub uncut : is_open (claims_of w) ≡ true
   pub room : w.kept < most
   pub runs : w.runs_seen < most
@@ -63,8 +64,8 @@ pub record CanSeeStep (v : Layout) (w : Workspace) (area : DataArea) (step : Ste
   pub next : CanSeeNext v w area (2 ^ 62)
   pub length : HasLength v.frag step
 
--- the offers of a Run can be taken: the inode isn't cut, it can keep so many offers more, and these
--- are in range if they are said to be
+-- the offers of a Run can be taken: the inode isn't cut, the count of kept offers has room for them,
+-- and they are in range if they are said to be
 pub record CanTakeOffers (v : Layout) (w : Workspace) (run : Run) (in_range : Bool) : Type 0 where
   pub uncut : is_open (claims_of w) ≡ true
   pub offer : CanOffer v w run.len in_range (is_run_in_range v run.start run.len)
@@ -72,7 +73,7 @@ pub record CanTakeOffers (v : Layout) (w : Workspace) (run : Run) (in_range : Bo
 -- what claiming leaves of the workspace and of the area
 pub record ClaimsInArea (v : Layout) (old new : Workspace) (area : DataArea) : Type 0 where
   pub only : ClaimsOnly v old new
-  pub only_data : IsDataArea v area
+  pub all_in_range : IsDataArea v area
 
 -- an inode sees no more Runs than fragments were unused before it, and 22: each Run that it sees
 -- claims a fragment, but for its bad Runs and its dup offers
@@ -89,9 +90,9 @@ pub record StepsLeave {T : Type 0} (v : Layout) (d d' : Device) (old new : Works
   pub claim_bound : OnOk result (ClaimBound (claims_of old) (claims_of new))
   pub found : SameFound old new
 
--- what an inode leaves: what its steps leave but for `found`, a walk over the volume, and the count of
--- phase 1b's Runs as it was. Each Run that it sees claims a fragment, but for 22, and each read is paid by
--- a Run seen
+-- what an inode leaves: what its steps leave but for `claim_bound` and `found`, a walk over the volume,
+-- and the count of phase 1b's Runs as it was. Each Run that it sees claims a fragment, but for 22, and
+-- each read is paid by a Run that is seen
 pub record InodeLeaves {T : Type 0} (g : Geometry) (d d' : Device) (reads reads' : ℕ) (old new : Workspace)
     (sweep : Sweep) (result : Result T RunFault) : Type 0 where
   pub image : ImageAfter d d' result

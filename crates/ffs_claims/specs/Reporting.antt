@@ -21,9 +21,9 @@ pub record OffersReported (offers : List Offer) (old new : Workspace) : Type 0 w
   pub marked : (x : ℕ) → bool_at new.marked.items x ≡ (bool_at old.marked.items x
       || list_any (blames x) (first_offer_lines (bits_of old.duplicates) offers))
 
--- a call left the claims alone, what each inode is, what is noted of it, where its count of
--- references starts, and the Runs of phase 1
-pub record SameClaims (old new : Workspace) : Type 0 where
+-- a call left alone what phase 1b never changes: the used fragments, what each inode is, what is noted
+-- of it, where its count of references starts, and the Runs of phase 1
+pub record RescanKeeps (old new : Workspace) : Type 0 where
   pub used : new.used ≡ old.used
   pub kinds : new.kinds ≡ old.kinds
   pub notes : new.notes ≡ old.notes
@@ -35,7 +35,7 @@ pub record SameClaims (old new : Workspace) : Type 0 where
 pub record ReportsOnly (v : Layout) (old new : Workspace) : Type 0 where
   pub made : IsFor v new
   pub windows : new.windows ≡ old.windows
-  pub claims : SameClaims old new
+  pub claims : RescanKeeps old new
 
 -- what the offers of a Run leave: what reporting does, and no Run more is looked at
 pub record OffersReportedOnly (v : Layout) (old new : Workspace) : Type 0 where
@@ -57,13 +57,13 @@ pub record ReportsRun {T E : Type 0} (v : Layout) (number start len : ℕ) (prog
   pub only : OffersReportedOnly v old new
 
 -- first kept offers of an inode can be reported: the workspace was made for the volume, and the
--- inode has a number
+-- inode's number is one of it
 pub record CanReport (v : Layout) (w : Workspace) (number : ℕ) : Type 0 where
   pub made : IsFor v w
   pub number_fits : number < inodes_of v
 
--- an inode can be walked over again: the workspace is ready, it has a number, and something is to
--- be reported still
+-- an inode can be walked over again: the workspace is ready, the inode's number is one of the volume,
+-- and something is to be reported still
 pub record CanRewalk (v : Layout) (d : Device) (w : Workspace) (number : ℕ) : Type 0 where
   pub ready : IsReady v d w
   pub number_fits : number < inodes_of v
@@ -75,4 +75,4 @@ pub record RewalkLeaves {T : Type 0} (v : Layout) (d d' : Device) (old new : Wor
     : Type 0 where
   pub image : ImageAfter d d' result
   pub ready : IsReady v d' new
-  pub claims : SameClaims old new
+  pub claims : RescanKeeps old new

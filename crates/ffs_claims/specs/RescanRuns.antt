@@ -37,7 +37,8 @@ owners_runs v s (o ∷ os) =
 -- last fragment with a DUP line
 unfoldable pub runs_until_reported : List Bool → List (List Offer) → ℕ
 runs_until_reported dup [] = 0
-runs_until_reported dup (kept ∷ runs) = if set_count dup == 0 then 0 else 1 + runs_until_reported (after_first dup kept) runs
+runs_until_reported dup (kept ∷ runs) = if set_count dup == 0 then 0 else 1 + runs_until_reported
+    (after_first dup kept) runs
 
 -- how many Runs of an image the rescan looks at
 unfoldable pub rescan_runs : Layout → List ℕ → ℕ

@@ -1,4 +1,4 @@
-//! Runs, and the data area: data fragments around the last Run that was in range.
+//! Runs, and the data area: fragments around the last Run in range, where each Run is in range.
 
 ghost use Rattle.std.specs.Prelude.{◌<◌, ◌↔◌, IsTrue};
 ghost use Rattle.ffs_volume.specs.declared.Layout.{Layout};
@@ -34,8 +34,8 @@ impl DataArea {
         DataArea { start: 0, end: 0 }
     }
 
-    /// The data fragments of a Run's group: those before the metadata of the group, if the Run lies
-    /// there, and else those after it.
+    /// The fragments of a Run's group outside its metadata: those before it, if the Run lies there,
+    /// and else those after it.
     #[tactic(auto, using(ffs_volume::proofs::AreaLaws::group_below))]
     fn around(geometry: &Geometry, start: u32) -> DataArea
         requires { start < geometry.now.layout.size }

@@ -114,7 +114,7 @@ fn offers<W: Output>(
 }
 
 /// Takes a Run in range of the current inode: it is claimed at once where its fragments are all
-/// unclaimed and lie in one word of the map. Returns whether the next step is seen.
+/// unused and lie in one word of the map. Returns whether the next step is seen.
 fn run_in_range<W: Output>(
     workspace: &mut Workspace,
     geometry: &Geometry,

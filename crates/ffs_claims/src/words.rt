@@ -10,7 +10,7 @@ use ffs_walk::Walk;
 use ffs_workspace::Workspace;
 
 /// Claims what an address of an indirect block of data offers: nothing where it is a gap, else its
-/// Run, where that lies in the area, and its fragments are all unclaimed and lie in one word of the
+/// Run, where that lies in the area, and its fragments are all unused and lie in one word of the
 /// map. Returns whether it was so: if not, nothing has changed.
 #[inline(always)]
 fn claim_address(

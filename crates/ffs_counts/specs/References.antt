@@ -27,6 +27,6 @@ lines_as (Some line) = of_reference line ∷ []
 abbrev pub is_dead_by : Workspace → ℕ → Bool
 is_dead_by w i = dead_at w.kinds.items w.marked.items w.named.items i
 
--- whether it isn't dead, and each of its links has its reference
+-- whether it isn't dead, and has as many references as links, at least one
 abbrev pub is_right_by : Workspace → ℕ → Bool
 is_right_by w i = (slice_index w.references.items i == LINKS_MET) && not (is_dead_by w i)

@@ -59,7 +59,7 @@ pub fn read_group<I: Image>(
     let at = read_summaries(geometry, image, &mut windows.table, group)?;
     let place = geometry.group_place(group);
     windows
-        .chunk
+        .current
         .fill(image, place, geometry.layout.cgsize as usize)?;
     let records = windows.table.window.bytes();
     let usage = Usage {

@@ -29,8 +29,8 @@ fn is_dead(workspace: &Workspace, number: u32) -> bool
     )
 }
 
-/// Whether nothing is reported of an inode that is allocated: it isn't dead, and each of its links
-/// has a reference.
+/// Whether nothing is reported of an inode that is allocated: it isn't dead, and has as many
+/// references as links, at least one.
 fn is_right(workspace: &Workspace, number: u32) -> bool
     requires { HasElements workspace.now number }
     ensures { result ≡ is_right_by workspace.now number }

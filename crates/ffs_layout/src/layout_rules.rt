@@ -70,7 +70,7 @@ fn has_numbers(v: &Layout) -> bool
         && ncg * u64::from(v.ipg) < 1 << 31
 }
 
-/// Whether the parts of a group lie in their order after its base, each ends before the next one
+/// Whether the parts of a group lie in their order after its start, each ends before the next one
 /// begins, and a group block has room for its header (`CG_HEADER`) and fits a block.
 #[tactic(auto, unfolding(ffs_volume::specs::Disk::Outcome::has_valid_parts))]
 fn has_parts(v: &Layout) -> bool

@@ -177,7 +177,7 @@ fn check_copy<I: Image>(
 pub fn read_super<I: Image>(image: &mut I, sector: Option<u32>) -> Result<Super, SuperFault>
     // An accepted volume lies within the image. What can't be read is a failed read, or lies past
     // the image's end.
-    ensures places { MatchResult result
+    ensures inside_or_unreadable { MatchResult result
         (λ s. s.geometry.layout.size * s.geometry.layout.fsize ≤ (I.device image.old).size)
         (λ fault. (at : ℕ) → fault ≡ SuperFault.CannotRead at
         → IsUnreadable (I.device image.old) (I.device image.new) sector at) }

@@ -111,9 +111,9 @@ pub record HoldsPlaces (v : Layout) (b : List ℕ) (w : Workspace) : Type 0 wher
 pub record LeavesNoted {S T : Type 0} (I : Ghosts S) (old new : Chunks) (image image' : S) (before after : Windows)
     (parents words words' : Vec ℕ Global) (p : ℕ) (result : Result T ImageFault) : Type 0 where
   pub geometry : new.walk.geometry ≡ old.walk.geometry
-  pub ready : CanReadChunks old.walk.geometry.layout (I.device image') after.blocks after.chunk
+  pub ready : CanReadChunks old.walk.geometry.layout (I.device image') after.blocks after.current
   pub read : ReadAfter (I.device image) (I.device image') result
-  pub counted : HoldsReading before.blocks before.chunk old → ForContents (I.device image).contents
+  pub counted : HoldsReading before.blocks before.current old → ForContents (I.device image).contents
       (λ b. I.reads image' ≤ I.reads image + to_read b old)
   pub others : after ≡ record before { blocks = after.blocks; current = after.current }
   pub children : NotesChildren parents.items words.items words'.items p

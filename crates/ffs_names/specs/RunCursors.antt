@@ -24,7 +24,8 @@ pub record HasNoChunks (cursor : RunCursor) : Type 0 where
 
 -- the chunks of a Run of this logical block are still to come, where this many bytes are read
 pub record BeginsRun (v : Layout) (bytes_to_read start len block : ℕ) (cursor : RunCursor) : Type 0 where
-  pub chunks : (b : List ℕ) → cursor_chunks v b cursor ≡ run_chunks (reading_by v b bytes_to_read) start len (block * v.bsize)
+  pub chunks : (b : List ℕ) → cursor_chunks v b cursor ≡ run_chunks (reading_by v b bytes_to_read) start len
+      (block * v.bsize)
   pub first : cursor.next ≡ 0
   pub fits : CursorFits v cursor
 

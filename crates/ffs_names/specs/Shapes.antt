@@ -22,7 +22,7 @@ abbrev pub has_right_shape : List ℕ → Entries → Bool
 has_right_shape b r =
     (r.right_so_far && fills r) && (are_sound (rest b r.chunks) && not (r.chunks.gap || gap_left b r.chunks))
 
--- no chunk is left, and the current one is over
+-- no chunk is left, and the entries of the current one fill it
 pub record HasEnded (b : List ℕ) (r : Entries) : Type 0 where
   pub chunks : rest b r.chunks ≡ []
   pub current : fills r ≡ true

@@ -15,11 +15,11 @@ use Rattle.ffs_pathnames.specs.declared.tree.Checking.{Checking}
 -- these lines are said, by what is known of the bytes, and the image is read for no more than these;
 -- any image for no more than the messages that were begun. All of the workspace but its windows stays
 pub record ReportsLines {T : Type 0} (v : Layout) (d d' : Device) (w w' : Workspace) (s : KeptParent)
-    (knows : List ℕ → Type 0) (lines : List ℕ → List TreeMessage) (said said' : Progress) (count count' : ℕ)
+    (knows : List ℕ → Type 0) (lines : List ℕ → List TreeMessage) (progress progress' : Progress) (count count' : ℕ)
     (result : Result T RunFault) : Type 0 where
-  pub text : PhaseReports knows (λ b. map of_tree (lines b)) said said' result
+  pub text : PhaseReports knows (λ b. map of_tree (lines b)) progress progress' result
   pub counted : ReadsByLines v knows lines w w' count count'
-  pub paid : AreChunksNumbered v → Paid line_reads said said' count count' result
+  pub paid : AreChunksNumbered v → Paid line_reads progress progress' count count' result
   pub leaves : LinesLeave v d d' w w' s result
 
 -- these lines of a directory are said, by what is known of the bytes, and `after` holds then. Its
@@ -27,13 +27,13 @@ pub record ReportsLines {T : Type 0} (v : Layout) (d d' : Device) (w w' : Worksp
 -- is read for the lines; of any image for no more than the messages that were begun
 pub record ReportsDirectory {T : Type 0} (v : Layout) (d d' : Device) (w w' : Workspace) (c c' : Checking)
     (knows : List ℕ → Type 0) (own : List ℕ → ℕ) (lines : List ℕ → List TreeMessage) (after : T → List ℕ → Type 0)
-    (said said' : Progress) (count count' : ℕ) (result : Result T RunFault) : Type 0 where
-  pub text : PhaseReports knows (λ b. map of_tree (lines b)) said said' result
+    (progress progress' : Progress) (count count' : ℕ) (result : Result T RunFault) : Type 0 where
+  pub text : PhaseReports knows (λ b. map of_tree (lines b)) progress progress' result
   pub reads : ForBytes knows (λ b. AreNoted v b w.queue.items
       → count' ≤ count + (own b + line_reads * length (lines b)))
   pub kept : ForBytes knows (λ b. c.reads_left ≤ c'.reads_left + own b)
   pub paid : AreChunksNumbered v
-      → Paid line_reads said said' (count + c.reads_left) (count' + c'.reads_left) result
+      → Paid line_reads progress progress' (count + c.reads_left) (count' + c'.reads_left) result
   pub holds : IfOk result (λ x. ForBytes knows (after x))
   pub leaves : PhaseLeaves v d d' w w' c'.texts.kept_parent result
 
@@ -43,12 +43,12 @@ pub record ReportsDirectory {T : Type 0} (v : Layout) (d d' : Device) (w w' : Wo
 -- that failed, a workspace that is ready, and how often inodes are referred to; where nothing failed, also
 -- what the block check and the survey found, by what is known of the bytes
 pub record ReportsTree {T : Type 0} (v : Layout) (d d' : Device) (w w' : Workspace)
-    (lines : List ℕ → List TreeMessage) (said said' : Progress) (count count' : ℕ) (result : Result T RunFault) :
-    Type 0 where
-  pub text : PhaseReports (IsBefore v d.contents w 2) (λ b. map of_tree (lines b)) said said' result
+    (lines : List ℕ → List TreeMessage) (progress progress' : Progress) (count count' : ℕ)
+    (result : Result T RunFault) : Type 0 where
+  pub text : PhaseReports (IsBefore v d.contents w 2) (λ b. map of_tree (lines b)) progress progress' result
   pub reads : ForBytes (IsBefore v d.contents w 2) (λ b. AreChunksNumbered v
       → count' ≤ count + (3 * directories_cost v b + line_reads * length (lines b)))
-  pub paid : AreChunksNumbered v → Paid line_reads said said' (count + 3 * sweep_reads v) count' result
+  pub paid : AreChunksNumbered v → Paid line_reads progress progress' (count + 3 * sweep_reads v) count' result
   pub image : ImageAfter d d' result
   pub holds : OnOk result (ForBytes (IsBefore v d.contents w 2) (λ b. HoldsClaims v b w' × HoldsSurvey v b w'))
   pub references : w'.references ≡ w.references

@@ -14,26 +14,28 @@ use Rattle.ffs_pathnames.specs.{PassedNames.PassedNames, Ready.{LinesLeave, Phas
 -- any, is still that of x; and the image is read for no more than these lines, any image for no more
 -- than the messages that were begun
 pub record ReportsEntries {T : Type 0} (v : Layout) (d : Device) (w w' : Workspace) (x : ℕ) (t t' : EntryTexts)
-    (lines : Volume → List TreeMessage) (said said' : Progress) (reads reads' : ℕ) (result : Result T RunFault) :
-    Type 0 where
-  pub text : PhaseReports (KnowsPath v d.contents w x t) (λ b. map of_tree (lines (volume_of v b))) said said' result
+    (lines : Volume → List TreeMessage) (progress progress' : Progress) (reads reads' : ℕ)
+    (result : Result T RunFault) : Type 0 where
+  pub text : PhaseReports (KnowsPath v d.contents w x t) (λ b. map of_tree (lines (volume_of v b)))
+      progress progress' result
   pub path : KeepsPath v d w x t t'
   pub counted : ReadsByLines v (DirectoryContext v d.contents w x) (λ b. lines (volume_of v b)) w w' reads reads'
-  pub paid : AreChunksNumbered v → Paid line_reads said said' reads reads' result
+  pub paid : AreChunksNumbered v → Paid line_reads progress progress' reads reads' result
 
 -- such lines are said, and all of the workspace but its windows stays
 pub record ReportsOneEntry {T : Type 0} (v : Layout) (d d' : Device) (w w' : Workspace) (x : ℕ) (t t' : EntryTexts)
-    (messages : Volume → List TreeMessage) (said said' : Progress) (reads reads' : ℕ) (result : Result T RunFault) :
-    Type 0 where
-  pub lines : ReportsEntries v d w w' x t t' messages said said' reads reads' result
+    (messages : Volume → List TreeMessage) (progress progress' : Progress) (reads reads' : ℕ)
+    (result : Result T RunFault) : Type 0 where
+  pub lines : ReportsEntries v d w w' x t t' messages progress progress' reads reads' result
   pub leaves : LinesLeave v d d' w w' t'.kept_parent result
 
 -- such lines are said, and the entries are passed: `after` says which names are passed then. The
 -- window of the current directory is as it was
 pub record PassesEntries {T : Type 0} (v : Layout) (d d' : Device) (w w' : Workspace) (x : ℕ) (t t' : EntryTexts)
-    (messages : Volume → List TreeMessage) (after : Volume → PassedNames) (said said' : Progress) (reads reads' : ℕ)
+    (messages : Volume → List TreeMessage) (after : Volume → PassedNames) (progress progress' : Progress)
+    (reads reads' : ℕ)
     (result : Result T RunFault) : Type 0 where
-  pub lines : ReportsEntries v d w w' x t t' messages said said' reads reads' result
+  pub lines : ReportsEntries v d w w' x t t' messages progress progress' reads reads' result
   pub passed : OnOk result (ForBytes (DirectoryContext v d.contents w x) (λ b. after (volume_of v b) ≡ passed_of w'))
   pub leaves : PhaseLeaves v d d' w w' t'.kept_parent result
   pub current : w'.windows.current ≡ w.windows.current

@@ -13,7 +13,8 @@ use Rattle.ffs_pathnames.specs.ReadsLeft.{TakesLeft}
 pub record GivesNext (contents : Option (List ℕ)) (windows : Windows) (old new : Chunks)
     (bytes : List ℕ) (left : ℕ) (answer : Option ℕ) : Type 0 where
   pub chunk : ForContents contents (λ b.
-      (AreChunksNumbered old.walk.geometry.layout → HoldsReading windows.blocks windows.current old × (to_read b old ≤ left))
+      (AreChunksNumbered old.walk.geometry.layout → HoldsReading windows.blocks windows.current old
+      × (to_read b old ≤ left))
       → GivesChunk b (rest b) old new bytes answer)
   pub budget : IfSome answer (λ _. new.budget + 1 ≡ old.budget)
 

@@ -11,7 +11,7 @@ ghost use Rattle.ffs_volume.specs.Messages.Texts.{tree_message};
 
 use ffs_layout::Entry;
 use ffs_names::{is_one_dot, is_two_dots};
-use ffs_report::{DirectoryLine, DotLine, EntryLine, Line, OutFault, Output, Report};
+use ffs_report::{DirectoryLine, DotLine, Line, OutFault, Output, Report};
 use ffs_volume::Attr;
 use ffs_volume::constants::{DIRBLKSIZ, DT_DIR, MINDIRSIZE};
 use ffs_volume::tree_lines::TreeLine;

@@ -11,7 +11,7 @@
 //!
 //! - `pass2` is the phase: what is reported of the root, and the workspace made ready. No name is
 //!   passed yet, and of the survey's flags those of inodes that aren't suspect stay.
-//! - `tree` goes from the root over the directories, once the places of parent entries are noted
+//! - `tree` reports the root, and goes over the directories by number, once the places of parent entries are noted
 //!   (`ffs_names::note_places`), and checks one of them.
 //! - `look` reads a directory once: its inode, then its chunks, then their entries, by what is known
 //!   of the inodes that they name (`inodes`).

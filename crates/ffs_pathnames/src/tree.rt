@@ -1,4 +1,4 @@
-//! The pathname check of one directory after another, from the root on.
+//! The pathname check: the root's line, then one directory after another, by number.
 ghost use Rattle.std.specs.Prelude.{suc, ◌≡◌, ◌-◌, ◌*◌, ◌<◌, ◌≤◌, ℕ, true, false, vec_len, List, option_map};
 ghost use Rattle.ffs_report.specs.Progress.{progress};
 ghost use Rattle.ffs_volume.specs.{declared.Layout.Layout, Messages.Kinds.lines_from};
@@ -96,7 +96,7 @@ fn check_inodes<I: Image, W: Output>(
         (progress W.sink report.old) (progress W.sink report.new)
         (I.reads image.old) (I.reads image.new) result }
 
-    // Where no directory is checked, nothing is read.
+    // Where no directory needs a check, the workspace is left as it was.
     ensures unchecked { ((x : ℕ) → 2 ≤ x → x < inodes_of geometry.now.layout
         → needs_check workspace.old x ≡ false) → workspace.new ≡ workspace.old }
 {

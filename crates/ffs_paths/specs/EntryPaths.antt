@@ -2,7 +2,7 @@
 use Rattle.std.specs.Prelude.{◌≡◌, ℕ, ◌+◌, ◌≤◌, true, false, List, [], ◌∷◌, ◌++◌, take, drop}
 use Rattle.ffs_paths.specs.declared.path.DirectoryPath.{DirectoryPath}
 
--- the directory is reached by names that all have room, and they and a `/` are the first bytes: 1,024
+-- the directory is reached by names that all have room, and they and a `/` are the first bytes: 1,023
 -- of the names at most, and that `/`
 pub record BeginsWith (p : DirectoryPath) (begins : ℕ) (bytes : List ℕ) : Type 0 where
   pub reached : p.reached ≡ true

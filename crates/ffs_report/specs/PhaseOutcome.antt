@@ -25,7 +25,7 @@ pub record SaidOf (knows : List ℕ → Type 0) (rest all : List ℕ → List Me
   pub right : ForBytes knows (λ bytes. messages ++ rest bytes ≡ all bytes)
   pub said : Said old new messages
 
--- whole messages were said, the first of them all: perhaps all of them
+-- whole messages were said, the first ones of `all`, perhaps all of them
 pub record SaidPrefixOf (knows : List ℕ → Type 0) (all : List ℕ → List Message) (old new : Progress) : Type 0 where
   pub rest : List ℕ → List Message
   pub prefix : SaidOf knows rest all old new

@@ -5,8 +5,8 @@ ghost use Rattle.ffs_report.specs.declared.line_buffer.TheConstants.{LINE_ROOM};
 use crate::output::{OutFault, Output};
 use ffs_memory::copy_short;
 
-/// The room for a line and its questions, in bytes. A path has at most 1,024: a line that shows two
-/// long ones may be longer, and so may one with the name of an image.
+/// The room for a line, with its questions, in bytes. A path has at most 1,024: a line that shows
+/// two long ones may be longer, and so may one with the name of an image.
 const LINE_ROOM: usize = 2048;
 
 /// An output in memory that has room for one line. A piece for which no room is left is refused.

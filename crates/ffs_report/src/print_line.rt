@@ -14,7 +14,7 @@ use ffs_volume::texts::*;
 use ffs_volume::{BlockMessage, SuperFault};
 use itoa::Buffer;
 
-/// Prints a line and its questions as one piece, where they have room in the buffer.
+/// Prints a line, with its questions, as one piece, where they have room in the buffer.
 ///
 /// # Errors
 /// A write to the output that failed.
@@ -32,7 +32,7 @@ pub fn print_gathered<W: Output>(
     print_line(out, line)
 }
 
-/// Prints a line and its questions.
+/// Prints a line, with its questions.
 fn print_line<W: Output>(out: &mut W, line: &Line<'_>) -> Result<(), OutFault>
     ensures { Prints (W.sink out.old) (W.sink out.new) (text_of (message_of line.now)) result }
 {

@@ -109,7 +109,7 @@ impl<'a, W: Output> Report<'a, W> {
         self.after(printed, true)
     }
 
-    /// Says a line and its questions.
+    /// Says a line, with its questions.
     ///
     /// Inlined, so that the match is decided at compile time where the line is a literal.
     ///

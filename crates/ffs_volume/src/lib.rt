@@ -3,8 +3,9 @@
 //!
 //! The definitions are a book, in `specs/`: folders by subject, in the order that `specs/Lib.antt`
 //! gives. What runs here is small: `End::status`, `Attr::of` and the methods of `kinds::Kind`.
-//! `constants` has the numbers of the format, `texts` the texts of messages, and `laws` states laws
-//! and worked examples of the definitions. The lemmas that the crates above use are in `proofs/`.
+//! `constants` has the numbers of the format, `texts` the texts of messages, `tree_lines` the
+//! messages on directories, entries and references, and `laws` states laws and worked examples of
+//! the definitions. The lemmas that the crates above use are in `proofs/`.
 //!
 //! It rests on no other crate of this repository.
 #![tactic(auto)]

@@ -55,9 +55,9 @@ pub enum DotLine<P> {
     NumberDotdot { attr: Attr, path: P },
     /// `..` hasn't the type of a directory.
     KindDotdot { attr: Attr, path: P },
-    /// There is a further `.`.
+    /// There is a `.` that isn't the first entry.
     ExtraDot { attr: Attr, path: P },
-    /// There is a further `..`.
+    /// There is a `..` that isn't the second entry.
     ExtraDotdot { attr: Attr, path: P },
 }
 

@@ -69,7 +69,7 @@ blames x (Bad fragment inode) = inode == x
 blames x (Dup fragment inode) = inode == x
 blames x _ = false
 
--- the inode has the class Unknown, or a line of phase 1 or 1b blames it: phases 2 and 4 use this
+-- the inode has the class Unknown, or a line of phase 1 or 1b blames it: phases 2, 3 and 4 use this
 unfoldable pub is_marked : (v : Layout) (image : List ℕ) (x : ℕ) → Bool
 is_marked v image x =
     is_unknown (class_of v (inode_of v image x))

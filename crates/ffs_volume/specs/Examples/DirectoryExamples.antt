@@ -8,14 +8,13 @@ use Rattle.ffs_volume.specs.declared.{Role.TheVariants.Plain, Step.TheVariants.{
 use Rattle.ffs_volume.specs.Directories.Entries.{Entry, Chunk, ChunkSource, entry_at, entries_of, is_sound, chunks_of}
 use Rattle.ffs_volume.specs.Directories.{Entries.{has_gap, bytes_read}, Roles.{Volume, role_of, references}}
 use Rattle.ffs_volume.specs.Directories.{Graph.{level, parent}, Parents.graph_of, Paths.{path_bytes, dir_path}}
-use Rattle.ffs_volume.specs.{Directories.Paths.entry_path}
-use Rattle.ffs_volume.specs.{Directories.PathnameCheck.pathname_lines}
+use Rattle.ffs_volume.specs.Directories.{Paths.entry_path, PathnameCheck.pathname_lines}
 use Rattle.ffs_volume.specs.Directories.{Connectivity.connectivity_lines, ReferenceCheck.reference_lines}
 use Rattle.ffs_volume.specs.Examples.Images.{bytes_in, word, zero_bytes, root_chunk}
 use Rattle.ffs_volume.specs.declared.tree_lines.EntryLine.TheVariants.{Extraneous, KindEntry, OutOfRange, Whiteout}
-use Rattle.ffs_volume.specs.declared.tree_lines.EntryLine.TheVariants.{ZeroDir}
-use Rattle.ffs_volume.specs.declared.tree_lines.DotLine.TheVariants.{ExtraDot, ExtraDotdot, KindDot, KindDotdot}
-use Rattle.ffs_volume.specs.declared.tree_lines.DotLine.TheVariants.{MissingDot, MissingDotFirst, MissingDotdot}
+use Rattle.ffs_volume.specs.declared.tree_lines.{EntryLine.TheVariants.ZeroDir, DotLine.TheVariants.ExtraDot}
+use Rattle.ffs_volume.specs.declared.tree_lines.DotLine.TheVariants.{ExtraDotdot, KindDot, KindDotdot, MissingDot}
+use Rattle.ffs_volume.specs.declared.tree_lines.DotLine.TheVariants.{MissingDotFirst, MissingDotdot}
 use Rattle.ffs_volume.specs.declared.tree_lines.DotLine.TheVariants.{MissingDotdotSecond, NumberDot, NumberDotdot}
 use Rattle.ffs_volume.specs.declared.tree_lines.DirectoryLine.TheVariants.{DirEmpty, DirLength, DirShort, RootNone}
 use Rattle.ffs_volume.specs.declared.tree_lines.DirectoryLine.TheVariants.{RootNotDir, RootSuspect}

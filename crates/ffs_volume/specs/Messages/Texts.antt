@@ -1,5 +1,5 @@
--- The texts of messages, in bytes: the line of a message, then each of its questions with its
--- answer and an empty line.
+-- The texts of messages, in bytes: what a message says, then each of its questions with its answer
+-- and an empty line.
 use Rattle.std.specs.{Prelude.{ℕ, ℤ, ◌/◌, ◌%◌, List, [], ◌∷◌, ◌++◌, map, decimal, unsigned_abs}, List.flat_map}
 use Rattle.std.specs.{List.concat, Fmt.signed_decimal, Borrow.Bor}
 use Rattle.ffs_volume.specs.declared.{Attr.Attr, BlockMessage.{BlockMessage, TheVariants.{PartAlloc, UnknownType, Bad}}}
@@ -84,7 +84,7 @@ fault_text Disagree = texts.DISAGREE.now
 abbrev pub offer_text : (fragment : ℕ) (what : List ℕ) (inode : ℕ) → List ℕ
 offer_text fragment what inode = concat (decimal fragment ∷ what ∷ decimal inode ∷ texts.LINE_END.now ∷ [])
 
--- an inode's own count of blocks, and the right one
+-- an inode's own count of sectors of 512 bytes, and the right one
 abbrev pub block_count_text : (inode found right : ℕ) → List ℕ
 block_count_text inode found right = concat (
     texts.BLOCK_COUNT.now ∷ decimal inode ∷ texts.FOUND.now ∷ decimal found

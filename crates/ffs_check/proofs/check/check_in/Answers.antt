@@ -19,7 +19,7 @@ pub returns-in-Err-clause-failures : goal.returns-in-Err-clause-failures
 returns-in-Err-clause-failures g c = record {
   reads = reads_failed _ _ _ _ _ _ _ (returns-in-Err-clause-headline g c);
   writes = writes_failed _ _ _ _ _ _ _ (returns-in-Err-clause-headline g c);
-  unreadable = c.in-Err.ensures.answers.places;
+  unreadable = c.in-Err.ensures.answers.inside_or_unreadable;
 }
 
 pub returns-in-Ok-clause-failures : goal.returns-in-Ok-clause-failures
@@ -55,5 +55,5 @@ returns-in-Ok-clause-reads g c =
       any = any_at _ _ (g.W.Output.sink c.check_accepted.new.report.out.now) _ _ _ (search rules)
           (whole_reads _ c.in-Ok.superblock _ (g.W.Output.sink c.args.out.now)
           (progress g.W.Output.sink c.say_opening.new.report) (progress g.W.Output.sink c.check_accepted.new.report)
-          _ _ _ _ c.in-Ok.ensures.answers.places opened.ends.0 c.in-Ok.ensures.answers.reads phases.any);
+          _ _ _ _ c.in-Ok.ensures.answers.inside_or_unreadable opened.ends.0 c.in-Ok.ensures.answers.reads phases.any);
     }

@@ -67,7 +67,7 @@ step-requires g c =
     let inv = c.loop-next.invariant in
     let read = claiming_walked c.in_ok-next.ensures.leaves.read inv.geometry c.next.ensures.leaves.kept inv.left in
     record {
-      next = sees_next c.args.geometry.now.sound c.requires.begun read.claim.ready.made read.claim.only_data
+      next = sees_next c.args.geometry.now.sound c.requires.begun read.claim.ready.made read.claim.all_in_range
           inv.open_still read.claim_bound;
       length = (rw (inv.geometry, c.in-Some.is) at c.in_ok-next.ensures.step.fits).length;
     }
@@ -132,7 +132,7 @@ claim_words-requires g c =
     let left = c.step.ensures.left in
     let now = c.in_ok-seen.ensures in
     record {
-      next = sees_next sound c.requires.begun left.only.made left.only_data (sym now.seen ∙ c.if-not-seen.false)
+      next = sees_next sound c.requires.begun left.only.made left.all_in_range (sym now.seen ∙ c.if-not-seen.false)
           (moves_on c.in-Some.next inv.left.claim.ready.made sound.sizes.frag_high
           (rw (inv.geometry, c.in-Some.is) at c.in_ok-next.ensures.step.fits).length now.claims inv.left.claim_bound);
       geometry = c.in_ok-next.ensures.same.geometry ∙ inv.geometry;
@@ -158,7 +158,7 @@ loop-next-preserved g c =
     let image = (g.I.Image.device c.next.new.image).contents in
     let gives = ap (λ d. d.contents) read.image in
     record {
-      left = claiming_on read.image (record { only = only_then left.only words.only; only_data = left.only_data })
+      left = claiming_on read.image (record { only = only_then left.only words.only; all_in_range = left.all_in_range })
           (omega (arith, seen_bound c.args.workspace.now words.only.made words.uncut moves)) moves read;
       open_still = words.uncut;
       geometry = words.same.geometry ∙ c.in_ok-next.ensures.same.geometry ∙ inv.geometry;

@@ -26,7 +26,7 @@ claim-requires g c =
     let can = c.requires.can in
     record {
       class_is = c.requires.class_is;
-      claim = record { ready = ready_begun c.begin.ensures can.claim.ready; only_data = can.claim.only_data };
+      claim = record { ready = ready_begun c.begin.ensures can.claim.ready; all_in_range = can.claim.all_in_range };
       walk = can.walk;
       begun = begun c.args.workspace.now c.begin.ensures can.runs;
     }

@@ -22,7 +22,7 @@ loop-number-init g c =
     record {
       ready = record {
         ready = ready_still c.reserve.ensures.only.made c.reserve.ensures.only.windows c.requires.ready;
-        only_data = c.empty.ensures v;
+        all_in_range = c.empty.ensures v;
       };
       walk = c.ended.ensures.geometry;
       device = refl;

@@ -6,7 +6,7 @@ use Rattle.ffs_report.specs.{Known.ForBytes, PhaseOutcome.SaidOf, Progress.progr
 use Rattle.ffs_maps.specs.Bits.{bits_of}
 use Rattle.ffs_workspace.specs.{Found.WithPhase1, Lengths.inodes_of, Ready.IsReady}
 use Rattle.ffs_claims.{proofs.{Reportings.Reporting, Rescanned.{kept_from, runs_from}}, specs.Lines.of_lines}
-use Rattle.ffs_claims.specs.{Reporting.SameClaims, RescanRuns.{RunsPay, runs_until_reported, rescan_runs}}
+use Rattle.ffs_claims.specs.{Reporting.RescanKeeps, RescanRuns.{RunsPay, runs_until_reported, rescan_runs}}
 use Rattle.ffs_claims.proofs.pass1b.rescan_inodes.Given as goal
 
 abbrev pub invariant-loop-number : goal.invariant-loop-number
@@ -14,7 +14,7 @@ invariant-loop-number g l = let v = l.geometry.layout in
     let knows = WithPhase1 v (g.I.Image.device l.fn.image) l.fn.workspace in record {
       ready : IsReady v (g.I.Image.device l.image) l.workspace;
       device : g.I.Image.device l.image ≡ g.I.Image.device l.fn.image;
-      claims : SameClaims l.fn.workspace l.workspace;
+      claims : RescanKeeps l.fn.workspace l.workspace;
       low : 2 ≤ l.number;
       high : 2 < l.number → l.number ≤ inodes_of v;
       runs : ForBytes knows (λ bytes. l.workspace.runs_again ≤ (claims_before v bytes l.number).runs);

@@ -36,8 +36,8 @@ returns-in_default-clause-answer g c =
           (magic _ _ c.args.sector _ long start _ copy.inside copy.bytes (sym c.in_default.ensures) b e),
     )
 
-pub returns-in_err-geometry-clause-places : goal.returns-in_err-geometry-clause-places
-returns-in_err-geometry-clause-places g c =
+pub returns-in_err-geometry-clause-inside_or_unreadable : goal.returns-in_err-geometry-clause-inside_or_unreadable
+returns-in_err-geometry-clause-inside_or_unreadable g c =
     let p = err_from_is_err_and c.from_residual-in_err-geometry.result c.from_residual-in_err-geometry.ensures.1 in
     rw (p.1, p.2) (λ at e. absurd (no_read_fault _ _ at (c.in_err-geometry.ensures ∙ ap Some e)))
 
@@ -81,8 +81,8 @@ returns-in_err-check_copy-clause-answer g c =
       )
     ])
 
-pub returns-clause-places : goal.returns-clause-places
-returns-clause-places g c =
+pub returns-clause-inside_or_unreadable : goal.returns-clause-inside_or_unreadable
+returns-clause-inside_or_unreadable g c =
     let copy = c.in_ok-read_superblock_bytes.ensures.copied in
     let inside = rw (c.size.ensures, copy.same) at c.in_ok-geometry.ensures.in_image in
     rw (ap (λ s. s.layout) c.make_super.ensures) inside

@@ -8,7 +8,7 @@ returns-then-start-data c =
     let v = c.args.geometry.now.layout in
     let group : c.args.start / v.fpg < v.ncg = group_below v c.args.start c.args.geometry.now.sound c.requires in
     record {
-      only_data = record {
+      all_in_range = record {
         runs = λ s n low high some. before_metadata v (c.args.start / v.fpg) s n c.args.geometry.now.sound group
             (rw c.cgbase-base.ensures.value at low) (rw c.cgsblock.ensures at high) some;
       };
@@ -24,7 +24,7 @@ returns c =
     let next : cgbase v (c.args.start / v.fpg + 1) ≡ cgbase v (c.args.start / v.fpg) + v.fpg =
     base_above v (c.args.start / v.fpg) in
     record {
-      only_data = record {
+      all_in_range = record {
         runs = λ s n low high some. after_metadata v (c.args.start / v.fpg) s n c.args.geometry.now.sound group
             (rw c.cgdmin-data.ensures.value at low) (omega (arith, next, high)) (omega (arith, high)) some;
       };
