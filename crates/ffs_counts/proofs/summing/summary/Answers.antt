@@ -4,7 +4,7 @@ use Rattle.ffs_volume.specs.{Messages.Kinds.Message, Report.Whole.{summary_of, f
 use Rattle.ffs_layout.specs.Super.{superblock_in}
 use Rattle.ffs_maps.specs.Bits.{bits_of}
 use Rattle.ffs_report.{specs.{Known.ForBytes, Lines.message_of}, proofs.Reporting.{says_all, stops_all}}
-use Rattle.ffs_workspace.specs.Holds.{HoldsClaims}
+use Rattle.ffs_workspace.specs.Holds.{HoldsClaims, all_claims}
 use Rattle.ffs_counts.proofs.{Classes.files_are, ReservedCount.used_are, summing.summary.Goals.After-summary_line}
 use Rattle.ffs_counts.proofs.summing.summary.Given as given
 use Rattle.ffs_counts.proofs.summing.summary.Goals as goal
@@ -16,6 +16,7 @@ line_is : (g : given.Over) (c : After-summary_line g) →
     (file_count c.args.superblock.now.geometry.layout bytes)
     (claimed_count c.args.superblock.now.geometry.layout bytes) ∷ []
     ≡ message_of c.summary_line.result ∷ [])
+unfolding all_claims
 line_is g c bytes k =
     let s = superblock_in c.args.superblock.now in
     let v = c.args.superblock.now.geometry.layout in
