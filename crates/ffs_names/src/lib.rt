@@ -26,3 +26,4 @@ pub use entries::Entries;
 pub use gap::gap_of;
 pub use places::note_places;
 pub use role::{is_one_dot, is_two_dots, role_of};
+pub use surveying::survey;
