@@ -1,5 +1,5 @@
 //! What is known of the inodes that entries name.
-ghost use Rattle.std.specs.Prelude.{◌≡◌, ◌<◌, length, slice_index, vec_len, ◌==◌, ◌&&◌, not};
+ghost use Rattle.std.specs.Prelude.{◌≡◌, ◌<◌, ◌^◌, length, slice_index, vec_len, ◌==◌, ◌&&◌, not};
 
 use ffs_memory::FilledList;
 use ffs_survey::is_suspect;
