@@ -1,13 +1,20 @@
 -- Messages on directories, said one after another.
 use Rattle.std.specs.Prelude.{List, ◌++◌, map, Result}
 use Rattle.ffs_volume.specs.Messages.{Kinds.{TreeMessage, of_tree, reported}, Texts.tree_message}
+use Rattle.ffs_volume.specs.declared.tree_lines.TreeLine.TheVariants as tree
 use Rattle.ffs_report.specs.Progress.{Progress, Says}
-use Rattle.ffs_pathnames.specs.declared.header.LineIf.{LineIf}
+use Rattle.ffs_pathnames.specs.declared.header.{LineIf.LineIf, Phase2Line.{Phase2Line, TheVariants.{Directory, Dot, Entry}}}
 
 -- the outcome of saying these messages
 abbrev pub SaysTreeMessages : {T E : Type 0} → Progress → Progress → List TreeMessage → Result T E → Type 0
 SaysTreeMessages old new messages result = Says old new (map of_tree messages) result
 
+-- the message of a line of phase 2
+abbrev pub phase2_message : Phase2Line → TreeMessage
+phase2_message (Directory line) = tree_message (tree.Directory line)
+phase2_message (Dot line) = tree_message (tree.Dot line)
+phase2_message (Entry line) = tree_message (tree.Entry line)
+
 -- two messages, each where its test holds
 abbrev pub two_reported : LineIf → LineIf → List TreeMessage
-two_reported a b = reported a.holds (tree_message a.line) ++ reported b.holds (tree_message b.line)
+two_reported a b = reported a.holds (phase2_message a.line) ++ reported b.holds (phase2_message b.line)

@@ -6,15 +6,13 @@ ghost use Rattle.ffs_report.specs.Progress.{progress};
 ghost use Rattle.ffs_pathnames.specs.{SaysTreeMessages.SaysTreeMessages, Header.{size_reported, chunks_reported, shape_reported}};
 ghost use Rattle.ffs_pathnames.specs.Header.{dot_entry_reported, dotdot_entry_reported, dot_in, dotdot_in};
 ghost use Rattle.ffs_pathnames.specs.Header.{dot_reported, dotdot_reported, is_right_dot, is_right_dotdot};
-ghost use Rattle.ffs_pathnames.specs.{Header.{is_header_right, header_lines_of}, SaysTreeMessages.two_reported};
-ghost use Rattle.ffs_volume.specs.Messages.Texts.{tree_message};
+ghost use Rattle.ffs_pathnames.specs.{Header.{is_header_right, header_lines_of}, SaysTreeMessages.{phase2_message, two_reported}};
 
 use ffs_layout::Entry;
 use ffs_names::{is_one_dot, is_two_dots};
-use ffs_report::{DirectoryLine, DotLine, Line, OutFault, Output, Report};
+use ffs_report::{DirectoryLine, DotLine, EntryLine, Line, OutFault, Output, Report};
 use ffs_volume::Attr;
 use ffs_volume::constants::{DIRBLKSIZ, DT_DIR, MINDIRSIZE};
-use ffs_volume::tree_lines::TreeLine;
 
 /// What the lines of a directory before those of its entries depend on.
 #[derive(Clone, Copy, Debug)]
@@ -49,11 +47,11 @@ fn say_size<W: Output>(report: &mut Report<'_, W>, attr: Attr, path: &[u8]) -> R
 {
     let short = LineIf {
         holds: attr.size < MINDIRSIZE,
-        line: TreeLine::Directory(DirectoryLine::DirShort { attr, path }),
+        line: Phase2Line::Directory(DirectoryLine::DirShort { attr, path }),
     };
     let broken = LineIf {
         holds: has_partial_chunk(attr.size),
-        line: TreeLine::Directory(DirectoryLine::DirLength {
+        line: Phase2Line::Directory(DirectoryLine::DirLength {
             path,
             size: attr.size,
         }),
@@ -74,11 +72,11 @@ fn say_chunks<W: Output>(
 {
     let empty = LineIf {
         holds: gap,
-        line: TreeLine::Directory(DirectoryLine::DirEmpty { path }),
+        line: Phase2Line::Directory(DirectoryLine::DirEmpty { path }),
     };
     let corrupt = LineIf {
         holds: !sound,
-        line: TreeLine::Directory(DirectoryLine::DirCorrupt { attr, path }),
+        line: Phase2Line::Directory(DirectoryLine::DirCorrupt { attr, path }),
     };
     say_two(report, &empty, &corrupt)
 }
@@ -113,11 +111,11 @@ fn say_dot_entry<W: Output>(
 {
     let other = LineIf {
         holds: entry.number != number,
-        line: TreeLine::Dot(DotLine::NumberDot { attr, path }),
+        line: Phase2Line::Dot(DotLine::NumberDot { attr, path }),
     };
     let kind = LineIf {
         holds: entry.kind != DT_DIR,
-        line: TreeLine::Dot(DotLine::KindDot { attr, path }),
+        line: Phase2Line::Dot(DotLine::KindDot { attr, path }),
     };
     say_two(report, &other, &kind)
 }
@@ -169,11 +167,11 @@ fn say_dotdot_entry<W: Output>(
 {
     let other = LineIf {
         holds: is_wrong_parent(parent, entry.number),
-        line: TreeLine::Dot(DotLine::NumberDotdot { attr, path }),
+        line: Phase2Line::Dot(DotLine::NumberDotdot { attr, path }),
     };
     let kind = LineIf {
         holds: entry.kind != DT_DIR,
-        line: TreeLine::Dot(DotLine::KindDotdot { attr, path }),
+        line: Phase2Line::Dot(DotLine::KindDotdot { attr, path }),
     };
     say_two(report, &other, &kind)
 }
@@ -287,13 +285,24 @@ pub fn is_in_order(header: HeaderFacts<'_>) -> bool
     is_dotdot_right(header.parent, header.second)
 }
 
+/// A line of phase 2.
+#[derive(Clone, Copy, Debug)]
+pub enum Phase2Line<'a> {
+    /// On a directory as a whole.
+    Directory(DirectoryLine<&'a [u8]>),
+    /// On an entry `.` or `..`.
+    Dot(DotLine<&'a [u8]>),
+    /// On another entry.
+    Entry(EntryLine<&'a [u8]>),
+}
+
 /// A line, and whether it is to be reported.
 #[derive(Clone, Copy, Debug)]
 pub struct LineIf<'a> {
     /// Whether it is to be reported.
     pub holds: bool,
     /// The line.
-    pub line: TreeLine<&'a [u8]>,
+    pub line: Phase2Line<'a>,
 }
 
 /// Says a line.
@@ -302,16 +311,15 @@ pub struct LineIf<'a> {
 /// A write of the report that failed.
 pub fn say_line<W: Output>(
     report: &mut Report<'_, W>,
-    line: &TreeLine<&[u8]>,
+    line: &Phase2Line<'_>,
 ) -> Result<(), OutFault>
     ensures { SaysTreeMessages (progress W.sink report.old) (progress W.sink report.new)
-        (reported true (tree_message line.now)) result }
+        (reported true (phase2_message line.now)) result }
 {
     match *line {
-        TreeLine::Directory(line) => report.say(&Line::Directory(line)),
-        TreeLine::Dot(line) => report.say(&Line::Dot(line)),
-        TreeLine::Entry(line) => report.say(&Line::Entry(line)),
-        TreeLine::Reference(line) => report.say(&Line::Reference(line)),
+        Phase2Line::Directory(line) => report.say(&Line::Directory(line)),
+        Phase2Line::Dot(line) => report.say(&Line::Dot(line)),
+        Phase2Line::Entry(line) => report.say(&Line::Entry(line)),
     }
 }
 
@@ -321,7 +329,7 @@ pub fn say_line<W: Output>(
 /// A write of the report that failed.
 pub fn say_if<W: Output>(report: &mut Report<'_, W>, line: &LineIf<'_>) -> Result<(), OutFault>
     ensures { SaysTreeMessages (progress W.sink report.old) (progress W.sink report.new)
-        (reported line.now.holds (tree_message line.now.line)) result }
+        (reported line.now.holds (phase2_message line.now.line)) result }
 {
     if line.holds {
         return say_line(report, &line.line);

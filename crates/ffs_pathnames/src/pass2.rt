@@ -9,7 +9,7 @@ ghost use Rattle.ffs_pathnames.specs.{Phase2.{Phase2Ends, Phase2Reads}, RootAnsw
 ghost use Rattle.ffs_survey.specs.Survey.{suspect_at};
 ghost use Rattle.ffs_volume.specs.Messages.Kinds as messages;
 
-use crate::header::{LineIf, say_if, say_line};
+use crate::header::{LineIf, Phase2Line, say_if, say_line};
 use crate::inodes::Inodes;
 use crate::tree::check_tree;
 use ffs_image::Image;
@@ -17,7 +17,6 @@ use ffs_layout::Geometry;
 use ffs_names::survey;
 use ffs_report::{DirectoryLine, Heading, Line, OutFault, Output, Report, RunFault};
 use ffs_volume::kinds::Kind;
-use ffs_volume::tree_lines::TreeLine;
 use ffs_workspace::Workspace;
 
 /// Whether the check continues after the root, or ends there, in phase 2: inode 2 is no directory.
@@ -92,16 +91,16 @@ pub fn report_root<W: Output>(
 {
     let kind = Kind { code: kind };
     if !kind.is_allocated() {
-        return say_line(report, &TreeLine::Directory(DirectoryLine::RootNone));
+        return say_line(report, &Phase2Line::Directory(DirectoryLine::RootNone));
     }
     if kind.is_dir() {
         let suspect = LineIf {
             holds: marked || kind.is_empty_dir(),
-            line: TreeLine::Directory(DirectoryLine::RootSuspect),
+            line: Phase2Line::Directory(DirectoryLine::RootSuspect),
         };
         return say_if(report, &suspect);
     }
-    say_line(report, &TreeLine::Directory(DirectoryLine::RootNotDir))
+    say_line(report, &Phase2Line::Directory(DirectoryLine::RootNotDir))
 }
 
 /// Takes away the flags of suspect inodes, and no others.

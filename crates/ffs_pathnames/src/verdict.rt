@@ -6,14 +6,13 @@ ghost use Rattle.ffs_pathnames.specs.Sees.{HasFlagAndWord, HasFlagAndWordOf, Pas
 ghost use Rattle.ffs_pathnames.specs.Verdicts.{suspect_message, links_reported, defects_reported, verdict_reported};
 ghost use Rattle.ffs_report.specs.Progress.{progress};
 
-use crate::header::{LineIf, say_line, say_two};
+use crate::header::{LineIf, Phase2Line, say_line, say_two};
 use crate::inodes::Inodes;
 use crate::look::is_bad_whiteout;
 use ffs_layout::Entry;
 use ffs_memory::FilledList;
 use ffs_report::{EntryLine, OutFault, Output, Report};
 use ffs_volume::constants::{ROOTINO, WINO};
-use ffs_volume::tree_lines::TreeLine;
 use ffs_volume::{Attr, Label, Role};
 use ffs_workspace::passed;
 
@@ -146,14 +145,17 @@ fn say_suspect<W: Output>(
     if defects.marked {
         return say_line(
             report,
-            &TreeLine::Entry(EntryLine::DupBad {
+            &Phase2Line::Entry(EntryLine::DupBad {
                 label: defects.label,
                 attr,
                 path,
             }),
         );
     }
-    say_line(report, &TreeLine::Entry(EntryLine::ZeroDir { attr, path }))
+    say_line(
+        report,
+        &Phase2Line::Entry(EntryLine::ZeroDir { attr, path }),
+    )
 }
 
 /// Says of an entry that it isn't the parent entry of the directory that it names, and that its
@@ -170,14 +172,14 @@ fn say_links<W: Output>(
 {
     let extraneous = LineIf {
         holds: defects.extraneous,
-        line: TreeLine::Entry(EntryLine::Extraneous {
+        line: Phase2Line::Entry(EntryLine::Extraneous {
             path,
             dir: directory,
         }),
     };
     let kind = LineIf {
         holds: defects.kind,
-        line: TreeLine::Entry(EntryLine::KindEntry {
+        line: Phase2Line::Entry(EntryLine::KindEntry {
             label: defects.label,
             attr,
             path,
@@ -220,16 +222,16 @@ pub fn say_verdict<W: Output>(
     match verdict {
         Verdict::OutOfRange => say_line(
             report,
-            &TreeLine::Entry(EntryLine::OutOfRange { number, path }),
+            &Phase2Line::Entry(EntryLine::OutOfRange { number, path }),
         ),
         Verdict::BadWhiteout => say_line(
             report,
-            &TreeLine::Entry(EntryLine::Whiteout { number, path }),
+            &Phase2Line::Entry(EntryLine::Whiteout { number, path }),
         ),
         Verdict::Whiteout => Ok(()),
         Verdict::Unallocated => say_line(
             report,
-            &TreeLine::Entry(EntryLine::Unallocated { attr, path }),
+            &Phase2Line::Entry(EntryLine::Unallocated { attr, path }),
         ),
         Verdict::Named(defects) => say_defects(report, defects, attr, path, directory),
     }
