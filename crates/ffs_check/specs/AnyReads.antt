@@ -41,8 +41,7 @@ pub record ReadsOfVolume (size : ℕ) (out out' : Sink) (before after : ℕ) : T
   pub reads : AreChunksNumbered layout
       → ReadsByMessages Printed BrokeOffIn (reads_limit layout) out out' before after
 
--- the whole check of any image of this size: it was read at most twice, or within the limit of the
--- volume
+-- the whole check of any image of this size: it was read at most twice, or within the limit of the volume
 abbrev pub ReadsAny : (size : ℕ) → Sink → Sink → (before after : ℕ) → Type 0
 ReadsAny size out out' before after = (after ≤ before + opening_reads) ⊎ ReadsOfVolume size out out' before after
 

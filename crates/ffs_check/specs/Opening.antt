@@ -46,8 +46,7 @@ OpeningEnds whole broken image image' old new name asked_sector found (Err end) 
     ⊎ (OpeningBrokeOff broken image image' old new name asked_sector found end
     ⊎ OpeningBrokeInLine whole broken old new name asked_sector found end)
 
--- a superblock or a fault was found, as the image has it; its opening went out, or the output failed
--- in it
+-- a superblock or a fault was found, as the image has it; its opening went out, or the output failed in it
 pub record OpeningOf {Target : Type 0} (whole broken : Target → Target → List Message → Type 0) (image image' : Device)
     (old new : Target) (name : List ℕ) (asked_sector : Option ℕ) (result : Result Super End) : Type 0 where
   pub found : Result Superblock SuperFault

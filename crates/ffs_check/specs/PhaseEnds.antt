@@ -47,8 +47,7 @@ pub record RunsPhases (s : Superblock) (d d' : Device) (w w' : Workspace) (old n
   pub reads : PhasesPay (WithFresh s.layout d w) s old new before after result
   pub ready : IsReady s.layout d' w'
 
--- the line of a failed read or of refused memory was said, and this is the end; or the output failed
--- in it
+-- the line of a failed read or of refused memory was said, and this is the end; or the output failed in it
 abbrev pub LineEnds : Progress → Progress → Message → End → End → Type 0
 LineEnds old new line cut_end end =
     (Said old new (line ∷ []) × (end ≡ cut_end)) ⊎ (Stopped old new (line ∷ []) × (end ≡ WriteFault))
@@ -85,9 +84,8 @@ pub record IsCutByRead (knows : List ℕ → Type 0) (text : List Message) (imag
   pub line_is : line ≡ cannot_read sector
   pub end_is : end ≡ ReadFault sector
 
--- the messages of the phases on the image's bytes went out, or what a fault leaves of them.
--- `has_defect_by` says of their text whether a defect was reported in it or in the opening. No end
--- is `NoMemory`
+-- the messages of the phases on the image's bytes went out, or what a fault leaves of them. `has_defect_by`
+-- says of their text whether a defect was reported in it or in the opening. No end is `NoMemory`
 pub record PhasesEnd {Target : Type 0} (whole broken : Target → Target → List Message → Type 0)
     (has_defect_by : List Message → Bool) (knows : List ℕ → Type 0) (s : Superblock) (image image' : Device)
     (old new : Target) (end : End) : Type 0 where
@@ -96,9 +94,8 @@ pub record PhasesEnd {Target : Type 0} (whole broken : Target → Target → Lis
   pub ends : Ends whole broken image image' old new text (IsEndByRoot knows s (has_defect_by text))
       (IsCutByRead knows text image image') end
 
--- what the phases say to a report. Whether a defect was reported isn't read off the text: the
--- report keeps whether it has said one, and an opening that another report said may have had one
--- (`had_defect`)
+-- what the phases say to a report. Whether a defect was reported isn't read off the text: the report keeps
+-- whether it has said one, and an opening that another report said may have had one (`had_defect`)
 abbrev pub SaysPhases : Bool → (List ℕ → Type 0) → Superblock → Device → Device → Progress → Progress → End → Type 0
 SaysPhases had_defect knows s image image' old new end =
     PhasesEnd Said Stopped (λ text. had_defect || new.defect) knows s image image' old new end

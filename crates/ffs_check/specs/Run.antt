@@ -42,8 +42,7 @@ abbrev pub CheckedBy : {I : Type 0} → (I → Device) → (reads : I → ℕ) �
 CheckedBy {I} device reads opens refuses name sector out out' status =
     IsChecked I device reads opens name sector out out' status ⊎ IsOpenFailure refuses name out out' status
 
--- the words ask for an image and a sector, and that image was checked at that sector, or couldn't
--- be opened
+-- the words ask for an image and a sector, and that image was checked at that sector, or couldn't be opened
 pub record RunsAsAsked (I : Type 0) (device : I → Device) (reads : I → ℕ) (opens : List ℕ → I → Type 0)
     (refuses : List ℕ → OpenFault → Type 0) (words : List (List ℕ)) (out out' : Sink) (status : ℕ) : Type 0 where
   pub name : List ℕ
