@@ -29,7 +29,7 @@ use Rattle.ffs_volume.specs.Examples.Images.{base_layout, base_superblock, base_
 use Rattle.ffs_volume.specs.Examples.{Images.{root_inode, root_chunk, base_image}, DirectoryExamples.entry_bytes}
 use Rattle.ffs_volume.{specs.Examples.BlockExamples.blocks_at, proofs.OpeningExamples.superblock_examples}
 use Rattle.ffs_volume.specs.declared.tree_lines.{EntryLine.TheVariants.DupBad, ReferenceLine.TheVariants.UnrefDir}
-use Rattle.ffs_volume.specs.declared.tree_lines.TreeLine.TheVariants.{Entry as of_entry, Reference as of_reference}
+use Rattle.ffs_volume.specs.Messages.Kinds.{of_entry, of_reference}
 use Rattle.ffs_certificate.specs.ReportExamples.{ReportExamples, inode_bytes, dir_chunk, two_dirs, named_dir}
 use Rattle.ffs_certificate.specs.ReportExamples.{unnamed_dir, shared_summary, shared_group, shared_image}
 use Rattle.ffs_certificate.specs.ReportExamples.{shared_superblock, about_file, clean_lines}

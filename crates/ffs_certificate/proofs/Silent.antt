@@ -20,7 +20,7 @@ use Rattle.ffs_volume.proofs.Silence.{nil-left, nil-right, nil-both, reported-qu
 use Rattle.ffs_volume.proofs.Silence.{else-quiet, then-silent, lines-quiet, lines-silent}
 use Rattle.ffs_volume.specs.declared.tree_lines.EntryLine.TheVariants.{OutOfRange, Unallocated, Whiteout}
 use Rattle.ffs_volume.specs.declared.tree_lines.ReferenceLine.TheVariants.{UnrefDir}
-use Rattle.ffs_volume.specs.declared.tree_lines.TreeLine.TheVariants.{Entry as of_entry, Reference as of_reference}
+use Rattle.ffs_volume.specs.Messages.Kinds.{of_entry, of_reference}
 
 ruleset quiet = (nil-left, nil-right, reported-quiet, not-false, eqb-true)
 

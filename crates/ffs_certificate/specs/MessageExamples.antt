@@ -14,8 +14,8 @@ use Rattle.ffs_volume.specs.declared.tree_lines.DirectoryLine.TheVariants.{DirLe
 use Rattle.ffs_volume.specs.declared.tree_lines.DotLine.TheVariants.{KindDotdot, MissingDotFirst}
 use Rattle.ffs_volume.specs.declared.tree_lines.EntryLine.TheVariants.{DupBad, Extraneous, KindEntry, OutOfRange}
 use Rattle.ffs_volume.specs.declared.tree_lines.ReferenceLine.TheVariants.{DeadMarked, LinkCount, Unref, UnrefZero}
-use Rattle.ffs_volume.specs.declared.tree_lines.TreeLine.TheVariants.{Directory as of_directory, Dot as of_dot}
-use Rattle.ffs_volume.specs.declared.tree_lines.TreeLine.TheVariants.{Entry as of_entry, Reference as of_reference}
+use Rattle.ffs_volume.specs.Messages.Kinds.{of_directory, of_dot}
+use Rattle.ffs_volume.specs.Messages.Kinds.{of_entry, of_reference}
 use Rattle.ffs_certificate.specs.ReportExamples.{shared_image, shared_superblock, about_file}
 
 abbrev pub about_most : Attr

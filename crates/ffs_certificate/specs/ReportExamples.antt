@@ -11,8 +11,8 @@ use Rattle.ffs_volume.specs.Examples.Images.{bytes_in, word, zero_bytes, mount_b
 use Rattle.ffs_volume.specs.Examples.{Images.{base_image, root_chunk}, DirectoryExamples.{entry_bytes, one_dot}}
 use Rattle.ffs_volume.specs.{Examples.DirectoryExamples.two_dots, declared.tree_lines.EntryLine.TheVariants.DupBad}
 use Rattle.ffs_volume.specs.declared.tree_lines.{DirectoryLine.TheVariants.RootNone, ReferenceLine.TheVariants.UnrefDir}
-use Rattle.ffs_volume.specs.declared.tree_lines.TreeLine.TheVariants.{Entry as of_entry, Directory as of_directory}
-use Rattle.ffs_volume.specs.declared.tree_lines.TreeLine.TheVariants.{Reference as of_reference}
+use Rattle.ffs_volume.specs.Messages.Kinds.{of_entry, of_directory}
+use Rattle.ffs_volume.specs.Messages.Kinds.{of_reference}
 
 -- an inode of this mode, count of links and size, with its first address
 unfoldable pub inode_bytes : Order → ℕ → ℕ → ℕ → ℕ → List ℕ

@@ -5,7 +5,7 @@ use Rattle.ffs_volume.specs.declared.{constants.TheConstants.LINKS_MET, Attr.Att
 use Rattle.ffs_volume.specs.{Disk.Numbers.equals_natural, Messages.Kinds.{TreeMessage, reported}}
 use Rattle.ffs_volume.specs.declared.tree_lines.ReferenceLine.{ReferenceLine, TheVariants.{DeadMarked, DeadZero}}
 use Rattle.ffs_volume.specs.declared.tree_lines.ReferenceLine.TheVariants.{LinkCount, Unref, UnrefZero}
-use Rattle.ffs_volume.specs.declared.tree_lines.TreeLine.TheVariants.{Reference as of_reference}
+use Rattle.ffs_volume.specs.Messages.Kinds.{of_reference}
 use Rattle.ffs_survey.specs.Survey.{dead_at}
 use Rattle.ffs_workspace.specs.declared.workspace.Workspace.{Workspace}
 

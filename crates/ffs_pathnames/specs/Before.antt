@@ -10,7 +10,7 @@ use Rattle.ffs_workspace.specs.{Places.AreNoted, Holds.{bool_at, HoldsClaims, Ho
 use Rattle.ffs_pathnames.specs.{Gathers.{AreAsLong, passed_of}, PassedRight.AreRightBefore}
 use Rattle.ffs_survey.specs.Survey.{suspect_at}
 use Rattle.ffs_volume.specs.declared.tree_lines.DirectoryLine.TheVariants.{RootNone, RootNotDir, RootSuspect}
-use Rattle.ffs_volume.specs.declared.tree_lines.TreeLine.TheVariants.{Directory as of_directory}
+use Rattle.ffs_volume.specs.Messages.Kinds.{of_directory}
 
 -- what was found stays; the flags of suspect inodes are taken away, and no others; nothing is
 -- stamped; and a workspace that was ready still is

@@ -10,7 +10,7 @@ use Rattle.ffs_layout.specs.Entry.{entry_value}
 use Rattle.ffs_pathnames.specs.declared.header.HeaderFacts.{HeaderFacts}
 use Rattle.ffs_volume.specs.declared.tree_lines.DirectoryLine.TheVariants.{DirCorrupt, DirEmpty, DirLength, DirShort}
 use Rattle.ffs_volume.specs.declared.tree_lines.DotLine.TheVariants.{KindDot, KindDotdot, NumberDot, NumberDotdot}
-use Rattle.ffs_volume.specs.declared.tree_lines.TreeLine.TheVariants.{Directory as of_directory, Dot as of_dot}
+use Rattle.ffs_volume.specs.Messages.Kinds.{of_directory, of_dot}
 
 -- of the size, of whether a Gap is kept, and of whether all chunks are sound
 abbrev pub size_reported : Attr → List ℕ → List TreeMessage

@@ -9,7 +9,8 @@ use Rattle.ffs_volume.specs.Directories.Roles.{RoledEntry, is_dir, is_suspect, i
 use Rattle.ffs_volume.specs.Directories.PathnameCheck.{has_wrong_type, extra_lines, attributes, label_of}
 use Rattle.ffs_volume.specs.Directories.PathnameCheck.{is_bad_whiteout, message_on_suspect}
 use Rattle.ffs_volume.specs.declared.tree_lines.EntryLine.TheVariants.{Extraneous, KindEntry, OutOfRange, Unallocated}
-use Rattle.ffs_volume.specs.declared.tree_lines.{EntryLine.TheVariants.Whiteout, TreeLine.TheVariants.Entry as of_entry}
+use Rattle.ffs_volume.specs.declared.tree_lines.EntryLine.TheVariants.{Whiteout}
+use Rattle.ffs_volume.specs.Messages.Kinds.{of_entry}
 
 -- `flags`: of a suspect inode, whether a plain entry has named it; of any other, whether it is
 -- calm. `stamps`: of an inode, its parent, once the first look at the parent has met its entry

@@ -1,7 +1,7 @@
 -- Messages on directories, said one after another.
 use Rattle.std.specs.Prelude.{List, ◌++◌, map, Result}
-use Rattle.ffs_volume.specs.Messages.{Kinds.{TreeMessage, of_tree, reported}, Texts.tree_message}
-use Rattle.ffs_volume.specs.declared.tree_lines.TreeLine.TheVariants as tree
+use Rattle.ffs_volume.specs.Messages.{Kinds.{TreeMessage, of_tree, reported}, Texts.{directory_message, dot_message, entry_message}}
+use Rattle.ffs_volume.specs.Messages.Kinds.{of_directory, of_dot, of_entry}
 use Rattle.ffs_report.specs.Progress.{Progress, Says}
 use Rattle.ffs_pathnames.specs.declared.header.{LineIf.LineIf, Phase2Line.{Phase2Line, TheVariants.{Directory, Dot, Entry}}}
 
@@ -11,9 +11,9 @@ SaysTreeMessages old new messages result = Says old new (map of_tree messages) r
 
 -- the message of a line of phase 2
 abbrev pub phase2_message : Phase2Line → TreeMessage
-phase2_message (Directory line) = tree_message (tree.Directory line)
-phase2_message (Dot line) = tree_message (tree.Dot line)
-phase2_message (Entry line) = tree_message (tree.Entry line)
+phase2_message (Directory line) = of_directory (directory_message line)
+phase2_message (Dot line) = of_dot (dot_message line)
+phase2_message (Entry line) = of_entry (entry_message line)
 
 -- two messages, each where its test holds
 abbrev pub two_reported : LineIf → LineIf → List TreeMessage

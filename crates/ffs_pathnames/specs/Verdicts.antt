@@ -4,7 +4,7 @@ use Rattle.ffs_volume.specs.{declared.Attr.Attr, Messages.Kinds.{TreeMessage, re
 use Rattle.ffs_pathnames.specs.declared.verdict.Verdict.{Verdict, TheVariants.{Named, OutOfRange, BadWhiteout}}
 use Rattle.ffs_pathnames.specs.declared.verdict.{Verdict.TheVariants.{Whiteout, Unallocated}, EntryDefects.EntryDefects}
 use Rattle.ffs_volume.specs.declared.tree_lines.EntryLine.TheVariants as lines
-use Rattle.ffs_volume.specs.declared.tree_lines.TreeLine.TheVariants.{Entry as of_entry}
+use Rattle.ffs_volume.specs.Messages.Kinds.{of_entry}
 
 -- what is reported of an entry that names an allocated inode: `path` is the entry's, `directory`
 -- that of the inode

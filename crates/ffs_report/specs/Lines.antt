@@ -1,7 +1,6 @@
 -- The message of a line.
 use Rattle.ffs_volume.specs.Messages.{Kinds.Message, Texts.{directory_message, dot_message, entry_message}}
 use Rattle.ffs_volume.specs.Messages.Kinds as messages
-use Rattle.ffs_volume.specs.declared.tree_lines.TreeLine.TheVariants as tree
 use Rattle.ffs_report.specs.declared.line.{Line.Line, Heading.Heading as HeadingLine}
 use Rattle.ffs_report.specs.declared.line.Line.TheVariants.{Location, Opening, BadSuper, CannotRead, CannotAlloc}
 use Rattle.ffs_report.specs.declared.line.Line.TheVariants.{Optimization, Minfree, Mounted, Heading, Block, Directory}
@@ -27,8 +26,8 @@ message_of (Minfree value) = messages.minfree value
 message_of (Mounted mount) = messages.mounted mount.now
 message_of (Heading heading) = heading_message heading
 message_of (Block message) = messages.of_blocks message
-message_of (Directory line) = messages.of_tree (tree.Directory (directory_message line))
-message_of (Dot line) = messages.of_tree (tree.Dot (dot_message line))
-message_of (Entry line) = messages.of_tree (tree.Entry (entry_message line))
-message_of (Reference line) = messages.of_tree (tree.Reference line)
+message_of (Directory line) = messages.of_tree (messages.of_directory (directory_message line))
+message_of (Dot line) = messages.of_tree (messages.of_dot (dot_message line))
+message_of (Entry line) = messages.of_tree (messages.of_entry (entry_message line))
+message_of (Reference line) = messages.of_tree (messages.of_reference line)
 message_of (Summary files used free frags blocks tenths) = messages.summary files used free frags blocks tenths

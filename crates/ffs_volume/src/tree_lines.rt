@@ -2,19 +2,6 @@
 //! `P`: its bytes in code, the list of its bytes in the definitions.
 use crate::{Attr, Label};
 
-/// A message on a directory, an entry or an inode.
-#[derive(Clone, Copy, Debug)]
-pub enum TreeLine<P> {
-    /// A directory as a whole.
-    Directory(DirectoryLine<P>),
-    /// The entries `.` and `..` of a directory.
-    Dot(DotLine<P>),
-    /// A further entry of a directory.
-    Entry(EntryLine<P>),
-    /// An inode by the entries that name it.
-    Reference(ReferenceLine),
-}
-
 /// What is wrong with a directory as a whole: `attr` has its attributes, `path` is its path
 /// (dir(5)).
 #[derive(Clone, Copy, Debug)]

@@ -4,7 +4,7 @@ use Rattle.ffs_volume.specs.Directories.{Roles.{Volume, is_suspect}, Graph.{is_u
 use Rattle.ffs_volume.specs.{Directories.Parents.graph_of, Messages.Kinds.{TreeMessage, reported, lines_below}}
 use Rattle.ffs_volume.specs.{Directories.PathnameCheck.attributes}
 use Rattle.ffs_volume.specs.declared.tree_lines.ReferenceLine.TheVariants.{UnrefDir}
-use Rattle.ffs_volume.specs.declared.tree_lines.TreeLine.TheVariants.{Reference as of_reference}
+use Rattle.ffs_volume.specs.Messages.Kinds.{of_reference}
 
 -- x is dead: suspect, other than 2, and named by no plain entry
 abbrev pub is_dead : Volume → ℕ → Bool

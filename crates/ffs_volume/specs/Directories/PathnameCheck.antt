@@ -19,8 +19,8 @@ use Rattle.ffs_volume.specs.declared.tree_lines.DotLine.TheVariants.{MissingDot,
 use Rattle.ffs_volume.specs.declared.tree_lines.DotLine.TheVariants.{MissingDotdotSecond, NumberDot, NumberDotdot}
 use Rattle.ffs_volume.specs.declared.tree_lines.EntryLine.TheVariants.{DupBad, Extraneous, KindEntry, OutOfRange}
 use Rattle.ffs_volume.specs.declared.tree_lines.EntryLine.TheVariants.{Unallocated, Whiteout, ZeroDir}
-use Rattle.ffs_volume.specs.declared.tree_lines.TreeLine.TheVariants.{Directory as of_directory, Dot as of_dot}
-use Rattle.ffs_volume.specs.declared.tree_lines.TreeLine.TheVariants.{Entry as of_entry}
+use Rattle.ffs_volume.specs.Messages.Kinds.{of_directory, of_dot}
+use Rattle.ffs_volume.specs.Messages.Kinds.{of_entry}
 
 -- what messages show of an inode of this number
 abbrev pub attributes_of : ℕ → Inode → Attr

@@ -5,7 +5,7 @@ use Rattle.ffs_volume.specs.{Messages.Kinds.{TreeMessage, lines_below, reported}
 use Rattle.ffs_volume.specs.Directories.{PathnameCheck.label_of, Connectivity.is_dead}
 use Rattle.ffs_volume.specs.declared.tree_lines.ReferenceLine.TheVariants.{DeadMarked, DeadZero, LinkCount, Unref}
 use Rattle.ffs_volume.specs.declared.tree_lines.ReferenceLine.TheVariants.{UnrefZero}
-use Rattle.ffs_volume.specs.declared.tree_lines.TreeLine.TheVariants.{Reference as of_reference}
+use Rattle.ffs_volume.specs.Messages.Kinds.{of_reference}
 
 -- the message on a dead inode
 abbrev pub dead_lines : Volume → ℕ → List TreeMessage

@@ -20,9 +20,9 @@ use Rattle.ffs_volume.specs.declared.tree_lines.DirectoryLine.TheVariants.{DirEm
 use Rattle.ffs_volume.specs.declared.tree_lines.DirectoryLine.TheVariants.{RootNotDir, RootSuspect}
 use Rattle.ffs_volume.specs.declared.tree_lines.ReferenceLine.TheVariants.{DeadMarked, DeadZero, LinkCount, Unref}
 use Rattle.ffs_volume.specs.declared.tree_lines.ReferenceLine.TheVariants.{UnrefDir, UnrefZero}
-use Rattle.ffs_volume.specs.declared.tree_lines.TreeLine.TheVariants.{Entry as of_entry, Dot as of_dot}
-use Rattle.ffs_volume.specs.declared.tree_lines.TreeLine.TheVariants.{Directory as of_directory}
-use Rattle.ffs_volume.specs.declared.tree_lines.TreeLine.TheVariants.{Reference as of_reference}
+use Rattle.ffs_volume.specs.Messages.Kinds.{of_entry, of_dot}
+use Rattle.ffs_volume.specs.Messages.Kinds.{of_directory}
+use Rattle.ffs_volume.specs.Messages.Kinds.{of_reference}
 
 -- the bytes of an entry: its number, length, type and name
 unfoldable pub entry_bytes : Order → ℕ → ℕ → ℕ → List ℕ → List ℕ

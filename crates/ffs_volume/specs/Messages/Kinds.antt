@@ -1,12 +1,17 @@
 -- The messages of a report, and which of them report a defect.
 use Rattle.std.specs.{Prelude.{ℕ, zero, suc, Bool, true, false, List, [], ◌∷◌, ◌++◌, ℤ}, List.list_any}
-use Rattle.ffs_volume.specs.declared.{BlockMessage.BlockMessage, SuperFault.SuperFault, tree_lines.TreeLine.TreeLine}
+use Rattle.ffs_volume.specs.declared.{BlockMessage.BlockMessage, SuperFault.SuperFault}
+use Rattle.ffs_volume.specs.declared.tree_lines.{DirectoryLine.DirectoryLine, DotLine.DotLine, EntryLine.EntryLine}
+use Rattle.ffs_volume.specs.declared.tree_lines.{ReferenceLine.ReferenceLine}
 
--- a message on directories, their entries or references. The rules that report them are in the
--- folder Directories, and the text of each is in `Texts`. Paths and names have the bytes of the
--- image; a text has `?` in place of control bytes
-abbrev pub TreeMessage : Type 0
-TreeMessage = TreeLine (List ℕ)
+-- a message on a directory as a whole, its `.` and `..`, a further entry, or the references to an
+-- inode. The folder Directories has the rules that report them, `Texts` the text of each. Paths and
+-- names have the bytes of the image; a text has `?` in place of control bytes
+pub data TreeMessage : Type 0 where
+  of_directory : (line : DirectoryLine (List ℕ)) → TreeMessage
+  of_dot : (line : DotLine (List ℕ)) → TreeMessage
+  of_entry : (line : EntryLine (List ℕ)) → TreeMessage
+  of_reference : (line : ReferenceLine) → TreeMessage
 
 -- a message of a report: of the opening, a heading, a message of a phase, the summary, or the end
 -- of a run that isn't completed

@@ -11,9 +11,9 @@ use Rattle.ffs_volume.specs.{declared.SuperFault.TheVariants.{Shape, Short, Disa
 use Rattle.ffs_volume.specs.Messages.Kinds.{location, opening, bad_super, cannot_read, cannot_alloc, optimization}
 use Rattle.ffs_volume.specs.Messages.Kinds.{minfree, mounted, phase1, phase1b, phase2, phase3, phase4, phase5}
 use Rattle.ffs_volume.specs.Messages.{Kinds.{of_blocks, of_tree, summary}, Shown.{shown, octal, sign_text}}
-use Rattle.ffs_volume.specs.declared.tree_lines.{TreeLine.TreeLine, DirectoryLine.DirectoryLine, DotLine.DotLine}
+use Rattle.ffs_volume.specs.declared.tree_lines.{DirectoryLine.DirectoryLine, DotLine.DotLine}
 use Rattle.ffs_volume.specs.declared.tree_lines.{EntryLine.EntryLine, ReferenceLine.ReferenceLine}
-use Rattle.ffs_volume.specs.declared.tree_lines.TreeLine.TheVariants.{Directory, Dot, Entry, Reference}
+use Rattle.ffs_volume.specs.Messages.Kinds.{TreeMessage, of_directory, of_dot, of_entry, of_reference}
 use Rattle.ffs_volume.specs.declared.tree_lines.DirectoryLine.TheVariants.{RootNone, RootNotDir, RootSuspect, DirShort}
 use Rattle.ffs_volume.specs.declared.tree_lines.DirectoryLine.TheVariants.{DirLength, DirEmpty, DirCorrupt}
 use Rattle.ffs_volume.specs.declared.tree_lines.DotLine.TheVariants.{MissingDot, MissingDotFirst, NumberDot, KindDot}
@@ -181,11 +181,11 @@ reference_line_text (UnrefZero label about) = labelled_text texts.UNREF.now labe
 reference_line_text (LinkCount label about nlink references) = links_text label about nlink references
 
 -- a message on directories, their entries or references
-abbrev pub tree_message_text : TreeLine (List ℕ) → List ℕ
-tree_message_text (Directory line) = directory_line_text line
-tree_message_text (Dot line) = dot_line_text line
-tree_message_text (Entry line) = entry_line_text line
-tree_message_text (Reference line) = reference_line_text line
+abbrev pub tree_message_text : TreeMessage → List ℕ
+tree_message_text (of_directory line) = directory_line_text line
+tree_message_text (of_dot line) = dot_line_text line
+tree_message_text (of_entry line) = entry_line_text line
+tree_message_text (of_reference line) = reference_line_text line
 
 -- a line of the code as a message: its paths and names by their bytes
 abbrev pub directory_message : DirectoryLine (Bor (List ℕ)) → DirectoryLine (List ℕ)
@@ -217,12 +217,6 @@ entry_message (DupBad label about path) = DupBad label about path.now
 entry_message (ZeroDir about path) = ZeroDir about path.now
 entry_message (Extraneous path directory) = Extraneous path.now directory.now
 entry_message (KindEntry label about path) = KindEntry label about path.now
-
-abbrev pub tree_message : TreeLine (Bor (List ℕ)) → TreeLine (List ℕ)
-tree_message (Directory line) = Directory (directory_message line)
-tree_message (Dot line) = Dot (dot_message line)
-tree_message (Entry line) = Entry (entry_message line)
-tree_message (Reference line) = Reference line
 
 -- each number with what is after it; the fragmentation in tenths of a percent, its sign first
 abbrev pub summary_text : (files used : ℕ) (free frags blocks tenths : ℤ) → List ℕ

@@ -9,7 +9,7 @@ use Rattle.ffs_connectivity.proofs.unref.check_inode.Goals.{After-of}
 use Rattle.ffs_connectivity.proofs.unref.check_inode.Given as given
 use Rattle.ffs_connectivity.proofs.unref.check_inode.Goals as goal
 use Rattle.ffs_volume.specs.declared.tree_lines.ReferenceLine.TheVariants.{UnrefDir}
-use Rattle.ffs_volume.specs.declared.tree_lines.TreeLine.TheVariants.{Reference as of_reference}
+use Rattle.ffs_volume.specs.Messages.Kinds.{of_reference}
 
 -- what the test says of the inode
 tested : (g : given.Over) (c : After-is_unref-unref g) →
