@@ -26,8 +26,7 @@ roled_at-join : (xs ys : List RoledEntry) (j : ℕ) (s : RoledEntry) → nth_rol
     ((k : ℕ) × (nth_roled xs k ≡ Some s)) ⊎ ((k : ℕ) × (nth_roled ys k ≡ Some s))
 roled_at-join [] ys j s t = inr (j, t)
 roled_at-join (x ∷ xs) ys zero s t = inl (0, t)
-roled_at-join (x ∷ xs) ys (suc j) s t =
-    elim (roled_at-join xs ys j s t) [ inl p ↦ inl (suc p.0, p.1) | inr p ↦ inr p ]
+roled_at-join (x ∷ xs) ys (suc j) s t = elim (roled_at-join xs ys j s t) [ inl p ↦ inl (suc p.0, p.1) | inr p ↦ inr p ]
 
 chunks-live : (chunks : List Chunk) (j : ℕ) (s : RoledEntry) → nth_roled (flat_map roled_chunk chunks) j ≡ Some s →
     s.role ≡ Plain → s.entry.number ≢ 0

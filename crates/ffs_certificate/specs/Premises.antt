@@ -11,8 +11,7 @@ pub record IsVolume (vol : Volume) : Type 0 where
   pub empty : (d : ℕ) → is_dir vol d ≡ true → (vol.inode d).size ≡ 0 → roled_entries vol d ≡ []
   pub kinds : (x : ℕ) → vol.class x ≢ Unknown → is_allocated_inode vol x ≡ true → type_of (vol.inode x).mode ≢ DT_WHT
 
--- what holds of a volume whose blocks are consistent: nothing is marked, and no inode is Unknown or
--- Partial
+-- what holds of a volume whose blocks are consistent: nothing is marked, and no inode is Unknown or Partial
 pub record IsUnmarked (vol : Volume) : Type 0 where
   pub marked : (x : ℕ) → vol.marked x ≡ false
   pub known : (x : ℕ) → vol.class x ≢ Unknown

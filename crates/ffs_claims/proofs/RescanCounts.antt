@@ -44,8 +44,7 @@ abbrev by_cut : ℕ → Replay → Replay
 by_cut cut q = record { bad = q.bad; kept = if cut == 0 then 0 else q.kept }
 
 begins_by_cut : (cut : ℕ) → by_cut cut fresh_replay ≡ fresh_replay
-begins_by_cut cut =
-    cond_holds (λ n. record { bad = 0; kept = n } ≡ fresh_replay) (cut == 0) 0 0 (λ _. refl) (λ _. refl)
+begins_by_cut cut = cond_holds (λ n. record { bad = 0; kept = n } ≡ fresh_replay) (cut == 0) 0 0 (λ _. refl) (λ _. refl)
 
 open_by_cut : (cut : ℕ) (q : Replay) → is_replay_open cut (by_cut cut q) ≡ is_replay_open cut q
 open_by_cut cut q = grind (arith, nat_tests)

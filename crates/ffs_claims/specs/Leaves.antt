@@ -28,8 +28,7 @@ pub record SameFound (old new : Workspace) : Type 0 where
   pub references : new.references ≡ old.references
   pub again : new.runs_again ≡ old.runs_again
 
--- what claiming leaves: the lists have their lengths, and the windows and what was found are as
--- they were
+-- what claiming leaves: the lists have their lengths, and the windows and what was found are as they were
 pub record ClaimsOnly (v : Layout) (old new : Workspace) : Type 0 where
   pub made : IsFor v new
   pub windows : new.windows ≡ old.windows

@@ -25,13 +25,11 @@ step_runs v number s Gap = []
 
 abbrev pub steps_runs : Layout → ℕ → Claims → List Step → List (List Offer)
 steps_runs v number s [] = []
-steps_runs v number s (step ∷ steps) =
-    step_runs v number s step ++ steps_runs v number (after_step v s step) steps
+steps_runs v number s (step ∷ steps) = step_runs v number s step ++ steps_runs v number (after_step v s step) steps
 
 unfoldable pub owners_runs : Layout → Claims → List Owner → List (List Offer)
 owners_runs v s [] = []
-owners_runs v s (o ∷ os) =
-    steps_runs v o.number (at_next_inode s) o.steps ++ owners_runs v (after_owner v s o) os
+owners_runs v s (o ∷ os) = steps_runs v o.number (at_next_inode s) o.steps ++ owners_runs v (after_owner v s o) os
 
 -- how many of some Runs are looked at, by their kept offers: all up to the one that reports the
 -- last fragment with a DUP line

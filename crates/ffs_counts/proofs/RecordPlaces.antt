@@ -33,8 +33,7 @@ records_inside v c n g h =
     (div_ceil_times v.cssize v.fsize (omega (arith, g.sizes.fsize_low))).0
     g.summary.summary_in_size g.summary.room h
 
--- the record of a group is where it is counted to, in a window that holds the records that are read
--- with it
+-- the record of a group is where it is counted to, in a window that holds the records that are read with it
 pub record_there : (v : Layout) (contents : Option (List ℕ)) (w : Window) (c : ℕ) → c < v.ncg →
     w.place ≡ summary_place v (first_read c) → w.length ≡ 16 * records_read v (first_read c) →
     WindowHolds contents w → HoldsRecord v contents w c (16 * (c - first_read c))

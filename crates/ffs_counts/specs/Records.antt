@@ -18,8 +18,7 @@ first_read c = c - c % 256
 abbrev pub records_read : Layout → ℕ → ℕ
 records_read v n = min 256 (v.ncg - n)
 
--- a window holds the records that are read with that of group c, which is at this place, and
--- nothing else
+-- a window holds the records that are read with that of group c, which is at this place, and nothing else
 pub record HoldsRecord (v : Layout) (contents : Option (List ℕ)) (w : Window) (c at : ℕ) : Type 0 where
   pub starts : w.place ≡ summary_place v (first_read c)
   pub length : w.length ≡ CSUM_SIZE * records_read v (first_read c)

@@ -4,7 +4,8 @@ pub mod Advances
 pub mod RunChunks
 pub mod Begins
 pub mod Entered
-mod Shaped
+pub mod Shaped
+pub mod Stepping
 pub mod EntryCounts
 pub mod DirLaws
 pub mod DirCosts

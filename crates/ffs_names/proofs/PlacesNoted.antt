@@ -1,18 +1,17 @@
 -- What is noted of places, entry by entry, chunk by chunk and directory by directory.
 use Rattle.std.proofs.Common.{◌≡◌, ◌≢◌, ℕ, zero, suc, ◌+◌, ◌*◌, ◌/◌, ◌%◌, ◌<◌, ◌≤◌, ◌==◌, Bool, true, false, not, ◌&&◌}
 use Rattle.std.proofs.Common.{◌||◌, ◌⊎◌, List, [], ◌∷◌, length, Option, Some, None, refl, sym, ap, ◌∙◌, arith, inl, inr}
-use Rattle.std.proofs.Common.{flat_map, if◌then◌else◌, is_some, option_map, slice_index, slice_set, unwrap_or, vec_len}
+use Rattle.std.proofs.Common.{flat_map, if◌then◌else◌, is_some, slice_index, slice_set, unwrap_or, vec_len}
 use Rattle.std.{specs.List.list_any, proofs.{Math.Bool.and-false, lemmas.Bool.{Decides.nat_tests, and_from, and_parts}}}
 use Rattle.std.proofs.lemmas.Bool.{both_ways, cases_eq, cond-false, eq-eqb, eqb-false, eqb-true, leb-true, lt-ltb}
 use Rattle.std.proofs.lemmas.{Bool.{ltb-true, ne_eqb, not_from_false, not-true}, List.Folds.list_any-append}
 use Rattle.std.{proofs.lemmas.List.{get_or_past, get_or-set_other, get_or-set_same}, specs.declared.vec.Vec.Vec}
 use Rattle.std.specs.declared.alloc.Global.{Global}
 use Rattle.ffs_image.specs.Device.{Device}
-use Rattle.ffs_layout.specs.{Entry.entry_value, declared.entry.Entry.Entry as CodeEntry}
 use Rattle.ffs_volume.proofs.{LevelLaws.{level-before, level-is, level-some, within-zero}, SearchLaws.first_below-none}
 use Rattle.ffs_volume.{proofs.{SearchLaws.first_below-some, Unreached.edge-parts}, specs.declared.Layout.Layout}
-use Rattle.ffs_volume.specs.{declared.Order.Order, Disk.{Numbers.piece, Search.first_below}, Laws.Levels.IsLevel}
-use Rattle.ffs_volume.specs.Directories.{Entries.{Chunk, Entry, chunk_of, entries_of, entry_at}, Graph.{Graph, edge}}
+use Rattle.ffs_volume.specs.{Disk.{Numbers.piece, Search.first_below}, Laws.Levels.IsLevel}
+use Rattle.ffs_volume.specs.Directories.{Entries.{Chunk, Entry, chunk_of, entries_of}, Graph.{Graph, edge}}
 use Rattle.ffs_volume.specs.Directories.Graph.{is_naming_dir, is_naming_entry, level, level_edge, parent, parent_by}
 use Rattle.ffs_volume.specs.Directories.{Graph.reached, Climb.is_value, Parents.graph_of, Roles.{RoledEntry, is_dir}}
 use Rattle.ffs_volume.specs.Directories.{Roles.{role_of, roled_chunk, roled_entries, roled_from}, Volumes.volume_of}
@@ -27,11 +26,6 @@ use Rattle.ffs_names.specs.Noting.{is_child, is_found, BeginsNotes, IsParent, Ke
 use Rattle.ffs_names.specs.{Noting.NotesEntries, Windows.CanReadChunks}
 
 -- ---- entries of a chunk
--- no entry is at the place
-pub none_there : (order : Order) (chunk : List ℕ) (place : ℕ) (o : Option CodeEntry) → o ≡ None →
-    option_map entry_value o ≡ entry_at order chunk place → entry_at order chunk place ≡ None
-none_there order chunk place o e h = sym h ∙ ap (option_map entry_value) e
-
 -- where no entry is left
 notes_none : (parents ws : List ℕ) (p place : ℕ) → NotesChunk parents ws ws p place []
 notes_none parents ws p place = record { places = λ x. simp and-false; to_read = λ x. refl }

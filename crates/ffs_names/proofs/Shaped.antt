@@ -24,7 +24,7 @@ fills_next order chunk place e there =
     ≡ place + sum_by (λ x. x.length) (entries_from order chunk 64 place) = omega (arith, s, m) in
     rw same refl
 
-fills_end : (order : Order) (chunk : List ℕ) (place : ℕ) → entry_at order chunk place ≡ None →
+pub fills_end : (order : Order) (chunk : List ℕ) (place : ℕ) → entry_at order chunk place ≡ None →
     fills_from order chunk place ≡ (place == 512)
 fills_end order chunk place none = grind (arith, entries_end)
 

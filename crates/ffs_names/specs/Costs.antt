@@ -1,5 +1,4 @@
--- How many reads of the image a reading of a directory still takes, and how many a directory takes
--- in all.
+-- How many reads of the image a reading of a directory still takes, and how many a directory takes in all.
 use Rattle.std.specs.Prelude.{◌≡◌, ℕ, ◌+◌, ◌*◌, ◌<◌, ◌≤◌, ◌==◌, Bool, true, false, ◌&&◌, ◌||◌, nat_lt, if◌then◌else◌}
 use Rattle.std.specs.{Prelude.{List, ◌∷◌, Option}, List.flat_map}
 use Rattle.ffs_image.specs.Device.{ForContents}

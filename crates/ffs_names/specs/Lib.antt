@@ -1,5 +1,6 @@
 pub mod Windows
 pub mod Fits
+pub mod EntriesToCome
 pub mod RunCursors
 pub mod Readings
 pub mod Entering

@@ -47,8 +47,7 @@ is_found parents words p es x =
 abbrev pub KeepsToRead : (old new : List ℕ) → Type 0
 KeepsToRead old new = (x : ℕ) → is_due (slice_index new x) ≡ is_due (slice_index old x)
 
--- the place of a chunk of p with these entries is noted of each inode that is found in it, and of
--- no other
+-- the place of a chunk of p with these entries is noted of each inode that is found in it, and of no other
 pub record NotesChunk (parents old new : List ℕ) (p place : ℕ) (es : List RoledEntry) : Type 0 where
   pub places : (x : ℕ) → place_in (slice_index new x)
       ≡ (if is_found parents old p es x then place else place_in (slice_index old x))
@@ -105,9 +104,8 @@ pub record HoldsPlaces (v : Layout) (b : List ℕ) (w : Workspace) : Type 0 wher
   pub survey : HoldsSurvey v b w
   pub noted : AreChunksNumbered v → AreNoted v b w.queue.items
 
--- what a call leaves that notes the chunks of p that are to come: the other windows are as they were,
--- only children of p are noted, in as many words, and the image is read at most as often as these chunks
--- ask for
+-- what a call leaves that notes the chunks of p that are to come: the other windows are as they were, only
+-- children of p are noted, in as many words, and the image is read at most as often as these chunks ask for
 pub record LeavesNoted {S T : Type 0} (I : Ghosts S) (old new : Chunks) (image image' : S) (before after : Windows)
     (parents words words' : Vec ℕ Global) (p : ℕ) (result : Result T ImageFault) : Type 0 where
   pub geometry : new.walk.geometry ≡ old.walk.geometry

@@ -53,8 +53,7 @@ pub record CountsOn (before after : ℕ) : Type 0 where
   pub most : after ≤ before
   pub all : before < 2 ^ 64 → after ≡ before
 
--- a call leaves what no reading changes, and how many chunks may still come; the count of Runs
--- doesn't fall
+-- a call leaves what no reading changes, and how many chunks may still come; the count of Runs doesn't fall
 pub record IsSame (old new : Chunks) : Type 0 where
   pub geometry : new.walk.geometry ≡ old.walk.geometry
   pub cut : new.keeping.cut ≡ old.keeping.cut
@@ -62,8 +61,7 @@ pub record IsSame (old new : Chunks) : Type 0 where
   pub budget : new.budget ≡ old.budget
   pub runs : old.runs ≤ new.runs
 
--- a Run can be seen next: it has its length, the replay is open, and no chunk of the current Run is
--- left
+-- a Run can be seen next: it has its length, the replay is open, and no chunk of the current Run is left
 pub record CanSee (c : Chunks) (run : Step) : Type 0 where
   pub length : HasLength c.walk.geometry.layout.frag run
   pub seen : is_replay_open c.keeping.cut (replay_in c.keeping) ≡ true

@@ -81,16 +81,8 @@ impl Entries {
     pub fn none(geometry: &Geometry) -> Entries
         ensures { HasStopped geometry.now result }
     {
-        let inode = Inode {
-            mode: 0,
-            nlink: 0,
-            size: 0,
-            mtime: 0,
-            addresses: [0; 15],
-            blocks: 0,
-            uid: 0,
-        };
-        let mut entries = Entries::start(geometry, &inode, 0);
+        // Any inode will do: the reading is stopped before its first step.
+        let mut entries = Entries::start(geometry, &one_chunk_at(0), 0);
         entries.stop();
         entries
     }

@@ -1,9 +1,9 @@
 //! The directories of a volume: their chunks and entries, and their survey.
 //!
 //! `Entries::next` returns the entries of a directory in their order, from the Runs that its inode
-//! keeps. `survey` leaves in the workspace how often each inode is referred to, which directories
-//! are reached from inode 2, and the parent of each directory. `note_places` notes where in the
-//! image the parent entry of each of these directories is.
+//! keeps; `ChunkEntries` gives those of one chunk. `survey` leaves in the workspace how often each
+//! inode is referred to, which directories are reached from inode 2, and the parent of each
+//! directory. `note_places` notes where in the image the parent entries of these directories are.
 //!
 //! ```text
 //! survey(&geometry, &mut image, &mut workspace)?;
@@ -12,6 +12,7 @@
 //! It rests on `ffs_survey`, `ffs_workspace` and `ffs_walk`.
 #![tactic(auto)]
 
+mod chunk_entries;
 mod chunks;
 mod entries;
 mod gap;
@@ -21,6 +22,7 @@ mod role;
 mod run_cursor;
 mod surveying;
 
+pub use chunk_entries::ChunkEntries;
 pub use chunks::Chunks;
 pub use entries::Entries;
 pub use gap::gap_of;

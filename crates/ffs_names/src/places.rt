@@ -13,11 +13,12 @@ ghost use Rattle.ffs_names.specs.Noting.{LeavesChildren, LeavesNoted, LeavesPlac
 ghost use Rattle.ffs_names.specs.{Noting.NotesInWords, Costs.{directories_cost, directory_cost, BeginsChunks}};
 ghost use Rattle.ffs_names.specs.{Costs.{BeginsReads, SweepsOnce}, Readings.rest};
 
+use crate::chunk_entries::ChunkEntries;
 use crate::chunks::Chunks;
 use crate::reader::one_chunk_at;
 use crate::role::role_of;
 use ffs_image::{Image, ImageFault, LimitedImage};
-use ffs_layout::{Entry, Geometry, entry_at};
+use ffs_layout::{Entry, Geometry};
 use ffs_memory::FilledList;
 use ffs_volume::constants::{DIRBLKSIZ, ROOTINO};
 use ffs_volume::{Class, Order, Role};
@@ -76,10 +77,9 @@ fn note_chunk(
     ensures { NotesInWords parents.now words.old words.new dir place
         (roled_from false 0 (entries_of order chunk.now)) }
 {
-    let mut at = 0usize;
-    'entries: while let Some(entry) = entry_at(order, chunk, at) {
+    let mut entries = ChunkEntries::of_chunk(order, chunk);
+    'entries: while let Some((_index, entry)) = entries.next() {
         note_entry(&entry, dir, place, parents, words);
-        at += usize::from(entry.length);
     }
 }
 

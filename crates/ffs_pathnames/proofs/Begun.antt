@@ -13,7 +13,7 @@ use Rattle.ffs_volume.specs.Directories.{Parents.graph_of, Paths.dir_path, Pathn
 use Rattle.ffs_volume.specs.Directories.{PathnameCheck.lines_of_entries, Roles.{Volume, is_dir, roled_entries}}
 use Rattle.ffs_volume.specs.{Directories.{Roles.start_entry, Volumes.{volume_of, volume_with}}, Messages.Kinds.Message}
 use Rattle.ffs_volume.specs.Messages.Kinds.{TreeMessage, of_tree}
-use Rattle.ffs_report.{proofs.Reporting.{of_begins, of_fault, reports_knowing, reports_same}, specs.Known.ForBytes}
+use Rattle.ffs_report.{proofs.Reporting.{reports_knowing, reports_same}, specs.Known.ForBytes}
 use Rattle.ffs_report.specs.{Progress.Progress, PhaseOutcome.{ImageAfter, SaidOf, PhaseReports}}
 use Rattle.ffs_report.specs.declared.fault.RunFault.{RunFault, TheVariants.{Read, Out}}
 use Rattle.ffs_image.specs.Device.{Device, Faulted}
@@ -29,8 +29,7 @@ pub fault_same : (T E : Type 0) (knows knows' : List ℕ → Type 0) (all all' :
     (fault : RunFault) →
     ForBytes knows' knows → ForBytes knows' (λ bytes. all bytes ≡ all' bytes) →
     PhaseReports {T = T} knows all a b (Err fault) → PhaseReports {T = E} knows' all' a b (Err fault)
-fault_same T E knows knows' all all' a b fault more e p = of_fault T E _ _ _ (λ b. []) _ _ _ _ fault
-    (of_begins _ _ _) (λ b k. sym (e b k) ∙ sym (append-nil _)) (reports_knowing T _ _ _ _ _ (Err fault) more p)
+fault_same T E knows knows' all all' a b fault more e p = grind arith
 
 -- the image after a fault is that of another answer, and of a device that is the same
 pub image_same : (T E : Type 0) (d d' d'' : Device) (fault : RunFault) → d' ≡ d → ImageAfter {T = T} d' d'' (Err fault)

@@ -1,10 +1,10 @@
 -- What is known between two directories, carried from one to the next.
-use Rattle.std.proofs.Common.{◌≡◌, ◌<◌, ◌-◌, ◌==◌, refl, sym, ap, ◌∙◌, ℕ, suc, Bool, true, false, not, ◌&&◌, ◌||◌}
+use Rattle.std.proofs.Common.{◌≡◌, ◌-◌, ◌==◌, refl, sym, ap, ◌∙◌, ℕ, suc, Bool, true, false, ◌||◌}
 use Rattle.std.proofs.Common.{if◌then◌else◌, List, [], ◌++◌, map, get_or, Option, Some, arith, slice_index, Result, Ok}
-use Rattle.std.proofs.{Common.{Err, OnOk, IfOk, inl, inr, ◌≤◌}, lemmas.Bool.{Decides.nat_tests, cases_Bool, and_parts}}
+use Rattle.std.proofs.{Common.{Err, OnOk, IfOk, inl, inr, ◌≤◌}, lemmas.Bool.{Decides.nat_tests, cases_Bool}}
 use Rattle.std.proofs.lemmas.List.{get_or_default, map-append}
 use Rattle.ffs_volume.specs.{declared.{Layout.Layout, Class.{Class, TheVariants.Dir}}, Laws.Geometry.IsAcceptedLayout}
-use Rattle.ffs_volume.specs.Directories.{Graph.is_naming_dir, Parents.graph_of, Roles.{Volume, is_suspect}}
+use Rattle.ffs_volume.specs.Directories.{Roles.{Volume, is_suspect}}
 use Rattle.ffs_volume.specs.Directories.PathnameCheck.{sized_dir_lines, continues_after_root, directory_lines}
 use Rattle.ffs_volume.specs.Directories.{PathnameCheck.{pathname_lines, root_lines, root_lines_of}, Volumes.volume_of}
 use Rattle.ffs_volume.specs.{Directories.Volumes.volume_with, Messages.Kinds.{TreeMessage, of_tree, lines_below}}
@@ -51,21 +51,12 @@ suspect_shown : (v : Layout) (b : List ℕ) (w : Workspace) (x : ℕ) → HoldsC
     suspect_at w.kinds.items w.marked.items x ≡ is_suspect (volume_of v b) x
 suspect_shown v b w x h = rw (h.kinds x, h.marked x) (sym (suspect_is v b x))
 
-flag_gone : (a b : Bool) → b ≡ true → (a && not b) ≡ false
-flag_gone a b e = grind (arith, nat_tests)
-
--- numbers below 2 are no directories
-none_named : (v : Volume) (x d : ℕ) → d < 2 → is_naming_dir (graph_of v) d x ≡ false
-none_named v x (suc (suc d)) h = absurd (omega arith)
-none_named v x d h = refl
-
 -- where no name is passed, all is right before the first directory
 clear_right : (v : Layout) (b : List ℕ) (old w : Workspace) → HoldsClaims v b old → IsFor v w → IsNonePassed old w →
     ((x : ℕ) → bool_at old.flags.items x ≡ true → IsSilentDirectory (volume_of v b) x) →
     AreRightBefore (volume_of v b) 2 (passed_of w)
 unfolding volume_of volume_with
-clear_right v b old w k m c silent =
-    grind (arith, flag_gone, suspect_shown, some_below-none, none_named, stamps_length, and_parts)
+clear_right v b old w k m c silent = grind (arith, suspect_shown, some_below-none, stamps_length)
 
 pub before_first : (v : Layout) (contents : Option (List ℕ)) (b : List ℕ) (old w : Workspace) → contents ≡ Some b →
     HoldsClaims v b old → HoldsSurvey v b old → IsFor v w → IsNonePassed old w →

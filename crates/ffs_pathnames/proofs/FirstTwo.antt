@@ -27,10 +27,6 @@ root_parent : (g : Graph) (x : ℕ) → x ≡ 2 → parent g x ≡ Some 2
 unfolding parent
 root_parent g x e = cond-true (x == 2) (Some 2) (parent_by g x (level g x)) (eq-eqb x 2 e)
 
--- inode 0 is no directory, so 0 can mean no parent
-pub number_some : (n : ℕ) → n ≢ 0 → Some n ≡ number_if n
-number_some n h = sym (cond-false (n == 0) None (Some n) (ne_eqb n 0 h))
-
 pub parent_back : (v : Volume) (x : ℕ) → number_if (unwrap_or (parent (graph_of v) x) 0) ≡ parent (graph_of v) x
 parent_back v x =
     let root = root_parent (graph_of v) x in

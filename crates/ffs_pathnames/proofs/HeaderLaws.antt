@@ -1,7 +1,7 @@
 -- What is reported of a directory before its entries.
 use Rattle.std.proofs.Common.{◌≡◌, ◌≤◌, arith, ℕ, ◌==◌, ◌%◌, Bool, true, false, not, ◌&&◌, List, [], ◌++◌, Option, None}
 use Rattle.std.proofs.{Common.{Some, nat_lt, length, append_assoc, length-append}, lemmas.Bool.Decides.nat_tests}
-use Rattle.std.proofs.{Common.refl, lemmas.Bool.{and_cases, and_parts}}
+use Rattle.std.proofs.{lemmas.Bool.{and_parts}}
 use Rattle.ffs_volume.specs.{declared.Attr.Attr, Directories.{Entries.Entry, Graph.parent, Parents.graph_of}}
 use Rattle.ffs_volume.specs.Directories.{Paths.dir_path, Roles.{Volume, start_entry, dot, dotdot, roled_entries}}
 use Rattle.ffs_volume.specs.Directories.PathnameCheck.{attributes, are_sound, shape_lines, dot_lines, dotdot_lines}
@@ -56,23 +56,9 @@ dotdot_right about path parent (Some e) h = grind (arith, nat_tests)
 pub header_silent : (about : Attr) (path : List ℕ) (d : ℕ) (parent : Option ℕ) (gap sound : Bool)
     (first second : Option Entry) → is_right_header about.size d parent gap sound first second ≡ true →
     header_reported about path d parent gap sound first second ≡ []
-header_silent about path d parent gap sound first second h =
-    let parts = and_parts _ _ h in
-    let dots = and_parts _ _ parts.1 in
-    in_order about path d about.size parent gap sound first second refl parts.0
-    (dot_silent about path d first dots.0) (dotdot_right about path parent second dots.1)
+header_silent about path d parent gap sound first second h = grind (arith, and_parts, in_order)
 
 -- ---- one at least where it isn't
-dot_some : (about : Attr) (path : List ℕ) (d : ℕ) (first : Option Entry) → is_right_dot d first ≡ false →
-    1 ≤ length (dot_reported about path d first (dot_in first))
-dot_some about path d None h = omega arith
-dot_some about path d (Some e) h = grind (arith, nat_tests)
-
-dotdot_some : (about : Attr) (path : List ℕ) (parent : Option ℕ) (second : Option Entry) →
-    is_right_dotdot parent second ≡ false → 1 ≤ length (dotdot_reported about path parent second (dotdot_in second))
-dotdot_some about path parent None h = omega arith
-dotdot_some about path parent (Some e) h = grind (arith, nat_tests)
-
 shape_some : (about : Attr) (path : List ℕ) (gap sound : Bool) →
     (not (nat_lt about.size 24) && ((about.size % 512 == 0) && (not gap && sound))) ≡ false →
     1 ≤ length (shape_reported about path gap sound)
@@ -82,5 +68,4 @@ pub header_some : (about : Attr) (path : List ℕ) (d : ℕ) (parent : Option �
     (first second : Option Entry) → is_right_header about.size d parent gap sound first second ≡ false →
     1 ≤ length (header_reported about path d parent gap sound first second)
 unfolding header_reported
-header_some about path d parent gap sound first second h =
-    grind (arith, length-append, and_cases, shape_some, dot_some, dotdot_some)
+header_some about path d parent gap sound first second h = grind (arith, length-append, shape_some)

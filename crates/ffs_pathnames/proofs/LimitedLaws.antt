@@ -1,12 +1,11 @@
--- What a look at a directory leaves of the image that it was limited on, and of the reads that are
--- left.
+-- What a look at a directory leaves of the image that it was limited on, and of the reads that are left.
 use Rattle.std.{specs.Borrow.GName, proofs.Common.{◌≡◌, ◌≤◌, ◌⊎◌, ◌+◌, ℕ, arith, Bool, Option, Some, None, IfSome}}
 use Rattle.std.proofs.{Common.{Result, Ok, Err, IfOk, MatchOption, MatchResult}, lemmas.Bool.cases_lt}
 use Rattle.ffs_workspace.specs.Places.{AreChunksNumbered}
 use Rattle.ffs_survey.specs.Costs.{TakesReads}
 use Rattle.ffs_pathnames.specs.ReadsLeft.{TakesLeft}
 use Rattle.ffs_image.specs.{declared.image.ImageFault.ImageFault, Device.Device, Limited.{GivesBack, limited_device}}
-use Rattle.ffs_image.{specs.Reads.ReadAfter, proofs.Limits.{ServedBy, read_over, served}}
+use Rattle.ffs_image.{specs.Reads.ReadAfter, proofs.Limits.{ServedBy}}
 use Rattle.ffs_names.specs.Windows.{CanReadChunks}
 use Rattle.ffs_volume.specs.declared.Layout.{Layout}
 use Rattle.ffs_walk.specs.declared.{blocks.Blocks.Blocks, window.Window.Window}
@@ -31,9 +30,7 @@ pub looked : {T : Type 0} {lent below : Device} {name_lent name : GName} {reads 
     GivesBack d below given name before reads' most left asked s (limited_device d given before most) above') →
     LookedBy lent below name_lent name reads reads' limit left asked s r
 looked {lent = lent} {name_lent = name_lent} {reads = reads} {limit = limit} {above' = above'} {r = r} h back =
-    let over = read_over (limited_device lent name_lent reads limit) above' r h in
-    let all = back lent name_lent reads limit over.lent over.contents over.size in
-    record { served = served h back; most = all.most; kept = all.left_of }
+    grind arith
 
 -- what was asked of the limited image was taken of the image below
 pub taken_below : {T : Type 0} {r : Result T ImageFault} {reads reads' asked asked' before after : ℕ} {held : Type 0} →

@@ -29,19 +29,13 @@ module _ {T : Type 0} {v : Layout} {d d' l' : Device} {w w' : Workspace} {name_l
       let above = read_over (limited_device d name_lent reads limit) l' r o.read in
       ready_same v l' d' w' (back.contents ∙ sym above.contents) (back.size ∙ sym above.size) o.ready
 
-  reads_below : spent ≡ false → OnlyReads v (limited_device d name_lent reads limit) l' w w' r →
-      OnlyReads v d d' w w' r
-  reads_below none o =
-      record { lists = o.lists; current = o.current; ready = ready_below o; read = back.read none }
-
 path_below : {T : Type 0} {n count count' before asked : ℕ} {v : Layout} {d d' l' : Device} {w w' : Workspace}
     {s : KeptParent} {name_lent name : GName} {limit : ℕ} {spent : Bool} (r : Result T ImageFault) →
     ServedBy d d' name_lent name count count' limit asked spent r → spent ≡ false → ReadsAtMost n v d w w' count count' →
     PathLeaves n v (limited_device d name_lent count limit) l' before asked w w' s r
     → PathLeaves n v d d' count count' w w' s r
 path_below (Ok x) back none few p = grind (arith, subst, ap)
-path_below (Err f) back none few p =
-    record { reads = reads_below back none p.reads; counted = few; kept_parent = tt }
+path_below (Err f) back none few p = grind arith
 
 -- by the contracts of the part and of the limited image
 pub gathered : {T : Type 0} {v : Layout} {d d' l l' : Device} {w w' : Workspace} {s : KeptParent}

@@ -24,11 +24,6 @@ pub ready_read : (v : Layout) (d d' : Device) (w : Workspace) (blocks : Blocks) 
     → d'.contents ≡ d.contents → CanReadChunks v d' blocks chunk → IsReady v d' (with_chunk w blocks chunk)
 ready_read v d d' w blocks chunk r same can = grind (arith, rules)
 
--- where other stamps are in the queue
-ready_queue : (v : Layout) (d : Device) (w : Workspace) (queue : Vec ℕ Global) → vec_len queue ≡ vec_len w.queue
-    → IsReady v d w → IsReady v d (record w { queue = queue })
-ready_queue v d w queue long r = grind (arith, rules)
-
 -- and so is what is kept of a directory and its children
 pub ready_next : (v : Layout) (d d' : Device) (w : Workspace) (s : KeptParent) (blocks : Blocks) (chunk : Window)
     → ReadyWith v d w s → d' ≡ d → CanReadChunks v d' blocks chunk → ReadyWith v d' (with_chunk w blocks chunk) s
@@ -50,8 +45,7 @@ pub ready_looked : (v : Layout) (d d' : Device) (w : Workspace) (windows : Windo
     → d'.contents ≡ d.contents → windows ≡ record w.windows { blocks = windows.blocks; current = windows.current }
     → CanReadChunks v d' windows.blocks windows.current → vec_len queue ≡ vec_len w.queue
     → IsReady v d' (record w { windows = windows; queue = queue })
-ready_looked v d d' w windows queue r same others can long =
-    ready_queue v d' (record w { windows = windows }) queue long (windows_read v d d' w windows r same others can)
+ready_looked v d d' w windows queue r same others can long = grind arith
 
 -- the windows of chunks after reads into that of indirect blocks alone
 pub can_read_more : (v : Layout) (d d' : Device) (blocks blocks' : Blocks) (chunk : Window) →

@@ -1,11 +1,10 @@
 -- What verdicts report, and what is gathered for it.
 use Rattle.std.proofs.{Common.{◌≡◌, refl, ℕ, true, false, List, [], ◌≤◌, arith, length}, lemmas.Bool.Decides.nat_tests}
-use Rattle.ffs_volume.specs.{declared.Attr.Attr, Directories.{Roles.Volume, Parents.graph_of, Entries.Entry}}
+use Rattle.ffs_volume.specs.{declared.Attr.Attr, Directories.{Roles.Volume, Parents.graph_of}}
 use Rattle.ffs_volume.specs.Directories.{PathnameCheck.attributes, Paths.{dir_path, entry_path}}
-use Rattle.ffs_pathnames.specs.declared.verdict.{EntryDefects.EntryDefects, Verdict.{Verdict, TheVariants.Whiteout}}
+use Rattle.ffs_pathnames.specs.declared.verdict.{Verdict.{Verdict, TheVariants.Whiteout}}
 use Rattle.ffs_pathnames.specs.{declared.verdict.Verdict.TheVariants.{Unallocated, Named}, Gathers.IsEnough}
-use Rattle.ffs_pathnames.specs.{Gathers.{asks_attr, asks_path, is_silent, IsVerdict}, Verdicts.verdict_reported}
-use Rattle.ffs_pathnames.specs.{Verdicts.defects_reported, PassedNames.{PassedNames, plain_reported}}
+use Rattle.ffs_pathnames.specs.{Gathers.{asks_attr, asks_path, is_silent}, Verdicts.verdict_reported}
 
 -- a silent one reports nothing, and any other one line at least
 pub silent_reported : (verdict : Verdict) (number : ℕ) (about : Attr) (path directory : List ℕ) →
@@ -20,23 +19,6 @@ verdict_some Whiteout number about path directory h = absurd (cc)
 verdict_some (Named n) number about path directory h = grind (arith, nat_tests)
 verdict_some verdict number about path directory h = omega arith
 
--- a plain entry whose verdict isn't silent has one
-pub plain_some : (v : Volume) (s : ℕ) (m : PassedNames) (e : Entry) (verdict : Verdict) → IsVerdict v s m e verdict →
-    is_silent verdict ≡ false → 1 ≤ length (plain_reported v s m e)
-plain_some v s m e verdict is h = rw is.reported (verdict_some verdict e.number _ _ _ h)
-
--- a verdict that asks for a path asks for attributes, too
-pub path_asks_attr : (verdict : Verdict) → asks_path verdict ≡ true → asks_attr verdict ≡ true
-path_asks_attr Unallocated h = refl
-path_asks_attr (Named n) h = refl
-path_asks_attr verdict h = absurd (cc)
-
--- what is gathered is enough
-defects_same : (n : EntryDefects) (about : Attr) (path directory right : List ℕ) →
-    (n.extraneous ≡ true → directory ≡ right) →
-    defects_reported n about path directory ≡ defects_reported n about path right
-defects_same n about path directory right h = grind (arith, nat_tests)
-
 pub enough : (v : Volume) (verdict : Verdict) (dir number : ℕ) (name : List ℕ) (about : Attr)
     (path directory : List ℕ) →
     (asks_attr verdict ≡ true → about ≡ attributes v number) → path ≡ entry_path (graph_of v) dir name →
@@ -44,6 +26,5 @@ pub enough : (v : Volume) (verdict : Verdict) (dir number : ℕ) (name : List �
     IsEnough v verdict dir number name about path directory
 enough v Whiteout dir number name about path directory a p d = refl
 enough v Unallocated dir number name about path directory a p d = rw (p, a refl) refl
-enough v (Named n) dir number name about path directory a p d =
-    rw (p, a refl) (defects_same n (attributes v number) _ directory (dir_path (graph_of v) number) d)
+enough v (Named n) dir number name about path directory a p d = grind arith
 enough v verdict dir number name about path directory a p d = rw p refl

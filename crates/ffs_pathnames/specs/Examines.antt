@@ -8,8 +8,7 @@ use Rattle.ffs_pathnames.specs.{declared.look.{Examination.Examination, FirstLoo
 use Rattle.ffs_pathnames.specs.{PassedNames.{are_quiet, after_looks}, StartChunks.start_chunk, Stamps.KeepPlaces}
 use Rattle.ffs_workspace.specs.{declared.workspace.Workspace.Workspace, Leaves.LeavesSurvey, Ready.IsReady}
 
--- a call leaves what the phases before the pathname check left, the flags, and the places that
--- words note
+-- a call leaves what the phases before the pathname check left, the flags, and the places that words note
 pub record LeavesAllButDue (old new : Workspace) : Type 0 where
   pub survey : LeavesSurvey old new
   pub flags : new.flags ≡ old.flags

@@ -22,8 +22,7 @@ pub record LeftForBoth (v : Layout) (device : Device) (w : Workspace) (d left : 
   pub passed : AreRightBefore (volume_of v b) d (passed_of w)
   pub enough : 2 * directory_cost v b d ≤ left
 
--- what is known between two directories, and the reads that are left suffice for both looks at the
--- next one
+-- what is known between two directories, and the reads that are left suffice for both looks at the next one
 abbrev pub LeftForNext : Layout → Device → Workspace → (d left : ℕ) → List ℕ → Type 0
 LeftForNext v device w d left b = IsBeforeNoted v device.contents w d b × (2 * directory_cost v b d ≤ left)
 

@@ -29,8 +29,7 @@ pub record ReadyToCheck (v : Layout) (d : Device) (w : Workspace) (s : KeptParen
   pub path : ReadyToPath v d w s x
   pub low : 2 ≤ x
 
--- a path of the directory x can be made, and its cut is the one that is noted: its entries can be
--- reported
+-- a path of the directory x can be made, and its cut is the one that is noted: its entries can be reported
 pub record ReadyToReport (v : Layout) (d : Device) (w : Workspace) (s : KeptParent) (x : Directory) : Type 0 where
   pub path : ReadyToPath v d w s x.number
   pub cut : x.cut ≡ cut_in (slice_index w.notes.items x.number)

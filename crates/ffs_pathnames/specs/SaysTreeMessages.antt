@@ -1,7 +1,7 @@
 -- Messages on directories, said one after another.
 use Rattle.std.specs.Prelude.{List, ◌++◌, map, Result}
-use Rattle.ffs_volume.specs.Messages.{Kinds.{TreeMessage, of_tree, reported}, Texts.{directory_message, dot_message, entry_message}}
-use Rattle.ffs_volume.specs.Messages.Kinds.{of_directory, of_dot, of_entry}
+use Rattle.ffs_volume.specs.Messages.Kinds.{TreeMessage, of_directory, of_dot, of_entry, of_tree, reported}
+use Rattle.ffs_volume.specs.Messages.Texts.{directory_message, dot_message, entry_message}
 use Rattle.ffs_report.specs.Progress.{Progress, Says}
 use Rattle.ffs_pathnames.specs.declared.header.{LineIf.LineIf, Phase2Line.{Phase2Line, TheVariants.{Directory, Dot, Entry}}}
 

@@ -15,8 +15,8 @@ use crate::one_entry::{DirectoryEntry, EntryTexts, report_extra, report_plain};
 use crate::tree::Checking;
 use crate::verdict::pass;
 use ffs_image::{Image, ImageFault, LimitedImage};
-use ffs_layout::{Geometry, entry_at};
-use ffs_names::{Chunks, role_of};
+use ffs_layout::Geometry;
+use ffs_names::{ChunkEntries, Chunks, role_of};
 use ffs_report::{Output, Report, RunFault};
 use ffs_volume::Role;
 use ffs_volume::constants::DIRBLKSIZ;
@@ -219,17 +219,14 @@ pub fn report_chunk<I: Image, W: Output>(
         (I.reads image.old) (I.reads image.new) result }
 {
     let order = geometry.layout.order;
-    let mut place = 0usize;
-    let mut index = 0usize;
-    'entries: while let Some(entry) = entry_at(order, chunk.bytes, place) {
+    let mut entries = ChunkEntries::of_chunk(order, chunk.bytes);
+    'entries: while let Some((index, entry)) = entries.next() {
         let roled = DirectoryEntry {
             dir: chunk.dir,
             role: role_of(chunk.first, index, &entry),
             entry,
         };
         report_entry(geometry, image, workspace, texts, report, &roled)?;
-        place += usize::from(entry.length);
-        index += 1;
     }
     Ok(())
 }

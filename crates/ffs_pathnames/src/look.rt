@@ -13,9 +13,9 @@ ghost use Rattle.ffs_pathnames.specs.PassedNames as names;
 
 use crate::inodes::Inodes;
 use ffs_image::{Image, ImageFault, LimitedImage};
-use ffs_layout::{Entry, Geometry, entry_at};
+use ffs_layout::{Entry, Geometry};
 use ffs_memory::FilledList;
-use ffs_names::{Chunks, gap_of, role_of};
+use ffs_names::{ChunkEntries, Chunks, gap_of, role_of};
 use ffs_volume::constants::{DIRBLKSIZ, DT_WHT, ROOTINO, WINO};
 use ffs_volume::{Inode, Order, Role};
 use ffs_workspace::{Workspace, due};
@@ -327,19 +327,16 @@ pub fn look_chunk(
     requires { CanStamp inodes.now dir words.old.items }
     ensures { IsChunkLook inodes.now dir order first chunk.now result words.old words.new }
 {
-    let mut place = 0usize;
-    let mut index = 0usize;
+    let mut entries = ChunkEntries::of_chunk(order, chunk);
     let mut quiet = true;
-    'entries: while let Some(entry) = entry_at(order, chunk, place) {
+    'entries: while let Some((index, entry)) = entries.next() {
         let role = role_of(first, index, &entry);
         // After an entry that isn't quiet the chunk isn't either, so no other entry is asked.
         quiet = quiet && is_quiet(inodes, dir, words, role, &entry);
         stamp(inodes, dir, words, role, &entry);
-        place += usize::from(entry.length);
-        index += 1;
     }
     ChunkLook {
         quiet,
-        sound: place == DIRBLKSIZ,
+        sound: entries.place == DIRBLKSIZ,
     }
 }

@@ -75,8 +75,7 @@ pub last_cut : (p q : PathBuffer) (names : List (List ℕ)) (name : List ℕ) (f
     HoldsNames q names → HaveNoSlash (names ++ name ∷ []) → length name ≤ 1022 → length name + 2 ≤ from →
     1024 < length (joined names) + suc (length name)
     → drop from q.bytes ≡ from_slash (drop (max q.short (length name + 2)) q.bytes) → HoldsNames p (names ++ name ∷ [])
-last_cut p q names name from made held single small low over found =
-    grind (arith, cut_holds, last-length, end_tail, first_single)
+last_cut p q names name from made held single small low over found = grind (arith, last-length, end_tail, first_single)
 
 -- ---- the text of an entry's path where all have room
 pub entry-whole : (p : PathBuffer) (names : List (List ℕ)) (name : List ℕ) → drop p.start p.bytes ≡ joined names →

@@ -5,9 +5,9 @@ use Rattle.std.{specs.List.list_any, proofs.lemmas.Bool.{both_ways, and_parts, n
 use Rattle.ffs_volume.{proofs.LevelLaws.{level-some, within-zero, reached-level}, specs.Directories.Graph.Graph}
 use Rattle.ffs_volume.specs.Directories.{Graph.{level, is_naming_entry, is_naming_dir, parent}, Parents.graph_of}
 use Rattle.ffs_volume.specs.Directories.Paths.{joined, names_down, path_bytes, dir_path, dir_path_of_names, entry_path}
-use Rattle.ffs_volume.{specs.Directories.{Paths.entry_path_of_names, Roles.RoledEntry}, proofs.PathBound.path_text-fits}
+use Rattle.ffs_volume.{specs.Directories.{Roles.RoledEntry}, proofs.PathBound.path_text-fits}
 use Rattle.ffs_volume.specs.{Directories.Volumes.{volume_of, volume_with}, declared.Layout.Layout}
-use Rattle.ffs_paths.{specs.Climbing.{in_room, name_in, IsNameIn, IsParentOf}, proofs.{Rooms.fits, Held.first_cut}}
+use Rattle.ffs_paths.{specs.Climbing.{in_room, name_in, IsNameIn, IsParentOf}, proofs.{Held.first_cut}}
 use Rattle.ffs_paths.{proofs.NoSlashes.down_single, specs.{Buffers.HoldsNames, DirectoryPaths.{HoldsPath, IsPathOf}}}
 use Rattle.ffs_paths.specs.{KeptParents.{IsKeptParent, LeadsTo}, NameTexts.name_bytes, Slashes.HaveNoSlash}
 use Rattle.ffs_paths.specs.declared.{buffer.PathBuffer.PathBuffer, kept_parent.KeptParent.KeptParent}
@@ -138,9 +138,4 @@ pub child_put : (g : Graph) (s : KeptParent) (text : List ℕ) → IsKeptParent 
     ((g : Graph) (d : ℕ) → IsPathOf g d s.path → text ≡ in_room (entry_path g d (name_bytes s.name))) →
     text ≡ dir_path g s.child
 unfolding dir_path entry_path
-child_put g s text kept some put =
-    let leads = kept.child some in
-    let names = leads.names ++ name_bytes s.name ∷ [] in
-    put g s.parent (kept.path (kept.parent some))
-    ∙ (ap (λ o. in_room (entry_path_of_names (name_bytes s.name) o)) leads.to_parent ∙ (sym (fits _ (path_text-fits names))
-    ∙ (path_of_some leads.names (name_bytes s.name) ∙ sym (ap dir_path_of_names leads.to_child))))
+child_put g s text kept some put = grind (arith, path_text-fits, path_of_some)

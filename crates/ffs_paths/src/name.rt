@@ -8,8 +8,8 @@ ghost use Rattle.ffs_paths.specs.Reads.{ForTree, IsReadyFor, OnlyReads, OnlyRead
 
 use crate::name_text::NameText;
 use ffs_image::{Image, ImageFault};
-use ffs_layout::{Entry, Geometry, entry_at};
-use ffs_names::{Entries, role_of};
+use ffs_layout::{Entry, Geometry};
+use ffs_names::{ChunkEntries, Entries, role_of};
 use ffs_survey::is_plain;
 use ffs_volume::constants::DIRBLKSIZ;
 use ffs_volume::{Order, Role};
@@ -38,15 +38,12 @@ fn find_in_chunk(order: Order, chunk: &[u8; DIRBLKSIZ], number: u32, name: &mut 
     ensures { FindsFirstName number (roled_from false 0 (entries_of order chunk.now))
         (name_bytes name.new) result }
 {
-    let mut place = 0usize;
-    let mut index = 0usize;
-    'entries: while let Some(entry) = entry_at(order, chunk, place) {
+    let mut entries = ChunkEntries::of_chunk(order, chunk);
+    'entries: while let Some((index, entry)) = entries.next() {
         if is_named_by(index, &entry, number) {
             name.set(entry.name);
             return true;
         }
-        place += usize::from(entry.length);
-        index += 1;
     }
     false
 }

@@ -1,4 +1,4 @@
-use Rattle.std.proofs.Common.{◌∙◌, ◌≡◌, ◌*◌, ℕ, List, Some, length, ap, refl, subst, sym, rules, arith, slice_index}
+use Rattle.std.proofs.Common.{◌∙◌, ◌≡◌, ◌*◌, ℕ, List, Some, length, ap, subst, sym, rules, arith, slice_index}
 use Rattle.std.proofs.lemmas.List.{with_items_is}
 use Rattle.ffs_volume.{proofs.{Results.on_ok, Sizes.some_inodes}, specs.Encodings.Kinds.kind_at}
 use Rattle.ffs_workspace.{proofs.PlaceLaws.filled_noted, specs.{Holds.HoldsClaims, Tables.IsTableOf}}

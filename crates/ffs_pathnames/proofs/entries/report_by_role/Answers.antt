@@ -1,30 +1,17 @@
-use Rattle.std.proofs.Common.{◌≡◌, arith, refl, ap, ℕ, List, [], Ok, map}
+use Rattle.std.proofs.Common.{◌≡◌, arith, refl, ℕ, List, [], Ok}
 use Rattle.ffs_image.specs.Device.{Device}
-use Rattle.ffs_volume.specs.{declared.Layout.Layout, Directories.Roles.Volume, Messages.Kinds.{TreeMessage, of_tree}}
+use Rattle.ffs_volume.specs.{declared.Layout.Layout, Directories.Roles.Volume, Messages.Kinds.{TreeMessage}}
 use Rattle.ffs_report.{specs.Progress.Progress, proofs.{Reporting.says_none, Paying.paid_none}}
 use Rattle.ffs_workspace.specs.declared.workspace.Workspace.{Workspace}
 use Rattle.ffs_pathnames.specs.{EntryLines.ReportsOneEntry, Ready.ReadyToPath, PassedNames.roled_reported}
-use Rattle.ffs_pathnames.{specs.declared.one_entry.EntryTexts.EntryTexts, proofs.LineCounts.few_none}
+use Rattle.ffs_pathnames.{specs.declared.one_entry.EntryTexts.EntryTexts}
 use Rattle.ffs_pathnames.proofs.entries.report_by_role.Goals as goal
 
 -- where there is no line, nothing changes
 nothing_said : {v : Layout} {d : Device} {w : Workspace} {x : ℕ} {t : EntryTexts} {lines : Volume → List TreeMessage}
     {said : Progress} {reads : ℕ} → ReadyToPath v d w t.kept_parent x → ((vol : Volume) → lines vol ≡ []) →
     ReportsOneEntry {T = Unit {0}} v d d w w x t t lines said said reads reads (Ok tt)
-nothing_said r none = record {
-  lines = record {
-    text = says_none (λ b k. ap (map of_tree) (none _));
-    path = λ b k. k.path;
-    counted = λ b k noted. few_none;
-    paid = λ numbered. paid_none (omega arith);
-  };
-  leaves = record {
-    image = refl;
-    lists = refl;
-    current = refl;
-    ready = record { ready = r.ready; kept_parent = r.kept_parent };
-  };
-}
+nothing_said r none = grind (arith, says_none, paid_none)
 
 pub returns-in-Empty : goal.returns-in-Empty
 unfolding roled_reported

@@ -1,4 +1,4 @@
-use Rattle.std.proofs.Common.{refl, ap, ◌∙◌, ◌≡◌, ◌+◌, ◌∷◌, arith, ℕ, List, [], map, Err}
+use Rattle.std.proofs.Common.{refl, ap, ◌∙◌, ◌≡◌, ◌∷◌, arith, ℕ, List, [], map, Err}
 use Rattle.std.proofs.lemmas.Result.{err_from_is_err_and}
 use Rattle.ffs_volume.specs.{Directories.Volumes.volume_of, Messages.Kinds.of_tree}
 use Rattle.ffs_layout.specs.Entry.{entry_value}
@@ -7,21 +7,18 @@ use Rattle.ffs_report.proofs.Paying.{paid_none, paid_then}
 use Rattle.ffs_pathnames.specs.{Gathers.passed_of, PassedNames.{after_entries, entries_reported}}
 use Rattle.ffs_pathnames.{specs.DirectoryContext.{DirectoryContext, KnowsPath}, proofs.Begun.image_same}
 use Rattle.ffs_pathnames.proofs.{StampLaws.{keep_more, noted_kept}, Passing.{knows_on, entry_reported, entry_passed}}
-use Rattle.ffs_pathnames.proofs.{Looking.{roled_at_place, seen_next, none_left}, LineCounts.{entry_counted, has_begun}}
+use Rattle.ffs_pathnames.proofs.LineCounts.{entry_counted, has_begun}
 use Rattle.ffs_pathnames.proofs.{LineCounts.{read_all, read_more}, entries.report_chunk.Given.Over}
 use Rattle.ffs_pathnames.proofs.entries.report_chunk.Goals.{After-role_of}
 use Rattle.ffs_workspace.proofs.Leaving.{leaves_all, leaves_more}
-use Rattle.ffs_names.proofs.PlacesNoted.{none_there as none}
+use Rattle.ffs_names.{proofs.Stepping.{roled_end, roled_on}, specs.EntriesToCome.roled_to_come}
 use Rattle.ffs_pathnames.proofs.entries.report_chunk.Goals as goal
 
 -- the next entry, and those after it
-next : (g : Over) (c : After-role_of g) →
-    let x = c.args.chunk.now in
-    let at = roled_at_place c.args.geometry.now.layout.order x.bytes.now x.first in
-    let e = entry_value c.in-Some.entry in
-    at c.entries.index c.entries.place
-    ≡ record { role = c.role_of.result; entry = e } ∷ at (c.entries.index + 1) (c.entries.place + e.length)
-next g c = seen_next _ _ _ c.entries.index c.entries.place _ c.role_of.result c.in-Some.ensures.some c.role_of.ensures
+next : (g : Over) (c : After-role_of g) → let first = c.args.chunk.now.first in
+    roled_to_come first c.entries.entries
+    ≡ record { role = c.role_of.result; entry = entry_value c.in-Some.entry } ∷ roled_to_come first c.next.new.self
+next g c = roled_on c.args.chunk.now.first c.role_of.result c.in-Some.ensures.steps c.role_of.ensures
 
 -- what is known there
 know : (g : Over) (c : After-role_of g) (b : List ℕ) →
@@ -42,9 +39,7 @@ know_path : (g : Over) (c : After-role_of g) (b : List ℕ) →
 know_path g c b k = record { knows = know g c b k.knows; path = c.entries.invariant.path b k }
 
 pub entries-init : goal.entries-init
-entries-init g c = record {
-  place = omega arith;
-  index = omega arith;
+entries-init g c = let all = c.of_chunk-entries.ensures in rw (all.0, all.1, all.2, all.3) (record {
   ready = record { ready = c.requires.ready; kept_parent = c.requires.kept_parent };
   device = refl;
   survey = leaves_all _;
@@ -55,7 +50,7 @@ entries-init g c = record {
   said = of_begins _ _ _;
   counted = λ b k noted. has_begun _ _ _;
   paid = λ numbered. paid_none (omega arith);
-}
+})
 
 pub returns-in_err-report_entry : goal.returns-in_err-report_entry
 returns-in_err-report_entry g c =
@@ -96,11 +91,7 @@ entries-preserved g c =
     let m = passed_of c.entries.workspace in
     let inv = c.entries.invariant in
     let ok = c.in_ok-report_entry.ensures in
-    let low = c.in-Some.ensures.room.0 in
-    let high = c.in-Some.ensures.room.1 in
-    rw c.from-place.ensures (record {
-      place = omega arith;
-      index = omega arith;
+    record {
       ready = ok.leaves.ready;
       device = ok.leaves.image ∙ inv.device;
       survey = leaves_more _ _ _ inv.survey ok.leaves.survey;
@@ -115,7 +106,7 @@ entries-preserved g c =
           (entry_counted (volume_of v b) x.dir m _ _ _ (next g at) (ok.passed b (know g at b k)))
           (ok.lines.counted b (know g at b k) (noted_kept v b _ _ inv.places noted));
       paid = λ numbered. paid_then (inv.paid numbered) (ok.lines.paid numbered);
-    })
+    }
 
 pub returns : goal.returns
 returns g c =
@@ -123,8 +114,7 @@ returns g c =
     let x = c.args.chunk.now in
     let m = passed_of c.entries.workspace in
     let inv = c.entries.invariant in
-    let end = none_left v.order x.bytes.now x.first c.entries.index c.entries.place
-    (none v.order x.bytes.now c.entries.place c.entry_at.result c.in_default.is c.entry_at.ensures.value) in
+    let end = roled_end x.first c.entries.entries c.in_default.ensures.steps.0 in
     record {
       lines = record {
         text = of_same _ _ (λ b. []) _ _ _ inv.said

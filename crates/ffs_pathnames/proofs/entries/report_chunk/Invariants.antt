@@ -1,10 +1,11 @@
-use Rattle.std.proofs.Common.{◌≡◌, ◌≤◌, ◌-◌, ℕ, List, length, map, Ok}
+use Rattle.std.proofs.Common.{◌≡◌, ◌-◌, ℕ, List, length, map, Ok}
 use Rattle.ffs_volume.specs.Directories.{Entries.entries_of, Parents.graph_of, Roles.roled_from, Volumes.volume_of}
 use Rattle.ffs_volume.specs.{Messages.Kinds.of_tree, Report.Reads.line_reads}
 use Rattle.ffs_report.specs.{Known.ForBytes, Paid.Paid, PhaseOutcome.SaidOf, Progress.progress}
 use Rattle.ffs_workspace.specs.{Leaves.LeavesSurvey, Places.AreChunksNumbered, Places.AreNoted}
+use Rattle.ffs_names.specs.EntriesToCome.{roled_to_come}
 use Rattle.ffs_pathnames.specs.{Ready.ReadyWith, Gathers.passed_of, Stamps.KeepPlaces, PassedNames.after_entries}
-use Rattle.ffs_pathnames.{specs.PassedNames.entries_reported, proofs.LineCounts.HasRead, proofs.Looking.roled_at_place}
+use Rattle.ffs_pathnames.{specs.PassedNames.entries_reported, proofs.LineCounts.HasRead}
 use Rattle.ffs_pathnames.specs.DirectoryContext.{BeginsPathOf, DirectoryContext, KnowsPath}
 use Rattle.ffs_pathnames.proofs.entries.report_chunk.Given as goal
 
@@ -16,12 +17,10 @@ invariant-entries g l =
     let known = DirectoryContext v (reported_by l.fn.image).contents l.fn.workspace x.dir in
     let knows_path = KnowsPath v (reported_by l.fn.image).contents l.fn.workspace x.dir l.fn.texts in
     let entries = roled_from x.first 0 (entries_of v.order x.bytes.now) in
-    let left = roled_at_place v.order x.bytes.now x.first l.index l.place in
+    let left = roled_to_come x.first l.entries in
     let all = λ (b : List ℕ). entries_reported (volume_of v b) x.dir (passed_of l.fn.workspace) entries in
     let to_come = λ (b : List ℕ). entries_reported (volume_of v b) x.dir (passed_of l.workspace) left in
     record {
-      place : l.place ≤ 512;
-      index : l.index ≤ l.place;
       ready : ReadyWith v (reported_by l.image) l.workspace l.texts.kept_parent;
       device : reported_by l.image ≡ reported_by l.fn.image;
       survey : LeavesSurvey l.fn.workspace l.workspace;
@@ -40,4 +39,4 @@ invariant-entries g l =
     }
 
 abbrev pub decreases-entries : goal.decreases-entries
-decreases-entries g l = 512 - l.place
+decreases-entries g l = 512 - l.entries.place

@@ -1,3 +1,4 @@
+use Rattle.std.proofs.Common.{arith}
 use Rattle.std.proofs.{Common.{ap, refl, ◌∙◌, rules}, lemmas.{List.with_items_is, Result.err_from_is_err_and}}
 use Rattle.ffs_volume.specs.Directories.Volumes.{volume_of}
 use Rattle.ffs_workspace.{specs.declared.workspace.Workspace.Workspace, proofs.Leaving.{claims_left, survey_left}}
@@ -9,21 +10,7 @@ use Rattle.ffs_report.proofs.Paying.{paid_answer}
 use Rattle.ffs_pathnames.proofs.entries.report_entry.Goals as goal
 
 pub returns-in_err-report_by_role : goal.returns-in_err-report_by_role
-returns-in_err-report_by_role g c =
-    let said = c.in_err-report_by_role.ensures in
-    let left = said.leaves in
-    let p = err_from_is_err_and c.from_residual.result c.from_residual.ensures.1 in
-    rw (p.1, p.2) (record {
-      lines = said.lines;
-      passed = tt;
-      leaves = record {
-        image = left.image;
-        survey = windows_leave _ _ left.lists;
-        places = windows_keep c.args.workspace.now c.report_by_role.new.workspace left.lists;
-        ready = left.ready;
-      };
-      current = left.current;
-    })
+returns-in_err-report_by_role g c = grind (arith, err_from_is_err_and)
 
 pub returns : goal.returns
 returns g c =

@@ -1,5 +1,5 @@
-use Rattle.std.proofs.{Common.{◌∙◌, ◌≡◌, ◌≤◌, ◌+◌, ℕ, List, ap, arith, false, sym, subst}, lemmas.Bool.both_ways}
-use Rattle.ffs_image.{specs.{Device.Device, Limited.reads_asked}, proofs.Limits.read_over}
+use Rattle.std.proofs.{Common.{◌∙◌, ◌≡◌, ◌≤◌, ◌+◌, ℕ, List, arith, false, sym}}
+use Rattle.ffs_image.{specs.{Limited.reads_asked}, proofs.Limits.read_over}
 use Rattle.ffs_workspace.proofs.Readiness.{ready_same}
 use Rattle.ffs_names.specs.Costs.{directory_cost}
 use Rattle.ffs_pathnames.{specs.DirectoryContext.DirectoryContext, proofs.Carrying.if_ok}
@@ -21,16 +21,13 @@ known : (g : Over) (c : After-is_spent g) (b : List ℕ) → DirectoryContext c.
     (g.I.Image.device c.args.image.now).contents c.args.workspace.now c.args.dir b →
     DirectoryContext c.args.geometry.now.layout (g.I.Image.device c.new-limited.result.begins.value).contents
     c.args.workspace.now c.args.dir b
-known g c b k = subst (λ x. DirectoryContext c.args.geometry.now.layout x c.args.workspace.now c.args.dir b)
-    (sym (ap (λ (d : Device). d.contents) c.new-limited.ensures.device)) k
+known g c b k = grind arith
 
 -- no read of known bytes is refused
 answered : (g : Over) (c : After-is_spent g) (b : List ℕ) → DirectoryContext c.args.geometry.now.layout
     (g.I.Image.device c.args.image.now).contents c.args.workspace.now c.args.dir b →
     directory_cost c.args.geometry.now.layout b c.args.dir ≤ c.args.reads_left.now → c.is_spent.result ≡ false
-answered g c b k enough =
-    let asked = c.examine_all-examined.ensures.reads b (known g c b k) in
-    (after g c).served.few (omega (arith, asked, c.new-limited.ensures.asked, enough))
+answered g c b k enough = grind arith
 
 -- the reads that it made, and those that are left
 taken : (g : Over) (c : After-is_spent g) (b : List ℕ) → DirectoryContext c.args.geometry.now.layout
@@ -39,31 +36,10 @@ taken : (g : Over) (c : After-is_spent g) (b : List ℕ) → DirectoryContext c.
     ≤ g.I.Image.reads c.args.image.now + directory_cost c.args.geometry.now.layout b c.args.dir)
     × (c.args.reads_left.now
     ≤ c.examine_all-examined.new.image.left + directory_cost c.args.geometry.now.layout b c.args.dir)
-taken g c b k =
-    let back = after g c in
-    let asked = c.examine_all-examined.ensures.reads b (known g c b k) in
-    let none = c.new-limited.ensures.asked in
-    (omega (arith, back.served.as_asked, asked, none), omega (arith, back.kept, asked, none))
+taken g c b k = grind arith
 
 pub returns-then-is_spent : goal.returns-then-is_spent
-returns-then-is_spent g c =
-    let at = (goal.at.returns-then-is_spent g c).After-is_spent in
-    let back = after g at in
-    let left = c.examine_all-examined.ensures.leaves in
-    let image = c.image-1.given.1 back.served.same_image ∙ c.drop-limited.ensures.below in
-    let over = read_over _ _ c.examine_all-examined.result (rw c.new-limited.ensures.device at left.read) in
-    rw (image, c.left.ensures.value) (record {
-      found = λ b k enough. absurd (both_ways _ (answered g at b k enough) c.if-is_spent.true);
-      reads = λ b k. (taken g at b k).0;
-      kept = λ b k. (taken g at b k).1;
-      most = back.most;
-      leaves = record {
-        lists = left.lists;
-        ready = ready_same c.args.geometry.now.layout _ _ _ (back.served.contents ∙ sym over.contents)
-            (back.served.size ∙ sym over.size) left.ready;
-        read = back.served.refused c.if-is_spent.true;
-      };
-    })
+returns-then-is_spent g c = grind arith
 
 pub returns : goal.returns
 returns g c =

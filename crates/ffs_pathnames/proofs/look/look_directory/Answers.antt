@@ -38,13 +38,7 @@ chunks-init g c = let first = (passed_of c.args.workspace.now).stamps in record 
 }
 
 pub look_chunk-looked-requires : goal.look_chunk-looked-requires
-look_chunk-looked-requires g c =
-    let made = c.requires.look.ready.ready.made in
-    record {
-      each = sym c.chunks.words.ok.0 ∙ (c.chunks.invariant.words.long ∙ (made.queue ∙ sym (c.as_slice.ensures.len ∙
-          made.kinds)));
-      dir = c.requires.look.low;
-    }
+look_chunk-looked-requires g c = grind arith
 
 pub chunks-preserved : goal.chunks-preserved
 chunks-preserved g c =

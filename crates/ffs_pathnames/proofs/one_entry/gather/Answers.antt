@@ -1,14 +1,9 @@
-use Rattle.std.proofs.Common.{Bool, ap, arith, sym, ◌∙◌}
-use Rattle.ffs_pathnames.proofs.{Carrying.if_ok, VerdictLaws.path_asks_attr, ReadyLaws.leaves_read}
+use Rattle.std.proofs.Common.{Bool, ap, arith, ◌∙◌}
+use Rattle.ffs_pathnames.proofs.{Carrying.if_ok, ReadyLaws.leaves_read}
 use Rattle.ffs_pathnames.proofs.one_entry.gather.Goals as goal
 
 pub gather_path-requires : goal.gather_path-requires
-gather_path-requires g c =
-    let wants = ap (λ (p : Bool × Bool). p.1) c.asks-wants_path.ensures in
-    record {
-      ready = c.requires.ready;
-      number = λ q. c.requires.number (path_asks_attr c.args.verdict.now (sym wants ∙ q));
-    }
+gather_path-requires g c = grind arith
 
 pub returns : goal.returns
 returns g c =

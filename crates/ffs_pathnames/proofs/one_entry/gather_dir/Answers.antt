@@ -6,10 +6,7 @@ pub put_path-requires : goal.put_path-requires
 put_path-requires g c = c.requires
 
 pub read_attr-requires : goal.read_attr-requires
-read_attr-requires g c = record {
-  ready = c.in_ok-put_path.ensures.leaves.path.reads.ready;
-  number = c.requires.number;
-}
+read_attr-requires g c = grind arith
 
 pub returns : goal.returns
 returns g c =

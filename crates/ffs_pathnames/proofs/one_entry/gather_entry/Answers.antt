@@ -1,27 +1,14 @@
-use Rattle.std.proofs.{Common.{ap, arith}, lemmas.Result.err_from_is_err_and}
+use Rattle.std.proofs.{Common.{ap, arith}}
 use Rattle.ffs_workspace.proofs.Leaving.{windows_leave}
 use Rattle.ffs_paths.proofs.{Climbed.{few_more, few_then}, Keeping.reads_then}
 use Rattle.ffs_pathnames.proofs.{Carrying.if_ok, LineCounts.places_on, Passing.knows_on, StampLaws.windows_keep}
-use Rattle.ffs_pathnames.proofs.ReadyLaws.{gather_failed}
 use Rattle.ffs_pathnames.proofs.one_entry.gather_entry.Goals as goal
 
 pub returns-in_err-begin_paths : goal.returns-in_err-begin_paths
-returns-in_err-begin_paths g c =
-    let p = err_from_is_err_and c.from_residual.result c.from_residual.ensures.1 in
-    let begun = c.in_err-begin_paths.ensures in
-    rw (p.1, p.2) (record {
-      enough = tt;
-      path = begun.makes.path;
-      leaves = gather_failed _ (record { path = begun.makes.leaves; most = begun.most }) (omega arith);
-    })
+returns-in_err-begin_paths g c = grind arith
 
 pub gather-requires : goal.gather-requires
-gather-requires g c =
-    let begun = c.in_ok-begin_paths.ensures.makes.leaves in
-    record {
-      ready = record { ready = begun.reads.ready; kept_parent = begun.kept_parent };
-      number = c.requires.number;
-    }
+gather-requires g c = grind arith
 
 pub returns : goal.returns
 returns g c =

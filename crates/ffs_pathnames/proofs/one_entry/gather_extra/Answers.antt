@@ -1,18 +1,10 @@
-use Rattle.std.proofs.{Common.{ap, ◌∙◌, arith}, lemmas.Result.err_from_is_err_and}
+use Rattle.std.proofs.{Common.{ap, ◌∙◌, arith}}
 use Rattle.ffs_volume.specs.Directories.{Parents.graph_of, Volumes.volume_of}
-use Rattle.ffs_pathnames.proofs.{Carrying.{if_ok, on_all}, ReadyLaws.{gather_failed, leaves_read}}
+use Rattle.ffs_pathnames.proofs.{Carrying.{if_ok, on_all}, ReadyLaws.{leaves_read}}
 use Rattle.ffs_pathnames.proofs.one_entry.gather_extra.Goals as goal
 
 pub returns-in_err-begin_paths : goal.returns-in_err-begin_paths
-returns-in_err-begin_paths g c =
-    let p = err_from_is_err_and c.from_residual.result c.from_residual.ensures.1 in
-    let begun = c.in_err-begin_paths.ensures in
-    rw (p.1, p.2) (record {
-      attr = tt;
-      text = tt;
-      path = begun.makes.path;
-      leaves = gather_failed _ (record { path = begun.makes.leaves; most = begun.most }) (omega arith);
-    })
+returns-in_err-begin_paths g c = grind arith
 
 pub returns : goal.returns
 returns g c =

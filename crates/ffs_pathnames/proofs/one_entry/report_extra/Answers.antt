@@ -1,4 +1,5 @@
-use Rattle.std.proofs.{Common.{refl, ◌≡◌, ◌≤◌, List, ℕ, length}, lemmas.Result.err_from_is_err_and}
+use Rattle.std.proofs.Common.{arith}
+use Rattle.std.proofs.{Common.{◌≡◌, ◌≤◌, List, ℕ, length}, lemmas.Result.err_from_is_err_and}
 use Rattle.ffs_volume.specs.Directories.{PathnameCheck.extra_lines, Volumes.volume_of}
 use Rattle.ffs_layout.specs.Entry.{entry_value}
 use Rattle.ffs_pathnames.proofs.{EntryReports.{entry_unread, entry_said, entry_stopped}, LineCounts.extra_some}
@@ -15,8 +16,7 @@ line_is : (g : Over) (c : After-say_extra g) (b : List ℕ) → KnowsPath c.args
     (g.I.Image.device c.args.image.now).contents c.args.workspace.now c.args.entry.now.dir c.args.texts.now b →
     extra_reported (volume_of c.args.geometry.now.layout b) c.args.entry.now
     ≡ extra_lines c.in_ok-attr.attr c.as_slice.result.now (entry_value c.args.entry.now.entry)
-line_is g c b k =
-    rw (c.as_slice.ensures.value, c.in_ok-attr.ensures.text b k, c.in_ok-attr.ensures.attr b k.knows) refl
+line_is g c b k = grind arith
 
 pub returns-in_err-attr-clause-lines : goal.returns-in_err-attr-clause-lines
 returns-in_err-attr-clause-lines g c =

@@ -1,12 +1,11 @@
-use Rattle.std.proofs.Common.{arith, refl, sym, ap, ◌∙◌, ℕ, List, map, ◌≡◌, ◌≤◌, length}
+use Rattle.std.proofs.Common.{arith, sym, ap, ◌∙◌, ℕ, List, map, ◌≡◌, ◌≤◌, length}
 use Rattle.std.proofs.lemmas.Result.{err_from_is_err_and}
 use Rattle.ffs_volume.specs.{Messages.Kinds.of_tree, Directories.Volumes.volume_of}
-use Rattle.ffs_layout.specs.Entry.{entry_value}
 use Rattle.ffs_report.proofs.{Paying.paid_none, Reporting.says_none}
 use Rattle.ffs_pathnames.specs.{Gathers.plain_lines_by, Verdicts.verdict_reported, DirectoryContext.DirectoryContext}
 use Rattle.ffs_pathnames.{specs.DirectoryContext.KnowsPath, proofs.LineCounts.few_none}
 use Rattle.ffs_pathnames.proofs.EntryReports.{entry_unread, entry_said, entry_stopped}
-use Rattle.ffs_pathnames.proofs.VerdictLaws.{plain_some, silent_reported, verdict_some}
+use Rattle.ffs_pathnames.proofs.VerdictLaws.{silent_reported, verdict_some}
 use Rattle.ffs_pathnames.proofs.one_entry.report_plain.{Given.Over, Goals.{After-gather_entry, After-say_verdict}}
 use Rattle.ffs_pathnames.proofs.one_entry.report_plain.Goals as goal
 
@@ -14,9 +13,7 @@ use Rattle.ffs_pathnames.proofs.one_entry.report_plain.Goals as goal
 some_line : (g : Over) (c : After-gather_entry g) (b : List ℕ) → DirectoryContext c.args.geometry.now.layout
     (g.I.Image.device c.args.image.now).contents c.args.workspace.now c.args.entry.now.dir b →
     1 ≤ length (plain_lines_by (volume_of c.args.geometry.now.layout b) c.args.workspace.now c.args.entry.now)
-some_line g c b k = plain_some _ c.args.entry.now.dir _ (entry_value c.args.entry.now.entry) c.verdict_of-verdict.result
-    (c.verdict_of-verdict.ensures.verdict c.args.geometry.now.layout b c.requires.ready.ready.made k.claims k.survey)
-    (sym c.is_silent.ensures ∙ c.if-is_silent.false)
+some_line g c b k = grind arith
 
 -- the lines are those of what was gathered
 lines_are : (g : Over) (c : After-say_verdict g) (b : List ℕ) → KnowsPath c.args.geometry.now.layout
@@ -24,10 +21,7 @@ lines_are : (g : Over) (c : After-say_verdict g) (b : List ℕ) → KnowsPath c.
     plain_lines_by (volume_of c.args.geometry.now.layout b) c.args.workspace.now c.args.entry.now
     ≡ verdict_reported c.verdict_of-verdict.result c.args.entry.now.entry.number c.in_ok-attr.attr c.last.result.now
     c.as_slice.result.now
-lines_are g c b k =
-    let verdict = c.verdict_of-verdict.ensures.verdict c.args.geometry.now.layout b c.requires.ready.ready.made
-    k.knows.claims k.knows.survey in
-    rw (verdict.reported, ← c.in_ok-attr.ensures.enough b k, c.last.ensures, c.as_slice.ensures.value) refl
+lines_are g c b k = grind arith
 
 pub returns-then-is_silent-clause-lines : goal.returns-then-is_silent-clause-lines
 returns-then-is_silent-clause-lines g c = record {

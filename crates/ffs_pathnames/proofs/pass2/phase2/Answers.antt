@@ -1,4 +1,4 @@
-use Rattle.std.proofs.Common.{[], ◌∷◌, List, ℕ, refl, ap, ◌∙◌, inl, inr, arith, ◌≡◌, Some, OnOk, Result, Ok, Err, rules}
+use Rattle.std.proofs.Common.{[], ◌∷◌, List, ℕ, refl, ap, ◌∙◌, inr, arith, ◌≡◌, Some, OnOk, Result, Ok, Err, rules}
 use Rattle.std.proofs.lemmas.Result.{err_from_is_err_and}
 use Rattle.ffs_image.specs.Device.{Device}
 use Rattle.ffs_report.proofs.Reporting.{of_reads, of_last, reports_knowing, says_heading, stops_heading}
@@ -33,12 +33,7 @@ ends_by : (v : Layout) (d d' : Device) (old w new : Workspace) (before after : P
     ForBytes (WithClaims v d old) (λ b. HoldsStarts v b old → HoldsReferences v b new) → AnswersRoot v d' w r →
     OnOk r (ForBytes (IsBefore v d'.contents w 2) (λ b. HoldsClaims v b new × HoldsSurvey v b new)) →
     Phase2Ends v d old new before after r
-ends_by v d d' old w new before after (Ok root) more references answer holds = λ b k. record {
-  goes = answer b (more b k);
-  claims = (holds b (more b k)).0;
-  survey = (holds b (more b k)).1;
-  references = references b k;
-}
+ends_by v d d' old w new before after (Ok root) more references answer holds = grind arith
 ends_by v d d' old w new before after (Err (Read fault)) more references answer holds = inr (λ b k. answer b (more b k))
 ends_by v d d' old w new before after (Err (Out fault)) more references answer holds = tt
 
@@ -48,14 +43,10 @@ returns-in_err-say-clause-prints g c =
     rw (p.1, p.2) (record { image = search rules; text = stops_heading c.in_err-say.ensures.said })
 
 pub returns-in_err-say-clause-leaves : goal.returns-in_err-say-clause-leaves
-returns-in_err-say-clause-leaves g c =
-    let p = err_from_is_err_and c.from_residual.result c.from_residual.ensures.1 in
-    rw (p.1, p.2) tt
+returns-in_err-say-clause-leaves g c = grind arith
 
 pub returns-in_err-survey-clause-leaves : goal.returns-in_err-survey-clause-leaves
-returns-in_err-survey-clause-leaves g c =
-    let p = err_from_is_err_and c.from_residual-in_err-survey.result c.from_residual-in_err-survey.ensures.1 in
-    rw (p.1, p.2) (inl c.in_ok-say.ensures.said)
+returns-in_err-survey-clause-leaves g c = grind arith
 
 pub returns-in_err-survey-clause-prints : goal.returns-in_err-survey-clause-prints
 returns-in_err-survey-clause-prints g c =

@@ -60,20 +60,10 @@ reads_few g c b k noted =
     omega (arith, examined, now)
 
 pub report_header-requires : goal.report_header-requires
-report_header-requires g c =
-    let examined = c.in_ok-examined.ensures.leaves in
-    record {
-      ready = examined.ready;
-      kept_parent = kept_parent_on _ _ _ _ _ _ (ap (λ d. d.contents) examined.read) examined.lists.survey
-          examined.lists.places c.requires.path.kept_parent;
-      number = c.requires.path.number;
-    }
+report_header-requires g c = grind (arith, kept_parent_on)
 
 pub examine-requires : goal.examine-requires
-examine-requires g c = record {
-  ready = record { ready = c.requires.path.ready; number = c.requires.path.number };
-  low = c.requires.low;
-}
+examine-requires g c = grind arith
 
 -- a read failed
 pub returns-in_err-examined : goal.returns-in_err-examined

@@ -46,16 +46,7 @@ second g c b k =
     )
 
 pub report_directory-requires : goal.report_directory-requires
-report_directory-requires g c =
-    let left = c.in_ok-examined.ensures.leaves in
-    record {
-      path = record {
-        ready = left.ready.ready;
-        kept_parent = left.ready.kept_parent;
-        number = c.requires.path.number;
-      };
-      cut = c.noted_cut.ensures;
-    }
+report_directory-requires g c = grind arith
 
 pub returns-in_err-examined : goal.returns-in_err-examined
 returns-in_err-examined g c =

@@ -3,7 +3,7 @@ use Rattle.std.proofs.{Common.{true, false, arith, length, Result, Err}, lemmas.
 use Rattle.ffs_workspace.specs.{Holds.HoldsClaims, Places.AreChunksNumbered}
 use Rattle.ffs_pathnames.{specs.Before.{IsBefore, root_reported}, proofs.LineCounts.lines_long}
 use Rattle.ffs_names.specs.Costs.{directories_cost}
-use Rattle.ffs_pathnames.proofs.Carrying.{goes_is, on_all, root_kind_is, root_marked_is, tree_is, tree_lines}
+use Rattle.ffs_pathnames.proofs.Carrying.{goes_is, root_kind_is, root_marked_is, tree_is, tree_lines}
 use Rattle.ffs_pathnames.proofs.tree.check_tree.{Given.Over, Goals.{After-report_root, After-check_inodes}}
 use Rattle.ffs_volume.specs.{Encodings.Kinds.is_dir_kind, Directories.Volumes.volume_of, Messages.Kinds.of_tree}
 use Rattle.ffs_volume.specs.{Directories.PathnameCheck.{continues_after_root, pathname_lines}, Report.Reads.line_reads}
@@ -21,8 +21,7 @@ use Rattle.ffs_pathnames.proofs.tree.check_tree.Goals as goal
 -- what the kind of the root that was read says
 kind_is : (g : Over) (c : After-report_root g) →
     c.index-kind.result.now ≡ slice_index c.args.workspace.now.kinds.items 2
-kind_is g c = root_kind_is c.args.geometry.now.layout c.args.workspace.now _ c.args.geometry.now.sound c.requires.made
-    c.index-kind.ensures
+kind_is g c = grind (arith, root_kind_is)
 
 -- the lines, by the root's and by those of the tree
 lines_are : (g : Over) (c : After-report_root g) (b : List ℕ) (goes : Bool) →
@@ -30,9 +29,7 @@ lines_are : (g : Over) (c : After-report_root g) (b : List ℕ) (goes : Bool) �
     map of_tree (pathname_lines (volume_of c.args.geometry.now.layout b))
     ≡ map of_tree (root_reported c.index-kind.result.now c.index-marked.result.now)
     ++ map of_tree (tree_lines c.args.geometry.now.layout b goes)
-lines_are g c b goes h q = tree_is c.args.geometry.now.layout b c.args.workspace.now _ _ goes (kind_is g c)
-    (root_marked_is c.args.geometry.now.layout c.args.workspace.now _ c.args.geometry.now.sound c.requires.made
-    c.index-marked.ensures) h q
+lines_are g c b goes h q = search (arith, tree_is, kind_is, root_marked_is)
 
 -- the answer is that of the volume
 goes : (g : Over) (c : After-report_root g) (b : List ℕ) →
@@ -73,25 +70,14 @@ reads_few : (g : Over) (c : After-check_inodes g) (b : List ℕ) →
     g.I.Image.reads c.check_inodes.new.image ≤ g.I.Image.reads c.args.image.now
     + (3 * directories_cost c.args.geometry.now.layout b
     + line_reads * length (pathname_lines (volume_of c.args.geometry.now.layout b)))
-reads_few g c b is k numbered =
-    let v = c.args.geometry.now.layout in
-    let long = lines_long (pathname_lines (volume_of v b)) _ (tree_lines v b true) is in
-    omega (arith, long, c.check_inodes.ensures.tree.reads b k numbered)
+reads_few g c b is k numbered = search (arith, lines_long)
 
 -- what is said, what is read for it, and what is left, where nothing is read
 only_said : {T : Type 0} {v : Layout} {d : Device} {w : Workspace} {lines : List ℕ → List TreeMessage}
     {said said' : Progress} {count : ℕ} (r : Result T RunFault) → ImageAfter d d r → IsReady v d w →
     PhaseReports (IsBefore v d.contents w 2) (λ b. map of_tree (lines b)) said said' r →
     ReportsTree v d d w w lines said said' count count r
-only_said r image ready text = record {
-  text = text;
-  reads = λ b k numbered. omega arith;
-  paid = λ numbered. paid_text _ _ r text (omega arith);
-  image = image;
-  holds = on_all r _ (λ b k. (k.claims, k.survey));
-  references = refl;
-  ready = ready;
-}
+only_said r image ready text = grind (arith, paid_text)
 
 pub returns-in_err-report_root-clause-tree : goal.returns-in_err-report_root-clause-tree
 returns-in_err-report_root-clause-tree g c =

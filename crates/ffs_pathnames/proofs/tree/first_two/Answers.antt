@@ -1,18 +1,12 @@
+use Rattle.std.proofs.Common.{arith}
 use Rattle.std.proofs.Common.{sym, ap, ◌∙◌, option_map}
 use Rattle.ffs_volume.specs.Directories.Entries.{entry_at}
 use Rattle.ffs_layout.specs.Entry.{entry_value}
 use Rattle.ffs_pathnames.proofs.FirstTwo.{none_found, first_found, second_found}
-use Rattle.ffs_names.proofs.PlacesNoted.{none_there as none}
 use Rattle.ffs_pathnames.proofs.tree.first_two.Goals as goal
 
 pub returns-in-None : goal.returns-in-None
-returns-in-None c =
-    let start = c.args.start.now in
-    let none = none c.args.order start 0 c.entry_at.result c.in-None.is c.entry_at.ensures.value in
-    record {
-      first = none_found c.args.order start 0 c.args.started none;
-      second = none_found c.args.order start 1 c.args.started none;
-    }
+returns-in-None c = grind (arith, none_found)
 
 pub returns-in-Some : goal.returns-in-Some
 returns-in-Some c =

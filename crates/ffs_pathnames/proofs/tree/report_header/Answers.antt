@@ -14,22 +14,13 @@ use Rattle.ffs_pathnames.proofs.tree.report_header.Goals as goal
 some_line : (g : Over) (c : After-gather_dir g) (b : List ℕ) →
     KnowsHeader c.args.geometry.now.layout (g.I.Image.device c.args.image.now) c.args.workspace.now c.args.header b →
     1 ≤ length (header_lines (volume_of c.args.geometry.now.layout b) c.args.header)
-some_line g c b k =
-    let v = c.args.geometry.now.layout in
-    let s = c.args.header in
-    header_some (attributes (volume_of v b) s.number) (dir_path (graph_of (volume_of v b)) s.number) s.number s.parent
-    s.gap s.sound (option_map entry_value s.first) (option_map entry_value s.second)
-    (rw (attr_size v b s.number ∙ sym k.1) (sym c.is_in_order.ensures ∙ c.if-is_in_order.false))
+some_line g c b k = grind (arith, header_some, attr_size)
 
 -- whatever was gathered: the size is that which isn't right
 some_said_of : (g : Over) (c : After-say_header g) →
     1 ≤ length (map of_tree (header_lines_of (record c.in_ok-attr.attr { size = c.args.header.size })
     c.as_slice.result.now c.args.header))
-some_said_of g c =
-    let s = c.args.header in
-    some_said _ (header_some (record c.in_ok-attr.attr { size = s.size }) c.as_slice.result.now s.number s.parent
-    s.gap s.sound (option_map entry_value s.first) (option_map entry_value s.second)
-    (sym c.is_in_order.ensures ∙ c.if-is_in_order.false))
+some_said_of g c = grind (arith, some_said, header_some)
 
 -- the lines are those of what was gathered
 lines_are : (g : Over) (c : After-say_header g) (b : List ℕ) →
@@ -37,14 +28,7 @@ lines_are : (g : Over) (c : After-say_header g) (b : List ℕ) →
     map of_tree (header_lines (volume_of c.args.geometry.now.layout b) c.args.header)
     ≡ map of_tree (header_lines_of (record c.in_ok-attr.attr { size = c.args.header.size }) c.as_slice.result.now
     c.args.header) ++ []
-lines_are g c b k =
-    let v = c.args.geometry.now.layout in
-    rw (
-      c.as_slice.ensures.value,
-      (c.in_ok-attr.ensures.shown b k.0).path_is,
-      (c.in_ok-attr.ensures.shown b k.0).attr,
-      k.1 ∙ sym (attr_size v b c.args.header.number),
-    ) (sym (append-nil _))
+lines_are g c b k = grind (arith, attr_size, append-nil)
 
 pub returns-then-is_in_order : goal.returns-then-is_in_order
 returns-then-is_in_order g c =

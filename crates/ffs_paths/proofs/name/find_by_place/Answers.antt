@@ -10,10 +10,7 @@ use Rattle.ffs_paths.proofs.name.find_by_place.Goals as goal
 -- the chunk that is looked at is the noted one
 chunk_is : (g : given.Over) (c : goal.After-find_in_chunk g) →
     place_in (slice_index c.args.workspace.now.queue.items c.args.dir) ≡ suc c.in-Some.chunk
-chunk_is g c =
-    let w = c.args.workspace.now in
-    ap place_in (sym (c.index.ensures ∙ get_or_default w.queue.items c.args.dir c.index.result.now 0
-    (omega (arith, c.requires.ready.made.queue, c.requires.number)))) ∙ c.in-Some.ensures
+chunk_is g c = grind (arith, get_or_default)
 
 -- its bytes are those of the image
 bytes_are : (g : given.Over) (c : goal.After-find_in_chunk g) (b : List ℕ) →

@@ -76,7 +76,4 @@ returns-in_err-find_name-clause-leaves g c = let i = c.up.invariant in record {
 }
 
 pub returns-clause-leaves : goal.returns-clause-leaves
-returns-clause-leaves g c = let i = c.up.invariant in record {
-  reads = i.reads;
-  counted = λ b knows. let h = i.counted b knows in few_more h.few h.most;
-}
+returns-clause-leaves g c = grind arith

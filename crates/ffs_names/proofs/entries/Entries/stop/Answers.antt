@@ -1,4 +1,4 @@
-use Rattle.std.proofs.{Common.{arith, [], refl}, lemmas.Bool.false≢true}
+use Rattle.std.proofs.{Common.{[], refl}, lemmas.Bool.false≢true}
 use Rattle.ffs_names.proofs.Entered.{end_seen}
 use Rattle.ffs_names.proofs.entries.Entries.stop.Goals as goal
 
