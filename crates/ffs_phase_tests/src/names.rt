@@ -1,5 +1,5 @@
-//! Roles of entries, as dir(5) has them, the chunks of a directory whose blocks share a fragment,
-//! and directories of which the address of their only chunk is known.
+//! Roles of entries, as dir(5) has them, the entries of a chunk, the chunks of a directory whose
+//! blocks share a fragment, and directories of which the address of their only chunk is known.
 
 ghost use Rattle.std.specs.Prelude.{◌≡◌, ◌*◌, ◌≤◌};
 
@@ -7,7 +7,7 @@ use crate::compare::same;
 use ffs_image::Image;
 use ffs_layout::{Entry, Geometry, Order};
 use ffs_memory::FixedList;
-use ffs_names::{Chunks, Entries, role_of};
+use ffs_names::{ChunkEntries, Chunks, Entries, role_of};
 use ffs_samples::{Number, Stop, geometry, image_of, inode};
 use ffs_volume::Role;
 use ffs_walk::{Blocks, Window};
@@ -39,6 +39,39 @@ fn roles(rt: HostRuntime) -> Result<(), Fail> {
     for &(first, index, number, name, role) in &ROLES {
         same(&rt, &role_of(first, index, &entry(number, name)), &role);
     }
+    Ok(())
+}
+
+/// Places of a chunk and the bytes there: an empty record of 12 bytes, then one of 16 bytes for `a`
+/// of inode 5, and then one whose length of 6 isn't a multiple of 4.
+static RECORDS: [(u8, u8); 7] = [
+    (4, 12),
+    (12, 5),
+    (16, 16),
+    (18, 8),
+    (19, 1),
+    (20, b'a'),
+    (32, 6),
+];
+
+/// The index of the next entry, its number, and the lengths of its record and its name.
+fn next_of(entries: &mut ChunkEntries<'_>) -> Option<(usize, u32, u16, usize)> {
+    let (index, entry) = entries.next()?;
+    Some((index, entry.number, entry.length, entry.name.len()))
+}
+
+#[test]
+fn entries_of_chunk(rt: HostRuntime) -> Result<(), Fail> {
+    let mut chunk = [0u8; 512];
+    for &(place, byte) in &RECORDS {
+        chunk[usize::from(place)] = byte;
+    }
+    let mut entries = ChunkEntries::of_chunk(Order::Little, &chunk);
+    same(&rt, &next_of(&mut entries), &Some((0, 0, 12, 0)));
+    same(&rt, &next_of(&mut entries), &Some((1, 5, 16, 1)));
+    same(&rt, &next_of(&mut entries), &None);
+    same(&rt, &next_of(&mut entries), &None);
+    same(&rt, &entries.place, &28);
     Ok(())
 }
 
