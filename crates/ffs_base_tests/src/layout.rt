@@ -170,7 +170,7 @@ fn places(rt: HostRuntime) -> Result<(), Fail> {
 }
 
 /// Fragments of it, whether each is in range, and whether each is reserved.
-static AREAS: [(u64, bool, bool); 10] = [
+static AREAS: [(u32, bool, bool); 10] = [
     (0, true, true),
     (15, true, true),
     (16, false, true),
@@ -183,16 +183,17 @@ static AREAS: [(u64, bool, bool); 10] = [
     (250, false, false),
 ];
 
-fn area_of(geometry: &Geometry, fragment: u64) -> (u64, bool, bool) {
+fn area_of(geometry: &Geometry, fragment: u32) -> (u32, bool, bool) {
     (fragment, geometry.ok(fragment), geometry.reserved(fragment))
 }
 
-/// Whether runs are in range: in data, over the start of a group, and over the end.
-fn runs_in_range(geometry: &Geometry) -> [bool; 3] {
+/// Whether runs are in range: in data, over the start of a group, over the end, and an empty one.
+fn runs_in_range(geometry: &Geometry) -> [bool; 4] {
     [
         geometry.in_range(33, 1),
         geometry.in_range(127, 2),
         geometry.in_range(249, 2),
+        geometry.in_range(250, 0),
     ]
 }
 
@@ -202,7 +203,7 @@ fn areas(rt: HostRuntime) -> Result<(), Fail> {
     for area in &AREAS {
         same(&rt, &area_of(&geometry, area.0), area);
     }
-    same(&rt, &runs_in_range(&geometry), &[true, false, false]);
+    same(&rt, &runs_in_range(&geometry), &[true, false, false, true]);
     Ok(())
 }
 

@@ -33,7 +33,7 @@ fn fragment_in_range(geometry: &Geometry, fragment: u64, in_range: bool) -> bool
         → is_fragment_in_range geometry.now.layout fragment ≡ true }
     ensures { result ≡ is_fragment_in_range geometry.now.layout fragment }
 {
-    in_range || geometry.ok(fragment)
+    in_range || (fragment < u64::from(geometry.layout.size) && geometry.ok(fragment as u32))
 }
 
 /// Takes an offer, and says whether it is dup and kept, and so has a DUP line. `in_range` says that

@@ -2,11 +2,7 @@
 //! too, and both are printed with how the check ended.
 #![tactic(auto)]
 
-use ffs_check::args::Args;
-use ffs_check::check::check;
-use ffs_image::MemoryImage;
-use ffs_report::Counted;
-use ffs_volume::End;
+use ffs::{Args, Counted, End, MemoryImage, check};
 use std::{fs, io};
 
 fn main(rt: HostRuntime) -> io::Result<()> {

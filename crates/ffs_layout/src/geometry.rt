@@ -120,15 +120,24 @@ impl Geometry {
 
     /// Whether the fragment is in range: it is in the volume, and no group's metadata.
     #[tactic(auto, unfolding(ffs_volume::specs::Disk::Areas::is_fragment_in_range))]
-    pub fn ok(&self, fragment: u64) -> bool
+    pub fn ok(&self, fragment: u32) -> bool
         ensures { result ≡ is_fragment_in_range self.now.layout fragment }
     {
-        fragment < u64::from(self.layout.size) && !self.is_group_metadata(fragment as u32)
+        fragment < self.layout.size && !self.is_group_metadata(fragment)
     }
 
-    /// Whether the run is in range: consecutive fragments, all in range, and of one group.
-    #[tactic(auto, using(ffs_volume::proofs::RunLaws::in_range_is, ffs_volume::proofs::AreaLaws::group_below), unfolding(ffs_volume::specs::Disk::Areas::cgbase))]
+    /// Whether the run of `len` fragments from `start` on is in range: all of them are, and they are
+    /// of one group. An empty run is in range.
+    #[tactic(auto, using(crate::proofs::EmptyRun::empty_in_range))]
     pub fn in_range(&self, start: u32, len: u32) -> bool
+        ensures { result ≡ is_run_in_range self.now.layout start len }
+    {
+        len == 0 || self.are_in_range(start, len)
+    }
+
+    /// `in_range` of a run that isn't empty.
+    #[tactic(auto, using(ffs_volume::proofs::RunLaws::in_range_is, ffs_volume::proofs::AreaLaws::group_below), unfolding(ffs_volume::specs::Disk::Areas::cgbase))]
+    fn are_in_range(&self, start: u32, len: u32) -> bool
         requires { 0 < len }
         ensures { result ≡ is_run_in_range self.now.layout start len }
     {
@@ -144,13 +153,13 @@ impl Geometry {
     /// Whether the fragment is reserved: in the boot area, in the summary area, or metadata of a
     /// group.
     #[tactic(auto, using(ffs_volume::proofs::AreaLaws::no_metadata_past_size), unfolding(ffs_volume::specs::Disk::Areas::is_reserved))]
-    pub fn reserved(&self, fragment: u64) -> bool
+    pub fn reserved(&self, fragment: u32) -> bool
         ensures { result ≡ is_reserved self.now.layout fragment }
     {
-        let summary = u64::from(self.layout.csaddr);
+        let summary = self.layout.csaddr;
         let fragments = self.layout.cssize.div_ceil(self.layout.fsize);
-        fragment < u64::from(self.cgdmin(0))
-            || (summary <= fragment && fragment < summary + u64::from(fragments))
-            || (fragment < u64::from(self.layout.size) && self.is_group_metadata(fragment as u32))
+        fragment < self.cgdmin(0)
+            || (summary <= fragment && fragment - summary < fragments)
+            || (fragment < self.layout.size && self.is_group_metadata(fragment))
     }
 }

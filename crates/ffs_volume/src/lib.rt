@@ -26,28 +26,38 @@ pub enum Order {
 }
 
 /// Why a superblock is refused, in the order in which faults are looked for (fs(5)).
-#[derive(Clone, Copy, Debug, PartialEq, Eq)]
+#[derive(Clone, Copy, Debug, PartialEq, Eq, thiserror::Error)]
 pub enum SuperFault {
     /// It can't be read or passes the image's end; or its last copy can't be read, which is found
     /// after `Short`. The sector, of 512 bytes, is the one where the read begins.
+    #[error("the superblock can't be read at sector {sector}")]
     CannotRead { sector: u64 },
     /// The magic number isn't right in either byte order.
+    #[error("the magic number is wrong")]
     Magic,
     /// The format of inodes (`inodefmt`) isn't that of 4.4BSD.
+    #[error("the format of inodes isn't supported")]
     InodeFormat,
     /// There is no cylinder group.
+    #[error("there is no cylinder group")]
     Ncg,
     /// A group has no cylinder.
+    #[error("a cylinder group has no cylinder")]
     Cpg,
     /// `ncg` groups of `cpg` cylinders, the last perhaps of fewer, don't make `ncyl` cylinders.
+    #[error("the groups don't make the cylinders")]
     Ncyl,
     /// The superblock says that it has more than 8,192 bytes.
+    #[error("the superblock is too large")]
     TooLarge,
     /// The parts of the layout don't fit each other (`is_valid_layout`).
+    #[error("the geometry is out of range")]
     Shape,
     /// The volume has more bytes than its image.
+    #[error("the volume is larger than the image")]
     Short,
     /// The copy in the last group has another number (`LAYOUT_PLACES`).
+    #[error("the last copy has other values")]
     Disagree,
 }
 
