@@ -1,7 +1,7 @@
 -- What a source of an image's bytes gives, and what a read does to it.
 use Rattle.std.specs.Prelude.{◌≡◌, ◌+◌, ◌-◌, ◌<◌, ◌≤◌, ℕ, zero, suc, List, length, drop, take}
 use Rattle.std.specs.Prelude.{Option, Result, Ok, Err, OnOk, IfOk, IfSome, MatchResult}
-use Rattle.std.specs.{Io.ReadsAtMost, Result.result_unwrap_or, declared.io.Error.Error}
+use Rattle.std.specs.{Io.ReadsAtMost, declared.io.Error.Error}
 use Rattle.ffs_image.specs.Device.{ForContents, Rose}
 
 -- what contracts know of a source, as `Device` of an image, but for the last sector: its bytes
@@ -26,10 +26,9 @@ abbrev pub SourceAfter : {T E : Type 0} → SourceState → SourceState → Resu
 SourceAfter old new (Ok x) = new ≡ old
 SourceAfter old new (Err fault) = IsFailed old new
 
--- a file was asked for its end: that is how many bytes it has, and where it couldn't be said it has none.
--- Its bytes stay
+-- a file was asked for its end: where it answers, that is how many bytes it has. Its bytes stay
 pub record GivesEnd (old new : Option (List ℕ)) (result : Result ℕ Error) : Type 0 where
-  pub bytes : IfSome old (λ b. length b ≡ result_unwrap_or result 0)
+  pub bytes : IfSome old (λ b. IfOk result (λ n. length b ≡ n))
   pub kept : new ≡ old
 
 -- a file was read: the answer is how many of these bytes are its bytes at a place, or that the read

@@ -1,8 +1,7 @@
 -- What was asked of a system and of its files, and with which answers.
 use Rattle.std.specs.Prelude.{◌≡◌, ◌⊎◌, ℕ, Bool, true, false, List, Result, Ok, Err, Option, None, Some, IfSome}
-use Rattle.std.specs.{Prelude.{MatchResult, ⊤, refl}, Result.result_unwrap_or, declared.io.Error.Error}
-use Rattle.ffs_image.specs.{declared.file.OpenFault.{OpenFault, TheVariants.Pipe}, Device.ForContents}
-use Rattle.ffs_image.specs.{Faults.open_fault_of, Interrupted.IsTriedAgain}
+use Rattle.std.specs.{Prelude.{MatchResult, ⊤, refl}, declared.io.Error.Error}
+use Rattle.ffs_image.specs.{Device.ForContents, Interrupted.IsTriedAgain}
 
 -- what a read gives of some of the bytes at a place: how many it gave, or a fault where it failed
 -- or gave none
@@ -12,35 +11,54 @@ pub record SomeOf {F E : Type 0} (was_read : F → Result ℕ Error → F → Ty
   pub tried : IsTriedAgain was_read old new answer
   pub result_is : MatchResult result (λ n. answer ≡ Ok n) (λ _. MatchResult answer (λ n. n ≡ 0) (λ _. ⊤))
 
--- a file was asked for its end, which is its size; it is 0 where it can't be sought
-pub record IsEndOf {F : Type 0} (was_sought : F → Result ℕ Error → F → Type 0) (old new : F) (size : ℕ) : Type 0 where
-  pub end : Result ℕ Error
-  pub sought : was_sought old end new
-  pub size_is : size ≡ result_unwrap_or end 0
+-- a file was asked for its end, and answered: that is its size in bytes
+abbrev pub IsEndOf : {F : Type 0} → (F → Result ℕ Error → F → Type 0) → F → F → ℕ → Type 0
+IsEndOf was_sought old new size = was_sought old (Ok size) new
 
--- the file of a name that is no FIFO was opened, and asked for its size
+-- the file of a name that is no FIFO was opened, which is all that was asked of the system since the
+-- name was looked up, and the file told its size
 pub record IsOpened {Y F : Type 0} (was_looked_up : Y → List ℕ → Result Bool Error → Type 0)
-    (was_opened : Y → List ℕ → Result F Error → Type 0) (was_sought : F → Result ℕ Error → F → Type 0)
-    (system : Y) (name : List ℕ) (file : F) (size : ℕ) : Type 0 where
-  pub no_fifo : was_looked_up system name (Ok false)
+    (was_opened : Y → List ℕ → Result F Error → Y → Type 0) (was_sought : F → Result ℕ Error → F → Type 0)
+    (old new : Y) (name : List ℕ) (file : F) (size : ℕ) : Type 0 where
+  pub no_fifo : was_looked_up old name (Ok false)
   pub first : F
-  pub opened : was_opened system name (Ok first)
+  pub opened : was_opened old name (Ok first) new
   pub sized : IsEndOf was_sought first file size
 
--- the system answered with an error that means a fault
-pub record IsFaultOf (was_answered : Error → Type 0) (fault : OpenFault) : Type 0 where
-  pub error : Error
-  pub answered : was_answered error
-  pub meaning : fault ≡ open_fault_of error
+-- a name is that of a FIFO, or can't be looked up, and nothing is opened
+pub record IsPassedOver {Y : Type 0} (was_looked_up : Y → List ℕ → Result Bool Error → Type 0) (old new : Y)
+    (name : List ℕ) : Type 0 where
+  pub answer : Result Bool Error
+  pub looked_up : was_looked_up old name answer
+  pub why : MatchResult answer (λ fifo. fifo ≡ true) (λ _. ⊤)
+  pub untouched : new ≡ old
 
--- no file of a name is opened, because of a fault: it is a FIFO or can't be looked up, or its
--- opening failed
-abbrev pub OpenFails : {Y F : Type 0} → (Y → List ℕ → Result Bool Error → Type 0) → (Y → List ℕ → Result F Error
-    → Type 0) → Y → List ℕ → OpenFault → Type 0
-OpenFails was_looked_up was_opened system name fault =
-    (was_looked_up system name (Ok true) × (fault ≡ Pipe))
-    ⊎ (IsFaultOf (λ error. was_looked_up system name (Err error)) fault
-    ⊎ IsFaultOf (λ error. was_opened system name (Err error)) fault)
+-- the file of a name that is no FIFO can't be opened
+pub record IsUnopened {Y F : Type 0} (was_looked_up : Y → List ℕ → Result Bool Error → Type 0)
+    (was_opened : Y → List ℕ → Result F Error → Y → Type 0) (old new : Y) (name : List ℕ) : Type 0 where
+  pub no_fifo : was_looked_up old name (Ok false)
+  pub error : Error
+  pub unopened : was_opened old name (Err error) new
+
+-- the file of a name that is no FIFO was opened, and its size can't be told
+pub record IsUnsized {Y F : Type 0} (was_looked_up : Y → List ℕ → Result Bool Error → Type 0)
+    (was_opened : Y → List ℕ → Result F Error → Y → Type 0) (was_sought : F → Result ℕ Error → F → Type 0)
+    (old new : Y) (name : List ℕ) : Type 0 where
+  pub no_fifo : was_looked_up old name (Ok false)
+  pub first : F
+  pub opened : was_opened old name (Ok first) new
+  pub last : F
+  pub error : Error
+  pub untold : was_sought first (Err error) last
+
+-- no image of a name is opened: it is a FIFO or can't be looked up, or its opening failed, or its
+-- size can't be told
+abbrev pub OpenFails : {Y F : Type 0} → (Y → List ℕ → Result Bool Error → Type 0)
+    → (Y → List ℕ → Result F Error → Y → Type 0) → (F → Result ℕ Error → F → Type 0) → Y → Y → List ℕ → Type 0
+OpenFails was_looked_up was_opened was_sought old new name =
+    IsPassedOver was_looked_up old new name
+    ⊎ (IsUnopened was_looked_up was_opened old new name
+    ⊎ IsUnsized was_looked_up was_opened was_sought old new name)
 
 -- (for the law of a source) what holds by `ForContents` of the bytes of an image holds of them by
 -- `IfSome` too

@@ -1,49 +1,18 @@
 //! An image in a file.
 ghost use Rattle.std.specs.Prelude.{◌≡◌, ◌+◌, ◌≤◌, length, IfOk, MatchResult};
-ghost use Rattle.ffs_image.specs.{Faults.open_fault_of, Reads.ReadsBytes, Source.ReadsThrough, System.IsOpened};
-ghost use Rattle.ffs_image.specs.System.{OpenFails};
+ghost use Rattle.ffs_image.specs.{Reads.ReadsBytes, Source.ReadsThrough, System.{IsOpened, OpenFails}};
 
 use crate::image::{Image, ImageFault};
 use crate::opened::OpenedFile;
 use crate::source::{Source, fill};
 use crate::system::{RawFile, System};
 use std::fs::File;
-use std::io;
-use std::io::ErrorKind;
 
-/// Why a file can't be opened.
+/// A file can't be opened as an image: the system can't look it up or open it, it is a FIFO, or its
+/// size can't be told.
 #[derive(Clone, Copy, Debug, PartialEq, Eq, thiserror::Error)]
-pub enum OpenFault {
-    /// There is no file of this name.
-    #[error("no such file")]
-    NotFound,
-    /// The system doesn't let this user read it.
-    #[error("permission denied")]
-    Denied,
-    /// It is a FIFO, whose opening would wait for a writer.
-    #[error("it is a pipe")]
-    Pipe,
-    /// The name is too long, or none that a file can have.
-    #[error("no file can have this name")]
-    BadName,
-    /// Something else, such as a device that doesn't answer.
-    #[error("the system can't open it")]
-    Other,
-}
-
-impl OpenFault {
-    /// What an error of the system means.
-    pub(crate) fn of(error: &io::Error) -> OpenFault
-        ensures { result ≡ open_fault_of error.now }
-    {
-        match error.kind() {
-            ErrorKind::NotFound | ErrorKind::NotADirectory => OpenFault::NotFound,
-            ErrorKind::PermissionDenied => OpenFault::Denied,
-            ErrorKind::InvalidFilename | ErrorKind::InvalidInput => OpenFault::BadName,
-            _ => OpenFault::Other,
-        }
-    }
-}
+#[error("the image can't be opened")]
+pub struct OpenFault;
 
 /// An image whose bytes come from a source. It is never written.
 #[derive(Drop)]
@@ -59,14 +28,17 @@ pub type RawImage<F> = SourceImage<OpenedFile<F>>;
 pub type FileImage = RawImage<File>;
 
 impl<F: RawFile + Drop> SourceImage<OpenedFile<F>> {
-    /// Opens the file of a name for reading, and takes its size once: that of a block device too.
+    /// Opens the file of a name for reading, once and no other, and takes its size once: that of a
+    /// block device too.
     ///
     /// # Errors
-    /// The file can't be opened, or is a FIFO, whose opening would wait for a writer.
-    pub fn open<Y: System<File = F>>(system: &Y, name: &str) -> Result<RawImage<F>, OpenFault>
+    /// The file can't be opened, it is a FIFO, whose opening would wait for a writer, or its size
+    /// can't be told, as that of a terminal.
+    pub fn open<Y: System<File = F>>(system: &mut Y, name: &str) -> Result<RawImage<F>, OpenFault>
         ensures opens { MatchResult result (λ image. IsOpened Y.was_looked_up Y.was_opened
-            F.was_sought system.now name.now image.source.file image.source.size)
-            (OpenFails Y.was_looked_up Y.was_opened system.now name.now) }
+            F.was_sought system.old system.new name.now image.source.file image.source.size)
+            (λ _. OpenFails Y.was_looked_up Y.was_opened F.was_sought system.old system.new
+            name.now) }
         ensures failures { IfOk result (λ image. (image.source.failures ≡ 0)
             × (image.failed_sector ≡ 0)) }
     {

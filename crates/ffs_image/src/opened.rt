@@ -1,7 +1,7 @@
 //! A file that is open for reading alone.
 ghost use Rattle.std.specs.{Prelude.{◌≡◌, length, IfOk, MatchResult}};
 ghost use Rattle.ffs_image.specs.{Device.ForContents, Interrupted.IsTriedAgain, Source.{GivesBytes, GivesSome}};
-ghost use Rattle.ffs_image.specs.System.{IsEndOf, IsOpened, OpenFails, SomeOf};
+ghost use Rattle.ffs_image.specs.System.{IsOpened, OpenFails, SomeOf};
 
 use crate::file::OpenFault;
 use crate::interrupted::is_interrupted;
@@ -20,15 +20,6 @@ pub struct OpenedFile<F: RawFile> {
     ghost sized: { ForContents (F.contents file) (λ bytes. length bytes ≡ size) },
 }
 
-/// The place of a file's end, in bytes, which is the size of a block device too; 0 for a file in
-/// which no place can be sought.
-fn size_of<F: RawFile>(file: &mut F) -> u64
-    ensures end { IsEndOf F.was_sought file.old file.new result }
-    ensures bytes { ForContents (F.contents file.new) (λ bytes. length bytes ≡ result) }
-{
-    file.end().unwrap_or(0)
-}
-
 /// Reads a file at a place, and again where a signal interrupts that.
 fn read_uninterrupted<F: RawFile>(file: &mut F, buf: &mut [u8], at: u64) -> io::Result<usize>
     ensures gives { GivesBytes (F.contents file.old) (F.contents file.new) at buf.new result }
@@ -45,27 +36,28 @@ fn read_uninterrupted<F: RawFile>(file: &mut F, buf: &mut [u8], at: u64) -> io::
 }
 
 impl<F: RawFile + Drop> OpenedFile<F> {
-    /// Opens a file for reading, and takes its size once. A FIFO, whose opening waits for a writer,
-    /// is refused; what can't seek has no bytes.
+    /// Opens a file for reading, once and no other, and takes its size once. A FIFO, whose opening
+    /// waits for a writer, is refused, and so is a file whose size can't be told.
     pub(crate) fn open<Y: System<File = F>>(
-        system: &Y,
+        system: &mut Y,
         name: &str,
     ) -> Result<OpenedFile<F>, OpenFault>
         ensures opens { MatchResult result (λ opened. IsOpened Y.was_looked_up Y.was_opened
-            F.was_sought system.now name.now opened.file opened.size)
-            (OpenFails Y.was_looked_up Y.was_opened system.now name.now) }
+            F.was_sought system.old system.new name.now opened.file opened.size)
+            (λ _. OpenFails Y.was_looked_up Y.was_opened F.was_sought system.old system.new
+            name.now) }
         ensures failures { IfOk result (λ opened. opened.failures ≡ 0) }
     {
         match system.is_fifo(name) {
             Ok(false) => {}
-            Ok(true) => return Err(OpenFault::Pipe),
-            Err(error) => return Err(OpenFault::of(&error)),
+            _ => return Err(OpenFault),
         }
-        let mut file = match system.open_to_read(name) {
-            Ok(file) => file,
-            Err(error) => return Err(OpenFault::of(&error)),
+        let Ok(mut file) = system.open_to_read(name) else {
+            return Err(OpenFault);
         };
-        let size = size_of(&mut file);
+        let Ok(size) = file.end() else {
+            return Err(OpenFault);
+        };
         Ok(OpenedFile {
             file,
             size,

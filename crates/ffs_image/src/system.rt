@@ -1,12 +1,12 @@
 //! The files of a system, as far as an image needs them.
 //!
 //! An image is opened by its name, asked for its end, and read at a place. The functions that do so
-//! are over the two traits here, whose facts are of any system: which name was opened, where a file
-//! was read, how often it was tried. Of std the following is trusted, by the impls at the end of
+//! are over the two traits here, whose facts are of any system: which name was looked up and then
+//! opened, once; where a file was read, how often it was tried. Of std the following is trusted, by the impls at the end of
 //! this file: its metadata reports which name is that of a FIFO; its open opens the file of the
 //! name as given, for reading alone; its seek to the end gives the number of bytes; its `read_at`
 //! gives bytes of that place, or an error.
-ghost use Rattle.std.specs.{Prelude.{ℕ, Bool, List, length, Option, Result}, declared.io.Error.Error};
+ghost use Rattle.std.specs.{Prelude.{ℕ, Bool, false, List, length, Option, Result}, declared.io.Error.Error};
 ghost use Rattle.ffs_image.specs.Source.{GivesBytes, GivesEnd};
 
 use std::fs::File;
@@ -30,7 +30,7 @@ pub trait RawFile {
     /// The place of its end, in bytes: that of a block device too.
     ///
     /// # Errors
-    /// It can't be sought: it has no bytes.
+    /// It can't be sought, as a terminal.
     fn end(&mut self) -> io::Result<u64>
         ensures gives { GivesEnd (contents self.old) (contents self.new) result }
         ensures once { was_sought self.old result self.new };
@@ -52,8 +52,9 @@ pub trait System {
     /// It was asked whether a name is that of a FIFO: the name, and the answer.
     ghost was_looked_up: { Self → List ℕ → Result Bool Error → Type 0 };
 
-    /// It was asked to open a file for reading: the name, and the answer.
-    ghost was_opened: { Self → List ℕ → Result Self.File Error → Type 0 };
+    /// It was asked to open a file for reading: the system before, the name, the answer, and the
+    /// system after.
+    ghost was_opened: { Self → List ℕ → Result Self.File Error → Self → Type 0 };
 
     /// Whether a name is that of a FIFO.
     ///
@@ -62,12 +63,14 @@ pub trait System {
     fn is_fifo(&self, name: &str) -> io::Result<bool>
         ensures { was_looked_up self.now name.now result };
 
-    /// Opens the file of this name for reading.
+    /// Opens the file of this name for reading. It was looked up before: the opening of a FIFO
+    /// would wait for a writer.
     ///
     /// # Errors
     /// It can't be opened.
-    fn open_to_read(&self, name: &str) -> io::Result<Self::File>
-        ensures { was_opened self.now name.now result };
+    fn open_to_read(&mut self, name: &str) -> io::Result<Self::File>
+        requires { was_looked_up self.old name.now (Ok false) }
+        ensures { was_opened self.old name.now result self.new };
 }
 
 impl RawFile for File {
@@ -95,13 +98,13 @@ impl<R: Files<File = File>> System for R {
 
     ghost was_looked_up = { λ _ _ _. ⊤ };
 
-    ghost was_opened = { λ _ _ _. ⊤ };
+    ghost was_opened = { λ _ _ _ _. ⊤ };
 
     fn is_fifo(&self, name: &str) -> io::Result<bool> {
         Ok(fs::metadata(self, name)?.file_type().is_fifo())
     }
 
-    fn open_to_read(&self, name: &str) -> io::Result<File> {
-        File::open(self, name)
+    fn open_to_read(&mut self, name: &str) -> io::Result<File> {
+        File::open(&*self, name)
     }
 }
