@@ -1,11 +1,12 @@
 -- How the phases of a check end, how often they read, and what they leave. `knows` is what is known of the
 -- image's bytes, and `s` the superblock: with it the bytes determine the text, and whether the check
 -- continues after the root.
-use Rattle.std.specs.Prelude.{◌≡◌, ◌⊎◌, ◌<◌, ℕ, Bool, false, ◌||◌, List, [], ◌∷◌, ◌++◌, length, Result, Ok, Err, IfOk}
+use Rattle.std.specs.Prelude.{◌≡◌, ◌⊎◌, ◌<◌, ◌≤◌, ℕ, Bool, false, true, ◌||◌, List, [], ◌∷◌, ◌++◌, length, Result, Ok, Err, IfOk, is_ok}
 use Rattle.ffs_image.specs.Device.{Device, Faulted}
 use Rattle.ffs_volume.specs.declared.End.{End, TheVariants.{ReadFault, WriteFault, NoMemory}}
 use Rattle.ffs_volume.specs.{Disk.Superblock.Superblock, Directories.PathnameCheck.continues_after_root}
 use Rattle.ffs_volume.specs.{Directories.Volumes.volume_of, Report.Whole.{end_by, phase_lines}, Messages.Kinds.Message}
+use Rattle.ffs_volume.specs.{Report.Memory.runs_limit, declared.Layout.Layout}
 use Rattle.ffs_volume.specs.Messages.Kinds.{cannot_alloc, cannot_read}
 use Rattle.ffs_report.specs.{Known.{ForBytes, IsContents}, PhaseOutcome.{ImageAfter, SaidOf, StoppedOf}}
 use Rattle.ffs_report.specs.{Progress.{Progress, Said, Stopped}, declared.fault.RunFault.{RunFault, TheVariants.Read}}
@@ -14,7 +15,8 @@ use Rattle.ffs_pathnames.specs.{declared.pass2.Root.Root, RootAnswers.is_go}
 use Rattle.ffs_memory.specs.Account.{Account}
 use Rattle.ffs_workspace.specs.{declared.workspace.Workspace.Workspace, Found.WithFresh, Lengths.{IsFor, held_of}}
 use Rattle.ffs_workspace.specs.Ready.{IsReady}
-use Rattle.ffs_check.specs.{AnyReads.{PhasesPay, PhasesRead}, Ends.Ends, Taken.TakesBytes}
+use Rattle.ffs_check.specs.{AnyReads.{PhasesPay, PhasesRead}, Ends.Ends, Headline.can_end_report, Rest.HasAnswers}
+use Rattle.ffs_check.specs.Taken.{TakesBytes}
 
 -- a read failed before the text was complete: whole messages were said, and others were to come
 pub record SaidNotAll (knows : List ℕ → Type 0) (all : List ℕ → List Message) (old new : Progress) : Type 0 where
@@ -39,12 +41,20 @@ pub record HaveRun (s : Superblock) (d d' : Device) (w : Workspace) (old new : P
   pub goes : IfOk result (λ root. ForBytes (WithFresh s.layout d w)
       (λ bytes. is_go root ≡ continues_after_root (volume_of s.layout bytes)))
 
+-- what a check leaves of the counts of Runs and of what `has_dups` answers: where it came to its end
+-- (`whole`), what the bytes determine; and never more Runs than a volume can have
+pub record LeavesAnswers (whole : Bool) (knows : List ℕ → Type 0) (v : Layout) (w w' : Workspace) : Type 0 where
+  pub known : whole ≡ true → ForBytes knows (λ bytes. HasAnswers v bytes w w')
+  pub most : w'.runs_seen ≤ runs_limit v
+
 -- the phases have run, with at most so many reads as an image of these bytes asks for, and as any image
--- does for the messages that were begun; the workspace is ready for the image as it is now
+-- does for the messages that were begun; the workspace says how many Runs were looked at, and is ready for
+-- the image as it is now
 pub record RunsPhases (s : Superblock) (d d' : Device) (w w' : Workspace) (old new : Progress) (before after : ℕ)
     (result : Result Root RunFault) : Type 0 where
   pub ran : HaveRun s d d' w old new result
   pub reads : PhasesPay (WithFresh s.layout d w) s old new before after result
+  pub answers : LeavesAnswers (is_ok result) (WithFresh s.layout d w) s.layout w w'
   pub ready : IsReady s.layout d' w'
 
 -- the line of a failed read or of refused memory was said, and this is the end; or the output failed in it
@@ -101,13 +111,14 @@ SaysPhases had_defect knows s image image' old new end =
     PhasesEnd Said Stopped (λ text. had_defect || new.defect) knows s image image' old new end
 
 -- the phases have run to an end: what went out, how often they read an image that gives its bytes,
--- and any image, and the workspace's lists keep their lengths
+-- and any image, what the workspace answers then, and its lists keep their lengths
 pub record RunsToEnd {Target : Type 0} (whole broken : Target → Target → List Message → Type 0)
     (has_defect_by : List Message → Bool) (knows : List ℕ → Type 0) (s : Superblock) (image image' : Device)
-    (w : Workspace) (old new : Target) (before after : ℕ) (end : End) : Type 0 where
+    (w w' : Workspace) (old new : Target) (before after : ℕ) (end : End) : Type 0 where
   pub ran : PhasesEnd whole broken has_defect_by knows s image image' old new end
   pub reads : PhasesRead whole broken knows s old new before after
-  pub made : IsFor s.layout w
+  pub answers : LeavesAnswers (can_end_report end) knows s.layout w w'
+  pub made : IsFor s.layout w'
 
 -- what follows an accepted superblock: the memory of the check was refused, and that was said; or
 -- its phases have run

@@ -1,6 +1,6 @@
 -- The parts of the text after the opening, as the calls that report them are nested, what is known of
--- the image's bytes there, and what phase 1b does.
-use Rattle.std.specs.Prelude.{ℕ, ◌≤◌, ◌+◌, Bool, if◌then◌else◌, List, [], ◌∷◌, ◌++◌, map, Result, OnOk}
+-- the image's bytes there, what phase 1b does, and what a workspace answers then.
+use Rattle.std.specs.Prelude.{ℕ, ◌≡◌, ◌≤◌, ◌+◌, Bool, if◌then◌else◌, List, [], ◌∷◌, ◌++◌, map, Result, OnOk}
 use Rattle.ffs_image.specs.Device.{Device}
 use Rattle.ffs_report.specs.{Known.{ForBytes, IsContents}, PhaseOutcome.PhaseOutcome, Progress.Progress}
 use Rattle.ffs_report.specs.declared.fault.RunFault.{RunFault}
@@ -8,11 +8,12 @@ use Rattle.ffs_volume.specs.{declared.Layout.Layout, Disk.Superblock.Superblock,
 use Rattle.ffs_volume.specs.Directories.{Volumes.volume_of, Connectivity.connectivity_lines}
 use Rattle.ffs_volume.specs.{Directories.ReferenceCheck.reference_lines, Messages.Kinds.{Message, phase1, phase2}}
 use Rattle.ffs_volume.specs.Messages.Kinds.{phase3, phase4, phase5, of_blocks, of_tree}
-use Rattle.ffs_volume.specs.{Blocks.BlockCheck.phase1_lines, Directories.PathnameCheck.pathname_lines}
+use Rattle.ffs_volume.specs.{Blocks.BlockCheck.{has_rescan, phase1_lines}, Directories.PathnameCheck.pathname_lines}
 use Rattle.ffs_volume.specs.{Directories.PathnameCheck.continues_after_root, Report.Reads.sweep_reads}
 use Rattle.ffs_volume.specs.Report.Whole.{rescan_lines, group_check_lines, summary_of, file_count, claimed_count}
+use Rattle.ffs_volume.specs.Report.Whole.{run_count}
 use Rattle.ffs_workspace.specs.{declared.workspace.Workspace.Workspace, Holds.{HoldsClaims, HoldsStarts}, Ready.IsReady}
-use Rattle.ffs_claims.specs.Phases.{IsLeftByPhase1}
+use Rattle.ffs_claims.specs.{Phases.IsLeftByPhase1, RescanRuns.rescan_runs}
 
 -- what each phase reports, with its heading
 abbrev pub phase1_part : List ℕ → Superblock → List Message
@@ -64,11 +65,21 @@ from_phase1b bytes s = phase1b_part bytes s ++ from_phase2 bytes s
 abbrev pub WithLeftByPhase1 : Layout → Device → Workspace → List ℕ → Type 0
 WithLeftByPhase1 v d w bytes = IsContents d.contents bytes × IsLeftByPhase1 v bytes w
 
--- phase 1b, or nothing where no fragment has a DUP line: its text, what the workspace holds then, no
--- more reads than those of a sweep, and the workspace is ready for the next phase
+-- what `has_dups` and `runs` answer after a check of a workspace: whether phase 1 has a DUP line, and how
+-- many Runs phases 1 and 1b looked at. Where phase 1b isn't run its count is as it was before
+pub record HasAnswers (v : Layout) (bytes : List ℕ) (old new : Workspace) : Type 0 where
+  pub dups : new.found_dups ≡ has_rescan v (owners_of v bytes)
+  pub seen : new.runs_seen ≡ run_count v bytes
+  pub again : new.runs_again ≡ (if has_rescan v (owners_of v bytes) then rescan_runs v bytes else old.runs_again)
+
+-- phase 1b, or nothing where no fragment has a DUP line: its text, what the workspace holds and answers
+-- then, no more reads than those of a sweep, and the workspace is ready for the next phase. The count of
+-- phase 1's Runs stays
 pub record Rescans (v : Layout) (d d' : Device) (w w' : Workspace) (old new : Progress) (before after : ℕ)
     (result : Result (Unit {0}) RunFault) : Type 0 where
   pub prints : PhaseOutcome (WithLeftByPhase1 v d w) (λ bytes. rescan_lines v bytes) d d' old new result
   pub holds : OnOk result (ForBytes (WithLeftByPhase1 v d w) (λ bytes. HoldsClaims v bytes w' × HoldsStarts v bytes w'))
+  pub answers : OnOk result (ForBytes (WithLeftByPhase1 v d w) (λ bytes. HasAnswers v bytes w w'))
+  pub seen : w'.runs_seen ≡ w.runs_seen
   pub reads : after ≤ before + sweep_reads v
   pub ready : IsReady v d' w'

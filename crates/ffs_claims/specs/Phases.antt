@@ -4,15 +4,15 @@ use Rattle.ffs_image.specs.Device.{Device}
 use Rattle.ffs_volume.specs.{declared.Layout.Layout, Blocks.{BlockCheck.has_rescan, Owners.owners_of}}
 use Rattle.ffs_volume.specs.Report.{Memory.runs_limit, Reads.sweep_reads, Whole.run_count}
 use Rattle.ffs_report.specs.Known.{ForBytes}
-use Rattle.ffs_workspace.specs.{declared.workspace.Workspace.Workspace, Found.WithPhase1, Lengths.has_dups}
+use Rattle.ffs_workspace.specs.{declared.workspace.Workspace.Workspace, Found.WithPhase1}
 use Rattle.ffs_workspace.specs.Holds.{HoldsClaims, HoldsPhase1, HoldsStarts}
 use Rattle.ffs_claims.specs.RescanRuns.{rescan_runs}
 
--- phase 1 leaves what it found in the image's bytes, and the workspace has dups just where phase 1b
--- is to run. It has counted each Run that is seen
+-- phase 1 leaves what it found in the image's bytes, and `has_dups` answers whether one of its lines is
+-- a DUP line, which is just where phase 1b is to run. It has counted each Run that is seen
 pub record IsLeftByPhase1 (v : Layout) (bytes : List ℕ) (w : Workspace) : Type 0 where
   pub holds : HoldsPhase1 v bytes w
-  pub dups : has_dups w ≡ has_rescan v (owners_of v bytes)
+  pub dups : w.found_dups ≡ has_rescan v (owners_of v bytes)
   pub count : w.runs_seen ≡ run_count v bytes
 
 -- phase 1 reads the image at most once for each inode and once for each Run that it looks at. The
@@ -31,11 +31,12 @@ pub record IsLeftByPhase1b (v : Layout) (bytes : List ℕ) (w : Workspace) : Typ
 
 -- the rescan reads the image at most once for each inode and once for each Run that it looks at, as
 -- long as the count of Runs has room in a u64. Where the image gives its bytes it looks at no more
--- Runs than phase 1 did. The count of phase 1's Runs stays
+-- Runs than phase 1 did. The count of phase 1's Runs stays, and so does what `has_dups` answers
 pub record RescanReads (v : Layout) (d : Device) (old new : Workspace) (before after : ℕ) : Type 0 where
   pub runs : ForBytes (WithPhase1 v d old) (λ bytes. new.runs_again ≤ run_count v bytes)
   pub reads : new.runs_again < 2 ^ 64 - 1 → after ≤ before + v.ncg * v.ipg + new.runs_again
   pub seen : new.runs_seen ≡ old.runs_seen
+  pub dups : new.found_dups ≡ old.found_dups
 
 -- phase 1b reads as the rescan does, and never more often than a sweep may
 pub record Phase1bReads (v : Layout) (d : Device) (old new : Workspace) (before after : ℕ) : Type 0 where

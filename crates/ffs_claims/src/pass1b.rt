@@ -65,7 +65,7 @@ fn rewalk<I: Image, W: Output>(
         if !keeping.is_replay_open() {
             break;
         }
-        if !workspace.has_dups() {
+        if !workspace.has_unreported_dups() {
             break;
         }
         if matches!(next, Step::Gap) {
@@ -122,7 +122,7 @@ fn rescan_inodes<I: Image, W: Output>(
     workspace.runs_again = 0;
     report.say(&Line::Heading(Heading::Phase1b))?;
     for number in 2..geometry.layout.ncg * geometry.layout.ipg {
-        if !workspace.has_dups() {
+        if !workspace.has_unreported_dups() {
             break;
         }
         rewalk_inode(geometry, image, workspace, number, report)?;

@@ -1,26 +1,16 @@
 -- What a survey finds, which directories it flags, and what it leaves as it was.
-use Rattle.std.specs.Prelude.{◌≡◌, ℕ, List, Result}
+use Rattle.std.specs.Prelude.{ℕ, List, Result}
 use Rattle.ffs_image.specs.{Device.Device, Reads.ReadAfter, declared.image.ImageFault.ImageFault}
 use Rattle.ffs_volume.specs.{declared.Layout.Layout, Directories.{Roles.roled_entries, Volumes.volume_of}}
 use Rattle.ffs_survey.specs.Calm.{AreCalm}
 use Rattle.ffs_names.specs.RightShapes.{is_right_directory}
-use Rattle.ffs_workspace.specs.{declared.workspace.Workspace.Workspace, Ready.IsReady}
+use Rattle.ffs_workspace.specs.{declared.workspace.Workspace.Workspace, Leaves.LeavesBlockCheck, Ready.IsReady}
 use Rattle.ffs_workspace.specs.Holds.{HoldsReferences, HoldsStarts, HoldsSurvey}
-
--- the claims, kinds, marks and notes of a workspace, and its counts of Runs, are as they were
-pub record IsUntouched (old new : Workspace) : Type 0 where
-  pub used : new.used ≡ old.used
-  pub duplicates : new.duplicates ≡ old.duplicates
-  pub kinds : new.kinds ≡ old.kinds
-  pub marked : new.marked ≡ old.marked
-  pub notes : new.notes ≡ old.notes
-  pub runs_seen : new.runs_seen ≡ old.runs_seen
-  pub runs_again : new.runs_again ≡ old.runs_again
 
 -- what a survey leaves: the workspace is ready for the next call, and the image was only read
 pub record LeavesClaims {T : Type 0} (v : Layout) (d d' : Device) (old new : Workspace) (result : Result T ImageFault) :
     Type 0 where
-  pub same : IsUntouched old new
+  pub same : LeavesBlockCheck old new
   pub ready : IsReady v d' new
   pub read : ReadAfter d d' result
 

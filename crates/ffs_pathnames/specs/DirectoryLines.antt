@@ -8,7 +8,7 @@ use Rattle.ffs_volume.specs.Messages.Kinds.{TreeMessage, of_tree}
 use Rattle.ffs_names.specs.Costs.{directories_cost}
 use Rattle.ffs_paths.specs.declared.kept_parent.KeptParent.{KeptParent}
 use Rattle.ffs_workspace.specs.{Places.{AreChunksNumbered, AreNoted}, declared.workspace.Workspace.Workspace}
-use Rattle.ffs_workspace.specs.{Holds.{HoldsClaims, HoldsSurvey}, Ready.IsReady}
+use Rattle.ffs_workspace.specs.{Holds.{HoldsClaims, HoldsSurvey}, Leaves.LeavesBlockCheck, Ready.IsReady}
 use Rattle.ffs_pathnames.specs.{Before.IsBefore, LineReads.ReadsByLines, Ready.{LinesLeave, PhaseLeaves}}
 use Rattle.ffs_pathnames.specs.declared.tree.Checking.{Checking}
 
@@ -40,8 +40,8 @@ pub record ReportsDirectory {T : Type 0} (v : Layout) (d d' : Device) (w w' : Wo
 -- these lines of all directories are said, by what is known of the bytes. Each directory's own blocks are
 -- read thrice at most, for the places of its children and for both looks, and the rest is read for the
 -- lines; of any image for no more than the messages that were begun. Left are the image, but for a read
--- that failed, a workspace that is ready, and how often inodes are referred to; where nothing failed, also
--- what the block check and the survey found, by what is known of the bytes
+-- that failed, a workspace that is ready, what the block check left, and how often inodes are referred to;
+-- where nothing failed, also what the survey found, by what is known of the bytes
 pub record ReportsTree {T : Type 0} (v : Layout) (d d' : Device) (w w' : Workspace)
     (lines : List ℕ → List TreeMessage) (progress progress' : Progress) (count count' : ℕ)
     (result : Result T RunFault) : Type 0 where
@@ -52,4 +52,5 @@ pub record ReportsTree {T : Type 0} (v : Layout) (d d' : Device) (w w' : Workspa
   pub image : ImageAfter d d' result
   pub holds : OnOk result (ForBytes (IsBefore v d.contents w 2) (λ b. HoldsClaims v b w' × HoldsSurvey v b w'))
   pub references : w'.references ≡ w.references
+  pub block_check : LeavesBlockCheck w w'
   pub ready : IsReady v d' w'

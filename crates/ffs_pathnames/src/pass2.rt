@@ -3,7 +3,7 @@ ghost use Rattle.std.specs.Prelude.{◌≡◌, ◌∷◌, length, map, ◌&&◌,
 ghost use Rattle.ffs_report.specs.{PhaseOutcome.PhaseOutcome, Progress.progress};
 ghost use Rattle.ffs_volume.specs.Directories.{PathnameCheck.pathname_lines, Volumes.volume_of};
 ghost use Rattle.ffs_volume.specs.{Encodings.Kinds.is_dir_kind, Messages.Kinds.of_tree};
-ghost use Rattle.ffs_workspace.specs.{Found.WithClaims, Holds.bool_at, Ready.IsReady};
+ghost use Rattle.ffs_workspace.specs.{Found.WithClaims, Holds.bool_at, Leaves.LeavesBlockCheck, Ready.IsReady};
 ghost use Rattle.ffs_pathnames.specs.{Before.{root_reported, IsNonePassed}, Gathers.AreAsLong};
 ghost use Rattle.ffs_pathnames.specs.{Phase2.{Phase2Ends, Phase2Reads}, RootAnswers.is_go, SaysTreeMessages.SaysTreeMessages};
 ghost use Rattle.ffs_survey.specs.Survey.{suspect_at};
@@ -57,6 +57,9 @@ pub fn phase2<I: Image, W: Output>(
     ensures reads { Phase2Reads geometry.now.layout (I.device image.old) workspace.old
         (progress W.sink report.old) (progress W.sink report.new) (I.reads image.old)
         (I.reads image.new) result }
+
+    // What the block check left stays, also where a read or a write failed.
+    ensures block_check { LeavesBlockCheck workspace.old workspace.new }
     ensures ready { IsReady geometry.now.layout (I.device image.new) workspace.new }
 {
     report.say(&Line::Heading(Heading::Phase2))?;

@@ -5,8 +5,10 @@ ghost use Rattle.ffs_workspace.specs.Ready.{IsReady};
 
 use crate::compare::same;
 use ffs_claims::{phase1, phase1b};
+use ffs_connectivity::phase3;
 use ffs_image::{Image, MemoryImage};
 use ffs_layout::{Geometry, Order};
+use ffs_pathnames::phase2;
 use ffs_report::{Counted, Output, Report, RunFault};
 use ffs_samples::{Number, Watched, geometry, put};
 use ffs_workspace::Workspace;
@@ -199,5 +201,47 @@ fn block_checks(rt: HostRuntime) -> Result<(), Fail> {
         same(&rt, &seen, &runs);
         same(&rt, &(reads <= 100), &true);
     }
+    Ok(())
+}
+
+/// What `has_dups` answers after phases 1, 1b, 2 and 3.
+fn answers_of_phases<I: Image, W: Output>(
+    geometry: &Geometry,
+    image: &mut I,
+    workspace: &mut Workspace,
+    report: &mut Report<'_, W>,
+) -> Result<[bool; 4], RunFault>
+    requires { IsReady geometry.now.layout (I.device image.old) workspace.old }
+{
+    phase1(geometry, image, workspace, report)?;
+    let found = workspace.has_dups();
+    phase1b(geometry, image, workspace, report)?;
+    let reported = workspace.has_dups();
+    phase2(geometry, image, workspace, report)?;
+    let named = workspace.has_dups();
+    phase3(geometry, image, workspace, report)?;
+    Ok([found, reported, named, workspace.has_dups()])
+}
+
+/// The same of the image with these words.
+fn answers_with(geometry: &Geometry, words: &[Words], alloc: Global) -> Result<[bool; 4], Fail>
+    requires { geometry.now.layout.size * geometry.now.layout.fsize ≤ 131072 }
+{
+    let mut image = image_with(words, alloc)?;
+    let mut workspace = Workspace::new(alloc, geometry)?;
+    let mut text = Vec::new(alloc);
+    let mut out = Counted::new(&mut text);
+    let mut report = Report::new(&mut out);
+    let answers = answers_of_phases(geometry, &mut image, &mut workspace, &mut report)?;
+    Ok(answers)
+}
+
+/// `has_dups` answers after each phase as after phase 1, also when phase 1b has reported the first
+/// kept offer of each duplicate: it is true where phase 1 has a DUP line, and only there.
+#[test]
+fn dups_stay_known(rt: HostRuntime) -> Result<(), Fail> {
+    let geometry = geometry(Order::Little)?;
+    same(&rt, &answers_with(&geometry, &SHARED, rt.alloc())?, &[true; 4]);
+    same(&rt, &answers_with(&geometry, &TEN_BAD, rt.alloc())?, &[false; 4]);
     Ok(())
 }

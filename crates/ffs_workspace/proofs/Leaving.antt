@@ -2,7 +2,7 @@
 use Rattle.std.proofs.Common.{arith, ◌≡◌, ℕ, List}
 use Rattle.ffs_volume.specs.declared.Layout.{Layout}
 use Rattle.ffs_workspace.specs.{declared.workspace.Workspace.Workspace, Holds.{HoldsClaims, HoldsFindings}}
-use Rattle.ffs_workspace.specs.{Holds.{HoldsReferences, HoldsSurvey}, Leaves.LeavesSurvey}
+use Rattle.ffs_workspace.specs.{Holds.{HoldsReferences, HoldsSurvey}, Leaves.{LeavesBlockCheck, LeavesSurvey}}
 
 pub leaves_all : (w : Workspace) → LeavesSurvey w w
 leaves_all w = grind arith
@@ -10,6 +10,22 @@ leaves_all w = grind arith
 -- what two calls leave
 pub leaves_more : (a b c : Workspace) → LeavesSurvey a b → LeavesSurvey b c → LeavesSurvey a c
 leaves_more a b c s t = grind arith
+
+-- with the survey, what the block check left stays, too
+pub block_check_left : (old new : Workspace) → LeavesSurvey old new → LeavesBlockCheck old new
+block_check_left old new s = grind arith
+
+pub block_check_kept : (w : Workspace) → LeavesBlockCheck w w
+block_check_kept w = grind arith
+
+-- what two calls leave
+pub block_check_more : (a b c : Workspace) → LeavesBlockCheck a b → LeavesBlockCheck b c → LeavesBlockCheck a c
+block_check_more a b c s t = grind arith
+
+-- where only the windows and a list that the survey makes have changed
+pub queue_leaves : (old new : Workspace) → new ≡ record old { windows = new.windows; queue = new.queue } →
+    LeavesBlockCheck old new
+queue_leaves old new e = grind arith
 
 -- where only the windows have changed
 pub windows_leave : (old new : Workspace) → new ≡ record old { windows = new.windows } → LeavesSurvey old new

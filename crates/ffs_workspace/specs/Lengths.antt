@@ -14,8 +14,8 @@ abbrev pub set_count : List Bool → ℕ
 set_count bits = count_by (λ b. b) bits
 
 -- some fragment has a DUP line, and its first kept offer isn't reported yet
-abbrev pub has_dups : Workspace → Bool
-has_dups w = not (set_count (bits_of w.duplicates) == 0)
+abbrev pub has_unreported_dups : Workspace → Bool
+has_unreported_dups w = not (set_count (bits_of w.duplicates) == 0)
 
 -- the workspace was made for the volume: all its lists have the lengths that it asks for
 pub record IsFor (v : Layout) (w : Workspace) : Type 0 where

@@ -1,5 +1,5 @@
 -- A workspace as it is made, and one that is ready for the volume of an image.
-use Rattle.std.specs.Prelude.{◌≡◌, ◌*◌, ◌≤◌, ℕ, List, Option, Result, IfOk, vec_len}
+use Rattle.std.specs.Prelude.{◌≡◌, ◌*◌, ◌≤◌, ℕ, false, List, Option, Result, IfOk, vec_len}
 use Rattle.ffs_image.specs.Device.{Device}
 use Rattle.ffs_memory.specs.Account.{Account, Asks}
 use Rattle.ffs_volume.specs.declared.Layout.{Layout}
@@ -24,6 +24,7 @@ pub record StaysReady (v : Layout) (d : Device) (old new : Workspace) : Type 0 w
 pub record IsNew (v : Layout) (w : Workspace) : Type 0 where
   pub made : IsFor v w
   pub fresh : IsFresh v w
+  pub found_dups : w.found_dups ≡ false
   pub runs_seen : w.runs_seen ≡ 0
   pub runs_again : w.runs_again ≡ 0
   pub windows : (contents : Option (List ℕ)) → HoldWindows v contents w

@@ -37,6 +37,8 @@ pub struct Workspace {
     /// The fragments with a DUP line. Phase 1b clears each of which it has reported the first kept
     /// offer.
     pub duplicates: FragmentMap,
+    /// Whether phase 1 found a fragment with a DUP line. No later phase changes it.
+    pub found_dups: bool,
     /// What each inode is (`Kind`).
     pub kinds: FixedList<u8>,
     /// The inodes that are marked: of class Unknown, or with a BAD or DUP line.
@@ -83,7 +85,7 @@ pub struct Workspace {
 }
 
 impl Workspace {
-    ghost use Rattle.ffs_workspace.specs.Lengths.{IsFor, has_dups, held_of};
+    ghost use Rattle.ffs_workspace.specs.Lengths.{IsFor, has_unreported_dups, held_of};
     ghost use Rattle.ffs_workspace.specs.Notes.{cut_in};
     ghost use Rattle.ffs_workspace.specs.Ready.{IsNew};
 
@@ -130,6 +132,7 @@ impl Workspace {
         Ok(Workspace {
             used,
             duplicates,
+            found_dups: false,
             kinds,
             marked,
             named,
@@ -169,10 +172,18 @@ impl Workspace {
         maps + lists + buffers as u64
     }
 
+    /// Whether phase 1 printed a DUP line: so that phase 1b is to run (fsck(8)). It is false before
+    /// phase 1, and the answer stays after the later phases.
+    pub fn has_dups(&self) -> bool
+        ensures { result ≡ self.now.found_dups }
+    {
+        self.found_dups
+    }
+
     /// Whether some fragment has a DUP line and its first kept offer isn't reported yet: this asks
     /// `duplicates`, not the count `dups`.
-    pub fn has_dups(&self) -> bool
-        ensures { result ≡ has_dups self.now }
+    pub fn has_unreported_dups(&self) -> bool
+        ensures { result ≡ has_unreported_dups self.now }
     {
         self.duplicates.count_ones() != 0
     }

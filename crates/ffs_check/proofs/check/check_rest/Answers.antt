@@ -10,9 +10,9 @@ use Rattle.ffs_check.proofs.check.check_rest.Goals as goal
 
 -- the same of an output by another name for it
 runs_at : {has_defect_by : List Message → Bool} {knows : List ℕ → Type 0} {s : Superblock} {d d' : Device}
-    {w : Workspace} {out : Sink} {before after : ℕ} {end : End} (at : Sink) {at' : Sink} → at ≡ at' →
-    RunsToEnd Printed BrokeOffIn has_defect_by knows s d d' w out at before after end →
-    RunsToEnd Printed BrokeOffIn has_defect_by knows s d d' w out at' before after end
+    {w w' : Workspace} {out : Sink} {before after : ℕ} {end : End} (at : Sink) {at' : Sink} → at ≡ at' →
+    RunsToEnd Printed BrokeOffIn has_defect_by knows s d d' w w' out at before after end →
+    RunsToEnd Printed BrokeOffIn has_defect_by knows s d d' w w' out at' before after end
 runs_at at e runs = rw (← e) runs
 
 pub returns : goal.returns
@@ -24,5 +24,6 @@ returns g c =
     runs_at (g.W.Output.sink c.run_to_end.new.report.out.now) (search rules) (record {
       ran = prints_phases _ s (c.opening_defects.ensures ∙ opening_defect s) _ _ _ _ out said _ runs.ran;
       reads = rest_reads s _ out said _ _ runs.reads;
+      answers = runs.answers;
       made = runs.made;
     })

@@ -1,5 +1,5 @@
 use Rattle.ffs_layout.specs.Super.{superblock_in}
-use Rattle.ffs_check.proofs.{AnyReading.ended_reads, Endings.ran}
+use Rattle.ffs_check.proofs.{AnyReading.ended_reads, Answering.answers_end, Endings.ran}
 use Rattle.ffs_check.proofs.check.run_to_end.Goals as goal
 
 pub returns : goal.returns
@@ -13,5 +13,6 @@ returns g c =
         known = phases.reads.known;
         any = λ numbered. ended_reads s.layout _ _ _ _ _ _ _ _ (phases.reads.paid numbered) c.end_run.ensures;
       };
+      answers = answers_end c.args.had_defect _ _ c.run_phases-answer.result _ c.end_run.ensures phases.answers;
       made = phases.ready.made;
     }

@@ -103,8 +103,16 @@ returns-clause-leaves g c = λ bytes k.
     let holds = found_all past (inv.claims bytes k ∙ before_end _ bytes _ past inv.high inv.low)
     (inv.found bytes k) in
     record {
-      holds = holds;
-      dups = ap any_set holds.dup ∙ rescan_is c.args.geometry.now.layout bytes;
+      holds = record {
+        used = holds.used;
+        dup = holds.dup;
+        runs = holds.runs;
+        kinds = holds.kinds;
+        marked = holds.marked;
+        notes = holds.notes;
+        starts = holds.starts;
+      };
+      dups = c.has_unreported_dups.ensures ∙ ap any_set holds.dup ∙ rescan_is c.args.geometry.now.layout bytes;
       count = holds.runs;
     }
 

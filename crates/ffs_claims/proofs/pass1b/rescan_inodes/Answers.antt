@@ -87,6 +87,7 @@ returns-in_err-rewalk_inode-clause-reads g c =
       reads = runs_pay_all _ _ _ (runs_pay_then _ _ _ (n - 1) inv.reads did.counted (omega arith))
           (omega (arith, last, inv.low));
       seen = did.left.claims.seen ∙ inv.claims.seen;
+      dups = did.left.claims.dups ∙ inv.claims.dups;
     }
 
 pub loop-number-preserved : goal.loop-number-preserved
@@ -132,13 +133,13 @@ loop-number-preserved g c =
           (said_knows _ _ _ _ _ _ (λ bytes k. image ∙ k.0) rewalks.text);
     }
 
-pub returns-then-not-has_dups : goal.returns-then-not-has_dups
-returns-then-not-has_dups g c =
+pub returns-then-not-has_unreported_dups : goal.returns-then-not-has_unreported_dups
+returns-then-not-has_unreported_dups g c =
     let v = c.args.geometry.now.layout in
     let inv = c.loop-number.invariant in
     let n = c.loop-number.number in
     let d = bits_of c.loop-number.workspace.duplicates in
-    let none = none_left (set_count d) _ c.has_dups.ensures c.if-not-has_dups.true in
+    let none = none_left (set_count d) _ c.has_unreported_dups.ensures c.if-not-has_unreported_dups.true in
     record {
       prints = record {
         image = inv.device;
@@ -154,6 +155,7 @@ returns-then-not-has_dups g c =
         runs = λ bytes k. omega (arith, inv.runs bytes k, runs_most v bytes n inv.low inv.high);
         reads = runs_pay_all _ _ _ inv.reads (numbers_most n (inodes_of v) inv.high);
         seen = inv.claims.seen;
+        dups = inv.claims.dups;
       };
       ready = inv.ready;
     }
@@ -181,6 +183,7 @@ returns-after-loop-number g c =
         runs = λ bytes k. omega (arith, inv.runs bytes k, runs_most v bytes n inv.low inv.high);
         reads = runs_pay_all _ _ _ inv.reads (numbers_most n (inodes_of v) inv.high);
         seen = inv.claims.seen;
+        dups = inv.claims.dups;
       };
       ready = inv.ready;
     }

@@ -112,7 +112,7 @@ loop-next-preserved-then-matches g c =
       left = on;
       cut = did.cut ∙ inv.cut;
       going = rw (did.cut ∙ inv.cut) at (sym c.is_replay_open.ensures ∙ c.if-not-is_replay_open.false);
-      pending = some_left _ _ c.has_dups.ensures c.if-not-has_dups.false;
+      pending = some_left _ _ c.has_unreported_dups.ensures c.if-not-has_unreported_dups.false;
       geometry = c.skip_gaps.ensures.same.geometry ∙ same;
       held = c.skip_gaps.ensures.counted.held _ (rw c.report_step.ensures.only.windows reads.held);
       counted = runs_pay_on _ _ _ _ _ _ inv.counted c.report_step.ensures.counted (rw c.in-Some.is at reads.paid)
@@ -138,7 +138,7 @@ loop-next-preserved g c =
       left = on;
       cut = did.cut ∙ inv.cut;
       going = rw (did.cut ∙ inv.cut) at (sym c.is_replay_open.ensures ∙ c.if-not-is_replay_open.false);
-      pending = some_left _ _ c.has_dups.ensures c.if-not-has_dups.false;
+      pending = some_left _ _ c.has_unreported_dups.ensures c.if-not-has_unreported_dups.false;
       geometry = c.in_ok-next.ensures.same.geometry ∙ inv.geometry;
       held = rw c.report_step.ensures.only.windows reads.held;
       counted = runs_pay_on _ _ _ _ _ _ inv.counted c.report_step.ensures.counted (rw c.in-Some.is at reads.paid)
@@ -172,12 +172,12 @@ returns-then-not-is_replay_open g c =
           (rw c.in-Some.is at (c.in_ok-next.ensures.counted inv.held).paid);
     }
 
-pub returns-then-not-has_dups : goal.returns-then-not-has_dups
-returns-then-not-has_dups g c =
+pub returns-then-not-has_unreported_dups : goal.returns-then-not-has_unreported_dups
+returns-then-not-has_unreported_dups g c =
     let inv = c.loop-next.invariant in
     let d' = bits_of c.report_step.new.workspace.duplicates in
     let did = c.in_ok-report_step.ensures.reported in
-    let none = none_left (set_count d') _ c.has_dups.ensures c.if-not-has_dups.true in
+    let none = none_left (set_count d') _ c.has_unreported_dups.ensures c.if-not-has_unreported_dups.true in
     let next = rw (inv.left.image, c.in-Some.is) at c.in_ok-next.ensures.step.steps in
     let walk = λ (bytes : List ℕ) (t : IsContents (g.I.Image.device c.args.image.now).contents bytes).
     rewalk_on inv.cut (next bytes t) inv.going inv.pending did c.report_step.ensures.runs (inv.walk bytes t) in

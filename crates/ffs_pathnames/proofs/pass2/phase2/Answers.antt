@@ -11,6 +11,7 @@ use Rattle.ffs_pathnames.proofs.pass2.phase2.{Given.Over, Goals.After-check_tree
 use Rattle.ffs_names.proofs.RunSums.{costs_bounded}
 use Rattle.ffs_workspace.specs.{declared.workspace.Workspace.Workspace, Found.WithClaims, Holds.HoldsClaims}
 use Rattle.ffs_workspace.specs.Holds.{HoldsReferences, HoldsStarts, HoldsSurvey}
+use Rattle.ffs_workspace.proofs.Leaving.{block_check_kept, block_check_left, block_check_more}
 use Rattle.ffs_pathnames.proofs.pass2.phase2.Goals as goal
 
 -- what is known before the first directory
@@ -76,6 +77,19 @@ returns-clause-leaves g c =
 
 pub check_tree-requires : goal.check_tree-requires
 check_tree-requires g c = c.clear_passed.ensures.ready _ _ c.in_ok-survey.ensures.leaves.ready
+
+-- what the block check left
+pub returns-in_err-say-clause-block_check : goal.returns-in_err-say-clause-block_check
+returns-in_err-say-clause-block_check g c = block_check_kept _
+
+pub returns-in_err-survey-clause-block_check : goal.returns-in_err-survey-clause-block_check
+returns-in_err-survey-clause-block_check g c = c.survey.ensures.leaves.same
+
+pub returns-clause-block_check : goal.returns-clause-block_check
+returns-clause-block_check g c =
+    let surveyed = block_check_more _ _ _ c.in_ok-survey.ensures.leaves.same
+    (block_check_left _ _ c.clear_passed.ensures.survey) in
+    block_check_more _ _ _ surveyed c.check_tree.ensures.tree.block_check
 
 -- how often the image was read
 pub returns-in_err-say-clause-reads : goal.returns-in_err-say-clause-reads

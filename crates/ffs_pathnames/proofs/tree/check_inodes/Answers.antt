@@ -6,6 +6,7 @@ use Rattle.ffs_volume.specs.Directories.Volumes.{volume_of}
 use Rattle.ffs_report.proofs.Reporting.{of_begins, of_same, of_part, of_fault, of_reads, said_knows, reports_knowing}
 use Rattle.ffs_report.proofs.Paying.{paid_failed, paid_none, paid_then, paid_within}
 use Rattle.ffs_workspace.specs.{declared.workspace.Workspace.Workspace, Lengths.inodes_of}
+use Rattle.ffs_workspace.proofs.Leaving.{block_check_kept, block_check_left, block_check_more, queue_leaves}
 use Rattle.ffs_pathnames.{specs.Before.{IsBeforeNoted, IsBefore}, proofs.{Begun.image_same, Carrying.noted_reported}}
 use Rattle.ffs_pathnames.{proofs.Skipping.{noted_before, unseen}, specs.ReadsLeft.LeftForNext}
 use Rattle.ffs_pathnames.proofs.tree.check_inodes.{Given.Over, Goals.After-check_inode}
@@ -40,6 +41,7 @@ loop-number-init g c =
       device = noted.leaves.read;
       low = first.ensures.range.0;
       references = ap (λ (w : Workspace). w.references) noted.leaves.lists;
+      block_check = queue_leaves _ _ noted.leaves.lists;
       reads = λ b k numbered.
           let made : g.I.Image.reads c.note_places.new.image ≤ g.I.Image.reads c.args.image.now + directories_cost v b =
           c.note_places.ensures.reads.each b k.gives_bytes (k.claims, k.survey) in
@@ -71,6 +73,7 @@ loop-number-preserved g c =
       device = search rules;
       low = omega arith;
       references = ok.leaves.survey.references ∙ inv.references;
+      block_check = block_check_more _ _ _ inv.block_check (block_check_left _ _ ok.leaves.survey);
       reads = λ b k numbered.
           let taken = cost_take (λ s. true) (directory_cost v b) n refl in
           let here = ok.reads b (next g at b k) ((inv.before b k).noted numbered) in
@@ -105,6 +108,7 @@ returns-then-first-count-clause-tree g c =
       image = refl;
       holds = λ b k. (k.claims, k.survey);
       references = refl;
+      block_check = block_check_kept _;
       ready = c.requires;
     }
 
@@ -119,6 +123,7 @@ returns-in_err-note_places-clause-tree g c =
       image = noted.leaves.read;
       holds = tt;
       references = ap (λ (w : Workspace). w.references) noted.leaves.lists;
+      block_check = queue_leaves _ _ noted.leaves.lists;
       ready = noted.leaves.ready;
     })
 
@@ -145,6 +150,7 @@ returns-in_err-check_inode-clause-tree g c =
       image = image_same (Unit {0}) (Unit {0}) _ _ _ c.in_err-check_inode.field-0.0 inv.device said.leaves.image;
       holds = tt;
       references = said.leaves.survey.references ∙ inv.references;
+      block_check = block_check_more _ _ _ inv.block_check (block_check_left _ _ said.leaves.survey);
       ready = said.leaves.ready;
     })
 
@@ -162,5 +168,6 @@ returns-clause-tree g c =
       image = inv.device;
       holds = λ b k. let now = (inv.before b k).before in (now.claims, now.survey);
       references = inv.references;
+      block_check = inv.block_check;
       ready = inv.ready.ready;
     }

@@ -13,7 +13,7 @@ use Rattle.ffs_volume.specs.{declared.Layout.Layout, Messages.Kinds.TreeMessage}
 use Rattle.ffs_image.specs.Device.{Device}
 use Rattle.ffs_report.specs.{Known.ForBytes, PhaseOutcome.{ImageAfter, PhaseReports}, Progress.Progress}
 use Rattle.ffs_report.specs.declared.fault.RunFault.{RunFault, TheVariants.{Read, Out}}
-use Rattle.ffs_workspace.specs.{Ready.IsReady, declared.workspace.Workspace.Workspace}
+use Rattle.ffs_workspace.{specs.{Ready.IsReady, declared.workspace.Workspace.Workspace}, proofs.Leaving.block_check_kept}
 use Rattle.ffs_pathnames.{specs.{DirectoryLines.ReportsTree, RootAnswers.AnswersRoot}, proofs.Begun.image_same}
 use Rattle.ffs_pathnames.specs.declared.pass2.Root.{Root}
 use Rattle.ffs_pathnames.proofs.tree.check_tree.Goals as goal
@@ -77,7 +77,7 @@ only_said : {T : Type 0} {v : Layout} {d : Device} {w : Workspace} {lines : List
     {said said' : Progress} {count : ℕ} (r : Result T RunFault) → ImageAfter d d r → IsReady v d w →
     PhaseReports (IsBefore v d.contents w 2) (λ b. map of_tree (lines b)) said said' r →
     ReportsTree v d d w w lines said said' count count r
-only_said r image ready text = grind (arith, paid_text)
+only_said {w = w} r image ready text = let kept = block_check_kept w in grind (arith, paid_text)
 
 pub returns-in_err-report_root-clause-tree : goal.returns-in_err-report_root-clause-tree
 returns-in_err-report_root-clause-tree g c =
@@ -111,6 +111,7 @@ returns-in_err-check_inodes-in-Go-clause-tree g c =
       image = image_same (Unit {0}) Root _ _ _ fault refl tree.image;
       holds = tt;
       references = tree.references;
+      block_check = tree.block_check;
       ready = tree.ready;
     })
 
@@ -130,5 +131,6 @@ returns-in_ok-check_inodes-in-Go-clause-tree g c =
       image = tree.image;
       holds = tree.holds;
       references = tree.references;
+      block_check = tree.block_check;
       ready = tree.ready;
     }

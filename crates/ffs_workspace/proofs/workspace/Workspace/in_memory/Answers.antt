@@ -11,6 +11,7 @@ returns g c =
       new = record {
         made = grind arith;
         fresh = search rules;
+      found_dups = refl;
         runs_seen = refl;
         runs_again = refl;
         windows = λ contents. record {

@@ -1,7 +1,7 @@
 use Rattle.std.proofs.Common.{ℕ, ◌==◌, not, ap, sym, ◌∙◌}
 use Rattle.ffs_maps.{specs.{Bits.bits_of, WordBits.set_among}, proofs.Bits.bits_long}
 use Rattle.ffs_workspace.proofs.DupCounts.{count_all}
-use Rattle.ffs_workspace.proofs.workspace.Workspace.has_dups.Goals as goal
+use Rattle.ffs_workspace.proofs.workspace.Workspace.has_unreported_dups.Goals as goal
 
 pub returns : goal.returns
 returns c =

@@ -1,0 +1,48 @@
+-- What a workspace answers of the block check, from the phases to the end of a check.
+use Rattle.std.proofs.Common.{◌≡◌, ◌≤◌, ℕ, Bool, true, false, List, ◌∙◌, refl, ap, inl, inr, Result, Ok, Err, is_ok}
+use Rattle.ffs_volume.specs.declared.{Layout.Layout, End.{End, TheVariants.{ReadFault, WriteFault}}}
+use Rattle.ffs_volume.specs.Report.Memory.{runs_limit}
+use Rattle.ffs_report.specs.{Progress.Progress, declared.fault.RunFault.{RunFault, TheVariants.{Read, Out}}}
+use Rattle.ffs_pathnames.specs.declared.pass2.Root.{Root}
+use Rattle.ffs_workspace.specs.{declared.workspace.Workspace.Workspace, Leaves.LeavesBlockCheck}
+use Rattle.ffs_check.specs.{Headline.can_end_report, PhaseEnds.{EndsAs, LeavesAnswers}}
+
+-- where a phase failed nothing is said of them but the bound
+pub unanswered : {knows : List ℕ → Type 0} {v : Layout} {w w' : Workspace} → w'.runs_seen ≤ runs_limit v →
+    LeavesAnswers false knows v w w'
+unanswered few = record { known = λ e. absurd (cc); most = few }
+
+-- a phase leaves what the block check left
+pub answers_stay : {whole : Bool} {knows : List ℕ → Type 0} {v : Layout} {w u u' : Workspace} →
+    LeavesAnswers whole knows v w u → LeavesBlockCheck u u' → LeavesAnswers whole knows v w u'
+answers_stay answers stays = record {
+  known = λ e bytes k.
+      let now = answers.known e bytes k in
+      record {
+        dups = stays.found_dups ∙ now.dups;
+        seen = stays.runs_seen ∙ now.seen;
+        again = stays.runs_again ∙ now.again;
+      };
+  most = rw stays.runs_seen answers.most;
+}
+
+-- no whole report ends in a fault
+not_whole : (end fault : End) → end ≡ fault → can_end_report fault ≡ false → can_end_report end ≡ true → false ≡ true
+not_whole end fault is none whole = cc (ap can_end_report is)
+
+-- an end is that of a whole report only where the phases answered Ok
+pub answers_end : {knows : List ℕ → Type 0} {v : Layout} {w w' : Workspace} (had_defect : Bool) (b c : Progress)
+    (r : Result Root RunFault) (end : End) → EndsAs had_defect b c r end → LeavesAnswers (is_ok r) knows v w w' →
+    LeavesAnswers (can_end_report end) knows v w w'
+answers_end had_defect b c (Ok root) end e answers = record { known = λ whole. answers.known refl; most = answers.most }
+answers_end had_defect b c (Err (Read fault)) end e answers = record {
+  known = λ whole. answers.known (elim e [
+    | inl said ↦ not_whole end (ReadFault fault.sector) said.1 refl whole
+    | inr stopped ↦ not_whole end WriteFault stopped.1 refl whole
+  ]);
+  most = answers.most;
+}
+answers_end had_defect b c (Err (Out fault)) end e answers = record {
+  known = λ whole. answers.known (not_whole end WriteFault e.1 refl whole);
+  most = answers.most;
+}
