@@ -2,7 +2,9 @@
 //! expected.
 #![tactic(auto)]
 
+mod areas;
 mod faults;
+mod judged;
 mod lengths;
 mod row;
 

@@ -1,6 +1,8 @@
 //! A worked row.
 
 use crate::Tally;
+use crate::areas::Areas;
+use crate::judged::JudgedImage;
 use ffs_check::args::Args;
 use ffs_check::check::check;
 use ffs_check::run::run;
@@ -89,15 +91,30 @@ impl Row {
         Ok(status)
     }
 
-    /// Compares the row with a check of its image in memory, and with a run over it in a file.
+    /// The row's image in memory, which judges its reads.
+    ///
+    /// # Errors
+    /// The memory was refused.
+    fn judged(&self, alloc: Global) -> Result<JudgedImage<MemoryImage>, AllocError> {
+        let areas = Areas::new(self.image.as_slice(), self.sector);
+        Ok(JudgedImage::new(self.in_memory(alloc)?, areas))
+    }
+
+    /// Compares the row with a check of its image in memory, of which each read covers no more than
+    /// one part of the volume, and with a run over it in a file.
     ///
     /// # Errors
     /// A file that can't be written or read, and standard output that failed.
     pub fn compare(&self, rt: &HostRuntime, tally: &mut Tally) -> io::Result<()> {
         let name = self.name.as_str();
-        let (end, text) = self.checked(rt.alloc(), &mut self.in_memory(rt.alloc())?);
+        let mut image = self.judged(rt.alloc())?;
+        let (end, text) = self.checked(rt.alloc(), &mut image);
         let agrees = end.status() == self.status && text == self.report;
         tally.count(rt, name, "in memory", agrees)?;
+        if let Some(read) = image.first_wrong() {
+            println!(rt; "{name}: reads {} bytes at byte {}", read.bytes, read.place)?;
+        }
+        tally.count(rt, name, "its reads", image.first_wrong().is_none())?;
         let mut text = Vec::new(rt.alloc());
         let status = self.run_over_file(rt, &mut text)?;
         let agrees = status == self.status && text == self.report;
