@@ -3,7 +3,7 @@ use Rattle.std.proofs.Common.{◌≡◌, ◌≤◌, ◌+◌, ◌*◌, ℕ, Bool,
 use Rattle.std.{proofs.{Common.{length-append, Ok, Err, subst, Result}, Math.Nat.mul-le-mul_left}, specs.Borrow.GName}
 use Rattle.ffs_volume.specs.{declared.{Layout.Layout, End.End}, Messages.Kinds.{Message, cannot_alloc, cannot_read}}
 use Rattle.ffs_volume.specs.Report.{Memory.runs_limit, Reads.{group_reads, line_reads, opening_reads, phase_reads}}
-use Rattle.ffs_volume.specs.{Disk.Superblock.Superblock, Report.Reads.{reads_limit, sweep_reads}}
+use Rattle.ffs_volume.specs.{Disk.Superblock.Superblock, Report.Reads.{reads_limit, sweep_reads, table_blocks}}
 use Rattle.ffs_layout.specs.declared.superblock.Super.{Super}
 use Rattle.ffs_report.specs.{Sink.Sink, Paid.Paid, Progress.{Progress, Said, Stopped, starts}}
 use Rattle.ffs_report.specs.{declared.fault.RunFault.{RunFault, TheVariants.{Read, Out}}, PhaseOutcome.PhaseReports}
@@ -22,7 +22,7 @@ priced v n m before after most few = grind (arith, mul-le-mul_left)
 -- phase 1 was said, and then phase 1b, or nothing
 pub scan_paid : (v : Layout) (knows knows' : List ℕ → Type 0) (all all' : List ℕ → List Message) (a b c : Progress)
     (before first after runs : ℕ) → PhaseReports {T = Unit {0}} knows all a b (Ok tt) →
-    first ≤ before + v.ncg * v.ipg + runs → runs ≤ runs_limit v →
+    first ≤ before + table_blocks v + runs → runs ≤ runs_limit v →
     PhaseReports {T = Unit {0}} knows' all' b c (Ok tt) → after ≤ first + sweep_reads v →
     Paid {T = Unit {0}} (line_reads + 1) a c (before + phase_reads v 0)
     (after + (4 * sweep_reads v + group_reads v)) (Ok tt)

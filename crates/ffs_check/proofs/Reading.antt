@@ -6,7 +6,8 @@ use Rattle.ffs_volume.specs.declared.{Layout.Layout, SuperFault.SuperFault}
 use Rattle.ffs_volume.specs.Directories.{Connectivity.connectivity_lines, ReferenceCheck.reference_lines}
 use Rattle.ffs_volume.specs.{Directories.Volumes.volume_of, Disk.{Outcome.outcome, Superblock.Superblock}}
 use Rattle.ffs_volume.specs.{Report.Memory.runs_limit, Directories.PathnameCheck.{continues_after_root, pathname_lines}}
-use Rattle.ffs_volume.specs.Report.Reads.{group_reads, opening_reads, pathname_reads, phase_reads, sweep_reads}
+use Rattle.ffs_volume.specs.Report.Reads.{group_reads, opening_reads, pathname_reads, phase_reads, scan_reads}
+use Rattle.ffs_volume.specs.Report.Reads.{sweep_reads, table_blocks}
 use Rattle.ffs_volume.specs.Report.Whole.{phase_lines, report_of}
 use Rattle.ffs_layout.specs.{declared.superblock.Super.Super, Super.{ReadsSuper, superblock_in}}
 use Rattle.ffs_report.specs.{Progress.Progress, Known.{ForBytes, IsContents}}
@@ -31,23 +32,23 @@ pub phases_more : (v : Layout) (n m : ℕ) → n ≤ m → phase_reads v n ≤ p
 phases_more v n m h = omega (arith, h)
 
 -- phase 1, and then phase 1b or nothing
-pub scanned_reads : (v : Layout) (reads first again runs : ℕ) → first ≤ reads + v.ncg * v.ipg + runs →
-    runs ≤ runs_limit v → again ≤ first + sweep_reads v → again ≤ reads + 2 * sweep_reads v
+pub scanned_reads : (v : Layout) (reads first again runs : ℕ) → first ≤ reads + table_blocks v + runs →
+    runs ≤ runs_limit v → again ≤ first + sweep_reads v → again ≤ reads + scan_reads v + sweep_reads v
 scanned_reads v reads first again runs one most two = omega (arith, one, most, two)
 
-pub scanned_within : (v : Layout) (lines reads now : ℕ) → now ≤ reads + 2 * sweep_reads v →
+pub scanned_within : (v : Layout) (lines reads now : ℕ) → now ≤ reads + scan_reads v + sweep_reads v →
     now ≤ reads + phase_reads v lines
 scanned_within v lines reads now h = omega (arith, h)
 
 -- phase 2
-pub named_reads : (v : Layout) (names lines reads again now : ℕ) → again ≤ reads + 2 * sweep_reads v →
+pub named_reads : (v : Layout) (names lines reads again now : ℕ) → again ≤ reads + scan_reads v + sweep_reads v →
     now ≤ again + pathname_reads v names → names ≤ lines →
-    now ≤ reads + 2 * sweep_reads v + pathname_reads v lines
+    now ≤ reads + scan_reads v + sweep_reads v + pathname_reads v lines
 named_reads v names lines reads again now before h among = omega arith
 
 -- phases 3 to 5
 pub later_within : (v : Layout) (lines some reads before now : ℕ) →
-    before ≤ reads + 2 * sweep_reads v + pathname_reads v lines → now ≤ before + some + group_reads v →
+    before ≤ reads + scan_reads v + sweep_reads v + pathname_reads v lines → now ≤ before + some + group_reads v →
     some ≤ lines → now ≤ reads + phase_reads v lines
 later_within v lines some reads before now named h among = omega (arith, named, h, among)
 

@@ -1,5 +1,6 @@
 pub mod Frames
 pub mod StepsContinue
+pub mod TableReads
 pub mod Inodes
 pub mod Reserved
 pub mod Numbers

@@ -10,6 +10,7 @@ use Rattle.ffs_report.specs.{Known.{ForBytes, IsContents}, PhaseOutcome.{ImageAf
 use Rattle.ffs_report.specs.{Progress.Says, declared.fault.RunFault.RunFault}
 use Rattle.ffs_layout.specs.declared.geometry.Geometry.{Geometry}
 use Rattle.ffs_workspace.specs.{Holds.{IsFresh, claims_of}, Lengths.{IsFor, inodes_of}, Ready.IsReady}
+use Rattle.ffs_workspace.specs.Tables.{HoldsInode, HoldsPiece}
 use Rattle.ffs_workspace.specs.declared.workspace.Workspace.{Workspace}
 use Rattle.ffs_claims.specs.{Area.IsDataArea, Leaves.{CanOffer, ClaimsOnly, HasBegun, OffersOnly, SameFound}}
 use Rattle.ffs_claims.specs.{Lines.of_lines, declared.{area.{DataArea.DataArea, Run.Run}, claim.Sweep.Sweep}}
@@ -81,7 +82,8 @@ abbrev pub FewRuns : Layout → Workspace → Workspace → Type 0
 FewRuns v old new = new.runs_seen + used_bits (claims_of old) ≤ old.runs_seen + v.size + 22
 
 -- what the steps of an inode leave: the image, but for a read that failed, few Runs more, claims
--- within the bound (`ClaimBound`), what was found as it was, and all that the next inode asks for
+-- within the bound (`ClaimBound`), what was found and the piece of the inode table as they were, and all
+-- that the next inode asks for
 pub record StepsLeave {T : Type 0} (v : Layout) (d d' : Device) (old new : Workspace) (area : DataArea)
     (result : Result T RunFault) : Type 0 where
   pub image : ImageAfter d d' result
@@ -89,8 +91,17 @@ pub record StepsLeave {T : Type 0} (v : Layout) (d d' : Device) (old new : Works
   pub bound : FewRuns v old new
   pub claim_bound : OnOk result (ClaimBound (claims_of old) (claims_of new))
   pub found : SameFound old new
+  pub table : new.windows.table ≡ old.windows.table
 
--- what an inode leaves: what its steps leave but for `claim_bound` and `found`, a walk over the volume,
+-- an inode is read by its block of the inode table. Where the table held the inode, nothing is read of
+-- it and it stays, and each read is paid by a Run that is seen; else its block is held then
+pub record ReadsByBlock {T : Type 0} (v : Layout) (number reads reads' : ℕ) (old new : Workspace)
+    (result : Result T RunFault) : Type 0 where
+  pub again : HoldsInode old.windows.table number
+      → (new.windows.table ≡ old.windows.table) × (reads' + old.runs_seen ≤ reads + new.runs_seen)
+  pub block : (HoldsInode old.windows.table number → ⊥) → OnOk result (HoldsPiece v v.inopb number new.windows.table)
+
+-- what an inode leaves: what its steps leave but for `claim_bound`, `found` and `table`, a walk over the volume,
 -- and the count of phase 1b's Runs as it was. Each Run that it sees claims a fragment, but for 22, and
 -- each read is paid by a Run that is seen
 pub record InodeLeaves {T : Type 0} (g : Geometry) (d d' : Device) (reads reads' : ℕ) (old new : Workspace)

@@ -2,7 +2,7 @@
 use Rattle.std.specs.Prelude.{◌≡◌, ◌<◌, ◌≤◌, ◌+◌, ◌-◌, ◌*◌, ◌^◌, ℕ, List}
 use Rattle.ffs_image.specs.Device.{Device}
 use Rattle.ffs_volume.specs.{declared.Layout.Layout, Blocks.{BlockCheck.has_rescan, Owners.owners_of}}
-use Rattle.ffs_volume.specs.Report.{Memory.runs_limit, Reads.sweep_reads, Whole.run_count}
+use Rattle.ffs_volume.specs.Report.{Memory.runs_limit, Reads.{sweep_reads, table_blocks}, Whole.run_count}
 use Rattle.ffs_report.specs.Known.{ForBytes}
 use Rattle.ffs_workspace.specs.{declared.workspace.Workspace.Workspace, Found.WithPhase1}
 use Rattle.ffs_workspace.specs.Holds.{HoldsClaims, HoldsPhase1, HoldsStarts}
@@ -15,11 +15,11 @@ pub record IsLeftByPhase1 (v : Layout) (bytes : List ℕ) (w : Workspace) : Type
   pub dups : w.found_dups ≡ has_rescan v (owners_of v bytes)
   pub count : w.runs_seen ≡ run_count v bytes
 
--- phase 1 reads the image at most once for each inode and once for each Run that it looks at. The
--- Runs are no more than a volume can have; the count of phase 1b's Runs stays
+-- phase 1 reads the image at most once for each block of the inode tables and once for each Run that
+-- it looks at. The Runs are no more than a volume can have; the count of phase 1b's Runs stays
 pub record Phase1Reads (v : Layout) (old new : Workspace) (before after : ℕ) : Type 0 where
   pub runs : new.runs_seen ≤ runs_limit v
-  pub reads : after ≤ before + v.ncg * v.ipg + new.runs_seen
+  pub reads : after ≤ before + table_blocks v + new.runs_seen
   pub again : new.runs_again ≡ old.runs_again
 
 -- phase 1b leaves what the block check found in the image's bytes, and where counts of references

@@ -1,10 +1,10 @@
 //! The most reads that a check may make (`Report/Reads` of `ffs_volume`).
 ghost use Rattle.std.specs.Prelude.{◌≡◌};
-ghost use Rattle.ffs_volume.specs.Report.Reads.{pathname_reads, reads_limit, sweep_reads};
+ghost use Rattle.ffs_volume.specs.Report.Reads.{pathname_reads, reads_limit, scan_reads, sweep_reads};
 ghost use Rattle.ffs_reads.specs.Limits.{in_u64, part_reads};
 
 use crate::parts::Part;
-use ffs_layout::Layout;
+use ffs_layout::{Geometry, Layout};
 use ffs_workspace::{LINE_READS, RUNS_WITHOUT_CLAIM};
 
 /// The superblock, and the last copy of it.
@@ -23,6 +23,18 @@ fn sweep_reads(layout: &Layout) -> u64
         .saturating_add(layout.size.into())
 }
 
+/// To go over the blocks of the inode tables, and over the blocks of all inodes.
+fn scan_reads(geometry: &Geometry) -> u64
+    ensures { result ≡ in_u64 (scan_reads geometry.now.layout) }
+{
+    let layout = &geometry.layout;
+    let inodes = u64::from(layout.ncg) * u64::from(layout.ipg);
+    inodes
+        .saturating_mul(RUNS_WITHOUT_CLAIM)
+        .saturating_add(layout.size.into())
+        .saturating_add(inodes / u64::from(layout.inopb))
+}
+
 /// Phase 2, where so many messages are said.
 fn pathname_reads(layout: &Layout, messages: u64) -> u64
     ensures { result ≡ in_u64 (pathname_reads layout.now messages) }
@@ -33,11 +45,13 @@ fn pathname_reads(layout: &Layout, messages: u64) -> u64
 }
 
 /// A part of a check that says so many messages after its heading.
-pub fn part_reads(part: Part, layout: &Layout, messages: u64) -> u64
-    ensures { result ≡ in_u64 (part_reads part layout.now messages) }
+pub fn part_reads(part: Part, geometry: &Geometry, messages: u64) -> u64
+    ensures { result ≡ in_u64 (part_reads part geometry.now.layout messages) }
 {
+    let layout = &geometry.layout;
     match part {
-        Part::Phase1 | Part::Phase1b => sweep_reads(layout),
+        Part::Phase1 => scan_reads(geometry),
+        Part::Phase1b => sweep_reads(layout),
         Part::Phase2 => pathname_reads(layout, messages),
         Part::Phase3 | Part::Phase4 => messages,
         Part::Phase5 => GROUP_READS * u64::from(layout.ncg),
@@ -46,11 +60,12 @@ pub fn part_reads(part: Part, layout: &Layout, messages: u64) -> u64
 }
 
 /// A whole check that says so many messages.
-pub fn reads_limit(layout: &Layout, messages: u64) -> u64
-    ensures { result ≡ in_u64 (reads_limit layout.now messages) }
+pub fn reads_limit(geometry: &Geometry, messages: u64) -> u64
+    ensures { result ≡ in_u64 (reads_limit geometry.now.layout messages) }
 {
-    sweep_reads(layout)
-        .saturating_mul(2)
+    let layout = &geometry.layout;
+    scan_reads(geometry)
+        .saturating_add(sweep_reads(layout))
         .saturating_add(pathname_reads(layout, messages))
         .saturating_add(messages)
         .saturating_add(GROUP_READS * u64::from(layout.ncg))

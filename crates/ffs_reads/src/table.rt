@@ -47,7 +47,7 @@ impl Table {
         let most = match opened {
             Ok(superblock) => {
                 count_parts(alloc, &mut image, &superblock, &mut parts)?;
-                reads_limit(&superblock.geometry.layout, messages)
+                reads_limit(&superblock.geometry, messages)
             }
             Err(_) => OPENING_READS,
         };
@@ -149,7 +149,7 @@ fn count_part<I: Image>(
         name: part.name(),
         messages,
         reads: image.reads().saturating_sub(before),
-        most: part_reads(part, &superblock.geometry.layout, messages),
+        most: part_reads(part, &superblock.geometry, messages),
     };
     (row, answer)
 }

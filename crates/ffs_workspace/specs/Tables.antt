@@ -1,5 +1,6 @@
 -- What the window on the inode table holds.
-use Rattle.std.specs.Prelude.{◌≡◌, ◌*◌, ◌+◌, ◌-◌, ◌/◌, ◌%◌, ◌<◌, ◌≤◌, ℕ, List, Option, Result, IfOk, OnOk, vec_len}
+use Rattle.std.specs.Prelude.{◌≡◌, ◌*◌, ◌+◌, ◌-◌, ◌/◌, ◌%◌, ◌<◌, ◌≤◌, ℕ, Bool, ◌&&◌, nat_le, nat_lt, List, Option, Result}
+use Rattle.std.specs.Prelude.{IfOk, OnOk, if◌then◌else◌, vec_len}
 use Rattle.std.specs.List.{slice_range}
 use Rattle.ffs_image.specs.{Device.{Device, ForContents}, Reads.ReadAfter, declared.image.ImageFault.ImageFault}
 use Rattle.ffs_memory.specs.declared.fixed_list.FixedList.{FixedList}
@@ -27,6 +28,21 @@ pub record HasPiece (v : Layout) (n x : ℕ) : Type 0 where
 abbrev pub table_place : Layout → ℕ → ℕ → ℕ
 table_place v n x = (cgstart v (x / v.ipg) + v.iblkno) * v.fsize + x % v.ipg / n * (n * DINODE_SIZE)
 
+-- how many inodes of 128 bytes a sector of 512 bytes has, and how many eight sectors have
+abbrev pub sector_inodes : ℕ
+sector_inodes = 4
+
+abbrev pub part_inodes : ℕ
+part_inodes = 32
+
+-- the sector of the inode x begins where the inodes that are held end: it is one of the four after them
+abbrev pub follows : Table → ℕ → Bool
+follows t x = nat_le (t.first + t.count) x && nat_lt x (t.first + t.count + sector_inodes)
+
+-- how many inodes are read for the inode x, where it isn't held: a sector, or eight that follow those held
+abbrev pub count_to_read : Table → ℕ → ℕ
+count_to_read t x = if follows t x then part_inodes else sector_inodes
+
 -- the inode x is one of those that are held
 abbrev pub HoldsInode : Table → ℕ → Type 0
 HoldsInode t x = (t.first ≤ x) × (x < t.first + t.count)
@@ -35,6 +51,13 @@ HoldsInode t x = (t.first ≤ x) × (x < t.first + t.count)
 pub record IsInPlace (v : Layout) (t : Table) (x : ℕ) : Type 0 where
   pub place : t.window.place + DINODE_SIZE * (x - t.first) ≡ inode_place v x
   pub inside : DINODE_SIZE * (x - t.first) + DINODE_SIZE ≤ t.window.length
+
+-- just the piece of n inodes that has the inode x is held, and its bytes are in the window
+pub record HoldsPiece (v : Layout) (n x : ℕ) (t : Table) : Type 0 where
+  pub first : t.first ≡ x - x % v.ipg % n
+  pub count : t.count ≡ n
+  pub place : t.window.place ≡ table_place v n x
+  pub length : t.window.length ≡ n * DINODE_SIZE
 
 -- the window has room for a block, and each inode that it has is in its place
 pub record IsTableOf (v : Layout) (t : Table) : Type 0 where
@@ -69,10 +92,11 @@ pub record TableAfter {T : Type 0} (v : Layout) (d d' : Device) (t : Table) (res
     pub kept : KeepsTable v d'.contents t
     pub read : ReadAfter d d' result
 
--- the piece of the table that has the inode x is read, by one read at most
-pub record ReadsPiece {T : Type 0} (v : Layout) (d d' : Device) (reads reads' x : ℕ) (t : Table)
+-- the piece of n inodes of the table that has the inode x is read, by one read at most
+pub record ReadsPiece {T : Type 0} (v : Layout) (d d' : Device) (reads reads' n x : ℕ) (t : Table)
     (result : Result T ImageFault) : Type 0 where
   pub has : OnOk result (HoldsInode t x)
+  pub piece : OnOk result (HoldsPiece v n x t)
   pub leaves : TableAfter v d d' t result
   pub counted : reads' ≤ reads + 1
 
@@ -89,21 +113,26 @@ pub record IsHeldAt (v : Layout) (contents : Option (List ℕ)) (t : Table) (x a
   pub bytes : ForContents contents
       (λ b. slice_range (held_bytes t.window) at (at + DINODE_SIZE) ≡ piece (inode_place v x) DINODE_SIZE b)
 
--- the bytes of the inode x are in the window from the place on that is returned. They are read at most
--- once, and not where the table held the inode
+-- the bytes of the inode x are in the window from the place on that is returned. Where the table held
+-- the inode, nothing is read, and the table is as it was; else there is one read at most, of its block,
+-- and just the block is held then
 pub record LoadsInode (v : Layout) (d d' : Device) (reads reads' x : ℕ) (old new : Table)
     (result : Result ℕ ImageFault) : Type 0 where
   pub there : IfOk result (IsHeldAt v d.contents new x)
   pub leaves : TableAfter v d d' new result
   pub counted : reads' ≤ reads + 1
-  pub again : HoldsInode old x → reads' ≤ reads
+  pub again : HoldsInode old x → (new ≡ old) × (reads' ≡ reads)
+  pub block : (HoldsInode old x → ⊥) → OnOk result (HoldsPiece v v.inopb x new)
 
--- the inode x is read, once at most, and not where the table held it
-pub record ReadsInodeOnce (v : Layout) (d d' : Device) (before after x : ℕ) (old new : Table)
+-- the inode x is read. Where the table held it, nothing is read of the image, and the table is as it
+-- was; else there is one read at most, of the piece of n inodes that has it, and just that piece is held
+-- then
+pub record ReadsInodeOnce (v : Layout) (n : ℕ) (d d' : Device) (before after x : ℕ) (old new : Table)
     (result : Result Inode ImageFault) : Type 0 where
   pub reads : ReadsInode v d d' x new result
   pub counted : after ≤ before + 1
-  pub again : HoldsInode old x → after ≤ before
+  pub again : HoldsInode old x → (new ≡ old) × (after ≡ before)
+  pub piece : (HoldsInode old x → ⊥) → OnOk result (HoldsPiece v n x new)
 
 -- a table over a list that holds no inode, and so what any image of any layout gives
 pub record IsEmptyTable (list : FixedList ℕ) (t : Table) : Type 0 where

@@ -45,6 +45,7 @@ pub struct Table {
 impl Table {
     ghost use Rattle.ffs_workspace.specs.Tables.{CanReadInode, CanReadPiece, DividesBlocks, HoldsInode};
     ghost use Rattle.ffs_workspace.specs.Tables.{IsEmptyTable, LoadsInode, ReadsInodeOnce, ReadsPiece};
+    ghost use Rattle.ffs_workspace.specs.Tables.{count_to_read, follows};
 
     /// A table that holds no inode. It takes no memory.
     pub fn over(buffer: FixedList<u8>) -> Table
@@ -83,7 +84,7 @@ impl Table {
     ) -> Result<(), ImageFault>
         requires { CanReadPiece geometry.now.layout (I.device image.old) count number self.old }
         ensures { ReadsPiece geometry.now.layout (I.device image.old) (I.device image.new)
-            (I.reads image.old) (I.reads image.new) number self.new result }
+            (I.reads image.old) (I.reads image.new) count number self.new result }
     {
         let place = piece_place(geometry, number, count);
         self.forget();
@@ -114,7 +115,8 @@ impl Table {
         Ok(DINODE_SIZE * (number - self.first) as usize)
     }
 
-    /// The inode of a number (fs(5)). Its block of the table is read, unless the inode is held.
+    /// The inode of a number (fs(5)). Its block of the table is read, `inopb` inodes, unless the
+    /// inode is held.
     ///
     /// # Errors
     /// A read of the image that failed.
@@ -126,8 +128,9 @@ impl Table {
         image: &mut I,
     ) -> Result<Inode, ImageFault>
         requires { CanReadInode geometry.now.layout (I.device image.old) number self.old }
-        ensures { ReadsInodeOnce geometry.now.layout (I.device image.old) (I.device image.new)
-            (I.reads image.old) (I.reads image.new) number self.old self.new result }
+        ensures { ReadsInodeOnce geometry.now.layout geometry.now.layout.inopb
+            (I.device image.old) (I.device image.new) (I.reads image.old) (I.reads image.new)
+            number self.old self.new result }
     {
         let at = self.load(geometry, number, image)?;
         let bytes = self.window.bytes();
@@ -135,16 +138,21 @@ impl Table {
     }
 
     /// Whether an inode's sector begins where the inodes that are held end, as where the caller
-    /// goes along the table. Where none is held they end at `first`. No answer depends on it: it
-    /// decides only how much is read.
-    fn follows(&self, number: u32) -> bool {
-        number >= self.first && (number - self.first) / SECTOR_INODES == self.count / SECTOR_INODES
+    /// goes along the table: it is one of the four after them. Where none is held they end at
+    /// `first`. No answer depends on it: it decides only how much is read.
+    fn follows(&self, number: u32) -> bool
+        ensures { result ≡ follows self.now number }
+    {
+        number >= self.first
+            && number - self.first >= self.count
+            && number - self.first - self.count < SECTOR_INODES
     }
 
     /// How many inodes are read where one isn't held.
     #[tactic(auto, using(crate::proofs::TablePlaces::parts_divide, crate::proofs::TablePlaces::sectors_divide))]
     fn count_to_read(&self, number: u32) -> u32
-        ensures { DividesBlocks result }
+        ensures count { result ≡ count_to_read self.now number }
+        ensures divides { DividesBlocks result }
     {
         if self.follows(number) {
             PART_INODES
@@ -153,9 +161,9 @@ impl Table {
         }
     }
 
-    /// The inode of a number (fs(5)), as `inode` gives it. Where it isn't held, its sector is read
-    /// and no whole block, so that inodes which are far apart cost few bytes. Eight sectors are
-    /// read where its sector follows the inodes that are held.
+    /// The inode of a number (fs(5)), as `inode` gives it. Where it isn't held, its sector of 512
+    /// bytes is read and no whole block, so that inodes which are far apart cost few bytes. Eight
+    /// sectors are read where its sector follows the inodes that are held.
     ///
     /// # Errors
     /// A read of the image that failed.
@@ -167,8 +175,9 @@ impl Table {
         image: &mut I,
     ) -> Result<Inode, ImageFault>
         requires { CanReadInode geometry.now.layout (I.device image.old) number self.old }
-        ensures { ReadsInodeOnce geometry.now.layout (I.device image.old) (I.device image.new)
-            (I.reads image.old) (I.reads image.new) number self.old self.new result }
+        ensures { ReadsInodeOnce geometry.now.layout (count_to_read self.old number)
+            (I.device image.old) (I.device image.new) (I.reads image.old) (I.reads image.new)
+            number self.old self.new result }
     {
         if !self.has(number) {
             let count = self.count_to_read(number);

@@ -7,6 +7,14 @@ use Rattle.ffs_volume.specs.{declared.{Layout.Layout, constants.TheConstants.MAX
 abbrev pub opening_reads : ℕ
 opening_reads = 2
 
+-- how many blocks the inode tables have, of `inopb` inodes each (fs(5))
+abbrev pub table_blocks : Layout → ℕ
+table_blocks v = v.ncg * v.ipg / v.inopb
+
+-- phase 1 reads each block of the inode tables once, and each Run that is seen once
+abbrev pub scan_reads : Layout → ℕ
+scan_reads v = table_blocks v + runs_limit v
+
 -- a sweep over all inodes and their blocks reads each inode once, and each Run that is seen once
 abbrev pub sweep_reads : Layout → ℕ
 sweep_reads v = v.ncg * v.ipg + runs_limit v
@@ -31,10 +39,10 @@ pathname_reads v lines = 4 * sweep_reads v + line_reads * lines
 abbrev pub group_reads : Layout → ℕ
 group_reads v = 2 * v.ncg
 
--- all phases read this often at most, where so many messages are printed in all: phases 1 and 1b go
--- over all inodes, and phases 3 and 4 read an inode for each message
+-- all phases read this often at most, where so many messages are printed in all: phase 1 goes over the
+-- inode tables, phase 1b over all inodes, and phases 3 and 4 read an inode for each message
 abbrev pub phase_reads : Layout → (lines : ℕ) → ℕ
-phase_reads v lines = 2 * sweep_reads v + pathname_reads v lines + lines + group_reads v
+phase_reads v lines = scan_reads v + sweep_reads v + pathname_reads v lines + lines + group_reads v
 
 -- the whole check reads this often at most
 abbrev pub reads_limit : Layout → (lines : ℕ) → ℕ

@@ -5,6 +5,7 @@ use Rattle.ffs_report.{proofs.Reporting.{reads_first, reports_same, reports_know
 use Rattle.ffs_report.specs.Known.{IsContents}
 use Rattle.ffs_workspace.{proofs.Readiness.ready_table, specs.Holds.claims_of}
 use Rattle.ffs_claims.{proofs.Inodes.{ok_where, used_below}, specs.{Leaves.Stored, Lines.{of_lines, owner_with}}}
+use Rattle.ffs_claims.proofs.TableReads.{on_any}
 use Rattle.ffs_claims.proofs.claim.claim_inode.Goals as goal
 
 pub claim_read_inode-requires : goal.claim_read_inode-requires
@@ -52,6 +53,25 @@ returns-clause-claims g c =
           (λ bytes. claims_of c.claim_read_inode.new.workspace ≡ after_owner v s (owner_with v bytes n i)) _ gives
           (λ bytes t h. h ∙ ap (after_owner v s) (owner bytes t)) did.claims;
       left = grind arith;
+    }
+
+pub returns-in_err-inode-clause-table : goal.returns-in_err-inode-clause-table
+returns-in_err-inode-clause-table g c =
+    let p = err_from_is_err_and c.from_residual.result c.from_residual.ensures.1 in
+    rw (p.1, p.2) (record {
+      again = λ held. let same = c.inode.ensures.again held in (same.0, omega (arith, same.1));
+      block = λ unheld. tt;
+    })
+
+pub returns-clause-table : goal.returns-clause-table
+returns-clause-table g c =
+    let did = c.claim_read_inode.ensures in
+    let counted = did.claims.left.counted in
+    record {
+      again = λ held.
+          let same = c.in_ok-inode.ensures.again held in
+          (did.table ∙ same.0, omega (arith, same.1, counted));
+      block = λ unheld. on_any c.claim_read_inode.result (rw did.table (c.in_ok-inode.ensures.piece unheld));
     }
 
 pub returns-clause-stored : goal.returns-clause-stored

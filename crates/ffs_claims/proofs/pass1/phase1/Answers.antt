@@ -6,7 +6,8 @@ use Rattle.ffs_report.{proofs.Reporting.said_knows, specs.Known.ForBytes}
 use Rattle.ffs_workspace.specs.{Found.WithFresh, Holds.{claims_of, all_claims}, Lengths.inodes_of}
 use Rattle.ffs_claims.proofs.{Duplicates.{any_set, rescan_is}, Frames.{image_from, ready_still}, Inodes.used_below}
 use Rattle.ffs_claims.proofs.Numbers.{found_begins, found_next, found_all, numbers_most, before_first, before_end}
-use Rattle.ffs_claims.proofs.Numbers.{lines_next}
+use Rattle.ffs_claims.proofs.{Numbers.lines_next, TableReads.{blocks_all, blocks_failed, blocks_next, blocks_none}}
+use Rattle.ffs_volume.proofs.Sizes.{some_inodes}
 use Rattle.ffs_claims.proofs.pass1.phase1.Goals as goal
 
 pub returns-in_err-say-clause-prints : goal.returns-in_err-say-clause-prints
@@ -29,7 +30,7 @@ loop-number-init g c =
       low = omega arith;
       high = λ h. omega arith;
       runs = omega (arith, c.reserve.ensures.runs);
-      reads = omega arith;
+      reads = blocks_none (omega (arith, c.reserve.ensures.runs));
       again = found.again;
       claims = λ bytes k. c.reserve.ensures.claims k.1 ∙ sym (before_first v bytes);
       found = λ bytes k. found_begins bytes k.1 found;
@@ -80,7 +81,8 @@ loop-number-preserved g c =
       low = omega arith;
       high = λ h. omega arith;
       runs = omega (arith, inv.runs, inv.low, c.in_ok-claim_inode.ensures.claims.left.runs_claim);
-      reads = omega (arith, inv.reads, inv.low, c.claim_inode.ensures.claims.left.counted);
+      reads = blocks_next c.args.geometry.now.sound c.claim_inode.ensures.table.again
+          c.in_ok-claim_inode.ensures.table.block c.claim_inode.ensures.claims.left.counted inv.reads;
       again = c.claim_inode.ensures.claims.left.again ∙ inv.again;
       claims = λ bytes k. after bytes k ∙ sym (before_next v bytes n inv.low);
       found = λ bytes k. found_next inv.low lt inv.ready.ready.made (after bytes k)
@@ -116,12 +118,26 @@ returns-clause-leaves g c = λ bytes k.
       count = holds.runs;
     }
 
+pub returns-in_err-claim_inode-clause-reads : goal.returns-in_err-claim_inode-clause-reads
+returns-in_err-claim_inode-clause-reads g c =
+    let inv = c.loop-number.invariant in
+    let left = c.claim_inode.ensures.claims.left in
+    let most = numbers_most c.loop-number.number _ inv.high in
+    record {
+      runs = omega (arith, inv.runs, left.bound, most);
+      reads = blocks_failed c.args.geometry.now.sound (omega arith) c.claim_inode.ensures.table.again left.counted
+          inv.reads;
+      again = left.again ∙ inv.again;
+    }
+
 pub returns-clause-reads : goal.returns-clause-reads
 returns-clause-reads g c =
+    let v = c.args.geometry.now.layout in
+    let sound = c.args.geometry.now.sound in
     let inv = c.loop-number.invariant in
     let most = numbers_most c.loop-number.number _ inv.high in
     record {
       runs = omega (arith, inv.runs, used_below inv.ready.ready.made, most);
-      reads = omega (arith, inv.reads, most);
+      reads = blocks_all sound (omega (arith, inv.high, some_inodes v sound)) inv.reads;
       again = inv.again;
     }

@@ -16,4 +16,5 @@ returns g c = record {
   };
   counted = c.load.ensures.counted;
   again = c.load.ensures.again;
+  piece = c.in_ok-at.ensures.block;
 }

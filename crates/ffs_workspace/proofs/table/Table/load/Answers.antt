@@ -20,4 +20,5 @@ returns g c =
       leaves = grind (arith, common_steps);
       counted = grind (arith, common_steps);
       again = grind (arith, common_steps);
+      block = grind (arith, common_steps);
     }

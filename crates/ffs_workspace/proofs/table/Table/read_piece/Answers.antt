@@ -5,6 +5,12 @@ use Rattle.ffs_workspace.proofs.table.Table.read_piece.Goals as goal
 pub returns : goal.returns
 returns g c = record {
   has = grind (arith, common_steps);
+  piece = record {
+    first = refl;
+    count = refl;
+    place = c.in_ok-fill.ensures.fills.place.0 ∙ c.piece_place-place.ensures;
+    length = c.in_ok-fill.ensures.fills.place.1;
+  };
   leaves = record {
     kept = record {
       made = record {
