@@ -2,9 +2,8 @@
 use Rattle.std.proofs.Common.{arith, ◌≡◌, ◌∙◌, ◌++◌, ◌∷◌, [], ℕ, List, Option, Some, None, Ok, Result, refl, ap, true}
 use Rattle.std.{proofs.{Common.option_map, lemmas.List.map-append}, specs.{Prelude.unwrap_or, Borrow.Bor}}
 use Rattle.std.specs.Str.Parse.{ParsesUnsigned}
-use Rattle.clap.specs.Words.{AddsShortAliases, HasKind, Kinds, ReadsOne, is_simple, is_simple_and_free, kind_of}
+use Rattle.clap.specs.Words.{AddsShortAliases, ReadsOne, is_simple, is_simple_and_free}
 use Rattle.clap.specs.{Words.rule_of, declared.builder.{arg.Arg.Arg, value_parser.ValueParser.ValueParser}}
-use Rattle.clap.specs.declared.error.{Error.Error, kind.ErrorKind.TheVariants.OutOfMemory}
 use Rattle.clap.proofs.OnLiterals.{clap_on_literals}
 use Rattle.ffs_check.specs.CommandWords.{IsSector, program}
 
@@ -42,7 +41,3 @@ lettered a b letter adds = grind (arith, map-append)
 pub parsed : (a b : Arg) (q : ValueParser) → b ≡ record a { value_parser = b.value_parser } → b.value_parser ≡ Some q
     → rule_of b ≡ record (rule_of a) { parser = Some q }
 parsed a b q others is = ap rule_of others ∙ ap (λ p. record (rule_of a) { parser = p }) is
-
--- an error where the words are taken says that memory was refused
-pub memory_alone : (kinds : Kinds) (e : Error) → kinds ≡ [] → HasKind kinds e → kind_of e ≡ OutOfMemory
-memory_alone kinds e none has = grind arith

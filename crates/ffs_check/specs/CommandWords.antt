@@ -1,7 +1,7 @@
 -- What the words after the program's name ask for, as `clap` reads them: `-n [-b sector] image`.
 use Rattle.std.specs.Prelude.{◌≡◌, ◌<◌, ◌^◌, ℕ, pos, true, false, List, [], ◌∷◌, Option, Some, None, codes, unwrap_or}
 use Rattle.std.specs.{Prelude.⊤, Str.Parse.{IsNumeral, digits_value, without_leading_plus}}
-use Rattle.clap.specs.Words.{App, Kinds, Rule, Text, fault_of, first_of, found_of, kind_of, matches_of, new_app}
+use Rattle.clap.specs.Words.{App, HasKind, Kinds, Rule, Text, fault_of, first_of, found_of, kind_of, matches_of, new_app}
 use Rattle.clap.specs.Words.{new_rule, one_of, rows_of, rule_of, with_rule}
 use Rattle.clap.specs.declared.{builder.value_parser.ValueParser.TheVariants.Signed, error.Error.Error}
 use Rattle.clap.specs.declared.{error.kind.ErrorKind.TheVariants.OutOfMemory, parser.matches.ArgMatches.ArgMatches}
@@ -53,10 +53,10 @@ refusals words = fault_of program words
 unfoldable pub LacksMemory : List Text → Type 0
 LacksMemory words = ⊤
 
--- the words are refused by an error: they are wrong, or ask for the help or the version, or memory was
--- refused
+-- the words are refused by an error: it has a kind that the words ask for, as they are wrong, or ask for
+-- the help or the version, or memory was refused
 pub record AreRefusedBy (words : List Text) (error : Error) : Type 0 where
-  pub cause : refusals words ≡ [] → kind_of error ≡ OutOfMemory
+  pub cause : HasKind (refusals words) error
   pub memory : kind_of error ≡ OutOfMemory → LacksMemory words
 
 -- the words are taken, and these are their matches

@@ -6,6 +6,7 @@ pub mod Headline
 pub mod Opening
 pub mod PhaseEnds
 pub mod ReadsWithin
+pub mod Refusals
 pub mod Rest
 pub mod Run
 pub mod Taken

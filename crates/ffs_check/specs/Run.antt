@@ -2,19 +2,17 @@
 -- where the words are refused, 8 where no check ran to its end, else that of the check.
 use Rattle.std.specs.{Io.KnownBytes.Keeps, Prelude.{◌≡◌, ◌⊎◌, ℕ, List, [], ◌∷◌, ◌++◌, Option, Result, MatchResult}}
 use Rattle.std.specs.{Prelude.codes, declared.io.Error.Error}
-use Rattle.ffs_image.specs.{Device.Device, declared.file.OpenFault.OpenFault}
+use Rattle.clap.specs.{Words.IsAmong, declared.error.kind.ErrorKind.ErrorKind}
+use Rattle.ffs_image.specs.Device.{Device}
 use Rattle.ffs_volume.specs.{declared.End.End, Messages.{Kinds.cannot_alloc, Texts.text_of}, Report.Whole.status_of}
-use Rattle.ffs_report.specs.Sink.{Sink, Took, BrokeOff}
-use Rattle.ffs_check.specs.{AnyReads.CheckReads, Headline.Headline, Taken.TakesOfSystem}
+use Rattle.ffs_report.specs.{Outlet.IsCaused, Sink.Sink}
+use Rattle.ffs_check.specs.{AnyReads.CheckReads, Headline.Headline, Refusals.{IsPrintedOrBrokeOff, refusal_text}}
+use Rattle.ffs_check.specs.Taken.{TakesOfSystem}
 use Rattle.ffs_check.specs.CommandWords.{AskFor, LacksMemory, refusals}
 
 -- the line where the image can't be opened
 abbrev pub unopened_text : List ℕ → List ℕ
 unopened_text name = codes "Can't open " ++ (name ++ (10 ∷ []))
-
--- a text was printed, or a prefix of it where the output failed
-abbrev pub IsPrintedOrBrokeOff : Sink → Sink → List ℕ → Type 0
-IsPrintedOrBrokeOff out out' text = Took out out' text ⊎ BrokeOff out out' text
 
 -- an image was opened under a name and checked, and the status is that of its end
 pub record IsChecked (I : Type 0) (device : I → Device) (reads : I → ℕ) (opens : List ℕ → I → Type 0)
@@ -29,45 +27,56 @@ pub record IsChecked (I : Type 0) (device : I → Device) (reads : I → ℕ) (o
   pub status_is : status ≡ status_of end
 
 -- no image could be opened under a name, and that was printed
-pub record IsOpenFailure (refuses : List ℕ → OpenFault → Type 0) (name : List ℕ) (out out' : Sink)
-    (status : ℕ) : Type 0 where
-  pub fault : OpenFault
-  pub refused : refuses name fault
+pub record IsOpenFailure (refuses : List ℕ → Type 0) (name : List ℕ) (out out' : Sink) (status : ℕ) : Type 0 where
+  pub refused : refuses name
   pub printed : IsPrintedOrBrokeOff out out' (unopened_text name)
   pub status_is : status ≡ 8
 
 -- the image of a name was checked, or couldn't be opened
 abbrev pub CheckedBy : {I : Type 0} → (I → Device) → (reads : I → ℕ) → (List ℕ → I → Type 0)
-    → (List ℕ → OpenFault → Type 0) → List ℕ → Option ℕ → Sink → Sink → ℕ → Type 0
+    → (List ℕ → Type 0) → List ℕ → Option ℕ → Sink → Sink → ℕ → Type 0
 CheckedBy {I} device reads opens refuses name sector out out' status =
     IsChecked I device reads opens name sector out out' status ⊎ IsOpenFailure refuses name out out' status
 
--- the words ask for an image and a sector, and that image was checked at that sector, or couldn't be opened
-pub record RunsAsAsked (I : Type 0) (device : I → Device) (reads : I → ℕ) (opens : List ℕ → I → Type 0)
-    (refuses : List ℕ → OpenFault → Type 0) (words : List (List ℕ)) (out out' : Sink) (status : ℕ) : Type 0 where
+-- the words ask for an image and a sector, and that image was checked at that sector, or couldn't be
+-- opened. Nothing is opened beside it, and nothing goes to standard error
+pub record RunsAsAsked {I O E : Type 0} (device : I → Device) (reads : I → ℕ) (opens : O → List ℕ → I → O → Type 0)
+    (refuses : O → List ℕ → O → Type 0) (words : List (List ℕ)) (opener opener' : O) (errors errors' : E)
+    (out out' : Sink) (status : ℕ) : Type 0 where
   pub name : List ℕ
   pub sector : Option ℕ
   pub asked : AskFor words name sector
-  pub checked : CheckedBy device reads opens refuses name sector out out' status
+  pub checked : CheckedBy device reads (λ name image. opens opener name image opener') (λ name. refuses opener name opener')
+      name sector out out' status
+  pub quiet : errors' ≡ errors
 
--- the words are wrong, or ask for the help or the version: nothing is printed to the output
-pub record IsRefused (words : List (List ℕ)) (out out' : Sink) (status : ℕ) : Type 0 where
-  pub refused : refusals words ≡ [] → ⊥
+-- the words are wrong, or ask for the help or the version, and the text for that goes to standard
+-- error, once. Nothing is printed to the output, and no image is opened
+pub record IsRefused {O E : Type 0} (writes : E → E → List ℕ → Type 0) (words : List (List ℕ)) (opener opener' : O)
+    (errors errors' : E) (out out' : Sink) (status : ℕ) : Type 0 where
+  pub kind : ErrorKind
+  pub answered : IsAmong kind (refusals words)
+  pub written : writes errors errors' (refusal_text kind)
   pub unprinted : out' ≡ out
+  pub unopened : opener' ≡ opener
   pub status_is : status ≡ 2
 
--- memory was refused while the words were read
-pub record HadNoMemory (words : List (List ℕ)) (out out' : Sink) (status : ℕ) : Type 0 where
+-- memory was refused while the words were read. No image is opened, and nothing goes to standard error
+pub record HadNoMemory {O E : Type 0} (words : List (List ℕ)) (opener opener' : O) (errors errors' : E)
+    (out out' : Sink) (status : ℕ) : Type 0 where
   pub lacked : LacksMemory words
   pub printed : IsPrintedOrBrokeOff out out' (text_of cannot_alloc)
+  pub unopened : opener' ≡ opener
+  pub quiet : errors' ≡ errors
   pub status_is : status ≡ 8
 
--- how a run ends
-abbrev pub RunEnds : {I : Type 0} → (I → Device) → (reads : I → ℕ) → (List ℕ → I → Type 0)
-    → (List ℕ → OpenFault → Type 0) → List (List ℕ) → Sink → Sink → ℕ → Type 0
-RunEnds {I} device reads opens refuses words out out' status =
-    RunsAsAsked I device reads opens refuses words out out' status ⊎ (IsRefused words out out' status
-    ⊎ HadNoMemory words out out' status)
+-- how a run ends. Only where the words are refused something goes to standard error
+abbrev pub RunEnds : {I O E : Type 0} → (I → Device) → (reads : I → ℕ) → (O → List ℕ → I → O → Type 0)
+    → (O → List ℕ → O → Type 0) → (E → E → List ℕ → Type 0) → List (List ℕ) → O → O → E → E → Sink → Sink → ℕ → Type 0
+RunEnds device reads opens refuses writes words opener opener' errors errors' out out' status =
+    RunsAsAsked device reads opens refuses words opener opener' errors errors' out out' status
+    ⊎ (IsRefused writes words opener opener' errors errors' out out' status
+    ⊎ HadNoMemory words opener opener' errors errors' out out' status)
 
 -- the words weren't refused, and the writer was flushed after the run: the status stays where the
 -- flush succeeded, and is 8 where it failed
@@ -92,16 +101,20 @@ FlushedAfter was_flushed contents old new ran_status status =
     IsUnprinted old new ran_status status ⊎ IsFlushed was_flushed contents old new ran_status status
 
 -- how a run ends whose writer is flushed after it: `out` and `out'` are the writer as an output, before
--- the run and after it, and `between` is the writer before the flush
-pub record RunEndsFlushed {I S : Type 0} (device : I → Device) (reads : I → ℕ) (opens : List ℕ → I → Type 0)
-    (refuses : List ℕ → OpenFault → Type 0) (was_flushed : S → Result (Unit {0}) Error → S → Type 0)
-    (contents : S → Option (List ℕ)) (words : List (List ℕ)) (old new : S) (status : ℕ) : Type 0 where
+-- the run and after it, and `between` is the writer before the flush. The output failed only where a
+-- write did
+pub record RunEndsFlushed {I O E S : Type 0} (device : I → Device) (reads : I → ℕ)
+    (opens : O → List ℕ → I → O → Type 0) (refuses : O → List ℕ → O → Type 0) (writes : E → E → List ℕ → Type 0)
+    (was_written : S → List ℕ → Result ℕ Error → S → Type 0) (was_flushed : S → Result (Unit {0}) Error → S → Type 0)
+    (contents : S → Option (List ℕ)) (words : List (List ℕ)) (opener opener' : O) (errors errors' : E) (old new : S)
+    (status : ℕ) : Type 0 where
   pub out : Sink
   pub out' : Sink
   pub between : S
   pub before : out.taken ≡ contents old
   pub unfailed : out.failures ≡ 0
   pub after : out'.taken ≡ contents between
+  pub caused : IsCaused was_written out'.failures
   pub ran_status : ℕ
-  pub ran : RunEnds device reads opens refuses words out out' ran_status
+  pub ran : RunEnds device reads opens refuses writes words opener opener' errors errors' out out' ran_status
   pub flushed : FlushedAfter was_flushed contents between new ran_status status

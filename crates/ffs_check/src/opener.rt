@@ -1,6 +1,5 @@
 //! How a run gets its image: it opens it by its name, for reading alone.
-ghost use Rattle.std.specs.Prelude.{◌≡◌, ℕ, List, MatchResult};
-ghost use Rattle.ffs_image.specs.declared.file.OpenFault.{OpenFault};
+ghost use Rattle.std.specs.Prelude.{ℕ, List, MatchResult};
 
 use ffs_image::{Image, OpenFault, RawImage, System};
 
@@ -9,47 +8,35 @@ pub trait Opener {
     /// An image that it opens.
     type Image: Image + Drop;
 
-    /// What is known of an image that was opened under a name.
-    ghost opens: { Self → List ℕ → Self.Image → Type 0 };
+    /// An image was opened under a name: the opener before, the name, the image, and the opener
+    /// after.
+    ghost opens: { Self → List ℕ → Self.Image → Self → Type 0 };
 
-    /// What is known where no image of a name could be opened, because of a fault.
-    ghost refuses: { Self → List ℕ → OpenFault → Type 0 };
+    /// No image of a name could be opened: the opener before, the name, and the opener after.
+    ghost refuses: { Self → List ℕ → Self → Type 0 };
 
     /// Opens the image of this name for reading.
     ///
     /// # Errors
     /// The image can't be opened.
-    fn open(&self, name: &str) -> Result<Self::Image, OpenFault>
-        ensures { MatchResult result (λ image. opens self.now name.now image)
-            (refuses self.now name.now) };
+    fn open(&mut self, name: &str) -> Result<Self::Image, OpenFault>
+        ensures { MatchResult result (λ image. opens self.old name.now image self.new)
+            (λ _. refuses self.old name.now self.new) };
 }
 
-/// Opens the files of a system.
-#[derive(Clone, Copy)]
-pub struct FileOpener<'a, Y> {
-    system: &'a Y,
-}
-
-impl<'a, Y: System> FileOpener<'a, Y> {
-    /// Opens the files of this system.
-    pub fn new(system: &'a Y) -> FileOpener<'a, Y>
-        ensures { result.system.now ≡ system.now }
-    {
-        FileOpener { system }
-    }
-}
-
-impl<Y: System> Opener for FileOpener<'_, Y> {
+/// A system opens its files.
+impl<Y: System> Opener for Y {
     type Image = RawImage<Y::File>;
 
     ghost use Rattle.ffs_image.specs.System.{IsOpened, OpenFails};
 
-    ghost opens = { λ o name image. IsOpened Y.was_looked_up Y.was_opened Y.File.was_sought
-        o.system.now name image.source.file image.source.size };
+    ghost opens = { λ old name image new. IsOpened Y.was_looked_up Y.was_opened Y.File.was_sought
+        old new name image.source.file image.source.size };
 
-    ghost refuses = { λ o. OpenFails Y.was_looked_up Y.was_opened o.system.now };
+    ghost refuses = { λ old name new. OpenFails Y.was_looked_up Y.was_opened Y.File.was_sought
+        old new name };
 
-    fn open(&self, name: &str) -> Result<RawImage<Y::File>, OpenFault> {
-        RawImage::open(self.system, name)
+    fn open(&mut self, name: &str) -> Result<RawImage<Y::File>, OpenFault> {
+        RawImage::open(self, name)
     }
 }

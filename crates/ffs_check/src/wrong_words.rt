@@ -1,16 +1,21 @@
 //! What is written where no check is run: the help, the version, and what is wrong with the words.
+ghost use Rattle.std.specs.Prelude.{◌≡◌};
+ghost use Rattle.ffs_report.specs.Sink.{Prints};
+ghost use Rattle.ffs_check.specs.Refusals.{IsWritten, refusal_text, wrong_text};
 
-use clap::Error;
+use crate::version::VERSION;
 use clap::error::ErrorKind;
-use std::io;
-use std::io::Write;
+use ffs_report::print::{print, print_pieces};
+use ffs_report::{Counted, OutFault, Outlet, Output, Piece};
 
-const USAGE: &str = "Usage: fsck_ffs -n [-b sector] image
+const USAGE: &[u8] = b"
+
+Usage: fsck_ffs -n [-b sector] image
 
 For more information, try '--help'.
 ";
 
-const HELP: &str = "Checks an image of a Berkeley fast file system (UFS1), and never writes it.
+const HELP: &[u8] = b"Checks an image of a Berkeley fast file system (UFS1), and never writes it.
 
 Usage: fsck_ffs -n [-b sector] image
 
@@ -27,80 +32,57 @@ Status:
   8  the check didn't run to its end; the last message says why
 ";
 
-const REPAIR: &str = "this program never repairs, so it takes no -y, -p and -f";
+const NAME: &[u8] = b"fsck_ffs ";
 
-const NEEDED: &str = "-n and an image are needed";
+const NEEDED: &[u8] = b"error: -n and an image are needed";
 
-const SECTOR_RANGE: &str = "a sector is 1 to 4194303";
+const SECTOR_RANGE: &[u8] = b"error: a sector is 1 to 4194303";
 
-/// The letters of fsck(8) that ask for repair.
-const REPAIR_LETTERS: [char; 3] = ['y', 'p', 'f'];
+const NO_SECTOR: &[u8] = b"error: -b needs a sector";
 
-/// Passes a text on to the end of its first line.
-#[derive(Drop)]
-struct FirstLine<'a, E> {
-    inner: &'a mut E,
-    is_over: bool,
-}
+const TWO_SECTORS: &[u8] = b"error: -b can be given once";
 
-impl<E: Write> Write for FirstLine<'_, E> {
-    fn write(&mut self, buf: &[u8]) -> io::Result<usize> {
-        if self.is_over {
-            return Ok(buf.len());
-        }
-        match buf.iter().position(|byte| *byte == b'\n') {
-            Some(end) => {
-                self.is_over = true;
-                self.inner.write_all(&buf[..end])?;
-            }
-            None => self.inner.write_all(buf)?,
-        }
-        Ok(buf.len())
-    }
+const UNKNOWN: &[u8] =
+    b"error: this program takes -n, -b and one image; it never repairs, so it takes no -y, -p and -f";
 
-    fn flush(&mut self) -> io::Result<()> {
-        self.inner.flush()
+const OTHER_MISTAKE: &[u8] = b"error: the arguments are wrong";
+
+/// What is wrong with the words, by the kind of mistake that `clap` found.
+fn wrong_text(kind: ErrorKind) -> &'static [u8]
+    ensures { result.now ≡ wrong_text kind }
+{
+    match kind {
+        ErrorKind::MissingRequiredArgument => NEEDED,
+        ErrorKind::ValueValidation => SECTOR_RANGE,
+        ErrorKind::InvalidValue => NO_SECTOR,
+        ErrorKind::ArgumentConflict => TWO_SECTORS,
+        ErrorKind::UnknownArgument => UNKNOWN,
+        _ => OTHER_MISTAKE,
     }
 }
 
-/// Whether a word asks for repair: `-y`, or such a letter among others.
-fn asks_for_repair(word: &str) -> bool {
-    word.starts_with('-') && !word.starts_with("--") && word.contains(REPAIR_LETTERS.as_slice())
-}
-
-/// Writes what is wrong, and the usage.
-fn write_wrong<E: Write>(errors: &mut E, wrong: &str) -> io::Result<()> {
-    write!(errors, "error: {wrong}\n\n{USAGE}")
-}
-
-/// Writes the first line of what `clap` says, and the usage.
-fn write_first_line<E: Write>(errors: &mut E, error: &Error) -> io::Result<()> {
-    let mut line = FirstLine {
-        inner: errors,
-        is_over: false,
-    };
-    write!(line, "{error}")?;
-    write!(errors, "\n\n{USAGE}")
-}
-
-/// Writes why no check is run by these words: what is wrong with them, or the help or the version
-/// that they ask for.
-///
-/// # Errors
-/// Those of the writer.
-pub(crate) fn write_refusal<E: Write>(
-    errors: &mut E,
-    words: &[&str],
-    error: &Error,
-) -> io::Result<()> {
-    match error.kind() {
-        ErrorKind::DisplayHelp => errors.write_all(HELP.as_bytes()),
-        ErrorKind::DisplayVersion => write!(errors, "{error}"),
-        ErrorKind::MissingRequiredArgument => write_wrong(errors, NEEDED),
-        ErrorKind::ValueValidation => write_wrong(errors, SECTOR_RANGE),
-        ErrorKind::UnknownArgument if words.iter().any(|word| asks_for_repair(word)) => {
-            write_wrong(errors, REPAIR)
-        }
-        _ => write_first_line(errors, error),
+/// Prints the help, the version, or what is wrong with the words and the usage.
+fn print_refusal<W: Output>(out: &mut W, kind: ErrorKind) -> Result<(), OutFault>
+    ensures { Prints (W.sink out.old) (W.sink out.new) (refusal_text kind) result }
+{
+    match kind {
+        ErrorKind::DisplayHelp => print(out, HELP),
+        ErrorKind::DisplayVersion => print_pieces(
+            out,
+            &[
+                Piece::Text(NAME),
+                Piece::Text(VERSION.as_bytes()),
+                Piece::Text(b"\n"),
+            ],
+        ),
+        _ => print_pieces(out, &[Piece::Text(wrong_text(kind)), Piece::Text(USAGE)]),
     }
+}
+
+/// Writes why no check is run, by what `clap` answered: what is wrong with the words, or the help or
+/// the version that they ask for. A writer that fails changes nothing else.
+pub(crate) fn write_refusal<E: Outlet>(errors: &mut E, kind: ErrorKind)
+    ensures { IsWritten E.contents E.was_written errors.old errors.new (refusal_text kind) }
+{
+    let _ = print_refusal(&mut Counted::new(errors), kind);
 }

@@ -1,5 +1,5 @@
 -- What a memory granted, and how often it refused.
-use Rattle.std.specs.Prelude.{◌≡◌, ◌+◌, ◌-◌, ◌*◌, ◌^◌, ◌<◌, ◌≤◌, ℕ, min, [], replicate, vec_capacity, vec_len, Result}
+use Rattle.std.specs.Prelude.{◌≡◌, ◌+◌, ◌-◌, ◌*◌, ◌^◌, ◌≤◌, ℕ, min, [], replicate, vec_capacity, vec_len, Result}
 use Rattle.std.specs.{Prelude.MatchResult, declared.{alloc.Global.Global, vec.Vec.Vec}}
 use Rattle.ffs_memory.specs.{Words.Words, declared.fixed_list.FixedList.FixedList}
 
@@ -16,10 +16,9 @@ unused = record { granted = 0; refused = 0 }
 abbrev pub RefusedOneMore : Account → Account → Type 0
 RefusedOneMore old new = new.refused ≡ min (old.refused + 1) (2 ^ 64 - 1)
 
--- these bytes were granted, and no request was refused; the count is exact as long as it fits a u64
+-- these bytes were granted, and no request was refused; the count saturates at `u64::MAX`
 pub record Granted (old new : Account) (bytes : ℕ) : Type 0 where
-  pub most : new.granted ≤ old.granted + bytes
-  pub exact : old.granted + bytes < 2 ^ 64 → new.granted ≡ old.granted + bytes
+  pub granted : new.granted ≡ min (old.granted + bytes) (2 ^ 64 - 1)
   pub refused : new.refused ≡ old.refused
 
 -- one request was refused, and at most these bytes were granted before

@@ -88,7 +88,8 @@ impl Table {
 
 /// The image in a file of this name, whose reads are counted.
 fn open(rt: &HostRuntime, name: &str) -> io::Result<CountedImage<FileImage>> {
-    match FileImage::open(rt, name) {
+    let mut system = *rt;
+    match FileImage::open(&mut system, name) {
         Ok(image) => Ok(CountedImage::new(image)),
         Err(_) => Err(io::Error::from(ErrorKind::NotFound)),
     }

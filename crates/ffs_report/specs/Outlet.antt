@@ -1,6 +1,8 @@
 -- How a writer below is asked, and what its answers are.
-use Rattle.std.specs.{Prelude.{◌≡◌, ◌<◌, ℕ, List, Option, Result, Ok, MatchResult, IfOk}, declared.io.Error.Error}
-use Rattle.std.specs.{Prelude.length, Io.{WritesAtMost, KnownBytes.{Keeps, WriteAppends}}}
+use Rattle.std.specs.Prelude.{◌≡◌, ◌⊎◌, ◌==◌, ◌&&◌, ℕ, Bool, false, nat_lt, List, length, Option, Result, Ok, Err}
+use Rattle.std.specs.{Prelude.{MatchResult, IsErrAnd}, Bool.{OnTrue, OnFalse}, declared.io.Error.Error}
+use Rattle.std.specs.{Io.{WritesAtMost, KnownBytes.{Keeps, WriteAppends}}, IoError.error_kind}
+use Rattle.std.specs.declared.io.ErrorKind.TheVariants.{WriteZero}
 use Rattle.ffs_image.specs.Interrupted.{IsTriedAgain}
 
 -- a writer answers a write: it took some bytes of the piece, from the first on, as many as it
@@ -24,11 +26,29 @@ abbrev pub IsReported : {E : Type 0} → Result ℕ Error → Result ℕ E → T
 IsReported answer result =
     MatchResult result (λ n. answer ≡ Ok n) (λ _. MatchResult answer (λ n. n ≡ 0) (λ _. Unit {0}))
 
--- one write of a piece, and another only where a signal interrupted the one before, with the last
--- one's answer: one that takes nothing of a piece with bytes is a fault
-pub record WritesThrough {S E : Type 0} (was_written : S → List ℕ → Result ℕ Error → S → Type 0) (piece : List ℕ)
-    (old : S) (result : Result ℕ E) (new : S) : Type 0 where
+-- some write to a writer failed: it answered an error, or took nothing
+pub record WriteFailed {S : Type 0} (was_written : S → List ℕ → Result ℕ Error → S → Type 0) : Type 0 where
+  pub old : S
+  pub piece : List ℕ
+  pub answer : Result ℕ Error
+  pub new : S
+  pub written : was_written old piece answer new
+  pub nothing : MatchResult answer (λ n. n ≡ 0) (λ _. Unit {0})
+
+-- so many puts failed: none, or a write failed
+abbrev pub IsCaused : {S : Type 0} → (S → List ℕ → Result ℕ Error → S → Type 0) → ℕ → Type 0
+IsCaused was_written failures = (failures ≡ 0) ⊎ WriteFailed was_written
+
+-- a writer took nothing of a piece that has bytes
+abbrev pub took_none : List ℕ → Result ℕ Error → Bool
+took_none piece (Ok n) = nat_lt 0 (length piece) && n == 0
+took_none piece (Err error) = false
+
+-- one write of a piece, and another only where a signal interrupted the one before: the last one's
+-- answer is returned, but one that took nothing of a piece with bytes is the error `WriteZero`
+pub record WritesThrough {S : Type 0} (was_written : S → List ℕ → Result ℕ Error → S → Type 0) (piece : List ℕ)
+    (old : S) (result : Result ℕ Error) (new : S) : Type 0 where
   pub answer : Result ℕ Error
   pub tried : IsTriedAgain (λ writer. was_written writer piece) old new answer
-  pub reported : IsReported answer result
-  pub some : 0 < length piece → IfOk result (λ n. 0 < n)
+  pub returned : OnFalse (took_none piece answer) (result ≡ answer)
+  pub nothing : OnTrue (took_none piece answer) (IsErrAnd result (λ error. error_kind error ≡ WriteZero))

@@ -1,6 +1,7 @@
 -- What the writers around another one leave.
-use Rattle.std.specs.Prelude.{◌≡◌, ℕ, ◌+◌, ◌<◌, ◌↔◌, true, List, length, take, Option, Some, Result, IsErr, MatchResult}
-use Rattle.std.specs.{Bool.{OnTrue, OnFalse}, Borrow.GName, declared.io.Error.Error}
+use Rattle.std.specs.Prelude.{◌≡◌, ℕ, ◌+◌, ◌<◌, ◌↔◌, true, List, length, take, Option, Some, Result, IsErr, IsErrAnd}
+use Rattle.std.specs.{Prelude.MatchResult, Bool.{OnTrue, OnFalse}, Borrow.GName, declared.io.Error.Error}
+use Rattle.std.specs.{IoError.error_kind, declared.io.ErrorKind.TheVariants.BrokenPipe}
 use Rattle.ffs_report.specs.{Outlet.IsReported, Sink.{Sink, Puts}, declared.muted.MutedWriter.MutedWriter}
 use Rattle.ffs_report.specs.declared.{counted.Counted.Counted, fuse.FuseWriter.FuseWriter}
 
@@ -25,12 +26,14 @@ pub record PutsOnce {S E : Type 0} (contents : S → Option (List ℕ))
   pub reported : IsReported answer result
 
 -- a call of a writer that is muted by a failure: it has failed from then on just where its answer
--- is an error. Once it has failed, it and the writer below are untouched; before, `was_asked` holds
--- of that one
-pub record IsMuted {S T E : Type 0} (was_asked : S → Result T E → S → Type 0) (old : MutedWriter S)
-    (result : Result T E) (new : MutedWriter S) : Type 0 where
+-- is an error. Once it has failed, it and the writer below are untouched, and the error is
+-- `BrokenPipe`, after which no buffer tries again, as it does after `Interrupted`; before, `was_asked`
+-- holds of that one
+pub record IsMuted {S T : Type 0} (was_asked : S → Result T Error → S → Type 0) (old : MutedWriter S)
+    (result : Result T Error) (new : MutedWriter S) : Type 0 where
   pub failed : IsErr result ↔ (new.failed ≡ true)
   pub muted : OnTrue old.failed (new ≡ old)
+  pub final : OnTrue old.failed (IsErrAnd result (λ error. error_kind error ≡ BrokenPipe))
   pub passed : OnFalse old.failed (was_asked old.inner result new.inner)
 
 -- of a write that isn't empty the writer below is asked for as many bytes as the fuse has left, and

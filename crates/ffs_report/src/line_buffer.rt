@@ -1,5 +1,6 @@
 //! The bytes of one line, gathered before they go out.
-ghost use Rattle.std.specs.Prelude.{◌≡◌, ◌≤◌, ◌*◌, length, take};
+ghost use Rattle.std.specs.Prelude.{◌≡◌, ◌+◌, ◌<◌, ◌≤◌, ◌*◌, length, take};
+ghost use Rattle.ffs_report.specs.Sink.{Puts};
 ghost use Rattle.ffs_report.specs.declared.line_buffer.TheConstants.{LINE_ROOM};
 
 use crate::output::{OutFault, Output};
@@ -56,8 +57,18 @@ impl Output for LineBuffer {
         self.failures
     }
 
+    /// # Errors
+    /// There is no room for the piece.
     #[inline(always)]
-    fn put(&mut self, piece: &[u8]) -> Result<usize, OutFault> {
+    fn put(&mut self, piece: &[u8]) -> Result<usize, OutFault>
+        requires { 0 < length piece.now }
+        ensures puts { Puts (⟦<LineBuffer as Output>⟧.sink self.old)
+            (⟦<LineBuffer as Output>⟧.sink self.new) piece.now result }
+
+        // A piece that has room is taken.
+        ensures room { self.old.used + length piece.now ≤ LINE_ROOM
+            → result ≡ Ok (length piece.now) }
+    {
         if piece.len() > LINE_ROOM - self.used {
             self.failures = self.failures.saturating_add(1);
             return Err(OutFault);

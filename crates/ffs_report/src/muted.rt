@@ -1,5 +1,5 @@
 //! A writer that is muted by its first failure.
-ghost use Rattle.std.specs.Prelude.{◌≡◌, false};
+ghost use Rattle.std.specs.{Prelude.{◌≡◌, false}, IoError.error_kind};
 ghost use Rattle.ffs_image.specs.Interrupted.{IsTriedAgain};
 ghost use Rattle.ffs_report.specs.{Outlet.{AnswersFlush, AnswersWrite, WritesThrough}, Writers.IsMuted};
 
@@ -38,8 +38,10 @@ impl<S: Outlet> MutedWriter<S> {
     }
 }
 
-/// The error of each call after a failure.
-fn error_when_muted() -> io::Error {
+/// The error of each call after a failure. It is none after which a buffer tries again.
+fn error_when_muted() -> io::Error
+    ensures { error_kind result ≡ ErrorKind.BrokenPipe }
+{
     io::Error::from(ErrorKind::BrokenPipe)
 }
 

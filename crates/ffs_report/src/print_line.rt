@@ -1,6 +1,6 @@
 //! Prints a line of a report: the text of each message.
 ghost use Rattle.std.specs.Prelude.{◌≡◌};
-ghost use Rattle.ffs_report.specs.Sink.{Prints};
+ghost use Rattle.ffs_report.specs.Sink.{GoesGathered, Prints};
 ghost use Rattle.ffs_report.specs.Lines.{message_of};
 ghost use Rattle.ffs_volume.specs.Messages.Texts.{text_of, fault_text, opening_text, mounted_text, minfree_text, offer_text, block_count_text, block_message_text, summary_text};
 
@@ -23,7 +23,12 @@ pub fn print_gathered<W: Output>(
     buffer: &mut LineBuffer,
     line: &Line<'_>,
 ) -> Result<(), OutFault>
-    ensures { Prints (W.sink out.old) (W.sink out.new) (text_of (message_of line.now)) result }
+    ensures prints { Prints (W.sink out.old) (W.sink out.new) (text_of (message_of line.now))
+        result }
+
+    // It is one put, unless the buffer, which is empty then, has no room for it.
+    ensures gathered { GoesGathered W.was_put out.old out.new (text_of (message_of line.now))
+        buffer.old.failures (⟦<LineBuffer as Output>⟧.sink buffer.new) }
 {
     buffer.clear();
     if print_line(buffer, line).is_ok() {

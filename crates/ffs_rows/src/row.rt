@@ -79,13 +79,14 @@ impl Row {
     /// The file can't be written, and memory that was refused.
     pub fn run_over_file<S: Write>(&self, rt: &HostRuntime, out: &mut S) -> io::Result<u8> {
         fs::write(rt, "t.img", self.image.as_slice())?;
+        let mut system = *rt;
         let mut errors = Vec::new(rt.alloc());
         let status = match self.sector {
-            None => run(rt, rt.alloc(), &["-n", "t.img"], out, &mut errors),
+            None => run(&mut system, rt.alloc(), &["-n", "t.img"], out, &mut errors),
             Some(sector) => {
                 let sector = format!(in rt.alloc(); "{sector}")?;
                 let words = ["-n", "-b", sector.as_str(), "t.img"];
-                run(rt, rt.alloc(), &words, out, &mut errors)
+                run(&mut system, rt.alloc(), &words, out, &mut errors)
             }
         };
         Ok(status)

@@ -1,4 +1,5 @@
-//! How a file is opened and read: long names, FIFOs, reads that a signal interrupts.
+//! How a file is opened and read: long names, FIFOs, files without a size, reads that a signal
+//! interrupts.
 
 ghost use Rattle.std.specs.Prelude.{None, ⊤};
 
@@ -14,16 +15,32 @@ const LONG: &str = "ffs_image_long_n.img";
 
 const LETTERS: &[u8; 4] = b"abcd";
 
-/// A system whose files have four letters. Each read gives one of them, and every second one fails.
+/// A system whose files have four letters, and tell their size or don't. Each read gives one of
+/// them, and every second one fails. It counts the files that it opens.
 #[derive(Clone, Copy)]
 struct Letters {
     fifo: bool,
+    sized: bool,
     kind: ErrorKind,
+    opened: u64,
+}
+
+impl Letters {
+    /// One whose reads fail so.
+    fn new(kind: ErrorKind) -> Letters {
+        Letters {
+            fifo: false,
+            sized: true,
+            kind,
+            opened: 0,
+        }
+    }
 }
 
 #[derive(Drop)]
 struct LetterFile {
     reads: u64,
+    sized: bool,
     kind: ErrorKind,
 }
 
@@ -35,6 +52,9 @@ impl RawFile for LetterFile {
     ghost was_read = { λ _ _ _ _ _. ⊤ };
 
     fn end(&mut self) -> io::Result<u64> {
+        if !self.sized {
+            return Err(io::Error::from(ErrorKind::NotSeekable));
+        }
         Ok(LETTERS.len() as u64)
     }
 
@@ -56,15 +76,17 @@ impl System for Letters {
 
     ghost was_looked_up = { λ _ _ _. ⊤ };
 
-    ghost was_opened = { λ _ _ _. ⊤ };
+    ghost was_opened = { λ _ _ _ _. ⊤ };
 
     fn is_fifo(&self, _name: &str) -> io::Result<bool> {
         Ok(self.fifo)
     }
 
-    fn open_to_read(&self, _name: &str) -> io::Result<LetterFile> {
+    fn open_to_read(&mut self, _name: &str) -> io::Result<LetterFile> {
+        self.opened = self.opened.saturating_add(1);
         Ok(LetterFile {
             reads: 0,
+            sized: self.sized,
             kind: self.kind,
         })
     }
@@ -76,11 +98,8 @@ impl System for Letters {
 type ThreeLetters = (u64, Option<Result<(), ImageFault>>, [u8; 3], [u64; 2]);
 
 fn interrupted() -> Result<ThreeLetters, Fail> {
-    let system = Letters {
-        fifo: false,
-        kind: ErrorKind::Interrupted,
-    };
-    let mut image = RawImage::open(&system, "letters")?;
+    let mut system = Letters::new(ErrorKind::Interrupted);
+    let mut image = RawImage::open(&mut system, "letters")?;
     let mut found = [0u8; 3];
     let read = read_within(&mut image, 1, &mut found);
     let failures = [image.failures(), image.failed()];
@@ -100,11 +119,8 @@ fn an_interrupted_read_is_tried_again(rt: HostRuntime) -> Result<(), Fail> {
 type OneLetter = ([u64; 3], [Option<Result<(), ImageFault>>; 2], u8);
 
 fn failing() -> Result<OneLetter, Fail> {
-    let system = Letters {
-        fifo: false,
-        kind: ErrorKind::Other,
-    };
-    let mut image = RawImage::open(&system, "letters")?;
+    let mut system = Letters::new(ErrorKind::Other);
+    let mut image = RawImage::open(&mut system, "letters")?;
     let size = image.size();
     let mut found = [0u8; 1];
     let first = read_within(&mut image, 1, &mut found);
@@ -120,13 +136,31 @@ fn a_read_that_fails_is_not_tried_again(rt: HostRuntime) -> Result<(), Fail> {
     Ok(())
 }
 
+/// Whether an image is opened in a system, and how many files the system opened for it.
+fn opened(mut system: Letters) -> (bool, u64) {
+    let is_opened = RawImage::open(&mut system, "letters").is_ok();
+    (is_opened, system.opened)
+}
+
+#[test]
+fn a_file_is_opened_once(rt: HostRuntime) -> Result<(), Fail> {
+    same(&rt, &opened(Letters::new(ErrorKind::Other)), &(true, 1));
+    Ok(())
+}
+
 #[test]
 fn a_fifo_is_not_opened(rt: HostRuntime) -> Result<(), Fail> {
-    let system = Letters {
-        fifo: true,
-        kind: ErrorKind::Other,
-    };
-    same(&rt, &RawImage::open(&system, "letters").is_err(), &true);
+    let mut system = Letters::new(ErrorKind::Other);
+    system.fifo = true;
+    same(&rt, &opened(system), &(false, 0));
+    Ok(())
+}
+
+#[test]
+fn a_file_without_a_size_is_refused(rt: HostRuntime) -> Result<(), Fail> {
+    let mut system = Letters::new(ErrorKind::Other);
+    system.sized = false;
+    same(&rt, &opened(system), &(false, 1));
     Ok(())
 }
 

@@ -134,6 +134,12 @@ pub fn read_within<I: Image>(
     Some(image.read_at(at, buf))
 }
 
+/// Whether no image of a name can be opened.
+fn is_refused<R: Files<File = File>>(files: &R, name: &str) -> bool {
+    let mut system = files;
+    FileImage::open(&mut system, name).is_err()
+}
+
 /// What is found of a file: its size when it was opened, four of its bytes, what came of the read
 /// of them, and of a second one after the file was cut, how many reads failed, and the sector of
 /// the last one that did.
@@ -141,8 +147,9 @@ type CutFile = (u64, [u8; 4], [Option<Result<(), ImageFault>>; 2], [u64; 2]);
 
 /// A file of 1,024 bytes, which is cut to 1,022 after the first read, and removed.
 fn cut_file<R: Files<File = File>>(files: &R) -> Result<CutFile, Fail> {
+    let mut system = files;
     fs::write(files, NAME, [7u8; 1024].as_slice())?;
-    let mut image = FileImage::open(files, NAME)?;
+    let mut image = FileImage::open(&mut system, NAME)?;
     let mut found = [0u8; 4];
     let first = read_within(&mut image, 1020, &mut found);
     fs::write(files, NAME, [8u8; 1022].as_slice())?;
@@ -167,7 +174,7 @@ fn file_reads(rt: HostRuntime) -> Result<(), Fail> {
         &[Some(Ok(())), Some(Err(ImageFault { sector: 1 }))],
     );
     same(&rt, &failures, &[1, 1]);
-    same(&rt, &FileImage::open(&rt, NAME).is_err(), &true);
+    same(&rt, &is_refused(&rt, NAME), &true);
     Ok(())
 }
 
@@ -175,7 +182,8 @@ fn file_reads(rt: HostRuntime) -> Result<(), Fail> {
 pub type TwoBytes = (u64, [u8; 2], Option<Result<(), ImageFault>>);
 
 pub fn two_bytes<R: Files<File = File>>(files: &R, name: &str, at: u64) -> Result<TwoBytes, Fail> {
-    let mut image = FileImage::open(files, name)?;
+    let mut system = files;
+    let mut image = FileImage::open(&mut system, name)?;
     let mut found = [0u8; 2];
     let read = read_within(&mut image, at, &mut found);
     Ok((image.size(), found, read))
@@ -197,7 +205,7 @@ fn file_is_left_as_it_is(rt: HostRuntime) -> Result<(), Fail> {
         &[7u8; 1001].as_slice(),
     );
     fs::remove_file(&rt, ODD)?;
-    same(&rt, &FileImage::open(&rt, ODD).is_err(), &true);
+    same(&rt, &is_refused(&rt, ODD), &true);
     same(&rt, &fs::metadata(&rt, ODD).is_err(), &true);
     Ok(())
 }
@@ -291,7 +299,8 @@ fn file_checked<R: Files<File = File>>(
     name: &str,
     alloc: Global,
 ) -> Result<(End, Vec<u8>), Fail> {
-    let mut image = FileImage::open(files, name)?;
+    let mut system = files;
+    let mut image = FileImage::open(&mut system, name)?;
     Ok(checked(&mut image, alloc))
 }
 

@@ -1,7 +1,7 @@
-use Rattle.std.proofs.Common.{arith, ◌≡◌, ◌∙◌, ap, sym, true, Ok, Err, List, Result, IfOk, MatchResult}
-use Rattle.clap.specs.Words.{App, FailsBy, HasMatchesOf, Text, fault_of, is_simple, is_simple_and_free, matches_of}
+use Rattle.std.proofs.Common.{arith, ◌≡◌, ◌∙◌, ap, subst, sym, true, Ok, Err, List, Result, IfOk, MatchResult}
+use Rattle.clap.specs.Words.{App, FailsBy, HasKind, HasMatchesOf, Text, fault_of, is_simple, is_simple_and_free, matches_of}
 use Rattle.clap.specs.declared.{error.Error.Error, parser.matches.ArgMatches.ArgMatches}
-use Rattle.ffs_check.{proofs.MatchLaws.{free, memory_alone, simple}, specs.CommandWords.{AreRefusedBy, HasMatches}}
+use Rattle.ffs_check.{proofs.MatchLaws.{free, simple}, specs.CommandWords.{AreRefusedBy, HasMatches}}
 use Rattle.ffs_check.specs.CommandWords.{LacksMemory, program}
 use Rattle.ffs_check.proofs.parse_args.matches_of.Goals as goal
 
@@ -15,8 +15,7 @@ answered a words (Ok m) is kinds matches = record {
   rows = (matches (ap is_simple is ∙ simple)).0 ∙ ap (λ (x : App). matches_of x words) is;
 }
 answered a words (Err e) is kinds matches = record {
-  cause = λ none. memory_alone (fault_of a words) e (ap (λ (x : App). fault_of x words) is ∙ none)
-      (kinds (ap is_simple_and_free is ∙ free));
+  cause = subst (λ (x : App). HasKind (fault_of x words) e) is (kinds (ap is_simple_and_free is ∙ free));
   memory = λ asked. tt;
 }
 

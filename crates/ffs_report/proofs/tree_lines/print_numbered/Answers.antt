@@ -8,4 +8,4 @@ pub returns-in_err-print_shown : goal.returns-in_err-print_shown
 returns-in_err-print_shown g c = search (printing, c.in_ok-print_number.ensures, c.in_err-print_shown.ensures)
 
 pub returns : goal.returns
-returns g c = search (printing, c.in_ok-print_number.ensures, c.in_ok-print_shown.ensures, c.print.ensures)
+returns g c = search (printing, c.in_ok-print_number.ensures, c.in_ok-print_shown.ensures, c.print.ensures.prints)

@@ -12,4 +12,4 @@ returns-in_err-print_shown g c =
 pub returns : goal.returns
 returns g c =
     let inode = rw c.path_label.ensures at c.in_ok-print_inode.ensures in
-    search (printing, inode, c.in_ok-print_shown.ensures, c.print.ensures)
+    search (printing, inode, c.in_ok-print_shown.ensures, c.print.ensures.prints)

@@ -10,7 +10,8 @@ returns-in-Ok-2 g c =
       asked = record {
         failed = search rules;
         muted = rw c.if-self.false tt;
-        passed = rw c.if-self.false (record { answer = _; tried = tried; reported = search rules; some = search rules });
+        final = rw c.if-self.false tt;
+        passed = rw c.if-self.false (record { answer = _; tried = tried; returned = search rules; nothing = search rules });
       };
     }
 
@@ -23,6 +24,7 @@ returns-in-Err g c =
       asked = record {
         failed = search rules;
         muted = rw c.if-self.false tt;
-        passed = rw c.if-self.false (record { answer = _; tried = tried; reported = search rules; some = search rules });
+        final = rw c.if-self.false tt;
+        passed = rw c.if-self.false (record { answer = _; tried = tried; returned = search rules; nothing = search rules });
       };
     }
