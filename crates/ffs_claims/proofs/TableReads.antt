@@ -57,6 +57,17 @@ pub blocks_none : {v : Layout} {x reads reads' runs : ℕ} {t : Table} → reads
     BlocksRead v x reads reads' runs t
 blocks_none few = record { blocks = 0; most = omega arith; passed = inl (omega arith) }
 
+-- the blocks that were read before the inode x, where it isn't held, have their inodes before it
+passed_all : {v : Layout} {x reads now runs : ℕ} {t : Table} → (HoldsInode t x → ⊥) →
+    (read : BlocksRead v x reads now runs t) → read.blocks * v.inopb ≤ x
+passed_all {x = x} {t = t} unheld read = elim read.passed [
+  | inl before ↦ before
+  | inr last ↦ elim (cases_lt x (t.first + t.count)) [
+    | inl within ↦ absurd (unheld (omega (arith, last.begun), within))
+    | inr past ↦ omega (arith, last.ends, last.count, past)
+  ]
+]
+
 module _ {v : Layout} {x reads now now' runs runs' : ℕ} {t t' : Table} where
   -- the inode x was held
   blocks_held : (t' ≡ t) × (now' + runs ≤ now + runs') → BlocksRead v x reads now runs t →
@@ -69,16 +80,6 @@ module _ {v : Layout} {x reads now now' runs runs' : ℕ} {t t' : Table} where
       | inr last ↦ inr (rw same.0 (record { count = last.count; ends = last.ends; begun = omega (arith, last.begun) }))
     ];
   }
-
-  -- the blocks that were read before the inode x, where it isn't held, have their inodes before it
-  passed_all : (HoldsInode t x → ⊥) → (read : BlocksRead v x reads now runs t) → read.blocks * v.inopb ≤ x
-  passed_all unheld read = elim read.passed [
-    | inl before ↦ before
-    | inr last ↦ elim (cases_lt x (t.first + t.count)) [
-      | inl within ↦ absurd (unheld (omega (arith, last.begun), within))
-      | inr past ↦ omega (arith, last.ends, last.count, past)
-    ]
-  ]
 
   -- its block was read
   blocks_more : IsAcceptedLayout v → (HoldsInode t x → ⊥) → HoldsPiece v v.inopb x t' →
@@ -139,10 +140,10 @@ module _ {v : Layout} {x reads now runs : ℕ} {t : Table} where
       omega (arith, read.most, few_blocks read.blocks g (begun_below some high read))
 
   -- and then the check of the inode x failed
-  pub blocks_failed : {now' runs' : ℕ} {T : Type 0} → IsAcceptedLayout v → x < inodes_of v →
+  pub blocks_failed : {now' : ℕ} (runs' : ℕ) {T : Type 0} → IsAcceptedLayout v → x < inodes_of v →
       (HoldsInode t x → T × (now' + runs ≤ now + runs')) → now' + runs ≤ now + 1 + runs' →
       BlocksRead v x reads now runs t → now' ≤ reads + table_blocks v + runs'
-  blocks_failed {now'} {runs'} g below again few read =
+  blocks_failed {now'} runs' g below again few read =
       let some : 0 < v.inopb = omega (arith, g.sizes.inopb, g.sizes.bsize_low) in
       let held : HoldsInode t x → now' ≤ reads + table_blocks v + runs' = λ h.
       omega (arith, (again h).1, read.most, few_blocks read.blocks g (begun_below some (omega (arith, below)) read)) in

@@ -52,7 +52,15 @@ returns-clause-claims g c =
       claims = ok_where c.claim_read_inode.result _ _
           (λ bytes. claims_of c.claim_read_inode.new.workspace ≡ after_owner v s (owner_with v bytes n i)) _ gives
           (λ bytes t h. h ∙ ap (after_owner v s) (owner bytes t)) did.claims;
-      left = grind arith;
+      left = record {
+        image = image;
+        claim = did.left.claim;
+        walk = did.left.walk;
+        bound = did.left.bound;
+        runs_claim = did.left.runs_claim;
+        again = did.left.again;
+        counted = omega (arith, did.left.counted, c.in_ok-inode.ensures.counted);
+      };
     }
 
 pub returns-in_err-inode-clause-table : goal.returns-in_err-inode-clause-table

@@ -114,7 +114,7 @@ returns-clause-leaves g c = λ bytes k.
         notes = holds.notes;
         starts = holds.starts;
       };
-      dups = c.has_unreported_dups.ensures ∙ ap any_set holds.dup ∙ rescan_is c.args.geometry.now.layout bytes;
+      dups = c.has_unreported_dups-workspace.ensures ∙ ap any_set holds.dup ∙ rescan_is c.args.geometry.now.layout bytes;
       count = holds.runs;
     }
 
@@ -125,7 +125,7 @@ returns-in_err-claim_inode-clause-reads g c =
     let most = numbers_most c.loop-number.number _ inv.high in
     record {
       runs = omega (arith, inv.runs, left.bound, most);
-      reads = blocks_failed c.args.geometry.now.sound (omega arith) c.claim_inode.ensures.table.again left.counted
+      reads = blocks_failed c.claim_inode.new.workspace.runs_seen c.args.geometry.now.sound (omega arith) c.claim_inode.ensures.table.again left.counted
           inv.reads;
       again = left.again ∙ inv.again;
     }

@@ -36,7 +36,7 @@ loop-number-init g c =
     record {
       ready = grind arith;
       device = refl;
-      claims = record { used = refl; kinds = refl; notes = refl; references = refl; seen = refl };
+      claims = record { used = refl; kinds = refl; notes = refl; references = refl; seen = refl; dups = refl };
       low = omega arith;
       high = λ h. omega arith;
       runs = λ bytes k. omega arith;
