@@ -1,5 +1,5 @@
-# Installs the program, its page, its guide and the completion of its words. It takes the program that the launcher ./fsck_ffs
-# would run: the one of dist/, and where sources were changed, the one that is built of them.
+# Installs the program, its page, its guides and examples, report_json and the completion of its words. It takes the program that
+# the launcher ./fsck_ffs would run: the one of dist/, and where sources were changed, the one that is built of them.
 #
 #   make check
 #   make install PREFIX=/usr/local DESTDIR=
@@ -13,6 +13,13 @@ MANDIR = $(PREFIX)/share/man
 DOCDIR = $(PREFIX)/share/doc/fsck-ffs
 BASHDIR = $(PREFIX)/share/bash-completion/completions
 ZSHDIR = $(PREFIX)/share/zsh/site-functions
+GUIDES = READING.md PIPELINES.md FORMATS.md
+EXAMPLES = $(notdir $(wildcard examples/*))
+
+# What make install puts below DESTDIR; the list of it is what make uninstall takes.
+INSTALLED = "$(BINDIR)/fsck_ffs" "$(BINDIR)/report_json" "$(MANDIR)/man8/fsck_ffs.8" "$(BASHDIR)/fsck_ffs" "$(ZSHDIR)/_fsck_ffs" \
+    "$(DOCDIR)/CHANGELOG.md" $(GUIDES:%="$(DOCDIR)/%") $(EXAMPLES:%="$(DOCDIR)/examples/%")
+LIST = "$(DOCDIR)/INSTALLED" "$(DESTDIR)"
 
 all:
 	@tools/program >/dev/null
@@ -22,18 +29,19 @@ check:
 	@tools/check_examples
 
 install: all
-	install -d "$(DESTDIR)$(BINDIR)" "$(DESTDIR)$(MANDIR)/man8" "$(DESTDIR)$(DOCDIR)" "$(DESTDIR)$(BASHDIR)" "$(DESTDIR)$(ZSHDIR)"
+	install -d "$(DESTDIR)$(BINDIR)" "$(DESTDIR)$(MANDIR)/man8" "$(DESTDIR)$(DOCDIR)/examples" "$(DESTDIR)$(BASHDIR)" "$(DESTDIR)$(ZSHDIR)"
 	install -m 755 "$$(tools/program)" "$(DESTDIR)$(BINDIR)/fsck_ffs"
+	install -m 755 tools/report_json "$(DESTDIR)$(BINDIR)/"
 	install -m 644 fsck_ffs.8 "$(DESTDIR)$(MANDIR)/man8/fsck_ffs.8"
-	install -m 644 docs/READING.md docs/PIPELINES.md "$(DESTDIR)$(DOCDIR)/"
+	install -m 644 CHANGELOG.md $(GUIDES:%=docs/%) "$(DESTDIR)$(DOCDIR)/"
+	install -m 644 examples/* "$(DESTDIR)$(DOCDIR)/examples/"
 	install -m 644 completion/fsck_ffs.bash "$(DESTDIR)$(BASHDIR)/fsck_ffs"
 	install -m 644 completion/_fsck_ffs "$(DESTDIR)$(ZSHDIR)/_fsck_ffs"
+	@tools/installed record $(LIST) $(INSTALLED)
 
-# Versions before 1.1.0 installed the program in sbin.
+# It leaves each file that isn't the one that was installed, and takes nothing where there is no list.
 uninstall:
-	rm -f "$(DESTDIR)$(BINDIR)/fsck_ffs" "$(DESTDIR)$(PREFIX)/sbin/fsck_ffs" "$(DESTDIR)$(MANDIR)/man8/fsck_ffs.8" \
-	    "$(DESTDIR)$(DOCDIR)/READING.md" "$(DESTDIR)$(DOCDIR)/PIPELINES.md" \
-	    "$(DESTDIR)$(BASHDIR)/fsck_ffs" "$(DESTDIR)$(ZSHDIR)/_fsck_ffs"
-	-rmdir "$(DESTDIR)$(DOCDIR)"
+	@tools/installed remove $(LIST)
+	-rmdir "$(DESTDIR)$(DOCDIR)/examples" "$(DESTDIR)$(DOCDIR)"
 
 .PHONY: all check install uninstall

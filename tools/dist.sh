@@ -16,6 +16,19 @@ say() {
     echo "fsck_ffs: $1" >&2
 }
 
+[ -c /dev/null ] || {
+    say "there is no device /dev/null, which the launcher and its tools need; the program itself, $kept, doesn't"
+    exit 8
+}
+
+# A temporary file. Where none can be made, one line says so.
+temporary_file() {
+    mktemp 2>/dev/null || {
+        say "no temporary file can be made in ${TMPDIR:-/tmp}"
+        return 1
+    }
+}
+
 # The files that the program's bytes come from, besides the kit: crates.txt and each file of Rattle. Definitions and proofs
 # (.antt) leave no trace in a program, so they aren't among them. The file of the version is looked at by itself.
 source_files() {
@@ -90,9 +103,10 @@ strip_program() {
     return "$stripped"
 }
 
-# Runs a program over the examples, and prints a line for each whose report or status isn't the one kept beside it.
+# Runs a program over the examples, and prints a line for each whose report or status isn't the one kept beside it. It fails where it
+# can't keep a report.
 wrong_examples() {
-    report=$(mktemp)
+    report=$(temporary_file) || return 1
     while read -r name status; do
         ended=0
         (cd "$top" && "$1" -n "examples/$name.img") >"$report" || ended=$?

@@ -1,0 +1,2 @@
+. completion/fsck_ffs.bash
+xit

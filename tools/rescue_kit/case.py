@@ -1,0 +1,184 @@
+"""One damage: a copy of a volume that is damaged, the report of it, and what the recipes bring back."""
+import os
+import re
+import shutil
+import subprocess
+import tempfile
+from collections import namedtuple
+from importlib.machinery import SourceFileLoader
+from importlib.util import module_from_spec, spec_from_loader
+
+from .volume import tree_of
+
+TOOLS = os.path.dirname(os.path.dirname(os.path.realpath(__file__)))
+
+
+def load_reports():
+    """The tool report_json as a module."""
+    spec = spec_from_loader("report_json", SourceFileLoader("report_json", f"{TOOLS}/report_json"))
+    module = module_from_spec(spec)
+    spec.loader.exec_module(module)
+    return module
+
+
+REPORTS = load_reports()
+SECONDS = 60
+# What each row may use without naming it: to look, to make the further copy, and to check it.
+GENERAL = {"names", "inode", "further", "place", "check", "keep", "number-of"}
+
+
+Entry = namedtuple("Entry", "byte number length type name_length name")
+
+
+class Wrong(Exception):
+    """A damage that isn't reported as it should be, or a recipe that can't be followed."""
+
+
+class Case:
+    """What a damage is written with: it changes `volume`, says what is at stake, asks for the report, and then follows the page."""
+
+    def __init__(self, volume, kind, page, program):
+        self.volume, self.kind, self.page, self.program = volume, kind, page, program
+        self.place = tempfile.mkdtemp()
+        self.tree = volume.tree()
+        self.stakes = {}
+        self.texts = [""]
+        self.pieces = []
+        self.trees = []
+        self.kinds = []
+        self.named = ""
+
+    def at_stake(self, *paths, name=True, data=True):
+        """Names and bytes that the damage puts at stake, and that can be had."""
+        for path in paths:
+            self.stakes[path] = (name, data)
+
+    def write(self, image=None):
+        with open(f"{self.place}/copy.img", "wb") as it:
+            it.write(self.volume.image if image is None else image)
+
+    def report(self, *kinds, words=()):
+        """Checks the damaged image: its messages, among which must be one of each of these kinds."""
+        self.write()
+        return self.check_again(*kinds, words=words)
+
+    def check_again(self, *kinds, words=(), name="copy.img"):
+        run = subprocess.run([self.program, "-n", *words, name], cwd=self.place, capture_output=True, check=False)
+        found = REPORTS.parse(run.stdout.decode("utf-8", "surrogateescape"))
+        messages = found.get("messages", [])
+        for message in messages:
+            kind = message.get("fault", message["kind"])
+            if kind not in self.kinds:
+                self.kinds.append(kind)
+            self.texts.append(" ".join(message.get(name, "") for name in ("path", "directory")))
+        missing = [kind for kind in kinds if not any(message["kind"] == kind for message in messages)]
+        if missing:
+            raise Wrong(f"no {missing[0]} in the report, which has {[message['kind'] for message in messages][:8]}")
+        return Messages(messages, run.returncode)
+
+    def run(self, recipes, **variables):
+        """Runs recipes of the page in one shell, and keeps what they save. The result: what they print, and whether they end with 0."""
+        names = recipes.split()
+        self.named += " " + recipes
+        script = [self.page.recipe("setup")]
+        script += [f"{name}='{value}'\n" for name, value in {**self.sizes(), **variables}.items()]
+        script += [self.page.recipe(name) for name in names]
+        for name in ("saved", "rest"):
+            if os.path.exists(f"{self.place}/{name}"):
+                os.remove(f"{self.place}/{name}")
+        run = subprocess.run(["sh", "-c", "".join(script)], cwd=self.place, capture_output=True, timeout=SECONDS, check=False)
+        text = run.stdout.decode("utf-8", "surrogateescape")
+        self.texts.append(text)
+        self._collect(run.stdout)
+        if names[-1] == "check" and run.returncode == 0:
+            self.trees.append(tree_of(f"{self.place}/further.img"))
+        return text if names[-1] != "check" else Messages(REPORTS.parse(text).get("messages", []), run.returncode)
+
+    def _collect(self, printed):
+        self.pieces.append(("printed", printed))
+        for name in ("saved", "rest"):
+            if os.path.isfile(f"{self.place}/{name}"):
+                with open(f"{self.place}/{name}", "rb") as it:
+                    self.pieces.append((name, it.read()))
+        if os.path.isdir(f"{self.place}/saved.d"):
+            self.trees.append(tree_of_files(f"{self.place}/saved.d"))
+            shutil.rmtree(f"{self.place}/saved.d")
+
+    def sizes(self):
+        layout = self.volume.layout
+        return {"bsize": layout.bsize, "fsize": layout.fsize}
+
+    def has_bytes(self, path):
+        data = self.tree[path]
+        if not isinstance(data, bytes) or any(tree.get(path) == data for tree in self.trees):
+            return True
+        return any(piece.rstrip(b"\0") == data or (name == "rest" and self.is_within(data, piece)) for name, piece in self.pieces)
+
+    def is_within(self, data, piece):
+        """Whether each fragment of a file is in a piece, in which they need not follow one another."""
+        fsize = self.volume.layout.fsize
+        return all(data[at:at + fsize] in piece for at in range(0, len(data), fsize))
+
+    def has_name(self, path):
+        if any(path in tree for tree in self.trees):
+            return True
+        last = re.compile(rf"(?<![\w.-]){re.escape(path.rpartition('/')[2])}(?![\w.-])")
+        return any(last.search(text) for text in self.texts)
+
+    def unnamed(self):
+        """A recipe that was run though no row of a message of the report names it, as a complaint; else none."""
+        rows = "".join(row for kind in self.kinds for row in self.page.rows_of(kind)) or self.page.prose
+        for name in dict.fromkeys(self.named.split()):
+            if name not in GENERAL and f"*{name}*" not in rows:
+                return f"no row of its messages names {name}"
+        return None
+
+    def result(self):
+        """Names and bytes that can be had, and of these that were kept."""
+        had = [0, 0]
+        kept = [0, 0]
+        for path, (name, data) in self.stakes.items():
+            count = len(self.tree[path]) if data and isinstance(self.tree[path], bytes) else 0
+            had = [had[0] + name, had[1] + count]
+            kept = [kept[0] + (name and self.has_name(path)), kept[1] + (count if self.has_bytes(path) else 0)]
+        return had, kept
+
+
+class Messages(list):
+    """The messages of a report, with the status of the check."""
+
+    def __init__(self, messages, status):
+        super().__init__(messages)
+        self.status = status
+
+    def of(self, kind):
+        return [message for message in self if message["kind"] == kind]
+
+    def first(self, kind):
+        return self.of(kind)[0]
+
+
+def tree_of_files(top):
+    """The files below a directory, by their paths."""
+    out = {}
+    for folder, _, names in os.walk(top):
+        for name in names:
+            with open(f"{folder}/{name}", "rb") as it:
+                out[os.path.relpath(f"{folder}/{name}", top)] = it.read()
+    return out
+
+
+def fragments_of(text):
+    """The addresses that the recipe `inode` printed: by index."""
+    return {int(line.split()[1]): int(line.split()[2]) for line in text.splitlines() if line.startswith("address ")}
+
+
+def number_of(text, name):
+    """A number that the recipe `inode` printed."""
+    return int(next(line.split()[1] for line in text.splitlines() if line.startswith(name + " ")), 8 if name == "mode" else 10)
+
+
+def entries_of(text):
+    """What the recipe `entries` printed."""
+    return [Entry(*map(int, line.split(" ", 5)[:5]), line.split(" ", 5)[5]) for line in text.splitlines()]
+

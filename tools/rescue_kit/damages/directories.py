@@ -1,0 +1,173 @@
+"""Damaged directories: their sizes, blocks, `.` and `..`."""
+from ..case import entries_of, fragments_of, number_of
+from .all import damage
+from .inodes import first_lost, mend
+from .names import entries_of_inode
+
+
+def names_at_stake(case):
+    case.at_stake(*[path for path in case.tree if path.startswith("docs/names/")])
+
+
+def put_names(case, **fields):
+    case.volume.put_inode(case.volume.find("docs/names"), **fields)
+    names_at_stake(case)
+
+
+@damage("the size of a directory of one chunk became 10")
+def size_short(case):
+    case.volume.put_inode(case.volume.find("mail/in"), size=10)
+    case.at_stake("mail/in", "mail/in/one", "mail/in/two")
+    report = case.report("DIRECTORY TOO SHORT")
+    mend_size(case, report.first("DIRECTORY TOO SHORT")["inode"])
+
+
+def mend_size(case, i):
+    """Puts the most that a directory's count of sectors allows, and less until the check ends with 0."""
+    most = number_of(case.run("inode", i=i), "blocks")
+    for chunks in range(most, 0, -1):
+        if mend(case, i, "size", size=512 * chunks).status == 0:
+            return
+
+
+@damage("a directory's size became 512: addresses are left that it doesn't use")
+def size_cut(case):
+    put_names(case, size=512)
+    mend_size(case, case.report("UNKNOWN FILE TYPE").first("UNKNOWN FILE TYPE")["inode"])
+
+
+@damage("a directory's size became 512, within its block")
+def size_within_block(case):
+    case.volume.put_inode(case.volume.find("docs/pages"), size=512)
+    case.at_stake(*[path for path in case.tree if path.startswith("docs/pages/")])
+    report = case.report("UNREF")
+    counts = report.of("INCORRECT BLOCK COUNT")
+    if counts:
+        mend_size(case, counts[0]["inode"])
+        return
+    for entry in entries_of(case.run("find-name", i=report.first("UNREF")["inode"])):
+        owner = case.run("owners", f=entry.byte // case.volume.layout.fsize).split()[0]
+        mend_size(case, owner)
+
+
+@damage("a directory's size isn't whole chunks")
+def size_odd(case):
+    i = case.volume.find("docs/names")
+    put_names(case, size=case.volume.inode(i)["size"] - 100)
+    report = case.report("DIRECTORY: LENGTH NOT MULTIPLE OF 512")
+    path = report.first("DIRECTORY: LENGTH NOT MULTIPLE OF 512")["path"]
+    mend_size(case, case.run("number-of", path=path).strip())
+
+
+@damage("a directory's address became 0")
+def hole(case):
+    put_names(case, direct1=0)
+    report = case.report("DIRECTORY: CONTAINS EMPTY BLOCKS", "UNREF", "INCORRECT BLOCK COUNT")
+    i = report.first("INCORRECT BLOCK COUNT")["inode"]
+    f = first_lost(case)
+    case.run("strings", f=f)
+    case.run("entries", f=f)
+    mend(case, i, "address", k=1, f=f)
+
+
+@damage("a directory's size and address became 0")
+def empty(case):
+    i = case.volume.find("mail/in")
+    case.volume.put_inode(i, size=0, direct0=0)
+    case.at_stake("mail/in", "mail/in/one", "mail/in/two")
+    report = case.report("ZERO LENGTH DIRECTORY", "INCORRECT BLOCK COUNT", "UNREF")
+    i = report.first("ZERO LENGTH DIRECTORY")["inode"]
+    f = first_lost(case)
+    for chunks in range(number_of(case.run("inode", i=i), "blocks"), 0, -1):
+        if mend(case, i, "size address", size=512 * chunks, k=0, f=f).status == 0:
+            return
+
+
+@damage("a directory's `..` is another directory")
+def dotdot(case):
+    i = case.volume.find("mail/in")
+    place = [entry[0] for entry in case.volume.entries(i)][1]
+    case.volume.put(place, 4, case.volume.find("docs"))
+    case.at_stake("mail/in", "mail/in/one", "mail/in/two")
+    report = case.report("BAD INODE NUMBER FOR '..'")
+    i = report.first("BAD INODE NUMBER FOR '..'")["inode"]
+    e = next(entry.byte for entry in entries_of_inode(case, i) if entry.name == "..")
+    case.run("further number check", e=e, i=case.run("number-of", path="mail").strip())
+
+
+@damage("the inodes of two directories of one parent were exchanged")
+def exchanged(case):
+    volume = case.volume
+    a, b = (volume.layout.inode_place(volume.find(path)) for path in ("mail/in", "mail/out"))
+    volume.image[a:a + 128], volume.image[b:b + 128] = volume.image[b:b + 128], volume.image[a:a + 128]
+    case.at_stake("mail/in", "mail/in/one", "mail/in/two", "mail/out", "mail/out/three")
+    report = case.report("BAD INODE NUMBER FOR '.'")
+    i, j = (message["inode"] for message in report.of("BAD INODE NUMBER FOR '.'"))
+    case.run("further exchange check", i=i, j=j)
+
+
+@damage("the inodes of a directory and a file were exchanged")
+def exchanged_file(case):
+    volume = case.volume
+    a, b = (volume.layout.inode_place(volume.find(path)) for path in ("mail/in", "docs/letter"))
+    volume.image[a:a + 128], volume.image[b:b + 128] = volume.image[b:b + 128], volume.image[a:a + 128]
+    case.at_stake("mail/in", "mail/in/one", "mail/in/two", "docs/letter")
+    report = case.report("BAD TYPE VALUE")
+    i, j = (message["inode"] for message in report.of("BAD TYPE VALUE"))
+    case.run("further exchange check", i=i, j=j)
+
+
+@damage("the first entry of a directory, `.`, became another name")
+def dot_named(case):
+    i = case.volume.find("mail/in")
+    place = [entry[0] for entry in case.volume.entries(i)][0]
+    case.volume.image[place + 8:place + 9] = b"x"
+    case.at_stake("mail/in", "mail/in/one", "mail/in/two")
+    report = case.report("MISSING '.', CANNOT FIX")
+    entries_of_inode(case, report.first("MISSING '.', CANNOT FIX")["inode"])
+    case.run("names all")
+
+
+@damage("inode 2 is empty")
+def root_empty(case):
+    volume = case.volume
+    volume.zero(volume.layout.inode_place(2), 128)
+    case.at_stake(*case.tree)
+    case.report("ROOT INODE UNALLOCATED")
+    f = first_lost(case)
+    names = {entry.name: entry.number for entry in entries_of(case.run("entries", f=f))}
+    case.run("below", i=names["docs"])
+    found = mend(case, 2, "mode size address", mode="040755", size=512, k=0, f=f)
+    mend_counts(case, found, "mode size address", mode="040755", size=512, k=0, f=f)
+
+
+def mend_counts(case, found, recipes, **values):
+    """Puts the counts that the report of the further copy says are right, beside what was put before."""
+    blocks = found.first("INCORRECT BLOCK COUNT")["right_count"]
+    links = found.first("LINK COUNT")["right_count"]
+    mend(case, 2, recipes + " links blocks", blocks=blocks, links=links, **values)
+
+
+@damage("inode 2 became a file")
+def root_file(case):
+    case.volume.put_inode(2, mode=0o100755)
+    case.at_stake(*case.tree)
+    case.report("ROOT INODE NOT DIRECTORY")
+    mend(case, 2, "mode", mode="040755")
+
+
+@damage("an address was set in inode 2 that it doesn't use")
+def root_address(case):
+    case.volume.put_inode(2, direct5=77777)
+    case.at_stake(*case.tree)
+    case.report("UNKNOWN FILE TYPE", "ROOT INODE NOT DIRECTORY")
+    k = max(fragments_of(case.run("inode", i=2)))
+    mend(case, 2, "address", k=k, f=0)
+
+
+@damage("the root's address points outside of the volume")
+def root_bad(case):
+    case.volume.put_inode(2, direct0=99999)
+    case.at_stake(*case.tree)
+    case.report("DUPS/BAD IN ROOT INODE")
+    mend(case, 2, "address", k=0, f=first_lost(case))

@@ -1,0 +1,38 @@
+"""Damaged groups, maps and counts: no file is touched."""
+from images import formats
+
+from .. import sources
+from .all import damage
+
+
+def all_at_stake(case):
+    """All but the short links, which the recipe `all` leaves out."""
+    case.at_stake(*[path for path in case.tree if path not in sources.SHORT_LINKS])
+
+
+@damage("a cylinder group's magic is lost")
+def group_magic(case):
+    case.volume.put(case.volume.layout.group_place(3) + formats.GROUP["magic"][0], 4, 0)
+    all_at_stake(case)
+    case.report("CG: BAD MAGIC NUMBER")
+    case.run("names all")
+
+
+@damage("a bit of a map of fragments was cleared")
+def map_bit(case):
+    volume = case.volume
+    f = volume.blocks(volume.find("docs/letter"))[0]
+    c, k = divmod(f, volume.layout.fpg)
+    place = volume.layout.group_place(c) + volume.layout.freeoff(volume.image, c) + k // 8
+    volume.image[place] ^= 1 << k % 8
+    all_at_stake(case)
+    case.report("BLK(S) MISSING IN BIT MAPS")
+    case.run("names all")
+
+
+@damage("a link count is wrong")
+def links(case):
+    case.volume.put_inode(case.volume.find("docs/letter"), nlink=3)
+    case.at_stake("docs/letter")
+    found = case.report("LINK COUNT").first("LINK COUNT")
+    case.run("further place links check", i=found["inode"], links=found["right_count"])

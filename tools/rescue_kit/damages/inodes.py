@@ -1,0 +1,393 @@
+"""Damaged inodes: modes, sizes, addresses, indirect blocks."""
+from ..case import fragments_of, number_of
+from .all import damage
+
+WILD = 0x0BADF00D
+HIGH_BIT = 1 << 50
+LOW_BIT = 1 << 30
+
+
+def mend(case, i, recipes, **values):
+    """Puts fields of inode i into a further copy, and checks it."""
+    return case.run(f"further place {recipes} check", i=i, **values)
+
+
+def first_lost(case):
+    """The first fragment that no file has."""
+    return int(case.run("lost").split()[0])
+
+
+@damage("a file's mode became 0")
+def mode_zero(case):
+    case.volume.put_inode(case.volume.find("docs/letter"), mode=0)
+    case.at_stake("docs/letter")
+    report = case.report("PARTIALLY ALLOCATED INODE", "UNALLOCATED")
+    i = report.first("PARTIALLY ALLOCATED INODE")["inode"]
+    case.run("bytes", i=i)
+    mend(case, i, "mode", mode="0100644")
+
+
+@damage("a directory's mode became 0")
+def directory_mode_zero(case):
+    case.volume.put_inode(case.volume.find("docs/names"), mode=0)
+    case.at_stake(*[path for path in case.tree if path.startswith("docs/names")])
+    report = case.report("PARTIALLY ALLOCATED INODE", "UNALLOCATED")
+    mend(case, report.first("PARTIALLY ALLOCATED INODE")["inode"], "mode", mode="040755")
+
+
+@damage("a short link's mode became 0")
+def link_mode_zero(case):
+    case.volume.put_inode(case.volume.find("mail/short"), mode=0)
+    case.at_stake("mail/short")
+    report = case.report("PARTIALLY ALLOCATED INODE", "UNALLOCATED")
+    i = report.first("PARTIALLY ALLOCATED INODE")["inode"]
+    case.run("place text", i=i)
+    mend(case, i, "mode", mode="0120777")
+
+
+@damage("a file's type became one that there isn't")
+def mode_unknown(case):
+    case.volume.put_inode(case.volume.find("docs/report"), mode=0o170644)
+    case.at_stake("docs/report", "mail/report_too")
+    i = case.report("UNKNOWN FILE TYPE").first("UNKNOWN FILE TYPE")["inode"]
+    case.run("bytes", i=i)
+    mend(case, i, "mode", mode="0100644")
+
+
+@damage("a short link's type became one that there isn't")
+def link_mode_unknown(case):
+    case.volume.put_inode(case.volume.find("mail/short"), mode=0o070777)
+    case.at_stake("mail/short")
+    i = case.report("UNKNOWN FILE TYPE").first("UNKNOWN FILE TYPE")["inode"]
+    case.run("place text", i=i)
+    mend(case, i, "mode", mode="0120777")
+
+
+@damage("a directory's type became one that there isn't")
+def directory_mode_unknown(case):
+    case.volume.put_inode(case.volume.find("mail/in"), mode=0o170755)
+    case.at_stake("mail/in", "mail/in/one", "mail/in/two")
+    i = case.report("UNKNOWN FILE TYPE").first("UNKNOWN FILE TYPE")["inode"]
+    mend(case, i, "mode", mode="040755")
+
+
+@damage("a bit of a file's size was set, beyond what a file can have")
+def size_too_large(case):
+    i = case.volume.find("docs/report")
+    case.volume.put_inode(i, size=case.volume.inode(i)["size"] + HIGH_BIT)
+    case.at_stake("docs/report", "mail/report_too")
+    i = case.report("UNKNOWN FILE TYPE").first("UNKNOWN FILE TYPE")["inode"]
+    size = number_of(case.run("inode", i=i), "size")
+    mend(case, i, "size", size=size - (1 << size.bit_length() - 1))
+    case.run("keep bytes", i=i)
+
+
+@damage("a bit of a file's size was set, within what a file can have")
+def size_large(case):
+    i = case.volume.find("docs/letter")
+    case.volume.put_inode(i, size=case.volume.inode(i)["size"] + LOW_BIT)
+    case.at_stake("docs/letter")
+    report = case.report("DUP", "INCORRECT BLOCK COUNT")
+    i = report.first("INCORRECT BLOCK COUNT")["inode"]
+    size = number_of(case.run("inode", i=i), "size")
+    mend(case, i, "size", size=size - (1 << size.bit_length() - 1))
+
+
+def right_most(case, i):
+    """The most that a file's size can be by its count of sectors: all of them but its indirect blocks."""
+    said = case.run("inode", i=i)
+    indirect = sum(k >= 12 for k in fragments_of(said))
+    return 512 * number_of(said, "blocks") - indirect * case.volume.layout.bsize
+
+
+@damage("a file's size became any number")
+def size_garbage(case):
+    case.volume.put_inode(case.volume.find("docs/letter"), size=0xFEDCBA9876543210)
+    case.at_stake("docs/letter")
+    i = case.report("UNKNOWN FILE TYPE").first("UNKNOWN FILE TYPE")["inode"]
+    mend(case, i, "size", size=right_most(case, i))
+    case.run("keep bytes", i=i)
+
+
+@damage("a file's size became smaller: addresses are left that it doesn't use")
+def size_too_small(case):
+    case.volume.put_inode(case.volume.find("docs/report"), size=5000)
+    case.at_stake("docs/report", "mail/report_too")
+    i = case.report("UNKNOWN FILE TYPE").first("UNKNOWN FILE TYPE")["inode"]
+    mend(case, i, "size", size=right_most(case, i))
+    case.run("keep bytes", i=i)
+
+
+@damage("a file's size became smaller within its first block")
+def size_within_block(case):
+    case.volume.put_inode(case.volume.find("docs/letter"), size=100)
+    case.at_stake("docs/letter")
+    i = case.report("INCORRECT BLOCK COUNT").first("INCORRECT BLOCK COUNT")["inode"]
+    mend(case, i, "size", size=right_most(case, i))
+    case.run("keep bytes", i=i)
+
+
+@damage("a file's size became smaller, within its indirect block")
+def size_truncates(case):
+    case.volume.put_inode(case.volume.find("big/film"), size=700000)
+    case.at_stake("big/film")
+    i = case.report("PARTIALLY TRUNCATED INODE").first("PARTIALLY TRUNCATED INODE")["inode"]
+    mend(case, i, "size", size=right_most(case, i))
+    case.run("keep bytes", i=i)
+
+
+@damage("an address was set that a file doesn't use")
+def address_unused(case):
+    case.volume.put_inode(case.volume.find("docs/letter"), direct9=WILD)
+    case.at_stake("docs/letter")
+    i = case.report("UNKNOWN FILE TYPE").first("UNKNOWN FILE TYPE")["inode"]
+    said = case.run("inode", i=i)
+    case.run("bytes", i=i)
+    mend(case, i, "address", k=max(fragments_of(said)), f=0)
+
+
+@damage("a file's address points outside of the volume")
+def address_bad(case):
+    case.volume.put_inode(case.volume.find("docs/report"), direct2=WILD)
+    case.at_stake("docs/report", "mail/report_too")
+    bad = case.report("BAD").first("BAD")
+    said = fragments_of(case.run("inode", i=bad["inode"]))
+    k = next(k for k, f in said.items() if f == bad["fragment"])
+    mend(case, bad["inode"], "address", k=k, f=first_lost(case))
+
+
+@damage("the address of an indirect block points outside of the volume")
+def indirect_address_bad(case):
+    case.volume.put_inode(case.volume.find("big/film"), single=WILD)
+    case.at_stake("big/film")
+    bad = case.report("BAD").first("BAD")
+    mend(case, bad["inode"], "address", k=12, f=first_lost(case))
+
+
+@damage("a file's address became 0")
+def address_zero(case):
+    case.volume.put_inode(case.volume.find("big/photo"), direct7=0)
+    case.at_stake("big/photo")
+    i = case.report("INCORRECT BLOCK COUNT").first("INCORRECT BLOCK COUNT")["inode"]
+    said = fragments_of(case.run("inode", i=i))
+    k = next(k for k in range(12) if k not in said)
+    mend(case, i, "address", k=k, f=first_lost(case))
+
+
+@damage("the address of an indirect block became 0, of a file that passes cylinder groups")
+def indirect_address_zero(case):
+    case.volume.put_inode(case.volume.find("big/film"), single=0)
+    case.at_stake("big/film")
+    i = case.report("INCORRECT BLOCK COUNT").first("INCORRECT BLOCK COUNT")["inode"]
+    mend(case, i, "address", k=12, f=first_lost(case))
+
+
+def indirect_place(case):
+    volume = case.volume
+    return volume.inode(volume.find("big/film"))["single"] * volume.layout.fsize
+
+
+@damage("an indirect block became zeros, of a file that passes cylinder groups")
+def indirect_zeroed(case):
+    case.volume.zero(indirect_place(case), case.volume.layout.bsize)
+    case.at_stake("big/film")
+    i = case.report("INCORRECT BLOCK COUNT").first("INCORRECT BLOCK COUNT")["inode"]
+    refill(case, i)
+
+
+def refill(case, i):
+    case.run("further refill check", f=fragments_of(case.run("inode", i=i))[12])
+
+
+@damage("an indirect block was overwritten by text, of a file that passes cylinder groups")
+def indirect_overwritten(case):
+    place, bsize = indirect_place(case), case.volume.layout.bsize
+    case.volume.image[place:place + bsize] = (b"All work and no play makes Jack a dull boy. " * bsize)[:bsize]
+    case.at_stake("big/film")
+    i = case.report("EXCESSIVE BAD BLKS", "BAD").first("EXCESSIVE BAD BLKS")["inode"]
+    refill(case, i)
+
+
+def damage_word(case, k, number):
+    """Changes a word of the film's indirect block."""
+    case.volume.put(indirect_place(case) + 4 * k, 4, number)
+    case.at_stake("big/film")
+
+
+def mend_word(case, i, value):
+    """Puts the lost block at the word of the indirect block that has this value."""
+    b = fragments_of(case.run("inode", i=i))[12]
+    words = [line.split() for line in case.run("words", b=b, order=case.volume.order).splitlines()]
+    k = next(k for k, word in words if int(word) == value)
+    case.run("further word check", b=b, k=k, f=first_lost(case))
+
+
+@damage("a word of an indirect block points outside of the volume")
+def word_bad(case):
+    damage_word(case, 17, WILD)
+    bad = case.report("BAD").first("BAD")
+    mend_word(case, bad["inode"], bad["fragment"])
+
+
+@damage("a word of an indirect block became 0")
+def word_zero(case):
+    damage_word(case, 17, 0)
+    mend_word(case, case.report("INCORRECT BLOCK COUNT").first("INCORRECT BLOCK COUNT")["inode"], 0)
+
+
+@damage("a file got the address of another one's block")
+def address_shared(case):
+    volume = case.volume
+    other = volume.blocks(volume.find("big/photo"))[3]
+    volume.put_inode(volume.find("docs/report"), direct2=other)
+    case.at_stake("docs/report", "mail/report_too", "big/photo")
+    report = case.report("DUP", "DUP/BAD")
+    f = report.first("DUP")["fragment"]
+    for i in sorted({message["inode"] for message in report.of("DUP")}):
+        said = fragments_of(case.run("inode", i=i))
+        k = next(k for k, at in said.items() if at == f)
+        if said[k - 1] + case.volume.layout.frag != f:
+            mend(case, i, "address", k=k, f=first_lost(case))
+
+
+@damage("a file's inode was copied over another one")
+def inode_copied(case):
+    volume = case.volume
+    source, target = (volume.layout.inode_place(volume.find(path)) for path in ("big/photo", "docs/report"))
+    volume.image[target:target + 128] = volume.image[source:source + 128]
+    case.at_stake("big/photo")
+    case.at_stake("docs/report", "mail/report_too")
+    report = case.report("EXCESSIVE DUP BLKS", "LINK COUNT")
+    for i in sorted({message["inode"] for message in report.of("DUP")}):
+        case.run("bytes names-of", i=i)
+    case.run("rest")
+
+
+@damage("a file's count of sectors is wrong")
+def count_wrong(case):
+    case.volume.put_inode(case.volume.find("docs/letter"), blocks=99)
+    case.at_stake("docs/letter")
+    count = case.report("INCORRECT BLOCK COUNT").first("INCORRECT BLOCK COUNT")
+    mend(case, count["inode"], "blocks", blocks=count["right_count"])
+
+
+@damage("a short link's size became large: its text is taken for addresses")
+def link_size(case):
+    case.volume.put_inode(case.volume.find("mail/short"), size=20000)
+    case.at_stake("mail/short", "docs/letter")
+    i = case.report("DUP/BAD").first("DUP/BAD")["inode"]
+    text = case.run("place text", i=i)
+    mend(case, i, "size", size=len(text.encode()))
+
+
+@damage("a short link's size became large: its text is taken for another file's fragment")
+def link_size_claims(case):
+    volume = case.volume
+    volume.put_inode(volume.find("mail/tiny"), size=20000)
+    case.at_stake(*[path for path, data in case.tree.items() if isinstance(data, bytes)])
+    report = case.report("INCORRECT BLOCK COUNT")
+    i = report.first("INCORRECT BLOCK COUNT")["inode"]
+    text = case.run("place text", i=i)
+    mend(case, i, "size", size=len(text.encode()))
+
+
+def put_type(case, path, mode):
+    case.volume.put_inode(case.volume.find(path), mode=mode)
+
+
+@damage("a file became a symbolic link")
+def file_as_link(case):
+    put_type(case, "docs/report", 0o120644)
+    case.at_stake("docs/report", "mail/report_too")
+    i = case.report("BAD TYPE VALUE").first("BAD TYPE VALUE")["inode"]
+    mend(case, i, "mode", mode="0100644")
+
+
+@damage("a file became a FIFO")
+def file_as_fifo(case):
+    put_type(case, "docs/letter", 0o010644)
+    case.at_stake("docs/letter")
+    i = case.report("BAD TYPE VALUE").first("BAD TYPE VALUE")["inode"]
+    mend(case, i, "mode", mode="0100644")
+
+
+@damage("a file became a socket")
+def file_as_socket(case):
+    put_type(case, "docs/letter", 0o140644)
+    case.at_stake("docs/letter")
+    i = case.report("BAD TYPE VALUE").first("BAD TYPE VALUE")["inode"]
+    mend(case, i, "mode", mode="0100644")
+
+
+@damage("a file became a device")
+def file_as_device(case):
+    put_type(case, "docs/letter", 0o020644)
+    case.at_stake("docs/letter")
+    i = case.report("INCORRECT BLOCK COUNT").first("INCORRECT BLOCK COUNT")["inode"]
+    mend(case, i, "mode", mode="0100644")
+
+
+@damage("a file became a directory")
+def file_as_directory(case):
+    put_type(case, "docs/letter", 0o040644)
+    case.at_stake("docs/letter")
+    i = case.report("BAD TYPE VALUE", "DIRECTORY CORRUPTED").first("BAD TYPE VALUE")["inode"]
+    case.run("bytes", i=i)
+    mend(case, i, "mode", mode="0100644")
+
+
+@damage("a directory became a file")
+def directory_as_file(case):
+    put_type(case, "mail", 0o100755)
+    case.at_stake(*[path for path in case.tree if path.startswith("mail")])
+    report = case.report("BAD TYPE VALUE", "UNREF")
+    mend(case, report.first("BAD TYPE VALUE")["inode"], "mode", mode="040755")
+
+
+@damage("a block of inodes became zeros")
+def inodes_zeroed(case):
+    zero_inodes(case)
+    case.report("UNALLOCATED", "BLK(S) MISSING IN BIT MAPS")
+    case.run("names")
+    case.run("rest")
+
+
+def zero_inodes(case, fill=b"\0"):
+    """Fills the block of inodes in which one is, and puts at stake what those of regular files hold."""
+    volume = case.volume
+    layout = volume.layout
+    i = volume.find("docs/pages/page_33")
+    first = i - i % (layout.bsize // 128)
+    gone = [path for path in case.tree if isinstance(case.tree[path], bytes) and first <= volume.find(path) < first + layout.bsize // 128]
+    place = layout.inode_place(first)
+    volume.image[place:place + layout.bsize] = (fill * layout.bsize)[:layout.bsize]
+    case.at_stake(*gone)
+
+
+@damage("a block of inodes was overwritten by text")
+def inodes_overwritten(case):
+    zero_inodes(case, b"All work and no play makes Jack a dull boy. ")
+    case.report("UNKNOWN FILE TYPE")
+    case.run("names")
+    case.run("rest")
+
+
+@damage("a file's bytes are in a bad area of the disk")
+def bytes_bad(case):
+    volume = case.volume
+    place = volume.blocks(volume.find("docs/letter"))[0] * volume.layout.fsize
+    volume.zero(place, 512)
+    case.at_stake("docs/letter", data=False)
+    case.report()
+    owners = case.run("bad-area owners", position=place)
+    case.run("names-of", i=owners.split()[0])
+
+
+@damage("an inode that is whole, a link among them")
+def whole(case):
+    case.at_stake("mail/short", "docs/letter", name=False)
+    case.report()
+    i = case.run("number-of", path="mail/short").strip()
+    case.run("place text", i=i)
+    case.run("bytes", i=case.run("number-of", path="docs/letter").strip())
+

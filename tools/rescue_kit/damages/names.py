@@ -1,0 +1,205 @@
+"""Damaged entries: numbers, types, lengths, and entries that are gone."""
+from ..case import entries_of, fragments_of, number_of
+from .all import damage
+
+
+def entries_in(case, directory):
+    """What looks like an entry in the fragments of a directory, by the recipes; it is given by its path."""
+    i = case.run("number-of", path=directory).strip()
+    return entries_of_inode(case, i)
+
+
+def entries_of_inode(case, i):
+    said = case.run("inode", i=i)
+    size, frag, fsize = number_of(said, "size"), case.volume.layout.frag, case.volume.layout.fsize
+    found = []
+    for k, f in sorted(fragments_of(said).items()):
+        for piece in range(frag):
+            if k < 12 and k * frag + piece < -(-size // fsize):
+                found += entries_of(case.run("entries", f=f + piece))
+    return found
+
+
+def place_of(case, path):
+    """The byte of the entry of a path of the report."""
+    directory, _, name = path.strip("/").rpartition("/")
+    return next(entry.byte for entry in entries_in(case, directory) if entry.name == name)
+
+
+def set_number(case, path, number):
+    case.volume.put(case.volume.entry(path), 4, number)
+
+
+def mend_number(case, path, i):
+    """Puts the number of an entry back, in a further copy, and checks it."""
+    return case.run("further number check", e=place_of(case, path), i=i)
+
+
+@damage("an entry's number is none of the volume's")
+def number_out_of_range(case):
+    set_number(case, "docs/letter", 99999)
+    case.at_stake("docs/letter")
+    report = case.report("I OUT OF RANGE", "UNREF")
+    i = report.first("UNREF")["inode"]
+    case.run("bytes", i=i)
+    mend_number(case, report.first("I OUT OF RANGE")["path"], i)
+
+
+@damage("the number of a directory's entry is none of the volume's")
+def directory_number_out_of_range(case):
+    set_number(case, "mail/in", 99999)
+    case.at_stake("mail/in", "mail/in/one", "mail/in/two")
+    report = case.report("I OUT OF RANGE", "UNREF")
+    mend_number(case, report.first("I OUT OF RANGE")["path"], report.first("UNREF")["inode"])
+
+
+@damage("an entry's number became that of a free inode")
+def number_unallocated(case):
+    set_number(case, "docs/letter", 900)
+    case.at_stake("docs/letter")
+    report = case.report("UNALLOCATED", "UNREF")
+    mend_number(case, report.first("UNALLOCATED")["path"], report.first("UNREF")["inode"])
+
+
+@damage("the number of a directory's entry became that of a free inode")
+def directory_number_unallocated(case):
+    set_number(case, "mail/in", 900)
+    case.at_stake("mail/in", "mail/in/one", "mail/in/two")
+    report = case.report("UNALLOCATED", "UNREF")
+    mend_number(case, report.first("UNALLOCATED")["path"], report.first("UNREF")["inode"])
+
+
+@damage("an entry's number became that of another file")
+def number_of_other(case):
+    set_number(case, "docs/letter", case.volume.find("mail/in/one"))
+    case.at_stake("docs/letter", "mail/in/one")
+    report = case.report("LINK COUNT", "UNREF")
+    other, i = report.first("LINK COUNT")["inode"], report.first("UNREF")["inode"]
+    case.run("bytes", i=i)
+    for path in case.run("names-of", i=other).split():
+        mend_number(case, path, i)
+
+
+@damage("the number of a file's entry became that of a directory")
+def number_of_directory(case):
+    set_number(case, "docs/letter", case.volume.find("mail/out"))
+    case.at_stake("docs/letter", "mail/out", "mail/out/three")
+    report = case.report("IS AN EXTRANEOUS HARD LINK TO DIRECTORY", "UNREF")
+    for i in [message["inode"] for message in report.of("UNREF")]:
+        for path in (report.first("IS AN EXTRANEOUS HARD LINK TO DIRECTORY")[name] for name in ("path", "directory")):
+            mend_number(case, path, i)
+
+
+@damage("the number of a directory's entry became that of another directory")
+def directory_number_of_directory(case):
+    set_number(case, "mail/in", case.volume.find("docs"))
+    case.at_stake("mail/in", "mail/in/one", "mail/in/two")
+    report = case.report("IS AN EXTRANEOUS HARD LINK TO DIRECTORY", "UNREF")
+    line = report.first("IS AN EXTRANEOUS HARD LINK TO DIRECTORY")
+    for path in (line["path"], line["directory"]):
+        mend_number(case, path, report.first("UNREF")["inode"])
+
+
+@damage("the number of a directory's entry became that of a file")
+def directory_number_of_file(case):
+    set_number(case, "mail/in", case.volume.find("docs/letter"))
+    case.at_stake("mail/in", "mail/in/one", "mail/in/two", "docs/letter")
+    report = case.report("BAD TYPE VALUE", "UNREF", "LINK COUNT")
+    case.run("names-of", i=report.first("BAD TYPE VALUE")["inode"])
+    mend_number(case, report.first("BAD TYPE VALUE")["path"], report.first("UNREF")["inode"])
+
+
+@damage("an entry's number became 0")
+def number_zero(case):
+    set_number(case, "docs/letter", 0)
+    case.at_stake("docs/letter")
+    i = case.report("UNREF").first("UNREF")["inode"]
+    case.run("bytes", i=i)
+    case.run("deleted")
+    for entry in entries_in(case, "docs"):
+        if entry.number == 0:
+            case.run("further number check", e=entry.byte, i=i)
+
+
+@damage("an entry's type is wrong")
+def type_wrong(case):
+    case.volume.put(case.volume.entry("docs/letter") + 6, 1, 4)
+    case.at_stake("docs/letter")
+    path = case.report("BAD TYPE VALUE").first("BAD TYPE VALUE")["path"]
+    case.run("further type check", e=place_of(case, path), type=8)
+
+
+@damage("an entry's type became that of a whiteout")
+def type_whiteout(case):
+    case.volume.put(case.volume.entry("docs/letter") + 6, 1, 14)
+    case.at_stake("docs/letter")
+    report = case.report("BAD WHITEOUT ENTRY")
+    line = report.first("BAD WHITEOUT ENTRY")
+    case.run("bytes", i=line["inode"])
+    case.run("further type check", e=place_of(case, line["path"]), type=8)
+
+
+@damage("a file's name became `.`")
+def name_dot(case):
+    place = case.volume.entry("docs/letter")
+    case.volume.image[place + 7:place + 10] = b"\1.\0"
+    case.at_stake("docs/letter", name=False)
+    report = case.report("EXTRA '.' ENTRY", "UNREF")
+    case.run("bytes", i=report.first("UNREF")["inode"])
+
+
+@damage("an entry's record length became 0")
+def length_zero(case):
+    case.volume.put(case.volume.entry("docs/names/a_rather_long_name_of_a_file_050") + 4, 2, 0)
+    at_stake_in_names(case)
+    report = case.report("DIRECTORY CORRUPTED", "UNREF")
+    mend_lengths(case, report.first("DIRECTORY CORRUPTED")["inode"])
+
+
+@damage("an entry's record length became that of several entries")
+def length_too_large(case):
+    place = case.volume.entry("docs/names/a_rather_long_name_of_a_file_050")
+    case.volume.put(place + 4, 2, 512 - place % 512)
+    at_stake_in_names(case)
+    case.report("UNREF")
+    mend_lengths(case, case.run("number-of", path="docs/names").strip())
+
+
+def at_stake_in_names(case):
+    case.at_stake(*[path for path in case.tree if path.startswith("docs/names/")])
+
+
+def mend_lengths(case, i):
+    """Puts record lengths that don't reach the next entry, or the chunk's end, into a further copy, and checks it."""
+    entries = entries_of_inode(case, i)
+    case.run("further")
+    for this, after in zip(entries, [*entries[1:], None]):
+        end = this.byte - this.byte % 512 + 512
+        right = min(end, after.byte if after and after.byte > this.byte else end) - this.byte
+        if this.length != right:
+            case.run("length", e=this.byte, length=right)
+    case.run("check")
+
+
+@damage("an entry's length of name passes its record")
+def name_too_long(case):
+    place = case.volume.entry("docs/names/a_rather_long_name_of_a_file_120")
+    case.volume.put(place + 7, 1, 250)
+    at_stake_in_names(case)
+    report = case.report("DIRECTORY CORRUPTED", "UNREF")
+    case.run("further")
+    for entry in entries_of_inode(case, report.first("DIRECTORY CORRUPTED")["inode"]):
+        if entry.name_length != len(entry.name):
+            case.run("name-length check", e=entry.byte, n=len(entry.name))
+
+
+@damage("a directory's chunk became zeros")
+def chunk_zeroed(case):
+    place = case.volume.entry("docs/names/a_rather_long_name_of_a_file_050")
+    start = place - place % 512
+    gone = [f"docs/names/{name}" for at, _, _, _, name in case.volume.entries(case.volume.find("docs/names")) if start <= at < start + 512]
+    case.volume.zero(start, 512)
+    case.at_stake(*[path for path in gone if path in case.tree], name=False)
+    report = case.report("DIRECTORY CORRUPTED", "UNREF")
+    for message in report.of("UNREF"):
+        case.run("bytes", i=message["inode"])

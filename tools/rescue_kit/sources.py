@@ -1,0 +1,53 @@
+"""The tree that makefs makes the volumes of: small and large files, directories of one and of many chunks, links, a FIFO."""
+import os
+import random
+import subprocess
+from dataclasses import dataclass
+
+SEED = 20261128
+SHORT_LINKS = {"mail/short": "../docs/letter", "mail/tiny": "x"}
+
+
+def make_tree(top):
+    """Writes the tree; its bytes come from a fixed seed."""
+    rng = random.Random(SEED)
+
+    def put(path, length):
+        os.makedirs(os.path.dirname(f"{top}/{path}"), exist_ok=True)
+        with open(f"{top}/{path}", "wb") as it:
+            it.write(rng.randbytes(length - 1) + b"\1" if length else b"")
+
+    put("docs/letter", 3000)
+    put("docs/report", 20000)
+    for number in range(60):
+        put(f"docs/pages/page_{number:02}", 500 + 37 * number)
+    for number in range(180):
+        put(f"docs/names/a_rather_long_name_of_a_file_{number:03}", 20)
+    put("big/film", 900000)
+    put("big/photo", 14 * 4096 + 100)
+    put("mail/in/one", 700)
+    put("mail/in/two", 800)
+    put("mail/out/three", 900)
+    for path, text in SHORT_LINKS.items():
+        os.symlink(text, f"{top}/{path}")
+    os.symlink("../docs/" * 24 + "report", f"{top}/mail/longer")
+    os.link(f"{top}/docs/report", f"{top}/mail/report_too")
+    os.mkfifo(f"{top}/pipe")
+
+
+@dataclass
+class Kind:
+    """A kind of volume: its byte order, and the size and words that makefs takes. Each has many small cylinder groups."""
+
+    order: str
+    size: str
+    words: str
+
+    def make(self, top, name):
+        subprocess.run(["makefs", "-t", "ffs", "-B", self.order, "-s", self.size, "-o", self.words, name, top], check=True, capture_output=True)
+
+
+KINDS = [
+    Kind("le", "4m", "version=1,bsize=4096,fsize=512,density=4096,maxbpcg=100"),
+    Kind("be", "8m", "version=1,bsize=8192,fsize=1024,density=8192,maxbpcg=100"),
+]
