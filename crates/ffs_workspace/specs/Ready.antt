@@ -1,7 +1,8 @@
 -- A workspace as it is made, and one that is ready for the volume of an image.
 use Rattle.std.specs.Prelude.{◌≡◌, ◌*◌, ◌≤◌, ℕ, false, List, Option, Result, IfOk, vec_len}
 use Rattle.ffs_image.specs.Device.{Device}
-use Rattle.ffs_memory.specs.Account.{Account, Asks}
+use Rattle.ffs_memory.specs.{Account.{Account, Asks, unused}, System.account_of}
+use Rattle.ffs_memory.specs.declared.system.SystemMemory.{SystemMemory}
 use Rattle.ffs_volume.specs.declared.Layout.{Layout}
 use Rattle.ffs_walk.specs.Windows.{WindowHolds, BlocksHold}
 use Rattle.ffs_workspace.specs.{declared.workspace.{Windows.Windows, Workspace.Workspace}, Holds.IsFresh, Lengths.IsFor}
@@ -34,6 +35,14 @@ pub record MakesInMemory {T E : Type 0} (before after : Account) (bytes : ℕ) (
     Type 0 where
   pub new : IfOk result P
   pub asks : Asks before after bytes result
+
+-- so many bytes were asked of the memory of the system, of which nothing was granted before: they were
+-- granted, or a request was refused
+pub record AsksOfSystem {T E : Type 0} (bytes : ℕ) (result : Result T E) : Type 0 where
+  pub memory : SystemMemory
+  pub memory' : SystemMemory
+  pub begun : account_of memory ≡ unused
+  pub asked : Asks (account_of memory) (account_of memory') bytes result
 
 -- the windows have room for six blocks, and hold what any image gives
 pub record AreNewWindows (v : Layout) (w : Windows) : Type 0 where

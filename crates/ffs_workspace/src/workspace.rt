@@ -87,14 +87,18 @@ pub struct Workspace {
 impl Workspace {
     ghost use Rattle.ffs_workspace.specs.Lengths.{IsFor, has_unreported_dups, held_of};
     ghost use Rattle.ffs_workspace.specs.Notes.{cut_in};
-    ghost use Rattle.ffs_workspace.specs.Ready.{IsNew};
+    ghost use Rattle.ffs_workspace.specs.Ready.{AsksOfSystem, IsNew};
 
     /// Takes all memory of a check of the volume from an allocator, and holds nothing yet.
     ///
     /// # Errors
     /// The memory was refused. What was granted before is freed.
+    #[tactic(auto, using(crate::proofs::Requests::of_system))]
     pub fn new(alloc: Global, geometry: &Geometry) -> Result<Workspace, AllocError>
-        ensures { IfOk result (IsNew geometry.now.layout) }
+        ensures new { IfOk result (IsNew geometry.now.layout) }
+
+        // It is refused only where the system refused a request.
+        ensures asks { AsksOfSystem (held_of geometry.now.layout) result }
     {
         Workspace::in_memory(&mut SystemMemory::new(alloc), geometry)
     }
