@@ -175,7 +175,7 @@ links_reported v vol un r = (
     one_entry : AreLinksUnreported v → NoExtraneous (graph_of v)
     one_entry q s j d t h =
         let m = names_at-gives v s j d t in
-        let link : is_extraneous v s j d ≡ false = rw m.number at (q.links s j m.entry m.dir m.there m.role) in
+        let link : is_extraneous v (is_parent_entry (graph_of v) s j d) d ≡ false = rw m.number at (q.links s j m.entry m.dir m.there m.role) in
         let both = and_parts (is_value (parent (graph_of v) d) s) (is_value (parent_entry_index (graph_of v) d) j)
         (not-false _ (and_false-right (is_dir v d) (not (is_parent_entry (graph_of v) s j d)) link h)) in
         (is_value-true (parent (graph_of v) d) s both.0, is_value-true (parent_entry_index (graph_of v) d) j both.1)
@@ -184,7 +184,8 @@ links_reported v vol un r = (
     all_reached l d h = grind (arith, reached-root)
 
     links : AreLinksRight v → (s j : ℕ) (e : RoledEntry) → is_dir v s ≡ true →
-        nth_roled (roled_entries v s) j ≡ Some e → e.role ≡ Plain → is_extraneous v s j e.entry.number ≡ false
+        nth_roled (roled_entries v s) j ≡ Some e → e.role ≡ Plain →
+        is_extraneous v (is_parent_entry (graph_of v) s j e.entry.number) e.entry.number ≡ false
     links l s j e d there role = and_false-from (is_dir v e.entry.number) _ (λ h.
         let at = names_at-from v s j e.entry.number
         (record { dir = d; entry = e; there = there; role = role; number = refl }) in

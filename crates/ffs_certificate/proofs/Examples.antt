@@ -11,8 +11,8 @@ use Rattle.ffs_volume.specs.Blocks.{BlockCheck.{phase1b_lines, is_marked}, KeptS
 use Rattle.ffs_volume.specs.Directories.{Entries.{is_well_formed, entry_read, entry_at, entries_from}, Roles.role_of}
 use Rattle.ffs_volume.specs.Directories.Roles.{roled_from, roled_entries, start_entry, dot, dotdot, references_below}
 use Rattle.ffs_volume.specs.Directories.Paths.{longest_end, path_bytes, names_down, dir_path, entry_path}
-use Rattle.ffs_volume.specs.Directories.PathnameCheck.{attributes, root_lines, shape_lines, dot_lines, dotdot_lines}
-use Rattle.ffs_volume.specs.Directories.PathnameCheck.{named_lines, plain_lines, entry_lines, lines_of_entries}
+use Rattle.ffs_volume.specs.Directories.PathnameCheck.{attributes, root_lines, header_defects, header_lines}
+use Rattle.ffs_volume.specs.Directories.PathnameCheck.{dir_header_lines, plain_verdict, entry_lines, lines_of_entries}
 use Rattle.ffs_volume.specs.Directories.{PathnameCheck.{sized_dir_lines, pathname_lines}, Climb.climb, Graph.within}
 use Rattle.ffs_volume.specs.Directories.{Graph.{level, parent}, Connectivity.connectivity_lines}
 use Rattle.ffs_volume.specs.Directories.{ReferenceCheck.{inode_lines, reference_lines}, Volumes.chunk_source_of}
@@ -45,7 +45,7 @@ unfolding bytes_in word zero_bytes base_layout base_superblock base_super base_s
     owners_of reserved_map no_claims phase1_lines phase1b_lines is_marked claims_before kept_steps_of is_well_formed
     entry_read entry_at entries_from role_of roled_from roled_entries chunk_source_of volume_with volume_of start_entry
     dot dotdot references_below first_below earliest climb within level parent lines_below attributes root_lines
-    shape_lines dot_lines dotdot_lines named_lines plain_lines entry_lines lines_of_entries sized_dir_lines
+    header_defects header_lines dir_header_lines plain_verdict entry_lines lines_of_entries sized_dir_lines
     pathname_lines connectivity_lines inode_lines reference_lines right_group_counts right_frsum right_total maps_fit
     has_right_magic has_right_maps has_right_sums has_right_record has_right_totals phase5_lines setting_lines
     file_count claimed_count later_phase_lines phase_lines report_lines

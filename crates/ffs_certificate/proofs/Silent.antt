@@ -1,73 +1,43 @@
 -- When the checks of directories are silent: pathnames, connectivity and references.
-use Rattle.std.proofs.Common.{◌≡◌, ◌≢◌, ℕ, zero, suc, ◌+◌, ◌<◌, ◌==◌, Bool, true, false, not, nat_lt, refl, List, []}
-use Rattle.std.proofs.{Common.{◌∷◌, Option, Some, IsSomeAnd, arith, subst}, lemmas.Bool.{eqb-true, eq-eqb}}
-use Rattle.std.proofs.lemmas.Bool.{not-true, not-false, not_from_true, Decides.nat_tests}
+use Rattle.std.proofs.Common.{◌≡◌, ◌≢◌, ℕ, zero, suc, ◌+◌, ◌<◌, Bool, true, false, ◌&&◌, refl, List, []}
+use Rattle.std.proofs.{Common.{◌∷◌, Option, Some, IsSomeAnd, arith, subst}}
+use Rattle.std.proofs.lemmas.Bool.{not-true, Decides.nat_tests}
 use Rattle.ffs_volume.specs.declared.{Class.{TheVariants.Dir, Class}, Role.TheVariants.{Extra, Plain}}
 use Rattle.ffs_volume.specs.Directories.{Entries.Entry, Roles.{Volume, RoledEntry, is_dir, is_suspect, roled_entries}}
 use Rattle.ffs_volume.specs.Directories.{Roles.{dot, dotdot, is_allocated_inode, references}, Graph.is_naming_entry_at}
 use Rattle.ffs_volume.specs.Directories.{Graph.{test_at, parent}, PathnameCheck.{attributes, entry_lines}}
-use Rattle.ffs_volume.specs.Directories.PathnameCheck.{lines_of_entries, plain_lines, named_lines, is_bad_whiteout}
-use Rattle.ffs_volume.specs.Directories.PathnameCheck.{is_first_entry_of_suspect, is_extraneous, has_wrong_type}
-use Rattle.ffs_volume.specs.Directories.PathnameCheck.{root_lines, root_lines_of, is_short}
-use Rattle.ffs_volume.specs.Directories.PathnameCheck.{has_partial_chunk, are_sound, shape_lines, dot_lines}
-use Rattle.ffs_volume.specs.Directories.PathnameCheck.{dot_lines_of, is_wrong_parent, dotdot_lines, dotdot_lines_of}
+use Rattle.ffs_volume.specs.Directories.PathnameCheck.{lines_of_entries, plain_lines, plain_verdict}
+use Rattle.ffs_volume.specs.Directories.PathnameCheck.{root_lines, root_lines_of, is_short, has_partial_chunk}
+use Rattle.ffs_volume.specs.Directories.PathnameCheck.{are_sound, dot_defects, dotdot_defects, is_right}
+use Rattle.ffs_volume.specs.Directories.PathnameCheck.{is_wrong_parent, header_defects, header_of, dir_header_lines}
 use Rattle.ffs_volume.specs.Directories.PathnameCheck.{sized_dir_lines, directory_lines, pathname_lines}
+use Rattle.ffs_volume.specs.Directories.Parents.{is_first_naming_entry, is_parent_entry}
+use Rattle.ffs_volume.specs.Directories.{Entries.is_live, Roles.{entry_if, start_entry, is_one_dot, is_two_dots}}
+use Rattle.ffs_volume.proofs.VerdictLaws.{IsPlainSilent, silent_parts, silent_of, silent_from, silent_lines}
+use Rattle.ffs_volume.proofs.VerdictLaws.{none_from, none_lines}
 use Rattle.ffs_volume.specs.Directories.Connectivity.{is_dead, is_unref_dir, connectivity_lines}
 use Rattle.ffs_volume.specs.Directories.ReferenceCheck.{inode_lines, reference_lines_at, reference_lines}
-use Rattle.ffs_volume.specs.{Directories.{Parents.{graph_of, nth_roled}, Paths.entry_path}, Messages.Kinds.lines_below}
-use Rattle.ffs_volume.specs.{Blocks.Inodes.{is_allocated}, Disk.Numbers.equals_natural}
-use Rattle.ffs_volume.proofs.Silence.{nil-left, nil-right, nil-both, reported-quiet, reported-silent, if-quiet}
-use Rattle.ffs_volume.proofs.Silence.{else-quiet, then-silent, lines-quiet, lines-silent}
-use Rattle.ffs_volume.specs.declared.tree_lines.EntryLine.TheVariants.{OutOfRange, Unallocated, Whiteout}
+use Rattle.ffs_volume.specs.{Directories.Parents.{graph_of, nth_roled}, Messages.Kinds.lines_below}
+use Rattle.ffs_volume.specs.{Disk.Numbers.equals_natural}
+use Rattle.ffs_volume.proofs.Silence.{nil-left, nil-right, nil-both, reported-silent, reported-quiet}
+use Rattle.ffs_volume.proofs.Silence.{then-silent, lines-quiet, lines-silent}
 use Rattle.ffs_volume.specs.declared.tree_lines.ReferenceLine.TheVariants.{UnrefDir}
-use Rattle.ffs_volume.specs.Messages.Kinds.{of_entry, of_reference}
+use Rattle.ffs_volume.specs.Messages.Kinds.{of_reference}
 
-ruleset quiet = (nil-left, nil-right, reported-quiet, not-false, eqb-true)
+-- ENTRIES: a plain entry
+abbrev pub IsPlainQuiet : (v : Volume) (s j : ℕ) (e : Entry) → Type 0
+IsPlainQuiet v s j e =
+    IsPlainSilent v (is_first_naming_entry (graph_of v) s j e.number) (is_parent_entry (graph_of v) s j e.number) e
 
-ruleset silent = (nil-both, reported-silent, not_from_true, eq-eqb)
+plain-quiet : (v : Volume) (s j : ℕ) (e : Entry) → plain_lines v s e (plain_verdict v s j e) ≡ [] →
+    IsPlainQuiet v s j e
+unfolding plain_verdict
+plain-quiet v s j e h = silent_parts v _ _ e (silent_from (plain_verdict v s j e) e.number _ _ _ h)
 
--- ENTRIES: a plain entry that names an inode from 2 on
-pub record IsNamedQuiet (v : Volume) (s j : ℕ) (e : Entry) : Type 0 where
-  pub allocated : is_allocated (v.class e.number) ≡ true
-  pub suspect : is_first_entry_of_suspect v s j e.number ≡ false
-  pub link : is_extraneous v s j e.number ≡ false
-  pub kind : has_wrong_type v e ≡ false
-
--- a plain entry
-pub record IsPlainQuiet (v : Volume) (s j : ℕ) (e : Entry) : Type 0 where
-  pub below : nat_lt e.number v.count ≡ true
-  pub no_whiteout : is_bad_whiteout e ≡ false
-  pub named : (e.number == 1) ≡ false → IsNamedQuiet v s j e
-
-named-quiet : (v : Volume) (s j : ℕ) (e : Entry) → is_allocated (v.class e.number) ≡ true → named_lines v s j e ≡ [] →
-    IsNamedQuiet v s j e
-unfolding named_lines
-named-quiet v s j e a h = search quiet depth 9
-
-named-silent : (v : Volume) (s j : ℕ) (e : Entry) → IsNamedQuiet v s j e → named_lines v s j e ≡ []
-unfolding named_lines
-named-silent v s j e q = search silent depth 9
-
-plain-quiet : (v : Volume) (s j : ℕ) (e : Entry) → plain_lines v s j e ≡ [] → IsPlainQuiet v s j e
-unfolding plain_lines
-plain-quiet v s j e h =
-    let a = if-quiet (not (nat_lt e.number v.count))
-    (of_entry (OutOfRange e.number (entry_path (graph_of v) s e.name))) [] _
-    h in
-    let b = if-quiet (is_bad_whiteout e) (of_entry (Whiteout e.number (entry_path (graph_of v) s e.name))) [] _ a.1 in
-    record {
-      below = not-false _ a.0;
-      no_whiteout = b.0;
-      named = λ n.
-          let c = else-quiet (e.number == 1) _ b.1 n in
-          let d = if-quiet (not (is_allocated (v.class e.number)))
-          (of_entry (Unallocated (attributes v e.number) (entry_path (graph_of v) s e.name))) [] _ c in
-          named-quiet v s j e (not-false _ d.0) d.1;
-    }
-
-plain-silent : (v : Volume) (s j : ℕ) (e : Entry) → IsPlainQuiet v s j e → plain_lines v s j e ≡ []
-unfolding plain_lines
-plain-silent v s j e q = grind (arith, named-silent)
+plain-silent : (v : Volume) (s j : ℕ) (e : Entry) → IsPlainQuiet v s j e →
+    plain_lines v s e (plain_verdict v s j e) ≡ []
+unfolding plain_verdict
+plain-silent v s j e q = silent_lines (plain_verdict v s j e) e.number _ _ _ (silent_of v _ _ e q)
 
 -- an entry: not extra, and quiet if it is plain
 pub record IsEntryQuiet (v : Volume) (s j : ℕ) (e : RoledEntry) : Type 0 where
@@ -132,39 +102,37 @@ names_at-from v s j x n = grind (arith, test-from)
 
 -- DIRECTORIES: the size, Gaps and chunks of one
 pub record IsShapeQuiet (v : Volume) (d : ℕ) : Type 0 where
-  pub short : is_short v d ≡ false
-  pub broken : has_partial_chunk v d ≡ false
+  pub short : is_short (v.inode d).size ≡ false
+  pub broken : has_partial_chunk (v.inode d).size ≡ false
   pub gap : v.gap d ≡ false
   pub sound : are_sound (v.chunks d) ≡ true
-
-shape-quiet : (v : Volume) (d : ℕ) → shape_lines v d ≡ [] → IsShapeQuiet v d
-unfolding shape_lines
-shape-quiet v d h = search quiet depth 9
-
-shape-silent : (v : Volume) (d : ℕ) → IsShapeQuiet v d → shape_lines v d ≡ []
-unfolding shape_lines
-shape-silent v d q = search silent depth 9
 
 -- `.` is there, with its own number and type
 abbrev pub IsDotQuiet : ℕ → Option Entry → Type 0
 IsDotQuiet d o = IsSomeAnd o (λ e. (e.number ≡ d) × (e.kind ≡ 4))
 
-dot-quiet : (v : Volume) (d : ℕ) (o : Option Entry) → dot_lines_of v d o ≡ [] → IsDotQuiet d o
-dot-quiet v d o h = grind arith
+dot-quiet : (d : ℕ) (first : Option Entry) → is_right (dot_defects d first) ≡ true →
+    IsDotQuiet d (entry_if (λ e. is_live e && is_one_dot e.name) first)
+dot-quiet d first h = grind (arith, nat_tests)
 
-dot-silent : (v : Volume) (d : ℕ) (o : Option Entry) → IsDotQuiet d o → dot_lines_of v d o ≡ []
-dot-silent v d o h = grind arith
+dot-silent : (d : ℕ) (first : Option Entry) → IsDotQuiet d (entry_if (λ e. is_live e && is_one_dot e.name) first) →
+    is_right (dot_defects d first) ≡ true
+dot-silent d first h = grind (arith, nat_tests)
 
 -- `..` is there, with its type, and it is the parent if there is one
 pub record IsDotdotQuiet (v : Volume) (d : ℕ) (o : Option Entry) : Type 0 where
   pub same : IsSomeAnd o (λ e. is_wrong_parent (parent (graph_of v) d) e.number ≡ false)
   pub kind : IsSomeAnd o (λ e. e.kind ≡ 4)
 
-dotdot-quiet : (v : Volume) (d : ℕ) (o : Option Entry) → dotdot_lines_of v d o ≡ [] → IsDotdotQuiet v d o
-dotdot-quiet v d o h = grind arith
+dotdot-quiet : (v : Volume) (d : ℕ) (second : Option Entry) →
+    is_right (dotdot_defects (parent (graph_of v) d) second) ≡ true →
+    IsDotdotQuiet v d (entry_if (λ e. is_live e && is_two_dots e.name) second)
+dotdot-quiet v d second h = grind (arith, nat_tests)
 
-dotdot-silent : (v : Volume) (d : ℕ) (o : Option Entry) → IsDotdotQuiet v d o → dotdot_lines_of v d o ≡ []
-dotdot-silent v d o h = grind arith
+dotdot-silent : (v : Volume) (d : ℕ) (second : Option Entry) →
+    IsDotdotQuiet v d (entry_if (λ e. is_live e && is_two_dots e.name) second) →
+    is_right (dotdot_defects (parent (graph_of v) d) second) ≡ true
+dotdot-silent v d second q = grind (arith, nat_tests)
 
 -- a directory
 pub record IsDirQuiet (v : Volume) (d : ℕ) : Type 0 where
@@ -174,20 +142,25 @@ pub record IsDirQuiet (v : Volume) (d : ℕ) : Type 0 where
   pub entries : (j : ℕ) (e : RoledEntry) → nth_roled (roled_entries v d) j ≡ Some e → IsEntryQuiet v d j e
 
 dir-quiet : (v : Volume) (d : ℕ) → sized_dir_lines v d ≡ [] → IsDirQuiet v d
-unfolding sized_dir_lines dot_lines dotdot_lines
-dir-quiet v d h = record {
-  shape = search (nil-left, shape-quiet);
-  dot_there = search (nil-left, nil-right, dot-quiet);
-  dotdot_there = search (nil-left, nil-right, dotdot-quiet) depth 7;
-  entries = λ j e x. entries-quiet v d 0 (roled_entries v d) (search (nil-right)) j j e x (omega arith);
-}
+unfolding sized_dir_lines dir_header_lines header_defects dot dotdot
+dir-quiet v d h =
+    let none = none_from (header_of v d) _ _ (nil-left (dir_header_lines v d) _ h) in
+    record {
+      shape = grind (arith, nat_tests);
+      dot_there = dot-quiet d (start_entry v d 0) (grind (arith, nat_tests));
+      dotdot_there = dotdot-quiet v d (start_entry v d 1) (grind (arith, nat_tests));
+      entries = λ j e x. entries-quiet v d 0 (roled_entries v d) (nil-right (dir_header_lines v d) _ h) j j e x
+          (omega arith);
+    }
 
 dir-silent : (v : Volume) (d : ℕ) → IsDirQuiet v d → sized_dir_lines v d ≡ []
-unfolding sized_dir_lines dot_lines dotdot_lines
+unfolding sized_dir_lines dir_header_lines header_defects dot dotdot
 dir-silent v d q =
     let entries = entries-silent v d 0 (roled_entries v d)
     (λ j i e x z. let same : j ≡ i = omega arith in rw (← same) (q.entries j e x)) in
-    search (nil-both, shape-silent, dot-silent, dotdot-silent)
+    let dot = dot-silent d (start_entry v d 0) q.dot_there in
+    let dotdot = dotdot-silent v d (start_entry v d 1) q.dotdot_there in
+    nil-both _ _ (none_lines (header_of v d) _ _ (grind (arith, nat_tests))) entries
 
 -- PATHNAMES: the root, and each directory that isn't empty
 pub record IsPathnameQuiet (v : Volume) : Type 0 where

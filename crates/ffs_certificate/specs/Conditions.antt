@@ -9,7 +9,7 @@ use Rattle.ffs_volume.specs.{Consistent.BlocksRight.BlocksRight, Groups.Records.
 use Rattle.ffs_volume.specs.Groups.GroupCheck.{phase5_lines, is_free_of_kept, is_free_of_runs}
 use Rattle.ffs_volume.specs.{Directories.{Entries.Entry, Roles.{Volume, RoledEntry}}, Blocks.Inodes.is_allocated}
 use Rattle.ffs_volume.specs.Directories.Roles.{is_dir, is_allocated_inode, roled_entries, dot, dotdot, references}
-use Rattle.ffs_volume.specs.{Directories.{Graph.parent, Parents.{graph_of, nth_roled}}, Report.Opening.setting_lines}
+use Rattle.ffs_volume.specs.{Directories.{Graph.parent, Parents.{graph_of, is_parent_entry, nth_roled}}, Report.Opening.setting_lines}
 use Rattle.ffs_volume.specs.Directories.PathnameCheck.{continues_after_root, is_short, has_partial_chunk, are_sound}
 use Rattle.ffs_volume.specs.Directories.PathnameCheck.{is_wrong_parent, is_bad_whiteout, is_extraneous, has_wrong_type}
 use Rattle.ffs_volume.specs.{Directories.Connectivity.is_unref_dir, Disk.Numbers.equals_natural}
@@ -41,8 +41,8 @@ pub record IsPlainUnreported (vol : Volume) (e : Entry) : Type 0 where
 -- VALUE; no EXTRA entry is reported, and none of the plain entries
 pub record IsDirUnreported (vol : Volume) (d : ℕ) : Type 0 where
   pub some : (vol.inode d).size ≢ 0
-  pub short : is_short vol d ≡ false
-  pub broken : has_partial_chunk vol d ≡ false
+  pub short : is_short (vol.inode d).size ≡ false
+  pub broken : has_partial_chunk (vol.inode d).size ≡ false
   pub gap : vol.gap d ≡ false
   pub sound : are_sound (vol.chunks d) ≡ true
   pub dot_there : IsSomeAnd (dot vol d) (λ e. (e.number ≡ d) × (e.kind ≡ DT_DIR))
@@ -62,7 +62,7 @@ pub record AreLinksUnreported (vol : Volume) : Type 0 where
   pub dotdots : (d : ℕ) → is_dir vol d ≡ true
       → IsSomeAnd (dotdot vol d) (λ e. is_wrong_parent (parent (graph_of vol) d) e.number ≡ false)
   pub links : (s j : ℕ) (e : RoledEntry) → is_dir vol s ≡ true → nth_roled (roled_entries vol s) j ≡ Some e
-      → e.role ≡ Plain → is_extraneous vol s j e.entry.number ≡ false
+      → e.role ≡ Plain → is_extraneous vol (is_parent_entry (graph_of vol) s j e.entry.number) e.entry.number ≡ false
   pub lost : (d : ℕ) → is_unref_dir vol d ≡ false
 
 -- neither of the messages is reported that say that `AreCountsRight` fails of an inode: UNREF and

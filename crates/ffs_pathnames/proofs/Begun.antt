@@ -1,16 +1,16 @@
 -- A directory that is begun, and how its lines continue.
 use Rattle.std.proofs.Common.{length, arith, ◌≡◌, ◌≤◌, suc, refl, sym, subst, ◌∙◌, ℕ, true, List, [], ◌++◌, map, Option}
 use Rattle.std.proofs.{Common.{Err, append-nil, ltb-true}, lemmas.{List.map-append, Bool.and_parts}}
-use Rattle.ffs_pathnames.proofs.{LineCounts.lines_long, LookLaws.quiet_silent, HeaderLaws.dir_parts, PassedLaws.size_of}
+use Rattle.ffs_pathnames.proofs.{LineCounts.lines_long, LookLaws.quiet_silent, PassedLaws.size_of}
 use Rattle.ffs_pathnames.proofs.{PassedLaws.{IsDirectory, right_reported}, BetweenLaws.{unstamped, looked}}
 use Rattle.ffs_pathnames.proofs.BetweenLaws.{looked_right, quiet_next, reported_next}
 use Rattle.ffs_pathnames.specs.{declared.look.Examination.Examination, Examines.{IsExamined, LeavesAllButDue}}
-use Rattle.ffs_pathnames.specs.{Begins.{AreFirstTwo, dir_header_lines, IsDirectoryBegun}, PassedRight.AreRightBefore}
-use Rattle.ffs_pathnames.specs.{Header.header_reported, PassedNames.{PassedNames, are_quiet, entries_reported}}
-use Rattle.ffs_pathnames.specs.PassedNames.{after_entries}
+use Rattle.ffs_pathnames.specs.{Begins.{AreFirstTwo, IsDirectoryBegun}, PassedRight.AreRightBefore}
+use Rattle.ffs_pathnames.specs.PassedNames.{PassedNames, are_quiet, entries_reported, after_entries}
 use Rattle.ffs_volume.specs.{declared.Layout.Layout, Blocks.Inodes.inode_of, Directories.{Entries.Entry, Graph.parent}}
 use Rattle.ffs_volume.specs.Directories.{Parents.graph_of, Paths.dir_path, PathnameCheck.{attributes, sized_dir_lines}}
 use Rattle.ffs_volume.specs.Directories.{PathnameCheck.lines_of_entries, Roles.{Volume, is_dir, roled_entries}}
+use Rattle.ffs_volume.specs.Directories.PathnameCheck.{dir_header_lines, header_defects, header_lines}
 use Rattle.ffs_volume.specs.{Directories.{Roles.start_entry, Volumes.{volume_of, volume_with}}, Messages.Kinds.Message}
 use Rattle.ffs_volume.specs.Messages.Kinds.{TreeMessage, of_tree}
 use Rattle.ffs_report.{proofs.Reporting.{reports_knowing, reports_same}, specs.Known.ForBytes}
@@ -42,15 +42,21 @@ pub attr_size : (v : Layout) (b : List ℕ) (d : ℕ) → (attributes (volume_of
 unfolding attributes volume_of volume_with
 attr_size v b d = refl
 
+-- the size of an inode of the volume
+size_of_inode : (v : Layout) (b : List ℕ) (d : ℕ) → ((volume_of v b).inode d).size ≡ (inode_of v b d).size
+unfolding volume_of volume_with
+size_of_inode v b d = refl
+
 -- what was found is the volume's
 pub starts_are : (v : Layout) (b : List ℕ) (d : ℕ) (old new : Workspace) (e : Examination) (start : List ℕ)
     (above : Option ℕ) (first second : Option Entry) →
     IsExamined v b d old e start new → above ≡ parent (graph_of (volume_of v b)) d →
     AreFirstTwo first second e.look.started v.order start →
-    header_reported (attributes (volume_of v b) d) (dir_path (graph_of (volume_of v b)) d) d above e.look.gap
-    e.look.sound first second ≡ dir_header_lines (volume_of v b) d
+    header_lines (header_defects d e.inode.size above e.look.gap e.look.sound first second)
+    (attributes (volume_of v b) d) (dir_path (graph_of (volume_of v b)) d) ≡ dir_header_lines (volume_of v b) d
 unfolding dir_header_lines start_entry
-starts_are v b d old new e start above first second f p two = grind arith
+starts_are v b d old new e start above first second f p two =
+    let size = size_of_inode v b d in grind arith
 
 pub begun_is : (v : Layout) (b : List ℕ) (d : ℕ) (old new more : Workspace) (e : Examination) (start : List ℕ) →
     IsExamined v b d old e start new → LeavesAllButDue old new → more ≡ record new { windows = more.windows } →
@@ -64,19 +70,20 @@ directory_is v d two h = grind (arith, and_parts, ltb-true)
 -- its lines: first those before its entries, then those of its entries
 pub lines_parts : (v : Volume) (d : ℕ) (ms : List TreeMessage) → lines_of_entries v d 0 (roled_entries v d) ≡ ms →
     map of_tree (sized_dir_lines v d) ≡ map of_tree (dir_header_lines v d) ++ map of_tree ms
-unfolding dir_header_lines
-lines_parts v d ms e = rw (dir_parts v d, e) (map-append of_tree (dir_header_lines v d) ms)
+unfolding sized_dir_lines
+lines_parts v d ms e = rw e (map-append of_tree (dir_header_lines v d) ms)
 
 pub starts_within : (v : Volume) (d : ℕ) → length (dir_header_lines v d) ≤ length (sized_dir_lines v d)
 starts_within v d =
     let long = lines_long (sized_dir_lines v d) (dir_header_lines v d) _ (lines_parts v d _ refl) in omega (arith, long)
 
 pub quiet_parts : (v : Volume) (d : ℕ) (m : PassedNames) → IsDirectory v d → AreRightBefore v d m →
-    are_quiet v d m.stamps (roled_entries v d) ≡ true →
+    are_quiet v d m.flags m.stamps (roled_entries v d) ≡ true →
     map of_tree (dir_header_lines v d) ≡ map of_tree (sized_dir_lines v d)
 unfolding size_of
 quiet_parts v d m dir r h =
-    let none = quiet_silent [] (roled_entries v d) m.stamps dir refl r.stamps_length (unstamped v d m r) h in
+    let none = quiet_silent [] (roled_entries v d) m.flags m.stamps dir refl r.stamps_length r.named (unstamped v d m r)
+    h in
     sym (lines_parts v d [] none ∙ append-nil (map of_tree (dir_header_lines v d)))
 
 pub reported_parts : (v : Volume) (d : ℕ) (m m' : PassedNames) → IsDirectory v d → AreRightBefore v d m →
@@ -89,7 +96,7 @@ reported_parts v d m m' dir r e = rw e (lines_parts v d _
 
 -- the names that were passed after it
 pub quiet_after : (v : Volume) (d : ℕ) (m m' : PassedNames) → AreRightBefore v d m →
-    are_quiet v d m.stamps (roled_entries v d) ≡ true → m' ≡ looked v d m → AreRightBefore v (suc d) m'
+    are_quiet v d m.flags m.stamps (roled_entries v d) ≡ true → m' ≡ looked v d m → AreRightBefore v (suc d) m'
 quiet_after v d m m' r h e = rw e (quiet_next v d m r h)
 
 pub reported_after : (v : Volume) (d : ℕ) (m m' m'' : PassedNames) → IsDirectory v d → AreRightBefore v d m →

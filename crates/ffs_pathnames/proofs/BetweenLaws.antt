@@ -2,10 +2,11 @@
 use Rattle.std.proofs.Common.{◌≡◌, ◌≢◌, ℕ, suc, ◌≤◌, true, false, refl, List, [], ◌∷◌, ◌++◌, length, slice_index}
 use Rattle.std.{proofs.Common.{slice_set, arith, sym, ◌∙◌, append_assoc, append-nil}, specs.List.list_any}
 use Rattle.std.proofs.lemmas.{List.{get_or-set_other, get_or-set_same, set_past}, Bool.Decides.nat_tests}
-use Rattle.std.proofs.Math.Bool.{and-false, or-false}
+use Rattle.std.proofs.{Math.Bool.or-false, lemmas.Bool.{and_parts, both_ways}}
 use Rattle.ffs_pathnames.{proofs.{FirstTwo.parent_edge, PassedLaws.IsDirectory}, specs.Silent.IsSilentDirectory}
 use Rattle.ffs_pathnames.proofs.{PassedLaws.{calm_roled, right_after}, LookLaws.{AreStamped, stamped_all}}
-use Rattle.ffs_pathnames.{proofs.LookLaws.{looks_all_long, suspects_unnamed}, specs.PassedNames.{PassedNames, is_calm}}
+use Rattle.ffs_pathnames.{proofs.LookLaws.{looks_all_long, suspects_flagged}, specs.PassedNames.{PassedNames, is_calm}}
+use Rattle.ffs_pathnames.specs.PassedNames.{is_flagged}
 use Rattle.ffs_pathnames.specs.PassedNames.{after_roled, after_entries, belongs, after_look, after_looks, are_quiet}
 use Rattle.ffs_pathnames.specs.PassedRight.{AreRight, AreRightBefore}
 use Rattle.ffs_volume.specs.Directories.Roles.{Volume, RoledEntry, is_dir, is_suspect, roled_entries}
@@ -66,12 +67,15 @@ right_end {v = v} {s = s} done (e ∷ es) m two r =
     rw (← append_assoc done (e ∷ []) es)
     (right_end (done ++ e ∷ []) es (after_roled v s m e) two (right_after e two r))
 
--- after an inode that is as the names that were passed say
-next : (v : Volume) (s : ℕ) (m : PassedNames) (stamps : List ℕ) → AreRightBefore v s m →
-    ((x : ℕ) → is_suspect v x ≡ true → x ≢ 1 → is_naming_dir (graph_of v) s x ≡ false) →
+-- after an inode, the suspects that it names being flagged
+abbrev FlagsNamed : Volume → ℕ → PassedNames → Type 0
+FlagsNamed v s m = (x : ℕ) → is_suspect v x ≡ true → x ≢ 1 → x ≢ 2 → is_naming_dir (graph_of v) s x ≡ true →
+    is_flagged m x ≡ true
+
+next : (v : Volume) (s : ℕ) (m : PassedNames) (stamps : List ℕ) → AreRightBefore v s m → FlagsNamed v s m →
     ((x : ℕ) → slice_index m.stamps x ≤ s → slice_index stamps x ≤ s) → length stamps ≡ length m.stamps →
     AreRightBefore v (suc s) (record m { stamps = stamps })
-next v s m stamps r none small long = grind (arith, some_below-suc, nat_tests)
+next v s m stamps r flagged small long = grind (arith, some_below-suc, nat_tests)
 
 -- after a directory of which all entries were passed
 pub reported_next : (v : Volume) (s : ℕ) (m : PassedNames) → IsDirectory v s → AreRightBefore v s m →
@@ -86,28 +90,30 @@ reported_next v s m d r =
       calm = λ x h. r.calm x (sym (entries_calm v s (roled_entries v s) (looked v s m) x) ∙ h);
     }
 
--- a directory with quiet entries names no suspect
-unnamed : (v : Volume) (s : ℕ) (m : PassedNames) → are_quiet v s m.stamps (roled_entries v s) ≡ true → (x : ℕ) →
-    is_suspect v x ≡ true → x ≢ 1 → is_naming_dir (graph_of v) s x ≡ false
-unnamed v s m h x q n = rw (suspects_unnamed v s (roled_entries v s) m.stamps x h q n) (and-false (is_dir v s))
+-- so they are of a directory with quiet entries
+quiet_flagged : (v : Volume) (s : ℕ) (m : PassedNames) →
+    are_quiet v s m.flags m.stamps (roled_entries v s) ≡ true → FlagsNamed v s m
+quiet_flagged v s m h x q n two named =
+    suspects_flagged v s m.flags (roled_entries v s) m.stamps x h q n two (and_parts (is_dir v s) _ named).1
 
 -- after a directory of which nothing is reported
 pub quiet_next : (v : Volume) (s : ℕ) (m : PassedNames) → AreRightBefore v s m →
-    are_quiet v s m.stamps (roled_entries v s) ≡ true → AreRightBefore v (suc s) (looked v s m)
-quiet_next v s m r h = search (arith, next, unnamed, looks_small, looks_all_long)
+    are_quiet v s m.flags m.stamps (roled_entries v s) ≡ true → AreRightBefore v (suc s) (looked v s m)
+quiet_next v s m r h = search (arith, next, quiet_flagged, looks_small, looks_all_long)
 
 -- after an inode that names no suspect, and isn't looked at
 pub other_next : (v : Volume) (s : ℕ) (m : PassedNames) →
     ((x : ℕ) → is_suspect v x ≡ true → x ≢ 1 → is_naming_dir (graph_of v) s x ≡ false) → AreRightBefore v s m →
     AreRightBefore v (suc s) m
-other_next v s m none r = next v s m m.stamps r none (λ x h. h) refl
+other_next v s m none r = next v s m m.stamps r
+    (λ x q n two named. absurd (both_ways (is_naming_dir (graph_of v) s x) (none x q n) named)) (λ x h. h) refl
 
 -- nothing is stamped by s before it is looked at
 pub silent_quiet : (v : Volume) (s : ℕ) (m : PassedNames) → IsSilentDirectory v s → AreRightBefore v s m →
-    are_quiet v s m.stamps (roled_entries v s) ≡ true
-silent_quiet v s m silent r = silent.entries m.stamps (λ y h. let low = r.stamps y h in grind (arith, nat_tests))
+    are_quiet v s m.flags m.stamps (roled_entries v s) ≡ true
+silent_quiet v s m silent r = silent.entries m.flags m.stamps (λ y h. let low = r.stamps y h in grind (arith, nat_tests))
 
 -- after a directory that is left out
 pub silent_next : (v : Volume) (s : ℕ) (m : PassedNames) → IsSilentDirectory v s → AreRightBefore v s m →
     AreRightBefore v (suc s) m
-silent_next v s m silent r = other_next v s m (unnamed v s m (silent_quiet v s m silent r)) r
+silent_next v s m silent r = next v s m m.stamps r (quiet_flagged v s m (silent_quiet v s m silent r)) (λ x h. h) refl

@@ -1,14 +1,18 @@
 -- What a first look at the entries of a directory finds.
-use Rattle.std.proofs.Common.{◌≡◌, ◌≢◌, ℕ, ◌<◌, ◌==◌, true, false, ◌&&◌, refl, List, [], ◌∷◌, ◌++◌, length, slice_index}
-use Rattle.std.proofs.{Common.{sym, ◌∙◌, subst, append_assoc, append-nil, arith}, lemmas.List.get_or-set_other}
-use Rattle.std.proofs.{lemmas.{List.get_or-set_same, Bool.Decides.nat_tests}, Math.ListN.length-set}
-use Rattle.std.specs.List.{list_any}
-use Rattle.ffs_volume.specs.{declared.Role.TheVariants.Plain, Directories.PathnameCheck.{is_bad_whiteout, named_lines}}
-use Rattle.ffs_volume.specs.Directories.{PathnameCheck.{plain_lines, entry_lines, lines_of_entries}, Entries.Entry}
-use Rattle.ffs_volume.specs.Directories.{Graph.is_naming_entry, Roles.{Volume, RoledEntry, is_suspect, roled_entries}}
-use Rattle.ffs_pathnames.specs.PassedNames.{belongs, after_look, after_looks, is_plain_quiet, is_quiet, are_quiet}
-use Rattle.ffs_pathnames.{specs.PassedNames.is_inode_quiet, proofs.PassedLaws.{size_of, size_more, IsEntry}}
-use Rattle.ffs_pathnames.proofs.PassedLaws.{IsDirectory, from_parent_is, any_more}
+use Rattle.std.proofs.Common.{◌≡◌, ◌≢◌, ℕ, ◌<◌, ◌==◌, Bool, true, false, not, ◌&&◌, ◌||◌, refl, List, [], ◌∷◌, ◌++◌}
+use Rattle.std.proofs.Common.{length, slice_index, sym, ◌∙◌, subst, append_assoc, append-nil, arith, ltb-true, ne_eqb}
+use Rattle.std.proofs.{Common.{eqb-true, inl, inr}, lemmas.{List.get_or-set_other, List.get_or-set_same}}
+use Rattle.std.proofs.{lemmas.Bool.{Decides.nat_tests, and_parts, eqb-false, or_cases}, Math.ListN.length-set}
+use Rattle.std.specs.List.{list_any, slice_index_or}
+use Rattle.ffs_volume.specs.{declared.Role.{Role, TheVariants.{Extra, Plain}}, Disk.Search.some_below}
+use Rattle.ffs_volume.specs.Directories.PathnameCheck.{plain_verdict, entry_lines, lines_of_entries, is_silent}
+use Rattle.ffs_volume.specs.Directories.{PathnameCheck.{is_role_silent, role_lines}, Climb.is_value, Parents.graph_of}
+use Rattle.ffs_volume.specs.Directories.Graph.{is_naming_entry, is_naming_dir, parent}
+use Rattle.ffs_volume.specs.Directories.Roles.{Volume, RoledEntry, is_dir, is_plain, is_suspect, roled_entries}
+use Rattle.ffs_volume.proofs.{RoleLaws.plain-true, VerdictLaws.{silent_lines, silent_parts, silent_of}}
+use Rattle.ffs_pathnames.specs.PassedNames.{belongs, after_look, after_looks, first_verdict, is_quiet, are_quiet}
+use Rattle.ffs_pathnames.proofs.PassedLaws.{IsDirectory, IsEntry, size_of, size_more, first_name_is, from_parent_is}
+use Rattle.ffs_pathnames.proofs.PassedLaws.{any_more}
 
 -- the inodes that belong to s and are named by the entries of `done` are stamped
 abbrev pub AreStamped : Volume → ℕ → List RoledEntry → List ℕ → Type 0
@@ -37,58 +41,98 @@ looks_all_long v s [] stamps = refl
 looks_all_long v s (e ∷ es) stamps = looks_all_long v s es (after_look v s stamps e) ∙ looks_long v s stamps e
 
 -- ---- quiet entries
--- what a plain entry that is quiet shows
-record IsPlainQuiet (v : Volume) (s : ℕ) (stamps : List ℕ) (e : Entry) : Type 0 where
-  below : e.number < v.count
-  whiteout : is_bad_whiteout e ≡ false
-  suspect : e.number ≢ 1 → is_suspect v e.number ≡ false
-  named : (e.number == 1) ≡ false → is_inode_quiet v s stamps e ≡ true
+-- the suspects that are named before s are flagged
+abbrev pub AreFlagged : Volume → ℕ → List Bool → Type 0
+AreFlagged v s flags = (x : ℕ) → x < v.count → is_suspect v x ≡ true → x ≢ 1 → x ≢ 2 →
+    slice_index_or flags x false ≡ some_below (λ t. is_naming_dir (graph_of v) t x) s
 
-quiet_parts : (v : Volume) (s : ℕ) (stamps : List ℕ) (e : Entry) → is_plain_quiet v s stamps e ≡ true →
-    IsPlainQuiet v s stamps e
-quiet_parts v s stamps e h = grind (arith, nat_tests)
+-- a suspect that was named before isn't named first here
+first_quiet : (suspect root first flagged below any : Bool) → (suspect && (not root && not flagged)) ≡ false →
+    first ≡ not (below || any) → (suspect ≡ true → root ≡ false → flagged ≡ below) →
+    (suspect && (not root && first)) ≡ false
+first_quiet suspect root first flagged below any h f same = grind (arith, nat_tests)
 
-named_quiet : {v : Volume} {s : ℕ} {done es : List RoledEntry} {e : RoledEntry} (stamps : List ℕ) →
-    IsEntry v s done e es → e.role ≡ Plain → e.entry.number < v.count → AreStamped v s done stamps →
-    is_inode_quiet v s stamps e.entry ≡ true → named_lines v s (size_of done) e.entry ≡ []
-unfolding named_lines
-named_quiet stamps i p h r q = grind (arith, from_parent_is, nat_tests)
+-- the first entry in its parent that names a directory is the parent entry
+own_quiet : (dir root value mine stamped any own : Bool) → (dir && not (mine && not stamped)) ≡ false →
+    mine ≡ (dir && (not root && value)) → stamped ≡ (mine && any) → own ≡ ((not root && value) && not any) →
+    (dir && not own) ≡ false
+own_quiet dir root value mine stamped any own h m t o = grind (arith, nat_tests)
 
-plain_quiet : {v : Volume} {s : ℕ} {done es : List RoledEntry} {e : RoledEntry} (stamps : List ℕ) →
-    IsEntry v s done e es → e.role ≡ Plain → AreStamped v s done stamps →
-    is_plain_quiet v s stamps e.entry ≡ true → plain_lines v s (size_of done) e.entry ≡ []
-unfolding plain_lines
-plain_quiet {v = v} {s = s} {e = e} stamps i p r h =
-    let q = quiet_parts v s stamps e.entry h in
-    let n = λ (k : is_inode_quiet v s stamps e.entry ≡ true). named_quiet stamps i p q.below r k in
-    grind (arith, nat_tests)
+module _ {v : Volume} {s : ℕ} {done es : List RoledEntry} {e : RoledEntry} (flags : List Bool) (stamps : List ℕ)
+    (i : IsEntry v s done e es) (flagged : AreFlagged v s flags) (stamped : AreStamped v s done stamps) where
+  plain_quiet : e.role ≡ Plain →
+      is_silent (first_verdict v s (record { flags = flags; stamps = stamps }) e.entry) ≡ true →
+      is_silent (plain_verdict v s (size_of done) e.entry) ≡ true
+  unfolding plain_verdict
+  plain_quiet p h =
+      let x = e.entry.number in
+      let q = silent_parts v _ _ e.entry h in
+      let below : x < v.count = ltb-true x v.count q.below in
+      silent_of v _ _ e.entry (record {
+        below = q.below;
+        no_whiteout = q.no_whiteout;
+        named = λ n.
+            let k = q.named n in
+            record {
+              allocated = k.allocated;
+              suspect = first_quiet (is_suspect v x) (x == 2) _ (slice_index_or flags x false)
+                  (some_below (λ t. is_naming_dir (graph_of v) t x) s) (list_any (is_naming_entry x) done) k.suspect
+                  (first_name_is i p) (λ t r. flagged x below t (eqb-false x 1 n) (eqb-false x 2 r));
+              link = own_quiet (is_dir v x) (x == 2) (is_value (parent (graph_of v) x) s) (belongs v s x)
+                  (slice_index stamps x == s) (list_any (is_naming_entry x) done) _ k.link refl (stamped x below)
+                  (from_parent_is i p);
+              kind = k.kind;
+            };
+      })
 
-seen_quiet : {v : Volume} {s : ℕ} {done es : List RoledEntry} {e : RoledEntry} (stamps : List ℕ) →
-    IsEntry v s done e es → AreStamped v s done stamps →
-    is_quiet v s stamps e ≡ true → entry_lines v s (size_of done) e ≡ []
-unfolding entry_lines is_quiet
-seen_quiet stamps i r h = grind (arith, plain_quiet)
+  entry_quiet : is_quiet v s flags stamps e ≡ true → entry_lines v s (size_of done) e ≡ []
+  unfolding entry_lines is_quiet
+  entry_quiet h = one e.role refl h
+    where
+      one : (role : Role) → e.role ≡ role →
+          is_role_silent role (first_verdict v s (record { flags = flags; stamps = stamps }) e.entry) ≡ true →
+          role_lines v s role e.entry (plain_verdict v s (size_of done) e.entry) ≡ []
+      one Plain p k = silent_lines (plain_verdict v s (size_of done) e.entry) e.entry.number _ _ _ (plain_quiet p k)
+      one Extra p k = absurd (cc)
+      one role p k = refl
 
 -- where all entries are quiet, nothing is reported of them
-pub quiet_silent : {v : Volume} {s : ℕ} (done es : List RoledEntry) (stamps : List ℕ) → IsDirectory v s →
-    roled_entries v s ≡ done ++ es → length stamps ≡ v.count → AreStamped v s done stamps →
-    are_quiet v s stamps es ≡ true → lines_of_entries v s (size_of done) es ≡ []
+pub quiet_silent : {v : Volume} {s : ℕ} (done es : List RoledEntry) (flags : List Bool) (stamps : List ℕ) →
+    IsDirectory v s → roled_entries v s ≡ done ++ es → length stamps ≡ v.count → AreFlagged v s flags →
+    AreStamped v s done stamps → are_quiet v s flags stamps es ≡ true → lines_of_entries v s (size_of done) es ≡ []
 unfolding lines_of_entries
-quiet_silent done [] stamps d whole long r h = refl
-quiet_silent {v = v} {s = s} done (e ∷ es) stamps d whole long r h =
+quiet_silent done [] flags stamps d whole long f r h = refl
+quiet_silent {v = v} {s = s} done (e ∷ es) flags stamps d whole long f r h =
     let i : IsEntry v s done e es = record { dir = d; whole = whole } in
-    let rest = quiet_silent (done ++ e ∷ []) es (after_look v s stamps e) d in
-    let next = stamped_after v s done e stamps long r in
-    grind (arith, append_assoc, looks_long, seen_quiet, size_more)
+    let h2 = and_parts (is_quiet v s flags stamps e) _ h in
+    let rest = quiet_silent (done ++ e ∷ []) es flags (after_look v s stamps e) d
+    (whole ∙ sym (append_assoc done (e ∷ []) es)) (looks_long v s stamps e ∙ long) f
+    (stamped_after v s done e stamps long r) h2.1 in
+    rw (entry_quiet flags stamps i f r h2.0, ← size_more done e, rest) refl
 
--- and no suspect is named
-suspect_unnamed : (v : Volume) (s : ℕ) (stamps : List ℕ) (e : RoledEntry) (x : ℕ) → is_quiet v s stamps e ≡ true →
-    is_suspect v x ≡ true → x ≢ 1 → is_naming_entry x e ≡ false
+-- and the suspects that they name are flagged
+suspect_flagged : (v : Volume) (s : ℕ) (flags : List Bool) (stamps : List ℕ) (e : RoledEntry) (x : ℕ) →
+    is_quiet v s flags stamps e ≡ true → is_suspect v x ≡ true → x ≢ 1 → x ≢ 2 → is_naming_entry x e ≡ true →
+    slice_index_or flags x false ≡ true
 unfolding is_quiet
-suspect_unnamed v s stamps e x h q n = grind (arith, quiet_parts, nat_tests)
+suspect_flagged v s flags stamps e x h q n two named =
+    let p = and_parts (is_plain e.role) (e.entry.number == x) named in
+    let same : e.entry.number ≡ x = eqb-true e.entry.number x p.1 in
+    let plain = plain-true e.role p.0 in
+    let k = silent_parts v _ _ e.entry (rw plain at h) in
+    let named = k.named (rw same (ne_eqb x 1 n)) in
+    flagged (slice_index_or flags x false) (rw (same, q, ne_eqb x 2 two) at named.suspect)
+  where
+    flagged : (b : Bool) → (true && (not false && not b)) ≡ false → b ≡ true
+    flagged true h = refl
+    flagged false h = absurd (cc)
 
-pub suspects_unnamed : (v : Volume) (s : ℕ) (es : List RoledEntry) (stamps : List ℕ) (x : ℕ) →
-    are_quiet v s stamps es ≡ true → is_suspect v x ≡ true → x ≢ 1 → list_any (is_naming_entry x) es ≡ false
-suspects_unnamed v s [] stamps x h q n = refl
-suspects_unnamed v s (e ∷ es) stamps x h q n =
-    let rest = suspects_unnamed v s es (after_look v s stamps e) x in grind (arith, suspect_unnamed)
+pub suspects_flagged : (v : Volume) (s : ℕ) (flags : List Bool) (es : List RoledEntry) (stamps : List ℕ) (x : ℕ) →
+    are_quiet v s flags stamps es ≡ true → is_suspect v x ≡ true → x ≢ 1 → x ≢ 2 →
+    list_any (is_naming_entry x) es ≡ true → slice_index_or flags x false ≡ true
+suspects_flagged v s flags [] stamps x h q n two named = absurd (cc)
+suspects_flagged v s flags (e ∷ es) stamps x h q n two named =
+    let h2 = and_parts (is_quiet v s flags stamps e) _ h in
+    let here = suspect_flagged v s flags stamps e x h2.0 q n two in
+    let rest = suspects_flagged v s flags es (after_look v s stamps e) x h2.1 q n two in
+    elim (or_cases (is_naming_entry x e) _ named) [ inl a ↦ here a | inr a ↦ rest a ]

@@ -8,11 +8,11 @@ use Rattle.ffs_volume.specs.{Directories.{PathnameCheck.are_sound}}
 use Rattle.ffs_volume.specs.{Directories.Roles.{roled_chunk, Volume, RoledEntry}}
 
 -- ---- the entries of a chunk
-pub quiet_on : (v : Volume) (s : ℕ) (stamps : List ℕ) {stamps' : List ℕ} {seen : RoledEntry} {es es' : List RoledEntry}
+pub quiet_on : (v : Volume) (s : ℕ) (flags : List Bool) (stamps : List ℕ) {stamps' : List ℕ} {seen : RoledEntry} {es es' : List RoledEntry}
     {all still : Bool} (quiet : Bool) → es ≡ seen ∷ es' →
-    still ≡ (quiet && is_quiet v s stamps seen) → stamps' ≡ after_look v s stamps seen →
-    all ≡ (quiet && are_quiet v s stamps es) → all ≡ (still && are_quiet v s stamps' es')
-quiet_on v s stamps quiet e h t q = grind (arith, and_assoc)
+    still ≡ (quiet && is_quiet v s flags stamps seen) → stamps' ≡ after_look v s stamps seen →
+    all ≡ (quiet && are_quiet v s flags stamps es) → all ≡ (still && are_quiet v s flags stamps' es')
+quiet_on v s flags stamps quiet e h t q = grind (arith, and_assoc)
 
 pub stamps_on : (v : Volume) (s : ℕ) (stamps : List ℕ) {stamps' all : List ℕ} {seen : RoledEntry}
     {es es' : List RoledEntry} →
@@ -26,18 +26,19 @@ looks-append : (v : Volume) (s : ℕ) (stamps : List ℕ) (xs ys : List RoledEnt
 looks-append v s stamps [] ys = refl
 looks-append v s stamps (x ∷ xs) ys = looks-append v s (after_look v s stamps x) xs ys
 
-quiet-append : (v : Volume) (s : ℕ) (stamps : List ℕ) (xs ys : List RoledEntry) →
-    are_quiet v s stamps (xs ++ ys) ≡ (are_quiet v s stamps xs && are_quiet v s (after_looks v s stamps xs) ys)
-quiet-append v s stamps [] ys = refl
-quiet-append v s stamps (x ∷ xs) ys =
-    rw (quiet-append v s (after_look v s stamps x) xs ys, and_assoc (is_quiet v s stamps x)) refl
+quiet-append : (v : Volume) (s : ℕ) (flags : List Bool) (stamps : List ℕ) (xs ys : List RoledEntry) →
+    are_quiet v s flags stamps (xs ++ ys)
+    ≡ (are_quiet v s flags stamps xs && are_quiet v s flags (after_looks v s stamps xs) ys)
+quiet-append v s flags stamps [] ys = refl
+quiet-append v s flags stamps (x ∷ xs) ys =
+    rw (quiet-append v s flags (after_look v s stamps x) xs ys, and_assoc (is_quiet v s flags stamps x)) refl
 
-pub chunk_quiet : (v : Volume) (s : ℕ) (stamps : List ℕ) {stamps' : List ℕ} {cs cs' : List Chunk} {c : Chunk}
-    {all here : Bool} (quiet : Bool) → cs ≡ c ∷ cs' →
-    here ≡ are_quiet v s stamps (roled_chunk c) → stamps' ≡ after_looks v s stamps (roled_chunk c) →
-    all ≡ (quiet && are_quiet v s stamps (flat_map roled_chunk cs)) →
-    all ≡ ((quiet && here) && are_quiet v s stamps' (flat_map roled_chunk cs'))
-chunk_quiet v s stamps quiet e h t q = grind (arith, quiet-append, and_assoc)
+pub chunk_quiet : (v : Volume) (s : ℕ) (flags : List Bool) (stamps : List ℕ) {stamps' : List ℕ} {cs cs' : List Chunk}
+    {c : Chunk} {all here : Bool} (quiet : Bool) → cs ≡ c ∷ cs' →
+    here ≡ are_quiet v s flags stamps (roled_chunk c) → stamps' ≡ after_looks v s stamps (roled_chunk c) →
+    all ≡ (quiet && are_quiet v s flags stamps (flat_map roled_chunk cs)) →
+    all ≡ ((quiet && here) && are_quiet v s flags stamps' (flat_map roled_chunk cs'))
+chunk_quiet v s flags stamps quiet e h t q = grind (arith, quiet-append, and_assoc)
 
 pub chunk_stamps : (v : Volume) (s : ℕ) (stamps : List ℕ) {stamps' all : List ℕ} {cs cs' : List Chunk} {c : Chunk} →
     cs ≡ c ∷ cs' →
@@ -50,9 +51,9 @@ pub chunk_sound : {cs cs' : List Chunk} {c : Chunk} {all here : Bool} (sound : B
 chunk_sound sound e h q = rw (h, and_assoc sound) (rw e at q)
 
 -- no chunk is left
-pub all_quiet : (v : Volume) (s : ℕ) (stamps : List ℕ) {cs : List Chunk} {all : Bool} (quiet : Bool) → cs ≡ [] →
-    all ≡ (quiet && are_quiet v s stamps (flat_map roled_chunk cs)) → quiet ≡ all
-all_quiet v s stamps quiet e q = sym ((rw e at q) ∙ and-true quiet)
+pub all_quiet : (v : Volume) (s : ℕ) (flags : List Bool) (stamps : List ℕ) {cs : List Chunk} {all : Bool} (quiet : Bool)
+    → cs ≡ [] → all ≡ (quiet && are_quiet v s flags stamps (flat_map roled_chunk cs)) → quiet ≡ all
+all_quiet v s flags stamps quiet e q = sym ((rw e at q) ∙ and-true quiet)
 
 pub all_stamps : (v : Volume) (s : ℕ) (stamps : List ℕ) {all : List ℕ} {cs : List Chunk} → cs ≡ [] →
     all ≡ after_looks v s stamps (flat_map roled_chunk cs) → stamps ≡ all

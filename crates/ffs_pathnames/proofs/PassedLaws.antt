@@ -5,14 +5,14 @@ use Rattle.std.proofs.{Common.{append_assoc, ltb-true, zero, option_map}, lemmas
 use Rattle.std.proofs.lemmas.{List.get_or-set_same, Grind.common_steps, Bool.{Decides.nat_tests, and_parts}}
 use Rattle.std.{proofs.Math.ListN.length-set, specs.List.list_any}
 use Rattle.ffs_volume.{proofs.RoleLaws.plain-true, specs.{declared.Role.TheVariants.Plain, Directories.Climb.is_value}}
-use Rattle.ffs_volume.specs.Directories.PathnameCheck.{plain_lines, entry_lines, lines_of_entries}
-use Rattle.ffs_volume.specs.Directories.PathnameCheck.{is_first_entry_of_suspect, is_extraneous, named_lines}
-use Rattle.ffs_volume.specs.Directories.Roles.{Volume, RoledEntry, is_dir, is_suspect, is_plain, roled_entries}
+use Rattle.ffs_volume.specs.Directories.PathnameCheck.{plain_verdict, entry_lines, lines_of_entries}
+use Rattle.ffs_volume.specs.Directories.PathnameCheck.{is_first_of_suspect, is_extraneous, defects_on}
+use Rattle.ffs_volume.specs.Directories.Roles.{Volume, RoledEntry, is_dir, is_plain, roled_entries}
 use Rattle.ffs_volume.specs.Directories.{Graph.{is_naming_entry, is_naming_dir, parent, first_index}, Parents.graph_of}
 use Rattle.ffs_volume.specs.{Directories.Parents.{is_first_naming_entry, is_parent_entry}, Disk.Search.some_below}
 use Rattle.ffs_volume.{specs.Disk.Search.first_below, proofs.SearchLaws.first_below-tells}
 use Rattle.ffs_pathnames.specs.PassedNames.{PassedNames, is_flagged, is_calm, is_stamped, after_name, after_roled}
-use Rattle.ffs_pathnames.specs.PassedNames.{named_reported, plain_reported, roled_reported, entries_reported}
+use Rattle.ffs_pathnames.specs.PassedNames.{verdict_by, roled_reported, entries_reported}
 use Rattle.ffs_pathnames.specs.PassedRight.{AreRight}
 
 -- ---- the place of an entry
@@ -67,7 +67,7 @@ module _ {v : Volume} {s : ℕ} {done es : List RoledEntry} {e : RoledEntry} (i 
       ≡ not (list_any (is_naming_entry e.entry.number) done)
   place_is = rw i.whole (first_here (is_naming_entry e.entry.number) done e es (names_it e p))
 
-  first_name_is : is_first_naming_entry (graph_of v) s (size_of done) e.entry.number
+  pub first_name_is : is_first_naming_entry (graph_of v) s (size_of done) e.entry.number
       ≡ not (some_below (λ t. is_naming_dir (graph_of v) t e.entry.number) s
       || list_any (is_naming_entry e.entry.number) done)
   first_name_is = grind (arith, common_steps, first_in, place_is, names_in_it)
@@ -79,21 +79,23 @@ module _ {v : Volume} {s : ℕ} {done es : List RoledEntry} {e : RoledEntry} (i 
 
   module _ {m : PassedNames} (r : AreRight v s done m) where
     suspect_same : e.entry.number < v.count → e.entry.number ≢ 1 →
-        is_first_entry_of_suspect v s (size_of done) e.entry.number
-        ≡ (is_suspect v e.entry.number && (not (e.entry.number == 2) && not (is_flagged m e.entry.number)))
+        is_first_of_suspect v (is_first_naming_entry (graph_of v) s (size_of done) e.entry.number) e.entry.number
+        ≡ is_first_of_suspect v (not (is_flagged m e.entry.number)) e.entry.number
     suspect_same h other = grind (arith, common_steps, first_name_is)
 
-    extraneous_same : e.entry.number < v.count → is_extraneous v s (size_of done) e.entry.number
-        ≡ (is_dir v e.entry.number && not (is_stamped s m e.entry.number))
+    extraneous_same : e.entry.number < v.count →
+        is_extraneous v (is_parent_entry (graph_of v) s (size_of done) e.entry.number) e.entry.number
+        ≡ is_extraneous v (is_stamped s m e.entry.number) e.entry.number
     extraneous_same h = grind (arith, common_steps, from_parent_is)
 
     named_same : e.entry.number < v.count → e.entry.number ≢ 1 →
-        named_lines v s (size_of done) e.entry ≡ named_reported v s m e.entry
-    unfolding named_lines
+        defects_on v (is_first_naming_entry (graph_of v) s (size_of done) e.entry.number)
+        (is_parent_entry (graph_of v) s (size_of done) e.entry.number) e.entry
+        ≡ defects_on v (not (is_flagged m e.entry.number)) (is_stamped s m e.entry.number) e.entry
     named_same h other = rw (suspect_same h other, extraneous_same h) refl
 
-    plain_same : plain_lines v s (size_of done) e.entry ≡ plain_reported v s m e.entry
-    unfolding plain_lines
+    plain_same : plain_verdict v s (size_of done) e.entry ≡ verdict_by v s m e.entry
+    unfolding plain_verdict
     plain_same = let named = named_same in grind (arith, common_steps)
 
 seen_same : {v : Volume} {s : ℕ} {done es : List RoledEntry} {e : RoledEntry} {m : PassedNames} →

@@ -5,13 +5,17 @@ use Rattle.std.proofs.Common.{Option, None, Some, option_and_then, unwrap_or, ar
 use Rattle.std.proofs.{Common.leb-true, lemmas.{List.get_or-set_other, Bool.{Decides.nat_tests, or_cases, or_left}}}
 use Rattle.std.{proofs.lemmas.Bool.{or_right, false_from_ne_true, both_ways, and_parts, and_from}, specs.List.list_any}
 use Rattle.std.specs.List.{flat_map, find}
-use Rattle.ffs_volume.specs.declared.{Layout.Layout, Attr.Attr, Order.Order, Step.{Step, TheVariants.Run}, Role.Role}
+use Rattle.ffs_volume.specs.declared.{Layout.Layout, Order.Order, Step.{Step, TheVariants.Run}, Role.Role}
 use Rattle.ffs_volume.specs.{declared.Role.TheVariants.{Extra, Plain}, Laws.Geometry.IsAcceptedLayout}
 use Rattle.ffs_volume.specs.{Disk.Areas.is_run_in_range, Blocks.{Steps.steps_of, Inodes.{is_allocated, is_unknown}}}
 use Rattle.ffs_volume.specs.{Blocks.Inodes.inode_of, Directories.{Graph.{is_naming_entry, parent}, Parents.graph_of}}
 use Rattle.ffs_volume.specs.Directories.Entries.{Entry, Chunk, ChunkSource, chunk_of, chunks_of, run_chunks}
 use Rattle.ffs_volume.specs.Directories.Entries.{step_chunks, entries_of, is_sound, is_live, bytes_read}
-use Rattle.ffs_volume.specs.Directories.{Volumes.{volume_of, volume_with}, PathnameCheck.{is_bad_whiteout, attributes}}
+use Rattle.ffs_volume.specs.Directories.{Volumes.{volume_of, volume_with}, PathnameCheck.is_bad_whiteout}
+use Rattle.ffs_volume.specs.Directories.PathnameCheck.{dir_header_lines, dot_defects, dotdot_defects, header_defects}
+use Rattle.ffs_volume.specs.Directories.PathnameCheck.{header_of, is_none, is_right, is_role_silent, is_short, is_silent}
+use Rattle.ffs_volume.specs.Directories.PathnameCheck.{has_partial_chunk}
+use Rattle.ffs_volume.{specs.declared.verdict.DotDefects.DotDefects, proofs.VerdictLaws.{none_lines, silent_of}}
 use Rattle.ffs_volume.specs.Directories.{PathnameCheck.are_sound, Roles.{nth_entry, start_entry, Volume, RoledEntry}}
 use Rattle.ffs_volume.specs.Directories.Roles.{is_dir, is_suspect, is_plain, is_two_dots, role_of, roled_from}
 use Rattle.ffs_volume.specs.{Directories.Roles.{roled_chunk, roled_entries}, Encodings.Kinds.is_empty_dir_kind}
@@ -24,10 +28,8 @@ use Rattle.ffs_workspace.{specs.Holds.HoldsSurvey, proofs.KindLaws.{reports_at, 
 use Rattle.ffs_survey.specs.{Survey.{number_at, dir_at}, Calm.{are_calm, IsCalm, CurrentDir, is_calm_kind}}
 use Rattle.ffs_survey.specs.Calm.{is_calm_plain, is_calm_role, is_calm_entry, reached_after}
 use Rattle.ffs_survey.proofs.CalmLaws.{calm_names_new, calm_new}
-use Rattle.ffs_pathnames.{specs.{Begins.dir_header_lines, Silent.IsSilentDirectory}, proofs.SeesLaws.chunks_read}
-use Rattle.ffs_pathnames.specs.{Header.{dotdot_in, dotdot_reported, is_right_dot}, PassedNames.belongs}
-use Rattle.ffs_pathnames.specs.PassedNames.{after_look, is_plain_quiet, is_role_quiet, is_quiet, are_quiet}
-use Rattle.ffs_pathnames.proofs.{SeesLaws.{chunks_are, settled}, HeaderLaws.{dot_silent, in_order}}
+use Rattle.ffs_pathnames.{specs.Silent.IsSilentDirectory, proofs.SeesLaws.{chunks_are, chunks_read, settled}}
+use Rattle.ffs_pathnames.specs.PassedNames.{after_look, are_quiet, belongs, first_verdict, is_quiet}
 use Rattle.ffs_names.proofs.DirLaws as dirs
 
 -- ---- what the lists show
@@ -72,13 +74,32 @@ name_is : (v : Volume) (s : CurrentDir) (parents : List ℕ) (reached : ℕ → 
     Shown v s.kinds s.marked parents → names_calm s reached e ≡ true → IsCalmName v e
 name_is v s parents reached e sh c = grind (arith, nat_tests, and_parts, not_suspect, right_type)
 
--- so is quiet
-plain_quiet : (v : Volume) (s : CurrentDir) (parents stamps : List ℕ) (reached : ℕ → Bool) (e : Entry) →
+-- so the verdict on it is silent, whatever is flagged
+calm_kind : (unknown right : Bool) → (unknown ≡ false → right ≡ true) → (not unknown && not right) ≡ false
+calm_kind unknown right h = grind (arith, nat_tests)
+
+plain_silent : (v : Volume) (s : CurrentDir) (parents : List ℕ) (flags : List Bool) (stamps : List ℕ)
+    (reached : ℕ → Bool) (e : Entry) →
     Shown v s.kinds s.marked parents → is_calm_plain s.kinds s.marked reached e.number e.kind ≡ true
     → (is_dir v e.number ≡ true → belongs v s.dir e.number ≡ true)
     → (is_dir v e.number ≡ true → (slice_index stamps e.number == s.dir) ≡ false)
-    → is_plain_quiet v s.dir stamps e ≡ true
-plain_quiet v s parents stamps reached e sh c mine new = grind (arith, nat_tests, and_parts, or_cases, name_is)
+    → is_silent (first_verdict v s.dir (record { flags = flags; stamps = stamps }) e) ≡ true
+plain_silent v s parents flags stamps reached e sh c mine new = silent_of v _ _ e (record {
+  below = grind (arith, nat_tests, and_parts);
+  no_whiteout = grind (arith, nat_tests, and_parts, or_cases, name_is);
+  named = λ n.
+      let name : IsCalmName v e = grind (arith, nat_tests, and_parts, or_cases, name_is) in
+      record {
+        allocated = name.allocated;
+        suspect = rw name.suspect refl;
+        link = own_link (is_dir v e.number) _ _ mine new;
+        kind = calm_kind (is_unknown (v.class e.number)) _ (λ u. eq-eqb e.kind _ (name.type u));
+      };
+})
+  where
+    own_link : (dir mine stamped : Bool) → (dir ≡ true → mine ≡ true) → (dir ≡ true → stamped ≡ false) →
+        (dir && not (mine && not stamped)) ≡ false
+    own_link dir mine stamped p q = grind (arith, nat_tests)
 
 stamp_reached : (stamps : List ℕ) (n x d : ℕ) (plain mine dir old : Bool) → (mine ≡ true → x ≡ n → dir ≡ true) →
     ((slice_index stamps x == d) ≡ true → old ≡ true) →
@@ -87,30 +108,30 @@ stamp_reached : (stamps : List ℕ) (n x d : ℕ) (plain mine dir old : Bool) �
 stamp_reached stamps n x d plain mine dir old f g t = grind (arith, nat_tests, get_or-set_other)
 
 -- calm entries are quiet, where each that was stamped was reached
-calm_quiet : (v : Volume) (s : CurrentDir) (parents : List ℕ) (es : List RoledEntry) (reached : ℕ → Bool) (i : ℕ)
-    (stamps : List ℕ) → Shown v s.kinds s.marked parents
+calm_quiet : (v : Volume) (s : CurrentDir) (parents : List ℕ) (flags : List Bool) (es : List RoledEntry)
+    (reached : ℕ → Bool) (i : ℕ) (stamps : List ℕ) → Shown v s.kinds s.marked parents
     → are_calm s reached i es ≡ true
     → ((x : ℕ) → is_dir v x ≡ true → list_any (is_naming_entry x) es ≡ true → belongs v s.dir x ≡ true)
     → ((x : ℕ) → x < v.count → (slice_index stamps x == s.dir) ≡ true → reached x ≡ true)
-    → are_quiet v s.dir stamps es ≡ true
+    → are_quiet v s.dir flags stamps es ≡ true
 unfolding is_quiet
-calm_quiet v s parents [] reached i stamps sh c mine seen = refl
-calm_quiet v s parents (e ∷ es) reached i stamps sh c mine seen =
+calm_quiet v s parents flags [] reached i stamps sh c mine seen = refl
+calm_quiet v s parents flags (e ∷ es) reached i stamps sh c mine seen =
     let p = and_parts (is_calm_entry s reached i e) _ c in
-    and_from (is_quiet v s.dir stamps e) _ (here e.role refl p.0)
-    (calm_quiet v s parents es (reached_after s.kinds reached e) (suc i) (after_look v s.dir stamps e) sh p.1
+    and_from (is_quiet v s.dir flags stamps e) _ (here e.role refl p.0)
+    (calm_quiet v s parents flags es (reached_after s.kinds reached e) (suc i) (after_look v s.dir stamps e) sh p.1
     (λ x d n. mine x d (or_right (is_naming_entry x e) _ n)) after)
   where
     low : (x : ℕ) → is_dir v x ≡ true → x < v.count
     low x d = grind (arith, nat_tests)
 
     here : (role : Role) → e.role ≡ role → is_calm_role s reached i role e.entry.number e.entry.kind ≡ true →
-        is_role_quiet v s.dir stamps role e.entry ≡ true
+        is_role_silent role (first_verdict v s.dir (record { flags = flags; stamps = stamps }) e.entry) ≡ true
     here Extra q h = absurd (cc)
     here Plain q h =
         let x = e.entry.number in
         let named : is_naming_entry x e ≡ true = rw q (eq-eqb x x refl) in
-        plain_quiet v s parents stamps reached e.entry sh (and_parts (nat_le 2 i) _ h).1
+        plain_silent v s parents flags stamps reached e.entry sh (and_parts (nat_le 2 i) _ h).1
         (λ d. mine x d (or_left (is_naming_entry x e) _ named))
         (λ d. false_from_ne_true (slice_index stamps x == s.dir)
         (λ t. both_ways (reached x)
@@ -165,7 +186,7 @@ is_dotdot_of parent e = is_live e && (is_two_dots e.name && ((e.number == parent
 
 -- the first calm entry is `.`, and the second is `..`
 calm_first : (s : CurrentDir) (reached : ℕ → Bool) (first : Bool) (e : Entry) →
-    is_calm_role s reached 0 (role_of first 0 e) e.number e.kind ≡ true → (first && is_right_dot s.dir (Some e)) ≡ true
+    is_calm_role s reached 0 (role_of first 0 e) e.number e.kind ≡ true → (first && is_right (dot_defects s.dir (Some e))) ≡ true
 unfolding role_of
 calm_first s reached first e h = grind (arith, nat_tests)
 
@@ -180,7 +201,7 @@ record AreFirst (d parent : ℕ) (cs : List Chunk) : Type 0 where
   second : Entry
   first_is : option_and_then (λ c. nth_entry 0 c.entries) (find (λ c. c.offset == 0) cs) ≡ Some first
   second_is : option_and_then (λ c. nth_entry 1 c.entries) (find (λ c. c.offset == 0) cs) ≡ Some second
-  dot : is_right_dot d (Some first) ≡ true
+  dot : is_right (dot_defects d (Some first)) ≡ true
   dotdot : is_dotdot_of parent second ≡ true
 
 -- no chunk begins with `..`
@@ -224,15 +245,30 @@ first_two s reached (c ∷ cs) solid sound h = go c.entries refl h
         }
 
 -- ---- what is before the entries
-dotdot_silent : (about : Attr) (path : List ℕ) (parent : Option ℕ) (e : Entry) →
-    is_dotdot_of (unwrap_or parent 0) e ≡ true → dotdot_reported about path parent (Some e) (dotdot_in (Some e)) ≡ []
-dotdot_silent about path None e h = grind (arith, nat_tests)
-dotdot_silent about path (Some s) e h = grind (arith, nat_tests)
+dotdot_right : (parent : Option ℕ) (e : Entry) → is_dotdot_of (unwrap_or parent 0) e ≡ true →
+    is_right (dotdot_defects parent (Some e)) ≡ true
+dotdot_right None e h = grind (arith, nat_tests)
+dotdot_right (Some s) e h = grind (arith, nat_tests)
+
+shape_right : (size : ℕ) (gap sound : Bool) (dot dotdot : DotDefects (List ℕ)) →
+    (is_right_size size && (sound && not gap)) ≡ true → is_right dot ≡ true → is_right dotdot ≡ true →
+    is_none (record {
+      short = is_short size;
+      partial_chunk = has_partial_chunk size;
+      gap = gap;
+      unsound = not sound;
+      dot = dot;
+      dotdot = dotdot;
+    }) ≡ true
+shape_right size gap sound dot dotdot h p q = grind (arith, nat_tests)
 
 starts_silent : (v : Volume) (d above : ℕ) → AreFirst d above (v.chunks d) →
     above ≡ unwrap_or (parent (graph_of v) d) 0 → is_right_shape v d ≡ true → dir_header_lines v d ≡ []
-unfolding dir_header_lines start_entry attributes
-starts_silent v d above f up right = grind (arith, nat_tests, in_order, dot_silent, dotdot_silent)
+unfolding dir_header_lines header_defects start_entry
+starts_silent v d above f up right =
+    none_lines (header_of v d) _ _ (rw (f.first_is, f.second_is)
+    (shape_right (v.inode d).size (v.gap d) (are_sound (v.chunks d)) _ _ right f.dot
+    (dotdot_right (parent (graph_of v) d) f.second (rw (← up) f.dotdot))))
 
 -- ---- a calm directory
 root_up : (v : Volume) → unwrap_or (parent (graph_of v) 2) 0 ≡ 2
@@ -280,7 +316,8 @@ calm_silent v b w g m h r f d set =
     (by_chunks (volume_of v b) d s c.before c.entries_right) in
     record {
       starts = starts_silent (volume_of v b) d (number_at w.parents.items d) firsts (sh.parent_is d) all.1;
-      entries = λ stamps none. calm_quiet (volume_of v b) s w.parents.items (roled_entries (volume_of v b) d) c.before 0
+      entries = λ flags stamps none. calm_quiet (volume_of v b) s w.parents.items flags (roled_entries (volume_of v b) d)
+          c.before 0
           stamps sh c.entries_right
           (λ x e n. calm_belongs (volume_of v b) w.kinds.items w.marked.items w.reached.items w.parents.items _ d x two
           sh c e n)

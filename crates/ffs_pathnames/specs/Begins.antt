@@ -1,18 +1,10 @@
--- What is reported of a directory before its entries, and what is known then.
+-- What is known of a directory once it is begun.
 use Rattle.std.specs.Prelude.{◌≡◌, ℕ, ◌==◌, Bool, List, [], Option, None, Some, option_and_then, if◌then◌else◌}
-use Rattle.ffs_volume.specs.{declared.Layout.Layout, declared.Order.Order, Directories.PathnameCheck.attributes}
-use Rattle.ffs_volume.specs.Directories.{Entries.Entry, Graph.parent, Parents.graph_of, Paths.dir_path, Roles.Volume}
-use Rattle.ffs_volume.specs.{Directories.PathnameCheck.are_sound, Blocks.Inodes.inode_of, Messages.Kinds.TreeMessage}
-use Rattle.ffs_volume.specs.Directories.{Roles.nth_entry, Roles.roled_entries, Roles.start_entry, Volumes.volume_of}
+use Rattle.ffs_volume.specs.{declared.{Layout.Layout, Order.Order}, Blocks.Inodes.inode_of}
+use Rattle.ffs_volume.specs.Directories.{Entries.Entry, Roles.{nth_entry, roled_entries}, Volumes.volume_of}
 use Rattle.ffs_workspace.specs.declared.workspace.Workspace.{Workspace}
 use Rattle.ffs_pathnames.specs.{declared.look.Examination.Examination, Gathers.passed_of, PassedNames.are_quiet}
-use Rattle.ffs_pathnames.specs.{PassedNames.after_looks, StartChunks.start_chunk, Header.header_reported}
-
--- the lines of a directory on its size, its Gaps, its chunks and its first two entries
-unfoldable pub dir_header_lines : Volume → ℕ → List TreeMessage
-dir_header_lines vol d =
-    header_reported (attributes vol d) (dir_path (graph_of vol) d) d (parent (graph_of vol) d) (vol.gap d)
-    (are_sound (vol.chunks d)) (start_entry vol d 0) (start_entry vol d 1)
+use Rattle.ffs_pathnames.specs.{PassedNames.after_looks, StartChunks.start_chunk}
 
 -- 0 means no number
 abbrev pub number_if : ℕ → Option ℕ
@@ -32,7 +24,8 @@ pub record IsDirectoryBegun (v : Layout) (b : List ℕ) (d : ℕ) (old : Workspa
     :
     Type 0 where
   pub inode : e.inode ≡ inode_of v b d
-  pub quiet : e.look.quiet ≡ are_quiet (volume_of v b) d (passed_of old).stamps (roled_entries (volume_of v b) d)
+  pub quiet : e.look.quiet ≡ are_quiet (volume_of v b) d old.flags.items (passed_of old).stamps
+      (roled_entries (volume_of v b) d)
   pub passed : passed_of new
       ≡ record {
         flags = old.flags.items;

@@ -30,7 +30,8 @@ pub record IsLookedAt (v : Layout) (b : List ℕ) (d : ℕ) (old : Workspace) (f
   pub gap : f.gap ≡ (volume_of v b).gap d
   pub sound : f.sound ≡ are_sound ((volume_of v b).chunks d)
   pub started : find (λ c. c.offset == 0) ((volume_of v b).chunks d) ≡ start_chunk [] f.started v.order start
-  pub quiet : f.quiet ≡ are_quiet (volume_of v b) d (passed_of old).stamps (roled_entries (volume_of v b) d)
+  pub quiet : f.quiet ≡ are_quiet (volume_of v b) d old.flags.items (passed_of old).stamps
+      (roled_entries (volume_of v b) d)
   pub stamps : (passed_of new).stamps
       ≡ after_looks (volume_of v b) d (passed_of old).stamps (roled_entries (volume_of v b) d)
 

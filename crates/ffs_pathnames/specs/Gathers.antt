@@ -1,12 +1,11 @@
 -- What is gathered for the messages on an entry and on a directory.
-use Rattle.std.specs.Prelude.{◌≡◌, ℕ, ◌<◌, ◌^◌, ◌==◌, Bool, true, false, not, ◌||◌, ◌&&◌, IsTrue, List, length, vec_len}
-use Rattle.std.specs.Prelude.{◌+◌, ◌≤◌, Result, IfOk, OnOk}
+use Rattle.std.specs.Prelude.{◌≡◌, ℕ, ◌<◌, ◌^◌, Bool, true, false, IsTrue, List, vec_len, ◌+◌, ◌≤◌, Result, IfOk, OnOk}
 use Rattle.ffs_image.specs.{Device.ForContents, declared.image.{Image.Ghosts, ImageFault.ImageFault}}
-use Rattle.ffs_volume.specs.{Blocks.Inodes.is_allocated, Messages.Kinds.TreeMessage, Directories.Volumes.volume_of}
-use Rattle.ffs_volume.specs.declared.{constants.TheConstants.ROOTINO, Attr.Attr, Layout.Layout}
-use Rattle.ffs_volume.specs.Directories.{Entries.{Entry, entries_of}, Parents.graph_of, Paths.{dir_path, entry_path}}
-use Rattle.ffs_volume.specs.Directories.Roles.{Volume, RoledEntry, is_dir, is_suspect, roled_from}
-use Rattle.ffs_volume.specs.Directories.PathnameCheck.{attributes, extra_lines, has_wrong_type, label_of}
+use Rattle.ffs_volume.specs.{Messages.Kinds.TreeMessage, Directories.{Volumes.volume_of, Entries.Entry}}
+use Rattle.ffs_volume.specs.declared.{Attr.Attr, Layout.Layout, verdict.Verdict.{Verdict, TheVariants.Named}}
+use Rattle.ffs_volume.specs.declared.verdict.Verdict.TheVariants.{OutOfRange, BadWhiteout, Whiteout, Unallocated}
+use Rattle.ffs_volume.specs.Directories.{Parents.graph_of, Paths.{dir_path, entry_path}, Roles.{Volume, RoledEntry}}
+use Rattle.ffs_volume.specs.Directories.PathnameCheck.{attributes, extra_lines, plain_lines, verdict_lines}
 use Rattle.ffs_volume.specs.Report.Reads.{line_reads, path_reads}
 use Rattle.ffs_layout.specs.Entry.{entry_value}
 use Rattle.ffs_report.specs.Known.{ForBytes}
@@ -14,19 +13,15 @@ use Rattle.ffs_workspace.specs.Places.{AreChunksNumbered}
 use Rattle.ffs_paths.specs.{DirectoryPaths.IsPathOf, KeptParents.PathLeaves, LastPaths.last_path, Reads.OnlyReadsFew}
 use Rattle.ffs_paths.specs.declared.{entry_paths.EntryPaths.EntryPaths, kept_parent.KeptParent.KeptParent}
 use Rattle.ffs_pathnames.specs.{DirectoryContext.{DirectoryContext, KeepsPath, KnowsPath}, Ready.LimitedPathLeaves}
-use Rattle.ffs_pathnames.specs.{declared.inodes.Inodes.Inodes, Verdicts.verdict_reported, Sees.Sees, Stamps.stamps_of}
-use Rattle.ffs_pathnames.specs.declared.entries.DirectoryChunk.{DirectoryChunk}
 use Rattle.ffs_pathnames.specs.declared.one_entry.{DirectoryEntry.DirectoryEntry, EntryTexts.EntryTexts}
-use Rattle.ffs_pathnames.specs.declared.verdict.{EntryDefects.EntryDefects, Verdict.Verdict, Verdict.TheVariants.Named}
-use Rattle.ffs_pathnames.specs.declared.verdict.Verdict.TheVariants.{OutOfRange, BadWhiteout, Whiteout, Unallocated}
-use Rattle.ffs_pathnames.specs.PassedNames.{PassedNames, is_stamped, is_flagged, roled_reported, plain_reported}
+use Rattle.ffs_pathnames.specs.{PassedNames.{PassedNames, roled_reported, verdict_by}, Stamps.stamps_of}
 use Rattle.ffs_workspace.specs.{declared.workspace.Workspace.Workspace, Holds.{HoldsClaims, HoldsSurvey}, Lengths.IsFor}
 
 -- the messages are the same as with the volume's own attributes and paths
 abbrev pub IsEnough : Volume → Verdict → ℕ → ℕ → List ℕ → Attr → List ℕ → List ℕ → Type 0
 IsEnough vol verdict dir number name about path directory =
-    verdict_reported verdict number about path directory
-    ≡ verdict_reported verdict number (attributes vol number) (entry_path (graph_of vol) dir name)
+    verdict_lines verdict number about path directory
+    ≡ verdict_lines verdict number (attributes vol number) (entry_path (graph_of vol) dir name)
     (dir_path (graph_of vol) number)
 
 -- these are the attributes and the path of the directory d
@@ -48,14 +43,11 @@ roled_lines_by vol w e = roled_reported vol e.dir (passed_of w) (roled_value e)
 
 -- of a plain one, and of an extra one
 abbrev pub plain_lines_by : Volume → Workspace → DirectoryEntry → List TreeMessage
-plain_lines_by vol w e = plain_reported vol e.dir (passed_of w) (entry_value e.entry)
+plain_lines_by vol w e =
+    plain_lines vol e.dir (entry_value e.entry) (verdict_by vol e.dir (passed_of w) (entry_value e.entry))
 
 abbrev pub extra_reported : Volume → DirectoryEntry → List TreeMessage
 extra_reported vol e = extra_lines (attributes vol e.dir) (dir_path (graph_of vol) e.dir) (entry_value e.entry)
-
--- the entries of a chunk with their roles
-abbrev pub roled_in : Layout → DirectoryChunk → List RoledEntry
-roled_in v c = roled_from c.first 0 (entries_of v.order c.bytes.now)
 
 -- whether the messages show the attributes of the inode that the entry names, and its path
 abbrev pub asks_attr : Verdict → Bool
@@ -72,47 +64,12 @@ asks_path Whiteout = false
 asks_path Unallocated = false
 asks_path (Named n) = n.extraneous
 
--- nothing is reported
-abbrev pub is_silent : Verdict → Bool
-is_silent OutOfRange = false
-is_silent BadWhiteout = false
-is_silent Whiteout = true
-is_silent Unallocated = false
-is_silent (Named n) = not (n.first_of_suspect || (n.extraneous || n.kind))
-
--- what is wrong with the entry e of the directory s, which names an allocated inode, by the lists
--- and by the names that were passed
-pub record AreDefectsOf (i : Inodes) (s : ℕ) (m : PassedNames) (e : Entry) (n : EntryDefects) : Type 0 where
-  pub first_of_suspect : (vol : Volume) → Sees vol i
-      → n.first_of_suspect ≡ (is_suspect vol e.number && (not (e.number == ROOTINO) && not (is_flagged m e.number)))
-  pub marked : (vol : Volume) → Sees vol i → n.marked ≡ vol.marked e.number
-  pub extraneous : (vol : Volume) → Sees vol i → n.extraneous ≡ (is_dir vol e.number && not (is_stamped s m e.number))
-  pub kind : (vol : Volume) → Sees vol i → IsTrue (is_allocated (vol.class e.number)) → n.kind ≡ has_wrong_type vol e
-  pub label : (vol : Volume) → Sees vol i → IsTrue (is_allocated (vol.class e.number))
-      → n.label ≡ label_of (vol.class e.number)
-
--- a verdict on the plain entry e of the directory s, by the lists and by the names that were passed
-pub record IsVerdictBy (i : Inodes) (s : ℕ) (m : PassedNames) (e : Entry) (verdict : Verdict) : Type 0 where
-  pub below : IsTrue (asks_attr verdict) → e.number < length i.kinds.now
-  pub linked : (vol : Volume) → Sees vol i → IsTrue (asks_path verdict) → is_dir vol e.number ≡ true
-  pub reported : (vol : Volume) → Sees vol i → plain_reported vol s m e
-      ≡ verdict_reported verdict e.number (attributes vol e.number) (entry_path (graph_of vol) s e.name)
-      (dir_path (graph_of vol) e.number)
-
--- a verdict says what is reported of a plain entry e of the directory s, and asks for the path of a
--- directory alone
-pub record IsVerdict (vol : Volume) (s : ℕ) (m : PassedNames) (e : Entry) (verdict : Verdict) : Type 0 where
-  pub linked : asks_path verdict ≡ true → is_dir vol e.number ≡ true
-  pub reported : plain_reported vol s m e
-      ≡ verdict_reported verdict e.number (attributes vol e.number) (entry_path (graph_of vol) s e.name)
-      (dir_path (graph_of vol) e.number)
-
 -- this is the verdict on an entry, by the bytes of any volume for which the workspace holds what is right.
 -- Where it asks for attributes, the inode is there
 pub record IsVerdictIn (w : Workspace) (s : ℕ) (e : Entry) (answer : Verdict) : Type 0 where
   pub below : IsTrue (asks_attr answer) → e.number < vec_len w.kinds
   pub verdict : (v : Layout) (b : List ℕ) → IsFor v w → HoldsClaims v b w → HoldsSurvey v b w
-      → IsVerdict (volume_of v b) s (passed_of w) e answer
+      → answer ≡ verdict_by (volume_of v b) s (passed_of w) e
 
 -- the lists that say something of each inode are as long as one another
 pub record AreAsLong (w : Workspace) : Type 0 where

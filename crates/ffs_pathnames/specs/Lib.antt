@@ -1,9 +1,8 @@
 pub mod PassedNames
 pub mod Stamps
 pub mod SaysTreeMessages
-pub mod Header
+pub mod HeaderValues
 pub mod Sees
-pub mod Verdicts
 pub mod StartChunks
 pub mod Examines
 pub mod Gathers

@@ -1,16 +1,10 @@
 -- What the pathname check remembers of the names that it has passed, and what it reports by that.
-use Rattle.std.specs.Prelude.{ℕ, ◌==◌, Bool, true, false, not, ◌&&◌, ◌||◌, nat_lt, if◌then◌else◌, List, [], ◌∷◌, ◌++◌}
+use Rattle.std.specs.Prelude.{ℕ, ◌==◌, Bool, true, false, not, ◌&&◌, nat_lt, if◌then◌else◌, List, [], ◌∷◌, ◌++◌}
 use Rattle.std.specs.{Prelude.{slice_index, slice_set}, List.slice_index_or}
-use Rattle.ffs_volume.specs.{declared.{constants.TheConstants.{WINO, ROOTINO}, Role.Role}, Blocks.Inodes.is_allocated}
-use Rattle.ffs_volume.specs.{Messages.Kinds.{TreeMessage, reported}, declared.Role.TheVariants.{Empty, Dot, Dotdot}}
-use Rattle.ffs_volume.specs.{declared.Role.TheVariants.{Extra, Plain}, Directories.{Entries.Entry, Climb.is_value}}
-use Rattle.ffs_volume.specs.Directories.{Graph.parent, Parents.graph_of, Paths.{dir_path, entry_path}, Roles.Volume}
-use Rattle.ffs_volume.specs.Directories.Roles.{RoledEntry, is_dir, is_suspect, is_plain, roled_entries}
-use Rattle.ffs_volume.specs.Directories.PathnameCheck.{has_wrong_type, extra_lines, attributes, label_of}
-use Rattle.ffs_volume.specs.Directories.PathnameCheck.{is_bad_whiteout, message_on_suspect}
-use Rattle.ffs_volume.specs.declared.tree_lines.EntryLine.TheVariants.{Extraneous, KindEntry, OutOfRange, Unallocated}
-use Rattle.ffs_volume.specs.declared.tree_lines.EntryLine.TheVariants.{Whiteout}
-use Rattle.ffs_volume.specs.Messages.Kinds.{of_entry}
+use Rattle.ffs_volume.specs.{declared.{constants.TheConstants.ROOTINO, verdict.Verdict.Verdict}}
+use Rattle.ffs_volume.specs.{Messages.Kinds.TreeMessage, Directories.{Entries.Entry, Climb.is_value, Graph.parent}}
+use Rattle.ffs_volume.specs.Directories.{Parents.graph_of, Roles.{Volume, RoledEntry, is_dir, is_suspect, is_plain}}
+use Rattle.ffs_volume.specs.Directories.{Roles.roled_entries, PathnameCheck.{is_role_silent, role_lines, verdict_on}}
 
 -- `flags`: of a suspect inode, whether a plain entry has named it; of any other, whether it is
 -- calm. `stamps`: of an inode, its parent, once the first look at the parent has met its entry
@@ -41,35 +35,13 @@ abbrev pub after_roled : Volume → ℕ → PassedNames → RoledEntry → Passe
 after_roled vol s m e =
     if is_plain e.role && nat_lt e.entry.number vol.count then after_name vol s m e.entry.number else m
 
--- what is reported of an entry, by the names that were passed
-abbrev pub named_reported : Volume → ℕ → PassedNames → Entry → List TreeMessage
-named_reported vol s m e =
-    let path = entry_path (graph_of vol) s e.name in
-    reported (is_suspect vol e.number && (not (e.number == ROOTINO) && not (is_flagged m e.number)))
-    (message_on_suspect vol e.number path)
-    ++ (reported (is_dir vol e.number && not (is_stamped s m e.number))
-    (of_entry (Extraneous path (dir_path (graph_of vol) e.number)))
-    ++ reported (has_wrong_type vol e)
-    (of_entry (KindEntry (label_of (vol.class e.number)) (attributes vol e.number) path)))
+-- the verdict on a plain entry of s by the names that were passed, for the second reading of s
+abbrev pub verdict_by : Volume → ℕ → PassedNames → Entry → Verdict
+verdict_by vol s m e = verdict_on vol (not (is_flagged m e.number)) (is_stamped s m e.number) e
 
-abbrev pub plain_reported : Volume → ℕ → PassedNames → Entry → List TreeMessage
-plain_reported vol s m e =
-    let path = entry_path (graph_of vol) s e.name in
-    if not (nat_lt e.number vol.count) then of_entry (OutOfRange e.number path) ∷ []
-    else (if is_bad_whiteout e then of_entry (Whiteout e.number path) ∷ []
-    else (if e.number == WINO then []
-    else (if not (is_allocated (vol.class e.number)) then of_entry (Unallocated (attributes vol e.number) path) ∷ []
-    else named_reported vol s m e)))
-
-abbrev pub role_reported : Volume → ℕ → PassedNames → Role → Entry → List TreeMessage
-role_reported vol s m Empty e = []
-role_reported vol s m Dot e = []
-role_reported vol s m Dotdot e = []
-role_reported vol s m Extra e = extra_lines (attributes vol s) (dir_path (graph_of vol) s) e
-role_reported vol s m Plain e = plain_reported vol s m e
-
+-- what is reported of an entry
 unfoldable pub roled_reported : Volume → ℕ → PassedNames → RoledEntry → List TreeMessage
-roled_reported vol s m e = role_reported vol s m e.role e.entry
+roled_reported vol s m e = role_lines vol s e.role e.entry (verdict_by vol s m e.entry)
 
 -- some entries of s, one after another
 abbrev pub after_entries : Volume → ℕ → PassedNames → List RoledEntry → PassedNames
@@ -100,27 +72,19 @@ abbrev pub after_looks : Volume → ℕ → List ℕ → List RoledEntry → Lis
 after_looks vol s stamps [] = stamps
 after_looks vol s stamps (e ∷ es) = after_looks vol s (after_look vol s stamps e) es
 
--- a first look is sure that nothing is reported of an entry of s
-abbrev pub is_inode_quiet : Volume → ℕ → List ℕ → Entry → Bool
-is_inode_quiet vol s stamps e =
-    is_allocated (vol.class e.number) && (not (is_suspect vol e.number)
-    && ((not (is_dir vol e.number) || (belongs vol s e.number && not (slice_index stamps e.number == s)))
-    && not (has_wrong_type vol e)))
+-- the verdict on a plain entry of s by the names that were passed, for the first look: the parent
+-- entry of what belongs to s is the first that the look meets
+abbrev pub first_verdict : Volume → ℕ → PassedNames → Entry → Verdict
+first_verdict vol s m e =
+    verdict_on vol (not (is_flagged m e.number)) (belongs vol s e.number && not (is_stamped s m e.number)) e
 
-abbrev pub is_plain_quiet : Volume → ℕ → List ℕ → Entry → Bool
-is_plain_quiet vol s stamps e =
-    nat_lt e.number vol.count && (not (is_bad_whiteout e) && ((e.number == WINO) || is_inode_quiet vol s stamps e))
+-- a first look is sure that nothing is reported of an entry of s, by the flags before s and the
+-- stamps before the entry
+unfoldable pub is_quiet : Volume → ℕ → List Bool → List ℕ → RoledEntry → Bool
+is_quiet vol s flags stamps e =
+    is_role_silent e.role (first_verdict vol s (record { flags = flags; stamps = stamps }) e.entry)
 
-abbrev pub is_role_quiet : Volume → ℕ → List ℕ → Role → Entry → Bool
-is_role_quiet vol s stamps Empty e = true
-is_role_quiet vol s stamps Dot e = true
-is_role_quiet vol s stamps Dotdot e = true
-is_role_quiet vol s stamps Extra e = false
-is_role_quiet vol s stamps Plain e = is_plain_quiet vol s stamps e
-
-unfoldable pub is_quiet : Volume → ℕ → List ℕ → RoledEntry → Bool
-is_quiet vol s stamps e = is_role_quiet vol s stamps e.role e.entry
-
-abbrev pub are_quiet : Volume → ℕ → List ℕ → List RoledEntry → Bool
-are_quiet vol s stamps [] = true
-are_quiet vol s stamps (e ∷ es) = is_quiet vol s stamps e && are_quiet vol s (after_look vol s stamps e) es
+abbrev pub are_quiet : Volume → ℕ → List Bool → List ℕ → List RoledEntry → Bool
+are_quiet vol s flags stamps [] = true
+are_quiet vol s flags stamps (e ∷ es) =
+    is_quiet vol s flags stamps e && are_quiet vol s flags (after_look vol s stamps e) es

@@ -3,7 +3,7 @@ use Rattle.std.specs.Prelude.{List, ◌++◌, map, Result}
 use Rattle.ffs_volume.specs.Messages.Kinds.{TreeMessage, of_directory, of_dot, of_entry, of_tree, reported}
 use Rattle.ffs_volume.specs.Messages.Texts.{directory_message, dot_message, entry_message}
 use Rattle.ffs_report.specs.Progress.{Progress, Says}
-use Rattle.ffs_pathnames.specs.declared.header.{LineIf.LineIf, Phase2Line.{Phase2Line, TheVariants.{Directory, Dot, Entry}}}
+use Rattle.ffs_pathnames.specs.declared.say.{LineIf.LineIf, Phase2Line.{Phase2Line, TheVariants.{Directory, Dot, Entry}}}
 
 -- the outcome of saying these messages
 abbrev pub SaysTreeMessages : {T E : Type 0} → Progress → Progress → List TreeMessage → Result T E → Type 0

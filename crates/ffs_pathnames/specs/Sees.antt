@@ -35,11 +35,6 @@ pub record HasFlagAndWord (i : Inodes) (flags : List Bool) (words : List ℕ) : 
   pub flags_long : length flags ≡ length i.kinds.now
   pub words_long : length words ≡ length i.kinds.now
 
--- and the inode x is one of them
-pub record HasFlagAndWordOf (i : Inodes) (x : ℕ) (flags : List Bool) (words : List ℕ) : Type 0 where
-  pub inode : x < length i.kinds.now
-  pub passed : HasFlagAndWord i flags words
-
 -- each inode has a word, and the inode x is one of them
 pub record HasWordOf (i : Inodes) (x : ℕ) (words : List ℕ) : Type 0 where
   pub inode : x < length i.kinds.now
@@ -57,7 +52,7 @@ pub record CanStamp (i : Inodes) (s : ℕ) (words : List ℕ) : Type 0 where
   pub each : length words ≡ length i.kinds.now
   pub dir : 2 ≤ s
 
--- and the inode x has kind, mark and parent, too
-pub record CanStampInode (i : Inodes) (s : ℕ) (words : List ℕ) (x : ℕ) : Type 0 where
+-- and each inode has a flag
+pub record CanLook (i : Inodes) (s : ℕ) (flags : List Bool) (words : List ℕ) : Type 0 where
+  pub flags_long : length flags ≡ length i.kinds.now
   pub stamp : CanStamp i s words
-  pub inode : x < length i.kinds.now

@@ -4,13 +4,13 @@ ghost use Rattle.ffs_names.specs.{Costs.directory_runs, Windows.CanReadChunks};
 ghost use Rattle.ffs_volume.specs.Directories.Volumes.{volume_of};
 ghost use Rattle.ffs_report.specs.Progress.{progress};
 ghost use Rattle.ffs_workspace.specs.Places.{AreChunksNumbered};
-ghost use Rattle.ffs_pathnames.specs.Gathers.{passed_of, roled_in, roled_lines_by, roled_value};
+ghost use Rattle.ffs_pathnames.specs.{Gathers.{passed_of, roled_lines_by, roled_value}, Looks.roled_in};
 ghost use Rattle.ffs_pathnames.specs.{Ready.{ReadyToPath, ReadyToReport}, ReadsLeft.LeftForRuns, NextChunks.ReadsNext};
 ghost use Rattle.ffs_pathnames.specs.{DirectoryLines.ReportsDirectory, EntryLines.{PassesEntries, ReportsOneEntry}};
 ghost use Rattle.ffs_pathnames.specs.PassedNames as names;
 
 use crate::inodes::Inodes;
-use crate::look::Directory;
+use crate::look::{Directory, DirectoryChunk};
 use crate::one_entry::{DirectoryEntry, EntryTexts, report_extra, report_plain};
 use crate::tree::Checking;
 use crate::verdict::pass;
@@ -120,17 +120,6 @@ pub fn report_directory<I: Image, W: Output>(
     Ok(())
 }
 
-/// A chunk of a directory.
-#[derive(Clone, Copy, Debug)]
-pub struct DirectoryChunk<'a> {
-    /// The directory.
-    pub dir: u32,
-    /// Whether the chunk is at the start of the file.
-    pub first: bool,
-    /// Its bytes.
-    pub bytes: &'a [u8; DIRBLKSIZ],
-}
-
 /// Prints the lines of an entry, by its role.
 fn report_by_role<I: Image, W: Output>(
     geometry: &Geometry,
@@ -212,9 +201,9 @@ pub fn report_chunk<I: Image, W: Output>(
     ensures { PassesEntries geometry.now.layout (I.device image.old) (I.device image.new)
         workspace.old workspace.new chunk.now.dir texts.old texts.new
         (λ v. names.entries_reported v chunk.now.dir (passed_of workspace.old)
-        (roled_in geometry.now.layout chunk.now))
+        (roled_in geometry.now.layout.order chunk.now))
         (λ v. names.after_entries v chunk.now.dir (passed_of workspace.old)
-        (roled_in geometry.now.layout chunk.now))
+        (roled_in geometry.now.layout.order chunk.now))
         (progress W.sink report.old) (progress W.sink report.new)
         (I.reads image.old) (I.reads image.new) result }
 {

@@ -9,15 +9,16 @@
 //!
 //! Its modules, in the order of the phase:
 //!
-//! - `pass2` is the phase: what is reported of the root, and the workspace made ready. No name is
-//!   passed yet, and of the survey's flags those of inodes that aren't suspect stay.
-//! - `tree` reports the root, and goes over the directories by number, once the places of parent entries are noted
+//! - `pass2` is the phase: the workspace is made ready, and the root reported. No name is passed yet,
+//!   and of the survey's flags those of inodes that aren't suspect stay.
+//! - `tree` goes over the directories by number, once the places of parent entries are noted
 //!   (`ffs_names::note_places`), and checks one of them.
-//! - `look` reads a directory once: its inode, then its chunks, then their entries, by what is known
-//!   of the inodes that they name (`inodes`).
-//! - `header` says what is wrong with its size, its chunks and its first two entries.
+//! - `look` reads a directory once: its inode, then its chunks, then their entries, by the `verdict`
+//!   on each, which rests on what is known of the inodes that they name (`inodes`).
+//! - `header` finds and says what is wrong with its size, its chunks and its first two entries.
 //! - `entries` reads its chunks again where something is to be said of their entries.
 //! - `one_entry` gathers what the lines of an entry show, by its `verdict`, which says them.
+//! - `say` says a line where it holds.
 //!
 //! It rests on `ffs_paths`, `ffs_names` and `ffs_report`.
 #![tactic(auto)]
@@ -28,6 +29,7 @@ pub mod inodes;
 mod look;
 mod one_entry;
 mod pass2;
+mod say;
 mod tree;
 pub mod verdict;
 

@@ -1,22 +1,22 @@
 //! A first look at a directory: whether it is sure that nothing is reported of its entries.
-ghost use Rattle.std.specs.Prelude.{◌≡◌, ◌+◌, ◌≤◌, true, false, ◌<◌, ◌==◌, List, ◌∷◌, ◌&&◌, ◌||◌, not, length};
-ghost use Rattle.std.specs.Prelude.{slice_index};
+ghost use Rattle.std.specs.Prelude.{◌≡◌, ◌+◌, ◌≤◌, true, false, List, ◌∷◌};
 ghost use Rattle.ffs_names.specs.Costs.{directory_cost, directory_runs};
 ghost use Rattle.ffs_pathnames.specs.DirectoryContext.{DirectoryContext, KnowsDirectory};
 ghost use Rattle.ffs_pathnames.specs.{Examines.{Examines, ExaminesWithin, IsExamined, IsLookedAt}, StartChunks.start_chunk};
 ghost use Rattle.ffs_pathnames.specs.{Looks.{IsChunkLook, StampsEntry}, Ready.{ReadyToLook, ReadyToRead}};
-ghost use Rattle.ffs_pathnames.specs.Sees.{CanStamp, CanStampInode, Sees, stamps_in};
+ghost use Rattle.ffs_pathnames.specs.Sees.{CanLook, CanStamp, Sees, stamps_in};
 ghost use Rattle.ffs_volume.specs.{declared.{Order.Order, Role.Role}, Directories.Entries.{Chunk, chunk_of}};
-ghost use Rattle.ffs_volume.specs.Directories.{Roles.Volume, PathnameCheck.is_bad_whiteout};
+ghost use Rattle.ffs_volume.specs.Directories.Roles.{Volume};
 ghost use Rattle.ffs_layout.specs.Entry.{entry_value};
 ghost use Rattle.ffs_pathnames.specs.PassedNames as names;
 
 use crate::inodes::Inodes;
+use crate::verdict::first_verdict;
 use ffs_image::{Image, ImageFault, LimitedImage};
 use ffs_layout::{Entry, Geometry};
 use ffs_memory::FilledList;
 use ffs_names::{ChunkEntries, Chunks, gap_of, role_of};
-use ffs_volume::constants::{DIRBLKSIZ, DT_WHT, ROOTINO, WINO};
+use ffs_volume::constants::{DIRBLKSIZ, ROOTINO};
 use ffs_volume::{Inode, Order, Role};
 use ffs_workspace::{Workspace, due};
 
@@ -184,11 +184,12 @@ pub fn look_directory<I: Image>(
         marked: workspace.marked.as_slice(),
         parents: &workspace.parents,
     };
+    let flags = workspace.flags.as_slice();
     let windows = &mut workspace.windows;
     let words = &mut workspace.queue;
     let order = geometry.layout.order;
     let mut chunks = Chunks::start(geometry, &directory.inode, directory.cut);
-    let mut chunk = [0u8; DIRBLKSIZ];
+    let mut bytes = [0u8; DIRBLKSIZ];
     let mut quiet = true;
     let mut sound = true;
     let mut started = false;
@@ -196,12 +197,17 @@ pub fn look_directory<I: Image>(
         image,
         &mut windows.blocks,
         &mut windows.current,
-        &mut chunk,
+        &mut bytes,
     )? {
-        let looked = look_chunk(&inodes, directory.number, order, offset == 0, &chunk, words);
+        let chunk = DirectoryChunk {
+            dir: directory.number,
+            first: offset == 0,
+            bytes: &bytes,
+        };
+        let looked = look_chunk(&inodes, order, flags, words, &chunk);
         quiet &= looked.quiet;
         sound &= looked.sound;
-        started = keep_start(offset, &chunk, started, start);
+        started = keep_start(offset, &bytes, started, start);
     }
     let gap = gap_of(image, &mut windows.blocks, &mut chunks)?;
     Ok(FirstLook {
@@ -212,70 +218,25 @@ pub fn look_directory<I: Image>(
     })
 }
 
-/// Whether an entry has the number or the type of a whiteout, and not both.
-pub fn is_bad_whiteout(entry: &Entry<'_>) -> bool
-    ensures { result ≡ is_bad_whiteout (entry_value entry.now) }
-{
-    (entry.number == WINO) != (entry.kind == DT_WHT)
-}
-
-/// Whether nothing is reported of an inode that a plain entry names. The parent entry of a
-/// directory is the first in its parent that names it, and the first look stamps the directory
-/// there: so an entry in the parent is the parent entry where the directory isn't stamped yet.
-fn is_quiet_inode(inodes: &Inodes<'_>, dir: u32, words: &FilledList<u32>, entry: &Entry<'_>) -> bool
-    requires { CanStampInode inodes.now dir words.now.items entry.now.number }
-    ensures { (vol : Volume) → Sees vol inodes.now → result
-        ≡ names.is_inode_quiet vol dir (stamps_in inodes.now words.now.items)
-        (entry_value entry.now) }
-{
-    if !inodes.is_allocated(entry.number) {
-        return false;
-    }
-    if inodes.is_suspect(entry.number) {
-        return false;
-    }
-    if inodes.is_dir(entry.number)
-        && !(inodes.belongs(entry.number, dir) && inodes.stamp(words, entry.number) != dir)
-    {
-        return false;
-    }
-    !inodes.has_wrong_type(entry.number, entry.kind)
-}
-
-/// Whether nothing is reported of a plain entry.
-fn is_quiet_plain(inodes: &Inodes<'_>, dir: u32, words: &FilledList<u32>, entry: &Entry<'_>) -> bool
-    requires { CanStamp inodes.now dir words.now.items }
-    ensures { (vol : Volume) → Sees vol inodes.now → result
-        ≡ names.is_plain_quiet vol dir (stamps_in inodes.now words.now.items)
-        (entry_value entry.now) }
-{
-    if entry.number >= inodes.count() {
-        return false;
-    }
-    if is_bad_whiteout(entry) {
-        return false;
-    }
-    entry.number == WINO || is_quiet_inode(inodes, dir, words, entry)
-}
-
 /// Whether it is sure that nothing is reported of an entry. Where it isn't, a line may come or not.
 #[tactic(auto, unfolding(crate::specs::PassedNames::is_quiet))]
 pub fn is_quiet(
     inodes: &Inodes<'_>,
     dir: u32,
+    flags: &[bool],
     words: &FilledList<u32>,
     role: Role,
     entry: &Entry<'_>,
 ) -> bool
-    requires { CanStamp inodes.now dir words.now.items }
+    requires { CanLook inodes.now dir flags.now words.now.items }
     ensures { (vol : Volume) → Sees vol inodes.now → result
-        ≡ names.is_quiet vol dir (stamps_in inodes.now words.now.items)
+        ≡ names.is_quiet vol dir flags.now (stamps_in inodes.now words.now.items)
         (record { role = role; entry = entry_value entry.now }) }
 {
     match role {
         Role::Empty | Role::Dot | Role::Dotdot => true,
         Role::Extra => false,
-        Role::Plain => is_quiet_plain(inodes, dir, words, entry),
+        Role::Plain => first_verdict(inodes, dir, flags, words, entry).is_silent(),
     }
 }
 
@@ -314,25 +275,35 @@ pub struct ChunkLook {
     pub sound: bool,
 }
 
-/// Looks at the entries of a chunk, and stamps the inodes that belong to `dir`; `first` says that
-/// the chunk is at the start of the file.
+/// A chunk of a directory.
+#[derive(Clone, Copy, Debug)]
+pub struct DirectoryChunk<'a> {
+    /// The directory.
+    pub dir: u32,
+    /// Whether the chunk is at the start of the file.
+    pub first: bool,
+    /// Its bytes.
+    pub bytes: &'a [u8; DIRBLKSIZ],
+}
+
+/// Looks at the entries of a chunk of a directory, and stamps the inodes that belong to that.
 pub fn look_chunk(
     inodes: &Inodes<'_>,
-    dir: u32,
     order: Order,
-    first: bool,
-    chunk: &[u8; DIRBLKSIZ],
+    flags: &[bool],
     words: &mut FilledList<u32>,
+    chunk: &DirectoryChunk<'_>,
 ) -> ChunkLook
-    requires { CanStamp inodes.now dir words.old.items }
-    ensures { IsChunkLook inodes.now dir order first chunk.now result words.old words.new }
+    requires { CanLook inodes.now chunk.now.dir flags.now words.old.items }
+    ensures { IsChunkLook inodes.now order flags.now chunk.now result words.old words.new }
 {
-    let mut entries = ChunkEntries::of_chunk(order, chunk);
+    let dir = chunk.dir;
+    let mut entries = ChunkEntries::of_chunk(order, chunk.bytes);
     let mut quiet = true;
     'entries: while let Some((index, entry)) = entries.next() {
-        let role = role_of(first, index, &entry);
+        let role = role_of(chunk.first, index, &entry);
         // After an entry that isn't quiet the chunk isn't either, so no other entry is asked.
-        quiet = quiet && is_quiet(inodes, dir, words, role, &entry);
+        quiet = quiet && is_quiet(inodes, dir, flags, words, role, &entry);
         stamp(inodes, dir, words, role, &entry);
     }
     ChunkLook {

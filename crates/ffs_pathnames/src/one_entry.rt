@@ -3,7 +3,7 @@ ghost use Rattle.std.specs.Prelude.{◌≡◌, ℕ, List, Option, SomeIff};
 ghost use Rattle.ffs_volume.specs.{declared.Layout.Layout, Directories.PathnameCheck.extra_lines, Report.Reads.path_reads};
 ghost use Rattle.ffs_pathnames.specs.{EntryLines.ReportsEntries, Ready.{ReadyToPath, ReadyWhere, ReadyWith, LinesLeave}};
 ghost use Rattle.ffs_pathnames.specs.{SaysTreeMessages.SaysTreeMessages, Gathers.{AreAsLong, IsVerdictIn, asks_attr, asks_path}};
-ghost use Rattle.ffs_pathnames.specs.Gathers.{extra_reported, is_silent, plain_lines_by, MakesPath, MakesPathLimited};
+ghost use Rattle.ffs_pathnames.specs.Gathers.{extra_reported, plain_lines_by, MakesPath, MakesPathLimited};
 ghost use Rattle.ffs_pathnames.specs.Gathers.{ReadsAttr, PutsPath, PutsWanted, GathersInode, GathersWithPath};
 ghost use Rattle.ffs_pathnames.specs.Gathers.{GathersEntry, GathersExtra, GathersDir};
 ghost use Rattle.ffs_layout.specs.Entry.{entry_value};
@@ -13,12 +13,13 @@ ghost use Rattle.ffs_workspace.specs.Ready.{IsReady};
 ghost use Rattle.ffs_paths.specs.{KeptParents.KeepsParent, Reads.IsReadyFor};
 
 use crate::inodes::Inodes;
-use crate::verdict::{Verdict, entry_verdict, say_verdict};
+use crate::verdict::{entry_verdict, say_verdict};
 use ffs_image::{Image, ImageFault, LimitedImage};
 use ffs_layout::{Entry, Geometry};
 use ffs_names::is_one_dot;
 use ffs_paths::{DirectoryPath, EntryPaths, KeptParent, PathBuffer, PathText};
 use ffs_report::{DotLine, Line, OutFault, Output, Report, RunFault};
+use ffs_volume::verdict::Verdict;
 use ffs_volume::{Attr, Role};
 use ffs_workspace::{PATH_READS, Workspace, line_reads};
 
@@ -361,19 +362,6 @@ fn verdict_of(workspace: &Workspace, dir: u32, entry: &Entry<'_>) -> Verdict
     )
 }
 
-/// Whether a verdict has no line.
-fn is_silent(verdict: &Verdict) -> bool
-    ensures { result ≡ is_silent verdict.now }
-{
-    match verdict {
-        Verdict::Whiteout => true,
-        Verdict::OutOfRange | Verdict::BadWhiteout | Verdict::Unallocated => false,
-        Verdict::Named(defects) => {
-            !(defects.first_of_suspect || defects.extraneous || defects.kind)
-        }
-    }
-}
-
 /// Prints the lines of a plain entry of a directory.
 ///
 /// # Errors
@@ -397,7 +385,7 @@ pub fn report_plain<I: Image, W: Output>(
         workspace.old workspace.new texts.new.kept_parent result }
 {
     let verdict = verdict_of(workspace, entry.dir, &entry.entry);
-    if is_silent(&verdict) {
+    if verdict.is_silent() {
         return Ok(());
     }
     let attr = gather_entry(geometry, image, workspace, texts, entry, &verdict)?;

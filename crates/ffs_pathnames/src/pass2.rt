@@ -5,17 +5,19 @@ ghost use Rattle.ffs_volume.specs.Directories.{PathnameCheck.pathname_lines, Vol
 ghost use Rattle.ffs_volume.specs.{Encodings.Kinds.is_dir_kind, Messages.Kinds.of_tree};
 ghost use Rattle.ffs_workspace.specs.{Found.WithClaims, Holds.bool_at, Leaves.LeavesBlockCheck, Ready.IsReady};
 ghost use Rattle.ffs_pathnames.specs.{Before.{root_reported, IsNonePassed}, Gathers.AreAsLong};
-ghost use Rattle.ffs_pathnames.specs.{Phase2.{Phase2Ends, Phase2Reads}, RootAnswers.is_go, SaysTreeMessages.SaysTreeMessages};
+ghost use Rattle.ffs_pathnames.specs.{Phase2.{Phase2Ends, Phase2Reads}, RootAnswers.{AnswersRoot, is_go}};
+ghost use Rattle.ffs_pathnames.specs.{DirectoryLines.ReportsTree, SaysTreeMessages.SaysTreeMessages};
 ghost use Rattle.ffs_survey.specs.Survey.{suspect_at};
 ghost use Rattle.ffs_volume.specs.Messages.Kinds as messages;
 
-use crate::header::{LineIf, Phase2Line, say_if, say_line};
 use crate::inodes::Inodes;
-use crate::tree::check_tree;
+use crate::say::{LineIf, Phase2Line, say_if, say_line};
+use crate::tree::check_inodes;
 use ffs_image::Image;
 use ffs_layout::Geometry;
 use ffs_names::survey;
 use ffs_report::{DirectoryLine, Heading, Line, OutFault, Output, Report, RunFault};
+use ffs_volume::constants::ROOTINO;
 use ffs_volume::kinds::Kind;
 use ffs_workspace::Workspace;
 
@@ -68,8 +70,37 @@ pub fn phase2<I: Image, W: Output>(
     check_tree(geometry, image, workspace, report)
 }
 
+/// Prints the lines of the root and, where the check continues after it, of each directory and of
+/// its entries.
+#[tactic(auto, using(ffs_volume::proofs::Sizes::some_inodes))]
+fn check_tree<I: Image, W: Output>(
+    geometry: &Geometry,
+    image: &mut I,
+    workspace: &mut Workspace,
+    report: &mut Report<'_, W>,
+) -> Result<Root, RunFault>
+    requires { IsReady geometry.now.layout (I.device image.old) workspace.old }
+    ensures tree { ReportsTree geometry.now.layout (I.device image.old) (I.device image.new)
+        workspace.old workspace.new
+        (λ b. pathname_lines (volume_of geometry.now.layout b))
+        (progress W.sink report.old) (progress W.sink report.new)
+        (I.reads image.old) (I.reads image.new) result }
+    ensures root { AnswersRoot geometry.now.layout (I.device image.old) workspace.old result }
+{
+    let kind = workspace.kinds[ROOTINO as usize];
+    let marked = workspace.marked[ROOTINO as usize];
+    report_root(report, kind, marked)?;
+    match root_of(kind) {
+        Root::Stop => Ok(Root::Stop),
+        Root::Go => {
+            check_inodes(geometry, image, workspace, report)?;
+            Ok(Root::Go)
+        }
+    }
+}
+
 /// Whether the check continues after a root of this kind.
-pub fn root_of(kind: u8) -> Root
+fn root_of(kind: u8) -> Root
     ensures { is_go result ≡ is_dir_kind kind }
 {
     if (Kind { code: kind }).is_dir() {
@@ -84,7 +115,7 @@ pub fn root_of(kind: u8) -> Root
 /// # Errors
 /// A write of the report that failed.
 #[tactic(auto, unfolding(crate::specs::Before::root_reported))]
-pub fn report_root<W: Output>(
+fn report_root<W: Output>(
     report: &mut Report<'_, W>,
     kind: u8,
     marked: bool,

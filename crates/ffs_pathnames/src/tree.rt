@@ -1,24 +1,23 @@
-//! The pathname check: the root's line, then one directory after another, by number.
+//! The check of directories, one after another, by number.
 ghost use Rattle.std.specs.Prelude.{suc, ◌≡◌, ◌-◌, ◌*◌, ◌<◌, ◌≤◌, ℕ, true, false, vec_len, List, option_map};
 ghost use Rattle.ffs_report.specs.Progress.{progress};
 ghost use Rattle.ffs_volume.specs.{declared.Layout.Layout, Messages.Kinds.lines_from};
 ghost use Rattle.ffs_volume.specs.Directories.{Parents.graph_of, Graph.parent, Volumes.volume_of};
-ghost use Rattle.ffs_volume.specs.Directories.PathnameCheck.{directory_lines, pathname_lines, sized_dir_lines};
+ghost use Rattle.ffs_volume.specs.Directories.PathnameCheck.{dir_header_lines, directory_lines, sized_dir_lines};
 ghost use Rattle.ffs_names.specs.Costs.{directory_cost};
 ghost use Rattle.ffs_pathnames.specs.{ReadsLeft.{LeftForNext, LeftForBoth, LeftForLook}, PassedRight.AreRightBefore};
 ghost use Rattle.ffs_pathnames.specs.Before.{ListsInode, ListsInodes, IsBeforeNoted, IsFirstToCheck, needs_check};
-ghost use Rattle.ffs_pathnames.specs.{Gathers.passed_of, RootAnswers.AnswersRoot, Ready.{ReadyToCheck, ReadyToPath}};
-ghost use Rattle.ffs_pathnames.specs.Begins.{AreFirstTwo, dir_header_lines, IsDirectoryBegun};
-ghost use Rattle.ffs_pathnames.specs.{Header.header_lines, DirectoryContext.KnowsHeader};
+ghost use Rattle.ffs_pathnames.specs.{Gathers.passed_of, Ready.{ReadyToCheck, ReadyToPath}};
+ghost use Rattle.ffs_pathnames.specs.Begins.{AreFirstTwo, IsDirectoryBegun};
+ghost use Rattle.ffs_pathnames.specs.{HeaderValues.facts_lines, DirectoryContext.KnowsHeader};
 ghost use Rattle.ffs_pathnames.specs.DirectoryLines.{ReportsDirectory, ReportsLines, ReportsTree};
 ghost use Rattle.ffs_workspace.specs.{Holds.HoldsSurvey, Lengths.inodes_of, Ready.IsReady};
 ghost use Rattle.ffs_layout.specs.Entry.{entry_value};
 
 use crate::entries::report_directory;
-use crate::header::{HeaderFacts, is_in_order, say_header};
+use crate::header::{HeaderFacts, header_defects, say_header};
 use crate::look::{Directory, Examination, examine};
 use crate::one_entry::{EntryTexts, gather_dir};
-use crate::pass2::{Root, report_root, root_of};
 use ffs_image::Image;
 use ffs_layout::{Entry, Geometry, entry_at};
 use ffs_names::note_places;
@@ -28,61 +27,23 @@ use ffs_volume::Order;
 use ffs_volume::constants::{DIRBLKSIZ, DT_DIR, ROOTINO};
 use ffs_workspace::{Workspace, sweep_reads};
 
-/// Whether an inode is a directory that isn't of size 0 and isn't known to be calm. That a marked
-/// one is flagged doesn't mean that it is calm, but that an entry has named it.
-fn needs_check(workspace: &Workspace, number: u32) -> bool
-    requires { ListsInode workspace.now number }
-    ensures { result ≡ needs_check workspace.now number }
-{
-    let index = number as usize;
-    workspace.kinds[index] == DT_DIR && (workspace.marked[index] || !workspace.flags[index])
-}
-
-/// The first directory that needs a check, or `count`, how many inodes there are, where none does.
-fn first_to_check(workspace: &Workspace, count: u32) -> u32
-    requires { ListsInodes workspace.now count }
-    ensures { IsFirstToCheck workspace.now count result }
-{
-    for number in ROOTINO..count {
-        if needs_check(workspace, number) {
-            return number;
-        }
-    }
-    count
-}
-
-/// Prints the lines of an inode as a directory, and of its entries.
-fn check_inode<I: Image, W: Output>(
-    geometry: &Geometry,
-    image: &mut I,
-    workspace: &mut Workspace,
-    checking: &mut Checking,
-    report: &mut Report<'_, W>,
-    number: u32,
-) -> Result<(), RunFault>
-    requires { ReadyToCheck geometry.now.layout (I.device image.old) workspace.old
-        checking.old.texts.kept_parent number }
-    ensures { ReportsDirectory geometry.now.layout (I.device image.old) (I.device image.new)
-        workspace.old workspace.new checking.old checking.new
-        (LeftForNext geometry.now.layout (I.device image.old) workspace.old number
-        checking.old.reads_left)
-        (λ b. 2 * directory_cost geometry.now.layout b number)
-        (λ b. directory_lines (volume_of geometry.now.layout b) number)
-        (λ _ b. IsBeforeNoted geometry.now.layout (I.device image.old).contents
-        workspace.new (suc number) b)
-        (progress W.sink report.old) (progress W.sink report.new)
-        (I.reads image.old) (I.reads image.new) result }
-{
-    if needs_check(workspace, number) {
-        return check_directory(geometry, image, workspace, checking, report, number);
-    }
-    Ok(())
+/// What is carried from the check of one directory to that of the next.
+#[derive(Drop)]
+pub struct Checking {
+    /// The texts that lines of entries show.
+    pub texts: EntryTexts,
+    /// How many reads may still be made of directories' own blocks: their inodes, their indirect
+    /// blocks and their chunks. What a message shows is not among these.
+    pub reads_left: u64,
 }
 
 /// Prints the lines of each directory and of its entries, in the order of inode numbers. The places
 /// of parent entries are noted first, for the paths, where any directory is checked.
+///
+/// # Errors
+/// A read of the image that failed, and a write of the report that failed.
 #[tactic(auto, using(std::proofs::lemmas::Bool::both_ways, ffs_volume::proofs::Sizes::some_inodes))]
-fn check_inodes<I: Image, W: Output>(
+pub fn check_inodes<I: Image, W: Output>(
     geometry: &Geometry,
     image: &mut I,
     workspace: &mut Workspace,
@@ -116,117 +77,90 @@ fn check_inodes<I: Image, W: Output>(
     Ok(())
 }
 
-/// Prints the lines of the root and, where the check continues after it, of each directory and of
-/// its entries.
-///
-/// # Errors
-/// A read of the image that failed, and a write of the report that failed.
-#[tactic(auto, using(ffs_volume::proofs::Sizes::some_inodes))]
-pub fn check_tree<I: Image, W: Output>(
+/// The first directory that needs a check, or `count`, how many inodes there are, where none does.
+fn first_to_check(workspace: &Workspace, count: u32) -> u32
+    requires { ListsInodes workspace.now count }
+    ensures { IsFirstToCheck workspace.now count result }
+{
+    for number in ROOTINO..count {
+        if needs_check(workspace, number) {
+            return number;
+        }
+    }
+    count
+}
+
+/// Whether an inode is a directory that isn't of size 0 and isn't known to be calm. That a marked
+/// one is flagged doesn't mean that it is calm, but that an entry has named it.
+fn needs_check(workspace: &Workspace, number: u32) -> bool
+    requires { ListsInode workspace.now number }
+    ensures { result ≡ needs_check workspace.now number }
+{
+    let index = number as usize;
+    workspace.kinds[index] == DT_DIR && (workspace.marked[index] || !workspace.flags[index])
+}
+
+/// Prints the lines of an inode as a directory, and of its entries.
+fn check_inode<I: Image, W: Output>(
     geometry: &Geometry,
     image: &mut I,
     workspace: &mut Workspace,
+    checking: &mut Checking,
     report: &mut Report<'_, W>,
-) -> Result<Root, RunFault>
-    requires { IsReady geometry.now.layout (I.device image.old) workspace.old }
-    ensures tree { ReportsTree geometry.now.layout (I.device image.old) (I.device image.new)
-        workspace.old workspace.new
-        (λ b. pathname_lines (volume_of geometry.now.layout b))
-        (progress W.sink report.old) (progress W.sink report.new)
-        (I.reads image.old) (I.reads image.new) result }
-    ensures root { AnswersRoot geometry.now.layout (I.device image.old) workspace.old result }
-{
-    let kind = workspace.kinds[ROOTINO as usize];
-    let marked = workspace.marked[ROOTINO as usize];
-    report_root(report, kind, marked)?;
-    match root_of(kind) {
-        Root::Stop => Ok(Root::Stop),
-        Root::Go => {
-            check_inodes(geometry, image, workspace, report)?;
-            Ok(Root::Go)
-        }
-    }
-}
-
-/// What is carried from the check of one directory to that of the next.
-#[derive(Drop)]
-pub struct Checking {
-    /// The texts that lines of entries show.
-    pub texts: EntryTexts,
-    /// How many reads may still be made of directories' own blocks: their inodes, their indirect
-    /// blocks and their chunks. What a message shows is not among these.
-    pub reads_left: u64,
-}
-
-/// The parent of a directory, as the survey found it.
-fn parent_of(workspace: &Workspace, dir: u32) -> Option<u32>
-    requires { dir < vec_len workspace.now.parents }
-    ensures { (v : Layout) (b : List ℕ) → HoldsSurvey v b workspace.now → result
-        ≡ parent (graph_of (volume_of v b)) dir }
-{
-    let parent = workspace.parents[dir as usize];
-    if parent == 0 {
-        return None;
-    }
-    Some(parent)
-}
-
-/// The first two entries of the chunk at the start of a directory, if that was found.
-fn first_two<'a>(
-    order: Order,
-    started: bool,
-    start: &'a [u8; DIRBLKSIZ],
-) -> (Option<Entry<'a>>, Option<Entry<'a>>)
-    ensures { AreFirstTwo (option_map entry_value result.0) (option_map entry_value result.1)
-        started order start.now }
-{
-    if !started {
-        return (None, None);
-    }
-    match entry_at(order, start, 0) {
-        None => (None, None),
-        Some(entry) => {
-            let second = entry_at(order, start, usize::from(entry.length));
-            (Some(entry), second)
-        }
-    }
-}
-
-/// Prints the lines of a directory that come before those of its entries.
-fn report_header<I: Image, W: Output>(
-    geometry: &Geometry,
-    image: &mut I,
-    workspace: &mut Workspace,
-    kept_parent: &mut KeptParent,
-    report: &mut Report<'_, W>,
-    header: HeaderFacts<'_>,
+    number: u32,
 ) -> Result<(), RunFault>
-    requires { ReadyToPath geometry.now.layout (I.device image.old) workspace.old kept_parent.old
-        header.number }
-    ensures { ReportsLines geometry.now.layout (I.device image.old) (I.device image.new)
-        workspace.old workspace.new kept_parent.new
-        (KnowsHeader geometry.now.layout (I.device image.old) workspace.old header.entry)
-        (λ b. header_lines (volume_of geometry.now.layout b) header.entry)
+    requires { ReadyToCheck geometry.now.layout (I.device image.old) workspace.old
+        checking.old.texts.kept_parent number }
+    ensures { ReportsDirectory geometry.now.layout (I.device image.old) (I.device image.new)
+        workspace.old workspace.new checking.old checking.new
+        (LeftForNext geometry.now.layout (I.device image.old) workspace.old number
+        checking.old.reads_left)
+        (λ b. 2 * directory_cost geometry.now.layout b number)
+        (λ b. directory_lines (volume_of geometry.now.layout b) number)
+        (λ _ b. IsBeforeNoted geometry.now.layout (I.device image.old).contents
+        workspace.new (suc number) b)
         (progress W.sink report.old) (progress W.sink report.new)
         (I.reads image.old) (I.reads image.new) result }
 {
-    if is_in_order(header) {
+    if needs_check(workspace, number) {
+        return check_directory(geometry, image, workspace, checking, report, number);
+    }
+    Ok(())
+}
+
+/// Prints the lines of a directory that isn't of size 0: of its size, its chunks, its first two
+/// entries, and all its entries.
+fn check_directory<I: Image, W: Output>(
+    geometry: &Geometry,
+    image: &mut I,
+    workspace: &mut Workspace,
+    checking: &mut Checking,
+    report: &mut Report<'_, W>,
+    dir: u32,
+) -> Result<(), RunFault>
+    requires { ReadyToCheck geometry.now.layout (I.device image.old) workspace.old
+        checking.old.texts.kept_parent dir }
+    ensures { ReportsDirectory geometry.now.layout (I.device image.old) (I.device image.new)
+        workspace.old workspace.new checking.old checking.new
+        (LeftForBoth geometry.now.layout (I.device image.old) workspace.old dir
+        checking.old.reads_left)
+        (λ b. 2 * directory_cost geometry.now.layout b dir)
+        (λ b. sized_dir_lines (volume_of geometry.now.layout b) dir)
+        (λ _ b. AreRightBefore (volume_of geometry.now.layout b) (suc dir)
+        (passed_of workspace.new))
+        (progress W.sink report.old) (progress W.sink report.new)
+        (I.reads image.old) (I.reads image.new) result }
+{
+    let examined = begin_directory(geometry, image, workspace, checking, report, dir)?;
+    if examined.look.quiet {
         return Ok(());
     }
-    let mut path = PathText::new();
-    let mut attr = gather_dir(
-        geometry,
-        image,
-        workspace,
-        kept_parent,
-        header.number,
-        &mut path,
-    )?;
-
-    // An image may give another inode now: the lines are on the size that was found wrong.
-    attr.size = header.size;
-    say_header(report, attr, path.as_slice(), header)?;
-    Ok(())
+    let directory = Directory {
+        number: dir,
+        inode: examined.inode,
+        cut: workspace.noted_cut(dir),
+    };
+    report_directory(geometry, image, workspace, checking, report, &directory)
 }
 
 /// Reads a directory once, and prints its lines that come before those of its entries.
@@ -281,40 +215,74 @@ fn begin_directory<I: Image, W: Output>(
     Ok(examined)
 }
 
-/// Prints the lines of a directory that isn't of size 0: of its size, its chunks, its first two
-/// entries, and all its entries.
-///
-/// # Errors
-/// A read of the image that failed, and a write of the report that failed.
-pub fn check_directory<I: Image, W: Output>(
+/// The parent of a directory, as the survey found it.
+fn parent_of(workspace: &Workspace, dir: u32) -> Option<u32>
+    requires { dir < vec_len workspace.now.parents }
+    ensures { (v : Layout) (b : List ℕ) → HoldsSurvey v b workspace.now → result
+        ≡ parent (graph_of (volume_of v b)) dir }
+{
+    let parent = workspace.parents[dir as usize];
+    if parent == 0 {
+        return None;
+    }
+    Some(parent)
+}
+
+/// The first two entries of the chunk at the start of a directory, if that was found.
+fn first_two<'a>(
+    order: Order,
+    started: bool,
+    start: &'a [u8; DIRBLKSIZ],
+) -> (Option<Entry<'a>>, Option<Entry<'a>>)
+    ensures { AreFirstTwo (option_map entry_value result.0) (option_map entry_value result.1)
+        started order start.now }
+{
+    if !started {
+        return (None, None);
+    }
+    match entry_at(order, start, 0) {
+        None => (None, None),
+        Some(entry) => {
+            let second = entry_at(order, start, usize::from(entry.length));
+            (Some(entry), second)
+        }
+    }
+}
+
+/// Prints the lines of a directory that come before those of its entries.
+fn report_header<I: Image, W: Output>(
     geometry: &Geometry,
     image: &mut I,
     workspace: &mut Workspace,
-    checking: &mut Checking,
+    kept_parent: &mut KeptParent,
     report: &mut Report<'_, W>,
-    dir: u32,
+    header: HeaderFacts<'_>,
 ) -> Result<(), RunFault>
-    requires { ReadyToCheck geometry.now.layout (I.device image.old) workspace.old
-        checking.old.texts.kept_parent dir }
-    ensures { ReportsDirectory geometry.now.layout (I.device image.old) (I.device image.new)
-        workspace.old workspace.new checking.old checking.new
-        (LeftForBoth geometry.now.layout (I.device image.old) workspace.old dir
-        checking.old.reads_left)
-        (λ b. 2 * directory_cost geometry.now.layout b dir)
-        (λ b. sized_dir_lines (volume_of geometry.now.layout b) dir)
-        (λ _ b. AreRightBefore (volume_of geometry.now.layout b) (suc dir)
-        (passed_of workspace.new))
+    requires { ReadyToPath geometry.now.layout (I.device image.old) workspace.old kept_parent.old
+        header.number }
+    ensures { ReportsLines geometry.now.layout (I.device image.old) (I.device image.new)
+        workspace.old workspace.new kept_parent.new
+        (KnowsHeader geometry.now.layout (I.device image.old) workspace.old header.entry)
+        (λ b. facts_lines (volume_of geometry.now.layout b) header.entry)
         (progress W.sink report.old) (progress W.sink report.new)
         (I.reads image.old) (I.reads image.new) result }
 {
-    let examined = begin_directory(geometry, image, workspace, checking, report, dir)?;
-    if examined.look.quiet {
+    let defects = header_defects(&header);
+    if defects.is_none() {
         return Ok(());
     }
-    let directory = Directory {
-        number: dir,
-        inode: examined.inode,
-        cut: workspace.noted_cut(dir),
-    };
-    report_directory(geometry, image, workspace, checking, report, &directory)
+    let mut path = PathText::new();
+    let mut attr = gather_dir(
+        geometry,
+        image,
+        workspace,
+        kept_parent,
+        header.number,
+        &mut path,
+    )?;
+
+    // An image may give another inode now: the lines are on the size that was found wrong.
+    attr.size = header.size;
+    say_header(report, attr, path.as_slice(), &defects)?;
+    Ok(())
 }

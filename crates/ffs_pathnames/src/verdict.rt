@@ -1,88 +1,54 @@
 //! The verdict on a plain entry, and what is reported by it.
+ghost use Rattle.std.specs.{Prelude.{◌≡◌, ◌<◌, false, length, IsTrue}, List.slice_index_or};
 ghost use Rattle.ffs_volume.specs.Messages.Kinds.{reported};
+ghost use Rattle.ffs_volume.specs.Directories.PathnameCheck.{defects_lines, defects_on, is_bad_whiteout, links_lines, suspect_message};
+ghost use Rattle.ffs_volume.specs.{Directories.{PathnameCheck.{verdict_lines, verdict_on}, Roles.Volume}, Blocks.Inodes.is_allocated};
 ghost use Rattle.ffs_layout.specs.Entry.{entry_value};
-ghost use Rattle.ffs_pathnames.specs.{Gathers.{AreDefectsOf, IsVerdictBy}, SaysTreeMessages.SaysTreeMessages};
-ghost use Rattle.ffs_pathnames.specs.Sees.{HasFlagAndWord, HasFlagAndWordOf, PassesEntry, passed_in};
-ghost use Rattle.ffs_pathnames.specs.Verdicts.{suspect_message, links_reported, defects_reported, verdict_reported};
+ghost use Rattle.ffs_pathnames.specs.{Gathers.asks_attr, SaysTreeMessages.SaysTreeMessages};
+ghost use Rattle.ffs_pathnames.specs.PassedNames.{first_verdict, verdict_by};
+ghost use Rattle.ffs_pathnames.specs.Sees.{CanLook, HasFlagAndWord, PassesEntry, Sees, passed_in, stamps_in};
 ghost use Rattle.ffs_report.specs.Progress.{progress};
 
-use crate::header::{LineIf, Phase2Line, say_line, say_two};
 use crate::inodes::Inodes;
-use crate::look::is_bad_whiteout;
+use crate::say::{LineIf, Phase2Line, say_line, say_two};
 use ffs_layout::Entry;
 use ffs_memory::FilledList;
 use ffs_report::{EntryLine, OutFault, Output, Report};
-use ffs_volume::constants::{ROOTINO, WINO};
-use ffs_volume::{Attr, Label, Role};
+use ffs_volume::constants::{DT_WHT, ROOTINO, WINO};
+pub use ffs_volume::verdict::{EntryDefects, Verdict};
+use ffs_volume::{Attr, Role};
 use ffs_workspace::passed;
 
-/// What is wrong with a plain entry that names an allocated inode, and what messages on it show.
-#[derive(Clone, Copy, Debug, PartialEq, Eq)]
-pub struct EntryDefects {
-    /// The inode is suspect, and this entry is the first plain one that names it.
-    pub first_of_suspect: bool,
-    /// The inode is marked: then a message on a suspect one isn't of a directory of size 0.
-    pub marked: bool,
-    /// The inode is a directory, and this entry isn't its parent entry.
-    pub extraneous: bool,
-    /// The entry's type isn't the inode's.
-    pub kind: bool,
-    /// What messages call the inode.
-    pub label: Label,
-}
-
-/// The verdict on a plain entry.
-#[derive(Clone, Copy, Debug, PartialEq, Eq)]
-pub enum Verdict {
-    /// It names an inode that the volume doesn't have.
-    OutOfRange,
-    /// It has the number or the type of a whiteout, and not both.
-    BadWhiteout,
-    /// It is a whiteout.
-    Whiteout,
-    /// It names an inode that isn't allocated.
-    Unallocated,
-    /// It names an allocated inode.
-    Named(EntryDefects),
+/// Whether an entry has the number or the type of a whiteout, and not both.
+fn is_bad_whiteout(entry: &Entry<'_>) -> bool
+    ensures { result ≡ is_bad_whiteout (entry_value entry.now) }
+{
+    (entry.number == WINO) != (entry.kind == DT_WHT)
 }
 
 /// What is wrong with a plain entry that names an allocated inode.
-fn defects_of(
-    inodes: &Inodes<'_>,
-    dir: u32,
-    flags: &[bool],
-    words: &FilledList<u32>,
-    entry: &Entry<'_>,
-) -> EntryDefects
-    requires { HasFlagAndWordOf inodes.now entry.now.number flags.now words.now.items }
-    ensures { AreDefectsOf inodes.now dir (passed_in inodes.now flags.now words.now.items)
-        (entry_value entry.now) result }
+fn defects_of(inodes: &Inodes<'_>, entry: &Entry<'_>, first: bool, own: bool) -> EntryDefects
+    requires { entry.now.number < length inodes.now.kinds.now }
+    ensures { (vol : Volume) → Sees vol inodes.now
+        → IsTrue (is_allocated (vol.class entry.now.number))
+        → result ≡ defects_on vol first own (entry_value entry.now) }
 {
-    let index = entry.number as usize;
-    let first_of_suspect = inodes.is_suspect(entry.number)
-        && entry.number != ROOTINO
-        && !flags[index];
-    let extraneous = inodes.is_dir(entry.number) && inodes.stamp(words, entry.number) != dir;
+    let number = entry.number;
     EntryDefects {
-        first_of_suspect,
-        marked: inodes.marked[index],
-        extraneous,
-        kind: inodes.has_wrong_type(entry.number, entry.kind),
-        label: inodes.kind(entry.number).label(),
+        first_of_suspect: first && number != ROOTINO && inodes.is_suspect(number),
+        marked: inodes.marked[number as usize],
+        extraneous: !own && inodes.is_dir(number),
+        kind: inodes.has_wrong_type(number, entry.kind),
+        label: inodes.kind(number).label(),
     }
 }
 
-/// The verdict on a plain entry of a directory.
-pub fn entry_verdict(
-    inodes: &Inodes<'_>,
-    dir: u32,
-    flags: &[bool],
-    words: &FilledList<u32>,
-    entry: &Entry<'_>,
-) -> Verdict
-    requires { HasFlagAndWord inodes.now flags.now words.now.items }
-    ensures { IsVerdictBy inodes.now dir (passed_in inodes.now flags.now words.now.items)
-        (entry_value entry.now) result }
+/// The verdict on a plain entry: `first` says that no plain entry before it names its inode, and
+/// `own` that it is its parent entry.
+pub fn verdict(inodes: &Inodes<'_>, entry: &Entry<'_>, first: bool, own: bool) -> Verdict
+    ensures below { IsTrue (asks_attr result) → entry.now.number < length inodes.now.kinds.now }
+    ensures is { (vol : Volume) → Sees vol inodes.now → result
+        ≡ verdict_on vol first own (entry_value entry.now) }
 {
     if entry.number >= inodes.count() {
         return Verdict::OutOfRange;
@@ -96,7 +62,57 @@ pub fn entry_verdict(
     if !inodes.is_allocated(entry.number) {
         return Verdict::Unallocated;
     }
-    Verdict::Named(defects_of(inodes, dir, flags, words, entry))
+    Verdict::Named(defects_of(inodes, entry, first, own))
+}
+
+/// Whether the inode is there, and flagged.
+fn is_flagged(inodes: &Inodes<'_>, flags: &[bool], inode: u32) -> bool
+    requires { length flags.now ≡ length inodes.now.kinds.now }
+    ensures { result ≡ slice_index_or flags.now inode false }
+{
+    inode < inodes.count() && flags[inode as usize]
+}
+
+/// The verdict on a plain entry of a directory for the second reading of it: its parent entry is
+/// the one that is due.
+pub fn entry_verdict(
+    inodes: &Inodes<'_>,
+    dir: u32,
+    flags: &[bool],
+    words: &FilledList<u32>,
+    entry: &Entry<'_>,
+) -> Verdict
+    requires { HasFlagAndWord inodes.now flags.now words.now.items }
+    ensures below { IsTrue (asks_attr result) → entry.now.number < length inodes.now.kinds.now }
+    ensures is { (vol : Volume) → Sees vol inodes.now → result
+        ≡ verdict_by vol dir (passed_in inodes.now flags.now words.now.items)
+        (entry_value entry.now) }
+{
+    let first = !is_flagged(inodes, flags, entry.number);
+    let own = entry.number < inodes.count() && inodes.stamp(words, entry.number) == dir;
+    verdict(inodes, entry, first, own)
+}
+
+/// The verdict on a plain entry of a directory for a first look at it. The parent entry of a
+/// directory is the first in its parent that names it, and the first look stamps the directory
+/// there: so an entry in the parent is the parent entry where the directory isn't stamped yet.
+pub fn first_verdict(
+    inodes: &Inodes<'_>,
+    dir: u32,
+    flags: &[bool],
+    words: &FilledList<u32>,
+    entry: &Entry<'_>,
+) -> Verdict
+    requires { CanLook inodes.now dir flags.now words.now.items }
+    ensures { (vol : Volume) → Sees vol inodes.now → result
+        ≡ first_verdict vol dir (passed_in inodes.now flags.now words.now.items)
+        (entry_value entry.now) }
+{
+    let first = !is_flagged(inodes, flags, entry.number);
+    let own = entry.number < inodes.count()
+        && inodes.belongs(entry.number, dir)
+        && inodes.stamp(words, entry.number) != dir;
+    verdict(inodes, entry, first, own)
 }
 
 /// Passes a plain entry of `dir`. The inode that it names is flagged, if it is suspect (the flag of
@@ -168,7 +184,7 @@ fn say_links<W: Output>(
     directory: &[u8],
 ) -> Result<(), OutFault>
     ensures { SaysTreeMessages (progress W.sink report.old) (progress W.sink report.new)
-        (links_reported defects.now attr path.now directory.now) result }
+        (links_lines defects.now attr path.now directory.now) result }
 {
     let extraneous = LineIf {
         holds: defects.extraneous,
@@ -198,7 +214,7 @@ fn say_defects<W: Output>(
     directory: &[u8],
 ) -> Result<(), OutFault>
     ensures { SaysTreeMessages (progress W.sink report.old) (progress W.sink report.new)
-        (defects_reported defects.now attr path.now directory.now) result }
+        (defects_lines defects.now attr path.now directory.now) result }
 {
     say_suspect(report, defects, attr, path)?;
     say_links(report, defects, attr, path, directory)
@@ -217,7 +233,7 @@ pub fn say_verdict<W: Output>(
     directory: &[u8],
 ) -> Result<(), OutFault>
     ensures { SaysTreeMessages (progress W.sink report.old) (progress W.sink report.new)
-        (verdict_reported verdict.now number attr path.now directory.now) result }
+        (verdict_lines verdict.now number attr path.now directory.now) result }
 {
     match verdict {
         Verdict::OutOfRange => say_line(

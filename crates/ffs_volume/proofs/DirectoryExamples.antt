@@ -1,8 +1,8 @@
 -- The examples of directories, by computation.
 use Rattle.ffs_volume.specs.Directories.{Climb.climb, Connectivity.connectivity_lines, Entries.is_well_formed}
 use Rattle.ffs_volume.specs.Directories.{Entries.{entry_read, entry_at, entries_from}, Graph.{within, level, parent}}
-use Rattle.ffs_volume.specs.Directories.PathnameCheck.{attributes, root_lines, shape_lines, dot_lines, dotdot_lines}
-use Rattle.ffs_volume.specs.Directories.PathnameCheck.{named_lines, plain_lines, entry_lines, lines_of_entries}
+use Rattle.ffs_volume.specs.Directories.PathnameCheck.{attributes, root_lines, header_defects, header_lines}
+use Rattle.ffs_volume.specs.Directories.PathnameCheck.{dir_header_lines, plain_verdict, entry_lines, lines_of_entries}
 use Rattle.ffs_volume.specs.Directories.{PathnameCheck.{sized_dir_lines, pathname_lines}, Paths.longest_end}
 use Rattle.ffs_volume.specs.Directories.Paths.{path_bytes, names_down, dir_path, entry_path}
 use Rattle.ffs_volume.specs.Directories.{ReferenceCheck.{inode_lines, reference_lines}, Roles.{role_of, roled_from}}
@@ -21,8 +21,8 @@ unfolding bytes_in word zero_bytes root_chunk entry_bytes with_second_entry entr
     class_with_dirs_below alone lost_entries below_entries lost_cycle twice_entries twice sub_entries sub empty_dir
     dead_entries dead_parent sized long_name number u16_at u32_at first_below earliest is_well_formed entry_read entry_at
     entries_from role_of roled_from roled_entries start_entry dot dotdot references_below climb within level parent
-    longest_end path_bytes names_down dir_path entry_path lines_below attributes root_lines shape_lines dot_lines
-    dotdot_lines named_lines plain_lines entry_lines lines_of_entries sized_dir_lines pathname_lines connectivity_lines
+    longest_end path_bytes names_down dir_path entry_path lines_below attributes root_lines header_defects
+    header_lines dir_header_lines plain_verdict entry_lines lines_of_entries sized_dir_lines pathname_lines connectivity_lines
     inode_lines reference_lines
 computed = tt
 

@@ -30,6 +30,7 @@ pub mod AcceptedLaws
 pub mod Below
 pub mod OwnerLaws
 pub mod Silence
+pub mod VerdictLaws
 pub mod Booleans
 pub mod RoleLaws
 pub mod Results

@@ -1,9 +1,10 @@
 -- The book of definitions, in the order to read it. Each folder has its page, with its files in
 -- their order. A comment is for the definitions below it, up to the next comment. What a file
 -- imports from `declared`, such as Layout, Step, Class and LAYOUT_PLACES, is declared in
--- src/lib.rt, the messages on directories, entries and references in src/tree_lines.rt, numbers of
--- the format in src/constants.rt, and texts in src/texts.rt. The lines `use` at the top of a file
--- say where its names come from: begin to read after them.
+-- src/lib.rt, the messages on directories, entries and references in src/tree_lines.rt, what is wrong
+-- with a directory and with an entry in src/verdict.rt, numbers of the format in src/constants.rt, and
+-- texts in src/texts.rt. The lines `use` at the top of a file say where its names come from: begin to
+-- read after them.
 --
 -- Words. `v` is a layout, `vol` a volume as the checks of directories see it, and `g` its graph.
 -- The letter `s` means another thing in each folder: in Blocks the state of the block check

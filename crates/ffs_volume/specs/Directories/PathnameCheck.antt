@@ -1,6 +1,6 @@
 -- What the pathname check, phase 2, reports.
 use Rattle.std.specs.Prelude.{ℕ, suc, ◌%◌, ◌==◌, Bool, false, not, ◌&&◌, ◌||◌, nat_lt, if◌then◌else◌, List, [], ◌∷◌}
-use Rattle.std.specs.{Prelude.{◌++◌, Option, Some, None}, List.list_all}
+use Rattle.std.specs.{Prelude.{true, ◌++◌, Option, Some, None}, List.list_all}
 use Rattle.ffs_volume.specs.declared.constants.TheConstants.{WINO, ROOTINO, DIRBLKSIZ, MINDIRSIZE, DT_DIR, DT_WHT}
 use Rattle.ffs_volume.specs.declared.{Attr.Attr, Class.{Class, TheVariants.{Free, Partial, Unknown, File, Dir}}}
 use Rattle.ffs_volume.specs.declared.{Inode.Inode, Label.{Label, TheVariants.{Dir as DirLabel, File as FileLabel}}}
@@ -8,7 +8,7 @@ use Rattle.ffs_volume.specs.declared.{Label.TheVariants.Name as NameLabel, Role.
 use Rattle.ffs_volume.specs.{declared.Role.TheVariants.{Dotdot, Extra, Plain}, Directories.Entries.{Entry, Chunk}}
 use Rattle.ffs_volume.specs.{Directories.Entries.is_live, Blocks.Inodes.{type_of, is_directory, is_allocated}}
 use Rattle.ffs_volume.specs.{Blocks.Inodes.is_unknown, Directories.Roles.{Volume, RoledEntry, is_dir, is_suspect}}
-use Rattle.ffs_volume.specs.Directories.Roles.{is_one_dot, is_two_dots, start_entry, dot, dotdot, roled_entries}
+use Rattle.ffs_volume.specs.Directories.Roles.{is_one_dot, is_two_dots, start_entry, roled_entries}
 use Rattle.ffs_volume.specs.Directories.{Graph.parent, Parents.{graph_of, is_first_naming_entry, is_parent_entry}}
 use Rattle.ffs_volume.specs.{Directories.Paths.{dir_path, entry_path}, Messages.Kinds.{TreeMessage, reported}}
 use Rattle.ffs_volume.specs.Messages.Kinds.{lines_below}
@@ -17,8 +17,14 @@ use Rattle.ffs_volume.specs.declared.tree_lines.DirectoryLine.TheVariants.{RootN
 use Rattle.ffs_volume.specs.declared.tree_lines.DotLine.TheVariants.{ExtraDot, ExtraDotdot, KindDot, KindDotdot}
 use Rattle.ffs_volume.specs.declared.tree_lines.DotLine.TheVariants.{MissingDot, MissingDotFirst, MissingDotdot}
 use Rattle.ffs_volume.specs.declared.tree_lines.DotLine.TheVariants.{MissingDotdotSecond, NumberDot, NumberDotdot}
-use Rattle.ffs_volume.specs.declared.tree_lines.EntryLine.TheVariants.{DupBad, Extraneous, KindEntry, OutOfRange}
-use Rattle.ffs_volume.specs.declared.tree_lines.EntryLine.TheVariants.{Unallocated, Whiteout, ZeroDir}
+use Rattle.ffs_volume.specs.declared.tree_lines.EntryLine.TheVariants.{DupBad, Extraneous, KindEntry, ZeroDir}
+use Rattle.ffs_volume.specs.declared.tree_lines.EntryLine.TheVariants.{OutOfRange as OutOfRangeLine}
+use Rattle.ffs_volume.specs.declared.tree_lines.EntryLine.TheVariants.{Unallocated as UnallocatedLine}
+use Rattle.ffs_volume.specs.declared.tree_lines.EntryLine.TheVariants.{Whiteout as WhiteoutLine}
+use Rattle.ffs_volume.specs.declared.verdict.{EntryDefects.EntryDefects, HeaderDefects.HeaderDefects}
+use Rattle.ffs_volume.specs.declared.verdict.{DotDefects.{DotDefects, TheVariants.{Missing, Other, Found}}}
+use Rattle.ffs_volume.specs.declared.verdict.Verdict.{Verdict, TheVariants.{BadWhiteout, Named, OutOfRange}}
+use Rattle.ffs_volume.specs.declared.verdict.Verdict.TheVariants.{Unallocated, Whiteout}
 use Rattle.ffs_volume.specs.Messages.Kinds.{of_directory, of_dot}
 use Rattle.ffs_volume.specs.Messages.Kinds.{of_entry}
 
@@ -59,135 +65,207 @@ root_lines vol = root_lines_of vol (vol.class ROOTINO)
 abbrev pub continues_after_root : Volume → Bool
 continues_after_root vol = is_directory (vol.class ROOTINO)
 
--- the size of a directory is less than that of `.` and `..`
-abbrev pub is_short : Volume → ℕ → Bool
-is_short vol d = nat_lt (vol.inode d).size MINDIRSIZE
+-- ---- a directory before its entries
+-- the size is less than that of `.` and `..`
+abbrev pub is_short : (size : ℕ) → Bool
+is_short size = nat_lt size MINDIRSIZE
 
--- the directory isn't short, and its size is no multiple of 512
-abbrev pub has_partial_chunk : Volume → ℕ → Bool
-has_partial_chunk vol d = not (is_short vol d) && not ((vol.inode d).size % DIRBLKSIZ == 0)
+-- it isn't, and is no multiple of 512
+abbrev pub has_partial_chunk : (size : ℕ) → Bool
+has_partial_chunk size = not (is_short size) && not (size % DIRBLKSIZ == 0)
 
 -- each chunk is sound
 abbrev pub are_sound : List Chunk → Bool
 are_sound chunks = list_all (λ c. c.sound) chunks
-
--- the messages on a directory's size, Gaps and chunks
-unfoldable pub shape_lines : Volume → ℕ → List TreeMessage
-shape_lines vol d =
-    reported (is_short vol d) (of_directory (DirShort (attributes vol d) (dir_path (graph_of vol) d)))
-    ++ (reported (has_partial_chunk vol d) (of_directory (DirLength (dir_path (graph_of vol) d) (vol.inode d).size))
-    ++ (reported (vol.gap d) (of_directory (DirEmpty (dir_path (graph_of vol) d)))
-    ++ reported (not (are_sound (vol.chunks d)))
-    (of_directory (DirCorrupt (attributes vol d) (dir_path (graph_of vol) d)))))
-
--- the message where there is no `.`, by the entry that is first; it shows the name of a live entry
--- other than `..`
-abbrev pub missing_dot_lines : Attr → List ℕ → Option Entry → List TreeMessage
-missing_dot_lines about path None = of_dot (MissingDot about path) ∷ []
-missing_dot_lines about path (Some e) =
-    if is_live e && not (is_two_dots e.name) then of_dot (MissingDotFirst about path e.name) ∷ []
-    else of_dot (MissingDot about path) ∷ []
-
--- the messages on `.`, by whether there is one
-abbrev pub dot_lines_of : Volume → ℕ → Option Entry → List TreeMessage
-dot_lines_of vol d None = missing_dot_lines (attributes vol d) (dir_path (graph_of vol) d) (start_entry vol d 0)
-dot_lines_of vol d (Some e) =
-    reported (not (e.number == d)) (of_dot (NumberDot (attributes vol d) (dir_path (graph_of vol) d)))
-    ++ reported (not (e.kind == DT_DIR)) (of_dot (KindDot (attributes vol d) (dir_path (graph_of vol) d)))
-
--- the messages on `.`
-unfoldable pub dot_lines : Volume → ℕ → List TreeMessage
-dot_lines vol d = dot_lines_of vol d (dot vol d)
-
--- the message where there is no `..`, by the entry that is second; it shows the name of a live
--- entry other than `.`
-abbrev pub missing_dotdot_lines : Attr → List ℕ → Option Entry → List TreeMessage
-missing_dotdot_lines about path None = of_dot (MissingDotdot about path) ∷ []
-missing_dotdot_lines about path (Some e) =
-    if is_live e && not (is_one_dot e.name) then of_dot (MissingDotdotSecond about path e.name) ∷ []
-    else of_dot (MissingDotdot about path) ∷ []
 
 -- there is a parent, and it isn't n
 abbrev pub is_wrong_parent : Option ℕ → (n : ℕ) → Bool
 is_wrong_parent None n = false
 is_wrong_parent (Some s) n = not (s == n)
 
--- the messages on `..`, by whether there is one
-abbrev pub dotdot_lines_of : Volume → ℕ → Option Entry → List TreeMessage
-dotdot_lines_of vol d None =
-    missing_dotdot_lines (attributes vol d) (dir_path (graph_of vol) d) (start_entry vol d 1)
-dotdot_lines_of vol d (Some e) =
-    reported (is_wrong_parent (parent (graph_of vol) d) e.number)
-    (of_dot (NumberDotdot (attributes vol d) (dir_path (graph_of vol) d)))
-    ++ reported (not (e.kind == DT_DIR)) (of_dot (KindDotdot (attributes vol d) (dir_path (graph_of vol) d)))
+-- what is wrong with `.` of the directory d, by the entry that is first. Where another live entry
+-- than `..` is in its place, a message shows its name
+abbrev pub dot_defects : (d : ℕ) → Option Entry → DotDefects (List ℕ)
+dot_defects d None = Missing
+dot_defects d (Some e) =
+    if not (is_live e) then Missing
+    else (if is_one_dot e.name then Found (not (e.number == d)) (not (e.kind == DT_DIR))
+    else (if is_two_dots e.name then Missing else Other e.name))
 
--- the messages on `..`
-unfoldable pub dotdot_lines : Volume → ℕ → List TreeMessage
-dotdot_lines vol d = dotdot_lines_of vol d (dotdot vol d)
+-- what is wrong with `..`, by the entry that is second. Where another live entry than `.` is in its
+-- place, a message shows its name
+abbrev pub dotdot_defects : (parent : Option ℕ) → Option Entry → DotDefects (List ℕ)
+dotdot_defects parent None = Missing
+dotdot_defects parent (Some e) =
+    if not (is_live e) then Missing
+    else (if is_two_dots e.name then Found (is_wrong_parent parent e.number) (not (e.kind == DT_DIR))
+    else (if is_one_dot e.name then Missing else Other e.name))
 
--- the message on an extra entry
+-- what is wrong with the directory d of this size and parent, by whether a Gap of it is kept,
+-- whether its chunks are sound, and by its first two entries
+unfoldable pub header_defects : (d size : ℕ) (parent : Option ℕ) (gap sound : Bool) (first second : Option Entry)
+    → HeaderDefects (List ℕ)
+header_defects d size parent gap sound first second = record {
+  short = is_short size;
+  partial_chunk = has_partial_chunk size;
+  gap = gap;
+  unsound = not sound;
+  dot = dot_defects d first;
+  dotdot = dotdot_defects parent second;
+}
+
+-- the messages on a directory of these attributes and this path: on its size; on its Gaps and chunks;
+-- on `.`, and on `..`
+abbrev pub size_lines : HeaderDefects (List ℕ) → Attr → (path : List ℕ) → List TreeMessage
+size_lines n about path = reported n.short (of_directory (DirShort about path))
+    ++ reported n.partial_chunk (of_directory (DirLength path about.size))
+
+abbrev pub chunk_lines : HeaderDefects (List ℕ) → Attr → (path : List ℕ) → List TreeMessage
+chunk_lines n about path = reported n.gap (of_directory (DirEmpty path))
+    ++ reported n.unsound (of_directory (DirCorrupt about path))
+
+abbrev pub dot_lines : DotDefects (List ℕ) → Attr → (path : List ℕ) → List TreeMessage
+dot_lines Missing about path = of_dot (MissingDot about path) ∷ []
+dot_lines (Other name) about path = of_dot (MissingDotFirst about path name) ∷ []
+dot_lines (Found number kind) about path = reported number (of_dot (NumberDot about path))
+    ++ reported kind (of_dot (KindDot about path))
+
+abbrev pub dotdot_lines : DotDefects (List ℕ) → Attr → (path : List ℕ) → List TreeMessage
+dotdot_lines Missing about path = of_dot (MissingDotdot about path) ∷ []
+dotdot_lines (Other name) about path = of_dot (MissingDotdotSecond about path name) ∷ []
+dotdot_lines (Found number kind) about path = reported number (of_dot (NumberDotdot about path))
+    ++ reported kind (of_dot (KindDotdot about path))
+
+abbrev pub dots_lines : HeaderDefects (List ℕ) → Attr → (path : List ℕ) → List TreeMessage
+dots_lines n about path = dot_lines n.dot about path ++ dotdot_lines n.dotdot about path
+
+-- all of them, in this order
+unfoldable pub header_lines : HeaderDefects (List ℕ) → Attr → (path : List ℕ) → List TreeMessage
+header_lines n about path = size_lines n about path ++ (chunk_lines n about path ++ dots_lines n about path)
+
+-- there is no message on it
+abbrev pub is_right : {P : Type 0} → DotDefects P → Bool
+is_right Missing = false
+is_right (Other name) = false
+is_right (Found number kind) = not (number || kind)
+
+abbrev pub is_none : {P : Type 0} → HeaderDefects P → Bool
+is_none n = not (n.short || (n.partial_chunk || (n.gap || n.unsound))) && (is_right n.dot && is_right n.dotdot)
+
+-- what is wrong with the directory d of a volume before its entries, and the messages on that
+abbrev pub header_of : Volume → (d : ℕ) → HeaderDefects (List ℕ)
+header_of vol d =
+    header_defects d (vol.inode d).size (parent (graph_of vol) d) (vol.gap d) (are_sound (vol.chunks d))
+    (start_entry vol d 0) (start_entry vol d 1)
+
+unfoldable pub dir_header_lines : Volume → (d : ℕ) → List TreeMessage
+dir_header_lines vol d = header_lines (header_of vol d) (attributes vol d) (dir_path (graph_of vol) d)
+
+-- ---- an extra entry
 abbrev pub extra_lines : Attr → List ℕ → Entry → List TreeMessage
 extra_lines about path e =
     if is_one_dot e.name then of_dot (ExtraDot about path) ∷ [] else of_dot (ExtraDotdot about path) ∷ []
 
+-- ---- a plain entry
 -- the entry has the number of a whiteout, WINO, without its type, DT_WHT, or the type without the
 -- number. A whiteout hides a name of the file system below in a union mount, and names no inode
 abbrev pub is_bad_whiteout : Entry → Bool
 is_bad_whiteout e =
     ((e.number == WINO) && not (e.kind == DT_WHT)) || ((e.kind == DT_WHT) && not (e.number == WINO))
 
--- entry j of the directory s is the first plain entry that names x, a suspect (an inode that is
--- marked, or a directory of size 0) other than the root
-abbrev pub is_first_entry_of_suspect : (vol : Volume) (s j x : ℕ) → Bool
-is_first_entry_of_suspect vol s j x =
-    is_suspect vol x && (not (x == ROOTINO) && is_first_naming_entry (graph_of vol) s j x)
+-- x is a suspect (an inode that is marked, or a directory of size 0) other than the root; `first`
+-- says that no plain entry before this one names it
+abbrev pub is_first_of_suspect : (vol : Volume) (first : Bool) (x : ℕ) → Bool
+is_first_of_suspect vol first x = is_suspect vol x && (not (x == ROOTINO) && first)
 
--- the message on a suspect that an entry names: DUP/BAD where x is marked, else ZERO LENGTH DIRECTORY
-abbrev pub message_on_suspect : (vol : Volume) (x : ℕ) (path : List ℕ) → TreeMessage
-message_on_suspect vol x path =
-    if vol.marked x then of_entry (DupBad (label_of (vol.class x)) (attributes vol x) path)
-    else of_entry (ZeroDir (attributes vol x) path)
-
--- x is a directory, and this entry, which names it, isn't its parent entry
-abbrev pub is_extraneous : (vol : Volume) (s j x : ℕ) → Bool
-is_extraneous vol s j x = is_dir vol x && not (is_parent_entry (graph_of vol) s j x)
+-- x is a directory; `own` says that this entry, which names it, is its parent entry
+abbrev pub is_extraneous : (vol : Volume) (own : Bool) (x : ℕ) → Bool
+is_extraneous vol own x = is_dir vol x && not own
 
 -- the class of the inode isn't Unknown, and the entry has a type other than the inode's
 abbrev pub has_wrong_type : Volume → Entry → Bool
 has_wrong_type vol e = not (is_unknown (vol.class e.number)) && not (e.kind == type_of (vol.inode e.number).mode)
 
--- the messages on a plain entry at index j of the directory s, which names an allocated inode
-unfoldable pub named_lines : (vol : Volume) (s j : ℕ) (e : Entry) → List TreeMessage
-named_lines vol s j e =
-    reported (is_first_entry_of_suspect vol s j e.number)
-    (message_on_suspect vol e.number (entry_path (graph_of vol) s e.name))
-    ++ (reported (is_extraneous vol s j e.number)
-    (of_entry (Extraneous (entry_path (graph_of vol) s e.name) (dir_path (graph_of vol) e.number)))
-    ++ reported (has_wrong_type vol e)
-    (of_entry (KindEntry (label_of (vol.class e.number)) (attributes vol e.number)
-    (entry_path (graph_of vol) s e.name))))
+-- what is wrong with a plain entry that names an allocated inode, and what messages on it show
+abbrev pub defects_on : (vol : Volume) (first own : Bool) → Entry → EntryDefects
+defects_on vol first own e = record {
+  first_of_suspect = is_first_of_suspect vol first e.number;
+  marked = vol.marked e.number;
+  extraneous = is_extraneous vol own e.number;
+  kind = has_wrong_type vol e;
+  label = label_of (vol.class e.number);
+}
 
--- the messages on any plain entry at index j of the directory s
-unfoldable pub plain_lines : (vol : Volume) (s j : ℕ) (e : Entry) → List TreeMessage
-plain_lines vol s j e =
-    if not (nat_lt e.number vol.count) then of_entry (OutOfRange e.number (entry_path (graph_of vol) s e.name)) ∷ []
-    else (if is_bad_whiteout e then of_entry (Whiteout e.number (entry_path (graph_of vol) s e.name)) ∷ []
-    else (if e.number == WINO then []
-    else (if not (is_allocated (vol.class e.number))
-    then of_entry (Unallocated (attributes vol e.number) (entry_path (graph_of vol) s e.name)) ∷ []
-    else named_lines vol s j e)))
+-- the verdict on a plain entry: `first` says that no plain entry before it names its inode, and
+-- `own` that it is its parent entry
+abbrev pub verdict_on : (vol : Volume) (first own : Bool) → Entry → Verdict
+verdict_on vol first own e =
+    if not (nat_lt e.number vol.count) then OutOfRange
+    else (if is_bad_whiteout e then BadWhiteout
+    else (if e.number == WINO then Whiteout
+    else (if not (is_allocated (vol.class e.number)) then Unallocated else Named (defects_on vol first own e))))
 
--- the messages on an entry at index j of the directory s, by its role
-abbrev pub entry_lines_of : (vol : Volume) (s j : ℕ) → Role → (e : Entry) → List TreeMessage
-entry_lines_of vol s j Empty e = []
-entry_lines_of vol s j Dot e = []
-entry_lines_of vol s j Dotdot e = []
-entry_lines_of vol s j Extra e = extra_lines (attributes vol s) (dir_path (graph_of vol) s) e
-entry_lines_of vol s j Plain e = plain_lines vol s j e
+-- the message on a suspect: DUP/BAD where it is marked, else ZERO LENGTH DIRECTORY
+abbrev pub suspect_message : EntryDefects → Attr → (path : List ℕ) → TreeMessage
+suspect_message n about path =
+    if n.marked then of_entry (DupBad n.label about path) else of_entry (ZeroDir about path)
+
+-- the messages by a verdict: `number` and `about` are the inode's number and attributes, `path` is
+-- the entry's, and `directory` that of the inode where it is a directory
+abbrev pub links_lines : EntryDefects → Attr → (path directory : List ℕ) → List TreeMessage
+links_lines n about path directory = reported n.extraneous (of_entry (Extraneous path directory))
+    ++ reported n.kind (of_entry (KindEntry n.label about path))
+
+abbrev pub defects_lines : EntryDefects → Attr → (path directory : List ℕ) → List TreeMessage
+defects_lines n about path directory =
+    reported n.first_of_suspect (suspect_message n about path) ++ links_lines n about path directory
+
+abbrev pub verdict_lines : Verdict → (number : ℕ) → Attr → (path directory : List ℕ) → List TreeMessage
+verdict_lines OutOfRange number about path directory = of_entry (OutOfRangeLine number path) ∷ []
+verdict_lines BadWhiteout number about path directory = of_entry (WhiteoutLine number path) ∷ []
+verdict_lines Whiteout number about path directory = []
+verdict_lines Unallocated number about path directory = of_entry (UnallocatedLine about path) ∷ []
+verdict_lines (Named n) number about path directory = defects_lines n about path directory
+
+-- there is no message by it
+abbrev pub is_silent : Verdict → Bool
+is_silent OutOfRange = false
+is_silent BadWhiteout = false
+is_silent Whiteout = true
+is_silent Unallocated = false
+is_silent (Named n) = not (n.first_of_suspect || (n.extraneous || n.kind))
+
+-- ---- the entries of a directory
+-- the verdict on an entry at index j of the directory s
+unfoldable pub plain_verdict : (vol : Volume) (s j : ℕ) → Entry → Verdict
+plain_verdict vol s j e =
+    verdict_on vol (is_first_naming_entry (graph_of vol) s j e.number) (is_parent_entry (graph_of vol) s j e.number) e
+
+-- the messages on a plain entry of s, by the verdict on it
+abbrev pub plain_lines : (vol : Volume) (s : ℕ) → Entry → Verdict → List TreeMessage
+plain_lines vol s e verdict =
+    verdict_lines verdict e.number (attributes vol e.number) (entry_path (graph_of vol) s e.name)
+    (dir_path (graph_of vol) e.number)
+
+-- the messages on an entry of s by its role, and by the verdict on it, if it is plain
+abbrev pub role_lines : (vol : Volume) (s : ℕ) → Role → Entry → Verdict → List TreeMessage
+role_lines vol s Empty e verdict = []
+role_lines vol s Dot e verdict = []
+role_lines vol s Dotdot e verdict = []
+role_lines vol s Extra e verdict = extra_lines (attributes vol s) (dir_path (graph_of vol) s) e
+role_lines vol s Plain e verdict = plain_lines vol s e verdict
+
+-- there is none
+abbrev pub is_role_silent : Role → Verdict → Bool
+is_role_silent Empty verdict = true
+is_role_silent Dot verdict = true
+is_role_silent Dotdot verdict = true
+is_role_silent Extra verdict = false
+is_role_silent Plain verdict = is_silent verdict
 
 -- the messages on an entry at index j of the directory s
 unfoldable pub entry_lines : (vol : Volume) (s j : ℕ) (e : RoledEntry) → List TreeMessage
-entry_lines vol s j e = entry_lines_of vol s j e.role e.entry
+entry_lines vol s j e = role_lines vol s e.role e.entry (plain_verdict vol s j e.entry)
 
 -- the messages on the entries of s from index j on
 unfoldable pub lines_of_entries : (vol : Volume) (s j : ℕ) (es : List RoledEntry) → List TreeMessage
@@ -196,8 +274,7 @@ lines_of_entries vol s j (e ∷ es) = entry_lines vol s j e ++ lines_of_entries 
 
 -- the messages on a directory whose size isn't 0
 unfoldable pub sized_dir_lines : Volume → ℕ → List TreeMessage
-sized_dir_lines vol d =
-    shape_lines vol d ++ (dot_lines vol d ++ (dotdot_lines vol d ++ lines_of_entries vol d 0 (roled_entries vol d)))
+sized_dir_lines vol d = dir_header_lines vol d ++ lines_of_entries vol d 0 (roled_entries vol d)
 
 -- d is a directory whose size isn't 0
 abbrev pub is_sized_dir : Volume → ℕ → Bool

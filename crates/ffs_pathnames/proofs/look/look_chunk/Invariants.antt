@@ -1,21 +1,22 @@
 use Rattle.std.proofs.Common.{◌≡◌, ◌-◌, ◌&&◌}
-use Rattle.ffs_volume.specs.Directories.{Entries.{entries_of, is_sound}, Roles.Volume, Roles.roled_from}
+use Rattle.ffs_volume.specs.Directories.{Entries.is_sound, Roles.Volume}
 use Rattle.ffs_names.{proofs.Shaped.fills_from, specs.EntriesToCome.roled_to_come}
-use Rattle.ffs_pathnames.specs.{PassedNames.are_quiet, PassedNames.after_looks, Sees.Sees, Sees.stamps_in}
+use Rattle.ffs_pathnames.specs.{Looks.roled_in, PassedNames.are_quiet, PassedNames.after_looks, Sees.Sees, Sees.stamps_in}
 use Rattle.ffs_pathnames.specs.Stamps.{KeepsWords}
 use Rattle.ffs_pathnames.proofs.look.look_chunk.Given as goal
 
 abbrev pub invariant-entries : goal.invariant-entries
 invariant-entries l =
-    let all = roled_from l.first 0 (entries_of l.fn.order l.chunk) in
-    let left = roled_to_come l.first l.entries in
+    let dir = l.chunk.dir in
+    let all = roled_in l.fn.order l.chunk in
+    let left = roled_to_come l.chunk.first l.entries in
     record {
       words : KeepsWords l.fn.words l.words;
-      quiet : (v : Volume) → Sees v l.inodes → are_quiet v l.dir (stamps_in l.inodes l.initial.words.items) all
-          ≡ (l.quiet && are_quiet v l.dir (stamps_in l.inodes l.words.items) left);
-      stamps : (v : Volume) → Sees v l.inodes → after_looks v l.dir (stamps_in l.inodes l.initial.words.items) all
-          ≡ after_looks v l.dir (stamps_in l.inodes l.words.items) left;
-      sound : fills_from l.entries.order l.entries.chunk.now l.entries.place ≡ is_sound l.fn.order l.chunk;
+      quiet : (v : Volume) → Sees v l.inodes → are_quiet v dir l.flags (stamps_in l.inodes l.initial.words.items) all
+          ≡ (l.quiet && are_quiet v dir l.flags (stamps_in l.inodes l.words.items) left);
+      stamps : (v : Volume) → Sees v l.inodes → after_looks v dir (stamps_in l.inodes l.initial.words.items) all
+          ≡ after_looks v dir (stamps_in l.inodes l.words.items) left;
+      sound : fills_from l.entries.order l.entries.chunk.now l.entries.place ≡ is_sound l.fn.order l.chunk.bytes.now;
     }
 
 abbrev pub decreases-entries : goal.decreases-entries

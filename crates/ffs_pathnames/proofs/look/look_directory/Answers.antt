@@ -21,7 +21,7 @@ chunks-init g c = let first = (passed_of c.args.workspace.now).stamps in record 
   others = refl;
   ready = can_read_in _ _ _ c.requires.look.ready.ready;
   quiet = λ b t h r small. ap (λ cs. are_quiet (volume_of c.args.geometry.now.layout b) c.args.directory.now.number
-      first (flat_map roled_chunk cs)) (sym (c.start-chunks.ensures.begins.chunks b small));
+      c.args.workspace.now.flags.items first (flat_map roled_chunk cs)) (sym (c.start-chunks.ensures.begins.chunks b small));
   stamps = λ b t h r small. ap (λ cs. after_looks (volume_of c.args.geometry.now.layout b)
       c.args.directory.now.number first (flat_map roled_chunk cs))
       (sym (c.start-chunks.ensures.begins.chunks b small));
@@ -69,8 +69,8 @@ chunks-preserved g c =
       words = words_more inv.words look.words;
       others = others_stay c.args.workspace.now.windows c.chunks.windows c.next.new.blocks c.next.new.window inv.others;
       ready = rw inv.geometry at c.in_ok-offset.ensures.leaves.ready;
-      quiet = λ b t h r small. chunk_quiet (volume_of v b) x.number old c.chunks.quiet (next b t)
-          (look.quiet (volume_of v b) (seen b h r)) (look.stamps (volume_of v b) (seen b h r))
+      quiet = λ b t h r small. chunk_quiet (volume_of v b) x.number w.flags.items old c.chunks.quiet (next b t)
+          (rw c.as_slice-flags.ensures.value at (look.quiet (volume_of v b) (seen b h r))) (look.stamps (volume_of v b) (seen b h r))
           (inv.quiet b t h r small);
       stamps = λ b t h r small. chunk_stamps (volume_of v b) x.number old (next b t)
           (look.stamps (volume_of v b) (seen b h r)) (inv.stamps b t h r small);
@@ -116,8 +116,8 @@ returns g c =
             sound = all_sound c.chunks.sound none (inv.sound b t small) ∙ ap are_sound chunks;
             started = sym (ap (find (λ e. e.offset == 0)) chunks) ∙ (inv.started b t small
                 ∙ ap (λ l. start_chunk l c.chunks.started v.order c.chunks.start) none);
-            quiet = all_quiet (volume_of v b) x.number _ c.chunks.quiet none (inv.quiet b t k.0.claims k.0.survey small)
-                ∙ ap (are_quiet (volume_of v b) x.number (passed_of w).stamps) (seen_are v b x.number _ chunks);
+            quiet = all_quiet (volume_of v b) x.number w.flags.items _ c.chunks.quiet none (inv.quiet b t k.0.claims k.0.survey small)
+                ∙ ap (are_quiet (volume_of v b) x.number w.flags.items (passed_of w).stamps) (seen_are v b x.number _ chunks);
             stamps = all_stamps (volume_of v b) x.number _ none (inv.stamps b t k.0.claims k.0.survey small)
                 ∙ ap (after_looks (volume_of v b) x.number (passed_of w).stamps) (seen_are v b x.number _ chunks);
           };

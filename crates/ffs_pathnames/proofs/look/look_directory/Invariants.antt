@@ -26,8 +26,8 @@ invariant-chunks g l =
       others : l.windows ≡ record l.initial.windows { blocks = l.windows.blocks; current = l.windows.current };
       ready : CanReadChunks v (device l.image) l.windows.blocks l.windows.current;
       quiet : of_bytes (λ b. HoldsClaims v b w → HoldsSurvey v b w → x.inode.size < 2 ^ 31 →
-          are_quiet (volume_of v b) x.number before (flat_map roled_chunk (all b))
-          ≡ (l.quiet && are_quiet (volume_of v b) x.number now (flat_map roled_chunk (rest b l.chunks))));
+          are_quiet (volume_of v b) x.number w.flags.items before (flat_map roled_chunk (all b))
+          ≡ (l.quiet && are_quiet (volume_of v b) x.number w.flags.items now (flat_map roled_chunk (rest b l.chunks))));
       stamps : of_bytes (λ b. HoldsClaims v b w → HoldsSurvey v b w → x.inode.size < 2 ^ 31 →
           after_looks (volume_of v b) x.number before (flat_map roled_chunk (all b))
           ≡ after_looks (volume_of v b) x.number now (flat_map roled_chunk (rest b l.chunks)));

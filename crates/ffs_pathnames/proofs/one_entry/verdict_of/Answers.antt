@@ -1,7 +1,7 @@
-use Rattle.std.proofs.Common.{arith, refl, sym, ap, ◌∙◌}
+use Rattle.std.proofs.Common.{arith, refl, ap, ◌∙◌}
 use Rattle.ffs_volume.specs.Directories.Volumes.{volume_of}
 use Rattle.ffs_layout.specs.Entry.{entry_value}
-use Rattle.ffs_pathnames.{specs.Gathers.passed_of, specs.PassedNames.plain_reported, proofs.SeesLaws.sees}
+use Rattle.ffs_pathnames.{specs.Gathers.passed_of, specs.PassedNames.verdict_by, proofs.SeesLaws.sees}
 use Rattle.ffs_pathnames.proofs.one_entry.verdict_of.Goals as goal
 
 pub returns : goal.returns
@@ -17,10 +17,7 @@ returns c =
             parents = refl;
             count = c.as_slice.ensures.len ∙ made.kinds;
           }) h r in
-          record {
-            linked = c.entry_verdict.ensures.linked (volume_of v b) shows;
-            reported = sym (ap (λ ms. plain_reported (volume_of v b) c.args.dir
-                (record { flags = ms; stamps = (passed_of w).stamps }) e) c.as_slice-3.ensures.value)
-                ∙ c.entry_verdict.ensures.reported (volume_of v b) shows;
-          };
+          c.entry_verdict.ensures.is (volume_of v b) shows
+          ∙ ap (λ ms. verdict_by (volume_of v b) c.args.dir (record { flags = ms; stamps = (passed_of w).stamps }) e)
+          c.as_slice-3.ensures.value;
     }

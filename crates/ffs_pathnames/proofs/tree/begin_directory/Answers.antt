@@ -5,8 +5,9 @@ use Rattle.ffs_volume.specs.Directories.{Parents.graph_of, PathnameCheck.attribu
 use Rattle.ffs_volume.specs.Report.Reads.{line_reads}
 use Rattle.ffs_report.proofs.{Reporting.{of_begins, of_reads}, Paying.{paid_answer, paid_failed, paid_beside}}
 use Rattle.ffs_report.proofs.Paying.{paid_fault, paid_none, paid_then}
-use Rattle.ffs_pathnames.specs.{ReadsLeft.LeftForLook, declared.look.Examination.Examination, Begins.dir_header_lines}
-use Rattle.ffs_pathnames.{specs.{Header.header_reported, DirectoryContext.DirectoryContext}, proofs.Passing.knows_on}
+use Rattle.ffs_volume.specs.Directories.PathnameCheck.{dir_header_lines, header_defects, header_lines}
+use Rattle.ffs_pathnames.specs.{ReadsLeft.LeftForLook, declared.look.Examination.Examination}
+use Rattle.ffs_pathnames.{specs.DirectoryContext.DirectoryContext, proofs.Passing.knows_on}
 use Rattle.ffs_pathnames.proofs.Begun.{said_same, fault_same, image_same, starts_are, begun_is}
 use Rattle.ffs_pathnames.proofs.{StampLaws.{windows_keep, keep_more, noted_kept}, tree.begin_directory.Given.Over}
 use Rattle.ffs_pathnames.proofs.tree.begin_directory.Goals.{After-report_header}
@@ -33,10 +34,11 @@ known g c b k = (
 
 -- the lines are the directory's
 lines_are : (g : Over) (c : After-report_header g) (b : List ℕ) → Known g c b →
-    header_reported (attributes (volume_of c.args.geometry.now.layout b) c.args.dir)
-    (dir_path (graph_of (volume_of c.args.geometry.now.layout b)) c.args.dir) c.args.dir c.parent_of-parent.result
+    header_lines (header_defects c.args.dir c.in_ok-examined.examined.inode.size c.parent_of-parent.result
     c.in_ok-examined.examined.look.gap c.in_ok-examined.examined.look.sound
-    (option_map entry_value c.first_two.result.0) (option_map entry_value c.first_two.result.1)
+    (option_map entry_value c.first_two.result.0) (option_map entry_value c.first_two.result.1))
+    (attributes (volume_of c.args.geometry.now.layout b) c.args.dir)
+    (dir_path (graph_of (volume_of c.args.geometry.now.layout b)) c.args.dir)
     ≡ dir_header_lines (volume_of c.args.geometry.now.layout b) c.args.dir
 lines_are g c b k =
     let v = c.args.geometry.now.layout in

@@ -6,7 +6,8 @@ use Rattle.ffs_volume.specs.Directories.{Roles.roled_entries, Volumes.volume_of}
 use Rattle.ffs_report.{specs.PhaseOutcome.ImageAfter, proofs.Reporting.{of_begins, of_part, of_fault, of_last}}
 use Rattle.ffs_report.proofs.{Reporting.{said_knows, reports_knowing}, Paying.{paid_answer, paid_fault, paid_then}}
 use Rattle.ffs_workspace.{specs.declared.workspace.Workspace.Workspace, proofs.Leaving.leaves_more}
-use Rattle.ffs_pathnames.specs.{declared.look.Examination.Examination, Begins.dir_header_lines, Gathers.passed_of}
+use Rattle.ffs_volume.specs.Directories.PathnameCheck.{dir_header_lines}
+use Rattle.ffs_pathnames.specs.{declared.look.Examination.Examination, Gathers.passed_of}
 use Rattle.ffs_pathnames.{specs.PassedNames.entries_reported, proofs.Begun.{image_same, said_same, directory_is, lines_parts}}
 use Rattle.ffs_pathnames.proofs.Begun.{quiet_parts, reported_parts, quiet_after, reported_after, starts_within}
 use Rattle.ffs_pathnames.proofs.{Passing.knows_on, StampLaws.{keep_more, noted_kept}, LineCounts.checked_twice}

@@ -1,46 +1,47 @@
-use Rattle.std.proofs.Common.{arith, ◌≡◌, refl, sym, ap, ◌∙◌, ℕ, List, [], map, append-nil, option_map, ◌≤◌, ◌++◌, length}
+use Rattle.std.proofs.Common.{arith, ◌≡◌, refl, sym, ap, ◌∙◌, ℕ, List, [], map, append-nil, ◌≤◌, ◌++◌, length}
 use Rattle.std.proofs.lemmas.Result.{err_from_is_err_and}
 use Rattle.ffs_volume.specs.{Messages.Kinds.of_tree, Directories.{PathnameCheck.attributes, Parents.graph_of}}
-use Rattle.ffs_volume.specs.Directories.{Paths.dir_path, Volumes.volume_of}
-use Rattle.ffs_layout.specs.Entry.{entry_value}
+use Rattle.ffs_volume.specs.Directories.{PathnameCheck.header_lines, Paths.dir_path, Volumes.volume_of}
+use Rattle.ffs_volume.proofs.VerdictLaws.{none_lines, some_header}
 use Rattle.ffs_report.proofs.{Reports.said_none, Paying.{paid_none, paid_reads, paid_says, paid_stops}}
 use Rattle.ffs_report.proofs.Reporting.{of_begins, of_says, of_stops, of_reads}
-use Rattle.ffs_pathnames.specs.{Header.{header_lines, header_lines_of}, DirectoryContext.KnowsHeader}
-use Rattle.ffs_pathnames.proofs.{Begun.attr_size, LineCounts.{by_line, few_none, knows_places, some_said}, HeaderLaws.{header_silent, header_some}}
+use Rattle.ffs_pathnames.specs.{HeaderValues.{defects_value, facts_lines}, DirectoryContext.KnowsHeader}
+use Rattle.ffs_pathnames.proofs.{Begun.attr_size, LineCounts.{by_line, few_none, knows_places, some_said}}
+use Rattle.ffs_pathnames.proofs.HeaderLaws.{none_value}
 use Rattle.ffs_pathnames.proofs.tree.report_header.{Given.Over, Goals.{After-gather_dir, After-say_header}}
 use Rattle.ffs_pathnames.proofs.tree.report_header.Goals as goal
 
 -- a header that isn't right has a line
 some_line : (g : Over) (c : After-gather_dir g) (b : List ℕ) →
-    KnowsHeader c.args.geometry.now.layout (g.I.Image.device c.args.image.now) c.args.workspace.now c.args.header b →
-    1 ≤ length (header_lines (volume_of c.args.geometry.now.layout b) c.args.header)
-some_line g c b k = grind (arith, header_some, attr_size)
+    1 ≤ length (facts_lines (volume_of c.args.geometry.now.layout b) c.args.header)
+some_line g c b = grind (arith, some_header, none_value)
 
 -- whatever was gathered: the size is that which isn't right
 some_said_of : (g : Over) (c : After-say_header g) →
-    1 ≤ length (map of_tree (header_lines_of (record c.in_ok-attr.attr { size = c.args.header.size })
-    c.as_slice.result.now c.args.header))
-some_said_of g c = grind (arith, some_said, header_some)
+    1 ≤ length (map of_tree (header_lines (defects_value c.header_defects-defects.result)
+    (record c.in_ok-attr.attr { size = c.args.header.size }) c.as_slice.result.now))
+some_said_of g c = grind (arith, some_said, some_header, none_value)
 
 -- the lines are those of what was gathered
 lines_are : (g : Over) (c : After-say_header g) (b : List ℕ) →
     KnowsHeader c.args.geometry.now.layout (g.I.Image.device c.args.image.now) c.args.workspace.now c.args.header b →
-    map of_tree (header_lines (volume_of c.args.geometry.now.layout b) c.args.header)
-    ≡ map of_tree (header_lines_of (record c.in_ok-attr.attr { size = c.args.header.size }) c.as_slice.result.now
-    c.args.header) ++ []
+    map of_tree (facts_lines (volume_of c.args.geometry.now.layout b) c.args.header)
+    ≡ map of_tree (header_lines (defects_value c.header_defects-defects.result)
+    (record c.in_ok-attr.attr { size = c.args.header.size }) c.as_slice.result.now) ++ []
 lines_are g c b k = grind (arith, attr_size, append-nil)
 
-pub returns-then-is_in_order : goal.returns-then-is_in_order
-returns-then-is_in_order g c =
+pub returns-then-is_none : goal.returns-then-is_none
+returns-then-is_none g c =
     let v = c.args.geometry.now.layout in
     let s = c.args.header in
+    let n = c.header_defects-defects.result in
     record {
       text = record {
         messages = [];
         right = λ b k. sym (ap (map of_tree)
-            (header_silent (attributes (volume_of v b) s.number) (dir_path (graph_of (volume_of v b)) s.number)
-            s.number s.parent s.gap s.sound (option_map entry_value s.first) (option_map entry_value s.second)
-            (rw (attr_size v b s.number ∙ sym k.1) (sym c.is_in_order.ensures ∙ c.if-is_in_order.true))));
+            (ap (λ m. header_lines m (attributes (volume_of v b) s.number) (dir_path (graph_of (volume_of v b)) s.number))
+            (sym c.header_defects-defects.ensures)
+            ∙ none_lines (defects_value n) _ _ (none_value n ∙ (sym c.is_none.ensures ∙ c.if-is_none.true))));
         said = said_none _;
       };
       counted = λ b k noted. few_none;
@@ -61,7 +62,7 @@ returns-in_err-attr g c =
     let p = err_from_is_err_and c.from_residual.result c.from_residual.ensures.1 in
     rw (p.1, p.2) (record {
       text = of_reads _ _ _ _ _ (of_begins _ _ _);
-      counted = λ b k noted. by_line _ (left.path.counted b (knows_places _ _ _ _ b k.0 noted)) (some_line g at b k);
+      counted = λ b k noted. by_line _ (left.path.counted b (knows_places _ _ _ _ b k.0 noted)) (some_line g at b);
       paid = λ numbered. paid_reads (left.most numbered);
       leaves = record { image = read.read; lists = read.lists; current = read.current; ready = read.ready };
     })
@@ -76,7 +77,7 @@ returns-in_err-say_header g c =
       text = of_stops _ _ (λ b. []) _ _ _ _ _ (of_begins _ _ _) (lines_are g at.After-say_header)
           c.in_err-say_header.ensures;
       counted = λ b k noted. by_line _ (left.path.counted b (knows_places _ _ _ _ b k.0 noted))
-          (some_line g at.After-gather_dir b k);
+          (some_line g at.After-gather_dir b);
       paid = λ numbered. paid_stops _ c.in_err-say_header.ensures (some_said_of g at.After-say_header)
           (left.most numbered);
       leaves = record { image = read.read; lists = read.lists; current = read.current; ready = read.ready };
@@ -91,7 +92,7 @@ returns g c =
       text = of_says _ _ (λ b. []) _ _ _ _ _ (of_begins _ _ _) (lines_are g at.After-say_header)
           c.in_ok-say_header.ensures;
       counted = λ b k noted. by_line _ (left.path.counted b (knows_places _ _ _ _ b k.0 noted))
-          (some_line g at.After-gather_dir b k);
+          (some_line g at.After-gather_dir b);
       paid = λ numbered. paid_says _ c.in_ok-say_header.ensures (some_said_of g at.After-say_header)
           (left.most numbered);
       leaves = record {

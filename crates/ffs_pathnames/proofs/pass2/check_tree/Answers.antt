@@ -4,7 +4,7 @@ use Rattle.ffs_workspace.specs.{Holds.HoldsClaims, Places.AreChunksNumbered}
 use Rattle.ffs_pathnames.{specs.Before.{IsBefore, root_reported}, proofs.LineCounts.lines_long}
 use Rattle.ffs_names.specs.Costs.{directories_cost}
 use Rattle.ffs_pathnames.proofs.Carrying.{goes_is, root_kind_is, root_marked_is, tree_is, tree_lines}
-use Rattle.ffs_pathnames.proofs.tree.check_tree.{Given.Over, Goals.{After-report_root, After-check_inodes}}
+use Rattle.ffs_pathnames.proofs.pass2.check_tree.{Given.Over, Goals.{After-report_root, After-check_inodes}}
 use Rattle.ffs_volume.specs.{Encodings.Kinds.is_dir_kind, Directories.Volumes.volume_of, Messages.Kinds.of_tree}
 use Rattle.ffs_volume.specs.{Directories.PathnameCheck.{continues_after_root, pathname_lines}, Report.Reads.line_reads}
 use Rattle.ffs_report.proofs.{Reporting.{of_begins, of_says, of_stops, of_part, of_fault}, Paying.paid_said}
@@ -16,7 +16,7 @@ use Rattle.ffs_report.specs.declared.fault.RunFault.{RunFault, TheVariants.{Read
 use Rattle.ffs_workspace.{specs.{Ready.IsReady, declared.workspace.Workspace.Workspace}, proofs.Leaving.block_check_kept}
 use Rattle.ffs_pathnames.{specs.{DirectoryLines.ReportsTree, RootAnswers.AnswersRoot}, proofs.Begun.image_same}
 use Rattle.ffs_pathnames.specs.declared.pass2.Root.{Root}
-use Rattle.ffs_pathnames.proofs.tree.check_tree.Goals as goal
+use Rattle.ffs_pathnames.proofs.pass2.check_tree.Goals as goal
 
 -- what the kind of the root that was read says
 kind_is : (g : Over) (c : After-report_root g) →

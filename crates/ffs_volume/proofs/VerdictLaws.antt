@@ -1,0 +1,124 @@
+-- By a verdict on an entry, and by what is wrong with a directory, there is a message just where they
+-- aren't silent.
+use Rattle.std.proofs.Common.{◌≡◌, ◌≤◌, ◌==◌, ℕ, Bool, true, false, not, nat_lt, if◌then◌else◌, refl, ap, List, []}
+use Rattle.std.proofs.{Common.{arith, length, length-append, inl, inr}, lemmas.Bool.{Decides.nat_tests, cases_Bool}}
+use Rattle.ffs_volume.specs.declared.{Attr.Attr, verdict.Verdict.{Verdict, TheVariants.{BadWhiteout, Named, OutOfRange}}}
+use Rattle.ffs_volume.specs.declared.verdict.{Verdict.TheVariants.{Unallocated, Whiteout}, EntryDefects.EntryDefects}
+use Rattle.ffs_volume.specs.{Blocks.Inodes.is_allocated, Directories.{Entries.Entry, Roles.Volume}}
+use Rattle.ffs_volume.specs.Directories.PathnameCheck.{defects_on, has_wrong_type, is_bad_whiteout, is_extraneous}
+use Rattle.ffs_volume.specs.Directories.PathnameCheck.{is_first_of_suspect, verdict_on}
+use Rattle.ffs_volume.specs.declared.verdict.{HeaderDefects.HeaderDefects, DotDefects.DotDefects}
+use Rattle.ffs_volume.specs.declared.verdict.DotDefects.TheVariants.{Found}
+use Rattle.ffs_volume.specs.Directories.PathnameCheck.{verdict_lines, is_silent, header_lines, dot_lines, dotdot_lines}
+use Rattle.ffs_volume.specs.Directories.PathnameCheck.{is_none, is_right}
+
+-- ---- on an entry
+pub silent_lines : (verdict : Verdict) (number : ℕ) (about : Attr) (path directory : List ℕ) →
+    is_silent verdict ≡ true → verdict_lines verdict number about path directory ≡ []
+silent_lines Whiteout number about path directory h = refl
+silent_lines (Named n) number about path directory h = grind (arith, nat_tests)
+silent_lines verdict number about path directory h = absurd (cc)
+
+pub some_lines : (verdict : Verdict) (number : ℕ) (about : Attr) (path directory : List ℕ) →
+    is_silent verdict ≡ false → 1 ≤ length (verdict_lines verdict number about path directory)
+some_lines Whiteout number about path directory h = absurd (cc)
+some_lines (Named n) number about path directory h = grind (arith, nat_tests)
+some_lines verdict number about path directory h = omega arith
+
+pub silent_from : (verdict : Verdict) (number : ℕ) (about : Attr) (path directory : List ℕ) →
+    verdict_lines verdict number about path directory ≡ [] → is_silent verdict ≡ true
+silent_from verdict number about path directory h = elim (cases_Bool (is_silent verdict)) [
+  | inl e ↦ e
+  | inr e ↦
+      let some = some_lines verdict number about path directory e in
+      let none = ap length h in absurd (omega (arith, some, none))
+]
+
+-- ---- what a silent verdict says of a plain entry
+pub record IsNamedSilent (v : Volume) (first own : Bool) (e : Entry) : Type 0 where
+  pub allocated : is_allocated (v.class e.number) ≡ true
+  pub suspect : is_first_of_suspect v first e.number ≡ false
+  pub link : is_extraneous v own e.number ≡ false
+  pub kind : has_wrong_type v e ≡ false
+
+pub record IsPlainSilent (v : Volume) (first own : Bool) (e : Entry) : Type 0 where
+  pub below : nat_lt e.number v.count ≡ true
+  pub no_whiteout : is_bad_whiteout e ≡ false
+  pub named : (e.number == 1) ≡ false → IsNamedSilent v first own e
+
+silent_named : (n : EntryDefects) → is_silent (Named n) ≡ true →
+    (n.first_of_suspect ≡ false) × (n.extraneous ≡ false) × (n.kind ≡ false)
+silent_named n h = grind (arith, nat_tests)
+
+silent_if : (a b c d : Bool) (n : EntryDefects) →
+    is_silent (if not a then OutOfRange else (if b then BadWhiteout else (if c then Whiteout
+    else (if not d then Unallocated else Named n)))) ≡ true →
+    (a ≡ true) × (b ≡ false) × (c ≡ false → (d ≡ true) × (is_silent (Named n) ≡ true))
+silent_if a b c d n h = grind (arith, nat_tests)
+
+if_silent : (a b c d : Bool) (n : EntryDefects) → a ≡ true → b ≡ false →
+    (c ≡ false → (d ≡ true) × (is_silent (Named n) ≡ true)) →
+    is_silent (if not a then OutOfRange else (if b then BadWhiteout else (if c then Whiteout
+    else (if not d then Unallocated else Named n)))) ≡ true
+if_silent a b c d n p q r = grind (arith, nat_tests)
+
+pub silent_parts : (v : Volume) (first own : Bool) (e : Entry) → is_silent (verdict_on v first own e) ≡ true →
+    IsPlainSilent v first own e
+silent_parts v first own e h =
+    let parts = silent_if (nat_lt e.number v.count) (is_bad_whiteout e) (e.number == 1)
+    (is_allocated (v.class e.number)) (defects_on v first own e) h in
+    record {
+      below = parts.0;
+      no_whiteout = parts.1;
+      named = λ n.
+          let named = parts.2 n in
+          let none = silent_named (defects_on v first own e) named.1 in
+          record { allocated = named.0; suspect = none.0; link = none.1; kind = none.2 };
+    }
+
+pub silent_of : (v : Volume) (first own : Bool) (e : Entry) → IsPlainSilent v first own e →
+    is_silent (verdict_on v first own e) ≡ true
+silent_of v first own e q =
+    if_silent (nat_lt e.number v.count) (is_bad_whiteout e) (e.number == 1)
+    (is_allocated (v.class e.number)) (defects_on v first own e) q.below q.no_whiteout
+    (λ n. let named = q.named n in
+    (named.allocated, rw (named.suspect, named.link, named.kind) refl))
+
+-- ---- on a directory before its entries
+dot_right : (n : DotDefects (List ℕ)) (about : Attr) (path : List ℕ) → is_right n ≡ true → dot_lines n about path ≡ []
+dot_right (Found number kind) about path h = grind (arith, nat_tests)
+dot_right n about path h = absurd (cc)
+
+dot_some : (n : DotDefects (List ℕ)) (about : Attr) (path : List ℕ) → is_right n ≡ false →
+    1 ≤ length (dot_lines n about path)
+dot_some (Found number kind) about path h = grind (arith, nat_tests)
+dot_some n about path h = omega arith
+
+dotdot_right : (n : DotDefects (List ℕ)) (about : Attr) (path : List ℕ) → is_right n ≡ true →
+    dotdot_lines n about path ≡ []
+dotdot_right (Found number kind) about path h = grind (arith, nat_tests)
+dotdot_right n about path h = absurd (cc)
+
+dotdot_some : (n : DotDefects (List ℕ)) (about : Attr) (path : List ℕ) → is_right n ≡ false →
+    1 ≤ length (dotdot_lines n about path)
+dotdot_some (Found number kind) about path h = grind (arith, nat_tests)
+dotdot_some n about path h = omega arith
+
+pub none_lines : (n : HeaderDefects (List ℕ)) (about : Attr) (path : List ℕ) → is_none n ≡ true →
+    header_lines n about path ≡ []
+unfolding header_lines
+none_lines n about path h = grind (arith, nat_tests, dot_right, dotdot_right)
+
+pub some_header : (n : HeaderDefects (List ℕ)) (about : Attr) (path : List ℕ) → is_none n ≡ false →
+    1 ≤ length (header_lines n about path)
+unfolding header_lines
+some_header n about path h = grind (arith, nat_tests, length-append, dot_some, dotdot_some)
+
+pub none_from : (n : HeaderDefects (List ℕ)) (about : Attr) (path : List ℕ) → header_lines n about path ≡ [] →
+    is_none n ≡ true
+none_from n about path h = elim (cases_Bool (is_none n)) [
+  | inl e ↦ e
+  | inr e ↦
+      let some = some_header n about path e in
+      let none = ap length h in absurd (omega (arith, some, none))
+]
