@@ -1,1 +1,2 @@
 pub mod UnrefLines
+pub mod ReachedParts

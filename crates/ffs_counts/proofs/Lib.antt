@@ -3,3 +3,4 @@ pub mod ReservedCount
 pub mod Classes
 pub mod GroupText
 pub mod Holding
+pub mod GroupReads

@@ -44,8 +44,7 @@ record_there v contents w c h place length holds =
     let many : at + 16 - at ≡ 16 = omega arith in
     let there : w.place + at ≡ summary_place v c = omega arith in
     record {
-      starts = place;
-      length = length;
+      records = record { starts = place; length = length };
       inside = inside;
       bytes = λ b is.
           ap (λ (xs : List ℕ). slice_range xs at (at + 16)) (holds.bytes b is)

@@ -1,8 +1,8 @@
 -- The summary records that are read at a time, and the records of a group.
-use Rattle.std.specs.{List.slice_range, Prelude.{ℕ, ◌≡◌, ◌+◌, ◌-◌, ◌*◌, ◌%◌, ◌<◌, ◌≤◌, List, Option, Result, IfOk, min}}
+use Rattle.std.specs.{List.slice_range, Prelude.{ℕ, ◌≡◌, ◌+◌, ◌-◌, ◌*◌, ◌%◌, ◌<◌, ◌≤◌, List, Option, Result, IfOk, OnOk, min}}
 use Rattle.ffs_image.specs.{Device.{Device, ForContents}, Reads.ReadAfter, declared.ImageFault.ImageFault}
 use Rattle.ffs_volume.specs.{declared.{constants.TheConstants.CSUM_SIZE, Layout.Layout}, Disk.Areas.summary_place}
-use Rattle.ffs_volume.specs.Groups.{GroupCheck.group_lines, Records.summary_record}
+use Rattle.ffs_volume.specs.{Groups.{GroupCheck.group_lines, Records.summary_record}, Report.Reads.records_at_once}
 use Rattle.ffs_walk.specs.{Windows.held_bytes, declared.window.Window.Window}
 use Rattle.ffs_maps.specs.Bits.{bits_of}
 use Rattle.ffs_groups.specs.{Check.{AreCounts, lines_of}, Free.free_in, Inodes.class_in}
@@ -10,18 +10,22 @@ use Rattle.ffs_groups.specs.declared.{check.GroupFindings.GroupFindings, counts.
 use Rattle.ffs_workspace.specs.{Tables.{CanReadInodes, TableAfter}, declared.table.Table.Table}
 use Rattle.ffs_workspace.specs.{Ready.{IsReady, StaysReady}, declared.workspace.Workspace.Workspace}
 
--- the first of the 256 groups whose records are read with that of group c
+-- the first of the groups whose records are read with that of group c
 abbrev pub first_read : ℕ → ℕ
-first_read c = c - c % 256
+first_read c = c - c % records_at_once
 
--- how many records are read from group n on: those of 256 groups, or of all that are left
+-- how many records are read from group n on: those that are read at once, or all that are left
 abbrev pub records_read : Layout → ℕ → ℕ
-records_read v n = min 256 (v.ncg - n)
+records_read v n = min records_at_once (v.ncg - n)
+
+-- a window is at the records that are read with that of group c, and at nothing else
+pub record IsAtRecords (v : Layout) (w : Window) (c : ℕ) : Type 0 where
+  pub starts : w.place ≡ summary_place v (first_read c)
+  pub length : w.length ≡ CSUM_SIZE * records_read v (first_read c)
 
 -- a window holds the records that are read with that of group c, which is at this place, and nothing else
 pub record HoldsRecord (v : Layout) (contents : Option (List ℕ)) (w : Window) (c at : ℕ) : Type 0 where
-  pub starts : w.place ≡ summary_place v (first_read c)
-  pub length : w.length ≡ CSUM_SIZE * records_read v (first_read c)
+  pub records : IsAtRecords v w c
   pub inside : at + CSUM_SIZE ≤ w.length
   pub bytes : ForContents contents
       (λ b. slice_range (held_bytes w) at (at + CSUM_SIZE) ≡ summary_record v b c)
@@ -31,13 +35,14 @@ pub record CanReadRecord (v : Layout) (d : Device) (c : ℕ) (t : Table) : Type 
   pub group : c < v.ncg
   pub ready : CanReadInodes v d t
 
--- the record of group c is read with those round it, by one read at most, and the answer is where it
--- is in the window of the table
-pub record ReadsRecord (v : Layout) (d d' : Device) (before after : ℕ) (c : ℕ) (t : Table)
+-- the record of group c is read with those round it, by one read at most, and by none where the window
+-- of the table has them already. The answer is where it is in that window
+pub record ReadsRecord (v : Layout) (d d' : Device) (before after : ℕ) (c : ℕ) (old new : Table)
     (result : Result ℕ ImageFault) : Type 0 where
-  pub there : IfOk result (HoldsRecord v d.contents t.window c)
-  pub leaves : TableAfter v d d' t result
+  pub there : IfOk result (HoldsRecord v d.contents new.window c)
+  pub leaves : TableAfter v d d' new result
   pub counted : after ≤ before + 1
+  pub again : IsAtRecords v old.window c → after ≤ before
 
 -- the records of group c can be read, and these are its counts by what the workspace holds
 pub record CanReadGroup (v : Layout) (d : Device) (w : Workspace) (c : ℕ) (right : Counts) : Type 0 where
@@ -45,12 +50,15 @@ pub record CanReadGroup (v : Layout) (d : Device) (w : Workspace) (c : ℕ) (rig
   pub counts : AreCounts v (free_in (bits_of w.used) v.size) (class_in w.kinds.items) c right
   pub ready : IsReady v d w
 
--- the block of group c and its summary record were read, each once at most, what is found in them gives
--- the lines of the group by the image's bytes, and only windows have changed
+-- the block of group c and its summary record were read, each once at most, and no record where the
+-- window of the table had it; what is found in them gives the lines of the group by the image's bytes,
+-- and only windows have changed
 pub record GroupIsRead (v : Layout) (d d' : Device) (before after : ℕ) (old new : Workspace) (c : ℕ)
     (result : Result GroupFindings ImageFault) : Type 0 where
   pub found : IfOk result (λ f. ForContents d.contents
       (λ b. lines_of f c ≡ group_lines v b (free_in (bits_of old.used) v.size) (class_in old.kinds.items) c))
   pub read : ReadAfter d d' result
+  pub records : OnOk result (IsAtRecords v new.windows.table.window c)
   pub counted : after ≤ before + 2
+  pub again : IsAtRecords v old.windows.table.window c → after ≤ before + 1
   pub stays : StaysReady v d' old new

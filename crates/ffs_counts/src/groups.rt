@@ -25,7 +25,7 @@ fn read_summaries<I: Image>(
 ) -> Result<usize, ImageFault>
     requires { CanReadRecord geometry.now.layout (I.device image.old) group table.old }
     ensures { ReadsRecord geometry.now.layout (I.device image.old) (I.device image.new)
-        (I.reads image.old) (I.reads image.new) group table.new result }
+        (I.reads image.old) (I.reads image.new) group table.old table.new result }
 {
     let first = group - group % RECORDS_AT_ONCE;
     let count = RECORDS_AT_ONCE.min(geometry.layout.ncg - first);

@@ -1,6 +1,7 @@
 //! The most reads that a check may make (`Report/Reads` of `ffs_volume`).
 ghost use Rattle.std.specs.Prelude.{◌≡◌};
-ghost use Rattle.ffs_volume.specs.Report.Reads.{pathname_reads, reads_limit, scan_reads, sweep_reads};
+ghost use Rattle.ffs_volume.specs.Report.Reads.{group_reads, pathname_reads, reads_limit, scan_reads};
+ghost use Rattle.ffs_volume.specs.Report.Reads.{sweep_reads};
 ghost use Rattle.ffs_reads.specs.Limits.{in_u64, part_reads};
 
 use crate::parts::Part;
@@ -10,8 +11,8 @@ use ffs_workspace::{LINE_READS, RUNS_WITHOUT_CLAIM};
 /// The superblock, and the last copy of it.
 pub const OPENING_READS: u64 = 2;
 
-/// The block and the summary record of a group.
-const GROUP_READS: u64 = 2;
+/// How many summary records are read at once.
+const RECORDS_AT_ONCE: u32 = 256;
 
 /// To go over all inodes and their blocks.
 fn sweep_reads(layout: &Layout) -> u64
@@ -44,6 +45,13 @@ fn pathname_reads(layout: &Layout, messages: u64) -> u64
         .saturating_add(messages.saturating_mul(LINE_READS))
 }
 
+/// Phase 5: the block of each group, and the summary records.
+fn group_reads(layout: &Layout) -> u64
+    ensures { result ≡ group_reads layout.now }
+{
+    u64::from(layout.ncg) + u64::from(layout.ncg.div_ceil(RECORDS_AT_ONCE))
+}
+
 /// A part of a check that says so many messages after its heading.
 pub fn part_reads(part: Part, geometry: &Geometry, messages: u64) -> u64
     ensures { result ≡ in_u64 (part_reads part geometry.now.layout messages) }
@@ -54,7 +62,7 @@ pub fn part_reads(part: Part, geometry: &Geometry, messages: u64) -> u64
         Part::Phase1b => sweep_reads(layout),
         Part::Phase2 => pathname_reads(layout, messages),
         Part::Phase3 | Part::Phase4 => messages,
-        Part::Phase5 => GROUP_READS * u64::from(layout.ncg),
+        Part::Phase5 => group_reads(layout),
         Part::Summary => 0,
     }
 }
@@ -68,6 +76,6 @@ pub fn reads_limit(geometry: &Geometry, messages: u64) -> u64
         .saturating_add(sweep_reads(layout))
         .saturating_add(pathname_reads(layout, messages))
         .saturating_add(messages)
-        .saturating_add(GROUP_READS * u64::from(layout.ncg))
+        .saturating_add(group_reads(layout))
         .saturating_add(OPENING_READS)
 }

@@ -1,22 +1,10 @@
--- How bytes are shown run by run: `from` is where the run begins that has not gone out yet.
+-- How bytes are shown, part by part.
 use Rattle.std.proofs.Common.{◌≡◌, ◌∙◌, ◌+◌, ◌-◌, ◌<◌, ◌≤◌, ◌||◌, ℕ, List, [], ◌∷◌, ◌++◌, length, take, drop, get_or}
 use Rattle.std.proofs.Common.{map, refl, sym, ap, subst, arith, append_assoc, true, false, Bool, if◌then◌else◌, Result}
 use Rattle.std.{specs.List.list_any, proofs.lemmas.{Bool.or_parts, List.{Folds.list_any-append, take-append-drop}}}
 use Rattle.std.proofs.{lemmas.List.{take_all, length-drop, map-append, map_more}, Math.Seq.take-add}
 use Rattle.ffs_volume.specs.Messages.Shown.{is_control, shown}
-use Rattle.ffs_report.{specs.Sink.{Sink, Took, BrokeOff, Prints}, proofs.Sinks.{broke_off_after, broke_off_more}}
-use Rattle.ffs_report.proofs.Sinks.{prints_then}
-
--- the run before a place
-abbrev pub run : List ℕ → ℕ → ℕ → List ℕ
-run bytes from at = take (at - from) (drop from bytes)
-
--- the bytes before a place are those before the run, shown, and the run as it is
-abbrev pub IsRun : List ℕ → ℕ → ℕ → Type 0
-IsRun bytes from at = map shown (take at bytes) ≡ map shown (take from bytes) ++ run bytes from at
-
-control_byte : (byte : ℕ) → is_control byte ≡ true → shown byte ≡ 63
-control_byte byte e = rw e refl
+use Rattle.ffs_report.{specs.Sink.{Sink, Took, BrokeOff}, proofs.Sinks.{broke_off_after, broke_off_more, took_then}}
 
 -- bytes without a control byte show as they are
 pub shown_plain : (bytes : List ℕ) → list_any is_control bytes ≡ false → map shown bytes ≡ bytes
@@ -26,35 +14,33 @@ shown_plain (b ∷ bytes) e =
     ap (λ (control : Bool). (if control then 63 else b) ∷ map shown bytes) p.0
     ∙ ap (λ (xs : List ℕ). b ∷ xs) (shown_plain bytes p.1)
 
--- a run and the question mark after it
-whole_run : (bytes : List ℕ) (from at : ℕ) → at < length bytes → is_control (get_or bytes at 0) ≡ true →
-    IsRun bytes from at →
-    map shown (take (at + 1) bytes) ≡ map shown (take from bytes) ++ (run bytes from at ++ (63 ∷ []))
-whole_run bytes from at below control e =
-    map_more shown bytes at 0 below
-    ∙ ap (λ (xs : List ℕ). xs ++ (shown (get_or bytes at 0) ∷ [])) e
-    ∙ append_assoc (map shown (take from bytes)) (run bytes from at) (shown (get_or bytes at 0) ∷ [])
-    ∙ ap (λ (x : ℕ). map shown (take from bytes) ++ (run bytes from at ++ (x ∷ [])))
-    (control_byte (get_or bytes at 0) control)
+-- the bytes before a place are those before another, and those between
+parts : (bytes : List ℕ) (from to : ℕ) → from ≤ to →
+    map shown (take to bytes) ≡ map shown (take from bytes) ++ map shown (take (to - from) (drop from bytes))
+parts bytes from to order =
+    let all : to ≡ from + (to - from) = omega (arith, order) in
+    ap (λ n. map shown (take n bytes)) all
+    ∙ ap (map shown) (take-add from (to - from) bytes)
+    ∙ map-append shown (take from bytes) (take (to - from) (drop from bytes))
 
--- it failed in a run
-pub broke_off_run : (a b c : Sink) (bytes : List ℕ) (from at : ℕ) → at < length bytes → is_control (get_or bytes at 0)
-    ≡ true → IsRun bytes from at →
-    Took a b (map shown (take from bytes)) → BrokeOff b c (run bytes from at ++ (63 ∷ [])) →
+-- it failed in a part
+pub broke_off_part : (a b c : Sink) (bytes : List ℕ) (from to : ℕ) → from ≤ to →
+    Took a b (map shown (take from bytes)) → BrokeOff b c (map shown (take (to - from) (drop from bytes))) →
     BrokeOff a c (map shown bytes)
-broke_off_run a b c bytes from at below control e p q =
-    subst (BrokeOff a c) (sym (map-append shown (take (at + 1) bytes) (drop (at + 1) bytes))
-    ∙ ap (map shown) (take-append-drop (at + 1) bytes))
-    (broke_off_more a c (map shown (take (at + 1) bytes)) (map shown (drop (at + 1) bytes))
-    (subst (BrokeOff a c) (sym (whole_run bytes from at below control e))
-    (broke_off_after a b c (map shown (take from bytes)) (run bytes from at ++ (63 ∷ [])) p q)))
+broke_off_part a b c bytes from to order p q =
+    subst (BrokeOff a c) (sym (map-append shown (take to bytes) (drop to bytes))
+    ∙ ap (map shown) (take-append-drop to bytes))
+    (broke_off_more a c (map shown (take to bytes)) (map shown (drop to bytes))
+    (subst (BrokeOff a c) (sym (parts bytes from to order))
+    (broke_off_after a b c (map shown (take from bytes)) (map shown (take (to - from) (drop from bytes))) p q)))
 
--- the last run
-pub shown_all : {T E : Type 0} (a b c : Sink) (bytes : List ℕ) (from : ℕ) (r : Result T E) →
-    IsRun bytes from (length bytes) →
-    Took a b (map shown (take from bytes)) → Prints b c (run bytes from (length bytes)) r →
-    Prints a c (map shown bytes) r
-shown_all a b c bytes from r e p q = grind (arith, take_all, prints_then)
+-- a part more went out
+pub shown_part : (a b c : Sink) (bytes : List ℕ) (from to : ℕ) → from ≤ to →
+    Took a b (map shown (take from bytes)) → Took b c (map shown (take (to - from) (drop from bytes))) →
+    Took a c (map shown (take to bytes))
+shown_part a b c bytes from to order p q =
+    subst (Took a c) (sym (parts bytes from to order))
+    (took_then a b c (map shown (take from bytes)) (map shown (take (to - from) (drop from bytes))) p q)
 
 or_overlap : (a b c : Bool) → ((a || b) || (b || c)) ≡ (a || (b || c))
 or_overlap a b c = grind arith

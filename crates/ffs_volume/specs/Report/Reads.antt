@@ -1,6 +1,6 @@
 -- The most reads that a check makes of an image. A read is of one block, of one chunk or Run of a
 -- directory, or of records that are together in the image.
-use Rattle.std.specs.Prelude.{ℕ, ◌+◌, ◌*◌, ◌/◌}
+use Rattle.std.specs.{Prelude.{ℕ, ◌+◌, ◌*◌, ◌/◌}, Int.div_ceil}
 use Rattle.ffs_volume.specs.{declared.{Layout.Layout, constants.TheConstants.MAXPATHLEN}, Report.Memory.runs_limit}
 
 -- the opening reads the superblock, and the last copy of it
@@ -35,9 +35,13 @@ line_reads = 2 * path_reads + 1
 abbrev pub pathname_reads : Layout → (lines : ℕ) → ℕ
 pathname_reads v lines = 4 * sweep_reads v + line_reads * lines
 
--- phase 5 reads the block and the summary record of each group
+-- how many summary records phase 5 reads at once: as many as a block of 4,096 bytes holds
+abbrev pub records_at_once : ℕ
+records_at_once = 256
+
+-- phase 5 reads the block of each group, and the summary records of all groups, so many at once
 abbrev pub group_reads : Layout → ℕ
-group_reads v = 2 * v.ncg
+group_reads v = v.ncg + div_ceil v.ncg records_at_once
 
 -- all phases read this often at most, where so many messages are printed in all: phase 1 goes over the
 -- inode tables, phase 1b over all inodes, and phases 3 and 4 read an inode for each message

@@ -1,4 +1,5 @@
-use Rattle.std.proofs.Common.{arith, ap, rules, ◌∙◌, ◌*◌}
+use Rattle.std.proofs.Common.{arith, ap, rules, sym, ◌∙◌, ◌*◌}
+use Rattle.ffs_workspace.specs.declared.table.Table.{Table}
 use Rattle.ffs_counts.{specs.Records.{first_read, records_read}, proofs.RecordPlaces.{record_there, records_inside}}
 use Rattle.ffs_counts.proofs.groups.read_summaries.Goals as goal
 
@@ -15,6 +16,9 @@ fill-requires g c =
 
 pub returns : goal.returns
 returns g c = record {
+  again = λ at. c.in_ok-fill.ensures.fills.again
+      (ap (λ (t : Table). t.window.place) c.forget.ensures ∙ at.starts ∙ sym c.summary_place-place.ensures)
+      (ap (λ (t : Table). t.window.length) c.forget.ensures ∙ at.length ∙ ap (λ n. 16 * n) (sym c.min-count.ensures));
   there = record_there c.args.geometry.now.layout (g.I.Image.device c.args.image.now).contents c.fill.new.self
       c.args.group c.requires.group (c.in_ok-fill.ensures.fills.place.0 ∙ c.summary_place-place.ensures)
       (c.in_ok-fill.ensures.fills.place.1 ∙ ap (λ n. 16 * n) c.min-count.ensures) (search rules);

@@ -7,7 +7,8 @@ use Rattle.ffs_report.proofs.Reporting.{stops_heading}
 use Rattle.ffs_workspace.specs.Found.{WithClaims}
 use Rattle.ffs_counts.{specs.Once.{reported_of, reported_after}, proofs.GroupText.{counts_held, free_of, groups_begin}}
 use Rattle.ffs_counts.proofs.GroupText.{groups_go_on, groups_end, lines_after, totals_next, totals_right, up_next}
-use Rattle.ffs_counts.proofs.{Holding.held_on, pass5.phase5.Goals.{After-are-right, In_ok-found}}
+use Rattle.ffs_counts.proofs.{GroupReads.{next_within, reads_next, reads_within, records_next}, Holding.held_on}
+use Rattle.ffs_counts.proofs.pass5.phase5.Goals.{After-are-right, In_ok-found}
 use Rattle.ffs_counts.proofs.pass5.phase5.Given as given
 use Rattle.ffs_counts.proofs.pass5.phase5.Goals as goal
 
@@ -69,7 +70,9 @@ loop-group-preserved g c =
         held = held_on w c.loop-group.workspace _ inv.stays.held c.in_ok-found.ensures.stays.held;
         ready = c.in_ok-found.ensures.stays.ready;
       };
-      reads = omega (arith, inv.reads, c.in_ok-found.ensures.counted);
+      reads = reads_next n _ _ _ inv.reads c.in_ok-found.ensures.counted
+          (λ more. c.in_ok-found.ensures.again (inv.records more));
+      records = records_next v _ n c.in_ok-found.ensures.records;
       up = up_next n c.loop-group.totals _ counts.result.summary inv.up c.add.ensures (omega (arith, counts.type_inv))
           (omega (arith, counts.type_inv)) (omega (arith, counts.type_inv)) (omega (arith, counts.type_inv));
       totals = totals_next v (free_of v w) (class_in w.kinds.items) n c.loop-group.totals _ _ inv.totals c.add.ensures
@@ -99,14 +102,22 @@ returns-clause-prints g c = record {
 
 pub returns-in_err-found-clause-reads : goal.returns-in_err-found-clause-reads
 returns-in_err-found-clause-reads g c =
-    omega (arith, c.loop-group.invariant.reads, c.in_err-found.ensures.counted, c.loop-group-test.true)
+    let inv = c.loop-group.invariant in
+    let found = c.in_err-found.ensures in
+    next_within c.loop-group.group _ _ _ _ c.loop-group-test.true inv.reads found.counted
+    (λ more. found.again (inv.records more))
 
 pub returns-in_err-say_group-clause-reads : goal.returns-in_err-say_group-clause-reads
 returns-in_err-say_group-clause-reads g c =
-    omega (arith, c.loop-group.invariant.reads, c.in_ok-found.ensures.counted, c.loop-group-test.true)
+    let inv = c.loop-group.invariant in
+    let found = c.in_ok-found.ensures in
+    next_within c.loop-group.group _ _ _ _ c.loop-group-test.true inv.reads found.counted
+    (λ more. found.again (inv.records more))
 
 pub returns-in_err-say_unless-clause-reads : goal.returns-in_err-say_unless-clause-reads
-returns-in_err-say_unless-clause-reads g c = omega (arith, c.loop-group.invariant.reads, c.loop-group.auto.group-end)
+returns-in_err-say_unless-clause-reads g c =
+    omega (arith, c.loop-group.invariant.reads, reads_within c.loop-group.group _ c.loop-group.auto.group-end)
 
 pub returns-clause-reads : goal.returns-clause-reads
-returns-clause-reads g c = omega (arith, c.loop-group.invariant.reads, c.loop-group.auto.group-end)
+returns-clause-reads g c =
+    omega (arith, c.loop-group.invariant.reads, reads_within c.loop-group.group _ c.loop-group.auto.group-end)

@@ -1,10 +1,12 @@
-use Rattle.std.proofs.Common.{◌≡◌, ◌+◌, ◌*◌, ◌≤◌, ◌∷◌}
+use Rattle.std.proofs.Common.{◌≡◌, ◌+◌, ◌%◌, ◌≤◌, ◌∷◌}
 use Rattle.ffs_volume.specs.{Messages.Kinds.phase5 as phase5_heading, Report.Whole.group_check_lines}
+use Rattle.ffs_volume.specs.Report.Reads.{records_at_once}
 use Rattle.ffs_layout.specs.Super.{superblock_in}
 use Rattle.ffs_report.specs.{PhaseOutcome.SaidOf, Progress.progress}
 use Rattle.ffs_groups.specs.Inodes.{class_in}
 use Rattle.ffs_workspace.specs.{Found.WithClaims, Ready.StaysReady}
 use Rattle.ffs_counts.{specs.{Once.reported_of, Totals.{AreUpTo, AreTotals}}, proofs.GroupText.{free_of, lines_after}}
+use Rattle.ffs_counts.{specs.Records.IsAtRecords, proofs.GroupReads.reads_below}
 use Rattle.ffs_counts.proofs.pass5.phase5.Given as goal
 
 abbrev pub invariant-loop-group : goal.invariant-loop-group
@@ -14,7 +16,8 @@ invariant-loop-group g l =
     record {
       device : g.I.Image.device l.image ≡ g.I.Image.device l.fn.image;
       stays : StaysReady v (g.I.Image.device l.image) w l.workspace;
-      reads : g.I.Image.reads l.image ≤ g.I.Image.reads l.fn.image + 2 * l.group;
+      reads : g.I.Image.reads l.image ≤ g.I.Image.reads l.fn.image + reads_below l.group;
+      records : (l.group % records_at_once ≡ 0 → ⊥) → IsAtRecords v l.workspace.windows.table.window l.group;
       up : AreUpTo l.group l.totals;
       totals : AreTotals v (free_of v w) (class_in w.kinds.items) l.group l.totals;
       said : SaidOf (WithClaims v (g.I.Image.device l.fn.image) w)
