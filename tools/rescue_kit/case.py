@@ -22,12 +22,14 @@ def load_reports():
 
 
 REPORTS = load_reports()
-SECONDS = 60
 # What each row may use without naming it: to look, to make the further copy, and to check it.
 GENERAL = {"names", "inode", "further", "place", "check", "keep", "number-of"}
 
-
 Entry = namedtuple("Entry", "byte number length type name_length name")
+
+
+class NotHere(Exception):
+    """A damage that this kind of volume can't have."""
 
 
 class Wrong(Exception):
@@ -53,17 +55,17 @@ class Case:
         for path in paths:
             self.stakes[path] = (name, data)
 
-    def write(self, image=None):
+    def write(self):
         with open(f"{self.place}/copy.img", "wb") as it:
-            it.write(self.volume.image if image is None else image)
+            it.write(self.volume.image)
 
     def report(self, *kinds, words=()):
         """Checks the damaged image: its messages, among which must be one of each of these kinds."""
         self.write()
         return self.check_again(*kinds, words=words)
 
-    def check_again(self, *kinds, words=(), name="copy.img"):
-        run = subprocess.run([self.program, "-n", *words, name], cwd=self.place, capture_output=True, check=False)
+    def check_again(self, *kinds, words=()):
+        run = subprocess.run([self.program, "-n", *words, "copy.img"], cwd=self.place, capture_output=True, check=False)
         found = REPORTS.parse(run.stdout.decode("utf-8", "surrogateescape"))
         messages = found.get("messages", [])
         for message in messages:
@@ -80,13 +82,10 @@ class Case:
         """Runs recipes of the page in one shell, and keeps what they save. The result: what they print, and whether they end with 0."""
         names = recipes.split()
         self.named += " " + recipes
-        script = [self.page.recipe("setup")]
-        script += [f"{name}='{value}'\n" for name, value in {**self.sizes(), **variables}.items()]
-        script += [self.page.recipe(name) for name in names]
         for name in ("saved", "rest"):
             if os.path.exists(f"{self.place}/{name}"):
                 os.remove(f"{self.place}/{name}")
-        run = subprocess.run(["sh", "-c", "".join(script)], cwd=self.place, capture_output=True, timeout=SECONDS, check=False)
+        run = self.page.run(recipes, {**self.sizes(), **variables}, self.place)
         text = run.stdout.decode("utf-8", "surrogateescape")
         self.texts.append(text)
         self._collect(run.stdout)

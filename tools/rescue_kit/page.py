@@ -1,7 +1,9 @@
 """The recipes of docs/READING.md. In its blocks of shell a comment `# name: what it does` after a command names that command; a block whose
 first line is such a comment is a recipe as a whole."""
 import re
+import subprocess
 
+SECONDS = 60
 NAMED = re.compile(r"(?:^|\s)# ([a-z]+(?:-[a-z]+)*): ")
 
 
@@ -37,6 +39,12 @@ class Page:
     def recipe(self, name):
         self.used.add(name)
         return self.recipes[name]
+
+    def run(self, recipes, variables, place):
+        """Runs recipes in one shell, after those variables are set and the page's functions are pasted."""
+        script = [self.recipe("setup"), *[f"{name}='{value}'\n" for name, value in variables.items()]]
+        script += [self.recipe(name) for name in recipes.split()]
+        return subprocess.run(["sh", "-c", "".join(script)], cwd=place, capture_output=True, timeout=SECONDS, check=False)
 
     def rows_of(self, kind):
         """The rows of a message: those whose first column has its words, in their order."""

@@ -2,6 +2,7 @@
 import os
 import random
 import subprocess
+from collections.abc import Callable
 from dataclasses import dataclass
 
 SEED = 20261128
@@ -35,19 +36,36 @@ def make_tree(top):
     os.mkfifo(f"{top}/pipe")
 
 
+def make_large_tree(top):
+    """The same tree, and a file with a double indirect block, where blocks have 4,096 bytes."""
+    make_tree(top)
+    with open(f"{top}/big/archive", "wb") as it:
+        it.write(random.Random(SEED).randbytes((12 + 1024 + 6) * 4096 + 100) + b"\1")
+
+
 @dataclass
 class Kind:
-    """A kind of volume: its byte order, and the size and words that makefs takes. Each has many small cylinder groups."""
+    """A kind of volume: its byte order, the size and words that makefs takes, how its tree is made, and a word of the damages that it has."""
 
     order: str
     size: str
     words: str
+    fill: Callable = make_tree
+    only: str = ""
 
-    def make(self, top, name):
-        subprocess.run(["makefs", "-t", "ffs", "-B", self.order, "-s", self.size, "-o", self.words, name, top], check=True, capture_output=True)
+    def make(self, place):
+        """The bytes of a volume, made in that folder. Each has many small cylinder groups."""
+        self.fill(f"{place}/tree")
+        subprocess.run(["makefs", "-t", "ffs", "-B", self.order, "-s", self.size, "-o", self.words, f"{place}/image", f"{place}/tree"],
+                       check=True, capture_output=True)
+        with open(f"{place}/image", "rb") as it:
+            return it.read()
 
 
+SMALL = "version=1,bsize=4096,fsize=512,density=4096,maxbpcg=100"
 KINDS = [
-    Kind("le", "4m", "version=1,bsize=4096,fsize=512,density=4096,maxbpcg=100"),
+    Kind("le", "4m", SMALL),
     Kind("be", "8m", "version=1,bsize=8192,fsize=1024,density=8192,maxbpcg=100"),
+    Kind("le", "12m", SMALL, make_large_tree, "large file"),
+    Kind("be", "12m", SMALL, make_large_tree, "large file"),
 ]

@@ -1,5 +1,5 @@
 """Damaged inodes: modes, sizes, addresses, indirect blocks."""
-from ..case import fragments_of, number_of
+from ..case import NotHere, fragments_of, number_of
 from .all import damage
 
 WILD = 0x0BADF00D
@@ -233,6 +233,30 @@ def word_bad(case):
 def word_zero(case):
     damage_word(case, 17, 0)
     mend_word(case, case.report("INCORRECT BLOCK COUNT").first("INCORRECT BLOCK COUNT")["inode"], 0)
+
+
+def double_of(case):
+    """The inode of the large file, and its double indirect block."""
+    if "big/archive" not in case.tree:
+        raise NotHere
+    i = case.volume.find("big/archive")
+    case.at_stake("big/archive")
+    return i, case.volume.inode(i)["double"]
+
+
+@damage("the address of a large file's double indirect block became 0")
+def double_address_zero(case):
+    case.volume.put_inode(double_of(case)[0], double=0)
+    i = case.report("INCORRECT BLOCK COUNT").first("INCORRECT BLOCK COUNT")["inode"]
+    mend(case, i, "address", k=13, f=first_lost(case))
+
+
+@damage("a large file's double indirect block became zeros")
+def double_zeroed(case):
+    volume = case.volume
+    volume.zero(double_of(case)[1] * volume.layout.fsize, volume.layout.bsize)
+    i = case.report("INCORRECT BLOCK COUNT").first("INCORRECT BLOCK COUNT")["inode"]
+    case.run("further word check", b=fragments_of(case.run("inode", i=i))[13], k=0, f=first_lost(case))
 
 
 @damage("a file got the address of another one's block")
