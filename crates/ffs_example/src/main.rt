@@ -1,6 +1,8 @@
 //! The check as a library: an image that lies in memory is checked, its report is kept in memory
-//! too, and both are printed with how the check ended.
+//! too, and both are printed with how the check ended. Then the same is done part by part.
 #![tactic(auto)]
+
+mod parts;
 
 use ffs::{Args, Counted, End, MemoryImage, check};
 use std::{fs, io};
@@ -25,7 +27,8 @@ fn main(rt: HostRuntime) -> io::Result<()> {
 
     println!(rt; "{}, status {}", verdict(&end), end.status())?;
     println!(rt; "The report has {} bytes:", report.len())?;
-    rt.stdout().write_all(report.as_slice())
+    rt.stdout().write_all(report.as_slice())?;
+    parts::print(&rt, &args, &mut image, report.as_slice())
 }
 
 /// What the end of a check says, in a word.
