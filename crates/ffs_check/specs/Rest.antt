@@ -12,7 +12,7 @@ use Rattle.ffs_volume.specs.{Blocks.BlockCheck.{has_rescan, phase1_lines}, Direc
 use Rattle.ffs_volume.specs.{Directories.PathnameCheck.continues_after_root, Report.Reads.sweep_reads}
 use Rattle.ffs_volume.specs.Report.Whole.{rescan_lines, group_check_lines, summary_of, file_count, claimed_count}
 use Rattle.ffs_volume.specs.Report.Whole.{run_count}
-use Rattle.ffs_workspace.specs.{declared.workspace.Workspace.Workspace, Holds.{HoldsClaims, HoldsStarts}, Ready.IsReady}
+use Rattle.ffs_workspace.specs.{declared.workspace.Workspace.Workspace, Holds.HoldsClaims, Ready.IsReady}
 use Rattle.ffs_claims.specs.{Phases.IsLeftByPhase1, RescanRuns.rescan_runs}
 
 -- what each phase reports, with its heading
@@ -78,7 +78,7 @@ pub record HasAnswers (v : Layout) (bytes : List ℕ) (old new : Workspace) : Ty
 pub record Rescans (v : Layout) (d d' : Device) (w w' : Workspace) (old new : Progress) (before after : ℕ)
     (result : Result (Unit {0}) RunFault) : Type 0 where
   pub prints : PhaseOutcome (WithLeftByPhase1 v d w) (λ bytes. rescan_lines v bytes) d d' old new result
-  pub holds : OnOk result (ForBytes (WithLeftByPhase1 v d w) (λ bytes. HoldsClaims v bytes w' × HoldsStarts v bytes w'))
+  pub holds : OnOk result (ForBytes (WithLeftByPhase1 v d w) (λ bytes. HoldsClaims v bytes w'))
   pub answers : OnOk result (ForBytes (WithLeftByPhase1 v d w) (λ bytes. HasAnswers v bytes w w'))
   pub seen : w'.runs_seen ≡ w.runs_seen
   pub reads : after ≤ before + sweep_reads v

@@ -19,6 +19,7 @@ use Rattle.ffs_volume.specs.declared.BlockMessage.TheVariants.{ManyBad, PartTrun
 use Rattle.ffs_volume.specs.declared.{BlockMessage.TheVariants.BlockCount, Class.{Class, TheVariants.Partial}}
 use Rattle.ffs_volume.specs.declared.{Class.TheVariants.Unknown, Layout.Layout, Step.{Step, TheVariants.{Run, Tail}}}
 use Rattle.ffs_volume.specs.declared.Step.TheVariants.{Gap}
+use Rattle.ffs_workspace.proofs.Leaving.{counts_unsurveyed}
 use Rattle.ffs_workspace.specs.Holds.{marked_by_phase1_at, all_claims, HoldsPhase1, HoldsClaims, has_blame}
 use Rattle.ffs_workspace.specs.{Lengths.{set_count, inodes_of}, declared.workspace.Workspace.Workspace}
 use Rattle.ffs_claims.proofs.Numbers.{before_first}
@@ -243,6 +244,7 @@ no_rescan v image w none h = record {
   used = h.used;
   kinds = h.kinds;
   notes = h.notes;
+  counts = counts_unsurveyed v image w h.unsurveyed (record { starts = h.starts });
   marked = λ x. h.marked x ∙ sym (or-false (marked_by_phase1_at v image x))
       ∙ ap (λ b. marked_by_phase1_at v image x || b) (sym (silent x)) ∙ sym (marked_total v image x);
 }

@@ -116,7 +116,7 @@ found_next {v = v} {bytes = bytes} {u = u} {w = w} {n = n} low high m now stored
     }
 
 pub found_all : {v : Layout} {bytes : List ℕ} {w : Workspace} {n : ℕ} → inodes_of v ≤ n →
-    claims_of w ≡ all_claims v bytes → FoundTo v bytes w n → HoldsPhase1 v bytes w
+    claims_of w ≡ all_claims v bytes → FoundTo v bytes w n → HoldsPhase1 v bytes (record w { surveyed = false })
 unfolding kind_at marked_by_phase1_at start_at
 found_all {v = v} {bytes = bytes} {n = n} past all found = record {
   used = ap (λ s. s.used) all;
@@ -126,4 +126,5 @@ found_all {v = v} {bytes = bytes} {n = n} past all found = record {
   marked = filled_end v false (marked_by_phase1_at v bytes) _ n past (λ x out. rw out refl) found.marked;
   notes = filled_end v 0 (note_at v bytes) _ n past (note_out v bytes) found.notes;
   starts = filled_end v 0 (start_at v bytes) _ n past (λ x out. rw out refl) found.starts;
+  unsurveyed = refl;
 }

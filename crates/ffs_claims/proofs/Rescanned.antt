@@ -13,7 +13,8 @@ use Rattle.ffs_volume.specs.Encodings.{Replay.{fresh_replay, cut_of, cut_at}, Re
 use Rattle.ffs_volume.specs.{Laws.Geometry.IsAcceptedLayout, Report.Whole.run_count, declared.Layout.Layout}
 use Rattle.ffs_volume.specs.declared.Step.{Step, TheVariants.Run}
 use Rattle.ffs_maps.specs.Bits.{bits_of}
-use Rattle.ffs_workspace.{proofs.NoteLaws.cut_is_noted, specs.Holds.{all_claims, HoldsPhase1, HoldsStarts, HoldsClaims}}
+use Rattle.ffs_workspace.proofs.{Leaving.counts_unsurveyed, NoteLaws.cut_is_noted}
+use Rattle.ffs_workspace.specs.Holds.{all_claims, HoldsPhase1, HoldsStarts, HoldsClaims}
 use Rattle.ffs_workspace.specs.{Lengths.inodes_of, Notes.cut_in, declared.workspace.Workspace.Workspace}
 use Rattle.ffs_claims.proofs.{Duplicates.marked_total, Numbers.{before_end, is_inside}, RescanCounts.looked_both}
 use Rattle.ffs_claims.proofs.{RescanCounts.{runs_leave, inode_again}, StepsContinue.range_more}
@@ -181,7 +182,14 @@ outside v bytes x = known (is_inode_number v x) _ (λ q. blames_none_of x
     past : (v : Layout) (x : ℕ) → is_inode_number v x ≡ false → 2 ≤ x → 2 + (inodes_of v - 2) ≤ x
     past v x q high = grind (arith, nat_tests)
 
--- all offers are gone over: the workspace holds the claims
+-- all offers are gone over: the workspace holds where counts of references start
+pub starts_hold : (v : Layout) (bytes : List ℕ) (old new : Workspace) → HoldsPhase1 v bytes old → RescanKeeps old new →
+    HoldsStarts v bytes new
+starts_hold v bytes old new h same = record {
+  starts = λ x. ap (λ k. slice_index k.items x) same.references ∙ h.starts x;
+}
+
+-- and the claims
 pub claims_hold : (v : Layout) (bytes : List ℕ) (old new : Workspace) → HoldsPhase1 v bytes old → RescanKeeps old new →
     OffersReported (kept_in_owners v (no_claims v) (owners_of v bytes)) old new → HoldsClaims v bytes new
 unfolding all_claims phase1b_lines
@@ -190,11 +198,5 @@ claims_hold v bytes old new h same t = record {
   kinds = λ x. ap (λ k. slice_index k.items x) same.kinds ∙ h.kinds x;
   notes = λ x. ap (λ k. slice_index k.items x) same.notes ∙ h.notes x;
   marked = λ x. grind (arith, outside, marked_total);
-}
-
--- and where counts of references start
-pub starts_hold : (v : Layout) (bytes : List ℕ) (old new : Workspace) → HoldsPhase1 v bytes old → RescanKeeps old new →
-    HoldsStarts v bytes new
-starts_hold v bytes old new h same = record {
-  starts = λ x. ap (λ k. slice_index k.items x) same.references ∙ h.starts x;
+  counts = counts_unsurveyed v bytes new (same.surveyed ∙ h.unsurveyed) (starts_hold v bytes old new h same);
 }

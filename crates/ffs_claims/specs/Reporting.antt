@@ -22,12 +22,14 @@ pub record OffersReported (offers : List Offer) (old new : Workspace) : Type 0 w
       || list_any (blames x) (first_offer_lines (bits_of old.duplicates) offers))
 
 -- a call left alone what phase 1b never changes: the used fragments, what each inode is, what is noted
--- of it, where its count of references starts, the Runs of phase 1, and what `has_dups` answers
+-- of it, where its count of references starts, that nothing is surveyed, the Runs of phase 1, and what
+-- `has_dups` answers
 pub record RescanKeeps (old new : Workspace) : Type 0 where
   pub used : new.used ≡ old.used
   pub kinds : new.kinds ≡ old.kinds
   pub notes : new.notes ≡ old.notes
   pub references : new.references ≡ old.references
+  pub surveyed : new.surveyed ≡ old.surveyed
   pub seen : new.runs_seen ≡ old.runs_seen
   pub dups : new.found_dups ≡ old.found_dups
 

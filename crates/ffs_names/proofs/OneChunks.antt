@@ -93,14 +93,17 @@ chunks_of_one v a b g some inside = rw (one_replayed v a b g some inside, inside
 pub begins_at_chunk : {q : Geometry} {a : ℕ} {c : Chunks} → IsAcceptedLayout q.layout → (a == 0) ≡ false →
     is_run_in_range q.layout a 1 ≡ true → c.walk.geometry ≡ q → IsOver c.walk → ((b : List ℕ) → cursor_chunks
     c.walk.geometry.layout b c.run_cursor ≡ run_chunks (reading_by c.walk.geometry.layout b 512) a 1 (0 *
-    c.walk.geometry.layout.bsize)) → c.run_cursor.next ≡ 0 → c.budget ≡ 1 → c.gap ≡ false → BeginsAtChunk q a c
-begins_at_chunk {q = q} {a = a} {c = c} g some inside same over found first budget gap =
+    c.walk.geometry.layout.bsize)) → c.run_cursor.next ≡ 0 → c.budget ≡ 1 → c.runs ≡ 1 → c.gap ≡ false →
+    BeginsAtChunk q a c
+begins_at_chunk {q = q} {a = a} {c = c} g some inside same over found first budget runs gap =
     let v = q.layout in
     let top : IsAtTop c.walk = record { single = over.single; double = over.double; triple = over.triple } in
     record {
       geometry = same;
       chunks = λ b. rw (budget, found b, over_rest b c.walk over, same)
           (ap (take 1) (sym (chunks_of_one v a b g some inside)) ∙ all_taken v (one_chunk_at a) b 0 g);
+      runs = runs;
+      runs_left = λ b. over_runs b c.walk c.walk.geometry.layout c.keeping.cut (replay_in c.keeping) over;
       gap = gap;
       gap_left = λ b. ap (gap_after c) (over_rest b c.walk over)
           ∙ sym (ap has_gap (one_replayed v a b g some inside));

@@ -17,6 +17,7 @@ use Rattle.ffs_volume.specs.Directories.{Graph.reached, Climb.is_value, Parents.
 use Rattle.ffs_volume.specs.Directories.{Roles.{role_of, roled_chunk, roled_entries, roled_from}, Volumes.volume_of}
 use Rattle.ffs_volume.specs.Directories.Volumes.{volume_with}
 use Rattle.ffs_walk.specs.declared.{blocks.Blocks.Blocks, window.Window.Window}
+use Rattle.ffs_workspace.proofs.Leaving.{counts_same}
 use Rattle.ffs_workspace.proofs.PlaceLaws.{any_naming-roled, name_in-after, name_in-among, name_in-roled}
 use Rattle.ffs_workspace.specs.{Holds.{HoldsClaims, HoldsSurvey}, Lengths.inodes_of, Ready.IsReady}
 use Rattle.ffs_workspace.specs.Places.{entries_in_chunk, is_due, name_in, place_in, place_of, ArePlaces}
@@ -236,7 +237,7 @@ places_after {v = v} {b = b} {w = w} {p = p} survey noted children right x q k t
     go false e = right x q k (sym (children.others x e) ∙ there) is
     go true e =
         let parts = and_parts (slice_index w.parents.items x == p) (not (x == 2)) e in
-        let up : q ≡ p = sym (survey.parents x ∙ ap (λ (o : Option ℕ). unwrap_or o 0) is)
+        let up : q ≡ p = sym (survey.tree.parents x ∙ ap (λ (o : Option ℕ). unwrap_or o 0) is)
         ∙ eqb-true (slice_index w.parents.items x) p parts.0 in
         let dir = parent_dir (graph_of (volume_of v b)) x p (not-true (x == 2) parts.1) (is ∙ ap Some up) in
         elim ((noted dir).places x k there) [
@@ -266,11 +267,20 @@ set_same f ws i word low same x = elim (cases_eq x i) [
 pub survey_noted : {v : Layout} {b : List ℕ} {old new : Workspace} →
     new ≡ record old { windows = new.windows; queue = new.queue } → HoldsSurvey v b old →
     ArePlaces v b new.queue.items → HoldsSurvey v b new
-survey_noted e h right = grind arith
+survey_noted e h right = rw e (record {
+  tree = record { named = h.tree.named; reached = h.tree.reached; parents = h.tree.parents };
+  places = rw e at right;
+})
 
 pub claims_noted : {v : Layout} {b : List ℕ} {old new : Workspace} →
     new ≡ record old { windows = new.windows; queue = new.queue } → HoldsClaims v b old → HoldsClaims v b new
-claims_noted e h = rw e (record { used = h.used; kinds = h.kinds; marked = h.marked; notes = h.notes })
+claims_noted {v = v} {b = b} {old = old} e h = rw e (record {
+  used = h.used;
+  kinds = h.kinds;
+  marked = h.marked;
+  notes = h.notes;
+  counts = counts_same v b old _ refl refl refl refl refl h.counts;
+})
 
 -- a workspace is ready after its table, windows of chunks and queue were used
 pub ready_noted : {v : Layout} {d d'' : Device} {w : Workspace} {table : Table} {blocks : Blocks} {chunk : Window}
@@ -357,7 +367,7 @@ coming_noted {v = v} {b = b} {w = w} {mid = mid} {new = new} {d = d} old survey 
     x p under = go (cases_eq p d)
   where
     up : slice_index w.parents.items x ≡ p
-    up = survey.parents x ∙ ap (λ (o : Option ℕ). unwrap_or o 0) under.up
+    up = survey.tree.parents x ∙ ap (λ (o : Option ℕ). unwrap_or o 0) under.up
 
     before : IsNoted v b mid x ⊎ ((place_in (slice_index mid x) ≡ 0) × (is_due (slice_index old p) ≡ true))
     before = elim (coming x p under) [ inl is ↦ inl (noted_still (same x) is) | inr w ↦ inr (same x ∙ w.0, w.1) ]
@@ -412,7 +422,7 @@ parent_is_dir {v = v} {b = b} {p = p} survey under =
     go (parent (graph_of (volume_of v b)) under.child) refl
   where
     found : (o : Option ℕ) → parent (graph_of (volume_of v b)) under.child ≡ o → unwrap_or o 0 ≡ p
-    found o e = ap (λ (o : Option ℕ). unwrap_or o 0) (sym e) ∙ (sym (survey.parents under.child) ∙ under.parent_is)
+    found o e = ap (λ (o : Option ℕ). unwrap_or o 0) (sym e) ∙ (sym (survey.tree.parents under.child) ∙ under.parent_is)
 
     other : (under.child == 2) ≡ false
     other = let above = under.after_root in grind (arith, nat_tests)

@@ -1,10 +1,13 @@
 -- A survey fills a workspace.
-use Rattle.std.proofs.Common.{◌≡◌, ◌∙◌, ◌+◌, ◌≤◌, ℕ, Bool, List, Option, Some, None, IfNone, ap, arith, length, min}
-use Rattle.std.proofs.{Common.{slice_index, sym}, lemmas.Bool.and_parts}
+use Rattle.std.proofs.Common.{◌≡◌, ◌∙◌, ◌+◌, ◌≤◌, ℕ, Bool, true, List, Option, Some, None, IfNone, ap, arith, length, min}
+use Rattle.std.proofs.{Common.{slice_index, sym, refl}, lemmas.Bool.{and_parts, both_ways}}
+use Rattle.std.specs.Result.{is_ok}
+use Rattle.std.specs.Prelude.{Result, Ok, Err, OnOk}
 use Rattle.ffs_volume.specs.{declared.Layout.Layout, Encodings.Kinds.kind_at, Directories.Parents.graph_of}
 use Rattle.ffs_volume.specs.Directories.{Roles.roled_entries, Volumes.{volume_of, volume_with}}
 use Rattle.ffs_volume.specs.Encodings.Links.{start_at}
-use Rattle.ffs_workspace.specs.{Holds.{HoldsReferences, HoldsStarts, HoldsSurvey}, Lengths.inodes_of, Places.ArePlaces}
+use Rattle.ffs_workspace.specs.{Holds.{HoldsClaims, HoldsCounts, HoldsReferences, HoldsStarts}, Lengths.inodes_of}
+use Rattle.ffs_workspace.specs.{Holds.HoldsTree, Leaves.LeavesBlockCheck}
 use Rattle.ffs_workspace.specs.declared.workspace.Workspace.{Workspace}
 use Rattle.ffs_survey.specs.{Calm.AreCalm, SurveyLaws.references_is, Survey.{graph_with, most_start, references_to}}
 use Rattle.ffs_survey.specs.Survey.{IsSurvey}
@@ -24,12 +27,12 @@ pub volume_survey : (t : Base) (b kinds : List ℕ) {starts counts : List ℕ} {
 unfolding volume_of volume_with
 volume_survey t b kinds n k s = grind (arith, kind_dirs, survey_same)
 
--- lists that hold the survey of a volume
-pub holds_survey : (v : Layout) (b : List ℕ) (w : Workspace) (starts counts : List ℕ) (flags marks : List Bool)
+-- lists that hold what a survey of a volume finds of each inode
+pub holds_tree : (v : Layout) (b : List ℕ) (w : Workspace) (starts counts : List ℕ) (flags marks : List Bool)
     (parents : List ℕ) → w.named.items ≡ flags → w.reached.items ≡ marks → w.parents.items ≡ parents
-    → ArePlaces v b w.queue.items → IsSurvey (graph_of (volume_of v b)) starts counts flags marks parents → HoldsSurvey v b w
+    → IsSurvey (graph_of (volume_of v b)) starts counts flags marks parents → HoldsTree v b w
 unfolding volume_of volume_with
-holds_survey v b w starts counts flags marks parents f m u noted s = grind arith
+holds_tree v b w starts counts flags marks parents f m u s = grind arith
 
 -- no start is past the greatest one
 start_low : (v : Layout) (b : List ℕ) (x : ℕ) → start_at v b x ≤ most_start
@@ -48,6 +51,19 @@ holds_references v b old new {starts = starts} e c h s = record {
       ap (λ xs. slice_index xs x) c ∙ s.counts x l ∙ ap (λ k. k + references_to (graph_of (volume_of v b)) x) low
       ∙ ap (λ k. start_at v b x + k) (references_is (volume_of v b) x);
 }
+
+-- the claims are held still, and what the survey found with them
+pub holds_claims : (v : Layout) (b : List ℕ) (old new : Workspace) → LeavesBlockCheck old new → new.surveyed ≡ true →
+    HoldsReferences v b new → HoldsTree v b new → HoldsClaims v b old → HoldsClaims v b new
+holds_claims v b old new same surveyed references tree h =
+    let counts : HoldsCounts v b new =
+    record { before = λ e. absurd (both_ways new.surveyed e surveyed); after = λ _. (references, tree) } in
+    grind (arith, ap)
+
+-- a fact of an Ok answer, known to be one
+pub on_ok_is : {T E : Type 0} (r : Result T E) (P Q : Type 0) → (is_ok r ≡ true → P → Q) → OnOk r P → OnOk r Q
+on_ok_is (Ok x) P Q f h = f refl h
+on_ok_is (Err e) P Q f h = h
 
 -- flags of a survey of a volume
 pub volume_calm : (t : Base) (b kinds : List ℕ) (marked marks : List Bool) (parents : List ℕ) (flags : List Bool) →

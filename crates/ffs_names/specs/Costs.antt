@@ -49,11 +49,13 @@ pub record BeginsByClass (g : Geometry) (inode : Inode) (class : Class) (cut : �
   pub begins : class ≡ class_of g.layout inode → BeginsAt g.layout inode cut c
   pub reads : BeginsReads g c
 
--- a reading begins of a directory of one chunk, at an address in a volume of this geometry; its Run is
--- seen already
+-- a reading begins of a directory of one chunk, at an address in a volume of this geometry; its only Run
+-- is seen already
 pub record BeginsAtChunk (g : Geometry) (address : ℕ) (c : Chunks) : Type 0 where
   pub geometry : c.walk.geometry ≡ g
   pub chunks : (b : List ℕ) → rest b c ≡ chunks_in g.layout b (one_chunk_at address) 0
+  pub runs : c.runs ≡ 1
+  pub runs_left : (b : List ℕ) → runs_left b c ≡ 0
   pub gap : c.gap ≡ false
   pub gap_left : (b : List ℕ) → gap_left b c
       ≡ has_gap (replayed_steps g.layout 0 fresh_replay (steps_of g.layout (one_chunk_at address) b))

@@ -5,7 +5,7 @@ use Rattle.ffs_volume.specs.{declared.Layout.Layout, Directories.{Roles.roled_en
 use Rattle.ffs_survey.specs.Calm.{AreCalm}
 use Rattle.ffs_names.specs.RightShapes.{is_right_directory}
 use Rattle.ffs_workspace.specs.{declared.workspace.Workspace.Workspace, Leaves.LeavesBlockCheck, Ready.IsReady}
-use Rattle.ffs_workspace.specs.Holds.{HoldsReferences, HoldsStarts, HoldsSurvey}
+use Rattle.ffs_workspace.specs.Holds.{HoldsClaims, HoldsReferences, HoldsSurvey}
 
 -- what a survey leaves: the workspace is ready for the next call, and the image was only read
 pub record LeavesClaims {T : Type 0} (v : Layout) (d d' : Device) (old new : Workspace) (result : Result T ImageFault) :
@@ -19,9 +19,10 @@ pub record FlagsCalm (v : Layout) (b : List ℕ) (w : Workspace) : Type 0 where
   pub calm : AreCalm w.kinds.items w.marked.items w.reached.items w.parents.items (roled_entries (volume_of v b))
       (is_right_directory (volume_of v b)) w.flags.items
 
--- what a survey finds is held, references are counted on from where they start, if the starts were held,
--- and only calm directories have a flag
-pub record IsSurveyed (v : Layout) (b : List ℕ) (old new : Workspace) : Type 0 where
-  pub survey : HoldsSurvey v b new
-  pub references : HoldsStarts v b old → HoldsReferences v b new
-  pub calm : FlagsCalm v b new
+-- what a survey finds is held: also how often each inode is referred to, counted once. The claims are
+-- held still, so that another survey finds the same; and only calm directories have a flag
+pub record IsSurveyed (v : Layout) (b : List ℕ) (w : Workspace) : Type 0 where
+  pub survey : HoldsSurvey v b w
+  pub references : HoldsReferences v b w
+  pub claims : HoldsClaims v b w
+  pub calm : FlagsCalm v b w

@@ -275,7 +275,8 @@ fn bytes_read(size: u64) -> u64
 
 /// Does nothing: its contract is the fact that a reading of a directory looks at no more Runs than
 /// the block check sees in it. `Chunks::start` and `Chunks::next` bound its count by the Runs of
-/// the replay, and these are as many.
+/// the replay, and these are as many. `Chunks::restart_at` counts the only Run of its directory, and
+/// no other is left.
 pub fn runs_are_seen()
     ensures { RunsAreSeen }
 {}

@@ -1,6 +1,6 @@
 //! The survey of a volume's directories.
 
-ghost use Rattle.std.specs.Prelude.{◌+◌, ◌≤◌, OnOk};
+ghost use Rattle.std.specs.Prelude.{◌≡◌, ◌+◌, ◌≤◌, false, OnOk};
 ghost use Rattle.ffs_image.specs.Device.{ForContents};
 ghost use Rattle.ffs_workspace.specs.{Ready.IsReady, Holds.HoldsClaims};
 ghost use Rattle.ffs_names.specs.{Surveys.{IsSurveyed, LeavesClaims}, Costs.{directories_cost, SweepsOnce}};
@@ -12,7 +12,7 @@ use ffs_layout::Geometry;
 use ffs_survey::{KnownInodes, NumberLists};
 use ffs_workspace::{Workspace, sweep_reads};
 
-/// What `survey` does, with as many reads as the image asks for.
+/// What the first survey does, with as many reads as the image asks for.
 ///
 /// # Errors
 /// A read of the image that failed.
@@ -21,10 +21,11 @@ fn survey_all<I: Image>(
     image: &mut I,
     workspace: &mut Workspace,
 ) -> Result<(), ImageFault>
-    requires { IsReady geometry.now.layout (I.device image.old) workspace.old }
+    requires ready { IsReady geometry.now.layout (I.device image.old) workspace.old }
+    requires first { workspace.old.surveyed ≡ false }
     ensures survey { OnOk result (ForContents (I.device image.old).contents
         (λ b. HoldsClaims geometry.now.layout b workspace.old
-        → IsSurveyed geometry.now.layout b workspace.old workspace.new)) }
+        → IsSurveyed geometry.now.layout b workspace.new)) }
     ensures reads { ForContents (I.device image.old).contents
         (λ b. HoldsClaims geometry.now.layout b workspace.old
         → I.reads image.new ≤ I.reads image.old + directories_cost geometry.now.layout b) }
@@ -58,6 +59,7 @@ fn survey_all<I: Image>(
     );
     // No place of a parent entry is noted yet.
     workspace.queue.fill(0);
+    workspace.surveyed = surveyed.is_ok();
     surveyed
 }
 
@@ -66,6 +68,9 @@ fn survey_all<I: Image>(
 /// `flags` then has the calm directories, of which nothing can be reported, and `queue` notes no
 /// place. The windows change too. What phase 1 left (claims, kinds, marks, notes, counts of Runs)
 /// stays as it was.
+///
+/// Another survey of the workspace, also after later phases, leaves the same: what the first one
+/// found stands, so it reads nothing and counts no reference twice. It calls no directory calm.
 ///
 /// # Errors
 /// A read of the image that failed.
@@ -78,13 +83,19 @@ pub fn survey<I: Image>(
     requires { IsReady geometry.now.layout (I.device image.old) workspace.old }
     ensures survey { OnOk result (ForContents (I.device image.old).contents
         (λ b. HoldsClaims geometry.now.layout b workspace.old
-        → IsSurveyed geometry.now.layout b workspace.old workspace.new)) }
+        → IsSurveyed geometry.now.layout b workspace.new)) }
     ensures reads { SweepsOnce geometry.now.layout (I.device image.old).contents
         (λ b. HoldsClaims geometry.now.layout b workspace.old) (I.reads image.old)
         (I.reads image.new) }
     ensures leaves { LeavesClaims geometry.now.layout (I.device image.old) (I.device image.new)
         workspace.old workspace.new result }
 {
+    if workspace.surveyed {
+        // Other phases may have used both lists since.
+        workspace.flags.fill(false);
+        workspace.queue.fill(0);
+        return Ok(());
+    }
     let mut limited = LimitedImage::new(image, sweep_reads(geometry));
     let surveyed = survey_all(geometry, &mut limited, workspace);
     if limited.is_spent() {

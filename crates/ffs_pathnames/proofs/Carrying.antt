@@ -35,11 +35,6 @@ pub if_both : {T E : Type 0} (r : Result T E) (P Q R : T → Type 0) → ((x : T
 if_both (Ok x) P Q R f p q = f x p q
 if_both (Err e) P Q R f p q = tt
 
--- a survey leaves what the block check found
-pub claims_untouched : (v : Layout) (b : List ℕ) (old new : Workspace) → LeavesBlockCheck old new → HoldsClaims v b old →
-    HoldsClaims v b new
-claims_untouched v b old new s h = grind (arith, ap)
-
 -- references are counted where their list stays
 pub references_on : (v : Layout) (b : List ℕ) (old new : Workspace) → new.references ≡ old.references →
     HoldsReferences v b old → HoldsReferences v b new

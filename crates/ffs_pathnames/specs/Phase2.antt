@@ -7,23 +7,23 @@ use Rattle.ffs_volume.specs.{Messages.Kinds.phase2, Report.Reads.{line_reads, pa
 use Rattle.ffs_report.specs.{Known.ForBytes, Paid.Paid, Progress.{Progress, Said}, declared.fault.RunFault.RunFault}
 use Rattle.ffs_report.specs.declared.fault.RunFault.TheVariants.{Read, Out}
 use Rattle.ffs_workspace.specs.{declared.workspace.Workspace.Workspace, Found.WithClaims, Places.AreChunksNumbered}
-use Rattle.ffs_workspace.specs.Holds.{HoldsClaims, HoldsReferences, HoldsStarts, HoldsSurvey}
+use Rattle.ffs_workspace.specs.Holds.{HoldsClaims, HoldsReferences, HoldsSurvey}
 use Rattle.ffs_pathnames.specs.{RootAnswers.is_go, declared.pass2.Root.Root}
 
 -- the check continues after the root as the image's bytes say, and the workspace holds what the block
--- check and the survey found; where it held the starts of counts, it holds the counts of references
-pub record IsLeftByPhase2 (v : Layout) (bytes : List ℕ) (root : Root) (old new : Workspace) : Type 0 where
+-- check and the survey found, with the counts of references
+pub record IsLeftByPhase2 (v : Layout) (bytes : List ℕ) (root : Root) (w : Workspace) : Type 0 where
   pub goes : is_go root ≡ continues_after_root (volume_of v bytes)
-  pub claims : HoldsClaims v bytes new
-  pub survey : HoldsSurvey v bytes new
-  pub references : HoldsStarts v bytes old → HoldsReferences v bytes new
+  pub claims : HoldsClaims v bytes w
+  pub survey : HoldsSurvey v bytes w
+  pub references : HoldsReferences v bytes w
 
 -- what phase 2 leaves at Ok; where a read failed, that the heading alone was said, or that the check
 -- continues after the root
 abbrev pub Phase2Ends : Layout → Device → (w w' : Workspace) → (old new : Progress) → Result Root RunFault →
     Type 0
 Phase2Ends v d w w' old new (Ok root) =
-    ForBytes (WithClaims v d w) (λ bytes. IsLeftByPhase2 v bytes root w w')
+    ForBytes (WithClaims v d w) (λ bytes. IsLeftByPhase2 v bytes root w')
 Phase2Ends v d w w' old new (Err (Read fault)) = Said old new (phase2 ∷ [])
     ⊎ ForBytes (WithClaims v d w) (λ bytes. continues_after_root (volume_of v bytes) ≡ true)
 Phase2Ends v d w w' old new (Err (Out fault)) = ⊤

@@ -107,8 +107,8 @@ pub kept_parent_is : (v : Layout) (b : List ℕ) (w : Workspace) (s : KeptParent
     IsNameIn (graph_of (volume_of v b)) s.child s.parent (name_bytes s.name) → IsKeptParent (graph_of (volume_of v b)) s
 kept_parent_is v b w s survey of path name =
     let g = graph_of (volume_of v b) in
-    let l = reached-level g s.child (sym (survey.reached s.child) ∙ of.reached) in
-    let above = parent_is g l.0 s.child s.parent l.1 (omega (arith, of.below)) (of.is ∙ survey.parents s.child) in
+    let l = reached-level g s.child (sym (survey.tree.reached s.child) ∙ of.reached) in
+    let above = parent_is g l.0 s.child s.parent l.1 (omega (arith, of.below)) (of.is ∙ survey.tree.parents s.child) in
     record {
       path = λ some. path;
       parent = λ some. of.some;

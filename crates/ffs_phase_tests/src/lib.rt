@@ -18,3 +18,5 @@ mod pathnames;
 mod paths;
 #[cfg(test)]
 mod places;
+#[cfg(test)]
+mod surveys;

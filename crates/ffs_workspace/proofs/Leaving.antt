@@ -1,8 +1,9 @@
 -- What a workspace holds is held by one with the same findings.
-use Rattle.std.proofs.Common.{arith, ◌≡◌, ℕ, List}
+use Rattle.std.proofs.{Common.{arith, ◌≡◌, ℕ, List, false}, lemmas.Bool.both_ways}
 use Rattle.ffs_volume.specs.declared.Layout.{Layout}
-use Rattle.ffs_workspace.specs.{declared.workspace.Workspace.Workspace, Holds.{HoldsClaims, HoldsFindings}}
-use Rattle.ffs_workspace.specs.{Holds.{HoldsReferences, HoldsSurvey}, Leaves.{LeavesBlockCheck, LeavesSurvey}}
+use Rattle.ffs_workspace.specs.{declared.workspace.Workspace.Workspace, Holds.{HoldsClaims, HoldsCounts, HoldsFindings}}
+use Rattle.ffs_workspace.specs.{Holds.{HoldsReferences, HoldsStarts, HoldsSurvey, HoldsTree}}
+use Rattle.ffs_workspace.specs.Leaves.{LeavesBlockCheck, LeavesSurvey}
 
 pub leaves_all : (w : Workspace) → LeavesSurvey w w
 leaves_all w = grind arith
@@ -31,13 +32,35 @@ queue_leaves old new e = grind arith
 pub windows_leave : (old new : Workspace) → new ≡ record old { windows = new.windows } → LeavesSurvey old new
 windows_leave old new e = grind arith
 
+-- nothing is surveyed: counts of references are where they start
+pub counts_unsurveyed : (v : Layout) (b : List ℕ) (w : Workspace) → w.surveyed ≡ false → HoldsStarts v b w → HoldsCounts v b w
+counts_unsurveyed v b w e h = record { before = λ _. h; after = λ t. absurd (both_ways w.surveyed e t) }
+
+-- references, as far as they are counted, where what they stand in is as it was
+pub counts_same : (v : Layout) (b : List ℕ) (old new : Workspace) → new.references ≡ old.references →
+    new.surveyed ≡ old.surveyed → new.named ≡ old.named → new.reached ≡ old.reached → new.parents ≡ old.parents →
+    HoldsCounts v b old → HoldsCounts v b new
+counts_same v b old new references surveyed named reached parents h = record {
+  before = λ e. record { starts = λ x. rw references ((h.before (rw surveyed at e)).starts x) };
+  after = λ e. let found = h.after (rw surveyed at e) in (
+    record { counts = λ x l. rw references (found.0.counts x l) },
+    record {
+      named = λ x l. rw named (found.1.named x l);
+      reached = λ x. rw reached (found.1.reached x);
+      parents = λ x. rw parents (found.1.parents x);
+    },
+  );
+}
+
 pub claims_left : (v : Layout) (b : List ℕ) (old new : Workspace) → LeavesSurvey old new → HoldsClaims v b old →
     HoldsClaims v b new
-claims_left v b old new s h = grind arith
+claims_left v b old new s h =
+    let counts = counts_same v b old new s.references s.surveyed s.named s.reached s.parents h.counts in grind arith
 
 pub survey_left : (v : Layout) (b : List ℕ) (old new : Workspace) → LeavesSurvey old new → HoldsSurvey v b old →
     HoldsSurvey v b new
-survey_left v b old new s h = grind arith
+survey_left v b old new s h =
+    record { tree = let tree : HoldsTree v b old = h.tree in grind arith; places = s.places v b h.places }
 
 pub references_left : (v : Layout) (b : List ℕ) (old new : Workspace) → LeavesSurvey old new →
     HoldsReferences v b old → HoldsReferences v b new

@@ -4,7 +4,7 @@ use Rattle.std.specs.Prelude.{◌≡◌, ℕ, List, Some}
 use Rattle.ffs_image.specs.Device.{Device}
 use Rattle.ffs_volume.specs.declared.Layout.{Layout}
 use Rattle.ffs_workspace.specs.declared.workspace.Workspace.{Workspace}
-use Rattle.ffs_workspace.specs.Holds.{IsFresh, HoldsPhase1, HoldsClaims, HoldsFindings, HoldsStarts, HoldsSurvey}
+use Rattle.ffs_workspace.specs.Holds.{IsFresh, HoldsPhase1, HoldsClaims, HoldsFindings, HoldsSurvey}
 
 -- the image gives the bytes, and the workspace holds nothing yet
 abbrev pub WithFresh : Layout → Device → Workspace → List ℕ → Type 0
@@ -17,10 +17,6 @@ WithPhase1 v d w bytes = (d.contents ≡ Some bytes) × HoldsPhase1 v bytes w
 -- it holds what the block check found
 abbrev pub WithClaims : Layout → Device → Workspace → List ℕ → Type 0
 WithClaims v d w bytes = (d.contents ≡ Some bytes) × HoldsClaims v bytes w
-
--- it holds this, and where counts of references start
-abbrev pub WithStarts : Layout → Device → Workspace → List ℕ → Type 0
-WithStarts v d w bytes = (d.contents ≡ Some bytes) × HoldsClaims v bytes w × HoldsStarts v bytes w
 
 -- it holds what the block check and the survey found
 abbrev pub WithSurvey : Layout → Device → Workspace → List ℕ → Type 0

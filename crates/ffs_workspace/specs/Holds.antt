@@ -1,5 +1,5 @@
 -- What a workspace holds between the phases.
-use Rattle.std.specs.Prelude.{◌≡◌, ◌<◌, ◌+◌, ℕ, Bool, false, not, ◌&&◌, ◌||◌, ◌==◌, List, if◌then◌else◌, replicate}
+use Rattle.std.specs.Prelude.{◌≡◌, ◌<◌, ◌+◌, ℕ, Bool, false, true, not, ◌&&◌, ◌||◌, ◌==◌, List, if◌then◌else◌, replicate}
 use Rattle.std.specs.{Prelude.slice_index, Option.unwrap_or}
 use Rattle.ffs_volume.specs.{declared.Layout.Layout, Blocks.{Inodes.{inode_of, class_of, is_unknown}, Owners.owner_of}}
 use Rattle.ffs_volume.specs.Blocks.{Owners.owners_of, Claims.{Claims, no_claims, after_owner, after_owners}}
@@ -50,7 +50,7 @@ all_claims v image = after_owners v (no_claims v) (owners_of v image)
 
 -- what phase 1 leaves: the fragments that are reserved or claimed, those with a DUP line, how many
 -- Runs were seen, and for each inode its kind, whether it is marked so far, what is noted of it,
--- and where its count of references starts
+-- and where its count of references starts. Nothing is surveyed yet
 pub record HoldsPhase1 (v : Layout) (image : List ℕ) (w : Workspace) : Type 0 where
   pub used : bits_of w.used ≡ (all_claims v image).used
   pub dup : bits_of w.duplicates ≡ (all_claims v image).dup
@@ -59,14 +59,7 @@ pub record HoldsPhase1 (v : Layout) (image : List ℕ) (w : Workspace) : Type 0 
   pub marked : (x : ℕ) → bool_at w.marked.items x ≡ marked_by_phase1_at v image x
   pub notes : (x : ℕ) → slice_index w.notes.items x ≡ note_at v image x
   pub starts : (x : ℕ) → slice_index w.references.items x ≡ start_at v image x
-
--- what phases 1 and 1b leave: the fragments that are reserved or claimed, and for each inode its
--- kind, whether it is marked, and what is noted of it
-pub record HoldsClaims (v : Layout) (image : List ℕ) (w : Workspace) : Type 0 where
-  pub used : bits_of w.used ≡ (all_claims v image).used
-  pub kinds : (x : ℕ) → slice_index w.kinds.items x ≡ kind_at v image x
-  pub marked : (x : ℕ) → bool_at w.marked.items x ≡ marked_at v image x
-  pub notes : (x : ℕ) → slice_index w.notes.items x ≡ note_at v image x
+  pub unsurveyed : w.surveyed ≡ false
 
 -- what phases 1 and 1b leave for the survey: where the count of references of each inode starts
 pub record HoldsStarts (v : Layout) (image : List ℕ) (w : Workspace) : Type 0 where
@@ -78,12 +71,32 @@ pub record HoldsReferences (v : Layout) (image : List ℕ) (w : Workspace) : Typ
       → slice_index w.references.items x ≡ start_at v image x + references (volume_of v image) x
 
 -- what the survey leaves of each inode: whether a plain entry names it, whether it is reached from the
--- root, and its parent, or 0 for none. Each place that is noted in `queue` is that of a parent entry
-pub record HoldsSurvey (v : Layout) (image : List ℕ) (w : Workspace) : Type 0 where
+-- root, and its parent, or 0 for none
+pub record HoldsTree (v : Layout) (image : List ℕ) (w : Workspace) : Type 0 where
   pub named : (x : ℕ) → x < inodes_of v → bool_at w.named.items x ≡ is_named (graph_of (volume_of v image)) x
   pub reached : (x : ℕ) → bool_at w.reached.items x ≡ reached (graph_of (volume_of v image)) x
   pub parents : (x : ℕ) → slice_index w.parents.items x ≡ unwrap_or (parent (graph_of (volume_of v image)) x) 0
+
+-- and each place that is noted in `queue` is that of a parent entry
+pub record HoldsSurvey (v : Layout) (image : List ℕ) (w : Workspace) : Type 0 where
+  pub tree : HoldsTree v image w
   pub places : ArePlaces v image w.queue.items
+
+-- before the survey each count of references is where it starts; what the survey has found stays,
+-- so that a second one needn't count again
+pub record HoldsCounts (v : Layout) (image : List ℕ) (w : Workspace) : Type 0 where
+  pub before : w.surveyed ≡ false → HoldsStarts v image w
+  pub after : w.surveyed ≡ true → HoldsReferences v image w × HoldsTree v image w
+
+-- what phases 1 and 1b leave, and all phases after them keep: the fragments that are reserved or
+-- claimed, and for each inode its kind, whether it is marked, what is noted of it, and how often it is
+-- referred to, as far as that is counted
+pub record HoldsClaims (v : Layout) (image : List ℕ) (w : Workspace) : Type 0 where
+  pub used : bits_of w.used ≡ (all_claims v image).used
+  pub kinds : (x : ℕ) → slice_index w.kinds.items x ≡ kind_at v image x
+  pub marked : (x : ℕ) → bool_at w.marked.items x ≡ marked_at v image x
+  pub notes : (x : ℕ) → slice_index w.notes.items x ≡ note_at v image x
+  pub counts : HoldsCounts v image w
 
 -- what the block check and the survey leave for the check of reference counts
 pub record HoldsFindings (v : Layout) (image : List ℕ) (w : Workspace) : Type 0 where

@@ -28,6 +28,7 @@ pub record LeavesSurvey (old new : Workspace) : Type 0 where
   pub named : new.named ≡ old.named
   pub reached : new.reached ≡ old.reached
   pub parents : new.parents ≡ old.parents
+  pub surveyed : new.surveyed ≡ old.surveyed
   pub runs_seen : new.runs_seen ≡ old.runs_seen
   pub runs_again : new.runs_again ≡ old.runs_again
   pub places : (v : Layout) (b : List ℕ) → ArePlaces v b old.queue.items → ArePlaces v b new.queue.items

@@ -113,6 +113,7 @@ returns-clause-leaves g c = λ bytes k.
         marked = holds.marked;
         notes = holds.notes;
         starts = holds.starts;
+        unsurveyed = refl;
       };
       dups = c.has_unreported_dups-workspace.ensures ∙ ap any_set holds.dup ∙ rescan_is c.args.geometry.now.layout bytes;
       count = holds.runs;

@@ -1,9 +1,9 @@
 use Rattle.std.proofs.Common.{◌∙◌, ◌≡◌, ◌*◌, ℕ, List, Some, length, ap, subst, sym, rules, arith, slice_index}
 use Rattle.std.proofs.lemmas.List.{with_items_is}
-use Rattle.ffs_volume.{proofs.{Results.on_ok, Sizes.some_inodes}, specs.Encodings.Kinds.kind_at}
+use Rattle.ffs_volume.{proofs.Sizes.some_inodes, specs.Encodings.Kinds.kind_at}
 use Rattle.ffs_workspace.{proofs.PlaceLaws.filled_noted, specs.{Holds.HoldsClaims, Tables.IsTableOf}}
-use Rattle.ffs_names.{specs.Readers.{Base, KnowsReader}, proofs.SurveyHolds.{volume_survey, holds_survey, volume_calm}}
-use Rattle.ffs_names.proofs.{SurveyHolds.{holds_calm, holds_references}, surveying.survey_all.Goals.After-survey-surveyed}
+use Rattle.ffs_names.{specs.Readers.{Base, KnowsReader}, proofs.SurveyHolds.{volume_survey, holds_claims, holds_tree, volume_calm}}
+use Rattle.ffs_names.proofs.{SurveyHolds.{holds_calm, holds_references, on_ok_is}, surveying.survey_all.Goals.After-survey-surveyed}
 use Rattle.ffs_names.proofs.surveying.survey_all.Given as given
 use Rattle.ffs_names.proofs.surveying.survey_all.Goals as goal
 
@@ -49,7 +49,7 @@ returns-clause-leaves g c =
     }
 
 pub returns-clause-survey : goal.returns-clause-survey
-returns-clause-survey g c = on_ok c.survey-surveyed.result _ _ (λ s b t h.
+returns-clause-survey g c = on_ok_is c.survey-surveyed.result _ _ (λ ok s b t h.
     let at = (goal.at.returns-clause-survey g c).After-survey-surveyed in
     let v = c.args.geometry.now.layout in
     let w = c.args.workspace.now in
@@ -60,10 +60,17 @@ returns-clause-survey g c = on_ok c.survey-surveyed.result _ _ (λ s b t h.
     let found = s b (known g at b t h) in
     let survey = volume_survey (base g at) b c.deref-2.result.now {counts = counts} (search rules) (kinds g at b h)
     found.survey in
+    let begun = h.counts.before c.requires.first in
+    let named = with_items_is w.named n.named (search rules) in
     record {
-      survey = holds_survey v b _ _ counts n.named n.reached parents (with_items_is w.named n.named (search rules)) reached
-          (search rules) (filled_noted _ _ _ _ c.fill.ensures.items) survey;
-      references = λ starts. holds_references v b w _ (search rules) (search rules) starts survey;
+      survey = record {
+        tree = holds_tree v b _ _ counts n.named n.reached parents named reached (search rules) survey;
+        places = filled_noted _ _ _ _ c.fill.ensures.items;
+      };
+      references = holds_references v b w _ (search rules) (search rules) begun survey;
+      claims = holds_claims v b w _ (search rules) (c.is_ok-workspace.ensures.value ∙ ok)
+          (holds_references v b w _ (search rules) (search rules) begun survey)
+          (holds_tree v b _ _ counts n.named n.reached parents named reached (search rules) survey) h;
       calm = holds_calm v b _ c.deref-2.result.now c.deref-3.result.now n.reached parents n.calm
           (sym c.deref-2.ensures.value) (sym c.deref-3.ensures.value) reached (search rules)
           (with_items_is w.flags n.calm (search rules))
@@ -79,5 +86,5 @@ returns-clause-reads g c = λ b t h.
     let v = c.args.geometry.now.layout in
     let image = c.image-1.given.1 (sym (ap (λ x. x.image_lent) c.survey-surveyed.ensures.leaves.same)) in
     let at = (goal.at.returns-clause-reads g c).After-survey-surveyed in
-    let all : length c.deref-2.result.now ≡ v.ncg * v.ipg = omega (arith, c.deref-2.ensures.len, c.requires.made.kinds) in
+    let all : length c.deref-2.result.now ≡ v.ncg * v.ipg = omega (arith, c.deref-2.ensures.len, c.requires.ready.made.kinds) in
     rw image (rw all at (c.survey-surveyed.ensures.leaves.counted b (known g at b t h)))

@@ -6,11 +6,11 @@ use Rattle.ffs_report.{proofs.Paying.{paid_said, paid_text, paid_then}, specs.{K
 use Rattle.ffs_report.specs.declared.fault.RunFault.{RunFault, TheVariants.{Read, Out}}
 use Rattle.ffs_volume.{specs.{Messages.Kinds.phase2, declared.Layout.Layout}, proofs.RunBounds.runs_bounded}
 use Rattle.ffs_pathnames.specs.{declared.pass2.Root.Root, Before.IsBefore, Phase2.Phase2Ends, RootAnswers.AnswersRoot}
-use Rattle.ffs_pathnames.proofs.{Carrying.{claims_untouched, before_first, references_on}, SilentLaws.calm_silent}
+use Rattle.ffs_pathnames.proofs.{Carrying.{before_first, references_on}, SilentLaws.calm_silent}
 use Rattle.ffs_pathnames.proofs.pass2.phase2.{Given.Over, Goals.After-check_tree}
 use Rattle.ffs_names.proofs.RunSums.{costs_bounded}
 use Rattle.ffs_workspace.specs.{declared.workspace.Workspace.Workspace, Found.WithClaims, Holds.HoldsClaims}
-use Rattle.ffs_workspace.specs.Holds.{HoldsReferences, HoldsStarts, HoldsSurvey}
+use Rattle.ffs_workspace.specs.Holds.{HoldsReferences, HoldsSurvey}
 use Rattle.ffs_workspace.proofs.Leaving.{block_check_kept, block_check_left, block_check_more}
 use Rattle.ffs_pathnames.proofs.pass2.phase2.Goals as goal
 
@@ -22,7 +22,7 @@ before_tree g c b t h =
     let v = c.args.geometry.now.layout in
     let found = c.in_ok-survey.ensures in
     let clear = c.clear_passed.ensures in
-    let claims = claims_untouched v b _ _ found.leaves.same h in
+    let claims = (found.survey b t h).claims in
     before_first v _ b _ _ (ap (λ d. d.contents) found.leaves.read ∙ t) claims (found.survey b t h).survey
     (clear.ready v _ found.leaves.ready).made clear
     (calm_silent v b _ c.args.geometry.now.sound found.leaves.ready.made claims (found.survey b t h).survey
@@ -31,7 +31,7 @@ before_tree g c b t h =
 -- the phase ends as the check of the tree does
 ends_by : (v : Layout) (d d' : Device) (old w new : Workspace) (before after : Progress) (r : Result Root RunFault) →
     ForBytes (WithClaims v d old) (IsBefore v d'.contents w 2) →
-    ForBytes (WithClaims v d old) (λ b. HoldsStarts v b old → HoldsReferences v b new) → AnswersRoot v d' w r →
+    ForBytes (WithClaims v d old) (λ b. HoldsReferences v b new) → AnswersRoot v d' w r →
     OnOk r (ForBytes (IsBefore v d'.contents w 2) (λ b. HoldsClaims v b new × HoldsSurvey v b new)) →
     Phase2Ends v d old new before after r
 ends_by v d d' old w new before after (Ok root) more references answer holds = grind arith
@@ -72,8 +72,8 @@ returns-clause-leaves g c =
     ends_by v (g.I.Image.device c.args.image.now) (g.I.Image.device c.survey.new.image) _ c.clear_passed.new.workspace _
     _ _ c.check_tree.result
     (λ b k. before_tree g (goal.at.returns-clause-leaves g c).After-check_tree b k.0 k.1)
-    (λ b k starts. references_on v b _ _ (tree.references ∙ c.clear_passed.ensures.survey.references)
-    ((c.in_ok-survey.ensures.survey b k.0 k.1).references starts)) c.check_tree.ensures.root tree.holds
+    (λ b k. references_on v b _ _ (tree.references ∙ c.clear_passed.ensures.survey.references)
+    (c.in_ok-survey.ensures.survey b k.0 k.1).references) c.check_tree.ensures.root tree.holds
 
 pub check_tree-requires : goal.check_tree-requires
 check_tree-requires g c = c.clear_passed.ensures.ready _ _ c.in_ok-survey.ensures.leaves.ready

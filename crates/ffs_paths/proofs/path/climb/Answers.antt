@@ -54,7 +54,7 @@ up-preserved g c =
           subst (λ n. HoldsNames c.push_front.new.self (n ∷ following)) name (c.push_front.ensures following held));
       counted = λ b knows.
           let t = ap (λ d. d.contents) i.reads.read ∙ knows.gives_bytes in
-          let l = reached-level _ c.args.dir (sym (knows.survey.reached c.args.dir) ∙ c.requires.reached) in
+          let l = reached-level _ c.args.dir (sym (knows.survey.tree.reached c.args.dir) ∙ c.requires.reached) in
           let way = i.path b knows.gives_bytes knows.claims knows.survey l.0 l.1 in
           let noted = noted_here way.left c.up.at knows i.reads.lists way.level c.if-at-eq-ROOTINO.false in
           climb_more c.as_slice.result.now (i.counted b knows) c.if-path.false (found.leaves.counted b t noted)
@@ -66,7 +66,7 @@ pub returns-in_err-find_name-clause-leaves : goal.returns-in_err-find_name-claus
 returns-in_err-find_name-clause-leaves g c = let i = c.up.invariant in record {
   reads = grind (arith, reads_then);
   counted = λ b knows.
-      let l = reached-level _ c.args.dir (sym (knows.survey.reached c.args.dir) ∙ c.requires.reached) in
+      let l = reached-level _ c.args.dir (sym (knows.survey.tree.reached c.args.dir) ∙ c.requires.reached) in
       let way = i.path b knows.gives_bytes knows.claims knows.survey l.0 l.1 in
       let h = i.counted b knows in
       few_more (few_then h.few

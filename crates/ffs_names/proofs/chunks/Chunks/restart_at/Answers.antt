@@ -9,4 +9,4 @@ returns-clause-begins c =
     begins_at_chunk c.args.self.now.walk.geometry.sound some (sym c.in_range.ensures ∙ c.if-not-in_range.false)
     c.end_walk.ensures.geometry
     (record { single = over.single; double = over.double; triple = over.triple; top = over.top })
-    c.of_run-self.ensures.chunks c.of_run-self.ensures.first refl refl
+    c.of_run-self.ensures.chunks c.of_run-self.ensures.first refl refl refl

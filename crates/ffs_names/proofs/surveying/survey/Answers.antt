@@ -1,0 +1,32 @@
+use Rattle.std.proofs.Common.{◌≡◌, ◌∙◌, ℕ, zero, suc, false, refl, replicate, rules}
+use Rattle.std.proofs.lemmas.List.{with_items_is}
+use Rattle.ffs_workspace.proofs.{Leaving.counts_same, PlaceLaws.filled_noted}
+use Rattle.ffs_survey.{proofs.CalmLaws.calm_none, specs.Survey.bool_at}
+use Rattle.ffs_names.proofs.surveying.survey.Goals as goal
+
+none_set : (n x : ℕ) → bool_at (replicate n false) x ≡ false
+none_set zero x = refl
+none_set (suc n) zero = refl
+none_set (suc n) (suc x) = none_set n x
+
+-- what an earlier survey found stands
+pub returns-then-workspace-clause-survey : goal.returns-then-workspace-clause-survey
+returns-then-workspace-clause-survey g c = λ b t h.
+    let w = c.args.workspace.now in
+    let found = h.counts.after c.if-workspace.true in
+    let flags = with_items_is w.flags c.fill.new.self (search rules) ∙ c.fill.ensures.after (λ y same. same) in
+    record {
+      survey = record {
+        tree = record { named = found.1.named; reached = found.1.reached; parents = found.1.parents };
+        places = filled_noted _ _ _ _ c.fill-then-workspace.ensures.items;
+      };
+      references = record { counts = found.0.counts };
+      claims = record {
+        used = h.used;
+        kinds = h.kinds;
+        marked = h.marked;
+        notes = h.notes;
+        counts = counts_same _ b w _ refl refl refl refl refl h.counts;
+      };
+      calm = record { calm = calm_none _ _ _ (λ x. rw flags (none_set _ x)) };
+    }
