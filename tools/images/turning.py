@@ -38,6 +38,7 @@ class Reads:
         self.marks = bytearray(len(image))
         self.blocks = {}
         self.structures = {}
+        self.chunks = set()
         self.clashes = False
 
     def mark(self, place, pattern):
@@ -132,7 +133,10 @@ def _inode(reads, layout, i):
             size = 512 if inode.size < 24 else cover(inode.size, 512) * 512
             end = min(at + run.length * layout.fsize, at + size - run.block * layout.bsize)
             for chunk in range(at, end, formats.CHUNK_BYTES):
-                _chunk(reads, layout, chunk)
+                # Directories may share a block: its entries are the same for each.
+                if chunk not in reads.chunks:
+                    reads.chunks.add(chunk)
+                    _chunk(reads, layout, chunk)
 
 
 def _chunk(reads, layout, place):
