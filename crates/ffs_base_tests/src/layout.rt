@@ -85,22 +85,16 @@ fn first_sectors(rt: HostRuntime) -> Result<(), Fail> {
     Ok(())
 }
 
-/// The superblock of the base image with these numbers in the places.
+/// The superblock of the base image, of so many bytes, with these numbers in it.
 fn found_with(
     sector: Option<u32>,
-    numbers: &[(usize, u64)],
+    numbers: &[Number],
     size: usize,
     alloc: Global,
 ) -> Result<Super, Fail> {
     let mut bytes = base(Order::Little, alloc)?;
     bytes.resize(size, 0)?;
-    for &(place, number) in numbers {
-        put(
-            Order::Little,
-            bytes.as_mut_slice(),
-            &[(8192usize.saturating_add(place), 4, number)],
-        );
-    }
+    put(Order::Little, bytes.as_mut_slice(), numbers);
     let mut image = MemoryImage::new(bytes);
     Ok(read_super(&mut image, sector)?)
 }
@@ -117,7 +111,8 @@ static SETTINGS: [(u64, u64, bool); 5] = [
 #[test]
 fn settings(rt: HostRuntime) -> Result<(), Fail> {
     for &(optim, minfree, defects) in &SETTINGS {
-        let found = found_with(None, &[(128, optim), (60, minfree)], 131072, rt.alloc())?;
+        let numbers = [(8192 + 128, 4, optim), (8192 + 60, 4, minfree)];
+        let found = found_with(None, &numbers, 131072, rt.alloc())?;
         same(&rt, &found.opening_defects(), &defects);
     }
     let found = found_with(None, &[], 131072, rt.alloc())?;
@@ -127,7 +122,14 @@ fn settings(rt: HostRuntime) -> Result<(), Fail> {
 }
 
 /// Two groups, the second of them moved by four fragments.
-static TWO_GROUPS: [(usize, u64); 6] = [(36, 250), (40, 201), (44, 2), (24, 4), (28, 0), (176, 2)];
+static TWO_GROUPS: [Number; 6] = [
+    (8192 + 36, 4, 250),
+    (8192 + 40, 4, 201),
+    (8192 + 44, 4, 2),
+    (8192 + 24, 4, 4),
+    (8192 + 28, 4, 0),
+    (8192 + 176, 4, 2),
+];
 
 /// Where the areas of the second group begin, and the places of what is in it and of the root; none
 /// where there are not two groups of 32 inodes.

@@ -44,20 +44,24 @@ const UNREF_TEXT: &[u8] =
 const DUPLICATES: &[u8] =
     b"0 DUP I=0\n1 DUP I=0\n12 DUP I=4294967295\n9 DUP I=4294967295\n123 DUP I=4294967294\n4294967295 DUP I=2\n1234 DUP I=2\nEXCESSIVE DUP BLKS I=2\nCONTINUE? yes\n\n1234 DUP I=3\n12345 DUP I=34\n123456 DUP I=345\n1234567 DUP I=3456\n12345678 DUP I=34567\n123456789 DUP I=345678\n1234567890 DUP I=3456789\n10 DUP I=34567890\n1000000000 DUP I=345678901\n4294967294 DUP I=34\n";
 
-/// Whether a report of a line alone succeeds, whether the line is a defect, and its bytes.
-fn said(line: &Line<'_>, alloc: Global) -> (bool, bool, Vec<u8>) {
-    let mut written = Vec::new(alloc);
-    let mut out = Counted::new(&mut written);
-    let mut report = Report::new(&mut out);
+/// Whether a report of a line alone succeeds, and whether the line is a defect.
+fn say_alone<W: Output>(line: &Line<'_>, out: &mut W) -> (bool, bool) {
+    let mut report = Report::new(out);
     let is_said = report.say(line).is_ok();
-    let is_defect = report.any_defect();
-    (is_said, is_defect, written)
+    (is_said, report.any_defect())
+}
+
+/// The same, and the line's bytes.
+fn said(line: &Line<'_>, alloc: Global) -> ((bool, bool), Vec<u8>) {
+    let mut written = Vec::new(alloc);
+    let found = say_alone(line, &mut Counted::new(&mut written));
+    (found, written)
 }
 
 /// Says a line, and compares its bytes and whether it is a defect.
 fn says(rt: &(impl Abort + AllocGlobal), line: &Line<'_>, defect: bool, text: &[u8]) {
-    let (is_said, is_defect, written) = said(line, rt.alloc());
-    same(rt, &(is_said, is_defect), &(true, defect));
+    let (found, written) = said(line, rt.alloc());
+    same(rt, &found, &(true, defect));
     same(rt, &written.as_slice(), &text);
 }
 
@@ -695,18 +699,21 @@ fn reports_references(rt: HostRuntime) {
     say_all(&rt, &REFERENCES);
 }
 
-/// Whether each of two calls is refused and no defect was said, how many writes failed, and what
-/// was written, where a writer takes this many bytes.
+/// Whether each of two calls is refused, and no defect was said.
+fn say_twice<W: Output>(line: &Line<'_>, out: &mut W) -> [bool; 3] {
+    let mut report = Report::new(out);
+    [
+        report.say(line).is_err(),
+        report.say(line).is_err(),
+        !report.any_defect(),
+    ]
+}
+
+/// The same where a writer takes this many bytes, how many writes failed, and what was written.
 fn stopped(bytes: u64, alloc: Global) -> ([bool; 3], u64, Vec<u8>) {
     let mut writer = FuseWriter::new(Vec::new(alloc), bytes);
     let mut out = Counted::new(&mut writer);
-    let mut report = Report::new(&mut out);
-    let line = Line::Reference(UNREF);
-    let found = [
-        report.say(&line).is_err(),
-        report.say(&line).is_err(),
-        !report.any_defect(),
-    ];
+    let found = say_twice(&Line::Reference(UNREF), &mut out);
     let failures = out.failures();
     (found, failures, writer.into_inner())
 }

@@ -5,7 +5,7 @@ ghost use Rattle.std.specs.Prelude.{◌≡◌, IfOk, vec_len};
 use crate::compare::same;
 use ffs_image::ImageFault;
 use ffs_memory::{FilledList, Memory, SystemMemory};
-use ffs_samples::numbers;
+use ffs_samples::{numbers, set_first_filled};
 use ffs_survey::{
     Directories, EntryHead, KnownInodes, NumberLists, Surveyed, flag_leaders, is_dead, is_dir,
     is_suspect, is_unref, survey,
@@ -129,18 +129,14 @@ static NAMED: [bool; 8] = [false, false, false, true, true, true, true, false];
 
 static REACHED: [bool; 8] = [false, false, true, true, false, false, false, false];
 
+static STARTS: [u64; 8] = [7, 0, 32766, 40000, 1, 2, 3, 4];
+
 /// Where counts start that continue from what the list holds, at most 32769.
 fn starts(alloc: Global) -> Result<FilledList<u64>, AllocError>
     ensures { IfOk result (λ list. vec_len list ≡ 8) }
 {
     let mut list = SystemMemory::new(alloc).long_numbers(8)?;
-    list.set(0, 7);
-    list.set(2, 32766);
-    list.set(3, 40000);
-    list.set(4, 1);
-    list.set(5, 2);
-    list.set(6, 3);
-    list.set(7, 4);
+    set_first_filled(&mut list, &STARTS);
     Ok(list)
 }
 

@@ -6,7 +6,7 @@ ghost use Rattle.ffs_walk.specs.Windows.{BlocksHold, CanWalk, HasRoom};
 use crate::compare::same;
 use ffs_image::{FuseImage, Image, ImageFault};
 use ffs_layout::{Geometry, Inode, Order};
-use ffs_memory::FixedList;
+use ffs_memory::{Memory, SystemMemory};
 use ffs_samples::{Number, ORDERS, Stop, Watched, geometry, image_of, inode};
 use ffs_volume::{Class, Step};
 use ffs_walk::{Blocks, Walk, class_of, has_steps};
@@ -46,8 +46,10 @@ macro_rules! word {
 /// An inode with these addresses first.
 fn inode_with(mode: u16, size: u64, addresses: &[u32]) -> Inode {
     let mut found = inode(mode, size);
-    for (place, address) in found.addresses.iter_mut().zip(addresses) {
-        *place = *address;
+    for (index, address) in addresses.iter().enumerate() {
+        if index < 15 {
+            found.addresses[index] = *address;
+        }
     }
     found
 }
@@ -58,8 +60,8 @@ fn empty_blocks(geometry: &Geometry, alloc: Global) -> Result<Blocks, AllocError
     ensures holds { (contents : Option (List ℕ))
         → IfOk result (BlocksHold geometry.now.layout contents) }
 {
-    let buffer = vec![in alloc; 0u8; 3 * geometry.layout.bsize as usize]?;
-    Ok(Blocks::over(FixedList::new(buffer)))
+    let buffer = SystemMemory::new(alloc).bytes(3 * geometry.layout.bsize as usize)?;
+    Ok(Blocks::over(buffer))
 }
 
 /// Puts a step to those before it that aren't Gaps, or counts the Gap.
