@@ -28,6 +28,7 @@ pub fn is_open(workspace: &Workspace) -> bool
 /// Whether the fragment of an offer is in range. Where `in_range` says that its Run is, the
 /// fragment isn't looked at.
 #[inline(always)]
+#[tactic(auto, unfolding(ffs_volume::specs::Disk::Areas::is_fragment_in_range))]
 fn fragment_in_range(geometry: &Geometry, fragment: u64, in_range: bool) -> bool
     requires known { IsTrue in_range
         → is_fragment_in_range geometry.now.layout fragment ≡ true }

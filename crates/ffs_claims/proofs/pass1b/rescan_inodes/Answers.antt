@@ -6,7 +6,7 @@ use Rattle.ffs_report.proofs.Reporting.{of_begins, of_says, of_part, of_fault, o
 use Rattle.ffs_report.{proofs.Reporting.said_knows, specs.{Known.ForBytes, declared.fault.RunFault.RunFault}}
 use Rattle.ffs_maps.specs.Bits.{bits_of}
 use Rattle.ffs_workspace.specs.{Found.WithPhase1, Holds.all_claims, Lengths.{inodes_of, set_count}}
-use Rattle.ffs_claims.proofs.{Duplicates.{none_first, none_left}, Frames.{claims_none, claims_then, image_from}}
+use Rattle.ffs_claims.proofs.{Duplicates.{none_first, none_left}, Frames.{claims_then, image_from}}
 use Rattle.ffs_claims.proofs.{Numbers.{numbers_most, before_first}, Reportings.{reporting_more, reporting_ends}}
 use Rattle.ffs_claims.proofs.{Reportings.{reporting_begins, lines_split, reporting_over}, RescanCounts.look_most}
 use Rattle.ffs_claims.proofs.{RescanCounts.looked_none, Rescanned.{IsNoted, is_noted, offers_at, runs_at, kept_from}}
@@ -36,7 +36,8 @@ loop-number-init g c =
     record {
       ready = grind arith;
       device = refl;
-      claims = claims_none c.args.workspace.now;
+      claims = record { used = refl; kinds = refl; notes = refl; references = refl; surveyed = refl; seen = refl;
+        dups = refl };
       low = omega arith;
       high = λ h. omega arith;
       runs = λ bytes k. omega arith;
