@@ -1,19 +1,18 @@
 //! What is written where no check is run: the help, the version, and what is wrong with the words.
-ghost use Rattle.std.specs.Prelude.{◌≡◌};
-ghost use Rattle.ffs_report.specs.Sink.{Prints};
-ghost use Rattle.ffs_check.specs.Refusals.{IsWritten, refusal_text, wrong_text};
+ghost use Rattle.std.specs.Prelude.{◌≡◌, ◌++◌, OnErr};
+ghost use Rattle.ffs_report.specs.Sink.{Prints, PutRefused};
+ghost use Rattle.ffs_check.specs.Refusals.{IsWritten, first_text, refusal_text, second_text};
 
 use crate::version::VERSION;
 use clap::error::ErrorKind;
-use ffs_report::print::{print, print_pieces};
-use ffs_report::{Counted, OutFault, Outlet, Output, Piece};
+use ffs_report::print::print;
+use ffs_report::{Counted, OutFault, Outlet, Output};
 
 const USAGE: &[u8] = b"
 
 Usage: fsck_ffs -n [-b sector] image
 
-For more information, try '--help'.
-";
+For more information, try '--help'.";
 
 const HELP: &[u8] = b"Checks an image of a Berkeley fast file system (UFS1), and never writes it.
 
@@ -29,8 +28,7 @@ Status:
   0  consistent: no defect is reported
   1  defects are reported
   2  the arguments are wrong, or ask for this help or the version
-  8  the check didn't run to its end; the last message says why
-";
+  8  the check didn't run to its end; the last message says why";
 
 const NAME: &[u8] = b"fsck_ffs ";
 
@@ -47,11 +45,14 @@ const UNKNOWN: &[u8] =
 
 const OTHER_MISTAKE: &[u8] = b"error: the arguments are wrong";
 
-/// What is wrong with the words, by the kind of mistake that `clap` found.
-fn wrong_text(kind: ErrorKind) -> &'static [u8]
-    ensures { result.now ≡ wrong_text kind }
+/// What the text for these words begins with: the help, the program's name before its version, or
+/// what is wrong.
+fn first_text(kind: ErrorKind) -> &'static [u8]
+    ensures { result.now ≡ first_text kind }
 {
     match kind {
+        ErrorKind::DisplayHelp => HELP,
+        ErrorKind::DisplayVersion => NAME,
         ErrorKind::MissingRequiredArgument => NEEDED,
         ErrorKind::ValueValidation => SECTOR_RANGE,
         ErrorKind::InvalidValue => NO_SECTOR,
@@ -61,22 +62,35 @@ fn wrong_text(kind: ErrorKind) -> &'static [u8]
     }
 }
 
-/// Prints the help, the version, or what is wrong with the words and the usage.
-fn print_refusal<W: Output>(out: &mut W, kind: ErrorKind) -> Result<(), OutFault>
-    ensures { Prints (W.sink out.old) (W.sink out.new) (refusal_text kind) result }
+/// What follows that: the version, or the usage where something is wrong.
+fn second_text(kind: ErrorKind) -> &'static [u8]
+    ensures { result.now ≡ second_text kind }
 {
     match kind {
-        ErrorKind::DisplayHelp => print(out, HELP),
-        ErrorKind::DisplayVersion => print_pieces(
-            out,
-            &[
-                Piece::Text(NAME),
-                Piece::Text(VERSION.as_bytes()),
-                Piece::Text(b"\n"),
-            ],
-        ),
-        _ => print_pieces(out, &[Piece::Text(wrong_text(kind)), Piece::Text(USAGE)]),
+        ErrorKind::DisplayHelp => b"",
+        ErrorKind::DisplayVersion => VERSION.as_bytes(),
+        _ => USAGE,
     }
+}
+
+/// Prints two texts.
+#[tactic(auto, using(ffs_report::proofs::Sinks::printing, crate::proofs::Refusals::refused_so))]
+fn print_two<W: Output>(out: &mut W, first: &[u8], second: &[u8]) -> Result<(), OutFault>
+    ensures prints { Prints (W.sink out.old) (W.sink out.new) (first.now ++ second.now) result }
+    ensures refused { OnErr result (PutRefused W.was_put) }
+{
+    print(out, first)?;
+    print(out, second)
+}
+
+/// Prints the help, the version, or what is wrong with the words and the usage.
+#[tactic(auto, using(ffs_report::proofs::Sinks::printing, crate::proofs::Refusals::refused_so))]
+fn print_refusal<W: Output>(out: &mut W, kind: ErrorKind) -> Result<(), OutFault>
+    ensures prints { Prints (W.sink out.old) (W.sink out.new) (refusal_text kind) result }
+    ensures refused { OnErr result (PutRefused W.was_put) }
+{
+    print_two(out, first_text(kind), second_text(kind))?;
+    print(out, b"\n")
 }
 
 /// Writes why no check is run, by what `clap` answered: what is wrong with the words, or the help or

@@ -2,6 +2,8 @@
 //! after fsck(8).
 #![tactic(auto)]
 
+ghost use Rattle.std.specs.Prelude.{◌≡◌, ◌/◌, ◌%◌};
+
 use ffs_check::run::{NOT_COMPLETED, WRONG_WORDS, run};
 use ffs_report::MutedWriter;
 use ffs_volume::texts::CANNOT_ALLOC;
@@ -69,7 +71,9 @@ fn is_watched(rt: &HostRuntime) -> bool {
 }
 
 /// The major number of a device (makedev(3)).
-fn major(device: u64) -> u64 {
+fn major(device: u64) -> u64
+    ensures { result ≡ device / 256 % 4096 }
+{
     device / 256 % 4096
 }
 

@@ -1,4 +1,4 @@
-use Rattle.std.proofs.Common.{arith, ◌≡◌, ◌∙◌, ap, subst, sym, true, Ok, Err, List, Result, IfOk, MatchResult}
+use Rattle.std.proofs.Common.{◌≡◌, ◌∙◌, ap, subst, sym, true, Ok, Err, List, Result, IfOk, MatchResult}
 use Rattle.clap.specs.Words.{App, FailsBy, HasKind, HasMatchesOf, Text, fault_of, is_simple, is_simple_and_free, matches_of}
 use Rattle.clap.specs.declared.{error.Error.Error, parser.matches.ArgMatches.ArgMatches}
 use Rattle.ffs_check.{proofs.MatchLaws.{free, simple}, specs.CommandWords.{AreRefusedBy, HasMatches}}
@@ -20,4 +20,5 @@ answered a words (Err e) is kinds matches = record {
 }
 
 pub returns : goal.returns
-returns c = grind (arith, answered)
+returns c = answered _ _ _ c.in_ok-command.ensures c.try_get_matches_from.ensures.kinds
+    c.try_get_matches_from.ensures.matches
