@@ -1,7 +1,7 @@
 -- The words of a map, read at once or by bytes.
 use Rattle.std.proofs.Common.{◌≡◌, inl, inr, ℕ, zero, suc, ◌+◌, ◌-◌, ◌*◌, ◌/◌, ◌%◌, ◌^◌, ◌<◌, List, drop, slice_index}
 use Rattle.std.proofs.Common.{arith, ap, ◌∙◌, nat_eq, ◌≤◌, Bool, true, false, refl, sym, min, bit_and, bit_or, ◌&&◌}
-use Rattle.std.proofs.lemmas.{Bool.{and_parts, cases_lt, eqb-true, eq-eqb}, Nat.Bits.bit_at_cat_low}
+use Rattle.std.proofs.lemmas.{Bool.{cases_lt, eqb-true, eq-eqb}, Nat.Bits.bit_at_cat_low}
 use Rattle.std.proofs.lemmas.Nat.Bits.{bit_at_cat_high, bit_at_and, bit_at_or, bit_at_xor, bit_at-zero}
 use Rattle.std.proofs.lemmas.Nat.Bits.{bit_at_ones, bit_at_ones_above, bit_at_above, same_from_bits, ones_shr}
 use Rattle.std.{proofs.lemmas.List.get_or-drop, specs.Int.{bit_at, RustNames.bit_xor}}
@@ -121,35 +121,6 @@ same_by_mask a b n h =
     let twice : 64 - (64 - n) ≡ n = omega arith in
     rw (ones_shr 64 (64 - n) (omega arith), twice) (is_same_word a b n)
 
--- what differs between words and one word, gathered: nothing does where nothing did, and the next word
--- is the same
-none_of : (a b : ℕ) → bit_or a b ≡ 0 → (a ≡ 0) × (b ≡ 0)
-none_of a b e = (
-  same_from_bits a 0 (λ i. let none = ap (λ x. bit_at x i) e in omega (arith, none, bit_at_or a b i, bit_at-zero i)),
-  same_from_bits b 0 (λ i. let none = ap (λ x. bit_at x i) e in omega (arith, none, bit_at_or a b i, bit_at-zero i)),
-)
-
-both_none : (a b : ℕ) → nat_eq (bit_or a b) 0 ≡ (nat_eq a 0 && nat_eq b 0)
-both_none a b = both_imply _ _
-    (λ e. let parts = none_of a b (eqb-true (bit_or a b) 0 e) in rw (parts.0, parts.1) refl)
-    (λ e. let parts = and_parts (nat_eq a 0) (nat_eq b 0) e in
-    rw (eqb-true a 0 parts.0, eqb-true b 0 parts.1) refl)
-
-same_whole : (a b : ℕ) → a < 2 ^ 64 → b < 2 ^ 64 → nat_eq (bit_xor a b) 0
-    ≡ all_below 64 (λ k. same_bit (nat_eq (bit_at a k) 1) (nat_eq (bit_at b k) 1))
-same_whole a b low high = both_imply _ _
-    (λ e. all_below-from 64 (λ k. same_bit (nat_eq (bit_at a k) 1) (nat_eq (bit_at b k) 1))
-    (λ k h. let none = ap (λ x. bit_at x k) (eqb-true (bit_xor a b) 0 e) in grind (arith, bit_at_xor, bit_at-zero)))
-    (λ e. eq-eqb (bit_xor a b) 0 (same_from_bits (bit_xor a b) 0 (λ k. elim (cases_lt k 64) [
-      | inl h ↦
-          let same = all_below-at 64 k (λ k. same_bit (nat_eq (bit_at a k) 1) (nat_eq (bit_at b k) 1)) e h in
-          grind (arith, bit_at_xor, bit_at-zero)
-      | inr past ↦
-          let a0 = bit_at_above a 64 k low past in
-          let b0 = bit_at_above b 64 k high past in
-          grind (arith, bit_at_xor, bit_at-zero)
-    ])))
-
 -- ---- a map, word after word
 moved_bit : (block : List ℕ) (place word k : ℕ) →
     map_bit block (place + 8 * word) k ≡ map_bit block place (64 * word + k)
@@ -211,19 +182,3 @@ map_parts block place words count n at first bits e is =
     (same_below count (λ k. same_bit (map_bit block place (64 * words + k)) (bits (first + (64 * words + k))))
     (λ k. same_bit (map_bit block at k) (bits (first + 64 * words + k)))
     (λ k l. rw (is, moved_bit block place words k, moved_in bits first words k) refl))
-
--- the same of words that should all be alike, where what differs is gathered
-pub filled_next : (block : List ℕ) (place index differ found right : ℕ) (bit : Bool) → found < 2 ^ 64 → right < 2 ^ 64 →
-    nat_eq differ 0 ≡ all_below (64 * index) (λ k. same_bit (map_bit block place k) bit) →
-    ((k : ℕ) → k < 64 → nat_eq (bit_at found k) 1 ≡ map_bit block (place + 8 * index) k) →
-    ((k : ℕ) → k < 64 → nat_eq (bit_at right k) 1 ≡ bit) →
-    nat_eq (bit_or differ (bit_xor found right)) 0
-    ≡ all_below (64 * (index + 1)) (λ k. same_bit (map_bit block place k) bit)
-filled_next block place index differ found right bit low high before is_found is_right =
-    let at = place + 8 * index in
-    let word : nat_eq (bit_xor found right) 0 ≡ all_below 64 (λ k. same_bit (map_bit block at k) bit) =
-    same_whole found right low high
-    ∙ same_below 64 (λ k. same_bit (nat_eq (bit_at found k) 1) (nat_eq (bit_at right k) 1))
-    (λ k. same_bit (map_bit block at k) bit) (λ k l. rw (is_found k l, is_right k l) refl) in
-    both_none differ (bit_xor found right)
-    ∙ rw (before, word) (sym (map_parts block place index 64 (64 * (index + 1)) at 0 (λ _. bit) (omega arith) refl))

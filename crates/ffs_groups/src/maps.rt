@@ -122,18 +122,19 @@ pub fn group_fragments(geometry: &Geometry, group: u32) -> u32
         .min(geometry.layout.size - geometry.cgbase(group))
 }
 
-/// Whether all bits of some words of a map are `bit`. No word ends the loop, and what differs in
-/// any is gathered in one word, so that the machine compares some at a time.
+/// Whether all bits of some words of a map are `bit`. No word ends the loop, so that the machine
+/// compares some at a time.
 fn are_filled(block: &[u8], place: usize, words: u32, bit: bool) -> bool
     requires { place + 8 * words ≤ length block.now }
     ensures { result ≡ has_bits block.now place (64 * words) (λ _. bit) }
 {
     let right = filled(bit);
-    let mut differ = 0;
+    let mut same = true;
     for index in 0..words {
-        differ |= word_at(block, place + 8 * index as usize, 8) ^ right;
+        let found = word_at(block, place + 8 * index as usize, 8);
+        same &= same_bits(found, right, 64);
     }
-    differ == 0
+    same
 }
 
 /// Whether the words of 64 bits of a map at a place of a group block, in bytes, say rightly which

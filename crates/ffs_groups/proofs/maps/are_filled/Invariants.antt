@@ -1,6 +1,6 @@
-use Rattle.std.proofs.Common.{◌≡◌, ◌*◌, nat_eq}
+use Rattle.std.proofs.Common.{◌≡◌, ◌*◌}
 use Rattle.ffs_volume.specs.{Groups.Records.has_bits}
 use Rattle.ffs_groups.proofs.maps.are_filled.Given as goal
 
 abbrev pub invariant-loop-index : goal.invariant-loop-index
-invariant-loop-index l = nat_eq l.differ 0 ≡ has_bits l.block l.place (64 * l.index) (λ _. l.bit)
+invariant-loop-index l = l.same ≡ has_bits l.block l.place (64 * l.index) (λ _. l.bit)
