@@ -1,6 +1,8 @@
 """The recipes of docs/READING.md. In its blocks of shell a comment `# name: what it does` after a command names that command; a block whose
 first line is such a comment is a recipe as a whole."""
+import os
 import re
+import shutil
 import subprocess
 
 SECONDS = 60
@@ -11,6 +13,7 @@ class Page:
     """The recipes by name, and the rows of the tables of messages."""
 
     def __init__(self, name):
+        self.folder = os.path.dirname(name)
         with open(name, encoding="utf-8") as it:
             text = it.read()
         self.recipes = {}
@@ -42,6 +45,7 @@ class Page:
 
     def run(self, recipes, variables, place):
         """Runs recipes in one shell, after those variables are set and the page's functions are pasted."""
+        shutil.copy(f"{self.folder}/rescue.sh", place)
         script = [self.recipe("setup"), *[f"{name}='{value}'\n" for name, value in variables.items()]]
         script += [self.recipe(name) for name in recipes.split()]
         return subprocess.run(["sh", "-c", "".join(script)], cwd=place, capture_output=True, timeout=SECONDS, check=False)
