@@ -41,17 +41,19 @@ fn main(rt: HostRuntime) -> ExitCode {
 
 /// Looks for it over a buffer for standard output, which has none of its own.
 fn print_found(rt: &HostRuntime, words: &[&str]) -> ExitCode {
+    let mut system = *rt;
+    let mut errors = MutedWriter::new(rt.stderr());
     let stdout = MutedWriter::new(rt.stdout());
     let status = if is_watched(rt) {
         let Ok(mut out) = LineWriter::with_capacity(rt.alloc(), BUFFER_SIZE, stdout) else {
             return no_memory(rt);
         };
-        run(rt, rt.alloc(), words, &mut out, &mut rt.stderr())
+        run(&mut system, rt.alloc(), words, &mut out, &mut errors)
     } else {
         let Ok(mut out) = BufWriter::with_capacity(rt.alloc(), BUFFER_SIZE, stdout) else {
             return no_memory(rt);
         };
-        run(rt, rt.alloc(), words, &mut out, &mut rt.stderr())
+        run(&mut system, rt.alloc(), words, &mut out, &mut errors)
     };
     ExitCode::from(status)
 }
