@@ -23,7 +23,7 @@ returns-then-parent-count-clause-path g c = λ b t claims survey k l.
     let long = i.reads.ready.made.parents in
     let below = (parent_is _ way.left c.up.at c.index-parent.result.now way.level c.if-at-eq-ROOTINO.false
     (c.index-parent.ensures ∙ (get_or_default c.up.workspace.parents.items c.up.at c.index-parent.result.now 0
-    (omega arith) ∙ (ap (λ w. slice_index w.parents.items c.up.at) i.reads.lists ∙ survey.parents c.up.at)))).below in
+    (omega arith) ∙ (ap (λ w. slice_index w.parents.items c.up.at) i.reads.lists ∙ survey.tree.parents c.up.at)))).below in
     absurd (omega (arith, count_is c.args.geometry.now.layout b, c.if-parent-count.true, c.requires.ready.made.notes))
 
 pub returns-clause-path : goal.returns-clause-path
@@ -47,7 +47,7 @@ up-preserved g c =
           let G : Graph = graph_of (volume_of c.args.geometry.now.layout b) in
           let way = i.path b t claims survey k l in
           let above = parent_is G way.left c.up.at p way.level c.if-at-eq-ROOTINO.false
-          (is ∙ (ap (λ w. slice_index w.parents.items c.up.at) i.reads.lists ∙ survey.parents c.up.at)) in
+          (is ∙ (ap (λ w. slice_index w.parents.items c.up.at) i.reads.lists ∙ survey.tree.parents c.up.at)) in
           let name = c.as_slice.ensures.value ∙ tree_on (λ g. IsNameIn g c.up.at p (name_bytes c.find_name.new.name)) i.reads
           found.finds.name b t claims survey above.is above.dir in
           way_up p c.push_front.new.self way above (λ following held.
