@@ -33,19 +33,24 @@
 #![tactic(auto)]
 
 // Images: bytes at a place, or a fault with its sector.
-pub use ffs_image::{CountedImage, FileImage, FuseImage, Image, ImageFault, LimitedImage};
-pub use ffs_image::{MemoryImage, OpenFault};
+pub use ffs_image::{
+    CountedImage, FileImage, FuseImage, Image, ImageFault, LimitedImage, MemoryImage, OpenFault,
+};
 
 // Memory: what a check takes, counted.
 pub use ffs_memory::{FixedList, FuseMemory, Memory, SystemMemory};
 
 // The layout of a volume: superblock, geometry, inodes, groups, entries.
-pub use ffs_layout::{Entry, Geometry, Group, GroupSummary, Inode, Layout, Order, Super, SuperFault};
-pub use ffs_layout::{decode_inode, entry_at, read_super};
+pub use ffs_layout::{
+    Entry, Geometry, Group, GroupSummary, Inode, Layout, Order, Super, SuperFault, decode_inode,
+    entry_at, read_super,
+};
 
 // The report: messages, and where their bytes go.
-pub use ffs_report::{Counted, FuseWriter, MutedWriter, OutFault, Outlet, Output, Report, RunFault};
-pub use ffs_report::{DirectoryLine, DotLine, EntryLine, Heading, Line, ReferenceLine};
+pub use ffs_report::{
+    Counted, DirectoryLine, DotLine, EntryLine, FuseWriter, Heading, Line, MutedWriter, OutFault,
+    Outlet, Output, ReferenceLine, Report, RunFault,
+};
 pub use ffs_volume::{Attr, BlockMessage, Label};
 
 // The walk over an inode's blocks.

@@ -186,7 +186,10 @@ fn print_phases<I: Image>(
         text.as_slice() == rest
     )?;
     match path {
-        Ok(path) => println!(rt; "The path of its entry a is /a: {}", path.as_slice() == b"/a".as_slice()),
+        Ok(path) => println!(rt;
+            "The path of its entry a is /a: {}",
+            path.as_slice() == b"/a".as_slice()
+        ),
         Err(fault) => println!(rt; "{fault}"),
     }
 }

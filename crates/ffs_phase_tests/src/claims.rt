@@ -241,7 +241,15 @@ fn answers_with(geometry: &Geometry, words: &[Words], alloc: Global) -> Result<[
 #[test]
 fn dups_stay_known(rt: HostRuntime) -> Result<(), Fail> {
     let geometry = geometry(Order::Little)?;
-    same(&rt, &answers_with(&geometry, &SHARED, rt.alloc())?, &[true; 4]);
-    same(&rt, &answers_with(&geometry, &TEN_BAD, rt.alloc())?, &[false; 4]);
+    same(
+        &rt,
+        &answers_with(&geometry, &SHARED, rt.alloc())?,
+        &[true; 4],
+    );
+    same(
+        &rt,
+        &answers_with(&geometry, &TEN_BAD, rt.alloc())?,
+        &[false; 4],
+    );
     Ok(())
 }

@@ -233,10 +233,7 @@ fn no_such_file(rt: HostRuntime) -> Result<(), Fail> {
     same(
         &rt,
         &[out.as_slice(), errors.as_slice()],
-        &[
-            b"Can't open missing.img\n",
-            b"",
-        ],
+        &[b"Can't open missing.img\n", b""],
     );
     Ok(())
 }

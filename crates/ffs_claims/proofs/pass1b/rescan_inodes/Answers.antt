@@ -36,8 +36,15 @@ loop-number-init g c =
     record {
       ready = grind arith;
       device = refl;
-      claims = record { used = refl; kinds = refl; notes = refl; references = refl; surveyed = refl; seen = refl;
-        dups = refl };
+      claims = record {
+        used = refl;
+        kinds = refl;
+        notes = refl;
+        references = refl;
+        surveyed = refl;
+        seen = refl;
+        dups = refl;
+      };
       low = omega arith;
       high = λ h. omega arith;
       runs = λ bytes k. omega arith;
