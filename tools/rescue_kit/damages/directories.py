@@ -2,7 +2,7 @@
 from ..case import entries_of, fragments_of, number_of
 from .all import damage
 from .inodes import first_lost, mend
-from .names import entries_of_inode
+from .names import entries_of_inode, place_of
 
 
 def names_at_stake(case):
@@ -80,6 +80,21 @@ def empty(case):
     f = first_lost(case)
     for chunks in range(number_of(case.run("inode", i=i), "blocks"), 0, -1):
         if mend(case, i, "size address", size=512 * chunks, k=0, f=f).status == 0:
+            return
+
+
+@damage("a directory's size and address, and the number of its entry, became 0")
+def empty_unnamed(case):
+    i = case.volume.find("mail/in")
+    case.volume.put(case.volume.entry("mail/in"), 4, 0)
+    case.volume.put_inode(i, size=0, direct0=0)
+    case.at_stake("mail/in", "mail/in/one", "mail/in/two")
+    report = case.report("ZERO LENGTH DIR", "INCORRECT BLOCK COUNT", "UNREF")
+    i, f = report.first("ZERO LENGTH DIR")["inode"], first_lost(case)
+    deleted = case.run("deleted").split()[-1]
+    e = place_of(case, deleted)
+    for chunks in range(number_of(case.run("inode", i=i), "blocks"), 0, -1):
+        if case.run("further number place size address check", e=e, i=i, size=512 * chunks, k=0, f=f).status == 0:
             return
 
 

@@ -278,6 +278,19 @@ def mend_shared(case):
             mend(case, i, "address", k=k, f=first_lost(case))
 
 
+@damage("a file got the address of another one's block, and lost its name")
+def address_shared_unnamed(case):
+    volume = case.volume
+    i = volume.find("docs/letter")
+    volume.put(volume.entry("docs/letter"), 4, 0)
+    other = volume.find("mail/in/one")
+    volume.put_inode(other, direct0=volume.blocks(i)[0])
+    case.at_stake("docs/letter")
+    report = case.report("BAD/DUP", "DUP/BAD")
+    case.run("bytes", i=report.first("BAD/DUP")["inode"])
+    case.run("deleted")
+
+
 @damage("a file's address became that of the summary area")
 def address_reserved(case):
     layout = case.volume.layout
