@@ -1,10 +1,12 @@
-//! The verdict on a plain entry, as a reader would work it out by hand.
+//! The verdict on a plain entry, and whether a directory is in order, as a reader would work them out
+//! by hand.
 
 use crate::compare::same;
 use ffs_layout::Entry;
 use ffs_pathnames::inodes::Inodes;
 use ffs_pathnames::verdict::{EntryDefects, Verdict, entry_verdict, pass};
 use ffs_samples::numbers;
+use ffs_volume::verdict::{DotDefects, HeaderDefects};
 use ffs_volume::{Label, Role};
 use ffs_workspace::due;
 use std::alloc::{AllocError, Global};
@@ -53,28 +55,29 @@ fn verdict_on(number: u32, kind: u8, alloc: Global) -> Result<Verdict, AllocErro
     Ok(entry_verdict(&inodes, 2, &[false; 9], &words, &entry))
 }
 
-/// The number and the type of an entry, and the verdict on it.
-static VERDICTS: [(u32, u8, Verdict); 13] = [
-    (9, 8, Verdict::OutOfRange),
-    (u32::MAX, 14, Verdict::OutOfRange),
-    (1, 14, Verdict::Whiteout),
-    (1, 8, Verdict::BadWhiteout),
-    (5, 14, Verdict::BadWhiteout),
-    (5, 8, Verdict::Unallocated),
-    (3, 8, named!(Label::File, false, false, false)),
-    (3, 10, named!(Label::File, false, false, true)),
-    (4, 4, named!(Label::Dir, false, false, false)),
-    (4, 8, named!(Label::Dir, false, false, true)),
-    (2, 4, named!(Label::Dir, false, true, false)),
-    (6, 4, named!(Label::Dir, true, false, false)),
-    (7, 8, named!(Label::Name, false, false, false)),
+/// The number and the type of an entry, the verdict on it, and whether that has no message.
+static VERDICTS: [(u32, u8, Verdict, bool); 13] = [
+    (9, 8, Verdict::OutOfRange, false),
+    (u32::MAX, 14, Verdict::OutOfRange, false),
+    (1, 14, Verdict::Whiteout, true),
+    (1, 8, Verdict::BadWhiteout, false),
+    (5, 14, Verdict::BadWhiteout, false),
+    (5, 8, Verdict::Unallocated, false),
+    (3, 8, named!(Label::File, false, false, false), true),
+    (3, 10, named!(Label::File, false, false, true), false),
+    (4, 4, named!(Label::Dir, false, false, false), true),
+    (4, 8, named!(Label::Dir, false, false, true), false),
+    (2, 4, named!(Label::Dir, false, true, false), false),
+    (6, 4, named!(Label::Dir, true, false, false), false),
+    (7, 8, named!(Label::Name, false, false, false), true),
 ];
 
 #[test]
 fn entries_of_the_root(rt: HostRuntime) -> Result<(), Fail> {
-    for &(number, kind, wanted) in &VERDICTS {
+    for &(number, kind, wanted, silent) in &VERDICTS {
         let verdict = verdict_on(number, kind, rt.alloc())?;
-        same(&rt, &(number, kind, verdict), &(number, kind, wanted));
+        let found = (number, kind, verdict, verdict.is_silent());
+        same(&rt, &found, &(number, kind, wanted, silent));
     }
     Ok(())
 }
@@ -126,5 +129,42 @@ fn second_names(rt: HostRuntime) -> Result<(), Fail> {
         ],
     );
     same(&rt, &place, &7);
+    Ok(())
+}
+
+/// What is wrong with a directory besides `.` and `..`: short, partial chunk, hole, unsound chunk.
+/// Then whether `.` has a wrong number and `..` a wrong type, and whether nothing is wrong.
+static HEADERS: [([bool; 4], bool, bool, bool); 7] = [
+    ([false, false, false, false], false, false, true),
+    ([true, false, false, false], false, false, false),
+    ([false, true, false, false], false, false, false),
+    ([false, false, true, false], false, false, false),
+    ([false, false, false, true], false, false, false),
+    ([false, false, false, false], true, false, false),
+    ([false, false, false, false], false, true, false),
+];
+
+#[test]
+fn headers(rt: HostRuntime) -> Result<(), Fail> {
+    for &(shape, number, kind, wanted) in &HEADERS {
+        let [short, partial_chunk, gap, unsound] = shape;
+        let mut defects: HeaderDefects<&[u8]> = HeaderDefects {
+            short,
+            partial_chunk,
+            gap,
+            unsound,
+            dot: DotDefects::Found {
+                number,
+                kind: false,
+            },
+            dotdot: DotDefects::Found {
+                number: false,
+                kind,
+            },
+        };
+        let found = defects.is_none();
+        defects.dot = DotDefects::Other { name: b"name" };
+        same(&rt, &(found, defects.is_none()), &(wanted, false));
+    }
     Ok(())
 }
