@@ -5,6 +5,7 @@
 #
 #   place I                  the byte where inode I lies
 #   lost                     the fragments that the maps mark and no inode has: first and last of each range
+#   whole                    how many bytes the image should have, by its superblock
 #   put BYTE WIDTH NUMBER    writes a number of so many bytes into further.img, in the byte order of its superblock
 #   entries FIRST LENGTH     what looks like an entry in these bytes, also where no directory has it:
 #                            byte, number, record length, type, length of the name, name
@@ -52,6 +53,10 @@ command -v ffs_find >/dev/null || ffs_find() {
 
 place() {
     ffs_find inode "$1" copy.img | sed -n 's/^byte //p'
+}
+
+whole() {
+    perl -e '$image = "copy.img"; '"$volume"' print $size * $fsize, "\n"'
 }
 
 lost() {

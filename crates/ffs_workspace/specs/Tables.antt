@@ -36,11 +36,11 @@ abbrev pub part_inodes : ℕ
 part_inodes = 32
 
 -- the sector of the inode x begins where the inodes that are held end: it is one of the four after them
-abbrev pub follows : Table → ℕ → Bool
+unfoldable pub follows : Table → ℕ → Bool
 follows t x = nat_le (t.first + t.count) x && nat_lt x (t.first + t.count + sector_inodes)
 
 -- how many inodes are read for the inode x, where it isn't held: a sector, or eight that follow those held
-abbrev pub count_to_read : Table → ℕ → ℕ
+unfoldable pub count_to_read : Table → ℕ → ℕ
 count_to_read t x = if follows t x then part_inodes else sector_inodes
 
 -- the inode x is one of those that are held
@@ -113,26 +113,29 @@ pub record IsHeldAt (v : Layout) (contents : Option (List ℕ)) (t : Table) (x a
   pub bytes : ForContents contents
       (λ b. slice_range (held_bytes t.window) at (at + DINODE_SIZE) ≡ piece (inode_place v x) DINODE_SIZE b)
 
--- the bytes of the inode x are in the window from the place on that is returned. Where the table held
--- the inode, nothing is read, and the table is as it was; else there is one read at most, of its block,
--- and just the block is held then
+-- the inode x was asked of a table: it is as it was, where it held the inode; else it holds just the
+-- piece of n inodes that has it. `unfoldable`, so that callers' proofs look inside only where they ask it
+unfoldable pub TakesPiece : {T : Type 0} → Layout → (n x : ℕ) → (old new : Table) → Result T ImageFault → Type 0
+TakesPiece v n x old new result = (HoldsInode old x → new ≡ old) ×
+    ((HoldsInode old x → ⊥) → OnOk result (HoldsPiece v n x new))
+
+-- the bytes of the inode x are in the window from the place on that is returned. They are read at most
+-- once, with their block, and not where the table held the inode
 pub record LoadsInode (v : Layout) (d d' : Device) (reads reads' x : ℕ) (old new : Table)
     (result : Result ℕ ImageFault) : Type 0 where
   pub there : IfOk result (IsHeldAt v d.contents new x)
   pub leaves : TableAfter v d d' new result
   pub counted : reads' ≤ reads + 1
-  pub again : HoldsInode old x → (new ≡ old) × (reads' ≡ reads)
-  pub block : (HoldsInode old x → ⊥) → OnOk result (HoldsPiece v v.inopb x new)
+  pub again : HoldsInode old x → reads' ≤ reads
+  pub block : TakesPiece v v.inopb x old new result
 
--- the inode x is read. Where the table held it, nothing is read of the image, and the table is as it
--- was; else there is one read at most, of the piece of n inodes that has it, and just that piece is held
--- then
+-- the inode x is read, with its piece of n inodes: once at most, and not where the table held it
 pub record ReadsInodeOnce (v : Layout) (n : ℕ) (d d' : Device) (before after x : ℕ) (old new : Table)
     (result : Result Inode ImageFault) : Type 0 where
   pub reads : ReadsInode v d d' x new result
   pub counted : after ≤ before + 1
-  pub again : HoldsInode old x → (new ≡ old) × (after ≡ before)
-  pub piece : (HoldsInode old x → ⊥) → OnOk result (HoldsPiece v n x new)
+  pub again : HoldsInode old x → after ≤ before
+  pub piece : TakesPiece v n x old new result
 
 -- a table over a list that holds no inode, and so what any image of any layout gives
 pub record IsEmptyTable (list : FixedList ℕ) (t : Table) : Type 0 where

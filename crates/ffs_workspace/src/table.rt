@@ -98,7 +98,7 @@ impl Table {
     /// Reads the block of the table that has an inode, unless the window holds the inode. Returns
     /// where its bytes are in the window.
     #[inline(always)]
-    #[tactic(auto, using(crate::proofs::TablePlaces::block_divides))]
+    #[tactic(auto, using(crate::proofs::TablePlaces::block_divides), unfolding(crate::specs::Tables::TakesPiece))]
     fn load<I: Image>(
         &mut self,
         geometry: &Geometry,
@@ -121,6 +121,7 @@ impl Table {
     /// # Errors
     /// A read of the image that failed.
     #[inline(always)]
+    #[tactic(auto, unfolding(crate::specs::Tables::TakesPiece))]
     pub fn inode<I: Image>(
         &mut self,
         geometry: &Geometry,
@@ -140,6 +141,7 @@ impl Table {
     /// Whether an inode's sector begins where the inodes that are held end, as where the caller
     /// goes along the table: it is one of the four after them. Where none is held they end at
     /// `first`. No answer depends on it: it decides only how much is read.
+    #[tactic(auto, unfolding(crate::specs::Tables::follows))]
     fn follows(&self, number: u32) -> bool
         ensures { result ≡ follows self.now number }
     {
@@ -149,7 +151,7 @@ impl Table {
     }
 
     /// How many inodes are read where one isn't held.
-    #[tactic(auto, using(crate::proofs::TablePlaces::parts_divide, crate::proofs::TablePlaces::sectors_divide))]
+    #[tactic(auto, using(crate::proofs::TablePlaces::parts_divide, crate::proofs::TablePlaces::sectors_divide), unfolding(crate::specs::Tables::count_to_read))]
     fn count_to_read(&self, number: u32) -> u32
         ensures count { result ≡ count_to_read self.now number }
         ensures divides { DividesBlocks result }
@@ -168,6 +170,7 @@ impl Table {
     /// # Errors
     /// A read of the image that failed.
     #[inline(always)]
+    #[tactic(auto, unfolding(crate::specs::Tables::TakesPiece))]
     pub fn inode_by_part<I: Image>(
         &mut self,
         geometry: &Geometry,

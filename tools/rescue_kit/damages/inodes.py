@@ -265,13 +265,34 @@ def address_shared(case):
     other = volume.blocks(volume.find("big/photo"))[3]
     volume.put_inode(volume.find("docs/report"), direct2=other)
     case.at_stake("docs/report", "mail/report_too", "big/photo")
+    mend_shared(case)
+
+
+def mend_shared(case):
+    """Puts the lost block at each address of the shared fragment that doesn't follow the one before it, one at a time."""
     report = case.report("DUP", "DUP/BAD")
     f = report.first("DUP")["fragment"]
     for i in sorted({message["inode"] for message in report.of("DUP")}):
         said = fragments_of(case.run("inode", i=i))
-        k = next(k for k, at in said.items() if at == f)
-        if said[k - 1] + case.volume.layout.frag != f:
+        for k in [k for k, at in said.items() if at == f and said.get(k - 1, 0) + case.volume.layout.frag != f]:
             mend(case, i, "address", k=k, f=first_lost(case))
+
+
+@damage("a file's address became that of the summary area")
+def address_reserved(case):
+    layout = case.volume.layout
+    case.volume.put_inode(case.volume.find("docs/report"), direct2=layout.csaddr)
+    case.at_stake("docs/report", "mail/report_too")
+    mend_shared(case)
+
+
+@damage("a file's address became another one of its own")
+def address_twice(case):
+    volume = case.volume
+    i = volume.find("big/photo")
+    volume.put_inode(i, direct5=volume.blocks(i)[2])
+    case.at_stake("big/photo")
+    mend_shared(case)
 
 
 @damage("a file's inode was copied over another one")

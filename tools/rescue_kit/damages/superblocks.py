@@ -2,7 +2,7 @@
 from images import formats
 
 from .. import sources
-from ..case import tree_of
+from ..case import Wrong, tree_of
 from .all import damage
 
 SECTOR = 512
@@ -86,7 +86,8 @@ def cut(case):
     case.at_stake(*[path for path in case.tree if path not in sources.SHORT_LINKS])
     case.report("BAD SUPER BLOCK")
     case.run("longer")
-    case.check_again(words=("-b", "16"))
+    if case.check_again(words=("-b", "16")).status == 8:
+        raise Wrong("the check doesn't run to its end")
     case.run("names all")
 
 
@@ -95,8 +96,8 @@ def partition(case):
     all_at_stake(case)
     case.volume.image[:0] = bytes(2048 * SECTOR)
     case.report("BAD SUPER BLOCK")
-    case.run("copies")
-    case.run("partition", start=2048)
+    first = case.run("copies").split()[0]
+    case.run("partition", start=int(first) - 16)
     if case.check_again().status == 0:
         case.trees.append(tree_of(f"{case.place}/copy.img"))
 

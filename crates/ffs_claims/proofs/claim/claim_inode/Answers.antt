@@ -5,6 +5,7 @@ use Rattle.ffs_report.{proofs.Reporting.{reads_first, reports_same, reports_know
 use Rattle.ffs_report.specs.Known.{IsContents}
 use Rattle.ffs_workspace.{proofs.Readiness.ready_table, specs.Holds.claims_of}
 use Rattle.ffs_claims.{proofs.Inodes.{ok_where, used_below}, specs.{Leaves.Stored, Lines.{of_lines, owner_with}}}
+use Rattle.ffs_workspace.specs.Tables.{TakesPiece}
 use Rattle.ffs_claims.proofs.TableReads.{on_any}
 use Rattle.ffs_claims.proofs.claim.claim_inode.Goals as goal
 
@@ -64,22 +65,23 @@ returns-clause-claims g c =
     }
 
 pub returns-in_err-inode-clause-table : goal.returns-in_err-inode-clause-table
+unfolding TakesPiece
 returns-in_err-inode-clause-table g c =
     let p = err_from_is_err_and c.from_residual.result c.from_residual.ensures.1 in
     rw (p.1, p.2) (record {
-      again = λ held. let same = c.inode.ensures.again held in (same.0, omega (arith, same.1));
+      again = λ held. (c.inode.ensures.piece.0 held, omega (arith, c.inode.ensures.again held));
       block = λ unheld. tt;
     })
 
 pub returns-clause-table : goal.returns-clause-table
+unfolding TakesPiece
 returns-clause-table g c =
     let did = c.claim_read_inode.ensures in
     let counted = did.claims.left.counted in
     record {
       again = λ held.
-          let same = c.in_ok-inode.ensures.again held in
-          (did.table ∙ same.0, omega (arith, same.1, counted));
-      block = λ unheld. on_any c.claim_read_inode.result (rw did.table (c.in_ok-inode.ensures.piece unheld));
+          (did.table ∙ c.in_ok-inode.ensures.piece.0 held, omega (arith, c.in_ok-inode.ensures.again held, counted));
+      block = λ unheld. on_any c.claim_read_inode.result (rw did.table (c.in_ok-inode.ensures.piece.1 unheld));
     }
 
 pub returns-clause-stored : goal.returns-clause-stored

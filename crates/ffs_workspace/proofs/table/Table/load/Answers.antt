@@ -1,9 +1,11 @@
 use Rattle.std.proofs.{Common.{arith, rules}, lemmas.Grind.common_steps}
 use Rattle.ffs_workspace.proofs.TablePlaces.{held_there}
+use Rattle.ffs_workspace.specs.Tables.{TakesPiece}
 use Rattle.ffs_workspace.proofs.table.Table.load.Goals as goal
 use Rattle.ffs_workspace.proofs.table.Table.load.Goals.{then-not-has+in_ok-read_piece, else-not-has}
 
 pub returns : goal.returns
+unfolding TakesPiece
 returns g c =
     let v = c.args.geometry.now.layout in
     let ready = c.requires.ready in
