@@ -1,13 +1,13 @@
 -- A survey fills a workspace.
 use Rattle.std.proofs.Common.{◌≡◌, ◌∙◌, ◌+◌, ◌≤◌, ℕ, Bool, true, List, Option, Some, None, IfNone, ap, arith, length, min}
-use Rattle.std.proofs.{Common.{slice_index, sym, refl}, lemmas.Bool.{and_parts, both_ways}}
+use Rattle.std.proofs.{Common.{slice_index, sym, refl}, lemmas.Bool.and_parts}
 use Rattle.std.specs.Result.{is_ok}
 use Rattle.std.specs.Prelude.{Result, Ok, Err, OnOk}
 use Rattle.ffs_volume.specs.{declared.Layout.Layout, Encodings.Kinds.kind_at, Directories.Parents.graph_of}
 use Rattle.ffs_volume.specs.Directories.{Roles.roled_entries, Volumes.{volume_of, volume_with}}
 use Rattle.ffs_volume.specs.Encodings.Links.{start_at}
-use Rattle.ffs_workspace.specs.{Holds.{HoldsClaims, HoldsCounts, HoldsReferences, HoldsStarts}, Lengths.inodes_of}
-use Rattle.ffs_workspace.specs.{Holds.HoldsTree, Leaves.LeavesBlockCheck}
+use Rattle.ffs_workspace.specs.{Holds.{HoldsClaims, HoldsReferences, HoldsStarts}, Lengths.inodes_of}
+use Rattle.ffs_workspace.{proofs.Leaving.counts_surveyed, specs.{Holds.HoldsTree, Leaves.LeavesBlockCheck}}
 use Rattle.ffs_workspace.specs.declared.workspace.Workspace.{Workspace}
 use Rattle.ffs_survey.specs.{Calm.AreCalm, SurveyLaws.references_is, Survey.{graph_with, most_start, references_to}}
 use Rattle.ffs_survey.specs.Survey.{IsSurvey}
@@ -56,9 +56,7 @@ holds_references v b old new {starts = starts} e c h s = record {
 pub holds_claims : (v : Layout) (b : List ℕ) (old new : Workspace) → LeavesBlockCheck old new → new.surveyed ≡ true →
     HoldsReferences v b new → HoldsTree v b new → HoldsClaims v b old → HoldsClaims v b new
 holds_claims v b old new same surveyed references tree h =
-    let counts : HoldsCounts v b new =
-    record { before = λ e. absurd (both_ways new.surveyed e surveyed); after = λ _. (references, tree) } in
-    grind (arith, ap)
+    let counts = counts_surveyed v b new surveyed references tree in grind (arith, ap)
 
 -- a fact of an Ok answer, known to be one
 pub on_ok_is : {T E : Type 0} (r : Result T E) (P Q : Type 0) → (is_ok r ≡ true → P → Q) → OnOk r P → OnOk r Q

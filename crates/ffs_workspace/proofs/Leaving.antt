@@ -1,5 +1,5 @@
 -- What a workspace holds is held by one with the same findings.
-use Rattle.std.proofs.{Common.{arith, ◌≡◌, ℕ, List, false}, lemmas.Bool.both_ways}
+use Rattle.std.proofs.{Common.{arith, ◌≡◌, ℕ, List, false, true}, lemmas.Bool.both_ways}
 use Rattle.ffs_volume.specs.declared.Layout.{Layout}
 use Rattle.ffs_workspace.specs.{declared.workspace.Workspace.Workspace, Holds.{HoldsClaims, HoldsCounts, HoldsFindings}}
 use Rattle.ffs_workspace.specs.{Holds.{HoldsReferences, HoldsStarts, HoldsSurvey, HoldsTree}}
@@ -34,23 +34,40 @@ windows_leave old new e = grind arith
 
 -- nothing is surveyed: counts of references are where they start
 pub counts_unsurveyed : (v : Layout) (b : List ℕ) (w : Workspace) → w.surveyed ≡ false → HoldsStarts v b w → HoldsCounts v b w
-counts_unsurveyed v b w e h = record { before = λ _. h; after = λ t. absurd (both_ways w.surveyed e t) }
+unfolding HoldsCounts
+counts_unsurveyed v b w e h = (λ _. h, λ t. absurd (both_ways w.surveyed e t))
+
+pub counts_begin : (v : Layout) (b : List ℕ) (w : Workspace) → HoldsCounts v b w → w.surveyed ≡ false → HoldsStarts v b w
+unfolding HoldsCounts
+counts_begin v b w h e = h.0 e
+
+-- all is surveyed
+pub counts_surveyed : (v : Layout) (b : List ℕ) (w : Workspace) → w.surveyed ≡ true → HoldsReferences v b w →
+    HoldsTree v b w → HoldsCounts v b w
+unfolding HoldsCounts
+counts_surveyed v b w e references tree = (λ f. absurd (both_ways w.surveyed f e), λ _. (references, tree))
+
+pub counts_stand : (v : Layout) (b : List ℕ) (w : Workspace) → HoldsCounts v b w → w.surveyed ≡ true →
+    HoldsReferences v b w × HoldsTree v b w
+unfolding HoldsCounts
+counts_stand v b w h e = h.1 e
 
 -- references, as far as they are counted, where what they stand in is as it was
 pub counts_same : (v : Layout) (b : List ℕ) (old new : Workspace) → new.references ≡ old.references →
     new.surveyed ≡ old.surveyed → new.named ≡ old.named → new.reached ≡ old.reached → new.parents ≡ old.parents →
     HoldsCounts v b old → HoldsCounts v b new
-counts_same v b old new references surveyed named reached parents h = record {
-  before = λ e. record { starts = λ x. rw references ((h.before (rw surveyed at e)).starts x) };
-  after = λ e. let found = h.after (rw surveyed at e) in (
+unfolding HoldsCounts
+counts_same v b old new references surveyed named reached parents h = (
+  λ e. record { starts = λ x. rw references ((h.0 (rw surveyed at e)).starts x) },
+  λ e. let found = h.1 (rw surveyed at e) in (
     record { counts = λ x l. rw references (found.0.counts x l) },
     record {
       named = λ x l. rw named (found.1.named x l);
       reached = λ x. rw reached (found.1.reached x);
       parents = λ x. rw parents (found.1.parents x);
     },
-  );
-}
+  ),
+)
 
 pub claims_left : (v : Layout) (b : List ℕ) (old new : Workspace) → LeavesSurvey old new → HoldsClaims v b old →
     HoldsClaims v b new

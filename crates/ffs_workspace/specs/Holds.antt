@@ -84,9 +84,9 @@ pub record HoldsSurvey (v : Layout) (image : List ℕ) (w : Workspace) : Type 0 
 
 -- before the survey each count of references is where it starts; what the survey has found stays,
 -- so that a second one needn't count again
-pub record HoldsCounts (v : Layout) (image : List ℕ) (w : Workspace) : Type 0 where
-  pub before : w.surveyed ≡ false → HoldsStarts v image w
-  pub after : w.surveyed ≡ true → HoldsReferences v image w × HoldsTree v image w
+unfoldable pub HoldsCounts : Layout → (image : List ℕ) → Workspace → Type 0
+HoldsCounts v image w = (w.surveyed ≡ false → HoldsStarts v image w)
+    × (w.surveyed ≡ true → HoldsReferences v image w × HoldsTree v image w)
 
 -- what phases 1 and 1b leave, and all phases after them keep: the fragments that are reserved or
 -- claimed, and for each inode its kind, whether it is marked, what is noted of it, and how often it is

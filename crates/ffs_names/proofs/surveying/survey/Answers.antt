@@ -1,6 +1,6 @@
 use Rattle.std.proofs.Common.{◌≡◌, ◌∙◌, ℕ, zero, suc, false, refl, replicate, rules}
 use Rattle.std.proofs.lemmas.List.{with_items_is}
-use Rattle.ffs_workspace.proofs.{Leaving.counts_same, PlaceLaws.filled_noted}
+use Rattle.ffs_workspace.proofs.{Leaving.{counts_same, counts_stand}, PlaceLaws.filled_noted}
 use Rattle.ffs_survey.{proofs.CalmLaws.calm_none, specs.Survey.bool_at}
 use Rattle.ffs_names.proofs.surveying.survey.Goals as goal
 
@@ -13,7 +13,7 @@ none_set (suc n) (suc x) = none_set n x
 pub returns-then-workspace-clause-survey : goal.returns-then-workspace-clause-survey
 returns-then-workspace-clause-survey g c = λ b t h.
     let w = c.args.workspace.now in
-    let found = h.counts.after c.if-workspace.true in
+    let found = counts_stand _ b w h.counts c.if-workspace.true in
     let flags = with_items_is w.flags c.fill.new.self (search rules) ∙ c.fill.ensures.after (λ y same. same) in
     record {
       survey = record {

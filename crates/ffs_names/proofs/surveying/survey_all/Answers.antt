@@ -1,6 +1,7 @@
 use Rattle.std.proofs.Common.{◌∙◌, ◌≡◌, ◌*◌, ℕ, List, Some, length, ap, subst, sym, rules, arith, slice_index}
 use Rattle.std.proofs.lemmas.List.{with_items_is}
 use Rattle.ffs_volume.{proofs.Sizes.some_inodes, specs.Encodings.Kinds.kind_at}
+use Rattle.ffs_workspace.proofs.Leaving.{counts_begin}
 use Rattle.ffs_workspace.{proofs.PlaceLaws.filled_noted, specs.{Holds.HoldsClaims, Tables.IsTableOf}}
 use Rattle.ffs_names.{specs.Readers.{Base, KnowsReader}, proofs.SurveyHolds.{volume_survey, holds_claims, holds_tree, volume_calm}}
 use Rattle.ffs_names.proofs.{SurveyHolds.{holds_calm, holds_references, on_ok_is}, surveying.survey_all.Goals.After-survey-surveyed}
@@ -60,7 +61,7 @@ returns-clause-survey g c = on_ok_is c.survey-surveyed.result _ _ (λ ok s b t h
     let found = s b (known g at b t h) in
     let survey = volume_survey (base g at) b c.deref-2.result.now {counts = counts} (search rules) (kinds g at b h)
     found.survey in
-    let begun = h.counts.before c.requires.first in
+    let begun = counts_begin v b w h.counts c.requires.first in
     let named = with_items_is w.named n.named (search rules) in
     record {
       survey = record {

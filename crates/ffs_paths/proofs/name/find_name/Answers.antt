@@ -1,11 +1,12 @@
 use Rattle.std.proofs.{Common.arith, lemmas.{Bool.both_ways, Result.on_ok_weaker}}
-use Rattle.ffs_paths.proofs.Keeping.{reads_then, tree_on}
+use Rattle.ffs_paths.{specs.{Climbing.IsNameIn, NameTexts.name_bytes}, proofs.Keeping.{reads_then, tree_on}}
 use Rattle.ffs_paths.proofs.name.find_name.Goals as goal
 
 -- it isn't found in the chunk that is noted
 pub returns-clause-finds : goal.returns-clause-finds
 returns-clause-finds g c = on_ok_weaker c.search_name.result (λ found. record {
-  name = grind (arith, tree_on);
+  name = tree_on (λ g. IsNameIn g c.args.dir c.args.parent (name_bytes c.search_name.new.name))
+      c.in_ok-find_by_place.ensures.leaves.reads found;
   some = λ b t noted. absurd (both_ways _ c.if-branch.false (c.in_ok-find_by_place.ensures.finds.found b t noted));
 }) c.search_name.ensures.name
 

@@ -56,10 +56,16 @@ entries-preserved g c =
     }
 
 pub returns-then-names-clause-reads : goal.returns-then-names-clause-reads
-returns-then-names-clause-reads g c = grind (arith, chunk_then)
+returns-then-names-clause-reads g c =
+    let i = c.entries.invariant in
+    let next = c.in_ok-entry.ensures in
+    chunk_then i.reads (rw i.geometry at next.leaves.ready) next.leaves.read
 
 pub returns-clause-reads : goal.returns-clause-reads
-returns-clause-reads g c = grind (arith, chunk_then)
+returns-clause-reads g c =
+    let i = c.entries.invariant in
+    let next = c.in_ok-entry.ensures in
+    chunk_then i.reads (rw i.geometry at next.leaves.ready) next.leaves.read
 
 -- a read failed
 pub returns-in_err-entry-clause-reads : goal.returns-in_err-entry-clause-reads

@@ -1,6 +1,7 @@
 use Rattle.std.proofs.Common.{◌≡◌, subst, arith}
 use Rattle.ffs_volume.specs.Directories.{Parents.graph_of, Paths.dir_path, Volumes.volume_of}
-use Rattle.ffs_paths.{specs.Climbing.IsParentOf, proofs.{WaysUp.child_put, Keeping.kept_before}}
+use Rattle.ffs_paths.{specs.Climbing.IsParentOf, proofs.{WaysUp.child_put, Keeping.{kept_before, leaves_with, reads_as}}}
+use Rattle.ffs_paths.proofs.Climbed.{few_more}
 use Rattle.ffs_paths.proofs.kept_parent.KeptParent.put_path.Goals as goal
 
 pub returns-clause-path : goal.returns-clause-path
@@ -12,3 +13,10 @@ returns-clause-path g c = λ b t claims survey.
     let holds = kept_before kept.leaves.reads kept.leaves.kept_parent b t claims survey in
     subst (λ d. c.put_entry.new.text.items ≡ dir_path G d) kept.child
     (child_put G s _ holds (omega (arith, of.below, kept.child)) (rw c.as_slice.ensures.value at c.put_entry.ensures))
+
+-- a directory without a parent
+pub returns-in_default-clause-leaves : goal.returns-in_default-clause-leaves
+returns-in_default-clause-leaves g c =
+    let left = c.in_ok-directory_path.ensures.leaves in
+    leaves_with c.args.self.now (reads_as left.reads) (λ b k. few_more (left.counted b k) (omega arith))
+    c.requires.kept_parent
