@@ -16,8 +16,8 @@ returns-clause-leaves g c =
           let kept = c.requires.kept_parent.right b t claims survey in
           let same = w.if-self-dir-2.true in
           record {
-            path = λ some. subst (λ d. IsPathOf G d w.child.result) same
-                (child_made G s w.child.result kept (omega (arith, same, some)) (rw w.as_slice.ensures.value at w.child.ensures));
+            path = λ some. subst (λ d. IsPathOf G d w.child-self.result) same
+                (child_made G s w.child-self.result kept (omega (arith, same, some)) (rw w.as_slice.ensures.value at w.child-self.ensures));
             parent = λ some. absurd (omega arith);
             child = λ some. absurd (omega arith);
           }))
