@@ -41,6 +41,14 @@ pub leaves_with : {T : Type 0} {most count count' : ℕ} {v : Layout} {d d' : De
     → KeepsParent v d.contents w s → PathLeaves most v d d' count count' w w' s (Ok x)
 leaves_with s r few k = record { reads = r; counted = few; kept_parent = kept_on s r k }
 
+-- the same of a call that may have failed
+pub leaves_so : {T : Type 0} {most count count' : ℕ} {v : Layout} {d d' : Device} {w w' : Workspace}
+    {result : Result T ImageFault} (s : KeptParent) → OnlyReads v d d' w w' result
+    → ReadsAtMost most v d w w' count count' → KeepsParent v d.contents w s
+    → PathLeaves most v d d' count count' w w' s result
+leaves_so {result = Ok x} s r few k = leaves_with s r few k
+leaves_so {result = Err e} s r few k = record { reads = r; counted = few; kept_parent = tt }
+
 -- what a call leaves that kept a path
 pub leaves_kept : {S T : Type 0} {most count count' : ℕ} {v : Layout} {d d' : Device} {w w' : Workspace} {x : S} {y : T}
     (s : KeptParent) → OnlyReads v d d' w w' (Ok x) → ReadsAtMost most v d w w' count count'

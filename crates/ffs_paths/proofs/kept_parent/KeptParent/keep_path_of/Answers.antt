@@ -1,4 +1,4 @@
-use Rattle.std.proofs.Common.{arith, refl, subst}
+use Rattle.std.proofs.Common.{arith, refl, subst, ℕ}
 use Rattle.ffs_volume.specs.Directories.{Parents.graph_of, Volumes.volume_of}
 use Rattle.ffs_paths.specs.DirectoryPaths.{IsPathOf}
 use Rattle.ffs_paths.proofs.{WaysUp.child_made, Keeping.no_reads, Keeping.leaves_kept}
@@ -10,14 +10,14 @@ returns-clause-leaves g c =
     let s = c.args.self.now in
     elim c.if-self-dir-2.branch [
       | then-self-dir-2 w ↦
-          rw (w.self-is, w.image-is, w.workspace-is) (leaves_kept _ (no_reads c.requires.ready)
+          rw (w.self-is, w.image-is, w.workspace-is) (leaves_kept {S = ℕ} {x = 0} _ (no_reads c.requires.ready)
           (λ b k. record { count = omega arith; blocks = refl }) (λ b t claims survey.
           let G = graph_of (volume_of c.args.geometry.now.layout b) in
           let kept = c.requires.kept_parent.right b t claims survey in
           let same = w.if-self-dir-2.true in
           record {
-            path = λ some. subst (λ d. IsPathOf G d w.child.result) same
-                (child_made G s w.child.result kept (omega (arith, same, some)) (rw w.as_slice.ensures.value at w.child.ensures));
+            path = λ some. subst (λ d. IsPathOf G d w.child-self.result) same
+                (child_made G s w.child-self.result kept (omega (arith, same, some)) (rw w.as_slice.ensures.value at w.child-self.ensures));
             parent = λ some. absurd (omega arith);
             child = λ some. absurd (omega arith);
           }))
