@@ -61,14 +61,22 @@ before_first v contents b old w t h s m c silent = grind (arith, claims_left, su
 pub before_next : {v : Layout} {contents contents' : Option (List ℕ)} {old new : Workspace} {d d' : ℕ} {b : List ℕ} →
     contents' ≡ contents → LeavesSurvey old new → AreRightBefore (volume_of v b) d' (passed_of new) →
     IsBefore v contents old d b → IsBefore v contents' new d' b
-before_next e s r k = grind (arith, claims_left, survey_left)
+before_next {v = v} {b = b} e s r k = record {
+  gives_bytes = e ∙ k.gives_bytes;
+  claims = claims_left v b _ _ s k.claims;
+  survey = survey_left v b _ _ s k.survey;
+  passed = r;
+}
 
 -- the same, where places are noted
 pub noted_next : {v : Layout} {contents contents' : Option (List ℕ)} {old new : Workspace} {d d' : ℕ} {b : List ℕ} →
     contents' ≡ contents → LeavesSurvey old new → KeepPlaces old.queue.items new.queue.items →
     AreRightBefore (volume_of v b) d' (passed_of new) → IsBeforeNoted v contents old d b →
     IsBeforeNoted v contents' new d' b
-noted_next e s keep r k = grind (arith, before_next, noted_kept)
+noted_next {v = v} {b = b} e s keep r k = record {
+  before = before_next e s r k.before;
+  noted = λ numbered. noted_kept v b _ _ keep (k.noted numbered);
+}
 
 pub noted_reported : {v : Layout} {contents contents' : Option (List ℕ)} {w : Workspace} {d : ℕ} {b : List ℕ} →
     contents' ≡ contents → IsBeforeNoted v contents w d b → IsBeforeNoted v contents' w d b

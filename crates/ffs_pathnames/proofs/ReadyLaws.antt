@@ -63,8 +63,22 @@ pub leaves_read : {S T : Type 0} {n m count count' count'' : ℕ} {v : Layout} {
     {w w' w'' : Workspace} {s : KeptParent} {x : S} (result : Result T ImageFault) →
     LimitedPathLeaves n v d d' count count' w w' s (Ok x) → OnlyReadsFew 1 v d' d'' count' count'' w' w'' result → n + 1 ≤ m
     → LimitedPathLeaves m v d d'' count count'' w w'' s result
-leaves_read (Ok y) path read more = grind (arith, reads_then, few_more, few_then, kept_on)
-leaves_read (Err e) path read more = grind (arith, reads_then, few_more, few_then)
+leaves_read (Ok y) path read more = record {
+  path = record {
+    reads = reads_then path.path.reads read.reads;
+    counted = λ b k. few_more (few_then (path.path.counted b k) read.counted) more;
+    kept_parent = kept_on _ read.reads path.path.kept_parent;
+  };
+  most = λ numbered. let first = path.most numbered in omega (arith, first, read.counted.count, more);
+}
+leaves_read (Err e) path read more = record {
+  path = record {
+    reads = reads_then path.path.reads read.reads;
+    counted = λ b k. few_more (few_then (path.path.counted b k) read.counted) more;
+    kept_parent = tt;
+  };
+  most = λ numbered. let first = path.most numbered in omega (arith, first, read.counted.count, more);
+}
 
 -- where gathering a path failed
 pub gather_failed : {S T : Type 0} {n m count count' : ℕ} {v : Layout} {d d' : Device} {w w' : Workspace}

@@ -4,7 +4,8 @@ use Rattle.std.proofs.Common.{slice_index}
 use Rattle.ffs_volume.specs.{declared.Layout.Layout, Laws.Geometry.IsAcceptedLayout, Directories.Volumes.volume_with}
 use Rattle.ffs_volume.specs.{Directories.{Volumes.volume_of, PathnameCheck.directory_lines}, Messages.Kinds.of_tree}
 use Rattle.ffs_volume.{specs.Messages.Kinds.lines_from, proofs.Numbered.from_next}
-use Rattle.ffs_workspace.specs.{declared.workspace.Workspace.Workspace, Lengths.IsFor, Places.is_due, Holds.HoldsSurvey}
+use Rattle.ffs_workspace.specs.{declared.workspace.Workspace.Workspace, Lengths.IsFor, Places.is_due, Holds.{HoldsCounts, HoldsSurvey}}
+use Rattle.ffs_workspace.proofs.Leaving.{counts_same}
 use Rattle.ffs_pathnames.{specs.Before.{IsBefore, needs_check}, proofs.Carrying.{before_skipped, lines_skipped}}
 use Rattle.ffs_pathnames.proofs.StampLaws.{none_stamped, stamps_length}
 
@@ -34,4 +35,18 @@ pub noted_before : (v : Layout) (contents contents' : Option (List ℕ)) (old ne
     IsBefore v contents old n b → IsBefore v contents' new n b
 unfolding volume_of volume_with
 noted_before v contents contents' old new n b two same lists made survey none k =
-    grind (arith, ap, none_stamped, stamps_length)
+    let counts : HoldsCounts v b new = counts_same v b old new (ap (λ (w : Workspace). w.references) lists)
+    (ap (λ (w : Workspace). w.surveyed) lists) (ap (λ (w : Workspace). w.named) lists)
+    (ap (λ (w : Workspace). w.reached) lists) (ap (λ (w : Workspace). w.parents) lists) k.claims.counts in
+    record {
+      gives_bytes = same ∙ k.gives_bytes;
+      claims = record {
+        used = rw (ap (λ (w : Workspace). w.used) lists) k.claims.used;
+        kinds = λ x. rw (ap (λ (w : Workspace). w.kinds) lists) (k.claims.kinds x);
+        marked = λ x. rw (ap (λ (w : Workspace). w.marked) lists) (k.claims.marked x);
+        notes = λ x. rw (ap (λ (w : Workspace). w.notes) lists) (k.claims.notes x);
+        counts = counts;
+      };
+      survey = survey;
+      passed = grind (arith, ap, none_stamped, stamps_length);
+    }

@@ -1,4 +1,5 @@
-use Rattle.std.proofs.{Common.{◌≤◌, ◌+◌, arith, ℕ, List}}
+use Rattle.std.proofs.{Common.{◌≤◌, ◌+◌, ◌∙◌, ap, arith, refl, ℕ, List}}
+use Rattle.ffs_workspace.proofs.Leaving.{claims_held, survey_held}
 use Rattle.ffs_names.{specs.Costs.directory_cost}
 use Rattle.ffs_pathnames.{specs.DirectoryContext.{DirectoryContext, KnowsDirectory}}
 use Rattle.ffs_pathnames.proofs.look.examine_all.{Given.Over, Goals.After-look_directory}
@@ -11,7 +12,17 @@ known : (g : Over) (c : After-look_directory g) (b : List ℕ) → DirectoryCont
     (record c.args.workspace.now
     { windows = record c.args.workspace.now.windows { table = c.inode_by_part.new.self } })
     (record { number = c.args.dir; inode = c.in_ok-inode.inode; cut = c.noted_cut.result }) b
-known g c b k = grind arith
+known g c b k =
+    let read = c.in_ok-inode.ensures.reads in (
+      record {
+        gives_bytes = ap (λ d. d.contents) read.read ∙ k.gives_bytes;
+        claims = claims_held _ b _ _ refl k.claims;
+        survey = survey_held _ b _ _ refl k.survey;
+        noted = k.noted;
+        dir = k.dir;
+      },
+      read.inode b k.gives_bytes,
+    )
 
 -- the reads
 reads_few : (g : Over) (c : After-look_directory g) (b : List ℕ) → DirectoryContext c.args.geometry.now.layout
