@@ -1,19 +1,21 @@
 # shellcheck shell=sh
-# What the launcher and the scripts around dist/ share. It is sourced by POSIX shells, with `top` set to the repository's top.
+# What the launchers and the scripts around dist/ share. It is sourced by POSIX shells, with `top` set to the repository's top, and
+# with `name` set to that of the program, where it isn't fsck_ffs.
 #
-# dist/fsck_ffs     the program for x86-64 Linux, as the kit's linker made it, without its symbols
-# dist/SHA256SUMS   its digest, as sha256sum -c reads it
+# dist/fsck_ffs     the program for x86-64 Linux, as the kit's linker made it, without its symbols; dist/ffs_find the second one
+# dist/SHA256SUMS   their digests, as sha256sum -c reads them
 # dist/BUILT_FROM   the digest of the sources that it was built from, what its --version prints, and the kit that built it
 
 # shellcheck disable=SC2154
-built=$top/crates/fsck_ffs/out/fsck_ffs
-kept=$top/dist/fsck_ffs
+name=${name:-fsck_ffs}
+built=$top/crates/$name/out/$name
+kept=$top/dist/$name
 version_file=crates/ffs_check/src/version.rt
 needs="x86-64 Linux with glibc 2.34 or newer"
 
 # Says one line on standard error.
 say() {
-    echo "fsck_ffs: $1" >&2
+    echo "$name: $1" >&2
 }
 
 [ -c /dev/null ] || {
@@ -82,7 +84,7 @@ is_kept() {
 runs_here() {
     printed=$("$1" --version 2>&1 </dev/null)
     case $printed in
-    "fsck_ffs "*) return 0 ;;
+    "$name "*) return 0 ;;
     esac
     why=$(echo "$printed" | sed -n '/./{s/^.*: //;p;q;}')
     case $why in
@@ -107,13 +109,27 @@ strip_program() {
 # can't keep a report.
 wrong_examples() {
     report=$(temporary_file) || return 1
-    while read -r name status; do
+    while read -r image status; do
         ended=0
-        (cd "$top" && "$1" -n "examples/$name.img") >"$report" || ended=$?
-        [ "$ended" = "$status" ] || echo "$name: status $ended, expected $status"
-        cmp -s "$report" "$top/examples/$name.report" || echo "$name: another report than examples/$name.report"
+        (cd "$top" && "$1" -n "examples/$image.img") >"$report" || ended=$?
+        [ "$ended" = "$status" ] || echo "$image: status $ended, expected $status"
+        cmp -s "$report" "$top/examples/$image.report" || echo "$image: another report than examples/$image.report"
     done <"$top/examples/statuses"
     rm -f "$report"
+}
+
+# Runs ffs_find over the examples by the words of each line of examples/finds, and prints a line for each whose text or status isn't
+# the one kept beside it. It fails where it can't keep a text.
+wrong_finds() {
+    found=$(temporary_file) || return 1
+    while read -r text status words; do
+        ended=0
+        # shellcheck disable=SC2086
+        (cd "$top" && "$1" $words) >"$found" || ended=$?
+        [ "$ended" = "$status" ] || echo "ffs_find $words: status $ended, expected $status"
+        cmp -s "$found" "$top/examples/$text" || echo "ffs_find $words: another text than examples/$text"
+    done <"$top/examples/finds"
+    rm -f "$found"
 }
 
 # The program's crate and the libraries below it, one a line.
@@ -135,7 +151,7 @@ stop_build() {
     trap '' INT TERM HUP
     kill "$running" 2>/dev/null
     wait
-    rm -f "$tree/crates/fsck_ffs/out/fsck_ffs"
+    rm -f "$tree/crates/$name/out/$name"
     say "the build was stopped; the next one continues with what is proved"
     exit 8
 }
@@ -166,23 +182,23 @@ build() {
     tree=$1
     log=$2
     began=$(date +%s)
-    total=$(crates_below fsck_ffs | wc -l)
+    total=$(crates_below "$name" | wc -l)
     at_once=$(crates_at_once)
     say "proving and building $total crates, $at_once at a time; this takes minutes"
-    rm -f "$tree/crates/fsck_ffs/out/fsck_ffs"
+    rm -f "$tree/crates/$name/out/$name"
     : >"$log"
-    (cd "$tree/crates/fsck_ffs" && exec rt all check --jobs "$at_once") >>"$log" 2>&1 </dev/null &
+    (cd "$tree/crates/$name" && exec rt all check --jobs "$at_once") >>"$log" 2>&1 </dev/null &
     running=$!
     trap stop_build INT TERM HUP
     if wait_for "$total" "$log"; then
         say "all crates are proved; now the program is linked"
         # The run that ends a build is given no image: it opens nothing, and what it prints goes to the log.
-        (cd "$tree/crates/fsck_ffs" && exec rt run -- --help) >>"$log" 2>&1 </dev/null &
+        (cd "$tree/crates/$name" && exec rt run -- --help) >>"$log" 2>&1 </dev/null &
         running=$!
         wait_for 0 "$log"
     fi
     trap - INT TERM HUP
-    [ -x "$tree/crates/fsck_ffs/out/fsck_ffs" ]
+    [ -x "$tree/crates/$name/out/$name" ]
 }
 
 # Sets `program` to the program of these sources that is there: the one that was built here where no source is newer, else the one of
@@ -208,10 +224,10 @@ find_program() {
         say "dist/ has no program of these sources, and Rattle's command rt, which builds one, isn't there"
         return 1
     fi
-    build_log=$top/crates/fsck_ffs/out/build.log
+    build_log=$top/crates/$name/out/build.log
     mkdir -p "$(dirname "$build_log")"
     if ! build "$top" "$build_log" || ! is_built; then
-        say "there is no program: see $build_log, or run rt check in $top/crates/fsck_ffs"
+        say "there is no program: see $build_log, or run rt check in $top/crates/$name"
         return 1
     fi
     program=$built

@@ -42,6 +42,7 @@ pub mod Messages
 pub mod Directories
 pub mod Groups
 pub mod Report
+pub mod Find
 pub mod Consistent
 pub mod Encodings
 pub mod Laws

@@ -1,0 +1,21 @@
+-- The exponents of powers of two.
+use Rattle.std.proofs.Common.{◌≡◌, ℕ, ◌+◌, ◌*◌, ◌^◌, ◌<◌, ◌≤◌, ◌∙◌, true, false, Some, arith, ap, nat_lt}
+use Rattle.std.proofs.{Math.Pow.pow_mono, lemmas.{Grind.pow_more, Bool.Decides.nat_tests}}
+use Rattle.std.specs.Prelude.{unwrap_or}
+use Rattle.ffs_volume.{specs.Disk.Search.first_below, proofs.SearchLaws.first_below-is}
+use Rattle.ffs_volume.specs.Find.Fields.{exponent_of}
+
+above : (n r : ℕ) → n < 2 * 2 ^ r → nat_lt n (2 ^ (r + 1)) ≡ true
+above n r h = let power : 2 ^ (r + 1) ≡ 2 ^ r * 2 = pow_more 2 r in
+    let low : n < 2 ^ (r + 1) = omega (arith, power) in grind (arith, nat_tests)
+
+below : (n r t : ℕ) → 2 ^ r ≤ n → t < r → nat_lt n (2 ^ (t + 1)) ≡ false
+below n r t h less = let power : 2 ^ (t + 1) ≤ 2 ^ r = pow_mono (omega arith) in
+    let high : 2 ^ (t + 1) ≤ n = omega (arith, power) in grind (arith, nat_tests)
+
+pub exponent_is : (n r : ℕ) → r < 32 → 2 ^ r ≤ n → n < 2 * 2 ^ r → exponent_of n ≡ r
+unfolding exponent_of
+exponent_is n r small low high =
+    ap (λ o. unwrap_or o 0)
+    (first_below-is (λ k. nat_lt n (2 ^ (k + 1))) 32 r
+    (record { below = small; passes = above n r high; least = λ t less. below n r t low less }))

@@ -1,0 +1,11 @@
+pub mod Printing
+pub mod Ranges
+pub mod Magics
+pub mod Exponents
+pub mod Ending
+pub mod WrongFields
+pub mod CopyLaws
+pub mod Lines
+pub mod ProgramWords
+pub mod CopySteps
+pub mod FieldTexts

@@ -1,0 +1,140 @@
+-- How lines are printed, one after another.
+use Rattle.std.proofs.Common.{◌≡◌, refl, ◌∙◌, sym, ℕ, List, [], ◌∷◌, ◌++◌, append_assoc, append-nil, Result, Ok, Err, arith}
+use Rattle.std.proofs.lemmas.List.Concat.{flat_map-append}
+use Rattle.std.specs.List.{concat}
+use Rattle.ffs_report.specs.{Known.ForBytes, Sink.{Sink, Took, BrokeOff}, declared.fault.RunFault.RunFault}
+use Rattle.ffs_report.specs.declared.fault.RunFault.TheVariants.{Read, Out}
+use Rattle.ffs_report.proofs.Sinks.{took_nil, took_then, broke_off_after, broke_off_more}
+use Rattle.ffs_finding.specs.Outcome.{PrintedTo, PrintedSome, StoppedIn, PrintsLines}
+
+-- the bytes of lines and of others after them
+pub concat-append : (xs ys : List (List ℕ)) → concat (xs ++ ys) ≡ concat xs ++ concat ys
+concat-append [] ys = refl
+concat-append (x ∷ xs) ys = grind (arith, append_assoc, concat-append xs ys)
+
+pub begins : (knows : List ℕ → Type 0) (all : List ℕ → List (List ℕ)) (a : Sink) → PrintedTo knows all all a a
+begins knows all a = record { lines = []; right = λ bytes k. refl; took = took_nil a }
+
+pub prints : (knows : List ℕ → Type 0) (rest rest' all : List ℕ → List (List ℕ)) (ms : List (List ℕ)) (a b c : Sink) →
+    PrintedTo knows rest all a b → ForBytes knows (λ bytes. rest bytes ≡ ms ++ rest' bytes) → Took b c (concat ms) →
+    PrintedTo knows rest' all a c
+prints knows rest rest' all ms a b c p e q = record {
+  lines = p.lines ++ ms;
+  right = λ bytes k. grind (arith, append_assoc, e bytes k, p.right bytes k);
+  took = rw (concat-append p.lines ms) (took_then a b c (concat p.lines) (concat ms) p.took q);
+}
+
+pub stops : (knows : List ℕ → Type 0) (rest rest' all : List ℕ → List (List ℕ)) (ms : List (List ℕ)) (a b c : Sink) →
+    PrintedTo knows rest all a b → ForBytes knows (λ bytes. rest bytes ≡ ms ++ rest' bytes) →
+    BrokeOff b c (concat ms) → StoppedIn knows all a c
+stops knows rest rest' all ms a b c p e q = record {
+  lines = p.lines ++ ms;
+  rest = rest';
+  right = λ bytes k. grind (arith, append_assoc, e bytes k, p.right bytes k);
+  broke_off = rw (concat-append p.lines ms) (broke_off_after a b c (concat p.lines) (concat ms) p.took q);
+}
+
+-- all was printed at once
+pub prints_all : {knows : List ℕ → Type 0} {all : List ℕ → List (List ℕ)} {ms : List (List ℕ)} {a b : Sink} →
+    ForBytes knows (λ bytes. all bytes ≡ ms) → Took a b (concat ms) → PrintedTo knows (λ bytes. []) all a b
+prints_all {knows} {all} {ms} e p =
+    record { lines = ms; right = λ bytes k. append-nil ms ∙ sym (e bytes k); took = p }
+
+pub prints_none : {knows : List ℕ → Type 0} {all : List ℕ → List (List ℕ)} {a : Sink} →
+    ForBytes knows (λ bytes. all bytes ≡ []) → PrintedTo knows (λ bytes. []) all a a
+prints_none {knows} {all} {a} e = prints_all e (took_nil a)
+
+pub stops_all : {knows : List ℕ → Type 0} {all : List ℕ → List (List ℕ)} {ms : List (List ℕ)} {a b : Sink} →
+    ForBytes knows (λ bytes. all bytes ≡ ms) → BrokeOff a b (concat ms) → StoppedIn knows all a b
+stops_all {knows} {all} {ms} e p = record {
+  lines = ms;
+  rest = λ bytes. [];
+  right = λ bytes k. append-nil ms ∙ sym (e bytes k);
+  broke_off = p;
+}
+
+-- a read failed before anything was printed
+pub reads_first : {knows : List ℕ → Type 0} {all : List ℕ → List (List ℕ)} {a : Sink} → PrintedSome knows all a a
+reads_first {knows} {all} {a} = record { rest = all; printed = begins knows all a }
+
+-- one line was printed, which is all
+pub one : {a b : Sink} {text : List ℕ} → Took a b text → Took a b (concat (text ∷ []))
+one {a} {b} {text} p = rw (append-nil text) p
+
+pub one_broken : {a b : Sink} {text : List ℕ} → BrokeOff a b text → BrokeOff a b (concat (text ∷ []))
+one_broken {a} {b} {text} p = rw (append-nil text) p
+
+-- ---- a part of the lines
+-- a part was printed
+pub part : (knows : List ℕ → Type 0) (rest this rest' all : List ℕ → List (List ℕ)) (a b c : Sink) →
+    PrintedTo knows rest all a b → ForBytes knows (λ bytes. rest bytes ≡ this bytes ++ rest' bytes) →
+    PrintedTo knows (λ bytes. []) this b c → PrintedTo knows rest' all a c
+part knows rest this rest' all a b c p e q = record {
+  lines = p.lines ++ q.lines;
+  right = λ bytes k. grind (arith, append_assoc, append-nil, p.right bytes k, q.right bytes k, e bytes k);
+  took = rw (concat-append p.lines q.lines) (took_then a b c (concat p.lines) (concat q.lines) p.took q.took);
+}
+
+part_right : (knows : List ℕ → Type 0) (rest this rest' all more : List ℕ → List (List ℕ)) (xs ys : List (List ℕ)) →
+    ForBytes knows (λ bytes. xs ++ rest bytes ≡ all bytes) →
+    ForBytes knows (λ bytes. rest bytes ≡ this bytes ++ rest' bytes) →
+    ForBytes knows (λ bytes. ys ++ more bytes ≡ this bytes) →
+    ForBytes knows (λ bytes. (xs ++ ys) ++ (more bytes ++ rest' bytes) ≡ all bytes)
+part_right knows rest this rest' all more xs ys p e q = grind (arith, append_assoc)
+
+-- a fault came in a part
+pub part_fault : (T E : Type 0) (knows : List ℕ → Type 0) (rest this rest' all : List ℕ → List (List ℕ)) (a b c : Sink)
+    (fault : RunFault) → PrintedTo knows rest all a b →
+    ForBytes knows (λ bytes. rest bytes ≡ this bytes ++ rest' bytes) →
+    PrintsLines {T = T} knows this b c (Err fault) → PrintsLines {T = E} knows all a c (Err fault)
+part_fault T E knows rest this rest' all a b c (Read fault) p e q = record {
+  rest = λ bytes. q.rest bytes ++ rest' bytes;
+  printed = record {
+    lines = p.lines ++ q.printed.lines;
+    right = part_right knows rest this rest' all q.rest p.lines q.printed.lines p.right e q.printed.right;
+    took = rw (concat-append p.lines q.printed.lines)
+        (took_then a b c (concat p.lines) (concat q.printed.lines) p.took q.printed.took);
+  };
+}
+part_fault T E knows rest this rest' all a b c (Out fault) p e q = record {
+  lines = p.lines ++ q.lines;
+  rest = λ bytes. q.rest bytes ++ rest' bytes;
+  right = part_right knows rest this rest' all q.rest p.lines q.lines p.right e q.right;
+  broke_off = rw (concat-append p.lines q.lines)
+      (broke_off_after a b c (concat p.lines) (concat q.lines) p.took q.broke_off);
+}
+
+-- a fault by itself, of another kind of answer
+pub same_fault : (T E : Type 0) (knows : List ℕ → Type 0) (all : List ℕ → List (List ℕ)) (a b : Sink) (fault : RunFault)
+    → PrintsLines {T = T} knows all a b (Err fault) → PrintsLines {T = E} knows all a b (Err fault)
+same_fault T E knows all a b (Read fault) p = p
+same_fault T E knows all a b (Out fault) p = p
+
+-- nothing is to come
+pub printed_all : (knows : List ℕ → Type 0) (rest all : List ℕ → List (List ℕ)) (a b : Sink) → PrintedTo knows rest all a b
+    → ForBytes knows (λ bytes. rest bytes ≡ []) → PrintedTo knows (λ bytes. []) all a b
+printed_all knows rest all a b p e = record {
+  lines = p.lines;
+  right = λ bytes k. grind (arith, p.right bytes k, e bytes k);
+  took = p.took;
+}
+
+-- where more is known
+pub knowing : (T : Type 0) (knows knows' : List ℕ → Type 0) (all : List ℕ → List (List ℕ)) (a b : Sink)
+    (r : Result T RunFault) → ForBytes knows' knows → PrintsLines knows all a b r → PrintsLines knows' all a b r
+knowing T knows knows' all a b (Ok x) more p =
+    record { lines = p.lines; right = λ bytes k. p.right bytes (more bytes k); took = p.took }
+knowing T knows knows' all a b (Err (Read fault)) more p = record {
+  rest = p.rest;
+  printed = record {
+    lines = p.printed.lines;
+    right = λ bytes k. p.printed.right bytes (more bytes k);
+    took = p.printed.took;
+  };
+}
+knowing T knows knows' all a b (Err (Out fault)) more p = record {
+  lines = p.lines;
+  rest = p.rest;
+  right = λ bytes k. p.right bytes (more bytes k);
+  broke_off = p.broke_off;
+}

@@ -1,0 +1,55 @@
+-- The lines of wrong fields, and whether there is one.
+use Rattle.std.proofs.Common.{◌≡◌, ℕ, Bool, true, false, not, List, [], ◌∷◌, ◌++◌, append-nil, append_assoc, arith, refl, ap, ◌∙◌, map, ◌||◌}
+use Rattle.std.specs.{List.{concat, flat_map, list_any}, Prelude.if◌then◌else◌}
+use Rattle.ffs_finding.specs.Fields.{any_line, field_of, is_wrong, text_of_wrong}
+use Rattle.ffs_volume.specs.Find.Fields as book
+use Rattle.ffs_finding.specs.declared.fields.Field.{Field}
+use Rattle.ffs_finding.proofs.Printing.{concat-append}
+
+text_at : (start : ℕ) (f : Field) → concat (book.field_lines start (field_of f)) ≡ text_of_wrong start f
+text_at start f = grind (arith, append-nil)
+
+pub lines_are : (start : ℕ) (fields : List Field) →
+    concat (flat_map (book.field_lines start) (map field_of fields)) ≡ flat_map (text_of_wrong start) fields
+lines_are start [] = refl
+lines_are start (f ∷ fields) =
+    concat-append (book.field_lines start (field_of f)) (flat_map (book.field_lines start) (map field_of fields))
+    ∙ grind (arith, text_at start f, lines_are start fields)
+
+pub any_more : (xs ys : List (List ℕ)) → any_line (xs ++ ys) ≡ (any_line xs || any_line ys)
+any_more [] ys = refl
+any_more (x ∷ xs) ys = refl
+
+any_at : (start : ℕ) (f : Field) → any_line (book.field_lines start (field_of f)) ≡ is_wrong f
+any_at start f = grind arith
+
+pub any_is : (start : ℕ) (fields : List Field) →
+    list_any is_wrong fields ≡ any_line (flat_map (book.field_lines start) (map field_of fields))
+any_is start [] = refl
+any_is start (f ∷ fields) =
+    grind (
+      arith,
+      any_more (book.field_lines start (field_of f)) (flat_map (book.field_lines start) (map field_of fields)),
+      any_at start f,
+      any_is start fields,
+    )
+
+-- the lines of two lists of fields
+pub both_texts : (start : ℕ) (xs ys : List book.Field) → concat (flat_map (book.field_lines start) (xs ++ ys))
+    ≡ concat (flat_map (book.field_lines start) xs) ++ concat (flat_map (book.field_lines start) ys)
+both_texts start [] ys = refl
+both_texts start (x ∷ xs) ys =
+    let first = concat-append (book.field_lines start x) (flat_map (book.field_lines start) (xs ++ ys)) in
+    let same = concat-append (book.field_lines start x) (flat_map (book.field_lines start) xs) in
+    grind (arith, append_assoc, both_texts start xs ys, first, same)
+
+pub both_any : (start : ℕ) (xs ys : List book.Field) → any_line (flat_map (book.field_lines start) (xs ++ ys))
+    ≡ (any_line (flat_map (book.field_lines start) xs) || any_line (flat_map (book.field_lines start) ys))
+both_any start [] ys = refl
+both_any start (x ∷ xs) ys =
+    grind (
+      arith,
+      any_more (book.field_lines start x) (flat_map (book.field_lines start) (xs ++ ys)),
+      any_more (book.field_lines start x) (flat_map (book.field_lines start) xs),
+      both_any start xs ys,
+    )

@@ -1,0 +1,96 @@
+use Rattle.std.proofs.{Common.{◌∙◌, arith, rules, sym, ap}, lemmas.Result.err_from_is_err_and}
+use Rattle.ffs_volume.specs.Find.Copies.{copy_lines_of}
+use Rattle.ffs_finding.proofs.Printing.{one, one_broken, prints_all, prints_none, stops_all, reads_first}
+use Rattle.ffs_finding.proofs.CopySteps.{no_line, two_reads, same_super, unread, holds_on}
+use Rattle.ffs_finding.proofs.copies.find_copy.Goals as goal
+
+pub returns-in_err-found : goal.returns-in_err-found
+returns-in_err-found g c =
+    let p = err_from_is_err_and c.from_residual.result c.from_residual.ensures.1 in
+    let e = c.in_err-found.ensures in
+    rw (p.1, p.2) (record {
+      found = record { image = e.read; text = reads_first };
+      window = record { at = search rules; room = e.window.room; holds = e.window.holds };
+      counted = λ b k. omega (arith, e.counted);
+      again = λ at b k. omega (arith, e.again at);
+      any = omega (arith, e.counted);
+    })
+
+pub returns-then-not-found : goal.returns-then-not-found
+returns-then-not-found g c =
+    let e = c.in_ok-found.ensures in
+    record {
+      found = record {
+        image = e.read;
+        text = prints_none (no_line (g.I.Image.device c.args.image.now) c.args.sector (g.met.I.Image.sized c.args.image.now) c.requires.inside
+            (λ b k. sym c.if-not-found.true ∙ e.answer b k));
+      };
+      window = record { at = e.window.at; room = e.window.room; holds = e.window.holds };
+      counted = λ b k. omega (arith, e.counted);
+      again = λ at b k. omega (arith, e.again at);
+      any = omega (arith, e.counted);
+    }
+
+pub returns-in_err-print_copy-in-Ok : goal.returns-in_err-print_copy-in-Ok
+returns-in_err-print_copy-in-Ok g c =
+    let p = err_from_is_err_and c.from_residual-in_err-print_copy-in-Ok.result
+    c.from_residual-in_err-print_copy-in-Ok.ensures.1 in
+    let e = c.in_ok-found.ensures in
+    let s = same_super (g.I.Image.device c.args.image.now) _ _ _ _ e.read c.in-Ok.ensures.answer in
+    let two = two_reads (g.I.Image.device c.args.image.now) c.args.sector (λ b k. sym c.if-not-found.false ∙ e.answer b k) in
+    rw (p.1, p.2) (record {
+      found = record {
+        image = s.0;
+        text = stops_all (λ b k. ap (copy_lines_of c.args.sector) (sym (s.1 b k)))
+            (one_broken c.in_err-print_copy-in-Ok.ensures);
+      };
+      window = record {
+        at = search rules;
+        room = e.window.room;
+        holds = holds_on (g.I.Image.device c.args.image.now) (g.I.Image.device c.has_magic.new.image)
+            (g.I.Image.device c.read_super.new.image) c.has_magic.new.window e.read (ap (λ x. x.contents) s.0) e.window.holds;
+      };
+      counted = λ b k. let reads = two b k in omega (arith, e.counted, reads, c.in-Ok.ensures.reads);
+      again = λ at b k. let reads = two b k in omega (arith, e.again at, reads, c.in-Ok.ensures.reads);
+      any = omega (arith, e.counted, c.in-Ok.ensures.reads);
+    })
+
+pub returns-in_ok-print_copy-in-Ok : goal.returns-in_ok-print_copy-in-Ok
+returns-in_ok-print_copy-in-Ok g c =
+    let e = c.in_ok-found.ensures in
+    let s = same_super (g.I.Image.device c.args.image.now) _ _ _ _ e.read c.in-Ok.ensures.answer in
+    let two = two_reads (g.I.Image.device c.args.image.now) c.args.sector (λ b k. sym c.if-not-found.false ∙ e.answer b k) in
+    record {
+      found = record {
+        image = s.0;
+        text = prints_all (λ b k. ap (copy_lines_of c.args.sector) (sym (s.1 b k))) (one c.in_ok-print_copy-in-Ok.ensures);
+      };
+      window = record {
+        at = e.window.at;
+        room = e.window.room;
+        holds = holds_on (g.I.Image.device c.args.image.now) (g.I.Image.device c.has_magic.new.image)
+            (g.I.Image.device c.read_super.new.image) c.has_magic.new.window e.read (ap (λ x. x.contents) s.0) e.window.holds;
+      };
+      counted = λ b k. let reads = two b k in omega (arith, e.counted, reads, c.in-Ok.ensures.reads);
+      again = λ at b k. let reads = two b k in omega (arith, e.again at, reads, c.in-Ok.ensures.reads);
+      any = omega (arith, e.counted, c.in-Ok.ensures.reads);
+    }
+
+pub returns-in-Err-CannotRead : goal.returns-in-Err-CannotRead
+returns-in-Err-CannotRead g c =
+    let e = c.in_ok-found.ensures in
+    let failed = unread (g.I.Image.device c.args.image.now) _ _ c.args.sector c.in-Err-CannotRead.sector e.read c.requires.inside
+    (c.in-Err-CannotRead.ensures.inside_or_unreadable c.in-Err-CannotRead.sector c.in-Err-CannotRead.field-0-is) in
+    let two = two_reads (g.I.Image.device c.args.image.now) c.args.sector (λ b k. sym c.if-not-found.false ∙ e.answer b k) in
+    record {
+      found = record { image = failed; text = reads_first };
+      window = record {
+        at = search rules;
+        room = e.window.room;
+        holds = holds_on (g.I.Image.device c.args.image.now) (g.I.Image.device c.has_magic.new.image)
+            (g.I.Image.device c.read_super.new.image) c.has_magic.new.window e.read failed.contents e.window.holds;
+      };
+      counted = λ b k. let reads = two b k in omega (arith, e.counted, reads, c.in-Err-CannotRead.ensures.reads);
+      again = λ at b k. let reads = two b k in omega (arith, e.again at, reads, c.in-Err-CannotRead.ensures.reads);
+      any = omega (arith, e.counted, c.in-Err-CannotRead.ensures.reads);
+    }

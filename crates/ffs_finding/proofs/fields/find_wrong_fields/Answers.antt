@@ -1,0 +1,156 @@
+use Rattle.std.proofs.Common.{◌≡◌, ◌∙◌, ◌*◌, ◌++◌, ◌||◌, ℕ, Bool, List, [], map, true, false, arith, rules, refl, ap, append-nil, length, take, drop, Option}
+use Rattle.std.{proofs.lemmas.Result.err_from_is_err_and, specs.List.{concat, flat_map}}
+use Rattle.ffs_volume.specs.Disk.{Numbers.piece, Outcome.{super_bytes, super_sector}}
+use Rattle.ffs_layout.{specs.Super.superblock_in, proofs.{Copying.default_sector, Answering.taken}}
+use Rattle.ffs_report.proofs.Sinks.{took_nil, took_then, broke_off_after}
+use Rattle.ffs_volume.specs.Find.Fields.{field_lines, total_fields}
+use Rattle.ffs_finding.specs.Fields.{field_of}
+use Rattle.ffs_finding.proofs.{FieldTexts.{too_short, first, both, any}, Printing.{concat-append, reads_first}}
+use Rattle.ffs_finding.proofs.fields.find_wrong_fields.Goals as goal
+
+-- the bytes that were read are those of the superblock
+super_read : (start : ℕ) (sector : Option ℕ) (b bytes : List ℕ) → start ≡ super_sector sector → length bytes ≡ 1376 →
+    bytes ≡ take (length bytes) (drop (start * 512) b) → bytes ≡ super_bytes b sector
+super_read start sector b bytes at long read =
+    taken (start * 512) 1376 b bytes long read ∙ ap (λ (n : ℕ). piece (n * 512) 1376 b) at
+
+-- whether there is a line, where the first part has one, or hasn't
+either : (x a b whole : Bool) → x ≡ true → x ≡ a → (a || b) ≡ whole → x ≡ whole
+either x a b whole is same e = grind arith
+
+second : (x a y b whole : Bool) → x ≡ false → x ≡ a → y ≡ b → (a || b) ≡ whole → y ≡ whole
+second x a y b whole is same other e = grind arith
+
+pub returns-then-size-start-clause-prints : goal.returns-then-size-start-clause-prints
+returns-then-size-start-clause-prints g c =
+    let d = g.I.Image.device c.args.image.now in
+    let at : c.from-start.result ≡ super_sector c.args.sector =
+    c.from-start.ensures ∙ c.unwrap_or.ensures ∙ default_sector c.args.sector in
+    record {
+      image = refl;
+      text = record {
+        lines = [];
+        right = λ b k. absurd (too_short d b c.args.sector (superblock_in c.args.superblock.now) _
+            (g.met.I.Image.sized c.args.image.now) k.0 at (omega (arith, c.size.ensures)) k.1);
+        took = took_nil _;
+      };
+    }
+
+pub returns-then-size-start-clause-any : goal.returns-then-size-start-clause-any
+returns-then-size-start-clause-any g c = λ b k.
+    let d = g.I.Image.device c.args.image.now in
+    let at : c.from-start.result ≡ super_sector c.args.sector =
+    c.from-start.ensures ∙ c.unwrap_or.ensures ∙ default_sector c.args.sector in
+    absurd (too_short d b c.args.sector (superblock_in c.args.superblock.now) _
+    (g.met.I.Image.sized c.args.image.now) k.0 at (omega (arith, c.size.ensures)) k.1)
+
+pub returns-in_err-read_at-clause-prints : goal.returns-in_err-read_at-clause-prints
+returns-in_err-read_at-clause-prints g c =
+    let p = err_from_is_err_and c.from_residual.result c.from_residual.ensures.1 in
+    rw (p.1, p.2) (record { image = search rules; text = reads_first })
+
+pub returns-in_err-of_layout-clause-prints : goal.returns-in_err-of_layout-clause-prints
+returns-in_err-of_layout-clause-prints g c =
+    let at : c.from-start.result ≡ super_sector c.args.sector =
+    c.from-start.ensures ∙ c.unwrap_or.ensures ∙ default_sector c.args.sector in
+    let s = superblock_in c.args.superblock.now in
+    let p = err_from_is_err_and c.from_residual-in_err-of_layout.result c.from_residual-in_err-of_layout.ensures.1 in
+    rw (p.1, p.2) (record {
+      image = search rules;
+      text = record {
+        lines = flat_map (field_lines (c.from-start.result * 512)) (map field_of c.layout_fields.result);
+        rest = λ b. flat_map (field_lines (c.from-start.result * 512)) (total_fields s c.read_at.new.buf);
+        right = λ b k. first s c.args.sector c.from-start.result at b c.read_at.new.buf
+            (super_read c.from-start.result c.args.sector b c.read_at.new.buf at (search rules)
+            (c.in_ok-read_at.ensures.bytes.bytes b k.0)) c.layout_fields.result c.layout_fields.ensures;
+        broke_off = c.in_err-of_layout.ensures.text;
+      };
+    })
+
+pub returns-in_err-of_totals-clause-prints : goal.returns-in_err-of_totals-clause-prints
+returns-in_err-of_totals-clause-prints g c =
+    let at : c.from-start.result ≡ super_sector c.args.sector =
+    c.from-start.ensures ∙ c.unwrap_or.ensures ∙ default_sector c.args.sector in
+    let s = superblock_in c.args.superblock.now in
+    let p = err_from_is_err_and c.from_residual-in_err-of_totals.result c.from_residual-in_err-of_totals.ensures.1 in
+    let f = field_lines (c.from-start.result * 512) in
+    let xs = map field_of c.layout_fields.result in
+    let ys = map field_of c.total_fields.result in
+    rw (p.1, p.2) (record {
+      image = search rules;
+      text = record {
+        lines = flat_map f xs ++ flat_map f ys;
+        rest = λ b. [];
+        right = λ b k. append-nil _ ∙ both s c.args.sector c.from-start.result at b c.read_at.new.buf
+            (super_read c.from-start.result c.args.sector b c.read_at.new.buf at (search rules)
+            (c.in_ok-read_at.ensures.bytes.bytes b k.0)) c.layout_fields.result c.layout_fields.ensures
+            c.total_fields.result c.total_fields.ensures;
+        broke_off = rw (concat-append (flat_map f xs) (flat_map f ys))
+            (broke_off_after _ _ _ (concat (flat_map f xs)) (concat (flat_map f ys)) c.in_ok-of_layout.ensures.text
+            c.in_err-of_totals.ensures.text);
+      };
+    })
+
+pub returns-then-of_layout-clause-prints : goal.returns-then-of_layout-clause-prints
+returns-then-of_layout-clause-prints g c =
+    let at : c.from-start.result ≡ super_sector c.args.sector =
+    c.from-start.ensures ∙ c.unwrap_or.ensures ∙ default_sector c.args.sector in
+    let s = superblock_in c.args.superblock.now in
+    let f = field_lines (c.from-start.result * 512) in
+    let xs = map field_of c.layout_fields.result in
+    let ys = map field_of c.total_fields.result in
+    record {
+      image = search rules;
+      text = record {
+        lines = flat_map f xs ++ flat_map f ys;
+        right = λ b k. append-nil _ ∙ both s c.args.sector c.from-start.result at b c.read_at.new.buf
+            (super_read c.from-start.result c.args.sector b c.read_at.new.buf at (search rules)
+            (c.in_ok-read_at.ensures.bytes.bytes b k.0)) c.layout_fields.result c.layout_fields.ensures
+            c.total_fields.result c.total_fields.ensures;
+        took = rw (concat-append (flat_map f xs) (flat_map f ys))
+            (took_then _ _ _ (concat (flat_map f xs)) (concat (flat_map f ys)) c.in_ok-of_layout.ensures.text
+            c.in_ok-of_totals.ensures.text);
+      };
+    }
+
+pub returns-then-of_layout-clause-any : goal.returns-then-of_layout-clause-any
+returns-then-of_layout-clause-any g c = λ b k.
+    let at : c.from-start.result ≡ super_sector c.args.sector =
+    c.from-start.ensures ∙ c.unwrap_or.ensures ∙ default_sector c.args.sector in
+    let e = any (superblock_in c.args.superblock.now) c.args.sector c.from-start.result at b c.read_at.new.buf
+    (super_read c.from-start.result c.args.sector b c.read_at.new.buf at (search rules)
+    (c.in_ok-read_at.ensures.bytes.bytes b k.0)) c.layout_fields.result c.layout_fields.ensures
+    c.total_fields.result c.total_fields.ensures in
+    either _ _ _ _ c.if-of_layout.true c.in_ok-of_layout.ensures.any e
+
+pub returns-else-of_layout-clause-prints : goal.returns-else-of_layout-clause-prints
+returns-else-of_layout-clause-prints g c =
+    let at : c.from-start.result ≡ super_sector c.args.sector =
+    c.from-start.ensures ∙ c.unwrap_or.ensures ∙ default_sector c.args.sector in
+    let s = superblock_in c.args.superblock.now in
+    let f = field_lines (c.from-start.result * 512) in
+    let xs = map field_of c.layout_fields.result in
+    let ys = map field_of c.total_fields.result in
+    record {
+      image = search rules;
+      text = record {
+        lines = flat_map f xs ++ flat_map f ys;
+        right = λ b k. append-nil _ ∙ both s c.args.sector c.from-start.result at b c.read_at.new.buf
+            (super_read c.from-start.result c.args.sector b c.read_at.new.buf at (search rules)
+            (c.in_ok-read_at.ensures.bytes.bytes b k.0)) c.layout_fields.result c.layout_fields.ensures
+            c.total_fields.result c.total_fields.ensures;
+        took = rw (concat-append (flat_map f xs) (flat_map f ys))
+            (took_then _ _ _ (concat (flat_map f xs)) (concat (flat_map f ys)) c.in_ok-of_layout.ensures.text
+            c.in_ok-of_totals.ensures.text);
+      };
+    }
+
+pub returns-else-of_layout-clause-any : goal.returns-else-of_layout-clause-any
+returns-else-of_layout-clause-any g c = λ b k.
+    let at : c.from-start.result ≡ super_sector c.args.sector =
+    c.from-start.ensures ∙ c.unwrap_or.ensures ∙ default_sector c.args.sector in
+    let e = any (superblock_in c.args.superblock.now) c.args.sector c.from-start.result at b c.read_at.new.buf
+    (super_read c.from-start.result c.args.sector b c.read_at.new.buf at (search rules)
+    (c.in_ok-read_at.ensures.bytes.bytes b k.0)) c.layout_fields.result c.layout_fields.ensures
+    c.total_fields.result c.total_fields.ensures in
+    second _ _ _ _ _ c.if-of_layout.false c.in_ok-of_layout.ensures.any c.in_ok-of_totals.ensures.any e

@@ -1,0 +1,9 @@
+use Rattle.ffs_finding.proofs.Ending.{ends}
+use Rattle.ffs_finding.proofs.find.find_in.Goals as goal
+
+pub returns : goal.returns
+returns g c = record {
+  ends = ends c.args.command _ _ _ _ _ _ _ _ _ c.look-answer.ensures.answers c.end.ensures;
+  memory = c.look-answer.ensures.memory;
+  reads = c.look-answer.ensures.reads;
+}

@@ -1,0 +1,62 @@
+use Rattle.std.proofs.Common.{◌≡◌, ℕ, ◌*◌, ◌<◌, ◌≤◌, List, [], ◌∷◌, true, false, arith, nat_lt, refl, rules, length, take, drop}
+use Rattle.std.proofs.lemmas.{Result.err_from_is_err_and, Bool.Decides.nat_tests}
+use Rattle.ffs_volume.specs.{declared.Layout.Layout, Disk.{Areas.inode_place, Numbers.piece}}
+use Rattle.ffs_volume.{specs.Blocks.Inodes.inode_from_bytes, proofs.AreaLaws.inode_group}
+use Rattle.ffs_layout.proofs.Answering.{taken}
+use Rattle.ffs_workspace.proofs.TablePlaces.{piece_inside}
+use Rattle.ffs_volume.specs.Find.InodeText.{bytes_text, inode_lines}
+use Rattle.ffs_finding.proofs.Printing.{one, one_broken, prints_all, prints_none, stops_all, reads_first}
+use Rattle.ffs_finding.proofs.inode.find_inode.Goals as goal
+
+-- the lines of an inode that the volume has
+lines_are : (v : Layout) (b bytes : List ℕ) (x place : ℕ) → x < v.ncg * v.ipg → place ≡ inode_place v x →
+    length bytes ≡ 128 → bytes ≡ take (length bytes) (drop place b) →
+    inode_lines v b x ≡ bytes_text v place bytes (inode_from_bytes v.order bytes) ∷ []
+unfolding inode_lines
+lines_are v b bytes x place h at long is =
+    let e : nat_lt x (v.ncg * v.ipg) ≡ true = grind (arith, nat_tests) in
+    let read : bytes ≡ piece place 128 b = taken place 128 b bytes long is in
+    rw (e, ← at, ← read) refl
+
+no_lines : (v : Layout) (b : List ℕ) (x : ℕ) → v.ncg * v.ipg ≤ x → inode_lines v b x ≡ []
+unfolding inode_lines
+no_lines v b x h =
+    let e : nat_lt x (v.ncg * v.ipg) ≡ false = grind (arith, nat_tests) in
+    rw e refl
+
+pub returns-then-number-geometry-clause-prints : goal.returns-then-number-geometry-clause-prints
+returns-then-number-geometry-clause-prints g c = record {
+  image = refl;
+  text = prints_none (λ b k. no_lines c.args.geometry.now.layout b c.args.number (omega arith));
+}
+
+pub read_at-requires : goal.read_at-requires
+read_at-requires g c =
+    let v = c.args.geometry.now.layout in
+    let group = inode_group v c.args.number c.args.geometry.now.sound (omega arith) in
+    let inside = piece_inside v 1 c.args.number c.args.geometry.now.sound
+    (record { some = omega arith; whole = omega arith }) group in
+    omega (arith, inside, c.inode_place-place.ensures, c.requires.volume)
+
+pub returns-in_err-read_at-clause-prints : goal.returns-in_err-read_at-clause-prints
+returns-in_err-read_at-clause-prints g c =
+    let p = err_from_is_err_and c.from_residual.result c.from_residual.ensures.1 in
+    rw (p.1, p.2) (record { image = search rules; text = reads_first })
+
+pub returns-in_err-print_bytes-clause-prints : goal.returns-in_err-print_bytes-clause-prints
+returns-in_err-print_bytes-clause-prints g c =
+    let v = c.args.geometry.now.layout in
+    let p = err_from_is_err_and c.from_residual-in_err-print_bytes.result c.from_residual-in_err-print_bytes.ensures.1 in
+    rw (p.1, p.2) (record {
+      image = search rules;
+      text = stops_all (λ b k. lines_are v b c.read_at.new.buf c.args.number _ (omega arith) c.inode_place-place.ensures
+          (search rules) (c.in_ok-read_at.ensures.bytes.bytes b k)) (one_broken c.in_err-print_bytes.ensures);
+    })
+
+pub returns-clause-prints : goal.returns-clause-prints
+returns-clause-prints g c = record {
+  image = search rules;
+  text = prints_all (λ b k. lines_are c.args.geometry.now.layout b c.read_at.new.buf c.args.number _ (omega arith)
+      c.inode_place-place.ensures (search rules) (c.in_ok-read_at.ensures.bytes.bytes b k))
+      (one c.in_ok-print_bytes.ensures);
+}

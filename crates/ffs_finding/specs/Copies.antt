@@ -1,0 +1,81 @@
+-- The search for magic numbers, window by window.
+use Rattle.std.specs.Prelude.{◌≡◌, ℕ, ◌+◌, ◌-◌, ◌*◌, ◌/◌, ◌<◌, ◌≤◌, min, Bool, List, Option, Some, is_some, Result, IfOk, OnOk, vec_len, count_by}
+use Rattle.std.specs.{Prelude.if◌then◌else◌, Int.div_ceil}
+use Rattle.ffs_image.specs.{Device.{Device, ForContents}, Reads.ReadAfter, declared.image.ImageFault.ImageFault}
+use Rattle.ffs_volume.specs.Disk.{Superblock.order_of, Outcome.{outcome, super_bytes}}
+use Rattle.ffs_report.specs.{Known.IsContents, Sink.Sink, declared.fault.RunFault.RunFault}
+use Rattle.ffs_volume.specs.Find.Copies.{asked_sectors, copy_lines_of, sector_count}
+use Rattle.ffs_finding.specs.Outcome.{Finds}
+use Rattle.ffs_walk.specs.{Windows.WindowHolds, declared.window.Window.Window}
+
+-- a superblock with a magic number, in one of the two orders of bytes, begins at a sector
+abbrev pub has_magic : (image : List ℕ) (sector : ℕ) → Bool
+has_magic image sector = is_some (order_of (super_bytes image (Some sector)))
+
+-- where the window begins in which the magic number of a superblock at a sector lies, in bytes: the
+-- magic number is two sectors further on
+abbrev pub window_place : ℕ → ℕ
+window_place sector = (sector + 2) / 128 * 65536
+
+-- how many bytes of an image are in the window from a place on
+abbrev pub window_length : (size place : ℕ) → ℕ
+window_length size place = min 65536 (size - place)
+
+-- a superblock at a sector lies in the image, `-b` takes the sector, and the window has its room and
+-- holds what the image gives
+pub record CanLookAt (d : Device) (sector : ℕ) (w : Window) : Type 0 where
+  pub sector_fits : sector < 4194304
+  pub inside : sector * 512 + 1376 ≤ d.size
+  pub room : vec_len w.buffer ≡ 65536
+  pub holds : WindowHolds d.contents w
+
+-- the window is the one of this sector
+pub record IsWindowOf (d : Device) (sector : ℕ) (w : Window) : Type 0 where
+  pub place : w.place ≡ window_place sector
+  pub length : w.length ≡ window_length d.size (window_place sector)
+
+-- the window of a sector was read, unless it was there already; it has its room and holds what the
+-- image gives
+pub record WindowAfter {T E : Type 0} (d d' : Device) (sector : ℕ) (before after : Window) (result : Result T E) :
+    Type 0 where
+  pub at : OnOk result (IsWindowOf d sector after)
+  pub room : vec_len after.buffer ≡ 65536
+  pub holds : WindowHolds d'.contents after
+
+-- the answer is whether a magic number is there, by one read at most, and by none where the window
+-- was that of the sector
+pub record LooksForMagic (d d' : Device) (sector reads reads' : ℕ) (before after : Window)
+    (result : Result Bool ImageFault) : Type 0 where
+  pub answer : IfOk result (λ found. ForContents d.contents (λ b. found ≡ has_magic b sector))
+  pub read : ReadAfter d d' result
+  pub window : WindowAfter d d' sector before after result
+  pub counted : reads' ≤ reads + 1
+  pub again : IsWindowOf d sector before → reads' ≤ reads
+
+-- what a sector adds to the reads: two of the superblock, where a magic number is there
+abbrev pub super_reads : (image : List ℕ) (sector : ℕ) → ℕ
+super_reads image sector = if has_magic image sector then 2 else 0
+
+-- the line of a sector was printed, where a superblock is accepted there, or what a fault leaves of it
+pub record LooksAt (d d' : Device) (sector reads reads' : ℕ) (before after : Window) (old new : Sink)
+    (result : Result (Unit {0}) RunFault) : Type 0 where
+  pub found : Finds (IsContents d.contents) (λ b. copy_lines_of sector (outcome b (Some sector))) d d' old new result
+  pub window : WindowAfter d d' sector before after result
+  pub counted : ForContents d.contents (λ b. reads' ≤ reads + 1 + super_reads b sector)
+  pub again : IsWindowOf d sector before → ForContents d.contents (λ b. reads' ≤ reads + super_reads b sector)
+  pub any : reads' ≤ reads + 3
+
+-- the image was read once for each window of 65,536 bytes at most, and twice for each magic number; any
+-- image, also one that gives other bytes each time, at most three times for each sector
+pub record ReadsCopies (d : Device) (reads reads' : ℕ) : Type 0 where
+  pub known : ForContents d.contents
+      (λ b. reads' ≤ reads + div_ceil d.size 65536 + 2 * count_by (has_magic b) asked_sectors)
+  pub any : reads' ≤ reads + 3 * sector_count
+
+-- superblocks at the sectors from 1 on and below this one, and at no others that `-b` takes, lie in an
+-- image of this size
+pub record IsSectorsEnd (size end : ℕ) : Type 0 where
+  pub some : 1 ≤ end
+  pub below : end ≤ 4194304
+  pub inside : (sector : ℕ) → 1 ≤ sector → sector < end → sector * 512 + 1376 ≤ size
+  pub outside : (sector : ℕ) → end ≤ sector → sector < 4194304 → size < sector * 512 + 1376

@@ -1,0 +1,7 @@
+pub mod Outcome
+pub mod Fields
+pub mod Copies
+pub mod Whole
+pub mod CommandWords
+pub mod Operands
+pub mod Run

@@ -1,0 +1,18 @@
+-- The operands as the program has them, and what it reads of them.
+use Rattle.std.specs.Prelude.{◌≡◌, ℕ, List, Option, Some, None, option_map}
+use Rattle.ffs_finding.specs.CommandWords as words
+use Rattle.ffs_finding.specs.declared.{words.{Operands.Operands, Request.Request}, request.Command.Command}
+
+-- the operands of the program as those of the definitions
+abbrev pub operands_in : Operands → words.Operands
+operands_in o = record {
+  command = o.command.now;
+  first = o.first.now;
+  second = option_map (λ s. s.now) o.second;
+  sector = o.sector;
+}
+
+-- the operands ask for this, or for nothing
+abbrev pub SaysOf : words.Operands → Option Request → Type 0
+SaysOf o (Some request) = words.AskFor o request.command request.name.now
+SaysOf o None = (command : Command) (name : List ℕ) → words.AskFor o command name → ⊥

@@ -1,0 +1,38 @@
+-- What a command leaves of its image and of its output, by its answer. `all` are the lines that it
+-- prints of an image's bytes, and `knows` says which bytes these are.
+use Rattle.std.specs.Prelude.{◌≡◌, ℕ, List, [], ◌++◌, Result, Ok, Err}
+use Rattle.std.specs.List.{concat}
+use Rattle.ffs_image.specs.Device.{Device}
+use Rattle.ffs_report.specs.{Known.{ForBytes, IsContents}, Sink.{Sink, Took, BrokeOff}, PhaseOutcome.ImageAfter}
+use Rattle.ffs_report.specs.declared.fault.RunFault.{RunFault, TheVariants.{Read, Out}}
+
+-- whole lines were printed, and with `rest`, those that are to come, they are `all`
+pub record PrintedTo (knows : List ℕ → Type 0) (rest all : List ℕ → List (List ℕ)) (old new : Sink) : Type 0 where
+  pub lines : List (List ℕ)
+  pub right : ForBytes knows (λ bytes. lines ++ rest bytes ≡ all bytes)
+  pub took : Took old new (concat lines)
+
+-- whole lines were printed, the first ones of `all`, perhaps all of them
+pub record PrintedSome (knows : List ℕ → Type 0) (all : List ℕ → List (List ℕ)) (old new : Sink) : Type 0 where
+  pub rest : List ℕ → List (List ℕ)
+  pub printed : PrintedTo knows rest all old new
+
+-- the output failed among the lines
+pub record StoppedIn (knows : List ℕ → Type 0) (all : List ℕ → List (List ℕ)) (old new : Sink) : Type 0 where
+  pub lines : List (List ℕ)
+  pub rest : List ℕ → List (List ℕ)
+  pub right : ForBytes knows (λ bytes. lines ++ rest bytes ≡ all bytes)
+  pub broke_off : BrokeOff old new (concat lines)
+
+-- all lines at Ok, whole ones at a read's fault, a prefix of their bytes at a fault of the output
+abbrev pub PrintsLines : {T : Type 0} → (List ℕ → Type 0) → (List ℕ → List (List ℕ)) → Sink → Sink
+    → Result T RunFault → Type 0
+PrintsLines knows all old new (Ok x) = PrintedTo knows (λ bytes. []) all old new
+PrintsLines knows all old new (Err (Read fault)) = PrintedSome knows all old new
+PrintsLines knows all old new (Err (Out fault)) = StoppedIn knows all old new
+
+-- what a command leaves of its image, and what it prints
+pub record Finds {T : Type 0} (knows : List ℕ → Type 0) (all : List ℕ → List (List ℕ)) (device device' : Device)
+    (old new : Sink) (result : Result T RunFault) : Type 0 where
+  pub image : ImageAfter device device' result
+  pub text : PrintsLines knows all old new result

@@ -1,0 +1,163 @@
+-- What the program prints of an image, and its status, by what it is asked for.
+use Rattle.std.specs.Prelude.{◌≡◌, ◌⊎◌, ◌≤◌, ◌+◌, ℕ, Bool, true, false, ◌&&◌, List, [], ◌∷◌, if◌then◌else◌, Option, Result, Ok, Err, IfOk}
+use Rattle.ffs_image.specs.Device.{Device, Faulted}
+use Rattle.ffs_volume.specs.declared.SuperFault.{SuperFault}
+use Rattle.ffs_volume.specs.Disk.{Superblock.Superblock, Outcome.outcome}
+use Rattle.ffs_volume.specs.{Messages.{Kinds.{cannot_read, cannot_alloc}, Texts.text_of}, Report.Opening.fault_line}
+use Rattle.ffs_volume.specs.Report.Reads.{opening_reads}
+use Rattle.ffs_report.specs.{Known.{ForBytes, IsContents}, Sink.{Sink, Took, BrokeOff}}
+use Rattle.ffs_report.specs.declared.fault.RunFault.{RunFault, TheVariants.{Read, Out}}
+use Rattle.ffs_memory.specs.Account.{Account, Granted, GaveUp, RefusedOneMore}
+use Rattle.ffs_layout.specs.Super.{ReadsSuper}
+use Rattle.ffs_finding.specs.declared.request.{Search.{Search, TheVariants.{Inode, Fields}}, Command.Command}
+use Rattle.ffs_finding.specs.declared.{request.Command.TheVariants.{Copies, InVolume}, find.FindFault.FindFault}
+use Rattle.ffs_finding.specs.declared.find.FindFault.TheVariants.{Refused, Run, NoMemory}
+use Rattle.ffs_volume.specs.Find.{Copies.copies_lines, InodeText.inode_lines, Fields.wrong_fields}
+use Rattle.ffs_finding.specs.{Outcome.{Finds, PrintedTo, PrintedSome, StoppedIn}, Fields.{WithSuper, any_line}}
+use Rattle.ffs_finding.specs.Copies.{ReadsCopies}
+
+-- what a search prints of an image with this accepted superblock
+abbrev pub search_lines : Search → (sector : Option ℕ) → (image : List ℕ) → Superblock → List (List ℕ)
+search_lines (Inode number) sector image s = inode_lines s.layout image number
+search_lines Fields sector image s = wrong_fields s image sector
+
+-- a line of the search is a defect
+abbrev pub finds_defects : Search → Bool
+finds_defects (Inode number) = false
+finds_defects Fields = true
+
+-- the lines by an outcome: those of a search, or the one of the superblock's fault
+abbrev pub lines_by : (Superblock → List (List ℕ)) → Result Superblock SuperFault → List (List ℕ)
+lines_by lines (Ok s) = lines s
+lines_by lines (Err fault) = text_of (fault_line fault) ∷ []
+
+-- all lines of a command, of an image
+abbrev pub command_lines : Command → (image : List ℕ) → List (List ℕ)
+command_lines Copies image = copies_lines image
+command_lines (InVolume sector search) image = lines_by (search_lines search sector image) (outcome image sector)
+
+-- the status of an answer: 1 where a defect was found
+abbrev pub status_of_answer : Bool → ℕ
+status_of_answer defect = if defect then 1 else 0
+
+-- the status by an outcome: 8 where the superblock is refused
+abbrev pub status_by : Search → (Superblock → List (List ℕ)) → Result Superblock SuperFault → ℕ
+status_by search lines (Ok s) = status_of_answer (finds_defects search && any_line (lines s))
+status_by search lines (Err fault) = 8
+
+-- the status of a command, on an image
+abbrev pub command_status : Command → (image : List ℕ) → ℕ
+command_status Copies image = 0
+command_status (InVolume sector search) image =
+    status_by search (search_lines search sector image) (outcome image sector)
+
+-- a search printed its lines, and the answer is whether a defect was found; it read the image once
+-- at most
+pub record Searches (search : Search) (sector : Option ℕ) (s : Superblock) (d d' : Device) (before after : ℕ)
+    (old new : Sink) (result : Result Bool RunFault) : Type 0 where
+  pub found : Finds (WithSuper d sector s) (λ b. search_lines search sector b s) d d' old new result
+  pub defect : IfOk result (λ any. ForBytes (WithSuper d sector s)
+      (λ b. any ≡ (finds_defects search && any_line (search_lines search sector b s))))
+  pub reads : after ≤ before + 1
+
+-- a text was printed, or a prefix of it where the output failed
+abbrev pub IsPrintedOrBrokeOff : Sink → Sink → List ℕ → Type 0
+IsPrintedOrBrokeOff old new text = Took old new text ⊎ BrokeOff old new text
+
+-- the line of a fault was printed, or the output failed in it, and the status is 8
+abbrev pub EndsByLine : Sink → Sink → List ℕ → ℕ → Type 0
+EndsByLine old new text status = IsPrintedOrBrokeOff old new text × (status ≡ 8)
+
+-- nothing more is printed, and this is the status
+abbrev pub EndsSilent : Sink → Sink → ℕ → ℕ → Type 0
+EndsSilent old new right status = (new ≡ old) × (status ≡ right)
+
+-- how an answer ends: a fault of the image or of the memory has its line
+abbrev pub EndsBy : Sink → Sink → Result Bool FindFault → ℕ → Type 0
+EndsBy old new (Ok defect) status = EndsSilent old new (status_of_answer defect) status
+EndsBy old new (Err (Refused fault)) status = EndsByLine old new (text_of (fault_line fault)) status
+EndsBy old new (Err (Run (Read fault))) status = EndsByLine old new (text_of (cannot_read fault.sector)) status
+EndsBy old new (Err (Run (Out fault))) status = EndsSilent old new 8 status
+EndsBy old new (Err NoMemory) status = EndsByLine old new (text_of cannot_alloc) status
+
+-- the superblock is refused: a read of it failed, or this is its fault in the image's bytes
+abbrev pub IsRefusal : Command → Device → Device → SuperFault → Type 0
+IsRefusal Copies d d' fault = ⊥
+IsRefusal (InVolume sector search) d d' fault = ReadsSuper d d' sector (Err fault)
+
+-- what a command answers, before the line of a fault
+abbrev pub Answers : Command → Device → Device → Account → Account → Sink → Sink → Result Bool FindFault → Type 0
+Answers command d d' held held' old new (Ok defect) =
+    (d' ≡ d) × PrintedTo (IsContents d.contents) (λ b. []) (command_lines command) old new
+    × ForBytes (IsContents d.contents) (λ b. status_of_answer defect ≡ command_status command b)
+Answers command d d' held held' old new (Err (Refused fault)) = (new ≡ old) × IsRefusal command d d' fault
+Answers command d d' held held' old new (Err (Run (Read fault))) =
+    Faulted d d' fault.sector × PrintedSome (IsContents d.contents) (command_lines command) old new
+Answers command d d' held held' old new (Err (Run (Out fault))) =
+    (d' ≡ d) × StoppedIn (IsContents d.contents) (command_lines command) old new
+Answers command d d' held held' old new (Err NoMemory) = (d' ≡ d) × (new ≡ old) × RefusedOneMore held held'
+
+-- all lines were printed, and the status is that of the command
+pub record AllFound (command : Command) (d d' : Device) (old new : Sink) (status : ℕ) : Type 0 where
+  pub no_read_failed : d' ≡ d
+  pub printed : PrintedTo (IsContents d.contents) (λ b. []) (command_lines command) old new
+  pub status_is : ForBytes (IsContents d.contents) (λ b. status ≡ command_status command b)
+
+-- a read failed: whole lines were printed, and then the line that says so, perhaps a part of that
+pub record CutByRead (command : Command) (d d' : Device) (old new : Sink) (status : ℕ) : Type 0 where
+  pub sector : ℕ
+  pub faulted : Faulted d d' sector
+  pub between : Sink
+  pub printed : PrintedSome (IsContents d.contents) (command_lines command) old between
+  pub line : IsPrintedOrBrokeOff between new (text_of (cannot_read sector))
+  pub status_is : status ≡ 8
+
+-- the output failed among the lines, and nothing was printed after that
+pub record BrokeOffAmong (command : Command) (d d' : Device) (old new : Sink) (status : ℕ) : Type 0 where
+  pub no_read_failed : d' ≡ d
+  pub stopped : StoppedIn (IsContents d.contents) (command_lines command) old new
+  pub status_is : status ≡ 8
+
+-- the memory was refused before anything was printed, and the line that says so was printed, perhaps a
+-- part of it
+pub record HadNoMemory (d d' : Device) (held held' : Account) (old new : Sink) (status : ℕ) : Type 0 where
+  pub no_read_failed : d' ≡ d
+  pub refused : RefusedOneMore held held'
+  pub line : IsPrintedOrBrokeOff old new (text_of cannot_alloc)
+  pub status_is : status ≡ 8
+
+-- how a command ends on an image
+abbrev pub FindEnds : Command → Device → Device → Account → Account → Sink → Sink → ℕ → Type 0
+FindEnds command d d' held held' old new status =
+    AllFound command d d' old new status ⊎ (CutByRead command d d' old new status
+    ⊎ (BrokeOffAmong command d d' old new status ⊎ HadNoMemory d d' held held' old new status))
+
+-- the bytes of memory that a command takes: `copies` a window
+abbrev pub memory_of : Command → ℕ
+memory_of Copies = 65536
+memory_of (InVolume sector search) = 0
+
+-- these bytes were granted, or nothing was, or a request was refused
+abbrev pub TakesMemory : Command → Account → Account → Type 0
+TakesMemory command held held' =
+    (held' ≡ held) ⊎ (Granted held held' (memory_of command) ⊎ GaveUp held held' (memory_of command))
+
+-- how often a command reads an image: in a volume twice for the superblock, and once more
+abbrev pub ReadsWithin : Command → Device → ℕ → ℕ → Type 0
+ReadsWithin Copies d reads reads' = ReadsCopies d reads reads'
+ReadsWithin (InVolume sector search) d reads reads' = reads' ≤ reads + 3
+
+-- a command was looked for, but for the line of a fault
+pub record Looks (command : Command) (d d' : Device) (held held' : Account) (before after : ℕ) (old new : Sink)
+    (result : Result Bool FindFault) : Type 0 where
+  pub answers : Answers command d d' held held' old new result
+  pub memory : TakesMemory command held held'
+  pub reads : ReadsWithin command d before after
+
+-- a command was looked for: what was printed and the status, what was taken of the memory, and how often
+-- the image was read
+pub record FindsCommand (command : Command) (d d' : Device) (held held' : Account) (before after : ℕ) (old new : Sink)
+    (status : ℕ) : Type 0 where
+  pub ends : FindEnds command d d' held held' old new status
+  pub memory : TakesMemory command held held'
+  pub reads : ReadsWithin command d before after

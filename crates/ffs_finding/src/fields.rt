@@ -1,0 +1,217 @@
+//! `fields`: fields of the superblock that a kernel computes with, and that a check doesn't look at.
+ghost use Rattle.std.specs.{Prelude.{◌≡◌, ◌+◌, ◌*◌, ◌^◌, ◌≤◌, ◌<◌, length, map, IfOk}, Int.{cast_signed, div_ceil, w64}};
+ghost use Rattle.std.specs.List.{flat_map, list_any};
+ghost use Rattle.ffs_volume.specs.Disk.{Numbers.u64_at as u64_in, Outcome.super_sector};
+ghost use Rattle.ffs_volume.specs.declared.constants.TheConstants.{DEV_BSIZE};
+ghost use Rattle.ffs_layout.specs.Super.{superblock_in};
+ghost use Rattle.ffs_report.specs.{Known.ForBytes, Sink.Prints};
+ghost use Rattle.ffs_finding.specs.{Outcome.Finds, Fields.{PrintsFields, WithSuper, any_line, field_of, is_wrong, text_of_wrong}};
+ghost use Rattle.ffs_volume.specs.Find.Fields.{exponent_of, field_32, field_lines, field_text, layout_fields, mask_of, total_64, total_fields, wrong_fields};
+
+use byteorder::{BigEndian, ByteOrder, LittleEndian};
+use ffs_image::Image;
+use ffs_layout::{Layout, Order, Super, u32_at};
+use ffs_report::print::print_pieces;
+use ffs_report::{OutFault, Output, Piece, RunFault};
+use ffs_volume::constants::{DEV_BSIZE, SUPERBLOCK_BYTES, SUPERBLOCK_SECTOR};
+
+/// A field of the superblock (fs(5)).
+#[derive(Clone, Copy)]
+struct Field {
+    name: &'static [u8],
+    /// Where it begins in the superblock, in bytes.
+    place: u32,
+    /// What it has.
+    has: i64,
+    /// What it should have.
+    wants: i64,
+}
+
+/// The k for which 2^k is n, where n is a power of two.
+#[tactic(auto, using(crate::proofs::Exponents::exponent_is))]
+fn exponent_of(n: u32) -> u32
+    requires { 0 < n }
+    ensures { result ≡ exponent_of n }
+{
+    n.ilog2()
+}
+
+/// The bits above those of a size that is a power of two.
+fn mask_of(size: u32) -> u32
+    requires { 0 < size }
+    ensures { result ≡ mask_of size }
+{
+    u32::MAX - (size - 1)
+}
+
+/// A field of 32 bits, unsigned.
+fn field_32(order: Order, bytes: &[u8], name: &'static [u8], place: u32, wants: u32) -> Field
+    requires { place + 4 ≤ length bytes.now }
+    ensures { field_of result ≡ field_32 order bytes.now name.now place wants }
+{
+    Field {
+        name,
+        place,
+        has: i64::from(u32_at(order, place as usize, bytes)),
+        wants: i64::from(wants),
+    }
+}
+
+/// The number of 64 bits at a place.
+#[tactic(auto, unfolding(ffs_volume::specs::Disk::Numbers::number, ffs_volume::specs::Disk::Numbers::u64_at))]
+fn u64_at(order: Order, place: usize, bytes: &[u8]) -> u64
+    requires { place + 8 ≤ length bytes.now }
+    ensures { result ≡ u64_in order place bytes.now }
+{
+    match order {
+        Order::Little => LittleEndian::read_u64(&bytes[place..]),
+        Order::Big => BigEndian::read_u64(&bytes[place..]),
+    }
+}
+
+/// A total of 64 bits, signed.
+fn total_64(order: Order, bytes: &[u8], name: &'static [u8], place: u32, wants: i32) -> Field
+    requires { place + 8 ≤ length bytes.now }
+    ensures { field_of result ≡ total_64 order bytes.now name.now place wants }
+{
+    Field {
+        name,
+        place,
+        has: u64_at(order, place as usize, bytes).cast_signed(),
+        wants: i64::from(wants),
+    }
+}
+
+/// The least multiple of the fragment's size that a superblock fits.
+fn whole_size(layout: &Layout) -> u32
+    requires { (layout.now.sbsize ≤ 8192) × (512 ≤ layout.now.fsize) × (layout.now.fsize ≤ 65536) }
+    ensures { result ≡ div_ceil layout.now.sbsize layout.now.fsize * layout.now.fsize }
+{
+    layout.sbsize.div_ceil(layout.fsize) * layout.fsize
+}
+
+/// The fields that follow from the layout.
+fn layout_fields(superblock: &Super, bytes: &[u8; SUPERBLOCK_BYTES]) -> [Field; 8]
+    ensures { map field_of result ≡ layout_fields superblock.now.geometry.layout bytes.now }
+{
+    let layout = &superblock.geometry.layout;
+    let order = layout.order;
+    let sectors = layout.fsize / DEV_BSIZE as u32;
+    [
+        field_32(order, bytes, b"bmask", 72, mask_of(layout.bsize)),
+        field_32(order, bytes, b"fmask", 76, mask_of(layout.fsize)),
+        field_32(order, bytes, b"bshift", 80, exponent_of(layout.bsize)),
+        field_32(order, bytes, b"fshift", 84, exponent_of(layout.fsize)),
+        field_32(order, bytes, b"fragshift", 96, exponent_of(layout.frag)),
+        field_32(order, bytes, b"fsbtodb", 100, exponent_of(sectors)),
+        field_32(order, bytes, b"sbsize", 104, whole_size(layout)),
+        field_32(order, bytes, b"nspf", 124, sectors),
+    ]
+}
+
+/// The totals of 64 bits.
+fn total_fields(superblock: &Super, bytes: &[u8; SUPERBLOCK_BYTES]) -> [Field; 4]
+    ensures { map field_of result ≡ total_fields (superblock_in superblock.now) bytes.now }
+{
+    let order = superblock.geometry.layout.order;
+    let totals = &superblock.cstotal;
+    [
+        total_64(order, bytes, b"cs_ndir", 1008, totals[0]),
+        total_64(order, bytes, b"cs_nbfree", 1016, totals[1]),
+        total_64(order, bytes, b"cs_nifree", 1024, totals[2]),
+        total_64(order, bytes, b"cs_nffree", 1032, totals[3]),
+    ]
+}
+
+/// Prints the line of a field of a superblock that begins at a byte of the image.
+fn print_field<W: Output>(out: &mut W, start: u64, field: &Field) -> Result<(), OutFault>
+    requires { start < 2 ^ 63 }
+    ensures { Prints (W.sink out.old) (W.sink out.new) (field_text start (field_of field.now))
+        result }
+{
+    print_pieces(
+        out,
+        &[
+            Piece::Text(field.name),
+            Piece::Text(b" byte "),
+            Piece::Number(start + u64::from(field.place), b" has "),
+            Piece::Signed(field.has, b" wants "),
+            Piece::Signed(field.wants, b"\n"),
+        ],
+    )
+}
+
+/// Prints the line of a field, where it is wrong.
+fn print_wrong_field<W: Output>(out: &mut W, start: u64, field: &Field) -> Result<(), OutFault>
+    requires { start < 2 ^ 63 }
+    ensures { Prints (W.sink out.old) (W.sink out.new) (text_of_wrong start field.now) result }
+{
+    if field.has == field.wants {
+        return Ok(());
+    }
+    print_field(out, start, field)
+}
+
+/// Prints the lines of those fields that are wrong.
+fn print_wrong_fields<W: Output>(out: &mut W, start: u64, fields: &[Field]) -> Result<(), OutFault>
+    requires { start < 2 ^ 63 }
+    ensures { Prints (W.sink out.old) (W.sink out.new)
+        (flat_map (text_of_wrong start) fields.now) result }
+{
+    for field in fields {
+        print_wrong_field(out, start, field)?;
+    }
+    Ok(())
+}
+
+/// Whether a field is wrong.
+fn is_any_wrong(fields: &[Field]) -> bool
+    ensures { result ≡ list_any is_wrong fields.now }
+{
+    let mut is_any_wrong = false;
+    for field in fields {
+        is_any_wrong |= field.has != field.wants;
+    }
+    is_any_wrong
+}
+
+/// Prints the lines of those fields that are wrong, and returns whether there is one.
+#[tactic(auto, using(crate::proofs::WrongFields::lines_are, crate::proofs::WrongFields::any_is))]
+fn print_fields<W: Output>(out: &mut W, start: u64, fields: &[Field]) -> Result<bool, OutFault>
+    requires { start < 2 ^ 63 }
+    ensures { PrintsFields start (map field_of fields.now) (W.sink out.old) (W.sink out.new)
+        result }
+{
+    print_wrong_fields(out, start, fields)?;
+    Ok(is_any_wrong(fields))
+}
+
+/// Prints which fields of an accepted superblock, at a sector or at the usual place, aren't what its
+/// layout gives (fs(5)), and returns whether there is one. One read.
+///
+/// # Errors
+/// A read of the image that failed, and a write that failed.
+pub fn find_wrong_fields<I: Image, W: Output>(
+    image: &mut I,
+    sector: Option<u32>,
+    superblock: &Super,
+    out: &mut W,
+) -> Result<bool, RunFault>
+    ensures prints { Finds (WithSuper (I.device image.old) sector (superblock_in superblock.now))
+        (λ bytes. wrong_fields (superblock_in superblock.now) bytes sector) (I.device image.old)
+        (I.device image.new) (W.sink out.old) (W.sink out.new) result }
+    ensures any { IfOk result (λ any. ForBytes
+        (WithSuper (I.device image.old) sector (superblock_in superblock.now))
+        (λ bytes. any ≡ any_line (wrong_fields (superblock_in superblock.now) bytes sector))) }
+    ensures reads { I.reads image.new ≤ I.reads image.old + 1 }
+{
+    let start = u64::from(sector.unwrap_or(SUPERBLOCK_SECTOR as u32)) * DEV_BSIZE;
+    let mut bytes = [0; SUPERBLOCK_BYTES];
+    if image.size() < start + SUPERBLOCK_BYTES as u64 {
+        return Ok(false);
+    }
+    image.read_at(start, &mut bytes)?;
+    let of_layout = print_fields(out, start, &layout_fields(superblock, &bytes))?;
+    let of_totals = print_fields(out, start, &total_fields(superblock, &bytes))?;
+    Ok(of_layout || of_totals)
+}

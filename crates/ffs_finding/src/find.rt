@@ -1,0 +1,181 @@
+//! Looks in an image for what is asked for, and says how that ended.
+ghost use Rattle.std.specs.Prelude.{◌≡◌, ◌+◌, ◌*◌, ◌≤◌};
+ghost use Rattle.ffs_volume.specs.{Messages.Texts.text_of, Report.Opening.fault_line};
+ghost use Rattle.ffs_report.specs.{Lines.message_of, Sink.Prints};
+ghost use Rattle.ffs_layout.specs.Super.{superblock_in};
+ghost use Rattle.ffs_finding.specs.Whole.{EndsBy, FindsCommand, Looks, Searches, status_of_answer};
+ghost use Rattle.ffs_finding.specs.declared.find.FindFault.TheVariants.{Run, NoMemory};
+ghost use Rattle.ffs_finding.specs.declared.request.Command.TheVariants.{Copies, InVolume};
+
+use crate::copies::{WINDOW_BYTES, find_copies};
+use crate::fields::find_wrong_fields;
+use crate::inode::find_inode;
+use crate::request::{Command, Search};
+use ffs_check::run::NOT_COMPLETED;
+use ffs_image::Image;
+use ffs_layout::{Super, read_super};
+use ffs_memory::Memory;
+use ffs_report::{Line, OutFault, Output, Report, RunFault};
+use ffs_volume::SuperFault;
+use ffs_walk::Window;
+use std::alloc::AllocError;
+
+/// What ends a command before its end.
+#[derive(Clone, Copy, Debug)]
+enum FindFault {
+    /// The superblock is refused, or can't be read.
+    Refused(SuperFault),
+    /// A later read failed, or the output did.
+    Run(RunFault),
+    /// The memory was refused.
+    NoMemory,
+}
+
+impl From<RunFault> for FindFault {
+    ghost from_gives = { λ run fault. fault ≡ Run run };
+
+    fn from(fault: RunFault) -> Self {
+        FindFault::Run(fault)
+    }
+}
+
+impl From<AllocError> for FindFault {
+    ghost from_gives = { λ refused fault. fault ≡ NoMemory };
+
+    fn from(_refused: AllocError) -> Self {
+        FindFault::NoMemory
+    }
+}
+
+/// Prints a line of a report.
+fn print_line<W: Output>(out: &mut W, line: &Line<'_>) -> Result<(), OutFault>
+    ensures { Prints (W.sink out.old) (W.sink out.new) (text_of (message_of line.now)) result }
+{
+    Report::new(out).say(line)
+}
+
+/// How a fault of the superblock is reported.
+fn fault_line(fault: SuperFault) -> Line<'static>
+    ensures { message_of result ≡ fault_line fault }
+{
+    match fault {
+        SuperFault::CannotRead { sector } => Line::CannotRead { sector },
+        fault => Line::BadSuper(fault),
+    }
+}
+
+/// Prints the line of a fault, if that has one, and returns the status.
+fn end<W: Output>(answer: Result<bool, FindFault>, out: &mut W) -> u8
+    ensures { EndsBy (W.sink out.old) (W.sink out.new) answer result }
+{
+    let line = match answer {
+        Ok(defect) => return u8::from(defect),
+        Err(FindFault::Refused(fault)) => fault_line(fault),
+        Err(FindFault::Run(RunFault::Read(fault))) => Line::CannotRead {
+            sector: fault.sector,
+        },
+        Err(FindFault::Run(RunFault::Out(_))) => return NOT_COMPLETED,
+        Err(FindFault::NoMemory) => Line::CannotAlloc,
+    };
+    let _ = print_line(out, &line);
+    NOT_COMPLETED
+}
+
+/// Looks for something in a volume with an accepted superblock, and returns whether a defect was
+/// found.
+///
+/// # Errors
+/// A read of the image that failed, and a write that failed.
+fn search<I: Image, W: Output>(
+    image: &mut I,
+    sector: Option<u32>,
+    search: Search,
+    superblock: &Super,
+    out: &mut W,
+) -> Result<bool, RunFault>
+    requires volume { superblock.now.geometry.layout.size * superblock.now.geometry.layout.fsize
+        ≤ (I.device image.old).size }
+    ensures { Searches search sector (superblock_in superblock.now) (I.device image.old)
+        (I.device image.new) (I.reads image.old) (I.reads image.new) (W.sink out.old)
+        (W.sink out.new) result }
+{
+    match search {
+        Search::Inode { number } => {
+            find_inode(image, &superblock.geometry, number, out)?;
+            Ok(false)
+        }
+        Search::Fields => find_wrong_fields(image, sector, superblock, out),
+    }
+}
+
+/// Looks for something in a volume.
+fn look_in_volume<M: Memory, I: Image, W: Output>(
+    memory: &mut M,
+    image: &mut I,
+    sector: Option<u32>,
+    what: Search,
+    out: &mut W,
+) -> Result<bool, FindFault>
+    ensures { Looks (InVolume sector what) (I.device image.old) (I.device image.new)
+        (M.account memory.old) (M.account memory.new) (I.reads image.old) (I.reads image.new)
+        (W.sink out.old) (W.sink out.new) result }
+{
+    match read_super(image, sector) {
+        Ok(superblock) => Ok(search(image, sector, what, &superblock, out)?),
+        Err(fault) => Err(FindFault::Refused(fault)),
+    }
+}
+
+/// Takes a window, and looks for copies of the superblock.
+fn look_for_copies<M: Memory, I: Image, W: Output>(
+    memory: &mut M,
+    image: &mut I,
+    out: &mut W,
+) -> Result<bool, FindFault>
+    ensures { Looks Copies (I.device image.old) (I.device image.new) (M.account memory.old)
+        (M.account memory.new) (I.reads image.old) (I.reads image.new) (W.sink out.old)
+        (W.sink out.new) result }
+{
+    let mut window = Window::over(memory.bytes(WINDOW_BYTES as usize)?);
+    find_copies(image, &mut window, out)?;
+    Ok(false)
+}
+
+/// Looks in an image for what a command asks for, and prints it, but for the line of a fault.
+///
+/// # Errors
+/// The superblock is refused, a read of the image or a write failed, or the memory was refused.
+fn look<M: Memory, I: Image, W: Output>(
+    memory: &mut M,
+    image: &mut I,
+    command: Command,
+    out: &mut W,
+) -> Result<bool, FindFault>
+    ensures { Looks command (I.device image.old) (I.device image.new) (M.account memory.old)
+        (M.account memory.new) (I.reads image.old) (I.reads image.new) (W.sink out.old)
+        (W.sink out.new) result }
+{
+    match command {
+        Command::Copies => look_for_copies(memory, image, out),
+        Command::InVolume { sector, search } => look_in_volume(memory, image, sector, search, out),
+    }
+}
+
+/// Looks in an image for what a command asks for, prints it, and returns the exit status: 0, 1
+/// where a defect was found, or 8 where the search didn't run to its end.
+///
+/// A superblock that is refused and a read that failed are reported as a check does; after a write
+/// that failed nothing more is printed.
+pub fn find_in<M: Memory, I: Image, W: Output>(
+    memory: &mut M,
+    image: &mut I,
+    command: Command,
+    out: &mut W,
+) -> u8
+    ensures { FindsCommand command (I.device image.old) (I.device image.new)
+        (M.account memory.old) (M.account memory.new) (I.reads image.old) (I.reads image.new)
+        (W.sink out.old) (W.sink out.new) result }
+{
+    let answer = look(memory, image, command, out);
+    end(answer, out)
+}

@@ -1,0 +1,156 @@
+//! The words of the command line.
+ghost use Rattle.std.specs.Prelude.{◌≡◌, None, map, IfOk, MatchResult};
+ghost use Rattle.clap.specs.{Words.{app_of, kind_of}, declared.error.kind.ErrorKind.TheVariants.OutOfMemory};
+ghost use Rattle.ffs_check.specs.CommandWords.{IsArgument, sector_rule};
+ghost use Rattle.ffs_finding.specs.CommandWords.{AreRefusedBy, HasMatches, HaveOperands, image_rule, needed_rule, no_write_rule, program};
+ghost use Rattle.ffs_finding.specs.Operands.{SaysOf, operands_in};
+
+use crate::request::{Command as Asked, Search};
+use clap::{Arg, ArgAction, ArgMatches, Command, Error};
+use ffs_check::version::VERSION;
+use std::alloc::{AllocError, Global};
+
+/// The first sector that can't be asked for, 2^22: a sector below it begins below byte 2^31.
+const SECTOR_END: i64 = 4194304;
+
+/// `-n` or `-N`: nothing is ever written.
+fn no_write_argument<'a>(alloc: Global) -> Result<Arg<'a>, AllocError>
+    ensures { IfOk result (λ argument. IsArgument argument no_write_rule) }
+{
+    Ok(
+        Arg::new(alloc, "no")
+            .short('n')
+            .visible_short_alias('N')?
+            .action(ArgAction::Count),
+    )
+}
+
+/// `-b sector`: where the superblock is.
+fn sector_argument<'a>(alloc: Global) -> Arg<'a>
+    ensures { IsArgument result sector_rule }
+{
+    Arg::new(alloc, "sector")
+        .short('b')
+        .value_name("sector")
+        .action(ArgAction::Set)
+        .value_parser(clap::value_parser!(u32).range(1..SECTOR_END))
+}
+
+/// A word that has to be there.
+fn needed_argument<'a>(alloc: Global, name: &'static str) -> Arg<'a>
+    ensures { IsArgument result (needed_rule name.now) }
+{
+    Arg::new(alloc, name).required(true).action(ArgAction::Set)
+}
+
+/// The image, after a number.
+fn image_argument<'a>(alloc: Global) -> Arg<'a>
+    ensures { IsArgument result image_rule }
+{
+    Arg::new(alloc, "image").action(ArgAction::Set)
+}
+
+/// The words that the program takes.
+fn command<'a>(alloc: Global) -> Result<Command<'a>, Error>
+    ensures { MatchResult result (λ command. app_of command ≡ program)
+        (λ error. kind_of error ≡ OutOfMemory) }
+{
+    let no_write = no_write_argument(alloc)?;
+    Ok(
+        Command::new(alloc, "ffs_find")
+            .no_binary_name(true)
+            .version(VERSION)
+            .arg(no_write)?
+            .arg(sector_argument(alloc))?
+            .arg(needed_argument(alloc, "command"))?
+            .arg(needed_argument(alloc, "number"))?
+            .arg(image_argument(alloc))?,
+    )
+}
+
+/// Asks `clap` what the words say: the one call that may say of them that memory was refused.
+#[tactic(auto, unfolding(crate::specs::CommandWords::LacksMemory))]
+fn matches_of<'a>(alloc: Global, words: &'a [&'a str]) -> Result<ArgMatches<'a>, Error>
+    ensures { MatchResult result (HasMatches (map (λ word. word.now) words.now))
+        (AreRefusedBy (map (λ word. word.now) words.now)) }
+{
+    command(alloc)?.try_get_matches_from(words)
+}
+
+/// The words that aren't options, and the sector.
+#[derive(Clone, Copy, Debug)]
+pub(crate) struct Operands<'a> {
+    /// What is looked for.
+    command: &'a str,
+    /// The word after it: a number, or the image.
+    first: &'a str,
+    /// One more word, if there is one: the image.
+    second: Option<&'a str>,
+    /// The sector of the superblock that is asked for, of 512 bytes.
+    sector: Option<u32>,
+}
+
+/// What is asked for, of the image of a name.
+#[derive(Clone, Copy, Debug)]
+pub(crate) struct Request<'a> {
+    pub(crate) name: &'a str,
+    pub(crate) command: Asked,
+}
+
+/// Parses the words after the program's name.
+///
+/// # Errors
+/// Words that `clap` refuses, a call for help or for the version, and memory that was refused.
+pub(crate) fn operands_of<'a>(alloc: Global, words: &'a [&'a str]) -> Result<Operands<'a>, Error>
+    ensures { MatchResult result
+        (λ operands. HaveOperands (map (λ word. word.now) words.now) (operands_in operands))
+        (AreRefusedBy (map (λ word. word.now) words.now)) }
+{
+    let matches = matches_of(alloc, words)?;
+    Ok(Operands {
+        command: matches.get_str("command").unwrap_or(""),
+        first: matches.get_str("number").unwrap_or(""),
+        second: matches.get_str("image"),
+        sector: matches.get_one::<u32>("sector"),
+    })
+}
+
+/// What operands without a number ask for, if they ask for something.
+fn plain_request<'a>(operands: &Operands<'a>) -> Option<Request<'a>>
+    requires { operands.now.second ≡ None }
+    ensures { SaysOf (operands_in operands.now) result }
+{
+    let sector = operands.sector;
+    let name = operands.first;
+    if operands.command == "copies" && sector.is_none() {
+        let command = Asked::Copies;
+        return Some(Request { name, command });
+    }
+    if operands.command == "fields" {
+        let search = Search::Fields;
+        let command = Asked::InVolume { sector, search };
+        return Some(Request { name, command });
+    }
+    None
+}
+
+/// What the operands ask for, if they ask for something.
+pub(crate) fn request_of<'a>(operands: &Operands<'a>) -> Option<Request<'a>>
+    ensures { SaysOf (operands_in operands.now) result }
+{
+    let sector = operands.sector;
+    let Some(name) = operands.second else {
+        return plain_request(operands);
+    };
+    if operands.command != "inode" {
+        return None;
+    }
+    match operands.first.parse::<u32>() {
+        Ok(number) => {
+            let search = Search::Inode { number };
+            let command = Asked::InVolume { sector, search };
+            Some(Request { name, command })
+        }
+        Err(_) => None,
+    }
+}
