@@ -7,8 +7,8 @@
 #   lost                     the fragments that the maps mark and no inode has: first and last of each range
 #   whole                    how many bytes the image should have, by its superblock
 #   put BYTE WIDTH NUMBER    writes a number of so many bytes into further.img, in the byte order of its superblock
-#   entries FIRST LENGTH     what looks like an entry in these bytes, also where no directory has it:
-#                            byte, number, record length, type, length of the name, name
+#   entries FIRST LENGTH [I] what looks like an entry in these bytes, of inode I alone where it is given, also where no directory
+#                            has it: byte, number, record length, type, length of the name, name
 
 # What the others share: the image, its superblock's numbers (fs(5)) and its inodes.
 # shellcheck disable=SC2016
@@ -98,13 +98,23 @@ put() {
 }
 
 entries() {
-    perl -e 'open F, "<", "copy.img"; seek F, 9564, 0; read F, $magic, 1; ($first, $length) = @ARGV; seek F, $first, 0;
-        for ($at = $first; $at < $first + $length && read F, $chunk, 512; $at += 512) {
-            for ($k = 0; $k < 500; $k += 4) {
-                ($number, $record, $type, $count) = unpack ord $magic ? "VvCC" : "NnCC", substr $chunk, $k;
-                next if $type < 1 || $type > 14 || $record > 512 || substr($chunk, $k + 8) !~ /^([^\0\/]{1,255})\0/;
-                next if $count != length $1 && $record != (length($1) + 12 & ~3);
-                print $at + $k, " $number $record $type $count $1\n";
+    perl -e 'open F, "<", "copy.img"; seek F, 9564, 0; read F, $magic, 1; ($at, $length, $wanted) = @ARGV;
+        ($fields, $word) = ord $magic ? ("VvCC", "V") : ("NnCC", "N");
+        sub look {
+            my $k = shift;
+            return if $k % 4 || $k % 512 > 500;
+            ($number, $record, $type, $count) = unpack $fields, substr $piece, $k, 8;
+            return if $type < 1 || $type > 14 || $record > 512;
+            return if substr($piece, $k + 8, 504 - $k % 512) !~ /^([^\0\/]{1,255})\0/;
+            return if $count != length $1 && $record != (length($1) + 12 & ~3);
+            print $at + $k, " $number $record $type $count $1\n";
+        }
+        for (seek F, $at, 0; $length > 0 && read F, $piece, $length < 1 << 20 ? $length : 1 << 20; $at += length $piece) {
+            $length -= length $piece;
+            if (defined $wanted) {
+                for ($k = -1; ($k = index $piece, pack($word, $wanted), $k + 1) >= 0;) { look($k) }
+            } else {
+                for ($k = 0; $k < length $piece; $k += 4) { look($k) }
             }
-        }' $(($1)) $(($2))
+        }' $(($1)) $(($2)) ${3:+"$3"}
 }
