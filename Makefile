@@ -1,5 +1,5 @@
-# Installs the programs, their pages, guides and examples, report_json and the completions of their words. It takes the programs that
-# the launchers ./fsck_ffs and ./ffs_find would run: those of dist/, and where sources were changed, those that are built of them.
+# Installs the programs, their pages, the guides and examples, report_json and the completions of their words. It takes the programs
+# that the launchers ./fsck_ffs and ./ffs_find would run: those of dist/, and where sources were changed, those that are built of them.
 #
 #   make check
 #   make install PREFIX=/usr/local DESTDIR=
@@ -17,8 +17,8 @@ GUIDES = READING.md PIPELINES.md FORMATS.md rescue.sh
 EXAMPLES = $(notdir $(wildcard examples/*))
 
 # What make install puts below DESTDIR; the list of it is what make uninstall takes.
-INSTALLED = "$(BINDIR)/fsck_ffs" "$(BINDIR)/ffs_find" "$(BINDIR)/report_json" "$(MANDIR)/man8/fsck_ffs.8" "$(MANDIR)/man8/ffs_find.8" \
-    "$(BASHDIR)/fsck_ffs" "$(BASHDIR)/ffs_find" "$(ZSHDIR)/_fsck_ffs" "$(ZSHDIR)/_ffs_find" \
+INSTALLED = "$(BINDIR)/fsck_ffs" "$(BINDIR)/report_json" "$(MANDIR)/man8/fsck_ffs.8" "$(BASHDIR)/fsck_ffs" "$(ZSHDIR)/_fsck_ffs" \
+    "$(BINDIR)/ffs_find" "$(MANDIR)/man8/ffs_find.8" "$(BASHDIR)/ffs_find" "$(ZSHDIR)/_ffs_find" \
     "$(DOCDIR)/CHANGELOG.md" $(GUIDES:%="$(DOCDIR)/%") $(EXAMPLES:%="$(DOCDIR)/examples/%")
 LIST = "$(DOCDIR)/INSTALLED" "$(DESTDIR)"
 

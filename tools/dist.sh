@@ -119,7 +119,7 @@ wrong_examples() {
 }
 
 # Runs ffs_find over the examples by the words of each line of examples/finds, and prints a line for each whose text or status isn't
-# the one kept beside it.
+# the one kept beside it. It fails where it can't keep a text.
 wrong_finds() {
     found=$(temporary_file) || return 1
     while read -r text status words; do
