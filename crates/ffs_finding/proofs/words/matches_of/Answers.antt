@@ -1,8 +1,7 @@
 use Rattle.std.proofs.Common.{◌≡◌, ◌∙◌, ap, sym, true, Ok, Err, List, Result, IfOk, MatchResult}
 use Rattle.clap.specs.Words.{App, FailsBy, HasMatchesOf, Text, fault_of, is_simple, is_simple_and_free, matches_of}
 use Rattle.clap.specs.declared.{error.Error.Error, parser.matches.ArgMatches.ArgMatches}
-use Rattle.ffs_check.proofs.MatchLaws.{memory_alone}
-use Rattle.ffs_finding.{proofs.ProgramWords.{free, simple}, specs.CommandWords.{AreRefusedBy, HasMatches, LacksMemory, program}}
+use Rattle.ffs_finding.{proofs.ProgramWords.{free, memory_alone, simple}, specs.CommandWords.{AreRefusedBy, HasMatches, LacksMemory, program}}
 use Rattle.ffs_finding.proofs.words.matches_of.Goals as goal
 
 -- what `clap` answers of a program says so of these words
