@@ -64,9 +64,10 @@ fn check_twice<I: Image, W: Output>(
     survey(geometry, image, workspace)?;
     survey(geometry, image, workspace)?;
     phase2(geometry, image, workspace, report)?;
-    if geometry.layout.ncg * geometry.layout.ipg > 3 {
-        path_of(geometry, image, workspace, 3, None, path)?;
+    if geometry.layout.ncg * geometry.layout.ipg <= 3 {
+        return Ok(());
     }
+    path_of(geometry, image, workspace, 3, None, path)?;
     phase4(geometry, image, workspace, report)?;
     survey(geometry, image, workspace)?;
     phase4(geometry, image, workspace, report)

@@ -2,7 +2,7 @@ use Rattle.ffs_phase_tests.proofs.claims.checked.Goals as goal
 
 pub printed-text-requires : goal.printed-text-requires
 printed-text-requires g c = record {
-  made = c.in_ok-workspace.ensures.made;
+  made = c.in_ok-workspace.ensures.new.made;
   volume = c.requires;
-  windows = c.in_ok-workspace.ensures.windows _;
+  windows = c.in_ok-workspace.ensures.new.windows _;
 }

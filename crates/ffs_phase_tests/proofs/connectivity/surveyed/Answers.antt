@@ -3,7 +3,7 @@ use Rattle.ffs_phase_tests.proofs.connectivity.surveyed.Goals as goal
 
 pub returns-clause-made : goal.returns-clause-made
 returns-clause-made c =
-    let h = c.in_ok-workspace.ensures.made in
+    let h = c.in_ok-workspace.ensures.new.made in
     record {
       used = h.used;
       duplicates = h.duplicates;
@@ -24,5 +24,5 @@ returns-clause-made c =
 
 pub returns-clause-windows : goal.returns-clause-windows
 returns-clause-windows c = λ reported.
-    let h = c.in_ok-workspace.ensures.windows reported in
+    let h = c.in_ok-workspace.ensures.new.windows reported in
     record { table = h.table; blocks = h.blocks; current = h.current; other = h.other }

@@ -3,7 +3,7 @@ use Rattle.ffs_phase_tests.proofs.counts.counted.Goals as goal
 
 pub groups_printed-text-requires : goal.groups_printed-text-requires
 groups_printed-text-requires c = record {
-  made = c.in_ok-workspace.ensures.made;
+  made = c.in_ok-workspace.ensures.new.made;
   volume = search (rules, arith);
-  windows = c.in_ok-workspace.ensures.windows _;
+  windows = c.in_ok-workspace.ensures.new.windows _;
 }
