@@ -28,7 +28,8 @@ fn main(rt: HostRuntime) -> io::Result<()> {
     println!(rt; "{}, status {}", verdict(&end), end.status())?;
     println!(rt; "The report has {} bytes:", report.len())?;
     rt.stdout().write_all(report.as_slice())?;
-    parts::print(&rt, &args, &mut image, report.as_slice())
+    parts::print_parts(&rt, &args, &mut image, report.as_slice())?;
+    parts::print_three(&rt, &args, &mut image, report.as_slice())
 }
 
 /// What the end of a check says, in a word.

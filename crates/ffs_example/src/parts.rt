@@ -5,19 +5,14 @@ ghost use Rattle.std.specs.Prelude.{◌≡◌, ◌≤◌, ◌*◌};
 ghost use Rattle.ffs.specs.Cited.{IsReady};
 
 use ffs::{
-    Args, Chunks, Counted, Geometry, Image, Inode, Output, PathText, Report, RunFault, Step, Super,
-    Walk, Workspace, check_opening, check_rest, class_of, decode_inode, entry_at, path_of, phase1,
-    phase1b, phase2, phase3, phase4, phase5, role_of, summary, survey,
+    Args, Counted, Geometry, Image, Output, PathText, Report, RunFault, Super, Workspace,
+    check_opening, check_rest, path_of, phase1, phase1b, phase2, phase3, phase4, phase5, summary,
+    survey,
 };
 use std::io;
 
 /// The root directory's inode.
 const ROOT: u32 = 2;
-
-/// How many bytes an inode has in its table, and a chunk of a directory.
-const INODE_BYTES: usize = 128;
-
-const CHUNK_BYTES: usize = 512;
 
 /// All phases, one after another, and then the path of the root's entry `a`. The survey may be
 /// asked for by itself: phase 2 makes it again.
@@ -47,55 +42,6 @@ fn run_phases<I: Image, W: Output>(
     Ok(path)
 }
 
-/// The root's inode, where the image can be read.
-fn root_inode<I: Image>(geometry: &Geometry, image: &mut I) -> Option<Inode> {
-    if ROOT >= geometry.layout.ncg * geometry.layout.ipg {
-        return None;
-    }
-    let place = geometry.inode_place(ROOT);
-    let last = image.size().checked_sub(INODE_BYTES as u64)?;
-    if place > last {
-        return None;
-    }
-    let mut bytes = [0; INODE_BYTES];
-    image.read_at(place, &mut bytes).ok()?;
-    Some(decode_inode(geometry.order(), &bytes))
-}
-
-/// What the first step of an inode's walk is: the first fragment of a Run and how many it has.
-fn first_run<I: Image>(
-    geometry: &Geometry,
-    inode: &Inode,
-    image: &mut I,
-    workspace: &mut Workspace,
-) -> Option<(u32, u32)>
-    requires { IsReady geometry.now.layout (I.device image.old) workspace.old }
-{
-    let mut walk = Walk::start(geometry, inode);
-    match walk.next(image, &mut workspace.windows.blocks) {
-        Ok(Some(Step::Run { start, len, .. })) => Some((start, len)),
-        _ => None,
-    }
-}
-
-/// The first chunk of a directory, and its place in the file.
-fn first_chunk<I: Image>(
-    geometry: &Geometry,
-    inode: &Inode,
-    image: &mut I,
-    workspace: &mut Workspace,
-) -> Option<(u64, [u8; CHUNK_BYTES])>
-    requires { IsReady geometry.now.layout (I.device image.old) workspace.old }
-{
-    let mut chunks = Chunks::start(geometry, inode, 0);
-    let mut chunk = [0; CHUNK_BYTES];
-    let windows = &mut workspace.windows;
-    match chunks.next(image, &mut windows.blocks, &mut windows.current, &mut chunk) {
-        Ok(Some(offset)) => Some((offset, chunk)),
-        _ => None,
-    }
-}
-
 /// Prints where group 0 has its parts, and what is asked of the fragment 37.
 fn print_places(rt: &HostRuntime, geometry: &Geometry) -> io::Result<()> {
     println!(rt;
@@ -111,60 +57,6 @@ fn print_places(rt: &HostRuntime, geometry: &Geometry) -> io::Result<()> {
         geometry.in_range(37, 1),
         geometry.reserved(37)
     )
-}
-
-/// Prints the entry of a chunk at a place: its number, name and role.
-fn print_entry(
-    rt: &HostRuntime,
-    geometry: &Geometry,
-    chunk: &[u8; CHUNK_BYTES],
-    index: usize,
-    place: usize,
-) -> io::Result<()> {
-    match entry_at(geometry.order(), chunk, place) {
-        Some(entry) => {
-            let role = role_of(true, index, &entry);
-            println!(rt;
-                "Entry at {place}: inode {}, {} bytes of name, {:?}",
-                entry.number,
-                entry.name.len(),
-                role
-            )
-        }
-        None => println!(rt; "No entry at {place}"),
-    }
-}
-
-/// Prints what the root's inode has: its first Run, and the entries of its first chunk.
-fn print_root<I: Image>(
-    rt: &HostRuntime,
-    geometry: &Geometry,
-    image: &mut I,
-    workspace: &mut Workspace,
-) -> io::Result<()>
-    requires { IsReady geometry.now.layout (I.device image.old) workspace.old }
-    ensures ready { IsReady geometry.now.layout (I.device image.new) workspace.new }
-{
-    let Some(inode) = root_inode(geometry, image) else {
-        return println!(rt; "The root's inode can't be read");
-    };
-    println!(rt;
-        "Inode 2: {:?}, of {} bytes",
-        class_of(geometry, &inode),
-        inode.size
-    )?;
-    println!(rt;
-        "Its first Run and how long that is: {:?}",
-        first_run(geometry, &inode, image, workspace)
-    )?;
-    match first_chunk(geometry, &inode, image, workspace) {
-        Some((offset, chunk)) => {
-            println!(rt; "Its first chunk is at byte {offset} of it")?;
-            print_entry(rt, geometry, &chunk, 0, 0)?;
-            print_entry(rt, geometry, &chunk, 1, 12)
-        }
-        None => println!(rt; "It has no chunk"),
-    }
 }
 
 /// Prints whether the report that the phases make, one by one, is this one, and the path of the
@@ -204,13 +96,30 @@ fn print_volume<I: Image>(
     requires { superblock.now.geometry.layout.size * superblock.now.geometry.layout.fsize
         ≤ (I.device image.old).size }
 {
-    let geometry = &superblock.geometry;
-    let Ok(mut workspace) = Workspace::new(rt.alloc(), geometry) else {
-        return println!(rt; "Memory was refused");
-    };
-    print_places(rt, geometry)?;
-    print_root(rt, geometry, image, &mut workspace)?;
-    print_phases(rt, superblock, image, &mut workspace, rest)
+    print_places(rt, &superblock.geometry)?;
+    match Workspace::new(rt.alloc(), &superblock.geometry) {
+        Ok(mut workspace) => print_phases(rt, superblock, image, &mut workspace, rest),
+        Err(_) => println!(rt; "Memory was refused"),
+    }
+}
+
+/// Prints how the rest of a check ends that is made by one call.
+fn print_rest<I: Image>(
+    rt: &HostRuntime,
+    superblock: &Super,
+    image: &mut I,
+    workspace: &mut Workspace,
+    rest: &[u8],
+) -> io::Result<()>
+    requires { IsReady superblock.now.geometry.layout (I.device image.old) workspace.old }
+{
+    let mut text = Vec::new(rt.alloc());
+    let end = check_rest(image, superblock, workspace, &mut Counted::new(&mut text));
+    println!(rt;
+        "In three calls the report is the same: {}, status {}",
+        text.as_slice() == rest,
+        end.status()
+    )
 }
 
 /// Prints how a check ends that is made of an opening, a workspace and the rest.
@@ -223,28 +132,17 @@ fn print_end<I: Image>(
     requires { superblock.now.geometry.layout.size * superblock.now.geometry.layout.fsize
         ≤ (I.device image.old).size }
 {
-    let Ok(mut workspace) = Workspace::new(rt.alloc(), &superblock.geometry) else {
-        return println!(rt; "Memory was refused");
-    };
-    let mut text = Vec::new(rt.alloc());
-    let end = check_rest(
-        image,
-        superblock,
-        &mut workspace,
-        &mut Counted::new(&mut text),
-    );
-    println!(rt;
-        "In three calls the report is the same: {}, status {}",
-        text.as_slice() == rest,
-        end.status()
-    )
+    match Workspace::new(rt.alloc(), &superblock.geometry) {
+        Ok(mut workspace) => print_rest(rt, superblock, image, &mut workspace, rest),
+        Err(_) => println!(rt; "Memory was refused"),
+    }
 }
 
-/// Prints what the calls of the library give for an image, whose whole report is `report`.
+/// Prints whether phase by phase the report of an image is this one.
 ///
 /// # Errors
 /// Standard output failed.
-pub fn print<I: Image>(
+pub fn print_parts<I: Image>(
     rt: &HostRuntime,
     args: &Args<'_>,
     image: &mut I,
@@ -254,7 +152,26 @@ pub fn print<I: Image>(
     match check_opening(image, args, &mut Counted::new(&mut head)) {
         Ok(superblock) => {
             let rest = report.strip_prefix(head.as_slice()).unwrap_or(&[]);
-            print_volume(rt, &superblock, image, rest)?;
+            print_volume(rt, &superblock, image, rest)
+        }
+        Err(end) => println!(rt; "No volume: status {}", end.status()),
+    }
+}
+
+/// Prints whether an opening, a workspace and the rest make this report of an image.
+///
+/// # Errors
+/// Standard output failed.
+pub fn print_three<I: Image>(
+    rt: &HostRuntime,
+    args: &Args<'_>,
+    image: &mut I,
+    report: &[u8],
+) -> io::Result<()> {
+    let mut head = Vec::new(rt.alloc());
+    match check_opening(image, args, &mut Counted::new(&mut head)) {
+        Ok(superblock) => {
+            let rest = report.strip_prefix(head.as_slice()).unwrap_or(&[]);
             print_end(rt, &superblock, image, rest)
         }
         Err(end) => println!(rt; "No volume: status {}", end.status()),
