@@ -2,4 +2,4 @@
 
 /// The version, and the first digits of the digest of the sources that the program was built from.
 /// `tools/renew_dist` writes this line.
-pub const VERSION: &str = "1.11.0 (sources a6c7b1873efe)";
+pub const VERSION: &str = "1.11.0 (sources df931fad3107)";

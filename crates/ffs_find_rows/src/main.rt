@@ -24,7 +24,14 @@ fn is_right(rt: &HostRuntime, line: &str) -> io::Result<bool> {
     let expected = fs::read(rt, format!(in rt.alloc(); "{name}.text")?)?;
     let mut text = Vec::new(rt.alloc());
     let mut errors = Vec::new(rt.alloc());
-    let ended = run(rt, rt.alloc(), words.as_slice(), &mut text, &mut errors);
+    let mut system = *rt;
+    let ended = run(
+        &mut system,
+        rt.alloc(),
+        words.as_slice(),
+        &mut text,
+        &mut errors,
+    );
     Ok(ended == status && text == expected)
 }
 
