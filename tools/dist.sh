@@ -11,6 +11,7 @@ name=${name:-fsck_ffs}
 built=$top/crates/$name/out/$name
 kept=$top/dist/$name
 version_file=crates/ffs_check/src/version.rt
+programs="fsck_ffs ffs_find"
 needs="x86-64 Linux with glibc 2.34 or newer"
 
 # Says one line on standard error.
@@ -31,10 +32,12 @@ temporary_file() {
     }
 }
 
-# The files that the program's bytes come from, besides the kit: crates.txt and each file of Rattle. Definitions and proofs
-# (.antt) leave no trace in a program, so they aren't among them. The file of the version is looked at by itself.
+# The files that the programs' bytes come from, besides the kit and crates.txt: each file of Rattle of the two programs and of the crates
+# below them. Definitions and proofs (.antt) leave no trace in a program, nor do the crates of tests, so they aren't among them. The
+# file of the version is looked at by itself.
 source_files() {
-    (cd "$top" && find crates.txt crates -name out -prune -o -type f \( -name '*.rt' -o -path crates.txt \) ! -path "$version_file" -print0)
+    # shellcheck disable=SC2046
+    (cd "$top" && find $(crates_below "$programs" | sed 's,^,crates/,') -name out -prune -o -type f -name '*.rt' ! -path "$version_file" -print0)
 }
 
 # The text that --version prints after the program's name, as the sources have it: the version, and the first digits of the
@@ -43,11 +46,12 @@ version_text() {
     sed -n 's/^pub const VERSION: &str = "\(.*\)";$/\1/p' "$top/$version_file" 2>/dev/null
 }
 
-# The digest of the sources: SHA-256 of the lines that sha256sum prints of these files, in the order of their names' bytes, and of
-# the file of the version without the line that holds this digest's first digits.
+# The digest of the sources: SHA-256 of the lines that sha256sum prints of these files, in the order of their names' bytes, then of
+# the lines of crates.txt of their crates, and of the file of the version without the line that holds this digest's first digits.
 source_digest() {
     {
         source_files | LC_ALL=C sort -z | (cd "$top" && xargs -0 sha256sum)
+        crates_below "$programs" | awk -F : 'NR == FNR { is_below[$1] = 1; next } is_below[$1]' - "$top/crates.txt" | sha256sum
         if [ -f "$top/$version_file" ]; then
             grep -v '^pub const VERSION: &str = "' "$top/$version_file" | sha256sum
         fi
@@ -132,9 +136,9 @@ wrong_finds() {
     rm -f "$found"
 }
 
-# The program's crate and the libraries below it, one a line.
+# The crates of programs and the libraries below them, one a line. The word: the programs, with a blank between them.
 crates_below() {
-    awk -F '[: ]+' -v name="$1" '
+    awk -F '[: ]+' -v programs="$1" '
         { for (i = 2; i <= NF; i++) below[$1] = below[$1] " " $i; is_here[$1] = 1 }
         function visit(crate,    names, n, i) {
             if (!is_here[crate] || is_done[crate]) return
@@ -143,7 +147,10 @@ crates_below() {
             n = split(below[crate], names, " ")
             for (i = 1; i <= n; i++) visit(names[i])
         }
-        END { visit(name) }' "$top/crates.txt"
+        END {
+            n = split(programs, roots, " ")
+            for (i = 1; i <= n; i++) visit(roots[i])
+        }' "$top/crates.txt"
 }
 
 # Stops a build that was interrupted: rt ends what it started, and no program is left that may be half written.
