@@ -55,7 +55,7 @@ pub use ffs_volume::{Attr, BlockMessage, Label};
 
 // The walk over an inode's blocks.
 pub use ffs_volume::{Class, Step};
-pub use ffs_walk::{Blocks, Walk, class_of};
+pub use ffs_walk::{Blocks, Walk, Window, class_of};
 
 // The block check: all memory of a check, phases 1 and 1b.
 pub use ffs_claims::{phase1, phase1b};

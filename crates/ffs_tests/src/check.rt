@@ -1,15 +1,11 @@
 //! The whole run: its words, its opening and its end.
 
 use crate::compare::same;
-use ffs_check::args::Args;
-use ffs_check::check::check;
-use ffs_check::opening::check_opening;
-use ffs_check::run::run;
-use ffs_image::{FuseImage, Image, MemoryImage};
-use ffs_layout::Order;
-use ffs_report::{Counted, FuseWriter};
+use ffs::{
+    Args, Counted, End, FuseImage, FuseWriter, Image, MemoryImage, Order, SuperFault, check,
+    check_opening, run,
+};
 use ffs_samples::{Number, ORDERS, base, put, put_bytes};
-use ffs_volume::{End, SuperFault};
 use std::alloc::{AllocError, Global};
 use std::test::Fail;
 

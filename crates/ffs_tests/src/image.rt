@@ -4,10 +4,11 @@ ghost use Rattle.std.specs.Prelude.{◌≡◌, ◌≤◌, IfOk, length};
 
 use crate::check::checked;
 use crate::compare::same;
-use ffs_image::{CountedImage, FileImage, FuseImage, Image, ImageFault, LimitedImage, MemoryImage};
-use ffs_layout::Order;
+use ffs::{
+    CountedImage, End, FileImage, FuseImage, Image, ImageFault, LimitedImage, MemoryImage, Order,
+    SuperFault,
+};
 use ffs_samples::image_of;
-use ffs_volume::{End, SuperFault};
 use std::alloc::{AllocError, Allocator, Global};
 use std::fs::{File, Metadata, OpenOptions};
 use std::io::ErrorKind;

@@ -2,14 +2,9 @@
 //! set.
 
 use crate::compare::same;
-use ffs_check::args::Args;
-use ffs_check::check::check_in;
-use ffs_image::MemoryImage;
-use ffs_layout::Order;
-use ffs_memory::{FilledList, FuseMemory, Memory, SystemMemory, ZeroedWords, copy_short};
-use ffs_report::Counted;
+use ffs::{Args, Counted, End, FuseMemory, Memory, MemoryImage, Order, SystemMemory, check_in};
+use ffs_memory::{FilledList, ZeroedWords, copy_short};
 use ffs_samples::{base, put, put_super};
-use ffs_volume::End;
 use std::alloc::{AllocError, Global};
 use std::process::Abort;
 use std::test::Fail;

@@ -3,10 +3,8 @@
 use crate::check::{checked, volume, volume_bytes};
 use crate::compare::same;
 use crate::image::read_within;
-use ffs_image::{CountedImage, Image, ImageFault, MemoryImage};
-use ffs_layout::Order;
+use ffs::{CountedImage, End, Image, ImageFault, MemoryImage, Order, SuperFault};
 use ffs_samples::{Number, ORDERS, put};
-use ffs_volume::{End, SuperFault};
 use std::alloc::{AllocError, Global};
 use std::test::Fail;
 

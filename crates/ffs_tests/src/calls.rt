@@ -1,0 +1,237 @@
+//! Each public call of the crate `ffs` that its example doesn't make, once, over the volume with a
+//! root alone.
+
+ghost use Rattle.std.specs.Prelude.{◌≡◌, ◌*◌, ◌≤◌};
+
+use crate::check::volume;
+use crate::compare::same;
+use ffs::{
+    Blocks, Chunks, Class, Counted, CountedImage, FixedList, FuseWriter, Geometry, Group,
+    GroupSummary, Image, Line, MutedWriter, Order, Report, Role, Step, Walk, Window, Workspace,
+    class_of, decode_inode, entry_at, role_of,
+};
+use ffs_samples::{ORDERS, Stop, geometry};
+use std::alloc::Global;
+use std::test::Fail;
+
+/// Where the root's inode, its chunk, the group block and the summary lie, in bytes.
+const INODE_PLACE: u64 = 28_928;
+
+const CHUNK_PLACE: u64 = 36_864;
+
+const GROUP_PLACE: u64 = 24_576;
+
+const SUMMARY_PLACE: u64 = 32_768;
+
+/// The bytes of the volume from a place on.
+fn read_from<const N: usize>(order: Order, place: u64, alloc: Global) -> Result<[u8; N], Stop> {
+    let mut image = volume(order, &[], alloc)?;
+    let mut bytes = [0; N];
+    image.read_at(place, &mut bytes)?;
+    Ok(bytes)
+}
+
+#[test]
+fn decoders(rt: HostRuntime) -> Result<(), Fail> {
+    for order in ORDERS {
+        let geometry = geometry(order)?;
+        let root = decode_inode(order, &read_from::<128>(order, INODE_PLACE, rt.alloc())?);
+        same(
+            &rt,
+            &(root.mode, root.nlink, root.size, root.addresses[0]),
+            &(0o40755, 2, 512, 36),
+        );
+        same(&rt, &class_of(&geometry, &root), &Class::Dir);
+        let group = Group::decode(order, &read_from::<168>(order, GROUP_PLACE, rt.alloc())?);
+        same(
+            &rt,
+            &(group.magic, group.ndblk, group.frsum[3]),
+            &(0x090255, 128, 2),
+        );
+        let summary = GroupSummary::decode(
+            order,
+            0,
+            &read_from::<16>(order, SUMMARY_PLACE, rt.alloc())?,
+        );
+        same(
+            &rt,
+            &[
+                summary.dirs,
+                summary.blocks,
+                summary.inodes,
+                summary.fragments,
+            ],
+            &[1, 22, 29, 6],
+        );
+    }
+    Ok(())
+}
+
+/// The number, the record's length, the name's length and the role of the second entry of a chunk.
+fn second_entry(order: Order, chunk: &[u8; 512]) -> Option<(u32, u16, usize, Role)> {
+    let entry = entry_at(order, chunk, 12)?;
+    Some((
+        entry.number,
+        entry.length,
+        entry.name.len(),
+        role_of(true, 1, &entry),
+    ))
+}
+
+#[test]
+fn entries(rt: HostRuntime) -> Result<(), Fail> {
+    for order in ORDERS {
+        let chunk = read_from::<512>(order, CHUNK_PLACE, rt.alloc())?;
+        same(
+            &rt,
+            &second_entry(order, &chunk),
+            &Some((2, 500, 2, Role::Dotdot)),
+        );
+    }
+    Ok(())
+}
+
+/// The numbers of a layout by their names: where the parts of a group begin, in fragments, and what
+/// the volume has.
+fn numbers_of(geometry: &Geometry) -> ([u32; 12], [u32; 12]) {
+    (
+        [
+            geometry.sblkno(),
+            geometry.cblkno(),
+            geometry.iblkno(),
+            geometry.dblkno(),
+            geometry.cgmask(),
+            geometry.size(),
+            geometry.dsize(),
+            geometry.ncg(),
+            geometry.bsize(),
+            geometry.fsize(),
+            geometry.frag(),
+            geometry.sbsize(),
+        ],
+        [
+            geometry.nindir(),
+            geometry.inopb(),
+            geometry.csaddr(),
+            geometry.cssize(),
+            geometry.cgsize(),
+            geometry.ncyl(),
+            geometry.cpg(),
+            geometry.ipg(),
+            geometry.fpg(),
+            geometry.maxsymlinklen(),
+            geometry.inodefmt(),
+            geometry.postblformat(),
+        ],
+    )
+}
+
+#[test]
+fn numbers_of_layout(rt: HostRuntime) -> Result<(), Fail> {
+    for order in ORDERS {
+        let geometry = geometry(order)?;
+        let (first, second) = numbers_of(&geometry);
+        same(
+            &rt,
+            &first,
+            &[16, 24, 28, 32, 0xffff_ffff, 128, 95, 1, 4096, 1024, 4, 2048],
+        );
+        same(
+            &rt,
+            &second,
+            &[1024, 32, 32, 1024, 1024, 1, 1, 32, 128, 60, 2, 1],
+        );
+        same(&rt, &(geometry.cgoffset(), geometry.order()), &(0, order));
+    }
+    Ok(())
+}
+
+/// The first step of the root's walk, what follows it, the place of its first chunk, and how many
+/// Runs its reading has seen.
+type Seen = (Option<Step>, Option<Step>, Option<u64>, u64);
+
+/// What a walk over the root and a reading of its chunks give.
+fn walk_root<I: Image>(geometry: &Geometry, image: &mut I, alloc: Global) -> Result<Seen, Stop>
+    requires { geometry.now.layout.size * geometry.now.layout.fsize ≤ (I.device image.old).size }
+{
+    let mut bytes = [0; 128];
+    image.read_at(INODE_PLACE, &mut bytes)?;
+    let root = decode_inode(geometry.order(), &bytes);
+    let size = geometry.layout.bsize as usize;
+    let mut blocks = Blocks::over(FixedList::new(vec![in alloc; 0u8; 3 * size]?));
+    let mut window = Window::over(FixedList::new(vec![in alloc; 0u8; size]?));
+    let mut walk = Walk::start(geometry, &root);
+    let steps = (
+        walk.next(image, &mut blocks)?,
+        walk.next(image, &mut blocks)?,
+    );
+    let mut chunks = Chunks::start(geometry, &root, 0);
+    let mut chunk = [0; 512];
+    let offset = chunks.next(image, &mut blocks, &mut window, &mut chunk)?;
+    Ok((steps.0, steps.1, offset, chunks.runs()))
+}
+
+#[test]
+fn walks(rt: HostRuntime) -> Result<(), Fail> {
+    let run = Step::Run {
+        start: 36,
+        len: 1,
+        block: Some(0),
+    };
+    for order in ORDERS {
+        let geometry = geometry(order)?;
+        let mut image = CountedImage::new(volume(order, &[], rt.alloc())?);
+        let found = walk_root(&geometry, &mut image, rt.alloc())?;
+        same(&rt, &found, &(Some(run), None, Some(0), 1));
+        same(&rt, &image.reads(), &2);
+    }
+    Ok(())
+}
+
+/// A message is said twice to an output that takes 30 bytes: whether each went out, whether one is a
+/// defect, and what was taken.
+fn said_twice(alloc: Global) -> ([bool; 3], Vec<u8>) {
+    let mut writer = MutedWriter::new(FuseWriter::new(Vec::new(alloc), 30));
+    let mut out = Counted::new(&mut writer);
+    let mut report = Report::new(&mut out);
+    let line = Line::CannotRead { sector: 72 };
+    let said = [
+        report.say(&line).is_ok(),
+        report.say(&line).is_ok(),
+        report.any_defect(),
+    ];
+    (said, writer.into_inner().into_inner())
+}
+
+#[test]
+fn messages(rt: HostRuntime) {
+    let (said, text) = said_twice(rt.alloc());
+    same(&rt, &said, &[true, false, false]);
+    same(&rt, &text.starts_with(b"CAN NOT READ: BLK 72\n"), &true);
+    same(&rt, &(text.len() <= 30), &true);
+}
+
+/// The memory that a workspace of the volume holds, in bytes, whether it has duplicates, the cut of
+/// the root, and how many Runs its readings saw.
+fn fresh_workspace(order: Order, alloc: Global) -> Result<(u64, bool, u32, [u64; 2]), Fail> {
+    let geometry = geometry(order)?;
+    let workspace = Workspace::new(alloc, &geometry)?;
+    Ok((
+        workspace.held(),
+        workspace.has_dups(),
+        workspace.noted_cut(2),
+        workspace.runs(),
+    ))
+}
+
+/// It holds at most three maps of 128 fragments, 25 bytes for each of 32 inodes, eight blocks, and
+/// 4,096 bytes.
+#[test]
+fn workspaces(rt: HostRuntime) -> Result<(), Fail> {
+    for order in ORDERS {
+        let (held, dups, cut, runs) = fresh_workspace(order, rt.alloc())?;
+        same(&rt, &(0 < held && held <= 37_712), &true);
+        same(&rt, &(dups, cut, runs), &(false, 0, [0, 0]));
+    }
+    Ok(())
+}
