@@ -1,48 +1,55 @@
 //! Each public call of the crate `ffs` that its example doesn't make, once, over the volume with a
 //! root alone.
 
-ghost use Rattle.std.specs.Prelude.{◌≡◌, ◌*◌, ◌≤◌};
+ghost use Rattle.std.specs.Prelude.{◌≡◌, ◌*◌, ◌≤◌, ℕ, List, Option, IfOk};
+ghost use Rattle.ffs_walk.specs.Windows.{BlocksHold, HasRoom};
 
-use crate::check::volume;
+use crate::check::volume_bytes;
 use crate::compare::same;
 use ffs::{
-    Blocks, Chunks, Class, Counted, CountedImage, FixedList, FuseWriter, Geometry, Group,
-    GroupSummary, Image, Line, MutedWriter, Order, Report, Role, Step, Walk, Window, Workspace,
-    class_of, decode_inode, entry_at, role_of,
+    Blocks, Chunks, Class, Counted, FixedList, FuseWriter, Geometry, Group, GroupSummary, Image,
+    Inode, Line, Memory, MutedWriter, Order, Report, Role, Step, SystemMemory, Walk, Window,
+    Workspace, class_of, decode_inode, entry_at, role_of,
 };
-use ffs_samples::{ORDERS, Stop, geometry};
-use std::alloc::Global;
+use ffs_samples::{ORDERS, Stop, geometry, image_of, inode};
+use std::alloc::{AllocError, Global};
 use std::test::Fail;
 
 /// Where the root's inode, its chunk, the group block and the summary lie, in bytes.
-const INODE_PLACE: u64 = 28_928;
+const INODE_PLACE: usize = 28_928;
 
-const CHUNK_PLACE: u64 = 36_864;
+const CHUNK_PLACE: usize = 36_864;
 
-const GROUP_PLACE: u64 = 24_576;
+const GROUP_PLACE: usize = 24_576;
 
-const SUMMARY_PLACE: u64 = 32_768;
+const SUMMARY_PLACE: usize = 32_768;
 
 /// The bytes of the volume from a place on.
-fn read_from<const N: usize>(order: Order, place: u64, alloc: Global) -> Result<[u8; N], Stop> {
-    let mut image = volume(order, &[], alloc)?;
-    let mut bytes = [0; N];
-    image.read_at(place, &mut bytes)?;
-    Ok(bytes)
+fn bytes_from<const N: usize>(
+    order: Order,
+    place: usize,
+    alloc: Global,
+) -> Result<[u8; N], AllocError> {
+    let bytes = volume_bytes(order, &[], alloc)?;
+    let mut part = [0; N];
+    for (to, from) in part.iter_mut().zip(bytes.iter().skip(place)) {
+        *to = *from;
+    }
+    Ok(part)
 }
 
 #[test]
 fn decoders(rt: HostRuntime) -> Result<(), Fail> {
     for order in ORDERS {
         let geometry = geometry(order)?;
-        let root = decode_inode(order, &read_from::<128>(order, INODE_PLACE, rt.alloc())?);
+        let root = decode_inode(order, &bytes_from::<128>(order, INODE_PLACE, rt.alloc())?);
         same(
             &rt,
             &(root.mode, root.nlink, root.size, root.addresses[0]),
             &(0o40755, 2, 512, 36),
         );
         same(&rt, &class_of(&geometry, &root), &Class::Dir);
-        let group = Group::decode(order, &read_from::<168>(order, GROUP_PLACE, rt.alloc())?);
+        let group = Group::decode(order, &bytes_from::<168>(order, GROUP_PLACE, rt.alloc())?);
         same(
             &rt,
             &(group.magic, group.ndblk, group.frsum[3]),
@@ -51,7 +58,7 @@ fn decoders(rt: HostRuntime) -> Result<(), Fail> {
         let summary = GroupSummary::decode(
             order,
             0,
-            &read_from::<16>(order, SUMMARY_PLACE, rt.alloc())?,
+            &bytes_from::<16>(order, SUMMARY_PLACE, rt.alloc())?,
         );
         same(
             &rt,
@@ -81,7 +88,7 @@ fn second_entry(order: Order, chunk: &[u8; 512]) -> Option<(u32, u16, usize, Rol
 #[test]
 fn entries(rt: HostRuntime) -> Result<(), Fail> {
     for order in ORDERS {
-        let chunk = read_from::<512>(order, CHUNK_PLACE, rt.alloc())?;
+        let chunk = bytes_from::<512>(order, CHUNK_PLACE, rt.alloc())?;
         same(
             &rt,
             &second_entry(order, &chunk),
@@ -146,29 +153,73 @@ fn numbers_of_layout(rt: HostRuntime) -> Result<(), Fail> {
     Ok(())
 }
 
-/// The first step of the root's walk, what follows it, the place of its first chunk, and how many
-/// Runs its reading has seen.
-type Seen = (Option<Step>, Option<Step>, Option<u64>, u64);
+/// Blocks that hold nothing.
+fn empty_blocks(geometry: &Geometry, alloc: Global) -> Result<Blocks, AllocError>
+    ensures room { IfOk result (HasRoom geometry.now.layout) }
+    ensures holds { (contents : Option (List ℕ))
+        → IfOk result (BlocksHold geometry.now.layout contents) }
+{
+    let buffer = SystemMemory::new(alloc).bytes(3 * geometry.layout.bsize as usize)?;
+    Ok(Blocks::over(buffer))
+}
 
-/// What a walk over the root and a reading of its chunks give.
-fn walk_root<I: Image>(geometry: &Geometry, image: &mut I, alloc: Global) -> Result<Seen, Stop>
+/// The first two steps of an inode's walk.
+fn steps_of<I: Image>(
+    geometry: &Geometry,
+    inode: &Inode,
+    image: &mut I,
+    alloc: Global,
+) -> Result<[Option<Step>; 2], Stop>
     requires { geometry.now.layout.size * geometry.now.layout.fsize ≤ (I.device image.old).size }
 {
-    let mut bytes = [0; 128];
-    image.read_at(INODE_PLACE, &mut bytes)?;
-    let root = decode_inode(geometry.order(), &bytes);
+    let mut blocks = empty_blocks(geometry, alloc)?;
+    let mut walk = Walk::start(geometry, inode);
+    let first = walk.next(image, &mut blocks)?;
+    let second = walk.next(image, &mut blocks)?;
+    Ok([first, second])
+}
+
+/// The place of the first chunk that a reading gives, its first byte, and how many Runs it has seen.
+fn first_chunk<I: Image>(
+    geometry: &Geometry,
+    chunks: &mut Chunks,
+    image: &mut I,
+    alloc: Global,
+) -> Result<(Option<u64>, u8, u64), Stop>
+    requires volume { geometry.now.layout.size * geometry.now.layout.fsize
+        ≤ (I.device image.old).size }
+    requires geometry { chunks.old.walk.geometry ≡ geometry.now }
+{
     let size = geometry.layout.bsize as usize;
-    let mut blocks = Blocks::over(FixedList::new(vec![in alloc; 0u8; 3 * size]?));
-    let mut window = Window::over(FixedList::new(vec![in alloc; 0u8; size]?));
-    let mut walk = Walk::start(geometry, &root);
-    let steps = (
-        walk.next(image, &mut blocks)?,
-        walk.next(image, &mut blocks)?,
-    );
-    let mut chunks = Chunks::start(geometry, &root, 0);
-    let mut chunk = [0; 512];
-    let offset = chunks.next(image, &mut blocks, &mut window, &mut chunk)?;
-    Ok((steps.0, steps.1, offset, chunks.runs()))
+    let buffer = vec![in alloc; 0u8; 3 * size]?;
+    let mut blocks = Blocks::over(FixedList::new(buffer));
+    let buffer = vec![in alloc; 0u8; size]?;
+    let mut window = Window::over(FixedList::new(buffer));
+    let mut chunk = [0u8; 512];
+    let place = chunks.next(image, &mut blocks, &mut window, &mut chunk)?;
+    Ok((place, chunk[0], chunks.runs()))
+}
+
+/// The root, whose chunk is fragment 36.
+fn root() -> Inode {
+    let mut root = inode(0o40755, 512);
+    root.addresses[0] = 36;
+    root
+}
+
+/// The first two steps of the root's walk.
+fn root_steps(order: Order, alloc: Global) -> Result<[Option<Step>; 2], Fail> {
+    let geometry = geometry(order)?;
+    let mut image = image_of(order, &[], alloc)?;
+    Ok(steps_of(&geometry, &root(), &mut image, alloc)?)
+}
+
+/// The root's first chunk, whose first byte is 7.
+fn root_chunk(order: Order, alloc: Global) -> Result<(Option<u64>, u8, u64), Fail> {
+    let geometry = geometry(order)?;
+    let mut image = image_of(order, &[(36_864, 1, 7)], alloc)?;
+    let mut chunks = Chunks::start(&geometry, &root(), 0);
+    Ok(first_chunk(&geometry, &mut chunks, &mut image, alloc)?)
 }
 
 #[test]
@@ -179,11 +230,8 @@ fn walks(rt: HostRuntime) -> Result<(), Fail> {
         block: Some(0),
     };
     for order in ORDERS {
-        let geometry = geometry(order)?;
-        let mut image = CountedImage::new(volume(order, &[], rt.alloc())?);
-        let found = walk_root(&geometry, &mut image, rt.alloc())?;
-        same(&rt, &found, &(Some(run), None, Some(0), 1));
-        same(&rt, &image.reads(), &2);
+        same(&rt, &root_steps(order, rt.alloc())?, &[Some(run), None]);
+        same(&rt, &root_chunk(order, rt.alloc())?, &(Some(0), 7, 1));
     }
     Ok(())
 }
