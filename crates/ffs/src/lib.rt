@@ -74,6 +74,7 @@ pub use ffs_counts::{phase4, phase5, summary};
 // The whole check, and how it ends.
 pub use ffs_check::args::Args;
 pub use ffs_check::check::{check, check_in, check_rest};
+pub use ffs_check::opener::Opener;
 pub use ffs_check::opening::check_opening;
 pub use ffs_check::run::{run, run_over};
 pub use ffs_volume::End;

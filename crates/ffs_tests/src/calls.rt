@@ -4,12 +4,13 @@
 ghost use Rattle.std.specs.Prelude.{◌≡◌, ◌*◌, ◌≤◌, ℕ, List, Option, IfOk};
 ghost use Rattle.ffs_walk.specs.Windows.{BlocksHold, HasRoom};
 
-use crate::check::volume_bytes;
+use crate::check::{REPORT, volume, volume_bytes};
 use crate::compare::same;
 use ffs::{
     Blocks, Chunks, Class, Counted, FixedList, FuseWriter, Geometry, Group, GroupSummary, Image,
-    Inode, Line, Memory, MutedWriter, Order, Report, Role, Step, SystemMemory, Walk, Window,
-    Workspace, class_of, decode_inode, entry_at, role_of,
+    Inode, Line, Memory, MemoryImage, MutedWriter, OpenFault, Opener, Order, Report, Role, Step,
+    SystemMemory, Walk, Window, Workspace, class_of, decode_inode, entry_at, read_super, role_of,
+    run_over,
 };
 use ffs_samples::{ORDERS, Stop, geometry, image_of, inode};
 use std::alloc::{AllocError, Global};
@@ -282,4 +283,88 @@ fn workspaces(rt: HostRuntime) -> Result<(), Fail> {
         same(&rt, &(dups, cut, runs), &(false, 0, [0, 0]));
     }
     Ok(())
+}
+
+/// Where a volume has its group block, its summary record and the root's inode, in bytes; none where it has
+/// no group or no inode 2.
+fn places_of(geometry: &Geometry) -> Option<[u64; 3]> {
+    if geometry.layout.ncg == 0 || geometry.layout.ncg * geometry.layout.ipg <= 2 {
+        return None;
+    }
+    Some([
+        geometry.group_place(0),
+        geometry.summary_place(0),
+        geometry.inode_place(2),
+    ])
+}
+
+/// What the superblock of the volume says: whether its settings are valid, and the places of its parts.
+fn super_of(order: Order, alloc: Global) -> Result<([bool; 3], Option<[u64; 3]>), Fail> {
+    let mut image = volume(order, &[], alloc)?;
+    let found = read_super(&mut image, None)?;
+    let settings = [
+        found.has_valid_optim(),
+        found.has_valid_minfree(),
+        found.opening_defects(),
+    ];
+    Ok((settings, places_of(&found.geometry)))
+}
+
+#[test]
+fn superblocks(rt: HostRuntime) -> Result<(), Fail> {
+    for order in ORDERS {
+        let wanted = ([true, true, false], Some([24_576, 32_768, 28_928]));
+        same(&rt, &super_of(order, rt.alloc())?, &wanted);
+    }
+    Ok(())
+}
+
+/// Opens the volume, as an image in memory, under one name.
+#[derive(Drop)]
+struct OneImage {
+    order: Order,
+    alloc: Global,
+}
+
+impl Opener for OneImage {
+    type Image = MemoryImage;
+
+    ghost opens = { λ _ _ _ _. Unit {0} };
+
+    ghost refuses = { λ _ _ _. Unit {0} };
+
+    fn open(&mut self, name: &str) -> Result<MemoryImage, OpenFault> {
+        if name != "t.img" {
+            return Err(OpenFault);
+        }
+        match volume(self.order, &[], self.alloc) {
+            Ok(image) => Ok(image),
+            Err(_) => Err(OpenFault),
+        }
+    }
+}
+
+/// The status of a run over these words, and what it prints to both writers.
+fn run_of(order: Order, words: &[&str], alloc: Global) -> (u8, Vec<u8>, Vec<u8>) {
+    let mut opener = OneImage { order, alloc };
+    let mut text = Vec::new(alloc);
+    let mut errors = Vec::new(alloc);
+    let mut out = Counted::new(&mut text);
+    let status = run_over(&mut opener, alloc, words, &mut out, &mut errors);
+    (status, text, errors)
+}
+
+#[test]
+fn runs_over_an_opener(rt: HostRuntime) {
+    for order in ORDERS {
+        let (status, text, errors) = run_of(order, &["-n", "t.img"], rt.alloc());
+        same(
+            &rt,
+            &(status, text.len(), errors.len()),
+            &(0, REPORT.len(), 0),
+        );
+        let (status, text, errors) = run_of(order, &["-n", "u.img"], rt.alloc());
+        same(&rt, &(status, errors.len()), &(8, 0));
+        same(&rt, &text.as_slice(), &b"Can't open u.img\n".as_slice());
+    }
 }

@@ -51,7 +51,7 @@ static BYTES: [(usize, &[u8]); 4] = [
     (36884, b".."),
 ];
 
-const REPORT: &[u8] =
+pub const REPORT: &[u8] =
     b"** t.img (NO WRITE)\n** Last Mounted on /mnt\n** Phase 1 - Check Blocks and Sizes\n** Phase 2 - Check Pathnames\n** Phase 3 - Check Connectivity\n** Phase 4 - Check Reference Counts\n** Phase 5 - Check Cyl groups\n1 files, 1 used, 94 free (6 frags, 22 blocks, 6.3% fragmentation)\n";
 
 const WORDS: Args<'static> = Args {
