@@ -102,7 +102,7 @@ returns g c =
     let before = passed_of c.args.workspace.now in
     let m = passed_of c.begin_directory.new.workspace in
     let one = c.in_ok-examined.ensures in
-    let two = c.report_directory.ensures in
+    let two = c.report_directory.ensures.lines in
     let second_of = second g at.After-report_directory in
     let dir = λ (b : List ℕ) (k : Known g at.After-begin_directory b).
     directory_is (volume_of v b) c.args.dir c.requires.low k.knows.dir in
