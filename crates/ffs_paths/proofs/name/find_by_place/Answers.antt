@@ -1,5 +1,5 @@
 use Rattle.std.proofs.Common.{◌≡◌, ◌*◌, ◌∙◌, ap, refl, sym, suc, ℕ, List, Some, false, arith, slice_index}
-use Rattle.std.{proofs.lemmas.List.get_or_default, specs.List.list_any}
+use Rattle.std.{proofs.lemmas.{List.get_or_default, Result.err_from_is_err_and}, specs.List.list_any}
 use Rattle.ffs_volume.specs.{Disk.Numbers.piece, Directories.{Entries.entries_of, Roles.roled_from}}
 use Rattle.ffs_volume.specs.Directories.Graph.{is_naming_entry}
 use Rattle.ffs_paths.{specs.Climbing.name_in, proofs.Keeping.name_read}
@@ -42,4 +42,24 @@ returns-clause-leaves g c =
     record {
       reads = name_read c.requires.ready read.room read.holds read.read;
       counted = record { count = read.counted; blocks = refl };
+      again = λ held. let at = held c.in-Some.chunk (chunk_is g c) in
+          read.again (at.0 ∙ ap (λ k. 512 * k) (sym c.from.ensures)) at.1;
+      held = λ b t noted k e.
+          let same : c.in-Some.chunk ≡ k = let e = sym (chunk_is g c) ∙ e in omega arith in
+          (read.place.0 ∙ ap (λ k. 512 * k) (c.from.ensures ∙ same), read.place.1);
     }
+
+-- the read failed
+pub returns-in_err-fill-clause-leaves : goal.returns-in_err-fill-clause-leaves
+returns-in_err-fill-clause-leaves g c =
+    let read = c.in_err-fill.ensures.fills in
+    let p = err_from_is_err_and c.from_residual.result c.from_residual.ensures.1 in
+    let noted : place_in (slice_index c.args.workspace.now.queue.items c.args.dir) ≡ suc c.in-Some.chunk =
+    grind (arith, get_or_default) in
+    rw (p.1, p.2) (record {
+      reads = grind (arith, name_read);
+      counted = record { count = read.counted; blocks = refl };
+      again = λ held. let at = held c.in-Some.chunk noted in
+          read.again (at.0 ∙ ap (λ k. 512 * k) (sym c.from.ensures)) at.1;
+      held = λ b t noted. tt;
+    })
