@@ -25,20 +25,6 @@ run_in_volume v start len g some h =
     in
     omega arith
 
--- a fragment is whole chunks, so a Run begins where a chunk of the image does
-fragment_whole : (n : ℕ) → is_fragment_size n ≡ true → 512 * (n / 512) ≡ n
-unfolding is_fragment_size
-fragment_whole n h = grind (arith, nat_tests)
-
-fragment_is : (v : Layout) → has_valid_sizes v ≡ true → is_fragment_size v.fsize ≡ true
-unfolding has_valid_sizes
-fragment_is v h = grind (arith, nat_tests)
-
-pub run_aligned : (v : Layout) (start : ℕ) → IsAcceptedLayout v → start * v.fsize % 512 ≡ 0
-run_aligned v start g =
-    let whole = fragment_whole v.fsize (fragment_is v (shape_holds v g.shaped).0) in
-    rw (← whole) (omega arith)
-
 pub run_in_block : (v : Layout) (len : ℕ) → IsAcceptedLayout v → len ≤ v.frag → len * v.fsize ≤ v.bsize
 run_in_block v len g short = grind (arith, mul-le-mul_right)
 
