@@ -1,7 +1,7 @@
 -- The entries of the parts of an image in which the chunks of a directory's Run are.
-use Rattle.std.proofs.Common.{◌≡◌, ◌∙◌, ℕ, zero, suc, ◌+◌, ◌-◌, ◌*◌, ◌/◌, ◌%◌, ◌<◌, ◌≤◌, ◌||◌, true, false, List, ap, arith, inl, inr}
+use Rattle.std.proofs.Common.{◌≡◌, ◌∙◌, ℕ, zero, suc, ◌+◌, ◌-◌, ◌*◌, ◌/◌, ◌%◌, ◌<◌, ◌≤◌, true, false, List, ap, arith, inl, inr}
 use Rattle.std.proofs.{Common.{drop, flat_map, refl, sym, take}, lemmas.{Bool.cases_eq, List.Folds.list_any-append}}
-use Rattle.std.proofs.{Math.Bool.or-true, lemmas.List.{drop-drop, drop-take, take-take}}
+use Rattle.std.proofs.{lemmas.List.{drop-drop, drop-take, take-take}}
 use Rattle.std.specs.List.{list_any, range_with_len}
 use Rattle.ffs_volume.specs.{declared.Layout.Layout, Disk.Numbers.piece, Laws.Geometry.IsAcceptedLayout}
 use Rattle.ffs_volume.specs.Directories.{Graph.is_naming_entry, Roles.RoledEntry}

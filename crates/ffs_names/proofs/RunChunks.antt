@@ -1,10 +1,9 @@
 -- The chunks of one Run, and how the chunks of the current Run are given one after the other.
-use Rattle.std.proofs.Common.{◌≡◌, ℕ, zero, suc, ◌+◌, ◌-◌, ◌*◌, ◌/◌, ◌%◌, ◌<◌, ◌≤◌, map, take, List, [], ◌∷◌, ◌++◌}
-use Rattle.std.{proofs.Common.{IsTrue, true, arith, refl, mul-le-mul_left, mul-le-mul_right}, specs.List.range_with_len}
-use Rattle.std.proofs.lemmas.Bool.Decides.{nat_tests}
-use Rattle.ffs_volume.{proofs.GeometryLaws.shape_holds, specs.Directories.Entries.{Chunk, ChunkSource, chunk_of}}
+use Rattle.std.proofs.Common.{◌≡◌, ℕ, zero, suc, ◌+◌, ◌-◌, ◌*◌, ◌<◌, ◌≤◌, map, take, List, [], ◌∷◌, ◌++◌}
+use Rattle.std.{proofs.Common.{IsTrue, arith, refl, mul-le-mul_left, mul-le-mul_right}, specs.List.range_with_len}
+use Rattle.ffs_volume.{specs.Directories.Entries.{Chunk, ChunkSource, chunk_of}}
 use Rattle.ffs_volume.specs.{Directories.Entries.run_chunks, Disk.{Areas.is_run_in_range, Numbers.piece}}
-use Rattle.ffs_volume.specs.{Disk.Outcome.{has_valid_sizes, is_fragment_size}, Laws.Geometry.IsAcceptedLayout}
+use Rattle.ffs_volume.specs.{Laws.Geometry.IsAcceptedLayout}
 use Rattle.ffs_volume.specs.declared.Layout.{Layout}
 use Rattle.ffs_walk.proofs.{Areas.in_range-below, Ranges.range_step}
 use Rattle.ffs_names.specs.{RunCursors.cursor_chunks, declared.run_cursor.RunCursor.RunCursor}

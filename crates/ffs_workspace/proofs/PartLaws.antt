@@ -1,5 +1,5 @@
 -- The parts of an image that a place can be: whole chunks, which a fragment has a whole number of.
-use Rattle.std.proofs.Common.{◌≡◌, ◌∙◌, ℕ, ◌+◌, ◌-◌, ◌*◌, ◌/◌, ◌%◌, ◌^◌, ◌<◌, ◌≤◌, Bool, true, false, ap, arith, refl, sym}
+use Rattle.std.proofs.Common.{◌≡◌, ◌∙◌, ℕ, ◌+◌, ◌-◌, ◌*◌, ◌/◌, ◌%◌, ◌^◌, ◌<◌, ◌≤◌, Bool, true, false, ap, arith, refl}
 use Rattle.std.specs.Prelude.{nat_le, if◌then◌else◌}
 use Rattle.std.proofs.Math.Nat.{div-lt_iff_lt-mul, le-div_iff_mul-le, mod_self, mul_assoc, mul-le-mul_left}
 use Rattle.std.proofs.Math.Nat.{mul-le-mul_right, mul-mod_right}
@@ -82,6 +82,9 @@ lies_in_part v at g inside =
 
 pub part_some : (v : Layout) → IsAcceptedLayout v → 0 < part_size v
 part_some v g = (has_parts v g).some
+
+pub part_in_block : (v : Layout) → IsAcceptedLayout v → (part_size v ≤ v.bsize) × (v.bsize ≤ 65536)
+part_in_block v g = ((has_parts v g).in_block, g.sizes.bsize_high)
 
 pub part_number : (v : Layout) (at : ℕ) → IsAcceptedLayout v → at + 512 ≤ v.size * v.fsize →
     at / part_size v < 2 ^ 31 - 1

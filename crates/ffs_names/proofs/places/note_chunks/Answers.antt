@@ -1,4 +1,4 @@
-use Rattle.std.proofs.Common.{◌≡◌, ◌∷◌, ◌∙◌, ◌+◌, ◌*◌, ◌≤◌, ℕ, List, Some, ap, arith, flat_map, sym}
+use Rattle.std.proofs.Common.{◌≡◌, ◌∷◌, ◌∙◌, ℕ, List, Some, ap, arith, flat_map, sym}
 use Rattle.ffs_volume.specs.{Directories.{Entries.chunk_of, Roles.roled_chunk}, Disk.Numbers.piece}
 use Rattle.ffs_workspace.specs.declared.workspace.Windows.{Windows}
 use Rattle.ffs_names.{specs.Readings.rest, proofs.PlacesNoted.{NotesNext, all_noted, children_more, coming_after}}
