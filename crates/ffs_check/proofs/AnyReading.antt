@@ -111,9 +111,9 @@ whole_reads size found output sink p c lines before between after inside said op
   layout = found.geometry.layout;
   accepted = found.geometry.sound;
   inside = inside;
-  reads = λ numbered. printed_reads (reads_limit found.geometry.layout) (starts output sink) c before after refl
+  reads = printed_reads (reads_limit found.geometry.layout) (starts output sink) c before after refl
       (opened_reads found.geometry.layout (starts output sink) p c lines before between after said opened
-      (phases numbered));
+      phases);
 })
 
 -- where an output is is known
@@ -127,5 +127,5 @@ pub rest_reads : {knows : List ℕ → Type 0} (s : Superblock) (output : GName)
     PhasesRead Printed BrokeOffIn knows s sink c.sink before after
 rest_reads s output sink c before after phases = record {
   known = phases.known;
-  any = λ numbered. printed_reads (phase_reads s.layout) (starts output sink) c before after refl (phases.any numbered);
+  any = printed_reads (phase_reads s.layout) (starts output sink) c before after refl phases.any;
 }

@@ -32,6 +32,6 @@ returns g c =
               (left.path.counted b (places_on b read k))) (omega arith);
           kept_parent = left.path.kept_parent;
         };
-        most = λ numbered. omega (arith, begun.most numbered, left.most numbered);
+        most = omega (arith, begun.most, left.most);
       };
     }

@@ -33,7 +33,7 @@ returns-then-is_silent-clause-lines g c = record {
       ∙ silent_lines c.verdict_of-verdict.result _ _ _ _ (sym c.is_silent.ensures ∙ c.if-is_silent.true)));
   path = λ b k. k.path;
   counted = λ b k noted. few_none;
-  paid = λ numbered. paid_none (omega arith);
+  paid = paid_none (omega arith);
 }
 
 pub returns-in_err-attr-clause-lines : goal.returns-in_err-attr-clause-lines
