@@ -57,12 +57,10 @@ returns g c = record {
       if_both c.next-offset.result _ _ _
       (λ o h budget. record { chunk = λ held b t enough. h b (bytes g at b t); budget = budget })
       c.next-offset.ensures.chunk (budget_falls c.next-offset.result _ _ c.next-offset.ensures.leaves.budget);
-  takes =
-        record {
-        reads = λ held b t enough. let few = enough in grind (arith, after, taken_below, bytes);
-        kept = λ _ held b t enough. grind (arith, taken_left, bytes, after);
-        unlimited = λ none. absurd none;
-        most = λ _. grind (arith, after);
-      };
+  takes = record {
+    reads = λ held b t enough. grind (arith, after, taken_below, bytes);
+    kept = λ held b t enough. grind (arith, taken_left, bytes, after);
+    most = grind (arith, after);
+  };
   leaves = grind (arith, after, read_over, can_read_same);
 }

@@ -27,7 +27,7 @@ returns g c =
     c.is_spent.ensures.below in
     let left = below.leaves c.if-is_spent.false in
     let contents = ap (λ (d : Device). d.contents) c.new-limited.ensures.device in
-    rw (c.image-2.given.1 below.same_image ∙ c.drop-limited-2.ensures.below) (record {
+    rw (c.image-2-1.given.1 below.same_image ∙ c.drop-limited-2.ensures.below) (record {
       makes = record { made = rw contents at made.made; path = rw contents at made.path; leaves = left.path };
       most = left.most;
     })
