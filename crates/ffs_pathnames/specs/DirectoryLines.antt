@@ -1,15 +1,18 @@
 -- What the check of directories reports, how often it reads the image for that, and what it leaves.
-use Rattle.std.specs.Prelude.{◌≡◌, ℕ, ◌+◌, ◌*◌, ◌≤◌, IfOk, List, OnOk, Result, length, map}
+use Rattle.std.specs.Prelude.{◌≡◌, ℕ, ◌+◌, ◌*◌, ◌≤◌, true, IfOk, List, OnOk, Result, length, map}
 use Rattle.ffs_image.specs.Device.{Device}
 use Rattle.ffs_report.specs.{Known.ForBytes, Paid.Paid, PhaseOutcome.{ImageAfter, PhaseReports}, Progress.Progress}
 use Rattle.ffs_report.specs.declared.fault.RunFault.{RunFault}
-use Rattle.ffs_volume.specs.{declared.Layout.Layout, Report.Reads.{line_reads, sweep_reads}}
+use Rattle.ffs_volume.specs.{declared.Layout.Layout, Directories.{PathnameCheck.dir_header_lines, Roles.roled_entries}}
+use Rattle.ffs_volume.specs.Directories.Volumes.{volume_of}
+use Rattle.ffs_volume.specs.Report.Reads.{line_reads, path_reads, sweep_reads}
 use Rattle.ffs_volume.specs.Messages.Kinds.{TreeMessage, of_tree}
-use Rattle.ffs_names.specs.Costs.{directories_cost}
+use Rattle.ffs_names.specs.Costs.{directories_cost, directory_cost, directory_runs}
 use Rattle.ffs_paths.specs.declared.kept_parent.KeptParent.{KeptParent}
 use Rattle.ffs_workspace.specs.{Places.AreNoted, declared.workspace.Workspace.Workspace}
 use Rattle.ffs_workspace.specs.{Holds.{HoldsClaims, HoldsSurvey}, Leaves.LeavesBlockCheck, Ready.IsReady}
-use Rattle.ffs_pathnames.specs.{Before.IsBefore, LineReads.ReadsByLines, Ready.{LinesLeave, PhaseLeaves}}
+use Rattle.ffs_pathnames.specs.{Before.IsBefore, Gathers.passed_of, LineReads.{again_reads, ReadsByLines}}
+use Rattle.ffs_pathnames.specs.{PassedNames.{are_quiet, directory_reported}, Ready.{LinesLeave, PhaseLeaves}}
 use Rattle.ffs_pathnames.specs.declared.tree.Checking.{Checking}
 
 -- these lines are said, by what is known of the bytes, and the image is read for no more than these;
@@ -53,3 +56,17 @@ pub record ReportsTree {T : Type 0} (v : Layout) (d d' : Device) (w w' : Workspa
   pub references : w'.references ≡ w.references
   pub block_check : LeavesBlockCheck w w'
   pub ready : IsReady v d' w'
+
+-- the entries of the directory x are reported: its Runs are read once, its path is made once, and for each
+-- line `again_reads` reads are made at most, where the place of each directory is noted
+abbrev pub ReadsForEntries : Layout → Workspace → (knows : List ℕ → Type 0) → (x : ℕ) → (count count' : ℕ) → Type 0
+ReadsForEntries v w knows x count count' = ForBytes knows (λ b. AreNoted v b w.queue.items
+    → count' ≤ count + (directory_runs v b x
+    + (path_reads + again_reads * length (directory_reported (volume_of v b) x (passed_of w)))))
+
+-- where a first look at the directory x makes sure that nothing is reported of its entries, its own blocks
+-- are read once, and the rest is read for the lines that come before these
+abbrev pub ReadsQuietOnce : Layout → Workspace → (knows : List ℕ → Type 0) → (x : ℕ) → (count count' : ℕ) → Type 0
+ReadsQuietOnce v w knows x count count' = ForBytes knows (λ b. AreNoted v b w.queue.items
+    → are_quiet (volume_of v b) x w.flags.items (passed_of w).stamps (roled_entries (volume_of v b) x) ≡ true
+    → count' ≤ count + (directory_cost v b x + line_reads * length (dir_header_lines (volume_of v b) x)))

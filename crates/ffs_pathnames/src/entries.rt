@@ -5,7 +5,7 @@ ghost use Rattle.ffs_volume.specs.Directories.Volumes.{volume_of};
 ghost use Rattle.ffs_report.specs.Progress.{progress};
 ghost use Rattle.ffs_pathnames.specs.{Gathers.{passed_of, roled_lines_by, roled_value}, Looks.roled_in};
 ghost use Rattle.ffs_pathnames.specs.{Ready.{ReadyToPath, ReadyToReport}, ReadsLeft.LeftForRuns, NextChunks.ReadsNext};
-ghost use Rattle.ffs_pathnames.specs.{DirectoryLines.ReportsDirectory, EntryLines.{PassesEntries, ReportsOneEntry}};
+ghost use Rattle.ffs_pathnames.specs.{DirectoryLines.{ReadsForEntries, ReportsDirectory}, EntryLines.{PassesEntries, ReportsOneEntry}};
 ghost use Rattle.ffs_pathnames.specs.PassedNames as names;
 
 use crate::inodes::Inodes;
@@ -69,7 +69,7 @@ pub fn report_directory<I: Image, W: Output>(
 ) -> Result<(), RunFault>
     requires { ReadyToReport geometry.now.layout (I.device image.old) workspace.old
         checking.old.texts.kept_parent directory.now }
-    ensures { ReportsDirectory geometry.now.layout (I.device image.old) (I.device image.new)
+    ensures lines { ReportsDirectory geometry.now.layout (I.device image.old) (I.device image.new)
         workspace.old workspace.new checking.old checking.new
         (LeftForRuns geometry.now.layout (I.device image.old) workspace.old directory.now
         checking.old.reads_left)
@@ -80,6 +80,9 @@ pub fn report_directory<I: Image, W: Output>(
         (passed_of workspace.old) ≡ passed_of workspace.new)
         (progress W.sink report.old) (progress W.sink report.new)
         (I.reads image.old) (I.reads image.new) result }
+    ensures once { ReadsForEntries geometry.now.layout workspace.old
+        (LeftForRuns geometry.now.layout (I.device image.old) workspace.old directory.now
+        checking.old.reads_left) directory.now.number (I.reads image.old) (I.reads image.new) }
 {
     let mut chunks = Chunks::start(geometry, &directory.inode, directory.cut);
     let mut bytes = [0u8; DIRBLKSIZ];

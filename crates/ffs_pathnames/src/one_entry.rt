@@ -3,7 +3,7 @@ ghost use Rattle.std.specs.Prelude.{◌≡◌, ℕ, List, Option};
 ghost use Rattle.ffs_volume.specs.{declared.Layout.Layout, Directories.PathnameCheck.extra_lines};
 ghost use Rattle.ffs_pathnames.specs.{EntryLines.ReportsEntries, Ready.{ReadyToPath, ReadyWhere, ReadyWith, LinesLeave}};
 ghost use Rattle.ffs_pathnames.specs.{SaysTreeMessages.SaysTreeMessages, Gathers.{AreAsLong, IsVerdictIn, asks_attr, asks_path}};
-ghost use Rattle.ffs_pathnames.specs.Gathers.{extra_reported, plain_lines_by, MakesPath, MakesPathLimited};
+ghost use Rattle.ffs_pathnames.specs.Gathers.{extra_reported, plain_lines_by, BeginsPath, MakesPath, MakesPathLimited};
 ghost use Rattle.ffs_pathnames.specs.Gathers.{ReadsAttr, PutsPath, PutsWanted, GathersInode, GathersWithPath};
 ghost use Rattle.ffs_pathnames.specs.Gathers.{GathersEntry, GathersExtra, GathersDir};
 ghost use Rattle.ffs_layout.specs.Entry.{entry_value};
@@ -98,7 +98,7 @@ fn make_paths_freely<I: Image>(
 
 /// Makes the path of a directory for the lines on its entries. An image that gives other bytes each
 /// time may be read more often than a path reads at most: then no more is read, and the path that
-/// was there before stays. It is apart from `begin_paths`, which is called for each line: a
+/// was there before stays, for all lines of the directory. It is apart from `begin_paths`, which is called for each line: a
 /// function clears the room of its locals each time that it is entered, and those here are large.
 #[inline(never)]
 fn make_paths<I: Image>(
@@ -117,6 +117,7 @@ fn make_paths<I: Image>(
     let result = make_paths_freely(geometry, &mut limited, workspace, texts, dir);
     if limited.is_spent() {
         forget_parent(&mut texts.kept_parent);
+        texts.begun = true;
         return Ok(());
     }
     result
@@ -157,7 +158,7 @@ fn begin_paths<I: Image>(
 ) -> Result<(), ImageFault>
     requires { ReadyToPath geometry.now.layout (I.device image.old) workspace.old
         texts.old.kept_parent dir }
-    ensures { MakesPathLimited I.Image geometry.now.layout image.old image.new workspace.old
+    ensures { BeginsPath I.Image geometry.now.layout image.old image.new workspace.old
         workspace.new dir texts.old texts.new result }
 {
     if texts.begun {

@@ -75,6 +75,7 @@ chunks-init g c =
       held = λ b k noted.
           c.start-chunks.ensures.reads.held c.args.workspace.now.windows.blocks c.args.workspace.now.windows.current;
       reads = λ b k noted. let long = as_many _ _ (lines b k) in omega (arith, long, few b k);
+      once = λ b k noted. let long = as_many _ _ (lines b k) in omega (arith, long, few b k);
       spent = λ b k. omega (arith, few b k);
       paid = paid_none (omega arith);
       path = λ b k begun. absurd (both_ways _ refl begun);
@@ -103,7 +104,7 @@ chunks-preserved g c =
     let ok = c.in_ok-report_chunk.ensures in
     let m = passed_of c.chunks.workspace in
     let known = know g at read.leaves.read in
-    let here : Chunk = chunk_of v.order c.in-Some.offset c.next_chunk.new.bytes in
+    let chunk : Chunk = chunk_of v.order c.in-Some.offset c.next_chunk.new.bytes in
     let came = rw c.in-Some.is at read.chunk in
     let next = λ (b : List ℕ) (k : Known g at b). (came.chunk (held g at b k) b (now g at b k) (enough g at b k)).chunks ∙ ap
     (λ q. chunk_of q.layout.order c.in-Some.offset c.next_chunk.new.bytes ∷ rest b c.next_chunk.new.chunks) inv.geometry in
@@ -122,9 +123,16 @@ chunks-preserved g c =
           let took = read.takes.reads (inv.held b k noted) b (now g at b k) (enough g at b k) in
           let few = c.report_chunk.ensures.lines.counted b (known b k)
           (noted_kept v b c.args.workspace.now.queue.items c.chunks.workspace.queue.items inv.places noted) in
-          let long = lines_long _ _ _ (chunk_reported (volume_of v b) x.number m here _ _ (next b k)
+          let long = lines_long _ _ _ (chunk_reported (volume_of v b) x.number m chunk _ _ (next b k)
           (ok.passed b (known b k))) in
           omega (arith, took.paid, few.count, long, inv.reads b k noted);
+      once = λ b k noted.
+          let took = read.takes.reads (inv.held b k noted) b (now g at b k) (enough g at b k) in
+          let here = c.report_chunk.ensures.lines.once b (known b k)
+          (noted_kept v b c.args.workspace.now.queue.items c.chunks.workspace.queue.items inv.places noted) in
+          let long = lines_long _ _ _ (chunk_reported (volume_of v b) x.number m chunk _ _ (next b k)
+          (ok.passed b (known b k))) in
+          omega (arith, took.paid, here, long, inv.once b k noted);
       spent = λ b k.
           let took = read.takes.kept (held g at b k) b (now g at b k) (enough g at b k) in
           omega (arith, took.paid, inv.spent b k);
@@ -134,7 +142,7 @@ chunks-preserved g c =
       path = λ b k. c.report_chunk.ensures.lines.path b (record { knows = known b k; path = inv.path b k });
       passed = λ b k. chunk_passed (volume_of v b) x.number m (next b k) (ok.passed b (known b k)) (inv.passed b k);
       said = of_part _ _ _ _ _ _ _ _ inv.said
-          (λ b k. chunk_reported (volume_of v b) x.number m here _ _
+          (λ b k. chunk_reported (volume_of v b) x.number m chunk _ _
           (next b k) (ok.passed b (known b k)))
           (said_knows _ _ _ _ _ _ (λ b k. record
           { knows = known b k; path = inv.path b k }) ok.lines.text);
@@ -149,9 +157,9 @@ left_of g c b k =
     omega (arith, took.most, c.chunks.invariant.spent b k)
 
 -- what is said, what is read for it, and what is left
-pub returns-in_err-offset : goal.returns-in_err-offset
-returns-in_err-offset g c =
-    let at = (goal.at.returns-in_err-offset g c).After-next_chunk in
+pub returns-in_err-offset-clause-lines : goal.returns-in_err-offset-clause-lines
+returns-in_err-offset-clause-lines g c =
+    let at = (goal.at.returns-in_err-offset-clause-lines g c).After-next_chunk in
     let inv = c.chunks.invariant in
     let read = c.in_err-offset.ensures in
     let p = err_from_is_err_and c.from_residual.result c.from_residual.ensures.1 in
@@ -173,16 +181,16 @@ returns-in_err-offset g c =
       };
     })
 
-pub returns-in_err-report_chunk : goal.returns-in_err-report_chunk
-returns-in_err-report_chunk g c =
-    let at = (goal.at.returns-in_err-report_chunk g c).After-next_chunk in
+pub returns-in_err-report_chunk-clause-lines : goal.returns-in_err-report_chunk-clause-lines
+returns-in_err-report_chunk-clause-lines g c =
+    let at = (goal.at.returns-in_err-report_chunk-clause-lines g c).After-next_chunk in
     let v = c.args.geometry.now.layout in
     let x = c.args.directory.now in
     let inv = c.chunks.invariant in
     let read = c.in_ok-offset.ensures in
     let m = passed_of c.chunks.workspace in
     let known = know g at read.leaves.read in
-    let here : Chunk = chunk_of v.order c.in-Some.offset c.next_chunk.new.bytes in
+    let chunk : Chunk = chunk_of v.order c.in-Some.offset c.next_chunk.new.bytes in
     let came = rw c.in-Some.is at read.chunk in
     let next = λ (b : List ℕ) (k : Known g at b). (came.chunk (held g at b k) b (now g at b k) (enough g at b k)).chunks ∙ ap
     (λ q. chunk_of q.layout.order c.in-Some.offset c.next_chunk.new.bytes ∷ rest b c.next_chunk.new.chunks) inv.geometry in
@@ -193,14 +201,14 @@ returns-in_err-report_chunk g c =
     c.from_residual-in_err-report_chunk.ensures.1 in
     rw (p.1, p.2) (record {
       text = of_fault (Unit {0}) (Unit {0}) _ _ _ _ _ _ _ _ fault inv.said
-          (λ b k. chunk_reported (volume_of v b) x.number m here _ _ (next b k) refl)
+          (λ b k. chunk_reported (volume_of v b) x.number m chunk _ _ (next b k) refl)
           (reports_knowing (Unit {0}) _ _ _ _ _ (Err fault)
           (λ b k. record { knows = known b k; path = inv.path b k }) lines.text);
       reads = λ b k noted.
           let took = read.takes.reads (inv.held b k noted) b (now g at b k) (enough g at b k) in
           let few = lines.counted b (known b k)
           (noted_kept v b c.args.workspace.now.queue.items c.chunks.workspace.queue.items inv.places noted) in
-          let long = lines_long _ _ _ (chunk_reported (volume_of v b) x.number m here _ _ (next b k) refl) in
+          let long = lines_long _ _ _ (chunk_reported (volume_of v b) x.number m chunk _ _ (next b k) refl) in
           omega (arith, took.paid, few.count, long, inv.reads b k noted);
       kept = left_of g at;
       paid =
@@ -217,9 +225,9 @@ returns-in_err-report_chunk g c =
       };
     })
 
-pub returns : goal.returns
-returns g c =
-    let at = (goal.at.returns g c).After-next_chunk in
+pub returns-clause-lines : goal.returns-clause-lines
+returns-clause-lines g c =
+    let at = (goal.at.returns-clause-lines g c).After-next_chunk in
     let v = c.args.geometry.now.layout in
     let x = c.args.directory.now in
     let inv = c.chunks.invariant in
@@ -247,3 +255,37 @@ returns g c =
             (rw inv.geometry at read.leaves.ready);
       };
     }
+
+-- ---- the path is made once
+pub returns-in_err-offset-clause-once : goal.returns-in_err-offset-clause-once
+returns-in_err-offset-clause-once g c = λ b k noted.
+    let at = (goal.at.returns-in_err-offset-clause-once g c).After-next_chunk in
+    let inv = c.chunks.invariant in
+    let most = (c.in_err-offset.ensures.takes.reads (inv.held b k noted) b (now g at b k) (enough g at b k)).most in
+    omega (arith, most, inv.once b k noted)
+
+pub returns-in_err-report_chunk-clause-once : goal.returns-in_err-report_chunk-clause-once
+returns-in_err-report_chunk-clause-once g c = λ b k noted.
+    let at = (goal.at.returns-in_err-report_chunk-clause-once g c).After-next_chunk in
+    let v = c.args.geometry.now.layout in
+    let x = c.args.directory.now in
+    let inv = c.chunks.invariant in
+    let read = c.in_ok-offset.ensures in
+    let m = passed_of c.chunks.workspace in
+    let known = know g at read.leaves.read in
+    let chunk : Chunk = chunk_of v.order c.in-Some.offset c.next_chunk.new.bytes in
+    let came = rw c.in-Some.is at read.chunk in
+    let next = (came.chunk b (now g at b k) (room g at b k)).chunks ∙ ap
+    (λ q. chunk_of q.layout.order c.in-Some.offset c.next_chunk.new.bytes ∷ rest b c.next_chunk.new.chunks) inv.geometry in
+    let took = read.takes.reads (inv.held b k noted) b (now g at b k) (enough g at b k) in
+    let here = c.in_err-report_chunk.ensures.lines.once b (known b k)
+    (noted_kept v b c.args.workspace.now.queue.items c.chunks.workspace.queue.items inv.places noted) in
+    let long = lines_long _ _ _ (chunk_reported (volume_of v b) x.number m chunk _ _ next refl) in
+    omega (arith, took.paid, here, long, inv.once b k noted)
+
+pub returns-clause-once : goal.returns-clause-once
+returns-clause-once g c = λ b k noted.
+    let at = (goal.at.returns-clause-once g c).After-next_chunk in
+    let inv = c.chunks.invariant in
+    let most = (c.in_ok-offset.ensures.takes.reads (inv.held b k noted) b (now g at b k) (enough g at b k)).most in
+    omega (arith, most, inv.once b k noted)

@@ -1,5 +1,6 @@
 use Rattle.std.{proofs.Common.{◌≡◌, ℕ, List, map, ◌+◌, ◌*◌, ◌≤◌, length, Ok}, specs.List.flat_map}
-use Rattle.ffs_volume.specs.{Messages.Kinds.of_tree, Report.Reads.line_reads, Directories.Parents.graph_of}
+use Rattle.ffs_volume.specs.{Messages.Kinds.of_tree, Report.Reads.{line_reads, path_reads}, Directories.Parents.graph_of}
+use Rattle.ffs_pathnames.specs.LineReads.{again_reads, path_owed}
 use Rattle.ffs_volume.specs.Directories.{Roles.{roled_chunk, roled_entries}, Volumes.volume_of}
 use Rattle.ffs_report.specs.{Known.ForBytes, Paid.Paid, PhaseOutcome.SaidOf, Progress.progress}
 use Rattle.ffs_names.specs.{Readings.rest, Costs.{directory_runs, to_read, HoldsReading}}
@@ -33,6 +34,10 @@ invariant-chunks g l =
       reads : ForBytes known (λ b. AreNoted v b l.fn.workspace.queue.items →
           g.I.Image.reads l.image + to_read b l.chunks + line_reads * length (to_come b)
           ≤ g.I.Image.reads l.fn.image + (directory_runs v b x.number + line_reads * length (all b)));
+      once : ForBytes known (λ b. AreNoted v b l.fn.workspace.queue.items → g.I.Image.reads l.image
+          + to_read b l.chunks + (path_owed l.checking.texts + again_reads * length (to_come b))
+          ≤ g.I.Image.reads l.fn.image
+          + (directory_runs v b x.number + (path_reads + again_reads * length (all b))));
       spent : ForBytes known (λ b. l.fn.checking.reads_left + to_read b l.chunks
           ≤ l.checking.reads_left + directory_runs v b x.number);
       paid : Paid {T = Unit {0}} line_reads (progress g.W.Output.sink l.fn.report)

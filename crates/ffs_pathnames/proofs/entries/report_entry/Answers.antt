@@ -27,6 +27,8 @@ returns g c =
       lines = record {
         text = lines.text;
         path = lines.path;
+        begun = lines.begun;
+        once = λ b k noted. lines.once b k noted;
         counted = λ b k noted.
             let few = lines.counted b k noted in record { count = few.count; blocks = few.blocks };
         paid = paid_answer lines.paid;

@@ -1,4 +1,4 @@
-use Rattle.std.proofs.Common.{◌∙◌, ap, refl}
+use Rattle.std.proofs.Common.{◌∙◌, ap, arith, refl}
 use Rattle.ffs_image.specs.Device.{Device}
 use Rattle.ffs_pathnames.proofs.Limiting.{gathered}
 use Rattle.ffs_pathnames.proofs.one_entry.make_paths.Goals as goal
@@ -12,8 +12,10 @@ returns-then-is_spent g c =
     let left = below.forgets c.if-is_spent.true _ _ (c.forget_parent.ensures _ _ _) in
     rw (c.image-1.given.1 below.same_image ∙ c.drop-limited.ensures.below) (record {
       makes = record {
+        begun = refl;
+        stays = λ begun. refl;
         made = λ b k. absurd (below.all b _ k.knows c.if-is_spent.true);
-        path = rw (ap (λ (d : Device). d.contents) c.new-limited.ensures.device) at made.path;
+        path = λ b k begun. absurd (below.all b _ k.knows c.if-is_spent.true);
         leaves = left.path;
       };
       most = left.most;
@@ -28,6 +30,12 @@ returns g c =
     let left = below.leaves c.if-is_spent.false in
     let contents = ap (λ (d : Device). d.contents) c.new-limited.ensures.device in
     rw (c.image-2-1.given.1 below.same_image ∙ c.drop-limited-2.ensures.below) (record {
-      makes = record { made = rw contents at made.made; path = rw contents at made.path; leaves = left.path };
+      makes = record {
+        begun = made.begun;
+        stays = made.stays;
+        made = rw contents at made.made;
+        path = rw contents at made.path;
+        leaves = left.path;
+      };
       most = left.most;
     })

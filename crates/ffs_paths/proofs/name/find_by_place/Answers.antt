@@ -1,5 +1,6 @@
 use Rattle.std.proofs.Common.{◌≡◌, ◌*◌, ◌/◌, ◌∙◌, ap, length, refl, sym, suc, ℕ, List, Some, arith, slice_index}
 use Rattle.std.{proofs.{Common.length-take, lemmas.List.get_or_default}, specs.List.list_any}
+use Rattle.std.proofs.lemmas.Result.{err_from_is_err_and}
 use Rattle.ffs_volume.specs.{Disk.Numbers.piece}
 use Rattle.ffs_volume.specs.Directories.Graph.{is_naming_entry}
 use Rattle.ffs_paths.{specs.Climbing.name_in, proofs.Keeping.name_read}
@@ -28,6 +29,11 @@ entries_are g c b t =
     ap (λ (n : ℕ). entries_in_chunks v.order (n / 512) c.bytes.result.now) long
     ∙ ap (entries_in_chunks v.order (part_size v / 512)) here
 
+-- where it is in the image
+place_is : (g : given.Over) (c : goal.After-find_in_chunks g) →
+    c.part_size-size.result * c.from-2.result ≡ part_size c.args.geometry.now.layout * c.in-Some.part
+place_is g c = rw (c.part_size-size.ensures, c.from-2.ensures) refl
+
 pub returns-clause-finds : goal.returns-clause-finds
 returns-clause-finds g c =
     let v = c.args.geometry.now.layout in
@@ -50,4 +56,25 @@ returns-clause-leaves g c =
     record {
       reads = name_read c.requires.ready read.room read.holds read.read;
       counted = record { count = read.counted; blocks = refl };
+      again = λ held. let at = held c.in-Some.part (part_is g c) in
+          read.again (at.0 ∙ sym (place_is g c)) (at.1 ∙ sym c.part_size-size.ensures);
+      held = λ b t noted k e.
+          let same : c.in-Some.part ≡ k = let e = sym (part_is g c) ∙ e in omega arith in
+          (read.place.0 ∙ (place_is g c ∙ ap (λ n. part_size c.args.geometry.now.layout * n) same),
+          read.place.1 ∙ c.part_size-size.ensures);
     }
+
+-- the read failed
+pub returns-in_err-fill-clause-leaves : goal.returns-in_err-fill-clause-leaves
+returns-in_err-fill-clause-leaves g c =
+    let read = c.in_err-fill.ensures.fills in
+    let p = err_from_is_err_and c.from_residual.result c.from_residual.ensures.1 in
+    let noted : place_in (slice_index c.args.workspace.now.queue.items c.args.dir) ≡ suc c.in-Some.part =
+    grind (arith, get_or_default) in
+    rw (p.1, p.2) (record {
+      reads = grind (arith, name_read);
+      counted = record { count = read.counted; blocks = refl };
+      again = λ held. let at = held c.in-Some.part noted in
+          read.again (at.0 ∙ rw (c.from.ensures, c.part_size-size.ensures) refl) (at.1 ∙ sym c.part_size-size.ensures);
+      held = λ b t noted. tt;
+    })
