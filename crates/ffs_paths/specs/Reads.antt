@@ -70,7 +70,7 @@ pub record OnlyReadsAtMost {T : Type 0} (most : ℕ) (v : Layout) (old new : Dev
   pub reads : OnlyReads v old new before after result
   pub counted : ReadsAtMost most v old before after count count'
 
--- the way up to the root: a chunk for each name that has room in a path, and for one that has none
--- any more. Each name takes two bytes at least, with its slash
+-- the way up to the root: a read for each name that has room in a path, and one for one that has
+-- none any more. Each name takes two bytes at least, with its slash
 abbrev pub climb_reads : ℕ
 climb_reads = MAXPATHLEN / 2 + 1
