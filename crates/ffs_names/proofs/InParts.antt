@@ -27,9 +27,9 @@ first_named : (x : ℕ) (f : ℕ → List RoledEntry) (n s j : ℕ) → s ≤ j 
 first_named x f zero s j from below before there = absurd (omega arith)
 first_named x f (suc n) s j from below before there = elim (cases_eq j s) [
   | inl e ↦ (
-      rw e (name_in-among x (f s) (flat_map f (range_with_len (s + 1) n)) (rw e at there)),
-      rw (list_any-append (is_naming_entry x) (f s) (flat_map f (range_with_len (s + 1) n)), rw e at there) refl,
-    )
+    rw e (name_in-among x (f s) (flat_map f (range_with_len (s + 1) n)) (rw e at there)),
+    rw (list_any-append (is_naming_entry x) (f s) (flat_map f (range_with_len (s + 1) n)), rw e at there) refl,
+  )
   | inr o ↦
       let none = before s (omega arith) (omega arith) in
       let later = first_named x f n (s + 1) j (omega arith) (omega arith) (λ i a. before i (omega arith)) there in (

@@ -84,8 +84,8 @@ past_chunk x order n bytes parts i d text found finds off are below =
     unnamed (list_any (is_naming_entry x) here) (λ e. false≢true (sym off ∙ finds.found e)) in (
       ap (name_in x) first ∙ name_in-after x here later none,
       ap (list_any (is_naming_entry x)) first
-      ∙ (list_any-append (is_naming_entry x) here later
-      ∙ ap (λ (b : Bool). b || list_any (is_naming_entry x) later) none),
+          ∙ (list_any-append (is_naming_entry x) here later
+          ∙ ap (λ (b : Bool). b || list_any (is_naming_entry x) later) none),
     )
   where
     unnamed : (b : Bool) → (b ≡ true → ⊥) → b ≡ false

@@ -90,8 +90,8 @@ ReadsAtMost most v d before after reads reads' = (b : List ℕ) → KnowsPlaces 
 abbrev pub names_to : Graph → ℕ → ℕ
 names_to g x = unwrap_or (level g x) 0
 
--- the way up to the root: a chunk for each name that has room in a path, and for one that has none
--- any more. Each name takes two bytes at least, with its slash
+-- the way up to the root: a read for each name that has room in a path, and one for one that has
+-- none any more. Each name takes two bytes at least, with its slash
 abbrev pub climb_reads : ℕ
 climb_reads = MAXPATHLEN / 2 + 1
 

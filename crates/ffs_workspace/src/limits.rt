@@ -5,8 +5,8 @@ ghost use Rattle.ffs_volume.specs.Report.Reads.{sweep_reads};
 use ffs_layout::Geometry;
 use ffs_volume::constants::MAXPATHLEN;
 
-/// How many reads a path takes at most: for its parent's path one chunk for each name that has room
-/// and one for a name that has none, then one for the directory's own name.
+/// How many reads a path takes at most: for its parent's path one for each name that has room and
+/// one for a name that has none, then one for the directory's own name.
 pub const PATH_READS: u64 = MAXPATHLEN as u64 / 2 + 2;
 
 /// How many reads a message of phase 2 takes at most: two paths and an inode.
