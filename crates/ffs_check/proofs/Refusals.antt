@@ -21,7 +21,7 @@ module _ {S : Type 0} (contents : S → Option (List ℕ)) (was_written : S → 
   pub written : {T : Type 0} {I : Ghosts S} (old new : S) (out out' : Counted S I) (text : List ℕ)
       (result : Result T OutFault) →
       Prints (counted_sink contents out) (counted_sink contents out') text result →
-      OnErr result (PutRefused {E = OutFault} (λ before piece answer after.
+      OnErr result (PutRefused {W = Counted S I} {E = OutFault} (λ before piece answer after.
       PutsOnce contents was_written before after piece answer)) → out.inner.now ≡ old →
       out'.inner.now ≡ new → IsWritten contents was_written old new text
   written old new out out' text (Ok x) prints refused before after = record {

@@ -29,7 +29,7 @@ module _ {S : Type 0} {v : Layout} {d d' : Device} {w w' : Workspace} {x : ℕ} 
     begun = stays;
     once = λ bytes k noted. by_once t t' reads reads' _ (once bytes (knows_places _ _ _ _ bytes k noted)) (some bytes k);
     counted = λ bytes k noted. by_line _ (left.path.counted bytes (knows_places _ _ _ _ bytes k noted)) (some bytes k);
-    paid = λ numbered. paid_reads (left.most numbered);
+    paid = paid_reads left.most;
   }
 
   -- the lines were said, or the output failed among them
@@ -42,7 +42,7 @@ module _ {S : Type 0} {v : Layout} {d d' : Device} {w w' : Workspace} {x : ℕ} 
     begun = stays;
     once = λ bytes k noted. by_once t t' reads reads' _ (once bytes (knows_places _ _ _ _ bytes k noted)) (some bytes k);
     counted = λ bytes k noted. by_line _ (left.path.counted bytes (knows_places _ _ _ _ bytes k noted)) (some bytes k);
-    paid = λ numbered. paid_says _ said (some_said _ many) (left.most numbered);
+    paid = paid_says _ said (some_said _ many) left.most;
   }
 
   pub entry_stopped : {T : Type 0} {a b : Progress} {fault : _} (ms : List TreeMessage) → 1 ≤ length ms →
@@ -54,5 +54,5 @@ module _ {S : Type 0} {v : Layout} {d d' : Device} {w w' : Workspace} {x : ℕ} 
     begun = stays;
     once = λ bytes k noted. by_once t t' reads reads' _ (once bytes (knows_places _ _ _ _ bytes k noted)) (some bytes k);
     counted = λ bytes k noted. by_line _ (left.path.counted bytes (knows_places _ _ _ _ bytes k noted)) (some bytes k);
-    paid = λ numbered. paid_stops _ stopped (some_said _ many) (left.most numbered);
+    paid = paid_stops _ stopped (some_said _ many) left.most;
   }

@@ -69,7 +69,7 @@ leaves_read (Ok y) path read more = record {
     counted = λ b k. few_more (few_then (path.path.counted b k) read.counted) more;
     kept_parent = kept_on _ read.reads path.path.kept_parent;
   };
-  most = λ numbered. let first = path.most numbered in omega (arith, first, read.counted.count, more);
+  most = let first = path.most in omega (arith, first, read.counted.count, more);
 }
 leaves_read (Err e) path read more = record {
   path = record {
@@ -77,7 +77,7 @@ leaves_read (Err e) path read more = record {
     counted = λ b k. few_more (few_then (path.path.counted b k) read.counted) more;
     kept_parent = tt;
   };
-  most = λ numbered. let first = path.most numbered in omega (arith, first, read.counted.count, more);
+  most = let first = path.most in omega (arith, first, read.counted.count, more);
 }
 
 -- where gathering a path failed

@@ -5,7 +5,7 @@ use Rattle.ffs_report.specs.{Paid.Paid, Progress.Progress, PhaseOutcome.PhaseRep
 use Rattle.ffs_report.specs.Known.{ForBytes}
 use Rattle.ffs_volume.specs.{declared.Layout.Layout, Directories.{Roles.Volume, Volumes.volume_of}}
 use Rattle.ffs_volume.specs.{Messages.Kinds.{TreeMessage, of_tree}, Report.Reads.line_reads}
-use Rattle.ffs_workspace.specs.{Places.{AreChunksNumbered, AreNoted}, declared.workspace.Workspace.Workspace}
+use Rattle.ffs_workspace.specs.{Places.AreNoted, declared.workspace.Workspace.Workspace}
 use Rattle.ffs_pathnames.specs.DirectoryContext.{DirectoryContext, KeepsPath, KnowsPath}
 use Rattle.ffs_pathnames.specs.{LineReads.{ReadsByLines, ReadsPathOnce}, declared.one_entry.EntryTexts.EntryTexts, Gathers.passed_of}
 use Rattle.ffs_pathnames.specs.{PassedNames.PassedNames, Ready.{LinesLeave, PhaseLeaves}}
@@ -23,7 +23,7 @@ pub record ReportsEntries {T : Type 0} (v : Layout) (d : Device) (w w' : Workspa
   pub once : ForBytes (DirectoryContext v d.contents w x) (λ b. AreNoted v b w.queue.items
       → ReadsPathOnce (length (lines (volume_of v b))) t t' reads reads')
   pub counted : ReadsByLines v (DirectoryContext v d.contents w x) (λ b. lines (volume_of v b)) w w' reads reads'
-  pub paid : AreChunksNumbered v → Paid line_reads progress progress' reads reads' result
+  pub paid : Paid line_reads progress progress' reads reads' result
 
 -- such lines are said, and all of the workspace but its windows stays
 pub record ReportsOneEntry {T : Type 0} (v : Layout) (d d' : Device) (w w' : Workspace) (x : ℕ) (t t' : EntryTexts)

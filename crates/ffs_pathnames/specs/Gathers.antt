@@ -10,7 +10,6 @@ use Rattle.ffs_volume.specs.Directories.PathnameCheck.{attributes, extra_lines, 
 use Rattle.ffs_volume.specs.Report.Reads.{line_reads, path_reads}
 use Rattle.ffs_layout.specs.Entry.{entry_value}
 use Rattle.ffs_report.specs.Known.{ForBytes}
-use Rattle.ffs_workspace.specs.Places.{AreChunksNumbered}
 use Rattle.ffs_paths.specs.{DirectoryPaths.IsPathOf, KeptParents.PathLeaves, LastPaths.last_path, Reads.{KnowsPlaces, OnlyReadsFew}}
 use Rattle.ffs_paths.specs.declared.{entry_paths.EntryPaths.EntryPaths, kept_parent.KeptParent.KeptParent}
 use Rattle.ffs_pathnames.specs.{DirectoryContext.{DirectoryContext, KeepsPath, KnowsPath}, Ready.LimitedPathLeaves}
@@ -115,10 +114,10 @@ module _ {S : Type 0} (I : Ghosts S) (v : Layout) (old new : S) (w w' : Workspac
     pub leaves : PathLeaves path_reads v (I.device old) (I.device new) (I.reads old) (I.reads new) w w' t'.kept_parent
         result
 
-  -- the same, with at most `path_reads` reads of any image, if each chunk has a number
+  -- the same, with at most `path_reads` reads of any image
   pub record MakesPathLimited {T : Type 0} (x : ℕ) (t t' : EntryTexts) (result : Result T ImageFault) : Type 0 where
     pub makes : MakesPath x t t' result
-    pub most : AreChunksNumbered v → I.reads new ≤ I.reads old + path_reads
+    pub most : I.reads new ≤ I.reads old + path_reads
 
   -- the same, and where a path was begun nothing is read, and that path stays
   pub record BeginsPath {T : Type 0} (x : ℕ) (t t' : EntryTexts) (result : Result T ImageFault) : Type 0 where

@@ -18,9 +18,9 @@ pub spares_name : {v : Layout} {d : Device} {count mid count' x p : ℕ} {w w' :
     ((b : List ℕ) → KnowsPlaces v d.contents w b → mid ≤ count + names_to (graph_of (volume_of v b)) p) →
     (HasPathOf s p → (mid ≡ count) × (w' ≡ w)) →
     ((b : List ℕ) → KnowsPlaces v d.contents w b → count' ≤ mid + 1) →
-    ((b : List ℕ) → KnowsPlaces v d.contents w b → HoldsPlaceOf w' x → count' ≤ mid) →
+    ((b : List ℕ) → KnowsPlaces v d.contents w b → HoldsPlaceOf v w' x → count' ≤ mid) →
     SparesReads v d count count' x w s
-spares_name {x = x} {s = s} of names same one again = record {
+spares_name {v = v} {x = x} {s = s} of names same one again = record {
   names = λ b k. let a = names b k in let l = one b k in let e = names_more k.survey of in omega (arith, a, l, e);
   kept = λ b q k is has.
       let e = same (subst (HasPathOf s) (one_parent is of) has) in
@@ -28,7 +28,7 @@ spares_name {x = x} {s = s} of names same one again = record {
       omega (arith, e.0, l);
   again = λ b q k is has held.
       let e = same (subst (HasPathOf s) (one_parent is of) has) in
-      let l = again b k (subst (λ w. HoldsPlaceOf w x) (sym e.1) held) in
+      let l = again b k (subst (λ w. HoldsPlaceOf v w x) (sym e.1) held) in
       omega (arith, e.0, l);
 }
 

@@ -62,20 +62,20 @@ abbrev pub HasPathOf : KeptParent → (d : ℕ) → Type 0
 HasPathOf s d = (s.parent ≡ d) ⊎ (s.child ≡ d)
 
 -- a path of the directory x makes, where each place is noted, a read at most for each of its names; one
--- where that of its parent is kept; and none where the window holds the chunk with its name, too
+-- where that of its parent is kept; and none where the window holds the part with its name, too
 pub record SparesReads (v : Layout) (d : Device) (count count' x : ℕ) (w : Workspace) (s : KeptParent) : Type 0 where
   pub names : (b : List ℕ) → KnowsPlaces v d.contents w b → count' ≤ count + names_to (graph_of (volume_of v b)) x
   pub kept : (b : List ℕ) (p : ℕ) → KnowsPlaces v d.contents w b → IsParentOf w x p → HasPathOf s p
       → count' ≤ count + 1
   pub again : (b : List ℕ) (p : ℕ) → KnowsPlaces v d.contents w b → IsParentOf w x p → HasPathOf s p
-      → HoldsPlaceOf w x → count' ≤ count
+      → HoldsPlaceOf v w x → count' ≤ count
 
 -- the path of the parent of x is kept then, and x with it; where x has no parent, what was kept before
 pub record KeepsChild (w : Workspace) (x : ℕ) (s s' : KeptParent) : Type 0 where
   pub parent : (p : ℕ) → IsParentOf w x p → (s'.parent ≡ p) × (s'.child ≡ x)
   pub same : ((p : ℕ) → IsParentOf w x p → ⊥) → s' ≡ s
 
--- and the window holds the chunk of the place of x, where it has a parent and each place is noted
+-- and the window holds the part of the place of x, where it has a parent and each place is noted
 abbrev pub HoldsPlaceThen : Layout → Device → (w w' : Workspace) → (x : ℕ) → Type 0
 HoldsPlaceThen v d w w' x =
-    (b : List ℕ) (p : ℕ) → KnowsPlaces v d.contents w b → IsParentOf w x p → HoldsPlaceOf w' x
+    (b : List ℕ) (p : ℕ) → KnowsPlaces v d.contents w b → IsParentOf w x p → HoldsPlaceOf v w' x

@@ -51,7 +51,7 @@ entries-init g c = let all = c.of_chunk-entries.ensures in rw (all.0, all.1, all
   passed = λ b k. refl;
   said = of_begins _ _ _;
   counted = λ b k noted. has_begun _ _ _;
-  paid = λ numbered. paid_none (omega arith);
+  paid = paid_none (omega arith);
 })
 
 pub returns-in_err-report_entry : goal.returns-in_err-report_entry
@@ -78,7 +78,7 @@ returns-in_err-report_entry g c =
         counted = λ b k noted. read_all (read_more _ _ (inv.counted b k noted)
             (entry_counted (volume_of v b) x.dir m _ _ _ (next g at) refl)
             (lines.counted b (know g at b k) (noted_kept v b _ _ inv.places noted)));
-        paid = λ numbered. paid_then (inv.paid numbered) (lines.paid numbered);
+        paid = paid_then inv.paid lines.paid;
       };
       passed = tt;
       leaves = record {
@@ -117,7 +117,7 @@ entries-preserved g c =
       counted = λ b k noted. read_more _ _ (inv.counted b k noted)
           (entry_counted (volume_of v b) x.dir m _ _ _ (next g at) (ok.passed b (know g at b k)))
           (ok.lines.counted b (know g at b k) (noted_kept v b _ _ inv.places noted));
-      paid = λ numbered. paid_then (inv.paid numbered) (ok.lines.paid numbered);
+      paid = paid_then inv.paid ok.lines.paid;
     }
 
 pub returns : goal.returns

@@ -2,7 +2,7 @@ use Rattle.std.proofs.Common.{◌≡◌, ◌+◌, ◌-◌, ◌*◌, ◌≤◌, �
 use Rattle.ffs_volume.specs.Directories.{Entries.entries_of, Parents.graph_of, Roles.roled_from, Volumes.volume_of}
 use Rattle.ffs_volume.specs.{Messages.Kinds.of_tree, Report.Reads.line_reads}
 use Rattle.ffs_report.specs.{Known.ForBytes, Paid.Paid, PhaseOutcome.SaidOf, Progress.progress}
-use Rattle.ffs_workspace.specs.{Leaves.LeavesSurvey, Places.AreChunksNumbered, Places.AreNoted}
+use Rattle.ffs_workspace.specs.{Leaves.LeavesSurvey, Places.AreNoted}
 use Rattle.ffs_names.specs.EntriesToCome.{roled_to_come}
 use Rattle.ffs_pathnames.specs.{Ready.ReadyWith, Gathers.passed_of, Stamps.KeepPlaces, PassedNames.after_entries}
 use Rattle.ffs_pathnames.{specs.{LineReads.{again_reads, path_owed}, PassedNames.entries_reported}, proofs.LineCounts.HasRead}
@@ -38,7 +38,7 @@ invariant-entries g l =
       counted : (b : List ℕ) → known b → AreNoted v b l.fn.workspace.queue.items →
           HasRead (length (all b)) (length (to_come b)) (g.I.Image.reads l.fn.image) (g.I.Image.reads l.image)
           l.fn.workspace l.workspace;
-      paid : AreChunksNumbered v → Paid {T = Unit {0}} line_reads (progress g.W.Output.sink l.fn.report)
+      paid : Paid {T = Unit {0}} line_reads (progress g.W.Output.sink l.fn.report)
           (progress g.W.Output.sink l.report) (g.I.Image.reads l.fn.image) (g.I.Image.reads l.image) (Ok tt);
     }
 

@@ -31,7 +31,7 @@ returns g c =
         once = λ b k noted. lines.once b k noted;
         counted = λ b k noted.
             let few = lines.counted b k noted in record { count = few.count; blocks = few.blocks };
-        paid = λ numbered. paid_answer (lines.paid numbered);
+        paid = paid_answer lines.paid;
       };
       passed = λ b k.
           let v = c.args.geometry.now.layout in

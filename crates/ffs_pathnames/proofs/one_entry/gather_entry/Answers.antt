@@ -63,8 +63,6 @@ returns g c =
               (let most = verdict_most c.args.verdict.now in omega (arith, most));
           kept_parent = left.path.kept_parent;
         };
-        most = λ numbered.
-            let most = verdict_most c.args.verdict.now in
-            omega (arith, begun.most numbered, left.most numbered, most);
+        most = let most = verdict_most c.args.verdict.now in omega (arith, begun.most, left.most, most);
       };
     }

@@ -35,7 +35,7 @@ returns-then-is_silent-clause-lines g c = record {
   begun = λ begun. begun;
   once = λ b k noted. omega arith;
   counted = λ b k noted. few_none;
-  paid = λ numbered. paid_none (omega arith);
+  paid = paid_none (omega arith);
 }
 
 pub returns-in_err-attr-clause-lines : goal.returns-in_err-attr-clause-lines

@@ -63,7 +63,7 @@ returns-in_err-examined-clause-lines g c =
           let within = mul-le-mul_left line_reads (starts_within (volume_of c.args.geometry.now.layout b) c.args.dir) in
           omega (arith, begun.reads b (first k) noted, within);
       kept = λ b k. omega (arith, begun.kept b (first k));
-      paid = λ numbered. paid_fault c.in_err-examined.field-0.0 (begun.paid numbered);
+      paid = paid_fault c.in_err-examined.field-0.0 begun.paid;
       holds = tt;
       leaves = record {
         image = image_same Examination (Unit {0}) _ _ _ c.in_err-examined.field-0.0 refl left.image;
@@ -89,7 +89,7 @@ returns-then-examined-clause-lines g c =
           let within = mul-le-mul_left line_reads (starts_within (volume_of v b) c.args.dir) in
           omega (arith, begun.reads b (first k) noted, within);
       kept = λ b k. omega (arith, begun.kept b (first k));
-      paid = λ numbered. paid_answer (begun.paid numbered);
+      paid = paid_answer begun.paid;
       holds = λ b k. quiet_after (volume_of v b) c.args.dir m _ k.passed (quiet b k)
           (begun.holds b (first k)).passed;
       leaves = record { image = left.image; survey = left.survey; places = left.places; ready = left.ready };
@@ -123,7 +123,7 @@ returns-clause-lines g c =
       kept = λ b k.
           let cost = cost_of_dir v b c.args.dir k.knows.dir in
           omega (arith, one.kept b (first k), two.kept b (second_of b k), cost);
-      paid = λ numbered. paid_then (one.paid numbered) (two.paid numbered);
+      paid = paid_then one.paid two.paid;
       holds = if_ok c.report_directory.result _ _
           (λ x p b k. reported_after (volume_of v b) c.args.dir before m _ (dir b k) k.passed
           (one.holds b (first k)).passed (p b (second_of b k))) two.holds;
