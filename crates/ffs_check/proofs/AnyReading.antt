@@ -10,7 +10,6 @@ use Rattle.ffs_report.specs.{declared.fault.RunFault.{RunFault, TheVariants.{Rea
 use Rattle.ffs_report.proofs.{Reports.{said_then, stopped_after}, Paying.{paid_beside, paid_price, paid_text}}
 use Rattle.ffs_report.proofs.Paying.{paid_then, paid_within}
 use Rattle.ffs_pathnames.specs.declared.pass2.Root.{Root}
-use Rattle.ffs_workspace.specs.Places.{AreChunksNumbered}
 use Rattle.ffs_check.specs.{AnyReads.{PhasesRead, ReadsAny, ReadsByMessages}, Ends.BrokeOffIn}
 use Rattle.ffs_check.{specs.{Ends.Printed, PhaseEnds.{EndsAs, SaysRefusal}}, proofs.EndLaws.broke_off}
 
@@ -104,16 +103,15 @@ opened_reads v a b c lines before between after said opened p =
 pub whole_reads : (size : ℕ) (found : Super) (output : GName) (sink : Sink) (p c : Progress) (lines : List Message)
     (before between after : ℕ) → found.geometry.layout.size * found.geometry.layout.fsize ≤ size →
     Said (starts output sink) p lines → between ≤ before + opening_reads →
-    (AreChunksNumbered found.geometry.layout
-    → ReadsByMessages Said Stopped (phase_reads found.geometry.layout) p c between after) →
+    ReadsByMessages Said Stopped (phase_reads found.geometry.layout) p c between after →
     ReadsAny size sink c.sink before after
 whole_reads size found output sink p c lines before between after inside said opened phases = inr (record {
   layout = found.geometry.layout;
   accepted = found.geometry.sound;
   inside = inside;
-  reads = λ numbered. printed_reads (reads_limit found.geometry.layout) (starts output sink) c before after refl
+  reads = printed_reads (reads_limit found.geometry.layout) (starts output sink) c before after refl
       (opened_reads found.geometry.layout (starts output sink) p c lines before between after said opened
-      (phases numbered));
+      phases);
 })
 
 -- where an output is is known
@@ -127,5 +125,5 @@ pub rest_reads : {knows : List ℕ → Type 0} (s : Superblock) (output : GName)
     PhasesRead Printed BrokeOffIn knows s sink c.sink before after
 rest_reads s output sink c before after phases = record {
   known = phases.known;
-  any = λ numbered. printed_reads (phase_reads s.layout) (starts output sink) c before after refl (phases.any numbered);
+  any = printed_reads (phase_reads s.layout) (starts output sink) c before after refl phases.any;
 }

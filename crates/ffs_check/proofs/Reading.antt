@@ -70,14 +70,14 @@ found_within image on name sector start p found reads between reads' o opened fo
     let is = found_of image on sector (superblock_in found) answers in
     record {
       refused = λ bytes t fault e. let no : Ok (superblock_in found) ≡ Err fault = is bytes t ∙ e in absurd (cc);
-      accepted = λ bytes t s e numbered.
+      accepted = λ bytes t s e.
           let same : superblock_in found ≡ s = ap (λ r. found_or r s) (is bytes t ∙ e) in
           let within : PhasesReadWithin s bytes between reads' =
           subst (λ x. PhasesReadWithin x bytes between reads') same (follows bytes (ap (λ d. d.contents) still ∙ t)) in
           omega (
             arith,
             opened,
-            within numbered,
+            within,
             phases_more s.layout _ _ (report_among bytes name sector s (sym e)),
           );
     }

@@ -2,13 +2,13 @@
 use Rattle.std.proofs.Common.{◌≡◌, ◌++◌, ℕ, List, [], Option, Result, Ok, Err, append-nil, inl, inr, sym, refl, OnErr}
 use Rattle.std.specs.{Io.KnownBytes.Appends, declared.io.Error.Error}
 use Rattle.ffs_report.specs.{Outlet.WriteFailed, Sink.{Prints, PutRefused}, Writers.{PutsOnce, counted_sink}}
-use Rattle.ffs_report.specs.declared.{counted.Counted.Counted, output.OutFault.OutFault}
+use Rattle.ffs_report.specs.declared.{counted.Counted.Counted, outlet.Outlet.Ghosts, output.OutFault.OutFault}
 use Rattle.ffs_check.specs.Refusals.{IsWritten}
 
 module _ {S : Type 0} (contents : S → Option (List ℕ)) (was_written : S → List ℕ → Result ℕ Error → S → Type 0) where
   -- a put that an output over a writer refused is a write that failed
-  write_failed : PutRefused {E = OutFault} (λ old piece result new. PutsOnce contents was_written old new piece result) →
-      WriteFailed was_written
+  write_failed : {I : Ghosts S} → PutRefused {W = Counted S I} {E = OutFault}
+      (λ old piece result new. PutsOnce contents was_written old new piece result) → WriteFailed was_written
   write_failed p = record {
     old = p.old.inner.now;
     piece = p.piece;
@@ -18,9 +18,10 @@ module _ {S : Type 0} (contents : S → Option (List ℕ)) (was_written : S → 
     nothing = p.refused.reported;
   }
 
-  pub written : {T : Type 0} (old new : S) (out out' : Counted S) (text : List ℕ) (result : Result T OutFault) →
+  pub written : {T : Type 0} {I : Ghosts S} (old new : S) (out out' : Counted S I) (text : List ℕ)
+      (result : Result T OutFault) →
       Prints (counted_sink contents out) (counted_sink contents out') text result →
-      OnErr result (PutRefused {E = OutFault} (λ before piece answer after.
+      OnErr result (PutRefused {W = Counted S I} {E = OutFault} (λ before piece answer after.
       PutsOnce contents was_written before after piece answer)) → out.inner.now ≡ old →
       out'.inner.now ≡ new → IsWritten contents was_written old new text
   written old new out out' text (Ok x) prints refused before after = record {

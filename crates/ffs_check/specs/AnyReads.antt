@@ -6,7 +6,6 @@ use Rattle.ffs_volume.specs.{declared.Layout.Layout, Laws.Geometry.IsAcceptedLay
 use Rattle.ffs_volume.specs.{Disk.Superblock.Superblock, Report.Reads.{line_reads, opening_reads, phase_reads}}
 use Rattle.ffs_volume.specs.Report.Reads.{reads_limit}
 use Rattle.ffs_report.specs.{Known.ForBytes, Paid.Paid, Progress.Progress, Sink.Sink, declared.fault.RunFault.RunFault}
-use Rattle.ffs_workspace.specs.Places.{AreChunksNumbered}
 use Rattle.ffs_check.specs.{Ends.{BrokeOffIn, Printed}, ReadsWithin.{PhasesReadWithin, ReadsWithin}}
 
 -- messages went out, or the output failed among them, and there were no more reads than the limit
@@ -18,28 +17,26 @@ pub record ReadsByMessages {Target : Type 0} (whole broken : Target → Target �
   pub most : after ≤ before + limit (length messages)
 
 -- how often the phases read an image whose bytes are known, and any image, for the messages that
--- went out, on a volume of less than 2^40 bytes (`AreChunksNumbered`)
+-- went out
 pub record PhasesRead {Target : Type 0} (whole broken : Target → Target → List Message → Type 0) (knows : List ℕ → Type 0)
     (s : Superblock) (old new : Target) (before after : ℕ) : Type 0 where
   pub known : ForBytes knows (λ bytes. PhasesReadWithin s bytes before after)
-  pub any : AreChunksNumbered s.layout → ReadsByMessages whole broken (phase_reads s.layout) old new before after
+  pub any : ReadsByMessages whole broken (phase_reads s.layout) old new before after
 
 -- the same, by what the phases answered: of any image for the messages that were begun, each of which
 -- takes `line_reads` in phase 2, and one read in phases 3 and 4
 pub record PhasesPay {T : Type 0} (knows : List ℕ → Type 0) (s : Superblock) (old new : Progress) (before after : ℕ)
     (result : Result T RunFault) : Type 0 where
   pub known : ForBytes knows (λ bytes. PhasesReadWithin s bytes before after)
-  pub paid : AreChunksNumbered s.layout
-      → Paid (line_reads + 1) old new (before + phase_reads s.layout 0) after result
+  pub paid : Paid (line_reads + 1) old new (before + phase_reads s.layout 0) after result
 
 -- for some accepted layout, of a volume that fits an image of this size, the whole check read within
--- the limit of that layout for what it printed, if the volume has less than 2^40 bytes
+-- the limit of that layout for what it printed
 pub record ReadsOfVolume (size : ℕ) (out out' : Sink) (before after : ℕ) : Type 0 where
   pub layout : Layout
   pub accepted : IsAcceptedLayout layout
   pub inside : layout.size * layout.fsize ≤ size
-  pub reads : AreChunksNumbered layout
-      → ReadsByMessages Printed BrokeOffIn (reads_limit layout) out out' before after
+  pub reads : ReadsByMessages Printed BrokeOffIn (reads_limit layout) out out' before after
 
 -- the whole check of any image of this size: it was read at most twice, or within the limit of the volume
 abbrev pub ReadsAny : (size : ℕ) → Sink → Sink → (before after : ℕ) → Type 0

@@ -3,18 +3,15 @@ use Rattle.std.specs.Prelude.{◌≡◌, ◌≤◌, ◌+◌, ℕ, List, length, 
 use Rattle.ffs_image.specs.Device.{Device, ForContents}
 use Rattle.ffs_volume.specs.{declared.SuperFault.SuperFault, Disk.{Outcome.outcome, Superblock.Superblock}}
 use Rattle.ffs_volume.specs.Report.{Reads.{opening_reads, phase_reads, reads_limit}, Whole.{phase_lines, report_of}}
-use Rattle.ffs_workspace.specs.Places.{AreChunksNumbered}
 
--- the phases read the image at most `phase_reads` times, on a volume of less than 2^40 bytes
--- (`AreChunksNumbered`)
+-- the phases read the image at most `phase_reads` times
 abbrev pub PhasesReadWithin : Superblock → (bytes : List ℕ) → (reads reads' : ℕ) → Type 0
-PhasesReadWithin s bytes reads reads' =
-    AreChunksNumbered s.layout → reads' ≤ reads + phase_reads s.layout (length (phase_lines bytes s))
+PhasesReadWithin s bytes reads reads' = reads' ≤ reads + phase_reads s.layout (length (phase_lines bytes s))
 
 -- the whole check of an image that gives its bytes: at most twice where the superblock isn't
--- accepted, else within the limit, on a volume of less than 2^40 bytes (`AreChunksNumbered`)
+-- accepted, else within the limit
 pub record ReadsWithin (image : Device) (name : List ℕ) (asked_sector : Option ℕ) (reads reads' : ℕ) : Type 0 where
   pub refused : ForContents image.contents (λ bytes. (fault : SuperFault) → outcome bytes asked_sector ≡ Err fault
       → reads' ≤ reads + opening_reads)
   pub accepted : ForContents image.contents (λ bytes. (s : Superblock) → outcome bytes asked_sector ≡ Ok s
-      → AreChunksNumbered s.layout → reads' ≤ reads + reads_limit s.layout (length (report_of bytes name asked_sector)))
+      → reads' ≤ reads + reads_limit s.layout (length (report_of bytes name asked_sector)))

@@ -5,7 +5,7 @@ use Rattle.std.specs.{Prelude.codes, declared.io.Error.Error}
 use Rattle.clap.specs.{Words.IsAmong, declared.error.kind.ErrorKind.ErrorKind}
 use Rattle.ffs_image.specs.Device.{Device}
 use Rattle.ffs_volume.specs.{declared.End.End, Messages.{Kinds.cannot_alloc, Texts.text_of}, Report.Whole.status_of}
-use Rattle.ffs_report.specs.Sink.{BrokeOff, Sink, Took}
+use Rattle.ffs_report.specs.{Outlet.IsCaused, Sink.{BrokeOff, Sink, Took}}
 use Rattle.ffs_check.specs.{AnyReads.CheckReads, Headline.Headline, Refusals.refusal_text}
 use Rattle.ffs_check.specs.Taken.{TakesOfSystem}
 use Rattle.ffs_check.specs.CommandWords.{AskFor, LacksMemory, refusals}
@@ -105,10 +105,11 @@ FlushedAfter was_flushed contents old new ran_status status =
     IsUnprinted old new ran_status status ⊎ IsFlushed was_flushed contents old new ran_status status
 
 -- how a run ends whose writer is flushed after it: `out` and `out'` are the writer as an output, before
--- the run and after it, and `between` is the writer before the flush
+-- the run and after it, and `between` is the writer before the flush. The output failed only where a
+-- write did
 pub record RunEndsFlushed {I O E S : Type 0} (device : I → Device) (reads : I → ℕ)
     (opens : O → List ℕ → I → O → Type 0) (refuses : O → List ℕ → O → Type 0) (writes : E → E → List ℕ → Type 0)
-    (was_flushed : S → Result (Unit {0}) Error → S → Type 0)
+    (was_written : S → List ℕ → Result ℕ Error → S → Type 0) (was_flushed : S → Result (Unit {0}) Error → S → Type 0)
     (contents : S → Option (List ℕ)) (words : List (List ℕ)) (opener opener' : O) (errors errors' : E) (old new : S)
     (status : ℕ) : Type 0 where
   pub out : Sink
@@ -117,6 +118,7 @@ pub record RunEndsFlushed {I O E S : Type 0} (device : I → Device) (reads : I 
   pub before : out.taken ≡ contents old
   pub unfailed : out.failures ≡ 0
   pub after : out'.taken ≡ contents between
+  pub caused : ∥ IsCaused was_written out'.failures ∥₁
   pub ran_status : ℕ
   pub ran : RunEnds device reads opens refuses writes words opener opener' errors errors' out out' ran_status
   pub flushed : FlushedAfter was_flushed contents between new ran_status status

@@ -11,4 +11,5 @@ pub mod Rescanned
 pub mod UnclaimedRuns
 pub mod RescanCounts
 pub mod WordClaims
+pub mod ZeroInodes
 pub mod Limited

@@ -1,13 +1,13 @@
 -- The inodes one after another.
 use Rattle.std.proofs.Common.{◌≡◌, ℕ, zero, suc, ◌+◌, ◌-◌, ◌<◌, ◌≤◌, true, false, ◌||◌, if◌then◌else◌, nat_lt, List}
-use Rattle.std.proofs.Common.{◌++◌, length, map, get_or, replicate, min, slice_set, arith, refl, ap, ◌∙◌}
-use Rattle.std.proofs.lemmas.{Bool.Decides.nat_tests, List.{get_or-set_same, get_or-set_other}}
+use Rattle.std.proofs.Common.{◌++◌, length, map, get_or, replicate, min, slice_set, arith, refl, ap, ◌∙◌, sym}
+use Rattle.std.proofs.lemmas.{Bool.Decides.nat_tests, List.{get_or-set_same, get_or-set_other, set-get_or}}
 use Rattle.std.specs.List.{range_with_len}
 use Rattle.ffs_volume.specs.Blocks.{BlockCheck.{owner_lines, lines_of_owners}, Claims.{Claims, no_claims}}
 use Rattle.ffs_volume.specs.Blocks.{Claims.{after_owner, after_owners}, Inodes.{inode_of, class_of, is_unknown}}
 use Rattle.ffs_volume.specs.Blocks.{KeptSteps.claims_before, Owners.{owner_of, owners_of}}
 use Rattle.ffs_volume.specs.{Directories.Volumes.is_inode_number, Encodings.{Kinds.kind_at, Links.start_at}}
-use Rattle.ffs_volume.specs.{Encodings.Replay.cut_of, declared.Layout.Layout}
+use Rattle.ffs_volume.specs.{Encodings.Replay.cut_of, declared.{Class.TheVariants.Free, Inode.Inode, Layout.Layout}}
 use Rattle.ffs_workspace.specs.Holds.{claims_of, IsFresh, HoldsPhase1, has_blame, marked_by_phase1_at, all_claims}
 use Rattle.ffs_workspace.specs.{Lengths.{IsFor, inodes_of}, Notes.{note_of, note_at}}
 use Rattle.ffs_workspace.specs.declared.workspace.Workspace.{Workspace}
@@ -46,6 +46,12 @@ FilledTo d f xs n = (x : ℕ) → get_or xs x d ≡ (if nat_lt x n then f x else
 filled_next : {A : Type 0} (d : A) (f : ℕ → A) (xs xs' : List A) (n : ℕ) (value : A) → n < length xs →
     xs' ≡ slice_set xs n value → value ≡ f n → FilledTo d f xs n → FilledTo d f xs' (n + 1)
 filled_next d f xs xs' n value low now is before = grind (arith, nat_tests, get_or-set_same, get_or-set_other)
+
+-- where nothing is to be set at the next number, the list is filled up to it
+filled_still : {A : Type 0} (d : A) (f : ℕ → A) (xs : List A) (n : ℕ) → FilledTo d f xs n → xs ≡ slice_set xs n d
+filled_still d f xs n before =
+    let none : get_or xs n d ≡ d = let here = before n in grind (arith, nat_tests) in
+    sym (ap (slice_set xs n) (sym none) ∙ set-get_or xs n d)
 
 -- nothing is found of a number that is no inode's
 abbrev NoneOutside : {A : Type 0} → Layout → A → (ℕ → A) → Type 0
@@ -114,6 +120,16 @@ found_next {v = v} {bytes = bytes} {u = u} {w = w} {n = n} low high m now stored
       starts = filled_next 0 (start_at v bytes) u.references.items _ n _ (omega (arith, m.references)) stored.starts
           (rw inside refl) before.starts;
     }
+
+-- a free inode leaves what is found of it as it begins
+pub stored_free : {v : Layout} {bytes : List ℕ} {u : Workspace} {n : ℕ} (i : Inode) → FoundTo v bytes u n →
+    Stored n Free i u (record u { bad = 0; dups = 0; kept = 0; tail = false })
+stored_free {u = u} {n = n} i before = record {
+  kinds = filled_still 0 _ u.kinds.items n before.kinds;
+  marked = filled_still false _ u.marked.items n before.marked;
+  notes = filled_still 0 _ u.notes.items n before.notes;
+  starts = filled_still 0 _ u.references.items n before.starts;
+}
 
 pub found_all : {v : Layout} {bytes : List ℕ} {w : Workspace} {n : ℕ} → inodes_of v ≤ n →
     claims_of w ≡ all_claims v bytes → FoundTo v bytes w n → HoldsPhase1 v bytes (record w { surveyed = false })

@@ -6,4 +6,5 @@ pub mod RescanRuns
 pub mod Area
 pub mod Claiming
 pub mod SilentWords
+pub mod ZeroInodes
 pub mod Phases

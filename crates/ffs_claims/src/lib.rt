@@ -23,6 +23,7 @@ mod report_offer;
 mod reserve;
 mod store;
 mod words;
+mod zero;
 
 pub use pass1::phase1;
 pub use pass1b::phase1b;

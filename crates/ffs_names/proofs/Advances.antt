@@ -1,6 +1,6 @@
 -- How a reading of chunks goes from step to step: over Tails and Gaps, and past each Run that is seen.
 use Rattle.std.proofs.Common.{◌≡◌, ◌≤◌, ℕ, zero, suc, ◌+◌, ◌-◌, ◌^◌, ◌==◌, min, Bool, true, false, ◌||◌, if◌then◌else◌}
-use Rattle.std.proofs.Common.{List, [], ◌∷◌, ◌++◌, replicate, Option, Some, None, arith, refl, sym, ap, ◌∙◌}
+use Rattle.std.proofs.Common.{List, [], ◌∷◌, ◌++◌, replicate, Option, Some, None, arith, inr, refl, sym, ap, ◌∙◌}
 use Rattle.std.proofs.lemmas.Bool.{or_right}
 use Rattle.ffs_volume.{proofs.ReplayLaws.{counted_same, gaps_seen}, specs.declared.{Layout.Layout, Step.Step}}
 use Rattle.ffs_volume.specs.{declared.Step.TheVariants.{Run, Tail, Gap}, Directories.Entries.{Chunk, chunks_of}}
@@ -8,11 +8,11 @@ use Rattle.ffs_volume.specs.{Directories.Entries.{has_gap, is_gap, step_chunks},
 use Rattle.ffs_volume.specs.Encodings.Replay.{Replay, is_replay_open, is_replayed, replay_after_step, replayed_steps}
 use Rattle.ffs_volume.specs.Encodings.ReplayCounts.{replayed_runs, seen_run}
 use Rattle.ffs_walk.{proofs.WalkSteps.top_ends, specs.{Counts.entered, Keepings.{Replays, replay_in}, Rests.IsOver}}
-use Rattle.ffs_walk.specs.{Rests.steps_left, declared.{keeping.Keeping.Keeping, walk.Walk.Walk, window.Window.Window}}
-use Rattle.ffs_names.specs.{Costs.{HoldsRun, SeesRun, unread_run}, Readings.{CanSee, Continues, HasSeenAll, IsSame}}
-use Rattle.ffs_names.specs.{Readings.{chunks_after, gap_after, runs_after}, RunCursors.{cursor_chunks, reading_by}}
+use Rattle.ffs_walk.specs.{Rests.steps_left, declared.{keeping.Keeping.Keeping, walk.Walk.Walk}}
+use Rattle.ffs_names.specs.{Costs.{SeesRun, unread_run}, Readings.{CanSee, Continues, HasSeenAll, IsSame}}
+use Rattle.ffs_names.specs.{Readings.{chunks_after, gap_after, runs_after}, RunCursors.{IsWhole, cursor_chunks, reading_by}}
 use Rattle.ffs_names.specs.declared.{chunks.Chunks.Chunks, run_cursor.RunCursor.RunCursor}
-use Rattle.ffs_names.proofs.{Continuing.{continues_more, counts_here}, ReadCounts.{entered_one, over_held, run_over}}
+use Rattle.ffs_names.proofs.{Continuing.{continues_more, counts_here}, ReadCounts.{entered_one, run_over}}
 
 -- ---- where nothing is left
 -- a walk that is over has no steps left, and no Runs
@@ -196,13 +196,12 @@ sees {b = b} {c = c} {start = start} {len = len} {block = block} s found steps =
 pub sees_chunks : {c c' : Chunks} {start len taken : ℕ} {block : Option ℕ} → SeesBy c c' start len block taken → ((b :
     List ℕ) → cursor_chunks c.walk.geometry.layout b c'.run_cursor ≡ (if taken == len then step_chunks (reading_by
     c.walk.geometry.layout b c.bytes_to_read) (is_run_in_range c.walk.geometry.layout) (Run start len block) else [])) →
-    unread_run c'.run_cursor + entered (Run start len block) ≤ 1 → ((w : Window) → HoldsRun w c'.run_cursor) → SeesRun c
-    c' start len block
-sees_chunks s found few held = record {
+    unread_run c'.run_cursor + entered (Run start len block) ≤ 1 → IsWhole c'.run_cursor → SeesRun c c' start len block
+sees_chunks s found few whole = record {
   continues = λ b. sees s (found b);
   walk = s.walk;
   reads = λ steps. let seen = runs_seen s steps in omega (arith, few);
-  held = held;
+  whole = whole;
 }
 
 -- where it has no chunk, the current Run has none left still
@@ -218,7 +217,7 @@ sees_none {c = c} {start = start} {len = len} {taken = taken} {block = block} s 
     (λ b. rw same (no_run_cursor c.walk.geometry.layout b c.run_cursor s.can.empty
     ∙ sym (none_unless (taken == len) _ (none b))))
     (rw same (omega (arith, run_over c.run_cursor s.can.empty, entered_one start len block)))
-    (rw same (over_held c.run_cursor s.can.empty))
+    (rw same (inr s.can.empty))
 
 -- as a Run that isn't in range
 pub no_data : (v : Layout) (b : List ℕ) (taken start len : ℕ) (block : Option ℕ) → is_run_in_range v start len ≡ false →

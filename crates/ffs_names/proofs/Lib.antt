@@ -15,4 +15,5 @@ pub mod RunSums
 pub mod SameGraphs
 pub mod SurveyHolds
 pub mod PlacesNoted
+pub mod InParts
 pub mod Limits

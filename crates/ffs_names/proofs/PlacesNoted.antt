@@ -1,16 +1,16 @@
 -- What is noted of places, entry by entry, chunk by chunk and directory by directory.
-use Rattle.std.proofs.Common.{◌≡◌, ◌≢◌, ℕ, zero, suc, ◌+◌, ◌*◌, ◌/◌, ◌%◌, ◌<◌, ◌≤◌, ◌==◌, Bool, true, false, not, ◌&&◌}
+use Rattle.std.proofs.Common.{◌≡◌, ◌≢◌, ℕ, zero, suc, ◌+◌, ◌*◌, ◌/◌, ◌<◌, ◌≤◌, ◌==◌, Bool, true, false, not, ◌&&◌}
 use Rattle.std.proofs.Common.{◌||◌, ◌⊎◌, List, [], ◌∷◌, length, Option, Some, None, refl, sym, ap, ◌∙◌, arith, inl, inr}
 use Rattle.std.proofs.Common.{flat_map, if◌then◌else◌, is_some, slice_index, slice_set, unwrap_or, vec_len}
 use Rattle.std.{specs.List.list_any, proofs.{Math.Bool.and-false, lemmas.Bool.{Decides.nat_tests, and_from, and_parts}}}
-use Rattle.std.proofs.lemmas.Bool.{both_ways, cases_eq, cond-false, eq-eqb, eqb-false, eqb-true, leb-true, lt-ltb}
+use Rattle.std.proofs.lemmas.Bool.{both_ways, cases_eq, cond-false, eq-eqb, eqb-false, eqb-true, leb-true}
 use Rattle.std.proofs.lemmas.{Bool.{ltb-true, ne_eqb, not_from_false, not-true}, List.Folds.list_any-append}
 use Rattle.std.{proofs.lemmas.List.{get_or_past, get_or-set_other, get_or-set_same}, specs.declared.vec.Vec.Vec}
 use Rattle.std.specs.declared.alloc.Global.{Global}
 use Rattle.ffs_image.specs.Device.{Device}
 use Rattle.ffs_volume.proofs.{LevelLaws.{level-before, level-is, level-some, within-zero}, SearchLaws.first_below-none}
 use Rattle.ffs_volume.{proofs.{SearchLaws.first_below-some, Unreached.edge-parts}, specs.declared.Layout.Layout}
-use Rattle.ffs_volume.specs.{Disk.{Numbers.piece, Search.first_below}, Laws.Levels.IsLevel}
+use Rattle.ffs_volume.specs.{Disk.{Numbers.piece, Search.first_below}, Laws.{Geometry.IsAcceptedLayout, Levels.IsLevel}}
 use Rattle.ffs_volume.specs.Directories.{Entries.{Chunk, Entry, chunk_of, entries_of}, Graph.{Graph, edge}}
 use Rattle.ffs_volume.specs.Directories.Graph.{is_naming_dir, is_naming_entry, level, level_edge, parent, parent_by}
 use Rattle.ffs_volume.specs.Directories.{Graph.reached, Climb.is_value, Parents.graph_of, Roles.{RoledEntry, is_dir}}
@@ -20,8 +20,11 @@ use Rattle.ffs_walk.specs.declared.{blocks.Blocks.Blocks, window.Window.Window}
 use Rattle.ffs_workspace.proofs.Leaving.{counts_same}
 use Rattle.ffs_workspace.proofs.PlaceLaws.{any_naming-roled, name_in-after, name_in-among, name_in-roled}
 use Rattle.ffs_workspace.specs.{Holds.{HoldsClaims, HoldsSurvey}, Lengths.inodes_of, Ready.IsReady}
-use Rattle.ffs_workspace.specs.Places.{entries_in_chunk, is_due, name_in, place_in, place_of, ArePlaces}
-use Rattle.ffs_workspace.specs.{Places.{AreChunksNumbered, AreNoted, IsNoted}, Tables.KeepsTable}
+use Rattle.ffs_workspace.specs.Places.{entries_in_chunk, entries_in_part, is_due, name_in, part_size, place_in, ArePlaces}
+use Rattle.ffs_workspace.specs.{Places.{AreNoted, IsNoted}, Tables.KeepsTable}
+use Rattle.ffs_workspace.proofs.PartLaws.{begins_part, lies_in_part, BeginsPart}
+use Rattle.ffs_names.{proofs.InParts.named_in_part, specs.{Fits.CursorFits, RunCursors.{last_place, StepsOn}}}
+use Rattle.ffs_names.specs.declared.run_cursor.RunCursor.{RunCursor}
 use Rattle.ffs_workspace.specs.declared.{table.Table.Table, workspace.Workspace.Workspace}
 use Rattle.ffs_names.specs.Noting.{is_child, is_found, BeginsNotes, IsParent, KeepsToRead, NotesChildren, NotesChunk}
 use Rattle.ffs_names.specs.{Noting.NotesEntries, Windows.CanReadChunks}
@@ -69,11 +72,11 @@ abbrev pub AreToCome : (parents ws : List ℕ) (p : ℕ) (all rest : List RoledE
 AreToCome parents ws p all rest = (x : ℕ) → is_child parents p x ≡ true → place_in (slice_index ws x) ≡ 0 →
     name_in x all ≡ name_in x rest
 
--- each place that is noted anew is that of a chunk whose first plain entry that names the inode has
+-- each place that is noted anew is that of a part whose first plain entry that names the inode has
 -- the name of the first one of all
 abbrev pub HavePlaces : (v : Layout) (b old new : List ℕ) (all : List RoledEntry) → Type 0
 HavePlaces v b old new all = (x k : ℕ) → place_in (slice_index new x) ≡ suc k → (place_in (slice_index old x) ≡ suc k)
-    ⊎ (name_in x (entries_in_chunk v b k) ≡ name_in x all)
+    ⊎ (name_in x (entries_in_part v b k) ≡ name_in x all)
 
 -- of an inode with the parent p that some entries of p name, a place is noted, or one of those to
 -- come names it
@@ -85,11 +88,7 @@ AreWaiting v b parents first ws p all rest = (x : ℕ) → is_child parents p x 
 -- a place that is right stays so where the word keeps it
 noted_still : {v : Layout} {b old new : List ℕ} {x : ℕ} →
     place_in (slice_index new x) ≡ place_in (slice_index old x) → IsNoted v b old x → IsNoted v b new x
-noted_still same h = record { chunk = h.chunk; place = same ∙ h.place; inside = h.inside; named = h.named }
-
--- the number of a chunk that a word has room for
-place_is : (chunk : ℕ) → place_of chunk ≢ 0 → place_of chunk ≡ suc chunk
-place_is chunk some = grind (arith, nat_tests)
+noted_still same h = record { part = h.part; place = same ∙ h.place; inside = h.inside; named = h.named }
 
 kept_place : (m y : Bool) (a b place j : ℕ) → a ≡ suc j → b ≡ (if m && ((a == 0) && y) then place else a) → b ≡ a
 kept_place true y a b place j some e = grind (arith, nat_tests)
@@ -101,42 +100,59 @@ unnoted true true a b place some child e none = absurd (grind (arith, nat_tests)
 unnoted true false a b place some child e none = (grind (arith, nat_tests), refl)
 unnoted false y a b place some child e none = absurd (cc)
 
--- the entries of a chunk with these bytes
-abbrev entries_held : Layout → List ℕ → List RoledEntry
-entries_held v bytes = roled_from false 0 (entries_of v.order bytes)
+-- an inode with the parent p of which no place is noted is named in no chunk of the current Run that
+-- was given
+abbrev pub AreUnnamed : Layout → (b parents ws : List ℕ) (p : ℕ) → RunCursor → Type 0
+AreUnnamed v b parents ws p cursor = (x : ℕ) → is_child parents p x ≡ true → place_in (slice_index ws x) ≡ 0 →
+    (i : ℕ) → i < cursor.next →
+    list_any (is_naming_entry x) (entries_in_chunk v.order (piece (cursor.place + 512 * i) 512 b)) ≡ false
 
 -- the next one of the chunks to come is noted
 pub record NotesNext (v : Layout) (b parents old new : List ℕ) (p place at offset : ℕ) (bytes : List ℕ)
-    (rest later : List Chunk) : Type 0 where
-  pub whole : at % 512 ≡ 0
-  pub number : place ≡ place_of (at / 512)
-  pub some : place ≢ 0
+    (rest later : List Chunk) (before after : RunCursor) : Type 0 where
+  pub sound : IsAcceptedLayout v
+  pub last : at ≡ last_place after
+  pub fits : CursorFits v after
+  pub steps : StepsOn before after
+  pub unnamed : AreUnnamed v b parents old p before
+  pub number : place ≡ at / part_size v + 1
   pub inside : at + 512 ≤ v.size * v.fsize
   pub held : bytes ≡ piece at 512 b
   pub next : rest ≡ chunk_of v.order offset bytes ∷ later
-  pub noted : NotesChunk parents old new p place (roled_from false 0 (entries_of v.order bytes))
+  pub noted : NotesChunk parents old new p place (entries_in_chunk v.order bytes)
 
 module _ {v : Layout} {b parents old new : List ℕ} {p place at offset : ℕ} {bytes : List ℕ} {rest later : List Chunk}
-    (k : NotesNext v b parents old new p place at offset bytes rest later) where
-  at_number : place ≡ suc (at / 512)
-  at_number = k.number ∙ place_is (at / 512) (λ z. k.some (k.number ∙ z))
-
-  -- the entries of the chunk, as they are found again by its place, and as the directory gives them
-  in_chunk : entries_held v bytes ≡ entries_in_chunk v b (at / 512)
-  in_chunk =
-      let whole = k.whole in
-      let same : at ≡ 512 * (at / 512) = omega arith in
-      ap (entries_held v) (k.held ∙ ap (λ (n : ℕ). piece n 512 b) same)
-
-  named_here : (x : ℕ) → list_any (is_naming_entry x) (entries_held v bytes) ≡ true →
-      name_in x (flat_map roled_chunk rest) ≡ name_in x (entries_in_chunk v b (at / 512))
+    {cursor cursor' : RunCursor}
+    (k : NotesNext v b parents old new p place at offset bytes rest later cursor cursor') where
+  named_here : (x : ℕ) → list_any (is_naming_entry x) (entries_in_chunk v.order bytes) ≡ true →
+      name_in x (flat_map roled_chunk rest) ≡ name_in x (entries_in_chunk v.order bytes)
   named_here x e =
       ap (λ (cs : List Chunk). name_in x (flat_map roled_chunk cs)) k.next
       ∙ (name_in-among x (roled_chunk (chunk_of v.order offset bytes)) (flat_map roled_chunk later)
       (any_naming-roled x (offset == 0) false 0 0 (entries_of v.order bytes) ∙ e)
-      ∙ (name_in-roled x (offset == 0) false 0 0 (entries_of v.order bytes) ∙ ap (name_in x) in_chunk))
+      ∙ name_in-roled x (offset == 0) false 0 0 (entries_of v.order bytes))
 
-  unnamed_here : (x : ℕ) → list_any (is_naming_entry x) (entries_held v bytes) ≡ false →
+  -- the part of the image with the chunk: of an inode of which no place is noted it has the same name
+  in_part : (x : ℕ) → is_child parents p x ≡ true → place_in (slice_index old x) ≡ 0 →
+      list_any (is_naming_entry x) (entries_in_chunk v.order bytes) ≡ true →
+      (name_in x (entries_in_part v b (at / part_size v)) ≡ name_in x (entries_in_chunk v.order bytes))
+      × (list_any (is_naming_entry x) (entries_in_part v b (at / part_size v)) ≡ true)
+  in_part x child none e = rw k.held (named_in_part v b x cursor'.place at k.sound k.inside k.fits.at_fragment
+      (omega (arith, k.last)) (let whole = start.chunks in omega (arith, k.last, whole)) earlier (rw k.held at e))
+    where
+      start : BeginsPart v cursor'.place at
+      start = begins_part v cursor'.place at k.sound k.fits.at_fragment (omega (arith, k.last))
+
+      earlier : (i : ℕ) → cursor'.place + 512 * i < at →
+          list_any (is_naming_entry x) (entries_in_chunk v.order (piece (cursor'.place + 512 * i) 512 b)) ≡ false
+      earlier i before = elim k.steps [
+        | inl first ↦ absurd (omega (arith, k.last, first, before))
+        | inr on ↦
+            ap (λ (n : ℕ). list_any (is_naming_entry x) (entries_in_chunk v.order (piece (n + 512 * i) 512 b))) on.0
+            ∙ k.unnamed x child none i (omega (arith, k.last, on.1, before))
+      ]
+
+  unnamed_here : (x : ℕ) → list_any (is_naming_entry x) (entries_in_chunk v.order bytes) ≡ false →
       (name_in x (flat_map roled_chunk rest) ≡ name_in x (flat_map roled_chunk later))
       × (list_any (is_naming_entry x) (flat_map roled_chunk rest) ≡ list_any (is_naming_entry x) (flat_map roled_chunk later))
   unnamed_here x e =
@@ -149,58 +165,83 @@ module _ {v : Layout} {b parents old new : List ℕ} {p place at offset : ℕ} {
   -- it has the first one of those whose place it is
   pub noted_chunk : (first : List ℕ) (all : List RoledEntry) → AreToCome parents old p all (flat_map roled_chunk rest) →
       HavePlaces v b first old all → HavePlaces v b first new all
-  noted_chunk first all coming before x j h = one (is_found parents old p (entries_held v bytes) x) refl
+  noted_chunk first all coming before x j h = one (is_found parents old p (entries_in_chunk v.order bytes) x) refl
     where
-      one : (f : Bool) → is_found parents old p (entries_held v bytes) x ≡ f →
-          (place_in (slice_index first x) ≡ suc j) ⊎ (name_in x (entries_in_chunk v b j) ≡ name_in x all)
+      one : (f : Bool) → is_found parents old p (entries_in_chunk v.order bytes) x ≡ f →
+          (place_in (slice_index first x) ≡ suc j) ⊎ (name_in x (entries_in_part v b j) ≡ name_in x all)
       one true e =
           let outer = and_parts (is_child parents p x) _ e in
-          let inner = and_parts (place_in (slice_index old x) == 0) (list_any (is_naming_entry x) (entries_held v bytes))
-          outer.1 in
+          let inner = and_parts (place_in (slice_index old x) == 0)
+          (list_any (is_naming_entry x) (entries_in_chunk v.order bytes)) outer.1 in
+          let none = eqb-true (place_in (slice_index old x)) 0 inner.0 in
           let there : place ≡ suc j = sym (rw e at (k.noted.places x)) ∙ h in
-          let number = at_number in
-          let same : j ≡ at / 512 = omega arith in
-          inr (ap (λ (n : ℕ). name_in x (entries_in_chunk v b n)) same
-          ∙ sym (coming x outer.0 (eqb-true (place_in (slice_index old x)) 0 inner.0) ∙ named_here x inner.1))
+          let same : j ≡ at / part_size v = omega (arith, there, k.number) in
+          inr (ap (λ (n : ℕ). name_in x (entries_in_part v b n)) same
+          ∙ ((in_part x outer.0 none inner.1).0
+          ∙ sym (coming x outer.0 none ∙ named_here x inner.1)))
       one false e = before x j (sym (rw e at (k.noted.places x)) ∙ h)
+
+  -- an inode of which none is noted after it was not noted before, and the chunk doesn't name it
+  still_none : (x : ℕ) → is_child parents p x ≡ true → place_in (slice_index new x) ≡ 0 →
+      (place_in (slice_index old x) ≡ 0) × (list_any (is_naming_entry x) (entries_in_chunk v.order bytes) ≡ false)
+  still_none x child none =
+      unnoted (is_child parents p x) (list_any (is_naming_entry x) (entries_in_chunk v.order bytes)) _ _ place
+      (λ z. absurd (omega (arith, z, k.number))) child (k.noted.places x) none
 
   -- those of which none is noted still have theirs to come
   pub coming_after : (all : List RoledEntry) → AreToCome parents old p all (flat_map roled_chunk rest) →
       AreToCome parents new p all (flat_map roled_chunk later)
   coming_after all coming x child none =
-      let was = unnoted (is_child parents p x) (list_any (is_naming_entry x) (entries_held v bytes)) _ _ place k.some child
-      (k.noted.places x) none in
-      coming x child was.0 ∙ (unnamed_here x was.1).0
+      let was = still_none x child none in coming x child was.0 ∙ (unnamed_here x was.1).0
+
+  -- no chunk of the current Run that was given names an inode of which none is noted
+  pub unnamed_after : AreUnnamed v b parents new p cursor'
+  unnamed_after x child none i below = elim k.steps [
+    | inl first ↦ here (omega (arith, k.last, first, below))
+    | inr on ↦ elim (cases_eq i cursor.next) [
+      | inl e ↦ here (omega (arith, k.last, on.1, e))
+      | inr o ↦
+          ap (λ (n : ℕ). list_any (is_naming_entry x) (entries_in_chunk v.order (piece (n + 512 * i) 512 b))) on.0
+          ∙ k.unnamed x child was.0 i (omega (arith, on.1, o, below))
+    ]
+  ]
+    where
+      was : (place_in (slice_index old x) ≡ 0) × (list_any (is_naming_entry x) (entries_in_chunk v.order bytes) ≡ false)
+      was = still_none x child none
+
+      here : cursor'.place + 512 * i ≡ at →
+          list_any (is_naming_entry x) (entries_in_chunk v.order (piece (cursor'.place + 512 * i) 512 b)) ≡ false
+      here e =
+          ap (λ (n : ℕ). list_any (is_naming_entry x) (entries_in_chunk v.order (piece n 512 b))) e
+          ∙ (ap (λ (bs : List ℕ). list_any (is_naming_entry x) (entries_in_chunk v.order bs)) (sym k.held) ∙ was.1)
 
   pub waiting_after : (first : List ℕ) (all : List RoledEntry) → AreWaiting v b parents first old p all (flat_map
       roled_chunk rest) → AreWaiting v b parents first new p all (flat_map roled_chunk later)
   waiting_after first all waiting x child named before =
       elim (waiting x child named before) [
         | inl done ↦ inl (noted_still (kept_place (is_child parents p x)
-            (list_any (is_naming_entry x) (entries_held v bytes)) _ _ place done.chunk done.place (k.noted.places x)) done)
-        | inr w ↦ go w.0 w.1 (list_any (is_naming_entry x) (entries_held v bytes)) refl
+            (list_any (is_naming_entry x) (entries_in_chunk v.order bytes)) _ _ place done.part done.place
+            (k.noted.places x)) done)
+        | inr w ↦ go w.0 w.1 (list_any (is_naming_entry x) (entries_in_chunk v.order bytes)) refl
       ]
     where
-      placed : place_in (slice_index old x) ≡ 0 → (y : Bool) → list_any (is_naming_entry x) (entries_held v bytes) ≡ y →
+      placed : place_in (slice_index old x) ≡ 0 → (y : Bool) →
+          list_any (is_naming_entry x) (entries_in_chunk v.order bytes) ≡ y →
           place_in (slice_index new x) ≡ (if y then place else 0)
       placed none y e = rw (k.noted.places x, child, eq-eqb (place_in (slice_index old x)) 0 none, e, none) refl
 
       go : place_in (slice_index old x) ≡ 0 → list_any (is_naming_entry x) (flat_map roled_chunk rest) ≡ true →
-          (y : Bool) → list_any (is_naming_entry x) (entries_held v bytes) ≡ y →
+          (y : Bool) → list_any (is_naming_entry x) (entries_in_chunk v.order bytes) ≡ y →
           IsNoted v b new x ⊎ ((place_in (slice_index new x) ≡ 0)
           × (list_any (is_naming_entry x) (flat_map roled_chunk later) ≡ true))
       go none coming true e =
           inl (record {
-            chunk = at / 512;
-            place = placed none true e ∙ at_number;
-            inside = let whole = k.whole in let inside = k.inside in omega arith;
-            named = ap (list_any (is_naming_entry x)) (sym in_chunk) ∙ e;
+            part = at / part_size v;
+            place = placed none true e ∙ (k.number ∙ omega arith);
+            inside = (lies_in_part v at k.sound k.inside).inside;
+            named = (in_part x child none e).1;
           })
       go none coming false e = inr (placed none false e, sym (unnamed_here x e).1 ∙ coming)
-
--- words have room for the number of each chunk of the volume
-pub room_for : (v : Layout) (at : ℕ) → AreChunksNumbered v → at + 512 ≤ v.size * v.fsize → place_of (at / 512) ≢ 0
-room_for v at numbered inside = grind (arith, lt-ltb)
 
 -- where no chunk is left, all are noted
 pub all_noted : (v : Layout) (b parents first ws : List ℕ) (p : ℕ) (all : List RoledEntry) (rest : List Chunk) →
@@ -233,7 +274,7 @@ places_after {v = v} {b = b} {w = w} {p = p} survey noted children right x q k t
     go (is_child w.parents.items p x) refl
   where
     go : (m : Bool) → is_child w.parents.items p x ≡ m →
-        name_in x (entries_in_chunk v b k) ≡ name_in x (roled_entries (volume_of v b) q)
+        name_in x (entries_in_part v b k) ≡ name_in x (roled_entries (volume_of v b) q)
     go false e = right x q k (sym (children.others x e) ∙ there) is
     go true e =
         let parts = and_parts (slice_index w.parents.items x == p) (not (x == 2)) e in
@@ -359,11 +400,11 @@ coming_first {v = v} {b = b} {w = w} {words = words} long begins survey x p unde
 
 -- after the directory d, which was to be read, is noted
 pub coming_noted : {v : Layout} {b : List ℕ} {w : Workspace} {mid new : List ℕ} {d : ℕ} (old : List ℕ) → HoldsSurvey v b
-    w → AreChunksNumbered v → ((x : ℕ) → place_in (slice_index mid x) ≡ place_in (slice_index old x)) → ((x : ℕ) → x ≢ d
+    w → ((x : ℕ) → place_in (slice_index mid x) ≡ place_in (slice_index old x)) → ((x : ℕ) → x ≢ d
     → is_due (slice_index mid x) ≡ is_due (slice_index old x)) → (is_dir (volume_of v b) d ≡ true → NotesEntries v b
     w.parents.items mid new d (roled_entries (volume_of v b) d)) → NotesChildren w.parents.items mid new d → AreComing v
     b old → AreComing v b new
-coming_noted {v = v} {b = b} {w = w} {mid = mid} {new = new} {d = d} old survey numbered same due noted children coming
+coming_noted {v = v} {b = b} {w = w} {mid = mid} {new = new} {d = d} old survey same due noted children coming
     x p under = go (cases_eq p d)
   where
     up : slice_index w.parents.items x ≡ p
@@ -380,7 +421,7 @@ coming_noted {v = v} {b = b} {w = w} {mid = mid} {new = new} {d = d} old survey 
         let child : is_child w.parents.items d x ≡ true =
         and_from (slice_index w.parents.items x == d) (not (x == 2)) (eq-eqb (slice_index w.parents.items x) d (up ∙ e))
         (not_from_false (x == 2) under.other) in
-        inl ((noted (rw e at link.0)).all numbered x child (rw e at link.1)
+        inl ((noted (rw e at link.0)).all x child (rw e at link.1)
         (elim before [ inl is ↦ inr is | inr w ↦ inl w.0 ]))
     go (inr o) =
         let child : is_child w.parents.items d x ≡ false =

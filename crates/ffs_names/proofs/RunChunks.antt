@@ -1,10 +1,9 @@
 -- The chunks of one Run, and how the chunks of the current Run are given one after the other.
-use Rattle.std.proofs.Common.{◌≡◌, ℕ, zero, suc, ◌+◌, ◌-◌, ◌*◌, ◌/◌, ◌%◌, ◌<◌, ◌≤◌, map, take, List, [], ◌∷◌, ◌++◌}
-use Rattle.std.{proofs.Common.{IsTrue, true, arith, refl, mul-le-mul_left, mul-le-mul_right}, specs.List.range_with_len}
-use Rattle.std.proofs.lemmas.Bool.Decides.{nat_tests}
-use Rattle.ffs_volume.{proofs.GeometryLaws.shape_holds, specs.Directories.Entries.{Chunk, ChunkSource, chunk_of}}
+use Rattle.std.proofs.Common.{◌≡◌, ℕ, zero, suc, ◌+◌, ◌-◌, ◌*◌, ◌<◌, ◌≤◌, map, take, List, [], ◌∷◌, ◌++◌}
+use Rattle.std.{proofs.Common.{IsTrue, arith, refl, mul-le-mul_left, mul-le-mul_right}, specs.List.range_with_len}
+use Rattle.ffs_volume.{specs.Directories.Entries.{Chunk, ChunkSource, chunk_of}}
 use Rattle.ffs_volume.specs.{Directories.Entries.run_chunks, Disk.{Areas.is_run_in_range, Numbers.piece}}
-use Rattle.ffs_volume.specs.{Disk.Outcome.{has_valid_sizes, is_fragment_size}, Laws.Geometry.IsAcceptedLayout}
+use Rattle.ffs_volume.specs.{Laws.Geometry.IsAcceptedLayout}
 use Rattle.ffs_volume.specs.declared.Layout.{Layout}
 use Rattle.ffs_walk.proofs.{Areas.in_range-below, Ranges.range_step}
 use Rattle.ffs_names.specs.{RunCursors.cursor_chunks, declared.run_cursor.RunCursor.RunCursor}
@@ -24,20 +23,6 @@ run_in_volume v start len g some h =
     let scaled : (start + len) * v.fsize ≤ v.size * v.fsize = mul-le-mul_right v.fsize (in_range-below v start len g some h)
     in
     omega arith
-
--- a fragment is whole chunks, so a Run begins where a chunk of the image does
-fragment_whole : (n : ℕ) → is_fragment_size n ≡ true → 512 * (n / 512) ≡ n
-unfolding is_fragment_size
-fragment_whole n h = grind (arith, nat_tests)
-
-fragment_is : (v : Layout) → has_valid_sizes v ≡ true → is_fragment_size v.fsize ≡ true
-unfolding has_valid_sizes
-fragment_is v h = grind (arith, nat_tests)
-
-pub run_aligned : (v : Layout) (start : ℕ) → IsAcceptedLayout v → start * v.fsize % 512 ≡ 0
-run_aligned v start g =
-    let whole = fragment_whole v.fsize (fragment_is v (shape_holds v g.shaped).0) in
-    rw (← whole) (omega arith)
 
 pub run_in_block : (v : Layout) (len : ℕ) → IsAcceptedLayout v → len ≤ v.frag → len * v.fsize ≤ v.bsize
 run_in_block v len g short = grind (arith, mul-le-mul_right)

@@ -11,7 +11,8 @@ use Rattle.ffs_layout.specs.declared.geometry.Geometry.{Geometry}
 use Rattle.ffs_walk.specs.{Counts.{AreHeld, entered, unread}, declared.{blocks.Blocks.Blocks, window.Window.Window}}
 use Rattle.ffs_survey.specs.Costs.{costs_all}
 use Rattle.ffs_names.specs.{OneChunk.one_chunk_at, Readings.{chunks_in, gap_left, rest, runs_after, runs_left}}
-use Rattle.ffs_names.specs.{Readings.{BeginsAt, Continues}, declared.{chunks.Chunks.Chunks, entries.Entries.Entries}}
+use Rattle.ffs_names.specs.{Readings.{BeginsAt, Continues}, RunCursors.IsWhole}
+use Rattle.ffs_names.specs.declared.{chunks.Chunks.Chunks, entries.Entries.Entries}
 use Rattle.ffs_names.specs.declared.run_cursor.RunCursor.{RunCursor}
 
 -- 1 where the current Run has chunks and is still to be read: none of them was given yet
@@ -33,11 +34,12 @@ pub record HoldsReading (blocks : Blocks) (w : Window) (c : Chunks) : Type 0 whe
   pub run : HoldsRun w c.run_cursor
 
 -- a reading that begins, in a volume of this geometry, still takes a read for each Run that it may
--- look at, and needs nothing that was read
+-- look at, needs nothing that was read, and has given no chunk
 pub record BeginsReads (g : Geometry) (c : Chunks) : Type 0 where
   pub geometry : c.walk.geometry ≡ g
   pub to_read : (b : List ℕ) → to_read b c ≡ runs_left b c
   pub held : (blocks : Blocks) (w : Window) → HoldsReading blocks w c
+  pub first : c.run_cursor.next ≡ 0
 
 -- it is one of the directory with this inode and this cut
 pub record BeginsReading (g : Geometry) (inode : Inode) (cut : ℕ) (c : Chunks) : Type 0 where
@@ -70,7 +72,7 @@ pub record SeesRun (old new : Chunks) (start len : ℕ) (block : Option ℕ) : T
   pub walk : new.walk ≡ old.walk
   pub reads : (steps : List Step) → unread_run new.run_cursor + (entered (Run start len block) + runs_after new steps)
       ≤ runs_after old (Run start len block ∷ steps)
-  pub held : (w : Window) → HoldsRun w new.run_cursor
+  pub whole : IsWhole new.run_cursor
 
 -- a chunk may still come, or a hole may still be looked for
 abbrev pub may_read : Entries → Bool

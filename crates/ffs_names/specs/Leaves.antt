@@ -7,7 +7,7 @@ use Rattle.ffs_walk.specs.{Rests.IsOver, Windows.WindowHolds}
 use Rattle.ffs_survey.specs.{Costs.TakesReads, declared.entry_head.EntryHead.EntryHead}
 use Rattle.ffs_names.specs.{Costs.{to_read, unread_run, HoldsReading, HoldsRun}, Entering.{left, GivesFromChunk}}
 use Rattle.ffs_names.specs.Readings.{gap_left, CountsRuns, IsSame}
-use Rattle.ffs_names.specs.{RunCursors.IsGivenChunk, Windows.{CanReadChunks, CanWalkDir}}
+use Rattle.ffs_names.specs.{RunCursors.{IsGivenChunk, StepsOn}, Windows.{CanReadChunks, CanWalkDir}}
 use Rattle.ffs_names.specs.declared.{chunks.Chunks.Chunks, entries.Entries.Entries, run_cursor.RunCursor.RunCursor}
 
 -- what a call leaves that reads a chunk of a Run: a window with the room that it had, which holds
@@ -59,6 +59,7 @@ pub record LeavesNext {S : Type 0} (I : Ghosts S) (old new : Chunks) (image imag
   pub read : ReadAfter (I.device image) (I.device image') result
   pub place : IfOk result (λ o. IfSome o (λ _.
       IsGivenChunk old.walk.geometry.layout (I.device image).contents new.run_cursor chunk))
+  pub steps : IfOk result (λ o. IfSome o (λ _. StepsOn old.run_cursor new.run_cursor))
   pub runs : CountsRuns (I.device image).contents old new result
   pub budget : MatchResult result (λ o. MatchOption o (new.budget ≡ old.budget) (λ _. new.budget + 1 ≡ old.budget))
       (λ _. new.budget ≡ 0)

@@ -9,7 +9,7 @@ use Rattle.ffs_image.specs.declared.image.Image.{Ghosts}
 use Rattle.ffs_volume.specs.declared.{constants.TheConstants.ROOTINO, Layout.Layout}
 use Rattle.ffs_volume.specs.{Directories.{Graph.is_naming_entry, Roles.{RoledEntry, roled_entries}, Volumes.volume_of}}
 use Rattle.ffs_volume.specs.Encodings.Lists.{bool_at}
-use Rattle.ffs_workspace.specs.Places.{entries_in_chunk, is_due, name_in, place_in, AreChunksNumbered, AreNoted}
+use Rattle.ffs_workspace.specs.Places.{entries_in_part, is_due, name_in, place_in, AreNoted}
 use Rattle.ffs_workspace.specs.{Places.IsNoted, Holds.HoldsSurvey, Lengths.inodes_of, Ready.IsReady}
 use Rattle.ffs_workspace.specs.declared.workspace.{Windows.Windows, Workspace.Workspace}
 use Rattle.ffs_names.specs.{Costs.{directory_cost, to_read, HoldsReading}, Windows.CanReadChunks}
@@ -23,9 +23,11 @@ pub record CanNote (parents words : Vec ℕ Global) (p place : ℕ) : Type 0 whe
   pub small : place < 2 ^ 31
   pub long : vec_len parents ≡ vec_len words
 
--- the chunks of p that are still to come can be read, and noted
-pub record CanNoteChunks (v : Layout) (d : Device) (w : Windows) (parents words : Vec ℕ Global) (p : ℕ) : Type 0 where
+-- the chunks of p can be read, of which none was given yet, and noted
+pub record CanNoteChunks (v : Layout) (d : Device) (w : Windows) (c : Chunks) (parents words : Vec ℕ Global) (p : ℕ) :
+    Type 0 where
   pub ready : CanReadChunks v d w.blocks w.current
+  pub first : c.run_cursor.next ≡ 0
   pub dir : 0 < p
   pub lengths : vec_len parents ≡ vec_len words
 
@@ -59,13 +61,13 @@ pub record NotesInWords (parents old new : Vec ℕ Global) (p place : ℕ) (es :
   pub long : vec_len new ≡ vec_len old
 
 -- each place that is noted anew is that of an inode with the parent p: the first plain entry of the
--- chunk that names it has the name of the first one of p, which has the entries es. Where words
--- have room for all chunks, a place is noted of each inode with the parent p that a plain one of
--- these entries names, if none or a right one was noted before
+-- part that names it has the name of the first one of p, which has the entries es. A place is noted
+-- of each inode with the parent p that a plain one of these entries names, if none or a right one
+-- was noted before
 pub record NotesEntries (v : Layout) (b parents old new : List ℕ) (p : ℕ) (es : List RoledEntry) : Type 0 where
   pub places : (x k : ℕ) → place_in (slice_index new x) ≡ suc k → (place_in (slice_index old x) ≡ suc k)
-      ⊎ (name_in x (entries_in_chunk v b k) ≡ name_in x es)
-  pub all : AreChunksNumbered v → (x : ℕ) → is_child parents p x ≡ true → list_any (is_naming_entry x) es ≡ true →
+      ⊎ (name_in x (entries_in_part v b k) ≡ name_in x es)
+  pub all : (x : ℕ) → is_child parents p x ≡ true → list_any (is_naming_entry x) es ≡ true →
       (place_in (slice_index old x) ≡ 0) ⊎ IsNoted v b old x → IsNoted v b new x
 
 -- no place of an inode with another parent is noted, and what is to be read stays so
@@ -98,11 +100,11 @@ pub record BeginsNotes (reached : List Bool) (parents : List ℕ) (words : Vec �
       → slice_index parents x < length reached → is_due (slice_index words.items (slice_index parents x)) ≡ true
   pub only : (p : ℕ) → is_due (slice_index words.items p) ≡ true → IsParent parents p
 
--- what the survey found is held with the places, and where words have room for all chunks, a place
--- is noted of each directory that is reached and isn't the root
+-- what the survey found is held with the places, and a place is noted of each directory that is
+-- reached and isn't the root
 pub record HoldsPlaces (v : Layout) (b : List ℕ) (w : Workspace) : Type 0 where
   pub survey : HoldsSurvey v b w
-  pub noted : AreChunksNumbered v → AreNoted v b w.queue.items
+  pub noted : AreNoted v b w.queue.items
 
 -- what a call leaves that notes the chunks of p that are to come: the other windows are as they were, only
 -- children of p are noted, in as many words, and the image is read at most as often as these chunks ask for

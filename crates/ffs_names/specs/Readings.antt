@@ -1,5 +1,5 @@
 -- What a reading of a directory has still to give.
-use Rattle.std.specs.Prelude.{◌≡◌, ◌<◌, ◌≤◌, ◌^◌, ℕ, ◌+◌, ◌-◌, Bool, true, false, ◌||◌, Result, List, [], ◌∷◌, ◌++◌}
+use Rattle.std.specs.Prelude.{◌≡◌, ◌⊎◌, ◌<◌, ◌≤◌, ◌^◌, ℕ, ◌+◌, ◌-◌, Bool, true, false, ◌||◌, Result, List, [], ◌∷◌, ◌++◌}
 use Rattle.std.specs.Prelude.{take, Option, MatchOption, OnErr}
 use Rattle.ffs_volume.specs.{declared.{Layout.Layout, Inode.Inode, Step.Step}, Disk.Areas.is_run_in_range}
 use Rattle.ffs_volume.specs.{Blocks.Steps.steps_of, Directories.Entries.{Chunk, chunk_of, chunks_of, has_gap}}
@@ -89,11 +89,13 @@ pub record CountsRuns {T : Type 0} (contents : Option (List ℕ)) (old new : Chu
   pub rises : old.runs ≤ new.runs
   pub fault : OnErr result (ForContents contents (λ b. CountsNoMore b old new))
 
--- a Run with a chunk left was found, and fewer steps are left than steps and chunks were before; else
--- all is seen of an image of these contents
+-- a Run with a chunk left was found, and fewer steps are left than steps and chunks were before: it
+-- is the current Run still, or no chunk of it was given yet; else all is seen of an image of these
+-- contents
 pub record FindsNextRun (contents : Option (List ℕ)) (old new : Chunks) (found : Bool) : Type 0 where
   pub more : found ≡ true → new.run_cursor.next < new.run_cursor.count
   pub falls : found ≡ true → most_steps_left new.walk < ahead old
+  pub run : found ≡ true → (new.run_cursor ≡ old.run_cursor) ⊎ (new.run_cursor.next ≡ 0)
   pub none : found ≡ false → ForContents contents (λ b. HasSeenAll b new)
 
 -- a chunk was read of those to come in an image of these bytes; the answer is its place in the

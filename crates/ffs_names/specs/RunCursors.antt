@@ -1,5 +1,5 @@
 -- The chunks of the current Run.
-use Rattle.std.specs.{Prelude.{◌≡◌, ℕ, ◌+◌, ◌-◌, ◌*◌, ◌≤◌, List, [], map, Option}, List.range_with_len}
+use Rattle.std.specs.{Prelude.{◌≡◌, ◌⊎◌, ℕ, ◌+◌, ◌-◌, ◌*◌, ◌≤◌, List, [], map, Option}, List.range_with_len}
 use Rattle.ffs_image.specs.Device.{ForContents}
 use Rattle.ffs_volume.specs.{declared.Layout.Layout, Disk.Numbers.piece, Directories.Entries.{Chunk, ChunkSource}}
 use Rattle.ffs_volume.specs.Directories.Entries.{chunk_of, run_chunks}
@@ -37,3 +37,11 @@ last_place cursor = cursor.place + 512 * (cursor.next - 1)
 pub record IsGivenChunk (v : Layout) (contents : Option (List ℕ)) (cursor : RunCursor) (chunk : List ℕ) : Type 0 where
   pub bytes : ForContents contents (λ b. chunk ≡ piece (last_place cursor) 512 b)
   pub inside : last_place cursor + 512 ≤ v.size * v.fsize
+
+-- none of the chunks of the current Run was given yet, or all were
+abbrev pub IsWhole : RunCursor → Type 0
+IsWhole cursor = (cursor.next ≡ 0) ⊎ (cursor.next ≡ cursor.count)
+
+-- the chunk that was given is the first one of its Run, or it follows the one that was given before
+abbrev pub StepsOn : (old new : RunCursor) → Type 0
+StepsOn old new = (new.next ≡ 1) ⊎ ((new.place ≡ old.place) × (new.next ≡ old.next + 1))

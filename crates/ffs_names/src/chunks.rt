@@ -46,7 +46,7 @@ pub struct Chunks {
 
 impl Chunks {
     ghost use Rattle.ffs_names.specs.Costs.{to_read, BeginsAtChunk, BeginsByClass, BeginsReading, HoldsReading, SeesRun};
-    ghost use Rattle.ffs_names.specs.RunCursors.{last_place, IsGivenChunk};
+    ghost use Rattle.ffs_names.specs.RunCursors.{last_place, IsGivenChunk, StepsOn};
     ghost use Rattle.ffs_names.specs.Readings.{all_chunks, rest, CanSee, ContinuesTo, CountsNoMore, FindsNextRun, GivesChunk, IsSame};
     ghost use Rattle.ffs_names.specs.Leaves.{LeavesChunks, LeavesNext, LeavesWalk};
 
@@ -120,6 +120,8 @@ impl Chunks {
             (λ _. CountsNoMore b self.old self.new)) }
         ensures place { IfOk result (λ o. IfSome o (λ _. IsGivenChunk self.old.walk.geometry.layout
             (I.device image.old).contents self.new.run_cursor chunk.new)) }
+        ensures steps { IfOk result (λ o. IfSome o (λ _.
+            StepsOn self.old.run_cursor self.new.run_cursor)) }
         ensures reads { HoldsReading blocks.old window.old self.old
             → ForContents (I.device image.old).contents (λ b. TakesReads (I.reads image.old)
             (I.reads image.new) (to_read b self.old) (to_read b self.new)

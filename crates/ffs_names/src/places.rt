@@ -23,7 +23,7 @@ use ffs_memory::FilledList;
 use ffs_volume::constants::{DIRBLKSIZ, ROOTINO};
 use ffs_volume::{Class, Order, Role};
 use ffs_workspace::{
-    Table, Windows, Workspace, address_in, due, is_due, noted_chunk, passed, place_of, sweep_reads,
+    Table, Windows, Workspace, address_in, due, is_due, noted_part, passed, place_of, sweep_reads,
 };
 
 /// Whether a directory is the parent of an inode other than the root, which has no parent entry.
@@ -58,7 +58,7 @@ fn note_entry(
     }
     let index = entry.number as usize;
     let word = words[index];
-    if noted_chunk(word).is_none() {
+    if noted_part(word).is_none() {
         words.set(index, word + place);
     }
 }
@@ -83,9 +83,8 @@ fn note_chunk(
     }
 }
 
-/// Notes the places of the chunks of `dir` that are still to come: each for the inodes that a plain
-/// entry of it is the first to name, if `dir` is their parent. It ends at a chunk whose place has
-/// no room in a word.
+/// Notes the places of the chunks of `dir`, of which none was given yet: each for the inodes that a
+/// plain entry of it is the first to name, if `dir` is their parent.
 ///
 /// # Errors
 /// A read of the image that failed.
@@ -98,7 +97,7 @@ fn note_chunks<I: Image>(
     words: &mut FilledList<u32>,
 ) -> Result<(), ImageFault>
     requires { CanNoteChunks chunks.old.walk.geometry.layout (I.device image.old) windows.old
-        parents.now words.old dir }
+        chunks.old parents.now words.old dir }
     ensures noted { OnOk result (ForContents (I.device image.old).contents
         (λ b. NotesEntries chunks.old.walk.geometry.layout b parents.now.items words.old.items
         words.new.items dir (flat_map roled_chunk (rest b chunks.old)))) }
@@ -113,11 +112,7 @@ fn note_chunks<I: Image>(
         &mut windows.current,
         &mut chunk,
     )? {
-        let place = place_of(chunks.last_place() / DIRBLKSIZ as u64);
-        if place == 0 {
-            // A later entry must not be taken for one of this chunk.
-            return Ok(());
-        }
+        let place = place_of(&chunks.walk.geometry, chunks.last_place());
         note_chunk(order, &chunk, dir, place, parents, words);
     }
     Ok(())

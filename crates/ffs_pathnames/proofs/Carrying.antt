@@ -75,7 +75,7 @@ pub noted_next : {v : Layout} {contents contents' : Option (List ℕ)} {old new 
     IsBeforeNoted v contents' new d' b
 noted_next {v = v} {b = b} e s keep r k = record {
   before = before_next e s r k.before;
-  noted = λ numbered. noted_kept v b _ _ keep (k.noted numbered);
+  noted = noted_kept v b _ _ keep k.noted;
 }
 
 pub noted_reported : {v : Layout} {contents contents' : Option (List ℕ)} {w : Workspace} {d : ℕ} {b : List ℕ} →

@@ -1,5 +1,5 @@
 -- The lines of an entry, one at least, for which texts were gathered.
-use Rattle.std.proofs.Common.{◌≡◌, ◌≤◌, ap, ℕ, List, length, map, Result, Ok, Err}
+use Rattle.std.proofs.Common.{◌≡◌, ◌≤◌, ap, ℕ, IsTrue, List, length, map, Result, Ok, Err}
 use Rattle.ffs_image.specs.{Device.Device, declared.image.ImageFault.ImageFault}
 use Rattle.ffs_volume.specs.{declared.Layout.Layout, Directories.{Roles.Volume, Volumes.volume_of}}
 use Rattle.ffs_volume.specs.{Messages.Kinds.{TreeMessage, of_tree}, Report.Reads.line_reads}
@@ -10,11 +10,15 @@ use Rattle.ffs_workspace.specs.declared.workspace.Workspace.{Workspace}
 use Rattle.ffs_paths.specs.declared.kept_parent.KeptParent.{KeptParent}
 use Rattle.ffs_pathnames.specs.{DirectoryContext.{DirectoryContext, KeepsPath, KnowsPath}, Ready.LimitedPathLeaves}
 use Rattle.ffs_pathnames.specs.{EntryLines.ReportsEntries, declared.one_entry.EntryTexts.EntryTexts}
+use Rattle.ffs_pathnames.{specs.LineReads.ReadsPathOnce, proofs.PathOnce.by_once}
 use Rattle.ffs_pathnames.proofs.LineCounts.{by_line, knows_places, some_said}
+use Rattle.ffs_paths.specs.Reads.{KnowsPlaces}
 
 module _ {S : Type 0} {v : Layout} {d d' : Device} {w w' : Workspace} {x : ℕ} {t t' : EntryTexts} {s : KeptParent}
     {lines : Volume → List TreeMessage} {reads reads' : ℕ} {r : Result S ImageFault}
     (keeps : KeepsPath v d w x t t') (left : LimitedPathLeaves line_reads v d d' reads reads' w w' s r)
+    (stays : IsTrue t.begun → IsTrue t'.begun)
+    (once : (bytes : List ℕ) → KnowsPlaces v d.contents w bytes → ReadsPathOnce 1 t t' reads reads')
     (some : ForBytes (DirectoryContext v d.contents w x) (λ bytes. 1 ≤ length (lines (volume_of v bytes)))) where
   -- a read failed
   pub entry_unread : {T : Type 0} {a : Progress} {fault : _} →
@@ -22,8 +26,10 @@ module _ {S : Type 0} {v : Layout} {d d' : Device} {w w' : Workspace} {x : ℕ} 
   entry_unread = record {
     text = reads_first;
     path = keeps;
+    begun = stays;
+    once = λ bytes k noted. by_once t t' reads reads' _ (once bytes (knows_places _ _ _ _ bytes k noted)) (some bytes k);
     counted = λ bytes k noted. by_line _ (left.path.counted bytes (knows_places _ _ _ _ bytes k noted)) (some bytes k);
-    paid = λ numbered. paid_reads (left.most numbered);
+    paid = paid_reads left.most;
   }
 
   -- the lines were said, or the output failed among them
@@ -33,8 +39,10 @@ module _ {S : Type 0} {v : Layout} {d d' : Device} {w w' : Workspace} {x : ℕ} 
   entry_said ms many right said = record {
     text = says_all (λ bytes k. ap (map of_tree) (right bytes k)) said;
     path = keeps;
+    begun = stays;
+    once = λ bytes k noted. by_once t t' reads reads' _ (once bytes (knows_places _ _ _ _ bytes k noted)) (some bytes k);
     counted = λ bytes k noted. by_line _ (left.path.counted bytes (knows_places _ _ _ _ bytes k noted)) (some bytes k);
-    paid = λ numbered. paid_says _ said (some_said _ many) (left.most numbered);
+    paid = paid_says _ said (some_said _ many) left.most;
   }
 
   pub entry_stopped : {T : Type 0} {a b : Progress} {fault : _} (ms : List TreeMessage) → 1 ≤ length ms →
@@ -43,6 +51,8 @@ module _ {S : Type 0} {v : Layout} {d d' : Device} {w w' : Workspace} {x : ℕ} 
   entry_stopped ms many right stopped = record {
     text = stops_all (λ bytes k. ap (map of_tree) (right bytes k)) stopped;
     path = keeps;
+    begun = stays;
+    once = λ bytes k noted. by_once t t' reads reads' _ (once bytes (knows_places _ _ _ _ bytes k noted)) (some bytes k);
     counted = λ bytes k noted. by_line _ (left.path.counted bytes (knows_places _ _ _ _ bytes k noted)) (some bytes k);
-    paid = λ numbered. paid_stops _ stopped (some_said _ many) (left.most numbered);
+    paid = paid_stops _ stopped (some_said _ many) left.most;
   }

@@ -19,3 +19,4 @@ pub mod Skipping
 mod SilentLaws
 pub mod LimitedLaws
 pub mod EntryReports
+pub mod PathOnce

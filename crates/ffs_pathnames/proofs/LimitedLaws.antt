@@ -1,7 +1,6 @@
 -- What a look at a directory leaves of the image that it was limited on, and of the reads that are left.
 use Rattle.std.{specs.Borrow.GName, proofs.Common.{◌≡◌, ◌≤◌, ◌⊎◌, ◌+◌, ℕ, arith, Bool, Option, Some, None, IfSome}}
 use Rattle.std.proofs.{Common.{Result, Ok, Err, IfOk, MatchOption, MatchResult}, lemmas.Bool.cases_lt}
-use Rattle.ffs_workspace.specs.Places.{AreChunksNumbered}
 use Rattle.ffs_survey.specs.Costs.{TakesReads}
 use Rattle.ffs_pathnames.specs.ReadsLeft.{TakesLeft}
 use Rattle.ffs_image.specs.{declared.image.ImageFault.ImageFault, Device.Device, Limited.{GivesBack, limited_device}}
@@ -52,7 +51,3 @@ pub budget_falls : (r : Result (Option ℕ) ImageFault) (old new : ℕ) → Matc
 budget_falls (Ok (Some x)) old new h = h
 budget_falls (Ok None) old new h = tt
 budget_falls (Err e) old new h = tt
-
--- all chunks are numbered, or not
-pub numbered_or_not : (v : Layout) → AreChunksNumbered v ⊎ (AreChunksNumbered v → ⊥)
-numbered_or_not v = grind (arith, cases_lt)

@@ -4,7 +4,7 @@ use Rattle.std.proofs.{Common.{List, Result, Ok, Err}, lemmas.Bool.both_ways}
 use Rattle.ffs_image.specs.{Device.Device, Limited.{GivesBack, limited_device}, declared.image.ImageFault.ImageFault}
 use Rattle.ffs_image.proofs.Limits.{ServedBy, read_over, served}
 use Rattle.ffs_volume.specs.declared.Layout.{Layout}
-use Rattle.ffs_workspace.specs.{declared.workspace.Workspace.Workspace, Places.AreChunksNumbered, Ready.IsReady}
+use Rattle.ffs_workspace.specs.{declared.workspace.Workspace.Workspace, Ready.IsReady}
 use Rattle.ffs_workspace.proofs.Readiness.{ready_same}
 use Rattle.ffs_paths.specs.{Reads.{OnlyReads, ReadsAtMost}, KeptParents.{KeepsParent, PathLeaves}}
 use Rattle.ffs_paths.specs.declared.kept_parent.KeptParent.{KeptParent}
@@ -40,16 +40,15 @@ path_below (Err f) back none few p = grind arith
 -- by the contracts of the part and of the limited image
 pub gathered : {T : Type 0} {v : Layout} {d d' l l' : Device} {w w' : Workspace} {s : KeptParent}
     {name_lent name : GName} {reads reads' limit left before asked n : ℕ} {spent : Bool} {r : Result T ImageFault} →
-    l ≡ limited_device d name_lent reads limit → before ≡ 0 → AreChunksNumbered v × (limit ≡ n) →
+    l ≡ limited_device d name_lent reads limit → before ≡ 0 → limit ≡ n →
     PathLeaves n v l l' before asked w w' s r →
     ((below : Device) (given : GName) (counted : ℕ) (most : ℕ) →
     l'.lent ≡ (limited_device below given counted most).lent → l'.contents ≡ below.contents → l'.size ≡ below.size →
     GivesBack below d' given name counted reads' most left asked spent (limited_device below given counted most) l') →
     IsGathered n v d d' name_lent name reads reads' w w' s spent r
 gathered {v = v} {d = d} {d' = d'} {w = w} {w' = w'} {name_lent = lent} {name = name} {reads = reads}
-    {reads' = reads'} {limit = limit} {asked = asked} {n = n} {spent = spent} {r = r} over begins numbered p back =
+    {reads' = reads'} {limit = limit} {asked = asked} {n = n} {spent = spent} {r = r} over begins price p back =
     let path = rw over at p in
-    let price = numbered.1 in
     let below : ServedBy d d' lent name reads reads' limit asked spent r = served path.reads.read back in
     let most : reads' ≤ reads + n = rw (← price) below.most in
     let few : ReadsAtMost n v d w w' reads reads' = λ b k. record
@@ -57,9 +56,9 @@ gathered {v = v} {d = d} {d' = d'} {w = w} {w' = w'} {name_lent = lent} {name = 
     record {
       same_image = below.same_image;
       all = λ b x k refused.
-          let count = (path.counted b (knows_places v d.contents w x b k (k.noted numbered.0))).count in
+          let count = (path.counted b (knows_places v d.contents w x b k k.noted)).count in
           both_ways _ (below.few (omega (arith, count, begins, price))) refused;
-      leaves = λ none. record { path = path_below r below none few path; most = λ _. most };
+      leaves = λ none. record { path = path_below r below none few path; most = most };
       forgets = λ refused x s' kept. record {
         path = record {
           reads = record {
@@ -71,6 +70,6 @@ gathered {v = v} {d = d} {d' = d'} {w = w} {w' = w'} {name_lent = lent} {name = 
           counted = few;
           kept_parent = kept;
         };
-        most = λ _. most;
+        most = most;
       };
     }

@@ -59,9 +59,9 @@ pub can_read_in : (v : Layout) (d : Device) (w : Workspace) → IsReady v d w
 can_read_in v d w r = grind arith
 
 -- what a call leaves that gathered a path, and another that only read
-pub leaves_read : {S T : Type 0} {n m count count' count'' : ℕ} {v : Layout} {d d' d'' : Device}
+pub leaves_read : {S T : Type 0} {n k m count count' count'' : ℕ} {v : Layout} {d d' d'' : Device}
     {w w' w'' : Workspace} {s : KeptParent} {x : S} (result : Result T ImageFault) →
-    LimitedPathLeaves n v d d' count count' w w' s (Ok x) → OnlyReadsFew 1 v d' d'' count' count'' w' w'' result → n + 1 ≤ m
+    LimitedPathLeaves n v d d' count count' w w' s (Ok x) → OnlyReadsFew k v d' d'' count' count'' w' w'' result → n + k ≤ m
     → LimitedPathLeaves m v d d'' count count'' w w'' s result
 leaves_read (Ok y) path read more = record {
   path = record {
@@ -69,7 +69,7 @@ leaves_read (Ok y) path read more = record {
     counted = λ b k. few_more (few_then (path.path.counted b k) read.counted) more;
     kept_parent = kept_on _ read.reads path.path.kept_parent;
   };
-  most = λ numbered. let first = path.most numbered in omega (arith, first, read.counted.count, more);
+  most = let first = path.most in omega (arith, first, read.counted.count, more);
 }
 leaves_read (Err e) path read more = record {
   path = record {
@@ -77,7 +77,7 @@ leaves_read (Err e) path read more = record {
     counted = λ b k. few_more (few_then (path.path.counted b k) read.counted) more;
     kept_parent = tt;
   };
-  most = λ numbered. let first = path.most numbered in omega (arith, first, read.counted.count, more);
+  most = let first = path.most in omega (arith, first, read.counted.count, more);
 }
 
 -- where gathering a path failed

@@ -5,7 +5,7 @@ use Rattle.ffs_image.specs.Device.{Device}
 use Rattle.ffs_volume.specs.{declared.{constants.TheConstants.DT_DIR, Layout.Layout}, Messages.Kinds.TreeMessage}
 use Rattle.ffs_volume.specs.Messages.Kinds.{reported}
 use Rattle.ffs_volume.specs.{Directories.Volumes.volume_of, Encodings.Kinds.{is_dir_kind, is_empty_dir_kind}}
-use Rattle.ffs_workspace.specs.{declared.workspace.Workspace.Workspace, Leaves.LeavesSurvey, Places.AreChunksNumbered}
+use Rattle.ffs_workspace.specs.{declared.workspace.Workspace.Workspace, Leaves.LeavesSurvey}
 use Rattle.ffs_workspace.specs.{Places.AreNoted, Holds.{bool_at, HoldsClaims, HoldsSurvey}, Ready.IsReady}
 use Rattle.ffs_pathnames.specs.{Gathers.{AreAsLong, passed_of}, PassedRight.AreRightBefore}
 use Rattle.ffs_survey.specs.Survey.{suspect_at}
@@ -32,7 +32,7 @@ pub record IsBefore (v : Layout) (contents : Option (List ℕ)) (w : Workspace) 
 -- and, where words have room for the places, that of each directory is noted
 pub record IsBeforeNoted (v : Layout) (contents : Option (List ℕ)) (w : Workspace) (d : ℕ) (b : List ℕ) : Type 0 where
   pub before : IsBefore v contents w d b
-  pub noted : AreChunksNumbered v → AreNoted v b w.queue.items
+  pub noted : AreNoted v b w.queue.items
 
 -- a directory that isn't of size 0 and isn't known to be calm. That a marked one is flagged doesn't
 -- mean that it is calm, but that an entry has named it

@@ -5,19 +5,19 @@ use Rattle.ffs_report.specs.Known.{ForBytes}
 use Rattle.ffs_volume.specs.{declared.Layout.Layout, Blocks.Inodes.inode_of}
 use Rattle.ffs_volume.specs.Directories.{Graph.Graph, Parents.graph_of, Roles.is_dir, Volumes.volume_of}
 use Rattle.ffs_workspace.specs.{declared.workspace.Workspace.Workspace, Holds.HoldsClaims, Holds.HoldsSurvey}
-use Rattle.ffs_workspace.specs.Places.{AreChunksNumbered, AreNoted}
+use Rattle.ffs_workspace.specs.Places.{AreNoted}
 use Rattle.ffs_paths.specs.DirectoryPaths.{IsPathOf}
 use Rattle.ffs_pathnames.specs.declared.{look.Directory.Directory, header.HeaderFacts.HeaderFacts}
 use Rattle.ffs_pathnames.specs.declared.one_entry.EntryTexts.{EntryTexts}
 
--- the image gives these bytes, the workspace holds what the block check and the survey leave, and, where
--- words have room for the places, that of each directory; and d is a directory
+-- the image gives these bytes, the workspace holds what the block check and the survey leave, and the
+-- place of each directory that is reached; and d is a directory
 pub record DirectoryContext (v : Layout) (contents : Option (List ℕ)) (w : Workspace) (d : ℕ) (b : List ℕ) :
     Type 0 where
   pub gives_bytes : contents ≡ Some b
   pub claims : HoldsClaims v b w
   pub survey : HoldsSurvey v b w
-  pub noted : AreChunksNumbered v → AreNoted v b w.queue.items
+  pub noted : AreNoted v b w.queue.items
   pub dir : is_dir (volume_of v b) d ≡ true
 
 -- the path of a directory, where it is begun, is that of d

@@ -1,5 +1,6 @@
 -- What is gathered for the messages on an entry and on a directory.
 use Rattle.std.specs.Prelude.{◌≡◌, ℕ, ◌<◌, ◌^◌, Bool, true, false, IsTrue, List, vec_len, ◌+◌, ◌≤◌, Result, IfOk, OnOk}
+use Rattle.std.specs.Prelude.{if◌then◌else◌}
 use Rattle.ffs_image.specs.{Device.ForContents, declared.image.{Image.Ghosts, ImageFault.ImageFault}}
 use Rattle.ffs_volume.specs.{Messages.Kinds.TreeMessage, Directories.{Volumes.volume_of, Entries.Entry}}
 use Rattle.ffs_volume.specs.declared.{Attr.Attr, Layout.Layout, verdict.Verdict.{Verdict, TheVariants.Named}}
@@ -9,12 +10,12 @@ use Rattle.ffs_volume.specs.Directories.PathnameCheck.{attributes, extra_lines, 
 use Rattle.ffs_volume.specs.Report.Reads.{line_reads, path_reads}
 use Rattle.ffs_layout.specs.Entry.{entry_value}
 use Rattle.ffs_report.specs.Known.{ForBytes}
-use Rattle.ffs_workspace.specs.Places.{AreChunksNumbered}
-use Rattle.ffs_paths.specs.{DirectoryPaths.IsPathOf, KeptParents.PathLeaves, LastPaths.last_path, Reads.OnlyReadsFew}
+use Rattle.ffs_paths.specs.{DirectoryPaths.IsPathOf, KeptParents.PathLeaves, LastPaths.last_path, Reads.{KnowsPlaces, OnlyReadsFew}}
 use Rattle.ffs_paths.specs.declared.{entry_paths.EntryPaths.EntryPaths, kept_parent.KeptParent.KeptParent}
 use Rattle.ffs_pathnames.specs.{DirectoryContext.{DirectoryContext, KeepsPath, KnowsPath}, Ready.LimitedPathLeaves}
 use Rattle.ffs_pathnames.specs.declared.one_entry.{DirectoryEntry.DirectoryEntry, EntryTexts.EntryTexts}
 use Rattle.ffs_pathnames.specs.{PassedNames.{PassedNames, roled_reported, verdict_by}, Stamps.stamps_of}
+use Rattle.ffs_pathnames.specs.LineReads.{ReadsPathOnce}
 use Rattle.ffs_workspace.specs.{declared.workspace.Workspace.Workspace, Holds.{HoldsClaims, HoldsSurvey}, Lengths.IsFor}
 
 -- the messages are the same as with the volume's own attributes and paths
@@ -64,6 +65,14 @@ asks_path Whiteout = false
 asks_path Unallocated = false
 asks_path (Named n) = n.extraneous
 
+-- so many reads where they are wanted, else none
+abbrev pub if_wanted : Bool → ℕ → ℕ
+if_wanted wanted reads = if wanted then reads else 0
+
+-- the most reads for what the messages show, where the path of the entry's directory is made
+abbrev pub verdict_reads : Verdict → ℕ
+verdict_reads verdict = if_wanted (asks_path verdict) path_reads + if_wanted (asks_attr verdict) 1
+
 -- this is the verdict on an entry, by the bytes of any volume for which the workspace holds what is right.
 -- Where it asks for attributes, the inode is there
 pub record IsVerdictIn (w : Workspace) (s : ℕ) (e : Entry) (answer : Verdict) : Type 0 where
@@ -91,18 +100,38 @@ module _ {S : Type 0} (I : Ghosts S) (v : Layout) (old new : S) (w w' : Workspac
     pub attr : IfOk result (λ a. ForContents (I.device old).contents (λ b. a ≡ attributes (volume_of v b) x))
     pub reads : OnlyReadsFew 1 v (I.device old) (I.device new) (I.reads old) (I.reads new) w w' result
 
-  -- the path of the directory x is made; also where that fails, one that is begun is that of x
+  -- so many reads were made at most, where each place is noted
+  abbrev pub ReadsByPlaces : (most : ℕ) → Type 0
+  ReadsByPlaces most = (b : List ℕ) → KnowsPlaces v (I.device old).contents w b → I.reads new ≤ I.reads old + most
+
+  -- the path of the directory x is made, and begun; also where that fails, one that is begun is that of x
   pub record MakesPath {T : Type 0} (x : ℕ) (t t' : EntryTexts) (result : Result T ImageFault) : Type 0 where
+    pub begun : OnOk result (IsTrue t'.begun)
+    pub stays : IsTrue t.begun → IsTrue t'.begun
     pub made : OnOk result (ForBytes (KnowsPath v (I.device old).contents w x t) (λ b.
         IsPathOf (graph_of (volume_of v b)) x t'.paths.directory))
     pub path : KeepsPath v (I.device old) w x t t'
     pub leaves : PathLeaves path_reads v (I.device old) (I.device new) (I.reads old) (I.reads new) w w' t'.kept_parent
         result
 
-  -- the same, with at most `path_reads` reads of any image, if each chunk has a number
+  -- the same, with at most `path_reads` reads of any image
   pub record MakesPathLimited {T : Type 0} (x : ℕ) (t t' : EntryTexts) (result : Result T ImageFault) : Type 0 where
     pub makes : MakesPath x t t' result
-    pub most : AreChunksNumbered v → I.reads new ≤ I.reads old + path_reads
+    pub most : I.reads new ≤ I.reads old + path_reads
+
+  -- the same, and where a path was begun nothing is read, and that path stays
+  pub record BeginsPath {T : Type 0} (x : ℕ) (t t' : EntryTexts) (result : Result T ImageFault) : Type 0 where
+    pub makes : MakesPathLimited x t t' result
+    pub held : IsTrue t.begun → (new ≡ old) × (w' ≡ w) × (t' ≡ t)
+
+  -- what a line on an entry shows was read: the path of the directory is begun, and stays so; where it was
+  -- begun before, n reads were made at most; and that path is read for once
+  pub record BeginsOnce {T : Type 0} (n : ℕ) (t t' : EntryTexts) (result : Result T ImageFault) : Type 0 where
+    pub begun : OnOk result (IsTrue t'.begun)
+    pub stays : IsTrue t.begun → IsTrue t'.begun
+    pub again : IsTrue t.begun → ReadsByPlaces n
+    pub once : (b : List ℕ) → KnowsPlaces v (I.device old).contents w b
+        → ReadsPathOnce 1 t t' (I.reads old) (I.reads new)
 
   -- the path of the directory x is put into a text, whichever directory y is checked
   pub record PutsPath {T : Type 0} (x : ℕ) (text : List ℕ) (s : KeptParent) (result : Result T ImageFault)
@@ -111,16 +140,16 @@ module _ {S : Type 0} (I : Ghosts S) (v : Layout) (old new : S) (w w' : Workspac
         text ≡ dir_path (graph_of (volume_of v b)) x))
     pub leaves : ReadsForPaths path_reads s result
 
-  -- the same, where it is wanted; the paths of entries and of their directory stay
+  -- the same, where it is wanted, and else nothing is read; the paths of entries and of their directory stay
   pub record PutsWanted {T : Type 0} (wanted : Bool) (x : ℕ) (t t' : EntryTexts) (result : Result T ImageFault)
       : Type 0 where
     pub path : OnOk result ((y : ℕ) → ForBytes (DirectoryContext v (I.device old).contents w y) (λ b.
         IsTrue wanted → t'.directory.items ≡ dir_path (graph_of (volume_of v b)) x))
     pub same : (t'.begun ≡ t.begun) × (t'.paths ≡ t.paths)
-    pub leaves : ReadsForPaths path_reads t'.kept_parent result
+    pub leaves : ReadsForPaths (if_wanted wanted path_reads) t'.kept_parent result
 
-  -- all that messages of a verdict on an entry show but paths of directories, in one read at most; the
-  -- path of the entry's directory stays
+  -- all that messages of a verdict on an entry show but paths of directories, in one read at most, if
+  -- they show attributes; the path of the entry's directory stays
   pub record GathersInode (e : Entry) (verdict : Verdict) (p p' : EntryPaths) (result : Result Attr ImageFault)
       : Type 0 where
     pub enough : IfOk result (λ a. ForContents (I.device old).contents (λ b. (dir : ℕ) (path : List ℕ)
@@ -128,7 +157,7 @@ module _ {S : Type 0} (I : Ghosts S) (v : Layout) (old new : S) (w w' : Workspac
         → (IsTrue (asks_path verdict) → path ≡ dir_path (graph_of (volume_of v b)) e.number)
         → IsEnough (volume_of v b) verdict dir e.number e.name a (last_path p') path))
     pub same : p'.directory ≡ p.directory
-    pub reads : OnlyReadsFew 1 v (I.device old) (I.device new) (I.reads old) (I.reads new) w w' result
+    pub reads : OnlyReadsFew (if_wanted (asks_attr verdict) 1) v (I.device old) (I.device new) (I.reads old) (I.reads new) w w' result
 
   -- all that messages of a verdict on an entry show, where the path of its directory is made; that stays
   pub record GathersWithPath (e : Entry) (verdict : Verdict) (t t' : EntryTexts) (result : Result Attr ImageFault)
@@ -137,26 +166,28 @@ module _ {S : Type 0} (I : Ghosts S) (v : Layout) (old new : S) (w w' : Workspac
         IsPathOf (graph_of (volume_of v b)) dir t.paths.directory
         → IsEnough (volume_of v b) verdict dir e.number e.name a (last_path t'.paths) t'.directory.items))
     pub same : (t'.begun ≡ t.begun) × (t'.paths.directory ≡ t.paths.directory)
-    pub leaves : ReadsForPaths (path_reads + 1) t'.kept_parent result
+    pub leaves : ReadsForPaths (verdict_reads verdict) t'.kept_parent result
 
   -- all that messages of a verdict on an entry show; the path that is begun, if any, still is that of its
-  -- directory
+  -- directory, and is made once
   pub record GathersEntry (e : DirectoryEntry) (verdict : Verdict) (t t' : EntryTexts) (result : Result Attr ImageFault)
       : Type 0 where
     pub enough : IfOk result (λ a. ForBytes (KnowsPath v (I.device old).contents w e.dir t) (λ b.
         IsEnough (volume_of v b) verdict e.dir e.entry.number e.entry.name.now a (last_path t'.paths)
         t'.directory.items))
     pub path : KeepsPath v (I.device old) w e.dir t t'
+    pub once : BeginsOnce (verdict_reads verdict) t t' result
     pub leaves : ReadsForPaths line_reads t'.kept_parent result
 
   -- what the message on an extra entry of the directory x shows: its attributes and its path; the
-  -- path that is begun, if any, still is that of x
+  -- path that is begun, if any, still is that of x, and is made once
   pub record GathersExtra (x : ℕ) (t t' : EntryTexts) (result : Result Attr ImageFault) : Type 0 where
     pub attr : IfOk result (λ a. ForBytes (DirectoryContext v (I.device old).contents w x) (λ b.
         a ≡ attributes (volume_of v b) x))
     pub text : OnOk result (ForBytes (KnowsPath v (I.device old).contents w x t) (λ b.
         t'.directory.items ≡ dir_path (graph_of (volume_of v b)) x))
     pub path : KeepsPath v (I.device old) w x t t'
+    pub once : BeginsOnce 1 t t' result
     pub leaves : ReadsForPaths line_reads t'.kept_parent result
 
   -- what messages on the directory x itself show: its attributes and its path

@@ -1,20 +1,18 @@
--- What reading the next chunk of a directory gives, takes and leaves. Where each chunk of the volume
--- has a number, no more than the reads that are left are made for it.
+-- What reading the next chunk of a directory gives, takes and leaves. No more than the reads that are
+-- left are made for it.
 use Rattle.std.specs.Prelude.{◌≡◌, ◌+◌, ◌≤◌, ℕ, IfOk, List, Option, IfSome, Result}
 use Rattle.ffs_image.specs.{Device.{Device, ForContents}, Reads.ReadAfter, declared.image.ImageFault.ImageFault}
 use Rattle.ffs_names.specs.{Costs.{to_read, HoldsReading}, Readings.{rest, GivesChunk}, Windows.CanReadChunks}
 use Rattle.ffs_names.specs.declared.chunks.Chunks.{Chunks}
 use Rattle.ffs_survey.specs.Costs.{TakesReads}
-use Rattle.ffs_workspace.specs.{Places.AreChunksNumbered, declared.workspace.Windows.Windows}
+use Rattle.ffs_workspace.specs.declared.workspace.Windows.{Windows}
 use Rattle.ffs_pathnames.specs.ReadsLeft.{TakesLeft}
 
 -- the answer is the next chunk by the image's bytes, where the reads that are left suffice, and a
 -- chunk that comes is one less to come
 pub record GivesNext (contents : Option (List ℕ)) (windows : Windows) (old new : Chunks)
     (bytes : List ℕ) (left : ℕ) (answer : Option ℕ) : Type 0 where
-  pub chunk : ForContents contents (λ b.
-      (AreChunksNumbered old.walk.geometry.layout → HoldsReading windows.blocks windows.current old
-      × (to_read b old ≤ left))
+  pub chunk : HoldsReading windows.blocks windows.current old → ForContents contents (λ b. to_read b old ≤ left
       → GivesChunk b (rest b) old new bytes answer)
   pub budget : IfSome answer (λ _. new.budget + 1 ≡ old.budget)
 
@@ -22,14 +20,12 @@ pub record GivesNext (contents : Option (List ℕ)) (windows : Windows) (old new
 pub record TakesNext (contents : Option (List ℕ)) (windows windows' : Windows) (old new : Chunks)
     (count count' left left' : ℕ) (result : Result (Option ℕ) ImageFault) : Type 0 where
   pub reads : HoldsReading windows.blocks windows.current old
-      → ForContents contents (λ b. (AreChunksNumbered old.walk.geometry.layout → to_read b old ≤ left)
-      → TakesReads count count' (to_read b old) (to_read b new)
+      → ForContents contents (λ b. to_read b old ≤ left → TakesReads count count' (to_read b old) (to_read b new)
       (HoldsReading windows'.blocks windows'.current new) result)
-  pub kept : AreChunksNumbered old.walk.geometry.layout → HoldsReading windows.blocks windows.current old
+  pub kept : HoldsReading windows.blocks windows.current old
       → ForContents contents (λ b. to_read b old ≤ left
       → TakesLeft left left' (to_read b old) (to_read b new) result)
-  pub unlimited : (AreChunksNumbered old.walk.geometry.layout → ⊥) → left' ≡ left
-  pub most : AreChunksNumbered old.walk.geometry.layout → count' + left' ≤ count + left
+  pub most : count' + left' ≤ count + left
 
 -- the image, but for a read that failed, and windows that can be read into
 pub record NextLeaves (old new : Chunks) (d d' : Device) (windows windows' : Windows)

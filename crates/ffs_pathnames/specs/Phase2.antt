@@ -6,7 +6,7 @@ use Rattle.ffs_volume.specs.Directories.{PathnameCheck.{continues_after_root, pa
 use Rattle.ffs_volume.specs.{Messages.Kinds.phase2, Report.Reads.{line_reads, pathname_reads, sweep_reads}}
 use Rattle.ffs_report.specs.{Known.ForBytes, Paid.Paid, Progress.{Progress, Said}, declared.fault.RunFault.RunFault}
 use Rattle.ffs_report.specs.declared.fault.RunFault.TheVariants.{Read, Out}
-use Rattle.ffs_workspace.specs.{declared.workspace.Workspace.Workspace, Found.WithClaims, Places.AreChunksNumbered}
+use Rattle.ffs_workspace.specs.{declared.workspace.Workspace.Workspace, Found.WithClaims}
 use Rattle.ffs_workspace.specs.Holds.{HoldsClaims, HoldsReferences, HoldsSurvey}
 use Rattle.ffs_pathnames.specs.{RootAnswers.is_go, declared.pass2.Root.Root}
 
@@ -28,11 +28,10 @@ Phase2Ends v d w w' old new (Err (Read fault)) = Said old new (phase2 ∷ [])
     ⊎ ForBytes (WithClaims v d w) (λ bytes. continues_after_root (volume_of v bytes) ≡ true)
 Phase2Ends v d w w' old new (Err (Out fault)) = ⊤
 
--- on a volume of less than 2^40 bytes (`AreChunksNumbered`) an image that gives its bytes is read at
--- most `pathname_reads` times, and any image no more than four sweeps, and `line_reads` for each
--- message that was begun
+-- an image that gives its bytes is read at most `pathname_reads` times, and any image no more than four
+-- sweeps, and `line_reads` for each message that was begun
 pub record Phase2Reads {T : Type 0} (v : Layout) (d : Device) (w : Workspace) (old new : Progress) (before after : ℕ)
     (result : Result T RunFault) : Type 0 where
-  pub known : ForBytes (WithClaims v d w) (λ bytes. AreChunksNumbered v
-      → after ≤ before + pathname_reads v (length (pathname_lines (volume_of v bytes))))
-  pub paid : AreChunksNumbered v → Paid line_reads old new (before + 4 * sweep_reads v) after result
+  pub known : ForBytes (WithClaims v d w) (λ bytes.
+      after ≤ before + pathname_reads v (length (pathname_lines (volume_of v bytes))))
+  pub paid : Paid line_reads old new (before + 4 * sweep_reads v) after result

@@ -3,7 +3,7 @@ use Rattle.std.specs.Prelude.{◌≡◌, ◌+◌, ◌*◌, ◌<◌, ◌≤◌, �
 use Rattle.ffs_image.specs.{Device.Device, declared.image.ImageFault.ImageFault}
 use Rattle.ffs_volume.specs.declared.Layout.{Layout}
 use Rattle.ffs_workspace.specs.{declared.workspace.Workspace.Workspace, Ready.IsReady, Leaves.LeavesSurvey}
-use Rattle.ffs_workspace.specs.{Notes.cut_in, Places.AreChunksNumbered}
+use Rattle.ffs_workspace.specs.Notes.{cut_in}
 use Rattle.ffs_report.specs.{PhaseOutcome.ImageAfter, declared.fault.RunFault.RunFault}
 use Rattle.ffs_paths.specs.{Reads.IsReadyFor, declared.kept_parent.KeptParent.KeptParent}
 use Rattle.ffs_pathnames.specs.{declared.look.Directory.Directory, Stamps.KeepPlaces}
@@ -44,7 +44,7 @@ ReadyAfter v d w s (Err e) = IsReady v d w
 pub record LimitedPathLeaves {T : Type 0} (n : ℕ) (v : Layout) (d d' : Device) (count count' : ℕ) (w w' : Workspace)
     (s : KeptParent) (result : Result T ImageFault) : Type 0 where
   pub path : PathLeaves n v d d' count count' w w' s result
-  pub most : AreChunksNumbered v → count' ≤ count + n
+  pub most : count' ≤ count + n
 
 -- what a call of the phase leaves: the image, but for a read that failed, what the block check and
 -- the survey found, the places that words note, and all that the next call asks for

@@ -1,12 +1,11 @@
 //! A second reading of a directory, and the lines of its entries, one after another.
-ghost use Rattle.std.specs.Prelude.{◌≡◌, ◌↔◌, IsTrue};
+ghost use Rattle.std.specs.Prelude.{◌≡◌};
 ghost use Rattle.ffs_names.specs.{Costs.directory_runs, Windows.CanReadChunks};
 ghost use Rattle.ffs_volume.specs.Directories.Volumes.{volume_of};
 ghost use Rattle.ffs_report.specs.Progress.{progress};
-ghost use Rattle.ffs_workspace.specs.Places.{AreChunksNumbered};
 ghost use Rattle.ffs_pathnames.specs.{Gathers.{passed_of, roled_lines_by, roled_value}, Looks.roled_in};
 ghost use Rattle.ffs_pathnames.specs.{Ready.{ReadyToPath, ReadyToReport}, ReadsLeft.LeftForRuns, NextChunks.ReadsNext};
-ghost use Rattle.ffs_pathnames.specs.{DirectoryLines.ReportsDirectory, EntryLines.{PassesEntries, ReportsOneEntry}};
+ghost use Rattle.ffs_pathnames.specs.{DirectoryLines.{ReadsForEntries, ReportsDirectory}, EntryLines.{PassesEntries, ReportsOneEntry}};
 ghost use Rattle.ffs_pathnames.specs.PassedNames as names;
 
 use crate::inodes::Inodes;
@@ -20,20 +19,12 @@ use ffs_names::{ChunkEntries, Chunks, role_of};
 use ffs_report::{Output, Report, RunFault};
 use ffs_volume::Role;
 use ffs_volume::constants::DIRBLKSIZ;
-use ffs_workspace::{Windows, Workspace, line_reads};
-
-/// Whether each chunk of a volume has a number for which a word has room. On a larger volume a path
-/// may search a directory, so that blocks of the one that is read are read again.
-fn are_chunks_numbered(geometry: &Geometry) -> bool
-    ensures { IsTrue result ↔ AreChunksNumbered geometry.now.layout }
-{
-    line_reads(geometry).is_some()
-}
+use ffs_workspace::{Windows, Workspace};
 
 /// Reads the next chunk of a directory, and returns its place in the file, in bytes, and None where
 /// no chunk is left. `reads_left` is how many reads may be made of directories' own blocks; it
 /// falls by those that are made. Only an image that gives other bytes each time asks for more: then
-/// no chunk comes any more. On a volume whose chunks aren't all numbered the reads aren't limited.
+/// no chunk comes any more.
 ///
 /// # Errors
 /// A read of the image that failed.
@@ -50,9 +41,6 @@ fn next_chunk<I: Image>(
         chunks.old chunks.new bytes.new (I.reads image.old) (I.reads image.new)
         reads_left.old reads_left.new result }
 {
-    if !are_chunks_numbered(&chunks.walk.geometry) {
-        return chunks.next(image, &mut windows.blocks, &mut windows.current, bytes);
-    }
     let mut limited = LimitedImage::new(image, *reads_left);
     let offset = chunks.next(
         &mut limited,
@@ -81,7 +69,7 @@ pub fn report_directory<I: Image, W: Output>(
 ) -> Result<(), RunFault>
     requires { ReadyToReport geometry.now.layout (I.device image.old) workspace.old
         checking.old.texts.kept_parent directory.now }
-    ensures { ReportsDirectory geometry.now.layout (I.device image.old) (I.device image.new)
+    ensures lines { ReportsDirectory geometry.now.layout (I.device image.old) (I.device image.new)
         workspace.old workspace.new checking.old checking.new
         (LeftForRuns geometry.now.layout (I.device image.old) workspace.old directory.now
         checking.old.reads_left)
@@ -92,6 +80,9 @@ pub fn report_directory<I: Image, W: Output>(
         (passed_of workspace.old) ≡ passed_of workspace.new)
         (progress W.sink report.old) (progress W.sink report.new)
         (I.reads image.old) (I.reads image.new) result }
+    ensures once { ReadsForEntries geometry.now.layout workspace.old
+        (LeftForRuns geometry.now.layout (I.device image.old) workspace.old directory.now
+        checking.old.reads_left) directory.now.number (I.reads image.old) (I.reads image.new) }
 {
     let mut chunks = Chunks::start(geometry, &directory.inode, directory.cut);
     let mut bytes = [0u8; DIRBLKSIZ];

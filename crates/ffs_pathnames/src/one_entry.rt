@@ -1,14 +1,14 @@
 //! The lines of a plain or an extra entry, and what lines of entries and directories show.
-ghost use Rattle.std.specs.Prelude.{◌≡◌, ℕ, List, Option, SomeIff};
-ghost use Rattle.ffs_volume.specs.{declared.Layout.Layout, Directories.PathnameCheck.extra_lines, Report.Reads.path_reads};
+ghost use Rattle.std.specs.Prelude.{◌≡◌, ℕ, List, Option};
+ghost use Rattle.ffs_volume.specs.{declared.Layout.Layout, Directories.PathnameCheck.extra_lines};
 ghost use Rattle.ffs_pathnames.specs.{EntryLines.ReportsEntries, Ready.{ReadyToPath, ReadyWhere, ReadyWith, LinesLeave}};
 ghost use Rattle.ffs_pathnames.specs.{SaysTreeMessages.SaysTreeMessages, Gathers.{AreAsLong, IsVerdictIn, asks_attr, asks_path}};
-ghost use Rattle.ffs_pathnames.specs.Gathers.{extra_reported, plain_lines_by, MakesPath, MakesPathLimited};
+ghost use Rattle.ffs_pathnames.specs.Gathers.{extra_reported, plain_lines_by, BeginsPath, MakesPath, MakesPathLimited};
 ghost use Rattle.ffs_pathnames.specs.Gathers.{ReadsAttr, PutsPath, PutsWanted, GathersInode, GathersWithPath};
 ghost use Rattle.ffs_pathnames.specs.Gathers.{GathersEntry, GathersExtra, GathersDir};
 ghost use Rattle.ffs_layout.specs.Entry.{entry_value};
 ghost use Rattle.ffs_report.specs.Progress.{progress};
-ghost use Rattle.ffs_workspace.specs.{declared.workspace.Workspace.Workspace as WorkspaceIn, Places.AreChunksNumbered};
+ghost use Rattle.ffs_workspace.specs.{declared.workspace.Workspace.Workspace as WorkspaceIn};
 ghost use Rattle.ffs_workspace.specs.Ready.{IsReady};
 ghost use Rattle.ffs_paths.specs.{KeptParents.KeepsParent, Reads.IsReadyFor};
 
@@ -21,7 +21,7 @@ use ffs_paths::{DirectoryPath, EntryPaths, KeptParent, PathBuffer, PathText};
 use ffs_report::{DotLine, Line, OutFault, Output, Report, RunFault};
 use ffs_volume::verdict::Verdict;
 use ffs_volume::{Attr, Role};
-use ffs_workspace::{PATH_READS, Workspace, line_reads};
+use ffs_workspace::{PATH_READS, Workspace};
 
 /// An entry of a directory, with its role there.
 #[derive(Clone, Copy, Debug)]
@@ -77,17 +77,6 @@ fn forget_parent(kept_parent: &mut KeptParent)
     kept_parent.child = 0;
 }
 
-/// At most how many reads are made for a path, where each chunk of the volume is numbered
-/// (`line_reads`).
-fn path_reads(geometry: &Geometry) -> Option<u64>
-    ensures { SomeIff result (AreChunksNumbered geometry.now.layout) path_reads }
-{
-    match line_reads(geometry) {
-        Some(_) => Some(PATH_READS),
-        None => None,
-    }
-}
-
 /// What `make_paths` does, as often as the image is read for it.
 fn make_paths_freely<I: Image>(
     geometry: &Geometry,
@@ -109,7 +98,7 @@ fn make_paths_freely<I: Image>(
 
 /// Makes the path of a directory for the lines on its entries. An image that gives other bytes each
 /// time may be read more often than a path reads at most: then no more is read, and the path that
-/// was there before stays. It is apart from `begin_paths`, which is called for each line: a
+/// was there before stays, for all lines of the directory. It is apart from `begin_paths`, which is called for each line: a
 /// function clears the room of its locals each time that it is entered, and those here are large.
 #[inline(never)]
 fn make_paths<I: Image>(
@@ -124,13 +113,11 @@ fn make_paths<I: Image>(
     ensures { MakesPathLimited I.Image geometry.now.layout image.old image.new workspace.old
         workspace.new dir texts.old texts.new result }
 {
-    let Some(limit) = path_reads(geometry) else {
-        return make_paths_freely(geometry, image, workspace, texts, dir);
-    };
-    let mut limited = LimitedImage::new(image, limit);
+    let mut limited = LimitedImage::new(image, PATH_READS);
     let result = make_paths_freely(geometry, &mut limited, workspace, texts, dir);
     if limited.is_spent() {
         forget_parent(&mut texts.kept_parent);
+        texts.begun = true;
         return Ok(());
     }
     result
@@ -151,12 +138,9 @@ fn put_path<I: Image>(
     ensures { PutsPath I.Image geometry.now.layout image.old image.new workspace.old workspace.new
         dir path.new.items kept_parent.new result }
 {
-    let Some(limit) = path_reads(geometry) else {
-        return kept_parent.put_path(geometry, image, workspace, dir, path);
-    };
-    let mut limited = LimitedImage::new(image, limit);
-    let result = kept_parent.put_path(geometry, &mut limited, workspace, dir, path);
-    if limited.is_spent() {
+    let mut limited_image = LimitedImage::new(image, PATH_READS);
+    let result = kept_parent.put_path(geometry, &mut limited_image, workspace, dir, path);
+    if limited_image.is_spent() {
         forget_parent(kept_parent);
         return Ok(());
     }
@@ -174,7 +158,7 @@ fn begin_paths<I: Image>(
 ) -> Result<(), ImageFault>
     requires { ReadyToPath geometry.now.layout (I.device image.old) workspace.old
         texts.old.kept_parent dir }
-    ensures { MakesPathLimited I.Image geometry.now.layout image.old image.new workspace.old
+    ensures { BeginsPath I.Image geometry.now.layout image.old image.new workspace.old
         workspace.new dir texts.old texts.new result }
 {
     if texts.begun {

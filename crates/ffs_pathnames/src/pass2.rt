@@ -36,9 +36,9 @@ pub enum Root {
 /// The contract gives the text only for a workspace that holds what the block check found. At `Ok`
 /// the workspace holds what the survey found.
 ///
-/// Where a word has room for the number of each chunk (a volume below 2^40 bytes), the image is
-/// read at most `pathname_reads` times, also where a read failed. An image that gives other bytes
-/// each time is read no more than four sweeps, and `line_reads` for each message that was begun.
+/// The image is read at most `pathname_reads` times, also where a read failed. An image that gives
+/// other bytes each time is read no more than four sweeps, and `line_reads` for each message that
+/// was begun.
 ///
 /// # Errors
 /// A read of the image that failed, and a write of the report that failed.

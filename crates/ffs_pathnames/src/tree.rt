@@ -10,7 +10,7 @@ ghost use Rattle.ffs_pathnames.specs.Before.{ListsInode, ListsInodes, IsBeforeNo
 ghost use Rattle.ffs_pathnames.specs.{Gathers.passed_of, Ready.{ReadyToCheck, ReadyToPath}};
 ghost use Rattle.ffs_pathnames.specs.Begins.{AreFirstTwo, IsDirectoryBegun};
 ghost use Rattle.ffs_pathnames.specs.{HeaderValues.facts_lines, DirectoryContext.KnowsHeader};
-ghost use Rattle.ffs_pathnames.specs.DirectoryLines.{ReportsDirectory, ReportsLines, ReportsTree};
+ghost use Rattle.ffs_pathnames.specs.DirectoryLines.{ReadsQuietOnce, ReportsDirectory, ReportsLines, ReportsTree};
 ghost use Rattle.ffs_workspace.specs.{Holds.HoldsSurvey, Lengths.inodes_of, Ready.IsReady};
 ghost use Rattle.ffs_layout.specs.Entry.{entry_value};
 
@@ -140,7 +140,7 @@ fn check_directory<I: Image, W: Output>(
 ) -> Result<(), RunFault>
     requires { ReadyToCheck geometry.now.layout (I.device image.old) workspace.old
         checking.old.texts.kept_parent dir }
-    ensures { ReportsDirectory geometry.now.layout (I.device image.old) (I.device image.new)
+    ensures lines { ReportsDirectory geometry.now.layout (I.device image.old) (I.device image.new)
         workspace.old workspace.new checking.old checking.new
         (LeftForBoth geometry.now.layout (I.device image.old) workspace.old dir
         checking.old.reads_left)
@@ -150,6 +150,9 @@ fn check_directory<I: Image, W: Output>(
         (passed_of workspace.new))
         (progress W.sink report.old) (progress W.sink report.new)
         (I.reads image.old) (I.reads image.new) result }
+    ensures quiet { ReadsQuietOnce geometry.now.layout workspace.old
+        (LeftForBoth geometry.now.layout (I.device image.old) workspace.old dir
+        checking.old.reads_left) dir (I.reads image.old) (I.reads image.new) }
 {
     let examined = begin_directory(geometry, image, workspace, checking, report, dir)?;
     if examined.look.quiet {

@@ -1,12 +1,14 @@
 -- How far a climb to the root has come, and how often it has read.
 use Rattle.std.proofs.Common.{◌≡◌, ◌≢◌, ℕ, zero, suc, ◌+◌, ◌*◌, ◌<◌, ◌≤◌, false, List, ◌∷◌, length, ltb-false, Some}
-use Rattle.std.proofs.Common.{arith, Option}
-use Rattle.ffs_volume.specs.Directories.{Graph.level, Paths.joined, Parents.graph_of, Volumes.volume_of}
+use Rattle.std.proofs.Common.{arith, Option, Result, sym, ◌∙◌, true}
+use Rattle.ffs_image.specs.{Device.Device, declared.image.ImageFault.ImageFault}
+use Rattle.ffs_volume.specs.Directories.{Graph.{Graph, level}, Paths.joined, Parents.graph_of, Volumes.volume_of}
 use Rattle.ffs_volume.{specs.declared.Layout.Layout, proofs.LevelLaws.reached-level}
 use Rattle.ffs_survey.specs.ParentLaws.{root_level}
-use Rattle.ffs_workspace.specs.{Places.IsNoted, declared.workspace.Workspace.Workspace}
-use Rattle.ffs_paths.specs.{Reads.KnowsPlaces, Reads.ReadsFew, Buffers.HoldsNames, Climbing.IsParentOf}
-use Rattle.ffs_paths.{proofs.LongestEnds.joined-length, specs.declared.buffer.PathBuffer.PathBuffer}
+use Rattle.ffs_workspace.specs.{Holds.{bool_at, HoldsSurvey}, Places.IsNoted, declared.workspace.Workspace.Workspace}
+use Rattle.ffs_paths.specs.{Buffers.HoldsNames, Climbing.IsParentOf}
+use Rattle.ffs_paths.specs.Reads.{ForTree, KnowsPlaces, names_to, OnlyReads, ReadsFew, ReadsNames}
+use Rattle.ffs_paths.{proofs.{LongestEnds.joined-length, WaysUp.{IsOnWay, parent_is}}, specs.declared.buffer.PathBuffer.PathBuffer}
 
 -- so many steps were climbed, with a read for each at most, and with a name for each that takes two
 -- bytes at least
@@ -50,3 +52,32 @@ pub noted_child : {v : Layout} {contents : Option (List ℕ)} {b : List ℕ} {w 
     KnowsPlaces v contents w b → IsParentOf w d s → w' ≡ record w { windows = w'.windows } →
     IsNoted v b w'.queue.items d
 noted_child {v = v} {b = b} {d = d} knows of lists = grind (arith, reached-level, noted_here)
+
+-- ---- a read for each name
+-- a climb has made no more reads than the directory that it began at has names
+climbed_names : {g : Graph} {k d at step reads reads' : ℕ} {w w' : Workspace} {p : PathBuffer} → level g d ≡ Some k →
+    IsOnWay g k d at step p → HasClimbed step reads reads' w w' p → reads' ≤ reads + names_to g d
+climbed_names l way h = rw l (omega (arith, way.steps, h.few.count))
+
+-- so it leaves what it states
+pub climb_leaves : {T : Type 0} {v : Layout} {d d' : Device} {w w' : Workspace} {x at step count count' : ℕ}
+    {p : PathBuffer} {result : Result T ImageFault} → bool_at w.reached.items x ≡ true → OnlyReads v d d' w w' result →
+    ForTree v d w (λ tree. (k : ℕ) → level tree x ≡ Some k → IsOnWay tree k x at step p) →
+    ((b : List ℕ) → KnowsPlaces v d.contents w b → HasClimbed step count count' w w' p) →
+    ReadsNames v d d' count count' x w w' result
+climb_leaves {x = x} reached reads way counted = record {
+  reads = reads;
+  counted = λ b k. few_more (counted b k).few (counted b k).most;
+  names = λ b k.
+      let l = reached-level _ x (sym (k.survey.tree.reached x) ∙ reached) in
+      climbed_names l.1 (way b k.gives_bytes k.claims k.survey l.0 l.1) (counted b k);
+}
+
+-- a directory has a name more than its parent
+pub names_more : {v : Layout} {b : List ℕ} {w : Workspace} {d s : ℕ} → HoldsSurvey v b w → IsParentOf w d s →
+    names_to (graph_of (volume_of v b)) d ≡ names_to (graph_of (volume_of v b)) s + 1
+names_more {v = v} {b = b} {d = d} {s = s} survey of =
+    let g = graph_of (volume_of v b) in
+    let l = reached-level g d (sym (survey.tree.reached d) ∙ of.reached) in
+    let above = parent_is g l.0 d s l.1 (omega (arith, of.below)) (of.is ∙ survey.tree.parents d) in
+    rw (l.1, above.level) above.step

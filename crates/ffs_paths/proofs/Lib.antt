@@ -5,4 +5,5 @@ pub mod Keeping
 pub mod LongestEnds
 pub mod NoSlashes
 pub mod Rooms
+pub mod Sparing
 pub mod WaysUp

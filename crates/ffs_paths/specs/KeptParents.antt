@@ -1,11 +1,12 @@
 -- What is kept for the path of the next directory.
-use Rattle.std.specs.Prelude.{◌≡◌, ◌*◌, ◌<◌, ℕ, List, [], ◌∷◌, ◌++◌, Option, Some, Result, OnOk, slice_index}
+use Rattle.std.specs.Prelude.{◌≡◌, ◌⊎◌, ◌+◌, ◌*◌, ◌<◌, ◌≤◌, ℕ, List, [], ◌∷◌, ◌++◌, Option, Some, Result, OnOk, slice_index}
 use Rattle.ffs_image.specs.{Device.Device, declared.image.ImageFault.ImageFault}
 use Rattle.ffs_volume.specs.{declared.Layout.Layout, Directories.{Graph.Graph, Parents.graph_of, Paths.path_names}}
 use Rattle.ffs_volume.specs.Directories.Volumes.{volume_of}
 use Rattle.ffs_workspace.specs.{declared.workspace.Workspace.Workspace, Ready.IsReady, Places.place_in}
 use Rattle.ffs_workspace.specs.Holds.{HoldsClaims, HoldsSurvey}
-use Rattle.ffs_paths.specs.{Climbing.IsParentOf, DirectoryPaths.IsPathOf, Reads.{OnlyReads, ReadsAtMost}}
+use Rattle.ffs_paths.specs.{Climbing.IsParentOf, DirectoryPaths.IsPathOf}
+use Rattle.ffs_paths.specs.Reads.{HoldsPlaceOf, KnowsPlaces, names_to, OnlyReads, ReadsAtMost}
 use Rattle.ffs_paths.specs.{Slashes.HaveNoSlash, NameTexts.name_bytes, declared.kept_parent.KeptParent.KeptParent}
 
 -- the names down to d are those down to s, and one more
@@ -55,3 +56,26 @@ pub record PathLeaves {T : Type 0} (most : ℕ) (v : Layout) (d d' : Device) (co
   pub reads : OnlyReads v d d' w w' result
   pub counted : ReadsAtMost most v d w w' count count'
   pub kept_parent : OnOk result (KeepsParent v d'.contents w' s)
+
+-- the path of the directory d is kept: d is the parent, or the child
+abbrev pub HasPathOf : KeptParent → (d : ℕ) → Type 0
+HasPathOf s d = (s.parent ≡ d) ⊎ (s.child ≡ d)
+
+-- a path of the directory x makes, where each place is noted, a read at most for each of its names; one
+-- where that of its parent is kept; and none where the window holds the part with its name, too
+pub record SparesReads (v : Layout) (d : Device) (count count' x : ℕ) (w : Workspace) (s : KeptParent) : Type 0 where
+  pub names : (b : List ℕ) → KnowsPlaces v d.contents w b → count' ≤ count + names_to (graph_of (volume_of v b)) x
+  pub kept : (b : List ℕ) (p : ℕ) → KnowsPlaces v d.contents w b → IsParentOf w x p → HasPathOf s p
+      → count' ≤ count + 1
+  pub again : (b : List ℕ) (p : ℕ) → KnowsPlaces v d.contents w b → IsParentOf w x p → HasPathOf s p
+      → HoldsPlaceOf v w x → count' ≤ count
+
+-- the path of the parent of x is kept then, and x with it; where x has no parent, what was kept before
+pub record KeepsChild (w : Workspace) (x : ℕ) (s s' : KeptParent) : Type 0 where
+  pub parent : (p : ℕ) → IsParentOf w x p → (s'.parent ≡ p) × (s'.child ≡ x)
+  pub same : ((p : ℕ) → IsParentOf w x p → ⊥) → s' ≡ s
+
+-- and the window holds the part of the place of x, where it has a parent and each place is noted
+abbrev pub HoldsPlaceThen : Layout → Device → (w w' : Workspace) → (x : ℕ) → Type 0
+HoldsPlaceThen v d w w' x =
+    (b : List ℕ) (p : ℕ) → KnowsPlaces v d.contents w b → IsParentOf w x p → HoldsPlaceOf v w' x

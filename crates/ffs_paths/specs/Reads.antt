@@ -1,9 +1,11 @@
 -- What a call that only reads the image leaves of a workspace, and how often it reads.
-use Rattle.std.specs.Prelude.{◌≡◌, ◌+◌, ◌*◌, ◌/◌, ◌<◌, ◌≤◌, ℕ, List, Option, Result, Some, true}
+use Rattle.std.specs.Prelude.{◌≡◌, suc, ◌+◌, ◌*◌, ◌/◌, ◌<◌, ◌≤◌, ℕ, List, Option, Result, Some, true, OnOk, slice_index}
+use Rattle.std.specs.Option.{unwrap_or}
 use Rattle.ffs_image.specs.{Device.{Device, ForContents}, Reads.ReadAfter, declared.image.ImageFault.ImageFault}
 use Rattle.ffs_volume.specs.declared.{constants.TheConstants.MAXPATHLEN, Layout.Layout}
-use Rattle.ffs_volume.specs.Directories.{Graph.Graph, Parents.graph_of, Volumes.volume_of}
-use Rattle.ffs_workspace.specs.{declared.workspace.Workspace.Workspace, Places.{AreNoted, IsNoted}, Ready.IsReady}
+use Rattle.ffs_volume.specs.Directories.{Graph.{Graph, level}, Parents.graph_of, Volumes.volume_of}
+use Rattle.ffs_workspace.specs.{declared.workspace.Workspace.Workspace, Places.{AreNoted, IsNoted, part_size, place_in}}
+use Rattle.ffs_workspace.specs.{Ready.IsReady}
 use Rattle.ffs_workspace.specs.Holds.{bool_at, HoldsClaims, HoldsSurvey}
 
 -- the workspace is ready for reads of the inode x
@@ -43,12 +45,33 @@ pub record OnlyReadsFew {T : Type 0} (most : ℕ) (v : Layout) (old new : Device
   pub reads : OnlyReads v old new before after result
   pub counted : ReadsFew most count count' before after
 
--- the same of a call for the name of the directory x: it makes one read at most where the place of x is
--- noted
+-- the window of other directories holds the part that is noted as the place of x, if one is noted
+abbrev pub HoldsPlaceOf : Layout → Workspace → (x : ℕ) → Type 0
+HoldsPlaceOf v w x = (k : ℕ) → place_in (slice_index w.queue.items x) ≡ suc k
+    → (w.windows.other.place ≡ part_size v * k) × (w.windows.other.length ≡ part_size v)
+
+-- the part with the place of x is read once at most, and not where the window holds it; then it holds it
+pub record ReadsPartOf {T : Type 0} (v : Layout) (count count' x : ℕ) (before after : Workspace)
+    (result : Result T ImageFault) : Type 0 where
+  pub few : ReadsFew 1 count count' before after
+  pub again : HoldsPlaceOf v before x → count' ≤ count
+  pub held : OnOk result (HoldsPlaceOf v after x)
+
+-- a call for the place of x makes one read at most, and none where the window holds its part; where the
+-- place is one, the window holds it then
+pub record ReadsPlace {T : Type 0} (v : Layout) (old new : Device) (count count' x : ℕ) (before after : Workspace)
+    (result : Result T ImageFault) : Type 0 where
+  pub reads : OnlyReads v old new before after result
+  pub counted : ReadsFew 1 count count' before after
+  pub again : HoldsPlaceOf v before x → count' ≤ count
+  pub held : ForContents old.contents (λ b. IsNoted v b before.queue.items x → OnOk result (HoldsPlaceOf v after x))
+
+-- a call for the name of the directory x reads the part of its place alone, where that is noted
 pub record ReadsName {T : Type 0} (v : Layout) (old new : Device) (count count' x : ℕ) (before after : Workspace)
     (result : Result T ImageFault) : Type 0 where
   pub reads : OnlyReads v old new before after result
-  pub counted : ForContents old.contents (λ b. IsNoted v b before.queue.items x → ReadsFew 1 count count' before after)
+  pub counted : ForContents old.contents
+      (λ b. IsNoted v b before.queue.items x → ReadsPartOf v count count' x before after result)
 
 -- the image gives these bytes, the workspace holds what the block check and the survey leave, and
 -- it notes the place of each directory that is reached
@@ -63,14 +86,20 @@ abbrev pub ReadsAtMost : (most : ℕ) → Layout → Device → (before after : 
 ReadsAtMost most v d before after reads reads' = (b : List ℕ) → KnowsPlaces v d.contents before b
     → ReadsFew most reads reads' before after
 
--- a call that makes so many reads at most for a path, where each place is noted, leaves all of the
--- workspace but its windows
-pub record OnlyReadsAtMost {T : Type 0} (most : ℕ) (v : Layout) (old new : Device) (count count' : ℕ)
-    (before after : Workspace) (result : Result T ImageFault) : Type 0 where
-  pub reads : OnlyReads v old new before after result
-  pub counted : ReadsAtMost most v old before after count count'
+-- how many names lead down to the directory x, none where it isn't reached
+abbrev pub names_to : Graph → ℕ → ℕ
+names_to g x = unwrap_or (level g x) 0
 
--- the way up to the root: a chunk for each name that has room in a path, and for one that has none
--- any more. Each name takes two bytes at least, with its slash
+-- the way up to the root: a read for each name that has room in a path, and one for one that has
+-- none any more. Each name takes two bytes at least, with its slash
 abbrev pub climb_reads : ℕ
 climb_reads = MAXPATHLEN / 2 + 1
+
+-- a call for the path of the directory x leaves all of the workspace but its windows. Where each place is
+-- noted, it makes a read at most for each name of that path, and no more than the way up takes
+pub record ReadsNames {T : Type 0} (v : Layout) (old new : Device) (count count' x : ℕ) (before after : Workspace)
+    (result : Result T ImageFault) : Type 0 where
+  pub reads : OnlyReads v old new before after result
+  pub counted : ReadsAtMost climb_reads v old before after count count'
+  pub names : (b : List ℕ) → KnowsPlaces v old.contents before b
+      → count' ≤ count + names_to (graph_of (volume_of v b)) x

@@ -1,10 +1,13 @@
 //! The path of a directory's parent, kept for the directory that comes next.
 
-ghost use Rattle.std.specs.Prelude.{◌≡◌, ◌<◌, true, ℕ, List, Option, IfOk, OnOk, IfSome, min, vec_len};
+ghost use Rattle.std.specs.Prelude.{◌≡◌, ◌↔◌, ◌<◌, ◌≤◌, ◌+◌, true, ℕ, List, Option, Some, IfOk, OnOk, min, vec_len};
 ghost use Rattle.ffs_volume.specs.{declared.Layout.Layout, Directories.Paths.dir_path, Report.Reads.path_reads};
+ghost use Rattle.ffs_volume.specs.Directories.{Parents.graph_of, Volumes.volume_of};
 ghost use Rattle.ffs_workspace.specs.declared.workspace.Workspace.{Workspace as WorkspaceIn};
-ghost use Rattle.ffs_paths.specs.{Climbing.IsParentOf, DirectoryPaths.IsPathOf, Reads.{ForTree, climb_reads}};
-ghost use Rattle.ffs_paths.specs.KeptParents.{CanKeepChild, KeepsParent, PathLeaves, ReadyToPath};
+ghost use Rattle.ffs_paths.specs.{Climbing.IsParentOf, DirectoryPaths.IsPathOf};
+ghost use Rattle.ffs_paths.specs.Reads.{ForTree, KnowsPlaces, climb_reads, names_to};
+ghost use Rattle.ffs_paths.specs.KeptParents.{CanKeepChild, HasPathOf, KeepsParent, PathLeaves, ReadyToPath};
+ghost use Rattle.ffs_paths.specs.KeptParents.{HoldsPlaceThen, KeepsChild, SparesReads};
 
 use crate::buffer::{PathBuffer, PathText};
 use crate::name::find_name;
@@ -15,10 +18,10 @@ use ffs_layout::Geometry;
 use ffs_volume::constants::ROOTINO;
 use ffs_workspace::Workspace;
 
-/// The parent of a directory that is reached and isn't the root.
+/// The parent of a directory that is reached and isn't the root, and None of any other inode.
 fn parent_of(workspace: &Workspace, dir: u32) -> Option<u32>
     requires { dir < min (vec_len workspace.now.reached) (vec_len workspace.now.parents) }
-    ensures { IfSome result (λ p. IsParentOf workspace.now dir p) }
+    ensures { (p : ℕ) → (result ≡ Some p) ↔ IsParentOf workspace.now dir p }
 {
     if dir <= ROOTINO || !is_reached(workspace, dir) {
         return None;
@@ -77,6 +80,11 @@ impl KeptParent {
         ensures leaves { PathLeaves climb_reads geometry.now.layout (I.device image.old)
             (I.device image.new) (I.reads image.old) (I.reads image.new) workspace.old workspace.new
             self.new result }
+        ensures names { (b : List ℕ) → KnowsPlaces geometry.now.layout
+            (I.device image.old).contents workspace.old b → I.reads image.new
+            ≤ I.reads image.old + names_to (graph_of (volume_of geometry.now.layout b)) dir }
+        ensures same { HasPathOf self.old dir
+            → (image.new ≡ image.old) × (workspace.new ≡ workspace.old) }
     {
         if self.parent == dir {
             return Ok(());
@@ -102,10 +110,14 @@ impl KeptParent {
     ) -> Result<(), ImageFault>
         requires { CanKeepChild geometry.now.layout (I.device image.old) workspace.old self.old
             parent dir }
-        ensures child { OnOk result (self.new.child ≡ dir) }
+        ensures child { OnOk result ((self.new.parent ≡ parent) × (self.new.child ≡ dir)) }
         ensures leaves { PathLeaves path_reads geometry.now.layout (I.device image.old)
             (I.device image.new) (I.reads image.old) (I.reads image.new) workspace.old workspace.new
             self.new result }
+        ensures spares { SparesReads geometry.now.layout (I.device image.old) (I.reads image.old)
+            (I.reads image.new) dir workspace.old self.old }
+        ensures held { OnOk result (HoldsPlaceThen geometry.now.layout (I.device image.old)
+            workspace.old workspace.new dir) }
     {
         self.keep_path_of(geometry, image, workspace, parent)?;
         find_name(geometry, image, workspace, parent, dir, &mut self.name)?;
@@ -132,6 +144,11 @@ impl KeptParent {
         ensures leaves { PathLeaves path_reads geometry.now.layout (I.device image.old)
             (I.device image.new) (I.reads image.old) (I.reads image.new) workspace.old workspace.new
             self.new result }
+        ensures keeps { OnOk result (KeepsChild workspace.old dir self.old self.new) }
+        ensures spares { SparesReads geometry.now.layout (I.device image.old) (I.reads image.old)
+            (I.reads image.new) dir workspace.old self.old }
+        ensures held { OnOk result (HoldsPlaceThen geometry.now.layout (I.device image.old)
+            workspace.old workspace.new dir) }
     {
         let Some(parent) = parent_of(workspace, dir) else {
             return directory_path(geometry, image, workspace, dir);
@@ -159,6 +176,11 @@ impl KeptParent {
         ensures leaves { PathLeaves path_reads geometry.now.layout (I.device image.old)
             (I.device image.new) (I.reads image.old) (I.reads image.new) workspace.old workspace.new
             self.new result }
+        ensures keeps { OnOk result (KeepsChild workspace.old dir self.old self.new) }
+        ensures spares { SparesReads geometry.now.layout (I.device image.old) (I.reads image.old)
+            (I.reads image.new) dir workspace.old self.old }
+        ensures held { OnOk result (HoldsPlaceThen geometry.now.layout (I.device image.old)
+            workspace.old workspace.new dir) }
     {
         let Some(parent) = parent_of(workspace, dir) else {
             directory_path(geometry, image, workspace, dir)?.put(text);

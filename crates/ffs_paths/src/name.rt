@@ -1,10 +1,11 @@
 //! The name of a directory in its parent.
 
-ghost use Rattle.std.specs.Prelude.{◌≡◌, ◌==◌, ◌&&◌, false, max, IfOk, OnOk};
+ghost use Rattle.std.specs.Prelude.{◌≡◌, ◌==◌, ◌&&◌, ◌/◌, false, max, IfOk, OnOk, length};
 ghost use Rattle.ffs_volume.specs.Directories.{Entries.entries_of, Roles.{is_plain, role_of, roled_from}};
 ghost use Rattle.ffs_layout.specs.Entry.{entry_value};
 ghost use Rattle.ffs_paths.specs.{Climbing.{FindsFirstName, FindsName, FindsNoted, IsNameIn}, NameTexts.name_bytes};
-ghost use Rattle.ffs_paths.specs.Reads.{ForTree, IsReadyFor, OnlyReads, OnlyReadsFew, ReadsName};
+ghost use Rattle.ffs_paths.specs.Reads.{ForTree, IsReadyFor, OnlyReads, ReadsName, ReadsPlace};
+ghost use Rattle.ffs_workspace.specs.Places.{entries_in_chunks};
 
 use crate::name_text::NameText;
 use ffs_image::{Image, ImageFault};
@@ -13,7 +14,7 @@ use ffs_names::{ChunkEntries, Entries, role_of};
 use ffs_survey::is_plain;
 use ffs_volume::constants::DIRBLKSIZ;
 use ffs_volume::{Order, Role};
-use ffs_workspace::{Workspace, noted_chunk};
+use ffs_workspace::{Workspace, noted_part, part_size};
 
 /// Whether an entry of this role and number names an inode in the directory tree.
 pub fn names(role: Role, number: u32, inode: u32) -> bool
@@ -48,8 +49,24 @@ fn find_in_chunk(order: Order, chunk: &[u8; DIRBLKSIZ], number: u32, name: &mut 
     false
 }
 
-/// Finds the name of a directory in its parent, in the chunk that is noted as the place of it.
-/// Returns whether it is there.
+/// Finds the name of an inode in chunks that follow one another, by the first plain entry in them.
+/// Returns whether there is one.
+fn find_in_chunks(order: Order, bytes: &[u8], number: u32, name: &mut NameText) -> bool
+    ensures { FindsFirstName number (entries_in_chunks order (length bytes.now / 512) bytes.now)
+        (name_bytes name.new) result }
+{
+    let (chunks, _) = bytes.as_chunks::<DIRBLKSIZ>();
+    for chunk in chunks {
+        if find_in_chunk(order, chunk, number, name) {
+            return true;
+        }
+    }
+    false
+}
+
+/// Finds the name of a directory in its parent, in the part of the image that is noted as the place
+/// of it. Returns whether it is there.
+#[tactic(auto, using(ffs_workspace::proofs::PartLaws::part_in_block))]
 fn find_by_place<I: Image>(
     geometry: &Geometry,
     image: &mut I,
@@ -60,23 +77,22 @@ fn find_by_place<I: Image>(
     requires { IsReadyFor geometry.now.layout (I.device image.old) workspace.old dir }
     ensures finds { IfOk result (FindsNoted geometry.now.layout (I.device image.old) workspace.old
         dir (name_bytes name.new)) }
-    ensures leaves { OnlyReadsFew 1 geometry.now.layout (I.device image.old) (I.device image.new)
-        (I.reads image.old) (I.reads image.new) workspace.old workspace.new result }
+    ensures leaves { ReadsPlace geometry.now.layout (I.device image.old) (I.device image.new)
+        (I.reads image.old) (I.reads image.new) dir workspace.old workspace.new result }
 {
-    let Some(chunk) = noted_chunk(workspace.queue[dir as usize]) else {
+    let Some(part) = noted_part(workspace.queue[dir as usize]) else {
         return Ok(false);
     };
-    let place = DIRBLKSIZ as u64 * u64::from(chunk);
+    let size = part_size(geometry);
+    let place = size as u64 * u64::from(part);
     let end = u64::from(geometry.layout.size) * u64::from(geometry.layout.fsize);
-    if place + DIRBLKSIZ as u64 > end {
+    if place + size as u64 > end {
         return Ok(false);
     }
     let window = &mut workspace.windows.other;
-    window.fill(image, place, DIRBLKSIZ)?;
-    let Some(bytes) = window.bytes().as_array::<DIRBLKSIZ>() else {
-        return Ok(false);
-    };
-    Ok(find_in_chunk(geometry.layout.order, bytes, dir, name))
+    window.fill(image, place, size)?;
+    let order = geometry.layout.order;
+    Ok(find_in_chunks(order, window.bytes(), dir, name))
 }
 
 /// Finds the name of a directory in its parent, by all entries of the parent: that of the first

@@ -10,7 +10,7 @@ use ffs_memory::FilledList;
 use ffs_names::note_places;
 use ffs_samples::{Number, geometry, image_of, inode, set_first, set_first_filled};
 use ffs_volume::Class;
-use ffs_workspace::{Workspace, is_due, note_of, noted_chunk};
+use ffs_workspace::{Workspace, is_due, note_of, noted_part};
 use std::alloc::{AllocError, Global};
 use std::test::Fail;
 
@@ -57,14 +57,14 @@ static NUMBERS: [Number; 19] = [
     (42502, 4, 0x0063_0104),
 ];
 
-/// The chunks that are noted in the words of inodes 2 to 5, and whether one of them is due.
+/// The parts of the image that are noted in the words of inodes 2 to 5, and whether one of them is due.
 fn noted_in(words: &FilledList<u32>) -> ([Option<u32>; 4], bool) {
     let mut places = [None; 4];
     let mut due = false;
     for index in 0..4 {
         if index + 2 < words.len() {
             let word = words[index + 2];
-            places[index] = noted_chunk(word);
+            places[index] = noted_part(word);
             due |= is_due(word);
         }
     }

@@ -1,5 +1,5 @@
 -- How a writer below is asked, and what its answers are.
-use Rattle.std.specs.Prelude.{◌≡◌, ◌==◌, ◌&&◌, ℕ, Bool, false, nat_lt, List, length, Option, Result, Ok, Err}
+use Rattle.std.specs.Prelude.{◌≡◌, ◌⊎◌, ◌==◌, ◌&&◌, ℕ, Bool, false, nat_lt, List, length, Option, Result, Ok, Err}
 use Rattle.std.specs.{Prelude.{MatchResult, IsErrAnd}, Bool.{OnTrue, OnFalse}, declared.io.Error.Error}
 use Rattle.std.specs.{Io.{WritesAtMost, KnownBytes.{Keeps, WriteAppends}}, IoError.error_kind}
 use Rattle.std.specs.declared.io.ErrorKind.TheVariants.{WriteZero}
@@ -34,6 +34,10 @@ pub record WriteFailed {S : Type 0} (was_written : S → List ℕ → Result ℕ
   pub new : S
   pub written : was_written old piece answer new
   pub nothing : MatchResult answer (λ n. n ≡ 0) (λ _. Unit {0})
+
+-- so many puts failed: none, or some write failed
+abbrev pub IsCaused : {S : Type 0} → (S → List ℕ → Result ℕ Error → S → Type 0) → ℕ → Type 0
+IsCaused was_written failures = (failures ≡ 0) ⊎ WriteFailed was_written
 
 -- a writer took nothing of a piece that has bytes
 abbrev pub took_none : List ℕ → Result ℕ Error → Bool

@@ -3,22 +3,22 @@ use Rattle.std.specs.Prelude.{◌≡◌, ℕ, ◌+◌, ◌<◌, ◌↔◌, true,
 use Rattle.std.specs.{Prelude.MatchResult, Bool.{OnTrue, OnFalse}, Borrow.GName, declared.io.Error.Error}
 use Rattle.std.specs.{IoError.error_kind, declared.io.ErrorKind.TheVariants.BrokenPipe}
 use Rattle.ffs_report.specs.{Outlet.IsReported, Sink.{Sink, Puts}, declared.muted.MutedWriter.MutedWriter}
-use Rattle.ffs_report.specs.declared.{counted.Counted.Counted, fuse.FuseWriter.FuseWriter}
+use Rattle.ffs_report.specs.declared.{counted.Counted.Counted, fuse.FuseWriter.FuseWriter, outlet.Outlet.Ghosts}
 
 -- an output holds the reference of this name to the writer, and no put has failed yet
-pub record IsUnfailedOver {S : Type 0} (name : GName) (writer : S) (out : Counted S) : Type 0 where
+pub record IsUnfailedOver {S : Type 0} {I : Ghosts S} (name : GName) (writer : S) (out : Counted S I) : Type 0 where
   pub same_reference : out.inner.ghost_name ≡ name
   pub inner : out.inner.now ≡ writer
   pub failures : out.failures ≡ 0
 
 -- what contracts know of an output over a writer: it took what the writer holds
-abbrev pub counted_sink : {S : Type 0} → (S → Option (List ℕ)) → Counted S → Sink
+abbrev pub counted_sink : {S : Type 0} {I : Ghosts S} → (S → Option (List ℕ)) → Counted S I → Sink
 counted_sink contents c =
     record { taken = contents c.inner.now; failures = c.failures; lent = Some c.inner.ghost_name }
 
 -- a put of a piece is one write, whose answer it reports: so much of the piece was taken
-pub record PutsOnce {S E : Type 0} (contents : S → Option (List ℕ))
-    (was_written : S → List ℕ → Result ℕ Error → S → Type 0) (old new : Counted S) (piece : List ℕ)
+pub record PutsOnce {S E : Type 0} {I : Ghosts S} (contents : S → Option (List ℕ))
+    (was_written : S → List ℕ → Result ℕ Error → S → Type 0) (old new : Counted S I) (piece : List ℕ)
     (result : Result ℕ E) : Type 0 where
   pub puts : Puts (counted_sink contents old) (counted_sink contents new) piece result
   pub answer : Result ℕ Error

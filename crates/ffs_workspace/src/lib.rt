@@ -19,9 +19,9 @@ mod places;
 mod table;
 mod workspace;
 
-pub use limits::{LINE_READS, PATH_READS, RUNS_WITHOUT_CLAIM, line_reads, sweep_reads};
+pub use limits::{LINE_READS, PATH_READS, RUNS_WITHOUT_CLAIM, sweep_reads};
 pub use links::links_start;
 pub use notes::{address_in, cut_in, note_of};
-pub use places::{due, is_due, noted_chunk, passed, place_of};
+pub use places::{due, is_due, noted_part, part_size, passed, place_of};
 pub use table::Table;
 pub use workspace::{Windows, Workspace};

@@ -1,13 +1,12 @@
 //! How often parts of a check read the image at most.
-ghost use Rattle.std.specs.Prelude.{◌≡◌, SomeIff};
-ghost use Rattle.ffs_volume.specs.Report.Reads.{line_reads, sweep_reads};
-ghost use Rattle.ffs_workspace.specs.Places.{AreChunksNumbered};
+ghost use Rattle.std.specs.Prelude.{◌≡◌};
+ghost use Rattle.ffs_volume.specs.Report.Reads.{sweep_reads};
 
 use ffs_layout::Geometry;
-use ffs_volume::constants::{DIRBLKSIZ, MAXPATHLEN};
+use ffs_volume::constants::MAXPATHLEN;
 
-/// How many reads a path takes at most: for its parent's path one chunk for each name that has room
-/// and one for a name that has none, then one for the directory's own name.
+/// How many reads a path takes at most: for its parent's path one for each name that has room and
+/// one for a name that has none, then one for the directory's own name.
 pub const PATH_READS: u64 = MAXPATHLEN as u64 / 2 + 2;
 
 /// How many reads a message of phase 2 takes at most: two paths and an inode.
@@ -16,9 +15,6 @@ pub const LINE_READS: u64 = 2 * PATH_READS + 1;
 /// How many Runs of an inode may claim no fragment: eleven bad ones, and eleven with dup offers.
 pub const RUNS_WITHOUT_CLAIM: u64 = 22;
 
-/// How many chunks of an image have a number that a place can note.
-const NUMBERED_CHUNKS: u64 = (1 << 31) - 1;
-
 /// At most how many reads a sweep over all inodes and their blocks makes (`Report/Reads` of
 /// `ffs_volume`).
 pub fn sweep_reads(geometry: &Geometry) -> u64
@@ -26,17 +22,4 @@ pub fn sweep_reads(geometry: &Geometry) -> u64
 {
     let inodes = u64::from(geometry.layout.ncg) * u64::from(geometry.layout.ipg);
     inodes + (u64::from(geometry.layout.size) + RUNS_WITHOUT_CLAIM * inodes)
-}
-
-/// At most how many reads are made for what a message of phase 2 shows, on a volume of less than
-/// 2^40 bytes. None on a larger one: there no place is noted of some parent entries, and a path may
-/// search a directory.
-pub fn line_reads(geometry: &Geometry) -> Option<u64>
-    ensures { SomeIff result (AreChunksNumbered geometry.now.layout) line_reads }
-{
-    let bytes = u64::from(geometry.layout.size) * u64::from(geometry.layout.fsize);
-    if bytes > DIRBLKSIZ as u64 * NUMBERED_CHUNKS {
-        return None;
-    }
-    Some(LINE_READS)
 }

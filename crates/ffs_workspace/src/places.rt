@@ -1,17 +1,23 @@
 //! Where the parent entry of a directory is in the image, in 32 bits.
 
-ghost use Rattle.std.specs.Prelude.{◌≡◌, suc, false, true, MatchOption};
-ghost use Rattle.ffs_workspace.specs.Places.{place_in, is_due, place_of, KeepsPlace};
+ghost use Rattle.std.specs.Prelude.{◌≡◌, ◌≤◌, ◌+◌, ◌*◌, ◌/◌, ◌^◌, ◌<◌, suc, false, true, MatchOption};
+ghost use Rattle.ffs_workspace.specs.Places.{place_in, is_due, part_size, KeepsPlace};
+ghost use Rattle.ffs_volume.specs.declared.constants.TheConstants.{DIRBLKSIZ};
+
+use ffs_layout::Geometry;
+use ffs_volume::constants::DIRBLKSIZ;
 
 /// The bit of a word that says that the parent entry is due. The bits below it are the place: 0
-/// where none is noted, else 1 more than the number of the chunk.
+/// where none is noted, else 1 more than the number of the part of the image.
 const DUE: u32 = 1 << 31;
 
-/// The number of the chunk of 512 bytes of the image that has the parent entry (dir(5)), if a word
-/// notes it.
+/// How many chunks have a number that a place can note.
+const NUMBERED_CHUNKS: u64 = (1 << 31) - 1;
+
+/// The number of the part of the image that has the parent entry (dir(5)), if a word notes it.
 #[inline(always)]
-pub fn noted_chunk(word: u32) -> Option<u32>
-    ensures { MatchOption result (place_in word ≡ 0) (λ chunk. place_in word ≡ suc chunk) }
+pub fn noted_part(word: u32) -> Option<u32>
+    ensures { MatchOption result (place_in word ≡ 0) (λ part. place_in word ≡ suc part) }
 {
     passed(word).checked_sub(1)
 }
@@ -42,15 +48,27 @@ pub fn passed(word: u32) -> u32
     word & !DUE
 }
 
-/// The word that notes the chunk with this number, and 0, which notes none, where 31 bits have no
-/// room for it. Its parent entry isn't due.
-#[inline(always)]
-pub fn place_of(chunk: u64) -> u32
-    ensures value { result ≡ place_of chunk }
+/// How many bytes a part of the image has. It is a chunk where 31 bits have room for the number of
+/// each chunk of the volume: where it has less than 2^40 bytes. Else it is a fragment, which is read
+/// at once too, but holds more entries to search.
+#[tactic(auto, unfolding(crate::specs::Places::part_size))]
+pub fn part_size(geometry: &Geometry) -> usize
+    ensures { result ≡ part_size geometry.now.layout }
 {
-    if chunk < u64::from(DUE - 1) {
-        chunk as u32 + 1
-    } else {
-        0
+    let bytes = u64::from(geometry.layout.size) * u64::from(geometry.layout.fsize);
+    if bytes <= DIRBLKSIZ as u64 * NUMBERED_CHUNKS {
+        return DIRBLKSIZ;
     }
+    geometry.layout.fsize as usize
+}
+
+/// The word that notes the part with the chunk at this place in the image, in bytes. Its parent
+/// entry isn't due.
+#[tactic(auto, using(crate::proofs::PartLaws::part_some, crate::proofs::PartLaws::part_number))]
+pub fn place_of(geometry: &Geometry, chunk: u64) -> u32
+    requires { chunk + DIRBLKSIZ ≤ geometry.now.layout.size * geometry.now.layout.fsize }
+    ensures value { result ≡ chunk / part_size geometry.now.layout + 1 }
+    ensures not_due { result < 2 ^ 31 }
+{
+    (chunk / part_size(geometry) as u64) as u32 + 1
 }

@@ -66,7 +66,7 @@ pub struct Workspace {
     /// Numbers of 32 bits that are used one after another:
     ///
     /// - The survey's queue: the reached directories, level after level.
-    /// - In phase 2 a word of each directory: where its parent entry is (`noted_chunk`), and
+    /// - In phase 2 a word of each directory: where its parent entry is (`noted_part`), and
     ///   whether that is due. There the list is lent as `words`.
     /// - In phase 3 which walk over parents met each directory. There it is lent as `walk_of`.
     pub queue: FilledList<u32>,

@@ -35,7 +35,7 @@ returns-in-Err g c =
       followed = search rules;
       memory = record { asked = inr asks; refused = λ e. asks.rose };
       reads = record {
-        known = λ bytes t numbered. omega arith;
-        any = λ numbered. unstarted_reads c.args.superblock.now.geometry.layout _ _ _ _ c.say_refusal.ensures;
+        known = λ bytes t. omega arith;
+        any = unstarted_reads c.args.superblock.now.geometry.layout _ _ _ _ c.say_refusal.ensures;
       };
     }

@@ -11,7 +11,7 @@ returns g c =
           phases.ran.image phases.ran.goes c.end_run.ensures;
       reads = record {
         known = phases.reads.known;
-        any = λ numbered. ended_reads s.layout _ _ _ _ _ _ _ _ (phases.reads.paid numbered) c.end_run.ensures;
+        any = ended_reads s.layout _ _ _ _ _ _ _ _ phases.reads.paid c.end_run.ensures;
       };
       answers = answers_end c.args.had_defect _ _ c.run_phases-answer.result _ c.end_run.ensures phases.answers;
       made = phases.ready.made;

@@ -1,13 +1,17 @@
-use Rattle.std.proofs.{Common.{◌≡◌, rules, arith, refl, sym, ◌-◌, ◌≤◌, ◌<◌, ap, ◌∙◌, Err}, lemmas.Result.err_from_is_err_and}
+use Rattle.std.proofs.{Common.{◌≡◌, ◌++◌, ◌+◌, rules, arith, refl, sym, ◌-◌, ◌≤◌, ◌<◌, ap, ◌∙◌, Err}, lemmas.Result.err_from_is_err_and}
 use Rattle.ffs_volume.{proofs.OwnerLaws.before_next, specs.Blocks.{BlockCheck.phase1_lines, Claims.after_owner}}
 use Rattle.ffs_volume.specs.{Blocks.{KeptSteps.claims_before, Owners.{owner_of, owners_of}}, Report.Whole.run_count}
 use Rattle.ffs_report.proofs.Reporting.{of_part, of_fault, of_same, reports_knowing, says_heading, stops_heading}
 use Rattle.ffs_report.{proofs.Reporting.said_knows, specs.Known.ForBytes}
 use Rattle.ffs_workspace.specs.{Found.WithFresh, Holds.{claims_of, all_claims}, Lengths.inodes_of}
-use Rattle.ffs_claims.proofs.{Duplicates.{any_set, rescan_is}, Frames.{image_from, ready_still}, Inodes.used_below}
-use Rattle.ffs_claims.proofs.Numbers.{found_begins, found_next, found_all, numbers_most, before_first, before_end}
+use Rattle.ffs_claims.proofs.{Duplicates.{any_set, rescan_is}, Frames.{image_from, ready_begun, ready_still}, Inodes.used_below}
+use Rattle.ffs_claims.proofs.Numbers.{found_begins, found_next, found_all, stored_free, numbers_most, before_first, before_end}
 use Rattle.ffs_claims.proofs.{Numbers.lines_next, TableReads.{blocks_all, blocks_failed, blocks_next, blocks_none}}
 use Rattle.ffs_volume.proofs.Sizes.{some_inodes}
+use Rattle.ffs_volume.specs.Blocks.{BlockCheck.lines_of_owners, Claims.at_next_inode, Inodes.{class_of, inode_of}}
+use Rattle.ffs_volume.specs.declared.Class.TheVariants.{Free}
+use Rattle.ffs_claims.proofs.ZeroInodes.{free_claims, free_lines, free_where_zero, has_inodes}
+use Rattle.ffs_claims.specs.Lines.{of_lines, owners_from}
 use Rattle.ffs_claims.proofs.pass1.phase1.Goals as goal
 
 pub returns-in_err-say-clause-prints : goal.returns-in_err-say-clause-prints
@@ -90,6 +94,47 @@ loop-number-preserved g c =
       said = of_part _ _ _ _ _ _ _ _ inv.said (λ bytes k. lines_next v bytes s s' n lt (now bytes (contents ∙ k.0)))
           (said_knows _ _ _ _ _ _ (λ bytes k. contents ∙ k.0) c.in_ok-claim_inode.ensures.claims.text);
     }
+
+pub is_zero_inode-requires : goal.is_zero_inode-requires
+is_zero_inode-requires g c =
+    let ready = c.loop-number.invariant.ready.ready in has_inodes ready.made.table ready.windows.table
+
+pub loop-number-preserved-then-is_zero_inode : goal.loop-number-preserved-then-is_zero_inode
+loop-number-preserved-then-is_zero_inode g c =
+    let v = c.args.geometry.now.layout in
+    let inv = c.loop-number.invariant in
+    let s = claims_of c.loop-number.workspace in
+    let n = c.loop-number.number in
+    let ready = inv.ready.ready in
+    let contents = ap (λ d. d.contents) inv.device in
+    let lt : n < inodes_of v = omega arith in
+    let zero = c.is_zero_inode.ensures c.if-is_zero_inode.true in
+    let free : ForBytes (WithFresh v (g.I.Image.device c.args.image.now) c.args.workspace.now)
+    (λ bytes. class_of v (inode_of v bytes n) ≡ Free) =
+    λ bytes k. free_where_zero ready.made.table ready.windows.table zero bytes (contents ∙ k.0) in
+    let now : ForBytes (WithFresh v (g.I.Image.device c.args.image.now) c.args.workspace.now)
+    (λ bytes. at_next_inode s ≡ after_owner v s (owner_of v bytes n)) =
+    λ bytes k. sym (free_claims v bytes n s (free bytes k)) in
+    let after : ForBytes (WithFresh v (g.I.Image.device c.args.image.now) c.args.workspace.now)
+    (λ bytes. at_next_inode s ≡ after_owner v (claims_before v bytes n) (owner_of v bytes n)) =
+    λ bytes k. now bytes k ∙ ap (λ t. after_owner v t (owner_of v bytes n)) (inv.claims bytes k) in
+    rw c.begin.ensures (record {
+      ready = record { ready = ready_begun refl ready; all_in_range = inv.ready.all_in_range };
+      walk = inv.walk;
+      device = inv.device;
+      low = omega arith;
+      high = λ h. omega arith;
+      runs = omega (arith, inv.runs, inv.low);
+      reads = blocks_next c.args.geometry.now.sound (λ held. (refl, omega arith)) (λ unheld. absurd (unheld zero.held))
+          (omega arith) inv.reads;
+      again = inv.again;
+      claims = λ bytes k. after bytes k ∙ sym (before_next v bytes n inv.low);
+      found = λ bytes k. found_next inv.low lt ready.made (after bytes k)
+          (rw (free bytes k) (stored_free (inode_of v bytes n) (inv.found bytes k))) (inv.found bytes k);
+      said = of_same _ _ _ _ _ _ inv.said (λ bytes k. lines_next v bytes s (at_next_inode s) n lt (now bytes k)
+          ∙ ap (λ lines. of_lines lines ++ of_lines (lines_of_owners v (at_next_inode s) (owners_from v bytes (n + 1))))
+          (free_lines v bytes n s (free bytes k)));
+    })
 
 pub returns-clause-prints : goal.returns-clause-prints
 returns-clause-prints g c =

@@ -27,7 +27,7 @@ loop-dir-init g c =
       reads = λ b t claims survey. omega arith;
       places = λ b t claims survey x p k there is.
           let none : 0 ≡ suc k = sym (begins.none x) ∙ there in absurd (omega arith);
-      noted = λ b t claims survey numbered. coming_first long begins survey;
+      noted = λ b t claims survey. coming_first long begins survey;
     }
 
 pub loop-dir-preserved : goal.loop-dir-preserved
@@ -77,11 +77,11 @@ loop-dir-preserved g c =
                 places_after (survey_noted lists survey right)
                 (λ is. (noted.notes b (ap (λ d. d.contents) inv.same ∙ t) (claims_noted lists claims) is).noted)
                 noted.leaves.children right;
-            noted = λ b t claims survey numbered.
+            noted = λ b t claims survey.
                 let right = places_same v b old mid.queue.items same (inv.places b t claims survey) in
-                coming_noted old (survey_noted lists survey right) numbered same other
+                coming_noted old (survey_noted lists survey right) same other
                 (λ is. (noted.notes b (ap (λ d. d.contents) inv.same ∙ t) (claims_noted lists claims) is).noted)
-                noted.leaves.children (inv.noted b t claims survey numbered);
+                noted.leaves.children (inv.noted b t claims survey);
           })
       | else-is_due w ↦
           rw (w.image-is, w.workspace-is) (record {
@@ -105,8 +105,8 @@ returns-clause-places g c = λ b t claims survey.
     let inv = c.loop-dir.invariant in
     record {
       survey = survey_noted inv.lists survey (inv.places b t claims survey);
-      noted = λ numbered. coming_end c.args.geometry.now.layout b c.loop-dir.workspace.queue.items
-          (λ x l. inv.passed x (omega arith)) (inv.noted b t claims survey numbered);
+      noted = coming_end c.args.geometry.now.layout b c.loop-dir.workspace.queue.items
+          (λ x l. inv.passed x (omega arith)) (inv.noted b t claims survey);
     }
 
 -- what is left

@@ -1,6 +1,6 @@
 use Rattle.std.proofs.Common.{◌≡◌, ◌<◌, ◌≤◌, ◌+◌, ℕ, false, slice_index}
 use Rattle.ffs_image.specs.Device.{ForContents}
-use Rattle.ffs_workspace.specs.{Holds.{HoldsClaims, HoldsSurvey}, Ready.IsReady, Places.{is_due, AreChunksNumbered}}
+use Rattle.ffs_workspace.specs.{Holds.{HoldsClaims, HoldsSurvey}, Ready.IsReady, Places.is_due}
 use Rattle.ffs_workspace.specs.Places.{ArePlaces}
 use Rattle.ffs_survey.specs.Costs.{costs_all}
 use Rattle.ffs_names.{specs.Costs.directory_cost, proofs.PlacesNoted.{AreComing, OnlyParents}}
@@ -20,6 +20,6 @@ invariant-loop-dir g l = let device = g.I.Image.device in record {
   places : ForContents (device l.fn.image).contents (λ b. HoldsClaims l.geometry.layout b l.fn.workspace →
       HoldsSurvey l.geometry.layout b l.fn.workspace → ArePlaces l.geometry.layout b l.workspace.queue.items);
   noted : ForContents (device l.fn.image).contents (λ b. HoldsClaims l.geometry.layout b l.fn.workspace →
-      HoldsSurvey l.geometry.layout b l.fn.workspace → AreChunksNumbered l.geometry.layout →
+      HoldsSurvey l.geometry.layout b l.fn.workspace →
       AreComing l.geometry.layout b l.workspace.queue.items);
 }

@@ -1,8 +1,8 @@
-use Rattle.std.proofs.Common.{◌≡◌, ◌∷◌, ◌∙◌, ◌+◌, ◌*◌, ◌≤◌, ℕ, List, Some, ap, arith, flat_map, sym}
+use Rattle.std.proofs.Common.{◌≡◌, ◌∷◌, ◌∙◌, ℕ, List, Some, ap, arith, flat_map, sym}
 use Rattle.ffs_volume.specs.{Directories.{Entries.chunk_of, Roles.roled_chunk}, Disk.Numbers.piece}
 use Rattle.ffs_workspace.specs.declared.workspace.Windows.{Windows}
 use Rattle.ffs_names.{specs.Readings.rest, proofs.PlacesNoted.{NotesNext, all_noted, children_more, coming_after}}
-use Rattle.ffs_names.proofs.PlacesNoted.{noted_chunk, room_for, waiting_after}
+use Rattle.ffs_names.proofs.PlacesNoted.{noted_chunk, unnamed_after, waiting_after}
 use Rattle.ffs_names.proofs.places.note_chunks.Goals as goal
 
 pub chunks-preserved : goal.chunks-preserved
@@ -16,11 +16,15 @@ chunks-preserved g c =
     ∙ t in
     let noted : (b : List ℕ) → (g.I.Image.device c.args.image.now).contents ≡ Some b → NotesNext v b
     c.args.parents.now.items c.chunks.words.items c.note_chunk.new.words.items c.args.dir c.place_of-place.result
-    c.last_place.result c.in-Some._offset c.next.new.chunk (rest b c.chunks.chunks) (rest b c.next.new.self) = λ b t.
+    c.last_place.result c.in-Some._offset c.next.new.chunk (rest b c.chunks.chunks) (rest b c.next.new.self)
+    c.chunks.chunks.run_cursor c.next.new.self.run_cursor = λ b t.
     record {
-      whole = let fits = c.next.new.self.cursor_fits in omega (arith, c.last_place.ensures, fits.aligned);
-      number = c.place_of-place.ensures.value;
-      some = c.if-place-eq0.false;
+      sound = c.args.chunks.now.walk.geometry.sound;
+      last = c.last_place.ensures;
+      fits = rw (went.leaves.geometry ∙ inv.geometry) at c.next.new.self.cursor_fits;
+      steps = rw c.in-Some.is at went.leaves.steps;
+      unnamed = inv.unnamed b t;
+      number = rw (went.leaves.geometry ∙ inv.geometry) at c.place_of-place.ensures.value;
       inside = rw (sym c.last_place.ensures, inv.geometry) at (rw c.in-Some.is at went.leaves.place).inside;
       held = (rw c.in-Some.is at went.leaves.place).bytes b (now b t)
           ∙ ap (λ (n : ℕ). piece n 512 b) (sym c.last_place.ensures);
@@ -40,21 +44,9 @@ chunks-preserved g c =
           let took = went.reads old.1 b (now b t) in
           (omega (arith, took.paid, old.0), took.held);
       noted = λ b t. noted_chunk (noted b t) words (all b) (inv.to_come b t) (inv.noted b t);
+      unnamed = λ b t. unnamed_after (noted b t);
       to_come = λ b t. coming_after (noted b t) (all b) (inv.to_come b t);
       waiting = λ b t. waiting_after (noted b t) words (all b) (inv.waiting b t);
-    }
-
-pub returns-then-place-eq0-clause-noted : goal.returns-then-place-eq0-clause-noted
-returns-then-place-eq0-clause-noted g c = λ b t.
-    let inv = c.chunks.invariant in
-    let v = c.args.chunks.now.walk.geometry.layout in
-    let inside : c.last_place.result + 512 ≤ v.size * v.fsize =
-    rw (sym c.last_place.ensures, inv.geometry) at (rw c.in-Some.is at c.in_ok-_offset.ensures.leaves.place).inside in
-    record {
-      places = inv.noted b t;
-      all = λ numbered x child named before.
-          absurd (room_for v c.last_place.result numbered inside
-          (sym c.place_of-place.ensures.value ∙ c.if-place-eq0.true));
     }
 
 pub returns-clause-noted : goal.returns-clause-noted
@@ -65,12 +57,9 @@ returns-clause-noted g c = λ b t.
     let none = (rw c.in_default.is at (c.in_ok-_offset.ensures.chunk b now)).chunks.0 in
     record {
       places = inv.noted b t;
-      all = λ numbered. all_noted v b c.args.parents.now.items c.args.words.now.items c.chunks.words.items c.args.dir
+      all = all_noted v b c.args.parents.now.items c.args.words.now.items c.chunks.words.items c.args.dir
           (flat_map roled_chunk (rest b c.args.chunks.now)) (rest b c.chunks.chunks) none (inv.waiting b t);
     }
 
 pub returns-clause-leaves : goal.returns-clause-leaves
 returns-clause-leaves g c = grind arith
-
-pub returns-then-place-eq0-clause-leaves : goal.returns-then-place-eq0-clause-leaves
-returns-then-place-eq0-clause-leaves g c = grind arith

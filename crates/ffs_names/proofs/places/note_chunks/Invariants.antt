@@ -2,7 +2,7 @@ use Rattle.std.proofs.Common.{◌≡◌, ◌≤◌, ◌+◌, flat_map, vec_len}
 use Rattle.ffs_image.specs.Device.{ForContents}
 use Rattle.ffs_volume.specs.Directories.Roles.{roled_chunk}
 use Rattle.ffs_names.specs.{Costs.{HoldsReading, to_read}, Noting.NotesChildren, Readings.rest, Windows.CanReadChunks}
-use Rattle.ffs_names.proofs.PlacesNoted.{AreToCome, AreWaiting, HavePlaces}
+use Rattle.ffs_names.proofs.PlacesNoted.{AreToCome, AreUnnamed, AreWaiting, HavePlaces}
 use Rattle.ffs_names.proofs.places.note_chunks.Given as goal
 
 abbrev pub invariant-chunks : goal.invariant-chunks
@@ -18,6 +18,8 @@ invariant-chunks g l = let device = g.I.Image.device in record {
       × HoldsReading l.windows.blocks l.windows.current l.chunks);
   noted : ForContents (device l.fn.image).contents (λ b. HavePlaces l.fn.chunks.walk.geometry.layout b
       l.fn.words.items l.words.items (flat_map roled_chunk (rest b l.fn.chunks)));
+  unnamed : ForContents (device l.fn.image).contents (λ b. AreUnnamed l.fn.chunks.walk.geometry.layout b
+      l.parents.items l.words.items l.dir l.chunks.run_cursor);
   waiting : ForContents (device l.fn.image).contents (λ b. AreWaiting l.fn.chunks.walk.geometry.layout b
       l.parents.items l.fn.words.items l.words.items l.dir (flat_map roled_chunk (rest b l.fn.chunks))
       (flat_map roled_chunk (rest b l.chunks)));

@@ -1,7 +1,6 @@
 use Rattle.std.proofs.{Common.{◌∙◌, refl, ◌≡◌, ◌≤◌, ℕ, List, Some, ap, arith, true}, lemmas.Bool.both_ways}
 use Rattle.ffs_image.{specs.{Device.Device, Limited.reads_asked}, proofs.Limits.read_over}
 use Rattle.ffs_names.specs.Costs.{HoldsReading, to_read}
-use Rattle.ffs_workspace.specs.Places.{AreChunksNumbered}
 use Rattle.ffs_pathnames.proofs.{Carrying.if_both, LimitedLaws.{LookedBy, budget_falls, can_read_same, looked}}
 use Rattle.ffs_pathnames.proofs.{LimitedLaws.{taken_below, taken_left}, entries.next_chunk.Given.Over}
 use Rattle.ffs_pathnames.proofs.entries.next_chunk.Goals.{After-is_spent}
@@ -27,41 +26,20 @@ answered : (g : Over) (c : After-is_spent g) (b : List ℕ) → (g.I.Image.devic
     to_read b c.args.chunks.now ≤ c.args.reads_left.now → c.is_spent.result ≡ true → ⊥
 answered g c b t held enough = grind (arith, bytes, both_ways, after)
 
--- the chunks aren't numbered
-pub returns-then-not-are_chunks_numbered : goal.returns-then-not-are_chunks_numbered
-returns-then-not-are_chunks_numbered g c =
-    let next = c.next.ensures in
-    let left = next.leaves in
-    let never = λ (numbered : AreChunksNumbered c.args.chunks.now.walk.geometry.layout).
-    both_ways _ c.if-not-are_chunks_numbered.true (c.are_chunks_numbered.ensures.1 numbered) in
-    record {
-      chunk = if_both c.next.result _ _ _ (λ o h budget. record { chunk = λ b t enough. h b t; budget = budget })
-          next.chunk (budget_falls c.next.result _ _ left.budget);
-      takes = record {
-        reads = λ held b t enough. next.reads held b t;
-        kept = λ numbered. absurd (never numbered);
-        unlimited = λ none. refl;
-        most = λ numbered. absurd (never numbered);
-      };
-      leaves = record { geometry = left.geometry; ready = left.ready; read = left.read; others = refl };
-    }
-
 -- a read was refused
 pub returns-then-is_spent : goal.returns-then-is_spent
 returns-then-is_spent g c =
     let at = (goal.at.returns-then-is_spent g c).After-is_spent in
-    let numbered = c.are_chunks_numbered.ensures.0 c.if-not-are_chunks_numbered.false in
     let spent = c.if-is_spent.true in
     record {
       chunk = record {
-        chunk = λ b t enough. absurd (answered g at b t (enough numbered).0 (enough numbered).1 spent);
+        chunk = λ held b t enough. absurd (answered g at b t held enough spent);
         budget = tt;
       };
       takes = record {
-        reads = λ held b t enough. absurd (answered g at b t held (enough numbered) spent);
-        kept = λ _ held b t enough. absurd (answered g at b t held enough spent);
-        unlimited = λ none. absurd (none numbered);
-        most = λ _. grind (arith, after);
+        reads = λ held b t enough. absurd (answered g at b t held enough spent);
+        kept = λ held b t enough. absurd (answered g at b t held enough spent);
+        most = grind (arith, after);
       };
       leaves = record {
         geometry = c.next-offset.ensures.leaves.geometry;
@@ -77,15 +55,12 @@ returns g c = record {
   chunk =
       let at = (goal.at.returns g c).After-is_spent in
       if_both c.next-offset.result _ _ _
-      (λ o h budget. record { chunk = λ b t enough. h b (bytes g at b t); budget = budget })
+      (λ o h budget. record { chunk = λ held b t enough. h b (bytes g at b t); budget = budget })
       c.next-offset.ensures.chunk (budget_falls c.next-offset.result _ _ c.next-offset.ensures.leaves.budget);
-  takes =
-      let numbered = c.are_chunks_numbered.ensures.0 c.if-not-are_chunks_numbered.false in
-      record {
-        reads = λ held b t enough. let few = enough numbered in grind (arith, after, taken_below, bytes);
-        kept = λ _ held b t enough. grind (arith, taken_left, bytes, after);
-        unlimited = λ none. absurd (none numbered);
-        most = λ _. grind (arith, after);
-      };
+  takes = record {
+    reads = λ held b t enough. grind (arith, after, taken_below, bytes);
+    kept = λ held b t enough. grind (arith, taken_left, bytes, after);
+    most = grind (arith, after);
+  };
   leaves = grind (arith, after, read_over, can_read_same);
 }

@@ -46,10 +46,12 @@ entries-init g c = let all = c.of_chunk-entries.ensures in rw (all.0, all.1, all
   places = λ x. refl;
   current = refl;
   path = λ b k. k.path;
+  begun = λ begun. begun;
+  once = λ b k noted. omega arith;
   passed = λ b k. refl;
   said = of_begins _ _ _;
   counted = λ b k noted. has_begun _ _ _;
-  paid = λ numbered. paid_none (omega arith);
+  paid = paid_none (omega arith);
 })
 
 pub returns-in_err-report_entry : goal.returns-in_err-report_entry
@@ -68,10 +70,15 @@ returns-in_err-report_entry g c =
             (λ b k. entry_reported (volume_of v b) x.dir m _ _ _ (next g at) refl)
             (reports_knowing (Unit {0}) _ _ _ _ _ (Err c.in_err-report_entry.field-0.0) (know_path g at) lines.text);
         path = λ b k. lines.path b (know_path g at b k);
+        begun = λ begun. lines.begun (inv.begun begun);
+        once = λ b k noted.
+            let here = lines.once b (know g at b k) (noted_kept v b _ _ inv.places noted) in
+            let long = entry_counted (volume_of v b) x.dir m _ _ _ (next g at) refl in
+            omega (arith, inv.once b k noted, here, long);
         counted = λ b k noted. read_all (read_more _ _ (inv.counted b k noted)
             (entry_counted (volume_of v b) x.dir m _ _ _ (next g at) refl)
             (lines.counted b (know g at b k) (noted_kept v b _ _ inv.places noted)));
-        paid = λ numbered. paid_then (inv.paid numbered) (lines.paid numbered);
+        paid = paid_then inv.paid lines.paid;
       };
       passed = tt;
       leaves = record {
@@ -98,6 +105,11 @@ entries-preserved g c =
       places = keep_more _ _ _ inv.places ok.leaves.places;
       current = ok.current ∙ inv.current;
       path = λ b k. ok.lines.path b (know_path g at b k);
+      begun = λ begun. ok.lines.begun (inv.begun begun);
+      once = λ b k noted.
+          let here = ok.lines.once b (know g at b k) (noted_kept v b _ _ inv.places noted) in
+          let long = entry_counted (volume_of v b) x.dir m _ _ _ (next g at) (ok.passed b (know g at b k)) in
+          omega (arith, inv.once b k noted, here, long);
       passed = λ b k. entry_passed (volume_of v b) x.dir m (next g at) (ok.passed b (know g at b k)) (inv.passed b k);
       said = of_part _ _ _ _ _ _ _ _ inv.said
           (λ b k. entry_reported (volume_of v b) x.dir m _ _ _ (next g at) (ok.passed b (know g at b k.knows)))
@@ -105,7 +117,7 @@ entries-preserved g c =
       counted = λ b k noted. read_more _ _ (inv.counted b k noted)
           (entry_counted (volume_of v b) x.dir m _ _ _ (next g at) (ok.passed b (know g at b k)))
           (ok.lines.counted b (know g at b k) (noted_kept v b _ _ inv.places noted));
-      paid = λ numbered. paid_then (inv.paid numbered) (ok.lines.paid numbered);
+      paid = paid_then inv.paid ok.lines.paid;
     }
 
 pub returns : goal.returns
@@ -120,6 +132,8 @@ returns g c =
         text = of_same _ _ (λ b. []) _ _ _ inv.said
             (λ b k. ap (λ es. map of_tree (entries_reported (volume_of v b) x.dir m es)) end);
         path = inv.path;
+        begun = inv.begun;
+        once = λ b k noted. omega (arith, inv.once b k noted);
         counted = λ b k noted. read_all (inv.counted b k noted);
         paid = inv.paid;
       };

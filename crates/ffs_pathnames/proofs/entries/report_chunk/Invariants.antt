@@ -1,11 +1,11 @@
-use Rattle.std.proofs.Common.{◌≡◌, ◌-◌, ℕ, List, length, map, Ok}
+use Rattle.std.proofs.Common.{◌≡◌, ◌+◌, ◌-◌, ◌*◌, ◌≤◌, ℕ, IsTrue, List, length, map, Ok}
 use Rattle.ffs_volume.specs.Directories.{Entries.entries_of, Parents.graph_of, Roles.roled_from, Volumes.volume_of}
 use Rattle.ffs_volume.specs.{Messages.Kinds.of_tree, Report.Reads.line_reads}
 use Rattle.ffs_report.specs.{Known.ForBytes, Paid.Paid, PhaseOutcome.SaidOf, Progress.progress}
-use Rattle.ffs_workspace.specs.{Leaves.LeavesSurvey, Places.AreChunksNumbered, Places.AreNoted}
+use Rattle.ffs_workspace.specs.{Leaves.LeavesSurvey, Places.AreNoted}
 use Rattle.ffs_names.specs.EntriesToCome.{roled_to_come}
 use Rattle.ffs_pathnames.specs.{Ready.ReadyWith, Gathers.passed_of, Stamps.KeepPlaces, PassedNames.after_entries}
-use Rattle.ffs_pathnames.{specs.PassedNames.entries_reported, proofs.LineCounts.HasRead}
+use Rattle.ffs_pathnames.{specs.{LineReads.{again_reads, path_owed}, PassedNames.entries_reported}, proofs.LineCounts.HasRead}
 use Rattle.ffs_pathnames.specs.DirectoryContext.{BeginsPathOf, DirectoryContext, KnowsPath}
 use Rattle.ffs_pathnames.proofs.entries.report_chunk.Given as goal
 
@@ -27,6 +27,10 @@ invariant-entries g l =
       places : KeepPlaces l.fn.workspace.queue.items l.workspace.queue.items;
       current : l.workspace.windows.current ≡ l.fn.workspace.windows.current;
       path : ForBytes knows_path (λ b. BeginsPathOf (graph_of (volume_of v b)) x.dir l.texts);
+      begun : IsTrue l.fn.texts.begun → IsTrue l.texts.begun;
+      once : ForBytes known (λ b. AreNoted v b l.fn.workspace.queue.items →
+          g.I.Image.reads l.image + (path_owed l.texts + again_reads * length (to_come b))
+          ≤ g.I.Image.reads l.fn.image + (path_owed l.fn.texts + again_reads * length (all b)));
       passed : ForBytes known (λ b. after_entries (volume_of v b) x.dir (passed_of l.fn.workspace) entries
           ≡ after_entries (volume_of v b) x.dir (passed_of l.workspace) left);
       said : SaidOf knows_path (λ b. map of_tree (to_come b)) (λ b. map of_tree (all b))
@@ -34,7 +38,7 @@ invariant-entries g l =
       counted : (b : List ℕ) → known b → AreNoted v b l.fn.workspace.queue.items →
           HasRead (length (all b)) (length (to_come b)) (g.I.Image.reads l.fn.image) (g.I.Image.reads l.image)
           l.fn.workspace l.workspace;
-      paid : AreChunksNumbered v → Paid {T = Unit {0}} line_reads (progress g.W.Output.sink l.fn.report)
+      paid : Paid {T = Unit {0}} line_reads (progress g.W.Output.sink l.fn.report)
           (progress g.W.Output.sink l.report) (g.I.Image.reads l.fn.image) (g.I.Image.reads l.image) (Ok tt);
     }
 

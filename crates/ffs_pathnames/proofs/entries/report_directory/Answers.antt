@@ -3,7 +3,7 @@ use Rattle.std.{proofs.{Common.inr, lemmas.{Bool.both_ways, Result.err_from_is_e
 use Rattle.ffs_image.specs.Device.{Faulted}
 use Rattle.ffs_volume.{proofs.Numbered.as_many, specs.Directories.{Entries.{Chunk, chunk_of}, Roles.roled_chunk}}
 use Rattle.ffs_volume.specs.{Directories.Volumes.volume_of, Messages.Kinds.of_tree}
-use Rattle.ffs_workspace.specs.{Leaves.LeavesSurvey, Places.AreChunksNumbered, declared.workspace.Workspace.Workspace}
+use Rattle.ffs_workspace.specs.{Leaves.LeavesSurvey, declared.workspace.Workspace.Workspace}
 use Rattle.ffs_workspace.proofs.Leaving.{leaves_all, leaves_more, windows_leave}
 use Rattle.ffs_names.{specs.{Readings.rest, Costs.{directory_runs, to_read, HoldsReading}}, proofs.DirCosts.runs_are}
 use Rattle.ffs_report.proofs.Reporting.{of_begins, of_reads, of_same, of_part, of_fault, said_knows, reports_knowing}
@@ -12,7 +12,7 @@ use Rattle.ffs_pathnames.specs.{Gathers.passed_of, DirectoryContext.DirectoryCon
 use Rattle.ffs_pathnames.{specs.PassedNames.entries_reported, proofs.StampLaws.{keep_more, noted_kept}}
 use Rattle.ffs_pathnames.proofs.{Begun.image_same, Passing.{chunk_reported, chunk_passed, knows_on, all_read}}
 use Rattle.ffs_pathnames.{proofs.ReadyLaws.{can_read_in, windows_next, windows_read}, specs.ReadsLeft.LeftForRuns}
-use Rattle.ffs_pathnames.proofs.{LimitedLaws.numbered_or_not, LineCounts.lines_long, SeesLaws.cut_here}
+use Rattle.ffs_pathnames.proofs.{LineCounts.lines_long, SeesLaws.cut_here}
 use Rattle.ffs_pathnames.proofs.entries.report_directory.{Given.Over, Goals.After-next_chunk}
 use Rattle.ffs_pathnames.proofs.entries.report_directory.Goals as goal
 
@@ -25,26 +25,15 @@ Known g c = LeftForRuns c.args.geometry.now.layout (g.I.Image.device c.args.imag
 now : (g : Over) (c : After-next_chunk g) (b : List ℕ) → Known g c b → (g.I.Image.device c.chunks.image).contents ≡ Some b
 now g c b k = ap (λ d. d.contents) c.chunks.invariant.device ∙ k.0.0.gives_bytes
 
--- the chunks are numbered by the layout of the reading, too
-numbers : (g : Over) (c : After-next_chunk g) → AreChunksNumbered c.chunks.chunks.walk.geometry.layout →
-    AreChunksNumbered c.args.geometry.now.layout
-numbers g c n = subst (λ q. AreChunksNumbered q.layout) c.chunks.invariant.geometry n
-
-numbered_there : (g : Over) (c : After-next_chunk g) → AreChunksNumbered c.args.geometry.now.layout →
-    AreChunksNumbered c.chunks.chunks.walk.geometry.layout
-numbered_there g c n = subst (λ q. AreChunksNumbered q.layout) (sym c.chunks.invariant.geometry) n
-
 -- the reads that are left suffice for the chunks to come
 enough : (g : Over) (c : After-next_chunk g) (b : List ℕ) → Known g c b →
-    AreChunksNumbered c.chunks.chunks.walk.geometry.layout → to_read b c.chunks.chunks ≤ c.chunks.checking.reads_left
-enough g c b k n = omega (arith, c.chunks.invariant.spent b k (numbers g c n), k.1)
+    to_read b c.chunks.chunks ≤ c.chunks.checking.reads_left
+enough g c b k = omega (arith, c.chunks.invariant.spent b k, k.1)
 
--- what the next chunk was read by is held, and the reads that are left suffice for it
-room : (g : Over) (c : After-next_chunk g) (b : List ℕ) → Known g c b →
-    AreChunksNumbered c.chunks.chunks.walk.geometry.layout →
+-- what the next chunk was read by is held
+held : (g : Over) (c : After-next_chunk g) (b : List ℕ) → Known g c b →
     HoldsReading c.chunks.workspace.windows.blocks c.chunks.workspace.windows.current c.chunks.chunks
-    × (to_read b c.chunks.chunks ≤ c.chunks.checking.reads_left)
-room g c b k n = (c.chunks.invariant.held b k (k.0.0.noted (numbers g c n)), enough g c b k n)
+held g c b k = c.chunks.invariant.held b k k.0.0.noted
 
 -- the workspace between the chunk and its lines
 abbrev between : (g : Over) → After-next_chunk g → Workspace
@@ -86,9 +75,9 @@ chunks-init g c =
       held = λ b k noted.
           c.start-chunks.ensures.reads.held c.args.workspace.now.windows.blocks c.args.workspace.now.windows.current;
       reads = λ b k noted. let long = as_many _ _ (lines b k) in omega (arith, long, few b k);
-      spent = λ b k numbered. omega (arith, few b k);
-      unlimited = λ none. refl;
-      paid = λ numbered. paid_none (omega arith);
+      once = λ b k noted. let long = as_many _ _ (lines b k) in omega (arith, long, few b k);
+      spent = λ b k. omega (arith, few b k);
+      paid = paid_none (omega arith);
       path = λ b k begun. absurd (both_ways _ refl begun);
       passed = λ b k. ap (after_entries (volume_of v b) x.number m) (sym (seen b k));
       said = of_same _ _ _ _ _ _ (of_begins _ _ _) lines;
@@ -115,9 +104,9 @@ chunks-preserved g c =
     let ok = c.in_ok-report_chunk.ensures in
     let m = passed_of c.chunks.workspace in
     let known = know g at read.leaves.read in
-    let here : Chunk = chunk_of v.order c.in-Some.offset c.next_chunk.new.bytes in
+    let chunk : Chunk = chunk_of v.order c.in-Some.offset c.next_chunk.new.bytes in
     let came = rw c.in-Some.is at read.chunk in
-    let next = λ (b : List ℕ) (k : Known g at b). (came.chunk b (now g at b k) (room g at b k)).chunks ∙ ap
+    let next = λ (b : List ℕ) (k : Known g at b). (came.chunk (held g at b k) b (now g at b k) (enough g at b k)).chunks ∙ ap
     (λ q. chunk_of q.layout.order c.in-Some.offset c.next_chunk.new.bytes ∷ rest b c.next_chunk.new.chunks) inv.geometry in
     record {
       ready = ok.leaves.ready;
@@ -134,22 +123,26 @@ chunks-preserved g c =
           let took = read.takes.reads (inv.held b k noted) b (now g at b k) (enough g at b k) in
           let few = c.report_chunk.ensures.lines.counted b (known b k)
           (noted_kept v b c.args.workspace.now.queue.items c.chunks.workspace.queue.items inv.places noted) in
-          let long = lines_long _ _ _ (chunk_reported (volume_of v b) x.number m here _ _ (next b k)
+          let long = lines_long _ _ _ (chunk_reported (volume_of v b) x.number m chunk _ _ (next b k)
           (ok.passed b (known b k))) in
           omega (arith, took.paid, few.count, long, inv.reads b k noted);
-      spent = λ b k numbered.
-          let n = numbered_there g at numbered in
-          let took = read.takes.kept n (room g at b k n).0 b (now g at b k) (room g at b k n).1 in
-          omega (arith, took.paid, inv.spent b k numbered);
-      unlimited = λ none. read.takes.unlimited (λ n. none (numbers g at n)) ∙ inv.unlimited none;
-      paid = λ numbered.
-          let n = numbered_there g at numbered in
-          let looked = paid_within (inv.paid numbered) (omega arith) (read.takes.most n) in
-          paid_then looked (paid_beside c.next_chunk.new.reads_left (ok.lines.paid numbered));
+      once = λ b k noted.
+          let took = read.takes.reads (inv.held b k noted) b (now g at b k) (enough g at b k) in
+          let here = c.report_chunk.ensures.lines.once b (known b k)
+          (noted_kept v b c.args.workspace.now.queue.items c.chunks.workspace.queue.items inv.places noted) in
+          let long = lines_long _ _ _ (chunk_reported (volume_of v b) x.number m chunk _ _ (next b k)
+          (ok.passed b (known b k))) in
+          omega (arith, took.paid, here, long, inv.once b k noted);
+      spent = λ b k.
+          let took = read.takes.kept (held g at b k) b (now g at b k) (enough g at b k) in
+          omega (arith, took.paid, inv.spent b k);
+      paid =
+          let looked = paid_within inv.paid (omega arith) read.takes.most in
+          paid_then looked (paid_beside c.next_chunk.new.reads_left ok.lines.paid);
       path = λ b k. c.report_chunk.ensures.lines.path b (record { knows = known b k; path = inv.path b k });
       passed = λ b k. chunk_passed (volume_of v b) x.number m (next b k) (ok.passed b (known b k)) (inv.passed b k);
       said = of_part _ _ _ _ _ _ _ _ inv.said
-          (λ b k. chunk_reported (volume_of v b) x.number m here _ _
+          (λ b k. chunk_reported (volume_of v b) x.number m chunk _ _
           (next b k) (ok.passed b (known b k)))
           (said_knows _ _ _ _ _ _ (λ b k. record
           { knows = known b k; path = inv.path b k }) ok.lines.text);
@@ -159,21 +152,14 @@ chunks-preserved g c =
 left_of : (g : Over) (c : After-next_chunk g) (b : List ℕ) → Known g c b →
     c.args.checking.now.reads_left
     ≤ c.next_chunk.new.reads_left + directory_runs c.args.geometry.now.layout b c.args.directory.now.number
-left_of g c b k = elim (numbered_or_not c.args.geometry.now.layout) [
-  | inl numbered ↦
-      let inv = c.chunks.invariant in
-      let n = numbered_there g c numbered in
-      let took = c.next_chunk.ensures.takes.kept n (room g c b k n).0 b (now g c b k) (room g c b k n).1 in
-      omega (arith, took.most, inv.spent b k numbered)
-  | inr none ↦
-      let same = c.next_chunk.ensures.takes.unlimited (λ n. none (numbers g c n)) ∙ c.chunks.invariant.unlimited none in
-      omega (arith, same)
-]
+left_of g c b k =
+    let took = c.next_chunk.ensures.takes.kept (held g c b k) b (now g c b k) (enough g c b k) in
+    omega (arith, took.most, c.chunks.invariant.spent b k)
 
 -- what is said, what is read for it, and what is left
-pub returns-in_err-offset : goal.returns-in_err-offset
-returns-in_err-offset g c =
-    let at = (goal.at.returns-in_err-offset g c).After-next_chunk in
+pub returns-in_err-offset-clause-lines : goal.returns-in_err-offset-clause-lines
+returns-in_err-offset-clause-lines g c =
+    let at = (goal.at.returns-in_err-offset-clause-lines g c).After-next_chunk in
     let inv = c.chunks.invariant in
     let read = c.in_err-offset.ensures in
     let p = err_from_is_err_and c.from_residual.result c.from_residual.ensures.1 in
@@ -183,7 +169,7 @@ returns-in_err-offset g c =
           let most = (read.takes.reads (inv.held b k noted) b (now g at b k) (enough g at b k)).most in
           omega (arith, most, inv.reads b k noted);
       kept = left_of g at;
-      paid = λ numbered. paid_then (inv.paid numbered) (paid_failed (read.takes.most (numbered_there g at numbered)));
+      paid = paid_then inv.paid (paid_failed read.takes.most);
       holds = tt;
       leaves = record {
         image = subst (λ d. Faulted d (g.I.Image.device c.next_chunk.new.image) c.in_err-offset.field-0.0.sector)
@@ -195,18 +181,18 @@ returns-in_err-offset g c =
       };
     })
 
-pub returns-in_err-report_chunk : goal.returns-in_err-report_chunk
-returns-in_err-report_chunk g c =
-    let at = (goal.at.returns-in_err-report_chunk g c).After-next_chunk in
+pub returns-in_err-report_chunk-clause-lines : goal.returns-in_err-report_chunk-clause-lines
+returns-in_err-report_chunk-clause-lines g c =
+    let at = (goal.at.returns-in_err-report_chunk-clause-lines g c).After-next_chunk in
     let v = c.args.geometry.now.layout in
     let x = c.args.directory.now in
     let inv = c.chunks.invariant in
     let read = c.in_ok-offset.ensures in
     let m = passed_of c.chunks.workspace in
     let known = know g at read.leaves.read in
-    let here : Chunk = chunk_of v.order c.in-Some.offset c.next_chunk.new.bytes in
+    let chunk : Chunk = chunk_of v.order c.in-Some.offset c.next_chunk.new.bytes in
     let came = rw c.in-Some.is at read.chunk in
-    let next = λ (b : List ℕ) (k : Known g at b). (came.chunk b (now g at b k) (room g at b k)).chunks ∙ ap
+    let next = λ (b : List ℕ) (k : Known g at b). (came.chunk (held g at b k) b (now g at b k) (enough g at b k)).chunks ∙ ap
     (λ q. chunk_of q.layout.order c.in-Some.offset c.next_chunk.new.bytes ∷ rest b c.next_chunk.new.chunks) inv.geometry in
     let fault = c.in_err-report_chunk.field-0.0 in
     let lines = c.in_err-report_chunk.ensures.lines in
@@ -215,21 +201,21 @@ returns-in_err-report_chunk g c =
     c.from_residual-in_err-report_chunk.ensures.1 in
     rw (p.1, p.2) (record {
       text = of_fault (Unit {0}) (Unit {0}) _ _ _ _ _ _ _ _ fault inv.said
-          (λ b k. chunk_reported (volume_of v b) x.number m here _ _ (next b k) refl)
+          (λ b k. chunk_reported (volume_of v b) x.number m chunk _ _ (next b k) refl)
           (reports_knowing (Unit {0}) _ _ _ _ _ (Err fault)
           (λ b k. record { knows = known b k; path = inv.path b k }) lines.text);
       reads = λ b k noted.
           let took = read.takes.reads (inv.held b k noted) b (now g at b k) (enough g at b k) in
           let few = lines.counted b (known b k)
           (noted_kept v b c.args.workspace.now.queue.items c.chunks.workspace.queue.items inv.places noted) in
-          let long = lines_long _ _ _ (chunk_reported (volume_of v b) x.number m here _ _ (next b k) refl) in
+          let long = lines_long _ _ _ (chunk_reported (volume_of v b) x.number m chunk _ _ (next b k) refl) in
           omega (arith, took.paid, few.count, long, inv.reads b k noted);
       kept = left_of g at;
-      paid = λ numbered.
+      paid =
           let looked = paid_within
-          {before' = g.I.Image.reads c.args.image.now + c.args.checking.now.reads_left} (inv.paid numbered)
-          (omega arith) (read.takes.most (numbered_there g at numbered)) in
-          paid_then looked (paid_beside c.next_chunk.new.reads_left (lines.paid numbered));
+          {before' = g.I.Image.reads c.args.image.now + c.args.checking.now.reads_left} inv.paid
+          (omega arith) read.takes.most in
+          paid_then looked (paid_beside c.next_chunk.new.reads_left lines.paid);
       holds = tt;
       leaves = record {
         image = image_same (Unit {0}) (Unit {0}) _ _ _ fault (read.leaves.read ∙ inv.device) left.image;
@@ -239,16 +225,16 @@ returns-in_err-report_chunk g c =
       };
     })
 
-pub returns : goal.returns
-returns g c =
-    let at = (goal.at.returns g c).After-next_chunk in
+pub returns-clause-lines : goal.returns-clause-lines
+returns-clause-lines g c =
+    let at = (goal.at.returns-clause-lines g c).After-next_chunk in
     let v = c.args.geometry.now.layout in
     let x = c.args.directory.now in
     let inv = c.chunks.invariant in
     let m = passed_of c.chunks.workspace in
     let read = c.in_ok-offset.ensures in
     let came = rw c.in_default.is at read.chunk in
-    let none = λ (b : List ℕ) (k : Known g at b). (came.chunk b (now g at b k) (room g at b k)).chunks.0 in
+    let none = λ (b : List ℕ) (k : Known g at b). (came.chunk (held g at b k) b (now g at b k) (enough g at b k)).chunks.0 in
     record {
       text = of_same _ _ (λ b. []) _ _ _ inv.said
           (λ b k. ap (λ cs. map of_tree (entries_reported (volume_of v b) x.number m (flat_map roled_chunk cs)))
@@ -257,8 +243,8 @@ returns g c =
           let most = (read.takes.reads (inv.held b k noted) b (now g at b k) (enough g at b k)).most in
           omega (arith, most, inv.reads b k noted);
       kept = left_of g at;
-      paid = λ numbered.
-          paid_within (inv.paid numbered) (omega arith) (read.takes.most (numbered_there g at numbered));
+      paid =
+          paid_within inv.paid (omega arith) read.takes.most;
       holds = λ b k. inv.passed b k
           ∙ ap (λ cs. after_entries (volume_of v b) x.number m (flat_map roled_chunk cs)) (none b k);
       leaves = record {
@@ -269,3 +255,37 @@ returns g c =
             (rw inv.geometry at read.leaves.ready);
       };
     }
+
+-- ---- the path is made once
+pub returns-in_err-offset-clause-once : goal.returns-in_err-offset-clause-once
+returns-in_err-offset-clause-once g c = λ b k noted.
+    let at = (goal.at.returns-in_err-offset-clause-once g c).After-next_chunk in
+    let inv = c.chunks.invariant in
+    let most = (c.in_err-offset.ensures.takes.reads (inv.held b k noted) b (now g at b k) (enough g at b k)).most in
+    omega (arith, most, inv.once b k noted)
+
+pub returns-in_err-report_chunk-clause-once : goal.returns-in_err-report_chunk-clause-once
+returns-in_err-report_chunk-clause-once g c = λ b k noted.
+    let at = (goal.at.returns-in_err-report_chunk-clause-once g c).After-next_chunk in
+    let v = c.args.geometry.now.layout in
+    let x = c.args.directory.now in
+    let inv = c.chunks.invariant in
+    let read = c.in_ok-offset.ensures in
+    let m = passed_of c.chunks.workspace in
+    let known = know g at read.leaves.read in
+    let chunk : Chunk = chunk_of v.order c.in-Some.offset c.next_chunk.new.bytes in
+    let came = rw c.in-Some.is at read.chunk in
+    let next = (came.chunk b (now g at b k) (room g at b k)).chunks ∙ ap
+    (λ q. chunk_of q.layout.order c.in-Some.offset c.next_chunk.new.bytes ∷ rest b c.next_chunk.new.chunks) inv.geometry in
+    let took = read.takes.reads (inv.held b k noted) b (now g at b k) (enough g at b k) in
+    let here = c.in_err-report_chunk.ensures.lines.once b (known b k)
+    (noted_kept v b c.args.workspace.now.queue.items c.chunks.workspace.queue.items inv.places noted) in
+    let long = lines_long _ _ _ (chunk_reported (volume_of v b) x.number m chunk _ _ next refl) in
+    omega (arith, took.paid, here, long, inv.once b k noted)
+
+pub returns-clause-once : goal.returns-clause-once
+returns-clause-once g c = λ b k noted.
+    let at = (goal.at.returns-clause-once g c).After-next_chunk in
+    let inv = c.chunks.invariant in
+    let most = (c.in_ok-offset.ensures.takes.reads (inv.held b k noted) b (now g at b k) (enough g at b k)).most in
+    omega (arith, most, inv.once b k noted)

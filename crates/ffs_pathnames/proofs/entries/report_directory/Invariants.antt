@@ -1,9 +1,10 @@
 use Rattle.std.{proofs.Common.{◌≡◌, ℕ, List, map, ◌+◌, ◌*◌, ◌≤◌, length, Ok}, specs.List.flat_map}
-use Rattle.ffs_volume.specs.{Messages.Kinds.of_tree, Report.Reads.line_reads, Directories.Parents.graph_of}
+use Rattle.ffs_volume.specs.{Messages.Kinds.of_tree, Report.Reads.{line_reads, path_reads}, Directories.Parents.graph_of}
+use Rattle.ffs_pathnames.specs.LineReads.{again_reads, path_owed}
 use Rattle.ffs_volume.specs.Directories.{Roles.{roled_chunk, roled_entries}, Volumes.volume_of}
 use Rattle.ffs_report.specs.{Known.ForBytes, Paid.Paid, PhaseOutcome.SaidOf, Progress.progress}
 use Rattle.ffs_names.specs.{Readings.rest, Costs.{directory_runs, to_read, HoldsReading}}
-use Rattle.ffs_workspace.specs.{Leaves.LeavesSurvey, Places.{AreChunksNumbered, AreNoted}}
+use Rattle.ffs_workspace.specs.{Leaves.LeavesSurvey, Places.AreNoted}
 use Rattle.ffs_pathnames.specs.{Ready.ReadyWith, Gathers.passed_of, Stamps.KeepPlaces, DirectoryContext.BeginsPathOf}
 use Rattle.ffs_pathnames.specs.{ReadsLeft.LeftForRuns, PassedNames.{after_entries, entries_reported}}
 use Rattle.ffs_pathnames.proofs.entries.report_directory.Given as goal
@@ -33,10 +34,13 @@ invariant-chunks g l =
       reads : ForBytes known (λ b. AreNoted v b l.fn.workspace.queue.items →
           g.I.Image.reads l.image + to_read b l.chunks + line_reads * length (to_come b)
           ≤ g.I.Image.reads l.fn.image + (directory_runs v b x.number + line_reads * length (all b)));
-      spent : ForBytes known (λ b. AreChunksNumbered v → l.fn.checking.reads_left + to_read b l.chunks
+      once : ForBytes known (λ b. AreNoted v b l.fn.workspace.queue.items → g.I.Image.reads l.image
+          + to_read b l.chunks + (path_owed l.checking.texts + again_reads * length (to_come b))
+          ≤ g.I.Image.reads l.fn.image
+          + (directory_runs v b x.number + (path_reads + again_reads * length (all b))));
+      spent : ForBytes known (λ b. l.fn.checking.reads_left + to_read b l.chunks
           ≤ l.checking.reads_left + directory_runs v b x.number);
-      unlimited : (AreChunksNumbered v → ⊥) → l.checking.reads_left ≡ l.fn.checking.reads_left;
-      paid : AreChunksNumbered v → Paid {T = Unit {0}} line_reads (progress g.W.Output.sink l.fn.report)
+      paid : Paid {T = Unit {0}} line_reads (progress g.W.Output.sink l.fn.report)
           (progress g.W.Output.sink l.report) (g.I.Image.reads l.fn.image + l.fn.checking.reads_left)
           (g.I.Image.reads l.image + l.checking.reads_left) (Ok tt);
       said : SaidOf known (λ b. map of_tree (to_come b)) (λ b. map of_tree (all b))

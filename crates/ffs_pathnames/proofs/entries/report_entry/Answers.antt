@@ -27,9 +27,11 @@ returns g c =
       lines = record {
         text = lines.text;
         path = lines.path;
+        begun = lines.begun;
+        once = λ b k noted. lines.once b k noted;
         counted = λ b k noted.
             let few = lines.counted b k noted in record { count = few.count; blocks = few.blocks };
-        paid = λ numbered. paid_answer (lines.paid numbered);
+        paid = paid_answer lines.paid;
       };
       passed = λ b k.
           let v = c.args.geometry.now.layout in

@@ -1,5 +1,6 @@
 use Rattle.std.proofs.Common.{Bool, ap, arith, ◌∙◌}
-use Rattle.ffs_pathnames.proofs.{Carrying.if_ok, ReadyLaws.leaves_read}
+use Rattle.ffs_volume.specs.Report.Reads.{path_reads}
+use Rattle.ffs_pathnames.{specs.Gathers.if_wanted, proofs.{Carrying.if_ok, ReadyLaws.leaves_read}}
 use Rattle.ffs_pathnames.proofs.one_entry.gather.Goals as goal
 
 pub gather_path-requires : goal.gather_path-requires
@@ -16,5 +17,6 @@ returns g c =
           (rw path.same.1 p) (λ q. path.path dir b k (wants ∙ q)))
           c.gather_inode.ensures.enough;
       same = (path.same.0, c.gather_inode.ensures.same ∙ ap (λ p. p.directory) path.same.1);
-      leaves = leaves_read c.gather_inode.result path.leaves c.gather_inode.ensures.reads (omega arith);
+      leaves = leaves_read c.gather_inode.result path.leaves c.gather_inode.ensures.reads
+          (let same = ap (λ q. if_wanted q path_reads) wants in omega (arith, same));
     }

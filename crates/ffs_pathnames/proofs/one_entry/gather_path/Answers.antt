@@ -9,4 +9,8 @@ pub put_path-requires : goal.put_path-requires
 put_path-requires g c = grind arith
 
 pub returns : goal.returns
-returns g c = search (arith, on_ok)
+returns g c = record {
+  path = search (arith, on_ok);
+  same = search arith;
+  leaves = rw c.if-not-wanted.false c.put_path.ensures.leaves;
+}

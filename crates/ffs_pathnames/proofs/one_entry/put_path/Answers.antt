@@ -1,21 +1,15 @@
-use Rattle.std.proofs.Common.{◌∙◌, ap, arith}
+use Rattle.std.proofs.Common.{◌∙◌, ap, refl}
 use Rattle.ffs_image.specs.Device.{Device}
 use Rattle.ffs_volume.proofs.Results.{on_ok}
 use Rattle.ffs_pathnames.proofs.Limiting.{gathered}
 use Rattle.ffs_pathnames.proofs.one_entry.put_path.Goals as goal
 
-pub returns-in_default : goal.returns-in_default
-returns-in_default g c = record {
-  path = on_ok c.put_path.result _ _ (λ p x b k. p b k.gives_bytes k.claims k.survey) c.put_path.ensures.path;
-  leaves = record { path = c.put_path.ensures.leaves; most = λ numbered. grind arith };
-}
-
 -- a read was refused: not where the image gives its bytes
 pub returns-then-is_spent : goal.returns-then-is_spent
 returns-then-is_spent g c =
-    let below = gathered c.new-limited.ensures.device c.new-limited.ensures.asked c.in-Some.ensures
+    let below = gathered c.new-limited_image.ensures.device c.new-limited_image.ensures.asked refl
     c.put_path-result.ensures.leaves c.is_spent.ensures.below in
-    rw (c.image-1.given.1 below.same_image ∙ c.drop-limited.ensures.below) (record {
+    rw (c.image-1.given.1 below.same_image ∙ c.drop-limited_image.ensures.below) (record {
       path = λ x b k. absurd (below.all b _ k c.if-is_spent.true);
       leaves = below.forgets c.if-is_spent.true _ _ (c.forget_parent.ensures _ _ _);
     })
@@ -23,10 +17,10 @@ returns-then-is_spent g c =
 -- none was refused
 pub returns : goal.returns
 returns g c =
-    let below = gathered c.new-limited.ensures.device c.new-limited.ensures.asked c.in-Some.ensures
+    let below = gathered c.new-limited_image.ensures.device c.new-limited_image.ensures.asked refl
     c.put_path-result.ensures.leaves c.is_spent.ensures.below in
-    rw (c.image-2-1.given.1 below.same_image ∙ c.drop-limited-2.ensures.below) (record {
+    rw (c.image-2-1.given.1 below.same_image ∙ c.drop-limited_image-2.ensures.below) (record {
       path = on_ok c.put_path-result.result _ _ (λ p x b k. p b k.gives_bytes k.claims k.survey)
-          (rw (ap (λ (d : Device). d.contents) c.new-limited.ensures.device) at c.put_path-result.ensures.path);
+          (rw (ap (λ (d : Device). d.contents) c.new-limited_image.ensures.device) at c.put_path-result.ensures.path);
       leaves = below.leaves c.if-is_spent.false;
     })

@@ -22,14 +22,16 @@ pub returns-in_err-attr-clause-lines : goal.returns-in_err-attr-clause-lines
 returns-in_err-attr-clause-lines g c =
     let at = goal.at.returns-in_err-attr-clause-lines g c in
     let p = err_from_is_err_and c.from_residual.result c.from_residual.ensures.1 in
-    rw (p.1, p.2) (entry_unread c.gather_extra.ensures.path c.in_err-attr.ensures.leaves
+    rw (p.1, p.2) (entry_unread c.gather_extra.ensures.path c.in_err-attr.ensures.leaves c.in_err-attr.ensures.once.stays
+    c.in_err-attr.ensures.once.once
     (λ b k. some_line g at.After-gather_extra b))
 
 pub returns-in_err-say_extra-clause-lines : goal.returns-in_err-say_extra-clause-lines
 returns-in_err-say_extra-clause-lines g c =
     let at = goal.at.returns-in_err-say_extra-clause-lines g c in
     let p = err_from_is_err_and c.from_residual-in_err-say_extra.result c.from_residual-in_err-say_extra.ensures.1 in
-    rw (p.1, p.2) (entry_stopped c.gather_extra.ensures.path c.in_ok-attr.ensures.leaves
+    rw (p.1, p.2) (entry_stopped c.gather_extra.ensures.path c.in_ok-attr.ensures.leaves c.in_ok-attr.ensures.once.stays
+    c.in_ok-attr.ensures.once.once
     (λ b k. some_line g at.After-gather_extra b) _
     (extra_some c.in_ok-attr.attr c.as_slice.result.now (entry_value c.args.entry.now.entry))
     (line_is g at.After-say_extra) c.in_err-say_extra.ensures)
@@ -37,6 +39,7 @@ returns-in_err-say_extra-clause-lines g c =
 pub returns-clause-lines : goal.returns-clause-lines
 returns-clause-lines g c =
     let at = goal.at.returns-clause-lines g c in
-    entry_said c.gather_extra.ensures.path c.in_ok-attr.ensures.leaves (λ b k. some_line g at.After-gather_extra b) _
+    entry_said c.gather_extra.ensures.path c.in_ok-attr.ensures.leaves c.in_ok-attr.ensures.once.stays
+    c.in_ok-attr.ensures.once.once (λ b k. some_line g at.After-gather_extra b) _
     (extra_some c.in_ok-attr.attr c.as_slice.result.now (entry_value c.args.entry.now.entry))
     (line_is g at.After-say_extra) c.in_ok-say_extra.ensures

@@ -32,14 +32,17 @@ returns-then-is_silent-clause-lines g c = record {
       c.requires.ready.ready.made k.knows.claims k.knows.survey))
       ∙ silent_lines c.verdict_of-verdict.result _ _ _ _ (sym c.is_silent.ensures ∙ c.if-is_silent.true)));
   path = λ b k. k.path;
+  begun = λ begun. begun;
+  once = λ b k noted. omega arith;
   counted = λ b k noted. few_none;
-  paid = λ numbered. paid_none (omega arith);
+  paid = paid_none (omega arith);
 }
 
 pub returns-in_err-attr-clause-lines : goal.returns-in_err-attr-clause-lines
 returns-in_err-attr-clause-lines g c =
     let p = err_from_is_err_and c.from_residual.result c.from_residual.ensures.1 in
-    rw (p.1, p.2) (entry_unread c.gather_entry.ensures.path c.in_err-attr.ensures.leaves
+    rw (p.1, p.2) (entry_unread c.gather_entry.ensures.path c.in_err-attr.ensures.leaves c.in_err-attr.ensures.once.stays
+    c.in_err-attr.ensures.once.once
     (some_line g (goal.at.returns-in_err-attr-clause-lines g c).After-gather_entry))
 
 pub returns-in_err-say_verdict-clause-lines : goal.returns-in_err-say_verdict-clause-lines
@@ -47,13 +50,15 @@ returns-in_err-say_verdict-clause-lines g c =
     let at = goal.at.returns-in_err-say_verdict-clause-lines g c in
     let p = err_from_is_err_and c.from_residual-in_err-say_verdict.result
     c.from_residual-in_err-say_verdict.ensures.1 in
-    rw (p.1, p.2) (entry_stopped c.gather_entry.ensures.path c.in_ok-attr.ensures.leaves
+    rw (p.1, p.2) (entry_stopped c.gather_entry.ensures.path c.in_ok-attr.ensures.leaves c.in_ok-attr.ensures.once.stays
+    c.in_ok-attr.ensures.once.once
     (some_line g at.After-gather_entry) _ (some_lines c.verdict_of-verdict.result _ _ _ _ (sym c.is_silent.ensures ∙ c.if-is_silent.false))
     (lines_are g at.After-say_verdict) c.in_err-say_verdict.ensures)
 
 pub returns-clause-lines : goal.returns-clause-lines
 returns-clause-lines g c =
     let at = goal.at.returns-clause-lines g c in
-    entry_said c.gather_entry.ensures.path c.in_ok-attr.ensures.leaves (some_line g at.After-gather_entry) _
+    entry_said c.gather_entry.ensures.path c.in_ok-attr.ensures.leaves c.in_ok-attr.ensures.once.stays
+    c.in_ok-attr.ensures.once.once (some_line g at.After-gather_entry) _
     (some_lines c.verdict_of-verdict.result _ _ _ _ (sym c.is_silent.ensures ∙ c.if-is_silent.false))
     (lines_are g at.After-say_verdict) c.in_ok-say_verdict.ensures

@@ -1,6 +1,6 @@
 use Rattle.std.proofs.Common.{◌≡◌, ◌≤◌, ◌++◌, ◌+◌, ◌*◌, Bool, slice_index, [], List, ℕ, map, refl, sym, ◌∙◌, append-nil}
 use Rattle.std.proofs.{Common.{true, false, arith, length, Result, Err}, lemmas.Result.err_from_is_err_and}
-use Rattle.ffs_workspace.specs.{Holds.HoldsClaims, Places.AreChunksNumbered}
+use Rattle.ffs_workspace.specs.Holds.{HoldsClaims}
 use Rattle.ffs_pathnames.{specs.Before.{IsBefore, root_reported}, proofs.LineCounts.lines_long}
 use Rattle.ffs_names.specs.Costs.{directories_cost}
 use Rattle.ffs_pathnames.proofs.Carrying.{goes_is, root_kind_is, root_marked_is, tree_is, tree_lines}
@@ -66,11 +66,10 @@ reads_few : (g : Over) (c : After-check_inodes g) (b : List ℕ) →
     ≡ map of_tree (root_reported c.index-kind.result.now c.index-marked.result.now)
     ++ map of_tree (tree_lines c.args.geometry.now.layout b true) →
     IsBefore c.args.geometry.now.layout (g.I.Image.device c.args.image.now).contents c.args.workspace.now 2 b →
-    AreChunksNumbered c.args.geometry.now.layout →
     g.I.Image.reads c.check_inodes.new.image ≤ g.I.Image.reads c.args.image.now
     + (3 * directories_cost c.args.geometry.now.layout b
     + line_reads * length (pathname_lines (volume_of c.args.geometry.now.layout b)))
-reads_few g c b is k numbered = search (arith, lines_long)
+reads_few g c b is k = search (arith, lines_long)
 
 -- what is said, what is read for it, and what is left, where nothing is read
 only_said : {T : Type 0} {v : Layout} {d : Device} {w : Workspace} {lines : List ℕ → List TreeMessage}
@@ -106,8 +105,8 @@ returns-in_err-check_inodes-in-Go-clause-tree g c =
           (λ b k. sym (append-nil _)) tree.text;
       reads = λ b k. reads_few g at.After-check_inodes b
           (lines_are g at.After-report_root b true k.claims c.in-Go.ensures) k;
-      paid = λ numbered. paid_fault fault
-          (paid_then (paid_said _ c.in_ok-report_root.ensures (omega arith)) (tree.paid numbered));
+      paid = paid_fault fault
+          (paid_then (paid_said _ c.in_ok-report_root.ensures (omega arith)) tree.paid);
       image = image_same (Unit {0}) Root _ _ _ fault refl tree.image;
       holds = tt;
       references = tree.references;
@@ -126,8 +125,8 @@ returns-in_ok-check_inodes-in-Go-clause-tree g c =
           (λ b k. sym (append-nil _)) tree.text;
       reads = λ b k. reads_few g at.After-check_inodes b
           (lines_are g at.After-report_root b true k.claims c.in-Go.ensures) k;
-      paid = λ numbered. paid_answer
-          (paid_then (paid_said _ c.in_ok-report_root.ensures (omega arith)) (tree.paid numbered));
+      paid = paid_answer
+          (paid_then (paid_said _ c.in_ok-report_root.ensures (omega arith)) tree.paid);
       image = tree.image;
       holds = tree.holds;
       references = tree.references;

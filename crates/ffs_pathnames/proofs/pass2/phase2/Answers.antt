@@ -94,21 +94,21 @@ returns-clause-block_check g c =
 -- how often the image was read
 pub returns-in_err-say-clause-reads : goal.returns-in_err-say-clause-reads
 returns-in_err-say-clause-reads g c = record {
-  known = λ b k numbered. omega arith;
-  paid = λ numbered. paid_text _ _ _ (returns-in_err-say-clause-prints g c).text (omega arith);
+  known = λ b k. omega arith;
+  paid = paid_text _ _ _ (returns-in_err-say-clause-prints g c).text (omega arith);
 }
 
 pub returns-in_err-survey-clause-reads : goal.returns-in_err-survey-clause-reads
 returns-in_err-survey-clause-reads g c = record {
   known = grind (arith, costs_bounded, runs_bounded);
-  paid = λ numbered. paid_text _ _ _ (returns-in_err-survey-clause-prints g c).text
+  paid = paid_text _ _ _ (returns-in_err-survey-clause-prints g c).text
       (omega (arith, c.survey.ensures.reads.most));
 }
 
 pub returns-clause-reads : goal.returns-clause-reads
 returns-clause-reads g c = record {
   known = grind (arith, costs_bounded, runs_bounded, before_tree);
-  paid = λ numbered. paid_then
+  paid = paid_then
       (paid_said (phase2 ∷ []) c.in_ok-say.ensures.said (omega (arith, c.survey.ensures.reads.most)))
-      (c.check_tree.ensures.tree.paid numbered);
+      c.check_tree.ensures.tree.paid;
 }

@@ -77,7 +77,7 @@ returns-in_err-examined g c =
       text = of_reads _ _ _ _ _ (of_begins _ _ _);
       reads = λ b k noted. omega (arith, looks.reads b k.0);
       kept = λ b k. looks.kept b k.0;
-      paid = λ numbered. paid_failed looks.most;
+      paid = paid_failed looks.most;
       holds = tt;
       leaves = record {
         image = left.read;
@@ -100,9 +100,9 @@ returns-in_err-report_header g c =
           (known g at) (λ b k. ap (map of_tree) (lines_are g at b k)) said.text;
       reads = reads_few g at;
       kept = λ b k. looks.kept b k.0;
-      paid = λ numbered. paid_fault c.in_err-report_header.field-0.0
+      paid = paid_fault c.in_err-report_header.field-0.0
           (paid_then (paid_none {T = Unit {0}} {x = tt} looks.most)
-          (paid_beside c.examine.new.reads_left (said.paid numbered)));
+          (paid_beside c.examine.new.reads_left said.paid));
       holds = tt;
       leaves = record {
         image = image_same (Unit {0}) Examination _ _ _ c.in_err-report_header.field-0.0 looks.leaves.read
@@ -124,8 +124,8 @@ returns g c =
       text = said_same _ _ _ _ _ _ (known g at) (λ b k. ap (map of_tree) (lines_are g at b k)) said.text;
       reads = reads_few g at;
       kept = λ b k. looks.kept b k.0;
-      paid = λ numbered. paid_answer (paid_then (paid_none {T = Unit {0}} {x = tt} looks.most)
-          (paid_beside c.examine.new.reads_left (said.paid numbered)));
+      paid = paid_answer (paid_then (paid_none {T = Unit {0}} {x = tt} looks.most)
+          (paid_beside c.examine.new.reads_left said.paid));
       holds = λ b k.
           begun_is c.args.geometry.now.layout b c.args.dir c.args.workspace.now c.examine.new.workspace _
           c.in_ok-examined.examined _ (looks.found b k.0 k.1) lists said.leaves.lists;

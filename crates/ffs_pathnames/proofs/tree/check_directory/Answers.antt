@@ -1,5 +1,5 @@
 use Rattle.std.proofs.Common.{refl, sym, ap, subst, ◌∙◌, ℕ, List, Err, length, arith}
-use Rattle.std.proofs.{lemmas.Result.err_from_is_err_and, Math.Nat.mul-le-mul_left}
+use Rattle.std.proofs.{lemmas.{Bool.both_ways, Result.err_from_is_err_and}, Math.Nat.mul-le-mul_left}
 use Rattle.ffs_image.specs.Device.{Device}
 use Rattle.ffs_volume.specs.{declared.Layout.Layout, Report.Reads.line_reads, Directories.PathnameCheck.sized_dir_lines}
 use Rattle.ffs_volume.specs.Directories.{Roles.roled_entries, Volumes.volume_of}
@@ -49,9 +49,9 @@ second g c b k =
 pub report_directory-requires : goal.report_directory-requires
 report_directory-requires g c = grind arith
 
-pub returns-in_err-examined : goal.returns-in_err-examined
-returns-in_err-examined g c =
-    let at = (goal.at.returns-in_err-examined g c).After-begin_directory in
+pub returns-in_err-examined-clause-lines : goal.returns-in_err-examined-clause-lines
+returns-in_err-examined-clause-lines g c =
+    let at = (goal.at.returns-in_err-examined-clause-lines g c).After-begin_directory in
     let begun = c.in_err-examined.ensures in
     let left = begun.leaves in
     let p = err_from_is_err_and c.from_residual.result c.from_residual.ensures.1 in
@@ -63,7 +63,7 @@ returns-in_err-examined g c =
           let within = mul-le-mul_left line_reads (starts_within (volume_of c.args.geometry.now.layout b) c.args.dir) in
           omega (arith, begun.reads b (first k) noted, within);
       kept = λ b k. omega (arith, begun.kept b (first k));
-      paid = λ numbered. paid_fault c.in_err-examined.field-0.0 (begun.paid numbered);
+      paid = paid_fault c.in_err-examined.field-0.0 begun.paid;
       holds = tt;
       leaves = record {
         image = image_same Examination (Unit {0}) _ _ _ c.in_err-examined.field-0.0 refl left.image;
@@ -73,9 +73,9 @@ returns-in_err-examined g c =
       };
     })
 
-pub returns-then-examined : goal.returns-then-examined
-returns-then-examined g c =
-    let at = (goal.at.returns-then-examined g c).After-begin_directory in
+pub returns-then-examined-clause-lines : goal.returns-then-examined-clause-lines
+returns-then-examined-clause-lines g c =
+    let at = (goal.at.returns-then-examined-clause-lines g c).After-begin_directory in
     let v = c.args.geometry.now.layout in
     let m = passed_of c.args.workspace.now in
     let begun = c.in_ok-examined.ensures in
@@ -89,20 +89,20 @@ returns-then-examined g c =
           let within = mul-le-mul_left line_reads (starts_within (volume_of v b) c.args.dir) in
           omega (arith, begun.reads b (first k) noted, within);
       kept = λ b k. omega (arith, begun.kept b (first k));
-      paid = λ numbered. paid_answer (begun.paid numbered);
+      paid = paid_answer begun.paid;
       holds = λ b k. quiet_after (volume_of v b) c.args.dir m _ k.passed (quiet b k)
           (begun.holds b (first k)).passed;
       leaves = record { image = left.image; survey = left.survey; places = left.places; ready = left.ready };
     }
 
-pub returns : goal.returns
-returns g c =
-    let at = goal.at.returns g c in
+pub returns-clause-lines : goal.returns-clause-lines
+returns-clause-lines g c =
+    let at = goal.at.returns-clause-lines g c in
     let v = c.args.geometry.now.layout in
     let before = passed_of c.args.workspace.now in
     let m = passed_of c.begin_directory.new.workspace in
     let one = c.in_ok-examined.ensures in
-    let two = c.report_directory.ensures in
+    let two = c.report_directory.ensures.lines in
     let second_of = second g at.After-report_directory in
     let dir = λ (b : List ℕ) (k : Known g at.After-begin_directory b).
     directory_is (volume_of v b) c.args.dir c.requires.low k.knows.dir in
@@ -123,7 +123,7 @@ returns g c =
       kept = λ b k.
           let cost = cost_of_dir v b c.args.dir k.knows.dir in
           omega (arith, one.kept b (first k), two.kept b (second_of b k), cost);
-      paid = λ numbered. paid_then (one.paid numbered) (two.paid numbered);
+      paid = paid_then one.paid two.paid;
       holds = if_ok c.report_directory.result _ _
           (λ x p b k. reported_after (volume_of v b) c.args.dir before m _ (dir b k) k.passed
           (one.holds b (first k)).passed (p b (second_of b k))) two.holds;
@@ -135,3 +135,14 @@ returns g c =
         ready = two.leaves.ready;
       };
     }
+
+-- ---- how often it is read where the first look is enough
+pub returns-in_err-examined-clause-quiet : goal.returns-in_err-examined-clause-quiet
+returns-in_err-examined-clause-quiet g c = λ b k noted quiet. c.in_err-examined.ensures.reads b (first k) noted
+
+pub returns-then-examined-clause-quiet : goal.returns-then-examined-clause-quiet
+returns-then-examined-clause-quiet g c = λ b k noted quiet. c.in_ok-examined.ensures.reads b (first k) noted
+
+pub returns-clause-quiet : goal.returns-clause-quiet
+returns-clause-quiet g c = λ b k noted quiet.
+    absurd (both_ways _ c.if-examined.false ((c.in_ok-examined.ensures.holds b (first k)).quiet ∙ quiet))

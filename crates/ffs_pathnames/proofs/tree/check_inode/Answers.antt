@@ -16,7 +16,7 @@ both looked k = record { knows = directory_context looked k.0; passed = k.0.befo
 pub returns-then-needs_check : goal.returns-then-needs_check
 returns-then-needs_check g c =
     let looked = (and_parts _ _ (sym c.needs_check.ensures ∙ c.if-needs_check.true)).0 in
-    let checked = c.check_directory.ensures in
+    let checked = c.check_directory.ensures.lines in
     record {
       text = reports_same (Unit {0}) _ _ _ _ _ c.check_directory.result
           (λ b k. sym (ap (map of_tree) (lines_looked looked k.0.before)))
@@ -38,7 +38,7 @@ returns g c =
       text = of_same _ _ (λ b. []) _ _ _ (of_begins _ _ _) (λ b k. lines_skipped c.requires.low other k.0.before);
       reads = λ b k noted. omega arith;
       kept = λ b k. omega arith;
-      paid = λ numbered. paid_none (omega arith);
+      paid = paid_none (omega arith);
       holds = λ b k. record {
         before = before_skipped c.args.geometry.now.sound other k.0.before;
         noted = k.0.noted;

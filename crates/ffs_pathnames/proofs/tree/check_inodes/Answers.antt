@@ -42,7 +42,7 @@ loop-number-init g c =
       low = first.ensures.range.0;
       references = ap (λ (w : Workspace). w.references) noted.leaves.lists;
       block_check = queue_leaves _ _ noted.leaves.lists;
-      reads = λ b k numbered.
+      reads = λ b k.
           let made : g.I.Image.reads c.note_places.new.image ≤ g.I.Image.reads c.args.image.now + directories_cost v b =
           c.note_places.ensures.reads.each b k.gives_bytes (k.claims, k.survey) in
           rw (as_many (lines_from (directory_lines (volume_of v b)) 2 (inodes_of v - 2))
@@ -51,7 +51,7 @@ loop-number-init g c =
       left = λ b k.
           let within = costs_within v b c.args.geometry.now.sound in
           omega (arith, within, c.sweep_reads.ensures);
-      paid = λ numbered. paid_none (omega (arith, noted.reads.most, c.sweep_reads.ensures));
+      paid = paid_none (omega (arith, noted.reads.most, c.sweep_reads.ensures));
       before = λ b k. record {
         before = noted_before v _ _ _ _ first.result b first.ensures.range.0 refl noted.leaves.lists noted.leaves.ready.made
             (noted.places b k.gives_bytes k.claims k.survey).survey noted.leaves.none_due (skipped b k).0;
@@ -74,16 +74,16 @@ loop-number-preserved g c =
       low = omega arith;
       references = ok.leaves.survey.references ∙ inv.references;
       block_check = block_check_more _ _ _ inv.block_check (block_check_left _ _ ok.leaves.survey);
-      reads = λ b k numbered.
+      reads = λ b k.
           let taken = cost_take (λ s. true) (directory_cost v b) n refl in
-          let here = ok.reads b (next g at b k) ((inv.before b k).noted numbered) in
+          let here = ok.reads b (next g at b k) ((inv.before b k).noted) in
           let long = next_long (directory_lines (volume_of v b)) n (inodes_of v) (omega arith) in
-          omega (arith, taken, here, long, inv.reads b k numbered);
+          omega (arith, taken, here, long, inv.reads b k);
       left = λ b k.
           let taken = cost_take (λ s. true) (directory_cost v b) n refl in
           let kept = ok.kept b (next g at b k) in
           omega (arith, inv.left b k, taken, kept);
-      paid = λ numbered. paid_then (inv.paid numbered) (ok.paid numbered);
+      paid = paid_then inv.paid ok.paid;
       before = λ b k. subst (λ d. IsBeforeNoted v (g.I.Image.device c.args.image.now).contents c.check_inode.new.workspace d
           b) q
           (noted_reported (sym (ap (λ d. d.contents) inv.device)) (ok.holds b (next g at b k)));
@@ -103,8 +103,8 @@ returns-then-first-count-clause-tree g c =
           (λ b k. (unseen v _ _ b first.result (inodes_of v) c.args.geometry.now.sound first.ensures.range.0
           first.ensures.range.1 first.ensures.before k).1
           ∙ from_end (directory_lines (volume_of v b)) first.result (inodes_of v) (omega arith));
-      reads = λ b k numbered. omega arith;
-      paid = λ numbered. paid_none (omega arith);
+      reads = λ b k. omega arith;
+      paid = paid_none (omega arith);
       image = refl;
       holds = λ b k. (k.claims, k.survey);
       references = refl;
@@ -118,8 +118,8 @@ returns-in_err-note_places-clause-tree g c =
     let p = err_from_is_err_and c.from_residual.result c.from_residual.ensures.1 in
     rw (p.1, p.2) (record {
       text = of_reads _ _ _ _ _ (of_begins _ _ _);
-      reads = λ b k numbered. omega (arith, noted.reads.each b k.gives_bytes (k.claims, k.survey));
-      paid = λ numbered. paid_failed (omega (arith, noted.reads.most));
+      reads = λ b k. omega (arith, noted.reads.each b k.gives_bytes (k.claims, k.survey));
+      paid = paid_failed (omega (arith, noted.reads.most));
       image = noted.leaves.read;
       holds = tt;
       references = ap (λ (w : Workspace). w.references) noted.leaves.lists;
@@ -140,13 +140,13 @@ returns-in_err-check_inode-clause-tree g c =
       text = of_fault (Unit {0}) (Unit {0}) _ _ _ _ _ _ _ _ c.in_err-check_inode.field-0.0 inv.said
           (λ b k. from_next (directory_lines (volume_of v b)) n (inodes_of v) (omega arith))
           (reports_knowing (Unit {0}) _ _ _ _ _ (Err c.in_err-check_inode.field-0.0) (next g at) said.text);
-      reads = λ b k numbered.
-          let here = said.reads b (next g at b k) ((inv.before b k).noted numbered) in
+      reads = λ b k.
+          let here = said.reads b (next g at b k) ((inv.before b k).noted) in
           let long = next_long (directory_lines (volume_of v b)) n (inodes_of v) (omega arith) in
           let taken = cost_take (λ s. true) (directory_cost v b) n refl in
           let rise = costs_rise (λ s. true) (directory_cost v b) (n + 1) (inodes_of v) (omega arith) in
-          omega (arith, here, long, taken, rise, inv.reads b k numbered);
-      paid = λ numbered. paid_within (paid_then (inv.paid numbered) (said.paid numbered)) (omega arith) (omega arith);
+          omega (arith, here, long, taken, rise, inv.reads b k);
+      paid = paid_within (paid_then inv.paid said.paid) (omega arith) (omega arith);
       image = image_same (Unit {0}) (Unit {0}) _ _ _ c.in_err-check_inode.field-0.0 inv.device said.leaves.image;
       holds = tt;
       references = said.leaves.survey.references ∙ inv.references;
@@ -161,10 +161,10 @@ returns-clause-tree g c =
     record {
       text = of_same _ _ (λ b. []) _ _ _ inv.said
           (λ b k. from_end (directory_lines (volume_of v b)) c.loop-number.number (inodes_of v) (omega arith));
-      reads = λ b k numbered.
+      reads = λ b k.
           let rise = costs_rise (λ s. true) (directory_cost v b) c.loop-number.number (inodes_of v) (omega arith) in
-          omega (arith, rise, inv.reads b k numbered);
-      paid = λ numbered. paid_within (inv.paid numbered) (omega arith) (omega arith);
+          omega (arith, rise, inv.reads b k);
+      paid = paid_within inv.paid (omega arith) (omega arith);
       image = inv.device;
       holds = λ b k. let now = (inv.before b k).before in (now.claims, now.survey);
       references = inv.references;

@@ -2,7 +2,7 @@ use Rattle.std.proofs.Common.{◌≡◌, ℕ, List, ◌+◌, ◌*◌, ◌-◌, �
 use Rattle.ffs_report.specs.{Known.ForBytes, Paid.Paid, PhaseOutcome.SaidOf, Progress.progress}
 use Rattle.ffs_volume.specs.{Messages.Kinds.of_tree, Messages.Kinds.lines_from, Report.Reads.line_reads, Report.Reads.sweep_reads}
 use Rattle.ffs_volume.specs.Directories.{PathnameCheck.directory_lines, Volumes.volume_of}
-use Rattle.ffs_workspace.specs.{Leaves.LeavesBlockCheck, Lengths.inodes_of, Places.AreChunksNumbered}
+use Rattle.ffs_workspace.specs.{Leaves.LeavesBlockCheck, Lengths.inodes_of}
 use Rattle.ffs_pathnames.specs.{Ready.ReadyWith, Before.IsBefore, Before.IsBeforeNoted}
 use Rattle.ffs_survey.specs.Costs.{costs_all}
 use Rattle.ffs_names.specs.Costs.{directories_cost, directory_cost}
@@ -20,12 +20,12 @@ invariant-loop-number g l =
       low : 2 ≤ l.number;
       references : l.workspace.references ≡ l.fn.workspace.references;
       block_check : LeavesBlockCheck l.fn.workspace l.workspace;
-      reads : ForBytes known (λ b. AreChunksNumbered v → g.I.Image.reads l.image + line_reads * length (to_come b)
+      reads : ForBytes known (λ b. g.I.Image.reads l.image + line_reads * length (to_come b)
           ≤ g.I.Image.reads l.fn.image
           + (directories_cost v b + 2 * costs_all (directory_cost v b) l.number + line_reads * length (all b)));
       left : ForBytes known (λ b. 2 * directories_cost v b
           ≤ l.checking.reads_left + 2 * costs_all (directory_cost v b) l.number);
-      paid : AreChunksNumbered v → Paid {T = Unit {0}} line_reads (progress g.W.Output.sink l.fn.report)
+      paid : Paid {T = Unit {0}} line_reads (progress g.W.Output.sink l.fn.report)
           (progress g.W.Output.sink l.report) (g.I.Image.reads l.fn.image + 3 * sweep_reads v)
           (g.I.Image.reads l.image + l.checking.reads_left) (Ok tt);
       before : ForBytes known (λ b. IsBeforeNoted v (g.I.Image.device l.fn.image).contents l.workspace l.number b);

@@ -45,7 +45,7 @@ returns-then-is_none g c =
         said = said_none _;
       };
       counted = λ b k noted. few_none;
-      paid = λ numbered. paid_none (omega arith);
+      paid = paid_none (omega arith);
       leaves = record {
         image = refl;
         lists = refl;
@@ -63,7 +63,7 @@ returns-in_err-attr g c =
     rw (p.1, p.2) (record {
       text = of_reads _ _ _ _ _ (of_begins _ _ _);
       counted = λ b k noted. by_line _ (left.path.counted b (knows_places _ _ _ _ b k.0 noted)) (some_line g at b);
-      paid = λ numbered. paid_reads (left.most numbered);
+      paid = paid_reads left.most;
       leaves = record { image = read.read; lists = read.lists; current = read.current; ready = read.ready };
     })
 
@@ -78,8 +78,8 @@ returns-in_err-say_header g c =
           c.in_err-say_header.ensures;
       counted = λ b k noted. by_line _ (left.path.counted b (knows_places _ _ _ _ b k.0 noted))
           (some_line g at.After-gather_dir b);
-      paid = λ numbered. paid_stops _ c.in_err-say_header.ensures (some_said_of g at.After-say_header)
-          (left.most numbered);
+      paid = paid_stops _ c.in_err-say_header.ensures (some_said_of g at.After-say_header)
+          left.most;
       leaves = record { image = read.read; lists = read.lists; current = read.current; ready = read.ready };
     })
 
@@ -93,8 +93,8 @@ returns g c =
           c.in_ok-say_header.ensures;
       counted = λ b k noted. by_line _ (left.path.counted b (knows_places _ _ _ _ b k.0 noted))
           (some_line g at.After-gather_dir b);
-      paid = λ numbered. paid_says _ c.in_ok-say_header.ensures (some_said_of g at.After-say_header)
-          (left.most numbered);
+      paid = paid_says _ c.in_ok-say_header.ensures (some_said_of g at.After-say_header)
+          left.most;
       leaves = record {
         image = read.read;
         lists = read.lists;

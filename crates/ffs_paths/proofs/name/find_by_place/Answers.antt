@@ -1,39 +1,53 @@
-use Rattle.std.proofs.Common.{◌≡◌, ◌*◌, ◌∙◌, ap, refl, sym, suc, ℕ, List, Some, false, arith, slice_index}
-use Rattle.std.{proofs.lemmas.List.get_or_default, specs.List.list_any}
-use Rattle.ffs_volume.specs.{Disk.Numbers.piece, Directories.{Entries.entries_of, Roles.roled_from}}
+use Rattle.std.proofs.Common.{◌≡◌, ◌*◌, ◌/◌, ◌∙◌, ap, length, refl, sym, suc, ℕ, List, Some, arith, slice_index}
+use Rattle.std.{proofs.{Common.length-take, lemmas.List.get_or_default}, specs.List.list_any}
+use Rattle.std.proofs.lemmas.Result.{err_from_is_err_and}
+use Rattle.ffs_volume.specs.{Disk.Numbers.piece}
 use Rattle.ffs_volume.specs.Directories.Graph.{is_naming_entry}
 use Rattle.ffs_paths.{specs.Climbing.name_in, proofs.Keeping.name_read}
-use Rattle.ffs_workspace.specs.Places.{entries_in_chunk, place_in}
+use Rattle.ffs_workspace.specs.Places.{entries_in_chunks, entries_in_part, part_size, place_in}
 use Rattle.ffs_paths.proofs.name.find_by_place.Given as given
 use Rattle.ffs_paths.proofs.name.find_by_place.Goals as goal
 
--- the chunk that is looked at is the noted one
-chunk_is : (g : given.Over) (c : goal.After-find_in_chunk g) →
-    place_in (slice_index c.args.workspace.now.queue.items c.args.dir) ≡ suc c.in-Some.chunk
-chunk_is g c = grind (arith, get_or_default)
+-- the part that is looked at is the noted one
+part_is : (g : given.Over) (c : goal.After-find_in_chunks g) →
+    place_in (slice_index c.args.workspace.now.queue.items c.args.dir) ≡ suc c.in-Some.part
+part_is g c = grind (arith, get_or_default)
 
--- its bytes are those of the image
-bytes_are : (g : given.Over) (c : goal.After-find_in_chunk g) (b : List ℕ) →
-    (g.I.Image.device c.args.image.now).contents ≡ Some b
-    → c.in-Some-as_array.bytes.now ≡ piece (512 * c.in-Some.chunk) 512 b
-bytes_are g c b t = c.in-Some-as_array.ensures.cases.same ∙ (c.bytes.ensures ∙ (c.in_ok-fill.ensures.fills.bytes b t
-    ∙ ap (λ k. piece (512 * k) 512 b) c.from.ensures))
+-- its entries are those of the bytes that were read
+entries_are : (g : given.Over) (c : goal.After-find_in_chunks g) (b : List ℕ) →
+    (g.I.Image.device c.args.image.now).contents ≡ Some b →
+    entries_in_chunks c.args.geometry.now.layout.order (length c.bytes.result.now / 512) c.bytes.result.now
+    ≡ entries_in_part c.args.geometry.now.layout b c.in-Some.part
+entries_are g c b t =
+    let v = c.args.geometry.now.layout in
+    let fills = c.in_ok-fill.ensures.fills in
+    let w = c.fill.new.self in
+    let here : c.bytes.result.now ≡ piece (part_size v * c.in-Some.part) (part_size v) b =
+    c.bytes.ensures ∙ (fills.bytes b t ∙ rw (c.from.ensures, c.part_size-size.ensures) refl) in
+    let long : length c.bytes.result.now ≡ part_size v =
+    ap length c.bytes.ensures ∙ omega (arith, length-take w.length w.buffer.items, fills.holds.fits, fills.place.1) in
+    ap (λ (n : ℕ). entries_in_chunks v.order (n / 512) c.bytes.result.now) long
+    ∙ ap (entries_in_chunks v.order (part_size v / 512)) here
+
+-- where it is in the image
+place_is : (g : given.Over) (c : goal.After-find_in_chunks g) →
+    c.part_size-size.result * c.from-2.result ≡ part_size c.args.geometry.now.layout * c.in-Some.part
+place_is g c = rw (c.part_size-size.ensures, c.from-2.ensures) refl
 
 pub returns-clause-finds : goal.returns-clause-finds
 returns-clause-finds g c =
     let v = c.args.geometry.now.layout in
     record {
       name = λ found b t claims survey parent is dir.
-          c.find_in_chunk.ensures.name found
-          ∙ (ap (λ xs. name_in c.args.dir (roled_from false 0 (entries_of v.order xs))) (bytes_are g c b t)
-          ∙ survey.places c.args.dir parent c.in-Some.chunk (chunk_is g c) is);
-      some = c.find_in_chunk.ensures.some;
+          c.find_in_chunks.ensures.name found
+          ∙ (ap (name_in c.args.dir) (entries_are g c b t)
+          ∙ survey.places c.args.dir parent c.in-Some.part (part_is g c) is);
+      some = c.find_in_chunks.ensures.some;
       found = λ b t noted.
-          let same : noted.chunk ≡ c.in-Some.chunk = let e = sym noted.place ∙ chunk_is g c in omega arith in
-          c.find_in_chunk.ensures.found
-          (ap (λ xs. list_any (is_naming_entry c.args.dir) (roled_from false 0 (entries_of v.order xs)))
-          (bytes_are g c b t)
-          ∙ (ap (λ k. list_any (is_naming_entry c.args.dir) (entries_in_chunk v b k)) (sym same) ∙ noted.named));
+          let same : noted.part ≡ c.in-Some.part = let e = sym noted.place ∙ part_is g c in omega arith in
+          c.find_in_chunks.ensures.found
+          (ap (list_any (is_naming_entry c.args.dir)) (entries_are g c b t)
+          ∙ (ap (λ k. list_any (is_naming_entry c.args.dir) (entries_in_part v b k)) (sym same) ∙ noted.named));
     }
 
 pub returns-clause-leaves : goal.returns-clause-leaves
@@ -42,4 +56,25 @@ returns-clause-leaves g c =
     record {
       reads = name_read c.requires.ready read.room read.holds read.read;
       counted = record { count = read.counted; blocks = refl };
+      again = λ held. let at = held c.in-Some.part (part_is g c) in
+          read.again (at.0 ∙ sym (place_is g c)) (at.1 ∙ sym c.part_size-size.ensures);
+      held = λ b t noted k e.
+          let same : c.in-Some.part ≡ k = let e = sym (part_is g c) ∙ e in omega arith in
+          (read.place.0 ∙ (place_is g c ∙ ap (λ n. part_size c.args.geometry.now.layout * n) same),
+          read.place.1 ∙ c.part_size-size.ensures);
     }
+
+-- the read failed
+pub returns-in_err-fill-clause-leaves : goal.returns-in_err-fill-clause-leaves
+returns-in_err-fill-clause-leaves g c =
+    let read = c.in_err-fill.ensures.fills in
+    let p = err_from_is_err_and c.from_residual.result c.from_residual.ensures.1 in
+    let noted : place_in (slice_index c.args.workspace.now.queue.items c.args.dir) ≡ suc c.in-Some.part =
+    grind (arith, get_or_default) in
+    rw (p.1, p.2) (record {
+      reads = grind (arith, name_read);
+      counted = record { count = read.counted; blocks = refl };
+      again = λ held. let at = held c.in-Some.part noted in
+          read.again (at.0 ∙ rw (c.from.ensures, c.part_size-size.ensures) refl) (at.1 ∙ sym c.part_size-size.ensures);
+      held = λ b t noted. tt;
+    })

@@ -1,5 +1,5 @@
 use Rattle.std.proofs.{Common.arith, lemmas.{Bool.both_ways, Result.on_ok_weaker}}
-use Rattle.ffs_paths.{specs.{Climbing.IsNameIn, NameTexts.name_bytes}, proofs.Keeping.{reads_then, tree_on}}
+use Rattle.ffs_paths.{specs.{Climbing.IsNameIn, NameTexts.name_bytes}, proofs.Keeping.{reads_as, reads_then, tree_on}}
 use Rattle.ffs_paths.proofs.name.find_name.Goals as goal
 
 -- it isn't found in the chunk that is noted
@@ -15,3 +15,12 @@ returns-clause-leaves g c = record {
   reads = reads_then c.in_ok-find_by_place.ensures.leaves.reads c.search_name.ensures.reads;
   counted = λ b t noted. absurd (both_ways _ c.if-branch.false (c.in_ok-find_by_place.ensures.finds.found b t noted));
 }
+
+-- it is found there
+pub returns-then-branch-clause-leaves : goal.returns-then-branch-clause-leaves
+returns-then-branch-clause-leaves g c =
+    let place = c.in_ok-find_by_place.ensures.leaves in
+    record {
+      reads = reads_as place.reads;
+      counted = λ b t noted. record { few = place.counted; again = place.again; held = place.held b t noted };
+    }

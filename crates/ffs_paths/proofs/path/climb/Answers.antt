@@ -1,11 +1,19 @@
-use Rattle.std.proofs.Common.{◌≡◌, ◌<◌, ◌∙◌, ◌∷◌, ap, length, sym, subst, arith, ℕ, slice_index}
+use Rattle.std.proofs.Common.{◌≡◌, ◌≢◌, ◌+◌, ◌<◌, ◌≤◌, ◌∙◌, ◌∷◌, ap, length, sym, subst, arith, ℕ, zero, suc, Some}
+use Rattle.std.proofs.Common.{slice_index}
+use Rattle.ffs_survey.specs.ParentLaws.{root_level}
 use Rattle.std.proofs.lemmas.List.{get_or_default}
-use Rattle.ffs_volume.{proofs.LevelLaws.reached-level, specs.Directories.{Graph.Graph, Parents.graph_of}}
+use Rattle.ffs_volume.{proofs.LevelLaws.reached-level, specs.Directories.{Graph.{Graph, level}, Parents.graph_of}}
 use Rattle.ffs_volume.specs.Directories.Volumes.{volume_of}
-use Rattle.ffs_paths.{specs.{Climbing.IsNameIn, Buffers.HoldsNames, NameTexts.name_bytes}, proofs.Climbed.climb_more}
-use Rattle.ffs_paths.proofs.{Climbed.{few_more, few_then, noted_here, short_way}, Keeping.{reads_then, tree_on}}
+use Rattle.ffs_paths.specs.{Climbing.IsNameIn, Buffers.HoldsNames, NameTexts.name_bytes}
+use Rattle.ffs_paths.proofs.Climbed.{climb_leaves, climb_more, few_more, few_then, noted_here, short_way}
+use Rattle.ffs_paths.proofs.Keeping.{reads_then, tree_on}
 use Rattle.ffs_paths.proofs.WaysUp.{parent_is, way_root, way_cut, way_long, way_up, count_is}
 use Rattle.ffs_paths.proofs.path.climb.Goals as goal
+
+-- a directory that isn't the root has a level above 0, so a read more is within its names
+below_root : (g : Graph) (left at : ℕ) → level g at ≡ Some left → at ≢ 2 → 0 < left
+below_root g zero at l n = absurd (n (root_level g at l))
+below_root g (suc left) at l n = omega arith
 
 pub returns-then-at-eq-ROOTINO-clause-path : goal.returns-then-at-eq-ROOTINO-clause-path
 returns-then-at-eq-ROOTINO-clause-path g c = λ b t claims survey k l.
@@ -57,23 +65,41 @@ up-preserved g c =
           let l = reached-level _ c.args.dir (sym (knows.survey.tree.reached c.args.dir) ∙ c.requires.reached) in
           let way = i.path b knows.gives_bytes knows.claims knows.survey l.0 l.1 in
           let noted = noted_here way.left c.up.at knows i.reads.lists way.level c.if-at-eq-ROOTINO.false in
-          climb_more c.as_slice.result.now (i.counted b knows) c.if-path.false (found.leaves.counted b t noted)
+          climb_more c.as_slice.result.now (i.counted b knows) c.if-path.false (found.leaves.counted b t noted).few
           (subst (λ name. 0 < length name) (sym c.as_slice.ensures.value) (found.finds.some b t noted)) c.push_front.ensures;
     }
 
 -- a read failed, with names that have room
 pub returns-in_err-find_name-clause-leaves : goal.returns-in_err-find_name-clause-leaves
-returns-in_err-find_name-clause-leaves g c = let i = c.up.invariant in record {
-  reads = grind (arith, reads_then);
-  counted = λ b knows.
-      let l = reached-level _ c.args.dir (sym (knows.survey.tree.reached c.args.dir) ∙ c.requires.reached) in
-      let way = i.path b knows.gives_bytes knows.claims knows.survey l.0 l.1 in
-      let h = i.counted b knows in
-      few_more (few_then h.few
-      (c.in_err-find_name.ensures.leaves.counted b (ap (λ d. d.contents) i.reads.read ∙ knows.gives_bytes)
-      (noted_here way.left c.up.at knows i.reads.lists way.level c.if-at-eq-ROOTINO.false)))
-      (short_way h c.if-path.false);
-}
+returns-in_err-find_name-clause-leaves g c =
+    let i = c.up.invariant in
+    record {
+      reads = grind (arith, reads_then);
+      counted = λ b knows.
+          let l = reached-level _ c.args.dir (sym (knows.survey.tree.reached c.args.dir) ∙ c.requires.reached) in
+          let way = i.path b knows.gives_bytes knows.claims knows.survey l.0 l.1 in
+          let h = i.counted b knows in
+          few_more (few_then h.few
+          (c.in_err-find_name.ensures.leaves.counted b (ap (λ d. d.contents) i.reads.read ∙ knows.gives_bytes)
+          (noted_here way.left c.up.at knows i.reads.lists way.level c.if-at-eq-ROOTINO.false)).few)
+          (short_way h c.if-path.false);
+      names = λ b knows.
+          let l = reached-level _ c.args.dir (sym (knows.survey.tree.reached c.args.dir) ∙ c.requires.reached) in
+          let way = i.path b knows.gives_bytes knows.claims knows.survey l.0 l.1 in
+          let one = (c.in_err-find_name.ensures.leaves.counted b (ap (λ d. d.contents) i.reads.read ∙ knows.gives_bytes)
+          (noted_here way.left c.up.at knows i.reads.lists way.level c.if-at-eq-ROOTINO.false)).few in
+          let above = below_root _ way.left c.up.at way.level c.if-at-eq-ROOTINO.false in
+          rw l.1 (omega (arith, (i.counted b knows).few.count, way.steps, one.count, above));
+    }
+
+pub returns-then-at-eq-ROOTINO-clause-leaves : goal.returns-then-at-eq-ROOTINO-clause-leaves
+returns-then-at-eq-ROOTINO-clause-leaves g c = let i = c.up.invariant in climb_leaves c.requires.reached i.reads i.path i.counted
+
+pub returns-then-path-clause-leaves : goal.returns-then-path-clause-leaves
+returns-then-path-clause-leaves g c = let i = c.up.invariant in climb_leaves c.requires.reached i.reads i.path i.counted
+
+pub returns-then-parent-count-clause-leaves : goal.returns-then-parent-count-clause-leaves
+returns-then-parent-count-clause-leaves g c = let i = c.up.invariant in climb_leaves c.requires.reached i.reads i.path i.counted
 
 pub returns-clause-leaves : goal.returns-clause-leaves
-returns-clause-leaves g c = grind arith
+returns-clause-leaves g c = let i = c.up.invariant in climb_leaves c.requires.reached i.reads i.path i.counted

@@ -1,11 +1,11 @@
-use Rattle.std.proofs.Common.{◌≡◌, ◌∙◌, ◌∷◌, ◌++◌, ◌<◌, ℕ, List, Option, Some, None, Result, Ok, replicate, refl, ap, sym}
+use Rattle.std.proofs.Common.{◌≡◌, ◌∙◌, ◌∷◌, ◌++◌, ◌<◌, ℕ, List, Option, Some, None, Result, Ok, inr, replicate, refl, ap, sym}
 use Rattle.std.proofs.{Common.arith, lemmas.{Bool.false≢true, Result.err_from_is_err_and}}
 use Rattle.ffs_volume.specs.declared.Step.{Step, TheVariants.Gap}
 use Rattle.ffs_walk.specs.{Keepings.replay_in, Rests.{most_steps_left, steps_left}}
 use Rattle.ffs_names.{specs.Windows.CanWalkDir, proofs.Advances.{only_walks, over_gaps, over_rest, over_runs}}
 use Rattle.ffs_names.proofs.Advances.{over_tail, runs_gaps, runs_on, runs_tail, same_walked, seen_if_over, seen_if_shut}
 use Rattle.ffs_names.proofs.{Advances.{sees_on, walks_on}, Continuing.{can_walk, continues_here, continues_more}}
-use Rattle.ffs_names.proofs.Continuing.{no_more, same_here, same_more, walk_on}
+use Rattle.ffs_names.proofs.{Continuing.{no_more, same_here, same_more, walk_on}, ReadCounts.whole_held}
 use Rattle.ffs_names.proofs.chunks.Chunks.advance.Goals as goal
 
 -- a walk that is over gives no step, and is over then
@@ -60,6 +60,7 @@ steps-preserved-in-Some-Tail g c =
       device = next.leaves.read ∙ i.device;
       fewer = omega (arith, falls, i.fewer);
       falls = λ more. omega (arith, falls, i.fewer);
+      run = i.run;
       held = λ w h. let old = i.held w h in record { frames = (next.counted old.frames).held; run = old.run };
       reads = λ u h b t.
           let paid = rw x.field-0-is at (rw x.is at (next.counted (i.held u h).frames).paid) in
@@ -97,6 +98,7 @@ steps-preserved g c =
       device = device;
       fewer = omega (arith, passed, i.fewer);
       falls = λ more. omega (arith, passed, i.fewer);
+      run = i.run;
       held = λ u h. let old = i.held u h in
           record { frames = gaps.counted.held _ (next.counted old.frames).held; run = old.run };
       reads = λ u h b t.
@@ -125,7 +127,11 @@ steps-preserved-in-Some-Run g c =
       device = next.leaves.read ∙ i.device;
       fewer = rw seen.walk (omega (arith, falls, i.fewer));
       falls = λ more. rw seen.walk (omega (arith, falls, i.fewer));
-      held = λ u h. record { frames = rw seen.walk (next.counted (i.held u h).frames).held; run = seen.held u };
+      run = inr seen.whole;
+      held = λ u h. record {
+        frames = rw seen.walk (next.counted (i.held u h).frames).held;
+        run = whole_held c.see.new.self.run_cursor seen.whole u;
+      };
       reads = λ u h b t.
           let paid = rw x.field-0-is at (rw x.is at (next.counted (i.held u h).frames).paid) in
           let runs = runs_on s.keeping (ap (λ x. x.layout) same) (steps b t) in
@@ -153,6 +159,7 @@ pub returns-in-None-clause-found : goal.returns-in-None-clause-found
 returns-in-None-clause-found g c = record {
   more = λ e. absurd (false≢true e);
   falls = λ e. absurd (false≢true e);
+  run = λ e. absurd (false≢true e);
   none = λ _ b t. seen_if_over c.steps-test.true (c.in_ok-next.ensures.step.over c.in-None.is);
 }
 

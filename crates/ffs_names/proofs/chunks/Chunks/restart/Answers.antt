@@ -8,5 +8,6 @@ returns c = record {
       (c.restart.ensures.walk known).steps c.start-self.ensures.cut c.start-self.ensures.fresh
       (c.empty-self.ensures.none c.restart.new.self.geometry.layout) c.bytes_read-bytes_to_read.ensures.value refl refl
       refl;
-  reads = begins_reads c.restart.ensures.geometry c.restart.ensures.top c.empty-self.ensures.next;
+  reads = begins_reads c.restart.ensures.geometry c.restart.ensures.top c.empty-self.ensures.next
+      c.empty-self.ensures.first;
 }

@@ -1,7 +1,8 @@
-use Rattle.std.proofs.{Common.{◌∙◌, ap, arith, refl, sym, subst}, lemmas.Result.err_from_is_err_and}
+use Rattle.std.proofs.{Common.{◌∙◌, ap, arith, refl, sym, subst, List, ℕ}, lemmas.Result.err_from_is_err_and}
 use Rattle.ffs_volume.specs.Directories.{Parents.graph_of, Volumes.volume_of}
-use Rattle.ffs_paths.specs.{Climbing.{IsNameIn, IsParentOf}, Reads.ForTree, KeptParents.IsKeptParent, NameTexts.name_bytes}
+use Rattle.ffs_paths.specs.{Climbing.{IsNameIn, IsParentOf}, Reads.{ForTree, KnowsPlaces}, KeptParents.IsKeptParent, NameTexts.name_bytes}
 use Rattle.ffs_paths.{specs.declared.kept_parent.KeptParent.KeptParent, proofs.WaysUp.kept_parent_is}
+use Rattle.ffs_paths.proofs.Sparing.{spares_name}
 use Rattle.ffs_paths.proofs.{Climbed.{few_then, noted_child}, Keeping.{leaves_kept, reads_then, tree_on}}
 use Rattle.ffs_paths.proofs.kept_parent.KeptParent.keep_child.Goals as goal
 
@@ -25,12 +26,15 @@ returns g c =
     (subst (λ p. IsNameIn (graph_of (volume_of v b)) c.args.dir p (name_bytes s.name)) (sym kept.kept)
     (tree_on (λ g. IsNameIn g c.args.dir c.args.parent (name_bytes s.name)) reads c.in_ok-find_name.ensures.finds.name b t
     claims survey)) in
+    let name = λ (b : List ℕ) (knows : KnowsPlaces v (g.I.Image.device c.args.image.now).contents w b). c.in_ok-find_name.ensures.leaves.counted b
+    (ap (λ d. d.contents) reads.read ∙ knows.gives_bytes) (noted_child knows of reads.lists) in
     record {
-      child = refl;
+      child = (kept.kept, refl);
       leaves = leaves_kept s (reads_then reads c.in_ok-find_name.ensures.leaves.reads)
-          (λ b knows. few_then (kept.leaves.counted b knows)
-          (c.in_ok-find_name.ensures.leaves.counted b (ap (λ d. d.contents) reads.read ∙ knows.gives_bytes)
-          (noted_child knows of reads.lists))) holds;
+          (λ b knows. few_then (kept.leaves.counted b knows) (name b knows).few) holds;
+      spares = spares_name c.requires.parent kept.names (λ has. let s = kept.same has in (ap g.I.Image.reads s.0, s.1))
+          (λ b knows. (name b knows).few.count) (λ b knows. (name b knows).again);
+      held = λ b p knows is. (name b knows).held;
     }
 
 -- a read of the child's name failed
@@ -42,6 +46,23 @@ returns-in_err-find_name-clause-leaves g c =
       reads = grind (arith, err_from_is_err_and, reads_then);
       counted = λ b knows. few_then (kept.leaves.counted b knows)
           (c.in_err-find_name.ensures.leaves.counted b (ap (λ d. d.contents) reads.read ∙ knows.gives_bytes)
-          (noted_child knows c.requires.parent reads.lists));
+          (noted_child knows c.requires.parent reads.lists)).few;
       kept_parent = grind (arith, err_from_is_err_and);
     }
+
+pub returns-in_err-find_name-clause-spares : goal.returns-in_err-find_name-clause-spares
+returns-in_err-find_name-clause-spares g c =
+    let kept = c.in_ok-keep_path_of.ensures in
+    let reads = kept.leaves.reads in
+    spares_name c.requires.parent kept.names (λ has. let s = kept.same has in (ap g.I.Image.reads s.0, s.1))
+    (λ b knows. (c.in_err-find_name.ensures.leaves.counted b (ap (λ d. d.contents) reads.read ∙ knows.gives_bytes)
+    (noted_child knows c.requires.parent reads.lists)).few.count)
+    (λ b knows. (c.in_err-find_name.ensures.leaves.counted b (ap (λ d. d.contents) reads.read ∙ knows.gives_bytes)
+    (noted_child knows c.requires.parent reads.lists)).again)
+
+-- a read for the path of the parent failed
+pub returns-in_err-keep_path_of-clause-spares : goal.returns-in_err-keep_path_of-clause-spares
+returns-in_err-keep_path_of-clause-spares g c =
+    let kept = c.in_err-keep_path_of.ensures in
+    spares_name c.requires.parent kept.names (λ has. let s = kept.same has in (ap g.I.Image.reads s.0, s.1))
+    (λ b knows. omega arith) (λ b knows held. omega arith)

@@ -1,0 +1,71 @@
+-- The path of a directory is made once for all lines on its entries.
+use Rattle.std.proofs.Common.{◌≡◌, ◌+◌, ◌*◌, ◌≤◌, ℕ, Bool, true, false, if◌then◌else◌, List, Result, Ok, ap, arith, refl}
+use Rattle.ffs_image.specs.declared.image.{Image.Ghosts, ImageFault.ImageFault}
+use Rattle.ffs_volume.specs.{declared.{Layout.Layout, verdict.Verdict.Verdict}, Report.Reads.path_reads}
+use Rattle.ffs_workspace.specs.declared.workspace.Workspace.{Workspace}
+use Rattle.ffs_paths.specs.Reads.{KnowsPlaces}
+use Rattle.ffs_pathnames.specs.Gathers.{asks_attr, asks_path, BeginsPath, if_wanted, verdict_reads}
+use Rattle.ffs_pathnames.specs.LineReads.{again_reads, path_owed, ReadsPathOnce}
+use Rattle.ffs_pathnames.specs.declared.one_entry.EntryTexts.{EntryTexts}
+
+-- what is wanted is no more than that
+pub wanted_most : (wanted : Bool) (n : ℕ) → if_wanted wanted n ≤ n
+wanted_most true n = omega arith
+wanted_most false n = omega arith
+
+pub verdict_most : (verdict : Verdict) → verdict_reads verdict ≤ again_reads
+verdict_most verdict =
+    let path = wanted_most (asks_path verdict) path_reads in
+    let attr = wanted_most (asks_attr verdict) 1 in
+    omega (arith, path, attr)
+
+-- what is owed for the path, by whether it is begun
+owed_by : (t : EntryTexts) (begun : Bool) → t.begun ≡ begun → path_owed t ≡ (if begun then 0 else path_reads)
+owed_by t begun e = ap (λ q. if q then 0 else path_reads) e
+
+owed_most : (t : EntryTexts) (begun : Bool) → t.begun ≡ begun → path_owed t ≤ path_reads
+owed_most t true e = let o = owed_by t true e in omega (arith, o)
+owed_most t false e = let o = owed_by t false e in omega (arith, o)
+
+-- a line more
+pub by_once : (t t' : EntryTexts) (reads reads' n : ℕ) → ReadsPathOnce 1 t t' reads reads' → 1 ≤ n →
+    ReadsPathOnce n t t' reads reads'
+by_once t t' reads reads' n once some = omega (arith, once, some)
+
+-- the path is made, where it wasn't begun
+module _ {S : Type 0} {I : Ghosts S} {v : Layout} {old new : S} {w w' : Workspace} {x : ℕ} {t t' : EntryTexts} where
+  begin_by : {T : Type 0} {y : T} (begun : Bool) → t.begun ≡ begun → BeginsPath I v old new w w' x t t' (Ok y) →
+      (b : List ℕ) → KnowsPlaces v (I.device old).contents w b → I.reads new + path_owed t' ≤ I.reads old + path_owed t
+  begin_by true e p b k =
+      let same = p.held e in
+      let reads = ap I.reads same.0 in
+      let owed = ap path_owed same.2 in
+      omega (arith, reads, owed)
+  begin_by false e p b k =
+      let few = (p.makes.makes.leaves.counted b k).count in
+      let owed = owed_by t false e in
+      let none = owed_by t' true p.makes.makes.begun in
+      omega (arith, few, owed, none)
+
+  pub begin_once : {T : Type 0} {y : T} → BeginsPath I v old new w w' x t t' (Ok y) → (b : List ℕ) →
+      KnowsPlaces v (I.device old).contents w b → I.reads new + path_owed t' ≤ I.reads old + path_owed t
+  begin_once p b k = begin_by t.begun refl p b k
+
+  most_by : {T : Type 0} {r : Result T ImageFault} (begun : Bool) → t.begun ≡ begun →
+      BeginsPath I v old new w w' x t t' r → (b : List ℕ) → KnowsPlaces v (I.device old).contents w b →
+      I.reads new + path_owed t' ≤ I.reads old + (path_owed t + path_reads)
+  most_by true e p b k =
+      let same = p.held e in
+      let reads = ap I.reads same.0 in
+      let owed = ap path_owed same.2 in
+      omega (arith, reads, owed)
+  most_by false e p b k =
+      let few = (p.makes.makes.leaves.counted b k).count in
+      let owed = owed_by t false e in
+      let most = owed_most t' t'.begun refl in
+      omega (arith, few, owed, most)
+
+  -- and where that fails
+  pub begin_most : {T : Type 0} {r : Result T ImageFault} → BeginsPath I v old new w w' x t t' r → (b : List ℕ) →
+      KnowsPlaces v (I.device old).contents w b → I.reads new + path_owed t' ≤ I.reads old + (path_owed t + path_reads)
+  begin_most p b k = most_by t.begun refl p b k
