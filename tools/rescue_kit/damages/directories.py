@@ -1,8 +1,12 @@
 """Damaged directories: their sizes, blocks, `.` and `..`."""
+from .. import sources
 from ..case import entries_of, fragments_of, number_of
 from .all import damage
 from .inodes import first_lost, mend
 from .names import entries_of_inode, place_of
+
+# How many of the inodes that are left are copied, of those that have no name.
+SHOWN = 30
 
 
 def names_at_stake(case):
@@ -154,6 +158,21 @@ def root_empty(case):
     case.run("below", i=names["docs"])
     found = mend(case, 2, "mode size address", mode="040755", size=512, k=0, f=f)
     mend_counts(case, found, "mode size address", mode="040755", size=512, k=0, f=f)
+
+
+@damage("the block of inodes that has inode 2 became zeros")
+def root_block_zero(case):
+    volume, layout = case.volume, case.volume.layout
+    numbers = {path: volume.find(path) for path in case.tree if path not in sources.SHORT_LINKS and path != "pipe"}
+    volume.zero(layout.inode_place(0), layout.bsize)
+    case.at_stake(*numbers, data=False)
+    case.report("ROOT INODE UNALLOCATED")
+    left = [int(word) for word in case.run("inodes").split() if word.isdigit()][:SHOWN]
+    for i in left:
+        case.run("bytes", i=i)
+    case.run("lost-names")
+    case.run("rest")
+    case.at_stake(*[path for path, i in numbers.items() if i in left or i < layout.bsize // 128])
 
 
 def mend_counts(case, found, recipes, **values):
