@@ -9,3 +9,4 @@ pub mod Lines
 pub mod ProgramWords
 pub mod CopySteps
 pub mod FieldTexts
+pub mod Claiming

@@ -1,6 +1,7 @@
 pub mod Outcome
 pub mod Fields
 pub mod Copies
+pub mod Claims
 pub mod Whole
 pub mod CommandWords
 pub mod Operands

@@ -22,7 +22,7 @@ use std::alloc::AllocError;
 
 /// What ends a command before its end.
 #[derive(Clone, Copy, Debug)]
-enum FindFault {
+pub(crate) enum FindFault {
     /// The superblock is refused, or can't be read.
     Refused(SuperFault),
     /// A later read failed, or the output did.
@@ -85,26 +85,27 @@ fn end<W: Output>(answer: Result<bool, FindFault>, out: &mut W) -> u8
 /// found.
 ///
 /// # Errors
-/// A read of the image that failed, and a write that failed.
-fn search<I: Image, W: Output>(
+/// A read of the image or a write failed, or the memory was refused.
+fn search<M: Memory, I: Image, W: Output>(
+    memory: &mut M,
     image: &mut I,
     sector: Option<u32>,
     search: Search,
     superblock: &Super,
     out: &mut W,
-) -> Result<bool, RunFault>
+) -> Result<bool, FindFault>
     requires volume { superblock.now.geometry.layout.size * superblock.now.geometry.layout.fsize
         ≤ (I.device image.old).size }
     ensures { Searches search sector (superblock_in superblock.now) (I.device image.old)
-        (I.device image.new) (I.reads image.old) (I.reads image.new) (W.sink out.old)
-        (W.sink out.new) result }
+        (I.device image.new) (M.account memory.old) (M.account memory.new) (I.reads image.old)
+        (I.reads image.new) (W.sink out.old) (W.sink out.new) result }
 {
     match search {
         Search::Inode { number } => {
             find_inode(image, &superblock.geometry, number, out)?;
             Ok(false)
         }
-        Search::Fields => find_wrong_fields(image, sector, superblock, out),
+        Search::Fields => Ok(find_wrong_fields(image, sector, superblock, out)?),
     }
 }
 
@@ -121,7 +122,7 @@ fn look_in_volume<M: Memory, I: Image, W: Output>(
         (W.sink out.old) (W.sink out.new) result }
 {
     match read_super(image, sector) {
-        Ok(superblock) => Ok(search(image, sector, what, &superblock, out)?),
+        Ok(superblock) => search(memory, image, sector, what, &superblock, out),
         Err(fault) => Err(FindFault::Refused(fault)),
     }
 }

@@ -24,6 +24,7 @@
 //! and for a window, and on `clap` for the words.
 #![tactic(auto)]
 
+mod claims;
 mod copies;
 mod fields;
 mod find;
