@@ -10,3 +10,4 @@ pub mod ProgramWords
 pub mod CopySteps
 pub mod FieldTexts
 pub mod Claiming
+pub mod Searching
