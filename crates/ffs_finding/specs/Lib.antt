@@ -2,6 +2,8 @@ pub mod Outcome
 pub mod Fields
 pub mod Copies
 pub mod Claims
+pub mod Lost
+pub mod LostMaps
 pub mod Whole
 pub mod CommandWords
 pub mod Operands
