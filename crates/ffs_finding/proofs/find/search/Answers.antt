@@ -1,0 +1,4 @@
+use Rattle.ffs_finding.proofs.find.search.Goals as goal
+
+pub returns-in-Lost : goal.returns-in-Lost
+returns-in-Lost g c = rw (c.in-Lost.is) (c.look_for_lost.ensures c.args.sector)
