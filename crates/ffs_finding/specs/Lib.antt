@@ -3,6 +3,7 @@ pub mod Fields
 pub mod Copies
 pub mod Claims
 pub mod Lost
+pub mod GroupMaps
 pub mod LostMaps
 pub mod Whole
 pub mod CommandWords

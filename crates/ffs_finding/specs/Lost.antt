@@ -1,9 +1,9 @@
 -- What `lost` prints: the fragments of which the maps of the groups say otherwise than what is used.
-use Rattle.std.specs.Prelude.{ℕ, ◌+◌, ◌-◌, ◌==◌, ◌&&◌, ◌||◌, Bool, not, List, [], ◌∷◌, ◌++◌, codes, decimal, if◌then◌else◌, nat_le}
-use Rattle.std.specs.{List.{concat, flat_map, prefix_len, range_with_len}, Int.div_ceil}
+use Rattle.std.specs.Prelude.{ℕ, ◌+◌, ◌-◌, ◌==◌, ◌&&◌, ◌||◌, Bool, not, List, [], ◌∷◌, ◌++◌, codes, decimal, if◌then◌else◌}
+use Rattle.std.specs.List.{concat, flat_map, prefix_len, range_with_len}
 use Rattle.ffs_volume.specs.{declared.Layout.Layout, Disk.Areas.cgbase, Messages.Texts.number_text}
 use Rattle.ffs_volume.specs.{Blocks.Owners.owners_of, Groups.GroupCheck.is_free_of_kept}
-use Rattle.ffs_volume.specs.Groups.Records.{bit_at, fragment_map_place, group_block, group_numbers, group_size, has_right_magic}
+use Rattle.ffs_volume.specs.Groups.Records.{bit_at, fragment_map_place, group_block, group_numbers, group_size, has_right_magic, maps_fit}
 
 -- the line of the fragments from one to another one, after a word
 abbrev pub range_text : (word : List ℕ) (first last : ℕ) → List ℕ
@@ -29,9 +29,9 @@ stretch_at word p base end f =
 unfoldable pub stretch_lines : (word : List ℕ) (p : ℕ → Bool) (base end : ℕ) → List (List ℕ)
 stretch_lines word p base end = flat_map (stretch_at word p base end) (range_with_len base (end - base))
 
--- a group has a map: its block has its magic number, and the map of fragments ends within the block
+-- a group has a map: its block has its magic number, and the maps end within it
 unfoldable pub has_map : Layout → (block : List ℕ) → Bool
-has_map v block = has_right_magic v block && nat_le (fragment_map_place v block + div_ceil v.fpg 8) v.cgsize
+has_map v block = has_right_magic v block && maps_fit v block
 
 -- the map in the block of group c marks f as free
 abbrev pub is_marked_free : (v : Layout) (block : List ℕ) (c f : ℕ) → Bool

@@ -1,14 +1,14 @@
 -- The map of a group as the program has it, and what it prints of it.
-use Rattle.std.specs.Prelude.{◌≡◌, ◌≤◌, ◌<◌, ◌+◌, ◌-◌, ◌/◌, ◌*◌, ℕ, Bool, not, ◌&&◌, List, [], ◌∷◌, codes, true, false, length, Option, Some, None, Result, IfOk, OnOk, vec_len}
+use Rattle.std.specs.Prelude.{◌≡◌, ◌≤◌, ◌<◌, ◌+◌, ◌-◌, ◌/◌, ◌*◌, ℕ, Bool, not, ◌&&◌, List, [], ◌∷◌, codes, length, Result, IfOk, vec_len}
 use Rattle.std.specs.{List.{concat, flat_map, range_with_len}, Int.div_ceil}
 use Rattle.ffs_image.specs.Device.{Device}
-use Rattle.ffs_volume.specs.{declared.Layout.Layout, Groups.Records.{bit_at, fragment_map_place, group_block, group_numbers}}
+use Rattle.ffs_volume.specs.{declared.Layout.Layout, Groups.Records.{bit_at, group_block, group_numbers}}
 use Rattle.ffs_volume.specs.Messages.Texts.{number_text}
 use Rattle.ffs_maps.specs.Bits.{bits_of}
 use Rattle.ffs_groups.specs.Free.{free_in}
 use Rattle.ffs_report.specs.{Known.{ForBytes, IsContents}, Sink.{Sink, Prints}, declared.fault.RunFault.RunFault}
 use Rattle.ffs_walk.specs.{Windows.WindowHolds, declared.window.Window.Window}
-use Rattle.ffs_finding.specs.{Fields.any_line, Lost.{has_map, lost_of_group, wrongly_free_of_group}, Outcome.Finds}
+use Rattle.ffs_finding.specs.{Fields.any_line, Lost.{lost_of_group, wrongly_free_of_group}, Outcome.Finds}
 use Rattle.ffs_finding.specs.declared.lost.{GroupMap.GroupMap, Wrong.{Wrong, TheVariants.{Lost, MarkedFree}}}
 
 -- the word before the fragments of which a map says this wrongly
@@ -55,12 +55,6 @@ pub record IsNext (p : ℕ → Bool) (answer : Bool) (from end found : ℕ) : Ty
 pub record PrintsWhether {E : Type 0} (lines : List (List ℕ)) (old new : Sink) (result : Result Bool E) : Type 0 where
   pub text : Prints old new (concat lines) result
   pub any : IfOk result (λ b. b ≡ any_line lines)
-
--- where the map of fragments begins in a block, if it has one
-abbrev pub IsMapPlace : Layout → List ℕ → Option ℕ → Type 0
-IsMapPlace v block (Some place) =
-    (has_map v block ≡ true) × (place ≡ fragment_map_place v block) × (place + div_ceil v.fpg 8 ≤ v.cgsize)
-IsMapPlace v block None = has_map v block ≡ false
 
 -- the lines of a group that has no map
 abbrev pub no_map_lines : Wrong → ℕ → List (List ℕ)

@@ -28,6 +28,7 @@ mod claims;
 mod copies;
 mod fields;
 mod find;
+mod group_map;
 mod inode;
 mod lost;
 pub mod request;

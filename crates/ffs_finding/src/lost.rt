@@ -1,20 +1,19 @@
 //! `lost`: where the maps of the groups say otherwise than what is used.
-ghost use Rattle.std.specs.{Prelude.{◌≡◌, ◌+◌, ◌/◌, ◌*◌, ◌≤◌, ◌<◌, length, IfOk}, Int.bit_at as word_bit};
-ghost use Rattle.ffs_volume.specs.Groups.Records.{bit_at};
+ghost use Rattle.std.specs.Prelude.{◌≡◌, ◌+◌, ◌*◌, ◌≤◌, IfOk};
 ghost use Rattle.ffs_maps.specs.Bits.{bits_of};
 ghost use Rattle.ffs_groups.specs.Free.{free_in};
 ghost use Rattle.ffs_report.specs.{Known.ForBytes, Sink.Prints};
 ghost use Rattle.ffs_workspace.specs.{Found.WithPhase1, Ready.IsReady};
 ghost use Rattle.ffs_finding.specs.{Fields.any_line, Lost.{lost_lines, range_text, stretch_lines}, Outcome.Finds};
-ghost use Rattle.ffs_finding.specs.LostMaps.{CanReadGroups, CanSayGroup, FindsWrong, IsGroupMap, IsInMap, IsInMapOrEnd, IsMapPlace, IsNext, PrintsWhether, is_wrong_at, lines_of_group, no_map_lines, word_of};
+ghost use Rattle.ffs_finding.specs.LostMaps.{CanReadGroups, CanSayGroup, FindsWrong, IsGroupMap, IsInMap, IsInMapOrEnd, IsNext, PrintsWhether, is_wrong_at, lines_of_group, no_map_lines, word_of};
 
+use crate::group_map::{is_marked_free, map_place};
 use ffs_groups::group_fragments;
 use ffs_image::Image;
-use ffs_layout::{Geometry, Group};
+use ffs_layout::Geometry;
 use ffs_maps::FragmentMap;
 use ffs_report::print::{print_number, print_pieces};
 use ffs_report::{OutFault, Output, Piece, RunFault};
-use ffs_volume::constants::CG_MAGIC;
 use ffs_walk::Window;
 use ffs_workspace::Workspace;
 
@@ -52,14 +51,6 @@ struct GroupMap<'a> {
     block: &'a [u8],
     /// Where the map begins in the block, in bytes.
     place: u32,
-}
-
-/// Whether a map in a group block has the bit of a fragment set, which is so far from the group's first one.
-fn is_marked_free(block: &[u8], place: u32, k: u32) -> bool
-    requires { place + k / 8 < length block.now }
-    ensures { result ≡ bit_at block.now place k }
-{
-    block[place as usize + k as usize / 8] >> (k % 8) & 1 == 1
 }
 
 /// Whether the map says this wrongly of a fragment of the group.
@@ -121,21 +112,6 @@ fn print_ranges<W: Output>(out: &mut W, map: &GroupMap<'_>, wrong: Wrong) -> Res
         first = next(map, wrong, end, true);
     }
     Ok(any)
-}
-
-/// Where the map of fragments begins in a group block, if there is a map: the block has its magic
-/// number, and the map ends within it.
-#[tactic(auto, unfolding(crate::specs::Lost::has_map, ffs_volume::specs::Groups::Records::has_right_magic))]
-fn map_place(geometry: &Geometry, block: &[u8]) -> Option<u32>
-    requires { length block.now ≡ geometry.now.layout.cgsize }
-    ensures { IsMapPlace geometry.now.layout block.now result }
-{
-    let group = Group::decode(geometry.layout.order, block);
-    let end = u64::from(group.freeoff) + u64::from(geometry.layout.fpg.div_ceil(8));
-    if group.magic == CG_MAGIC && end <= u64::from(geometry.layout.cgsize) {
-        return Some(group.freeoff);
-    }
-    None
 }
 
 /// Prints once that a group has no map: before the fragments that are marked as free nothing.
