@@ -29,6 +29,7 @@ mod copies;
 mod fields;
 mod find;
 mod inode;
+mod owner;
 pub mod request;
 pub mod run;
 mod words;
