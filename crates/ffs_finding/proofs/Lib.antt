@@ -17,3 +17,4 @@ pub mod CopySteps
 pub mod FieldTexts
 pub mod Claiming
 pub mod Searching
+pub mod OwnerSearch

@@ -99,7 +99,7 @@ map_text v block f =
     if has_map v block
     then (if bit_at block (fragment_map_place v block) (f - cgbase v (group_of_fragment v f))
     then codes "free\n" else codes "lost\n")
-    else number_text (codes "unclaimed, and no map of group ") (group_of_fragment v f) (codes "\n")
+    else number_text (codes "no map in group ") (group_of_fragment v f) (codes "\n")
 
 -- ---- all
 -- the first lines, and where there are none the second

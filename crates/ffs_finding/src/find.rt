@@ -1,15 +1,18 @@
 //! Looks in an image for what is asked for, and says how that ended.
-ghost use Rattle.std.specs.Prelude.{◌≡◌, ◌+◌, ◌*◌, ◌≤◌};
+ghost use Rattle.std.specs.Prelude.{◌≡◌, ◌+◌, ◌*◌, ◌≤◌, ℕ, Option};
 ghost use Rattle.ffs_volume.specs.{Messages.Texts.text_of, Report.Opening.fault_line};
 ghost use Rattle.ffs_report.specs.{Lines.message_of, Sink.Prints};
 ghost use Rattle.ffs_layout.specs.Super.{superblock_in};
 ghost use Rattle.ffs_finding.specs.Whole.{EndsBy, FindsCommand, Looks, Searches, status_of_answer};
 ghost use Rattle.ffs_finding.specs.declared.find.FindFault.TheVariants.{Run, NoMemory};
+ghost use Rattle.ffs_finding.specs.declared.request.Search.TheVariants.{Owner};
 ghost use Rattle.ffs_finding.specs.declared.request.Command.TheVariants.{Copies, InVolume};
 
+use crate::claims::claimed_workspace;
 use crate::copies::{WINDOW_BYTES, find_copies};
 use crate::fields::find_wrong_fields;
 use crate::inode::find_inode;
+use crate::owner::find_owner;
 use crate::request::{Command, Search};
 use ffs_check::run::NOT_COMPLETED;
 use ffs_image::Image;
@@ -81,6 +84,29 @@ fn end<W: Output>(answer: Result<bool, FindFault>, out: &mut W) -> u8
     NOT_COMPLETED
 }
 
+/// Runs phase 1 in memory of its own, and looks for the owners of a fragment.
+///
+/// # Errors
+/// A read of the image or a write failed, or the memory was refused.
+fn look_for_owner<M: Memory, I: Image, W: Output>(
+    memory: &mut M,
+    image: &mut I,
+    superblock: &Super,
+    fragment: u32,
+    out: &mut W,
+) -> Result<bool, FindFault>
+    requires volume { superblock.now.geometry.layout.size * superblock.now.geometry.layout.fsize
+        ≤ (I.device image.old).size }
+    ensures { (sector : Option ℕ) → Searches (Owner fragment) sector (superblock_in superblock.now)
+        (I.device image.old) (I.device image.new) (M.account memory.old) (M.account memory.new)
+        (I.reads image.old) (I.reads image.new) (W.sink out.old) (W.sink out.new) result }
+{
+    let geometry = &superblock.geometry;
+    let mut workspace = claimed_workspace(memory, image, geometry)?;
+    find_owner(image, geometry, &mut workspace, fragment, out)?;
+    Ok(false)
+}
+
 /// Looks for something in a volume with an accepted superblock, and returns whether a defect was
 /// found.
 ///
@@ -106,6 +132,7 @@ fn search<M: Memory, I: Image, W: Output>(
             Ok(false)
         }
         Search::Fields => Ok(find_wrong_fields(image, sector, superblock, out)?),
+        Search::Owner { fragment } => look_for_owner(memory, image, superblock, fragment, out),
     }
 }
 

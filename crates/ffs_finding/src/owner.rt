@@ -130,7 +130,7 @@ fn print_by_map<W: Output>(
     if !has_map(geometry, &group) {
         return print_number(
             out,
-            b"unclaimed, and no map of group ",
+            b"no map in group ",
             u64::from(number),
             b"\n",
         );

@@ -9,6 +9,7 @@ use std::io::Write;
 const USAGE: &str = "Usage: ffs_find copies image
        ffs_find [-b sector] inode number image
        ffs_find [-b sector] fields image
+       ffs_find [-b sector] owner fragment image
 
 For more information, try '--help'.
 ";
@@ -19,10 +20,12 @@ const HELP: &str =
 Usage: ffs_find copies image
        ffs_find [-b sector] inode number image
        ffs_find [-b sector] fields image
+       ffs_find [-b sector] owner fragment image
 
   copies         the sectors at which fsck_ffs -b finds a superblock that it accepts
   inode number   where the inode of this number lies, and what it says
   fields         fields of the superblock that a kernel computes with and that are wrong
+  owner fragment the inodes that keep this fragment, or what else it belongs to
   image          the file or device that holds the file system from its first byte on
   -b sector      take the superblock at this sector of 512 bytes, 1 to 4194303
   -n, -N         nothing is ever written, with or without it

@@ -13,7 +13,7 @@ unfolding has_map has_right_magic maps_fit
 map_is v block g e = rw e refl
 
 no_map : (v : Layout) (block : List ℕ) (f : ℕ) → has_map v block ≡ false → map_text v block f
-    ≡ number_text (codes "unclaimed, and no map of group ") (group_of_fragment v f) (codes "\n")
+    ≡ number_text (codes "no map in group ") (group_of_fragment v f) (codes "\n")
 unfolding map_text
 no_map v block f e = rw e refl
 
