@@ -1,3 +1,9 @@
+pub mod Claimed
+pub mod Keepers
+pub mod Limited
+pub mod Owners
+pub mod Replayed
+pub mod Walking
 pub mod Printing
 pub mod Ranges
 pub mod Magics
@@ -15,3 +21,4 @@ pub mod LostGroups
 pub mod LostParts
 pub mod ClaimSearches
 pub mod Searching
+pub mod OwnerSearch

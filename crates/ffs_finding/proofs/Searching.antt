@@ -1,11 +1,13 @@
 -- A search in a volume, as the command that asks for it.
-use Rattle.std.proofs.Common.{◌≡◌, ◌∙◌, ◌*◌, ◌+◌, ◌≤◌, ℕ, Bool, List, [], Option, Result, Ok, Err, sym, ap, arith, inr}
+use Rattle.std.proofs.Common.{◌≡◌, ◌∙◌, ◌*◌, ◌+◌, ◌≤◌, ℕ, Bool, List, [], Option, Result, Ok, Err, sym, ap, arith, inl, inr, refl}
 use Rattle.ffs_image.specs.Device.{Device, ForContents}
 use Rattle.ffs_memory.specs.Account.{Account}
+use Rattle.ffs_workspace.specs.Lengths.{held_of}
+use Rattle.ffs_volume.specs.{declared.Layout.Layout, Report.Memory.held_limit}
 use Rattle.ffs_volume.specs.{Disk.{Superblock.Superblock, Outcome.outcome}, Laws.Geometry.IsAcceptedLayout}
 use Rattle.ffs_report.specs.{Known.{ForBytes, IsContents}, Sink.Sink, declared.fault.RunFault.TheVariants.{Read, Out}}
 use Rattle.ffs_finding.specs.declared.{find.FindFault.{FindFault, TheVariants.{Refused, Run, NoMemory}}}
-use Rattle.ffs_finding.specs.declared.request.{Search.{Search, TheVariants.{Inode, Fields, Lost}}, Command.TheVariants.InVolume}
+use Rattle.ffs_finding.specs.declared.request.{Search.{Search, TheVariants.{Inode, Fields, Lost, Owner}}, Command.TheVariants.InVolume}
 use Rattle.ffs_finding.specs.{Fields.{WithSuper, any_line}, Outcome.{PrintedTo, PrintedSome, StoppedIn}}
 use Rattle.ffs_finding.specs.Whole.{Answers, Looks, SearchAnswers, Searches, TakesForSearch, TakesMemory, command_lines}
 use Rattle.ffs_finding.specs.Whole.{command_status, finds_defects, lines_by, search_lines, status_by, status_of_answer}
@@ -44,13 +46,27 @@ module _ (search : Search) (sector : Option ℕ) (s : Superblock) (d : Device)
   )
   answers d' held held' a b (Err NoMemory) p = p
 
+-- what the lists and buffers of a check take is within their bound
+held_within : (v : Layout) → held_of v ≤ held_limit v
+held_within v = omega arith
+
 takes : (search : Search) (sector : Option ℕ) (s : Superblock) (d : Device) (held held' : Account) →
     ForContents d.contents (λ b. outcome b sector ≡ Ok s) → TakesForSearch search s.layout held held' →
     TakesMemory (InVolume sector search) d held held'
 takes (Inode number) sector s d held held' accepted p = p
 takes Fields sector s d held held' accepted p = p
 takes Lost sector s d held held' accepted p =
-    inr (record { found = s; accepted = accepted; asked = p; within = omega arith })
+    inr (record { found = s; accepted = accepted; asked = p; within = held_within s.layout })
+takes (Owner fragment) sector s d held held' accepted p =
+    inr (record { found = s; accepted = accepted; asked = p; within = held_within s.layout })
+
+-- nothing was taken
+pub takes_none : (search : Search) (sector : Option ℕ) (d : Device) (held : Account) →
+    TakesMemory (InVolume sector search) d held held
+takes_none (Inode number) sector d held = refl
+takes_none Fields sector d held = refl
+takes_none Lost sector d held = inl refl
+takes_none (Owner fragment) sector d held = inl refl
 
 -- a search was made after the superblock was read
 pub looked : (search : Search) (sector : Option ℕ) (s : Superblock) (d d' : Device) (held held' : Account)

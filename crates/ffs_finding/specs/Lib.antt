@@ -1,5 +1,7 @@
 pub mod Outcome
+pub mod Owner
 pub mod Fields
+pub mod Keepers
 pub mod Copies
 pub mod Claims
 pub mod Lost

@@ -31,6 +31,7 @@ mod find;
 mod group_map;
 mod inode;
 mod lost;
+mod owner;
 pub mod request;
 pub mod run;
 mod words;

@@ -9,6 +9,8 @@ pub enum Search {
     Fields,
     /// The fragments of which the maps of the groups say otherwise than what is used.
     Lost,
+    /// To what a fragment belongs: the inodes that keep an offer of it, or what else it is.
+    Owner { fragment: u32 },
 }
 
 /// What is looked for in an image.
