@@ -1,3 +1,9 @@
+pub mod Claimed
+pub mod Keepers
+pub mod Limited
+pub mod Owners
+pub mod Replayed
+pub mod Walking
 pub mod Printing
 pub mod Ranges
 pub mod Magics
@@ -9,3 +15,10 @@ pub mod Lines
 pub mod ProgramWords
 pub mod CopySteps
 pub mod FieldTexts
+pub mod Claiming
+pub mod Stretches
+pub mod LostGroups
+pub mod LostParts
+pub mod ClaimSearches
+pub mod Searching
+pub mod OwnerSearch

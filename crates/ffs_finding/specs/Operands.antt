@@ -1,7 +1,7 @@
 -- The operands as the program has them, and what it reads of them.
-use Rattle.std.specs.Prelude.{◌≡◌, ℕ, List, Option, Some, None, option_map}
+use Rattle.std.specs.Prelude.{◌≡◌, ℕ, List, Option, Some, None, codes, option_map}
 use Rattle.ffs_finding.specs.CommandWords as words
-use Rattle.ffs_finding.specs.declared.{words.{Operands.Operands, Request.Request}, request.Command.Command}
+use Rattle.ffs_finding.specs.declared.{words.{Operands.Operands, Request.Request}, request.{Command.Command, Search.{Search, TheVariants.{Inode, Fields, Lost, Owner}}}}
 
 -- the operands of the program as those of the definitions
 abbrev pub operands_in : Operands → words.Operands
@@ -16,3 +16,10 @@ operands_in o = record {
 abbrev pub SaysOf : words.Operands → Option Request → Type 0
 SaysOf o (Some request) = words.AskFor o request.command request.name.now
 SaysOf o None = (command : Command) (name : List ℕ) → words.AskFor o command name → ⊥
+
+-- a command looks for this by a number
+abbrev pub IsSearch : (word : List ℕ) (n : ℕ) → Search → Type 0
+IsSearch word n (Inode number) = (word ≡ codes "inode") × (number ≡ n)
+IsSearch word n Fields = ⊥
+IsSearch word n Lost = ⊥
+IsSearch word n (Owner fragment) = (word ≡ codes "owner") × (fragment ≡ n)

@@ -1,30 +1,36 @@
 -- What the program prints of an image, and its status, by what it is asked for.
-use Rattle.std.specs.Prelude.{◌≡◌, ◌⊎◌, ◌≤◌, ◌+◌, ℕ, Bool, true, false, ◌&&◌, List, [], ◌∷◌, if◌then◌else◌, Option, Result, Ok, Err, IfOk}
-use Rattle.ffs_image.specs.Device.{Device, Faulted}
-use Rattle.ffs_volume.specs.declared.SuperFault.{SuperFault}
+use Rattle.std.specs.Prelude.{◌≡◌, ◌⊎◌, ◌≤◌, ◌+◌, ◌*◌, ℕ, Bool, true, false, ◌&&◌, List, [], ◌∷◌, if◌then◌else◌, Option, Result, Ok, Err}
+use Rattle.ffs_image.specs.Device.{Device, Faulted, ForContents}
+use Rattle.ffs_volume.specs.{declared.{Layout.Layout, SuperFault.SuperFault}, Laws.Geometry.IsAcceptedLayout}
 use Rattle.ffs_volume.specs.Disk.{Superblock.Superblock, Outcome.outcome}
 use Rattle.ffs_volume.specs.{Messages.{Kinds.{cannot_read, cannot_alloc}, Texts.text_of}, Report.Opening.fault_line}
-use Rattle.ffs_volume.specs.Report.Reads.{opening_reads}
+use Rattle.ffs_volume.specs.Report.Reads.{opening_reads, scan_reads, sweep_reads}
 use Rattle.ffs_report.specs.{Known.{ForBytes, IsContents}, Sink.{Sink, Took, BrokeOff}}
 use Rattle.ffs_report.specs.declared.fault.RunFault.{RunFault, TheVariants.{Read, Out}}
-use Rattle.ffs_memory.specs.Account.{Account, Granted, GaveUp, RefusedOneMore}
+use Rattle.ffs_memory.specs.Account.{Account, RefusedOneMore}
+use Rattle.ffs_check.specs.Taken.{AsksMemory, Takes}
+use Rattle.ffs_workspace.specs.Lengths.{held_of}
 use Rattle.ffs_layout.specs.Super.{ReadsSuper}
-use Rattle.ffs_finding.specs.declared.request.{Search.{Search, TheVariants.{Inode, Fields}}, Command.Command}
+use Rattle.ffs_finding.specs.declared.request.{Search.{Search, TheVariants.{Inode, Fields, Lost, Owner}}, Command.Command}
 use Rattle.ffs_finding.specs.declared.{request.Command.TheVariants.{Copies, InVolume}, find.FindFault.FindFault}
 use Rattle.ffs_finding.specs.declared.find.FindFault.TheVariants.{Refused, Run, NoMemory}
 use Rattle.ffs_volume.specs.Find.{Copies.copies_lines, InodeText.inode_lines, Fields.wrong_fields}
-use Rattle.ffs_finding.specs.{Outcome.{Finds, PrintedTo, PrintedSome, StoppedIn}, Fields.{WithSuper, any_line}}
-use Rattle.ffs_finding.specs.Copies.{ReadsCopies}
+use Rattle.ffs_finding.specs.{Lost.lost_lines, Outcome.{PrintedTo, PrintedSome, StoppedIn}, Fields.{WithSuper, any_line}}
+use Rattle.ffs_finding.specs.{Copies.ReadsCopies, Owner.owner_lines}
 
 -- what a search prints of an image with this accepted superblock
 abbrev pub search_lines : Search → (sector : Option ℕ) → (image : List ℕ) → Superblock → List (List ℕ)
 search_lines (Inode number) sector image s = inode_lines s.layout image number
 search_lines Fields sector image s = wrong_fields s image sector
+search_lines Lost sector image s = lost_lines s.layout image
+search_lines (Owner fragment) sector image s = owner_lines s.layout image fragment
 
 -- a line of the search is a defect
 abbrev pub finds_defects : Search → Bool
 finds_defects (Inode number) = false
 finds_defects Fields = true
+finds_defects Lost = true
+finds_defects (Owner fragment) = false
 
 -- the lines by an outcome: those of a search, or the one of the superblock's fault
 abbrev pub lines_by : (Superblock → List (List ℕ)) → Result Superblock SuperFault → List (List ℕ)
@@ -51,14 +57,43 @@ command_status Copies image = 0
 command_status (InVolume sector search) image =
     status_by search (search_lines search sector image) (outcome image sector)
 
--- a search printed its lines, and the answer is whether a defect was found; it read the image once
--- at most
-pub record Searches (search : Search) (sector : Option ℕ) (s : Superblock) (d d' : Device) (before after : ℕ)
-    (old new : Sink) (result : Result Bool RunFault) : Type 0 where
-  pub found : Finds (WithSuper d sector s) (λ b. search_lines search sector b s) d d' old new result
-  pub defect : IfOk result (λ any. ForBytes (WithSuper d sector s)
-      (λ b. any ≡ (finds_defects search && any_line (search_lines search sector b s))))
-  pub reads : after ≤ before + 1
+-- a search printed its lines, and the answer is whether a defect was found
+abbrev pub SearchAnswers : Search → Option ℕ → Superblock → Device → Device → Account → Account → Sink → Sink
+    → Result Bool FindFault → Type 0
+SearchAnswers search sector s d d' held held' old new (Ok defect) =
+    (d' ≡ d) × PrintedTo (WithSuper d sector s) (λ b. []) (λ b. search_lines search sector b s) old new
+    × ForBytes (WithSuper d sector s)
+    (λ b. defect ≡ (finds_defects search && any_line (search_lines search sector b s)))
+SearchAnswers search sector s d d' held held' old new (Err (Refused fault)) = ⊥
+SearchAnswers search sector s d d' held held' old new (Err (Run (Read fault))) =
+    Faulted d d' fault.sector × PrintedSome (WithSuper d sector s) (λ b. search_lines search sector b s) old new
+SearchAnswers search sector s d d' held held' old new (Err (Run (Out fault))) =
+    (d' ≡ d) × StoppedIn (WithSuper d sector s) (λ b. search_lines search sector b s) old new
+SearchAnswers search sector s d d' held held' old new (Err NoMemory) = (d' ≡ d) × (new ≡ old) × RefusedOneMore held held'
+
+-- how often a search reads an image after the superblock, in a volume of this layout: `lost` for phase 1 and
+-- the block of each group twice, `owner` for phase 1 and a sweep over all inodes
+abbrev pub search_reads : Search → Layout → ℕ
+search_reads (Inode number) v = 1
+search_reads Fields v = 1
+search_reads Lost v = scan_reads v + 2 * v.ncg
+search_reads (Owner fragment) v = scan_reads v + sweep_reads v
+
+-- what a search takes of the memory, in a volume of this layout: nothing, or what the workspace of a check
+-- holds
+abbrev pub TakesForSearch : Search → Layout → Account → Account → Type 0
+TakesForSearch (Inode number) v held held' = held' ≡ held
+TakesForSearch Fields v held held' = held' ≡ held
+TakesForSearch Lost v held held' = AsksMemory held held' (held_of v)
+TakesForSearch (Owner fragment) v held held' = AsksMemory held held' (held_of v)
+
+-- a search in a volume with this accepted superblock: what it printed, what it took of the memory, and how
+-- often it read the image
+pub record Searches (search : Search) (sector : Option ℕ) (s : Superblock) (d d' : Device) (held held' : Account)
+    (before after : ℕ) (old new : Sink) (result : Result Bool FindFault) : Type 0 where
+  pub answer : SearchAnswers search sector s d d' held held' old new result
+  pub memory : TakesForSearch search s.layout held held'
+  pub reads : after ≤ before + search_reads search s.layout
 
 -- a text was printed, or a prefix of it where the output failed
 abbrev pub IsPrintedOrBrokeOff : Sink → Sink → List ℕ → Type 0
@@ -132,26 +167,33 @@ FindEnds command d d' held held' old new status =
     AllFound command d d' old new status ⊎ (CutByRead command d d' old new status
     ⊎ (BrokeOffAmong command d d' old new status ⊎ HadNoMemory d d' held held' old new status))
 
--- the bytes of memory that a command takes: `copies` a window
-abbrev pub memory_of : Command → ℕ
-memory_of Copies = 65536
-memory_of (InVolume sector search) = 0
+-- what a command takes of the memory: `copies` a window, `lost` and `owner` the workspace of a check
+abbrev pub TakesMemory : Command → Device → Account → Account → Type 0
+TakesMemory Copies d held held' = AsksMemory held held' 65536
+TakesMemory (InVolume sector (Inode number)) d held held' = held' ≡ held
+TakesMemory (InVolume sector Fields) d held held' = held' ≡ held
+TakesMemory (InVolume sector Lost) d held held' = Takes d sector held held'
+TakesMemory (InVolume sector (Owner fragment)) d held held' = Takes d sector held held'
 
--- these bytes were granted, or nothing was, or a request was refused
-abbrev pub TakesMemory : Command → Account → Account → Type 0
-TakesMemory command held held' =
-    (held' ≡ held) ⊎ (Granted held held' (memory_of command) ⊎ GaveUp held held' (memory_of command))
+-- the volume is accepted, and lies in the image: after its superblock a search reads as its layout says
+pub record ReadsVolume (search : Search) (sector : Option ℕ) (d : Device) (before after : ℕ) : Type 0 where
+  pub found : Superblock
+  pub accepted : ForContents d.contents (λ b. outcome b sector ≡ Ok found)
+  pub sound : IsAcceptedLayout found.layout
+  pub inside : found.layout.size * found.layout.fsize ≤ d.size
+  pub reads : after ≤ before + opening_reads + search_reads search found.layout
 
--- how often a command reads an image: in a volume twice for the superblock, and once more
+-- how often a command reads an image: in a volume the superblock, and what a search reads after it
 abbrev pub ReadsWithin : Command → Device → ℕ → ℕ → Type 0
-ReadsWithin Copies d reads reads' = ReadsCopies d reads reads'
-ReadsWithin (InVolume sector search) d reads reads' = reads' ≤ reads + 3
+ReadsWithin Copies d before after = ReadsCopies d before after
+ReadsWithin (InVolume sector search) d before after =
+    (after ≤ before + opening_reads) ⊎ ReadsVolume search sector d before after
 
 -- a command was looked for, but for the line of a fault
 pub record Looks (command : Command) (d d' : Device) (held held' : Account) (before after : ℕ) (old new : Sink)
     (result : Result Bool FindFault) : Type 0 where
   pub answers : Answers command d d' held held' old new result
-  pub memory : TakesMemory command held held'
+  pub memory : TakesMemory command d held held'
   pub reads : ReadsWithin command d before after
 
 -- a command was looked for: what was printed and the status, what was taken of the memory, and how often
@@ -159,5 +201,5 @@ pub record Looks (command : Command) (d d' : Device) (held held' : Account) (bef
 pub record FindsCommand (command : Command) (d d' : Device) (held held' : Account) (before after : ℕ) (old new : Sink)
     (status : ℕ) : Type 0 where
   pub ends : FindEnds command d d' held held' old new status
-  pub memory : TakesMemory command held held'
+  pub memory : TakesMemory command d held held'
   pub reads : ReadsWithin command d before after

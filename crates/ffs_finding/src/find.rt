@@ -1,15 +1,19 @@
 //! Looks in an image for what is asked for, and says how that ended.
-ghost use Rattle.std.specs.Prelude.{◌≡◌, ◌+◌, ◌*◌, ◌≤◌};
+ghost use Rattle.std.specs.Prelude.{◌≡◌, ◌+◌, ◌*◌, ◌≤◌, ℕ, Option};
 ghost use Rattle.ffs_volume.specs.{Messages.Texts.text_of, Report.Opening.fault_line};
 ghost use Rattle.ffs_report.specs.{Lines.message_of, Sink.Prints};
 ghost use Rattle.ffs_layout.specs.Super.{superblock_in};
 ghost use Rattle.ffs_finding.specs.Whole.{EndsBy, FindsCommand, Looks, Searches, status_of_answer};
 ghost use Rattle.ffs_finding.specs.declared.find.FindFault.TheVariants.{Run, NoMemory};
+ghost use Rattle.ffs_finding.specs.declared.request.Search.TheVariants.{Lost, Owner};
 ghost use Rattle.ffs_finding.specs.declared.request.Command.TheVariants.{Copies, InVolume};
 
+use crate::claims::claimed_workspace;
 use crate::copies::{WINDOW_BYTES, find_copies};
 use crate::fields::find_wrong_fields;
 use crate::inode::find_inode;
+use crate::lost::find_lost;
+use crate::owner::find_owner;
 use crate::request::{Command, Search};
 use ffs_check::run::NOT_COMPLETED;
 use ffs_image::Image;
@@ -22,7 +26,7 @@ use std::alloc::AllocError;
 
 /// What ends a command before its end.
 #[derive(Clone, Copy, Debug)]
-enum FindFault {
+pub(crate) enum FindFault {
     /// The superblock is refused, or can't be read.
     Refused(SuperFault),
     /// A later read failed, or the output did.
@@ -81,30 +85,77 @@ fn end<W: Output>(answer: Result<bool, FindFault>, out: &mut W) -> u8
     NOT_COMPLETED
 }
 
+/// Runs phase 1 of a check, and looks for fragments that are lost, or marked as free though they are used.
+///
+/// # Errors
+/// A read of the image or a write failed, or the memory was refused.
+fn look_for_lost<M: Memory, I: Image, W: Output>(
+    memory: &mut M,
+    image: &mut I,
+    superblock: &Super,
+    out: &mut W,
+) -> Result<bool, FindFault>
+    requires volume { superblock.now.geometry.layout.size * superblock.now.geometry.layout.fsize
+        ≤ (I.device image.old).size }
+    ensures { (sector : Option ℕ) → Searches Lost sector (superblock_in superblock.now)
+        (I.device image.old) (I.device image.new) (M.account memory.old) (M.account memory.new)
+        (I.reads image.old) (I.reads image.new) (W.sink out.old) (W.sink out.new) result }
+{
+    let geometry = &superblock.geometry;
+    let mut workspace = claimed_workspace(memory, image, geometry)?;
+    Ok(find_lost(image, geometry, &mut workspace, out)?)
+}
+
+/// Runs phase 1 of a check, and looks for what a fragment belongs to.
+///
+/// # Errors
+/// A read of the image or a write failed, or the memory was refused.
+fn look_for_owner<M: Memory, I: Image, W: Output>(
+    memory: &mut M,
+    image: &mut I,
+    superblock: &Super,
+    fragment: u32,
+    out: &mut W,
+) -> Result<bool, FindFault>
+    requires volume { superblock.now.geometry.layout.size * superblock.now.geometry.layout.fsize
+        ≤ (I.device image.old).size }
+    ensures { (sector : Option ℕ) → Searches (Owner fragment) sector (superblock_in superblock.now)
+        (I.device image.old) (I.device image.new) (M.account memory.old) (M.account memory.new)
+        (I.reads image.old) (I.reads image.new) (W.sink out.old) (W.sink out.new) result }
+{
+    let geometry = &superblock.geometry;
+    let mut workspace = claimed_workspace(memory, image, geometry)?;
+    find_owner(image, geometry, &mut workspace, fragment, out)?;
+    Ok(false)
+}
+
 /// Looks for something in a volume with an accepted superblock, and returns whether a defect was
 /// found.
 ///
 /// # Errors
-/// A read of the image that failed, and a write that failed.
-fn search<I: Image, W: Output>(
+/// A read of the image or a write failed, or the memory was refused.
+fn search<M: Memory, I: Image, W: Output>(
+    memory: &mut M,
     image: &mut I,
     sector: Option<u32>,
     search: Search,
     superblock: &Super,
     out: &mut W,
-) -> Result<bool, RunFault>
+) -> Result<bool, FindFault>
     requires volume { superblock.now.geometry.layout.size * superblock.now.geometry.layout.fsize
         ≤ (I.device image.old).size }
     ensures { Searches search sector (superblock_in superblock.now) (I.device image.old)
-        (I.device image.new) (I.reads image.old) (I.reads image.new) (W.sink out.old)
-        (W.sink out.new) result }
+        (I.device image.new) (M.account memory.old) (M.account memory.new) (I.reads image.old)
+        (I.reads image.new) (W.sink out.old) (W.sink out.new) result }
 {
     match search {
         Search::Inode { number } => {
             find_inode(image, &superblock.geometry, number, out)?;
             Ok(false)
         }
-        Search::Fields => find_wrong_fields(image, sector, superblock, out),
+        Search::Fields => Ok(find_wrong_fields(image, sector, superblock, out)?),
+        Search::Lost => look_for_lost(memory, image, superblock, out),
+        Search::Owner { fragment } => look_for_owner(memory, image, superblock, fragment, out),
     }
 }
 
@@ -121,7 +172,7 @@ fn look_in_volume<M: Memory, I: Image, W: Output>(
         (W.sink out.old) (W.sink out.new) result }
 {
     match read_super(image, sector) {
-        Ok(superblock) => Ok(search(image, sector, what, &superblock, out)?),
+        Ok(superblock) => search(memory, image, sector, what, &superblock, out),
         Err(fault) => Err(FindFault::Refused(fault)),
     }
 }

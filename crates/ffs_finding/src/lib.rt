@@ -24,10 +24,14 @@
 //! and for a window, and on `clap` for the words.
 #![tactic(auto)]
 
+mod claims;
 mod copies;
 mod fields;
 mod find;
+mod group_map;
 mod inode;
+mod lost;
+mod owner;
 pub mod request;
 pub mod run;
 mod words;

@@ -1,9 +1,10 @@
 //! The words of the command line.
-ghost use Rattle.std.specs.Prelude.{◌≡◌, None, map, IfOk, MatchResult};
+ghost use Rattle.std.specs.Prelude.{◌≡◌, None, map, IfOk, MatchOption, MatchResult};
 ghost use Rattle.clap.specs.{Words.{app_of, kind_of}, declared.error.kind.ErrorKind.TheVariants.OutOfMemory};
 ghost use Rattle.ffs_check.specs.CommandWords.{IsArgument, sector_rule};
 ghost use Rattle.ffs_finding.specs.CommandWords.{AreRefusedBy, HasMatches, HaveOperands, image_rule, needed_rule, no_write_rule, program};
-ghost use Rattle.ffs_finding.specs.Operands.{SaysOf, operands_in};
+ghost use Rattle.ffs_finding.specs.declared.request.Search.{Search};
+ghost use Rattle.ffs_finding.specs.Operands.{IsSearch, SaysOf, operands_in};
 
 use crate::request::{Command as Asked, Search};
 use clap::{Arg, ArgAction, ArgMatches, Command, Error};
@@ -131,6 +132,25 @@ fn plain_request<'a>(operands: &Operands<'a>) -> Option<Request<'a>>
         let command = Asked::InVolume { sector, search };
         return Some(Request { name, command });
     }
+    if operands.command == "lost" {
+        let search = Search::Lost;
+        let command = Asked::InVolume { sector, search };
+        return Some(Request { name, command });
+    }
+    None
+}
+
+/// What a command looks for by a number, if it is such a command.
+fn numbered_search(command: &str, number: u32) -> Option<Search>
+    ensures { MatchOption result ((search : Search) → IsSearch command.now number search → ⊥)
+        (IsSearch command.now number) }
+{
+    if command == "inode" {
+        return Some(Search::Inode { number });
+    }
+    if command == "owner" {
+        return Some(Search::Owner { fragment: number });
+    }
     None
 }
 
@@ -142,15 +162,14 @@ pub(crate) fn request_of<'a>(operands: &Operands<'a>) -> Option<Request<'a>>
     let Some(name) = operands.second else {
         return plain_request(operands);
     };
-    if operands.command != "inode" {
+    let Ok(number) = operands.first.parse::<u32>() else {
         return None;
-    }
-    match operands.first.parse::<u32>() {
-        Ok(number) => {
-            let search = Search::Inode { number };
+    };
+    match numbered_search(operands.command, number) {
+        Some(search) => {
             let command = Asked::InVolume { sector, search };
             Some(Request { name, command })
         }
-        Err(_) => None,
+        None => None,
     }
 }

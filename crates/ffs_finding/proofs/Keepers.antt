@@ -1,0 +1,101 @@
+-- How an inode is looked at.
+use Rattle.std.proofs.Common.{◌≡◌, ◌∙◌, ℕ, ◌+◌, ◌<◌, ◌≤◌, List, Option, Result, Ok, Err, slice_index, arith, ap, refl, sym, subst}
+use Rattle.ffs_image.specs.Device.{Device}
+use Rattle.ffs_volume.specs.{Blocks.KeptSteps.claims_before, Laws.Geometry.IsAcceptedLayout}
+use Rattle.ffs_volume.specs.{Blocks.{Inodes.inode_of, Steps.steps_of}, declared.{Inode.Inode, Layout.Layout}}
+use Rattle.ffs_report.specs.{Known.{ForBytes, IsContents}, Sink.Sink, PhaseOutcome.ImageAfter}
+use Rattle.ffs_report.specs.declared.fault.RunFault.{RunFault, TheVariants.{Read, Out}}
+use Rattle.ffs_walk.specs.{Windows.KeepsBlocks, declared.blocks.Blocks.Blocks}
+use Rattle.ffs_workspace.specs.{Found.WithPhase1, Lengths.inodes_of, Notes.{cut_in, note_at}, Ready.{IsReady, StaysReady}, declared.workspace.{Windows.Windows, Workspace.Workspace}}
+use Rattle.ffs_finding.specs.{Keepers.{LooksAt, WalksKept}, Outcome.{Finds, PrintsLines}, Owner.lines_of_inode}
+use Rattle.ffs_finding.proofs.{Owners.{inode_lines, inode_runs}, Printing.knowing}
+
+-- lines that are the same
+pub same_lines : {T : Type 0} (knows : List ℕ → Type 0) (all all' : List ℕ → List (List ℕ)) (a b : Sink)
+    (r : Result T RunFault) → ForBytes knows (λ bytes. all bytes ≡ all' bytes) → PrintsLines knows all a b r →
+    PrintsLines knows all' a b r
+same_lines knows all all' a b (Ok x) e p =
+    record { lines = p.lines; right = λ bytes k. p.right bytes k ∙ e bytes k; took = p.took }
+same_lines knows all all' a b (Err (Read fault)) e p = record {
+  rest = p.rest;
+  printed = record {
+    lines = p.printed.lines;
+    right = λ bytes k. p.printed.right bytes k ∙ e bytes k;
+    took = p.printed.took;
+  };
+}
+same_lines knows all all' a b (Err (Out fault)) e p = record {
+  lines = p.lines;
+  rest = p.rest;
+  right = λ bytes k. p.right bytes k ∙ e bytes k;
+  broke_off = p.broke_off;
+}
+
+-- what a walk leaves of the image, where the contents and the size stay
+image_kept : {T : Type 0} (d d' : Device) (r : Result T RunFault) → ImageAfter d d' r →
+    (d'.contents ≡ d.contents) × (d'.size ≡ d.size)
+image_kept d d' (Ok x) h = (ap (λ z. z.contents) h, ap (λ z. z.size) h)
+image_kept d d' (Err (Read fault)) h = (h.contents, h.size)
+image_kept d d' (Err (Out fault)) h = (ap (λ z. z.contents) h, ap (λ z. z.size) h)
+
+-- a workspace is ready after a walk
+ready_after : {v : Layout} {w : Workspace} {b : Blocks} (d d' : Device) → d'.contents ≡ d.contents → d'.size ≡ d.size →
+    KeepsBlocks v d'.contents w.windows.blocks b → IsReady v d w →
+    IsReady v d' (record w { windows = record w.windows { blocks = b } })
+ready_after d d' e size kept r = grind arith
+
+-- an inode was read before, as the image gives it
+pub looks_from : {T : Type 0} {v : Layout} {f x cut count now count' : ℕ} {old new : Sink} {w : Workspace}
+    {windows : Windows} {b : Blocks} {r : Result T RunFault} (i : Inode) (d d1 d' : Device) → d1 ≡ d →
+    ForBytes (IsContents d.contents) (λ bytes. i ≡ inode_of v bytes x) → now ≤ count + 1 →
+    cut ≡ cut_in (slice_index w.notes.items x) → IsReady v d1 (record w { windows = windows }) →
+    WalksKept v f x cut i d1 d' now count' windows.blocks b old new r →
+    LooksAt v f x d d' count count' w (record w { windows = record windows { blocks = b } }) old new r
+looks_from {v = v} {f = f} {x = x} {cut = cut} {old = old} {new = new} {w = w} {windows = windows} {b = b} {r = r}
+    i d d1 d' e h few is ready p =
+    let q = rw (e, is) at p in
+    let image = rw e at p.found.image in
+    let kept = image_kept d d' r image in
+    record {
+      found = record {
+        image = image;
+        text = same_lines (IsContents d.contents) _ _ old new r (λ bytes k. rw (h bytes k) refl) q.found.text;
+      };
+      stays = record {
+        held = refl;
+        ready = ready_after d d' kept.0 kept.1 p.blocks (rw e at ready);
+      };
+      reads = λ bytes k. omega (arith, few, rw (h bytes k) at (q.reads bytes k));
+    }
+
+-- the lines of an inode that was looked at, in a workspace of which only windows have changed
+pub found_lines : {T : Type 0} {v : Layout} {f x count count' : ℕ} {d d' d0 on : Device} {w w' w0 : Workspace}
+    {old new : Sink} {r : Result T RunFault} → d ≡ d0 → StaysReady v on w0 w → IsAcceptedLayout v → 2 ≤ x →
+    x < inodes_of v → LooksAt v f x d d' count count' w w' old new r →
+    PrintsLines (WithPhase1 v d0 w0) (λ b. lines_of_inode v b f x) old new r
+found_lines {v = v} {f = f} {x = x} {d = d} {d0 = d0} {w = w} {w0 = w0} {old = old} {new = new} {r = r} e stays g low
+    high p =
+    let note : ForBytes (WithPhase1 v d0 w0) (λ b. slice_index w.notes.items x ≡ note_at v b x) = λ b k.
+    ap (λ (z : Workspace). slice_index z.notes.items x) stays.held ∙ k.1.notes x in
+    same_lines (WithPhase1 v d0 w0) _ _ old new r
+    (λ b k. inode_lines v b f x (slice_index w.notes.items x) g low high (note b k))
+    (knowing _ (IsContents d.contents) (WithPhase1 v d0 w0) _ old new r (λ b k. ap (λ (z : Device). z.contents) e ∙ k.0)
+    p.found.text)
+
+-- and its reads
+pub found_reads : {T : Type 0} {v : Layout} {f x count count' : ℕ} {d d' d0 on : Device} {w w' w0 : Workspace}
+    {old new : Sink} {r : Result T RunFault} → d ≡ d0 → StaysReady v on w0 w → IsAcceptedLayout v → 2 ≤ x →
+    x < inodes_of v → LooksAt v f x d d' count count' w w' old new r →
+    ForBytes (WithPhase1 v d0 w0) (λ b. count' + (claims_before v b x).runs ≤ count + 1 + (claims_before v b (x + 1)).runs)
+found_reads {v = v} {x = x} {d = d} {w = w} e stays g low high p = λ b k.
+    let note = ap (λ (z : Workspace). slice_index z.notes.items x) stays.held ∙ k.1.notes x in
+    let runs = inode_runs v b x (slice_index w.notes.items x) g low high note in
+    omega (arith, runs, p.reads b (ap (λ (z : Device). z.contents) e ∙ k.0))
+
+-- only windows have changed
+pub stays_then : {v : Layout} {on on' : Device} {u w w' : Workspace} → StaysReady v on u w → StaysReady v on' w w' →
+    StaysReady v on' u w'
+stays_then {w' = w'} p q = record {
+  held = q.held ∙ ap (λ (z : Workspace). record z { windows = w'.windows }) p.held;
+  ready = q.ready;
+}

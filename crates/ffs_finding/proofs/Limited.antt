@@ -1,0 +1,57 @@
+-- What a search through a limited image leaves of the image below it, and of what it printed.
+use Rattle.std.specs.Borrow.{GName}
+use Rattle.std.proofs.Common.{◌≡◌, ◌≤◌, ◌∙◌, ℕ, Bool, true, false, List, arith, sym, Result, Ok, Err, inl, inr}
+use Rattle.std.proofs.lemmas.Bool.{cases_Bool}
+use Rattle.ffs_image.{specs.{Device.Device, Limited.{GivesBack, limited_device}}, proofs.Limits.StaysOver}
+use Rattle.ffs_report.specs.{Known.ForBytes, Sink.Sink, PhaseOutcome.ImageAfter}
+use Rattle.ffs_report.specs.declared.fault.RunFault.{RunFault, TheVariants.{Read, Out}}
+use Rattle.ffs_claims.proofs.Limited.{image_over}
+use Rattle.ffs_finding.specs.Outcome.{Finds, PrintsLines}
+
+-- what the limited image gives back: where no read was refused, the answer is that of the image below;
+-- and the lines, where one was: they are of no known bytes
+module _ {T : Type 0} {lent below : Device} {name_lent name : GName} {reads reads' limit left asked : ℕ} {spent : Bool}
+    {above above' : Device}
+    (g : GivesBack lent below name_lent name reads reads' limit left asked spent above above') where
+  image_through : (r : Result T RunFault) → spent ≡ false → ImageAfter above above' r → ImageAfter lent below r
+  image_through (Ok x) s h = (g.untouched h).1
+  image_through (Err (Read fault)) s h = g.faulted fault.sector h s
+  image_through (Err (Out fault)) s h = (g.untouched h).1
+
+  refused_text : {knows : List ℕ → Type 0} {all : List ℕ → List (List ℕ)} {old new : Sink} (r : Result T RunFault)
+      (x : T) → spent ≡ true → ForBytes knows (λ bytes. spent ≡ false) → ImageAfter above above' r →
+      PrintsLines knows all old new r → PrintsLines knows all old new (Ok x)
+  refused_text (Ok y) x s none h p = p
+  refused_text (Err (Read fault)) x s none h p = record {
+    lines = p.printed.lines;
+    right = λ bytes k. let no : true ≡ false = sym s ∙ none bytes k in absurd (cc);
+    took = p.printed.took;
+  }
+  refused_text (Err (Out fault)) x s none h p =
+      let no : true ≡ false = sym s ∙ (g.untouched h).0 in absurd (cc)
+
+-- what a search over a limited image leaves of the image below, of its lines and of its answer
+pub record SearchServed {T : Type 0} (knows : List ℕ → Type 0) (all : List ℕ → List (List ℕ)) (lent below : Device)
+    (name_lent name : GName) (limit asked : ℕ) (spent : Bool) (old new : Sink) (r : Result T RunFault) : Type 0 where
+  pub same_image : name_lent ≡ name
+  pub few : asked ≤ limit → spent ≡ false
+  pub refused : (x : T) → spent ≡ true → ForBytes knows (λ bytes. spent ≡ false) → Finds knows all lent below old new (Ok x)
+  pub answered : spent ≡ false → Finds knows all lent below old new r
+
+-- the contract of the search, with the clause of the limited image on what is below
+pub search_served : {T : Type 0} {knows : List ℕ → Type 0} {all : List ℕ → List (List ℕ)} {lent below : Device}
+    {name_lent name : GName} {reads reads' limit left asked : ℕ} {s : Bool} {above : Device} {old new : Sink}
+    {r : Result T RunFault} → Finds knows all (limited_device lent name_lent reads limit) above old new r →
+    ((d : Device) (given : GName) (before : ℕ) (most : ℕ) →
+    above.lent ≡ (limited_device d given before most).lent → above.contents ≡ d.contents → above.size ≡ d.size →
+    GivesBack d below given name before reads' most left asked s (limited_device d given before most) above) →
+    SearchServed knows all lent below name_lent name limit asked s old new r
+search_served {lent = lent} {below = below} {name_lent = name_lent} {reads = reads} {limit = limit} {s = s} {r = r} p back =
+    let over = image_over (limited_device lent name_lent reads limit) _ r p.image in
+    let g = back lent name_lent reads limit over.lent over.contents over.size in
+    record {
+      same_image = sym g.same_image;
+      few = λ e. grind arith;
+      refused = λ x e none. record { image = g.refused e; text = refused_text g r x e none p.image p.text };
+      answered = λ e. record { image = image_through g r e p.image; text = p.text };
+    }

@@ -1,0 +1,65 @@
+-- How the walk over the blocks of an inode goes on, and how many steps it has at most.
+use Rattle.std.proofs.Common.{◌≡◌, ℕ, ◌+◌, ◌*◌, ◌-◌, ◌<◌, ◌≤◌, ◌^◌, arith, true, List, Option, Some, None}
+use Rattle.std.proofs.lemmas.Nat.{mul-le}
+use Rattle.ffs_image.specs.Device.{Device}
+use Rattle.ffs_layout.specs.declared.geometry.Geometry.{Geometry}
+use Rattle.ffs_walk.specs.{declared.{blocks.Blocks.Blocks, walk.Walk.Walk}, Windows.{CanWalk, KeepsBlocks}}
+use Rattle.ffs_volume.specs.Encodings.{Replay.{Replay, is_replay_open}, ReplayCounts.seen_run}
+use Rattle.ffs_volume.specs.declared.Step.{Step, TheVariants.{Run, Tail, Gap}}
+use Rattle.ffs_walk.specs.{Counts.entered, Fits.IsSpent, Frames.frame_left, declared.frame.Frame.Frame}
+use Rattle.ffs_finding.specs.Owner.{indirect_in}
+use Rattle.ffs_walk.specs.Rests.{IsAtTop, most_at, most_steps_left}
+
+-- at most how many steps lie under an address, by the words of a block
+most_under : (n m1 m2 m3 : ℕ) → n ≤ 16384 → m1 ≡ 2 + n * 1 → m2 ≡ 2 + n * m1 → m3 ≡ 2 + n * m2 → m3 ≤ 4398583414786
+most_under n m1 m2 m3 few a b c =
+    let first : n * m1 ≤ 16384 * 16386 = mul-le n m1 16384 16386 few (omega arith) in
+    let second : n * m2 ≤ 16384 * 268468226 = mul-le n m2 16384 268468226 few (omega arith) in
+    omega arith
+
+spent_left : (most : ℕ) (f : Frame) → IsSpent f → frame_left most f ≡ 0
+spent_left most f s = let none : f.used - f.next ≡ 0 = omega (arith, s.0) in rw (s.1, none) (omega arith)
+
+pub most_small : (w : Walk) → IsAtTop w → most_steps_left w < 2 ^ 62
+most_small w top =
+    let s = w.geometry.sound.sizes in
+    let n = w.geometry.layout.nindir in
+    let few : n ≤ 16384 = omega (arith, s.nindir, s.bsize_high) in
+    let most : most_at n 3 ≤ 4398583414786 =
+    most_under n (most_at n 1) (most_at n 2) (most_at n 3) few (omega arith) (omega arith) (omega arith) in
+    let all : (w.used - w.next) * most_at n 3 ≤ 15 * 4398583414786 =
+    mul-le (w.used - w.next) (most_at n 3) 15 4398583414786 (omega (arith, w.in_array)) most in
+    let single = spent_left (most_at n 0) w.single top.single in
+    let double = spent_left (most_at n 1) w.double top.double in
+    let triple = spent_left (most_at n 2) w.triple top.triple in
+    rw (single, double, triple) (omega (arith, all))
+
+-- a walk can be gone on with
+pub walk_on : {g k : Geometry} {d0 d : Device} {b0 b : Blocks} → k ≡ g → d ≡ d0 → CanWalk g.layout d0 b0 →
+    KeepsBlocks g.layout d0.contents b0 b → CanWalk k.layout d b
+walk_on same e can kept = grind arith
+
+-- the buffer of blocks is as it was, and holds what the image gives
+pub blocks_on : {g k : Geometry} (d0 d' : Device) {b0 b b' : Blocks} → k ≡ g → d'.contents ≡ d0.contents →
+    KeepsBlocks g.layout d0.contents b0 b → KeepsBlocks k.layout d'.contents b b' →
+    KeepsBlocks g.layout d0.contents b0 b'
+blocks_on d0 d' same e first second = grind arith
+
+-- and after a failed read
+pub blocks_then : {g k : Geometry} {contents contents' : Option (List ℕ)} {b0 b b' : Blocks} → k ≡ g →
+    KeepsBlocks g.layout contents b0 b → KeepsBlocks k.layout contents' b b' →
+    KeepsBlocks g.layout contents' b0 b'
+blocks_then same first second = grind arith
+
+-- each indirect block that is read is paid by its Run
+pub seen_pays : (cut : ℕ) (r : Replay) (step : Step) → is_replay_open cut r ≡ true → entered step ≤ seen_run cut r step
+seen_pays cut r (Run start len None) q = rw q (omega arith)
+seen_pays cut r (Run start len (Some block)) q = omega arith
+seen_pays cut r Tail q = omega arith
+seen_pays cut r Gap q = omega arith
+
+pub one_indirect : (step : Step) → indirect_in step ≤ 1
+one_indirect (Run start len None) = omega arith
+one_indirect (Run start len (Some block)) = omega arith
+one_indirect Tail = omega arith
+one_indirect Gap = omega arith

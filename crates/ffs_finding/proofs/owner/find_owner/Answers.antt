@@ -1,0 +1,94 @@
+use Rattle.std.proofs.Common.{◌≡◌, ◌∙◌, ℕ, ◌<◌, ◌≤◌, Bool, true, false, List, [], ◌∷◌, nat_lt, arith, refl, sym, ap}
+use Rattle.std.proofs.lemmas.{Bool.Decides.nat_tests, Result.err_from_is_err_and}
+use Rattle.ffs_image.specs.Device.{Device}
+use Rattle.ffs_volume.specs.{Blocks.Claims.is_set, Disk.Areas.is_reserved, Laws.Geometry.IsAcceptedLayout, declared.Layout.Layout}
+use Rattle.ffs_maps.specs.Bits.{bits_of}
+use Rattle.ffs_report.specs.Known.{ForBytes}
+use Rattle.ffs_workspace.specs.{Found.WithPhase1, Holds.all_claims, declared.workspace.Workspace.Workspace}
+use Rattle.ffs_finding.specs.{Owner.{keeper_lines, or_lines, owner_lines, reserved_text}, Fields.any_line, Keepers.map_lines}
+use Rattle.ffs_finding.proofs.{Claimed.claimed_is, Keepers.same_lines}
+use Rattle.ffs_finding.proofs.Printing.{knowing, one, one_broken, prints_all, prints_none, stops_all}
+use Rattle.ffs_finding.proofs.owner.find_owner.Goals as goal
+
+no_fragment : (v : Layout) (b : List ℕ) (f : ℕ) → v.size ≤ f → owner_lines v b f ≡ []
+unfolding owner_lines
+no_fragment v b f h = let e : nat_lt f v.size ≡ false = grind (arith, nat_tests) in rw e refl
+
+is_reserved_line : (v : Layout) (b : List ℕ) (f : ℕ) → f < v.size → is_reserved v f ≡ true →
+    owner_lines v b f ≡ reserved_text v f ∷ []
+unfolding owner_lines
+is_reserved_line v b f h r = let e : nat_lt f v.size ≡ true = grind (arith, nat_tests) in rw (e, r) refl
+
+others : (v : Layout) (b : List ℕ) (f : ℕ) → f < v.size → is_reserved v f ≡ false →
+    owner_lines v b f ≡ or_lines (keeper_lines v b f) (map_lines v b f)
+unfolding owner_lines
+others v b f h r = let e : nat_lt f v.size ≡ true = grind (arith, nat_tests) in rw (e, r) refl
+
+first_ones : (xs ys : List (List ℕ)) → any_line xs ≡ true → or_lines xs ys ≡ xs
+first_ones [] ys e = cc
+first_ones (x ∷ xs) ys e = refl
+
+second_ones : (xs ys : List (List ℕ)) → any_line xs ≡ false → or_lines xs ys ≡ ys
+second_ones [] ys e = refl
+second_ones (x ∷ xs) ys e = cc
+
+-- whether the fragment is claimed says which lines there are
+claimed_lines : (v : Layout) (d : Device) (w : Workspace) (f : ℕ) (claimed : Bool) → IsAcceptedLayout v → f < v.size →
+    is_reserved v f ≡ false → claimed ≡ is_set (bits_of w.used) f →
+    ForBytes (WithPhase1 v d w) (λ b. claimed ≡ any_line (keeper_lines v b f))
+claimed_lines v d w f claimed g h r e b k = e ∙ (ap (λ bits. is_set bits f) k.1.used ∙ claimed_is v b f g h r)
+
+pub returns-then-fragment-geometry-clause-prints : goal.returns-then-fragment-geometry-clause-prints
+returns-then-fragment-geometry-clause-prints g c = record {
+  image = refl;
+  text = prints_none (λ b k. no_fragment c.args.geometry.now.layout b c.args.fragment (omega arith));
+}
+
+pub returns-in_err-print_reserved-clause-prints : goal.returns-in_err-print_reserved-clause-prints
+returns-in_err-print_reserved-clause-prints g c =
+    let p = err_from_is_err_and c.from_residual.result c.from_residual.ensures.1 in
+    rw (p.1, p.2) (record {
+      image = refl;
+      text = stops_all (λ b k. is_reserved_line c.args.geometry.now.layout b c.args.fragment (omega arith)
+          (sym c.reserved.ensures ∙ c.if-reserved.true)) (one_broken c.in_err-print_reserved.ensures);
+    })
+
+pub returns-then-reserved-clause-prints : goal.returns-then-reserved-clause-prints
+returns-then-reserved-clause-prints g c = record {
+  image = refl;
+  text = prints_all (λ b k. is_reserved_line c.args.geometry.now.layout b c.args.fragment (omega arith)
+      (sym c.reserved.ensures ∙ c.if-reserved.true)) (one c.in_ok-print_reserved.ensures);
+}
+
+pub returns-then-get-clause-prints : goal.returns-then-get-clause-prints
+returns-then-get-clause-prints g c =
+    let v = c.args.geometry.now.layout in
+    let f = c.args.fragment in
+    let d = g.I.Image.device c.args.image.now in
+    let free = sym c.reserved.ensures ∙ c.if-reserved.false in
+    let some = claimed_lines v d c.args.workspace.now f c.get.result c.args.geometry.now.sound (omega arith) free
+    c.get.ensures in
+    let did = c.find_keepers.ensures.prints in
+    record {
+      image = did.image;
+      text = same_lines (WithPhase1 v d c.args.workspace.now) (λ b. keeper_lines v b f) (λ b. owner_lines v b f) _ _ _
+          (λ b k. sym (others v b f (omega arith) free ∙ first_ones (keeper_lines v b f) (map_lines v b f)
+          (sym (some b k) ∙ c.if-get.true))) did.text;
+    }
+
+pub returns-clause-prints : goal.returns-clause-prints
+returns-clause-prints g c =
+    let v = c.args.geometry.now.layout in
+    let f = c.args.fragment in
+    let d = g.I.Image.device c.args.image.now in
+    let free = sym c.reserved.ensures ∙ c.if-reserved.false in
+    let some = claimed_lines v d c.args.workspace.now f c.get.result c.args.geometry.now.sound (omega arith) free
+    c.get.ensures in
+    let did = c.print_unclaimed.ensures.prints in
+    record {
+      image = did.image;
+      text = same_lines (WithPhase1 v d c.args.workspace.now) (λ b. map_lines v b f) (λ b. owner_lines v b f) _ _ _
+          (λ b k. sym (others v b f (omega arith) free ∙ second_ones (keeper_lines v b f) (map_lines v b f)
+          (sym (some b k) ∙ c.if-get.false)))
+          (knowing _ _ (WithPhase1 v d c.args.workspace.now) _ _ _ _ (λ b k. k.0) did.text);
+    }

@@ -1,0 +1,64 @@
+use Rattle.std.proofs.Common.{◌≡◌, ◌∙◌, ◌+◌, ◌-◌, ◌*◌, ◌/◌, ◌<◌, ◌≤◌, ℕ, List, Bool, true, false, codes, arith, refl, sym}
+use Rattle.std.specs.Int.{div_ceil}
+use Rattle.ffs_volume.specs.{declared.Layout.Layout, Disk.Areas.cgbase, Messages.Texts.number_text}
+use Rattle.ffs_volume.specs.Groups.Records.{bit_at, fragment_map_place}
+use Rattle.ffs_volume.specs.Laws.Geometry.{IsAcceptedLayout}
+use Rattle.ffs_finding.specs.{Lost.{has_map, is_marked_free}, Owner.{group_of_fragment, map_text}}
+use Rattle.ffs_finding.proofs.owner.print_by_map.Goals as goal
+
+no_map : (v : Layout) (block : List ℕ) (f : ℕ) → has_map v block ≡ false → map_text v block f
+    ≡ number_text (codes "no map in group ") (group_of_fragment v f) (codes "\n")
+unfolding map_text
+no_map v block f e = rw e refl
+
+free_text : (v : Layout) (block : List ℕ) (f : ℕ) → has_map v block ≡ true →
+    is_marked_free v block (group_of_fragment v f) f ≡ true → map_text v block f ≡ codes "free\n"
+unfolding map_text
+free_text v block f e b = rw (e, b) refl
+
+lost_text : (v : Layout) (block : List ℕ) (f : ℕ) → has_map v block ≡ true →
+    is_marked_free v block (group_of_fragment v f) f ≡ false → map_text v block f ≡ codes "lost\n"
+unfolding map_text
+lost_text v block f e b = rw (e, b) refl
+
+base_low : (v : Layout) (f : ℕ) → IsAcceptedLayout v →
+    (cgbase v (group_of_fragment v f) ≤ f) × (f < cgbase v (group_of_fragment v f) + v.fpg)
+unfolding cgbase
+base_low v f g = grind arith
+
+-- the bit that is looked at is the one of the definition
+bit_is : (v : Layout) (block : List ℕ) (f base place : ℕ) (bit : Bool) → place ≡ fragment_map_place v block →
+    base ≡ cgbase v (group_of_fragment v f) → bit ≡ bit_at block place (f - base) →
+    is_marked_free v block (group_of_fragment v f) f ≡ bit
+bit_is v block f base place bit e at is = rw (e, at) at (sym is)
+
+pub returns-in_default : goal.returns-in_default
+returns-in_default g c =
+    rw (no_map c.args.geometry.now.layout c.args.block.now c.args.fragment c.in_default.ensures)
+    (rw c.from.ensures at c.print_number.ensures)
+
+pub overflow_sub-index : goal.overflow_sub-index
+overflow_sub-index g c =
+    let low = base_low c.args.geometry.now.layout c.args.fragment c.args.geometry.now.sound in
+    omega (arith, low.0, c.cgbase.ensures.value)
+
+pub is_marked_free-requires : goal.is_marked_free-requires
+is_marked_free-requires g c =
+    let low = base_low c.args.geometry.now.layout c.args.fragment c.args.geometry.now.sound in
+    omega (arith, low.0, low.1, c.cgbase.ensures.value, c.requires.size, c.in-Some.ensures.2)
+
+pub returns-then-is_marked_free : goal.returns-then-is_marked_free
+returns-then-is_marked_free g c =
+    let v = c.args.geometry.now.layout in
+    let map = c.in-Some.ensures in
+    let bit = bit_is v c.args.block.now c.args.fragment c.cgbase.result c.in-Some.place _ map.1 c.cgbase.ensures.value
+    c.is_marked_free.ensures ∙ c.if-is_marked_free.true in
+    rw (free_text v c.args.block.now c.args.fragment map.0 bit) c.print.ensures.prints
+
+pub returns : goal.returns
+returns g c =
+    let v = c.args.geometry.now.layout in
+    let map = c.in-Some.ensures in
+    let bit = bit_is v c.args.block.now c.args.fragment c.cgbase.result c.in-Some.place _ map.1 c.cgbase.ensures.value
+    c.is_marked_free.ensures ∙ c.if-is_marked_free.false in
+    rw (lost_text v c.args.block.now c.args.fragment map.0 bit) c.print-2.ensures.prints

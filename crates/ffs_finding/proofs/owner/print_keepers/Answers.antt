@@ -1,0 +1,133 @@
+use Rattle.std.proofs.Common.{◌≡◌, ◌∙◌, ◌+◌, ◌++◌, ◌<◌, ◌≤◌, ℕ, Bool, true, false, List, [], Result, Err, slice_index, arith, refl, sym, ap}
+use Rattle.std.proofs.lemmas.{Bool.Decides.nat_tests, Result.err_from_is_err_and}
+use Rattle.ffs_volume.specs.{declared.Layout.Layout, Encodings.Kinds.{is_allocated_kind, kind_at}}
+use Rattle.ffs_report.{proofs.Sinks.took_nil, specs.{Known.ForBytes, declared.fault.RunFault.RunFault}}
+use Rattle.ffs_workspace.specs.{Found.WithPhase1, Lengths.inodes_of, Notes.note_at, declared.workspace.Workspace.Workspace}
+use Rattle.ffs_claims.proofs.{Numbers.numbers_most, Rescanned.runs_most, Frames.image_from}
+use Rattle.ffs_finding.specs.Owner.{lines_of_inode}
+use Rattle.ffs_finding.proofs.Keepers.{found_lines, found_reads, stays_then}
+use Rattle.ffs_finding.proofs.Owners.{inode_runs, keepers_begin, keepers_end, keepers_from, keepers_next, no_lines}
+use Rattle.ffs_finding.proofs.Printing.{part, part_fault, printed_all, same_fault}
+use Rattle.ffs_finding.proofs.owner.print_keepers.Goals as goal
+
+pub loop-number-init : goal.loop-number-init
+loop-number-init g c = record {
+  device = refl;
+  stays = record { held = refl; ready = c.requires };
+  low = omega arith;
+  high = λ h. omega arith;
+  paid = λ b k. omega arith;
+  printed = record {
+    lines = [];
+    right = λ b k. keepers_begin c.args.geometry.now.layout b c.args.fragment;
+    took = took_nil _;
+  };
+}
+
+pub returns-in_err-print_keeper : goal.returns-in_err-print_keeper
+returns-in_err-print_keeper g c =
+    let p = err_from_is_err_and c.from_residual.result c.from_residual.ensures.1 in
+    let inv = c.loop-number.invariant in
+    let v = c.args.geometry.now.layout in
+    let n = c.loop-number.number in
+    let f = c.args.fragment in
+    let sound = c.args.geometry.now.sound in
+    let did = c.in_err-print_keeper.ensures in
+    let fault : Result (Unit {0}) RunFault = Err c.in_err-print_keeper.field-0.0 in
+    let high : n < inodes_of v = omega arith in
+    rw (p.1, p.2) (record {
+      found = record {
+        image = image_from (g.I.Image.device c.print_keeper.new.image)
+            fault inv.device did.found.image;
+        text = part_fault (Unit {0}) (Unit {0}) _ _ (λ b. lines_of_inode v b f n) (λ b. keepers_from v b f (n + 1)) _ _ _
+            _ c.in_err-print_keeper.field-0.0 inv.printed (λ b k. keepers_next v b f n high)
+            (found_lines inv.device inv.stays sound inv.low high did);
+      };
+      reads = λ b k. omega (
+        arith,
+        inv.paid b k,
+        found_reads inv.device inv.stays sound inv.low high did b k,
+        runs_most v b (n + 1) (omega (arith, inv.low)) (λ h. omega (arith, high)),
+        high,
+        inv.low,
+      );
+    })
+
+-- an inode that isn't allocated has no line
+unallocated : (k : ℕ) (b : Bool) → b ≡ is_allocated_kind k → b ≡ false → k ≡ 0
+unallocated k b e none = grind (arith, nat_tests)
+
+passed_over : (v : Layout) (b : List ℕ) (f n : ℕ) → 2 ≤ n → n < inodes_of v → kind_at v b n ≡ 0 →
+    keepers_from v b f n ≡ keepers_from v b f (n + 1)
+passed_over v b f n low high e =
+    keepers_next v b f n high ∙ ap (λ ls. ls ++ keepers_from v b f (n + 1)) (no_lines v b f n low high e)
+
+pub loop-number-preserved-then-not-is_allocated : goal.loop-number-preserved-then-not-is_allocated
+loop-number-preserved-then-not-is_allocated g c =
+    let inv = c.loop-number.invariant in
+    let v = c.args.geometry.now.layout in
+    let n = c.loop-number.number in
+    let f = c.args.fragment in
+    let high : n < inodes_of v = omega arith in
+    let free = unallocated _ _ c.is_allocated.ensures c.if-not-is_allocated.true in
+    let knows = WithPhase1 v (g.I.Image.device c.args.image.now) c.args.workspace.now in
+    let kind : ForBytes knows (λ b. kind_at v b n ≡ 0) = λ b k. sym (k.1.kinds n)
+    ∙ (sym (ap (λ (z : Workspace). slice_index z.kinds.items n) inv.stays.held) ∙ free) in
+    let note : ForBytes knows (λ b. slice_index c.loop-number.workspace.notes.items n ≡ note_at v b n) = λ b k.
+    ap (λ (z : Workspace). slice_index z.notes.items n) inv.stays.held ∙ k.1.notes n in
+    record {
+      device = inv.device;
+      stays = inv.stays;
+      low = omega (arith, inv.low);
+      high = λ h. omega (arith, high);
+      paid = λ b k. omega (
+        arith,
+        inv.paid b k,
+        inv.low,
+        inode_runs v b n (slice_index c.loop-number.workspace.notes.items n) c.args.geometry.now.sound inv.low high
+        (note b k),
+      );
+      printed = record {
+        lines = inv.printed.lines;
+        right = λ b k. ap (λ ls. inv.printed.lines ++ ls) (sym (passed_over v b f n inv.low high (kind b k)))
+            ∙ inv.printed.right b k;
+        took = inv.printed.took;
+      };
+    }
+
+pub loop-number-preserved : goal.loop-number-preserved
+loop-number-preserved g c =
+    let inv = c.loop-number.invariant in
+    let v = c.args.geometry.now.layout in
+    let n = c.loop-number.number in
+    let f = c.args.fragment in
+    let sound = c.args.geometry.now.sound in
+    let did = c.in_ok-print_keeper.ensures in
+    let high : n < inodes_of v = omega arith in
+    record {
+      device = did.found.image ∙ inv.device;
+      stays = stays_then inv.stays did.stays;
+      low = omega (arith, inv.low);
+      high = λ h. omega (arith, high);
+      paid = λ b k. omega (arith, inv.paid b k, inv.low, found_reads inv.device inv.stays sound inv.low high did b k);
+      printed = part _ _ (λ b. lines_of_inode v b f n) (λ b. keepers_from v b f (n + 1)) _ _ _ _ inv.printed
+          (λ b k. keepers_next v b f n high) (found_lines inv.device inv.stays sound inv.low high did);
+    }
+
+pub returns : goal.returns
+returns g c =
+    let inv = c.loop-number.invariant in
+    let v = c.args.geometry.now.layout in
+    let n = c.loop-number.number in
+    record {
+      found = record {
+        image = inv.device;
+        text = printed_all _ _ _ _ _ inv.printed (λ b k. keepers_end v b c.args.fragment n (omega arith));
+      };
+      reads = λ b k. omega (
+        arith,
+        inv.paid b k,
+        runs_most v b n inv.low inv.high,
+        numbers_most n (inodes_of v) inv.high,
+      );
+    }

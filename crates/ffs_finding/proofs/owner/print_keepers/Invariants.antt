@@ -1,0 +1,22 @@
+use Rattle.std.proofs.Common.{◌≡◌, ◌+◌, ◌-◌, ◌<◌, ◌≤◌}
+use Rattle.ffs_volume.specs.Blocks.KeptSteps.{claims_before}
+use Rattle.ffs_report.specs.Known.{ForBytes}
+use Rattle.ffs_workspace.specs.{Found.WithPhase1, Lengths.inodes_of, Ready.StaysReady}
+use Rattle.ffs_finding.{specs.{Owner.keeper_lines, Outcome.PrintedTo}, proofs.Owners.keepers_from}
+use Rattle.ffs_finding.proofs.owner.print_keepers.Given as goal
+
+abbrev pub invariant-loop-number : goal.invariant-loop-number
+invariant-loop-number g l =
+    let v = l.geometry.layout in
+    let d = g.I.Image.device l.fn.image in
+    let knows = WithPhase1 v d l.fn.workspace in
+    record {
+      device : g.I.Image.device l.image ≡ d;
+      stays : StaysReady v (g.I.Image.device l.image) l.fn.workspace l.workspace;
+      low : 2 ≤ l.number;
+      high : 2 < l.number → l.number ≤ inodes_of v;
+      paid : ForBytes knows (λ b. g.I.Image.reads l.image
+          ≤ g.I.Image.reads l.fn.image + (l.number - 2) + (claims_before v b l.number).runs);
+      printed : PrintedTo knows (λ b. keepers_from v b l.fragment l.number) (λ b. keeper_lines v b l.fragment)
+          (g.W.Output.sink l.fn.out) (g.W.Output.sink l.out);
+    }

@@ -1,0 +1,25 @@
+use Rattle.std.proofs.Common.{◌≡◌, ℕ, true, List, [], ◌∷◌, Option, arith, refl, sym, inl, inr, append-nil}
+use Rattle.std.{proofs.lemmas.Bool.cases_Bool, specs.List.concat}
+use Rattle.ffs_volume.specs.{Encodings.Replay.{Replay, is_replay_open}, declared.{Layout.Layout, Step.TheVariants.Run}}
+use Rattle.ffs_walk.specs.Keepings.{run_taken}
+use Rattle.ffs_finding.specs.Keepers.{is_in_run, run_text, step_lines_again}
+use Rattle.ffs_finding.proofs.owner.print_step.Goals as goal
+
+text_is : (v : Layout) (f x earlier cut : ℕ) (r : Replay) (start len : ℕ) (block : Option ℕ) (taken : ℕ) →
+    is_replay_open cut r ≡ true → taken ≡ run_taken v cut r start len →
+    run_text f x earlier start taken block ≡ concat (step_lines_again v f x earlier cut r (Run start len block))
+text_is v f x earlier cut r start len block taken going is = rw (going, ← is) (elim (cases_Bool (is_in_run f start taken)) [
+  | inl q ↦ rw q (sym (append-nil _))
+  | inr q ↦ rw q refl
+])
+
+pub returns-in-Run : goal.returns-in-Run
+returns-in-Run g c =
+    let v = c.args.geometry.now.layout in
+    let again = c.take-taken.ensures.replays v c.in-Run.start c.in-Run.block c.in_range.ensures in
+    rw c.in-Run.is (record {
+      text = rw (text_is v c.args.asked.fragment c.args.asked.number c.args.earlier _ _ c.in-Run.start c.in-Run.len
+          c.in-Run.block c.take-taken.result c.requires.going again.count) at c.print_run.ensures;
+      next = again.after;
+      cut = c.take-taken.ensures.cut;
+    })

@@ -1,0 +1,49 @@
+use Rattle.std.proofs.Common.{◌≡◌, ◌∙◌, ℕ, List, [], ◌∷◌, arith, rules, refl, ap}
+use Rattle.std.proofs.lemmas.Result.{err_from_is_err_and}
+use Rattle.ffs_volume.{specs.{declared.Layout.Layout, Disk.Numbers.piece, Groups.Records.group_block}, proofs.AreaLaws.group_below}
+use Rattle.ffs_counts.proofs.RecordPlaces.{block_inside}
+use Rattle.ffs_finding.specs.{Owner.{group_of_fragment, map_text}, Keepers.map_lines}
+use Rattle.ffs_finding.proofs.Printing.{one, one_broken, prints_all, reads_first, stops_all}
+use Rattle.ffs_finding.proofs.owner.print_unclaimed.Goals as goal
+
+pub fill-requires : goal.fill-requires
+fill-requires g c =
+    let v = c.args.geometry.now.layout in
+    let s = c.args.geometry.now.sound in
+    let inside = block_inside v (group_of_fragment v c.args.fragment) s (group_below v c.args.fragment s c.requires.below) in
+    record {
+      room = omega (arith, s.parts.cgsize_high, c.requires.room);
+      inside = omega (arith, inside, c.group_place-place.ensures, c.requires.volume);
+      holds = c.requires.holds;
+    }
+
+lines_are : (v : Layout) (b block : List ℕ) (f : ℕ) → block ≡ group_block v b (group_of_fragment v f) →
+    map_lines v b f ≡ map_text v block f ∷ []
+lines_are v b block f e = rw e refl
+
+pub returns-in_err-fill-clause-prints : goal.returns-in_err-fill-clause-prints
+returns-in_err-fill-clause-prints g c =
+    let p = err_from_is_err_and c.from_residual.result c.from_residual.ensures.1 in
+    rw (p.1, p.2) (record { image = search rules; text = reads_first })
+
+pub returns-in_err-print_by_map-clause-prints : goal.returns-in_err-print_by_map-clause-prints
+returns-in_err-print_by_map-clause-prints g c =
+    let p = err_from_is_err_and c.from_residual-in_err-print_by_map.result
+    c.from_residual-in_err-print_by_map.ensures.1 in
+    let v = c.args.geometry.now.layout in
+    rw (p.1, p.2) (record {
+      image = search rules;
+      text = stops_all (λ b k. lines_are v b c.bytes.result.now c.args.fragment (c.bytes.ensures
+          ∙ (c.in_ok-fill.ensures.fills.bytes b k ∙ ap (λ (n : ℕ). piece n v.cgsize b) c.group_place-place.ensures)))
+          (one_broken c.in_err-print_by_map.ensures);
+    })
+
+pub returns-clause-prints : goal.returns-clause-prints
+returns-clause-prints g c =
+    let v = c.args.geometry.now.layout in
+    record {
+      image = search rules;
+      text = prints_all (λ b k. lines_are v b c.bytes.result.now c.args.fragment (c.bytes.ensures
+          ∙ (c.in_ok-fill.ensures.fills.bytes b k ∙ ap (λ (n : ℕ). piece n v.cgsize b) c.group_place-place.ensures)))
+          (one c.in_ok-print_by_map.ensures);
+    }

@@ -1,0 +1,99 @@
+-- What the program knows of the inodes that keep an offer of a fragment, and what its parts leave.
+use Rattle.std.specs.Prelude.{◌≡◌, ◌+◌, ◌*◌, ◌<◌, ◌≤◌, ◌^◌, ℕ, Bool, true, ◌&&◌, ◌==◌, List, [], ◌∷◌, ◌++◌, length, Option}
+use Rattle.std.specs.Prelude.{if◌then◌else◌, nat_le, nat_lt, slice_index, vec_len, Result}
+use Rattle.std.specs.{List.{concat, list_any}, Int.div_ceil}
+use Rattle.ffs_volume.specs.declared.{Inode.Inode, Layout.Layout}
+use Rattle.ffs_volume.specs.declared.Step.{Step, TheVariants.{Run, Tail, Gap}}
+use Rattle.ffs_volume.specs.{Disk.Areas.group_place, Blocks.{Inodes.inode_of, Steps.steps_of}}
+use Rattle.ffs_volume.specs.Encodings.{Replay.{Replay, fresh_replay, is_replay_open}}
+use Rattle.ffs_volume.specs.Encodings.ReplayCounts.{replay_step_by_cut, replayed_runs}
+use Rattle.ffs_volume.specs.{Report.Whole.run_count, Groups.Records.group_block}
+use Rattle.ffs_image.specs.Device.{Device}
+use Rattle.ffs_report.specs.{Known.{ForBytes, IsContents}, Sink.{Sink, Prints}, declared.fault.RunFault.RunFault}
+use Rattle.ffs_walk.specs.{Keepings.{replay_in, run_taken}, Windows.{KeepsBlocks, WindowHolds}}
+use Rattle.ffs_walk.specs.declared.{blocks.Blocks.Blocks, keeping.Keeping.Keeping, window.Window.Window}
+use Rattle.ffs_workspace.specs.{Found.WithPhase1, Lengths.inodes_of, Notes.cut_in}
+use Rattle.ffs_workspace.specs.{Ready.{IsReady, StaysReady}, declared.workspace.Workspace.Workspace}
+use Rattle.ffs_finding.specs.{Outcome.Finds, Owner.{group_of_fragment, indirect_in, keeper_lines, keeper_text, map_text}}
+
+-- ---- the map of a group
+-- the map of the group of the fragment f can be looked at: the volume has f, and its group block is there
+pub record CanPrintMap (v : Layout) (block : List ℕ) (f : ℕ) : Type 0 where
+  pub below : f < v.size
+  pub size : length block ≡ v.cgsize
+
+-- the group block of the fragment f can be read into a window
+pub record CanReadMap (v : Layout) (d : Device) (w : Window) (f : ℕ) : Type 0 where
+  pub below : f < v.size
+  pub volume : v.size * v.fsize ≤ d.size
+  pub room : vec_len w.buffer ≡ v.bsize
+  pub holds : WindowHolds d.contents w
+
+-- the line of a fragment that nothing claims
+abbrev pub map_lines : (v : Layout) (image : List ℕ) (f : ℕ) → List (List ℕ)
+map_lines v image f = map_text v (group_block v image (group_of_fragment v f)) f ∷ []
+
+-- ---- the kept offers of an inode, replayed
+-- the fragment f is one of the first `taken` ones of a Run
+abbrev pub is_in_run : (f start taken : ℕ) → Bool
+is_in_run f start taken = nat_le start f && nat_lt f (start + taken)
+
+-- the bytes of the line of a Run, where so many of its fragments are kept
+abbrev pub run_text : (f x earlier start taken : ℕ) → Option ℕ → List ℕ
+run_text f x earlier start taken block = if is_in_run f start taken then keeper_text x earlier block else []
+
+-- the lines of a step and of steps
+abbrev pub step_lines_again : Layout → (f x earlier cut : ℕ) → Replay → Step → List (List ℕ)
+step_lines_again v f x earlier cut r (Run start len block) =
+    if is_replay_open cut r && is_in_run f start (run_taken v cut r start len) then keeper_text x earlier block ∷ [] else []
+step_lines_again v f x earlier cut r Tail = []
+step_lines_again v f x earlier cut r Gap = []
+
+unfoldable pub lines_again : Layout → (f x earlier cut : ℕ) → Replay → List Step → List (List ℕ)
+lines_again v f x earlier cut r [] = []
+lines_again v f x earlier cut r (step ∷ steps) =
+    step_lines_again v f x earlier cut r step
+    ++ lines_again v f x (earlier + indirect_in step) cut (replay_step_by_cut v cut r step) steps
+
+-- a step can be gone over: the inode isn't cut before it, and one more indirect block can be counted
+pub record CanPrintStep (k : Keeping) (earlier : ℕ) : Type 0 where
+  pub going : is_replay_open k.cut (replay_in k) ≡ true
+  pub room : earlier + 1 < 2 ^ 64
+
+-- a step was gone over: its line was printed, if it has one, and the replay goes on
+pub record PrintsStep {T E : Type 0} (v : Layout) (f x earlier : ℕ) (step : Step) (k k' : Keeping) (old new : Sink)
+    (result : Result T E) : Type 0 where
+  pub text : Prints old new (concat (step_lines_again v f x earlier k.cut (replay_in k) step)) result
+  pub next : replay_in k' ≡ replay_step_by_cut v k.cut (replay_in k) step
+  pub cut : k'.cut ≡ k.cut
+
+-- an inode with this cut was walked over: its lines were printed, and the image was read at most once for
+-- each Run that is seen
+pub record WalksKept {T : Type 0} (v : Layout) (f x cut : ℕ) (inode : Inode) (d d' : Device) (count count' : ℕ)
+    (before after : Blocks) (old new : Sink) (result : Result T RunFault) : Type 0 where
+  pub found : Finds (IsContents d.contents) (λ b. lines_again v f x 0 cut fresh_replay (steps_of v inode b)) d d' old
+      new result
+  pub blocks : KeepsBlocks v d'.contents before after
+  pub reads : ForBytes (IsContents d.contents)
+      (λ b. count' ≤ count + replayed_runs v cut fresh_replay (steps_of v inode b))
+
+-- the inode x can be looked at
+pub record CanLookAt (v : Layout) (d : Device) (w : Workspace) (x : ℕ) : Type 0 where
+  pub ready : IsReady v d w
+  pub number : x < inodes_of v
+
+-- the inode x was looked at: its lines were printed, by its noted cut, and only windows have changed
+pub record LooksAt {T : Type 0} (v : Layout) (f x : ℕ) (d d' : Device) (count count' : ℕ) (w w' : Workspace)
+    (old new : Sink) (result : Result T RunFault) : Type 0 where
+  pub found : Finds (IsContents d.contents) (λ b. lines_again v f x 0 (cut_in (slice_index w.notes.items x)) fresh_replay
+      (steps_of v (inode_of v b x) b)) d d' old new result
+  pub stays : StaysReady v d' w w'
+  pub reads : ForBytes (IsContents d.contents) (λ b. count' ≤ count + 1
+      + replayed_runs v (cut_in (slice_index w.notes.items x)) fresh_replay (steps_of v (inode_of v b x) b))
+
+-- all inodes were looked at: their lines were printed, and the image was read at most once for each inode
+-- and once for each Run that is seen
+pub record LooksAtAll {T : Type 0} (v : Layout) (f : ℕ) (d d' : Device) (count count' : ℕ) (w : Workspace)
+    (old new : Sink) (result : Result T RunFault) : Type 0 where
+  pub found : Finds (WithPhase1 v d w) (λ b. keeper_lines v b f) d d' old new result
+  pub reads : ForBytes (WithPhase1 v d w) (λ b. count' ≤ count + inodes_of v + run_count v b)

@@ -1,0 +1,357 @@
+//! `owner`: to what a fragment belongs.
+ghost use Rattle.std.specs.Prelude.{◌≡◌, ◌+◌, ◌*◌, ◌/◌, ◌≤◌, ◌<◌, ◌^◌, length, true, slice_index, vec_len};
+ghost use Rattle.ffs_volume.specs.Disk.Areas.{is_reserved};
+ghost use Rattle.ffs_volume.specs.{Blocks.Inodes.inode_of, Encodings.{Kinds.is_allocated_kind, Replay.is_replay_open}, Report.Reads.sweep_reads, Groups.Records.bit_at};
+ghost use Rattle.ffs_report.specs.{Known.IsContents, Sink.Prints};
+ghost use Rattle.ffs_walk.specs.{Keepings.replay_in, Windows.CanWalk};
+ghost use Rattle.ffs_workspace.specs.{Found.WithPhase1, Notes.cut_in, Ready.IsReady};
+ghost use Rattle.ffs_finding.specs.Owner.{indirect_in, keeper_text, keeper_lines, map_text, owner_lines, part_text, reserved_text, table_text};
+ghost use Rattle.ffs_finding.specs.{Outcome.Finds};
+ghost use Rattle.ffs_finding.specs.Keepers.{CanLookAt, CanPrintMap, CanPrintStep, CanReadMap, map_lines, LooksAt, LooksAtAll, PrintsStep, WalksKept, is_in_run, run_text};
+
+use crate::group_map::{is_marked_free, map_place};
+use ffs_image::{Image, LimitedImage};
+use ffs_layout::Geometry;
+use ffs_report::print::{print, print_number, print_pieces};
+use ffs_report::{OutFault, Output, Piece, RunFault};
+use ffs_volume::constants::DINODE_SIZE;
+use ffs_volume::{Inode, Step};
+use ffs_walk::{Blocks, Keeping, Walk, Window};
+use ffs_workspace::{Workspace, sweep_reads};
+
+/// Prints which fragment of the inode table of a group this is, by its inodes.
+fn print_table<W: Output>(
+    out: &mut W,
+    geometry: &Geometry,
+    group: u32,
+    index: u32,
+) -> Result<(), OutFault>
+    requires { group < geometry.now.layout.ncg }
+    ensures { Prints (W.sink out.old) (W.sink out.new) (table_text geometry.now.layout group index)
+        result }
+{
+    let inodes = u64::from(geometry.layout.ipg);
+    let count = u64::from(geometry.layout.fsize) / DINODE_SIZE as u64;
+    let before = u64::from(index) * count;
+    if before >= inodes {
+        return print_number(out, b"inode table of group ", u64::from(group), b"\n");
+    }
+    let first = u64::from(group) * inodes + before;
+    print_pieces(
+        out,
+        &[
+            Piece::Text(b"inode table of group "),
+            Piece::Number(u64::from(group), b", inodes "),
+            Piece::Number(first, b" to "),
+            Piece::Number(first + count - 1, b"\n"),
+        ],
+    )
+}
+
+/// Prints which part of the metadata of a group a fragment belongs to.
+#[tactic(auto, unfolding(crate::specs::Owner::part_text))]
+fn print_part<W: Output>(
+    out: &mut W,
+    geometry: &Geometry,
+    group: u32,
+    fragment: u32,
+) -> Result<(), OutFault>
+    requires { group < geometry.now.layout.ncg }
+    ensures { Prints (W.sink out.old) (W.sink out.new)
+        (part_text geometry.now.layout group fragment) result }
+{
+    let start = geometry.cgstart(group);
+    if fragment < start + geometry.layout.cblkno {
+        return print_number(out, b"superblock of group ", u64::from(group), b"\n");
+    }
+    let table = start + geometry.layout.iblkno;
+    if fragment < table {
+        return print_number(out, b"group block of group ", u64::from(group), b"\n");
+    }
+    print_table(out, geometry, group, fragment - table)
+}
+
+/// Prints what a reserved fragment belongs to.
+#[tactic(auto, using(ffs_volume::proofs::AreaLaws::group_below), unfolding(crate::specs::Owner::reserved_text))]
+fn print_reserved<W: Output>(
+    out: &mut W,
+    geometry: &Geometry,
+    fragment: u32,
+) -> Result<(), OutFault>
+    requires { fragment < geometry.now.layout.size }
+    ensures { Prints (W.sink out.old) (W.sink out.new)
+        (reserved_text geometry.now.layout fragment) result }
+{
+    if fragment < geometry.cgsblock(0) {
+        return print(out, b"boot area\n");
+    }
+    let summary = geometry.layout.csaddr;
+    let fragments = geometry.layout.cssize.div_ceil(geometry.layout.fsize);
+    if summary <= fragment && fragment - summary < fragments {
+        return print(out, b"summary\n");
+    }
+    print_part(out, geometry, fragment / geometry.layout.fpg, fragment)
+}
+
+/// Prints whether a fragment that nothing claims is free by the map of its group, or lost.
+fn print_by_map<W: Output>(
+    out: &mut W,
+    geometry: &Geometry,
+    block: &[u8],
+    fragment: u32,
+) -> Result<(), OutFault>
+    requires { CanPrintMap geometry.now.layout block.now fragment }
+    ensures { Prints (W.sink out.old) (W.sink out.new)
+        (map_text geometry.now.layout block.now fragment) result }
+{
+    let group = fragment / geometry.layout.fpg;
+    let Some(place) = map_place(geometry, block) else {
+        return print_number(out, b"no map in group ", u64::from(group), b"\n");
+    };
+    let index = fragment - geometry.cgbase(group);
+    if is_marked_free(block, place, index) {
+        return print(out, b"free\n");
+    }
+    print(out, b"lost\n")
+}
+
+/// Reads the group block of a fragment that nothing claims, and prints whether it is free or lost.
+fn print_unclaimed<I: Image, W: Output>(
+    image: &mut I,
+    geometry: &Geometry,
+    window: &mut Window,
+    fragment: u32,
+    out: &mut W,
+) -> Result<(), RunFault>
+    requires { CanReadMap geometry.now.layout (I.device image.old) window.old fragment }
+    ensures prints { Finds (IsContents (I.device image.old).contents)
+        (λ bytes. map_lines geometry.now.layout bytes fragment) (I.device image.old)
+        (I.device image.new) (W.sink out.old) (W.sink out.new) result }
+    ensures reads { I.reads image.new ≤ I.reads image.old + 1 }
+{
+    let place = geometry.group_place(fragment / geometry.layout.fpg);
+    window.fill(image, place, geometry.layout.cgsize as usize)?;
+    print_by_map(out, geometry, window.bytes(), fragment)?;
+    Ok(())
+}
+
+/// A fragment, and an inode that may keep an offer of it.
+#[derive(Clone, Copy, Debug)]
+struct Asked {
+    fragment: u32,
+    /// The number of the inode.
+    number: u32,
+}
+
+/// Prints the line of a Run, where the fragment is one of its first ones that are taken.
+fn print_run<W: Output>(
+    out: &mut W,
+    asked: Asked,
+    earlier: u64,
+    start: u32,
+    taken: u32,
+    block: Option<u64>,
+) -> Result<(), OutFault>
+    requires { earlier + 1 < 2 ^ 64 }
+    ensures { Prints (W.sink out.old) (W.sink out.new)
+        (run_text asked.fragment asked.number earlier start taken block) result }
+{
+    if asked.fragment < start || asked.fragment - start >= taken {
+        return Ok(());
+    }
+    let number = u64::from(asked.number);
+    let (text, value): (&[u8], u64) = match block {
+        Some(block) => (b" block ", block),
+        None => (b" indirect block ", earlier + 1),
+    };
+    print_pieces(
+        out,
+        &[
+            Piece::Text(b"inode "),
+            Piece::Number(number, text),
+            Piece::Number(value, b"\n"),
+        ],
+    )
+}
+
+/// Prints the line of a step, where an offer of it that is kept is of the fragment.
+fn print_step<W: Output>(
+    out: &mut W,
+    geometry: &Geometry,
+    asked: Asked,
+    keeping: &mut Keeping,
+    earlier: u64,
+    step: Step,
+) -> Result<(), OutFault>
+    requires { CanPrintStep keeping.old earlier }
+    ensures { PrintsStep geometry.now.layout asked.fragment asked.number earlier step keeping.old
+        keeping.new (W.sink out.old) (W.sink out.new) result }
+{
+    match step {
+        Step::Run { start, len, block } => {
+            let taken = keeping.take(len, geometry.in_range(start, len));
+            print_run(out, asked, earlier, start, taken, block)
+        }
+        Step::Tail | Step::Gap => Ok(()),
+    }
+}
+
+/// 1 for the Run of an indirect block, else 0.
+fn indirect_in(step: Step) -> u64
+    ensures { result ≡ indirect_in step }
+{
+    match step {
+        Step::Run { block: None, .. } => 1,
+        _ => 0,
+    }
+}
+
+/// Walks over the blocks of an inode with this cut, and prints a line for each offer of the fragment
+/// that it keeps.
+fn print_kept<I: Image, W: Output>(
+    image: &mut I,
+    geometry: &Geometry,
+    blocks: &mut Blocks,
+    asked: Asked,
+    inode: &Inode,
+    cut: u32,
+    out: &mut W,
+) -> Result<(), RunFault>
+    requires { CanWalk geometry.now.layout (I.device image.old) blocks.old }
+    ensures { WalksKept geometry.now.layout asked.fragment asked.number cut inode.now
+        (I.device image.old) (I.device image.new) (I.reads image.old) (I.reads image.new)
+        blocks.old blocks.new (W.sink out.old) (W.sink out.new) result }
+{
+    let mut keeping = Keeping::start(cut);
+    let mut walk = Walk::start(geometry, inode);
+    let mut earlier = 0;
+    while let Some(step) = walk.next(image, blocks)? {
+        print_step(out, geometry, asked, &mut keeping, earlier, step)?;
+        if !keeping.is_replay_open() {
+            break;
+        }
+        earlier += indirect_in(step);
+        if matches!(step, Step::Gap) {
+            walk.skip_gaps(blocks);
+        }
+    }
+    Ok(())
+}
+
+/// Reads an inode, and prints a line for each offer of the fragment that it keeps.
+fn print_keeper<I: Image, W: Output>(
+    image: &mut I,
+    geometry: &Geometry,
+    workspace: &mut Workspace,
+    asked: Asked,
+    out: &mut W,
+) -> Result<(), RunFault>
+    requires { CanLookAt geometry.now.layout (I.device image.old) workspace.old asked.number }
+    ensures { LooksAt geometry.now.layout asked.fragment asked.number (I.device image.old)
+        (I.device image.new) (I.reads image.old) (I.reads image.new) workspace.old workspace.new
+        (W.sink out.old) (W.sink out.new) result }
+{
+    let windows = &mut workspace.windows;
+    let inode = windows.table.inode(geometry, asked.number, image)?;
+    let cut = workspace.noted_cut(asked.number);
+    print_kept(
+        image,
+        geometry,
+        &mut workspace.windows.blocks,
+        asked,
+        &inode,
+        cut,
+        out,
+    )
+}
+
+/// Whether an inode is allocated, as phase 1 found it: no other one has blocks.
+fn is_allocated(workspace: &Workspace, number: u32) -> bool
+    requires { number < vec_len workspace.now.kinds }
+    ensures { result ≡ is_allocated_kind (slice_index workspace.now.kinds.items number) }
+{
+    workspace.kinds[number as usize] != 0
+}
+
+/// Prints a line for each kept offer of the fragment, with no limit of its own on reads:
+/// `find_keepers` lends it an image that has one.
+fn print_keepers<I: Image, W: Output>(
+    image: &mut I,
+    geometry: &Geometry,
+    workspace: &mut Workspace,
+    fragment: u32,
+    out: &mut W,
+) -> Result<(), RunFault>
+    requires { IsReady geometry.now.layout (I.device image.old) workspace.old }
+    ensures { LooksAtAll geometry.now.layout fragment (I.device image.old) (I.device image.new)
+        (I.reads image.old) (I.reads image.new) workspace.old (W.sink out.old) (W.sink out.new)
+        result }
+{
+    for number in 2..geometry.layout.ncg * geometry.layout.ipg {
+        if !is_allocated(workspace, number) {
+            continue;
+        }
+        print_keeper(image, geometry, workspace, Asked { fragment, number }, out)?;
+    }
+    Ok(())
+}
+
+/// Prints a line for each kept offer of the fragment. No more reads are made than those of a sweep
+/// (`sweep_reads`): where an image that gives other bytes each time asks for more, it ends there.
+fn find_keepers<I: Image, W: Output>(
+    image: &mut I,
+    geometry: &Geometry,
+    workspace: &mut Workspace,
+    fragment: u32,
+    out: &mut W,
+) -> Result<(), RunFault>
+    requires { IsReady geometry.now.layout (I.device image.old) workspace.old }
+    ensures prints { Finds (WithPhase1 geometry.now.layout (I.device image.old) workspace.old)
+        (λ bytes. keeper_lines geometry.now.layout bytes fragment) (I.device image.old)
+        (I.device image.new) (W.sink out.old) (W.sink out.new) result }
+    ensures reads { I.reads image.new ≤ I.reads image.old + sweep_reads geometry.now.layout }
+{
+    let mut limited = LimitedImage::new(image, sweep_reads(geometry));
+    let found = print_keepers(&mut limited, geometry, workspace, fragment, out);
+    if limited.is_spent() {
+        return Ok(());
+    }
+    found
+}
+
+/// Prints to what a fragment belongs: what it is where it is reserved, else the inodes that keep an
+/// offer of it, ascending, each with the logical block or the indirect block, else whether the map of
+/// its cylinder group (fs(5)) has it as free, or it is lost. Nothing is printed for a fragment that
+/// the volume doesn't have.
+///
+/// The contract gives the lines only for a workspace that holds what phase 1 found. No more reads are
+/// made than those of a sweep over all inodes.
+///
+/// # Errors
+/// A read of the image that failed, and a write that failed.
+pub fn find_owner<I: Image, W: Output>(
+    image: &mut I,
+    geometry: &Geometry,
+    workspace: &mut Workspace,
+    fragment: u32,
+    out: &mut W,
+) -> Result<(), RunFault>
+    requires ready { IsReady geometry.now.layout (I.device image.old) workspace.old }
+    ensures prints { Finds (WithPhase1 geometry.now.layout (I.device image.old) workspace.old)
+        (λ bytes. owner_lines geometry.now.layout bytes fragment) (I.device image.old)
+        (I.device image.new) (W.sink out.old) (W.sink out.new) result }
+    ensures reads { I.reads image.new ≤ I.reads image.old + sweep_reads geometry.now.layout }
+{
+    if fragment >= geometry.layout.size {
+        return Ok(());
+    }
+    if geometry.reserved(fragment) {
+        print_reserved(out, geometry, fragment)?;
+        return Ok(());
+    }
+    if workspace.used.get(fragment) {
+        return find_keepers(image, geometry, workspace, fragment, out);
+    }
+    let window = &mut workspace.windows.current;
+    print_unclaimed(image, geometry, window, fragment, out)
+}
