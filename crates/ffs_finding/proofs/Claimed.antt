@@ -12,7 +12,7 @@ use Rattle.ffs_volume.specs.Blocks.{KeptSteps.claims_before, Owners.{inode_numbe
 use Rattle.ffs_volume.specs.Disk.Areas.{is_fragment_in_range, is_group_metadata, is_reserved, is_run_in_range}
 use Rattle.ffs_volume.specs.{Laws.Geometry.IsAcceptedLayout, declared.{Layout.Layout, Step.{Step, TheVariants.{Run, Tail, Gap}}}}
 use Rattle.ffs_workspace.specs.Holds.{all_claims}
-use Rattle.ffs_finding.specs.Owner.{indirect_in, keeper_lines, keeper_text, keeps_in_step, lines_of_inode, lines_of_step, lines_of_steps}
+use Rattle.ffs_volume.specs.Find.Owner.{indirect_in, keeper_lines, keeper_text, keeps_in_step, lines_of_inode, lines_of_step, lines_of_steps}
 use Rattle.ffs_finding.specs.Fields.{any_line}
 
 -- some offer is of the fragment f

@@ -7,7 +7,8 @@ use Rattle.ffs_report.specs.{Known.{ForBytes, IsContents}, Sink.Sink, PhaseOutco
 use Rattle.ffs_report.specs.declared.fault.RunFault.{RunFault, TheVariants.{Read, Out}}
 use Rattle.ffs_walk.specs.{Windows.KeepsBlocks, declared.blocks.Blocks.Blocks}
 use Rattle.ffs_workspace.specs.{Found.WithPhase1, Lengths.inodes_of, Notes.{cut_in, note_at}, Ready.{IsReady, StaysReady}, declared.workspace.{Windows.Windows, Workspace.Workspace}}
-use Rattle.ffs_finding.specs.{Keepers.{LooksAt, WalksKept}, Outcome.{Finds, PrintsLines}, Owner.lines_of_inode}
+use Rattle.ffs_finding.specs.{Keepers.{LooksAt, WalksKept}, Outcome.{Finds, PrintsLines}}
+use Rattle.ffs_volume.specs.Find.Owner.lines_of_inode
 use Rattle.ffs_finding.proofs.{Owners.{inode_lines, inode_runs}, Printing.knowing}
 
 -- lines that are the same

@@ -8,7 +8,8 @@ use Rattle.ffs_groups.specs.Free.{free_in}
 use Rattle.ffs_maps.specs.Bits.{bits_of}
 use Rattle.ffs_report.specs.{Known.{ForBytes, IsContents}, Sink.Sink}
 use Rattle.ffs_workspace.specs.{declared.workspace.Workspace.Workspace, Found.WithPhase1, Holds.all_claims}
-use Rattle.ffs_finding.specs.{Fields.any_line, Lost.{has_map, lost_lines, stretch_lines}, Outcome.PrintedTo}
+use Rattle.ffs_finding.specs.{Fields.any_line, Outcome.PrintedTo}
+use Rattle.ffs_volume.specs.Find.Lost.{has_map, lost_lines, stretch_lines}
 use Rattle.ffs_finding.specs.LostMaps.{is_wrong_by, lines_of_group, lines_of_groups, no_map_lines, word_of}
 use Rattle.ffs_finding.specs.declared.lost.Wrong.{Wrong, TheVariants.{Lost, MarkedFree}}
 use Rattle.ffs_finding.proofs.{Printing.begins, Ranges.{from_zero, next}, WrongFields.any_more}

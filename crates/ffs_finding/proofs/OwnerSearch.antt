@@ -8,7 +8,8 @@ use Rattle.ffs_report.specs.{Known.{ForBytes, IsContents}, Sink.Sink, declared.f
 use Rattle.ffs_workspace.specs.{Found.WithPhase1, Holds.HoldsPhase1, Lengths.held_of, declared.workspace.Workspace.Workspace}
 use Rattle.ffs_finding.specs.declared.{find.FindFault.{FindFault, TheVariants.{Refused, Run, NoMemory}}}
 use Rattle.ffs_finding.specs.declared.request.Search.TheVariants.{Owner}
-use Rattle.ffs_finding.specs.{Claims.{ClaimsAnswer, TakesClaims}, Fields.WithSuper, Outcome.{Finds, PrintsLines}, Owner.owner_lines}
+use Rattle.ffs_finding.specs.{Claims.{ClaimsAnswer, TakesClaims}, Fields.WithSuper, Outcome.{Finds, PrintsLines}}
+use Rattle.ffs_volume.specs.Find.Owner.owner_lines
 use Rattle.ffs_finding.specs.Whole.{SearchAnswers, Searches}
 use Rattle.ffs_finding.proofs.Printing.{knowing, reads_first}
 

@@ -12,7 +12,7 @@ use Rattle.ffs_volume.specs.Encodings.ReplayCounts.{replay_step_by_cut}
 use Rattle.ffs_volume.specs.declared.{Layout.Layout, Step.{Step, TheVariants.{Run, Tail, Gap}}}
 use Rattle.ffs_walk.specs.Keepings.{run_taken}
 use Rattle.ffs_claims.specs.Rescan.{step_offers_again}
-use Rattle.ffs_finding.specs.{Owner.{indirect_in, keeper_text, lines_of_step, lines_of_steps}}
+use Rattle.ffs_volume.specs.Find.Owner.{indirect_in, keeper_text, lines_of_step, lines_of_steps}
 use Rattle.ffs_finding.specs.Keepers.{is_in_run, lines_again, step_lines_again}
 
 -- ---- the offers that are kept are the first ones

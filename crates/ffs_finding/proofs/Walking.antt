@@ -7,7 +7,7 @@ use Rattle.ffs_walk.specs.{declared.{blocks.Blocks.Blocks, walk.Walk.Walk}, Wind
 use Rattle.ffs_volume.specs.Encodings.{Replay.{Replay, is_replay_open}, ReplayCounts.seen_run}
 use Rattle.ffs_volume.specs.declared.Step.{Step, TheVariants.{Run, Tail, Gap}}
 use Rattle.ffs_walk.specs.{Counts.entered, Fits.IsSpent, Frames.frame_left, declared.frame.Frame.Frame}
-use Rattle.ffs_finding.specs.Owner.{indirect_in}
+use Rattle.ffs_volume.specs.Find.Owner.{indirect_in}
 use Rattle.ffs_walk.specs.Rests.{IsAtTop, most_at, most_steps_left}
 
 -- at most how many steps lie under an address, by the words of a block

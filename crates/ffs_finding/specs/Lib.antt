@@ -1,10 +1,8 @@
 pub mod Outcome
-pub mod Owner
 pub mod Fields
 pub mod Keepers
 pub mod Copies
 pub mod Claims
-pub mod Lost
 pub mod GroupMaps
 pub mod LostMaps
 pub mod Whole

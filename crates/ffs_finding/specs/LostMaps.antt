@@ -8,7 +8,8 @@ use Rattle.ffs_maps.specs.Bits.{bits_of}
 use Rattle.ffs_groups.specs.Free.{free_in}
 use Rattle.ffs_report.specs.{Known.{ForBytes, IsContents}, Sink.{Sink, Prints}, declared.fault.RunFault.RunFault}
 use Rattle.ffs_walk.specs.{Windows.WindowHolds, declared.window.Window.Window}
-use Rattle.ffs_finding.specs.{Fields.any_line, Lost.{lost_of_group, wrongly_free_of_group}, Outcome.Finds}
+use Rattle.ffs_finding.specs.{Fields.any_line, Outcome.Finds}
+use Rattle.ffs_volume.specs.Find.Lost.{lost_of_group, wrongly_free_of_group}
 use Rattle.ffs_finding.specs.declared.lost.{GroupMap.GroupMap, Wrong.{Wrong, TheVariants.{Lost, MarkedFree}}}
 
 -- the word before the fragments of which a map says this wrongly

@@ -5,7 +5,7 @@ ghost use Rattle.ffs_volume.specs.{Blocks.Inodes.inode_of, Encodings.{Kinds.is_a
 ghost use Rattle.ffs_report.specs.{Known.IsContents, Sink.Prints};
 ghost use Rattle.ffs_walk.specs.{Keepings.replay_in, Windows.CanWalk};
 ghost use Rattle.ffs_workspace.specs.{Found.WithPhase1, Notes.cut_in, Ready.IsReady};
-ghost use Rattle.ffs_finding.specs.Owner.{indirect_in, keeper_text, keeper_lines, map_text, owner_lines, part_text, reserved_text, table_text};
+ghost use Rattle.ffs_volume.specs.Find.Owner.{indirect_in, keeper_text, keeper_lines, map_text, owner_lines, part_text, reserved_text, table_text};
 ghost use Rattle.ffs_finding.specs.{Outcome.Finds};
 ghost use Rattle.ffs_finding.specs.Keepers.{CanLookAt, CanPrintMap, CanPrintStep, CanReadMap, map_lines, LooksAt, LooksAtAll, PrintsStep, WalksKept, is_in_run, run_text};
 

@@ -3,3 +3,5 @@
 pub mod Copies
 pub mod InodeText
 pub mod Fields
+pub mod Lost
+pub mod Owner

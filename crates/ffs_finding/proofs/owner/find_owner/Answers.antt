@@ -5,7 +5,8 @@ use Rattle.ffs_volume.specs.{Blocks.Claims.is_set, Disk.Areas.is_reserved, Laws.
 use Rattle.ffs_maps.specs.Bits.{bits_of}
 use Rattle.ffs_report.specs.Known.{ForBytes}
 use Rattle.ffs_workspace.specs.{Found.WithPhase1, Holds.all_claims, declared.workspace.Workspace.Workspace}
-use Rattle.ffs_finding.specs.{Owner.{keeper_lines, or_lines, owner_lines, reserved_text}, Fields.any_line, Keepers.map_lines}
+use Rattle.ffs_finding.specs.{Fields.any_line, Keepers.map_lines}
+use Rattle.ffs_volume.specs.Find.Owner.{keeper_lines, or_lines, owner_lines, reserved_text}
 use Rattle.ffs_finding.proofs.{Claimed.claimed_is, Keepers.same_lines}
 use Rattle.ffs_finding.proofs.Printing.{knowing, one, one_broken, prints_all, prints_none, stops_all}
 use Rattle.ffs_finding.proofs.owner.find_owner.Goals as goal

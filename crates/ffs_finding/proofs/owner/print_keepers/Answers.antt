@@ -4,7 +4,7 @@ use Rattle.ffs_volume.specs.{declared.Layout.Layout, Encodings.Kinds.{is_allocat
 use Rattle.ffs_report.{proofs.Sinks.took_nil, specs.{Known.ForBytes, declared.fault.RunFault.RunFault}}
 use Rattle.ffs_workspace.specs.{Found.WithPhase1, Lengths.inodes_of, Notes.note_at, declared.workspace.Workspace.Workspace}
 use Rattle.ffs_claims.proofs.{Numbers.numbers_most, Rescanned.runs_most, Frames.image_from}
-use Rattle.ffs_finding.specs.Owner.{lines_of_inode}
+use Rattle.ffs_volume.specs.Find.Owner.{lines_of_inode}
 use Rattle.ffs_finding.proofs.Keepers.{found_lines, found_reads, stays_then}
 use Rattle.ffs_finding.proofs.Owners.{inode_runs, keepers_begin, keepers_end, keepers_from, keepers_next, no_lines}
 use Rattle.ffs_finding.proofs.Printing.{part, part_fault, printed_all, same_fault}

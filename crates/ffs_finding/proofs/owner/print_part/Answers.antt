@@ -1,7 +1,7 @@
 use Rattle.std.proofs.Common.{◌≡◌, ◌+◌, ◌<◌, ◌≤◌, ℕ, true, false, nat_lt, codes, arith, refl}
 use Rattle.std.proofs.lemmas.Bool.Decides.{nat_tests}
 use Rattle.ffs_volume.specs.{declared.Layout.Layout, Disk.Areas.cgstart, Messages.Texts.number_text}
-use Rattle.ffs_finding.specs.Owner.{part_text}
+use Rattle.ffs_volume.specs.Find.Owner.{part_text}
 use Rattle.ffs_finding.proofs.owner.print_part.Goals as goal
 
 of_super : (v : Layout) (c f : ℕ) → f < cgstart v c + v.cblkno →

@@ -11,7 +11,7 @@ use Rattle.ffs_volume.specs.Blocks.Claims.{Claims, at_next_inode, after_step}
 use Rattle.ffs_volume.specs.Blocks.{KeptOffers.kept_in_step, KeptSteps.claims_before}
 use Rattle.ffs_volume.specs.Groups.Records.{group_block}
 use Rattle.ffs_volume.specs.Messages.Texts.{number_text}
-use Rattle.ffs_finding.specs.Lost.{has_map, is_marked_free}
+use Rattle.ffs_volume.specs.Find.Lost.{has_map, is_marked_free}
 
 -- the group of a fragment
 abbrev pub group_of_fragment : Layout → ℕ → ℕ
