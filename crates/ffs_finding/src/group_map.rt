@@ -8,7 +8,7 @@ use ffs_volume::constants::CG_MAGIC;
 
 /// Where the map of fragments begins in a group block, in bytes, if it has one: the block has its
 /// magic number, and its maps end within it.
-#[tactic(auto, unfolding(crate::specs::Lost::has_map, ffs_volume::specs::Groups::Records::has_right_magic, ffs_volume::specs::Groups::Records::maps_fit))]
+#[tactic(auto, unfolding(ffs_volume::specs::Find::Lost::has_map, ffs_volume::specs::Groups::Records::has_right_magic, ffs_volume::specs::Groups::Records::maps_fit))]
 pub(crate) fn map_place(geometry: &Geometry, block: &[u8]) -> Option<u32>
     requires { length block.now ≡ geometry.now.layout.cgsize }
     ensures { IsMapPlace geometry.now.layout block.now result }

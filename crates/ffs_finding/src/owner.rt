@@ -49,7 +49,7 @@ fn print_table<W: Output>(
 }
 
 /// Prints which part of the metadata of a group a fragment belongs to.
-#[tactic(auto, unfolding(crate::specs::Owner::part_text))]
+#[tactic(auto, unfolding(ffs_volume::specs::Find::Owner::part_text))]
 fn print_part<W: Output>(
     out: &mut W,
     geometry: &Geometry,
@@ -72,7 +72,7 @@ fn print_part<W: Output>(
 }
 
 /// Prints what a reserved fragment belongs to.
-#[tactic(auto, using(ffs_volume::proofs::AreaLaws::group_below), unfolding(crate::specs::Owner::reserved_text))]
+#[tactic(auto, using(ffs_volume::proofs::AreaLaws::group_below), unfolding(ffs_volume::specs::Find::Owner::reserved_text))]
 fn print_reserved<W: Output>(
     out: &mut W,
     geometry: &Geometry,
