@@ -31,8 +31,8 @@ entries_are g c b t =
 
 -- where it is in the image
 place_is : (g : given.Over) (c : goal.After-find_in_chunks g) →
-    c.part_size-size.result * c.from-2.result ≡ part_size c.args.geometry.now.layout * c.in-Some.part
-place_is g c = rw (c.part_size-size.ensures, c.from-2.ensures) refl
+    c.part_size-size.result * c.from.result ≡ part_size c.args.geometry.now.layout * c.in-Some.part
+place_is g c = rw (c.part_size-size.ensures, c.from.ensures) refl
 
 pub returns-clause-finds : goal.returns-clause-finds
 returns-clause-finds g c =
