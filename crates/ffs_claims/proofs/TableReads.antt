@@ -57,6 +57,18 @@ pub blocks_none : {v : Layout} {x reads reads' runs : ℕ} {t : Table} → reads
     BlocksRead v x reads reads' runs t
 blocks_none few = record { blocks = 0; most = omega arith; passed = inl (omega arith) }
 
+-- inodes that are held, or some of them, are passed over
+pub blocks_later : {v : Layout} {x y reads reads' runs : ℕ} {t : Table} → x ≤ y → BlocksRead v x reads reads' runs t →
+    BlocksRead v y reads reads' runs t
+blocks_later later read = record {
+  blocks = read.blocks;
+  most = read.most;
+  passed = elim read.passed [
+    | inl before ↦ inl (omega (arith, before, later))
+    | inr last ↦ inr (record { count = last.count; ends = last.ends; begun = omega (arith, last.begun, later) })
+  ];
+}
+
 -- the blocks that were read before the inode x, where it isn't held, have their inodes before it
 passed_all : {v : Layout} {x reads now runs : ℕ} {t : Table} → (HoldsInode t x → ⊥) →
     (read : BlocksRead v x reads now runs t) → read.blocks * v.inopb ≤ x

@@ -1,6 +1,6 @@
 -- An inode of zero bytes is free.
-use Rattle.std.proofs.Common.{◌≡◌, ◌*◌, ◌+◌, ◌-◌, ◌≤◌, ℕ, zero, suc, false, List, [], ◌∷◌, length, replicate, Option, arith}
-use Rattle.std.proofs.{Common.{refl, ap, ◌∙◌, sym, drop, vec_len}, lemmas.{Bool.Decides.nat_tests, List.{length-drop, length-take-le}}}
+use Rattle.std.proofs.Common.{◌≡◌, ◌*◌, ◌+◌, ◌-◌, ◌<◌, ◌≤◌, ◌++◌, ℕ, zero, suc, false, List, [], ◌∷◌, length, replicate, Option, arith}
+use Rattle.std.proofs.{Common.{refl, ap, ◌∙◌, sym, subst, drop, vec_len}, lemmas.{Bool.Decides.nat_tests, List.{length-drop, length-take-le}}}
 use Rattle.std.specs.List.{slice_range}
 use Rattle.ffs_image.specs.Device.{ForContents}
 use Rattle.ffs_volume.specs.{Blocks.Inodes.{any_nonzero, class_of, inode_from_bytes, inode_of}, Disk.Numbers.piece}
@@ -11,7 +11,10 @@ use Rattle.ffs_volume.specs.Disk.{Areas.inode_place, Numbers.{i16_at, i32_at, nu
 use Rattle.ffs_walk.specs.{Windows.{WindowHolds, held_bytes}, declared.window.Window.Window}
 use Rattle.ffs_workspace.specs.{Tables.{IsTableOf}, declared.table.Table.Table}
 use Rattle.ffs_workspace.proofs.TablePlaces.{held_there}
-use Rattle.ffs_claims.proofs.Inodes.{free_steps}
+use Rattle.ffs_volume.{proofs.OwnerLaws.before_next, specs.Blocks.{BlockCheck.lines_of_owners, KeptSteps.claims_before}}
+use Rattle.ffs_workspace.specs.{Holds.claims_of, Lengths.{IsFor, inodes_of}, declared.workspace.Workspace.Workspace}
+use Rattle.ffs_claims.proofs.{Inodes.free_steps, Numbers.{FoundTo, found_next, lines_next, stored_free}}
+use Rattle.ffs_claims.specs.Lines.{of_lines, owners_from}
 use Rattle.ffs_claims.specs.ZeroInodes.{HasInodes, IsZeroInode}
 
 -- a list with no number but zero
@@ -62,3 +65,66 @@ pub free_lines : (v : Layout) (bytes : List ℕ) (x : ℕ) (s : Claims) → clas
     owner_lines v s (owner_of v bytes x) ≡ []
 unfolding owner_of
 free_lines v bytes x s free = rw (free, free_steps v _ bytes free) refl
+
+lines_one : (v : Layout) (bytes : List ℕ) (s : Claims) (n : ℕ) → n < inodes_of v → class_of v (inode_of v bytes n) ≡ Free →
+    of_lines (lines_of_owners v s (owners_from v bytes n))
+    ≡ of_lines (lines_of_owners v (at_next_inode s) (owners_from v bytes (n + 1)))
+lines_one v bytes s n low free = lines_next v bytes s (at_next_inode s) n low (sym (free_claims v bytes n s free))
+    ∙ ap (λ lines. of_lines lines ++ of_lines (lines_of_owners v (at_next_inode s) (owners_from v bytes (n + 1))))
+    (free_lines v bytes n s free)
+
+-- ---- the inodes before a number are looked at
+abbrev pub begun_of : Workspace → Workspace
+begun_of w = record w { bad = 0; dups = 0; kept = 0; tail = false }
+
+pub record StandsAt (v : Layout) (bytes : List ℕ) (w : Workspace) (n : ℕ) : Type 0 where
+  pub claims : claims_of w ≡ claims_before v bytes n
+  pub found : FoundTo v bytes w n
+
+-- the inodes from n on and before m are free
+abbrev pub AreFree : Layout → List ℕ → ℕ → ℕ → Type 0
+AreFree v bytes n m = (x : ℕ) → n ≤ x → x < m → class_of v (inode_of v bytes x) ≡ Free
+
+stands_next : {v : Layout} {bytes : List ℕ} {w : Workspace} {n : ℕ} → 2 ≤ n → n < inodes_of v → IsFor v w →
+    class_of v (inode_of v bytes n) ≡ Free → StandsAt v bytes w n → StandsAt v bytes (begun_of w) (n + 1)
+stands_next {v = v} {bytes = bytes} {w = w} {n = n} low high made free at =
+    let now : at_next_inode (claims_of w) ≡ after_owner v (claims_before v bytes n) (owner_of v bytes n) =
+    sym (free_claims v bytes n (claims_of w) free) ∙ ap (λ t. after_owner v t (owner_of v bytes n)) at.claims in
+    record {
+      claims = now ∙ sym (before_next v bytes n low);
+      found = found_next low high made now (rw free (stored_free (inode_of v bytes n) at.found)) at.found;
+    }
+
+stands_over : {v : Layout} {bytes : List ℕ} {w : Workspace} (n k : ℕ) → 2 ≤ n → n + suc k ≤ inodes_of v → IsFor v w →
+    AreFree v bytes n (n + suc k) → StandsAt v bytes w n → StandsAt v bytes (begun_of w) (n + suc k)
+stands_over n zero low high made free at = stands_next low (omega (arith, high)) made (free n (omega arith) (omega arith)) at
+stands_over {v = v} {bytes = bytes} {w = w} n (suc k) low high made free at =
+    let first = stands_next low (omega (arith, high)) made (free n (omega arith) (omega arith)) at in
+    let rest = stands_over {w = begun_of w} (n + 1) k (omega (arith, low)) (omega (arith, high))
+    (grind (arith, made)) (λ x from below. free x (omega (arith, from)) (omega (arith, below))) first in
+    subst (λ m. StandsAt v bytes (begun_of w) m) (omega arith) rest
+
+lines_over : (v : Layout) (bytes : List ℕ) (s : Claims) (n k : ℕ) → n + suc k ≤ inodes_of v →
+    AreFree v bytes n (n + suc k) → of_lines (lines_of_owners v s (owners_from v bytes n))
+    ≡ of_lines (lines_of_owners v (at_next_inode s) (owners_from v bytes (n + suc k)))
+lines_over v bytes s n zero high free = lines_one v bytes s n (omega (arith, high)) (free n (omega arith) (omega arith))
+lines_over v bytes s n (suc k) high free = lines_one v bytes s n (omega (arith, high)) (free n (omega arith) (omega arith))
+    ∙ lines_over v bytes (at_next_inode s) (n + 1) k (omega (arith, high))
+    (λ x from below. free x (omega (arith, from)) (omega (arith, below)))
+    ∙ ap (λ m. of_lines (lines_of_owners v (at_next_inode s) (owners_from v bytes m))) (omega arith)
+
+-- free inodes are passed over, one or more
+pub stands_later : {v : Layout} {bytes : List ℕ} {w : Workspace} {n m : ℕ} → 2 ≤ n → n < m → m ≤ inodes_of v →
+    IsFor v w → AreFree v bytes n m → StandsAt v bytes w n → StandsAt v bytes (begun_of w) m
+stands_later {v = v} {bytes = bytes} {w = w} {n = n} {m = m} low some high made free at =
+    let e : n + suc (m - n - 1) ≡ m = omega (arith, some) in
+    subst (λ x. StandsAt v bytes (begun_of w) x) e (stands_over n (m - n - 1) low (omega (arith, e, high)) made
+    (λ x from below. free x from (omega (arith, e, below))) at)
+
+pub lines_later : (v : Layout) (bytes : List ℕ) (s : Claims) (n m : ℕ) → n < m → m ≤ inodes_of v →
+    AreFree v bytes n m → of_lines (lines_of_owners v s (owners_from v bytes n))
+    ≡ of_lines (lines_of_owners v (at_next_inode s) (owners_from v bytes m))
+lines_later v bytes s n m some high free =
+    let e : n + suc (m - n - 1) ≡ m = omega (arith, some) in
+    lines_over v bytes s n (m - n - 1) (omega (arith, e, high)) (λ x from below. free x from (omega (arith, e, below)))
+    ∙ ap (λ x. of_lines (lines_of_owners v (at_next_inode s) (owners_from v bytes x))) e

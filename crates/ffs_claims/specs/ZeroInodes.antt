@@ -1,9 +1,9 @@
 -- Inodes of which the window on the inode table has no byte that isn't zero.
-use Rattle.std.specs.Prelude.{◌≡◌, ◌*◌, ◌+◌, ◌-◌, ◌≤◌, ℕ, false, vec_len}
+use Rattle.std.specs.Prelude.{◌≡◌, ◌*◌, ◌+◌, ◌-◌, ◌<◌, ◌≤◌, ℕ, false, vec_len}
 use Rattle.std.specs.List.{slice_range}
 use Rattle.ffs_volume.specs.{Blocks.Inodes.any_nonzero, declared.constants.TheConstants.DINODE_SIZE}
 use Rattle.ffs_walk.specs.Windows.{held_bytes}
-use Rattle.ffs_workspace.specs.{Tables.HoldsInode, declared.table.Table.Table}
+use Rattle.ffs_workspace.specs.{Tables.HoldsInode, declared.{table.Table.Table, workspace.Workspace.Workspace}}
 
 -- the window on the inode table has the bytes of each inode that it holds
 pub record HasInodes (t : Table) : Type 0 where
@@ -15,3 +15,23 @@ pub record IsZeroInode (t : Table) (x : ℕ) : Type 0 where
   pub held : HoldsInode t x
   pub zero : any_nonzero (slice_range (held_bytes t.window) (DINODE_SIZE * (x - t.first))
       (DINODE_SIZE * (x - t.first) + DINODE_SIZE)) ≡ false
+
+-- the inodes from a number on and before another one, at most `end`, are inodes of zero bytes that are held
+pub record EndsZeroInodes (t : Table) (number end next : ℕ) : Type 0 where
+  pub low : number ≤ next
+  pub high : next ≤ end
+  pub zero : (x : ℕ) → number ≤ x → x < next → IsZeroInode t x
+
+-- inodes of zero bytes can be passed over from a number on: an inode is before it
+pub record CanPassZeroInodes (w : Workspace) (number end : ℕ) : Type 0 where
+  pub inodes : HasInodes w.windows.table
+  pub some : 0 < number
+  pub order : number ≤ end
+  pub before : number ≤ vec_len w.kinds
+
+-- the inodes of zero bytes from a number on and before another one are passed over. Where there is one,
+-- the counts of the current inode are 0 then; else nothing has changed
+pub record PassesZeroInodes (old new : Workspace) (number end next : ℕ) : Type 0 where
+  pub ends : EndsZeroInodes old.windows.table number end next
+  pub none : next ≡ number → new ≡ old
+  pub some : number < next → new ≡ record old { bad = 0; dups = 0; kept = 0; tail = false }

@@ -1,13 +1,17 @@
 //! The words of an indirect block that are claimed with nothing to report.
 
 ghost use Rattle.std.specs.Prelude.{◌≡◌, ◌^◌, false, IsTrue};
-ghost use Rattle.ffs_walk.specs.HeldWords.{IsInHeldBlock};
+ghost use Rattle.ffs_walk.specs.HeldWords.{CanSeeWord, IsInHeldBlock, next_address};
 ghost use Rattle.ffs_claims.specs.{Claiming.CanSeeNext, SilentWords.{CanClaimWords, ClaimsAddress, ClaimsWords, with_counts}};
 
 use crate::area::DataArea;
-use ffs_layout::Geometry;
-use ffs_walk::Walk;
+use ffs_layout::{Geometry, u32_at};
+use ffs_volume::Order;
+use ffs_walk::{Blocks, Walk};
 use ffs_workspace::Workspace;
+
+/// How many bytes a word has.
+const WORD_BYTES: usize = 4;
 
 /// The counts of a workspace that grow with each word. They are kept apart from it while words are
 /// claimed, and so in registers.
@@ -52,6 +56,45 @@ fn claim_address(
     true
 }
 
+/// The address at the next word of the single indirect block that the walk is in, as
+/// `Walk::next_address` gives it, for an order that is known where this is inlined.
+#[inline(always)]
+fn next_address_in(order: Order, walk: &Walk, blocks: &Blocks) -> u32
+    requires word { CanSeeWord blocks.now walk.now }
+    requires order { order ≡ walk.now.geometry.layout.order }
+    ensures { result ≡ next_address blocks.now walk.now }
+{
+    let block = blocks.bytes(&walk.geometry, 0);
+    u32_at(order, WORD_BYTES * walk.single.next as usize, block)
+}
+
+/// Claims what the next words offer, as `claim_held_words` does, with the counts apart from the
+/// workspace, and for an order that is known where this is inlined.
+#[inline(always)]
+fn claim_words_in(
+    order: Order,
+    workspace: &mut Workspace,
+    counts: &mut Counts,
+    geometry: &Geometry,
+    area: &DataArea,
+    walk: &mut Walk,
+)
+    requires can { CanClaimWords geometry.now (with_counts workspace.old counts.old) area.now
+        walk.old }
+    requires held { IsInHeldBlock workspace.old.windows.blocks walk.old }
+    requires order { order ≡ geometry.now.layout.order }
+    ensures { ClaimsWords geometry.now.layout (with_counts workspace.old counts.old)
+        (with_counts workspace.new counts.new) walk.old walk.new }
+{
+    while walk.has_word() {
+        let address = next_address_in(order, walk, &workspace.windows.blocks);
+        if !claim_address(workspace, counts, geometry, area, address) {
+            return;
+        }
+        walk.pass_word();
+    }
+}
+
 /// Claims what the next words offer, as `claim_held_words` does, with the counts apart from the
 /// workspace.
 #[inline(always)]
@@ -68,12 +111,10 @@ fn claim_counted_words(
     ensures { ClaimsWords geometry.now.layout (with_counts workspace.old counts.old)
         (with_counts workspace.new counts.new) walk.old walk.new }
 {
-    while walk.has_word() {
-        let address = walk.next_address(&workspace.windows.blocks);
-        if !claim_address(workspace, counts, geometry, area, address) {
-            return;
-        }
-        walk.pass_word();
+    // The order is asked for once, and not for each word.
+    match geometry.layout.order {
+        Order::Little => claim_words_in(Order::Little, workspace, counts, geometry, area, walk),
+        Order::Big => claim_words_in(Order::Big, workspace, counts, geometry, area, walk),
     }
 }
 

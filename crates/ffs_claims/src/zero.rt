@@ -1,11 +1,13 @@
 //! Inodes of zero bytes, which are free.
 
-ghost use Rattle.std.specs.Prelude.{◌≡◌, ◌+◌, ◌≤◌, IsTrue, length};
+ghost use Rattle.std.specs.Prelude.{◌≡◌, ◌≤◌, IsTrue};
 ghost use Rattle.ffs_volume.specs.Blocks.Inodes.{any_nonzero};
-ghost use Rattle.ffs_claims.specs.ZeroInodes.{HasInodes, IsZeroInode};
+ghost use Rattle.ffs_claims.specs.ZeroInodes.{CanPassZeroInodes, EndsZeroInodes, HasInodes, IsZeroInode};
+ghost use Rattle.ffs_claims.specs.ZeroInodes.{PassesZeroInodes};
 
+use crate::store::begin;
 use ffs_volume::constants::DINODE_SIZE;
-use ffs_workspace::Table;
+use ffs_workspace::{Table, Workspace};
 
 /// Whether one of the bytes isn't zero. All are looked at, with no test of each that ends the loop:
 /// the machine takes many together.
@@ -23,7 +25,7 @@ fn any_set(bytes: &[u8]) -> bool
 
 /// Whether the window on the inode table holds an inode, and each byte of it is zero.
 #[inline(always)]
-pub fn is_zero_inode(table: &Table, number: u32) -> bool
+fn is_zero_inode(table: &Table, number: u32) -> bool
     requires { HasInodes table.now }
     ensures { IsTrue result → IsZeroInode table.now number }
 {
@@ -32,4 +34,39 @@ pub fn is_zero_inode(table: &Table, number: u32) -> bool
     }
     let at = DINODE_SIZE * (number - table.first) as usize;
     !any_set(&table.window.bytes()[at..at + DINODE_SIZE])
+}
+
+/// The first number from `number` on, below `end`, of an inode that the window doesn't hold or that
+/// has a byte which isn't zero, and `end` where there is none.
+#[inline(never)]
+fn zero_inodes_end(table: &Table, number: u32, end: u32) -> u32
+    requires inodes { HasInodes table.now }
+    requires order { number ≤ end }
+    ensures { EndsZeroInodes table.now number end result }
+{
+    for next in number..end {
+        if !is_zero_inode(table, next) {
+            return next;
+        }
+    }
+    end
+}
+
+/// Passes over the inodes from `number` on, below `end`, that the window holds and that have zero
+/// bytes alone, where the inode before them is free or Partial: free inodes are mostly side by side.
+/// Returns the number of the next inode.
+#[inline(always)]
+pub fn pass_zero_inodes(workspace: &mut Workspace, number: u32, end: u32) -> u32
+    requires { CanPassZeroInodes workspace.old number end }
+    ensures { PassesZeroInodes workspace.old workspace.new number end result }
+{
+    if workspace.kinds[number as usize - 1] != 0 {
+        return number;
+    }
+    let next = zero_inodes_end(&workspace.windows.table, number, end);
+    if next == number {
+        return number;
+    }
+    begin(workspace);
+    next
 }

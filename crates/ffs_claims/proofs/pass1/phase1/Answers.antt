@@ -1,17 +1,16 @@
-use Rattle.std.proofs.{Common.{◌≡◌, ◌++◌, ◌+◌, rules, arith, refl, sym, ◌-◌, ◌≤◌, ◌<◌, ap, ◌∙◌, Err}, lemmas.Result.err_from_is_err_and}
+use Rattle.std.proofs.{Common.{◌≡◌, ◌+◌, rules, arith, refl, sym, ◌-◌, ◌≤◌, ◌<◌, ap, ◌∙◌, Err}, lemmas.Result.err_from_is_err_and}
 use Rattle.ffs_volume.{proofs.OwnerLaws.before_next, specs.Blocks.{BlockCheck.phase1_lines, Claims.after_owner}}
 use Rattle.ffs_volume.specs.{Blocks.{KeptSteps.claims_before, Owners.{owner_of, owners_of}}, Report.Whole.run_count}
 use Rattle.ffs_report.proofs.Reporting.{of_part, of_fault, of_same, reports_knowing, says_heading, stops_heading}
 use Rattle.ffs_report.{proofs.Reporting.said_knows, specs.Known.ForBytes}
 use Rattle.ffs_workspace.specs.{Found.WithFresh, Holds.{claims_of, all_claims}, Lengths.inodes_of}
 use Rattle.ffs_claims.proofs.{Duplicates.{any_set, rescan_is}, Frames.{image_from, ready_begun, ready_still}, Inodes.used_below}
-use Rattle.ffs_claims.proofs.Numbers.{found_begins, found_next, found_all, stored_free, numbers_most, before_first, before_end}
-use Rattle.ffs_claims.proofs.{Numbers.lines_next, TableReads.{blocks_all, blocks_failed, blocks_next, blocks_none}}
+use Rattle.ffs_claims.proofs.Numbers.{found_begins, found_next, found_all, numbers_most, before_first, before_end}
+use Rattle.ffs_claims.proofs.{Numbers.lines_next, TableReads.{blocks_all, blocks_failed, blocks_later, blocks_next, blocks_none}}
 use Rattle.ffs_volume.proofs.Sizes.{some_inodes}
-use Rattle.ffs_volume.specs.Blocks.{BlockCheck.lines_of_owners, Claims.at_next_inode, Inodes.{class_of, inode_of}}
-use Rattle.ffs_volume.specs.declared.Class.TheVariants.{Free}
-use Rattle.ffs_claims.proofs.ZeroInodes.{free_claims, free_lines, free_where_zero, has_inodes}
-use Rattle.ffs_claims.specs.Lines.{of_lines, owners_from}
+use Rattle.ffs_claims.proofs.ZeroInodes.{AreFree, StandsAt, free_where_zero, has_inodes, lines_later, stands_later}
+use Rattle.std.proofs.{Common.{inl, inr, ◌*◌}, lemmas.Bool.cases_lt}
+use Rattle.ffs_volume.specs.Laws.ClaimBounds.{used_bits}
 use Rattle.ffs_claims.proofs.pass1.phase1.Goals as goal
 
 pub returns-in_err-say-clause-prints : goal.returns-in_err-say-clause-prints
@@ -78,63 +77,70 @@ loop-number-preserved g c =
     let after : ForBytes (WithFresh v (g.I.Image.device c.args.image.now) c.args.workspace.now)
     (λ bytes. s' ≡ after_owner v (claims_before v bytes n) (owner_of v bytes n)) = λ bytes k. now bytes (contents ∙ k.0)
     ∙ ap (λ t. after_owner v t (owner_of v bytes n)) (inv.claims bytes k) in
-    record {
-      ready = c.claim_inode.ensures.claims.left.claim;
-      walk = c.claim_inode.ensures.claims.left.walk;
-      device = c.in_ok-claim_inode.ensures.claims.left.image ∙ inv.device;
-      low = omega arith;
-      high = λ h. omega arith;
-      runs = omega (arith, inv.runs, inv.low, c.in_ok-claim_inode.ensures.claims.left.runs_claim);
-      reads = blocks_next c.args.geometry.now.sound c.claim_inode.ensures.table.again
-          c.in_ok-claim_inode.ensures.table.block c.claim_inode.ensures.claims.left.counted inv.reads;
-      again = c.claim_inode.ensures.claims.left.again ∙ inv.again;
-      claims = λ bytes k. after bytes k ∙ sym (before_next v bytes n inv.low);
-      found = λ bytes k. found_next inv.low lt inv.ready.ready.made (after bytes k)
+    let w = c.claim_inode.new.workspace in
+    let next = c.pass_zero_inodes-number.result in
+    let ready = c.claim_inode.ensures.claims.left.claim.ready in
+    let passes = c.pass_zero_inodes-number.ensures in
+    let gives = ap (λ d. d.contents) (c.in_ok-claim_inode.ensures.claims.left.image ∙ inv.device) in
+    let stands : ForBytes (WithFresh v (g.I.Image.device c.args.image.now) c.args.workspace.now)
+    (λ bytes. StandsAt v bytes w (n + 1)) = λ bytes k. record {
+      claims = after bytes k ∙ sym (before_next v bytes n inv.low);
+      found = found_next inv.low lt inv.ready.ready.made (after bytes k)
           (c.in_ok-claim_inode.ensures.stored bytes (contents ∙ k.0)) (inv.found bytes k);
-      said = of_part _ _ _ _ _ _ _ _ inv.said (λ bytes k. lines_next v bytes s s' n lt (now bytes (contents ∙ k.0)))
-          (said_knows _ _ _ _ _ _ (λ bytes k. contents ∙ k.0) c.in_ok-claim_inode.ensures.claims.text);
+    } in
+    let said = of_part _ _ _ _ _ _ _ _ inv.said (λ bytes k. lines_next v bytes s s' n lt (now bytes (contents ∙ k.0)))
+    (said_knows _ _ _ _ _ _ (λ bytes k. contents ∙ k.0) c.in_ok-claim_inode.ensures.claims.text) in
+    let runs : w.runs_seen ≤ used_bits s' + 22 * (n + 1 - 2) =
+    omega (arith, inv.runs, inv.low, c.in_ok-claim_inode.ensures.claims.left.runs_claim) in
+    let reads = blocks_next c.args.geometry.now.sound c.claim_inode.ensures.table.again
+    c.in_ok-claim_inode.ensures.table.block c.claim_inode.ensures.claims.left.counted inv.reads in
+    elim (cases_lt (n + 1) next) [
+      | inl some ↦
+          let free : ForBytes (WithFresh v (g.I.Image.device c.args.image.now) c.args.workspace.now)
+          (λ bytes. AreFree v bytes (n + 1) next) = λ bytes k x from below.
+          free_where_zero ready.made.table ready.windows.table (passes.ends.zero x from below) bytes (gives ∙ k.0) in
+          rw (passes.some some) (record {
+            ready = record { ready = ready_begun refl ready; all_in_range = c.claim_inode.ensures.claims.left.claim.all_in_range };
+            walk = c.claim_inode.ensures.claims.left.walk;
+            device = c.in_ok-claim_inode.ensures.claims.left.image ∙ inv.device;
+            low = omega (arith, some);
+            high = λ h. passes.ends.high;
+            runs = omega (arith, runs, some);
+            reads = blocks_later passes.ends.low reads;
+            again = c.claim_inode.ensures.claims.left.again ∙ inv.again;
+            claims = λ bytes k. (stands_later (omega (arith, inv.low)) some passes.ends.high ready.made (free bytes k)
+                (stands bytes k)).claims;
+            found = λ bytes k. (stands_later (omega (arith, inv.low)) some passes.ends.high ready.made (free bytes k)
+                (stands bytes k)).found;
+            said = of_same _ _ _ _ _ _ said
+                (λ bytes k. lines_later v bytes s' (n + 1) next some passes.ends.high (free bytes k));
+          })
+      | inr none ↦
+          let is : next ≡ n + 1 = omega (arith, none, passes.ends.low) in
+          rw (passes.none is, is) (record {
+            ready = c.claim_inode.ensures.claims.left.claim;
+            walk = c.claim_inode.ensures.claims.left.walk;
+            device = c.in_ok-claim_inode.ensures.claims.left.image ∙ inv.device;
+            low = omega arith;
+            high = λ h. omega arith;
+            runs = runs;
+            reads = reads;
+            again = c.claim_inode.ensures.claims.left.again ∙ inv.again;
+            claims = λ bytes k. (stands bytes k).claims;
+            found = λ bytes k. (stands bytes k).found;
+            said = said;
+          })
+    ]
+
+pub pass_zero_inodes-number-requires : goal.pass_zero_inodes-number-requires
+pass_zero_inodes-number-requires g c =
+    let ready = c.claim_inode.ensures.claims.left.claim.ready in
+    record {
+      inodes = has_inodes ready.made.table ready.windows.table;
+      some = omega arith;
+      order = omega arith;
+      before = omega (arith, ready.made.kinds);
     }
-
-pub is_zero_inode-requires : goal.is_zero_inode-requires
-is_zero_inode-requires g c =
-    let ready = c.loop-number.invariant.ready.ready in has_inodes ready.made.table ready.windows.table
-
-pub loop-number-preserved-then-is_zero_inode : goal.loop-number-preserved-then-is_zero_inode
-loop-number-preserved-then-is_zero_inode g c =
-    let v = c.args.geometry.now.layout in
-    let inv = c.loop-number.invariant in
-    let s = claims_of c.loop-number.workspace in
-    let n = c.loop-number.number in
-    let ready = inv.ready.ready in
-    let contents = ap (λ d. d.contents) inv.device in
-    let lt : n < inodes_of v = omega arith in
-    let zero = c.is_zero_inode.ensures c.if-is_zero_inode.true in
-    let free : ForBytes (WithFresh v (g.I.Image.device c.args.image.now) c.args.workspace.now)
-    (λ bytes. class_of v (inode_of v bytes n) ≡ Free) =
-    λ bytes k. free_where_zero ready.made.table ready.windows.table zero bytes (contents ∙ k.0) in
-    let now : ForBytes (WithFresh v (g.I.Image.device c.args.image.now) c.args.workspace.now)
-    (λ bytes. at_next_inode s ≡ after_owner v s (owner_of v bytes n)) =
-    λ bytes k. sym (free_claims v bytes n s (free bytes k)) in
-    let after : ForBytes (WithFresh v (g.I.Image.device c.args.image.now) c.args.workspace.now)
-    (λ bytes. at_next_inode s ≡ after_owner v (claims_before v bytes n) (owner_of v bytes n)) =
-    λ bytes k. now bytes k ∙ ap (λ t. after_owner v t (owner_of v bytes n)) (inv.claims bytes k) in
-    rw c.begin.ensures (record {
-      ready = record { ready = ready_begun refl ready; all_in_range = inv.ready.all_in_range };
-      walk = inv.walk;
-      device = inv.device;
-      low = omega arith;
-      high = λ h. omega arith;
-      runs = omega (arith, inv.runs, inv.low);
-      reads = blocks_next c.args.geometry.now.sound (λ held. (refl, omega arith)) (λ unheld. absurd (unheld zero.held))
-          (omega arith) inv.reads;
-      again = inv.again;
-      claims = λ bytes k. after bytes k ∙ sym (before_next v bytes n inv.low);
-      found = λ bytes k. found_next inv.low lt ready.made (after bytes k)
-          (rw (free bytes k) (stored_free (inode_of v bytes n) (inv.found bytes k))) (inv.found bytes k);
-      said = of_same _ _ _ _ _ _ inv.said (λ bytes k. lines_next v bytes s (at_next_inode s) n lt (now bytes k)
-          ∙ ap (λ lines. of_lines lines ++ of_lines (lines_of_owners v (at_next_inode s) (owners_from v bytes (n + 1))))
-          (free_lines v bytes n s (free bytes k)));
-    })
 
 pub returns-clause-prints : goal.returns-clause-prints
 returns-clause-prints g c =

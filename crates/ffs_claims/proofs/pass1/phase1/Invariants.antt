@@ -25,3 +25,6 @@ invariant-loop-number g l = let v = l.geometry.layout in
           (λ bytes. phase1 ∷ of_lines (phase1_lines v (owners_of v bytes)))
           (progress g.W.Output.sink l.fn.report) (progress g.W.Output.sink l.report);
     }
+
+abbrev pub decreases-loop-number : goal.decreases-loop-number
+decreases-loop-number g l = l.end - l.number
