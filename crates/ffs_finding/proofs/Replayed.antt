@@ -87,7 +87,7 @@ any_again : (v : Layout) (f x cut : ℕ) (r : Replay) (start len : ℕ) (block :
     ≡ (is_replay_open cut r && is_in_run f start (run_taken v cut r start len))
 any_again v f x cut r start len block =
     let some = any_in_range f x start (run_taken v cut r start len) in
-    elim (cases_Bool (is_replay_open cut r)) [ | inl q ↦ rw q some | inr q ↦ rw q refl ]
+    elim (cases_Bool (is_replay_open cut r)) [ inl q ↦ rw q some | inr q ↦ rw q refl ]
 
 line_again : (v : Layout) (f x earlier cut : ℕ) (s : Claims) (r : Replay) (step : Step) →
     kept_in_step v x s step ≡ step_offers_again v x cut r step →

@@ -128,12 +128,7 @@ fn print_by_map<W: Output>(
     let group = Group::decode(geometry.order(), block);
     let number = fragment / geometry.layout.fpg;
     if !has_map(geometry, &group) {
-        return print_number(
-            out,
-            b"no map in group ",
-            u64::from(number),
-            b"\n",
-        );
+        return print_number(out, b"no map in group ", u64::from(number), b"\n");
     }
     let index = fragment - geometry.cgbase(number);
     if is_bit_set(block, group.freeoff, index) {

@@ -85,7 +85,7 @@ loop-number-preserved-then-not-is_allocated g c =
         inv.paid b k,
         inv.low,
         inode_runs v b n (slice_index c.loop-number.workspace.notes.items n) c.args.geometry.now.sound inv.low high
-        (note b k),
+            (note b k),
       );
       printed = record {
         lines = inv.printed.lines;
