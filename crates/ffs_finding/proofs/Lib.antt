@@ -16,5 +16,9 @@ pub mod ProgramWords
 pub mod CopySteps
 pub mod FieldTexts
 pub mod Claiming
+pub mod Stretches
+pub mod LostGroups
+pub mod LostParts
+pub mod ClaimSearches
 pub mod Searching
 pub mod OwnerSearch

@@ -7,7 +7,7 @@ use Rattle.ffs_volume.specs.{declared.Layout.Layout, Report.Memory.held_limit}
 use Rattle.ffs_volume.specs.{Disk.{Superblock.Superblock, Outcome.outcome}, Laws.Geometry.IsAcceptedLayout}
 use Rattle.ffs_report.specs.{Known.{ForBytes, IsContents}, Sink.Sink, declared.fault.RunFault.TheVariants.{Read, Out}}
 use Rattle.ffs_finding.specs.declared.{find.FindFault.{FindFault, TheVariants.{Refused, Run, NoMemory}}}
-use Rattle.ffs_finding.specs.declared.request.{Search.{Search, TheVariants.{Inode, Fields, Owner}}, Command.TheVariants.InVolume}
+use Rattle.ffs_finding.specs.declared.request.{Search.{Search, TheVariants.{Inode, Fields, Lost, Owner}}, Command.TheVariants.InVolume}
 use Rattle.ffs_finding.specs.{Fields.{WithSuper, any_line}, Outcome.{PrintedTo, PrintedSome, StoppedIn}}
 use Rattle.ffs_finding.specs.Whole.{Answers, Looks, SearchAnswers, Searches, TakesForSearch, TakesMemory, command_lines}
 use Rattle.ffs_finding.specs.Whole.{command_status, finds_defects, lines_by, search_lines, status_by, status_of_answer}
@@ -55,6 +55,8 @@ takes : (search : Search) (sector : Option ℕ) (s : Superblock) (d : Device) (h
     TakesMemory (InVolume sector search) d held held'
 takes (Inode number) sector s d held held' accepted p = p
 takes Fields sector s d held held' accepted p = p
+takes Lost sector s d held held' accepted p =
+    inr (record { found = s; accepted = accepted; asked = p; within = held_within s.layout })
 takes (Owner fragment) sector s d held held' accepted p =
     inr (record { found = s; accepted = accepted; asked = p; within = held_within s.layout })
 
@@ -63,6 +65,7 @@ pub takes_none : (search : Search) (sector : Option ℕ) (d : Device) (held : Ac
     TakesMemory (InVolume sector search) d held held
 takes_none (Inode number) sector d held = refl
 takes_none Fields sector d held = refl
+takes_none Lost sector d held = inl refl
 takes_none (Owner fragment) sector d held = inl refl
 
 -- a search was made after the superblock was read

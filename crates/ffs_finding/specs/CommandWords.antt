@@ -7,7 +7,7 @@ use Rattle.clap.specs.Words.{new_rule, one_of, rows_of, with_rule}
 use Rattle.clap.specs.declared.{error.Error.Error, error.kind.ErrorKind.TheVariants.OutOfMemory}
 use Rattle.clap.specs.declared.{parser.matches.ArgMatches.ArgMatches, builder.ArgAction.TheVariants.{Set, Count}}
 use Rattle.ffs_check.specs.CommandWords.{IsSector, sector_rule}
-use Rattle.ffs_finding.specs.declared.request.{Search.{Search, TheVariants.{Inode, Fields, Owner}}, Command.Command}
+use Rattle.ffs_finding.specs.declared.request.{Search.{Search, TheVariants.{Inode, Fields, Lost, Owner}}, Command.Command}
 use Rattle.ffs_finding.specs.declared.request.Command.TheVariants.{Copies, InVolume}
 
 -- `-n` or `-N` (the letters 110 and 78), each as often as one likes
@@ -97,5 +97,6 @@ AskFor o Copies name = IsPlain (codes "copies") o name × (o.sector ≡ None)
 AskFor o (InVolume sector (Inode number)) name =
     IsNumbered (codes "inode") o number name × (sector ≡ o.sector)
 AskFor o (InVolume sector Fields) name = IsPlain (codes "fields") o name × (sector ≡ o.sector)
+AskFor o (InVolume sector Lost) name = IsPlain (codes "lost") o name × (sector ≡ o.sector)
 AskFor o (InVolume sector (Owner fragment)) name =
     IsNumbered (codes "owner") o fragment name × (sector ≡ o.sector)

@@ -2,14 +2,13 @@
 use Rattle.std.specs.Prelude.{◌≡◌, ◌+◌, ◌*◌, ◌<◌, ◌≤◌, ◌^◌, ℕ, Bool, true, ◌&&◌, ◌==◌, List, [], ◌∷◌, ◌++◌, length, Option}
 use Rattle.std.specs.Prelude.{if◌then◌else◌, nat_le, nat_lt, slice_index, vec_len, Result}
 use Rattle.std.specs.{List.{concat, list_any}, Int.div_ceil}
-use Rattle.ffs_volume.specs.declared.{constants.TheConstants.CG_MAGIC, Inode.Inode, Layout.Layout}
+use Rattle.ffs_volume.specs.declared.{Inode.Inode, Layout.Layout}
 use Rattle.ffs_volume.specs.declared.Step.{Step, TheVariants.{Run, Tail, Gap}}
 use Rattle.ffs_volume.specs.{Disk.Areas.group_place, Blocks.{Inodes.inode_of, Steps.steps_of}}
 use Rattle.ffs_volume.specs.Encodings.{Replay.{Replay, fresh_replay, is_replay_open}}
 use Rattle.ffs_volume.specs.Encodings.ReplayCounts.{replay_step_by_cut, replayed_runs}
 use Rattle.ffs_volume.specs.{Report.Whole.run_count, Groups.Records.group_block}
 use Rattle.ffs_image.specs.Device.{Device}
-use Rattle.ffs_layout.specs.declared.group.Group.{Group}
 use Rattle.ffs_report.specs.{Known.{ForBytes, IsContents}, Sink.{Sink, Prints}, declared.fault.RunFault.RunFault}
 use Rattle.ffs_walk.specs.{Keepings.{replay_in, run_taken}, Windows.{KeepsBlocks, WindowHolds}}
 use Rattle.ffs_walk.specs.declared.{blocks.Blocks.Blocks, keeping.Keeping.Keeping, window.Window.Window}
@@ -18,11 +17,6 @@ use Rattle.ffs_workspace.specs.{Ready.{IsReady, StaysReady}, declared.workspace.
 use Rattle.ffs_finding.specs.{Outcome.Finds, Owner.{group_of_fragment, indirect_in, keeper_lines, keeper_text, map_text}}
 
 -- ---- the map of a group
--- a group block that was decoded has a map of fragments
-abbrev pub has_map_in : Layout → Group → Bool
-has_map_in v g =
-    g.magic == CG_MAGIC && (nat_le (g.iusedoff + div_ceil v.ipg 8) v.cgsize && nat_le (g.freeoff + div_ceil v.fpg 8) v.cgsize)
-
 -- the map of the group of the fragment f can be looked at: the volume has f, and its group block is there
 pub record CanPrintMap (v : Layout) (block : List ℕ) (f : ℕ) : Type 0 where
   pub below : f < v.size

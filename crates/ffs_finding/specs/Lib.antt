@@ -4,6 +4,9 @@ pub mod Fields
 pub mod Keepers
 pub mod Copies
 pub mod Claims
+pub mod Lost
+pub mod GroupMaps
+pub mod LostMaps
 pub mod Whole
 pub mod CommandWords
 pub mod Operands

@@ -1,7 +1,7 @@
 -- The operands as the program has them, and what it reads of them.
 use Rattle.std.specs.Prelude.{◌≡◌, ℕ, List, Option, Some, None, codes, option_map}
 use Rattle.ffs_finding.specs.CommandWords as words
-use Rattle.ffs_finding.specs.declared.{words.{Operands.Operands, Request.Request}, request.{Command.Command, Search.{Search, TheVariants.{Inode, Fields, Owner}}}}
+use Rattle.ffs_finding.specs.declared.{words.{Operands.Operands, Request.Request}, request.{Command.Command, Search.{Search, TheVariants.{Inode, Fields, Lost, Owner}}}}
 
 -- the operands of the program as those of the definitions
 abbrev pub operands_in : Operands → words.Operands
@@ -21,4 +21,5 @@ SaysOf o None = (command : Command) (name : List ℕ) → words.AskFor o command
 abbrev pub IsSearch : (word : List ℕ) (n : ℕ) → Search → Type 0
 IsSearch word n (Inode number) = (word ≡ codes "inode") × (number ≡ n)
 IsSearch word n Fields = ⊥
+IsSearch word n Lost = ⊥
 IsSearch word n (Owner fragment) = (word ≡ codes "owner") × (fragment ≡ n)

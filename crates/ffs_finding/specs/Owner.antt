@@ -9,8 +9,9 @@ use Rattle.ffs_volume.specs.Disk.Areas.{cgbase, cgstart, cgsblock, is_reserved}
 use Rattle.ffs_volume.specs.Blocks.{Inodes.inode_of, Steps.steps_of, Owners.inode_numbers}
 use Rattle.ffs_volume.specs.Blocks.Claims.{Claims, at_next_inode, after_step}
 use Rattle.ffs_volume.specs.Blocks.{KeptOffers.kept_in_step, KeptSteps.claims_before}
-use Rattle.ffs_volume.specs.Groups.Records.{bit_at, fragment_map_place, group_block, has_right_magic, maps_fit}
+use Rattle.ffs_volume.specs.Groups.Records.{group_block}
 use Rattle.ffs_volume.specs.Messages.Texts.{number_text}
+use Rattle.ffs_finding.specs.Lost.{has_map, is_marked_free}
 
 -- the group of a fragment
 abbrev pub group_of_fragment : Layout → ℕ → ℕ
@@ -89,16 +90,11 @@ unfoldable pub keeper_lines : (v : Layout) (image : List ℕ) (f : ℕ) → List
 keeper_lines v image f = flat_map (lines_of_inode v image f) (inode_numbers v)
 
 -- ---- a fragment that no inode keeps an offer of
--- the group block of c has a map of fragments: its magic number is right, and its maps end within it
-unfoldable pub has_map : (v : Layout) (block : List ℕ) → Bool
-has_map v block = has_right_magic v block && maps_fit v block
-
 -- the map of the group of c has the fragment as free, or it is lost; or there is no map
 unfoldable pub map_text : (v : Layout) (block : List ℕ) (f : ℕ) → List ℕ
 map_text v block f =
     if has_map v block
-    then (if bit_at block (fragment_map_place v block) (f - cgbase v (group_of_fragment v f))
-    then codes "free\n" else codes "lost\n")
+    then (if is_marked_free v block (group_of_fragment v f) f then codes "free\n" else codes "lost\n")
     else number_text (codes "no map in group ") (group_of_fragment v f) (codes "\n")
 
 -- ---- all

@@ -9,25 +9,27 @@ use Rattle.ffs_report.specs.{Known.{ForBytes, IsContents}, Sink.{Sink, Took, Bro
 use Rattle.ffs_report.specs.declared.fault.RunFault.{RunFault, TheVariants.{Read, Out}}
 use Rattle.ffs_memory.specs.Account.{Account, RefusedOneMore}
 use Rattle.ffs_check.specs.Taken.{AsksMemory, Takes}
+use Rattle.ffs_workspace.specs.Lengths.{held_of}
 use Rattle.ffs_layout.specs.Super.{ReadsSuper}
-use Rattle.ffs_finding.specs.declared.request.{Search.{Search, TheVariants.{Inode, Fields, Owner}}, Command.Command}
+use Rattle.ffs_finding.specs.declared.request.{Search.{Search, TheVariants.{Inode, Fields, Lost, Owner}}, Command.Command}
 use Rattle.ffs_finding.specs.declared.{request.Command.TheVariants.{Copies, InVolume}, find.FindFault.FindFault}
 use Rattle.ffs_finding.specs.declared.find.FindFault.TheVariants.{Refused, Run, NoMemory}
 use Rattle.ffs_volume.specs.Find.{Copies.copies_lines, InodeText.inode_lines, Fields.wrong_fields}
-use Rattle.ffs_finding.specs.{Outcome.{PrintedTo, PrintedSome, StoppedIn}, Fields.{WithSuper, any_line}}
-use Rattle.ffs_workspace.specs.Lengths.{held_of}
+use Rattle.ffs_finding.specs.{Lost.lost_lines, Outcome.{PrintedTo, PrintedSome, StoppedIn}, Fields.{WithSuper, any_line}}
 use Rattle.ffs_finding.specs.{Copies.ReadsCopies, Owner.owner_lines}
 
 -- what a search prints of an image with this accepted superblock
 abbrev pub search_lines : Search → (sector : Option ℕ) → (image : List ℕ) → Superblock → List (List ℕ)
 search_lines (Inode number) sector image s = inode_lines s.layout image number
 search_lines Fields sector image s = wrong_fields s image sector
+search_lines Lost sector image s = lost_lines s.layout image
 search_lines (Owner fragment) sector image s = owner_lines s.layout image fragment
 
 -- a line of the search is a defect
 abbrev pub finds_defects : Search → Bool
 finds_defects (Inode number) = false
 finds_defects Fields = true
+finds_defects Lost = true
 finds_defects (Owner fragment) = false
 
 -- the lines by an outcome: those of a search, or the one of the superblock's fault
@@ -69,17 +71,20 @@ SearchAnswers search sector s d d' held held' old new (Err (Run (Out fault))) =
     (d' ≡ d) × StoppedIn (WithSuper d sector s) (λ b. search_lines search sector b s) old new
 SearchAnswers search sector s d d' held held' old new (Err NoMemory) = (d' ≡ d) × (new ≡ old) × RefusedOneMore held held'
 
--- how often a search reads an image after the superblock, in a volume of this layout: for an owner phase 1,
--- and a sweep over all inodes
+-- how often a search reads an image after the superblock, in a volume of this layout: `lost` for phase 1 and
+-- the block of each group twice, `owner` for phase 1 and a sweep over all inodes
 abbrev pub search_reads : Search → Layout → ℕ
 search_reads (Inode number) v = 1
 search_reads Fields v = 1
+search_reads Lost v = scan_reads v + 2 * v.ncg
 search_reads (Owner fragment) v = scan_reads v + sweep_reads v
 
--- what a search takes of the memory, in a volume of this layout: for an owner that of a check
+-- what a search takes of the memory, in a volume of this layout: nothing, or what the workspace of a check
+-- holds
 abbrev pub TakesForSearch : Search → Layout → Account → Account → Type 0
 TakesForSearch (Inode number) v held held' = held' ≡ held
 TakesForSearch Fields v held held' = held' ≡ held
+TakesForSearch Lost v held held' = AsksMemory held held' (held_of v)
 TakesForSearch (Owner fragment) v held held' = AsksMemory held held' (held_of v)
 
 -- a search in a volume with this accepted superblock: what it printed, what it took of the memory, and how
@@ -162,11 +167,12 @@ FindEnds command d d' held held' old new status =
     AllFound command d d' old new status ⊎ (CutByRead command d d' old new status
     ⊎ (BrokeOffAmong command d d' old new status ⊎ HadNoMemory d d' held held' old new status))
 
--- what a command takes of the memory: `copies` a window, `owner` the memory of a check
+-- what a command takes of the memory: `copies` a window, `lost` and `owner` the workspace of a check
 abbrev pub TakesMemory : Command → Device → Account → Account → Type 0
 TakesMemory Copies d held held' = AsksMemory held held' 65536
 TakesMemory (InVolume sector (Inode number)) d held held' = held' ≡ held
 TakesMemory (InVolume sector Fields) d held held' = held' ≡ held
+TakesMemory (InVolume sector Lost) d held held' = Takes d sector held held'
 TakesMemory (InVolume sector (Owner fragment)) d held held' = Takes d sector held held'
 
 -- the volume is accepted, and lies in the image: after its superblock a search reads as its layout says

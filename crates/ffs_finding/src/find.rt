@@ -5,13 +5,14 @@ ghost use Rattle.ffs_report.specs.{Lines.message_of, Sink.Prints};
 ghost use Rattle.ffs_layout.specs.Super.{superblock_in};
 ghost use Rattle.ffs_finding.specs.Whole.{EndsBy, FindsCommand, Looks, Searches, status_of_answer};
 ghost use Rattle.ffs_finding.specs.declared.find.FindFault.TheVariants.{Run, NoMemory};
-ghost use Rattle.ffs_finding.specs.declared.request.Search.TheVariants.{Owner};
+ghost use Rattle.ffs_finding.specs.declared.request.Search.TheVariants.{Lost, Owner};
 ghost use Rattle.ffs_finding.specs.declared.request.Command.TheVariants.{Copies, InVolume};
 
 use crate::claims::claimed_workspace;
 use crate::copies::{WINDOW_BYTES, find_copies};
 use crate::fields::find_wrong_fields;
 use crate::inode::find_inode;
+use crate::lost::find_lost;
 use crate::owner::find_owner;
 use crate::request::{Command, Search};
 use ffs_check::run::NOT_COMPLETED;
@@ -84,7 +85,28 @@ fn end<W: Output>(answer: Result<bool, FindFault>, out: &mut W) -> u8
     NOT_COMPLETED
 }
 
-/// Runs phase 1 in memory of its own, and looks for the owners of a fragment.
+/// Runs phase 1 of a check, and looks for fragments that are lost, or marked as free though they are used.
+///
+/// # Errors
+/// A read of the image or a write failed, or the memory was refused.
+fn look_for_lost<M: Memory, I: Image, W: Output>(
+    memory: &mut M,
+    image: &mut I,
+    superblock: &Super,
+    out: &mut W,
+) -> Result<bool, FindFault>
+    requires volume { superblock.now.geometry.layout.size * superblock.now.geometry.layout.fsize
+        ≤ (I.device image.old).size }
+    ensures { (sector : Option ℕ) → Searches Lost sector (superblock_in superblock.now)
+        (I.device image.old) (I.device image.new) (M.account memory.old) (M.account memory.new)
+        (I.reads image.old) (I.reads image.new) (W.sink out.old) (W.sink out.new) result }
+{
+    let geometry = &superblock.geometry;
+    let mut workspace = claimed_workspace(memory, image, geometry)?;
+    Ok(find_lost(image, geometry, &mut workspace, out)?)
+}
+
+/// Runs phase 1 of a check, and looks for what a fragment belongs to.
 ///
 /// # Errors
 /// A read of the image or a write failed, or the memory was refused.
@@ -132,6 +154,7 @@ fn search<M: Memory, I: Image, W: Output>(
             Ok(false)
         }
         Search::Fields => Ok(find_wrong_fields(image, sector, superblock, out)?),
+        Search::Lost => look_for_lost(memory, image, superblock, out),
         Search::Owner { fragment } => look_for_owner(memory, image, superblock, fragment, out),
     }
 }

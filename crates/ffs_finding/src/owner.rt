@@ -7,13 +7,14 @@ ghost use Rattle.ffs_walk.specs.{Keepings.replay_in, Windows.CanWalk};
 ghost use Rattle.ffs_workspace.specs.{Found.WithPhase1, Notes.cut_in, Ready.IsReady};
 ghost use Rattle.ffs_finding.specs.Owner.{indirect_in, keeper_text, keeper_lines, map_text, owner_lines, part_text, reserved_text, table_text};
 ghost use Rattle.ffs_finding.specs.{Outcome.Finds};
-ghost use Rattle.ffs_finding.specs.Keepers.{CanLookAt, CanPrintMap, CanPrintStep, CanReadMap, map_lines, LooksAt, LooksAtAll, PrintsStep, WalksKept, has_map_in, is_in_run, run_text};
+ghost use Rattle.ffs_finding.specs.Keepers.{CanLookAt, CanPrintMap, CanPrintStep, CanReadMap, map_lines, LooksAt, LooksAtAll, PrintsStep, WalksKept, is_in_run, run_text};
 
+use crate::group_map::{is_marked_free, map_place};
 use ffs_image::{Image, LimitedImage};
-use ffs_layout::{Geometry, Group};
+use ffs_layout::Geometry;
 use ffs_report::print::{print, print_number, print_pieces};
 use ffs_report::{OutFault, Output, Piece, RunFault};
-use ffs_volume::constants::{CG_MAGIC, DINODE_SIZE};
+use ffs_volume::constants::DINODE_SIZE;
 use ffs_volume::{Inode, Step};
 use ffs_walk::{Blocks, Keeping, Walk, Window};
 use ffs_workspace::{Workspace, sweep_reads};
@@ -92,28 +93,6 @@ fn print_reserved<W: Output>(
     print_part(out, geometry, fragment / geometry.layout.fpg, fragment)
 }
 
-/// Whether a group block has a map of fragments.
-#[tactic(auto, unfolding(crate::specs::Owner::has_map))]
-fn has_map(geometry: &Geometry, group: &Group) -> bool
-    ensures { result ≡ has_map_in geometry.now.layout group.now }
-{
-    let inodes = u64::from(geometry.layout.ipg.div_ceil(8));
-    let fragments = u64::from(geometry.layout.fpg.div_ceil(8));
-    let size = u64::from(geometry.layout.cgsize);
-    group.magic == CG_MAGIC
-        && u64::from(group.iusedoff) + inodes <= size
-        && u64::from(group.freeoff) + fragments <= size
-}
-
-/// Whether a bit of the map at a place of a group block is set.
-#[tactic(auto, using(std::proofs::lemmas::Nat::Bits::shr_and_one))]
-fn is_bit_set(block: &[u8], place: u32, index: u32) -> bool
-    requires { place + index / 8 < length block.now }
-    ensures { result ≡ bit_at block.now place index }
-{
-    block[place as usize + index as usize / 8] >> (index % 8) & 1 == 1
-}
-
 /// Prints whether a fragment that nothing claims is free by the map of its group, or lost.
 fn print_by_map<W: Output>(
     out: &mut W,
@@ -125,13 +104,12 @@ fn print_by_map<W: Output>(
     ensures { Prints (W.sink out.old) (W.sink out.new)
         (map_text geometry.now.layout block.now fragment) result }
 {
-    let group = Group::decode(geometry.order(), block);
-    let number = fragment / geometry.layout.fpg;
-    if !has_map(geometry, &group) {
-        return print_number(out, b"no map in group ", u64::from(number), b"\n");
-    }
-    let index = fragment - geometry.cgbase(number);
-    if is_bit_set(block, group.freeoff, index) {
+    let group = fragment / geometry.layout.fpg;
+    let Some(place) = map_place(geometry, block) else {
+        return print_number(out, b"no map in group ", u64::from(group), b"\n");
+    };
+    let index = fragment - geometry.cgbase(group);
+    if is_marked_free(block, place, index) {
         return print(out, b"free\n");
     }
     print(out, b"lost\n")

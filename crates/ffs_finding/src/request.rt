@@ -7,6 +7,8 @@ pub enum Search {
     Inode { number: u32 },
     /// The fields of the superblock that a kernel computes with and that are wrong.
     Fields,
+    /// The fragments of which the maps of the groups say otherwise than what is used.
+    Lost,
     /// To what a fragment belongs: the inodes that keep an offer of it, or what else it is.
     Owner { fragment: u32 },
 }

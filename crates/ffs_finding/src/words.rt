@@ -132,6 +132,11 @@ fn plain_request<'a>(operands: &Operands<'a>) -> Option<Request<'a>>
         let command = Asked::InVolume { sector, search };
         return Some(Request { name, command });
     }
+    if operands.command == "lost" {
+        let search = Search::Lost;
+        let command = Asked::InVolume { sector, search };
+        return Some(Request { name, command });
+    }
     None
 }
 

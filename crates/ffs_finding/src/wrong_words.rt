@@ -9,6 +9,7 @@ use std::io::Write;
 const USAGE: &str = "Usage: ffs_find copies image
        ffs_find [-b sector] inode number image
        ffs_find [-b sector] fields image
+       ffs_find [-b sector] lost image
        ffs_find [-b sector] owner fragment image
 
 For more information, try '--help'.
@@ -20,21 +21,24 @@ const HELP: &str =
 Usage: ffs_find copies image
        ffs_find [-b sector] inode number image
        ffs_find [-b sector] fields image
+       ffs_find [-b sector] lost image
        ffs_find [-b sector] owner fragment image
 
-  copies         the sectors at which fsck_ffs -b finds a superblock that it accepts
-  inode number   where the inode of this number lies, and what it says
-  fields         fields of the superblock that a kernel computes with and that are wrong
-  owner fragment the inodes that keep this fragment, or what else it belongs to
-  image          the file or device that holds the file system from its first byte on
-  -b sector      take the superblock at this sector of 512 bytes, 1 to 4194303
-  -n, -N         nothing is ever written, with or without it
-  -h, --help     print this help
-  -V, --version  print the version
+  copies          the sectors at which fsck_ffs -b finds a superblock that it accepts
+  inode number    where the inode of this number lies, and what it says
+  fields          fields of the superblock that a kernel computes with and that are wrong
+  lost            fragments that are marked as used and nothing claims, and used ones that are
+                  marked as free
+  owner fragment  to which inodes a fragment belongs, or to what else
+  image           the file or device that holds the file system from its first byte on
+  -b sector       take the superblock at this sector of 512 bytes, 1 to 4194303
+  -n, -N          nothing is ever written, with or without it
+  -h, --help      print this help
+  -V, --version   print the version
 
 Status:
   0  what was found is printed, or nothing was found
-  1  fields printed a line
+  1  fields or lost printed a line
   2  the words are wrong, or ask for this help or the version
   8  the search didn't run to its end; the last message says why
 ";

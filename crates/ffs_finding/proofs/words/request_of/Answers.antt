@@ -1,5 +1,5 @@
 use Rattle.std.proofs.Common.{◌≡◌, ◌∙◌, ℕ, List, Some, None, Option, sym, ap, arith, codes, option_map}
-use Rattle.ffs_finding.specs.declared.request.{Command.{Command, TheVariants.{Copies, InVolume}}, Search.{Search, TheVariants.{Inode, Fields, Owner}}}
+use Rattle.ffs_finding.specs.declared.request.{Command.{Command, TheVariants.{Copies, InVolume}}, Search.{Search, TheVariants.{Inode, Fields, Lost, Owner}}}
 use Rattle.ffs_finding.specs.{CommandWords.{AskFor, IsNumber, Operands}, Operands.{IsSearch, operands_in}}
 use Rattle.ffs_finding.proofs.words.request_of.Goals as goal
 
@@ -11,6 +11,8 @@ none_asked o image n there value none Copies name p = let no : Some image ≡ No
 none_asked o image n there value none (InVolume sector (Inode m)) name p =
     none (Inode m) (p.0.word_is, value m p.0.number)
 none_asked o image n there value none (InVolume sector Fields) name p =
+    let no : Some image ≡ None = sym there ∙ p.0.alone in cc
+none_asked o image n there value none (InVolume sector Lost) name p =
     let no : Some image ≡ None = sym there ∙ p.0.alone in cc
 none_asked o image n there value none (InVolume sector (Owner m)) name p =
     none (Owner m) (p.0.word_is, value m p.0.number)

@@ -1,0 +1,71 @@
+-- What the maps of groups say wrongly: of one group by what the program has of its map, and of all groups.
+use Rattle.std.proofs.Common.{◌≡◌, ◌∙◌, ℕ, ◌+◌, ◌-◌, ◌*◌, ◌<◌, ◌≤◌, Bool, true, false, List, [], ◌∷◌, ◌++◌, Some, append-nil, arith, refl, ap, sym, subst}
+use Rattle.std.specs.{List.{flat_map, range_with_len}, Prelude.◌||◌}
+use Rattle.ffs_image.specs.Device.{Device}
+use Rattle.ffs_volume.specs.{declared.Layout.Layout, Blocks.Owners.owners_of, Groups.GroupCheck.is_free_of_kept}
+use Rattle.ffs_volume.specs.{Disk.Areas.cgbase, Groups.Records.{bit_at, fragment_map_place, group_block, group_size}}
+use Rattle.ffs_groups.specs.Free.{free_in}
+use Rattle.ffs_maps.specs.Bits.{bits_of}
+use Rattle.ffs_report.specs.{Known.{ForBytes, IsContents}, Sink.Sink}
+use Rattle.ffs_workspace.specs.{declared.workspace.Workspace.Workspace, Found.WithPhase1, Holds.all_claims}
+use Rattle.ffs_finding.specs.{Fields.any_line, Lost.{has_map, lost_lines, stretch_lines}, Outcome.PrintedTo}
+use Rattle.ffs_finding.specs.LostMaps.{is_wrong_by, lines_of_group, lines_of_groups, no_map_lines, word_of}
+use Rattle.ffs_finding.specs.declared.lost.Wrong.{Wrong, TheVariants.{Lost, MarkedFree}}
+use Rattle.ffs_finding.proofs.{Printing.begins, Ranges.{from_zero, next}, WrongFields.any_more}
+
+pub without_map : (wrong : Wrong) (v : Layout) (free : ℕ → Bool) (c : ℕ) (block : List ℕ) → has_map v block ≡ false →
+    lines_of_group wrong v free c block ≡ no_map_lines wrong c
+without_map Lost v free c block none = rw none refl
+without_map MarkedFree v free c block none = rw none refl
+
+pub with_map : (wrong : Wrong) (v : Layout) (used : List Bool) (size base end place c : ℕ) (block : List ℕ) →
+    has_map v block ≡ true → place ≡ fragment_map_place v block → size ≡ v.size → base ≡ cgbase v c →
+    end ≡ base + group_size v c →
+    lines_of_group wrong v (free_in used v.size) c block
+    ≡ stretch_lines (word_of wrong) (λ f. is_wrong_by wrong (free_in used size f) (bit_at block place (f - base))) base end
+with_map Lost v used size base end place c block some at is from to = rw (some, at, is, to, from) refl
+with_map MarkedFree v used size base end place c block some at is from to = rw (some, at, is, to, from) refl
+
+-- the lines of group c of an image
+abbrev pub group_lines : Wrong → (v : Layout) (free : ℕ → Bool) (image : List ℕ) (c : ℕ) → List (List ℕ)
+group_lines wrong v free image c = lines_of_group wrong v free c (group_block v image c)
+
+module _ (wrong : Wrong) (v : Layout) (free : ℕ → Bool) where
+  -- the lines of the groups from c on, and of those before it
+  abbrev pub from_group : (c : ℕ) (image : List ℕ) → List (List ℕ)
+  from_group c image = flat_map (group_lines wrong v free image) (range_with_len c (v.ncg - c))
+
+  abbrev pub before_group : (c : ℕ) (image : List ℕ) → List (List ℕ)
+  before_group c image = flat_map (group_lines wrong v free image) (range_with_len 0 c)
+
+  pub groups_begin : (image : List ℕ) → from_group 0 image ≡ lines_of_groups wrong v free image
+  groups_begin image = let all : v.ncg - 0 ≡ v.ncg = omega arith in rw all refl
+
+  -- the lines of one group, and of those after it
+  pub groups_next : (image block : List ℕ) (c : ℕ) → c < v.ncg → block ≡ group_block v image c →
+      from_group c image ≡ lines_of_group wrong v free c block ++ from_group (c + 1) image
+  groups_next image block c low is =
+      let left : v.ncg - c - 1 ≡ v.ncg - (c + 1) = omega arith in
+      rw (is, sym left) (next (group_lines wrong v free image) c (v.ncg - c) (omega (arith, low)))
+
+  pub groups_end : (image : List ℕ) (c : ℕ) → v.ncg ≤ c → from_group c image ≡ []
+  groups_end image c past = let none : v.ncg - c ≡ 0 = omega arith in rw none refl
+
+  -- whether there is a line of one group more
+  pub any_next : (image block : List ℕ) (c : ℕ) (any found : Bool) → block ≡ group_block v image c →
+      any ≡ any_line (before_group c image) → found ≡ any_line (lines_of_group wrong v free c block) →
+      (any || found) ≡ any_line (before_group (c + 1) image)
+  any_next image block c any found is before here =
+      rw (from_zero (group_lines wrong v free image) c, any_more (before_group c image) (group_lines wrong v free image c), before, here, is) refl
+
+  pub any_all : (image : List ℕ) (c : ℕ) (any : Bool) → c ≤ v.ncg → v.ncg ≤ c → any ≡ any_line (before_group c image) →
+      any ≡ any_line (lines_of_groups wrong v free image)
+  any_all image c any low high is =
+      let all : c ≡ v.ncg = omega arith in is ∙ ap (λ (n : ℕ). any_line (before_group n image)) all
+
+-- the lines of an image are those of lost fragments, and then those of fragments that are marked as free
+pub both : (v : Layout) (d : Device) (w : Workspace) → ForBytes (WithPhase1 v d w)
+    (λ b. lost_lines v b ≡ lines_of_groups Lost v (free_in (bits_of w.used) v.size) b
+    ++ lines_of_groups MarkedFree v (free_in (bits_of w.used) v.size) b)
+unfolding lost_lines all_claims
+both v d w b k = rw (k.1.used) refl

@@ -1,0 +1,60 @@
+-- The lines of lost fragments and of those that are marked as free, one list after the other.
+use Rattle.std.proofs.Common.{◌≡◌, ◌∙◌, ℕ, Bool, List, [], ◌++◌, append-nil, Result, Ok, Err, refl, sym}
+use Rattle.std.specs.{Prelude.◌||◌}
+use Rattle.ffs_image.specs.Device.{Device}
+use Rattle.ffs_volume.specs.declared.Layout.{Layout}
+use Rattle.ffs_groups.specs.Free.{free_in}
+use Rattle.ffs_maps.specs.Bits.{bits_of}
+use Rattle.ffs_report.specs.{Known.{ForBytes, IsContents}, Sink.Sink, declared.fault.RunFault.RunFault}
+use Rattle.ffs_workspace.specs.{declared.workspace.Workspace.Workspace, Found.WithPhase1}
+use Rattle.ffs_finding.specs.{Fields.any_line, Lost.lost_lines, Outcome.{PrintedTo, PrintsLines}}
+use Rattle.ffs_finding.specs.LostMaps.{lines_of_groups}
+use Rattle.ffs_finding.specs.declared.lost.Wrong.TheVariants.{Lost, MarkedFree}
+use Rattle.ffs_finding.proofs.{LostGroups.both, Printing.{begins, knowing, part, part_fault, printed_all}, WrongFields.any_more}
+
+module _ (v : Layout) (d : Device) (w : Workspace) where
+  abbrev first : (image : List ℕ) → List (List ℕ)
+  first image = lines_of_groups Lost v (free_in (bits_of w.used) v.size) image
+
+  abbrev second : (image : List ℕ) → List (List ℕ)
+  second image = lines_of_groups MarkedFree v (free_in (bits_of w.used) v.size) image
+
+  second_all : ForBytes (WithPhase1 v d w) (λ b. second b ≡ second b ++ [])
+  second_all b k = sym (append-nil (second b))
+
+  -- the first list was printed
+  one : (a b : Sink) (x : Bool) → PrintsLines {T = Bool} (IsContents d.contents) first a b (Ok x) →
+      PrintedTo (WithPhase1 v d w) second (λ b. lost_lines v b) a b
+  one a b x p = part (WithPhase1 v d w) (λ b. lost_lines v b) first second (λ b. lost_lines v b) a a b
+      (begins _ _ a) (both v d w) (knowing Bool _ (WithPhase1 v d w) first a b (Ok x) (λ b k. k.0) p)
+
+  -- a fault came in the first list
+  pub fault_in_first : (a b : Sink) (fault : RunFault) →
+      PrintsLines {T = Bool} (IsContents d.contents) first a b (Err fault) →
+      PrintsLines {T = Bool} (WithPhase1 v d w) (λ b. lost_lines v b) a b (Err fault)
+  fault_in_first a b fault p = part_fault Bool Bool (WithPhase1 v d w) (λ b. lost_lines v b) first second
+      (λ b. lost_lines v b) a a b fault (begins _ _ a) (both v d w)
+      (knowing Bool _ (WithPhase1 v d w) first a b (Err fault) (λ b k. k.0) p)
+
+  -- a fault came in the second list
+  pub fault_in_second : (a b c : Sink) (x : Bool) (fault : RunFault) →
+      PrintsLines {T = Bool} (IsContents d.contents) first a b (Ok x) →
+      PrintsLines {T = Bool} (IsContents d.contents) second b c (Err fault) →
+      PrintsLines {T = Bool} (WithPhase1 v d w) (λ b. lost_lines v b) a c (Err fault)
+  fault_in_second a b c x fault p q = part_fault Bool Bool (WithPhase1 v d w) second second (λ b. [])
+      (λ b. lost_lines v b) a b c fault (one a b x p) second_all
+      (knowing Bool _ (WithPhase1 v d w) second b c (Err fault) (λ b k. k.0) q)
+
+  -- both lists were printed
+  pub printed_both : (a b c : Sink) (x y z : Bool) →
+      PrintsLines {T = Bool} (IsContents d.contents) first a b (Ok x) →
+      PrintsLines {T = Bool} (IsContents d.contents) second b c (Ok y) →
+      PrintsLines {T = Bool} (WithPhase1 v d w) (λ b. lost_lines v b) a c (Ok z)
+  printed_both a b c x y z p q = part (WithPhase1 v d w) second second (λ b. []) (λ b. lost_lines v b) a b c
+      (one a b x p) second_all (knowing Bool _ (WithPhase1 v d w) second b c (Ok y) (λ b k. k.0) q)
+
+  pub any_of_both : (x y : Bool) → ForBytes (IsContents d.contents) (λ b. x ≡ any_line (first b)) →
+      ForBytes (IsContents d.contents) (λ b. y ≡ any_line (second b)) →
+      ForBytes (WithPhase1 v d w) (λ b. (x || y) ≡ any_line (lost_lines v b))
+  any_of_both x y p q b k =
+      rw (both v d w b k, any_more (first b) (second b), p b k.0, q b k.0) refl

@@ -1,0 +1,39 @@
+use Rattle.std.proofs.lemmas.Result.{err_from_is_err_and}
+use Rattle.ffs_finding.proofs.LostParts.{any_of_both, fault_in_first, fault_in_second, printed_both}
+use Rattle.ffs_finding.proofs.lost.find_lost.Goals as goal
+
+pub returns-in_err-lost-clause-prints : goal.returns-in_err-lost-clause-prints
+returns-in_err-lost-clause-prints g c =
+    let p = err_from_is_err_and c.from_residual.result c.from_residual.ensures.1 in
+    let e = c.in_err-lost.ensures.found in
+    rw (p.1, p.2) (record {
+      image = e.image;
+      text = fault_in_first c.args.geometry.now.layout (g.I.Image.device c.args.image.now) c.args.workspace.now _ _ _ e.text;
+    })
+
+pub returns-in_err-free-clause-prints : goal.returns-in_err-free-clause-prints
+returns-in_err-free-clause-prints g c =
+    let p = err_from_is_err_and c.from_residual-in_err-free.result c.from_residual-in_err-free.ensures.1 in
+    let one = c.in_ok-lost.ensures.found in
+    let two = rw (one.image) at c.in_err-free.ensures in
+    rw (p.1, p.2) (record {
+      image = two.found.image;
+      text = fault_in_second c.args.geometry.now.layout (g.I.Image.device c.args.image.now) c.args.workspace.now _ _ _
+          c.in_ok-lost.lost _ one.text two.found.text;
+    })
+
+pub returns-clause-prints : goal.returns-clause-prints
+returns-clause-prints g c =
+    let one = c.in_ok-lost.ensures.found in
+    let two = rw (one.image) at c.in_ok-free.ensures in
+    record {
+      image = two.found.image;
+      text = printed_both c.args.geometry.now.layout (g.I.Image.device c.args.image.now) c.args.workspace.now _ _ _
+          c.in_ok-lost.lost c.in_ok-free.free c.in_ok-free.free one.text two.found.text;
+    }
+
+pub returns-clause-any : goal.returns-clause-any
+returns-clause-any g c =
+    let one = c.in_ok-lost.ensures in
+    let two = rw (one.found.image) at c.in_ok-free.ensures in
+    any_of_both c.args.geometry.now.layout (g.I.Image.device c.args.image.now) c.args.workspace.now _ _ one.any two.any

@@ -1,0 +1,100 @@
+use Rattle.std.proofs.{Common.{◌∙◌, ◌≡◌, ◌+◌, ℕ, List, [], Option, ap, arith, refl}, lemmas.Result.err_from_is_err_and}
+use Rattle.ffs_image.specs.Device.{ForContents}
+use Rattle.ffs_volume.specs.{declared.Layout.Layout, Disk.{Areas.group_place, Numbers.piece}, Groups.Records.group_block}
+use Rattle.ffs_walk.specs.{Windows.held_bytes, declared.window.Window.Window}
+use Rattle.ffs_maps.specs.Bits.{bits_of}
+use Rattle.ffs_groups.specs.Free.{free_in}
+use Rattle.ffs_report.{specs.Known.{ForBytes, IsContents}, proofs.Sinks.took_nil}
+use Rattle.ffs_counts.proofs.RecordPlaces.{block_inside}
+use Rattle.ffs_finding.proofs.Printing.{printed_all, prints, stops}
+use Rattle.ffs_finding.proofs.LostGroups.{any_all, any_next, from_group, groups_begin, groups_end, groups_next}
+use Rattle.ffs_finding.proofs.lost.find_wrong.Goals as goal
+
+-- the window holds the block of a group
+held : (v : Layout) (contents : Option (List ℕ)) (w : Window) (xs : List ℕ) (place c : ℕ) → xs ≡ held_bytes w →
+    ForContents contents (λ b. held_bytes w ≡ piece place v.cgsize b) → place ≡ group_place v c →
+    ForBytes (IsContents contents) (λ b. xs ≡ group_block v b c)
+held v contents w xs place c is read at b k = is ∙ read b k ∙ ap (λ (n : ℕ). piece n v.cgsize b) at
+
+pub loop-group-init : goal.loop-group-init
+loop-group-init g c =
+    let v = c.args.geometry.now.layout in
+    record {
+      device = refl;
+      room = c.requires.room;
+      holds = c.requires.holds;
+      reads = omega arith;
+      any_is = λ b k. refl;
+      printed = record {
+        lines = [];
+        right = λ b k. groups_begin c.args.wrong v (free_in (bits_of c.args.used.now) v.size) b;
+        took = took_nil _;
+      };
+    }
+
+pub fill-requires : goal.fill-requires
+fill-requires g c =
+    let v = c.args.geometry.now.layout in
+    let inv = c.loop-group.invariant in
+    let fits = block_inside v c.loop-group.group c.args.geometry.now.sound c.loop-group-test.true in
+    rw (inv.device) (record {
+      room = omega (arith, inv.room, c.args.geometry.now.sound.parts.cgsize_high);
+      inside = omega (arith, fits, c.requires.volume, c.group_place-place.ensures);
+      holds = inv.holds;
+    })
+
+pub returns-in_err-found : goal.returns-in_err-found
+returns-in_err-found g c =
+    let v = c.args.geometry.now.layout in
+    let free = free_in (bits_of c.args.used.now) v.size in
+    let inv = c.loop-group.invariant in
+    let n = c.loop-group.group in
+    let fill = rw (inv.device) at c.in_ok-fill.ensures.fills in
+    let p = err_from_is_err_and c.from_residual-in_err-found.result c.from_residual-in_err-found.ensures.1 in
+    rw (p.1, p.2) (record {
+      found = record {
+        image = fill.read;
+        text = stops _ _ (from_group c.args.wrong v free (n + 1)) _ _ _ _ _ inv.printed
+            (λ b k. groups_next c.args.wrong v free b _ n c.loop-group-test.true (held v _ c.fill.new.self _ _ n c.bytes.ensures fill.bytes c.group_place-place.ensures b k))
+            c.in_err-found.ensures.text;
+      };
+      any = tt;
+      room = fill.room ∙ inv.room;
+      holds = fill.holds;
+      reads = omega (arith, inv.reads, fill.counted, c.loop-group-test.true);
+    })
+
+pub loop-group-preserved : goal.loop-group-preserved
+loop-group-preserved g c =
+    let v = c.args.geometry.now.layout in
+    let free = free_in (bits_of c.args.used.now) v.size in
+    let inv = c.loop-group.invariant in
+    let n = c.loop-group.group in
+    let fill = rw (inv.device) at c.in_ok-fill.ensures.fills in
+    record {
+      device = fill.read;
+      room = fill.room ∙ inv.room;
+      holds = rw (fill.read) at fill.holds;
+      reads = omega (arith, inv.reads, fill.counted);
+      any_is = λ b k. any_next c.args.wrong v free b _ n _ _ (held v _ c.fill.new.self _ _ n c.bytes.ensures fill.bytes c.group_place-place.ensures b k) (inv.any_is b k) c.in_ok-found.ensures.any;
+      printed = prints _ _ (from_group c.args.wrong v free (n + 1)) _ _ _ _ _ inv.printed
+          (λ b k. groups_next c.args.wrong v free b _ n c.loop-group-test.true (held v _ c.fill.new.self _ _ n c.bytes.ensures fill.bytes c.group_place-place.ensures b k))
+          c.in_ok-found.ensures.text;
+    }
+
+pub returns : goal.returns
+returns g c =
+    let v = c.args.geometry.now.layout in
+    let free = free_in (bits_of c.args.used.now) v.size in
+    let inv = c.loop-group.invariant in
+    let n = c.loop-group.group in
+    record {
+      found = record {
+        image = inv.device;
+        text = printed_all _ _ _ _ _ inv.printed (λ b k. groups_end c.args.wrong v free b n c.loop-group-test.false);
+      };
+      any = λ b k. any_all c.args.wrong v free b n _ c.loop-group.auto.group-end c.loop-group-test.false (inv.any_is b k);
+      room = inv.room;
+      holds = rw (inv.device) inv.holds;
+      reads = omega (arith, inv.reads, c.loop-group.auto.group-end);
+    }

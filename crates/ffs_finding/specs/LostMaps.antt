@@ -1,0 +1,94 @@
+-- The map of a group as the program has it, and what it prints of it.
+use Rattle.std.specs.Prelude.{◌≡◌, ◌≤◌, ◌<◌, ◌+◌, ◌-◌, ◌/◌, ◌*◌, ℕ, Bool, not, ◌&&◌, List, [], ◌∷◌, codes, length, Result, IfOk, vec_len}
+use Rattle.std.specs.{List.{concat, flat_map, range_with_len}, Int.div_ceil}
+use Rattle.ffs_image.specs.Device.{Device}
+use Rattle.ffs_volume.specs.{declared.Layout.Layout, Groups.Records.{bit_at, group_block, group_numbers}}
+use Rattle.ffs_volume.specs.Messages.Texts.{number_text}
+use Rattle.ffs_maps.specs.Bits.{bits_of}
+use Rattle.ffs_groups.specs.Free.{free_in}
+use Rattle.ffs_report.specs.{Known.{ForBytes, IsContents}, Sink.{Sink, Prints}, declared.fault.RunFault.RunFault}
+use Rattle.ffs_walk.specs.{Windows.WindowHolds, declared.window.Window.Window}
+use Rattle.ffs_finding.specs.{Fields.any_line, Lost.{lost_of_group, wrongly_free_of_group}, Outcome.Finds}
+use Rattle.ffs_finding.specs.declared.lost.{GroupMap.GroupMap, Wrong.{Wrong, TheVariants.{Lost, MarkedFree}}}
+
+-- the word before the fragments of which a map says this wrongly
+abbrev pub word_of : Wrong → List ℕ
+word_of Lost = codes "lost "
+word_of MarkedFree = codes "used and marked free "
+
+-- a map says this wrongly of a fragment, by whether that is free, and is marked as free
+abbrev pub is_wrong_by : Wrong → (free marked : Bool) → Bool
+is_wrong_by Lost free marked = free && not marked
+is_wrong_by MarkedFree free marked = marked && not free
+
+-- a map says this wrongly of f
+abbrev pub is_wrong_at : Wrong → GroupMap → ℕ → Bool
+is_wrong_at wrong m f =
+    is_wrong_by wrong (free_in (bits_of m.used.now) m.used.now.size f) (bit_at m.block.now m.place (f - m.base))
+
+-- the map is of fragments of the volume, and lies in its block
+pub record IsGroupMap (m : GroupMap) : Type 0 where
+  pub order : m.base ≤ m.end
+  pub below : m.end ≤ m.used.now.size
+  pub inside : m.place + div_ceil (m.end - m.base) 8 ≤ length m.block.now
+
+-- f is a fragment of the map
+pub record IsInMap (m : GroupMap) (f : ℕ) : Type 0 where
+  pub map : IsGroupMap m
+  pub low : m.base ≤ f
+  pub high : f < m.end
+
+-- f is a fragment of the map, or the one after its last
+pub record IsInMapOrEnd (m : GroupMap) (f : ℕ) : Type 0 where
+  pub map : IsGroupMap m
+  pub low : m.base ≤ f
+  pub high : f ≤ m.end
+
+-- the first number from one on and below `end` at which a test gives this answer, or `end`
+pub record IsNext (p : ℕ → Bool) (answer : Bool) (from end found : ℕ) : Type 0 where
+  pub order : from ≤ found
+  pub within : found ≤ end
+  pub others : (f : ℕ) → from ≤ f → f < found → p f ≡ not answer
+  pub at : found < end → p found ≡ answer
+
+-- these lines were printed, or the output failed among them; the answer is whether there is one
+pub record PrintsWhether {E : Type 0} (lines : List (List ℕ)) (old new : Sink) (result : Result Bool E) : Type 0 where
+  pub text : Prints old new (concat lines) result
+  pub any : IfOk result (λ b. b ≡ any_line lines)
+
+-- the lines of a group that has no map
+abbrev pub no_map_lines : Wrong → ℕ → List (List ℕ)
+no_map_lines Lost c = number_text (codes "no map in group ") c (codes "\n") ∷ []
+no_map_lines MarkedFree c = []
+
+-- the lines of what the map of group c says wrongly
+abbrev pub lines_of_group : Wrong → (v : Layout) (free : ℕ → Bool) (c : ℕ) (block : List ℕ) → List (List ℕ)
+lines_of_group Lost v free c block = lost_of_group v free c block
+lines_of_group MarkedFree v free c block = wrongly_free_of_group v free c block
+
+-- the lines of all groups
+abbrev pub lines_of_groups : Wrong → (v : Layout) (free : ℕ → Bool) (image : List ℕ) → List (List ℕ)
+lines_of_groups wrong v free image =
+    flat_map (λ c. lines_of_group wrong v free c (group_block v image c)) (group_numbers v)
+
+-- a block is that of group c, whose map can be compared with a map of the volume
+pub record CanSayGroup (v : Layout) (mapped c : ℕ) (block : List ℕ) : Type 0 where
+  pub group : c < v.ncg
+  pub size : mapped ≡ v.size
+  pub length_is : length block ≡ v.cgsize
+
+-- the groups of a volume can be read into a window, and compared with a map of it
+pub record CanReadGroups (v : Layout) (d : Device) (mapped : ℕ) (w : Window) : Type 0 where
+  pub volume : v.size * v.fsize ≤ d.size
+  pub size : mapped ≡ v.size
+  pub room : vec_len w.buffer ≡ v.bsize
+  pub holds : WindowHolds d.contents w
+
+-- what the maps of all groups say wrongly was printed; the answer is whether there is a line
+pub record FindsWrong (wrong : Wrong) (v : Layout) (free : ℕ → Bool) (d d' : Device) (before after : ℕ) (old new : Sink)
+    (w : Window) (result : Result Bool RunFault) : Type 0 where
+  pub found : Finds (IsContents d.contents) (lines_of_groups wrong v free) d d' old new result
+  pub any : IfOk result (λ any. ForBytes (IsContents d.contents) (λ b. any ≡ any_line (lines_of_groups wrong v free b)))
+  pub room : vec_len w.buffer ≡ v.bsize
+  pub holds : WindowHolds d'.contents w
+  pub reads : after ≤ before + v.ncg

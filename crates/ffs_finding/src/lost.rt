@@ -1,0 +1,209 @@
+//! `lost`: where the maps of the groups say otherwise than what is used.
+ghost use Rattle.std.specs.Prelude.{◌≡◌, ◌+◌, ◌*◌, ◌≤◌, IfOk};
+ghost use Rattle.ffs_maps.specs.Bits.{bits_of};
+ghost use Rattle.ffs_groups.specs.Free.{free_in};
+ghost use Rattle.ffs_report.specs.{Known.ForBytes, Sink.Prints};
+ghost use Rattle.ffs_workspace.specs.{Found.WithPhase1, Ready.IsReady};
+ghost use Rattle.ffs_finding.specs.{Fields.any_line, Lost.{lost_lines, range_text, stretch_lines}, Outcome.Finds};
+ghost use Rattle.ffs_finding.specs.LostMaps.{CanReadGroups, CanSayGroup, FindsWrong, IsGroupMap, IsInMap, IsInMapOrEnd, IsNext, PrintsWhether, is_wrong_at, lines_of_group, no_map_lines, word_of};
+
+use crate::group_map::{is_marked_free, map_place};
+use ffs_groups::group_fragments;
+use ffs_image::Image;
+use ffs_layout::Geometry;
+use ffs_maps::FragmentMap;
+use ffs_report::print::{print_number, print_pieces};
+use ffs_report::{OutFault, Output, Piece, RunFault};
+use ffs_walk::Window;
+use ffs_workspace::Workspace;
+
+/// What the map of a group says wrongly of a fragment.
+#[derive(Clone, Copy)]
+enum Wrong {
+    /// It marks it as used, though it is neither reserved nor claimed.
+    Lost,
+    /// It marks it as free, though it is reserved or claimed.
+    MarkedFree,
+}
+
+impl Wrong {
+    /// The word before the fragments.
+    fn word(self) -> &'static [u8]
+        ensures { result.now ≡ word_of self }
+    {
+        match self {
+            Wrong::Lost => b"lost ",
+            Wrong::MarkedFree => b"used and marked free ",
+        }
+    }
+}
+
+/// The fragments of a group, and the map of its block.
+#[derive(Clone, Copy)]
+struct GroupMap<'a> {
+    /// The fragments of the volume that are reserved or claimed.
+    used: &'a FragmentMap,
+    /// The first fragment of the group.
+    base: u32,
+    /// The fragment after its last one.
+    end: u32,
+    /// The group block.
+    block: &'a [u8],
+    /// Where the map begins in the block, in bytes.
+    place: u32,
+}
+
+/// Whether the map says this wrongly of a fragment of the group.
+fn is_wrong(map: &GroupMap<'_>, wrong: Wrong, fragment: u32) -> bool
+    requires { IsInMap map.now fragment }
+    ensures { result ≡ is_wrong_at wrong map.now fragment }
+{
+    let free = !map.used.get(fragment);
+    let marked = is_marked_free(map.block, map.place, fragment - map.base);
+    match wrong {
+        Wrong::Lost => free && !marked,
+        Wrong::MarkedFree => marked && !free,
+    }
+}
+
+/// The first fragment of the group, from one on, of which the map says this wrongly, or doesn't; the one
+/// after the last where there is none.
+fn next(map: &GroupMap<'_>, wrong: Wrong, from: u32, is_it: bool) -> u32
+    requires { IsInMapOrEnd map.now from }
+    ensures { IsNext (is_wrong_at wrong map.now) is_it from map.now.end result }
+{
+    for fragment in from..map.end {
+        if is_wrong(map, wrong, fragment) == is_it {
+            return fragment;
+        }
+    }
+    map.end
+}
+
+/// Prints the line of the fragments from one to another one, after a word.
+fn print_range<W: Output>(out: &mut W, word: &[u8], first: u32, last: u32) -> Result<(), OutFault>
+    ensures { Prints (W.sink out.old) (W.sink out.new) (range_text word.now first last) result }
+{
+    if first == last {
+        return print_number(out, word, u64::from(first), b"\n");
+    }
+    print_pieces(
+        out,
+        &[
+            Piece::Text(word),
+            Piece::Number(u64::from(first), b" to "),
+            Piece::Number(u64::from(last), b"\n"),
+        ],
+    )
+}
+
+/// Prints the ranges of the fragments of a group of which its map says this wrongly.
+fn print_ranges<W: Output>(out: &mut W, map: &GroupMap<'_>, wrong: Wrong) -> Result<bool, OutFault>
+    requires { IsGroupMap map.now }
+    ensures { PrintsWhether (stretch_lines (word_of wrong) (is_wrong_at wrong map.now) map.now.base
+        map.now.end) (W.sink out.old) (W.sink out.new) result }
+{
+    let mut any = false;
+    let mut first = next(map, wrong, map.base, true);
+    while first < map.end {
+        let end = next(map, wrong, first, false);
+        print_range(out, wrong.word(), first, end - 1)?;
+        any = true;
+        first = next(map, wrong, end, true);
+    }
+    Ok(any)
+}
+
+/// Prints once that a group has no map: before the fragments that are marked as free nothing.
+fn print_no_map<W: Output>(out: &mut W, group: u32, wrong: Wrong) -> Result<bool, OutFault>
+    ensures { PrintsWhether (no_map_lines wrong group) (W.sink out.old) (W.sink out.new) result }
+{
+    match wrong {
+        Wrong::Lost => {
+            print_number(out, b"no map in group ", u64::from(group), b"\n")?;
+            Ok(true)
+        }
+        Wrong::MarkedFree => Ok(false),
+    }
+}
+
+/// Prints what the block of a group says wrongly, and returns whether there was a line.
+fn print_group<W: Output>(
+    out: &mut W,
+    geometry: &Geometry,
+    used: &FragmentMap,
+    group: u32,
+    block: &[u8],
+    wrong: Wrong,
+) -> Result<bool, OutFault>
+    requires { CanSayGroup geometry.now.layout used.now.size group block.now }
+    ensures { PrintsWhether (lines_of_group wrong geometry.now.layout
+        (free_in (bits_of used.now) geometry.now.layout.size) group block.now) (W.sink out.old)
+        (W.sink out.new) result }
+{
+    let Some(place) = map_place(geometry, block) else {
+        return print_no_map(out, group, wrong);
+    };
+    let base = geometry.cgbase(group);
+    let map = GroupMap {
+        used,
+        base,
+        end: base + group_fragments(geometry, group),
+        block,
+        place,
+    };
+    print_ranges(out, &map, wrong)
+}
+
+/// Reads the blocks of all groups, and prints what they say wrongly.
+fn find_wrong<I: Image, W: Output>(
+    image: &mut I,
+    geometry: &Geometry,
+    used: &FragmentMap,
+    window: &mut Window,
+    wrong: Wrong,
+    out: &mut W,
+) -> Result<bool, RunFault>
+    requires { CanReadGroups geometry.now.layout (I.device image.old) used.now.size window.old }
+    ensures { FindsWrong wrong geometry.now.layout
+        (free_in (bits_of used.now) geometry.now.layout.size) (I.device image.old)
+        (I.device image.new) (I.reads image.old) (I.reads image.new) (W.sink out.old)
+        (W.sink out.new) window.new result }
+{
+    let mut any = false;
+    for group in 0..geometry.layout.ncg {
+        let place = geometry.group_place(group);
+        window.fill(image, place, geometry.layout.cgsize as usize)?;
+        let found = print_group(out, geometry, used, group, window.bytes(), wrong)?;
+        any |= found;
+    }
+    Ok(any)
+}
+
+/// Prints the fragments that the maps of the groups mark as used and that are neither reserved nor
+/// claimed, as ascending ranges, and a line for each group that has no map. Then those that are
+/// reserved or claimed and marked as free. Returns whether there was a line.
+///
+/// # Errors
+/// A read of the image that failed, and a write that failed.
+pub fn find_lost<I: Image, W: Output>(
+    image: &mut I,
+    geometry: &Geometry,
+    workspace: &mut Workspace,
+    out: &mut W,
+) -> Result<bool, RunFault>
+    requires ready { IsReady geometry.now.layout (I.device image.old) workspace.old }
+    ensures prints { Finds (WithPhase1 geometry.now.layout (I.device image.old) workspace.old)
+        (λ bytes. lost_lines geometry.now.layout bytes) (I.device image.old) (I.device image.new)
+        (W.sink out.old) (W.sink out.new) result }
+    ensures any { IfOk result (λ any. ForBytes
+        (WithPhase1 geometry.now.layout (I.device image.old) workspace.old)
+        (λ bytes. any ≡ any_line (lost_lines geometry.now.layout bytes))) }
+    ensures reads { I.reads image.new ≤ I.reads image.old + 2 * geometry.now.layout.ncg }
+{
+    let Workspace { used, windows, .. } = workspace;
+    let window = &mut windows.current;
+    let lost = find_wrong(image, geometry, used, window, Wrong::Lost, out)?;
+    let free = find_wrong(image, geometry, used, window, Wrong::MarkedFree, out)?;
+    Ok(lost | free)
+}
