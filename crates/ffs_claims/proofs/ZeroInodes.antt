@@ -15,7 +15,7 @@ use Rattle.ffs_volume.{proofs.OwnerLaws.before_next, specs.Blocks.{BlockCheck.li
 use Rattle.ffs_workspace.specs.{Holds.claims_of, Lengths.{IsFor, inodes_of}, declared.workspace.Workspace.Workspace}
 use Rattle.ffs_claims.proofs.{Inodes.free_steps, Numbers.{FoundTo, found_next, lines_next, stored_free}}
 use Rattle.ffs_claims.specs.Lines.{of_lines, owners_from}
-use Rattle.ffs_claims.specs.ZeroInodes.{HasInodes, IsZeroInode}
+use Rattle.ffs_claims.specs.ZeroInodes.{HasTableInodes, IsZeroInode}
 
 -- a list with no number but zero
 zeros_are : (xs : List ℕ) → any_nonzero xs ≡ false → xs ≡ replicate (length xs) 0
@@ -30,7 +30,7 @@ zero_is_free v Big = refl
 
 -- the window has the bytes of the inodes of the volume that it holds
 pub has_inodes : {v : Layout} {contents : Option (List ℕ)} {t : Table} → IsTableOf v t →
-    WindowHolds contents t.window → HasInodes t
+    WindowHolds contents t.window → HasTableInodes t
 has_inodes made holds = record { inside = λ x has. (made.inodes x has).inside; fits = holds.fits }
 
 length_of : (w : Window) (at : ℕ) → w.length ≤ vec_len w.buffer → at + 128 ≤ w.length →

@@ -10,8 +10,8 @@ use Rattle.ffs_workspace.specs.{Holds.claims_of, declared.workspace.Workspace.Wo
 use Rattle.ffs_claims.specs.{Claiming.CanSeeNext, Leaves.ClaimsOnly, declared.{area.DataArea.DataArea, words.Counts.Counts}}
 
 -- a workspace with these counts of Runs that are looked at, and of offers that are kept
-abbrev pub with_counts : Workspace → Counts → Workspace
-with_counts w counts = record w { runs_seen = counts.runs_seen; kept = counts.kept }
+abbrev pub with_run_counts : Workspace → Counts → Workspace
+with_run_counts w counts = record w { runs_seen = counts.runs_seen; kept = counts.kept }
 
 -- what the next words of an indirect block offer can be claimed: the inode's next step can be seen,
 -- and its walk is over the volume

@@ -6,7 +6,7 @@ use Rattle.ffs_walk.specs.Windows.{held_bytes}
 use Rattle.ffs_workspace.specs.{Tables.HoldsInode, declared.{table.Table.Table, workspace.Workspace.Workspace}}
 
 -- the window on the inode table has the bytes of each inode that it holds
-pub record HasInodes (t : Table) : Type 0 where
+pub record HasTableInodes (t : Table) : Type 0 where
   pub inside : (x : ℕ) → HoldsInode t x → DINODE_SIZE * (x - t.first) + DINODE_SIZE ≤ t.window.length
   pub fits : t.window.length ≤ vec_len t.window.buffer
 
@@ -24,7 +24,7 @@ pub record EndsZeroInodes (t : Table) (number end next : ℕ) : Type 0 where
 
 -- inodes of zero bytes can be passed over from a number on: an inode is before it
 pub record CanPassZeroInodes (w : Workspace) (number end : ℕ) : Type 0 where
-  pub inodes : HasInodes w.windows.table
+  pub inodes : HasTableInodes w.windows.table
   pub some : 0 < number
   pub order : number ≤ end
   pub before : number ≤ vec_len w.kinds

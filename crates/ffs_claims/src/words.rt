@@ -2,7 +2,7 @@
 
 ghost use Rattle.std.specs.Prelude.{◌≡◌, ◌^◌, false, IsTrue};
 ghost use Rattle.ffs_walk.specs.HeldWords.{CanSeeWord, IsInHeldBlock, next_address};
-ghost use Rattle.ffs_claims.specs.{Claiming.CanSeeNext, SilentWords.{CanClaimWords, ClaimsAddress, ClaimsWords, with_counts}};
+ghost use Rattle.ffs_claims.specs.{Claiming.CanSeeNext, SilentWords.{CanClaimWords, ClaimsAddress, ClaimsWords, with_run_counts}};
 
 use crate::area::DataArea;
 use ffs_layout::{Geometry, u32_at};
@@ -34,12 +34,12 @@ fn claim_address(
     area: &DataArea,
     address: u32,
 ) -> bool
-    requires { CanSeeNext geometry.now.layout (with_counts workspace.old counts.old) area.now
+    requires { CanSeeNext geometry.now.layout (with_run_counts workspace.old counts.old) area.now
         (2 ^ 63) }
     ensures claimed { IsTrue result → ClaimsAddress geometry.now.layout address
-        (with_counts workspace.old counts.old) (with_counts workspace.new counts.new) }
-    ensures unchanged { result ≡ false → with_counts workspace.new counts.new
-        ≡ with_counts workspace.old counts.old }
+        (with_run_counts workspace.old counts.old) (with_run_counts workspace.new counts.new) }
+    ensures unchanged { result ≡ false → with_run_counts workspace.new counts.new
+        ≡ with_run_counts workspace.old counts.old }
 {
     if address == 0 {
         return true;
@@ -79,12 +79,12 @@ fn claim_words_in(
     area: &DataArea,
     walk: &mut Walk,
 )
-    requires can { CanClaimWords geometry.now (with_counts workspace.old counts.old) area.now
+    requires can { CanClaimWords geometry.now (with_run_counts workspace.old counts.old) area.now
         walk.old }
     requires held { IsInHeldBlock workspace.old.windows.blocks walk.old }
     requires order { order ≡ geometry.now.layout.order }
-    ensures { ClaimsWords geometry.now.layout (with_counts workspace.old counts.old)
-        (with_counts workspace.new counts.new) walk.old walk.new }
+    ensures { ClaimsWords geometry.now.layout (with_run_counts workspace.old counts.old)
+        (with_run_counts workspace.new counts.new) walk.old walk.new }
 {
     while walk.has_word() {
         let address = next_address_in(order, walk, &workspace.windows.blocks);
@@ -105,11 +105,11 @@ fn claim_counted_words(
     area: &DataArea,
     walk: &mut Walk,
 )
-    requires can { CanClaimWords geometry.now (with_counts workspace.old counts.old) area.now
+    requires can { CanClaimWords geometry.now (with_run_counts workspace.old counts.old) area.now
         walk.old }
     requires held { IsInHeldBlock workspace.old.windows.blocks walk.old }
-    ensures { ClaimsWords geometry.now.layout (with_counts workspace.old counts.old)
-        (with_counts workspace.new counts.new) walk.old walk.new }
+    ensures { ClaimsWords geometry.now.layout (with_run_counts workspace.old counts.old)
+        (with_run_counts workspace.new counts.new) walk.old walk.new }
 {
     // The order is asked for once, and not for each word.
     match geometry.layout.order {

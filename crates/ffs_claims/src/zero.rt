@@ -2,7 +2,7 @@
 
 ghost use Rattle.std.specs.Prelude.{◌≡◌, ◌≤◌, IsTrue};
 ghost use Rattle.ffs_volume.specs.Blocks.Inodes.{any_nonzero};
-ghost use Rattle.ffs_claims.specs.ZeroInodes.{CanPassZeroInodes, EndsZeroInodes, HasInodes, IsZeroInode};
+ghost use Rattle.ffs_claims.specs.ZeroInodes.{CanPassZeroInodes, EndsZeroInodes, HasTableInodes, IsZeroInode};
 ghost use Rattle.ffs_claims.specs.ZeroInodes.{PassesZeroInodes};
 
 use crate::store::begin;
@@ -26,7 +26,7 @@ fn any_set(bytes: &[u8]) -> bool
 /// Whether the window on the inode table holds an inode, and each byte of it is zero.
 #[inline(always)]
 fn is_zero_inode(table: &Table, number: u32) -> bool
-    requires { HasInodes table.now }
+    requires { HasTableInodes table.now }
     ensures { IsTrue result → IsZeroInode table.now number }
 {
     if number < table.first || number - table.first >= table.count {
@@ -40,7 +40,7 @@ fn is_zero_inode(table: &Table, number: u32) -> bool
 /// has a byte which isn't zero, and `end` where there is none.
 #[inline(never)]
 fn zero_inodes_end(table: &Table, number: u32, end: u32) -> u32
-    requires inodes { HasInodes table.now }
+    requires inodes { HasTableInodes table.now }
     requires order { number ≤ end }
     ensures { EndsZeroInodes table.now number end result }
 {

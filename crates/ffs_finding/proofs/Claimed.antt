@@ -12,7 +12,7 @@ use Rattle.ffs_volume.specs.Blocks.{KeptSteps.claims_before, Owners.{inode_numbe
 use Rattle.ffs_volume.specs.Disk.Areas.{is_fragment_in_range, is_group_metadata, is_reserved, is_run_in_range}
 use Rattle.ffs_volume.specs.{Laws.Geometry.IsAcceptedLayout, declared.{Layout.Layout, Step.{Step, TheVariants.{Run, Tail, Gap}}}}
 use Rattle.ffs_workspace.specs.Holds.{all_claims}
-use Rattle.ffs_volume.specs.Find.Owner.{indirect_in, keeper_lines, keeper_text, keeps_in_step, lines_of_inode, lines_of_step, lines_of_steps}
+use Rattle.ffs_volume.specs.Find.Owner.{indirect_in, keeper_lines, keeper_text, keeps_in_step, keeper_lines_of_inode, keeper_lines_of_step, keeper_lines_of_steps}
 use Rattle.ffs_finding.specs.Fields.{any_line}
 
 -- some offer is of the fragment f
@@ -79,7 +79,7 @@ run_uses v f i s start len ok long =
     ]
 
 step_uses : (v : Layout) (f i earlier : ℕ) (s : Claims) (step : Step) → is_fragment_in_range v f ≡ true →
-    length s.used ≡ v.size → Uses f s (after_step v s step) (any_line (lines_of_step v f i earlier s step))
+    length s.used ≡ v.size → Uses f s (after_step v s step) (any_line (keeper_lines_of_step v f i earlier s step))
 step_uses v f i earlier s Gap ok long = uses_none f s s refl
 step_uses v f i earlier s Tail ok long = elim (cases_Bool (is_open s)) [
   | inl q ↦ rw q (uses_none f s (record s { tail = true }) refl)
@@ -101,32 +101,32 @@ any_both [] ys = refl
 any_both (x ∷ xs) ys = refl
 
 steps_use : (v : Layout) (f i earlier : ℕ) (s : Claims) (steps : List Step) → is_fragment_in_range v f ≡ true →
-    length s.used ≡ v.size → Uses f s (after_steps v s steps) (any_line (lines_of_steps v f i earlier s steps))
+    length s.used ≡ v.size → Uses f s (after_steps v s steps) (any_line (keeper_lines_of_steps v f i earlier s steps))
 steps_use v f i earlier s [] ok long = uses_none f s s refl
 steps_use v f i earlier s (step ∷ steps) ok long =
     let one = step_uses v f i earlier s step ok long in
     let more = steps_use v f i (earlier + indirect_in step) (after_step v s step) steps ok (one.long ∙ long) in
-    rw (any_both (lines_of_step v f i earlier s step)
-    (lines_of_steps v f i (earlier + indirect_in step) (after_step v s step) steps)) (uses_then one more)
+    rw (any_both (keeper_lines_of_step v f i earlier s step)
+    (keeper_lines_of_steps v f i (earlier + indirect_in step) (after_step v s step) steps)) (uses_then one more)
 
 -- an inode, and inodes one after another
 inode_uses : (v : Layout) (b : List ℕ) (f x : ℕ) → IsAcceptedLayout v → is_fragment_in_range v f ≡ true → 2 ≤ x →
-    Uses f (claims_before v b x) (claims_before v b (x + 1)) (any_line (lines_of_inode v b f x))
-unfolding owner_of lines_of_inode
+    Uses f (claims_before v b x) (claims_before v b (x + 1)) (any_line (keeper_lines_of_inode v b f x))
+unfolding owner_of keeper_lines_of_inode
 inode_uses v b f x g ok low =
     let s = claims_before v b x in
     rw (before_next v b x low)
     (uses_from refl (steps_use v f x 0 (at_next_inode s) (steps_of v (inode_of v b x) b) ok (before_length v b x g)))
 
 inodes_use : (v : Layout) (b : List ℕ) (f x k : ℕ) → IsAcceptedLayout v → is_fragment_in_range v f ≡ true → 2 ≤ x →
-    Uses f (claims_before v b x) (claims_before v b (x + k)) (any_line (flat_map (lines_of_inode v b f) (range_with_len x k)))
+    Uses f (claims_before v b x) (claims_before v b (x + k)) (any_line (flat_map (keeper_lines_of_inode v b f) (range_with_len x k)))
 inodes_use v b f x zero g ok low =
     let same : x + 0 ≡ x = omega arith in rw same (uses_none f (claims_before v b x) (claims_before v b x) refl)
 inodes_use v b f x (suc k) g ok low =
     let one = inode_uses v b f x g ok low in
     let more = inodes_use v b f (x + 1) k g ok (omega arith) in
     let place : x + suc k ≡ x + 1 + k = omega arith in
-    rw (place, any_both (lines_of_inode v b f x) (flat_map (lines_of_inode v b f) (range_with_len (x + 1) k)))
+    rw (place, any_both (keeper_lines_of_inode v b f x) (flat_map (keeper_lines_of_inode v b f) (range_with_len (x + 1) k)))
     (uses_then one more)
 
 reserved_bit : (v : Layout) (f : ℕ) → f < v.size → is_set (reserved_map v) f ≡ is_reserved v f
@@ -140,7 +140,7 @@ in_range_is v f low e = grind (arith, nat_tests)
 -- the claims of all inodes, which begin with the reserved fragments
 all_are : (v : Layout) (b : List ℕ) (f : ℕ) → is_set (claims_before v b (2 + (v.ncg * v.ipg - 2))).used f
     ≡ (is_set (claims_before v b 2).used f
-    || any_line (flat_map (lines_of_inode v b f) (range_with_len 2 (v.ncg * v.ipg - 2)))) →
+    || any_line (flat_map (keeper_lines_of_inode v b f) (range_with_len 2 (v.ncg * v.ipg - 2)))) →
     is_set (reserved_map v) f ≡ false →
     is_set (all_claims v b).used f ≡ any_line (keeper_lines v b f)
 unfolding all_claims owners_of claims_before no_claims keeper_lines

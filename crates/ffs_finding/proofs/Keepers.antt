@@ -7,8 +7,8 @@ use Rattle.ffs_report.specs.{Known.{ForBytes, IsContents}, Sink.Sink, PhaseOutco
 use Rattle.ffs_report.specs.declared.fault.RunFault.{RunFault, TheVariants.{Read, Out}}
 use Rattle.ffs_walk.specs.{Windows.KeepsBlocks, declared.blocks.Blocks.Blocks}
 use Rattle.ffs_workspace.specs.{Found.WithPhase1, Lengths.inodes_of, Notes.{cut_in, note_at}, Ready.{IsReady, StaysReady}, declared.workspace.{Windows.Windows, Workspace.Workspace}}
-use Rattle.ffs_finding.specs.{Keepers.{LooksAt, WalksKept}, Outcome.{Finds, PrintsLines}}
-use Rattle.ffs_volume.specs.Find.Owner.lines_of_inode
+use Rattle.ffs_finding.specs.{Keepers.{LooksAtInode, WalksKept}, Outcome.{Finds, PrintsLines}}
+use Rattle.ffs_volume.specs.Find.Owner.keeper_lines_of_inode
 use Rattle.ffs_finding.proofs.{Owners.{inode_lines, inode_runs}, Printing.knowing}
 
 -- lines that are the same
@@ -51,7 +51,7 @@ pub looks_from : {T : Type 0} {v : Layout} {f x cut count now count' : ℕ} {old
     ForBytes (IsContents d.contents) (λ bytes. i ≡ inode_of v bytes x) → now ≤ count + 1 →
     cut ≡ cut_in (slice_index w.notes.items x) → IsReady v d1 (record w { windows = windows }) →
     WalksKept v f x cut i d1 d' now count' windows.blocks b old new r →
-    LooksAt v f x d d' count count' w (record w { windows = record windows { blocks = b } }) old new r
+    LooksAtInode v f x d d' count count' w (record w { windows = record windows { blocks = b } }) old new r
 looks_from {v = v} {f = f} {x = x} {cut = cut} {old = old} {new = new} {w = w} {windows = windows} {b = b} {r = r}
     i d d1 d' e h few is ready p =
     let q = rw (e, is) at p in
@@ -72,8 +72,8 @@ looks_from {v = v} {f = f} {x = x} {cut = cut} {old = old} {new = new} {w = w} {
 -- the lines of an inode that was looked at, in a workspace of which only windows have changed
 pub found_lines : {T : Type 0} {v : Layout} {f x count count' : ℕ} {d d' d0 on : Device} {w w' w0 : Workspace}
     {old new : Sink} {r : Result T RunFault} → d ≡ d0 → StaysReady v on w0 w → IsAcceptedLayout v → 2 ≤ x →
-    x < inodes_of v → LooksAt v f x d d' count count' w w' old new r →
-    PrintsLines (WithPhase1 v d0 w0) (λ b. lines_of_inode v b f x) old new r
+    x < inodes_of v → LooksAtInode v f x d d' count count' w w' old new r →
+    PrintsLines (WithPhase1 v d0 w0) (λ b. keeper_lines_of_inode v b f x) old new r
 found_lines {v = v} {f = f} {x = x} {d = d} {d0 = d0} {w = w} {w0 = w0} {old = old} {new = new} {r = r} e stays g low
     high p =
     let note : ForBytes (WithPhase1 v d0 w0) (λ b. slice_index w.notes.items x ≡ note_at v b x) = λ b k.
@@ -86,7 +86,7 @@ found_lines {v = v} {f = f} {x = x} {d = d} {d0 = d0} {w = w} {w0 = w0} {old = o
 -- and its reads
 pub found_reads : {T : Type 0} {v : Layout} {f x count count' : ℕ} {d d' d0 on : Device} {w w' w0 : Workspace}
     {old new : Sink} {r : Result T RunFault} → d ≡ d0 → StaysReady v on w0 w → IsAcceptedLayout v → 2 ≤ x →
-    x < inodes_of v → LooksAt v f x d d' count count' w w' old new r →
+    x < inodes_of v → LooksAtInode v f x d d' count count' w w' old new r →
     ForBytes (WithPhase1 v d0 w0) (λ b. count' + (claims_before v b x).runs ≤ count + 1 + (claims_before v b (x + 1)).runs)
 found_reads {v = v} {x = x} {d = d} {w = w} e stays g low high p = λ b k.
     let note = ap (λ (z : Workspace). slice_index z.notes.items x) stays.held ∙ k.1.notes x in

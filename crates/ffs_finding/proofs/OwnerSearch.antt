@@ -9,7 +9,7 @@ use Rattle.ffs_workspace.specs.{Found.WithPhase1, Holds.HoldsPhase1, Lengths.hel
 use Rattle.ffs_finding.specs.declared.{find.FindFault.{FindFault, TheVariants.{Refused, Run, NoMemory}}}
 use Rattle.ffs_finding.specs.declared.request.Search.TheVariants.{Owner}
 use Rattle.ffs_finding.specs.{Claims.{ClaimsAnswer, TakesClaims}, Fields.WithSuper, Outcome.{Finds, PrintsLines}}
-use Rattle.ffs_volume.specs.Find.Owner.owner_lines
+use Rattle.ffs_volume.specs.Find.Owner.lines_of_fragment
 use Rattle.ffs_finding.specs.Whole.{SearchAnswers, Searches}
 use Rattle.ffs_finding.proofs.Printing.{knowing, reads_first}
 
@@ -45,12 +45,12 @@ module _ (f : ℕ) (sector : Option ℕ) (s : Superblock) (d : Device) (held hel
     known b k = (ap (λ (x : Device). x.contents) same ∙ k.0, holds b k.0)
 
     lines : {T : Type 0} (a b : Sink) (r : Result T RunFault) →
-        PrintsLines (WithPhase1 s.layout d1 w) (λ bytes. owner_lines s.layout bytes f) a b r →
-        PrintsLines (WithSuper d sector s) (λ bytes. owner_lines s.layout bytes f) a b r
+        PrintsLines (WithPhase1 s.layout d1 w) (λ bytes. lines_of_fragment s.layout bytes f) a b r →
+        PrintsLines (WithSuper d sector s) (λ bytes. lines_of_fragment s.layout bytes f) a b r
     lines {T} a b r p = knowing T _ _ _ a b r known p
 
     stopped : (d' : Device) (a b : Sink) (fault : RunFault) →
-        Finds {T = Unit {0}} (WithPhase1 s.layout d1 w) (λ bytes. owner_lines s.layout bytes f) d1 d' a b (Err fault) →
+        Finds {T = Unit {0}} (WithPhase1 s.layout d1 w) (λ bytes. lines_of_fragment s.layout bytes f) d1 d' a b (Err fault) →
         SearchAnswers (Owner f) sector s d d' held held' a b (Err (Run fault))
     stopped d' a b (Read fault) p = (rw same at p.image, lines {T = Unit {0}} a b (Err (Read fault)) p.text)
     stopped d' a b (Out fault) p = (p.image ∙ same, lines {T = Unit {0}} a b (Err (Out fault)) p.text)
@@ -59,7 +59,7 @@ module _ (f : ℕ) (sector : Option ℕ) (s : Superblock) (d : Device) (held hel
     pub owner_failed : (d' : Device) (before between after : ℕ) (a b : Sink) (fault : RunFault) →
         Granted held held' (held_of s.layout) → between ≤ before + scan_reads s.layout →
         after ≤ between + sweep_reads s.layout →
-        Finds {T = Unit {0}} (WithPhase1 s.layout d1 w) (λ bytes. owner_lines s.layout bytes f) d1 d' a b (Err fault) →
+        Finds {T = Unit {0}} (WithPhase1 s.layout d1 w) (λ bytes. lines_of_fragment s.layout bytes f) d1 d' a b (Err fault) →
         Searches (Owner f) sector s d d' held held' before after a b (Err (Run fault))
     owner_failed d' before between after a b fault took first second p = record {
       answer = stopped d' a b fault p;
@@ -70,7 +70,7 @@ module _ (f : ℕ) (sector : Option ℕ) (s : Superblock) (d : Device) (held hel
     pub owner_found : (d' : Device) (before between after : ℕ) (a b : Sink) →
         Granted held held' (held_of s.layout) → between ≤ before + scan_reads s.layout →
         after ≤ between + sweep_reads s.layout →
-        Finds {T = Unit {0}} (WithPhase1 s.layout d1 w) (λ bytes. owner_lines s.layout bytes f) d1 d' a b (Ok tt) →
+        Finds {T = Unit {0}} (WithPhase1 s.layout d1 w) (λ bytes. lines_of_fragment s.layout bytes f) d1 d' a b (Ok tt) →
         Searches (Owner f) sector s d d' held held' before after a b (Ok false)
     owner_found d' before between after a b took first second p = record {
       answer = (p.image ∙ same, lines {T = Unit {0}} a b (Ok tt) p.text, λ bytes k. refl);

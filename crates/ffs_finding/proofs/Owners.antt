@@ -14,12 +14,12 @@ use Rattle.ffs_volume.specs.{Laws.Geometry.IsAcceptedLayout, declared.Layout.Lay
 use Rattle.ffs_workspace.proofs.NoteLaws.{cut_is_noted}
 use Rattle.ffs_workspace.specs.{Lengths.inodes_of, Notes.{cut_in, note_at}, declared.workspace.Workspace.Workspace}
 use Rattle.ffs_finding.specs.Keepers.lines_again
-use Rattle.ffs_volume.specs.Find.Owner.{keeper_lines, lines_of_inode}
+use Rattle.ffs_volume.specs.Find.Owner.{keeper_lines, keeper_lines_of_inode}
 use Rattle.ffs_finding.proofs.{Ranges.next, Replayed.inode_replay}
 
 -- the lines of the inodes from n on
 unfoldable pub keepers_from : (v : Layout) (b : List ℕ) (f n : ℕ) → List (List ℕ)
-keepers_from v b f n = flat_map (lines_of_inode v b f) (range_with_len n (inodes_of v - n))
+keepers_from v b f n = flat_map (keeper_lines_of_inode v b f) (range_with_len n (inodes_of v - n))
 
 pub keepers_begin : (v : Layout) (b : List ℕ) (f : ℕ) → keepers_from v b f 2 ≡ keeper_lines v b f
 unfolding keepers_from keeper_lines
@@ -30,12 +30,12 @@ unfolding keepers_from
 keepers_end v b f n past = let none : inodes_of v - n ≡ 0 = omega arith in rw none refl
 
 pub keepers_next : (v : Layout) (b : List ℕ) (f n : ℕ) → n < inodes_of v →
-    keepers_from v b f n ≡ lines_of_inode v b f n ++ keepers_from v b f (n + 1)
+    keepers_from v b f n ≡ keeper_lines_of_inode v b f n ++ keepers_from v b f (n + 1)
 unfolding keepers_from
 keepers_next v b f n low =
     let fewer : inodes_of v - n - 1 ≡ inodes_of v - (n + 1) = omega arith in
-    next (lines_of_inode v b f) n (inodes_of v - n) (omega arith)
-    ∙ ap (λ k. lines_of_inode v b f n ++ flat_map (lines_of_inode v b f) (range_with_len (n + 1) k)) fewer
+    next (keeper_lines_of_inode v b f) n (inodes_of v - n) (omega arith)
+    ∙ ap (λ k. keeper_lines_of_inode v b f n ++ flat_map (keeper_lines_of_inode v b f) (range_with_len (n + 1) k)) fewer
 
 number_is : (v : Layout) (n : ℕ) → 2 ≤ n → n < inodes_of v → is_inode_number v n ≡ true
 number_is v n low high = grind (arith, nat_tests)
@@ -49,8 +49,8 @@ cut_ends v b n note g low high e =
 -- the lines of an inode, replayed by its noted cut
 pub inode_lines : (v : Layout) (b : List ℕ) (f n note : ℕ) → IsAcceptedLayout v → 2 ≤ n → n < inodes_of v →
     note ≡ note_at v b n → lines_again v f n 0 (cut_in note) fresh_replay (steps_of v (inode_of v b n) b)
-    ≡ lines_of_inode v b f n
-unfolding lines_of_inode
+    ≡ keeper_lines_of_inode v b f n
+unfolding keeper_lines_of_inode
 inode_lines v b f n note g low high e =
     rw (cut_ends v b n note g low high e) (sym (inode_replay v f n (claims_before v b n) (steps_of v (inode_of v b n) b)))
 
@@ -87,6 +87,6 @@ no_steps v b n e = rw e refl
 
 -- it has no line
 pub no_lines : (v : Layout) (b : List ℕ) (f n : ℕ) → 2 ≤ n → n < inodes_of v → kind_at v b n ≡ 0 →
-    lines_of_inode v b f n ≡ []
-unfolding lines_of_inode
+    keeper_lines_of_inode v b f n ≡ []
+unfolding keeper_lines_of_inode
 no_lines v b f n low high e = rw (no_steps v b n (no_file v b n low high e)) refl

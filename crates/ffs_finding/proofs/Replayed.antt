@@ -12,7 +12,7 @@ use Rattle.ffs_volume.specs.Encodings.ReplayCounts.{replay_step_by_cut}
 use Rattle.ffs_volume.specs.declared.{Layout.Layout, Step.{Step, TheVariants.{Run, Tail, Gap}}}
 use Rattle.ffs_walk.specs.Keepings.{run_taken}
 use Rattle.ffs_claims.specs.Rescan.{step_offers_again}
-use Rattle.ffs_volume.specs.Find.Owner.{indirect_in, keeper_text, lines_of_step, lines_of_steps}
+use Rattle.ffs_volume.specs.Find.Owner.{indirect_in, keeper_text, keeper_lines_of_step, keeper_lines_of_steps}
 use Rattle.ffs_finding.specs.Keepers.{is_in_run, lines_again, step_lines_again}
 
 -- ---- the offers that are kept are the first ones
@@ -91,12 +91,12 @@ any_again v f x cut r start len block =
 
 line_again : (v : Layout) (f x earlier cut : ℕ) (s : Claims) (r : Replay) (step : Step) →
     kept_in_step v x s step ≡ step_offers_again v x cut r step →
-    lines_of_step v f x earlier s step ≡ step_lines_again v f x earlier cut r step
+    keeper_lines_of_step v f x earlier s step ≡ step_lines_again v f x earlier cut r step
 line_again v f x earlier cut s r (Run start len block) e = rw (e, any_again v f x cut r start len block) refl
 line_again v f x earlier cut s r other e = refl
 
 lines_replay : (v : Layout) (f x earlier : ℕ) (s : Claims) (steps : List Step) → s.dups ≤ s.kept →
-    lines_of_steps v f x earlier s steps ≡ lines_again v f x earlier (cut_of (after_steps v s steps))
+    keeper_lines_of_steps v f x earlier s steps ≡ lines_again v f x earlier (cut_of (after_steps v s steps))
     (by_cut (cut_of (after_steps v s steps)) (replay_of s)) steps
 unfolding lines_again
 lines_replay v f x earlier s [] few = refl
@@ -112,7 +112,7 @@ lines_replay v f x earlier s (step ∷ steps) few =
 
 -- those of an inode
 pub inode_replay : (v : Layout) (f x : ℕ) (s : Claims) (steps : List Step) →
-    lines_of_steps v f x 0 (at_next_inode s) steps
+    keeper_lines_of_steps v f x 0 (at_next_inode s) steps
     ≡ lines_again v f x 0 (cut_of (after_steps v (at_next_inode s) steps)) fresh_replay steps
 inode_replay v f x s steps = rw (begins_by_cut (cut_of (after_steps v (at_next_inode s) steps)))
     at (lines_replay v f x 0 (at_next_inode s) steps (omega arith))

@@ -79,12 +79,12 @@ pub record WalksKept {T : Type 0} (v : Layout) (f x cut : ℕ) (inode : Inode) (
       (λ b. count' ≤ count + replayed_runs v cut fresh_replay (steps_of v inode b))
 
 -- the inode x can be looked at
-pub record CanLookAt (v : Layout) (d : Device) (w : Workspace) (x : ℕ) : Type 0 where
+pub record CanLookAtInode (v : Layout) (d : Device) (w : Workspace) (x : ℕ) : Type 0 where
   pub ready : IsReady v d w
   pub number : x < inodes_of v
 
 -- the inode x was looked at: its lines were printed, by its noted cut, and only windows have changed
-pub record LooksAt {T : Type 0} (v : Layout) (f x : ℕ) (d d' : Device) (count count' : ℕ) (w w' : Workspace)
+pub record LooksAtInode {T : Type 0} (v : Layout) (f x : ℕ) (d d' : Device) (count count' : ℕ) (w w' : Workspace)
     (old new : Sink) (result : Result T RunFault) : Type 0 where
   pub found : Finds (IsContents d.contents) (λ b. lines_again v f x 0 (cut_in (slice_index w.notes.items x)) fresh_replay
       (steps_of v (inode_of v b x) b)) d d' old new result

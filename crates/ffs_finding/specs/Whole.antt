@@ -18,14 +18,14 @@ use Rattle.ffs_volume.specs.Find.{Copies.copies_lines, InodeText.inode_lines, Fi
 use Rattle.ffs_finding.specs.{Outcome.{PrintedTo, PrintedSome, StoppedIn}, Fields.{WithSuper, any_line}}
 use Rattle.ffs_volume.specs.Find.Lost.lost_lines
 use Rattle.ffs_finding.specs.Copies.ReadsCopies
-use Rattle.ffs_volume.specs.Find.Owner.owner_lines
+use Rattle.ffs_volume.specs.Find.Owner.lines_of_fragment
 
 -- what a search prints of an image with this accepted superblock
 abbrev pub search_lines : Search → (sector : Option ℕ) → (image : List ℕ) → Superblock → List (List ℕ)
 search_lines (Inode number) sector image s = inode_lines s.layout image number
 search_lines Fields sector image s = wrong_fields s image sector
 search_lines Lost sector image s = lost_lines s.layout image
-search_lines (Owner fragment) sector image s = owner_lines s.layout image fragment
+search_lines (Owner fragment) sector image s = lines_of_fragment s.layout image fragment
 
 -- a line of the search is a defect
 abbrev pub finds_defects : Search → Bool

@@ -5,9 +5,9 @@ ghost use Rattle.ffs_volume.specs.{Blocks.Inodes.inode_of, Encodings.{Kinds.is_a
 ghost use Rattle.ffs_report.specs.{Known.IsContents, Sink.Prints};
 ghost use Rattle.ffs_walk.specs.{Keepings.replay_in, Windows.CanWalk};
 ghost use Rattle.ffs_workspace.specs.{Found.WithPhase1, Notes.cut_in, Ready.IsReady};
-ghost use Rattle.ffs_volume.specs.Find.Owner.{indirect_in, keeper_text, keeper_lines, map_text, owner_lines, part_text, reserved_text, table_text};
+ghost use Rattle.ffs_volume.specs.Find.Owner.{indirect_in, keeper_text, keeper_lines, map_text, lines_of_fragment, part_text, reserved_text, table_text};
 ghost use Rattle.ffs_finding.specs.{Outcome.Finds};
-ghost use Rattle.ffs_finding.specs.Keepers.{CanLookAt, CanPrintMap, CanPrintStep, CanReadMap, map_lines, LooksAt, LooksAtAll, PrintsStep, WalksKept, is_in_run, run_text};
+ghost use Rattle.ffs_finding.specs.Keepers.{CanLookAtInode, CanPrintMap, CanPrintStep, CanReadMap, map_lines, LooksAtInode, LooksAtAll, PrintsStep, WalksKept, is_in_run, run_text};
 
 use crate::group_map::{is_marked_free, map_place};
 use ffs_image::{Image, LimitedImage};
@@ -246,8 +246,8 @@ fn print_keeper<I: Image, W: Output>(
     asked: Asked,
     out: &mut W,
 ) -> Result<(), RunFault>
-    requires { CanLookAt geometry.now.layout (I.device image.old) workspace.old asked.number }
-    ensures { LooksAt geometry.now.layout asked.fragment asked.number (I.device image.old)
+    requires { CanLookAtInode geometry.now.layout (I.device image.old) workspace.old asked.number }
+    ensures { LooksAtInode geometry.now.layout asked.fragment asked.number (I.device image.old)
         (I.device image.new) (I.reads image.old) (I.reads image.new) workspace.old workspace.new
         (W.sink out.old) (W.sink out.new) result }
 {
@@ -338,7 +338,7 @@ pub fn find_owner<I: Image, W: Output>(
 ) -> Result<(), RunFault>
     requires ready { IsReady geometry.now.layout (I.device image.old) workspace.old }
     ensures prints { Finds (WithPhase1 geometry.now.layout (I.device image.old) workspace.old)
-        (λ bytes. owner_lines geometry.now.layout bytes fragment) (I.device image.old)
+        (λ bytes. lines_of_fragment geometry.now.layout bytes fragment) (I.device image.old)
         (I.device image.new) (W.sink out.old) (W.sink out.new) result }
     ensures reads { I.reads image.new ≤ I.reads image.old + sweep_reads geometry.now.layout }
 {

@@ -38,8 +38,8 @@ abbrev pub is_marked_free : (v : Layout) (block : List ℕ) (c f : ℕ) → Bool
 is_marked_free v block c f = bit_at block (fragment_map_place v block) (f - cgbase v c)
 
 -- f is lost: it is free, as `free` says, but the map of group c marks it as used
-abbrev pub is_lost : (v : Layout) (free : ℕ → Bool) (block : List ℕ) (c f : ℕ) → Bool
-is_lost v free block c f = free f && not (is_marked_free v block c f)
+abbrev pub is_lost_fragment : (v : Layout) (free : ℕ → Bool) (block : List ℕ) (c f : ℕ) → Bool
+is_lost_fragment v free block c f = free f && not (is_marked_free v block c f)
 
 -- f is marked as free, but isn't free
 abbrev pub is_wrongly_free : (v : Layout) (free : ℕ → Bool) (block : List ℕ) (c f : ℕ) → Bool
@@ -49,7 +49,7 @@ is_wrongly_free v free block c f = is_marked_free v block c f && not (free f)
 abbrev pub lost_of_group : (v : Layout) (free : ℕ → Bool) (c : ℕ) (block : List ℕ) → List (List ℕ)
 lost_of_group v free c block =
     if has_map v block
-    then stretch_lines (codes "lost ") (is_lost v free block c) (cgbase v c) (cgbase v c + group_size v c)
+    then stretch_lines (codes "lost ") (is_lost_fragment v free block c) (cgbase v c) (cgbase v c + group_size v c)
     else number_text (codes "no map in group ") c (codes "\n") ∷ []
 
 -- the lines of its fragments that are wrongly marked as free

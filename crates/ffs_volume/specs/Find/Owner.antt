@@ -69,25 +69,25 @@ abbrev pub keeps_in_step : Layout → (f x : ℕ) → Claims → Step → Bool
 keeps_in_step v f x s step = list_any (λ o. o.fragment == f) (kept_in_step v x s step)
 
 -- the lines of a step and of steps, from a state on
-abbrev pub lines_of_step : Layout → (f x earlier : ℕ) → Claims → Step → List (List ℕ)
-lines_of_step v f x earlier s (Run start len block) =
+abbrev pub keeper_lines_of_step : Layout → (f x earlier : ℕ) → Claims → Step → List (List ℕ)
+keeper_lines_of_step v f x earlier s (Run start len block) =
     if keeps_in_step v f x s (Run start len block) then keeper_text x earlier block ∷ [] else []
-lines_of_step v f x earlier s Tail = []
-lines_of_step v f x earlier s Gap = []
+keeper_lines_of_step v f x earlier s Tail = []
+keeper_lines_of_step v f x earlier s Gap = []
 
-abbrev pub lines_of_steps : Layout → (f x earlier : ℕ) → Claims → List Step → List (List ℕ)
-lines_of_steps v f x earlier s [] = []
-lines_of_steps v f x earlier s (step ∷ steps) =
-    lines_of_step v f x earlier s step ++ lines_of_steps v f x (earlier + indirect_in step) (after_step v s step) steps
+abbrev pub keeper_lines_of_steps : Layout → (f x earlier : ℕ) → Claims → List Step → List (List ℕ)
+keeper_lines_of_steps v f x earlier s [] = []
+keeper_lines_of_steps v f x earlier s (step ∷ steps) =
+    keeper_lines_of_step v f x earlier s step ++ keeper_lines_of_steps v f x (earlier + indirect_in step) (after_step v s step) steps
 
 -- the lines of the inode x
-unfoldable pub lines_of_inode : (v : Layout) (image : List ℕ) (f x : ℕ) → List (List ℕ)
-lines_of_inode v image f x =
-    lines_of_steps v f x 0 (at_next_inode (claims_before v image x)) (steps_of v (inode_of v image x) image)
+unfoldable pub keeper_lines_of_inode : (v : Layout) (image : List ℕ) (f x : ℕ) → List (List ℕ)
+keeper_lines_of_inode v image f x =
+    keeper_lines_of_steps v f x 0 (at_next_inode (claims_before v image x)) (steps_of v (inode_of v image x) image)
 
 -- the lines of all inodes, ascending
 unfoldable pub keeper_lines : (v : Layout) (image : List ℕ) (f : ℕ) → List (List ℕ)
-keeper_lines v image f = flat_map (lines_of_inode v image f) (inode_numbers v)
+keeper_lines v image f = flat_map (keeper_lines_of_inode v image f) (inode_numbers v)
 
 -- ---- a fragment that no inode keeps an offer of
 -- the map of the group of c has the fragment as free, or it is lost; or there is no map
@@ -104,8 +104,8 @@ or_lines [] others = others
 or_lines (line ∷ lines) others = line ∷ lines
 
 -- the lines of the fragment f; none where the volume has no such fragment
-unfoldable pub owner_lines : (v : Layout) (image : List ℕ) (f : ℕ) → List (List ℕ)
-owner_lines v image f =
+unfoldable pub lines_of_fragment : (v : Layout) (image : List ℕ) (f : ℕ) → List (List ℕ)
+lines_of_fragment v image f =
     if nat_lt f v.size
     then (if is_reserved v f then reserved_text v f ∷ []
     else or_lines (keeper_lines v image f) (map_text v (group_block v image (group_of_fragment v f)) f ∷ []))

@@ -1,5 +1,5 @@
 use Rattle.std.proofs.Common.{◌∙◌, ap, arith}
-use Rattle.ffs_claims.specs.SilentWords.{with_counts}
+use Rattle.ffs_claims.specs.SilentWords.{with_run_counts}
 use Rattle.ffs_claims.proofs.{Inodes.kept_room, Inodes.seen_bound, WordClaims.words_once, WordClaims.words_then}
 use Rattle.ffs_claims.proofs.words.claim_words_in.Goals as goal
 
@@ -13,8 +13,8 @@ claim_address-requires c =
     let next = c.requires.can.next in
     let words = c.loop-order.invariant.words in
     let size = c.args.geometry.now.sound.numbers.size_below in
-    let kept = kept_room (with_counts c.args.workspace.now c.args.counts.now) words.only.made words.uncut words.claim_bound in
-    let seen = seen_bound (with_counts c.args.workspace.now c.args.counts.now) words.only.made words.uncut words.claim_bound in
+    let kept = kept_room (with_run_counts c.args.workspace.now c.args.counts.now) words.only.made words.uncut words.claim_bound in
+    let seen = seen_bound (with_run_counts c.args.workspace.now c.args.counts.now) words.only.made words.uncut words.claim_bound in
     grind arith
 
 pub loop-order-preserved : goal.loop-order-preserved

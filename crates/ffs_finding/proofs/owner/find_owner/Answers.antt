@@ -6,23 +6,23 @@ use Rattle.ffs_maps.specs.Bits.{bits_of}
 use Rattle.ffs_report.specs.Known.{ForBytes}
 use Rattle.ffs_workspace.specs.{Found.WithPhase1, Holds.all_claims, declared.workspace.Workspace.Workspace}
 use Rattle.ffs_finding.specs.{Fields.any_line, Keepers.map_lines}
-use Rattle.ffs_volume.specs.Find.Owner.{keeper_lines, or_lines, owner_lines, reserved_text}
+use Rattle.ffs_volume.specs.Find.Owner.{keeper_lines, or_lines, lines_of_fragment, reserved_text}
 use Rattle.ffs_finding.proofs.{Claimed.claimed_is, Keepers.same_lines}
 use Rattle.ffs_finding.proofs.Printing.{knowing, one, one_broken, prints_all, prints_none, stops_all}
 use Rattle.ffs_finding.proofs.owner.find_owner.Goals as goal
 
-no_fragment : (v : Layout) (b : List ℕ) (f : ℕ) → v.size ≤ f → owner_lines v b f ≡ []
-unfolding owner_lines
+no_fragment : (v : Layout) (b : List ℕ) (f : ℕ) → v.size ≤ f → lines_of_fragment v b f ≡ []
+unfolding lines_of_fragment
 no_fragment v b f h = let e : nat_lt f v.size ≡ false = grind (arith, nat_tests) in rw e refl
 
 is_reserved_line : (v : Layout) (b : List ℕ) (f : ℕ) → f < v.size → is_reserved v f ≡ true →
-    owner_lines v b f ≡ reserved_text v f ∷ []
-unfolding owner_lines
+    lines_of_fragment v b f ≡ reserved_text v f ∷ []
+unfolding lines_of_fragment
 is_reserved_line v b f h r = let e : nat_lt f v.size ≡ true = grind (arith, nat_tests) in rw (e, r) refl
 
 others : (v : Layout) (b : List ℕ) (f : ℕ) → f < v.size → is_reserved v f ≡ false →
-    owner_lines v b f ≡ or_lines (keeper_lines v b f) (map_lines v b f)
-unfolding owner_lines
+    lines_of_fragment v b f ≡ or_lines (keeper_lines v b f) (map_lines v b f)
+unfolding lines_of_fragment
 others v b f h r = let e : nat_lt f v.size ≡ true = grind (arith, nat_tests) in rw (e, r) refl
 
 first_ones : (xs ys : List (List ℕ)) → any_line xs ≡ true → or_lines xs ys ≡ xs
@@ -72,7 +72,7 @@ returns-then-get-clause-prints g c =
     let did = c.find_keepers.ensures.prints in
     record {
       image = did.image;
-      text = same_lines (WithPhase1 v d c.args.workspace.now) (λ b. keeper_lines v b f) (λ b. owner_lines v b f) _ _ _
+      text = same_lines (WithPhase1 v d c.args.workspace.now) (λ b. keeper_lines v b f) (λ b. lines_of_fragment v b f) _ _ _
           (λ b k. sym (others v b f (omega arith) free ∙ first_ones (keeper_lines v b f) (map_lines v b f)
           (sym (some b k) ∙ c.if-get.true))) did.text;
     }
@@ -88,7 +88,7 @@ returns-clause-prints g c =
     let did = c.print_unclaimed.ensures.prints in
     record {
       image = did.image;
-      text = same_lines (WithPhase1 v d c.args.workspace.now) (λ b. map_lines v b f) (λ b. owner_lines v b f) _ _ _
+      text = same_lines (WithPhase1 v d c.args.workspace.now) (λ b. map_lines v b f) (λ b. lines_of_fragment v b f) _ _ _
           (λ b k. sym (others v b f (omega arith) free ∙ second_ones (keeper_lines v b f) (map_lines v b f)
           (sym (some b k) ∙ c.if-get.false)))
           (knowing _ _ (WithPhase1 v d c.args.workspace.now) _ _ _ _ (λ b k. k.0) did.text);

@@ -4,7 +4,7 @@ use Rattle.ffs_volume.specs.{declared.Layout.Layout, Encodings.Kinds.{is_allocat
 use Rattle.ffs_report.{proofs.Sinks.took_nil, specs.{Known.ForBytes, declared.fault.RunFault.RunFault}}
 use Rattle.ffs_workspace.specs.{Found.WithPhase1, Lengths.inodes_of, Notes.note_at, declared.workspace.Workspace.Workspace}
 use Rattle.ffs_claims.proofs.{Numbers.numbers_most, Rescanned.runs_most, Frames.image_from}
-use Rattle.ffs_volume.specs.Find.Owner.{lines_of_inode}
+use Rattle.ffs_volume.specs.Find.Owner.{keeper_lines_of_inode}
 use Rattle.ffs_finding.proofs.Keepers.{found_lines, found_reads, stays_then}
 use Rattle.ffs_finding.proofs.Owners.{inode_runs, keepers_begin, keepers_end, keepers_from, keepers_next, no_lines}
 use Rattle.ffs_finding.proofs.Printing.{part, part_fault, printed_all, same_fault}
@@ -39,7 +39,7 @@ returns-in_err-print_keeper g c =
       found = record {
         image = image_from (g.I.Image.device c.print_keeper.new.image)
             fault inv.device did.found.image;
-        text = part_fault (Unit {0}) (Unit {0}) _ _ (λ b. lines_of_inode v b f n) (λ b. keepers_from v b f (n + 1)) _ _ _
+        text = part_fault (Unit {0}) (Unit {0}) _ _ (λ b. keeper_lines_of_inode v b f n) (λ b. keepers_from v b f (n + 1)) _ _ _
             _ c.in_err-print_keeper.field-0.0 inv.printed (λ b k. keepers_next v b f n high)
             (found_lines inv.device inv.stays sound inv.low high did);
       };
@@ -110,7 +110,7 @@ loop-number-preserved g c =
       low = omega (arith, inv.low);
       high = λ h. omega (arith, high);
       paid = λ b k. omega (arith, inv.paid b k, inv.low, found_reads inv.device inv.stays sound inv.low high did b k);
-      printed = part _ _ (λ b. lines_of_inode v b f n) (λ b. keepers_from v b f (n + 1)) _ _ _ _ inv.printed
+      printed = part _ _ (λ b. keeper_lines_of_inode v b f n) (λ b. keepers_from v b f (n + 1)) _ _ _ _ inv.printed
           (λ b k. keepers_next v b f n high) (found_lines inv.device inv.stays sound inv.low high did);
     }
 
