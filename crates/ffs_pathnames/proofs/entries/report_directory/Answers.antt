@@ -275,7 +275,7 @@ returns-in_err-report_chunk-clause-once g c = λ b k noted.
     let known = know g at read.leaves.read in
     let chunk : Chunk = chunk_of v.order c.in-Some.offset c.next_chunk.new.bytes in
     let came = rw c.in-Some.is at read.chunk in
-    let next = (came.chunk b (now g at b k) (room g at b k)).chunks ∙ ap
+    let next = (came.chunk (held g at b k) b (now g at b k) (enough g at b k)).chunks ∙ ap
     (λ q. chunk_of q.layout.order c.in-Some.offset c.next_chunk.new.bytes ∷ rest b c.next_chunk.new.chunks) inv.geometry in
     let took = read.takes.reads (inv.held b k noted) b (now g at b k) (enough g at b k) in
     let here = c.in_err-report_chunk.ensures.lines.once b (known b k)
