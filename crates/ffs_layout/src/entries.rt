@@ -1,14 +1,18 @@
 //! Reads an entry of a directory from its chunk.
 
-ghost use Rattle.std.specs.Prelude.{IsTrue, ◌≡◌, ◌+◌, ◌≤◌, length};
+ghost use Rattle.std.specs.Prelude.{IsTrue, ◌≡◌, ◌+◌, ◌≤◌, length, take};
 ghost use Rattle.ffs_volume.specs.Directories.Entries.{has_valid_type_and_name, is_valid_record_length};
-ghost use Rattle.ffs_volume.specs.Disk.Numbers.{u16_at as u16_in, u32_at as u32_in};
+ghost use Rattle.ffs_volume.specs.Disk.Numbers.{piece, u16_at as u16_in, u32_at as u32_in};
 ghost use Rattle.ffs_layout.specs.Entry.{IsEntryAt, any_nul_or_slash};
 
 use crate::entry::Entry;
 use crate::numbers::{u16_at, u32_at};
 use ffs_volume::Order;
 use ffs_volume::constants::{DIRBLKSIZ, DIRENT_HEADER};
+use std::simd::prelude::*;
+
+/// How many bytes of a name are looked at together.
+const SHORT: usize = 16;
 
 /// Whether a record of this length may be at the place.
 fn is_valid_record_length(place: usize, len: u16) -> bool
@@ -31,44 +35,39 @@ fn has_nul_or_slash_in_part<const N: usize>(part: &[u8; N]) -> bool
     any
 }
 
-/// Whether one of at most three bytes is NUL or `/`. Most bytes of names are greater than both: one
-/// test passes them.
+/// Whether one of the first few bytes is NUL or `/`. Sixteen are looked at together, and then where
+/// the first such byte is: no branch depends on how many count.
+#[inline(always)]
+fn has_nul_or_slash_in_first(bytes: &[u8], len: usize) -> bool
+    requires { (len ≤ 16) × (16 ≤ length bytes.now) }
+    ensures { result ≡ any_nul_or_slash (take len bytes.now) }
+{
+    let lanes = u8x16::from_slice(bytes);
+    let found = lanes.simd_eq(u8x16::splat(0)) | lanes.simd_eq(u8x16::splat(b'/'));
+    (found.to_bitmask().trailing_zeros() as usize) < len
+}
+
+/// Whether one of fewer than eight bytes is NUL or `/`.
 #[inline]
-fn has_nul_or_slash_in_three(bytes: &[u8]) -> bool
+fn has_nul_or_slash_in_few(bytes: &[u8]) -> bool
     ensures { result ≡ any_nul_or_slash bytes.now }
 {
     for &byte in bytes {
-        if byte <= b'/' && (byte == 0 || byte == b'/') {
+        if byte == 0 || byte == b'/' {
             return true;
         }
     }
     false
 }
 
-/// Whether one of at most eight bytes is NUL or `/`: of the first four or the last four, which have
-/// some in common where they are fewer than eight.
+/// Whether one of the bytes is NUL or `/`. The last eight bytes may have some in common with those
+/// before.
 #[inline]
-fn has_nul_or_slash_in_eight(bytes: &[u8]) -> bool
-    requires { length bytes.now ≤ 8 }
-    ensures { result ≡ any_nul_or_slash bytes.now }
-{
-    let Some(first) = bytes.first_chunk::<4>() else {
-        return has_nul_or_slash_in_three(bytes);
-    };
-    let Some(last) = bytes.last_chunk::<4>() else {
-        return has_nul_or_slash_in_three(bytes);
-    };
-    has_nul_or_slash_in_part(first) || has_nul_or_slash_in_part(last)
-}
-
-/// Whether one of the bytes is NUL or `/`, as none of a name may be. The last eight bytes may have
-/// some in common with those before.
-#[inline(always)]
-fn has_nul_or_slash(bytes: &[u8]) -> bool
+fn has_nul_or_slash_in_many(bytes: &[u8]) -> bool
     ensures { result ≡ any_nul_or_slash bytes.now }
 {
     let Some(last) = bytes.last_chunk::<8>() else {
-        return has_nul_or_slash_in_eight(bytes);
+        return has_nul_or_slash_in_few(bytes);
     };
     let (parts, _) = bytes.as_chunks::<8>();
     for part in parts {
@@ -77,6 +76,20 @@ fn has_nul_or_slash(bytes: &[u8]) -> bool
         }
     }
     has_nul_or_slash_in_part(last)
+}
+
+/// Whether one of the bytes at a place of a chunk is NUL or `/`, as none of a name may be. Sixteen
+/// bytes are looked at where the chunk has them and the name is no longer.
+#[inline(always)]
+fn has_nul_or_slash(chunk: &[u8; DIRBLKSIZ], start: usize, len: usize) -> bool
+    requires { start + len ≤ 512 }
+    ensures { result ≡ any_nul_or_slash (piece start len chunk.now) }
+{
+    if len <= SHORT && start + SHORT <= DIRBLKSIZ {
+        has_nul_or_slash_in_first(&chunk[start..], len)
+    } else {
+        has_nul_or_slash_in_many(&chunk[start..][..len])
+    }
 }
 
 /// Whether the record at the place has a type, and holds a valid name: one that isn't empty,
@@ -92,7 +105,7 @@ fn has_valid_type_and_name(chunk: &[u8; DIRBLKSIZ], place: usize, len: u16) -> b
     DIRENT_HEADER + name_len + 1 <= usize::from(len)
         && chunk[place + 6] <= 15
         && name_len != 0
-        && !has_nul_or_slash(&chunk[place + DIRENT_HEADER..][..name_len])
+        && !has_nul_or_slash(chunk, place + DIRENT_HEADER, name_len)
         && chunk[place + DIRENT_HEADER + name_len] == 0
 }
 

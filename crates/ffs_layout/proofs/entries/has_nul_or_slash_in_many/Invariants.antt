@@ -1,6 +1,6 @@
 use Rattle.std.proofs.Common.{◌≡◌, ◌*◌, drop}
 use Rattle.ffs_layout.specs.Entry.{any_nul_or_slash}
-use Rattle.ffs_layout.proofs.entries.has_nul_or_slash.Given as goal
+use Rattle.ffs_layout.proofs.entries.has_nul_or_slash_in_many.Given as goal
 
 -- what is left decides
 abbrev pub invariant-loop-part : goal.invariant-loop-part

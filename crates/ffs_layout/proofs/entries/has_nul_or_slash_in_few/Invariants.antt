@@ -1,5 +1,5 @@
 use Rattle.std.{proofs.Common.{◌≡◌, ◌==◌, take, false}, specs.List.list_any}
-use Rattle.ffs_layout.proofs.entries.has_nul_or_slash_in_three.Given as goal
+use Rattle.ffs_layout.proofs.entries.has_nul_or_slash_in_few.Given as goal
 
 -- no byte so far is NUL or `/`
 abbrev pub invariant-loop-byte : goal.invariant-loop-byte

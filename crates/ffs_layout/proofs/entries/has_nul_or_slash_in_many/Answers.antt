@@ -1,6 +1,6 @@
 use Rattle.std.proofs.Common.{◌∙◌, ◌*◌, ◌-◌, ◌/◌, ◌≤◌, ap, sym, length, arith}
 use Rattle.ffs_layout.{specs.Entry.any_nul_or_slash, proofs.ListParts.{nul_or_slash_from, nul_or_slash_part}}
-use Rattle.ffs_layout.proofs.entries.has_nul_or_slash.Goals as goal
+use Rattle.ffs_layout.proofs.entries.has_nul_or_slash_in_many.Goals as goal
 
 pub loop-part-preserved : goal.loop-part-preserved
 loop-part-preserved c =
