@@ -6,7 +6,7 @@ use Rattle.ffs_image.proofs.Limits.{ServedBy, read_over, served}
 use Rattle.ffs_volume.specs.declared.Layout.{Layout}
 use Rattle.ffs_workspace.specs.{declared.workspace.Workspace.Workspace, Ready.IsReady}
 use Rattle.ffs_workspace.proofs.Readiness.{ready_same}
-use Rattle.ffs_paths.specs.{Reads.{OnlyReads, ReadsAtMost}, KeptParents.{KeepsParent, PathLeaves}}
+use Rattle.ffs_paths.specs.{Reads.{KnowsPlaces, OnlyReads, ReadsAtMost}, KeptParents.{KeepsParent, PathLeaves, SparesReads}}
 use Rattle.ffs_paths.specs.declared.kept_parent.KeptParent.{KeptParent}
 use Rattle.ffs_pathnames.{specs.{DirectoryContext.DirectoryContext, Ready.LimitedPathLeaves}, proofs.LineCounts.knows_places}
 
@@ -73,3 +73,31 @@ gathered {v = v} {d = d} {d' = d'} {w = w} {w' = w'} {name_lent = lent} {name = 
         most = most;
       };
     }
+
+-- a path spared as many reads of the image below
+spares_below : {v : Layout} {d l : Device} {w : Workspace} {s : KeptParent} {x reads reads' before asked : ℕ} →
+    l.contents ≡ d.contents → before ≡ 0 → reads' ≤ reads + asked → SparesReads v l before asked x w s →
+    SparesReads v d reads reads' x w s
+spares_below {v = v} {d = d} {l = l} {w = w} same begins few spares =
+    let known : (b : List ℕ) → KnowsPlaces v d.contents w b → KnowsPlaces v l.contents w b = λ b k.
+    subst (λ contents. KnowsPlaces v contents w b) (sym same) k in
+    record {
+      names = λ b k. let most = spares.names b (known b k) in omega (arith, begins, few, most);
+      kept = λ b p k of has. let most = spares.kept b p (known b k) of has in omega (arith, begins, few, most);
+      again = λ b p k of has held.
+          let most = spares.again b p (known b k) of has held in
+          omega (arith, begins, few, most);
+    }
+
+pub spared : {T : Type 0} {v : Layout} {d d' l l' : Device} {w w' : Workspace} {s s' : KeptParent}
+    {name_lent name : GName} {reads reads' limit left before asked n x : ℕ} {spent : Bool} {r : Result T ImageFault} →
+    l ≡ limited_device d name_lent reads limit → before ≡ 0 → PathLeaves n v l l' before asked w w' s' r →
+    ((below : Device) (given : GName) (counted : ℕ) (most : ℕ) →
+    l'.lent ≡ (limited_device below given counted most).lent → l'.contents ≡ below.contents → l'.size ≡ below.size →
+    GivesBack below d' given name counted reads' most left asked spent (limited_device below given counted most) l') →
+    SparesReads v l before asked x w s → SparesReads v d reads reads' x w s
+spared {v = v} {d = d} {d' = d'} {w = w} {name_lent = lent} {name = name} {reads = reads} {reads' = reads'}
+    {limit = limit} {asked = asked} {spent = spent} {r = r} over begins p back spares =
+    let path = rw over at p in
+    let below : ServedBy d d' lent name reads reads' limit asked spent r = served path.reads.read back in
+    spares_below (ap (λ (q : Device). q.contents) over) begins below.as_asked spares

@@ -10,12 +10,12 @@ use Rattle.ffs_volume.specs.Directories.PathnameCheck.{attributes, extra_lines, 
 use Rattle.ffs_volume.specs.Report.Reads.{line_reads, path_reads}
 use Rattle.ffs_layout.specs.Entry.{entry_value}
 use Rattle.ffs_report.specs.Known.{ForBytes}
-use Rattle.ffs_paths.specs.{DirectoryPaths.IsPathOf, KeptParents.PathLeaves, LastPaths.last_path, Reads.{KnowsPlaces, OnlyReadsFew}}
+use Rattle.ffs_paths.specs.{DirectoryPaths.IsPathOf, KeptParents.{KeepsChild, PathLeaves, SparesReads}, LastPaths.last_path, Reads.{KnowsPlaces, OnlyReadsFew}}
 use Rattle.ffs_paths.specs.declared.{entry_paths.EntryPaths.EntryPaths, kept_parent.KeptParent.KeptParent}
 use Rattle.ffs_pathnames.specs.{DirectoryContext.{DirectoryContext, KeepsPath, KnowsPath}, Ready.LimitedPathLeaves}
 use Rattle.ffs_pathnames.specs.declared.one_entry.{DirectoryEntry.DirectoryEntry, EntryTexts.EntryTexts}
 use Rattle.ffs_pathnames.specs.{PassedNames.{PassedNames, roled_reported, verdict_by}, Stamps.stamps_of}
-use Rattle.ffs_pathnames.specs.LineReads.{ReadsPathOnce}
+use Rattle.ffs_pathnames.specs.LineReads.{again_reads, ReadsPathOnce}
 use Rattle.ffs_workspace.specs.{declared.workspace.Workspace.Workspace, Holds.{HoldsClaims, HoldsSurvey}, Lengths.IsFor}
 
 -- the messages are the same as with the volume's own attributes and paths
@@ -114,7 +114,13 @@ module _ {S : Type 0} (I : Ghosts S) (v : Layout) (old new : S) (w w' : Workspac
     pub leaves : PathLeaves path_reads v (I.device old) (I.device new) (I.reads old) (I.reads new) w w' t'.kept_parent
         result
 
-  -- the same, with at most `path_reads` reads of any image
+  -- a path of the directory x spares the reads of what is kept, and leaves that for the next, whichever
+  -- directory y is checked
+  pub record SparesPath {T : Type 0} (x : ℕ) (s s' : KeptParent) (result : Result T ImageFault) : Type 0 where
+    pub reads : SparesReads v (I.device old) (I.reads old) (I.reads new) x w s
+    pub keeps : OnOk result ((y : ℕ) → ForBytes (DirectoryContext v (I.device old).contents w y) (λ b. KeepsChild w x s s'))
+
+  -- the path is made, with at most `path_reads` reads of any image
   pub record MakesPathLimited {T : Type 0} (x : ℕ) (t t' : EntryTexts) (result : Result T ImageFault) : Type 0 where
     pub makes : MakesPath x t t' result
     pub most : I.reads new ≤ I.reads old + path_reads
@@ -194,4 +200,4 @@ module _ {S : Type 0} (I : Ghosts S) (v : Layout) (old new : S) (w w' : Workspac
   pub record GathersDir (x : ℕ) (path : List ℕ) (s : KeptParent) (result : Result Attr ImageFault) : Type 0 where
     pub shown : IfOk result (λ a. ForBytes (DirectoryContext v (I.device old).contents w x) (λ b.
         IsShownOf (volume_of v b) x a path))
-    pub leaves : ReadsForPaths line_reads s result
+    pub leaves : ReadsForPaths again_reads s result

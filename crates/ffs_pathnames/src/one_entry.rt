@@ -4,7 +4,7 @@ ghost use Rattle.ffs_volume.specs.{declared.Layout.Layout, Directories.PathnameC
 ghost use Rattle.ffs_pathnames.specs.{EntryLines.ReportsEntries, Ready.{ReadyToPath, ReadyWhere, ReadyWith, LinesLeave}};
 ghost use Rattle.ffs_pathnames.specs.{SaysTreeMessages.SaysTreeMessages, Gathers.{AreAsLong, IsVerdictIn, asks_attr, asks_path}};
 ghost use Rattle.ffs_pathnames.specs.Gathers.{extra_reported, plain_lines_by, BeginsPath, MakesPath, MakesPathLimited};
-ghost use Rattle.ffs_pathnames.specs.Gathers.{ReadsAttr, PutsPath, PutsWanted, GathersInode, GathersWithPath};
+ghost use Rattle.ffs_pathnames.specs.Gathers.{ReadsAttr, PutsPath, PutsWanted, SparesPath, GathersInode, GathersWithPath};
 ghost use Rattle.ffs_pathnames.specs.Gathers.{GathersEntry, GathersExtra, GathersDir};
 ghost use Rattle.ffs_layout.specs.Entry.{entry_value};
 ghost use Rattle.ffs_report.specs.Progress.{progress};
@@ -87,8 +87,10 @@ fn make_paths_freely<I: Image>(
 ) -> Result<(), ImageFault>
     requires { ReadyToPath geometry.now.layout (I.device image.old) workspace.old
         texts.old.kept_parent dir }
-    ensures { MakesPath I.Image geometry.now.layout image.old image.new workspace.old workspace.new
-        dir texts.old texts.new result }
+    ensures makes { MakesPath I.Image geometry.now.layout image.old image.new workspace.old
+        workspace.new dir texts.old texts.new result }
+    ensures spares { SparesPath I.Image geometry.now.layout image.old image.new workspace.old
+        workspace.new dir texts.old.kept_parent texts.new.kept_parent result }
 {
     let path = texts.kept_parent.path_to(geometry, image, workspace, dir)?;
     texts.paths = EntryPaths::of(path);
@@ -111,8 +113,10 @@ fn make_paths<I: Image>(
 ) -> Result<(), ImageFault>
     requires { ReadyToPath geometry.now.layout (I.device image.old) workspace.old
         texts.old.kept_parent dir }
-    ensures { MakesPathLimited I.Image geometry.now.layout image.old image.new workspace.old
+    ensures makes { MakesPathLimited I.Image geometry.now.layout image.old image.new workspace.old
         workspace.new dir texts.old texts.new result }
+    ensures spares { SparesPath I.Image geometry.now.layout image.old image.new workspace.old
+        workspace.new dir texts.old.kept_parent texts.new.kept_parent result }
 {
     let mut limited = LimitedImage::new(image, PATH_READS);
     let result = make_paths_freely(geometry, &mut limited, workspace, texts, dir);
@@ -136,8 +140,10 @@ fn put_path<I: Image>(
 ) -> Result<(), ImageFault>
     requires { ReadyToPath geometry.now.layout (I.device image.old) workspace.old kept_parent.old
         dir }
-    ensures { PutsPath I.Image geometry.now.layout image.old image.new workspace.old workspace.new
-        dir path.new.items kept_parent.new result }
+    ensures puts { PutsPath I.Image geometry.now.layout image.old image.new workspace.old
+        workspace.new dir path.new.items kept_parent.new result }
+    ensures spares { SparesPath I.Image geometry.now.layout image.old image.new workspace.old
+        workspace.new dir kept_parent.old kept_parent.new result }
 {
     let mut limited_image = LimitedImage::new(image, PATH_READS);
     let result = kept_parent.put_path(geometry, &mut limited_image, workspace, dir, path);

@@ -10,7 +10,7 @@ read_attr-requires g c = grind arith
 
 pub returns : goal.returns
 returns g c =
-    let path = c.in_ok-put_path.ensures in
+    let path = c.in_ok-put_path.ensures.puts in
     record {
       shown = if_ok c.read_attr.result _ _
           (λ a h b k. record {

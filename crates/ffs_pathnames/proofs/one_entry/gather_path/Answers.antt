@@ -12,5 +12,5 @@ pub returns : goal.returns
 returns g c = record {
   path = search (arith, on_ok);
   same = search arith;
-  leaves = rw c.if-not-wanted.false c.put_path.ensures.leaves;
+  leaves = rw c.if-not-wanted.false c.put_path.ensures.puts.leaves;
 }

@@ -1,5 +1,12 @@
 use Rattle.std.proofs.Common.{arith}
+use Rattle.ffs_volume.proofs.Results.{on_ok}
 use Rattle.ffs_pathnames.proofs.one_entry.make_paths_freely.Goals as goal
 
-pub returns : goal.returns
-returns g c = grind arith
+pub returns-clause-makes : goal.returns-clause-makes
+returns-clause-makes g c = grind arith
+
+pub returns-clause-spares : goal.returns-clause-spares
+returns-clause-spares g c = record {
+  reads = c.in_ok-path.ensures.spares;
+  keeps = λ y b k. c.in_ok-path.ensures.keeps;
+}

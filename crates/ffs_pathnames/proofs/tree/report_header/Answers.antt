@@ -7,6 +7,7 @@ use Rattle.ffs_report.proofs.{Reports.said_none, Paying.{paid_none, paid_reads, 
 use Rattle.ffs_report.proofs.Reporting.{of_begins, of_says, of_stops, of_reads}
 use Rattle.ffs_pathnames.specs.{HeaderValues.{defects_value, facts_lines}, DirectoryContext.KnowsHeader}
 use Rattle.ffs_pathnames.proofs.{Begun.attr_size, LineCounts.{by_line, few_none, knows_places, some_said}}
+use Rattle.ffs_paths.proofs.Climbed.{few_more}
 use Rattle.ffs_pathnames.proofs.HeaderLaws.{none_value}
 use Rattle.ffs_pathnames.proofs.tree.report_header.{Given.Over, Goals.{After-gather_dir, After-say_header}}
 use Rattle.ffs_pathnames.proofs.tree.report_header.Goals as goal
@@ -62,8 +63,8 @@ returns-in_err-attr g c =
     let p = err_from_is_err_and c.from_residual.result c.from_residual.ensures.1 in
     rw (p.1, p.2) (record {
       text = of_reads _ _ _ _ _ (of_begins _ _ _);
-      counted = λ b k noted. by_line _ (left.path.counted b (knows_places _ _ _ _ b k.0 noted)) (some_line g at b);
-      paid = paid_reads left.most;
+      counted = λ b k noted. by_line _ (few_more (left.path.counted b (knows_places _ _ _ _ b k.0 noted)) (omega arith)) (some_line g at b);
+      paid = let most = left.most in paid_reads (omega (arith, most));
       leaves = record { image = read.read; lists = read.lists; current = read.current; ready = read.ready };
     })
 
@@ -76,10 +77,10 @@ returns-in_err-say_header g c =
     rw (p.1, p.2) (record {
       text = of_stops _ _ (λ b. []) _ _ _ _ _ (of_begins _ _ _) (lines_are g at.After-say_header)
           c.in_err-say_header.ensures;
-      counted = λ b k noted. by_line _ (left.path.counted b (knows_places _ _ _ _ b k.0 noted))
+      counted = λ b k noted. by_line _ (few_more (left.path.counted b (knows_places _ _ _ _ b k.0 noted)) (omega arith))
           (some_line g at.After-gather_dir b);
       paid = paid_stops _ c.in_err-say_header.ensures (some_said_of g at.After-say_header)
-          left.most;
+          (let most = left.most in omega (arith, most));
       leaves = record { image = read.read; lists = read.lists; current = read.current; ready = read.ready };
     })
 
@@ -91,10 +92,10 @@ returns g c =
     record {
       text = of_says _ _ (λ b. []) _ _ _ _ _ (of_begins _ _ _) (lines_are g at.After-say_header)
           c.in_ok-say_header.ensures;
-      counted = λ b k noted. by_line _ (left.path.counted b (knows_places _ _ _ _ b k.0 noted))
+      counted = λ b k noted. by_line _ (few_more (left.path.counted b (knows_places _ _ _ _ b k.0 noted)) (omega arith))
           (some_line g at.After-gather_dir b);
       paid = paid_says _ c.in_ok-say_header.ensures (some_said_of g at.After-say_header)
-          left.most;
+          (let most = left.most in omega (arith, most));
       leaves = record {
         image = read.read;
         lists = read.lists;
