@@ -26,9 +26,9 @@ bit_among : (test : ℕ → Bool) (xs : List ℕ) (n : ℕ) → n ≤ length xs 
 bit_among test xs n few most =
     elim (cases_eq (mask_l (map test xs)) 0) [
       | inl none ↦
-        grind (arith, ap (count_trailing_zeros 64) none, none_set, first_among test xs n few, leading_from_mask_l test xs none)
+          grind (arith, ap (count_trailing_zeros 64) none, none_set, first_among test xs n few, leading_from_mask_l test xs none)
       | inr some ↦
-        ap (λ k. nat_lt k n) (trailing_mask_l test 64 xs most (omega arith)) ∙ first_among test xs n few
+          ap (λ k. nat_lt k n) (trailing_mask_l test 64 xs most (omega arith)) ∙ first_among test xs n few
     ]
 
 either_passes : (xs : List ℕ) → list_any (λ x. eqb x 0 || eqb x 47) xs ≡ any_nul_or_slash xs
