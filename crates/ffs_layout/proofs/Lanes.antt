@@ -1,8 +1,8 @@
 -- Bytes that are looked at together, and where the first is that passes a test.
-use Rattle.std.proofs.Common.{zero, suc, ◌≡◌, ◌||◌, ◌∷◌, ◌<◌, ◌≤◌, ◌∙◌, ◌%◌, ◌^◌, [], ap, sym, refl, inl, inr, ℕ, List, cond, eqb, arith}
+use Rattle.std.proofs.Common.{zero, suc, ◌≡◌, ◌||◌, ◌∷◌, ◌≤◌, ◌∙◌, ◌%◌, ◌^◌, [], ap, refl, inl, inr, ℕ, List, cond, eqb, arith}
 use Rattle.std.proofs.Common.{take, length, map, true, false, Bool, not}
 use Rattle.std.specs.{Prelude.{nat_lt, bit_or}, List.{list_any, prefix_len}}
-use Rattle.std.proofs.lemmas.{Bool.cases_eq, List.length-map, List.Sums.prefix_len-le-length}
+use Rattle.std.proofs.lemmas.{Bool.cases_eq, List.length-map}
 use Rattle.std.proofs.lemmas.Simd.{leading_from_mask_l, trailing_mask_l, map-map, mask_l-mod}
 use lib.Count.{count_trailing_zeros}
 use lib.Lanes.{mask_l, top}
@@ -26,9 +26,9 @@ bit_among : (test : ℕ → Bool) (xs : List ℕ) (n : ℕ) → n ≤ length xs 
 bit_among test xs n few most =
     elim (cases_eq (mask_l (map test xs)) 0) [
       | inl none ↦
-        grind (arith, ap (count_trailing_zeros 64) none, none_set, first_among test xs n few, leading_from_mask_l test xs none)
+          grind (arith, ap (count_trailing_zeros 64) none, none_set, first_among test xs n few, leading_from_mask_l test xs none)
       | inr some ↦
-        ap (λ k. nat_lt k n) (trailing_mask_l test 64 xs most (omega arith)) ∙ first_among test xs n few
+          ap (λ k. nat_lt k n) (trailing_mask_l test 64 xs most (omega arith)) ∙ first_among test xs n few
     ]
 
 either_passes : (xs : List ℕ) → list_any (λ x. eqb x 0 || eqb x 47) xs ≡ any_nul_or_slash xs

@@ -7,18 +7,19 @@ ghost use Rattle.ffs_layout.specs.Entry.{entry_value};
 use ffs_layout::Entry;
 use ffs_volume::Role;
 
-/// Whether a name is `.`.
+/// Whether a name is `.`. The byte is asked for before the length: few names begin with a dot, but
+/// lengths are mixed.
 pub fn is_one_dot(name: &[u8]) -> bool
     ensures { result ≡ one_dot name.now }
 {
-    matches!(name, [b'.'])
+    matches!(name, [b'.', rest @ ..] if rest.is_empty())
 }
 
-/// Whether a name is `..`.
+/// Whether a name is `..`. The first byte is asked for before the length, as for `.`.
 pub fn is_two_dots(name: &[u8]) -> bool
     ensures { result ≡ two_dots name.now }
 {
-    matches!(name, [b'.', b'.'])
+    matches!(name, [b'.', rest @ ..] if is_one_dot(rest))
 }
 
 /// The role of an entry at an index of its chunk; `first` says that the chunk is at the start of
