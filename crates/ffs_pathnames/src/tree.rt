@@ -77,11 +77,26 @@ pub fn check_inodes<I: Image, W: Output>(
     Ok(())
 }
 
+/// Whether a directory needs a check. No inode ends the loop: the machine looks at many at once.
+fn any_to_check(workspace: &Workspace, count: u32) -> bool
+    requires { ListsInodes workspace.now count }
+    ensures { result ≡ false → (x : ℕ) → 2 ≤ x → x < count → needs_check workspace.now x ≡ false }
+{
+    let mut any = false;
+    for number in ROOTINO..count {
+        any |= needs_check(workspace, number);
+    }
+    any
+}
+
 /// The first directory that needs a check, or `count`, how many inodes there are, where none does.
 fn first_to_check(workspace: &Workspace, count: u32) -> u32
     requires { ListsInodes workspace.now count }
     ensures { IsFirstToCheck workspace.now count result }
 {
+    if !any_to_check(workspace, count) {
+        return count;
+    }
     for number in ROOTINO..count {
         if needs_check(workspace, number) {
             return number;
@@ -97,7 +112,7 @@ fn needs_check(workspace: &Workspace, number: u32) -> bool
     ensures { result ≡ needs_check workspace.now number }
 {
     let index = number as usize;
-    workspace.kinds[index] == DT_DIR && (workspace.marked[index] || !workspace.flags[index])
+    (workspace.kinds[index] == DT_DIR) & (workspace.marked[index] | !workspace.flags[index])
 }
 
 /// Prints the lines of an inode as a directory, and of its entries.

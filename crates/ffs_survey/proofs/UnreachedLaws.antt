@@ -76,6 +76,16 @@ pub read_skip : {f f' : List ℕ} {m m' : List Bool} {p p' : List ℕ} (kinds : 
 unfolding counted_by first_below
 read_skip {f = f} {f' = f'} {m = m} {m' = m'} {p = p} {p' = p'} kinds entries r s taken i = grind arith
 
+-- where none is unreached nothing is read
+pub read_none : {f : List ℕ} {m : List Bool} {p : List ℕ} (kinds : List ℕ) (entries : ℕ → List RoledEntry)
+    (r : List Bool) (n : ℕ) → ((x : ℕ) → x < n → is_unreached_dir kinds r x ≡ false) →
+    IsRead (graph_with kinds entries) kinds r n f m p f m p
+read_none kinds entries r zero none = read_start
+read_none {f = f} {m = m} {p = p} kinds entries r (suc n) none =
+    let one : n + 1 ≡ suc n = omega arith in
+    subst (λ k. IsRead (graph_with kinds entries) kinds r k f m p f m p) one
+    (read_skip kinds entries r n (none n (omega arith)) (read_none kinds entries r n (λ x low. none x (omega (arith, low)))))
+
 -- what has no mark and no parent yet
 pub unreached_blank : {starts f : List ℕ} {m r : List Bool} {p : List ℕ} (kinds : List ℕ)
     (entries : ℕ → List RoledEntry) → IsReachedPart (graph_with kinds entries) starts f m r p →

@@ -1,0 +1,6 @@
+use Rattle.std.proofs.Common.{◌≡◌, ◌<◌, ◌≤◌, ℕ, false}
+use Rattle.ffs_pathnames.specs.Before.{needs_check}
+use Rattle.ffs_pathnames.proofs.tree.any_to_check.Given as goal
+
+abbrev pub invariant-loop-number : goal.invariant-loop-number
+invariant-loop-number l = l.any ≡ false → (x : ℕ) → 2 ≤ x → x < l.number → needs_check l.workspace x ≡ false
