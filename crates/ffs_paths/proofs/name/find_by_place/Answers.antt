@@ -59,9 +59,10 @@ returns-clause-leaves g c =
       again = λ held. let at = held c.in-Some.part (part_is g c) in
           read.again (at.0 ∙ sym (place_is g c)) (at.1 ∙ sym c.part_size-size.ensures);
       held = λ b t noted k e.
-          let same : c.in-Some.part ≡ k = let e = sym (part_is g c) ∙ e in omega arith in
-          (read.place.0 ∙ (place_is g c ∙ ap (λ n. part_size c.args.geometry.now.layout * n) same),
-          read.place.1 ∙ c.part_size-size.ensures);
+          let same : c.in-Some.part ≡ k = let e = sym (part_is g c) ∙ e in omega arith in (
+            read.place.0 ∙ (place_is g c ∙ ap (λ n. part_size c.args.geometry.now.layout * n) same),
+            read.place.1 ∙ c.part_size-size.ensures,
+          );
     }
 
 -- the read failed
