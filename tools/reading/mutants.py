@@ -4,7 +4,7 @@ import re
 from images import formats
 
 SUPERBLOCK_PLACES = {formats.SUPERBLOCK_AT + 4 * k for k in range(formats.SUPERBLOCK_BYTES // 4)}
-KINDS = ("superblock", "superblock", "superblock", "group", "inode", "directory", "entry", "anywhere")
+KINDS = ("superblock", "superblock", "field", "group", "inode", "directory", "entry", "anywhere")
 WAYS = ("one more", "one bit", "zero", "all ones", "random")
 ENTRY_BYTES = 8
 WHITEOUT = (1, 14)
@@ -71,14 +71,16 @@ class Mutant:
         return place < self.place + len(self.value) and self.place < place + length
 
 
-def draw(base, numbers):
-    """A mutant: a field of a superblock, of a group block, of an inode, a word of a directory, or a word anywhere; or an entry
-    behind the last one of a chunk."""
+def draw(base, numbers, listed):
+    """A mutant: a field of the superblock, one of those that are listed, a field of a group block, of an inode, a word of a
+    directory, or a word anywhere; or an entry behind the last one of a chunk."""
     kind = numbers.choice(KINDS)
     if kind == "entry":
         return draw_entry(base, numbers)
     if kind == "superblock":
         place = numbers.choice(sorted(SUPERBLOCK_PLACES))
+    elif kind == "field":
+        place = formats.SUPERBLOCK_AT + numbers.choice(sorted(key for key in listed if key != FREE_ENTRY))
     elif kind == "group":
         place = base.group_place(numbers.randrange(base.layout["ncg"])) + 4 * numbers.randrange(base.layout["cgsize"] // 4)
     elif kind == "inode":
@@ -115,8 +117,8 @@ def draw_entry(base, numbers):
 
 
 def listed_fields(rules):
-    """What docs/RULES.md says that a kernel computes with and no rule looks at: the fields of the superblock by their place, and
-    a free entry by itself."""
+    """What docs/RULES.md says that a kernel computes with and no rule looks at: the fields of the superblock by the place of their
+    word, and a free entry by itself."""
     with open(rules) as file:
         text = file.read()
     section = text[text.index("## What status 0 doesn't say"):]
@@ -126,7 +128,7 @@ def listed_fields(rules):
         cell = line.split("|")[1] if line.startswith("|") else ""
         if cell.startswith(" superblock"):
             for name, place in re.findall(r"`(\w+)` \((\d+)\)", cell):
-                found[int(place)] = name
+                found[int(place) // 4 * 4] = name
             for first, last in re.findall(r"\((\d+) to (\d+)\)", cell):
                 found.update({place: "a 64-bit total" for place in range(int(first), int(last), 4)})
         elif FREE_ENTRY in cell:
