@@ -6,8 +6,8 @@ _ffs_find() {
         mapfile -t COMPREPLY < <(compgen -W '16 32 64 128' -- "$current")
     elif [[ $current == -* ]]; then
         mapfile -t COMPREPLY < <(compgen -W '-n -N -b -h --help -V --version' -- "$current")
-    elif [[ ! " ${COMP_WORDS[*]:1:COMP_CWORD-1} " =~ \ (copies|inode|owner|lost|fields)\  ]]; then
-        mapfile -t COMPREPLY < <(compgen -W 'copies inode owner lost fields' -- "$current")
+    elif [[ ! " ${COMP_WORDS[*]:1:COMP_CWORD-1} " =~ \ (copies|inode|fields)\  ]]; then
+        mapfile -t COMPREPLY < <(compgen -W 'copies inode fields' -- "$current")
     fi
 }
 complete -o bashdefault -o default -F _ffs_find ffs_find
