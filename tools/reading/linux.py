@@ -34,6 +34,20 @@ class Linux:
         with open(f"{self.work}/console", "ab") as console:
             return subprocess.Popen(words, stdin=subprocess.DEVNULL, stdout=console, stderr=console, start_new_session=True)
 
+    def watch(self, paths, count):
+        """Boots a machine, and waits until it ends, or makes no progress; it ends with the tool, too."""
+        machine, last = self.boot(), time.time()
+        try:
+            while machine.poll() is None and time.time() - last < SECONDS:
+                time.sleep(0.2)
+                now = sum(not os.path.exists(path) for path in paths)
+                if now != count:
+                    count, last = now, time.time()
+        finally:
+            if machine.poll() is None:
+                os.killpg(machine.pid, signal.SIGKILL)
+                machine.wait()
+
     def read(self, jobs):
         """The answers for (image, changes) jobs: what is read of each. A machine that dies is one answer, and another takes the rest."""
         paths = [f"{self.work}/{number}.json" for number in range(len(jobs))]
@@ -45,16 +59,7 @@ class Linux:
                 file.write(json.dumps([image, changes, to]) + "\n")
         idle = 0
         while missing := [path for path in paths if not os.path.exists(path)]:
-            machine, last = self.boot(), time.time()
-            count = len(missing)
-            while machine.poll() is None and time.time() - last < SECONDS:
-                time.sleep(0.2)
-                now = sum(not os.path.exists(path) for path in paths)
-                if now != count:
-                    count, last = now, time.time()
-            if machine.poll() is None:
-                os.killpg(machine.pid, signal.SIGKILL)
-                machine.wait()
+            self.watch(paths, len(missing))
             left = [path for path in paths if not os.path.exists(path)]
             if not left:
                 break
