@@ -177,6 +177,16 @@ def number_of(text, name):
     return int(next(line.split()[1] for line in text.splitlines() if line.startswith(name + " ")), 8 if name == "mode" else 10)
 
 
+def owners_of(text):
+    """The inodes that the recipe `owners` printed."""
+    return [int(number) for number in re.findall(r"^inode (\d+) ", text, re.M)]
+
+
+def direct_owners_of(text):
+    """Those of them whose own address is the fragment: each inode with the index of that."""
+    return [(int(number), int(k)) for number, k in re.findall(r"^inode (\d+) block (\d+)$", text, re.M) if int(k) < 12]
+
+
 def entries_of(text):
     """What the recipe `entries` printed."""
     return [Entry(*map(int, line.split(" ", 5)[:5]), line.split(" ", 5)[5]) for line in text.splitlines()]

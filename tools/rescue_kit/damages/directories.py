@@ -1,6 +1,6 @@
 """Damaged directories: their sizes, blocks, `.` and `..`."""
 from .. import sources
-from ..case import entries_of, fragments_of, number_of
+from ..case import entries_of, fragments_of, number_of, owners_of
 from .all import damage
 from .inodes import first_lost, mend
 from .names import entries_of_inode, place_of
@@ -50,7 +50,7 @@ def size_within_block(case):
         mend_size(case, counts[0]["inode"])
         return
     for entry in entries_of(case.run("find-name", i=report.first("UNREF")["inode"])):
-        owner = case.run("owners", f=entry.byte // case.volume.layout.fsize).split()[0]
+        owner = owners_of(case.run("owners", f=entry.byte // case.volume.layout.fsize))[0]
         mend_size(case, owner)
 
 

@@ -1,5 +1,5 @@
 """Damaged inodes: modes, sizes, addresses, indirect blocks."""
-from ..case import NotHere, fragments_of, number_of
+from ..case import NotHere, direct_owners_of, fragments_of, number_of, owners_of
 from .all import damage
 
 WILD = 0x0BADF00D
@@ -269,12 +269,16 @@ def address_shared(case):
 
 
 def mend_shared(case):
-    """Puts the lost block at each address of the shared fragment that doesn't follow the one before it, one at a time."""
+    """Puts the lost block at each address of the shared fragment that doesn't follow the one before it, one at a time. Which these are
+    *owners* says, or *inode*, where the fragment is one of the file system's own."""
     report = case.report("DUP", "DUP/BAD")
     f = report.first("DUP")["fragment"]
-    for i in sorted({message["inode"] for message in report.of("DUP")}):
-        said = fragments_of(case.run("inode", i=i))
-        for k in [k for k, at in said.items() if at == f and said.get(k - 1, 0) + case.volume.layout.frag != f]:
+    places = direct_owners_of(case.run("owners", f=f))
+    if not places:
+        i = report.first("DUP")["inode"]
+        places = [(i, k) for k, at in fragments_of(case.run("inode", i=i)).items() if at == f]
+    for i, k in places:
+        if fragments_of(case.run("inode", i=i)).get(k - 1, 0) + case.volume.layout.frag != f:
             mend(case, i, "address", k=k, f=first_lost(case))
 
 
@@ -438,7 +442,7 @@ def bytes_bad(case):
     case.at_stake("docs/letter", data=False)
     case.report()
     owners = case.run("bad-area owners", position=place)
-    case.run("names-of", i=owners.split()[0])
+    case.run("names-of", i=owners_of(owners)[0])
 
 
 @damage("an inode that is whole, a link among them")
