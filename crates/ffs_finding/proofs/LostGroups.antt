@@ -3,16 +3,17 @@ use Rattle.std.proofs.Common.{◌≡◌, ◌∙◌, ℕ, ◌+◌, ◌-◌, ◌*�
 use Rattle.std.specs.{List.{flat_map, range_with_len}, Prelude.◌||◌}
 use Rattle.ffs_image.specs.Device.{Device}
 use Rattle.ffs_volume.specs.{declared.Layout.Layout, Blocks.Owners.owners_of, Groups.GroupCheck.is_free_of_kept}
-use Rattle.ffs_volume.specs.{Disk.Areas.cgbase, Groups.Records.{bit_at, fragment_map_place, group_block, group_size}}
+use Rattle.ffs_volume.specs.{Disk.Areas.cgbase, Groups.Records.{bit_at, fragment_map_place, group_block, group_size, has_bits, same_bit}}
+use Rattle.ffs_volume.proofs.Below.{all_below-at}
 use Rattle.ffs_groups.specs.Free.{free_in}
 use Rattle.ffs_maps.specs.Bits.{bits_of}
 use Rattle.ffs_report.specs.{Known.{ForBytes, IsContents}, Sink.Sink}
 use Rattle.ffs_workspace.specs.{declared.workspace.Workspace.Workspace, Found.WithPhase1, Holds.all_claims}
 use Rattle.ffs_finding.specs.{Fields.any_line, Outcome.PrintedTo}
-use Rattle.ffs_volume.specs.Find.Lost.{has_map, lost_lines, stretch_lines}
+use Rattle.ffs_volume.specs.Find.Lost.{has_map, lost_lines, stretch_at, stretch_lines}
 use Rattle.ffs_finding.specs.LostMaps.{is_wrong_by, lines_of_group, lines_of_groups, no_map_lines, word_of}
 use Rattle.ffs_finding.specs.declared.lost.Wrong.{Wrong, TheVariants.{Lost, MarkedFree}}
-use Rattle.ffs_finding.proofs.{Printing.begins, Ranges.{from_zero, next}, WrongFields.any_more}
+use Rattle.ffs_finding.proofs.{Printing.begins, Ranges.{from_zero, next, none}, WrongFields.any_more}
 
 pub without_map : (wrong : Wrong) (v : Layout) (free : ℕ → Bool) (c : ℕ) (block : List ℕ) → has_map v block ≡ false →
     lines_of_group wrong v free c block ≡ no_map_lines wrong c
@@ -26,6 +27,33 @@ pub with_map : (wrong : Wrong) (v : Layout) (used : List Bool) (size base end pl
     ≡ stretch_lines (word_of wrong) (λ f. is_wrong_by wrong (free_in used size f) (bit_at block place (f - base))) base end
 with_map Lost v used size base end place c block some at is from to = rw (some, at, is, to, from) refl
 with_map MarkedFree v used size base end place c block some at is from to = rw (some, at, is, to, from) refl
+
+-- a map that is right says nothing wrongly
+wrong_none : (wrong : Wrong) (free marked : Bool) → same_bit marked free ≡ true → is_wrong_by wrong free marked ≡ false
+wrong_none Lost free marked same = grind arith
+wrong_none MarkedFree free marked same = grind arith
+
+no_stretch : (word : List ℕ) (p : ℕ → Bool) (base n : ℕ) → ((f : ℕ) → base ≤ f → f < base + n → p f ≡ false) →
+    stretch_lines word p base (base + n) ≡ []
+unfolding stretch_lines
+no_stretch word p base n fail =
+    let long : base + n - base ≡ n = omega arith in
+    rw long (none (stretch_at word p base (base + n)) base n (λ k low high. rw (fail k low high) refl))
+
+pub right_map : (wrong : Wrong) (v : Layout) (used : List Bool) (size place c : ℕ) (block : List ℕ) → has_map v block ≡ true →
+    place ≡ fragment_map_place v block → size ≡ v.size →
+    has_bits block place (group_size v c) (λ k. free_in used v.size (cgbase v c + k)) ≡ true →
+    lines_of_group wrong v (free_in used v.size) c block ≡ []
+right_map wrong v used size place c block some at is right =
+    let free = free_in used v.size in
+    let base = cgbase v c in
+    with_map wrong v used v.size base (base + group_size v c) place c block some at refl refl refl
+    ∙ no_stretch (word_of wrong) (λ f. is_wrong_by wrong (free f) (bit_at block place (f - base))) base (group_size v c)
+    (λ f low high.
+    let back : base + (f - base) ≡ f = omega (arith, low) in
+    let same = all_below-at (group_size v c) (f - base) (λ k. same_bit (bit_at block place k) (free (base + k))) right (omega (arith, low, high)) in
+    wrong_none wrong (free f) (bit_at block place (f - base))
+    (subst (λ (k : ℕ). same_bit (bit_at block place (f - base)) (free k) ≡ true) back same))
 
 -- the lines of group c of an image
 abbrev pub group_lines : Wrong → (v : Layout) (free : ℕ → Bool) (image : List ℕ) (c : ℕ) → List (List ℕ)
@@ -61,7 +89,7 @@ module _ (wrong : Wrong) (v : Layout) (free : ℕ → Bool) where
 
   pub any_all : (image : List ℕ) (c : ℕ) (any : Bool) → c ≤ v.ncg → v.ncg ≤ c → any ≡ any_line (before_group c image) →
       any ≡ any_line (lines_of_groups wrong v free image)
-  any_all image c any low high is =
+  any_all image c any low high is = 
       let all : c ≡ v.ncg = omega arith in is ∙ ap (λ (n : ℕ). any_line (before_group n image)) all
 
 -- the lines of an image are those of lost fragments, and then those of fragments that are marked as free

@@ -9,7 +9,7 @@ ghost use Rattle.ffs_volume.specs.Find.Lost.{lost_lines, range_text, stretch_lin
 ghost use Rattle.ffs_finding.specs.LostMaps.{CanReadGroups, CanSayGroup, FindsWrong, IsGroupMap, IsInMap, IsInMapOrEnd, IsNext, PrintsWhether, is_wrong_at, lines_of_group, no_map_lines, word_of};
 
 use crate::group_map::{is_marked_free, map_place};
-use ffs_groups::group_fragments;
+use ffs_groups::{group_fragments, same_fragment_map};
 use ffs_image::Image;
 use ffs_layout::Geometry;
 use ffs_maps::FragmentMap;
@@ -145,6 +145,10 @@ fn print_group<W: Output>(
     let Some(place) = map_place(geometry, block) else {
         return print_no_map(out, group, wrong);
     };
+    // Most maps are right: then no fragment is looked at by itself.
+    if same_fragment_map(geometry, used, group, block, place) {
+        return Ok(false);
+    }
     let base = geometry.cgbase(group);
     let map = GroupMap {
         used,

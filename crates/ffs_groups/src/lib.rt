@@ -22,4 +22,4 @@ mod maps;
 pub use check::{GroupFindings, Usage, compare_group};
 pub use counts::{Counts, SummaryCounts, group_counts};
 pub use inodes::are_allocated;
-pub use maps::group_fragments;
+pub use maps::{group_fragments, same_fragment_map};

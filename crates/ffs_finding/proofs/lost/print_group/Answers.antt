@@ -1,7 +1,8 @@
-use Rattle.std.proofs.Common.{ℕ, ◌+◌, ap}
+use Rattle.std.proofs.Common.{ℕ, ◌+◌, ◌∙◌, ap, refl, sym}
 use Rattle.ffs_maps.specs.Bits.{bits_of}
 use Rattle.ffs_groups.specs.Free.{free_in}
-use Rattle.ffs_finding.proofs.LostGroups.{with_map, without_map}
+use Rattle.ffs_report.proofs.Sinks.{took_nil}
+use Rattle.ffs_finding.proofs.LostGroups.{right_map, with_map, without_map}
 use Rattle.ffs_finding.proofs.lost.print_group.Goals as goal
 
 pub returns-in_default : goal.returns-in_default
@@ -18,3 +19,11 @@ returns g c =
     (base + c.group_fragments.result) c.in-Some.place c.args.group c.args.block.now map.0 map.1 c.requires.size
     c.cgbase-base.ensures.value (ap (λ (n : ℕ). base + n) c.group_fragments.ensures.value))
     c.print_ranges.ensures
+
+pub returns-then-same_fragment_map : goal.returns-then-same_fragment_map
+returns-then-same_fragment_map g c =
+    let map = c.in-Some.ensures in
+    let right = right_map c.args.wrong c.args.geometry.now.layout (bits_of c.args.used.now) c.args.used.now.size
+    c.in-Some.place c.args.group c.args.block.now map.0 map.1 c.requires.size
+    (sym c.same_fragment_map.ensures ∙ c.if-same_fragment_map.true) in
+    rw right (record { text = took_nil _; any = refl })
