@@ -2,4 +2,4 @@
 
 /// The version, and the first digits of the digest of the sources that the program was built from.
 /// `tools/renew_dist` writes this line.
-pub const VERSION: &str = "1.12.0 (sources 4845c87c689d)";
+pub const VERSION: &str = "1.12.0 (sources 61b81c0c042d)";

@@ -89,7 +89,7 @@ module _ (wrong : Wrong) (v : Layout) (free : ℕ → Bool) where
 
   pub any_all : (image : List ℕ) (c : ℕ) (any : Bool) → c ≤ v.ncg → v.ncg ≤ c → any ≡ any_line (before_group c image) →
       any ≡ any_line (lines_of_groups wrong v free image)
-  any_all image c any low high is = 
+  any_all image c any low high is =
       let all : c ≡ v.ncg = omega arith in is ∙ ap (λ (n : ℕ). any_line (before_group n image)) all
 
 -- the lines of an image are those of lost fragments, and then those of fragments that are marked as free
