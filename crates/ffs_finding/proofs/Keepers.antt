@@ -8,7 +8,7 @@ use Rattle.ffs_report.specs.declared.fault.RunFault.{RunFault, TheVariants.{Read
 use Rattle.ffs_walk.specs.{Windows.KeepsBlocks, declared.blocks.Blocks.Blocks}
 use Rattle.ffs_workspace.specs.{Found.WithPhase1, Lengths.inodes_of, Notes.{cut_in, note_at}, Ready.{IsReady, StaysReady}, declared.workspace.{Windows.Windows, Workspace.Workspace}}
 use Rattle.ffs_finding.specs.{Keepers.{LooksAtInode, WalksKept}, Outcome.{Finds, PrintsLines}}
-use Rattle.ffs_volume.specs.Find.Owner.keeper_lines_of_inode
+use Rattle.ffs_volume.specs.Find.Owner.{keeper_lines_of_inode}
 use Rattle.ffs_finding.proofs.{Owners.{inode_lines, inode_runs}, Printing.knowing}
 
 -- lines that are the same

@@ -8,7 +8,7 @@ use Rattle.ffs_maps.specs.Bits.{bits_of}
 use Rattle.ffs_report.specs.{Known.{ForBytes, IsContents}, Sink.Sink, declared.fault.RunFault.RunFault}
 use Rattle.ffs_workspace.specs.{declared.workspace.Workspace.Workspace, Found.WithPhase1}
 use Rattle.ffs_finding.specs.{Fields.any_line, Outcome.{PrintedTo, PrintsLines}}
-use Rattle.ffs_volume.specs.Find.Lost.lost_lines
+use Rattle.ffs_volume.specs.Find.Lost.{lost_lines}
 use Rattle.ffs_finding.specs.LostMaps.{lines_of_groups}
 use Rattle.ffs_finding.specs.declared.lost.Wrong.TheVariants.{Lost, MarkedFree}
 use Rattle.ffs_finding.proofs.{LostGroups.both, Printing.{begins, knowing, part, part_fault, printed_all}, WrongFields.any_more}

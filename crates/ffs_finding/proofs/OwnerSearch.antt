@@ -9,7 +9,7 @@ use Rattle.ffs_workspace.specs.{Found.WithPhase1, Holds.HoldsPhase1, Lengths.hel
 use Rattle.ffs_finding.specs.declared.{find.FindFault.{FindFault, TheVariants.{Refused, Run, NoMemory}}}
 use Rattle.ffs_finding.specs.declared.request.Search.TheVariants.{Owner}
 use Rattle.ffs_finding.specs.{Claims.{ClaimsAnswer, TakesClaims}, Fields.WithSuper, Outcome.{Finds, PrintsLines}}
-use Rattle.ffs_volume.specs.Find.Owner.lines_of_fragment
+use Rattle.ffs_volume.specs.Find.Owner.{lines_of_fragment}
 use Rattle.ffs_finding.specs.Whole.{SearchAnswers, Searches}
 use Rattle.ffs_finding.proofs.Printing.{knowing, reads_first}
 

@@ -13,7 +13,7 @@ use Rattle.ffs_volume.specs.Encodings.{Replay.{cut_of, cut_at, fresh_replay}, Re
 use Rattle.ffs_volume.specs.{Laws.Geometry.IsAcceptedLayout, declared.Layout.Layout, Report.Whole.run_count}
 use Rattle.ffs_workspace.proofs.NoteLaws.{cut_is_noted}
 use Rattle.ffs_workspace.specs.{Lengths.inodes_of, Notes.{cut_in, note_at}, declared.workspace.Workspace.Workspace}
-use Rattle.ffs_finding.specs.Keepers.lines_again
+use Rattle.ffs_finding.specs.Keepers.{lines_again}
 use Rattle.ffs_volume.specs.Find.Owner.{keeper_lines, keeper_lines_of_inode}
 use Rattle.ffs_finding.proofs.{Ranges.next, Replayed.inode_replay}
 

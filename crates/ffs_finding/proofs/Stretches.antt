@@ -3,7 +3,7 @@ use Rattle.std.proofs.Common.{◌≡◌, ◌∙◌, ℕ, zero, suc, ◌+◌, ◌
 use Rattle.std.proofs.lemmas.Bool.{cases_lt}
 use Rattle.std.specs.{List.{concat, flat_map, prefix_len, range_with_len}, Prelude.◌||◌}
 use Rattle.ffs_report.{specs.Sink.{Sink, Took, BrokeOff}, proofs.Sinks.{took_nil, took_then, broke_off_after, broke_off_more}}
-use Rattle.ffs_finding.specs.Fields.any_line
+use Rattle.ffs_finding.specs.Fields.{any_line}
 use Rattle.ffs_volume.specs.Find.Lost.{begins_stretch, range_text, stretch_at, stretch_length, stretch_lines}
 use Rattle.ffs_finding.specs.LostMaps.{IsNext}
 use Rattle.ffs_finding.proofs.{Printing.concat-append, Ranges.{none, split, next}, WrongFields.any_more}

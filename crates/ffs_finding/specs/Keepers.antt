@@ -14,7 +14,7 @@ use Rattle.ffs_walk.specs.{Keepings.{replay_in, run_taken}, Windows.{KeepsBlocks
 use Rattle.ffs_walk.specs.declared.{blocks.Blocks.Blocks, keeping.Keeping.Keeping, window.Window.Window}
 use Rattle.ffs_workspace.specs.{Found.WithPhase1, Lengths.inodes_of, Notes.cut_in}
 use Rattle.ffs_workspace.specs.{Ready.{IsReady, StaysReady}, declared.workspace.Workspace.Workspace}
-use Rattle.ffs_finding.specs.Outcome.Finds
+use Rattle.ffs_finding.specs.Outcome.{Finds}
 use Rattle.ffs_volume.specs.Find.Owner.{group_of_fragment, indirect_in, keeper_lines, keeper_text, map_text}
 
 -- ---- the map of a group

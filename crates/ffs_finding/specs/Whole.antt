@@ -16,9 +16,9 @@ use Rattle.ffs_finding.specs.declared.{request.Command.TheVariants.{Copies, InVo
 use Rattle.ffs_finding.specs.declared.find.FindFault.TheVariants.{Refused, Run, NoMemory}
 use Rattle.ffs_volume.specs.Find.{Copies.copies_lines, InodeText.inode_lines, Fields.wrong_fields}
 use Rattle.ffs_finding.specs.{Outcome.{PrintedTo, PrintedSome, StoppedIn}, Fields.{WithSuper, any_line}}
-use Rattle.ffs_volume.specs.Find.Lost.lost_lines
-use Rattle.ffs_finding.specs.Copies.ReadsCopies
-use Rattle.ffs_volume.specs.Find.Owner.lines_of_fragment
+use Rattle.ffs_volume.specs.Find.Lost.{lost_lines}
+use Rattle.ffs_finding.specs.Copies.{ReadsCopies}
+use Rattle.ffs_volume.specs.Find.Owner.{lines_of_fragment}
 
 -- what a search prints of an image with this accepted superblock
 abbrev pub search_lines : Search → (sector : Option ℕ) → (image : List ℕ) → Superblock → List (List ℕ)

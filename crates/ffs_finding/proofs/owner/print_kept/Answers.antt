@@ -7,7 +7,7 @@ use Rattle.ffs_report.{proofs.Sinks.took_nil, specs.Known.{ForBytes, IsContents}
 use Rattle.ffs_walk.{proofs.Counted.{top_held, top_unread}, specs.{Keepings.replay_in, Rests.steps_left}}
 use Rattle.ffs_claims.proofs.Rewalks.{runs_next}
 use Rattle.ffs_finding.specs.Keepers.{lines_again, step_lines_again}
-use Rattle.ffs_volume.specs.Find.Owner.indirect_in
+use Rattle.ffs_volume.specs.Find.Owner.{indirect_in}
 use Rattle.ffs_finding.proofs.Printing.{printed_all, prints, stops}
 use Rattle.ffs_finding.proofs.Replayed.{lines_gaps, lines_next, lines_none, lines_stopped}
 use Rattle.ffs_finding.proofs.Walking.{blocks_on, blocks_then, most_small, one_indirect, seen_pays, walk_on}

@@ -2,7 +2,7 @@ use Rattle.std.proofs.Common.{◌≡◌, ◌∙◌, ℕ, List, [], ◌∷◌, ar
 use Rattle.std.proofs.lemmas.Result.{err_from_is_err_and}
 use Rattle.ffs_volume.{specs.{declared.Layout.Layout, Disk.Numbers.piece, Groups.Records.group_block}, proofs.AreaLaws.group_below}
 use Rattle.ffs_counts.proofs.RecordPlaces.{block_inside}
-use Rattle.ffs_finding.specs.Keepers.map_lines
+use Rattle.ffs_finding.specs.Keepers.{map_lines}
 use Rattle.ffs_volume.specs.Find.Owner.{group_of_fragment, map_text}
 use Rattle.ffs_finding.proofs.Printing.{one, one_broken, prints_all, reads_first, stops_all}
 use Rattle.ffs_finding.proofs.owner.print_unclaimed.Goals as goal
