@@ -4,3 +4,4 @@ pub mod Opening
 pub mod Whole
 pub mod Memory
 pub mod Reads
+pub mod VolumeReads

@@ -1,4 +1,4 @@
--- The most reads that a check makes of an image. A read is of one block, of one chunk or Run of a
+-- The most reads that a check makes of an image. A read is of one block, of one Run or part of a
 -- directory, or of records that are together in the image.
 use Rattle.std.specs.{Prelude.{ℕ, ◌+◌, ◌*◌, ◌/◌}, Int.div_ceil}
 use Rattle.ffs_volume.specs.{declared.{Layout.Layout, constants.TheConstants.MAXPATHLEN}, Report.Memory.runs_limit}
@@ -19,8 +19,8 @@ scan_reads v = table_blocks v + runs_limit v
 abbrev pub sweep_reads : Layout → ℕ
 sweep_reads v = v.ncg * v.ipg + runs_limit v
 
--- for a path the path of its parent is made first: a chunk is read for each name that 1,024 bytes
--- have room for, and for one that has no room any more. Then one is read for the directory's own
+-- for a path the path of its parent is made first: a part of the image is read for each name that
+-- 1,024 bytes have room for, and for one that has no room any more. Then one is read for the directory's own
 -- name, also where that path was cut. Each name takes two bytes at least, with its slash
 abbrev pub path_reads : ℕ
 path_reads = MAXPATHLEN / 2 + 2
