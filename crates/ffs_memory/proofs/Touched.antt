@@ -1,8 +1,11 @@
 -- Lists of which some elements are touched, and one value is in the rest of their memory.
-use Rattle.std.proofs.Common.{◌≡◌, ◌<◌, ◌+◌, ◌++◌, ℕ, List, arith, replicate, slice_set, vec_len}
-use Rattle.std.proofs.lemmas.List.{append_assoc, replicate-append-replicate, set-append_left}
+use Rattle.std.proofs.Common.{◌≡◌, ◌<◌, ◌+◌, ◌-◌, ◌++◌, ◌∙◌, ℕ, zero, suc, List, ap, arith, get_or, inl, inr, length, min}
+use Rattle.std.proofs.Common.{refl, replicate, slice_set, sym, vec_len}
+use Rattle.std.proofs.lemmas.List.{append_assoc, get_or-append_right, length-append, length-replicate}
+use Rattle.std.proofs.lemmas.List.{replicate-append-replicate, set-append_left}
+use Rattle.std.proofs.{Math.ListN.{get_or-append}, lemmas.Bool.cases_lt}
 use Rattle.std.specs.{Prelude.vec_capacity, declared.{vec.Vec.Vec, alloc.Global.Global}}
-use Rattle.ffs_memory.specs.{Filled.filled, Words.Touches}
+use Rattle.ffs_memory.specs.{Filled.{filled, LimitsItems}, Words.Touches}
 
 -- one value after itself
 pub run_on : {A : Type 0} (list : List A) (x : A) (m n k : ℕ) → m + n ≡ k →
@@ -19,3 +22,23 @@ module _ {A : Type 0} where
   pub set_filled : (touched : Vec A Global) (index n : ℕ) (x y : A) → index < vec_len touched →
       slice_set touched.items index y ++ replicate n x ≡ slice_set (touched.items ++ replicate n x) index y
   set_filled touched index n x y inside = grind (arith, set-append_left)
+
+-- one number again and again, limited
+limit_rest : (n x most k : ℕ) → get_or (replicate n (min x most)) k 0 ≡ min (get_or (replicate n x) k 0) most
+limit_rest zero x most k = omega arith
+limit_rest (suc n) x most zero = refl
+limit_rest (suc n) x most (suc k) = limit_rest n x most k
+
+-- the touched numbers are limited, and the one in the rest of the memory
+pub limit_filled : (old new : List ℕ) (n x most : ℕ) → LimitsItems old new most →
+    LimitsItems (old ++ replicate n x) (new ++ replicate n (min x most)) most
+limit_filled old new n x most limits = record {
+  same_length = grind (arith, length-append, length-replicate, limits.same_length);
+  items = λ k. elim (cases_lt k (length old)) [
+    | inl low ↦ get_or-append new (replicate n (min x most)) 0 k (omega (arith, limits.same_length))
+      ∙ limits.items k ∙ ap (λ y. min y most) (sym (get_or-append old (replicate n x) 0 k low))
+    | inr high ↦ get_or-append_right new (replicate n (min x most)) (length old) k 0 limits.same_length high
+      ∙ limit_rest n x most (k - length old)
+      ∙ ap (λ y. min y most) (sym (get_or-append_right old (replicate n x) (length old) k 0 refl high))
+  ];
+}

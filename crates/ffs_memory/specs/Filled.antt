@@ -1,6 +1,6 @@
 -- What a list shows, and what a call leaves of it; some lists hold one value until another is set.
-use Rattle.std.specs.Prelude.{◌≡◌, ◌+◌, ◌++◌, ◌-◌, ℕ, List, drop, length, replicate, slice_set, take, vec_capacity}
-use Rattle.std.{specs.List.Sorted.{IsNonDecreasing, IsPermutation}, proofs.Common.{ap, sym, ◌∙◌, length-append}}
+use Rattle.std.specs.Prelude.{◌≡◌, ◌+◌, ◌++◌, ◌-◌, ℕ, List, drop, length, min, replicate, slice_set, take, vec_capacity}
+use Rattle.std.{specs.List.{slice_index_or, Sorted.{IsNonDecreasing, IsPermutation}}, proofs.Common.{ap, sym, ◌∙◌, length-append}}
 use Rattle.std.{proofs.{Math.Nat.{add-sub_of_le, le_refl}, lemmas.List.length-replicate}, specs.Prelude.vec_len}
 use Rattle.std.specs.{Vec.vec_ptr, declared.{vec.Vec.Vec, alloc.Global.Global}}
 
@@ -43,6 +43,18 @@ module _ {A : Type 0} where
     pub items : new.items ≡ replicate (vec_len old) x
     pub len : vec_len new ≡ vec_len old
     pub room : vec_capacity new ≡ vec_capacity old
+
+-- each number above the most becomes that
+pub record LimitsItems (old new : List ℕ) (most : ℕ) : Type 0 where
+  pub same_length : length new ≡ length old
+  pub items : (k : ℕ) → slice_index_or new k 0 ≡ min (slice_index_or old k 0) most
+
+-- each number of a list above the most becomes that, in the same memory
+pub record Limits (old new : Vec ℕ Global) (most : ℕ) : Type 0 where
+  pub items : LimitsItems old.items new.items most
+  pub len : vec_len new ≡ vec_len old
+  pub address : vec_ptr new ≡ vec_ptr old
+  pub room : vec_capacity new ≡ vec_capacity old
 
 -- the numbers from one index to before another are put into ascending order, in the same memory;
 -- all others stay

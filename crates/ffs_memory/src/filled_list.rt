@@ -1,6 +1,6 @@
 //! Lists that hold one value until another is set.
 ghost use Rattle.std.specs.Prelude.{◌≡◌, ◌<◌, ◌≤◌, slice_index_or, vec_len};
-ghost use Rattle.ffs_memory.specs.Filled.{filled, Sets, SetsAll, SortsPart};
+ghost use Rattle.ffs_memory.specs.Filled.{filled, Limits, LimitsItems, Sets, SetsAll, SortsPart};
 
 use crate::touching::touch;
 use std::marker::Model;
@@ -64,6 +64,27 @@ impl<T: Copy> FilledList<T> {
     {
         self.touched.clear();
         self.rest = value;
+    }
+}
+
+/// Lowers to `most` each number that is above it.
+fn limit_items(items: &mut [u64], most: u64)
+    ensures { LimitsItems items.old items.new most }
+{
+    for index in 0..items.len() {
+        items[index] = items[index].min(most);
+    }
+}
+
+impl FilledList<u64> {
+    /// Lowers to `most` each element that is above it. No more elements are touched, and the memory
+    /// is kept.
+    #[tactic(auto, using(crate::proofs::Touched::limit_filled))]
+    pub fn limit(&mut self, most: u64)
+        ensures { Limits self.old self.new most }
+    {
+        limit_items(&mut self.touched, most);
+        self.rest = self.rest.min(most);
     }
 }
 

@@ -2,6 +2,8 @@
 ghost use Rattle.std.specs.Prelude.{◌<◌, vec_capacity};
 ghost use Rattle.ffs_memory.specs.Words.{Touches};
 
+use std::mem::replace;
+
 /// Touches the elements up to an index: each that wasn't touched yet is written as `rest`, in the
 /// memory that was taken.
 #[inline(always)]
@@ -19,16 +21,19 @@ pub(crate) fn touch<T: Copy>(touched: &mut Vec<T>, index: usize, rest: T)
 }
 
 /// Does what `touch` does, for any number of elements. It isn't inlined, since an element that is
-/// asked for is mostly touched already, or is the next one. The length is kept beside the list, so
-/// that no iteration waits for it to be read again.
+/// asked for is mostly touched already, or is the next one. The list is a local value meanwhile, so
+/// that all elements are written in one go.
 #[inline(never)]
 fn touch_more<T: Copy>(touched: &mut Vec<T>, index: usize, rest: T)
     requires { index < vec_capacity touched.old }
     ensures { Touches touched.old touched.new index rest }
 {
-    let mut len = touched.len();
+    let empty = Vec::new(*touched.allocator());
+    let mut list = replace(touched, empty);
+    let mut len = list.len();
     while len <= index {
-        touched.push_reserved(rest);
+        list.push_reserved(rest);
         len += 1;
     }
+    *touched = list;
 }

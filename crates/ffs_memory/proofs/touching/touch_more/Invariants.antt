@@ -4,12 +4,12 @@ use Rattle.ffs_memory.proofs.touching.touch_more.Given as goal
 
 abbrev pub invariant-loop-len : goal.invariant-loop-len
 invariant-loop-len g l = record {
-  len : l.len ≡ vec_len l.touched;
-  within : vec_len l.fn.touched ≤ vec_len l.touched;
-  past : vec_len l.touched ≤ max (vec_len l.fn.touched) (l.index + 1);
-  items : l.touched.items ≡ l.fn.touched.items ++ replicate (vec_len l.touched - vec_len l.fn.touched) l.rest;
-  address : vec_ptr l.touched ≡ vec_ptr l.fn.touched;
-  room : vec_capacity l.touched ≡ vec_capacity l.fn.touched;
+  len : l.len ≡ vec_len l.list;
+  within : vec_len l.fn.touched ≤ vec_len l.list;
+  past : vec_len l.list ≤ max (vec_len l.fn.touched) (l.index + 1);
+  items : l.list.items ≡ l.fn.touched.items ++ replicate (vec_len l.list - vec_len l.fn.touched) l.rest;
+  address : vec_ptr l.list ≡ vec_ptr l.fn.touched;
+  room : vec_capacity l.list ≡ vec_capacity l.fn.touched;
 }
 
 abbrev pub decreases-loop-len : goal.decreases-loop-len
