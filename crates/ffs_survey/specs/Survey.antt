@@ -1,6 +1,6 @@
 -- What a survey of directories finds of each inode, and the graph that it goes over.
 use Rattle.std.specs.Prelude.{◌≡◌, ℕ, zero, suc, ◌+◌, ◌<◌, ◌==◌, Bool, ◌&&◌, ◌||◌, not, nat_le, min, if◌then◌else◌}
-use Rattle.std.specs.{Prelude.{List, length, count_by, unwrap_or, vec_len}, declared.{vec.Vec.Vec, alloc.Global.Global}}
+use Rattle.std.specs.Prelude.{List, length, count_by, unwrap_or}
 use Rattle.ffs_volume.specs.{declared.constants.TheConstants.{NO_LINKS, ROOTINO}, Directories.Roles.RoledEntry}
 use Rattle.ffs_volume.specs.Directories.{Roles.refers, Graph.{Graph, is_named, reached as is_reached, parent}}
 pub use Rattle.ffs_volume.specs.Encodings.Lists.{bool_at, number_at}
@@ -42,11 +42,6 @@ most_start = NO_LINKS
 -- where the count of the references of x starts
 abbrev pub start_in : (starts : List ℕ) (x : ℕ) → ℕ
 start_in starts x = min (number_at starts x) most_start
-
--- in a list of starts, each above the greatest that there may be (`most_start`) becomes that
-pub record LimitsStarts (old new : Vec ℕ Global) : Type 0 where
-  pub same_length : vec_len new ≡ vec_len old
-  pub starts : (x : ℕ) → number_at new.items x ≡ start_in old.items x
 
 -- these lists hold of each inode how many entries refer to it, counted on from where it starts,
 -- whether a plain one names it, whether it is reached from inode 2, and its parent, 0 for none

@@ -22,7 +22,7 @@ returns-clause-found g c =
     {calm = new.calm.now} (search rules) (search rules) (search rules) (search rules) (search rules) (record {
       survey = rw second.leaves.kept.reached (survey_whole inodes.kinds.now entries
           (sane_of inodes.kinds.now entries c.requires.lists.some) reached_long
-          (new.long.parents_long ∙ kinds_long second.leaves.lent.lists ∙ ap length kinds) c.limit_starts.ensures.starts
+          (new.long.parents_long ∙ kinds_long second.leaves.lent.lists ∙ ap length kinds) c.limit.ensures.items.items
           part more);
       calm = rw (second.leaves.kept.reached, second.leaves.kept.calm) (calm_unreached found.calm.now
           (read_stays more reached_long) (first.found.calm b k));
