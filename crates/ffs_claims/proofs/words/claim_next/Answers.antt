@@ -15,11 +15,11 @@ returns-then-address-eq0-clause-claimed c = λ t.
       words = words_once {a = a} {b = a} {address = 0} sizes.frag_low sizes.frag_high can.next.made
           (ap (λ k. k.layout) can.geometry) (sym c.if-address-eq0.true ∙ c.next_address_in-address.ensures) passes
           (record {
-        claims = λ block. record { claims = refl; silent = λ number. refl };
-        uncut = can.next.uncut;
-        only = record { made = can.next.made; windows = refl; found = found_none a };
-        rises = omega arith;
-      }) c.pass_word.ensures.falls c.pass_word.ensures.same c.pass_word.ensures.counted;
+            claims = λ block. record { claims = refl; silent = λ number. refl };
+            uncut = can.next.uncut;
+            only = record { made = can.next.made; windows = refl; found = found_none a };
+            rises = omega arith;
+          }) c.pass_word.ensures.falls c.pass_word.ensures.same c.pass_word.ensures.counted;
       held = passes.held;
       falls = c.pass_word.ensures.falls;
     }
