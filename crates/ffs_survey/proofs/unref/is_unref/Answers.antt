@@ -13,8 +13,8 @@ pub returns-in_default : goal.returns-in_default
 returns-in_default c = λ v n t.
     let found = c.args.found.now in
     let unref = unref_is {suspect = suspect_at found.kinds.now found.marked.now} found.whole.parents_long t
-    (is_lost {d = c.args.dir} t (sym c.is_dir.ensures ∙ c.if-not-is_dir.false) c.if-dir-eq-ROOTINO.false
-    c.if-found-dir.false (sym (dead_is _ c.args.dir n c.requires c.is_dead.ensures) ∙ c.if-is_dead.false)) in
+    (is_lost {d = c.args.dir} t (sym c.is_dir.ensures ∙ c.if-not-is_dir.false) (omega arith) c.if-found-dir.false
+    (sym (dead_is _ c.args.dir n c.requires c.is_dead.ensures) ∙ c.if-is_dead.false)) in
     sym (rw c.in_default.ensures at unref)
 
 pub returns-then-parent-found : goal.returns-then-parent-found
@@ -24,8 +24,8 @@ pub returns : goal.returns
 returns c = λ v n t.
     let found = c.args.found.now in
     let unref = unref_is {suspect = suspect_at found.kinds.now found.marked.now} found.whole.parents_long t
-    (is_lost {d = c.args.dir} t (sym c.is_dir.ensures ∙ c.if-not-is_dir.false) c.if-dir-eq-ROOTINO.false
-    c.if-found-dir.false (sym (dead_is _ c.args.dir n c.requires c.is_dead.ensures) ∙ c.if-is_dead.false)) in
+    (is_lost {d = c.args.dir} t (sym c.is_dir.ensures ∙ c.if-not-is_dir.false) (omega arith) c.if-found-dir.false
+    (sym (dead_is _ c.args.dir n c.requires c.is_dead.ensures) ∙ c.if-is_dead.false)) in
     let some = ne_eqb c.in-Some.parent 0 c.in-Some.ensures.1 in
     let alive = sym (dead_is _ c.in-Some.parent n (omega arith) c.is_dead-2.ensures) ∙ c.if-is_dead-2.false in
     found.whole.cycles c.args.dir ∙ sym (rw (← c.in-Some.ensures.0, some, alive) at unref)

@@ -15,10 +15,10 @@ returns c =
     let mid = c.sort_unstable.new.self in
     let R = replicate (vec_capacity touched - vec_len touched) before.rest in
     let inside : c.args.to - 1 < vec_capacity before.touched =
-    omega (arith, c.requires, c.if-from-to.false, ap vec_len c.self.view_is) in
+    omega (arith, c.requires, ap vec_len c.self.view_is) in
     let to : from + k ≡ c.args.to = omega (arith, c.requires) in
     let low : from + k ≤ length t =
-    omega (arith, to, c.touch.ensures.len, touched.ok.0, c.if-from-to.false, c.requires) in
+    omega (arith, to, c.touch.ensures.len, touched.ok.0, c.requires) in
     let same : t ++ R ≡ c.args.self.now.items = grind (arith, same_filled) in
     let rest = length-drop from t in
     let cut : IsPermutation (take k (drop from t)) mid =
