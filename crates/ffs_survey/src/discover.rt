@@ -60,13 +60,7 @@ fn is_new(entry: EntryHead, kinds: &[u8], lists: &Lists) -> bool
 /// Discovers what an entry of the current directory names: flags it as reached, gives it its
 /// parent and puts it into the queue. `top` is where the queue ends; returns where it ends then.
 /// `file` says that it is known to name no directory.
-fn visit(
-    entry: EntryHead,
-    file: bool,
-    current: &CurrentDir,
-    lists: &mut Lists,
-    top: usize,
-) -> usize
+fn visit(entry: EntryHead, file: bool, current: &CurrentDir, lists: &mut Lists, top: usize) -> usize
     requires can { CanVisit current.now top lists.old }
     requires file { IsTrue file → dir_at current.now.kinds.now entry.number ≡ false }
     ensures { Visits current.now.dir (roled_of entry []) top result lists.old lists.new }
@@ -141,7 +135,7 @@ fn is_calm_file(entry: EntryHead, index: u32, current: &CurrentDir) -> bool
         && entry.number >= ROOTINO
         && number < current.kinds.len()
         && !current.marked[number]
-        && current.kinds[number] == entry.kind
+        && entry.kind == current.kinds[number]
         && matches!(
             entry.kind,
             DT_FIFO | DT_CHR | DT_BLK | DT_REG | DT_LNK | DT_SOCK
