@@ -33,8 +33,13 @@ pub fn role_of(first: bool, index: usize, entry: &Entry<'_>) -> Role
     ensures { result ≡ role_in first index (entry_value entry.now) }
 {
     if entry.number == 0 {
-        Role::Empty
-    } else if is_one_dot(entry.name) {
+        return Role::Empty;
+    }
+    // Few names begin with a dot: no other is asked for more than its first byte.
+    if !matches!(entry.name, [b'.', ..]) {
+        return Role::Plain;
+    }
+    if is_one_dot(entry.name) {
         if first && index == 0 {
             Role::Dot
         } else {

@@ -137,16 +137,15 @@ fn report_root<W: Output>(
     say_line(report, &Phase2Line::Directory(DirectoryLine::RootNotDir))
 }
 
-/// Takes away the flags of suspect inodes, and no others.
+/// Takes away the flags of suspect inodes, and no others. No inode is a branch: the machine looks at
+/// many at once.
 fn clear_suspects(inodes: &Inodes<'_>, flags: &mut [bool])
     requires { length flags.old ≡ length inodes.now.kinds.now }
     ensures { (x : ℕ) → bool_at flags.new x ≡ (bool_at flags.old x
         && not (suspect_at inodes.now.kinds.now inodes.now.marked.now x)) }
 {
     for number in 0..inodes.count() {
-        if inodes.is_suspect(number) {
-            flags[number as usize] = false;
-        }
+        flags[number as usize] &= !inodes.is_suspect(number);
     }
 }
 

@@ -1,8 +1,9 @@
 //! What one directory, and one level of directories, names.
 ghost use Rattle.std.specs.Prelude.{◌≡◌, ◌*◌, ◌-◌, ◌^◌, ◌&&◌, nat_le, [], length, drop, take, IfOk, OnOk};
+ghost use Rattle.std.specs.Prelude.{ℕ, Bool, IsTrue, true, false};
 ghost use Rattle.std.specs.List.{sum_by};
 ghost use Rattle.ffs_volume.specs.Directories.Roles.{is_plain as is_plain_role};
-ghost use Rattle.ffs_survey.specs.{Reading.roled_of, Lists.CountLists, Survey.bool_at};
+ghost use Rattle.ffs_survey.specs.{Reading.roled_of, Lists.CountLists, Survey.{bool_at, dir_at}};
 ghost use Rattle.ffs_survey.specs.Lent.{found_up_to, current_of, ForKnown, CanVisit, CanCount, CanReach, CanReadLevel};
 ghost use Rattle.ffs_survey.specs.Lent.{Adopts, AddsUnreached, FlagsIfCalm, LeavesLent, Visits};
 ghost use Rattle.ffs_survey.specs.{Levels.{Discovers, ReadsReached, ReadsDirs}, Calm.{is_calm_kind, is_calm_plain, is_calm_entry}};
@@ -15,7 +16,10 @@ use crate::numbers::{is_dir, number_of};
 use ffs_image::ImageFault;
 use ffs_memory::FilledList;
 use ffs_volume::Role;
-use ffs_volume::constants::{DT_DIR, DT_WHT, EMPTY_DIR_KIND, ROOTINO, UNKNOWN_KIND, WINO};
+use ffs_volume::constants::{
+    DT_BLK, DT_CHR, DT_DIR, DT_FIFO, DT_LNK, DT_REG, DT_SOCK, DT_WHT, EMPTY_DIR_KIND, ROOTINO,
+    UNKNOWN_KIND, WINO,
+};
 
 /// Counts an entry for the inode whose number it carries, and flags that inode as named where the
 /// entry is plain.
@@ -55,11 +59,13 @@ fn is_new(entry: EntryHead, kinds: &[u8], lists: &Lists) -> bool
 
 /// Discovers what an entry of the current directory names: flags it as reached, gives it its
 /// parent and puts it into the queue. `top` is where the queue ends; returns where it ends then.
-fn visit(entry: EntryHead, current: &CurrentDir, lists: &mut Lists, top: usize) -> usize
-    requires { CanVisit current.now top lists.old }
+/// `file` says that it is known to name no directory.
+fn visit(entry: EntryHead, file: bool, current: &CurrentDir, lists: &mut Lists, top: usize) -> usize
+    requires can { CanVisit current.now top lists.old }
+    requires file { IsTrue file → dir_at current.now.kinds.now entry.number ≡ false }
     ensures { Visits current.now.dir (roled_of entry []) top result lists.old lists.new }
 {
-    if !is_new(entry, current.kinds, lists) {
+    if file || !is_new(entry, current.kinds, lists) {
         return top;
     }
     let number = entry.number as usize;
@@ -116,6 +122,26 @@ fn is_calm(entry: EntryHead, index: u32, current: &CurrentDir, lists: &Lists) ->
     }
 }
 
+/// Whether nothing can be reported of the entry at an index of the current directory, since it names
+/// a file: then it discovers nothing either. Most entries do.
+fn is_calm_file(entry: EntryHead, index: u32, current: &CurrentDir) -> bool
+    ensures calm { IsTrue result → (reached : ℕ → Bool)
+        → is_calm_entry (current_of current.now) reached index (roled_of entry []) ≡ true }
+    ensures file { IsTrue result → dir_at current.now.kinds.now entry.number ≡ false }
+{
+    let number = entry.number as usize;
+    is_plain(entry.role)
+        && index >= 2
+        && entry.number >= ROOTINO
+        && number < current.kinds.len()
+        && !current.marked[number]
+        && entry.kind == current.kinds[number]
+        && matches!(
+            entry.kind,
+            DT_FIFO | DT_CHR | DT_BLK | DT_REG | DT_LNK | DT_SOCK
+        )
+}
+
 /// Flags the directory `from`, all of whose `count` entries are read, if these are calm and its
 /// shape is right.
 fn flag_calm<D: Directories>(
@@ -170,8 +196,9 @@ fn read_reached<D: Directories>(
     directories.start(from)?;
     while let Some(entry) = directories.next()? {
         count_entry(entry, current.kinds, lists.references, lists.named);
-        calm_so_far = calm_so_far && is_calm(entry, count, &current, lists);
-        high = visit(entry, &current, lists, high);
+        let file = calm_so_far && is_calm_file(entry, count, &current);
+        calm_so_far = file || (calm_so_far && is_calm(entry, count, &current, lists));
+        high = visit(entry, file, &current, lists, high);
         count += 1;
     }
     flag_calm(directories, from, calm_so_far, count, lists.calm)?;
