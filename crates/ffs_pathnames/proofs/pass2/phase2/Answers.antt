@@ -95,12 +95,14 @@ returns-clause-block_check g c =
 pub returns-in_err-say-clause-reads : goal.returns-in_err-say-clause-reads
 returns-in_err-say-clause-reads g c = record {
   known = λ b k. omega arith;
+  directories = λ b k. omega arith;
   paid = paid_text _ _ _ (returns-in_err-say-clause-prints g c).text (omega arith);
 }
 
 pub returns-in_err-survey-clause-reads : goal.returns-in_err-survey-clause-reads
 returns-in_err-survey-clause-reads g c = record {
   known = grind (arith, costs_bounded, runs_bounded);
+  directories = λ b k. omega (arith, c.survey.ensures.reads.each b k.0 k.1);
   paid = paid_text _ _ _ (returns-in_err-survey-clause-prints g c).text
       (omega (arith, c.survey.ensures.reads.most));
 }
@@ -108,6 +110,9 @@ returns-in_err-survey-clause-reads g c = record {
 pub returns-clause-reads : goal.returns-clause-reads
 returns-clause-reads g c = record {
   known = grind (arith, costs_bounded, runs_bounded, before_tree);
+  directories = λ b k.
+      let before = before_tree g (goal.at.returns-clause-reads g c).After-check_tree b k.0 k.1 in
+      omega (arith, c.survey.ensures.reads.each b k.0 k.1, c.check_tree.ensures.tree.reads b before);
   paid = paid_then
       (paid_said (phase2 ∷ []) c.in_ok-say.ensures.said (omega (arith, c.survey.ensures.reads.most)))
       c.check_tree.ensures.tree.paid;
