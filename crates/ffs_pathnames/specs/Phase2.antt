@@ -9,6 +9,7 @@ use Rattle.ffs_report.specs.declared.fault.RunFault.TheVariants.{Read, Out}
 use Rattle.ffs_workspace.specs.{declared.workspace.Workspace.Workspace, Found.WithClaims}
 use Rattle.ffs_workspace.specs.Holds.{HoldsClaims, HoldsReferences, HoldsSurvey}
 use Rattle.ffs_names.specs.Costs.{directories_cost}
+use Rattle.ffs_pathnames.specs.Looked.{phase2_cost}
 use Rattle.ffs_pathnames.specs.{RootAnswers.is_go, declared.pass2.Root.Root}
 
 -- the check continues after the root as the image's bytes say, and the workspace holds what the block
@@ -31,7 +32,9 @@ Phase2Ends v d w w' old new (Err (Out fault)) = ⊤
 
 -- An image that gives its bytes is read at most `pathname_reads` times, and any image no more than four
 -- sweeps, and `line_reads` for each message that was begun. What a volume holds counts, too: its directories
--- are read for the survey, for the places of parent entries, and twice for the messages
+-- are read for the survey, for the places of parent entries, and twice for the messages. Where the survey is
+-- the first, those of which nothing can be reported are read for the survey alone, and where there are no others,
+-- no places are noted
 pub record Phase2Reads {T : Type 0} (v : Layout) (d : Device) (w : Workspace) (old new : Progress) (before after : ℕ)
     (result : Result T RunFault) : Type 0 where
   pub known : ForBytes (WithClaims v d w) (λ bytes.
