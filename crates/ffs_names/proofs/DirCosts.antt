@@ -1,5 +1,6 @@
 -- Laws of the reads that directories take.
 use Rattle.std.proofs.Common.{◌≡◌, ◌+◌, ◌<◌, ◌≤◌, ℕ, zero, suc, true, false, List, refl, arith}
+use Rattle.std.proofs.lemmas.Bool.{Decides.nat_tests}
 use Rattle.ffs_volume.specs.{declared.{Inode.Inode, Layout.Layout}, Blocks.{Inodes.inode_of, Steps.steps_of}}
 use Rattle.ffs_volume.specs.{Directories.{Roles.is_dir, Volumes.volume_of}, Encodings.Replay.{cut_at, fresh_replay}}
 use Rattle.ffs_volume.specs.Encodings.ReplayCounts.{replayed_runs}
@@ -27,7 +28,7 @@ noted_is v b d is = rw is refl
 
 pub inode_read : (v : Layout) (b : List ℕ) (d note : ℕ) → note ≡ note_at v b d → note < first_noted →
     inode_reads v b d ≡ 1
-inode_read v b d note noted low = let is = ltb-from note first_noted low in rw (← noted, is) refl
+inode_read v b d note noted low = grind (arith, nat_tests)
 
 -- a sweep takes no more
 pub noted_within : (v : Layout) (b : List ℕ) (d : ℕ) → noted_cost v b d ≤ directory_cost v b d

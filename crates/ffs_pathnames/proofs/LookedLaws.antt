@@ -34,9 +34,9 @@ looked_at_first v b old w claims flags none d h =
     (bool_at w.flags.items d) (bool_at old.flags.items d) (rw kind sized) calm flag (rw mark h))
 
 -- and after a call that takes no flag away
-pub looked_at_next : {v : Layout} {b : List ℕ} (old new : Workspace) → LeavesBlockCheck old new → KeepsFlags old new →
+pub looked_at_next : (v : Layout) (b : List ℕ) (old new : Workspace) → LeavesBlockCheck old new → KeepsFlags old new →
     ChecksLookedAt v b old → ChecksLookedAt v b new
-looked_at_next old new left keeps checks d h =
+looked_at_next v b old new left keeps checks d h =
     let was = checks d h in
     let kinds : slice_index new.kinds.items d ≡ slice_index old.kinds.items d = rw left.kinds refl in
     let marks : bool_at new.marked.items d ≡ bool_at old.marked.items d = rw left.marked refl in

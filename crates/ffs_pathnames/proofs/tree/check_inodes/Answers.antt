@@ -50,7 +50,7 @@ loop-number-init g c =
           rw (as_many (lines_from (directory_lines (volume_of v b)) 2 (inodes_of v - 2))
           (lines_from (directory_lines (volume_of v b)) first.result (inodes_of v - first.result)) (skipped b k).1)
           (omega (arith, made, noted_all_within v b (v.ncg * v.ipg)));
-      checks = λ b k checks. looked_at_next c.args.workspace.now c.note_places.new.workspace
+      checks = λ b k checks. looked_at_next v b c.args.workspace.now c.note_places.new.workspace
           (queue_leaves _ _ noted.leaves.lists) (flags_kept _ _ noted.leaves.lists) checks;
       looks = λ b k checks.
           let made : g.I.Image.reads c.note_places.new.image ≤ g.I.Image.reads c.args.image.now + noted_costs v b =
@@ -91,7 +91,7 @@ loop-number-preserved g c =
           let here = ok.reads b (next g at b k) ((inv.before b k).noted) in
           let long = next_long (directory_lines (volume_of v b)) n (inodes_of v) (omega arith) in
           omega (arith, taken, here, long, inv.reads b k);
-      checks = λ b k checks. looked_at_next c.loop-number.workspace c.check_inode.new.workspace
+      checks = λ b k checks. looked_at_next v b c.loop-number.workspace c.check_inode.new.workspace
           (block_check_left _ _ ok.leaves.survey) (ok.holds b (next g at b k)).1 (inv.checks b k checks);
       looks = λ b k checks.
           let here = ok.reads b (next g at b k) ((inv.before b k).noted) in
