@@ -1,9 +1,9 @@
 -- Which directories need a check, by the bytes of the image.
 use Rattle.std.proofs.Common.{◌≡◌, ◌∙◌, ℕ, zero, suc, ◌+◌, ◌<◌, ◌≤◌, ◌*◌, ◌==◌, Bool, true, false, not, ◌&&◌, ◌||◌}
-use Rattle.std.proofs.Common.{List, [], ◌∷◌, ap, arith, inl, inr, refl, sym, if◌then◌else◌, slice_index, get_or-set_same}
-use Rattle.std.proofs.{Common.{get_or-set_other, get_or, set}, lemmas.Bool.{both_ways, cases_Bool, Decides.nat_tests, true_from_ne_false}}
+use Rattle.std.proofs.Common.{List, [], ◌∷◌, ap, arith, inl, inr, refl, sym, if◌then◌else◌, slice_index, length, get_or-set_same}
+use Rattle.std.proofs.{Common.{get_or-set_other, get_or, set}, lemmas.Bool.{both_ways, cases_Bool, Decides.nat_tests, true_from_ne_false}, lemmas.List.get_or_past}
 use Rattle.ffs_volume.specs.{declared.Layout.Layout, Encodings.Lists.bool_at, Disk.Search.some_below}
-use Rattle.ffs_volume.specs.Directories.{Roles.{RoledEntry, Volume}, Volumes.{marked_at, volume_of}}
+use Rattle.ffs_volume.specs.Directories.{PathnameCheck.is_sized_dir, Roles.{RoledEntry, Volume}, Volumes.{marked_at, volume_of}}
 use Rattle.ffs_volume.proofs.SearchLaws.{some_below-from}
 use Rattle.ffs_workspace.specs.{declared.workspace.Workspace.Workspace, Holds.HoldsClaims, Leaves.LeavesBlockCheck}
 use Rattle.ffs_names.specs.{CalmDirs.{is_calm_directory, FlagsEachCalm}, Costs.{directory_cost, noted_costs}}
@@ -30,7 +30,7 @@ looked_at_first v b old w claims flags none d h =
     let mark = claims.marked d in
     let flag = none.flags d in
     let calm = flags.flagged d in
-    rw (kinds, marks) (not_needed (slice_index old.kinds.items d) _ (bool_at old.marked.items d) (is_calm_directory v b d)
+    rw (kinds, marks) (not_needed (slice_index old.kinds.items d) (is_sized_dir (volume_of v b) d) (bool_at old.marked.items d) (is_calm_directory v b d)
     (bool_at w.flags.items d) (bool_at old.flags.items d) (rw kind sized) calm flag (rw mark h))
 
 -- and after a call that takes no flag away
@@ -67,9 +67,12 @@ places_noted v b w d checks inside needs =
     rw (some_below-from (is_looked_at v b) (v.ncg * v.ipg) d inside looked) refl
 
 -- ---- no flag is taken away by the entries of a directory
+flag_inside : (flags : List Bool) (x : ℕ) → bool_at flags x ≡ true → x < length flags
+flag_inside flags x h = grind (arith, get_or_past)
+
 flag_name : (vol : Volume) (s : ℕ) (m : PassedNames) (y x : ℕ) → is_flagged m x ≡ true →
     is_flagged (after_name vol s m y) x ≡ true
-flag_name vol s m y x h = grind (arith, nat_tests, get_or-set_same, get_or-set_other)
+flag_name vol s m y x h = let inside = flag_inside m.flags x h in grind (arith, nat_tests, get_or-set_same, get_or-set_other)
 
 flag_roled : (vol : Volume) (s : ℕ) (m : PassedNames) (e : RoledEntry) (x : ℕ) → is_flagged m x ≡ true →
     is_flagged (after_roled vol s m e) x ≡ true

@@ -1,5 +1,5 @@
 -- What phase 2 leaves at its answer, and how often it reads the image.
-use Rattle.std.specs.Prelude.{◌≡◌, ◌⊎◌, ◌≤◌, ◌+◌, ◌*◌, ℕ, true, List, [], ◌∷◌, length, Result, Ok, Err, ⊤}
+use Rattle.std.specs.Prelude.{◌≡◌, ◌⊎◌, ◌≤◌, ◌+◌, ◌*◌, ℕ, true, false, List, [], ◌∷◌, length, Result, Ok, Err, ⊤}
 use Rattle.ffs_image.specs.Device.{Device}
 use Rattle.ffs_volume.specs.declared.Layout.{Layout}
 use Rattle.ffs_volume.specs.Directories.{PathnameCheck.{continues_after_root, pathname_lines}, Volumes.volume_of}
@@ -39,4 +39,8 @@ pub record Phase2Reads {T : Type 0} (v : Layout) (d : Device) (w : Workspace) (o
     (result : Result T RunFault) : Type 0 where
   pub known : ForBytes (WithClaims v d w) (λ bytes.
       after ≤ before + pathname_reads v (length (pathname_lines (volume_of v bytes))))
+  pub directories : ForBytes (WithClaims v d w) (λ bytes.
+      after ≤ before + (4 * directories_cost v bytes + line_reads * length (pathname_lines (volume_of v bytes))))
+  pub looked_at : w.surveyed ≡ false → ForBytes (WithClaims v d w) (λ bytes.
+      after ≤ before + (phase2_cost v bytes + line_reads * length (pathname_lines (volume_of v bytes))))
   pub paid : Paid line_reads old new (before + 4 * sweep_reads v) after result

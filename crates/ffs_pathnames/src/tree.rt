@@ -1,5 +1,5 @@
 //! The check of directories, one after another, by number.
-ghost use Rattle.std.specs.Prelude.{suc, ◌≡◌, ◌-◌, ◌*◌, ◌×◌, ◌<◌, ◌≤◌, ℕ, true, false, vec_len, List, option_map};
+ghost use Rattle.std.specs.Prelude.{suc, ◌≡◌, ◌-◌, ◌*◌, ◌<◌, ◌≤◌, ℕ, true, false, vec_len, List, option_map};
 ghost use Rattle.ffs_report.specs.Progress.{progress};
 ghost use Rattle.ffs_volume.specs.{declared.Layout.Layout, Messages.Kinds.lines_from};
 ghost use Rattle.ffs_volume.specs.Directories.{Parents.graph_of, Graph.parent, Volumes.volume_of};

@@ -57,4 +57,4 @@ returns-clause-lines g c =
 -- what needs no check isn't read
 pub returns-then-needs_check-clause-skipped : goal.returns-then-needs_check-clause-skipped
 returns-then-needs_check-clause-skipped g c = λ no.
-    absurd (both_ways _ (sym c.needs_check.ensures ∙ c.if-needs_check.true) no)
+    absurd (both_ways _ no (sym c.needs_check.ensures ∙ c.if-needs_check.true))

@@ -45,7 +45,7 @@ loop-number-init g c =
       references = ap (λ (w : Workspace). w.references) noted.leaves.lists;
       block_check = queue_leaves _ _ noted.leaves.lists;
       reads = λ b k.
-          let made : g.I.Image.reads c.note_places.new.image ≤ g.I.Image.reads c.args.image.now + directories_cost v b =
+          let made : g.I.Image.reads c.note_places.new.image ≤ g.I.Image.reads c.args.image.now + noted_costs v b =
           c.note_places.ensures.reads.each b k.gives_bytes (k.claims, k.survey) in
           rw (as_many (lines_from (directory_lines (volume_of v b)) 2 (inodes_of v - 2))
           (lines_from (directory_lines (volume_of v b)) first.result (inodes_of v - first.result)) (skipped b k).1)
