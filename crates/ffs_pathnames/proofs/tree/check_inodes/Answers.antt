@@ -51,7 +51,8 @@ loop-number-init g c =
           (lines_from (directory_lines (volume_of v b)) first.result (inodes_of v - first.result)) (skipped b k).1)
           (omega (arith, made, noted_all_within v b (v.ncg * v.ipg)));
       checks = λ b k checks. looked_at_next v b c.args.workspace.now c.note_places.new.workspace
-          (queue_leaves _ _ noted.leaves.lists) (flags_kept _ _ noted.leaves.lists) checks;
+          (queue_leaves c.args.workspace.now c.note_places.new.workspace noted.leaves.lists)
+          (flags_kept c.args.workspace.now c.note_places.new.workspace noted.leaves.lists) checks;
       looks = λ b k checks.
           let made : g.I.Image.reads c.note_places.new.image ≤ g.I.Image.reads c.args.image.now + noted_costs v b =
           c.note_places.ensures.reads.each b k.gives_bytes (k.claims, k.survey) in
