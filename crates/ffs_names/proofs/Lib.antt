@@ -17,3 +17,4 @@ pub mod SurveyHolds
 pub mod PlacesNoted
 pub mod InParts
 pub mod Limits
+pub mod CalmDirLaws

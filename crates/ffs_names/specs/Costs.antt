@@ -9,6 +9,7 @@ use Rattle.ffs_volume.specs.Encodings.{Replay.{cut_at, fresh_replay, replayed_st
 use Rattle.ffs_volume.specs.Report.Reads.{sweep_reads}
 use Rattle.ffs_layout.specs.declared.geometry.Geometry.{Geometry}
 use Rattle.ffs_walk.specs.{Counts.{AreHeld, entered, unread}, declared.{blocks.Blocks.Blocks, window.Window.Window}}
+use Rattle.ffs_workspace.specs.Notes.{first_noted, note_at}
 use Rattle.ffs_survey.specs.Costs.{costs_all}
 use Rattle.ffs_names.specs.{OneChunk.one_chunk_at, Readings.{chunks_in, gap_left, rest, runs_after, runs_left}}
 use Rattle.ffs_names.specs.{Readings.{BeginsAt, Continues}, RunCursors.IsWhole}
@@ -99,15 +100,28 @@ directory_cost v b x = if is_dir (volume_of v b) x then 1 + directory_runs v b x
 abbrev pub directories_cost : Layout → List ℕ → ℕ
 directories_cost v b = costs_all (directory_cost v b) (v.ncg * v.ipg)
 
--- a call reads no more often than all directories take, by the bytes of the image where `known` holds
--- of them, and any image no more often than a sweep may
+-- how many reads the inode x takes where its note is known: none, where that has a directory's only chunk
+abbrev pub inode_reads : Layout → List ℕ → ℕ → ℕ
+inode_reads v b x = if nat_lt (note_at v b x) first_noted then 1 else 0
+
+-- at most how many reads a directory takes in a sweep, which knows the notes: its inode, if that is read,
+-- and each of its Runs that is seen; none for another inode
+abbrev pub noted_cost : Layout → List ℕ → ℕ → ℕ
+noted_cost v b x = if is_dir (volume_of v b) x then inode_reads v b x + directory_runs v b x else 0
+
+-- the same of all directories
+abbrev pub noted_costs : Layout → List ℕ → ℕ
+noted_costs v b = costs_all (noted_cost v b) (v.ncg * v.ipg)
+
+-- a call reads no more often than all directories take in a sweep, by the bytes of the image where
+-- `known` holds of them, and any image no more often than a sweep may
 pub record SweepsOnce (v : Layout) (contents : Option (List ℕ)) (known : List ℕ → Type 0) (reads reads' : ℕ) : Type 0
   where
-    pub each : ForContents contents (λ b. known b → reads' ≤ reads + directories_cost v b)
+    pub each : ForContents contents (λ b. known b → reads' ≤ reads + noted_costs v b)
     pub most : reads' ≤ reads + sweep_reads v
 
 -- a reading of the chunks of the directory d begins. It takes no more reads than are left of those
 -- that the directory takes
 pub record BeginsChunks (v : Layout) (b : List ℕ) (d reads reads' : ℕ) (c : Chunks) : Type 0 where
   pub chunks : flat_map roled_chunk (rest b c) ≡ roled_entries (volume_of v b) d
-  pub within : reads' + to_read b c ≤ reads + directory_cost v b d
+  pub within : reads' + to_read b c ≤ reads + noted_cost v b d

@@ -13,3 +13,4 @@ pub mod Noting
 pub mod SeenRuns
 pub mod Costs
 pub mod Leaves
+pub mod CalmDirs

@@ -12,7 +12,7 @@ use Rattle.ffs_volume.specs.Encodings.Lists.{bool_at}
 use Rattle.ffs_workspace.specs.Places.{entries_in_part, is_due, name_in, place_in, AreNoted}
 use Rattle.ffs_workspace.specs.{Places.IsNoted, Holds.HoldsSurvey, Lengths.inodes_of, Ready.IsReady}
 use Rattle.ffs_workspace.specs.declared.workspace.{Windows.Windows, Workspace.Workspace}
-use Rattle.ffs_names.specs.{Costs.{directory_cost, to_read, HoldsReading}, Windows.CanReadChunks}
+use Rattle.ffs_names.specs.{Costs.{noted_cost, to_read, HoldsReading}, Windows.CanReadChunks}
 use Rattle.ffs_names.specs.declared.chunks.Chunks.{Chunks}
 
 -- a place that isn't 0 and has 31 bits can be noted for children of p, which isn't 0, by lists of one
@@ -81,7 +81,7 @@ pub record NotesDirectory {T : Type 0} (v : Layout) (b : List ℕ) (old new : Wo
     (result : Result T ImageFault) : Type 0 where
   pub noted : OnOk result (NotesEntries v b old.parents.items old.queue.items new.queue.items p
       (roled_entries (volume_of v b) p))
-  pub counted : reads' ≤ reads + directory_cost v b p
+  pub counted : reads' ≤ reads + noted_cost v b p
 
 -- p is the parent of an inode with a number greater than the root's
 pub record IsParent (parents : List ℕ) (p : ℕ) : Type 0 where

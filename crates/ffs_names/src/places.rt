@@ -10,7 +10,7 @@ ghost use Rattle.ffs_workspace.specs.{Holds.{HoldsClaims, HoldsSurvey}, Notes.no
 ghost use Rattle.ffs_workspace.specs.Tables.{CanReadInode, TableAfter};
 ghost use Rattle.ffs_names.specs.Noting.{is_child, BeginsNotes, CanNote, CanNoteChunks, CanNoteDirectory, HoldsPlaces};
 ghost use Rattle.ffs_names.specs.Noting.{LeavesChildren, LeavesNoted, LeavesPlaces, NotesDirectory, NotesEntries};
-ghost use Rattle.ffs_names.specs.{Noting.NotesInWords, Costs.{directories_cost, directory_cost, BeginsChunks}};
+ghost use Rattle.ffs_names.specs.{Noting.NotesInWords, Costs.{noted_cost, noted_costs, BeginsChunks}};
 ghost use Rattle.ffs_names.specs.{Costs.{BeginsReads, SweepsOnce}, Readings.rest};
 
 use crate::chunk_entries::ChunkEntries;
@@ -135,7 +135,7 @@ fn chunks_of<I: Image>(
         → is_dir (volume_of geometry.now.layout b) dir ≡ true → MatchResult result
         (BeginsChunks geometry.now.layout b dir (I.reads image.old) (I.reads image.new))
         (λ _. I.reads image.new
-        ≤ I.reads image.old + directory_cost geometry.now.layout b dir)) }
+        ≤ I.reads image.old + noted_cost geometry.now.layout b dir)) }
     ensures begins { IfOk result (BeginsReads geometry.now) }
     ensures leaves { TableAfter geometry.now.layout (I.device image.old) (I.device image.new)
         table.new result }
@@ -216,7 +216,7 @@ fn note_all<I: Image>(
     ensures reads { ForContents (I.device image.old).contents
         (λ b. HoldsClaims geometry.now.layout b workspace.old
         → HoldsSurvey geometry.now.layout b workspace.old
-        → I.reads image.new ≤ I.reads image.old + directories_cost geometry.now.layout b) }
+        → I.reads image.new ≤ I.reads image.old + noted_costs geometry.now.layout b) }
     ensures leaves { LeavesPlaces geometry.now.layout (I.device image.old) (I.device image.new)
         workspace.old workspace.new result }
 {
@@ -239,7 +239,7 @@ fn note_all<I: Image>(
 ///
 /// # Errors
 /// A read of the image that failed.
-#[tactic(auto, using(ffs_image::proofs::Limits::served, ffs_image::proofs::Limits::read_over, ffs_workspace::proofs::Readiness::ready_same, crate::proofs::Limits::costs_within))]
+#[tactic(auto, using(ffs_image::proofs::Limits::served, ffs_image::proofs::Limits::read_over, ffs_workspace::proofs::Readiness::ready_same, crate::proofs::Limits::noted_within))]
 pub fn note_places<I: Image>(
     geometry: &Geometry,
     image: &mut I,

@@ -53,7 +53,7 @@ impl<I: Image> Directories for DirectoryReader<'_, I> {
     ghost use Rattle.ffs_names.specs.Readers.{Base as ReaderBase, KnowsReader, dir_entries, dir_right_shape, IsReaderReady};
     ghost use Rattle.ffs_names.specs.Shapes.{has_right_shape, HasEnded};
     ghost use Rattle.ffs_names.specs.Entering.{to_come, left as entries_left, last_name};
-    ghost use Rattle.ffs_names.specs.Costs.{directory_cost, reads_for_entries, HoldsEntries};
+    ghost use Rattle.ffs_names.specs.Costs.{noted_cost, reads_for_entries, HoldsEntries};
 
     ghost Base = { ReaderBase };
 
@@ -79,7 +79,7 @@ impl<I: Image> Directories for DirectoryReader<'_, I> {
 
     ghost reads = { λ t. I.reads t.image.now };
 
-    ghost cost = { λ t b dir. directory_cost t.layout b dir };
+    ghost cost = { λ t b dir. noted_cost t.layout b dir };
 
     ghost to_read = { λ t b. reads_for_entries b t.entries };
 

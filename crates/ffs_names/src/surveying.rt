@@ -3,7 +3,8 @@
 ghost use Rattle.std.specs.Prelude.{◌≡◌, ◌+◌, ◌≤◌, false, OnOk};
 ghost use Rattle.ffs_image.specs.Device.{ForContents};
 ghost use Rattle.ffs_workspace.specs.{Ready.IsReady, Holds.HoldsClaims};
-ghost use Rattle.ffs_names.specs.{Surveys.{IsSurveyed, LeavesClaims}, Costs.{directories_cost, SweepsOnce}};
+ghost use Rattle.ffs_names.specs.{Surveys.{IsSurveyed, LeavesClaims}, Costs.{noted_costs, SweepsOnce}};
+ghost use Rattle.ffs_names.specs.CalmDirs.{FlagsEachCalm};
 
 use crate::entries::Entries;
 use crate::reader::DirectoryReader;
@@ -26,9 +27,12 @@ fn survey_all<I: Image>(
     ensures survey { OnOk result (ForContents (I.device image.old).contents
         (λ b. HoldsClaims geometry.now.layout b workspace.old
         → IsSurveyed geometry.now.layout b workspace.new)) }
+    ensures flags { OnOk result (ForContents (I.device image.old).contents
+        (λ b. HoldsClaims geometry.now.layout b workspace.old
+        → FlagsEachCalm geometry.now.layout b workspace.new)) }
     ensures reads { ForContents (I.device image.old).contents
         (λ b. HoldsClaims geometry.now.layout b workspace.old
-        → I.reads image.new ≤ I.reads image.old + directories_cost geometry.now.layout b) }
+        → I.reads image.new ≤ I.reads image.old + noted_costs geometry.now.layout b) }
     ensures leaves { LeavesClaims geometry.now.layout (I.device image.old) (I.device image.new)
         workspace.old workspace.new result }
 {
@@ -65,8 +69,8 @@ fn survey_all<I: Image>(
 
 /// Finds how often each inode is referred to, which inodes a plain entry names, which directories
 /// are reached from the root, and the parent of each directory. Each directory is read once.
-/// `flags` then has the calm directories, of which nothing can be reported, and `queue` notes no
-/// place. The windows change too. What phase 1 left (claims, kinds, marks, notes, counts of Runs)
+/// `flags` then has the calm directories, of which nothing can be reported, and each that is so by
+/// the image's bytes (`is_calm_directory`). `queue` notes no place. The windows change too. What phase 1 left (claims, kinds, marks, notes, counts of Runs)
 /// stays as it was.
 ///
 /// Another survey of the workspace, also after later phases, leaves the same: what the first one
@@ -74,7 +78,7 @@ fn survey_all<I: Image>(
 ///
 /// # Errors
 /// A read of the image that failed.
-#[tactic(auto, using(ffs_image::proofs::Limits::served, ffs_image::proofs::Limits::read_over, ffs_workspace::proofs::Readiness::ready_same, crate::proofs::Limits::costs_within))]
+#[tactic(auto, using(ffs_image::proofs::Limits::served, ffs_image::proofs::Limits::read_over, ffs_workspace::proofs::Readiness::ready_same, crate::proofs::Limits::noted_within))]
 pub fn survey<I: Image>(
     geometry: &Geometry,
     image: &mut I,
@@ -84,6 +88,10 @@ pub fn survey<I: Image>(
     ensures survey { OnOk result (ForContents (I.device image.old).contents
         (λ b. HoldsClaims geometry.now.layout b workspace.old
         → IsSurveyed geometry.now.layout b workspace.new)) }
+    ensures flags { workspace.old.surveyed ≡ false → OnOk result
+        (ForContents (I.device image.old).contents
+        (λ b. HoldsClaims geometry.now.layout b workspace.old
+        → FlagsEachCalm geometry.now.layout b workspace.new)) }
     ensures reads { SweepsOnce geometry.now.layout (I.device image.old).contents
         (λ b. HoldsClaims geometry.now.layout b workspace.old) (I.reads image.old)
         (I.reads image.new) }

@@ -11,6 +11,7 @@ use Rattle.ffs_names.specs.Costs.{directories_cost, directory_cost, directory_ru
 use Rattle.ffs_paths.specs.declared.kept_parent.KeptParent.{KeptParent}
 use Rattle.ffs_workspace.specs.{Places.AreNoted, declared.workspace.Workspace.Workspace}
 use Rattle.ffs_workspace.specs.{Holds.{HoldsClaims, HoldsSurvey}, Leaves.LeavesBlockCheck, Ready.IsReady}
+use Rattle.ffs_pathnames.specs.Looked.{ChecksLookedAt, looks_cost, places_cost}
 use Rattle.ffs_pathnames.specs.{Before.IsBefore, Gathers.passed_of, LineReads.{again_reads, ReadsByLines}}
 use Rattle.ffs_pathnames.specs.{PassedNames.{are_quiet, directory_reported}, Ready.{LinesLeave, PhaseLeaves}}
 use Rattle.ffs_pathnames.specs.declared.tree.Checking.{Checking}
@@ -41,7 +42,8 @@ pub record ReportsDirectory {T : Type 0} (v : Layout) (d d' : Device) (w w' : Wo
 
 -- these lines of all directories are said, by what is known of the bytes. Each directory's own blocks are
 -- read thrice at most, for the places of its children and for both looks, and the rest is read for the
--- lines; of any image for no more than the messages that were begun. Left are the image, but for a read
+-- lines; where only directories that are looked at need a check, their own blocks alone are read. Any image is
+-- read for no more than the messages that were begun. Left are the image, but for a read
 -- that failed, a workspace that is ready, what the block check left, and how often inodes are referred to;
 -- where nothing failed, also what the survey found, by what is known of the bytes
 pub record ReportsTree {T : Type 0} (v : Layout) (d d' : Device) (w w' : Workspace)
@@ -50,6 +52,8 @@ pub record ReportsTree {T : Type 0} (v : Layout) (d d' : Device) (w w' : Workspa
   pub text : PhaseReports (IsBefore v d.contents w 2) (λ b. map of_tree (lines b)) progress progress' result
   pub reads : ForBytes (IsBefore v d.contents w 2) (λ b.
       count' ≤ count + (3 * directories_cost v b + line_reads * length (lines b)))
+  pub looks : ForBytes (IsBefore v d.contents w 2) (λ b. ChecksLookedAt v b w
+      → count' ≤ count + (places_cost v b + looks_cost v b + line_reads * length (lines b)))
   pub paid : Paid line_reads progress progress' (count + 3 * sweep_reads v) count' result
   pub image : ImageAfter d d' result
   pub holds : OnOk result (ForBytes (IsBefore v d.contents w 2) (λ b. HoldsClaims v b w' × HoldsSurvey v b w'))

@@ -1,5 +1,5 @@
 -- What phase 2 leaves at its answer, and how often it reads the image.
-use Rattle.std.specs.Prelude.{◌≡◌, ◌⊎◌, ◌≤◌, ◌+◌, ◌*◌, ℕ, true, List, [], ◌∷◌, length, Result, Ok, Err, ⊤}
+use Rattle.std.specs.Prelude.{◌≡◌, ◌⊎◌, ◌≤◌, ◌+◌, ◌*◌, ℕ, true, false, List, [], ◌∷◌, length, Result, Ok, Err, ⊤}
 use Rattle.ffs_image.specs.Device.{Device}
 use Rattle.ffs_volume.specs.declared.Layout.{Layout}
 use Rattle.ffs_volume.specs.Directories.{PathnameCheck.{continues_after_root, pathname_lines}, Volumes.volume_of}
@@ -8,6 +8,8 @@ use Rattle.ffs_report.specs.{Known.ForBytes, Paid.Paid, Progress.{Progress, Said
 use Rattle.ffs_report.specs.declared.fault.RunFault.TheVariants.{Read, Out}
 use Rattle.ffs_workspace.specs.{declared.workspace.Workspace.Workspace, Found.WithClaims}
 use Rattle.ffs_workspace.specs.Holds.{HoldsClaims, HoldsReferences, HoldsSurvey}
+use Rattle.ffs_names.specs.Costs.{directories_cost}
+use Rattle.ffs_pathnames.specs.Looked.{phase2_cost}
 use Rattle.ffs_pathnames.specs.{RootAnswers.is_go, declared.pass2.Root.Root}
 
 -- the check continues after the root as the image's bytes say, and the workspace holds what the block
@@ -28,10 +30,17 @@ Phase2Ends v d w w' old new (Err (Read fault)) = Said old new (phase2 ∷ [])
     ⊎ ForBytes (WithClaims v d w) (λ bytes. continues_after_root (volume_of v bytes) ≡ true)
 Phase2Ends v d w w' old new (Err (Out fault)) = ⊤
 
--- an image that gives its bytes is read at most `pathname_reads` times, and any image no more than four
--- sweeps, and `line_reads` for each message that was begun
+-- An image that gives its bytes is read at most `pathname_reads` times, and any image no more than four
+-- sweeps, and `line_reads` for each message that was begun. What a volume holds counts, too: its directories
+-- are read for the survey, for the places of parent entries, and twice for the messages. Where the survey is
+-- the first, those of which nothing can be reported are read for the survey alone, and where there are no others,
+-- no places are noted
 pub record Phase2Reads {T : Type 0} (v : Layout) (d : Device) (w : Workspace) (old new : Progress) (before after : ℕ)
     (result : Result T RunFault) : Type 0 where
   pub known : ForBytes (WithClaims v d w) (λ bytes.
       after ≤ before + pathname_reads v (length (pathname_lines (volume_of v bytes))))
+  pub directories : ForBytes (WithClaims v d w) (λ bytes.
+      after ≤ before + (4 * directories_cost v bytes + line_reads * length (pathname_lines (volume_of v bytes))))
+  pub looked_at : w.surveyed ≡ false → ForBytes (WithClaims v d w) (λ bytes.
+      after ≤ before + (phase2_cost v bytes + line_reads * length (pathname_lines (volume_of v bytes))))
   pub paid : Paid line_reads old new (before + 4 * sweep_reads v) after result

@@ -7,7 +7,7 @@ ghost use Rattle.ffs_volume.specs.Directories.PathnameCheck.{dir_header_lines, d
 ghost use Rattle.ffs_names.specs.Costs.{directory_cost};
 ghost use Rattle.ffs_pathnames.specs.{ReadsLeft.{LeftForNext, LeftForBoth, LeftForLook}, PassedRight.AreRightBefore};
 ghost use Rattle.ffs_pathnames.specs.Before.{ListsInode, ListsInodes, IsBeforeNoted, IsFirstToCheck, needs_check};
-ghost use Rattle.ffs_pathnames.specs.{Gathers.passed_of, Ready.{ReadyToCheck, ReadyToPath}};
+ghost use Rattle.ffs_pathnames.specs.{Gathers.passed_of, Looked.KeepsFlags, Ready.{ReadyToCheck, ReadyToPath}};
 ghost use Rattle.ffs_pathnames.specs.Begins.{AreFirstTwo, IsDirectoryBegun};
 ghost use Rattle.ffs_pathnames.specs.{HeaderValues.facts_lines, DirectoryContext.KnowsHeader};
 ghost use Rattle.ffs_pathnames.specs.DirectoryLines.{ReadsQuietOnce, ReportsDirectory, ReportsLines, ReportsTree};
@@ -126,16 +126,20 @@ fn check_inode<I: Image, W: Output>(
 ) -> Result<(), RunFault>
     requires { ReadyToCheck geometry.now.layout (I.device image.old) workspace.old
         checking.old.texts.kept_parent number }
-    ensures { ReportsDirectory geometry.now.layout (I.device image.old) (I.device image.new)
+    ensures lines { ReportsDirectory geometry.now.layout (I.device image.old) (I.device image.new)
         workspace.old workspace.new checking.old checking.new
         (LeftForNext geometry.now.layout (I.device image.old) workspace.old number
         checking.old.reads_left)
         (λ b. 2 * directory_cost geometry.now.layout b number)
         (λ b. directory_lines (volume_of geometry.now.layout b) number)
         (λ _ b. IsBeforeNoted geometry.now.layout (I.device image.old).contents
-        workspace.new (suc number) b)
+        workspace.new (suc number) b × KeepsFlags workspace.old workspace.new)
         (progress W.sink report.old) (progress W.sink report.new)
         (I.reads image.old) (I.reads image.new) result }
+
+    // Where the directory needs no check, nothing is read.
+    ensures skipped { needs_check workspace.old number ≡ false
+        → I.reads image.new ≡ I.reads image.old }
 {
     if needs_check(workspace, number) {
         return check_directory(geometry, image, workspace, checking, report, number);
@@ -162,7 +166,7 @@ fn check_directory<I: Image, W: Output>(
         (λ b. 2 * directory_cost geometry.now.layout b dir)
         (λ b. sized_dir_lines (volume_of geometry.now.layout b) dir)
         (λ _ b. AreRightBefore (volume_of geometry.now.layout b) (suc dir)
-        (passed_of workspace.new))
+        (passed_of workspace.new) × KeepsFlags workspace.old workspace.new)
         (progress W.sink report.old) (progress W.sink report.new)
         (I.reads image.old) (I.reads image.new) result }
     ensures quiet { ReadsQuietOnce geometry.now.layout workspace.old

@@ -41,7 +41,7 @@ occurrences-head x xs = omega (arith, occurrences-cons x x xs, ap bit (eq-eqb x 
 pub occurrences-cases : (t x : ℕ) (xs : List ℕ) → 1 ≤ occurrences t (x ∷ xs) → (x ≡ t) ⊎ (1 ≤ occurrences t xs)
 occurrences-cases t x xs h = let c = occurrences-cons t x xs in grind (arith, nat_tests)
 
-occurrences-index : (t : ℕ) (xs : List ℕ) → 1 ≤ occurrences t xs → (i : ℕ) × (i < length xs) × (get_or xs i 0 ≡ t)
+pub occurrences-index : (t : ℕ) (xs : List ℕ) → 1 ≤ occurrences t xs → (i : ℕ) × (i < length xs) × (get_or xs i 0 ≡ t)
 occurrences-index t [] h = absurd (omega (arith, occurrences-nil t))
 occurrences-index t (x ∷ xs) h =
     elim (occurrences-cases t x xs h) [
@@ -49,7 +49,7 @@ occurrences-index t (x ∷ xs) h =
       | inr m ↦ let r = occurrences-index t xs m in let l = r.1 in (suc r.0, omega arith, r.2)
     ]
 
-occurrences-at : (xs : List ℕ) (i d : ℕ) → i < length xs → 1 ≤ occurrences (get_or xs i d) xs
+pub occurrences-at : (xs : List ℕ) (i d : ℕ) → i < length xs → 1 ≤ occurrences (get_or xs i d) xs
 occurrences-at [] i d l = absurd (omega arith)
 occurrences-at (x ∷ xs) zero d l = occurrences-head x xs
 occurrences-at (x ∷ xs) (suc i) d l =

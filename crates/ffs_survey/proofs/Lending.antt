@@ -41,4 +41,4 @@ pub finds_same : {kinds starts f f' p p' : List ℕ} {marked m m' r r' calm calm
     {entries : ℕ → List RoledEntry} {right_shape : ℕ → Bool} → f' ≡ f → m' ≡ m → r' ≡ r → p' ≡ p → calm' ≡ calm →
     FindsSurvey kinds marked entries right_shape starts f m r p calm →
     FindsSurvey kinds marked entries right_shape starts f' m' r' p' calm'
-finds_same ef em er ep ec s = record { survey = rw (ef, em, er, ep) s.survey; calm = rw (er, ep, ec) s.calm }
+finds_same ef em er ep ec s = record { survey = rw (ef, em, er, ep) s.survey; calm = rw (er, ep, ec) s.calm; flagged = rw (er, ep, ec) s.flagged }

@@ -8,4 +8,5 @@ mod Walks
 mod UnrefLaws
 mod Lending
 pub mod CalmLaws
+pub mod ReadOnce
 pub mod Costs

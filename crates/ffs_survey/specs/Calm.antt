@@ -1,5 +1,5 @@
 -- A directory of which nothing can be reported, by what a survey sees where it reads it.
-use Rattle.std.specs.Prelude.{◌≡◌, ℕ, suc, ◌==◌, Bool, true, false, not, ◌&&◌, ◌||◌, nat_le, nat_lt, List, [], ◌∷◌}
+use Rattle.std.specs.Prelude.{◌≡◌, ◌≢◌, ◌<◌, All, get_or, ℕ, suc, ◌==◌, Bool, true, false, not, ◌&&◌, ◌||◌, nat_le, nat_lt, List, [], ◌∷◌}
 use Rattle.std.specs.{Prelude.length, List.list_any}
 use Rattle.ffs_volume.specs.declared.constants.TheConstants.{WINO, ROOTINO, DT_DIR, DT_WHT, EMPTY_DIR_KIND, UNKNOWN_KIND}
 use Rattle.ffs_volume.specs.declared.Role.{Role, TheVariants.{Empty, Dot, Dotdot, Extra, Plain}}
@@ -71,3 +71,40 @@ AreCalm kinds marked reached parents entries right_shape calm =
 abbrev pub IsFlagged : ℕ → Bool → Bool → List Bool → List Bool → Type 0
 IsFlagged d all_calm right_shape old new =
     (x : ℕ) → bool_at new x ≡ (bool_at old x || ((x == d) && (nat_lt d (length old) && (all_calm && right_shape))))
+
+-- x isn't below the directory d: it is the root, or d isn't its parent
+abbrev pub is_elsewhere : (parent_of : ℕ → ℕ) (d x : ℕ) → Bool
+is_elsewhere parent_of d x = (x == ROOTINO) || not (parent_of x == d)
+
+-- the directory d is calm by the parents of what it names, whichever directories were read before it
+abbrev pub is_calm_by_parents : List ℕ → List Bool → (parent_of : ℕ → ℕ) → List RoledEntry → Bool → ℕ → Bool
+is_calm_by_parents kinds marked parent_of entries right_shape d =
+    are_calm (record { kinds = kinds; marked = marked; dir = d; parent = parent_of d }) (is_elsewhere parent_of d) 0
+    entries && right_shape
+
+-- each reached directory that is calm by the parents of what it names has a flag
+abbrev pub EachCalmIsFlagged : List ℕ → List Bool → List Bool → List ℕ → (ℕ → List RoledEntry) → (ℕ → Bool)
+    → List Bool → Type 0
+EachCalmIsFlagged kinds marked reached parents entries right_shape calm =
+    (d : ℕ) → dir_at kinds d ≡ true → bool_at reached d ≡ true
+    → is_calm_by_parents kinds marked (number_at parents) (entries d) (right_shape d) d ≡ true → bool_at calm d ≡ true
+
+-- nothing that is reached is below the directory d
+abbrev pub IsUnread : List Bool → List ℕ → ℕ → Type 0
+IsUnread reached parents d = (x : ℕ) → bool_at reached x ≡ true → is_elsewhere (number_at parents) d x ≡ true
+
+-- none of these directories is read, and each is there once
+pub record AreUnread (reached : List Bool) (parents : List ℕ) (dirs : List ℕ) : Type 0 where
+  pub each : All (IsUnread reached parents) dirs
+  pub once : (i j e : ℕ) → i < j → j < length dirs → get_or dirs i e ≢ get_or dirs j e
+
+-- The reached directory d was read when nothing below it was reached. It has a flag, if its entries are
+-- calm by what was reached then, and its shape is right
+pub record IsReadOnce (kinds : List ℕ) (marked reached : List Bool) (parents : List ℕ) (entries : List RoledEntry)
+    (right_shape : Bool) (calm : List Bool) (d : ℕ) : Type 0 where
+  pub before : ℕ → Bool
+  pub elsewhere : (x : ℕ) → before x ≡ true → is_elsewhere (number_at parents) d x ≡ true
+  pub known : (x : ℕ) → before x ≡ true → bool_at reached x ≡ true
+  pub is_reached : bool_at reached d ≡ true
+  pub flagged : are_calm (record { kinds = kinds; marked = marked; dir = d; parent = number_at parents d }) before 0
+      entries ≡ true → right_shape ≡ true → bool_at calm d ≡ true

@@ -1,12 +1,12 @@
 -- What a call needs of the lists of a survey and of its reader, what it does with them, and what it leaves.
 use Rattle.std.specs.{Prelude.{◌≡◌, ℕ, ◌+◌, ◌^◌, ◌<◌, ◌≤◌, All, Bool, List, Result, length, take, drop}, Borrow.GName}
-use Rattle.std.specs.Prelude.{vec_len, false, ◌==◌, ◌&&◌, cond, OnOk, [], ◌∷◌}
+use Rattle.std.specs.Prelude.{vec_len, true, false, ◌==◌, ◌&&◌, cond, OnOk, [], ◌∷◌}
 use Rattle.ffs_image.specs.{Reads.ReadAfter, declared.image.ImageFault.ImageFault}
 use Rattle.ffs_volume.specs.Directories.{Graph.is_naming_entry, Roles.RoledEntry}
 use Rattle.ffs_survey.specs.declared.lists.{Lists.Lists, KnownInodes.KnownInodes, NumberLists.NumberLists}
 use Rattle.ffs_survey.specs.declared.lists.{CurrentDir.CurrentDir as LentDir}
-use Rattle.ffs_survey.specs.{declared.directories.Directories.Ghosts, Survey.{number_at, bool_at, graph_with, most_start}}
-use Rattle.ffs_survey.specs.{Calm.{CurrentDir, AreCalm, IsFlagged}, Costs.costs_below}
+use Rattle.ffs_survey.specs.{declared.directories.Directories.Ghosts, Survey.{number_at, bool_at, dir_at, graph_with, most_start}}
+use Rattle.ffs_survey.specs.{Calm.{CurrentDir, AreCalm, IsFlagged, IsReadOnce}, Costs.costs_below}
 use Rattle.ffs_survey.specs.Discover.{Extends, Found, IsReachedDir, IsReachedPart, SameResult, from_entries}
 use Rattle.ffs_survey.specs.{Discover.{is_unreached_dir, nothing, unset}, Levels.ReadsUnreached, Lists.{AreLists, GrowsBy}}
 
@@ -205,5 +205,8 @@ module _ {S : Type 0} (D : Ghosts S) where
         l.references.now.items l'.references.now.items l'.named.now l'.reached.now l'.parents.now.items)
     pub calm : ForKnown old (λ entries right_shape. AreCalm l.kinds.now l.marked.now l'.reached.now
         l'.parents.now.items entries right_shape l'.calm.now)
+    pub read : ForKnown old (λ entries right_shape. (d : ℕ) → dir_at l.kinds.now d ≡ true
+        → bool_at l'.reached.now d ≡ true → IsReadOnce l.kinds.now l.marked.now l'.reached.now l'.parents.now.items
+        (entries d) (right_shape d) l'.calm.now d)
     pub once : (b : List ℕ) → D.knows (D.base old) b → D.reads new ≤ D.reads old
         + costs_below (bool_at l'.reached.now) (D.cost (D.base old) b) (length l.kinds.now)

@@ -1,7 +1,8 @@
 -- What the reading of directories makes of what a survey has found.
-use Rattle.std.specs.Prelude.{◌≡◌, ℕ, ◌+◌, ◌<◌, ◌≤◌, ◌==◌, Bool, ◌&&◌, cond, List, length, take}
+use Rattle.std.specs.Prelude.{◌≡◌, ℕ, ◌+◌, ◌<◌, ◌≤◌, ◌==◌, All, Bool, true, ◌&&◌, cond, List, length, take}
 use Rattle.ffs_volume.specs.Directories.Roles.{RoledEntry}
 use Rattle.ffs_survey.specs.{Survey.{bool_at, number_at, graph_with, IsSurvey}, Calm.{are_calm, AreCalm, IsFlagged}}
+use Rattle.ffs_survey.specs.Calm.{AreUnread, EachCalmIsFlagged, IsReadOnce}
 use Rattle.ffs_survey.specs.Discover.{Found, SameResult, Counts, from_entries, from_dirs, nothing, count_in}
 use Rattle.ffs_survey.specs.{Discover.{any_in, count_of, any_of, none, never, is_unreached_dir, unset}, Lists.GrowsBy}
 
@@ -38,12 +39,17 @@ pub record ReadsDirs (kinds : List ℕ) (marked : List Bool) (dirs : List ℕ) (
       old.references old.named none never new.references new.named
   pub calm : AreCalm kinds marked old.reached old.parents entries right_shape old.calm
       → AreCalm kinds marked new.reached new.parents entries right_shape new.calm
+  pub kept : (x : ℕ) → bool_at old.calm x ≡ true → bool_at new.calm x ≡ true
+  pub once : AreUnread old.reached old.parents dirs → All (λ d. IsReadOnce kinds marked new.reached new.parents
+      (entries d) (right_shape d) new.calm d) dirs
 
--- a survey of these directories, counted on from these starts, and flags that only calm ones have
+-- a survey of these directories, counted on from these starts, and flags that only calm ones have, and each
+-- that is calm by the parents of what it names
 pub record FindsSurvey (kinds : List ℕ) (marked : List Bool) (entries : ℕ → List RoledEntry) (right_shape : ℕ → Bool)
     (starts references : List ℕ) (named reached : List Bool) (parents : List ℕ) (calm_flags : List Bool) : Type 0 where
   pub survey : IsSurvey (graph_with kinds entries) starts references named reached parents
   pub calm : AreCalm kinds marked reached parents entries right_shape calm_flags
+  pub flagged : EachCalmIsFlagged kinds marked reached parents entries right_shape calm_flags
 
 -- the directory d with these entries, which isn't reached, is read
 pub record ReadsUnreached (kinds : List ℕ) (d : ℕ) (entries : List RoledEntry) (old new : Found) : Type 0 where

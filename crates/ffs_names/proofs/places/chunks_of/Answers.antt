@@ -1,6 +1,6 @@
 use Rattle.std.proofs.Common.{◌∙◌, ap, arith, flat_map, sym}
 use Rattle.ffs_volume.specs.Directories.Roles.{roled_chunk}
-use Rattle.ffs_names.proofs.{DirCosts.cost_is, NotedDirs.read_by_chunk, NotedDirs.read_by_cut}
+use Rattle.ffs_names.proofs.{DirCosts.{inode_read, noted_is}, NotedDirs.read_by_chunk, NotedDirs.read_by_cut}
 use Rattle.ffs_names.proofs.places.chunks_of.Goals as goal
 
 -- the only chunk is noted
@@ -11,7 +11,7 @@ returns-in-Some-clause-chunks g c = λ b t n dir.
     let begins = (rw c.one_chunk_at-inode.ensures at c.of_class.ensures.begins) (sym read.is_dir) in
     record {
       chunks = ap (flat_map roled_chunk) (begins.chunks b read.small) ∙ read.entries;
-      within = omega (arith, c.of_class.ensures.reads.to_read b, begins.runs_left b, read.runs, cost_is v b c.args.dir dir);
+      within = omega (arith, c.of_class.ensures.reads.to_read b, begins.runs_left b, read.runs, noted_is v b c.args.dir dir);
     }
 
 -- or its cut is
@@ -30,6 +30,7 @@ returns-clause-chunks g c = λ b t n dir.
         c.of_class-2.ensures.reads.to_read b,
         begins.runs_left b,
         read.runs,
-        cost_is v b c.args.dir dir,
+        noted_is v b c.args.dir dir,
+        inode_read v b c.args.dir c.args.note n (rw c.in_default.is at c.address_in.ensures),
       );
     }

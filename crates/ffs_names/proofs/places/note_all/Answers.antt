@@ -4,7 +4,7 @@ use Rattle.std.proofs.lemmas.Result.{err_from_is_err_and}
 use Rattle.ffs_volume.proofs.Sizes.{some_inodes}
 use Rattle.ffs_workspace.specs.{Lengths.inodes_of, Places.{is_due, place_in}, declared.workspace.Workspace.Workspace}
 use Rattle.ffs_survey.proofs.Costs.{cost_take, costs_rise}
-use Rattle.ffs_names.{specs.{Costs.directory_cost, Noting.{BeginsNotes, KeepsToRead}}, proofs.PlacesNoted.claims_noted}
+use Rattle.ffs_names.{specs.{Costs.noted_cost, Noting.{BeginsNotes, KeepsToRead}}, proofs.PlacesNoted.claims_noted}
 use Rattle.ffs_names.proofs.PlacesNoted.{coming_end, coming_first, coming_noted, none_due, only_fewer, parent_is_dir}
 use Rattle.ffs_names.proofs.PlacesNoted.{passed_next, places_after, places_same, set_other, set_same, survey_noted}
 use Rattle.ffs_names.proofs.places.note_all.Goals.{then-is_due+in_ok-note_directory, else-is_due}
@@ -70,7 +70,7 @@ loop-dir-preserved g c =
             reads = λ b t claims survey.
                 let is = parent_is_dir survey (inv.only dir due) in
                 let took = noted.notes b (ap (λ d. d.contents) inv.same ∙ t) (claims_noted lists claims) is in
-                let more = cost_take (λ s. true) (directory_cost v b) dir refl in
+                let more = cost_take (λ s. true) (noted_cost v b) dir refl in
                 omega (arith, took.counted, more, inv.reads b t claims survey);
             places = λ b t claims survey.
                 let right = places_same v b old mid.queue.items same (inv.places b t claims survey) in
@@ -93,7 +93,7 @@ loop-dir-preserved g c =
                 (ap is_due (sym word) ∙ (sym c.is_due.ensures ∙ w.if-is_due.false));
             only = inv.only;
             reads = λ b t claims survey.
-                let more = cost_take (λ s. true) (directory_cost v b) dir refl in
+                let more = cost_take (λ s. true) (noted_cost v b) dir refl in
                 omega (arith, more, inv.reads b t claims survey);
             places = inv.places;
             noted = inv.noted;
@@ -136,6 +136,6 @@ returns-in_err-note_directory-clause-reads g c = λ b t claims survey.
     ap (λ (x : Workspace). record x { queue = c.set.new.self }) inv.lists in
     let took = (c.in_err-note_directory.ensures.notes b (ap (λ d. d.contents) inv.same ∙ t) (claims_noted lists claims)
     (parent_is_dir survey (inv.only dir due))).counted in
-    let more = cost_take (λ s. true) (directory_cost v b) dir refl in
-    let all = costs_rise (λ s. true) (directory_cost v b) (dir + 1) (v.ncg * v.ipg) (omega arith) in
+    let more = cost_take (λ s. true) (noted_cost v b) dir refl in
+    let all = costs_rise (λ s. true) (noted_cost v b) (dir + 1) (v.ncg * v.ipg) (omega arith) in
     omega (arith, took, more, all, inv.reads b t claims survey)

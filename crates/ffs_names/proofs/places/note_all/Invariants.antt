@@ -3,7 +3,7 @@ use Rattle.ffs_image.specs.Device.{ForContents}
 use Rattle.ffs_workspace.specs.{Holds.{HoldsClaims, HoldsSurvey}, Ready.IsReady, Places.is_due}
 use Rattle.ffs_workspace.specs.Places.{ArePlaces}
 use Rattle.ffs_survey.specs.Costs.{costs_all}
-use Rattle.ffs_names.{specs.Costs.directory_cost, proofs.PlacesNoted.{AreComing, OnlyParents}}
+use Rattle.ffs_names.{specs.Costs.noted_cost, proofs.PlacesNoted.{AreComing, OnlyParents}}
 use Rattle.ffs_names.proofs.places.note_all.Given as goal
 
 abbrev pub invariant-loop-dir : goal.invariant-loop-dir
@@ -16,7 +16,7 @@ invariant-loop-dir g l = let device = g.I.Image.device in record {
   only : OnlyParents l.fn.workspace.parents.items l.workspace.queue.items;
   reads : ForContents (device l.fn.image).contents (λ b. HoldsClaims l.geometry.layout b l.fn.workspace →
       HoldsSurvey l.geometry.layout b l.fn.workspace →
-      g.I.Image.reads l.image ≤ g.I.Image.reads l.fn.image + costs_all (directory_cost l.geometry.layout b) l.dir);
+      g.I.Image.reads l.image ≤ g.I.Image.reads l.fn.image + costs_all (noted_cost l.geometry.layout b) l.dir);
   places : ForContents (device l.fn.image).contents (λ b. HoldsClaims l.geometry.layout b l.fn.workspace →
       HoldsSurvey l.geometry.layout b l.fn.workspace → ArePlaces l.geometry.layout b l.workspace.queue.items);
   noted : ForContents (device l.fn.image).contents (λ b. HoldsClaims l.geometry.layout b l.fn.workspace →

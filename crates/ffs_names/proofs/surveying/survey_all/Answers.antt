@@ -5,6 +5,9 @@ use Rattle.ffs_workspace.proofs.Leaving.{counts_begin}
 use Rattle.ffs_workspace.{proofs.PlaceLaws.filled_noted, specs.{Holds.HoldsClaims, Tables.IsTableOf}}
 use Rattle.ffs_names.{specs.Readers.{Base, KnowsReader}, proofs.SurveyHolds.{volume_survey, holds_claims, holds_tree, volume_calm}}
 use Rattle.ffs_names.proofs.{SurveyHolds.{holds_calm, holds_references, on_ok_is}, surveying.survey_all.Goals.After-survey-surveyed}
+use Rattle.ffs_names.proofs.CalmDirLaws.{flags_each_calm}
+use Rattle.ffs_volume.specs.{Directories.Volumes.marked_at, Encodings.Lists.bool_at}
+use Rattle.ffs_workspace.specs.Lengths.{inodes_of}
 use Rattle.ffs_names.proofs.surveying.survey_all.Given as given
 use Rattle.ffs_names.proofs.surveying.survey_all.Goals as goal
 
@@ -89,3 +92,21 @@ returns-clause-reads g c = λ b t h.
     let at = (goal.at.returns-clause-reads g c).After-survey-surveyed in
     let all : length c.deref-2.result.now ≡ v.ncg * v.ipg = omega (arith, c.deref-2.ensures.len, c.requires.ready.made.kinds) in
     rw image (rw all at (c.survey-surveyed.ensures.leaves.counted b (known g at b t h)))
+
+pub returns-clause-flags : goal.returns-clause-flags
+returns-clause-flags g c = on_ok_is c.survey-surveyed.result _ _ (λ ok s b t h.
+    let at = (goal.at.returns-clause-flags g c).After-survey-surveyed in
+    let w = c.args.workspace.now in
+    let n = c.survey-surveyed.new in
+    let found = s b (known g at b t h) in
+    let survey = volume_survey (base g at) b c.deref-2.result.now (search rules) (kinds g at b h) found.survey in
+    let marks : (x : ℕ) → bool_at c.deref-3.result.now x ≡ marked_at c.args.geometry.now.layout b x =
+    λ x. ap (λ xs. bool_at xs x) c.deref-3.ensures.value ∙ h.marked x in
+    let marked_long : length c.deref-3.result.now ≡ inodes_of c.args.geometry.now.layout =
+    omega (arith, c.deref-3.ensures.len, c.requires.ready.made.marked) in
+    record {
+      flagged = λ d calm. ap (λ xs. bool_at xs d) (with_items_is w.flags n.calm (search rules))
+          ∙ flags_each_calm (base g at) b c.deref-2.result.now _ _ c.deref-3.result.now _ n.reached
+          n.numbers.parents.now.items n.calm (search rules) (kinds g at b h) marked_long marks survey found.flagged d calm;
+    })
+    c.survey-surveyed.ensures.found

@@ -16,6 +16,7 @@ use Rattle.ffs_report.specs.declared.fault.RunFault.{RunFault, TheVariants.{Read
 use Rattle.ffs_workspace.{specs.{Ready.IsReady, declared.workspace.Workspace.Workspace}, proofs.Leaving.block_check_kept}
 use Rattle.ffs_pathnames.{specs.{DirectoryLines.ReportsTree, RootAnswers.AnswersRoot}, proofs.Begun.image_same}
 use Rattle.ffs_pathnames.specs.declared.pass2.Root.{Root}
+use Rattle.ffs_pathnames.specs.Looked.{ChecksLookedAt, looks_cost, places_cost}
 use Rattle.ffs_pathnames.proofs.pass2.check_tree.Goals as goal
 
 -- what the kind of the root that was read says
@@ -71,6 +72,20 @@ reads_few : (g : Over) (c : After-check_inodes g) (b : List ℕ) →
     + line_reads * length (pathname_lines (volume_of c.args.geometry.now.layout b)))
 reads_few g c b is k = search (arith, lines_long)
 
+looks_few : (g : Over) (c : After-check_inodes g) (b : List ℕ) →
+    map of_tree (pathname_lines (volume_of c.args.geometry.now.layout b))
+    ≡ map of_tree (root_reported c.index-kind.result.now c.index-marked.result.now)
+    ++ map of_tree (tree_lines c.args.geometry.now.layout b true) →
+    IsBefore c.args.geometry.now.layout (g.I.Image.device c.args.image.now).contents c.args.workspace.now 2 b →
+    ChecksLookedAt c.args.geometry.now.layout b c.args.workspace.now →
+    g.I.Image.reads c.check_inodes.new.image ≤ g.I.Image.reads c.args.image.now
+    + (places_cost c.args.geometry.now.layout b + looks_cost c.args.geometry.now.layout b
+    + line_reads * length (pathname_lines (volume_of c.args.geometry.now.layout b)))
+looks_few g c b is k checks =
+    let long = lines_long _ _ _ is in
+    let tree = c.check_inodes.ensures.tree.looks b k checks in
+    omega (arith, tree, long)
+
 -- what is said, what is read for it, and what is left, where nothing is read
 only_said : {T : Type 0} {v : Layout} {d : Device} {w : Workspace} {lines : List ℕ → List TreeMessage}
     {said said' : Progress} {count : ℕ} (r : Result T RunFault) → ImageAfter d d r → IsReady v d w →
@@ -105,6 +120,8 @@ returns-in_err-check_inodes-in-Go-clause-tree g c =
           (λ b k. sym (append-nil _)) tree.text;
       reads = λ b k. reads_few g at.After-check_inodes b
           (lines_are g at.After-report_root b true k.claims c.in-Go.ensures) k;
+      looks = λ b k. looks_few g at.After-check_inodes b
+          (lines_are g at.After-report_root b true k.claims c.in-Go.ensures) k;
       paid = paid_fault fault
           (paid_then (paid_said _ c.in_ok-report_root.ensures (omega arith)) tree.paid);
       image = image_same (Unit {0}) Root _ _ _ fault refl tree.image;
@@ -124,6 +141,8 @@ returns-in_ok-check_inodes-in-Go-clause-tree g c =
           (λ b k. lines_are g at.After-report_root b true k.claims c.in-Go.ensures) c.in_ok-report_root.ensures)
           (λ b k. sym (append-nil _)) tree.text;
       reads = λ b k. reads_few g at.After-check_inodes b
+          (lines_are g at.After-report_root b true k.claims c.in-Go.ensures) k;
+      looks = λ b k. looks_few g at.After-check_inodes b
           (lines_are g at.After-report_root b true k.claims c.in-Go.ensures) k;
       paid = paid_answer
           (paid_then (paid_said _ c.in_ok-report_root.ensures (omega arith)) tree.paid);

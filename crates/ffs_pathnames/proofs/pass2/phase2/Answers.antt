@@ -1,4 +1,4 @@
-use Rattle.std.proofs.Common.{[], ◌∷◌, List, ℕ, refl, ap, ◌∙◌, inr, arith, ◌≡◌, Some, OnOk, Result, Ok, Err, rules}
+use Rattle.std.proofs.Common.{[], ◌∷◌, List, ℕ, refl, ap, ◌∙◌, inr, arith, ◌≡◌, ◌*◌, Some, OnOk, Result, Ok, Err, rules}
 use Rattle.std.proofs.lemmas.Result.{err_from_is_err_and}
 use Rattle.ffs_image.specs.Device.{Device}
 use Rattle.ffs_report.proofs.Reporting.{of_reads, of_last, reports_knowing, says_heading, stops_heading}
@@ -8,7 +8,8 @@ use Rattle.ffs_volume.{specs.{Messages.Kinds.phase2, declared.Layout.Layout}, pr
 use Rattle.ffs_pathnames.specs.{declared.pass2.Root.Root, Before.IsBefore, Phase2.Phase2Ends, RootAnswers.AnswersRoot}
 use Rattle.ffs_pathnames.proofs.{Carrying.{before_first, references_on}, SilentLaws.calm_silent}
 use Rattle.ffs_pathnames.proofs.pass2.phase2.{Given.Over, Goals.After-check_tree}
-use Rattle.ffs_names.proofs.RunSums.{costs_bounded}
+use Rattle.ffs_names.proofs.{DirCosts.noted_all_within, RunSums.costs_bounded}
+use Rattle.ffs_pathnames.proofs.LookedLaws.{looked_at_first}
 use Rattle.ffs_workspace.specs.{declared.workspace.Workspace.Workspace, Found.WithClaims, Holds.HoldsClaims}
 use Rattle.ffs_workspace.specs.Holds.{HoldsReferences, HoldsSurvey}
 use Rattle.ffs_workspace.proofs.Leaving.{block_check_kept, block_check_left, block_check_more}
@@ -95,12 +96,18 @@ returns-clause-block_check g c =
 pub returns-in_err-say-clause-reads : goal.returns-in_err-say-clause-reads
 returns-in_err-say-clause-reads g c = record {
   known = λ b k. omega arith;
+  directories = λ b k. omega arith;
+  looked_at = λ first b k. omega arith;
   paid = paid_text _ _ _ (returns-in_err-say-clause-prints g c).text (omega arith);
 }
 
 pub returns-in_err-survey-clause-reads : goal.returns-in_err-survey-clause-reads
 returns-in_err-survey-clause-reads g c = record {
   known = grind (arith, costs_bounded, runs_bounded);
+  directories = λ b k.
+      let v = c.args.geometry.now.layout in
+      omega (arith, c.survey.ensures.reads.each b k.0 k.1, noted_all_within v b (v.ncg * v.ipg));
+  looked_at = λ first b k. omega (arith, c.survey.ensures.reads.each b k.0 k.1);
   paid = paid_text _ _ _ (returns-in_err-survey-clause-prints g c).text
       (omega (arith, c.survey.ensures.reads.most));
 }
@@ -108,6 +115,19 @@ returns-in_err-survey-clause-reads g c = record {
 pub returns-clause-reads : goal.returns-clause-reads
 returns-clause-reads g c = record {
   known = grind (arith, costs_bounded, runs_bounded, before_tree);
+  directories = λ b k.
+      let before = before_tree g (goal.at.returns-clause-reads g c).After-check_tree b k.0 k.1 in
+      let v = c.args.geometry.now.layout in
+      let sweep = noted_all_within v b (v.ncg * v.ipg) in
+      omega (arith, c.survey.ensures.reads.each b k.0 k.1, c.check_tree.ensures.tree.reads b before, sweep);
+  looked_at = λ first b k.
+      let before = before_tree g (goal.at.returns-clause-reads g c).After-check_tree b k.0 k.1 in
+      let v = c.args.geometry.now.layout in
+      let claims = (c.in_ok-survey.ensures.survey b k.0 k.1).claims in
+      let flags = c.in_ok-survey.ensures.flags first b k.0 k.1 in
+      let checks = looked_at_first v b c.survey.new.workspace c.clear_passed.new.workspace claims flags
+      c.clear_passed.ensures in
+      omega (arith, c.survey.ensures.reads.each b k.0 k.1, c.check_tree.ensures.tree.looks b before checks);
   paid = paid_then
       (paid_said (phase2 ∷ []) c.in_ok-say.ensures.said (omega (arith, c.survey.ensures.reads.most)))
       c.check_tree.ensures.tree.paid;

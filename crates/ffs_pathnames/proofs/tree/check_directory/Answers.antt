@@ -1,4 +1,4 @@
-use Rattle.std.proofs.Common.{refl, sym, ap, subst, ◌∙◌, ℕ, List, Err, length, arith}
+use Rattle.std.proofs.Common.{◌≡◌, true, refl, sym, ap, subst, ◌∙◌, ℕ, List, Err, length, arith}
 use Rattle.std.proofs.{lemmas.{Bool.both_ways, Result.err_from_is_err_and}, Math.Nat.mul-le-mul_left}
 use Rattle.ffs_image.specs.Device.{Device}
 use Rattle.ffs_volume.specs.{declared.Layout.Layout, Report.Reads.line_reads, Directories.PathnameCheck.sized_dir_lines}
@@ -8,10 +8,10 @@ use Rattle.ffs_report.proofs.{Reporting.{said_knows, reports_knowing}, Paying.{p
 use Rattle.ffs_workspace.{specs.declared.workspace.Workspace.Workspace, proofs.Leaving.leaves_more}
 use Rattle.ffs_volume.specs.Directories.PathnameCheck.{dir_header_lines}
 use Rattle.ffs_pathnames.specs.{declared.look.Examination.Examination, Gathers.passed_of}
-use Rattle.ffs_pathnames.{specs.PassedNames.entries_reported, proofs.Begun.{image_same, said_same, directory_is, lines_parts}}
+use Rattle.ffs_pathnames.{specs.PassedNames.{PassedNames, entries_reported, is_flagged}, proofs.Begun.{image_same, said_same, directory_is, lines_parts}}
 use Rattle.ffs_pathnames.proofs.Begun.{quiet_parts, reported_parts, quiet_after, reported_after, starts_within}
 use Rattle.ffs_pathnames.proofs.{Passing.knows_on, StampLaws.{keep_more, noted_kept}, LineCounts.checked_twice}
-use Rattle.ffs_pathnames.proofs.Carrying.{if_ok}
+use Rattle.ffs_pathnames.proofs.{Carrying.if_ok, LookedLaws.flags_after}
 use Rattle.ffs_pathnames.{proofs.LineCounts.lines_long, specs.ReadsLeft.{LeftForBoth, LeftForLook, LeftForRuns}}
 use Rattle.ffs_pathnames.proofs.tree.check_directory.{Given.Over, Goals.{After-begin_directory, After-report_directory}}
 use Rattle.ffs_names.{specs.Costs.{directory_cost, directory_runs}, proofs.DirCosts.cost_is as cost_of_dir}
@@ -90,8 +90,10 @@ returns-then-examined-clause-lines g c =
           omega (arith, begun.reads b (first k) noted, within);
       kept = λ b k. omega (arith, begun.kept b (first k));
       paid = paid_answer begun.paid;
-      holds = λ b k. quiet_after (volume_of v b) c.args.dir m _ k.passed (quiet b k)
-          (begun.holds b (first k)).passed;
+      holds = λ b k. (
+        quiet_after (volume_of v b) c.args.dir m _ k.passed (quiet b k) (begun.holds b (first k)).passed,
+        λ x set. rw (ap (λ (n : PassedNames). n.flags) (begun.holds b (first k)).passed) set,
+      );
       leaves = record { image = left.image; survey = left.survey; places = left.places; ready = left.ready };
     }
 
@@ -125,8 +127,15 @@ returns-clause-lines g c =
           omega (arith, one.kept b (first k), two.kept b (second_of b k), cost);
       paid = paid_then one.paid two.paid;
       holds = if_ok c.report_directory.result _ _
-          (λ x p b k. reported_after (volume_of v b) c.args.dir before m _ (dir b k) k.passed
-          (one.holds b (first k)).passed (p b (second_of b k))) two.holds;
+          (λ x p b k. (
+            reported_after (volume_of v b) c.args.dir before m _ (dir b k) k.passed
+                (one.holds b (first k)).passed (p b (second_of b k)),
+            λ y set.
+                let mid : is_flagged m y ≡ true =
+                rw (ap (λ (n : PassedNames). n.flags) (one.holds b (first k)).passed) set in
+                rw (p b (second_of b k)) at
+                (flags_after (volume_of v b) c.args.dir m (roled_entries (volume_of v b) c.args.dir) y mid),
+          )) two.holds;
       leaves = record {
         image = subst (λ d. ImageAfter d (g.I.Image.device c.report_directory.new.image) c.report_directory.result)
             one.leaves.image two.leaves.image;

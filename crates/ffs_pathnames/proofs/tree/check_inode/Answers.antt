@@ -1,5 +1,5 @@
 use Rattle.std.proofs.Common.{refl, sym, ap, ◌∙◌, ◌≡◌, ◌==◌, ℕ, List, true, map, [], slice_index, arith}
-use Rattle.std.proofs.lemmas.Bool.{and_parts}
+use Rattle.std.proofs.lemmas.Bool.{and_parts, both_ways}
 use Rattle.ffs_image.specs.Device.{Device}
 use Rattle.ffs_volume.specs.{declared.Layout.Layout, Messages.Kinds.of_tree}
 use Rattle.ffs_workspace.{specs.declared.workspace.Workspace.Workspace, proofs.Leaving.leaves_all}
@@ -13,8 +13,8 @@ both : {v : Layout} {device : Device} {w : Workspace} {d left : ℕ} {b : List �
     (slice_index w.kinds.items d == 4) ≡ true → LeftForNext v device w d left b → LeftForBoth v device w d left b
 both looked k = record { knows = directory_context looked k.0; passed = k.0.before.passed; enough = k.1 }
 
-pub returns-then-needs_check : goal.returns-then-needs_check
-returns-then-needs_check g c =
+pub returns-then-needs_check-clause-lines : goal.returns-then-needs_check-clause-lines
+returns-then-needs_check-clause-lines g c =
     let looked = (and_parts _ _ (sym c.needs_check.ensures ∙ c.if-needs_check.true)).0 in
     let checked = c.check_directory.ensures.lines in
     record {
@@ -25,13 +25,16 @@ returns-then-needs_check g c =
       kept = λ b k. checked.kept b (both looked k);
       paid = checked.paid;
       holds = if_ok c.check_directory.result _ _
-          (λ x h b k. noted_next refl checked.leaves.survey checked.leaves.places (h b (both looked k)) k.0)
+          (λ x h b k. (
+            noted_next refl checked.leaves.survey checked.leaves.places (h b (both looked k)).0 k.0,
+            (h b (both looked k)).1,
+          ))
           checked.holds;
       leaves = checked.leaves;
     }
 
-pub returns : goal.returns
-returns g c =
+pub returns-clause-lines : goal.returns-clause-lines
+returns-clause-lines g c =
     let other = sym c.needs_check.ensures ∙ c.if-needs_check.false in
     let ready = c.requires.path in
     record {
@@ -39,10 +42,10 @@ returns g c =
       reads = λ b k noted. omega arith;
       kept = λ b k. omega arith;
       paid = paid_none (omega arith);
-      holds = λ b k. record {
-        before = before_skipped c.args.geometry.now.sound other k.0.before;
-        noted = k.0.noted;
-      };
+      holds = λ b k. (
+        record { before = before_skipped c.args.geometry.now.sound other k.0.before; noted = k.0.noted },
+        λ x set. set,
+      );
       leaves = record {
         image = refl;
         survey = leaves_all _;
@@ -50,3 +53,8 @@ returns g c =
         ready = record { ready = ready.ready; kept_parent = ready.kept_parent };
       };
     }
+
+-- what needs no check isn't read
+pub returns-then-needs_check-clause-skipped : goal.returns-then-needs_check-clause-skipped
+returns-then-needs_check-clause-skipped g c = λ no.
+    absurd (both_ways _ no (sym c.needs_check.ensures ∙ c.if-needs_check.true))

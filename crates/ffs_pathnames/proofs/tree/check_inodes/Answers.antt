@@ -1,4 +1,4 @@
-use Rattle.std.proofs.Common.{◌+◌, ◌-◌, [], map, refl, sym, ap, subst, ◌≡◌, ◌∙◌, suc, arith, rules, Err, List, ℕ, ◌≤◌}
+use Rattle.std.proofs.Common.{◌+◌, ◌-◌, ◌*◌, ◌<◌, [], map, refl, sym, ap, subst, ◌≡◌, ◌∙◌, suc, arith, rules, Err, List, ℕ, ◌≤◌}
 use Rattle.std.proofs.{Common.true, lemmas.Result.err_from_is_err_and}
 use Rattle.ffs_volume.proofs.Numbered.{as_many, from_next, from_end, count_next as next_long}
 use Rattle.ffs_volume.specs.{Messages.Kinds.{of_tree, lines_from}, Directories.PathnameCheck.directory_lines}
@@ -11,7 +11,9 @@ use Rattle.ffs_pathnames.{specs.Before.{IsBeforeNoted, IsBefore}, proofs.{Begun.
 use Rattle.ffs_pathnames.{proofs.Skipping.{noted_before, unseen}, specs.ReadsLeft.LeftForNext}
 use Rattle.ffs_pathnames.proofs.tree.check_inodes.{Given.Over, Goals.After-check_inode}
 use Rattle.ffs_survey.proofs.Costs.{cost_take, costs_rise}
-use Rattle.ffs_names.{specs.Costs.{directories_cost, directory_cost}, proofs.Limits.costs_within}
+use Rattle.ffs_names.{specs.Costs.{directories_cost, directory_cost, noted_costs}, proofs.{DirCosts.noted_all_within, Limits.costs_within}}
+use Rattle.ffs_pathnames.specs.Looked.{is_looked_at}
+use Rattle.ffs_pathnames.proofs.LookedLaws.{flags_kept, look_next, looked_at_next, places_noted}
 use Rattle.ffs_pathnames.proofs.tree.check_inodes.Goals as goal
 
 -- what is known before an inode, and what is left suffices for it
@@ -43,11 +45,22 @@ loop-number-init g c =
       references = ap (λ (w : Workspace). w.references) noted.leaves.lists;
       block_check = queue_leaves _ _ noted.leaves.lists;
       reads = λ b k.
-          let made : g.I.Image.reads c.note_places.new.image ≤ g.I.Image.reads c.args.image.now + directories_cost v b =
+          let made : g.I.Image.reads c.note_places.new.image ≤ g.I.Image.reads c.args.image.now + noted_costs v b =
           c.note_places.ensures.reads.each b k.gives_bytes (k.claims, k.survey) in
           rw (as_many (lines_from (directory_lines (volume_of v b)) 2 (inodes_of v - 2))
           (lines_from (directory_lines (volume_of v b)) first.result (inodes_of v - first.result)) (skipped b k).1)
-          (omega (arith, made));
+          (omega (arith, made, noted_all_within v b (v.ncg * v.ipg)));
+      checks = λ b k checks. looked_at_next v b c.args.workspace.now c.note_places.new.workspace
+          (queue_leaves c.args.workspace.now c.note_places.new.workspace noted.leaves.lists)
+          (flags_kept c.args.workspace.now c.note_places.new.workspace noted.leaves.lists) checks;
+      looks = λ b k checks.
+          let made : g.I.Image.reads c.note_places.new.image ≤ g.I.Image.reads c.args.image.now + noted_costs v b =
+          c.note_places.ensures.reads.each b k.gives_bytes (k.claims, k.survey) in
+          let below : first.result < inodes_of v = omega (arith, first.ensures.range.1) in
+          let places = places_noted v b c.args.workspace.now first.result checks below (first.ensures.found below) in
+          rw (as_many (lines_from (directory_lines (volume_of v b)) 2 (inodes_of v - 2))
+          (lines_from (directory_lines (volume_of v b)) first.result (inodes_of v - first.result)) (skipped b k).1)
+          (omega (arith, made, places));
       left = λ b k.
           let within = costs_within v b c.args.geometry.now.sound in
           omega (arith, within, c.sweep_reads.ensures);
@@ -66,7 +79,7 @@ loop-number-preserved g c =
     let v = c.args.geometry.now.layout in
     let inv = c.loop-number.invariant in
     let n = c.loop-number.number in
-    let ok = c.in_ok-check_inode.ensures in
+    let ok = c.in_ok-check_inode.ensures.lines in
     let q : suc n ≡ n + 1 = omega arith in
     record {
       ready = ok.leaves.ready;
@@ -79,6 +92,14 @@ loop-number-preserved g c =
           let here = ok.reads b (next g at b k) ((inv.before b k).noted) in
           let long = next_long (directory_lines (volume_of v b)) n (inodes_of v) (omega arith) in
           omega (arith, taken, here, long, inv.reads b k);
+      checks = λ b k checks. looked_at_next v b c.loop-number.workspace c.check_inode.new.workspace
+          (block_check_left _ _ ok.leaves.survey) (ok.holds b (next g at b k)).1 (inv.checks b k checks);
+      looks = λ b k checks.
+          let here = ok.reads b (next g at b k) ((inv.before b k).noted) in
+          let long = next_long (directory_lines (volume_of v b)) n (inodes_of v) (omega arith) in
+          let one = look_next v b c.loop-number.workspace n _ _ _ (inv.checks b k checks)
+          c.in_ok-check_inode.ensures.skipped here in
+          omega (arith, one, long, inv.looks b k checks);
       left = λ b k.
           let taken = cost_take (λ s. true) (directory_cost v b) n refl in
           let kept = ok.kept b (next g at b k) in
@@ -86,7 +107,7 @@ loop-number-preserved g c =
       paid = paid_then inv.paid ok.paid;
       before = λ b k. subst (λ d. IsBeforeNoted v (g.I.Image.device c.args.image.now).contents c.check_inode.new.workspace d
           b) q
-          (noted_reported (sym (ap (λ d. d.contents) inv.device)) (ok.holds b (next g at b k)));
+          (noted_reported (sym (ap (λ d. d.contents) inv.device)) (ok.holds b (next g at b k)).0);
       said = of_part _ _ _ _ _ _ _ _ inv.said
           (λ b k. from_next (directory_lines (volume_of v b)) n (inodes_of v) (omega arith))
           (said_knows _ _ _ _ _ _ (next g at) ok.text);
@@ -104,6 +125,7 @@ returns-then-first-count-clause-tree g c =
           first.ensures.range.1 first.ensures.before k).1
           ∙ from_end (directory_lines (volume_of v b)) first.result (inodes_of v) (omega arith));
       reads = λ b k. omega arith;
+      looks = λ b k checks. omega arith;
       paid = paid_none (omega arith);
       image = refl;
       holds = λ b k. (k.claims, k.survey);
@@ -114,11 +136,19 @@ returns-then-first-count-clause-tree g c =
 
 pub returns-in_err-note_places-clause-tree : goal.returns-in_err-note_places-clause-tree
 returns-in_err-note_places-clause-tree g c =
+    let v = c.args.geometry.now.layout in
     let noted = c.in_err-note_places.ensures in
     let p = err_from_is_err_and c.from_residual.result c.from_residual.ensures.1 in
     rw (p.1, p.2) (record {
       text = of_reads _ _ _ _ _ (of_begins _ _ _);
-      reads = λ b k. omega (arith, noted.reads.each b k.gives_bytes (k.claims, k.survey));
+      reads = λ b k.
+          let within = noted_all_within v b (v.ncg * v.ipg) in
+          omega (arith, noted.reads.each b k.gives_bytes (k.claims, k.survey), within);
+      looks = λ b k checks.
+          let first = c.first_to_check-first in
+          let below : first.result < inodes_of v = omega (arith, first.ensures.range.1) in
+          let places = places_noted v b c.args.workspace.now first.result checks below (first.ensures.found below) in
+          omega (arith, noted.reads.each b k.gives_bytes (k.claims, k.survey), places);
       paid = paid_failed (omega (arith, noted.reads.most));
       image = noted.leaves.read;
       holds = tt;
@@ -133,7 +163,7 @@ returns-in_err-check_inode-clause-tree g c =
     let v = c.args.geometry.now.layout in
     let inv = c.loop-number.invariant in
     let n = c.loop-number.number in
-    let said = c.in_err-check_inode.ensures in
+    let said = c.in_err-check_inode.ensures.lines in
     let p = err_from_is_err_and c.from_residual-in_err-check_inode.result
     c.from_residual-in_err-check_inode.ensures.1 in
     rw (p.1, p.2) (record {
@@ -146,6 +176,13 @@ returns-in_err-check_inode-clause-tree g c =
           let taken = cost_take (λ s. true) (directory_cost v b) n refl in
           let rise = costs_rise (λ s. true) (directory_cost v b) (n + 1) (inodes_of v) (omega arith) in
           omega (arith, here, long, taken, rise, inv.reads b k);
+      looks = λ b k checks.
+          let here = said.reads b (next g at b k) ((inv.before b k).noted) in
+          let long = next_long (directory_lines (volume_of v b)) n (inodes_of v) (omega arith) in
+          let one = look_next v b c.loop-number.workspace n _ _ _ (inv.checks b k checks)
+          c.in_err-check_inode.ensures.skipped here in
+          let rise = costs_rise (is_looked_at v b) (directory_cost v b) (n + 1) (inodes_of v) (omega arith) in
+          omega (arith, one, long, rise, inv.looks b k checks);
       paid = paid_within (paid_then inv.paid said.paid) (omega arith) (omega arith);
       image = image_same (Unit {0}) (Unit {0}) _ _ _ c.in_err-check_inode.field-0.0 inv.device said.leaves.image;
       holds = tt;
@@ -164,6 +201,9 @@ returns-clause-tree g c =
       reads = λ b k.
           let rise = costs_rise (λ s. true) (directory_cost v b) c.loop-number.number (inodes_of v) (omega arith) in
           omega (arith, rise, inv.reads b k);
+      looks = λ b k checks.
+          let rise = costs_rise (is_looked_at v b) (directory_cost v b) c.loop-number.number (inodes_of v) (omega arith) in
+          omega (arith, rise, inv.looks b k checks);
       paid = paid_within inv.paid (omega arith) (omega arith);
       image = inv.device;
       holds = λ b k. let now = (inv.before b k).before in (now.claims, now.survey);

@@ -3,8 +3,9 @@ use Rattle.ffs_report.specs.{Known.ForBytes, Paid.Paid, PhaseOutcome.SaidOf, Pro
 use Rattle.ffs_volume.specs.{Messages.Kinds.of_tree, Messages.Kinds.lines_from, Report.Reads.line_reads, Report.Reads.sweep_reads}
 use Rattle.ffs_volume.specs.Directories.{PathnameCheck.directory_lines, Volumes.volume_of}
 use Rattle.ffs_workspace.specs.{Leaves.LeavesBlockCheck, Lengths.inodes_of}
+use Rattle.ffs_pathnames.specs.Looked.{ChecksLookedAt, is_looked_at, places_cost}
 use Rattle.ffs_pathnames.specs.{Ready.ReadyWith, Before.IsBefore, Before.IsBeforeNoted}
-use Rattle.ffs_survey.specs.Costs.{costs_all}
+use Rattle.ffs_survey.specs.Costs.{costs_all, costs_below}
 use Rattle.ffs_names.specs.Costs.{directories_cost, directory_cost}
 use Rattle.ffs_pathnames.proofs.tree.check_inodes.Given as goal
 
@@ -23,6 +24,11 @@ invariant-loop-number g l =
       reads : ForBytes known (λ b. g.I.Image.reads l.image + line_reads * length (to_come b)
           ≤ g.I.Image.reads l.fn.image
           + (directories_cost v b + 2 * costs_all (directory_cost v b) l.number + line_reads * length (all b)));
+      checks : ForBytes known (λ b. ChecksLookedAt v b l.fn.workspace → ChecksLookedAt v b l.workspace);
+      looks : ForBytes known (λ b. ChecksLookedAt v b l.fn.workspace
+          → g.I.Image.reads l.image + line_reads * length (to_come b)
+          ≤ g.I.Image.reads l.fn.image + (places_cost v b
+          + 2 * costs_below (is_looked_at v b) (directory_cost v b) l.number + line_reads * length (all b)));
       left : ForBytes known (λ b. 2 * directories_cost v b
           ≤ l.checking.reads_left + 2 * costs_all (directory_cost v b) l.number);
       paid : Paid {T = Unit {0}} line_reads (progress g.W.Output.sink l.fn.report)

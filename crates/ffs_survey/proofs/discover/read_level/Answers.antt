@@ -1,7 +1,8 @@
-use Rattle.std.proofs.Common.{◌≡◌, ◌<◌, ℕ, List, arith, rules, length, length-take, take, ◌∙◌}
+use Rattle.std.proofs.Common.{◌≡◌, ◌<◌, ◌≤◌, ℕ, List, arith, rules, length, length-take, take, ◌∙◌}
 use Rattle.ffs_survey.proofs.Queues.{at_place, extends_on, is_extended, keeps_queue, empty_level, number_kept}
 use Rattle.ffs_survey.proofs.{CalmLaws.calm_read, CalmLaws.same_result_stays, Costs.next_cost, Discovered.level_step}
-use Rattle.ffs_survey.proofs.{Lending.{leaves_by, same_kinds, same_marks, still_by}, Totals.dir_counted}
+use Rattle.ffs_survey.proofs.{Lending.{leaves_by, kinds_long, same_kinds, same_marks, still_by}, Totals.dir_counted}
+use Rattle.ffs_survey.proofs.{Discovered.dir_below, ReadOnce.{flags_grow, level_read, other_place, read_from, read_next}}
 use Rattle.ffs_survey.specs.{Discover.IsReachedDir, Survey.number_at}
 use Rattle.ffs_survey.proofs.discover.read_level.Goals as goal
 
@@ -43,10 +44,31 @@ loop-at-preserved g c =
       calm = λ b k before.
           calm_read (entries b) (g.D.Directories.right_shape base b) _ _ _ (read b k).same_result (still b k).is_reached
           (read b k).calm (inv.calm b k before);
+      kept = λ b k x set. flags_grow _ _ (g.D.Directories.right_shape base b (number_at level place)) here.calm.now
+          c.read_reached.new.lists.calm.now (read b k).calm x (inv.kept b k x set);
+      once = λ b k unread.
+          let s = still b k in
+          let long : number_at level place < length here.calm.now = omega (arith, dir_below old.kinds.now (number_at level place) s.dir, here.long.calm_long,
+          kinds_long inv.lent.same) in
+          read_next old.kinds.now old.marked.now here.calm.now c.read_reached.new.lists.calm.now (entries b) (g.D.Directories.right_shape base b) level c.args.low place inv.from inside
+          (λ i. other_place level c.args.low place i unread inv.from) (read b k).same_result s.is_reached
+          (read b k).calm long (inv.once b k unread);
     }
 
+pub loop-at-init : goal.loop-at-init
+loop-at-init g c = grind (arith, read_from)
+
 pub returns-clause-found : goal.returns-clause-found
-returns-clause-found g c = grind (arith, keeps_queue, empty_level)
+returns-clause-found g c =
+    let inv = c.loop-at.invariant in
+    let base = g.D.Directories.base c.args.directories.now in
+    let level = take c.args.high c.args.lists.now.queue.now.items in
+    let end : length level ≤ c.loop-at.at =
+    omega (arith, length-take c.args.high c.args.lists.now.queue.now.items, c.loop-at-test.false) in
+    let once = λ (b : List ℕ) (k : g.D.Directories.knows base b).
+    level_read (g.D.Directories.entries base b) (g.D.Directories.right_shape base b) level c.args.low c.loop-at.at end
+    (inv.once b k) in
+    grind (arith, keeps_queue, empty_level)
 
 pub returns-in_err-top-clause-leaves : goal.returns-in_err-top-clause-leaves
 returns-in_err-top-clause-leaves g c =

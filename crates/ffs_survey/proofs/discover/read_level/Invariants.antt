@@ -1,6 +1,7 @@
-use Rattle.std.proofs.Common.{◌≡◌, ℕ, ◌+◌, ◌-◌, ◌*◌, ◌<◌, ◌≤◌, ◌^◌, List, length, take, drop, All, sum_by}
+use Rattle.std.proofs.Common.{◌≡◌, ℕ, ◌+◌, ◌-◌, ◌*◌, ◌<◌, ◌≤◌, ◌^◌, true, List, length, take, drop, All, sum_by}
 use Rattle.ffs_survey.specs.Discover.{Extends, SameResult, IsReachedDir, Counts, from_dirs, unset, count_of, any_of}
-use Rattle.ffs_survey.{specs.{Calm.AreCalm, Survey.{graph_with, number_at}}, proofs.Lending.StillLent}
+use Rattle.ffs_survey.{specs.{Calm.{AreCalm, AreUnread}, Survey.{bool_at, graph_with, number_at}}, proofs.Lending.StillLent}
+use Rattle.ffs_survey.proofs.ReadOnce.{IsReadTo}
 use Rattle.ffs_survey.proofs.discover.read_level.Given as goal
 
 abbrev pub invariant-loop-at : goal.invariant-loop-at
@@ -32,4 +33,8 @@ invariant-loop-at g l =
           (g.D.Directories.entries over b) (g.D.Directories.right_shape over b) old.calm.now →
           AreCalm old.kinds.now old.marked.now l.lists.reached.now l.lists.parents.now.items
           (g.D.Directories.entries over b) (g.D.Directories.right_shape over b) l.lists.calm.now;
+      kept : (b : List ℕ) → knows b → (x : ℕ) → bool_at old.calm.now x ≡ true → bool_at l.lists.calm.now x ≡ true;
+      once : (b : List ℕ) → knows b → AreUnread old.reached.now old.parents.now.items (drop l.low level) →
+          IsReadTo old.kinds.now old.marked.now l.lists.reached.now l.lists.parents.now.items
+          (g.D.Directories.entries over b) (g.D.Directories.right_shape over b) l.lists.calm.now level l.low l.at;
     }

@@ -1,7 +1,8 @@
 use Rattle.std.proofs.Common.{ap, length, rules, ◌∙◌}
-use Rattle.ffs_survey.proofs.{CalmLaws.{calm_unreached, read_stays}, Costs.costs_both, Frontiers.sane_of}
+use Rattle.ffs_survey.proofs.{CalmLaws.{calm_unreached, read_stays, Stays}, Costs.costs_both, Frontiers.sane_of}
 use Rattle.ffs_survey.proofs.{Lending.{finds_same, kinds_long, same_kinds}, UnreachedLaws.survey_whole}
 use Rattle.ffs_survey.proofs.UnreachedLaws.{unreached_blank}
+use Rattle.ffs_survey.proofs.ReadOnce.{flagged_by_parents, read_once_stays}
 use Rattle.ffs_survey.proofs.levels.survey.Goals as goal
 
 pub returns-clause-found : goal.returns-clause-found
@@ -26,6 +27,10 @@ returns-clause-found g c =
           part more);
       calm = rw (second.leaves.kept.reached, second.leaves.kept.calm) (calm_unreached found.calm.now
           (read_stays more reached_long) (first.found.calm b k));
+      flagged = rw (second.leaves.kept.reached, second.leaves.kept.calm) (λ d dir reached calm.
+          let stays : Stays found.reached.now found.parents.now.items found.reached.now new.parents.now.items =
+          record { reached = λ x h. h; parents = read_stays more reached_long } in
+          flagged_by_parents (read_once_stays stays (λ x h. h) (first.found.read b k d dir reached)) calm);
     })
 
 pub returns-clause-leaves : goal.returns-clause-leaves

@@ -1,10 +1,11 @@
-use Rattle.std.proofs.Common.{ℕ, ap, rules, ◌≡◌, ◌+◌, take, set, arith, refl, sym, ◌∙◌, true, length-set}
+use Rattle.std.proofs.Common.{ℕ, ap, rules, ◌≡◌, ◌+◌, ◌≤◌, length, take, set, arith, refl, sym, ◌∙◌, true, length-set}
 use Rattle.ffs_survey.proofs.Frontiers.{sane_of, levels_start, frontier_start, queue_start}
 use Rattle.ffs_survey.proofs.Queues.{counted_on, reached_part, alone_part, none_counted, empty_level, is_extended}
-use Rattle.ffs_survey.proofs.{CalmLaws.calm_none, Costs.{level_costs, queue_costs, queue_within}}
+use Rattle.ffs_survey.proofs.{CalmLaws.{calm_none, same_result_stays}, Costs.{level_costs, queue_costs, queue_within}}
 use Rattle.ffs_survey.proofs.{Discovered.{unset-le, unset-set}, Lending.{kinds_long, same_kinds, same_marks}}
 use Rattle.ffs_survey.proofs.{Lending.still_by, NextLevel.{AtLevel, few_counted, level_reached, next_room, next_at}}
 use Rattle.ffs_survey.specs.{Discover.Extends, Survey.graph_with}
+use Rattle.ffs_survey.proofs.ReadOnce.{read_each, read_on_queue, root_alone_reached, unread_level}
 use Rattle.ffs_survey.proofs.levels.survey_reached.Goals as goal
 
 pub loop-low-init : goal.loop-low-init
@@ -32,6 +33,7 @@ loop-low-init g c =
           record { depth = 0; at = start };
       counts = λ b k. none_counted begins.named;
       calm = λ b k. calm_none _ _ old.calm.now begins.calm;
+      read = λ b k i none. absurd (omega arith);
     }
 
 pub read_level-requires : goal.read_level-requires
@@ -77,6 +79,15 @@ loop-low-preserved g c =
       counts = λ b k.
           counted_on c.loop-low.low c.loop-low.high queue _ inv.room.ordered kept (inv.counts b k) (read b k).counts;
       calm = λ b k. (read b k).calm (inv.calm b k);
+      read = λ b k.
+          let right_shape = g.D.Directories.right_shape (g.D.Directories.base c.args.directories.now) b in
+          let level = (inv.levels b k).at in
+          let root = sym c.is_dir.ensures ∙ c.if-not-is_dir.false in
+          let unread = unread_level kinds (entries b) c.args.lists.now.long.some root level.frontier level.levels in
+          let inside : c.loop-low.high ≤ length queue = omega (arith, inv.room.room) in
+          read_on_queue (entries b) right_shape c.loop-low.low c.loop-low.high queue c.sort_part.new.self.items
+          inv.room.ordered inside kept (same_result_stays (read b k).same_result) (read b k).kept (inv.read b k)
+          ((read b k).once unread);
     }
 
 pub returns-clause-found : goal.returns-clause-found
@@ -96,6 +107,11 @@ returns-clause-found g c =
           reached_part old.kinds.now es reached_long (sane_of old.kinds.now es old.long.some)
           (rw none at level.frontier) level.levels (rw same at (inv.counts b k));
       calm = inv.calm;
+      read = λ b k d dir reached.
+          let right_shape = g.D.Directories.right_shape base b in
+          let level = (inv.levels b k).at in
+          read_each (g.D.Directories.entries base b) right_shape c.loop-low.high here.queue.now.items level.levels.queued
+          (rw same at (inv.read b k)) d reached;
       once = grind (arith, queue_costs);
     }
 
@@ -112,6 +128,8 @@ returns-then-not-is_dir-clause-found g c =
           (rw c.set.ensures.items (levels_start (graph_with old.kinds.now es) old.reached.now
           old.parents.now.items (omega arith) (omega arith) begins.reached begins.parents)) begins.named;
       calm = λ b k. calm_none _ _ old.calm.now begins.calm;
+      read = λ b k d dir reached. absurd (root_alone_reached old.reached.now old.kinds.now d begins.reached
+          (sym c.is_dir.ensures ∙ c.if-not-is_dir.true) dir reached);
       once = λ b k. omega arith;
     }
 

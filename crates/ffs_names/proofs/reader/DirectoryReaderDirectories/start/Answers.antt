@@ -2,7 +2,7 @@ use Rattle.std.proofs.Common.{◌∙◌, ◌≡◌, ℕ, Bool, List, true, ◌&&
 use Rattle.std.proofs.lemmas.{Grind.{common_steps, get_or_default_zero}, Result.err_from_is_err_and}
 use Rattle.ffs_volume.specs.{Directories.{Roles.{is_dir, roled_entries}, Volumes.volume_of}, Encodings.Kinds.kind_at}
 use Rattle.ffs_workspace.specs.Notes.{note_at}
-use Rattle.ffs_names.{specs.RightShapes.is_right_shape, proofs.{DirCosts.cost_is, DirLaws.kind_dirs}}
+use Rattle.ffs_names.{specs.RightShapes.is_right_shape, proofs.{DirCosts.{inode_read, noted_is}, DirLaws.kind_dirs}}
 use Rattle.ffs_names.proofs.NotedDirs.{read_by_chunk, read_by_cut, ready_read}
 use Rattle.ffs_names.proofs.reader.DirectoryReaderDirectories.start.Goals.{After-address_in}
 use Rattle.ffs_names.proofs.reader.DirectoryReaderDirectories.start.Given as given
@@ -89,11 +89,13 @@ returns-clause-counted g c = λ b k.
     let read = read_by_cut v b c.args.dir t.geometry.sound dir (c.in_ok-inode.ensures.reads.inode b k.bytes)
     (note_here g at b k.notes) (rw c.in_default.is at c.address_in.ensures) in
     let begins = (rw c.requires.ready.1 at c.restart.ensures.begins) (sym read.is_dir) in
-    let cost = cost_is v b c.args.dir dir in
+    let cost = noted_is v b c.args.dir dir in
+    let read_one = inode_read v b c.args.dir c.index-note.result.now (note_here g at b k.notes)
+    (rw c.in_default.is at c.address_in.ensures) in
     let one = c.in_ok-inode.ensures.counted in
     record {
-      most = omega (arith, one, cost);
-      paid = omega (arith, one, cost, read.runs, begins.to_read b);
+      most = omega (arith, one, cost, read_one);
+      paid = omega (arith, one, cost, read_one, read.runs, begins.to_read b);
       held = begins.held _ _;
     }
 
@@ -108,7 +110,7 @@ returns-in-Some-clause-counted g c = λ b k.
     let begins = rw c.requires.ready.1 at c.restart_at.ensures.begins in
     record {
       most = omega arith;
-      paid = omega (arith, cost_is v b c.args.dir dir, read.runs, begins.to_read b);
+      paid = omega (arith, noted_is v b c.args.dir dir, read.runs, begins.to_read b);
       held = begins.held _ _;
     }
 
@@ -116,5 +118,8 @@ pub returns-in_err-inode-clause-counted : goal.returns-in_err-inode-clause-count
 returns-in_err-inode-clause-counted g c =
     rw (err_from_is_err_and c.from_residual.result c.from_residual.ensures.1).1 (λ b k.
     let at = (goal.at.returns-in_err-inode-clause-counted g c).After-address_in in
-    let cost = cost_is c.args.self.now.geometry.layout b c.args.dir (is_dir_here g at b k.kinds) in
-    record { most = omega (arith, c.in_err-inode.ensures.counted, cost); paid = tt; held = tt })
+    let v = c.args.self.now.geometry.layout in
+    let cost = noted_is v b c.args.dir (is_dir_here g at b k.kinds) in
+    let read_one = inode_read v b c.args.dir c.index-note.result.now (note_here g at b k.notes)
+    (rw c.in_default.is at c.address_in.ensures) in
+    record { most = omega (arith, c.in_err-inode.ensures.counted, cost, read_one); paid = tt; held = tt })

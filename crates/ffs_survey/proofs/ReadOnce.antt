@@ -1,0 +1,257 @@
+-- Each reached directory is read once, when nothing below it is reached: so those that are calm by the
+-- parents of what they name have a flag.
+use Rattle.std.proofs.Common.{◌≡◌, ◌≢◌, ℕ, zero, suc, ◌+◌, ◌-◌, ◌<◌, ◌≤◌, ◌==◌, Bool, true, false, not, ◌&&◌, ◌||◌}
+use Rattle.std.proofs.Common.{List, [], ◌∷◌, length, take, drop, get_or, All, Option, Some, None, unwrap_or, cond, arith}
+use Rattle.std.proofs.{Common.{refl, sym, ◌∙◌, ap, subst, inl, inr, length-take, nat_le, set}, lemmas.Bool.both_ways}
+use Rattle.std.proofs.lemmas.Bool.{and_parts, and_from, or_cases, eqb-true, eq-eqb, ne_eqb, cases_lt, leb-true, Decides.nat_tests}
+use Rattle.std.proofs.lemmas.List.{get_or-drop, get_or_default, length-drop, get_or-take}
+use Rattle.ffs_volume.specs.declared.{Role.{Role, TheVariants.{Empty, Dot, Dotdot, Extra, Plain}}}
+use Rattle.ffs_volume.specs.Directories.{Climb.is_value, Graph.{Graph, level, parent, within}, Roles.RoledEntry}
+use Rattle.ffs_volume.proofs.{ClimbLaws.is_value-true, Graphs.IsSane, LevelLaws.{level-from, within-zero}}
+use Rattle.ffs_survey.specs.Calm.{CurrentDir, is_calm_role, is_calm_entry, reached_after, are_calm, IsFlagged}
+use Rattle.ffs_survey.specs.Calm.{AreUnread, is_calm_by_parents, is_elsewhere, IsReadOnce, IsUnread}
+use Rattle.ffs_survey.specs.Discover.{bit, from_entries, nothing, occurrences, parent_at, SameResult, IsFrontier, LevelsKnown}
+use Rattle.ffs_survey.specs.{ParentLaws.{parent_above, root_level}, Survey.{bool_at, dir_at, graph_with, number_at}}
+use Rattle.ffs_survey.proofs.{CalmLaws.{Stays, all_calm, same_result_stays}, Discovered.{bit-le, set_tests}}
+use Rattle.ffs_survey.proofs.Frontiers.{bit-one, frontier_within, occurrences-at, occurrences-cons, occurrences-head}
+use Rattle.ffs_survey.proofs.{Frontiers.{frontier_dirs, occurrences-index, sane_of, within-bound}, Queues.at_place}
+
+-- ---- where less is reached, no fewer entries are calm
+calm_role_less : (s : CurrentDir) (r r' : ℕ → Bool) (i : ℕ) (role : Role) (number kind : ℕ) →
+    (r number ≡ true → r' number ≡ true) → is_calm_role s r' i role number kind ≡ true →
+    is_calm_role s r i role number kind ≡ true
+calm_role_less s r r' i Empty number kind h c = c
+calm_role_less s r r' i Dot number kind h c = c
+calm_role_less s r r' i Dotdot number kind h c = c
+calm_role_less s r r' i Extra number kind h c = c
+calm_role_less s r r' i Plain number kind h c = grind arith
+
+calm_less : (s : CurrentDir) (r r' : ℕ → Bool) (i : ℕ) (es : List RoledEntry) →
+    ((x : ℕ) → r x ≡ true → r' x ≡ true) → are_calm s r' i es ≡ true → are_calm s r i es ≡ true
+calm_less s r r' i [] h c = c
+calm_less s r r' i (e ∷ es) h c =
+    let p = and_parts (is_calm_entry s r' i e) _ c in
+    and_from (is_calm_entry s r i e) _
+    (calm_role_less s r r' i e.role e.entry.number e.entry.kind (h e.entry.number) p.0)
+    (calm_less s (reached_after s.kinds r e) (reached_after s.kinds r' e) (suc i) es
+    (λ x t. let more = h x in grind arith) p.1)
+
+-- a directory that was read so has a flag, if it is calm by the parents of what it names
+pub flagged_by_parents : {kinds : List ℕ} {m r : List Bool} {p : List ℕ} {es : List RoledEntry} {right_shape : Bool}
+    {f : List Bool} {d : ℕ} → IsReadOnce kinds m r p es right_shape f d →
+    is_calm_by_parents kinds m (number_at p) es right_shape d ≡ true → bool_at f d ≡ true
+flagged_by_parents {kinds = kinds} {m = m} {p = p} {es = es} {right_shape = right_shape} {d = d} once calm =
+    let s : CurrentDir = record { kinds = kinds; marked = m; dir = d; parent = number_at p d } in
+    let parts = and_parts (are_calm s (is_elsewhere (number_at p) d) 0 es) right_shape calm in
+    once.flagged (calm_less s once.before (is_elsewhere (number_at p) d) 0 es once.elsewhere parts.0) parts.1
+
+-- ---- what stays of a directory that was read
+pub read_once_stays : {kinds : List ℕ} {m r r' : List Bool} {p p' : List ℕ} {es : List RoledEntry} {right_shape : Bool}
+    {f f' : List Bool} {d : ℕ} → Stays r p r' p' → ((x : ℕ) → bool_at f x ≡ true → bool_at f' x ≡ true) →
+    IsReadOnce kinds m r p es right_shape f d → IsReadOnce kinds m r' p' es right_shape f' d
+read_once_stays {p = p} {p' = p'} {f = f} {f' = f'} {d = d} s more once = record {
+  before = once.before;
+  elsewhere = λ x b. rw (s.parents x (once.known x b)) (once.elsewhere x b);
+  known = λ x b. s.reached x (once.known x b);
+  is_reached = s.reached d once.is_reached;
+  flagged = λ calm right. more d (once.flagged (rw (s.parents d once.is_reached) at calm) right);
+}
+
+-- a directory is read
+pub read_once : {kinds : List ℕ} {r r' : List Bool} {p p' q q' : List ℕ} {right_shape : Bool} (m : List Bool)
+    (d : ℕ) (es : List RoledEntry) (f f' : List Bool) → SameResult (from_entries kinds d es) r p q nothing r' p' q' →
+    bool_at r d ≡ true → IsFlagged d (all_calm kinds m r p d es) right_shape f f' → d < length f →
+    IsUnread r p d → IsReadOnce kinds m r' p' es right_shape f' d
+read_once {kinds = kinds} {r = r} {p = p} {right_shape = right_shape} m d es f f' c h flags long unread =
+    let s = same_result_stays c in
+    let flag = flags d in
+    record {
+      before = bool_at r;
+      elsewhere = λ x b. rw (s.parents x b) (unread x b);
+      known = s.reached;
+      is_reached = s.reached d h;
+      flagged = λ calm right.
+          let was : all_calm kinds m r p d es ≡ true = rw (s.parents d h) at calm in
+          grind (arith, nat_tests);
+    }
+
+-- no flag is taken away
+pub flags_grow : (d : ℕ) (calm right_shape : Bool) (f f' : List Bool) → IsFlagged d calm right_shape f f' → (x : ℕ) →
+    bool_at f x ≡ true → bool_at f' x ≡ true
+flags_grow d calm right_shape f f' flags x h = let now = flags x in grind arith
+
+-- nothing below another directory is reached by it
+pub unread_next : {r r' : List Bool} {p p' q q' : List ℕ} {d t : ℕ} (kinds : List ℕ) (es : List RoledEntry) →
+    SameResult (from_entries kinds d es) r p q nothing r' p' q' → d ≢ t → IsUnread r p t → IsUnread r' p' t
+unread_next {r = r} {p' = p'} {d = d} {t = t} kinds es c other unread x now =
+    let stays = same_result_stays c in
+    let reaches = c.reaches x in
+    let up = c.parent x in
+    let old = unread x in
+    grind (arith, nat_tests)
+
+-- ---- the directories of a level
+-- what occurs once at most is at one place
+one_place : (xs : List ℕ) → ((x : ℕ) → occurrences x xs ≤ 1) → (i j e : ℕ) → i < j → j < length xs →
+    get_or xs i e ≢ get_or xs j e
+one_place [] few i j e l b = absurd (omega arith)
+one_place (x ∷ xs) few zero zero e l b = absurd (omega arith)
+one_place (x ∷ xs) few zero (suc j) e l b = λ q.
+    let here = occurrences-cons x x xs in
+    let one = ap bit (eq-eqb x x refl) in
+    let there : 1 ≤ occurrences x xs = rw (← q) at (occurrences-at xs j e (omega arith)) in
+    absurd (omega (arith, few x, here, one, there))
+one_place (x ∷ xs) few (suc i) zero e l b = absurd (omega arith)
+one_place (x ∷ xs) few (suc i) (suc j) e l b =
+    one_place xs (λ y. omega (arith, few y, occurrences-cons y x xs)) i j e (omega arith) (omega arith)
+
+-- what is reached by the directories of the levels before k isn't below one of level k
+below_no_frontier : (kinds : List ℕ) (entries : ℕ → List RoledEntry) (k t x : ℕ) {r : List Bool} {p q : List ℕ} →
+    IsSane (graph_with kinds entries) → LevelsKnown (graph_with kinds entries) k r p q → 2 ≤ t →
+    level (graph_with kinds entries) t ≡ Some k → bool_at r x ≡ true → is_elsewhere (number_at p) t x ≡ true
+below_no_frontier kinds entries k t x {p = p} sane known two at reached =
+    let g = graph_with kinds entries in
+    let near : within g k x ≡ true = sym (known.reaches x) ∙ reached in
+    let found = level-from g k x (within-bound g k x sane near) near in
+    let up = known.parent x in
+    go found.0 found.1 found.2 (rw near at up)
+  where
+    go : (j : ℕ) → j ≤ k → level (graph_with kinds entries) x ≡ Some j →
+        number_at p x ≡ unwrap_or (parent (graph_with kinds entries) x) 0 → is_elsewhere (number_at p) t x ≡ true
+    go zero l is up = let root = root_level (graph_with kinds entries) x is in grind (arith, nat_tests)
+    go (suc j) l is up =
+        let above = parent_above (graph_with kinds entries) j x is in
+        let s = above.0 in
+        let here = above.1 in
+        let parent_is : number_at p x ≡ s = up ∙ ap (λ o. unwrap_or o 0) here.is in
+        let other : (number_at p x ≡ t → ⊥) = λ e.
+        let same : Some j ≡ Some k = sym here.near ∙ (ap (level (graph_with kinds entries)) (sym parent_is ∙ e) ∙ at) in
+        let equal : j ≡ k = cc in absurd (omega arith) in
+        let no = ne_eqb (number_at p x) t other in
+        grind arith
+
+-- none of the directories of a level is read before that
+pub unread_level : {k : ℕ} {xs q p : List ℕ} {r : List Bool} (kinds : List ℕ) (entries : ℕ → List RoledEntry) →
+    2 < length kinds → dir_at kinds 2 ≡ true → IsFrontier (graph_with kinds entries) k xs →
+    LevelsKnown (graph_with kinds entries) k r p q → AreUnread r p xs
+unread_level {k = k} {xs = xs} kinds entries some root frontier known =
+    let sane = sane_of kinds entries some in
+    record {
+      each = λ i d l x reached.
+          let t = get_or xs i d in
+          let dir : dir_at kinds t ≡ true = frontier_dirs frontier root i d l in
+          let two : 2 ≤ t = leb-true 2 t (and_parts (nat_le 2 t) _ dir).0 in
+          let at : level (graph_with kinds entries) t ≡ Some k =
+          is_value-true _ k (bit-one _ _ (frontier.members t) (occurrences-at xs i d l)) in
+          below_no_frontier kinds entries k t x sane known two at reached;
+      once = one_place xs (λ x. omega (arith, frontier.members x, bit-le (is_value (level (graph_with kinds entries) x) k)));
+    }
+
+-- the places of a level in the queue
+pub other_place : (xs : List ℕ) (low a i : ℕ) {r : List Bool} {p : List ℕ} → AreUnread r p (drop low xs) → low ≤ a →
+    a < i → i < length xs → number_at xs a ≢ number_at xs i
+other_place xs low a i unread from less inside =
+    let there : (n : ℕ) → low ≤ n → get_or (drop low xs) (n - low) 0 ≡ number_at xs n = λ n l.
+    let one : low + (n - low) ≡ n = omega arith in get_or-drop low xs (n - low) 0 ∙ ap (number_at xs) one in
+    let differ = unread.once (a - low) (i - low) 0 (omega arith) (omega (arith, length-drop low xs)) in
+    rw (there a from, there i (omega arith)) at differ
+
+-- what holds at each place of a level holds of all its directories
+pub all_places : (P : ℕ → Type 0) (low : ℕ) (xs : List ℕ) →
+    ((i : ℕ) → low ≤ i → i < length xs → P (number_at xs i)) → All P (drop low xs)
+all_places P low xs each i d l =
+    let inside : low + i < length xs = omega (arith, length-drop low xs, l) in
+    let is : get_or (drop low xs) i d ≡ number_at xs (low + i) =
+    get_or-drop low xs i d ∙ get_or_default xs (low + i) d 0 inside in
+    subst P (sym is) (each (low + i) (omega arith) inside)
+
+-- ---- the directories of a level are read, one after another
+-- those before `at` are, and those from there on aren't
+pub record IsReadTo (kinds : List ℕ) (m r : List Bool) (p : List ℕ) (entries : ℕ → List RoledEntry)
+    (right_shape : ℕ → Bool) (f : List Bool) (level : List ℕ) (low at : ℕ) : Type 0 where
+  pub done : (i : ℕ) → low ≤ i → i < at →
+      IsReadOnce kinds m r p (entries (number_at level i)) (right_shape (number_at level i)) f (number_at level i)
+  pub unread : (i : ℕ) → at ≤ i → i < length level → IsUnread r p (number_at level i)
+
+pub level_read : {kinds : List ℕ} {m r r' : List Bool} {p p' : List ℕ} {f : List Bool} (entries : ℕ → List RoledEntry)
+    (right_shape : ℕ → Bool) (level : List ℕ) (low at : ℕ) → length level ≤ at → (AreUnread r p (drop low level) →
+    IsReadTo kinds m r' p' entries right_shape f level low at) → AreUnread r p (drop low level) →
+    All (λ d. IsReadOnce kinds m r' p' (entries d) (right_shape d) f d) (drop low level)
+level_read {kinds = kinds} {m = m} {r' = r'} {p' = p'} {f = f} entries right_shape level low at end read unread =
+    all_places (λ d. IsReadOnce kinds m r' p' (entries d) (right_shape d) f d) low level
+    (λ i from inside. (read unread).done i from (omega arith))
+
+pub read_from : {kinds : List ℕ} {m r : List Bool} {p : List ℕ} {entries : ℕ → List RoledEntry}
+    {right_shape : ℕ → Bool} {f : List Bool} (level : List ℕ) (low : ℕ) → AreUnread r p (drop low level) →
+    IsReadTo kinds m r p entries right_shape f level low low
+read_from {r = r} {p = p} level low unread = record {
+  done = λ i from before. absurd (omega arith);
+  unread = λ i from inside. at_place (IsUnread r p) low i level unread.each from inside;
+}
+
+pub read_next : {r r' : List Bool} {p p' q q' : List ℕ} (kinds : List ℕ) (m f f' : List Bool)
+    (entries : ℕ → List RoledEntry) (right_shape : ℕ → Bool) (level : List ℕ) (low at : ℕ) → low ≤ at →
+    at < length level → ((i : ℕ) → at < i → i < length level → number_at level at ≢ number_at level i) →
+    SameResult (from_entries kinds (number_at level at) (entries (number_at level at))) r p q nothing r' p' q' →
+    bool_at r (number_at level at) ≡ true →
+    IsFlagged (number_at level at) (all_calm kinds m r p (number_at level at) (entries (number_at level at)))
+    (right_shape (number_at level at)) f f' → number_at level at < length f →
+    IsReadTo kinds m r p entries right_shape f level low at →
+    IsReadTo kinds m r' p' entries right_shape f' level low (at + 1)
+read_next {r = r} {r' = r'} {p = p} {p' = p'} kinds m f f' entries right_shape level low at from inside others c h flags
+    long read =
+    let d = number_at level at in
+    let grow = flags_grow d (all_calm kinds m r p d (entries d)) (right_shape d) f f' flags in
+    record {
+      done = λ i l b. elim (cases_lt i at) [
+        | inl before ↦ read_once_stays (same_result_stays c) grow (read.done i l before)
+        | inr after ↦
+            let here : at ≡ i = omega arith in
+            subst (λ z. IsReadOnce kinds m r' p' (entries (number_at level z)) (right_shape (number_at level z)) f'
+            (number_at level z)) here
+            (read_once m d (entries d) f f' c h flags long (read.unread at (omega arith) inside))
+      ];
+      unread = λ i l b. unread_next kinds (entries d) c (others i (omega arith) b)
+          (read.unread i (omega arith) b);
+    }
+
+-- ---- all levels
+-- the directories of a queue before `low` are read, and then those up to `high`
+pub read_on_queue : {kinds : List ℕ} {m r r' : List Bool} {p p' : List ℕ} {f f' : List Bool}
+    (entries : ℕ → List RoledEntry) (right_shape : ℕ → Bool) (low high : ℕ) (q q' : List ℕ) → low ≤ high → high ≤ length q →
+    take high q' ≡ take high q → Stays r p r' p' → ((x : ℕ) → bool_at f x ≡ true → bool_at f' x ≡ true) →
+    ((i : ℕ) → i < low → IsReadOnce kinds m r p (entries (number_at q i)) (right_shape (number_at q i)) f
+    (number_at q i)) →
+    All (λ d. IsReadOnce kinds m r' p' (entries d) (right_shape d) f' d) (drop low (take high q)) →
+    (i : ℕ) → i < high → IsReadOnce kinds m r' p' (entries (number_at q' i)) (right_shape (number_at q' i)) f'
+    (number_at q' i)
+read_on_queue {kinds = kinds} {m = m} {r' = r'} {p' = p'} {f' = f'} entries right_shape low high q q' ordered inside kept
+    stays more before now i l =
+    let level_is : number_at (take high q) i ≡ number_at q' i =
+    ap (λ xs. number_at xs i) (sym kept) ∙ get_or-take high q' i 0 l in
+    let old_is : number_at (take high q) i ≡ number_at q i = get_or-take high q i 0 l in
+    let P : ℕ → Type 0 = λ d. IsReadOnce kinds m r' p' (entries d) (right_shape d) f' d in
+    elim (cases_lt i low) [
+      | inl b ↦ subst P (sym old_is ∙ level_is) (read_once_stays stays more (before i b))
+      | inr a ↦ subst P level_is
+          (at_place P low i (take high q) now a (omega (arith, length-take high q, l, inside)))
+    ]
+
+-- each reached directory is in the queue
+pub read_each : {kinds : List ℕ} {m r : List Bool} {p : List ℕ} {f : List Bool} (entries : ℕ → List RoledEntry)
+    (right_shape : ℕ → Bool) (high : ℕ) (q : List ℕ) →
+    ((x : ℕ) → occurrences x (take high q) ≡ bit (bool_at r x)) →
+    ((i : ℕ) → i < high → IsReadOnce kinds m r p (entries (number_at q i)) (right_shape (number_at q i)) f
+    (number_at q i)) → (d : ℕ) → bool_at r d ≡ true → IsReadOnce kinds m r p (entries d) (right_shape d) f d
+read_each {kinds = kinds} {m = m} {r = r} {p = p} {f = f} entries right_shape high q queued read d reached =
+    let some : 1 ≤ occurrences d (take high q) = omega (arith, queued d, ap bit reached) in
+    let at = occurrences-index d (take high q) some in
+    let inside = at.1 in
+    let below : at.0 < high = omega (arith, length-take high q, inside) in
+    let is : number_at q at.0 ≡ d = sym (get_or-take high q at.0 0 below) ∙ at.2 in
+    subst (λ z. IsReadOnce kinds m r p (entries z) (right_shape z) f z) is (read at.0 below)
+
+-- where inode 2 is no directory, no directory is reached
+pub root_alone_reached : (r : List Bool) (kinds : List ℕ) (d : ℕ) → ((x : ℕ) → bool_at r x ≡ false) →
+    dir_at kinds 2 ≡ false → dir_at kinds d ≡ true → bool_at (set r 2 true) d ≡ true → ⊥
+root_alone_reached r kinds d none dry dir reached = let old = none d in grind (arith, set_tests)
