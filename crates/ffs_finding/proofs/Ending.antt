@@ -9,7 +9,8 @@ use Rattle.ffs_layout.specs.Super.{ReadsSuper}
 use Rattle.ffs_finding.specs.declared.{request.{Search.Search, Command.{Command, TheVariants.{Copies, InVolume}}}}
 use Rattle.ffs_finding.specs.declared.find.FindFault.{FindFault, TheVariants.{Refused, Run, NoMemory}}
 use Rattle.ffs_finding.specs.Outcome.{PrintedTo, PrintedSome, StoppedIn}
-use Rattle.ffs_finding.specs.Whole.{Answers, EndsBy, EndsByLine, FindEnds, IsPrintedOrBrokeOff, IsRefusal, command_lines}
+use Rattle.ffs_check.specs.Run.{IsPrintedOrBrokeOff}
+use Rattle.ffs_finding.specs.Whole.{Answers, EndsBy, EndsByLine, FindEnds, IsRefusal, command_lines}
 use Rattle.ffs_finding.specs.Whole.{lines_by, search_lines, status_by}
 use Rattle.ffs_finding.proofs.Printing.{one, one_broken, prints_all, stops_all, reads_first}
 
