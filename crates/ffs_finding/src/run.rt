@@ -26,10 +26,7 @@ impl Program for Find {
 
     ghost meaning = { ffs_find };
 
-    fn request_of<'a>(
-        alloc: Global,
-        words: &'a [&'a str],
-    ) -> Result<Asked<'a, Command>, NotAsked> {
+    fn request_of<'a>(alloc: Global, words: &'a [&'a str]) -> Result<Asked<'a, Command>, NotAsked> {
         match operands_of(alloc, words) {
             Ok(operands) => match request_of(&operands) {
                 Some(asked) => Ok(asked),
