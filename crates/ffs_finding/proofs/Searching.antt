@@ -60,14 +60,6 @@ takes Lost sector s d held held' accepted p =
 takes (Owner fragment) sector s d held held' accepted p =
     inr (record { found = s; accepted = accepted; asked = p; within = held_within s.layout })
 
--- nothing was taken
-pub takes_none : (search : Search) (sector : Option ℕ) (d : Device) (held : Account) →
-    TakesMemory (InVolume sector search) d held held
-takes_none (Inode number) sector d held = refl
-takes_none Fields sector d held = refl
-takes_none Lost sector d held = inl refl
-takes_none (Owner fragment) sector d held = inl refl
-
 -- a search was made after the superblock was read
 pub looked : (search : Search) (sector : Option ℕ) (s : Superblock) (d d' : Device) (held held' : Account)
     (before between after : ℕ) (a b : Sink) (r : Result Bool FindFault) →
