@@ -69,8 +69,8 @@ pub record HasMatches (app : App) (words : List Text) (matches : ArgMatches) : T
   pub rows : rows_of (found_of matches) ≡ matches_of app words
 
 -- the word of a name, and an empty one where it isn't there
-abbrev pub word_of : App → (id : Text) → List Text → Text
-word_of app id words = unwrap_or (first_of id (matches_of app words)) []
+abbrev pub named_word : App → (id : Text) → List Text → Text
+named_word app id words = unwrap_or (first_of id (matches_of app words)) []
 
 -- the sector is the number that a text writes, and none where there is no text
 abbrev pub IsSector : Option Text → Option ℕ → Type 0
@@ -86,5 +86,5 @@ NameSector app words = IsSector (one_of (codes "sector") (matches_of app words))
 -- what the words of `fsck_ffs` ask for: this image, and this sector of its superblock
 pub record AskFor (words : List Text) (name : Text) (sector : Option ℕ) : Type 0 where
   pub taken : refusals program words ≡ []
-  pub image : name ≡ word_of program (codes "image") words
+  pub image : name ≡ named_word program (codes "image") words
   pub place : NameSector program words sector

@@ -104,12 +104,6 @@ part_fault T E knows rest this rest' all a b c (Out fault) p e q = record {
       (broke_off_after a b c (concat p.lines) (concat q.lines) p.took q.broke_off);
 }
 
--- a fault by itself, of another kind of answer
-pub same_fault : (T E : Type 0) (knows : List ℕ → Type 0) (all : List ℕ → List (List ℕ)) (a b : Sink) (fault : RunFault)
-    → PrintsLines {T = T} knows all a b (Err fault) → PrintsLines {T = E} knows all a b (Err fault)
-same_fault T E knows all a b (Read fault) p = p
-same_fault T E knows all a b (Out fault) p = p
-
 -- nothing is to come
 pub printed_all : (knows : List ℕ → Type 0) (rest all : List ℕ → List (List ℕ)) (a b : Sink) → PrintedTo knows rest all a b
     → ForBytes knows (λ bytes. rest bytes ≡ []) → PrintedTo knows (λ bytes. []) all a b

@@ -3,7 +3,7 @@ use Rattle.std.specs.Prelude.{◌≡◌, ◌<◌, ◌^◌, ℕ, List, [], Option
 use Rattle.std.specs.Str.Parse.{IsNumeral, digits_value, without_leading_plus}
 use Rattle.clap.specs.Words.{App, Rule, Text, first_of, matches_of, new_rule, with_rule}
 use Rattle.clap.specs.declared.builder.ArgAction.TheVariants.{Set}
-use Rattle.ffs_check.specs.CommandWords.{NameSector, needed_rule, no_write_rule, refusals, sector_rule, word_of, wordless}
+use Rattle.ffs_check.specs.CommandWords.{NameSector, needed_rule, no_write_rule, refusals, sector_rule, named_word, wordless}
 use Rattle.ffs_finding.specs.declared.request.{Search.{Search, TheVariants.{Inode, Fields, Lost, Owner}}, Command.Command}
 use Rattle.ffs_finding.specs.declared.request.Command.TheVariants.{Copies, InVolume}
 
@@ -27,8 +27,8 @@ pub record Operands : Type 0 where
 -- the words have these operands
 pub record HaveOperands (words : List Text) (o : Operands) : Type 0 where
   pub taken : refusals find_program words ≡ []
-  pub command : o.command ≡ word_of find_program (codes "command") words
-  pub first : o.first ≡ word_of find_program (codes "number") words
+  pub command : o.command ≡ named_word find_program (codes "command") words
+  pub first : o.first ≡ named_word find_program (codes "number") words
   pub second : o.second ≡ first_of (codes "image") (matches_of find_program words)
   pub sector : NameSector find_program words o.sector
 
