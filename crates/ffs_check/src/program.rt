@@ -53,6 +53,8 @@ pub trait Program {
         asked: &Asked<'_, Self::Request>,
         out: &mut W,
     ) -> u8
+        // It prints and ends as the program promises, and the output holds the reference that it
+        // held.
         ensures looks { meaning.looks asked.now.name.now asked.now.request (I.device image.old)
             (I.device image.new) (I.reads image.old) (I.reads image.new) (W.sink out.old)
             (W.sink out.new) result }
