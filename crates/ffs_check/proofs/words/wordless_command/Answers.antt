@@ -1,4 +1,4 @@
-use Rattle.std.proofs.Common.{◌≡◌, ap, true}
+use Rattle.std.proofs.Common.{ap, true}
 use Rattle.clap.specs.Words.{App}
 use Rattle.ffs_check.proofs.words.wordless_command.Goals as goal
 
