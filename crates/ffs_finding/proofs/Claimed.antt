@@ -1,15 +1,15 @@
 -- A fragment is claimed just where an inode keeps an offer of it.
-use Rattle.std.proofs.Common.{◌≡◌, ◌≢◌, ◌∙◌, ℕ, zero, suc, ◌+◌, ◌*◌, ◌-◌, ◌<◌, ◌≤◌, ◌==◌, Bool, true, false, ◌||◌, ◌&&◌, List, [], ◌∷◌, ◌++◌}
-use Rattle.std.proofs.Common.{length, length-set, map, arith, refl, ap, sym, inl, inr, Option, nat_lt, if◌then◌else◌, slice_index_or, slice_set}
+use Rattle.std.proofs.Common.{◌≡◌, ◌≢◌, ◌∙◌, ℕ, zero, suc, ◌+◌, ◌*◌, ◌-◌, ◌<◌, ◌≤◌, ◌==◌, Bool, true, false, ◌||◌, List, [], ◌∷◌, ◌++◌}
+use Rattle.std.proofs.Common.{length, length-set, arith, refl, sym, inl, inr, nat_lt, if◌then◌else◌, slice_set}
 use Rattle.std.proofs.lemmas.{Bool.{cases_Bool, cases_eq, Decides.nat_tests}, List.{get_or-set_other, get_or-set_same}}
-use Rattle.std.proofs.lemmas.List.{Folds.list_any-append, FromFn.{get_or-map-range_with_len, length-map-range_with_len}}
-use Rattle.std.specs.{List.{flat_map, list_any, range_with_len}, Int.div_ceil}
-use Rattle.ffs_volume.proofs.{OwnerLaws.before_next, Potentials.{in_range_below, offers_keep}, CutLaws.before_length}
+use Rattle.std.proofs.lemmas.List.{Folds.list_any-append, FromFn.{get_or-map-range_with_len}}
+use Rattle.std.specs.{List.{flat_map, list_any, range_with_len}}
+use Rattle.ffs_volume.proofs.{OwnerLaws.before_next, Potentials.{in_range_below}, CutLaws.before_length}
 use Rattle.ffs_volume.specs.Blocks.Claims.{Claims, no_claims, reserved_map, at_next_inode, is_open, is_set, after_offer}
-use Rattle.ffs_volume.specs.Blocks.Claims.{after_offers, after_run, after_step, after_steps, after_owner, after_owners}
-use Rattle.ffs_volume.specs.Blocks.{Inodes.inode_of, KeptOffers.{Offer, offer_of, kept_in_offers, kept_in_run, kept_in_step}}
-use Rattle.ffs_volume.specs.Blocks.{KeptSteps.claims_before, Owners.{inode_numbers, owner_of, owners_of}, Steps.steps_of}
-use Rattle.ffs_volume.specs.Disk.Areas.{is_fragment_in_range, is_group_metadata, is_reserved, is_run_in_range}
+use Rattle.ffs_volume.specs.Blocks.Claims.{after_offers, after_run, after_step, after_steps}
+use Rattle.ffs_volume.specs.Blocks.{Inodes.inode_of, KeptOffers.{Offer, offer_of, kept_in_offers, kept_in_run}}
+use Rattle.ffs_volume.specs.Blocks.{KeptSteps.claims_before, Owners.{owner_of, owners_of}, Steps.steps_of}
+use Rattle.ffs_volume.specs.Disk.Areas.{is_fragment_in_range, is_reserved, is_run_in_range}
 use Rattle.ffs_volume.specs.{Laws.Geometry.IsAcceptedLayout, declared.{Layout.Layout, Step.{Step, TheVariants.{Run, Tail, Gap}}}}
 use Rattle.ffs_workspace.specs.Holds.{all_claims}
 use Rattle.ffs_volume.specs.Find.Owner.{indirect_in, keeper_lines, keeper_text, keeps_in_step, keeper_lines_of_inode, keeper_lines_of_step, keeper_lines_of_steps}

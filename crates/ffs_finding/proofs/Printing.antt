@@ -1,10 +1,9 @@
 -- How lines are printed, one after another.
 use Rattle.std.proofs.Common.{◌≡◌, refl, ◌∙◌, sym, ℕ, List, [], ◌∷◌, ◌++◌, append_assoc, append-nil, Result, Ok, Err, arith}
-use Rattle.std.proofs.lemmas.List.Concat.{flat_map-append}
 use Rattle.std.specs.List.{concat}
 use Rattle.ffs_report.specs.{Known.ForBytes, Sink.{Sink, Took, BrokeOff}, declared.fault.RunFault.RunFault}
 use Rattle.ffs_report.specs.declared.fault.RunFault.TheVariants.{Read, Out}
-use Rattle.ffs_report.proofs.Sinks.{took_nil, took_then, broke_off_after, broke_off_more}
+use Rattle.ffs_report.proofs.Sinks.{took_nil, took_then, broke_off_after}
 use Rattle.ffs_finding.specs.Outcome.{PrintedTo, PrintedSome, StoppedIn, PrintsLines}
 
 -- the bytes of lines and of others after them

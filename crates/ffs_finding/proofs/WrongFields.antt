@@ -1,6 +1,6 @@
 -- The lines of wrong fields, and whether there is one.
-use Rattle.std.proofs.Common.{◌≡◌, ℕ, Bool, true, false, not, List, [], ◌∷◌, ◌++◌, append-nil, arith, refl, ap, ◌∙◌, map, ◌||◌}
-use Rattle.std.specs.{List.{concat, flat_map, list_any}, Prelude.if◌then◌else◌}
+use Rattle.std.proofs.Common.{◌≡◌, ℕ, List, [], ◌∷◌, ◌++◌, append-nil, arith, refl, ◌∙◌, map, ◌||◌}
+use Rattle.std.specs.{List.{concat, flat_map, list_any}}
 use Rattle.ffs_finding.specs.Fields.{any_line, field_of, is_wrong, text_of_wrong}
 use Rattle.ffs_volume.specs.Find.Fields as book
 use Rattle.ffs_finding.specs.declared.fields.Field.{Field}

@@ -6,7 +6,7 @@ use Rattle.ffs_volume.specs.Disk.{Superblock.Superblock, Outcome.outcome}
 use Rattle.ffs_volume.specs.{Messages.{Kinds.{cannot_read, cannot_alloc}, Texts.text_of}, Report.Opening.fault_line}
 use Rattle.ffs_volume.specs.Report.Reads.{opening_reads, scan_reads, sweep_reads}
 use Rattle.ffs_report.specs.{Known.{ForBytes, IsContents}, Sink.Sink}
-use Rattle.ffs_report.specs.declared.fault.RunFault.{RunFault, TheVariants.{Read, Out}}
+use Rattle.ffs_report.specs.declared.fault.RunFault.{TheVariants.{Read, Out}}
 use Rattle.ffs_memory.specs.Account.{Account, RefusedOneMore}
 use Rattle.ffs_check.specs.{Run.IsPrintedOrBrokeOff, Taken.{AsksMemory, Takes}}
 use Rattle.ffs_workspace.specs.Lengths.{held_of}

@@ -1,7 +1,7 @@
-use Rattle.std.proofs.Common.{◌≡◌, ◌∙◌, ℕ, ◌+◌, ◌≤◌, ◌++◌, List, [], replicate, true, arith, refl, sym, ap}
+use Rattle.std.proofs.Common.{◌≡◌, ◌∙◌, ◌+◌, ◌++◌, [], replicate, true, arith, refl, sym, ap}
 use Rattle.std.proofs.lemmas.{Bool.Decides.nat_tests, Result.err_from_is_err_and}
 use Rattle.ffs_volume.specs.Encodings.{Replay.{fresh_replay, is_replay_open}, ReplayCounts.{replay_step_by_cut, replayed_runs}}
-use Rattle.ffs_volume.specs.{Blocks.Steps.steps_of, declared.Step.TheVariants.Gap}
+use Rattle.ffs_volume.specs.{declared.Step.TheVariants.Gap}
 use Rattle.ffs_volume.proofs.ReplayLaws.{gaps_seen}
 use Rattle.ffs_report.{proofs.Sinks.took_nil, specs.Known.{ForBytes, IsContents}}
 use Rattle.ffs_walk.{proofs.Counted.{top_held, top_unread}, specs.{Keepings.replay_in, Rests.steps_left}}

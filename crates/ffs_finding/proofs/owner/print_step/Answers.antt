@@ -1,4 +1,4 @@
-use Rattle.std.proofs.Common.{◌≡◌, ℕ, true, List, [], ◌∷◌, Option, arith, refl, sym, inl, inr, append-nil}
+use Rattle.std.proofs.Common.{◌≡◌, ℕ, true, Option, refl, sym, inl, inr, append-nil}
 use Rattle.std.{proofs.lemmas.Bool.cases_Bool, specs.List.concat}
 use Rattle.ffs_volume.specs.{Encodings.Replay.{Replay, is_replay_open}, declared.{Layout.Layout, Step.TheVariants.Run}}
 use Rattle.ffs_walk.specs.Keepings.{run_taken}

@@ -1,4 +1,4 @@
-use Rattle.std.proofs.Common.{◌≡◌, ◌∙◌, ℕ, List, Some, None, Option, sym, ap, arith, codes, option_map}
+use Rattle.std.proofs.Common.{◌≡◌, ◌∙◌, ℕ, List, Some, None, sym, ap, arith, option_map}
 use Rattle.ffs_finding.specs.declared.request.{Command.{Command, TheVariants.{Copies, InVolume}}, Search.{Search, TheVariants.{Inode, Fields, Lost, Owner}}}
 use Rattle.ffs_finding.specs.{CommandWords.{IsNumber, Operands, OperandsAskFor}, Operands.{IsSearch, operands_in}}
 use Rattle.ffs_finding.proofs.words.request_of.Goals as goal
