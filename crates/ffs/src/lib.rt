@@ -28,8 +28,8 @@
 //! let root = phase2(geometry, &mut image, &mut workspace, &mut report)?;
 //! ```
 //!
-//! The program itself calls `run` alone. `check_rest`, `path_of`, `Chunks` with `runs`, and the
-//! fields of a `Geometry` by their names are there for callers of the library.
+//! `run` is what the program runs. `check_rest`, `path_of`, `Chunks` with `runs`, and the fields of a
+//! `Geometry` by their names exist for callers of the library.
 #![tactic(auto)]
 
 // Images: bytes at a place, or a fault with its sector.

@@ -1,11 +1,14 @@
 -- What the matches of the words say of the image and of the sector.
-use Rattle.std.proofs.Common.{arith, ◌≡◌, ◌∙◌, ◌++◌, ◌∷◌, [], ℕ, List, Option, Some, None, Ok, Result, refl, ap, true}
+use Rattle.std.proofs.Common.{arith, ◌≡◌, ◌∙◌, ◌++◌, ◌∷◌, [], ℕ, List, Option, Some, None, Ok, Err, Result, refl, ap, true}
+use Rattle.std.proofs.Common.{subst, sym, IfOk, MatchResult}
 use Rattle.std.{proofs.{Common.option_map, lemmas.List.map-append}, specs.{Prelude.unwrap_or, Borrow.Bor}}
 use Rattle.std.specs.Str.Parse.{ParsesUnsigned}
-use Rattle.clap.specs.Words.{AddsShortAliases, ReadsOne, is_simple, is_simple_and_free}
+use Rattle.clap.specs.Words.{AddsShortAliases, App, FailsBy, HasKind, HasMatchesOf, ReadsOne, Text, fault_of, is_simple}
+use Rattle.clap.specs.Words.{is_simple_and_free, matches_of}
+use Rattle.clap.specs.declared.{error.Error.Error, parser.matches.ArgMatches.ArgMatches}
 use Rattle.clap.specs.{Words.rule_of, declared.builder.{arg.Arg.Arg, value_parser.ValueParser.ValueParser}}
 use Rattle.clap.proofs.OnLiterals.{clap_on_literals}
-use Rattle.ffs_check.specs.CommandWords.{IsSector, program}
+use Rattle.ffs_check.specs.CommandWords.{AreRefusedBy, HasMatches, IsSector, LacksMemory, program}
 
 pub simple : is_simple program ≡ true
 unfolding clap_on_literals
@@ -14,6 +17,20 @@ simple = refl
 pub free : is_simple_and_free program ≡ true
 unfolding clap_on_literals
 free = refl
+
+-- what `clap` answers of a program whose words are simple ones
+pub answered : (a app : App) (words : List Text) (r : Result ArgMatches Error) → a ≡ app → is_simple app ≡ true →
+    is_simple_and_free app ≡ true → (is_simple_and_free a ≡ true → FailsBy (fault_of a words) r) →
+    IfOk r (HasMatchesOf a words) → MatchResult r (HasMatches app words) (AreRefusedBy app words)
+unfolding LacksMemory
+answered a app words (Ok m) is plain unbound kinds matches = record {
+  taken = ap (λ (x : App). fault_of x words) (sym is) ∙ kinds (ap is_simple_and_free is ∙ unbound);
+  rows = (matches (ap is_simple is ∙ plain)).0 ∙ ap (λ (x : App). matches_of x words) is;
+}
+answered a app words (Err e) is plain unbound kinds matches = record {
+  cause = subst (λ (x : App). HasKind (fault_of x words) e) is (kinds (ap is_simple_and_free is ∙ unbound));
+  memory = λ asked. tt;
+}
 
 -- the text of a word that is there, and of an empty one where none is
 pub text_or : (found : Option (Bor (List ℕ))) (other word : Bor (List ℕ)) → word ≡ unwrap_or found other →

@@ -1,6 +1,6 @@
 -- What a text leaves of the writer that it was written to.
-use Rattle.std.proofs.Common.{◌≡◌, ◌++◌, ℕ, List, [], Option, Result, Ok, Err, append-nil, inl, inr, sym, refl, OnErr}
-use Rattle.std.specs.{Io.KnownBytes.Appends, declared.io.Error.Error}
+use Rattle.std.proofs.Common.{◌≡◌, ℕ, List, [], Option, Result, Ok, Err, append-nil, inl, inr, sym, refl, OnErr}
+use Rattle.std.specs.{declared.io.Error.Error}
 use Rattle.ffs_report.specs.{Outlet.WriteFailed, Sink.{Prints, PutRefused}, Writers.{PutsOnce, counted_sink}}
 use Rattle.ffs_report.specs.declared.{counted.Counted.Counted, outlet.Outlet.Ghosts, output.OutFault.OutFault}
 use Rattle.ffs_check.specs.Refusals.{IsWritten}

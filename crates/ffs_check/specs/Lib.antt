@@ -2,9 +2,11 @@ pub mod AnyReads
 pub mod CommandWords
 pub mod Ends
 pub mod Failures
+pub mod Fsck
 pub mod Headline
 pub mod Opening
 pub mod PhaseEnds
+pub mod Program
 pub mod ReadsWithin
 pub mod Refusals
 pub mod Rest

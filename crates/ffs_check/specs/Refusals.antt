@@ -1,9 +1,13 @@
--- What is written to standard error where no check is run, by what `clap` answered of the words.
+-- What is written to standard error where a program looks at no image, by what `clap` answered of the words.
 use Rattle.std.specs.Prelude.{◌≡◌, ◌⊎◌, ◌∷◌, ◌++◌, ℕ, List, [], Option, Result}
 use Rattle.std.specs.{Io.KnownBytes.Appends, declared.io.Error.Error}
 use Rattle.clap.specs.declared.error.kind.ErrorKind.{ErrorKind}
 use Rattle.clap.specs.declared.error.kind.ErrorKind.TheVariants as kind
 use Rattle.ffs_report.specs.Outlet.{WriteFailed}
+use Rattle.clap.specs.Words.{App, IsAmong, Text}
+use Rattle.ffs_check.specs.{CommandWords.refusals, Program.Meaning}
+use Rattle.ffs_check.specs.declared.program.NotAsked.{NotAsked, TheVariants.{Refused, NoMemory}}
+use Rattle.ffs_check.specs.declared.refusal.Refusal.{Refusal}
 use Rattle.ffs_check.specs.declared.version.TheConstants.{VERSION}
 use Rattle.ffs_check.specs.declared.wrong_words.TheConstants.{HELP, NAME, NEEDED, NO_SECTOR, OTHER_MISTAKE, SECTOR_RANGE}
 use Rattle.ffs_check.specs.declared.wrong_words.TheConstants.{TWO_SECTORS, UNKNOWN, USAGE}
@@ -20,14 +24,33 @@ first_text kind.UnknownArgument = UNKNOWN.now
 first_text _ = OTHER_MISTAKE.now
 
 -- what follows that: the version, or the usage where something is wrong
-abbrev pub second_text : ErrorKind → List ℕ
-second_text kind.DisplayHelp = []
-second_text kind.DisplayVersion = VERSION.now
-second_text _ = USAGE.now
+abbrev pub second_text : (usage : List ℕ) → ErrorKind → List ℕ
+second_text usage kind.DisplayHelp = []
+second_text usage kind.DisplayVersion = VERSION.now
+second_text usage _ = usage
 
--- the text of status 2, with the end of its last line
+-- both, with the end of the last line
+abbrev pub text_of_both : (first second : List ℕ) → List ℕ
+text_of_both first second = (first ++ second) ++ (10 ∷ [])
+
+-- the text of status 2
 abbrev pub refusal_text : ErrorKind → List ℕ
-refusal_text kind = (first_text kind ++ second_text kind) ++ (10 ∷ [])
+refusal_text kind = text_of_both (first_text kind) (second_text USAGE.now kind)
+
+-- the text of a refusal
+abbrev pub text_refused : Refusal → List ℕ
+text_refused refusal = text_of_both refusal.first.now refusal.second.now
+
+-- why words ask a program for nothing
+abbrev pub IsNotAsked : {R : Type 0} → Meaning R → List (List ℕ) → NotAsked → Type 0
+IsNotAsked program words (Refused refusal) = program.refuses words (text_refused refusal)
+IsNotAsked program words NoMemory = program.lacks_memory words
+
+-- a text is that for a kind of mistake that `clap` states of a program's words
+pub record IsTextFor (app : App) (text_for : ErrorKind → List ℕ) (words : List Text) (text : List ℕ) : Type 0 where
+  pub kind : ErrorKind
+  pub answered : IsAmong kind (refusals app words)
+  pub text_is : text ≡ text_for kind
 
 -- a text was written to a writer, or a prefix of it, where a write failed
 pub record IsWritten {E : Type 0} (contents : E → Option (List ℕ))

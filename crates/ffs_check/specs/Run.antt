@@ -1,14 +1,11 @@
--- What a run of the program prints, and its exit status, by the words after the program's name: 2
--- where the words are refused, 8 where no check ran to its end, else that of the check.
+-- What a run of a program prints, and its exit status, by the words after the program's name: 2
+-- where the words are refused, 8 where the image isn't opened or memory lacked, else that of its look.
 use Rattle.std.specs.{Io.KnownBytes.Keeps, Prelude.{◌≡◌, ◌⊎◌, ℕ, List, [], ◌∷◌, ◌++◌, Option, Result, MatchResult}}
 use Rattle.std.specs.{Prelude.codes, declared.io.Error.Error}
-use Rattle.clap.specs.{Words.IsAmong, declared.error.kind.ErrorKind.ErrorKind}
 use Rattle.ffs_image.specs.Device.{Device}
-use Rattle.ffs_volume.specs.{declared.End.End, Messages.{Kinds.cannot_alloc, Texts.text_of}, Report.Whole.status_of}
+use Rattle.ffs_volume.specs.Messages.{Kinds.cannot_alloc, Texts.text_of}
 use Rattle.ffs_report.specs.{Outlet.IsCaused, Sink.{BrokeOff, Sink, Took}}
-use Rattle.ffs_check.specs.{AnyReads.CheckReads, Headline.Headline, Refusals.refusal_text}
-use Rattle.ffs_check.specs.Taken.{TakesOfSystem}
-use Rattle.ffs_check.specs.CommandWords.{AskFor, LacksMemory, refusals}
+use Rattle.ffs_check.specs.Program.{Meaning}
 
 -- the line where the image can't be opened
 abbrev pub unopened_text : List ℕ → List ℕ
@@ -18,17 +15,13 @@ unopened_text name = codes "Can't open " ++ (name ++ (10 ∷ []))
 abbrev pub IsPrintedOrBrokeOff : Sink → Sink → List ℕ → Type 0
 IsPrintedOrBrokeOff out out' text = Took out out' text ⊎ BrokeOff out out' text
 
--- an image was opened under a name and checked, and the status is that of its end
-pub record IsChecked (I : Type 0) (device : I → Device) (reads : I → ℕ) (opens : List ℕ → I → Type 0)
-    (name : List ℕ) (sector : Option ℕ) (out out' : Sink) (status : ℕ) : Type 0 where
+-- an image was opened under a name, and the program looked at it for what was asked
+pub record IsOpenedAndSeen {R : Type 0} (program : Meaning R) (I : Type 0) (device : I → Device) (reads : I → ℕ)
+    (opens : List ℕ → I → Type 0) (name : List ℕ) (request : R) (out out' : Sink) (status : ℕ) : Type 0 where
   pub image : I
   pub image' : I
   pub opened : opens name image
-  pub end : End
-  pub headline : Headline (device image) (device image') name sector out out' end
-  pub memory : TakesOfSystem (device image) sector end
-  pub reads_within : CheckReads (device image) name sector out out' (reads image) (reads image')
-  pub status_is : status ≡ status_of end
+  pub seen : program.looks name request (device image) (device image') (reads image) (reads image') out out' status
 
 -- no image could be opened under a name, and that was printed
 pub record IsOpenFailure (refuses : List ℕ → Type 0) (name : List ℕ) (out out' : Sink) (status : ℕ) : Type 0 where
@@ -36,51 +29,53 @@ pub record IsOpenFailure (refuses : List ℕ → Type 0) (name : List ℕ) (out 
   pub printed : IsPrintedOrBrokeOff out out' (unopened_text name)
   pub status_is : status ≡ 8
 
--- the image of a name was checked, or couldn't be opened
-abbrev pub CheckedBy : {I : Type 0} → (I → Device) → (reads : I → ℕ) → (List ℕ → I → Type 0)
-    → (List ℕ → Type 0) → List ℕ → Option ℕ → Sink → Sink → ℕ → Type 0
-CheckedBy {I} device reads opens refuses name sector out out' status =
-    IsChecked I device reads opens name sector out out' status ⊎ IsOpenFailure refuses name out out' status
+-- the program looked at the image of a name, or that couldn't be opened
+abbrev pub LooksAtImageOf : {R I : Type 0} → Meaning R → (I → Device) → (reads : I → ℕ) → (List ℕ → I → Type 0)
+    → (List ℕ → Type 0) → List ℕ → R → Sink → Sink → ℕ → Type 0
+LooksAtImageOf {R} {I} program device reads opens refuses name request out out' status =
+    IsOpenedAndSeen program I device reads opens name request out out' status
+    ⊎ IsOpenFailure refuses name out out' status
 
--- the words ask for an image and a sector, and that image was checked at that sector, or couldn't be
--- opened. Nothing is opened beside it, and nothing goes to standard error
-pub record RunsAsAsked {I O E : Type 0} (device : I → Device) (reads : I → ℕ) (opens : O → List ℕ → I → O → Type 0)
-    (refuses : O → List ℕ → O → Type 0) (words : List (List ℕ)) (opener opener' : O) (errors errors' : E)
-    (out out' : Sink) (status : ℕ) : Type 0 where
+-- the words ask for something of the image of a name, and the program looked at that image, or it couldn't
+-- be opened. Nothing is opened beside it, and nothing goes to standard error
+pub record RunsAsAsked {R I O E : Type 0} (program : Meaning R) (device : I → Device) (reads : I → ℕ)
+    (opens : O → List ℕ → I → O → Type 0) (refuses : O → List ℕ → O → Type 0) (words : List (List ℕ))
+    (opener opener' : O) (errors errors' : E) (out out' : Sink) (status : ℕ) : Type 0 where
   pub name : List ℕ
-  pub sector : Option ℕ
-  pub asked : AskFor words name sector
-  pub checked : CheckedBy device reads (λ name image. opens opener name image opener') (λ name. refuses opener name opener')
-      name sector out out' status
+  pub request : R
+  pub asked : program.asks words name request
+  pub looked : LooksAtImageOf program device reads (λ name image. opens opener name image opener')
+      (λ name. refuses opener name opener') name request out out' status
   pub quiet : errors' ≡ errors
 
 -- the words are wrong, or ask for the help or the version, and the text for that goes to standard
 -- error, once. Nothing is printed to the output, and no image is opened
-pub record IsRefused {O E : Type 0} (writes : E → E → List ℕ → Type 0) (words : List (List ℕ)) (opener opener' : O)
-    (errors errors' : E) (out out' : Sink) (status : ℕ) : Type 0 where
-  pub kind : ErrorKind
-  pub answered : IsAmong kind (refusals words)
-  pub written : writes errors errors' (refusal_text kind)
+pub record IsRefused {R O E : Type 0} (program : Meaning R) (writes : E → E → List ℕ → Type 0) (words : List (List ℕ))
+    (opener opener' : O) (errors errors' : E) (out out' : Sink) (status : ℕ) : Type 0 where
+  pub text : List ℕ
+  pub refused : program.refuses words text
+  pub written : writes errors errors' text
   pub unprinted : out' ≡ out
   pub unopened : opener' ≡ opener
   pub status_is : status ≡ 2
 
 -- memory was refused while the words were read. No image is opened, and nothing goes to standard error
-pub record HadNoMemory {O E : Type 0} (words : List (List ℕ)) (opener opener' : O) (errors errors' : E)
-    (out out' : Sink) (status : ℕ) : Type 0 where
-  pub lacked : LacksMemory words
+pub record HadNoMemory {R O E : Type 0} (program : Meaning R) (words : List (List ℕ)) (opener opener' : O)
+    (errors errors' : E) (out out' : Sink) (status : ℕ) : Type 0 where
+  pub lacked : program.lacks_memory words
   pub printed : IsPrintedOrBrokeOff out out' (text_of cannot_alloc)
   pub unopened : opener' ≡ opener
   pub quiet : errors' ≡ errors
   pub status_is : status ≡ 8
 
--- how a run ends. Only where the words are refused something goes to standard error
-abbrev pub RunEnds : {I O E : Type 0} → (I → Device) → (reads : I → ℕ) → (O → List ℕ → I → O → Type 0)
-    → (O → List ℕ → O → Type 0) → (E → E → List ℕ → Type 0) → List (List ℕ) → O → O → E → E → Sink → Sink → ℕ → Type 0
-RunEnds device reads opens refuses writes words opener opener' errors errors' out out' status =
-    RunsAsAsked device reads opens refuses words opener opener' errors errors' out out' status
-    ⊎ (IsRefused writes words opener opener' errors errors' out out' status
-    ⊎ HadNoMemory words opener opener' errors errors' out out' status)
+-- how a run of a program ends. Only where the words are refused something goes to standard error
+abbrev pub RunEnds : {R I O E : Type 0} → Meaning R → (I → Device) → (reads : I → ℕ)
+    → (O → List ℕ → I → O → Type 0) → (O → List ℕ → O → Type 0) → (E → E → List ℕ → Type 0) → List (List ℕ)
+    → O → O → E → E → Sink → Sink → ℕ → Type 0
+RunEnds program device reads opens refuses writes words opener opener' errors errors' out out' status =
+    RunsAsAsked program device reads opens refuses words opener opener' errors errors' out out' status
+    ⊎ (IsRefused program writes words opener opener' errors errors' out out' status
+    ⊎ HadNoMemory program words opener opener' errors errors' out out' status)
 
 -- the words weren't refused, and the writer was flushed after the run: the status stays where the
 -- flush succeeded, and is 8 where it failed
@@ -104,10 +99,10 @@ abbrev pub FlushedAfter : {S : Type 0} → (S → Result (Unit {0}) Error → S 
 FlushedAfter was_flushed contents old new ran_status status =
     IsUnprinted old new ran_status status ⊎ IsFlushed was_flushed contents old new ran_status status
 
--- how a run ends whose writer is flushed after it: `out` and `out'` are the writer as an output, before
+-- how a run of a program ends whose writer is flushed after it: `out` and `out'` are the writer as an output, before
 -- the run and after it, and `between` is the writer before the flush. The output failed only where a
 -- write did
-pub record RunEndsFlushed {I O E S : Type 0} (device : I → Device) (reads : I → ℕ)
+pub record RunEndsFlushed {R I O E S : Type 0} (program : Meaning R) (device : I → Device) (reads : I → ℕ)
     (opens : O → List ℕ → I → O → Type 0) (refuses : O → List ℕ → O → Type 0) (writes : E → E → List ℕ → Type 0)
     (was_written : S → List ℕ → Result ℕ Error → S → Type 0) (was_flushed : S → Result (Unit {0}) Error → S → Type 0)
     (contents : S → Option (List ℕ)) (words : List (List ℕ)) (opener opener' : O) (errors errors' : E) (old new : S)
@@ -120,5 +115,5 @@ pub record RunEndsFlushed {I O E S : Type 0} (device : I → Device) (reads : I 
   pub after : out'.taken ≡ contents between
   pub caused : ∥ IsCaused was_written out'.failures ∥₁
   pub ran_status : ℕ
-  pub ran : RunEnds device reads opens refuses writes words opener opener' errors errors' out out' ran_status
+  pub ran : RunEnds program device reads opens refuses writes words opener opener' errors errors' out out' ran_status
   pub flushed : FlushedAfter was_flushed contents between new ran_status status

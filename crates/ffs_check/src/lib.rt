@@ -16,19 +16,26 @@
 //!
 //! - `check` is the whole check, and how it ends. `opening` says what comes before the phases, and
 //!   `rest` runs these one after another.
-//! - `run` goes from the words of a command line to a check of the image that they name: `args` is
-//!   what they may ask for, `parse_args` finds that by `clap`, and `opener` opens the image.
-//! - `wrong_words` says what is written where no check is run, `version` what the program is.
+//! - `run` goes from the words of a command line to a look at the image that they name, by any
+//!   `program`: `words` are those that programs have in common, `opener` opens the image, and
+//!   `refusal` writes why none is opened.
+//! - `fsck` is the program `fsck_ffs`: `args` is what its words may ask for, `parse_args` finds that
+//!   by `clap`, `wrong_words` has its texts where no check is run, and `version` what it is.
 //!
 //! It rests on all crates of phases, and on `clap` for the arguments.
 #![tactic(auto)]
 
 pub mod args;
 pub mod check;
+pub mod fsck;
 pub mod opener;
 pub mod opening;
 mod parse_args;
+pub mod program;
+pub mod refusal;
 pub mod rest;
 pub mod run;
+pub mod start;
 pub mod version;
+pub mod words;
 mod wrong_words;

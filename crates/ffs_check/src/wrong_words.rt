@@ -1,12 +1,9 @@
 //! What is written where no check is run: the help, the version, and what is wrong with the words.
-ghost use Rattle.std.specs.Prelude.{◌≡◌, ◌++◌, OnErr};
-ghost use Rattle.ffs_report.specs.Sink.{Prints, PutRefused};
-ghost use Rattle.ffs_check.specs.Refusals.{IsWritten, first_text, refusal_text, second_text};
+ghost use Rattle.std.specs.Prelude.{◌≡◌};
+ghost use Rattle.ffs_check.specs.Refusals.{first_text, refusal_text, text_refused};
 
-use crate::version::VERSION;
+use crate::refusal::{Refusal, second_text};
 use clap::error::ErrorKind;
-use ffs_report::print::print;
-use ffs_report::{Counted, OutFault, Outlet, Output};
 
 const USAGE: &[u8] = b"
 
@@ -62,41 +59,12 @@ fn first_text(kind: ErrorKind) -> &'static [u8]
     }
 }
 
-/// What follows that: the version, or the usage where something is wrong.
-fn second_text(kind: ErrorKind) -> &'static [u8]
-    ensures { result.now ≡ second_text kind }
+/// What is written for words of which `clap` reports this kind of mistake.
+pub(crate) fn refusal_of(kind: ErrorKind) -> Refusal
+    ensures { text_refused result ≡ refusal_text kind }
 {
-    match kind {
-        ErrorKind::DisplayHelp => b"",
-        ErrorKind::DisplayVersion => VERSION.as_bytes(),
-        _ => USAGE,
+    Refusal {
+        first: first_text(kind),
+        second: second_text(kind, USAGE),
     }
-}
-
-/// Prints two texts.
-#[tactic(auto, using(ffs_report::proofs::Sinks::printing, crate::proofs::Refusals::refused_so))]
-fn print_two<W: Output>(out: &mut W, first: &[u8], second: &[u8]) -> Result<(), OutFault>
-    ensures prints { Prints (W.sink out.old) (W.sink out.new) (first.now ++ second.now) result }
-    ensures refused { OnErr result (PutRefused W.was_put) }
-{
-    print(out, first)?;
-    print(out, second)
-}
-
-/// Prints the help, the version, or what is wrong with the words and the usage.
-#[tactic(auto, using(ffs_report::proofs::Sinks::printing, crate::proofs::Refusals::refused_so))]
-fn print_refusal<W: Output>(out: &mut W, kind: ErrorKind) -> Result<(), OutFault>
-    ensures prints { Prints (W.sink out.old) (W.sink out.new) (refusal_text kind) result }
-    ensures refused { OnErr result (PutRefused W.was_put) }
-{
-    print_two(out, first_text(kind), second_text(kind))?;
-    print(out, b"\n")
-}
-
-/// Writes why no check is run, by what `clap` answered: what is wrong with the words, or the help or
-/// the version that they ask for. A writer that fails changes nothing else.
-pub(crate) fn write_refusal<E: Outlet>(errors: &mut E, kind: ErrorKind)
-    ensures { IsWritten E.contents E.was_written errors.old errors.new (refusal_text kind) }
-{
-    let _ = print_refusal(&mut Counted::new(errors), kind);
 }

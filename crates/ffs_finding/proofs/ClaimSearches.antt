@@ -1,5 +1,5 @@
 -- A search in a workspace that holds what phase 1 leaves: what its faults, and its lines, say of the command.
-use Rattle.std.proofs.Common.{◌≡◌, ℕ, Bool, List, Option, Ok, Err, Result, inl, inr, refl}
+use Rattle.std.proofs.Common.{ℕ, Bool, Option, Ok, Err, inl, inr, refl}
 use Rattle.ffs_image.specs.Device.{Device}
 use Rattle.ffs_memory.specs.Account.{Account}
 use Rattle.ffs_volume.specs.{declared.Layout.Layout, Disk.Superblock.Superblock}

@@ -1,19 +1,19 @@
 -- A fragment is claimed just where an inode keeps an offer of it.
-use Rattle.std.proofs.Common.{◌≡◌, ◌≢◌, ◌∙◌, ℕ, zero, suc, ◌+◌, ◌*◌, ◌-◌, ◌<◌, ◌≤◌, ◌==◌, Bool, true, false, ◌||◌, ◌&&◌, List, [], ◌∷◌, ◌++◌}
-use Rattle.std.proofs.Common.{length, length-set, map, arith, refl, ap, sym, inl, inr, Option, nat_lt, if◌then◌else◌, slice_index_or, slice_set}
+use Rattle.std.proofs.Common.{◌≡◌, ◌≢◌, ◌∙◌, ℕ, zero, suc, ◌+◌, ◌*◌, ◌-◌, ◌<◌, ◌≤◌, ◌==◌, Bool, true, false, ◌||◌, List, [], ◌∷◌, ◌++◌}
+use Rattle.std.proofs.Common.{length, length-set, arith, refl, sym, inl, inr, nat_lt, if◌then◌else◌, slice_set}
 use Rattle.std.proofs.lemmas.{Bool.{cases_Bool, cases_eq, Decides.nat_tests}, List.{get_or-set_other, get_or-set_same}}
-use Rattle.std.proofs.lemmas.List.{Folds.list_any-append, FromFn.{get_or-map-range_with_len, length-map-range_with_len}}
-use Rattle.std.specs.{List.{flat_map, list_any, range_with_len}, Int.div_ceil}
-use Rattle.ffs_volume.proofs.{OwnerLaws.before_next, Potentials.{in_range_below, offers_keep}, CutLaws.before_length}
+use Rattle.std.proofs.lemmas.List.{Folds.list_any-append, FromFn.{get_or-map-range_with_len}}
+use Rattle.std.specs.{List.{flat_map, list_any, range_with_len}}
+use Rattle.ffs_volume.proofs.{OwnerLaws.before_next, Potentials.{in_range_below}, CutLaws.before_length}
 use Rattle.ffs_volume.specs.Blocks.Claims.{Claims, no_claims, reserved_map, at_next_inode, is_open, is_set, after_offer}
-use Rattle.ffs_volume.specs.Blocks.Claims.{after_offers, after_run, after_step, after_steps, after_owner, after_owners}
-use Rattle.ffs_volume.specs.Blocks.{Inodes.inode_of, KeptOffers.{Offer, offer_of, kept_in_offers, kept_in_run, kept_in_step}}
-use Rattle.ffs_volume.specs.Blocks.{KeptSteps.claims_before, Owners.{inode_numbers, owner_of, owners_of}, Steps.steps_of}
-use Rattle.ffs_volume.specs.Disk.Areas.{is_fragment_in_range, is_group_metadata, is_reserved, is_run_in_range}
+use Rattle.ffs_volume.specs.Blocks.Claims.{after_offers, after_run, after_step, after_steps}
+use Rattle.ffs_volume.specs.Blocks.{Inodes.inode_of, KeptOffers.{Offer, offer_of, kept_in_offers, kept_in_run}}
+use Rattle.ffs_volume.specs.Blocks.{KeptSteps.claims_before, Owners.{owner_of, owners_of}, Steps.steps_of}
+use Rattle.ffs_volume.specs.Disk.Areas.{is_fragment_in_range, is_reserved, is_run_in_range}
 use Rattle.ffs_volume.specs.{Laws.Geometry.IsAcceptedLayout, declared.{Layout.Layout, Step.{Step, TheVariants.{Run, Tail, Gap}}}}
 use Rattle.ffs_workspace.specs.Holds.{all_claims}
 use Rattle.ffs_volume.specs.Find.Owner.{indirect_in, keeper_lines, keeper_text, keeps_in_step, keeper_lines_of_inode, keeper_lines_of_step, keeper_lines_of_steps}
-use Rattle.ffs_finding.specs.Fields.{any_line}
+use Rattle.ffs_finding.{specs.Fields.any_line, proofs.WrongFields.any_more}
 
 -- some offer is of the fragment f
 abbrev any_of : ℕ → List Offer → Bool
@@ -96,17 +96,13 @@ step_uses v f i earlier s (Run start len block) ok long =
     line_there true line = refl
     line_there false line = refl
 
-any_both : (xs ys : List (List ℕ)) → any_line (xs ++ ys) ≡ (any_line xs || any_line ys)
-any_both [] ys = refl
-any_both (x ∷ xs) ys = refl
-
 steps_use : (v : Layout) (f i earlier : ℕ) (s : Claims) (steps : List Step) → is_fragment_in_range v f ≡ true →
     length s.used ≡ v.size → Uses f s (after_steps v s steps) (any_line (keeper_lines_of_steps v f i earlier s steps))
 steps_use v f i earlier s [] ok long = uses_none f s s refl
 steps_use v f i earlier s (step ∷ steps) ok long =
     let one = step_uses v f i earlier s step ok long in
     let more = steps_use v f i (earlier + indirect_in step) (after_step v s step) steps ok (one.long ∙ long) in
-    rw (any_both (keeper_lines_of_step v f i earlier s step)
+    rw (any_more (keeper_lines_of_step v f i earlier s step)
     (keeper_lines_of_steps v f i (earlier + indirect_in step) (after_step v s step) steps)) (uses_then one more)
 
 -- an inode, and inodes one after another
@@ -126,7 +122,7 @@ inodes_use v b f x (suc k) g ok low =
     let one = inode_uses v b f x g ok low in
     let more = inodes_use v b f (x + 1) k g ok (omega arith) in
     let place : x + suc k ≡ x + 1 + k = omega arith in
-    rw (place, any_both (keeper_lines_of_inode v b f x) (flat_map (keeper_lines_of_inode v b f) (range_with_len (x + 1) k)))
+    rw (place, any_more (keeper_lines_of_inode v b f x) (flat_map (keeper_lines_of_inode v b f) (range_with_len (x + 1) k)))
     (uses_then one more)
 
 reserved_bit : (v : Layout) (f : ℕ) → f < v.size → is_set (reserved_map v) f ≡ is_reserved v f

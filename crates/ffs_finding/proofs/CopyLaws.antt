@@ -1,7 +1,7 @@
 -- The lines of the sectors from one on, and the reads of the sectors before it.
-use Rattle.std.proofs.Common.{◌≡◌, ◌∙◌, ℕ, zero, suc, ◌+◌, ◌-◌, ◌*◌, ◌/◌, ◌<◌, ◌≤◌, Bool, true, false, List, [], ◌∷◌, ◌++◌, length, Some, Ok, Err, arith, refl, ap, sym}
+use Rattle.std.proofs.Common.{◌≡◌, ◌∙◌, ℕ, ◌+◌, ◌-◌, ◌*◌, ◌/◌, ◌<◌, ◌≤◌, List, [], ◌++◌, length, Some, arith, refl, ap, sym}
 use Rattle.std.proofs.{Common.{inl, inr}, lemmas.Bool.cases_eq}
-use Rattle.std.specs.{Prelude.{if◌then◌else◌, count_by, min}, List.{flat_map, range_with_len}, Int.div_ceil}
+use Rattle.std.specs.{Prelude.{count_by}, List.{flat_map, range_with_len}, Int.div_ceil}
 use Rattle.ffs_volume.{specs.Disk.Outcome.outcome, proofs.OutcomeLaws.outcome_past_end}
 use Rattle.ffs_volume.specs.Find.Copies.{asked_sectors, copies_lines, copy_lines_of, sector_count}
 use Rattle.ffs_image.specs.Device.{Device}

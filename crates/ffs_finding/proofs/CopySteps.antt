@@ -1,5 +1,5 @@
 -- What looking at one sector leaves, by what was found there.
-use Rattle.std.proofs.Common.{◌≡◌, ◌∙◌, ℕ, ◌+◌, ◌*◌, ◌≤◌, Bool, true, false, List, [], ◌∷◌, length, Option, Some, Ok, Err, arith, ap, subst, sym, inl, inr}
+use Rattle.std.proofs.Common.{◌≡◌, ◌∙◌, ℕ, ◌+◌, ◌*◌, ◌≤◌, true, false, List, [], length, Option, Some, Ok, arith, ap, subst, sym, inl, inr}
 use Rattle.ffs_image.specs.Device.{Device, ForContents, IsSized, Faulted}
 use Rattle.ffs_volume.specs.Disk.{Outcome.outcome, Superblock.Superblock}
 use Rattle.ffs_layout.specs.Super.{ReadsSuper, IsUnreadable}

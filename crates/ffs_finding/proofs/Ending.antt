@@ -1,5 +1,5 @@
 -- How a command ends, by its answer and the line of its fault.
-use Rattle.std.proofs.Common.{◌≡◌, ◌∙◌, ℕ, List, [], ◌∷◌, Option, Result, Ok, Err, sym, ap, subst, inl, inr, refl, Bool}
+use Rattle.std.proofs.Common.{◌≡◌, ◌∙◌, ℕ, [], ◌∷◌, Option, Result, Ok, Err, sym, ap, subst, inl, inr, Bool}
 use Rattle.ffs_image.specs.Device.{Device}
 use Rattle.ffs_volume.specs.{declared.SuperFault.SuperFault, Messages.{Kinds.cannot_alloc, Texts.text_of}}
 use Rattle.ffs_volume.specs.{Report.Opening.fault_line, Disk.Outcome.outcome}
@@ -8,8 +8,9 @@ use Rattle.ffs_memory.specs.Account.{Account}
 use Rattle.ffs_layout.specs.Super.{ReadsSuper}
 use Rattle.ffs_finding.specs.declared.{request.{Search.Search, Command.{Command, TheVariants.{Copies, InVolume}}}}
 use Rattle.ffs_finding.specs.declared.find.FindFault.{FindFault, TheVariants.{Refused, Run, NoMemory}}
-use Rattle.ffs_finding.specs.Outcome.{PrintedTo, PrintedSome, StoppedIn}
-use Rattle.ffs_finding.specs.Whole.{Answers, EndsBy, EndsByLine, FindEnds, IsPrintedOrBrokeOff, IsRefusal, command_lines}
+use Rattle.ffs_finding.specs.Outcome.{PrintedTo, StoppedIn}
+use Rattle.ffs_check.specs.Run.{IsPrintedOrBrokeOff}
+use Rattle.ffs_finding.specs.Whole.{Answers, EndsBy, EndsByLine, FindEnds, IsRefusal, command_lines}
 use Rattle.ffs_finding.specs.Whole.{lines_by, search_lines, status_by}
 use Rattle.ffs_finding.proofs.Printing.{one, one_broken, prints_all, stops_all, reads_first}
 

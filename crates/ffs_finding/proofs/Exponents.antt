@@ -1,8 +1,8 @@
 -- The exponents of powers of two.
-use Rattle.std.proofs.Common.{◌≡◌, ℕ, ◌+◌, ◌*◌, ◌^◌, ◌<◌, ◌≤◌, ◌∙◌, true, false, Some, arith, ap, nat_lt}
+use Rattle.std.proofs.Common.{◌≡◌, ℕ, ◌+◌, ◌*◌, ◌^◌, ◌<◌, ◌≤◌, true, false, arith, ap, nat_lt}
 use Rattle.std.proofs.{Math.Pow.pow_mono, lemmas.{Grind.pow_more, Bool.Decides.nat_tests}}
 use Rattle.std.specs.Prelude.{unwrap_or}
-use Rattle.ffs_volume.{specs.Disk.Search.first_below, proofs.SearchLaws.first_below-is}
+use Rattle.ffs_volume.{proofs.SearchLaws.first_below-is}
 use Rattle.ffs_volume.specs.Find.Fields.{exponent_of}
 
 above : (n r : ℕ) → n < 2 * 2 ^ r → nat_lt n (2 ^ (r + 1)) ≡ true

@@ -1,6 +1,6 @@
 -- The lines of the wrong fields of a superblock, in two parts: those that follow from the layout, and
 -- the totals.
-use Rattle.std.proofs.Common.{◌≡◌, ◌∙◌, ℕ, ◌+◌, ◌*◌, ◌<◌, Bool, ◌||◌, List, ◌++◌, map, length, Option, Some, Ok, Err, sym, ap, arith, refl}
+use Rattle.std.proofs.Common.{◌≡◌, ◌∙◌, ℕ, ◌+◌, ◌*◌, ◌<◌, ◌||◌, List, ◌++◌, map, Option, Some, Ok, sym, ap, arith, refl}
 use Rattle.std.{specs.List.flat_map, proofs.lemmas.List.Concat.flat_map-append}
 use Rattle.ffs_image.specs.Device.{Device, IsSized}
 use Rattle.ffs_volume.specs.Disk.{Outcome.{outcome, super_bytes, super_sector}, Superblock.Superblock}

@@ -1,13 +1,13 @@
 -- How an inode is looked at.
-use Rattle.std.proofs.Common.{◌≡◌, ◌∙◌, ℕ, ◌+◌, ◌<◌, ◌≤◌, List, Option, Result, Ok, Err, slice_index, arith, ap, refl, sym, subst}
+use Rattle.std.proofs.Common.{◌≡◌, ◌∙◌, ℕ, ◌+◌, ◌<◌, ◌≤◌, List, Result, Ok, Err, slice_index, arith, ap, refl}
 use Rattle.ffs_image.specs.Device.{Device}
 use Rattle.ffs_volume.specs.{Blocks.KeptSteps.claims_before, Laws.Geometry.IsAcceptedLayout}
-use Rattle.ffs_volume.specs.{Blocks.{Inodes.inode_of, Steps.steps_of}, declared.{Inode.Inode, Layout.Layout}}
+use Rattle.ffs_volume.specs.{Blocks.{Inodes.inode_of}, declared.{Inode.Inode, Layout.Layout}}
 use Rattle.ffs_report.specs.{Known.{ForBytes, IsContents}, Sink.Sink, PhaseOutcome.ImageAfter}
 use Rattle.ffs_report.specs.declared.fault.RunFault.{RunFault, TheVariants.{Read, Out}}
 use Rattle.ffs_walk.specs.{Windows.KeepsBlocks, declared.blocks.Blocks.Blocks}
 use Rattle.ffs_workspace.specs.{Found.WithPhase1, Lengths.inodes_of, Notes.{cut_in, note_at}, Ready.{IsReady, StaysReady}, declared.workspace.{Windows.Windows, Workspace.Workspace}}
-use Rattle.ffs_finding.specs.{Keepers.{LooksAtInode, WalksKept}, Outcome.{Finds, PrintsLines}}
+use Rattle.ffs_finding.specs.{Keepers.{LooksAtInode, WalksKept}, Outcome.{PrintsLines}}
 use Rattle.ffs_volume.specs.Find.Owner.{keeper_lines_of_inode}
 use Rattle.ffs_finding.proofs.{Owners.{inode_lines, inode_runs}, Printing.knowing}
 

@@ -1,8 +1,7 @@
 -- What a search through a limited image leaves of the image below it, and of what it printed.
 use Rattle.std.specs.Borrow.{GName}
-use Rattle.std.proofs.Common.{◌≡◌, ◌≤◌, ◌∙◌, ℕ, Bool, true, false, List, arith, sym, Result, Ok, Err, inl, inr}
-use Rattle.std.proofs.lemmas.Bool.{cases_Bool}
-use Rattle.ffs_image.{specs.{Device.Device, Limited.{GivesBack, limited_device}}, proofs.Limits.StaysOver}
+use Rattle.std.proofs.Common.{◌≡◌, ◌≤◌, ◌∙◌, ℕ, Bool, true, false, List, arith, sym, Result, Ok, Err}
+use Rattle.ffs_image.{specs.{Device.Device, Limited.{GivesBack, limited_device}}}
 use Rattle.ffs_report.specs.{Known.ForBytes, Sink.Sink, PhaseOutcome.ImageAfter}
 use Rattle.ffs_report.specs.declared.fault.RunFault.{RunFault, TheVariants.{Read, Out}}
 use Rattle.ffs_claims.proofs.Limited.{image_over}

@@ -1,7 +1,7 @@
 -- A line of a report by itself.
-use Rattle.std.proofs.Common.{◌≡◌, ◌∙◌, ap, sym, true, false, List, [], ◌∷◌, ◌++◌, append-nil, Result, Ok, Err, inl, inr, arith, refl}
+use Rattle.std.proofs.Common.{◌≡◌, ◌∙◌, sym, true, false, append-nil, Result, Ok, Err, inl, inr}
 use Rattle.ffs_volume.specs.Messages.{Kinds.Message, Texts.text_of}
-use Rattle.ffs_report.specs.{Progress.{Progress, SaysOne}, Sink.{Prints, Took, BrokeOff}}
+use Rattle.ffs_report.specs.{Progress.{Progress, SaysOne}, Sink.{Prints}}
 
 -- a line that is the first one was printed, or the output failed in it
 pub said_prints : {T E : Type 0} (a b : Progress) (m : Message) (r : Result T E) → a.failed ≡ false → SaysOne a b m r →

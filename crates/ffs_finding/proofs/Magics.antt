@@ -1,8 +1,8 @@
 -- The magic number of a superblock, in a window on an image.
-use Rattle.std.proofs.Common.{◌≡◌, ℕ, zero, suc, ◌+◌, ◌*◌, ◌<◌, ◌≤◌, ◌==◌, ◌||◌, ◌∙◌, Bool, true, false, List, [], ◌∷◌, length, Option, Some, None, Err, take, drop, is_some, arith, refl, sym, ap, ap₂}
+use Rattle.std.proofs.Common.{◌≡◌, ℕ, ◌+◌, ◌*◌, ◌≤◌, ◌==◌, ◌||◌, ◌∙◌, Bool, true, false, List, [], ◌∷◌, length, Option, Some, None, Err, take, drop, is_some, arith, refl, sym, ap, ap₂}
 use Rattle.std.specs.Prelude.{if◌then◌else◌}
 use Rattle.ffs_volume.specs.declared.{Order.{Order, TheVariants.{Little, Big}}, constants.TheConstants.FS_MAGIC}
-use Rattle.ffs_volume.specs.Disk.{Numbers.{number, u32_at, piece}, Superblock.order_of, Outcome.{outcome, super_bytes}}
+use Rattle.ffs_volume.specs.Disk.{Numbers.{number, u32_at, piece}, Superblock.order_of, Outcome.{outcome}}
 use Rattle.ffs_volume.{specs.declared.SuperFault.TheVariants.Magic, proofs.OutcomeLaws.outcome_magic}
 use Rattle.ffs_workspace.proofs.TablePlaces.{piece_of}
 use Rattle.ffs_finding.specs.Copies.{has_magic}

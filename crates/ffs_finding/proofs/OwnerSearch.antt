@@ -1,9 +1,9 @@
 -- A search for the owners of a fragment: phase 1, and then the lines.
-use Rattle.std.proofs.Common.{◌≡◌, ◌∙◌, ◌+◌, ◌≤◌, ℕ, List, Option, Result, Ok, Err, false, sym, ap, arith, inl, inr, refl}
+use Rattle.std.proofs.Common.{◌≡◌, ◌∙◌, ◌+◌, ◌≤◌, ℕ, Option, Result, Ok, Err, false, ap, arith, inl, inr, refl}
 use Rattle.ffs_check.specs.Taken.{AsksMemory}
 use Rattle.ffs_image.specs.Device.{Device}
 use Rattle.ffs_memory.specs.Account.{Account, Granted}
-use Rattle.ffs_volume.specs.{Disk.Superblock.Superblock, Report.Reads.{scan_reads, sweep_reads}, declared.Layout.Layout}
+use Rattle.ffs_volume.specs.{Disk.Superblock.Superblock, Report.Reads.{scan_reads, sweep_reads}}
 use Rattle.ffs_report.specs.{Known.{ForBytes, IsContents}, Sink.Sink, declared.fault.RunFault.{RunFault, TheVariants.{Read, Out}}}
 use Rattle.ffs_workspace.specs.{Found.WithPhase1, Holds.HoldsPhase1, Lengths.held_of, declared.workspace.Workspace.Workspace}
 use Rattle.ffs_finding.specs.declared.{find.FindFault.{FindFault, TheVariants.{Refused, Run, NoMemory}}}

@@ -1,5 +1,5 @@
 -- The lines of inodes, one after another.
-use Rattle.std.proofs.Common.{◌≡◌, ◌∙◌, ℕ, ◌+◌, ◌-◌, ◌<◌, ◌≤◌, Bool, true, false, List, [], ◌∷◌, ◌++◌, slice_index, arith, refl, ap, sym, ◌==◌}
+use Rattle.std.proofs.Common.{◌≡◌, ◌∙◌, ℕ, ◌+◌, ◌-◌, ◌<◌, ◌≤◌, true, false, List, [], ◌++◌, arith, refl, ap, sym}
 use Rattle.std.proofs.lemmas.Bool.Decides.{nat_tests}
 use Rattle.std.specs.List.{flat_map, range_with_len}
 use Rattle.ffs_volume.proofs.{CutLaws.cut_is, OwnerLaws.before_next, ReplayLaws.replay_is_runs}
@@ -8,11 +8,11 @@ use Rattle.ffs_volume.specs.Blocks.Inodes.{inode_of, class_of, is_allocated, is_
 use Rattle.ffs_volume.specs.{Directories.Volumes.class_at, Encodings.Kinds.kind_at}
 use Rattle.ffs_volume.specs.declared.Class.{Class, TheVariants.{Free, Partial, Unknown, File, Dir}}
 use Rattle.ffs_workspace.proofs.KindLaws.{reports_at}
-use Rattle.ffs_volume.specs.{Blocks.{Owners.{inode_numbers, owner_of}, Steps.steps_of}, Directories.Volumes.is_inode_number}
-use Rattle.ffs_volume.specs.Encodings.{Replay.{cut_of, cut_at, fresh_replay}, ReplayCounts.replayed_runs}
-use Rattle.ffs_volume.specs.{Laws.Geometry.IsAcceptedLayout, declared.Layout.Layout, Report.Whole.run_count}
+use Rattle.ffs_volume.specs.{Blocks.{Owners.{owner_of}, Steps.steps_of}, Directories.Volumes.is_inode_number}
+use Rattle.ffs_volume.specs.Encodings.{Replay.{cut_of, fresh_replay}, ReplayCounts.replayed_runs}
+use Rattle.ffs_volume.specs.{Laws.Geometry.IsAcceptedLayout, declared.Layout.Layout}
 use Rattle.ffs_workspace.proofs.NoteLaws.{cut_is_noted}
-use Rattle.ffs_workspace.specs.{Lengths.inodes_of, Notes.{cut_in, note_at}, declared.workspace.Workspace.Workspace}
+use Rattle.ffs_workspace.specs.{Lengths.inodes_of, Notes.{cut_in, note_at}}
 use Rattle.ffs_finding.specs.Keepers.{lines_again}
 use Rattle.ffs_volume.specs.Find.Owner.{keeper_lines, keeper_lines_of_inode}
 use Rattle.ffs_finding.proofs.{Ranges.next, Replayed.inode_replay}

@@ -1,10 +1,9 @@
 -- How lines are printed, one after another.
 use Rattle.std.proofs.Common.{◌≡◌, refl, ◌∙◌, sym, ℕ, List, [], ◌∷◌, ◌++◌, append_assoc, append-nil, Result, Ok, Err, arith}
-use Rattle.std.proofs.lemmas.List.Concat.{flat_map-append}
 use Rattle.std.specs.List.{concat}
 use Rattle.ffs_report.specs.{Known.ForBytes, Sink.{Sink, Took, BrokeOff}, declared.fault.RunFault.RunFault}
 use Rattle.ffs_report.specs.declared.fault.RunFault.TheVariants.{Read, Out}
-use Rattle.ffs_report.proofs.Sinks.{took_nil, took_then, broke_off_after, broke_off_more}
+use Rattle.ffs_report.proofs.Sinks.{took_nil, took_then, broke_off_after}
 use Rattle.ffs_finding.specs.Outcome.{PrintedTo, PrintedSome, StoppedIn, PrintsLines}
 
 -- the bytes of lines and of others after them
@@ -103,12 +102,6 @@ part_fault T E knows rest this rest' all a b c (Out fault) p e q = record {
   broke_off = rw (concat-append p.lines q.lines)
       (broke_off_after a b c (concat p.lines) (concat q.lines) p.took q.broke_off);
 }
-
--- a fault by itself, of another kind of answer
-pub same_fault : (T E : Type 0) (knows : List ℕ → Type 0) (all : List ℕ → List (List ℕ)) (a b : Sink) (fault : RunFault)
-    → PrintsLines {T = T} knows all a b (Err fault) → PrintsLines {T = E} knows all a b (Err fault)
-same_fault T E knows all a b (Read fault) p = p
-same_fault T E knows all a b (Out fault) p = p
 
 -- nothing is to come
 pub printed_all : (knows : List ℕ → Type 0) (rest all : List ℕ → List (List ℕ)) (a b : Sink) → PrintedTo knows rest all a b

@@ -1,6 +1,6 @@
 -- The offers of an inode that is walked over again, step by step: those that it keeps.
-use Rattle.std.proofs.Common.{◌≡◌, ℕ, zero, suc, ◌+◌, ◌-◌, ◌≤◌, Bool, true, false, ◌==◌, if◌then◌else◌, List, [], ◌∷◌, ◌++◌}
-use Rattle.std.proofs.Common.{map, replicate, arith, refl, ap, ◌∙◌, sym, inl, inr, Option, nat_lt, nat_le, ◌&&◌, ◌||◌}
+use Rattle.std.proofs.Common.{◌≡◌, ℕ, zero, suc, ◌+◌, ◌-◌, ◌≤◌, true, false, ◌==◌, if◌then◌else◌, List, [], ◌∷◌, ◌++◌}
+use Rattle.std.proofs.Common.{map, replicate, arith, refl, ap, ◌∙◌, inl, inr, Option, nat_lt, ◌&&◌}
 use Rattle.std.proofs.lemmas.Bool.{cases_Bool, Decides.nat_tests}
 use Rattle.std.specs.List.{list_any, range_with_len}
 use Rattle.ffs_volume.proofs.{Potentials.{cond_holds, offers_keep}, PrefixLaws.full_offers, ReplayIsKeeping.replay_of}
@@ -12,7 +12,7 @@ use Rattle.ffs_volume.specs.Encodings.ReplayCounts.{replay_step_by_cut}
 use Rattle.ffs_volume.specs.declared.{Layout.Layout, Step.{Step, TheVariants.{Run, Tail, Gap}}}
 use Rattle.ffs_walk.specs.Keepings.{run_taken}
 use Rattle.ffs_claims.specs.Rescan.{step_offers_again}
-use Rattle.ffs_volume.specs.Find.Owner.{indirect_in, keeper_text, keeper_lines_of_step, keeper_lines_of_steps}
+use Rattle.ffs_volume.specs.Find.Owner.{indirect_in, keeper_lines_of_step, keeper_lines_of_steps}
 use Rattle.ffs_finding.specs.Keepers.{is_in_run, lines_again, step_lines_again}
 
 -- ---- the offers that are kept are the first ones

@@ -1,5 +1,5 @@
 -- A search in a volume, as the command that asks for it.
-use Rattle.std.proofs.Common.{◌≡◌, ◌∙◌, ◌*◌, ◌+◌, ◌≤◌, ℕ, Bool, List, [], Option, Result, Ok, Err, sym, ap, arith, inl, inr, refl}
+use Rattle.std.proofs.Common.{◌≡◌, ◌∙◌, ◌*◌, ◌+◌, ◌≤◌, ℕ, Bool, List, [], Option, Result, Ok, Err, sym, ap, arith, inr}
 use Rattle.ffs_image.specs.Device.{Device, ForContents}
 use Rattle.ffs_memory.specs.Account.{Account}
 use Rattle.ffs_workspace.specs.Lengths.{held_of}
@@ -8,9 +8,9 @@ use Rattle.ffs_volume.specs.{Disk.{Superblock.Superblock, Outcome.outcome}, Laws
 use Rattle.ffs_report.specs.{Known.{ForBytes, IsContents}, Sink.Sink, declared.fault.RunFault.TheVariants.{Read, Out}}
 use Rattle.ffs_finding.specs.declared.{find.FindFault.{FindFault, TheVariants.{Refused, Run, NoMemory}}}
 use Rattle.ffs_finding.specs.declared.request.{Search.{Search, TheVariants.{Inode, Fields, Lost, Owner}}, Command.TheVariants.InVolume}
-use Rattle.ffs_finding.specs.{Fields.{WithSuper, any_line}, Outcome.{PrintedTo, PrintedSome, StoppedIn}}
+use Rattle.ffs_finding.specs.{Fields.{WithSuper}, Outcome.{PrintedTo}}
 use Rattle.ffs_finding.specs.Whole.{Answers, Looks, SearchAnswers, Searches, TakesForSearch, TakesMemory, command_lines}
-use Rattle.ffs_finding.specs.Whole.{command_status, finds_defects, lines_by, search_lines, status_by, status_of_answer}
+use Rattle.ffs_finding.specs.Whole.{lines_by, search_lines, status_by, status_of_answer}
 
 module _ (search : Search) (sector : Option ℕ) (s : Superblock) (d : Device)
     (accepted : ForContents d.contents (λ b. outcome b sector ≡ Ok s)) where
@@ -59,14 +59,6 @@ takes Lost sector s d held held' accepted p =
     inr (record { found = s; accepted = accepted; asked = p; within = held_within s.layout })
 takes (Owner fragment) sector s d held held' accepted p =
     inr (record { found = s; accepted = accepted; asked = p; within = held_within s.layout })
-
--- nothing was taken
-pub takes_none : (search : Search) (sector : Option ℕ) (d : Device) (held : Account) →
-    TakesMemory (InVolume sector search) d held held
-takes_none (Inode number) sector d held = refl
-takes_none Fields sector d held = refl
-takes_none Lost sector d held = inl refl
-takes_none (Owner fragment) sector d held = inl refl
 
 -- a search was made after the superblock was read
 pub looked : (search : Search) (sector : Option ℕ) (s : Superblock) (d d' : Device) (held held' : Account)

@@ -1,10 +1,10 @@
 -- The lines of stretches of numbers that pass, one after another.
-use Rattle.std.proofs.Common.{◌≡◌, ◌∙◌, ℕ, zero, suc, ◌+◌, ◌-◌, ◌<◌, ◌≤◌, Bool, true, false, not, List, [], ◌∷◌, ◌++◌, append-nil, arith, refl, ap, sym, subst, inl, inr}
+use Rattle.std.proofs.Common.{◌≡◌, ◌∙◌, ℕ, zero, suc, ◌+◌, ◌-◌, ◌<◌, ◌≤◌, Bool, true, false, List, [], ◌∷◌, ◌++◌, append-nil, arith, refl, ap, sym, subst, inl, inr}
 use Rattle.std.proofs.lemmas.Bool.{cases_lt}
 use Rattle.std.specs.{List.{concat, flat_map, prefix_len, range_with_len}, Prelude.◌||◌}
 use Rattle.ffs_report.{specs.Sink.{Sink, Took, BrokeOff}, proofs.Sinks.{took_nil, took_then, broke_off_after, broke_off_more}}
 use Rattle.ffs_finding.specs.Fields.{any_line}
-use Rattle.ffs_volume.specs.Find.Lost.{begins_stretch, range_text, stretch_at, stretch_length, stretch_lines}
+use Rattle.ffs_volume.specs.Find.Lost.{range_text, stretch_at, stretch_length, stretch_lines}
 use Rattle.ffs_finding.specs.LostMaps.{IsNext}
 use Rattle.ffs_finding.proofs.{Printing.concat-append, Ranges.{none, split, next}, WrongFields.any_more}
 

@@ -1,6 +1,6 @@
 -- The lines of wrong fields, and whether there is one.
-use Rattle.std.proofs.Common.{◌≡◌, ℕ, Bool, true, false, not, List, [], ◌∷◌, ◌++◌, append-nil, append_assoc, arith, refl, ap, ◌∙◌, map, ◌||◌}
-use Rattle.std.specs.{List.{concat, flat_map, list_any}, Prelude.if◌then◌else◌}
+use Rattle.std.proofs.Common.{◌≡◌, ℕ, List, [], ◌∷◌, ◌++◌, append-nil, arith, refl, ◌∙◌, map, ◌||◌}
+use Rattle.std.specs.{List.{concat, flat_map, list_any}}
 use Rattle.ffs_finding.specs.Fields.{any_line, field_of, is_wrong, text_of_wrong}
 use Rattle.ffs_volume.specs.Find.Fields as book
 use Rattle.ffs_finding.specs.declared.fields.Field.{Field}
@@ -32,24 +32,4 @@ any_is start (f ∷ fields) =
       any_more (book.field_lines start (field_of f)) (flat_map (book.field_lines start) (map field_of fields)),
       any_at start f,
       any_is start fields,
-    )
-
--- the lines of two lists of fields
-pub both_texts : (start : ℕ) (xs ys : List book.Field) → concat (flat_map (book.field_lines start) (xs ++ ys))
-    ≡ concat (flat_map (book.field_lines start) xs) ++ concat (flat_map (book.field_lines start) ys)
-both_texts start [] ys = refl
-both_texts start (x ∷ xs) ys =
-    let first = concat-append (book.field_lines start x) (flat_map (book.field_lines start) (xs ++ ys)) in
-    let same = concat-append (book.field_lines start x) (flat_map (book.field_lines start) xs) in
-    grind (arith, append_assoc, both_texts start xs ys, first, same)
-
-pub both_any : (start : ℕ) (xs ys : List book.Field) → any_line (flat_map (book.field_lines start) (xs ++ ys))
-    ≡ (any_line (flat_map (book.field_lines start) xs) || any_line (flat_map (book.field_lines start) ys))
-both_any start [] ys = refl
-both_any start (x ∷ xs) ys =
-    grind (
-      arith,
-      any_more (book.field_lines start x) (flat_map (book.field_lines start) (xs ++ ys)),
-      any_more (book.field_lines start x) (flat_map (book.field_lines start) xs),
-      both_any start xs ys,
     )

@@ -5,7 +5,7 @@ use Rattle.ffs_volume.specs.{declared.Layout.Layout, Report.Reads.scan_reads}
 use Rattle.ffs_memory.specs.Account.{Account, Granted, GaveUp}
 use Rattle.ffs_report.specs.{Known.{ForBytes, IsContents}, PhaseOutcome.ImageAfter, Sink.Sink}
 use Rattle.ffs_report.specs.declared.fault.RunFault.{RunFault, TheVariants.{Read, Out}}
-use Rattle.ffs_workspace.specs.{declared.workspace.Workspace.Workspace, Found.{WithFresh, WithPhase1}}
+use Rattle.ffs_workspace.specs.{declared.workspace.Workspace.Workspace, Found.{WithFresh}}
 use Rattle.ffs_workspace.specs.{Holds.HoldsPhase1, Lengths.held_of, Ready.IsReady}
 use Rattle.ffs_finding.specs.declared.find.FindFault.{FindFault, TheVariants.{Refused, Run, NoMemory}}
 

@@ -1,5 +1,5 @@
 -- The search for magic numbers, window by window.
-use Rattle.std.specs.Prelude.{◌≡◌, ℕ, ◌+◌, ◌-◌, ◌*◌, ◌/◌, ◌<◌, ◌≤◌, min, Bool, List, Option, Some, is_some, Result, IfOk, OnOk, vec_len, count_by}
+use Rattle.std.specs.Prelude.{◌≡◌, ℕ, ◌+◌, ◌-◌, ◌*◌, ◌/◌, ◌<◌, ◌≤◌, min, Bool, List, Some, is_some, Result, IfOk, OnOk, vec_len, count_by}
 use Rattle.std.specs.{Prelude.if◌then◌else◌, Int.div_ceil}
 use Rattle.ffs_image.specs.{Device.{Device, ForContents}, Reads.ReadAfter, declared.image.ImageFault.ImageFault}
 use Rattle.ffs_volume.specs.Disk.{Superblock.order_of, Outcome.{outcome, super_bytes}}

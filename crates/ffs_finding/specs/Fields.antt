@@ -1,5 +1,5 @@
 -- A field of the superblock as the program has it, and what its lines leave.
-use Rattle.std.specs.Prelude.{◌≡◌, ℕ, Bool, true, false, not, if◌then◌else◌, List, [], ◌∷◌, map, Option, Ok, Result, IfOk}
+use Rattle.std.specs.Prelude.{◌≡◌, ℕ, Bool, true, false, not, if◌then◌else◌, List, [], ◌∷◌, Option, Ok, Result, IfOk}
 use Rattle.std.specs.List.{concat, flat_map}
 use Rattle.ffs_image.specs.Device.{Device}
 use Rattle.ffs_volume.specs.Disk.{Superblock.Superblock, Outcome.outcome}

@@ -1,10 +1,10 @@
 -- What the program knows of the inodes that keep an offer of a fragment, and what its parts leave.
-use Rattle.std.specs.Prelude.{◌≡◌, ◌+◌, ◌*◌, ◌<◌, ◌≤◌, ◌^◌, ℕ, Bool, true, ◌&&◌, ◌==◌, List, [], ◌∷◌, ◌++◌, length, Option}
+use Rattle.std.specs.Prelude.{◌≡◌, ◌+◌, ◌*◌, ◌<◌, ◌≤◌, ◌^◌, ℕ, Bool, true, ◌&&◌, List, [], ◌∷◌, ◌++◌, length, Option}
 use Rattle.std.specs.Prelude.{if◌then◌else◌, nat_le, nat_lt, slice_index, vec_len, Result}
-use Rattle.std.specs.{List.{concat, list_any}, Int.div_ceil}
+use Rattle.std.specs.{List.{concat}}
 use Rattle.ffs_volume.specs.declared.{Inode.Inode, Layout.Layout}
 use Rattle.ffs_volume.specs.declared.Step.{Step, TheVariants.{Run, Tail, Gap}}
-use Rattle.ffs_volume.specs.{Disk.Areas.group_place, Blocks.{Inodes.inode_of, Steps.steps_of}}
+use Rattle.ffs_volume.specs.{Blocks.{Inodes.inode_of, Steps.steps_of}}
 use Rattle.ffs_volume.specs.Encodings.{Replay.{Replay, fresh_replay, is_replay_open}}
 use Rattle.ffs_volume.specs.Encodings.ReplayCounts.{replay_step_by_cut, replayed_runs}
 use Rattle.ffs_volume.specs.{Report.Whole.run_count, Groups.Records.group_block}

@@ -8,4 +8,5 @@ pub mod LostMaps
 pub mod Whole
 pub mod CommandWords
 pub mod Operands
+pub mod WrongWords
 pub mod Run

@@ -1,6 +1,6 @@
 -- The map of a group as the program has it, and what it prints of it.
-use Rattle.std.specs.Prelude.{◌≡◌, ◌≤◌, ◌<◌, ◌+◌, ◌-◌, ◌/◌, ◌*◌, ℕ, Bool, not, ◌&&◌, List, [], ◌∷◌, codes, length, Result, IfOk, vec_len}
-use Rattle.std.specs.{List.{concat, flat_map, range_with_len}, Int.div_ceil}
+use Rattle.std.specs.Prelude.{◌≡◌, ◌≤◌, ◌<◌, ◌+◌, ◌-◌, ◌*◌, ℕ, Bool, not, ◌&&◌, List, [], ◌∷◌, codes, length, Result, IfOk, vec_len}
+use Rattle.std.specs.{List.{concat, flat_map}, Int.div_ceil}
 use Rattle.ffs_image.specs.Device.{Device}
 use Rattle.ffs_volume.specs.{declared.Layout.Layout, Groups.Records.{bit_at, group_block, group_numbers}}
 use Rattle.ffs_volume.specs.Messages.Texts.{number_text}

@@ -1,7 +1,8 @@
 -- The operands as the program has them, and what it reads of them.
 use Rattle.std.specs.Prelude.{◌≡◌, ℕ, List, Option, Some, None, codes, option_map}
+use Rattle.ffs_check.specs.declared.program.Asked.{Asked}
 use Rattle.ffs_finding.specs.CommandWords as words
-use Rattle.ffs_finding.specs.declared.{words.{Operands.Operands, Request.Request}, request.{Command.Command, Search.{Search, TheVariants.{Inode, Fields, Lost, Owner}}}}
+use Rattle.ffs_finding.specs.declared.{words.Operands.Operands, request.{Command.Command, Search.{Search, TheVariants.{Inode, Fields, Lost, Owner}}}}
 
 -- the operands of the program as those of the definitions
 abbrev pub operands_in : Operands → words.Operands
@@ -13,9 +14,9 @@ operands_in o = record {
 }
 
 -- the operands ask for this, or for nothing
-abbrev pub SaysOf : words.Operands → Option Request → Type 0
-SaysOf o (Some request) = words.AskFor o request.command request.name.now
-SaysOf o None = (command : Command) (name : List ℕ) → words.AskFor o command name → ⊥
+abbrev pub SaysOf : words.Operands → Option (Asked Command) → Type 0
+SaysOf o (Some asked) = words.OperandsAskFor o asked.request asked.name.now
+SaysOf o None = (command : Command) (name : List ℕ) → words.OperandsAskFor o command name → ⊥
 
 -- a command looks for this by a number
 abbrev pub IsSearch : (word : List ℕ) (n : ℕ) → Search → Type 0

@@ -3,7 +3,7 @@
 use Rattle.std.specs.Prelude.{◌≡◌, ℕ, List, [], ◌++◌, Result, Ok, Err}
 use Rattle.std.specs.List.{concat}
 use Rattle.ffs_image.specs.Device.{Device}
-use Rattle.ffs_report.specs.{Known.{ForBytes, IsContents}, Sink.{Sink, Took, BrokeOff}, PhaseOutcome.ImageAfter}
+use Rattle.ffs_report.specs.{Known.{ForBytes}, Sink.{Sink, Took, BrokeOff}, PhaseOutcome.ImageAfter}
 use Rattle.ffs_report.specs.declared.fault.RunFault.{RunFault, TheVariants.{Read, Out}}
 
 -- whole lines were printed, and with `rest`, those that are to come, they are `all`

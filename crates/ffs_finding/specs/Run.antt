@@ -1,91 +1,44 @@
--- What a run of the program prints, and its exit status, by the words after the program's name.
-use Rattle.std.specs.{Prelude.{◌≡◌, ◌⊎◌, ℕ, List, [], Option, Result}, declared.io.Error.Error}
+-- What `ffs_find` promises: what its words ask for, by which texts they are refused, and how a look at an image
+-- ends.
+use Rattle.std.specs.Prelude.{◌≡◌, ◌⊎◌, ℕ, List}
 use Rattle.ffs_image.specs.Device.{Device}
-use Rattle.ffs_volume.specs.Messages.{Kinds.cannot_alloc, Texts.text_of}
 use Rattle.ffs_report.specs.Sink.{Sink}
 use Rattle.ffs_memory.specs.{System.account_of, Account.unused, declared.system.SystemMemory.SystemMemory}
-use Rattle.ffs_check.specs.Run.{FlushedAfter, IsOpenFailure}
+use Rattle.ffs_check.specs.{CommandWords.LacksMemory, Program.Meaning, Refusals.IsTextFor}
 use Rattle.ffs_finding.specs.declared.request.Command.{Command}
-use Rattle.ffs_finding.specs.CommandWords.{AskFor, HaveOperands, LacksMemory, Operands, refusals}
-use Rattle.ffs_finding.specs.Whole.{FindsCommand, IsPrintedOrBrokeOff}
+use Rattle.ffs_finding.specs.CommandWords.{HaveOperands, Operands, OperandsAskFor, find_program}
+use Rattle.ffs_finding.specs.{Whole.FindsCommand, WrongWords.{find_refusal_text, no_command_text}}
 
--- an image was opened under a name, and a command was looked for in it, with memory of the system of
--- which nothing was granted before
-pub record IsLookedAt (I : Type 0) (device : I → Device) (reads : I → ℕ) (opens : List ℕ → I → Type 0)
-    (name : List ℕ) (command : Command) (out out' : Sink) (status : ℕ) : Type 0 where
-  pub image : I
-  pub image' : I
-  pub opened : opens name image
-  pub memory : SystemMemory
-  pub memory' : SystemMemory
-  pub begun : account_of memory ≡ unused
-  pub found : FindsCommand command (device image) (device image') (account_of memory) (account_of memory')
-      (reads image) (reads image') out out' status
-
--- the image of a name was looked at, or couldn't be opened
-abbrev pub LookedAtBy : {I : Type 0} → (I → Device) → (reads : I → ℕ) → (List ℕ → I → Type 0)
-    → (List ℕ → Type 0) → List ℕ → Command → Sink → Sink → ℕ → Type 0
-LookedAtBy {I} device reads opens refuses name command out out' status =
-    IsLookedAt I device reads opens name command out out' status ⊎ IsOpenFailure refuses name out out' status
-
--- the words ask for a command and an image, and that image was looked at, or couldn't be opened.
--- Nothing is opened beside it, and nothing goes to standard error
-pub record RunsAsAsked {I O E : Type 0} (device : I → Device) (reads : I → ℕ) (opens : O → List ℕ → I → O → Type 0)
-    (refuses : O → List ℕ → O → Type 0) (words : List (List ℕ)) (opener opener' : O) (errors errors' : E)
-    (out out' : Sink) (status : ℕ) : Type 0 where
+-- the words ask for a command, of the image of a name
+pub record AskForCommand (words : List (List ℕ)) (name : List ℕ) (command : Command) : Type 0 where
   pub operands : Operands
   pub have : HaveOperands words operands
-  pub name : List ℕ
-  pub command : Command
-  pub asked : AskFor operands command name
-  pub looked : LookedAtBy device reads (λ name image. opens opener name image opener')
-      (λ name. refuses opener name opener') name command out out' status
-  pub quiet : errors' ≡ errors
+  pub asked : OperandsAskFor operands command name
 
--- the operands ask for no command
+-- `clap` takes the words, and they ask for no command
 pub record AskForNone (words : List (List ℕ)) : Type 0 where
   pub operands : Operands
   pub have : HaveOperands words operands
-  pub none : (command : Command) (name : List ℕ) → AskFor operands command name → ⊥
+  pub none : (command : Command) (name : List ℕ) → OperandsAskFor operands command name → ⊥
 
--- the words are wrong, or ask for the help or the version: nothing is printed to the output, and no
--- image is opened
-pub record IsRefused {O : Type 0} (words : List (List ℕ)) (opener opener' : O) (out out' : Sink) (status : ℕ)
-    : Type 0 where
-  pub refused : (refusals words ≡ [] → ⊥) ⊎ AskForNone words
-  pub unprinted : out' ≡ out
-  pub unopened : opener' ≡ opener
-  pub status_is : status ≡ 2
+-- a text says why the words are refused: `clap` refuses them, or they ask for no command
+abbrev pub IsFindText : List (List ℕ) → (text : List ℕ) → Type 0
+IsFindText words text =
+    IsTextFor find_program find_refusal_text words text ⊎ (AskForNone words × (text ≡ no_command_text))
 
--- memory was refused while the words were read. No image is opened, and nothing goes to standard error
-pub record HadNoMemory {O E : Type 0} (words : List (List ℕ)) (opener opener' : O) (errors errors' : E)
-    (out out' : Sink) (status : ℕ) : Type 0 where
-  pub lacked : LacksMemory words
-  pub printed : IsPrintedOrBrokeOff out out' (text_of cannot_alloc)
-  pub unopened : opener' ≡ opener
-  pub quiet : errors' ≡ errors
-  pub status_is : status ≡ 8
+-- a command was looked for in an image, with memory of the system of which nothing was granted before
+pub record IsLookedFor (name : List ℕ) (command : Command) (image image' : Device) (reads reads' : ℕ) (out out' : Sink)
+    (status : ℕ) : Type 0 where
+  pub memory : SystemMemory
+  pub memory' : SystemMemory
+  pub begun : account_of memory ≡ unused
+  pub found : FindsCommand command image image' (account_of memory) (account_of memory') reads reads' out out' status
 
--- how a run ends. Only where the words are refused something goes to standard error
-abbrev pub RunEnds : {I O E : Type 0} → (I → Device) → (reads : I → ℕ) → (O → List ℕ → I → O → Type 0)
-    → (O → List ℕ → O → Type 0) → List (List ℕ) → O → O → E → E → Sink → Sink → ℕ → Type 0
-RunEnds device reads opens refuses words opener opener' errors errors' out out' status =
-    RunsAsAsked device reads opens refuses words opener opener' errors errors' out out' status
-    ⊎ (IsRefused words opener opener' out out' status
-    ⊎ HadNoMemory words opener opener' errors errors' out out' status)
-
--- how a run ends whose writer is flushed after it: `out` and `out'` are the writer as an output, before
--- the run and after it, and `between` is the writer before the flush
-pub record RunEndsFlushed {I O E S : Type 0} (device : I → Device) (reads : I → ℕ)
-    (opens : O → List ℕ → I → O → Type 0) (refuses : O → List ℕ → O → Type 0)
-    (was_flushed : S → Result (Unit {0}) Error → S → Type 0) (contents : S → Option (List ℕ))
-    (words : List (List ℕ)) (opener opener' : O) (errors errors' : E) (old new : S) (status : ℕ) : Type 0 where
-  pub out : Sink
-  pub out' : Sink
-  pub between : S
-  pub before : out.taken ≡ contents old
-  pub unfailed : out.failures ≡ 0
-  pub after : out'.taken ≡ contents between
-  pub ran_status : ℕ
-  pub ran : RunEnds device reads opens refuses words opener opener' errors errors' out out' ran_status
-  pub flushed : FlushedAfter was_flushed contents between new ran_status status
+-- a look for what a command asks for
+abbrev pub ffs_find : Meaning Command
+ffs_find = record {
+  asks = AskForCommand;
+  refuses = IsFindText;
+  lacks_memory = LacksMemory find_program;
+  looks = IsLookedFor;
+}

@@ -5,10 +5,10 @@ use Rattle.ffs_volume.specs.{declared.{Layout.Layout, SuperFault.SuperFault}, La
 use Rattle.ffs_volume.specs.Disk.{Superblock.Superblock, Outcome.outcome}
 use Rattle.ffs_volume.specs.{Messages.{Kinds.{cannot_read, cannot_alloc}, Texts.text_of}, Report.Opening.fault_line}
 use Rattle.ffs_volume.specs.Report.Reads.{opening_reads, scan_reads, sweep_reads}
-use Rattle.ffs_report.specs.{Known.{ForBytes, IsContents}, Sink.{Sink, Took, BrokeOff}}
-use Rattle.ffs_report.specs.declared.fault.RunFault.{RunFault, TheVariants.{Read, Out}}
+use Rattle.ffs_report.specs.{Known.{ForBytes, IsContents}, Sink.Sink}
+use Rattle.ffs_report.specs.declared.fault.RunFault.{TheVariants.{Read, Out}}
 use Rattle.ffs_memory.specs.Account.{Account, RefusedOneMore}
-use Rattle.ffs_check.specs.Taken.{AsksMemory, Takes}
+use Rattle.ffs_check.specs.{Run.IsPrintedOrBrokeOff, Taken.{AsksMemory, Takes}}
 use Rattle.ffs_workspace.specs.Lengths.{held_of}
 use Rattle.ffs_layout.specs.Super.{ReadsSuper}
 use Rattle.ffs_finding.specs.declared.request.{Search.{Search, TheVariants.{Inode, Fields, Lost, Owner}}, Command.Command}
@@ -97,10 +97,6 @@ pub record Searches (search : Search) (sector : Option ℕ) (s : Superblock) (d 
   pub memory : TakesForSearch search s.layout held held'
   pub reads : after ≤ before + search_reads search s.layout
 
--- a text was printed, or a prefix of it where the output failed
-abbrev pub IsPrintedOrBrokeOff : Sink → Sink → List ℕ → Type 0
-IsPrintedOrBrokeOff old new text = Took old new text ⊎ BrokeOff old new text
-
 -- the line of a fault was printed, or the output failed in it, and the status is 8
 abbrev pub EndsByLine : Sink → Sink → List ℕ → ℕ → Type 0
 EndsByLine old new text status = IsPrintedOrBrokeOff old new text × (status ≡ 8)
@@ -157,7 +153,7 @@ pub record BrokeOffAmong (command : Command) (d d' : Device) (old new : Sink) (s
 
 -- the memory was refused before anything was printed, and the line that says so was printed, perhaps a
 -- part of it
-pub record HadNoMemory (d d' : Device) (held held' : Account) (old new : Sink) (status : ℕ) : Type 0 where
+pub record MemoryLacked (d d' : Device) (held held' : Account) (old new : Sink) (status : ℕ) : Type 0 where
   pub no_read_failed : d' ≡ d
   pub refused : RefusedOneMore held held'
   pub line : IsPrintedOrBrokeOff old new (text_of cannot_alloc)
@@ -167,7 +163,7 @@ pub record HadNoMemory (d d' : Device) (held held' : Account) (old new : Sink) (
 abbrev pub FindEnds : Command → Device → Device → Account → Account → Sink → Sink → ℕ → Type 0
 FindEnds command d d' held held' old new status =
     AllFound command d d' old new status ⊎ (CutByRead command d d' old new status
-    ⊎ (BrokeOffAmong command d d' old new status ⊎ HadNoMemory d d' held held' old new status))
+    ⊎ (BrokeOffAmong command d d' old new status ⊎ MemoryLacked d d' held held' old new status))
 
 -- what a command takes of the memory: `copies` a window, `lost` and `owner` the workspace of a check
 abbrev pub TakesMemory : Command → Device → Account → Account → Type 0
@@ -186,9 +182,9 @@ pub record ReadsVolume (search : Search) (sector : Option ℕ) (d : Device) (bef
   pub reads : after ≤ before + opening_reads + search_reads search found.layout
 
 -- how often a command reads an image: in a volume the superblock, and what a search reads after it
-abbrev pub ReadsWithin : Command → Device → ℕ → ℕ → Type 0
-ReadsWithin Copies d before after = ReadsCopies d before after
-ReadsWithin (InVolume sector search) d before after =
+abbrev pub ReadsForCommand : Command → Device → ℕ → ℕ → Type 0
+ReadsForCommand Copies d before after = ReadsCopies d before after
+ReadsForCommand (InVolume sector search) d before after =
     (after ≤ before + opening_reads) ⊎ ReadsVolume search sector d before after
 
 -- a command was looked for, but for the line of a fault
@@ -196,7 +192,7 @@ pub record Looks (command : Command) (d d' : Device) (held held' : Account) (bef
     (result : Result Bool FindFault) : Type 0 where
   pub answers : Answers command d d' held held' old new result
   pub memory : TakesMemory command d held held'
-  pub reads : ReadsWithin command d before after
+  pub reads : ReadsForCommand command d before after
 
 -- a command was looked for: what was printed and the status, what was taken of the memory, and how often
 -- the image was read
@@ -204,4 +200,4 @@ pub record FindsCommand (command : Command) (d d' : Device) (held held' : Accoun
     (status : ℕ) : Type 0 where
   pub ends : FindEnds command d d' held held' old new status
   pub memory : TakesMemory command d held held'
-  pub reads : ReadsWithin command d before after
+  pub reads : ReadsForCommand command d before after

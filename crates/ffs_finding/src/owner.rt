@@ -137,16 +137,18 @@ fn print_unclaimed<I: Image, W: Output>(
 
 /// A fragment, and an inode that may keep an offer of it.
 #[derive(Clone, Copy, Debug)]
-struct Asked {
+struct Sought {
     fragment: u32,
     /// The number of the inode.
     number: u32,
+    /// The cut of the inode.
+    cut: u32,
 }
 
 /// Prints the line of a Run, where the fragment is one of its first ones that are taken.
 fn print_run<W: Output>(
     out: &mut W,
-    asked: Asked,
+    sought: Sought,
     earlier: u64,
     start: u32,
     taken: u32,
@@ -154,12 +156,12 @@ fn print_run<W: Output>(
 ) -> Result<(), OutFault>
     requires { earlier + 1 < 2 ^ 64 }
     ensures { Prints (W.sink out.old) (W.sink out.new)
-        (run_text asked.fragment asked.number earlier start taken block) result }
+        (run_text sought.fragment sought.number earlier start taken block) result }
 {
-    if asked.fragment < start || asked.fragment - start >= taken {
+    if sought.fragment < start || sought.fragment - start >= taken {
         return Ok(());
     }
-    let number = u64::from(asked.number);
+    let number = u64::from(sought.number);
     let (text, value): (&[u8], u64) = match block {
         Some(block) => (b" block ", block),
         None => (b" indirect block ", earlier + 1),
@@ -178,19 +180,19 @@ fn print_run<W: Output>(
 fn print_step<W: Output>(
     out: &mut W,
     geometry: &Geometry,
-    asked: Asked,
+    sought: Sought,
     keeping: &mut Keeping,
     earlier: u64,
     step: Step,
 ) -> Result<(), OutFault>
     requires { CanPrintStep keeping.old earlier }
-    ensures { PrintsStep geometry.now.layout asked.fragment asked.number earlier step keeping.old
+    ensures { PrintsStep geometry.now.layout sought.fragment sought.number earlier step keeping.old
         keeping.new (W.sink out.old) (W.sink out.new) result }
 {
     match step {
         Step::Run { start, len, block } => {
             let taken = keeping.take(len, geometry.in_range(start, len));
-            print_run(out, asked, earlier, start, taken, block)
+            print_run(out, sought, earlier, start, taken, block)
         }
         Step::Tail | Step::Gap => Ok(()),
     }
@@ -206,27 +208,25 @@ fn indirect_in(step: Step) -> u64
     }
 }
 
-/// Walks over the blocks of an inode with this cut, and prints a line for each offer of the fragment
-/// that it keeps.
+/// Walks over the blocks of an inode, and prints a line for each offer of the fragment that it keeps.
 fn print_kept<I: Image, W: Output>(
     image: &mut I,
     geometry: &Geometry,
     blocks: &mut Blocks,
-    asked: Asked,
+    sought: Sought,
     inode: &Inode,
-    cut: u32,
     out: &mut W,
 ) -> Result<(), RunFault>
     requires { CanWalk geometry.now.layout (I.device image.old) blocks.old }
-    ensures { WalksKept geometry.now.layout asked.fragment asked.number cut inode.now
+    ensures { WalksKept geometry.now.layout sought.fragment sought.number sought.cut inode.now
         (I.device image.old) (I.device image.new) (I.reads image.old) (I.reads image.new)
         blocks.old blocks.new (W.sink out.old) (W.sink out.new) result }
 {
-    let mut keeping = Keeping::start(cut);
+    let mut keeping = Keeping::start(sought.cut);
     let mut walk = Walk::start(geometry, inode);
     let mut earlier = 0;
     while let Some(step) = walk.next(image, blocks)? {
-        print_step(out, geometry, asked, &mut keeping, earlier, step)?;
+        print_step(out, geometry, sought, &mut keeping, earlier, step)?;
         if !keeping.is_replay_open() {
             break;
         }
@@ -243,26 +243,25 @@ fn print_keeper<I: Image, W: Output>(
     image: &mut I,
     geometry: &Geometry,
     workspace: &mut Workspace,
-    asked: Asked,
+    fragment: u32,
+    number: u32,
     out: &mut W,
 ) -> Result<(), RunFault>
-    requires { CanLookAtInode geometry.now.layout (I.device image.old) workspace.old asked.number }
-    ensures { LooksAtInode geometry.now.layout asked.fragment asked.number (I.device image.old)
+    requires { CanLookAtInode geometry.now.layout (I.device image.old) workspace.old number }
+    ensures { LooksAtInode geometry.now.layout fragment number (I.device image.old)
         (I.device image.new) (I.reads image.old) (I.reads image.new) workspace.old workspace.new
         (W.sink out.old) (W.sink out.new) result }
 {
     let windows = &mut workspace.windows;
-    let inode = windows.table.inode(geometry, asked.number, image)?;
-    let cut = workspace.noted_cut(asked.number);
-    print_kept(
-        image,
-        geometry,
-        &mut workspace.windows.blocks,
-        asked,
-        &inode,
+    let inode = windows.table.inode(geometry, number, image)?;
+    let cut = workspace.noted_cut(number);
+    let sought = Sought {
+        fragment,
+        number,
         cut,
-        out,
-    )
+    };
+    let blocks = &mut workspace.windows.blocks;
+    print_kept(image, geometry, blocks, sought, &inode, out)
 }
 
 /// Whether an inode is allocated, as phase 1 found it: no other one has blocks.
@@ -291,7 +290,7 @@ fn print_keepers<I: Image, W: Output>(
         if !is_allocated(workspace, number) {
             continue;
         }
-        print_keeper(image, geometry, workspace, Asked { fragment, number }, out)?;
+        print_keeper(image, geometry, workspace, fragment, number, out)?;
     }
     Ok(())
 }

@@ -1,97 +1,74 @@
-//! A run: parses the words, opens the image, and looks in it. `main` adds the standard streams.
-ghost use Rattle.std.specs.Prelude.{◌≡◌, map};
-ghost use Rattle.ffs_finding.specs.Run.{LookedAtBy, RunEnds, RunEndsFlushed};
+//! The program `ffs_find`: a look for something in the image that its words name. `main` adds the
+//! standard streams.
+ghost use Rattle.std.specs.Prelude.{map};
+ghost use Rattle.ffs_check.specs.{Refusals.IsWritten, Run.RunEndsFlushed};
+ghost use Rattle.ffs_finding.specs.Run.{ffs_find};
 
 use crate::find::find_in;
-use crate::words::{Request, operands_of, request_of};
-use crate::wrong_words::{write_refusal, write_usage};
+use crate::request::Command;
+use crate::words::{operands_of, request_of};
+use crate::wrong_words::refusal_of;
 use clap::error::ErrorKind;
 use ffs_check::opener::Opener;
-use ffs_check::run::{NOT_COMPLETED, WRONG_WORDS, flush_after, print_unopened};
+use ffs_check::program::{Asked, NotAsked, Program};
+use ffs_check::run::run_program;
 use ffs_image::{Image, RawImage, System};
 use ffs_memory::SystemMemory;
-use ffs_report::print::print;
-use ffs_report::{Counted, Outlet, Output};
-use ffs_volume::texts::CANNOT_ALLOC;
+use ffs_report::{Outlet, Output};
 use std::alloc::Global;
-use std::io::Write;
 
-/// Looks in the image that is opened under the name asked for, and returns the exit status.
-fn find_named<O: Opener, W: Output>(
-    opener: &mut O,
-    alloc: Global,
-    request: &Request<'_>,
-    out: &mut W,
-) -> u8
-    ensures { LookedAtBy O.Image.device O.Image.reads
-        (λ name image. O.opens opener.old name image opener.new)
-        (λ name. O.refuses opener.old name opener.new) request.now.name.now request.now.command
-        (W.sink out.old) (W.sink out.new) result }
-{
-    match opener.open(request.name) {
-        Ok(mut image) => {
-            let mut memory = SystemMemory::new(alloc);
-            find_in(&mut memory, &mut image, request.command, out)
+/// The program `ffs_find`. A request is a command.
+#[derive(Clone, Copy, Debug)]
+pub struct Find;
+
+impl Program for Find {
+    type Request = Command;
+
+    ghost meaning = { ffs_find };
+
+    fn request_of<'a>(alloc: Global, words: &'a [&'a str]) -> Result<Asked<'a, Command>, NotAsked> {
+        match operands_of(alloc, words) {
+            Ok(operands) => match request_of(&operands) {
+                Some(asked) => Ok(asked),
+                None => Err(NotAsked::Refused(refusal_of(ErrorKind::UnknownArgument))),
+            },
+            Err(error) => match error.kind() {
+                ErrorKind::OutOfMemory => Err(NotAsked::NoMemory),
+                kind => Err(NotAsked::Refused(refusal_of(kind))),
+            },
         }
-        Err(_) => {
-            let _ = print_unopened(out, request.name);
-            NOT_COMPLETED
-        }
+    }
+
+    fn look<I: Image, W: Output>(
+        alloc: Global,
+        image: &mut I,
+        asked: &Asked<'_, Command>,
+        out: &mut W,
+    ) -> u8 {
+        let mut memory = SystemMemory::new(alloc);
+        find_in(&mut memory, image, asked.request, out)
     }
 }
 
-/// Looks in an image for what the words ask for, and returns the exit status: 0, 1 where a defect
-/// was found, 2 where the words are wrong, or 8 where the search didn't run to its end. `words` are
+/// Looks in a file for what the words ask for, and returns the exit status: 0, 1 where a defect was
+/// found, 2 where the words are wrong, or 8 where the search didn't run to its end. `words` are
 /// those after the program's name.
 ///
-/// The image is the one that `opener` opens under the name asked for, and what is found goes to
-/// `out`. Only the text for wrong words, and that of the help and the version, goes to `errors`:
-/// nothing is printed to `out` then.
-pub fn run_over<O: Opener, W: Output, E: Write>(
-    opener: &mut O,
-    alloc: Global,
-    words: &[&str],
-    out: &mut W,
-    errors: &mut E,
-) -> u8
-    ensures { RunEnds O.Image.device O.Image.reads O.opens O.refuses
-        (map (λ word. word.now) words.now) opener.old opener.new errors.old errors.new
-        (W.sink out.old) (W.sink out.new) result }
-{
-    match operands_of(alloc, words) {
-        Ok(operands) => match request_of(&operands) {
-            Some(request) => find_named(opener, alloc, &request, out),
-            None => {
-                let _ = write_usage(errors);
-                WRONG_WORDS
-            }
-        },
-        Err(error) if error.kind() == ErrorKind::OutOfMemory => {
-            let _ = print(out, CANNOT_ALLOC);
-            NOT_COMPLETED
-        }
-        Err(error) => {
-            let _ = write_refusal(errors, &error);
-            WRONG_WORDS
-        }
-    }
-}
-
-/// Looks in a file for what the words ask for, and returns the exit status, as `run_over` does.
 /// What is found goes to `out`, which is flushed; a failed flush is status 8, as a failed write is.
-pub fn run<Y: System, S: Outlet, E: Write>(
+/// Only the text for wrong words, and that of the help and the version, goes to `errors`: nothing
+/// is printed to `out` then.
+pub fn run<Y: System, S: Outlet, E: Outlet>(
     system: &mut Y,
     alloc: Global,
     words: &[&str],
     out: &mut S,
     errors: &mut E,
 ) -> u8
-    ensures { RunEndsFlushed ⟦<RawImage<Y::File> as Image>⟧.device
+    ensures { RunEndsFlushed ffs_find ⟦<RawImage<Y::File> as Image>⟧.device
         ⟦<RawImage<Y::File> as Image>⟧.reads
-        ⟦<Y as Opener>⟧.opens ⟦<Y as Opener>⟧.refuses S.was_flushed S.contents
-        (map (λ word. word.now) words.now) system.old system.new errors.old errors.new out.old
-        out.new result }
+        ⟦<Y as Opener>⟧.opens ⟦<Y as Opener>⟧.refuses (IsWritten E.contents E.was_written)
+        S.was_written S.was_flushed S.contents (map (λ word. word.now) words.now) system.old
+        system.new errors.old errors.new out.old out.new result }
 {
-    let status = run_over(system, alloc, words, &mut Counted::new(out), errors);
-    flush_after(out, status)
+    run_program::<Find, _, _, _>(system, alloc, words, out, errors)
 }

@@ -1,66 +1,32 @@
 //! The words of the command line.
-ghost use Rattle.std.specs.Prelude.{◌≡◌, None, map, IfOk, MatchOption, MatchResult};
+ghost use Rattle.std.specs.Prelude.{◌≡◌, None, map, MatchOption, MatchResult};
 ghost use Rattle.clap.specs.{Words.{app_of, kind_of}, declared.error.kind.ErrorKind.TheVariants.OutOfMemory};
-ghost use Rattle.ffs_check.specs.CommandWords.{IsArgument, sector_rule};
-ghost use Rattle.ffs_finding.specs.CommandWords.{AreRefusedBy, HasMatches, HaveOperands, image_rule, needed_rule, no_write_rule, program};
+ghost use Rattle.ffs_check.specs.CommandWords.{AreRefusedBy, HasMatches, IsArgument};
+ghost use Rattle.ffs_finding.specs.CommandWords.{HaveOperands, find_program, last_rule};
 ghost use Rattle.ffs_finding.specs.declared.request.Search.{Search};
 ghost use Rattle.ffs_finding.specs.Operands.{IsSearch, SaysOf, operands_in};
 
-use crate::request::{Command as Asked, Search};
+use crate::request::{Command as Wanted, Search};
 use clap::{Arg, ArgAction, ArgMatches, Command, Error};
-use ffs_check::version::VERSION;
-use std::alloc::{AllocError, Global};
-
-/// The first sector that can't be asked for, 2^22: a sector below it begins below byte 2^31.
-const SECTOR_END: i64 = 4194304;
-
-/// `-n` or `-N`: nothing is ever written.
-fn no_write_argument<'a>(alloc: Global) -> Result<Arg<'a>, AllocError>
-    ensures { IfOk result (λ argument. IsArgument argument no_write_rule) }
-{
-    Ok(
-        Arg::new(alloc, "no")
-            .short('n')
-            .visible_short_alias('N')?
-            .action(ArgAction::Count),
-    )
-}
-
-/// `-b sector`: where the superblock is.
-fn sector_argument<'a>(alloc: Global) -> Arg<'a>
-    ensures { IsArgument result sector_rule }
-{
-    Arg::new(alloc, "sector")
-        .short('b')
-        .value_name("sector")
-        .action(ArgAction::Set)
-        .value_parser(clap::value_parser!(u32).range(1..SECTOR_END))
-}
-
-/// A word that has to be there.
-fn needed_argument<'a>(alloc: Global, name: &'static str) -> Arg<'a>
-    ensures { IsArgument result (needed_rule name.now) }
-{
-    Arg::new(alloc, name).required(true).action(ArgAction::Set)
-}
+use ffs_check::program::Asked;
+use ffs_check::words::{needed_argument, no_write_argument, sector_argument, wordless_command};
+use std::alloc::Global;
 
 /// The image, after a number.
 fn image_argument<'a>(alloc: Global) -> Arg<'a>
-    ensures { IsArgument result image_rule }
+    ensures { IsArgument result last_rule }
 {
     Arg::new(alloc, "image").action(ArgAction::Set)
 }
 
 /// The words that the program takes.
 fn command<'a>(alloc: Global) -> Result<Command<'a>, Error>
-    ensures { MatchResult result (λ command. app_of command ≡ program)
+    ensures { MatchResult result (λ command. app_of command ≡ find_program)
         (λ error. kind_of error ≡ OutOfMemory) }
 {
     let no_write = no_write_argument(alloc)?;
     Ok(
-        Command::new(alloc, "ffs_find")
-            .no_binary_name(true)
-            .version(VERSION)
+        wordless_command(alloc, "ffs_find")
             .arg(no_write)?
             .arg(sector_argument(alloc))?
             .arg(needed_argument(alloc, "command"))?
@@ -70,10 +36,10 @@ fn command<'a>(alloc: Global) -> Result<Command<'a>, Error>
 }
 
 /// Asks `clap` what the words say: the one call that may say of them that memory was refused.
-#[tactic(auto, unfolding(crate::specs::CommandWords::LacksMemory))]
+#[tactic(auto, unfolding(ffs_check::specs::CommandWords::LacksMemory))]
 fn matches_of<'a>(alloc: Global, words: &'a [&'a str]) -> Result<ArgMatches<'a>, Error>
-    ensures { MatchResult result (HasMatches (map (λ word. word.now) words.now))
-        (AreRefusedBy (map (λ word. word.now) words.now)) }
+    ensures { MatchResult result (HasMatches find_program (map (λ word. word.now) words.now))
+        (AreRefusedBy find_program (map (λ word. word.now) words.now)) }
 {
     command(alloc)?.try_get_matches_from(words)
 }
@@ -91,13 +57,6 @@ pub(crate) struct Operands<'a> {
     sector: Option<u32>,
 }
 
-/// What is asked for, of the image of a name.
-#[derive(Clone, Copy, Debug)]
-pub(crate) struct Request<'a> {
-    pub(crate) name: &'a str,
-    pub(crate) command: Asked,
-}
-
 /// Parses the words after the program's name.
 ///
 /// # Errors
@@ -105,7 +64,7 @@ pub(crate) struct Request<'a> {
 pub(crate) fn operands_of<'a>(alloc: Global, words: &'a [&'a str]) -> Result<Operands<'a>, Error>
     ensures { MatchResult result
         (λ operands. HaveOperands (map (λ word. word.now) words.now) (operands_in operands))
-        (AreRefusedBy (map (λ word. word.now) words.now)) }
+        (AreRefusedBy find_program (map (λ word. word.now) words.now)) }
 {
     let matches = matches_of(alloc, words)?;
     Ok(Operands {
@@ -117,25 +76,25 @@ pub(crate) fn operands_of<'a>(alloc: Global, words: &'a [&'a str]) -> Result<Ope
 }
 
 /// What operands without a number ask for, if they ask for something.
-fn plain_request<'a>(operands: &Operands<'a>) -> Option<Request<'a>>
+fn plain_request<'a>(operands: &Operands<'a>) -> Option<Asked<'a, Wanted>>
     requires { operands.now.second ≡ None }
     ensures { SaysOf (operands_in operands.now) result }
 {
     let sector = operands.sector;
     let name = operands.first;
     if operands.command == "copies" && sector.is_none() {
-        let command = Asked::Copies;
-        return Some(Request { name, command });
+        let request = Wanted::Copies;
+        return Some(Asked { name, request });
     }
     if operands.command == "fields" {
         let search = Search::Fields;
-        let command = Asked::InVolume { sector, search };
-        return Some(Request { name, command });
+        let request = Wanted::InVolume { sector, search };
+        return Some(Asked { name, request });
     }
     if operands.command == "lost" {
         let search = Search::Lost;
-        let command = Asked::InVolume { sector, search };
-        return Some(Request { name, command });
+        let request = Wanted::InVolume { sector, search };
+        return Some(Asked { name, request });
     }
     None
 }
@@ -155,7 +114,7 @@ fn numbered_search(command: &str, number: u32) -> Option<Search>
 }
 
 /// What the operands ask for, if they ask for something.
-pub(crate) fn request_of<'a>(operands: &Operands<'a>) -> Option<Request<'a>>
+pub(crate) fn request_of<'a>(operands: &Operands<'a>) -> Option<Asked<'a, Wanted>>
     ensures { SaysOf (operands_in operands.now) result }
 {
     let sector = operands.sector;
@@ -167,8 +126,8 @@ pub(crate) fn request_of<'a>(operands: &Operands<'a>) -> Option<Request<'a>>
     };
     match numbered_search(operands.command, number) {
         Some(search) => {
-            let command = Asked::InVolume { sector, search };
-            Some(Request { name, command })
+            let request = Wanted::InVolume { sector, search };
+            Some(Asked { name, request })
         }
         None => None,
     }

@@ -1,22 +1,24 @@
 //! What is written where nothing is looked for: the help, the version, and what is wrong with the
 //! words.
+ghost use Rattle.std.specs.Prelude.{◌≡◌};
+ghost use Rattle.ffs_check.specs.Refusals.{text_refused};
+ghost use Rattle.ffs_finding.specs.WrongWords.{find_first_text, find_refusal_text};
 
-use clap::Error;
 use clap::error::ErrorKind;
-use std::io;
-use std::io::Write;
+use ffs_check::refusal::{Refusal, second_text};
 
-const USAGE: &str = "Usage: ffs_find copies image
+const USAGE: &[u8] = b"
+
+Usage: ffs_find copies image
        ffs_find [-b sector] inode number image
        ffs_find [-b sector] fields image
        ffs_find [-b sector] lost image
        ffs_find [-b sector] owner fragment image
 
-For more information, try '--help'.
-";
+For more information, try '--help'.";
 
-const HELP: &str =
-    "Looks for things in an image of a Berkeley fast file system (UFS1), and never writes it.
+const HELP: &[u8] =
+    b"Looks for things in an image of a Berkeley fast file system (UFS1), and never writes it.
 
 Usage: ffs_find copies image
        ffs_find [-b sector] inode number image
@@ -40,35 +42,37 @@ Status:
   0  what was found is printed, or nothing was found
   1  fields or lost printed a line
   2  the words are wrong, or ask for this help or the version
-  8  the search didn't run to its end; the last message says why
-";
+  8  the search didn't run to its end; the last message says why";
 
-/// Writes that no command has these words, and the usage.
-///
-/// # Errors
-/// Those of the writer.
-pub(crate) fn write_usage<E: Write>(errors: &mut E) -> io::Result<()> {
-    write!(errors, "error: no command has these words\n\n{USAGE}")
+const NAME: &[u8] = b"ffs_find ";
+
+const NEEDED: &[u8] = b"error: a command and an image are needed";
+
+const SECTOR_RANGE: &[u8] = b"error: a sector is 1 to 4194303";
+
+const NO_COMMAND: &[u8] = b"error: no command has these words";
+
+/// What the text for these words begins with: the help, the program's name before its version, or
+/// what is wrong.
+fn first_text(kind: ErrorKind) -> &'static [u8]
+    ensures { result.now ≡ find_first_text kind }
+{
+    match kind {
+        ErrorKind::DisplayHelp => HELP,
+        ErrorKind::DisplayVersion => NAME,
+        ErrorKind::MissingRequiredArgument => NEEDED,
+        ErrorKind::ValueValidation => SECTOR_RANGE,
+        _ => NO_COMMAND,
+    }
 }
 
-/// Writes why nothing is looked for by words that `clap` refuses, or the help or the version that
-/// they ask for.
-///
-/// # Errors
-/// Those of the writer.
-pub(crate) fn write_refusal<E: Write>(errors: &mut E, error: &Error) -> io::Result<()> {
-    match error.kind() {
-        ErrorKind::DisplayHelp => errors.write_all(HELP.as_bytes()),
-        ErrorKind::DisplayVersion => write!(errors, "{error}"),
-        ErrorKind::ValueValidation => {
-            write!(errors, "error: a sector is 1 to 4194303\n\n{USAGE}")
-        }
-        ErrorKind::MissingRequiredArgument => {
-            write!(
-                errors,
-                "error: a command and an image are needed\n\n{USAGE}"
-            )
-        }
-        _ => write_usage(errors),
+/// What is written for words of which `clap` reports this kind of mistake, or that no command has:
+/// then an unknown argument.
+pub(crate) fn refusal_of(kind: ErrorKind) -> Refusal
+    ensures { text_refused result ≡ find_refusal_text kind }
+{
+    Refusal {
+        first: first_text(kind),
+        second: second_text(kind, USAGE),
     }
 }

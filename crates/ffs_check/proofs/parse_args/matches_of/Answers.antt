@@ -1,24 +1,6 @@
-use Rattle.std.proofs.Common.{◌≡◌, ◌∙◌, ap, subst, sym, true, Ok, Err, List, Result, IfOk, MatchResult}
-use Rattle.clap.specs.Words.{App, FailsBy, HasKind, HasMatchesOf, Text, fault_of, is_simple, is_simple_and_free, matches_of}
-use Rattle.clap.specs.declared.{error.Error.Error, parser.matches.ArgMatches.ArgMatches}
-use Rattle.ffs_check.{proofs.MatchLaws.{free, simple}, specs.CommandWords.{AreRefusedBy, HasMatches}}
-use Rattle.ffs_check.specs.CommandWords.{LacksMemory, program}
+use Rattle.ffs_check.proofs.MatchLaws.{answered, free, simple}
 use Rattle.ffs_check.proofs.parse_args.matches_of.Goals as goal
 
--- what `clap` answers of a program says so of these words
-answered : (a : App) (words : List Text) (r : Result ArgMatches Error) → a ≡ program →
-    (is_simple_and_free a ≡ true → FailsBy (fault_of a words) r) → IfOk r (HasMatchesOf a words) →
-    MatchResult r (HasMatches words) (AreRefusedBy words)
-unfolding LacksMemory
-answered a words (Ok m) is kinds matches = record {
-  taken = ap (λ (x : App). fault_of x words) (sym is) ∙ kinds (ap is_simple_and_free is ∙ free);
-  rows = (matches (ap is_simple is ∙ simple)).0 ∙ ap (λ (x : App). matches_of x words) is;
-}
-answered a words (Err e) is kinds matches = record {
-  cause = subst (λ (x : App). HasKind (fault_of x words) e) is (kinds (ap is_simple_and_free is ∙ free));
-  memory = λ asked. tt;
-}
-
 pub returns : goal.returns
-returns c = answered _ _ _ c.in_ok-command.ensures c.try_get_matches_from.ensures.kinds
+returns c = answered _ _ _ _ c.in_ok-command.ensures simple free c.try_get_matches_from.ensures.kinds
     c.try_get_matches_from.ensures.matches

@@ -1,4 +1,3 @@
-use Rattle.std.proofs.{Common.{refl}, lemmas.Result.err_from_is_err_and}
 use Rattle.ffs_finding.proofs.claims.claimed_workspace.Goals as goal
 
 pub claim_all-requires : goal.claim_all-requires

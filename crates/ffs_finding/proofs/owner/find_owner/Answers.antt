@@ -4,7 +4,7 @@ use Rattle.ffs_image.specs.Device.{Device}
 use Rattle.ffs_volume.specs.{Blocks.Claims.is_set, Disk.Areas.is_reserved, Laws.Geometry.IsAcceptedLayout, declared.Layout.Layout}
 use Rattle.ffs_maps.specs.Bits.{bits_of}
 use Rattle.ffs_report.specs.Known.{ForBytes}
-use Rattle.ffs_workspace.specs.{Found.WithPhase1, Holds.all_claims, declared.workspace.Workspace.Workspace}
+use Rattle.ffs_workspace.specs.{Found.WithPhase1, declared.workspace.Workspace.Workspace}
 use Rattle.ffs_finding.specs.{Fields.any_line, Keepers.map_lines}
 use Rattle.ffs_volume.specs.Find.Owner.{keeper_lines, or_lines, lines_of_fragment, reserved_text}
 use Rattle.ffs_finding.proofs.{Claimed.claimed_is, Keepers.same_lines}

@@ -1,5 +1,4 @@
-use Rattle.std.proofs.Common.{◌≡◌, ◌∙◌, ◌+◌, ◌-◌, ◌*◌, ◌/◌, ◌<◌, ◌≤◌, ℕ, List, Bool, true, false, codes, arith, refl, sym}
-use Rattle.std.specs.Int.{div_ceil}
+use Rattle.std.proofs.Common.{◌≡◌, ◌∙◌, ◌+◌, ◌-◌, ◌<◌, ◌≤◌, ℕ, List, Bool, true, false, codes, arith, refl, sym}
 use Rattle.ffs_volume.specs.{declared.Layout.Layout, Disk.Areas.cgbase, Messages.Texts.number_text}
 use Rattle.ffs_volume.specs.Groups.Records.{bit_at, fragment_map_place}
 use Rattle.ffs_volume.specs.Laws.Geometry.{IsAcceptedLayout}

@@ -1,4 +1,4 @@
-use Rattle.std.proofs.Common.{◌≡◌, ◌∙◌, arith, ap, refl}
+use Rattle.std.proofs.Common.{arith, ap, refl}
 use Rattle.std.proofs.lemmas.Result.{err_from_is_err_and}
 use Rattle.ffs_workspace.proofs.Readiness.{ready_table}
 use Rattle.ffs_finding.proofs.Printing.{reads_first}

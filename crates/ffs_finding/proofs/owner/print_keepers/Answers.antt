@@ -1,4 +1,4 @@
-use Rattle.std.proofs.Common.{◌≡◌, ◌∙◌, ◌+◌, ◌++◌, ◌<◌, ◌≤◌, ℕ, Bool, true, false, List, [], Result, Err, slice_index, arith, refl, sym, ap}
+use Rattle.std.proofs.Common.{◌≡◌, ◌∙◌, ◌+◌, ◌++◌, ◌<◌, ◌≤◌, ℕ, Bool, false, List, [], Result, Err, slice_index, arith, refl, sym, ap}
 use Rattle.std.proofs.lemmas.{Bool.Decides.nat_tests, Result.err_from_is_err_and}
 use Rattle.ffs_volume.specs.{declared.Layout.Layout, Encodings.Kinds.{is_allocated_kind, kind_at}}
 use Rattle.ffs_report.{proofs.Sinks.took_nil, specs.{Known.ForBytes, declared.fault.RunFault.RunFault}}
@@ -7,7 +7,7 @@ use Rattle.ffs_claims.proofs.{Numbers.numbers_most, Rescanned.runs_most, Frames.
 use Rattle.ffs_volume.specs.Find.Owner.{keeper_lines_of_inode}
 use Rattle.ffs_finding.proofs.Keepers.{found_lines, found_reads, stays_then}
 use Rattle.ffs_finding.proofs.Owners.{inode_runs, keepers_begin, keepers_end, keepers_from, keepers_next, no_lines}
-use Rattle.ffs_finding.proofs.Printing.{part, part_fault, printed_all, same_fault}
+use Rattle.ffs_finding.proofs.Printing.{part, part_fault, printed_all}
 use Rattle.ffs_finding.proofs.owner.print_keepers.Goals as goal
 
 pub loop-number-init : goal.loop-number-init

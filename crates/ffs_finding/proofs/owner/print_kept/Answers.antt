@@ -1,7 +1,7 @@
-use Rattle.std.proofs.Common.{◌≡◌, ◌∙◌, ℕ, ◌+◌, ◌≤◌, ◌++◌, List, [], replicate, true, arith, refl, sym, ap}
+use Rattle.std.proofs.Common.{◌≡◌, ◌∙◌, ◌+◌, ◌++◌, [], replicate, true, arith, refl, sym, ap}
 use Rattle.std.proofs.lemmas.{Bool.Decides.nat_tests, Result.err_from_is_err_and}
 use Rattle.ffs_volume.specs.Encodings.{Replay.{fresh_replay, is_replay_open}, ReplayCounts.{replay_step_by_cut, replayed_runs}}
-use Rattle.ffs_volume.specs.{Blocks.Steps.steps_of, declared.Step.TheVariants.Gap}
+use Rattle.ffs_volume.specs.{declared.Step.TheVariants.Gap}
 use Rattle.ffs_volume.proofs.ReplayLaws.{gaps_seen}
 use Rattle.ffs_report.{proofs.Sinks.took_nil, specs.Known.{ForBytes, IsContents}}
 use Rattle.ffs_walk.{proofs.Counted.{top_held, top_unread}, specs.{Keepings.replay_in, Rests.steps_left}}
@@ -16,12 +16,12 @@ use Rattle.ffs_finding.proofs.owner.print_kept.Goals as goal
 pub loop-step-init : goal.loop-step-init
 loop-step-init g c =
     let begun = c.start-keeping.ensures.fresh in
-    let first : is_replay_open c.args.cut fresh_replay ≡ true = grind (arith, nat_tests) in
+    let first : is_replay_open c.args.sought.cut fresh_replay ≡ true = grind (arith, nat_tests) in
     let top = c.start-walk.ensures.top in
     record {
       device = refl;
       cut = c.start-keeping.ensures.cut;
-      going = ap (is_replay_open c.args.cut) begun ∙ first;
+      going = ap (is_replay_open c.args.sought.cut) begun ∙ first;
       geometry = c.start-walk.ensures.geometry;
       blocks = record { size = refl; holds = c.requires.holds };
       held = top_held c.start-walk.result top _;
@@ -70,12 +70,12 @@ returns-in_err-print_step g c =
     rw (p.1, p.2) (record {
       found = record {
         image = image;
-        text = stops _ _ (λ b. lines_again v c.args.asked.fragment c.args.asked.number
-            (c.loop-step.earlier + indirect_in c.in-Some.step) c.args.cut
-            (replay_step_by_cut v c.args.cut r c.in-Some.step) (steps_left b c.next.new.self)) _
-            (step_lines_again v c.args.asked.fragment c.args.asked.number c.loop-step.earlier c.args.cut r c.in-Some.step)
+        text = stops _ _ (λ b. lines_again v c.args.sought.fragment c.args.sought.number
+            (c.loop-step.earlier + indirect_in c.in-Some.step) c.args.sought.cut
+            (replay_step_by_cut v c.args.sought.cut r c.in-Some.step) (steps_left b c.next.new.self)) _
+            (step_lines_again v c.args.sought.fragment c.args.sought.number c.loop-step.earlier c.args.sought.cut r c.in-Some.step)
             _ _ _ inv.printed
-            (λ b k. lines_next v c.args.asked.fragment c.args.asked.number c.loop-step.earlier _ c.args.cut r _
+            (λ b k. lines_next v c.args.sought.fragment c.args.sought.number c.loop-step.earlier _ c.args.sought.cut r _
             c.in-Some.step _ _ (next b k) refl refl)
             (rw inv.cut at c.in_err-print_step.ensures.text);
       };
@@ -91,7 +91,7 @@ pub loop-step-preserved : goal.loop-step-preserved
 loop-step-preserved g c =
     let inv = c.loop-step.invariant in
     let v = c.args.geometry.now.layout in
-    let cut = c.args.cut in
+    let cut = c.args.sought.cut in
     let r = replay_in c.loop-step.keeping in
     let r' = replay_in c.print_step.new.keeping in
     let did = c.in_ok-print_step.ensures in
@@ -113,9 +113,9 @@ loop-step-preserved g c =
       paid = λ b k.
           let more = runs_next v cut r r' c.in-Some.step _ _ (next b k) now in
           omega (arith, inv.paid b k, paid, more, seen_pays cut r c.in-Some.step inv.going);
-      printed = prints _ _ _ _ (step_lines_again v c.args.asked.fragment c.args.asked.number c.loop-step.earlier cut r
+      printed = prints _ _ _ _ (step_lines_again v c.args.sought.fragment c.args.sought.number c.loop-step.earlier cut r
           c.in-Some.step) _ _ _ inv.printed
-          (λ b k. lines_next v c.args.asked.fragment c.args.asked.number c.loop-step.earlier _ cut r r'
+          (λ b k. lines_next v c.args.sought.fragment c.args.sought.number c.loop-step.earlier _ cut r r'
           c.in-Some.step _ _ (next b k) now (ap (λ n. c.loop-step.earlier + n) c.indirect_in-earlier.ensures))
           text;
     }
@@ -124,7 +124,7 @@ pub loop-step-preserved-then-matches : goal.loop-step-preserved-then-matches
 loop-step-preserved-then-matches g c =
     let inv = c.loop-step.invariant in
     let v = c.args.geometry.now.layout in
-    let cut = c.args.cut in
+    let cut = c.args.sought.cut in
     let r = replay_in c.loop-step.keeping in
     let r' = replay_in c.print_step.new.keeping in
     let did = c.in_ok-print_step.ensures in
@@ -154,14 +154,14 @@ loop-step-preserved-then-matches g c =
           let skipped = ap (replayed_runs v cut r') (gaps b k)
           ∙ gaps_seen v cut r' c.skip_gaps.result (steps_left b c.skip_gaps.new.self) in
           omega (arith, inv.paid b k, paid, more, seen_pays cut r c.in-Some.step inv.going, skipped, passed.counted.unread);
-      printed = prints _ _ _ _ (step_lines_again v c.args.asked.fragment c.args.asked.number c.loop-step.earlier cut r
+      printed = prints _ _ _ _ (step_lines_again v c.args.sought.fragment c.args.sought.number c.loop-step.earlier cut r
           c.in-Some.step) _ _ _ inv.printed
-          (λ b k. lines_next v c.args.asked.fragment c.args.asked.number c.loop-step.earlier _ cut r r'
+          (λ b k. lines_next v c.args.sought.fragment c.args.sought.number c.loop-step.earlier _ cut r r'
           c.in-Some.step _ _ (next b k) now (ap (λ n. c.loop-step.earlier + n) c.indirect_in-earlier.ensures)
-          ∙ ap (λ ls. step_lines_again v c.args.asked.fragment c.args.asked.number c.loop-step.earlier cut r
-          c.in-Some.step ++ ls) (ap (lines_again v c.args.asked.fragment c.args.asked.number
+          ∙ ap (λ ls. step_lines_again v c.args.sought.fragment c.args.sought.number c.loop-step.earlier cut r
+          c.in-Some.step ++ ls) (ap (lines_again v c.args.sought.fragment c.args.sought.number
           (c.loop-step.earlier + c.indirect_in-earlier.result) cut r') (gaps b k)
-          ∙ lines_gaps v c.args.asked.fragment c.args.asked.number _ cut r' c.skip_gaps.result
+          ∙ lines_gaps v c.args.sought.fragment c.args.sought.number _ cut r' c.skip_gaps.result
           (steps_left b c.skip_gaps.new.self)))
           text;
     }
@@ -170,7 +170,7 @@ pub returns-then-not-is_replay_open : goal.returns-then-not-is_replay_open
 returns-then-not-is_replay_open g c =
     let inv = c.loop-step.invariant in
     let v = c.args.geometry.now.layout in
-    let cut = c.args.cut in
+    let cut = c.args.sought.cut in
     let r = replay_in c.loop-step.keeping in
     let r' = replay_in c.print_step.new.keeping in
     let did = c.in_ok-print_step.ensures in
@@ -183,12 +183,12 @@ returns-then-not-is_replay_open g c =
     record {
       found = record {
         image = image;
-        text = prints _ _ _ _ (step_lines_again v c.args.asked.fragment c.args.asked.number c.loop-step.earlier cut r
+        text = prints _ _ _ _ (step_lines_again v c.args.sought.fragment c.args.sought.number c.loop-step.earlier cut r
             c.in-Some.step) _ _ _ inv.printed
-            (λ b k. lines_next v c.args.asked.fragment c.args.asked.number c.loop-step.earlier _ cut r r'
+            (λ b k. lines_next v c.args.sought.fragment c.args.sought.number c.loop-step.earlier _ cut r r'
             c.in-Some.step _ _ (next b k) now refl
-            ∙ ap (λ ls. step_lines_again v c.args.asked.fragment c.args.asked.number c.loop-step.earlier cut r
-            c.in-Some.step ++ ls) (lines_stopped v c.args.asked.fragment c.args.asked.number _ cut r' _ shut))
+            ∙ ap (λ ls. step_lines_again v c.args.sought.fragment c.args.sought.number c.loop-step.earlier cut r
+            c.in-Some.step ++ ls) (lines_stopped v c.args.sought.fragment c.args.sought.number _ cut r' _ shut))
             text;
       };
       blocks = blocks_then inv.geometry inv.blocks c.next.ensures.leaves.kept;
@@ -203,8 +203,8 @@ returns-in_default g c =
     record {
       found = record {
         image = c.in_ok-step.ensures.leaves.read ∙ inv.device;
-        text = printed_all _ _ _ _ _ inv.printed (λ b k. lines_none c.args.geometry.now.layout c.args.asked.fragment
-            c.args.asked.number c.loop-step.earlier c.args.cut (replay_in c.loop-step.keeping) _ (over b k));
+        text = printed_all _ _ _ _ _ inv.printed (λ b k. lines_none c.args.geometry.now.layout c.args.sought.fragment
+            c.args.sought.number c.loop-step.earlier c.args.sought.cut (replay_in c.loop-step.keeping) _ (over b k));
       };
       blocks = blocks_then inv.geometry inv.blocks c.next.ensures.leaves.kept;
       reads = λ b k. omega (arith, inv.paid b k, reads.most);

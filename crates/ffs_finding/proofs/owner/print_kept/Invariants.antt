@@ -11,17 +11,17 @@ invariant-loop-step g l =
     let d = g.I.Image.device l.fn.image in
     record {
       device : g.I.Image.device l.image ≡ d;
-      cut : l.keeping.cut ≡ l.cut;
-      going : is_replay_open l.cut (replay_in l.keeping) ≡ true;
+      cut : l.keeping.cut ≡ l.sought.cut;
+      going : is_replay_open l.sought.cut (replay_in l.keeping) ≡ true;
       geometry : l.walk.geometry ≡ l.geometry;
       blocks : KeepsBlocks v d.contents l.fn.blocks l.blocks;
       held : AreHeld l.blocks l.walk;
       room : l.earlier + most_steps_left l.walk < 2 ^ 62;
       paid : ForBytes (IsContents d.contents) (λ b. g.I.Image.reads l.image + unread l.walk
-          + replayed_runs v l.cut (replay_in l.keeping) (steps_left b l.walk)
-          ≤ g.I.Image.reads l.fn.image + replayed_runs v l.cut fresh_replay (steps_of v l.inode b));
-      printed : PrintedTo (IsContents d.contents) (λ b. lines_again v l.asked.fragment l.asked.number l.earlier l.cut
-          (replay_in l.keeping) (steps_left b l.walk)) (λ b. lines_again v l.asked.fragment l.asked.number 0 l.cut
+          + replayed_runs v l.sought.cut (replay_in l.keeping) (steps_left b l.walk)
+          ≤ g.I.Image.reads l.fn.image + replayed_runs v l.sought.cut fresh_replay (steps_of v l.inode b));
+      printed : PrintedTo (IsContents d.contents) (λ b. lines_again v l.sought.fragment l.sought.number l.earlier l.sought.cut
+          (replay_in l.keeping) (steps_left b l.walk)) (λ b. lines_again v l.sought.fragment l.sought.number 0 l.sought.cut
           fresh_replay (steps_of v l.inode b)) (g.W.Output.sink l.fn.out) (g.W.Output.sink l.out);
     }
 

@@ -1,4 +1,4 @@
-use Rattle.std.proofs.Common.{◌≡◌, ℕ, true, List, [], ◌∷◌, Option, arith, refl, sym, inl, inr, append-nil}
+use Rattle.std.proofs.Common.{◌≡◌, ℕ, true, Option, refl, sym, inl, inr, append-nil}
 use Rattle.std.{proofs.lemmas.Bool.cases_Bool, specs.List.concat}
 use Rattle.ffs_volume.specs.{Encodings.Replay.{Replay, is_replay_open}, declared.{Layout.Layout, Step.TheVariants.Run}}
 use Rattle.ffs_walk.specs.Keepings.{run_taken}
@@ -18,7 +18,7 @@ returns-in-Run g c =
     let v = c.args.geometry.now.layout in
     let again = c.take-taken.ensures.replays v c.in-Run.start c.in-Run.block c.in_range.ensures in
     rw c.in-Run.is (record {
-      text = rw (text_is v c.args.asked.fragment c.args.asked.number c.args.earlier _ _ c.in-Run.start c.in-Run.len
+      text = rw (text_is v c.args.sought.fragment c.args.sought.number c.args.earlier _ _ c.in-Run.start c.in-Run.len
           c.in-Run.block c.take-taken.result c.requires.going again.count) at c.print_run.ensures;
       next = again.after;
       cut = c.take-taken.ensures.cut;

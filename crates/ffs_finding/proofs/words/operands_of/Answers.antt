@@ -1,10 +1,10 @@
-use Rattle.std.proofs.Common.{◌≡◌, ◌∙◌, ap, arith, refl, List, [], ℕ, Option, option_map, map, codes, rules}
+use Rattle.std.proofs.Common.{◌≡◌, ◌∙◌, ap, refl, List, [], ℕ, Option, option_map, map, codes}
 use Rattle.std.specs.{Prelude.unwrap_or, Borrow.Bor, Str.Parse.{ParsesUnsigned, ExplainsUnsignedError}}
 use Rattle.std.specs.Str.Parse.{HasUnsignedDigitsIfOk}
 use Rattle.clap.specs.Words.{Row, Text, first_of, first_value, found_of, matches_of, one_of, one_text, rows_of}
 use Rattle.clap.{specs.declared.parser.matches.ArgMatches.ArgMatches, proofs.WalkLemmas.{first_value-rows, one_text-rows}}
 use Rattle.ffs_check.proofs.MatchLaws.{sector_read, text_or}
-use Rattle.ffs_finding.specs.CommandWords.{program}
+use Rattle.ffs_finding.specs.CommandWords.{find_program}
 use Rattle.ffs_finding.proofs.words.operands_of.Goals as goal
 
 -- a word of the matches, by their rows
@@ -19,7 +19,7 @@ pub returns : goal.returns
 returns c =
     let m = c.in_ok-matches.matches in
     let same = c.in_ok-matches.ensures.rows in
-    let e : one_text (found_of m) (codes "sector") ≡ one_of (codes "sector") (matches_of program (map (λ word. word.now) c.args.words.now)) =
+    let e : one_text (found_of m) (codes "sector") ≡ one_of (codes "sector") (matches_of find_program (map (λ word. word.now) c.args.words.now)) =
     one_text-rows (found_of m) (codes "sector") ∙ ap (one_of (codes "sector")) same in
     record {
       taken = c.in_ok-matches.ensures.taken;

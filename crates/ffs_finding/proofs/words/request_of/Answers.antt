@@ -1,12 +1,12 @@
-use Rattle.std.proofs.Common.{◌≡◌, ◌∙◌, ℕ, List, Some, None, Option, sym, ap, arith, codes, option_map}
+use Rattle.std.proofs.Common.{◌≡◌, ◌∙◌, ℕ, List, Some, None, sym, ap, arith, option_map}
 use Rattle.ffs_finding.specs.declared.request.{Command.{Command, TheVariants.{Copies, InVolume}}, Search.{Search, TheVariants.{Inode, Fields, Lost, Owner}}}
-use Rattle.ffs_finding.specs.{CommandWords.{AskFor, IsNumber, Operands}, Operands.{IsSearch, operands_in}}
+use Rattle.ffs_finding.specs.{CommandWords.{IsNumber, Operands, OperandsAskFor}, Operands.{IsSearch, operands_in}}
 use Rattle.ffs_finding.proofs.words.request_of.Goals as goal
 
 -- an image after a number: only a command with a number is asked for
 none_asked : (o : Operands) (image : List ℕ) (n : ℕ) → o.second ≡ Some image →
     ((m : ℕ) → IsNumber o.first m → m ≡ n) → ((search : Search) → IsSearch o.command n search → ⊥) →
-    (command : Command) (name : List ℕ) → AskFor o command name → ⊥
+    (command : Command) (name : List ℕ) → OperandsAskFor o command name → ⊥
 none_asked o image n there value none Copies name p = let no : Some image ≡ None = sym there ∙ p.0.alone in cc
 none_asked o image n there value none (InVolume sector (Inode m)) name p =
     none (Inode m) (p.0.word_is, value m p.0.number)

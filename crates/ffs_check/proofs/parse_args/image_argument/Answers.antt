@@ -1,5 +1,0 @@
-use Rattle.std.proofs.Common.{arith}
-use Rattle.ffs_check.proofs.parse_args.image_argument.Goals as goal
-
-pub returns : goal.returns
-returns c = grind arith
