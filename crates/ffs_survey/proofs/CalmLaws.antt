@@ -8,7 +8,8 @@ use Rattle.ffs_volume.specs.declared.Role.TheVariants.{Empty, Dot, Dotdot, Extra
 use Rattle.ffs_volume.{proofs.SearchLaws.first_below-is_none, specs.declared.Role.Role}
 use Rattle.ffs_survey.specs.Calm.{CurrentDir, is_calm_role, is_calm_entry, reached_after, are_calm, AreCalm, IsCalm}
 use Rattle.ffs_survey.specs.{Calm.IsFlagged, Discover.{from_entries, nothing, SameResult, IsFrontier, LevelsKnown}}
-use Rattle.ffs_survey.{specs.{Discover.IsRead, Survey.{bool_at, dir_at, number_at}}, proofs.Frontiers.frontier_within}
+use Rattle.ffs_survey.{specs.Survey.{bool_at, dir_at, number_at}, proofs.Frontiers.frontier_within}
+use Rattle.ffs_survey.specs.Discover.{Found, IsRead}
 
 -- a calm plain entry that names a directory is before any other that reaches it
 pub calm_names_new : (s : CurrentDir) (reached : ℕ → Bool) (i x : ℕ) (role : Role) (number kind : ℕ) →
@@ -137,8 +138,7 @@ reached_below : (r : List Bool) (x : ℕ) → bool_at r x ≡ true → x < lengt
 reached_below r x h = grind (arith, get_or_past)
 
 -- reading the directories that aren't reached leaves the parents of those that are
-pub read_stays : {g : Graph} {kinds : List ℕ} {r : List Bool} {n : ℕ} {f f' : List ℕ} {m m' : List Bool}
-    {p p' : List ℕ} → IsRead g kinds r n f m p f' m' p' → length r ≡ g.count → (x : ℕ) → bool_at r x ≡ true →
-    number_at p' x ≡ number_at p x
-read_stays {g = g} {kinds = kinds} {r = r} {n = n} {p = p} read long x h =
+pub read_stays : {g : Graph} {kinds : List ℕ} {r : List Bool} {n : ℕ} {old new : Found} → IsRead g kinds r n old new →
+    length r ≡ g.count → (x : ℕ) → bool_at r x ≡ true → number_at new.parents x ≡ number_at old.parents x
+read_stays {g = g} {kinds = kinds} {r = r} {n = n} {old = old} read long x h =
     grind (arith, reached_below, first_below-is_none)

@@ -144,14 +144,13 @@ IsBlank kinds reached parents = (x : ℕ) → is_unreached_dir kinds reached x �
 
 -- what the directories below n that aren't reached add to references and to what is named, and
 -- which parents they give
-pub record IsRead (g : Graph) (kinds : List ℕ) (reached : List Bool) (n : ℕ) (references : List ℕ) (named : List Bool)
-    (parents references' : List ℕ) (named' : List Bool) (parents' : List ℕ) : Type 0 where
+pub record IsRead (g : Graph) (kinds : List ℕ) (reached : List Bool) (n : ℕ) (old new : Found) : Type 0 where
   pub counts : (x : ℕ) → x < g.count
-      → number_at references' x ≡ number_at references x + counted_by (λ s. not (bool_at reached s)) g x n
-  pub names : (x : ℕ) → x < g.count → bool_at named' x ≡ (bool_at named x
+      → number_at new.references x ≡ number_at old.references x + counted_by (λ s. not (bool_at reached s)) g x n
+  pub names : (x : ℕ) → x < g.count → bool_at new.named x ≡ (bool_at old.named x
       || is_some (first_below (λ s. not (bool_at reached s) && is_naming_dir g s x) n))
-  pub parent : (x : ℕ) → x < g.count
-      → number_at parents' x ≡ unwrap_or (first_below (is_unreached_edge g kinds reached x) n) (number_at parents x)
+  pub parent : (x : ℕ) → x < g.count → number_at new.parents x
+      ≡ unwrap_or (first_below (is_unreached_edge g kinds reached x) n) (number_at old.parents x)
 
 -- a queue that ended at `top` ends at `end`, and what it had is there
 pub record Extends (top end : ℕ) (old new : List ℕ) : Type 0 where

@@ -1,6 +1,6 @@
 use Rattle.std.proofs.Common.{ℕ, ◌+◌, ◌*◌, ◌<◌, ◌≤◌, ◌^◌, List, length}
-use Rattle.ffs_survey.specs.{Costs.costs_below, Lent.KeepsReached, Survey.{number_at, graph_with}, Discover.IsBlank}
-use Rattle.ffs_survey.{specs.Discover.{IsRead, is_unreached_dir}, proofs.Lending.StillLent}
+use Rattle.ffs_survey.specs.{Costs.costs_below, Lent.{KeepsReached, all_found}, Survey.{number_at, graph_with}}
+use Rattle.ffs_survey.{specs.Discover.{IsBlank, IsRead, is_unreached_dir}, proofs.Lending.StillLent}
 use Rattle.ffs_survey.proofs.levels.survey_unreached.Given as goal
 
 abbrev pub invariant-loop-s : goal.invariant-loop-s
@@ -17,6 +17,5 @@ invariant-loop-s g l =
           number_at l.lists.references.now.items x ≤ number_at old.references.now.items x + l.s * 2 ^ 28;
       read : (b : List ℕ) → knows b → IsBlank old.kinds.now old.reached.now old.parents.now.items →
           IsRead (graph_with old.kinds.now (g.D.Directories.entries over b)) old.kinds.now old.reached.now l.s
-          old.references.now.items old.named.now old.parents.now.items l.lists.references.now.items
-          l.lists.named.now l.lists.parents.now.items;
+          (all_found old) (all_found l.lists);
     }
