@@ -256,6 +256,27 @@ def kept_fragments(image, layout):
     return kept
 
 
+def seen_indirect(image, layout):
+    """How many runs of indirect blocks are seen of inodes: all up to an inode's eleventh bad run or eleventh duplicate."""
+    used = bytearray(map(layout.is_reserved, range(layout.size)))
+    seen = 0
+    for inode in inodes(image, layout):
+        bad = dups = 0
+        for run in inode.runs(image):
+            seen += run.block is None
+            is_bad = not layout.is_in_range(run.start, run.length)
+            bad += is_bad
+            if is_bad and bad == MOST_BAD:
+                break
+            for f in range(run.start, min(run.start + run.length, layout.size)):
+                if dups < MOST_DUPS and not layout.is_metadata(f):
+                    dups += used[f]
+                    used[f] = 1
+            if dups == MOST_DUPS:
+                break
+    return seen
+
+
 @dataclass
 class Counts:
     """What a group's maps and counts are when they are right."""
