@@ -70,8 +70,11 @@ free_next : (v : Layout) (bytes : List ℕ) (s : Claims) (n : ℕ) → n < inode
     class_of v (inode_of v bytes n) ≡ Free → indirect_in_owners v s (owners_from v bytes n)
     ≡ indirect_in_owners v (at_next_inode s) (owners_from v bytes (n + 1))
 free_next v bytes s n low free =
-    omega (arith, indirect_next v bytes s (at_next_inode s) n low (sym (free_claims v bytes n s free)),
-    free_unseen v bytes n (at_next_inode s) free)
+    omega (
+      arith,
+      indirect_next v bytes s (at_next_inode s) n low (sym (free_claims v bytes n s free)),
+      free_unseen v bytes n (at_next_inode s) free,
+    )
 
 free_over : (v : Layout) (bytes : List ℕ) (s : Claims) (n k : ℕ) → n + suc k ≤ inodes_of v →
     AreFree v bytes n (n + suc k) → indirect_in_owners v s (owners_from v bytes n)

@@ -42,8 +42,11 @@ words_once {v = v} {a = a} {b = b} {x = x} {y = y} {address = address} some smal
     rw (is, sym layout) (passes.steps contents (rw layout holds) bytes e) in
     record {
       claims = λ contents holds bytes e. rw (next contents holds bytes e, now) refl;
-      indirect = λ contents holds bytes e. omega (arith, step_on v (claims_of a) (next contents holds bytes e) now,
-          word_unseen (claims_of a) v.frag address block);
+      indirect = λ contents holds bytes e. omega (
+        arith,
+        step_on v (claims_of a) (next contents holds bytes e) now,
+        word_unseen (claims_of a) v.frag address block,
+      );
       lines = λ contents holds bytes e number. let silent = silently.silent number in grind arith;
       uncut = did.uncut;
       claim_bound = moves_on step made small (cond_holds (HasLength v.frag) (nat_eq address 0) _ _ (λ _. tt)

@@ -42,8 +42,11 @@ loop-next-init g c =
       geometry = c.restart.ensures.geometry ∙ c.requires.walk;
       held = top_held c.restart.new.self c.restart.ensures.top _;
       counted = omega (arith, top_unread c.restart.new.self c.restart.ensures.top);
-      indirect = λ bytes t. omega (arith, top_unread c.restart.new.self c.restart.ensures.top,
-          ap (indirect_in_steps v s) (walk.steps bytes));
+      indirect = λ bytes t. omega (
+        arith,
+        top_unread c.restart.new.self c.restart.ensures.top,
+        ap (indirect_in_steps v s) (walk.steps bytes),
+      );
       claims = λ bytes t. ap (after_steps v s) (walk.steps bytes);
       said = of_same _ _ _ _ _ _ (of_begins _ _ _)
           (λ bytes t. ap (λ xs. of_lines (lines_of_steps v c.args.claimant.now.number s xs)) (sym (walk.steps bytes)));
@@ -95,8 +98,12 @@ returns-in_err-seen g c =
       left = claiming_on read.image c.step.ensures.left (omega (arith, c.step.ensures.runs)) tt read;
       walk = c.in_ok-next.ensures.same.geometry ∙ inv.geometry;
       counted = omega (arith, paid, inv.counted, c.step.ensures.counted);
-      known = λ bytes t. omega (arith, paid, inv.indirect bytes t,
-          indirect_on v s c.loop-next.sweep.walk c.next.new.self c.in-Some.next inv.open_still next refl bytes t);
+      known = λ bytes t. omega (
+        arith,
+        paid,
+        inv.indirect bytes t,
+        indirect_on v s c.loop-next.sweep.walk c.next.new.self c.in-Some.next inv.open_still next refl bytes t,
+      );
     })
 
 pub loop-next-preserved-then-matches : goal.loop-next-preserved-then-matches
@@ -178,9 +185,14 @@ loop-next-preserved g c =
       geometry = words.same.geometry ∙ c.in_ok-next.ensures.same.geometry ∙ inv.geometry;
       held = words.counted.held _ (rw (words.only.windows, left.only.windows) reads.held);
       counted = omega (arith, paid, inv.counted, c.step.ensures.counted, words.rises, words.counted.unread);
-      indirect = λ bytes t. omega (arith, paid, inv.indirect bytes t,
-          indirect_on v s c.loop-next.sweep.walk c.next.new.self c.in-Some.next inv.open_still next now bytes t,
-          words.indirect image claimed.windows.blocks bytes (gives ∙ t), words.counted.unread);
+      indirect = λ bytes t. omega (
+        arith,
+        paid,
+        inv.indirect bytes t,
+        indirect_on v s c.loop-next.sweep.walk c.next.new.self c.in-Some.next inv.open_still next now bytes t,
+        words.indirect image claimed.windows.blocks bytes (gives ∙ t),
+        words.counted.unread,
+      );
       claims = claims_on v s c.loop-next.sweep.walk c.next.new.self _ c.in-Some.next next now inv.claims
           (λ bytes t. sym (words.claims image claimed.windows.blocks bytes (gives ∙ t)));
       said = steps_said v n s (claims_of c.step.new.workspace) c.loop-next.sweep.walk c.next.new.self _ c.in-Some.next
@@ -213,8 +225,12 @@ returns-then-not-seen g c =
           read;
       walk = c.in_ok-next.ensures.same.geometry ∙ inv.geometry;
       counted = omega (arith, paid, inv.counted, c.step.ensures.counted);
-      known = λ bytes t. omega (arith, paid, inv.indirect bytes t,
-          indirect_on v s c.loop-next.sweep.walk c.next.new.self c.in-Some.next inv.open_still next now.claims bytes t);
+      known = λ bytes t. omega (
+        arith,
+        paid,
+        inv.indirect bytes t,
+        indirect_on v s c.loop-next.sweep.walk c.next.new.self c.in-Some.next inv.open_still next now.claims bytes t,
+      );
     }
 
 pub returns-in_default : goal.returns-in_default
@@ -230,6 +246,9 @@ returns-in_default g c =
       left = claiming_walked c.in_ok-next.ensures.leaves.read inv.geometry c.next.ensures.leaves.kept inv.left;
       walk = c.in_ok-next.ensures.same.geometry ∙ inv.geometry;
       counted = omega (arith, rw c.in_default.is at (c.in_ok-next.ensures.counted inv.held).paid, inv.counted);
-      known = λ bytes t. omega (arith, rw c.in_default.is at (c.in_ok-next.ensures.counted inv.held).paid,
-          inv.indirect bytes t);
+      known = λ bytes t. omega (
+        arith,
+        rw c.in_default.is at (c.in_ok-next.ensures.counted inv.held).paid,
+        inv.indirect bytes t,
+      );
     }

@@ -64,8 +64,12 @@ returns-clause-claims g c =
         again = did.left.again;
         counted = omega (arith, did.left.counted, c.in_ok-inode.ensures.counted);
       };
-      known = λ bytes t. omega (arith, did.known bytes (gives ∙ t), c.in_ok-inode.ensures.counted,
-          ap (λ o. indirect_in_steps v (at_next_inode s) o.steps) (owner bytes t));
+      known = λ bytes t. omega (
+        arith,
+        did.known bytes (gives ∙ t),
+        c.in_ok-inode.ensures.counted,
+        ap (λ o. indirect_in_steps v (at_next_inode s) o.steps) (owner bytes t),
+      );
     }
 
 pub returns-in_err-inode-clause-table : goal.returns-in_err-inode-clause-table
@@ -89,9 +93,13 @@ returns-clause-table g c =
     record {
       again = λ held.
           (did.table ∙ c.in_ok-inode.ensures.piece.0 held, omega (arith, c.in_ok-inode.ensures.again held, counted));
-      known = λ held bytes t. omega (arith, c.in_ok-inode.ensures.again held, did.claims.known bytes (gives ∙ t),
-          ap (λ i. indirect_in_steps v (at_next_inode s) (steps_of v i bytes))
-          (c.in_ok-inode.ensures.reads.inode bytes t));
+      known = λ held bytes t. omega (
+        arith,
+        c.in_ok-inode.ensures.again held,
+        did.claims.known bytes (gives ∙ t),
+        ap (λ i. indirect_in_steps v (at_next_inode s) (steps_of v i bytes))
+            (c.in_ok-inode.ensures.reads.inode bytes t),
+      );
       block = λ unheld. on_any c.claim_read_inode.result (rw did.table (c.in_ok-inode.ensures.piece.1 unheld));
     }
 

@@ -57,8 +57,11 @@ returns-in_err-claim-clause-claims g c =
           c.in_ok-say_class.ensures) (λ bytes t. refl) c.in_err-claim.ensures.text;
       claims = tt;
       left = grind arith;
-      known = λ bytes t. omega (arith, c.claim.ensures.known bytes t,
-          ap (λ s. indirect_in_steps v s (steps_of v c.args.claimant.now.inode.now bytes)) (ap claims_of c.begin.ensures));
+      known = λ bytes t. omega (
+        arith,
+        c.claim.ensures.known bytes t,
+        ap (λ s. indirect_in_steps v s (steps_of v c.args.claimant.now.inode.now bytes)) (ap claims_of c.begin.ensures),
+      );
     })
 
 pub returns-in_err-say_count-clause-claims : goal.returns-in_err-say_count-clause-claims
@@ -74,8 +77,11 @@ returns-in_err-say_count-clause-claims g c =
           c.in_err-say_count.ensures;
       claims = tt;
       left = grind arith;
-      known = λ bytes t. omega (arith, c.claim.ensures.known bytes t,
-          ap (λ s. indirect_in_steps v s (steps_of v c.args.claimant.now.inode.now bytes)) (ap claims_of c.begin.ensures));
+      known = λ bytes t. omega (
+        arith,
+        c.claim.ensures.known bytes t,
+        ap (λ s. indirect_in_steps v s (steps_of v c.args.claimant.now.inode.now bytes)) (ap claims_of c.begin.ensures),
+      );
     })
 
 pub returns-clause-claims : goal.returns-clause-claims
@@ -95,8 +101,11 @@ returns-clause-claims g c =
       claims = λ bytes t. ap claims_of c.store-2.ensures.rest ∙ c.in_ok-claim.ensures.claims bytes t
           ∙ ap (λ s. after_steps v s (steps_of v c.args.claimant.now.inode.now bytes)) (ap claims_of c.begin.ensures);
       left = grind arith;
-      known = λ bytes t. omega (arith, c.claim.ensures.known bytes t,
-          ap (λ s. indirect_in_steps v s (steps_of v c.args.claimant.now.inode.now bytes)) (ap claims_of c.begin.ensures));
+      known = λ bytes t. omega (
+        arith,
+        c.claim.ensures.known bytes t,
+        ap (λ s. indirect_in_steps v s (steps_of v c.args.claimant.now.inode.now bytes)) (ap claims_of c.begin.ensures),
+      );
     }
 
 pub returns-then-matches-clause-claims : goal.returns-then-matches-clause-claims
