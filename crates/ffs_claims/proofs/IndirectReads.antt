@@ -1,6 +1,6 @@
 -- How many indirect blocks are seen, step by step and inode by inode, and how often phase 1 reads an
 -- image that gives its bytes.
-use Rattle.std.proofs.Common.{◌≡◌, ℕ, zero, suc, ◌+◌, ◌-◌, ◌<◌, ◌≤◌, true, List, [], ◌∷◌, ◌++◌, replicate, Some, None, arith}
+use Rattle.std.proofs.Common.{◌≡◌, ℕ, zero, suc, ◌+◌, ◌-◌, ◌<◌, ◌≤◌, true, List, ◌∷◌, ◌++◌, replicate, Some, None, arith}
 use Rattle.std.proofs.{Common.{refl, ap, ◌∙◌, sym, inl, inr, nat_eq}, lemmas.Bool.cases_Bool}
 use Rattle.ffs_volume.specs.Blocks.{Claims.{Claims, after_owner, after_step, at_next_inode, is_open, no_claims}}
 use Rattle.ffs_volume.specs.Blocks.{Inodes.{class_of, inode_of}, Owners.{owner_of, owners_of}}
