@@ -7,11 +7,15 @@ use Rattle.ffs_volume.specs.{Disk.Superblock.Superblock, Report.{Reads.{opening_
 use Rattle.ffs_volume.specs.Report.Whole.{report_of}
 use Rattle.ffs_layout.specs.{declared.superblock.Super.Super, Super.{ReadsSuper, superblock_in}}
 use Rattle.ffs_report.specs.{Progress.Progress, Known.{ForBytes, IsContents}}
-use Rattle.ffs_check.specs.{Headline.opened_lines, Opening.SaysOpening, ReadsWithin.{PhasesReadWithin, ReadsWithin}}
+use Rattle.ffs_check.specs.{Headline.opened_lines, Opening.SaysOpening, ReadsWithin.{PhasesReadWithin, ReadsWithin, volume_phase_reads}}
 use Rattle.ffs_check.proofs.{Headlines.whole_there, Openings.{found_of, unfailed_of}}
 
 pub phases_more : (v : Layout) (n m : ℕ) → n ≤ m → phase_reads v n ≤ phase_reads v m
 phases_more v n m h = omega (arith, h)
+
+pub volume_more : (v : Layout) (bytes : List ℕ) (n m : ℕ) → n ≤ m →
+    volume_phase_reads v bytes n ≤ volume_phase_reads v bytes m
+volume_more v bytes n m h = omega (arith, h)
 
 -- the messages of the phases are among those of the report
 report_among : (bytes name : List ℕ) (sector : Option ℕ) (s : Superblock) → Ok s ≡ outcome bytes sector →
@@ -29,18 +33,16 @@ found_within image on name sector start p found reads between reads' o opened fo
     let answers = subst (λ r. ReadsSuper image on sector r) o.ends.1 o.super_is_read in
     let still = unfailed_of image on sector (superblock_in found) answers in
     let is = found_of image on sector (superblock_in found) answers in
+    let there : ForBytes (IsContents image.contents) (λ bytes. (s : Superblock) → outcome bytes sector ≡ Ok s →
+    PhasesReadWithin s bytes between reads') = λ bytes t s e.
+    let same : superblock_in found ≡ s = ap (λ r. found_or r s) (is bytes t ∙ e) in
+    subst (λ x. PhasesReadWithin x bytes between reads') same (follows bytes (ap (λ d. d.contents) still ∙ t)) in
     record {
       refused = λ bytes t fault e. let no : Ok (superblock_in found) ≡ Err fault = is bytes t ∙ e in absurd (cc);
-      accepted = λ bytes t s e.
-          let same : superblock_in found ≡ s = ap (λ r. found_or r s) (is bytes t ∙ e) in
-          let within : PhasesReadWithin s bytes between reads' =
-          subst (λ x. PhasesReadWithin x bytes between reads') same (follows bytes (ap (λ d. d.contents) still ∙ t)) in
-          omega (
-            arith,
-            opened,
-            within,
-            phases_more s.layout _ _ (report_among bytes name sector s (sym e)),
-          );
+      accepted = λ bytes t s e. omega (arith, opened, (there bytes t s e).limit,
+          phases_more s.layout _ _ (report_among bytes name sector s (sym e)));
+      volume = λ bytes t s e. omega (arith, opened, (there bytes t s e).volume,
+          volume_more s.layout bytes _ _ (report_among bytes name sector s (sym e)));
     }
   where
     found_or : Result Superblock SuperFault → Superblock → Superblock
