@@ -39,10 +39,18 @@ found_within image on name sector start p found reads between reads' o opened fo
     subst (λ x. PhasesReadWithin x bytes between reads') same (follows bytes (ap (λ d. d.contents) still ∙ t)) in
     record {
       refused = λ bytes t fault e. let no : Ok (superblock_in found) ≡ Err fault = is bytes t ∙ e in absurd (cc);
-      accepted = λ bytes t s e. omega (arith, opened, (there bytes t s e).limit,
-          phases_more s.layout _ _ (report_among bytes name sector s (sym e)));
-      volume = λ bytes t s e. omega (arith, opened, (there bytes t s e).volume,
-          volume_more s.layout bytes _ _ (report_among bytes name sector s (sym e)));
+      accepted = λ bytes t s e. omega (
+        arith,
+        opened,
+        (there bytes t s e).limit,
+        phases_more s.layout _ _ (report_among bytes name sector s (sym e)),
+      );
+      volume = λ bytes t s e. omega (
+        arith,
+        opened,
+        (there bytes t s e).volume,
+        volume_more s.layout bytes _ _ (report_among bytes name sector s (sym e)),
+      );
     }
   where
     found_or : Result Superblock SuperFault → Superblock → Superblock

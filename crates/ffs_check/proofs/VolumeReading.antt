@@ -1,12 +1,12 @@
 -- By what a volume holds, phase 1 reads no more often than the limit of its layout.
-use Rattle.std.proofs.Common.{◌≡◌, ℕ, ◌+◌, ◌≤◌, Bool, true, false, List, [], ◌∷◌, Some, None, arith, if◌then◌else◌}
+use Rattle.std.proofs.Common.{ℕ, ◌+◌, ◌≤◌, Bool, true, false, List, [], ◌∷◌, Some, None, arith, if◌then◌else◌}
 use Rattle.std.proofs.{Common.{inl, inr}, lemmas.Bool.cases_Bool}
 use Rattle.std.specs.List.{range_with_len}
 use Rattle.ffs_volume.proofs.{Potentials.offers_keep, RunBounds.runs_bounded}
 use Rattle.ffs_volume.specs.Blocks.{BlockCheck.has_rescan, Owners.{Owner, owners_of}}
-use Rattle.ffs_volume.specs.Blocks.Claims.{Claims, after_offers, after_owner, after_owners, after_run, after_step, after_steps}
+use Rattle.ffs_volume.specs.Blocks.Claims.{Claims, after_owner, after_owners, after_run, after_step, after_steps}
 use Rattle.ffs_volume.specs.Blocks.Claims.{at_next_inode, is_open, no_claims}
-use Rattle.ffs_volume.specs.{Disk.Areas.is_run_in_range, Laws.Geometry.IsAcceptedLayout}
+use Rattle.ffs_volume.specs.{Laws.Geometry.IsAcceptedLayout}
 use Rattle.ffs_volume.specs.Report.{Memory.runs_limit, Reads.{phase_reads, sweep_reads}, Whole.run_count}
 use Rattle.ffs_volume.specs.Report.VolumeReads.{indirect_count, indirect_in_owners, indirect_in_steps, seen_indirect}
 use Rattle.ffs_volume.specs.declared.{Layout.Layout, Step.{Step, TheVariants.{Gap, Run, Tail}}}
