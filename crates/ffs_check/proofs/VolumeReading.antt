@@ -1,16 +1,14 @@
 -- By what a volume holds, phase 1 reads no more often than the limit of its layout.
-use Rattle.std.proofs.Common.{ℕ, ◌+◌, ◌≤◌, Bool, true, false, List, [], ◌∷◌, Some, None, arith, if◌then◌else◌}
-use Rattle.std.proofs.{Common.{inl, inr}, lemmas.Bool.cases_Bool}
-use Rattle.std.specs.List.{range_with_len}
-use Rattle.ffs_volume.proofs.{Potentials.offers_keep, RunBounds.runs_bounded}
-use Rattle.ffs_volume.specs.Blocks.{BlockCheck.has_rescan, Owners.{Owner, owners_of}}
-use Rattle.ffs_volume.specs.Blocks.Claims.{Claims, after_owner, after_owners, after_run, after_step, after_steps}
-use Rattle.ffs_volume.specs.Blocks.Claims.{at_next_inode, is_open, no_claims}
-use Rattle.ffs_volume.specs.{Laws.Geometry.IsAcceptedLayout}
-use Rattle.ffs_volume.specs.Report.{Memory.runs_limit, Reads.{phase_reads, sweep_reads}, Whole.run_count}
-use Rattle.ffs_volume.specs.Report.VolumeReads.{indirect_count, indirect_in_owners, indirect_in_steps, seen_indirect}
+use Rattle.std.proofs.Common.{ℕ, ◌+◌, ◌≤◌, Bool, true, false, List, [], ◌∷◌, Some, None, arith, if◌then◌else◌, inl, inr}
+use Rattle.std.{proofs.lemmas.Bool.cases_Bool, specs.List.range_with_len}
+use Rattle.ffs_volume.{proofs.{Potentials.offers_keep, RunBounds.runs_bounded}, specs.Blocks.BlockCheck.has_rescan}
+use Rattle.ffs_volume.specs.Blocks.{Owners.{Owner, owners_of}, Claims.{Claims, after_owner, after_owners, after_run}}
+use Rattle.ffs_volume.specs.Blocks.Claims.{after_step, after_steps, at_next_inode, is_open, no_claims}
+use Rattle.ffs_volume.specs.{Laws.Geometry.IsAcceptedLayout, Report.{Memory.runs_limit, Reads.phase_reads}}
+use Rattle.ffs_volume.specs.Report.{Reads.sweep_reads, Whole.run_count, VolumeReads.indirect_count}
+use Rattle.ffs_volume.specs.Report.VolumeReads.{indirect_in_owners, indirect_in_steps, seen_indirect}
 use Rattle.ffs_volume.specs.declared.{Layout.Layout, Step.{Step, TheVariants.{Gap, Run, Tail}}}
-use Rattle.ffs_check.specs.ReadsWithin.{again_reads, volume_phase_reads}
+use Rattle.ffs_check.specs.ReadsWithin.{rescan_reads, volume_phase_reads}
 
 -- each Run that is seen is counted
 run_rises : (v : Layout) (s : Claims) (start len : ℕ) → s.runs + 1 ≤ (after_run v s start len).runs
@@ -59,5 +57,5 @@ few_if false n = omega arith
 pub volume_few : (v : Layout) (bytes : List ℕ) (lines : ℕ) → IsAcceptedLayout v →
     volume_phase_reads v bytes lines ≤ phase_reads v lines
 volume_few v bytes lines g =
-    let again : again_reads v bytes ≤ sweep_reads v = few_if (has_rescan v (owners_of v bytes)) (sweep_reads v) in
+    let again : rescan_reads v bytes ≤ sweep_reads v = few_if (has_rescan v (owners_of v bytes)) (sweep_reads v) in
     omega (arith, indirect_few v bytes g, again)

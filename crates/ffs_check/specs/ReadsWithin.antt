@@ -7,14 +7,14 @@ use Rattle.ffs_volume.specs.Report.Reads.{group_reads, opening_reads, pathname_r
 use Rattle.ffs_volume.specs.Report.{Reads.sweep_reads, VolumeReads.volume_scan_reads, Whole.{phase_lines, report_of}}
 
 -- phase 1b sweeps over a volume only where phase 1 has a DUP line
-abbrev pub again_reads : Layout → (bytes : List ℕ) → ℕ
-again_reads v bytes = if has_rescan v (owners_of v bytes) then sweep_reads v else 0
+abbrev pub rescan_reads : Layout → (bytes : List ℕ) → ℕ
+rescan_reads v bytes = if has_rescan v (owners_of v bytes) then sweep_reads v else 0
 
 -- all phases read an image that gives its bytes this often at most, where so many messages are printed in
 -- all: phase 1 its inode tables and the indirect blocks that are seen, and the others as `phase_reads` says
 abbrev pub volume_phase_reads : Layout → (bytes : List ℕ) → (lines : ℕ) → ℕ
 volume_phase_reads v bytes lines =
-    volume_scan_reads v bytes + again_reads v bytes + pathname_reads v lines + lines + group_reads v
+    volume_scan_reads v bytes + rescan_reads v bytes + pathname_reads v lines + lines + group_reads v
 
 -- the phases read the image at most as often as the layout allows, and as what the volume holds does
 pub record PhasesReadWithin (s : Superblock) (bytes : List ℕ) (reads reads' : ℕ) : Type 0 where

@@ -14,7 +14,7 @@ use Rattle.ffs_volume.specs.Report.Whole.{rescan_lines, group_check_lines, summa
 use Rattle.ffs_volume.specs.Report.Whole.{run_count}
 use Rattle.ffs_workspace.specs.{declared.workspace.Workspace.Workspace, Holds.HoldsClaims, Ready.IsReady}
 use Rattle.ffs_claims.specs.{Phases.IsLeftByPhase1, RescanRuns.rescan_runs}
-use Rattle.ffs_check.specs.ReadsWithin.{again_reads}
+use Rattle.ffs_check.specs.ReadsWithin.{rescan_reads}
 
 -- what each phase reports, with its heading
 abbrev pub phase1_part : List ℕ → Superblock → List Message
@@ -83,5 +83,5 @@ pub record Rescans (v : Layout) (d d' : Device) (w w' : Workspace) (old new : Pr
   pub answers : OnOk result (ForBytes (WithLeftByPhase1 v d w) (λ bytes. HasAnswers v bytes w w'))
   pub seen : w'.runs_seen ≡ w.runs_seen
   pub reads : after ≤ before + sweep_reads v
-  pub known : ForBytes (WithLeftByPhase1 v d w) (λ bytes. after ≤ before + again_reads v bytes)
+  pub known : ForBytes (WithLeftByPhase1 v d w) (λ bytes. after ≤ before + rescan_reads v bytes)
   pub ready : IsReady v d' w'

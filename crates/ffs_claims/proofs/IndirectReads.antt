@@ -1,12 +1,11 @@
 -- How many indirect blocks are seen, step by step and inode by inode, and how often phase 1 reads an
 -- image that gives its bytes.
-use Rattle.std.proofs.Common.{◌≡◌, ℕ, zero, suc, ◌+◌, ◌-◌, ◌<◌, ◌≤◌, true, List, ◌∷◌, ◌++◌, replicate, Some, None, arith}
-use Rattle.std.proofs.{Common.{refl, ap, ◌∙◌, sym, inl, inr, nat_eq}, lemmas.Bool.cases_Bool}
-use Rattle.ffs_volume.specs.Blocks.{Claims.{Claims, after_owner, after_step, at_next_inode, is_open, no_claims}}
+use Rattle.std.proofs.Common.{◌≡◌, ℕ, zero, suc, ◌+◌, ◌-◌, ◌<◌, ◌≤◌, true, List, ◌∷◌, ◌++◌, replicate, Some, None}
+use Rattle.std.proofs.{Common.{arith, refl, ap, ◌∙◌, sym, inl, inr, nat_eq}, lemmas.Bool.cases_Bool}
+use Rattle.ffs_volume.specs.Blocks.Claims.{Claims, after_owner, after_step, at_next_inode, is_open, no_claims}
 use Rattle.ffs_volume.specs.Blocks.{Inodes.{class_of, inode_of}, Owners.{owner_of, owners_of}}
 use Rattle.ffs_volume.specs.Report.VolumeReads.{indirect_count, indirect_in_owners, indirect_in_steps, seen_indirect}
-use Rattle.ffs_volume.specs.Report.VolumeReads.{volume_scan_reads}
-use Rattle.ffs_volume.specs.Laws.Geometry.{IsAcceptedLayout}
+use Rattle.ffs_volume.specs.{Report.VolumeReads.volume_scan_reads, Laws.Geometry.IsAcceptedLayout}
 use Rattle.ffs_volume.specs.declared.{Class.TheVariants.Free, Layout.Layout, Step.{Step, TheVariants.{Gap, Run, Tail}}}
 use Rattle.ffs_report.specs.Known.{ForBytes}
 use Rattle.ffs_walk.specs.{Counts.entered, HeldWords.word_step, Rests.steps_left, declared.walk.Walk.Walk}

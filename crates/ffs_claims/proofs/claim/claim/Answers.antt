@@ -1,7 +1,7 @@
 use Rattle.std.proofs.Common.{ℕ, suc, arith, refl, ◌≡◌, ◌∙◌, ap, sym, List, ◌++◌, ◌∷◌, false, replicate, []}
 use Rattle.std.proofs.lemmas.Result.{err_from_is_err_and}
 use Rattle.ffs_volume.{proofs.Potentials.moves_then, specs.Blocks.Claims.{after_steps, lines_of_steps, is_open}}
-use Rattle.ffs_volume.specs.declared.Step.TheVariants.{Gap}
+use Rattle.ffs_volume.specs.{declared.Step.TheVariants.Gap, Report.VolumeReads.indirect_in_steps}
 use Rattle.ffs_report.{proofs.Reporting.{of_begins, of_stops, of_reads, of_same, says_none}, specs.Known.ForBytes}
 use Rattle.ffs_report.specs.Known.{IsContents}
 use Rattle.ffs_walk.{proofs.Counted.{top_held, top_unread}, specs.Rests.steps_left}
@@ -9,9 +9,8 @@ use Rattle.ffs_workspace.specs.Holds.{claims_of}
 use Rattle.ffs_claims.proofs.{Frames.{can_walk, ready_still, ready_read, only_then}, Inodes.{sees_next, moves_on}}
 use Rattle.ffs_claims.proofs.{Inodes.{seen_bound, claiming_none, claiming_walked, claiming_on}, StepsContinue.cut_over}
 use Rattle.ffs_claims.proofs.StepsContinue.{gaps_over, claims_on, lines_on, steps_said, without_steps}
-use Rattle.ffs_claims.proofs.IndirectReads.{gaps_unseen, indirect_on}
-use Rattle.ffs_volume.specs.Report.VolumeReads.{indirect_in_steps}
-use Rattle.ffs_claims.{proofs.claim.claim.Goals.{in-Gap, in_default-matches}, specs.Lines.of_lines}
+use Rattle.ffs_claims.proofs.{IndirectReads.{gaps_unseen, indirect_on}, claim.claim.Goals.{in-Gap, in_default-matches}}
+use Rattle.ffs_claims.specs.Lines.{of_lines}
 use Rattle.ffs_claims.proofs.claim.claim.Goals as goal
 
 pub returns-then-not-has_steps : goal.returns-then-not-has_steps

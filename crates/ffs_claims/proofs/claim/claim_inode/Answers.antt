@@ -1,12 +1,11 @@
 use Rattle.std.proofs.{Common.{◌≡◌, arith, ap, ◌∙◌, subst}, lemmas.Result.err_from_is_err_and}
-use Rattle.ffs_volume.specs.Blocks.{BlockCheck.owner_lines, Claims.{after_owner, at_next_inode}, Inodes.class_of, Owners.owner_of}
-use Rattle.ffs_volume.specs.{Blocks.Steps.steps_of, Report.VolumeReads.indirect_in_steps}
+use Rattle.ffs_volume.specs.Blocks.{BlockCheck.owner_lines, Claims.{after_owner, at_next_inode}, Inodes.class_of}
+use Rattle.ffs_volume.specs.{Blocks.{Owners.owner_of, Steps.steps_of}, Report.VolumeReads.indirect_in_steps}
 use Rattle.ffs_volume.{specs.declared.Inode.Inode, proofs.Results.on_ok as ok_then}
 use Rattle.ffs_report.{proofs.Reporting.{reads_first, reports_same, reports_knowing}, specs.Known.ForBytes}
 use Rattle.ffs_report.specs.Known.{IsContents}
-use Rattle.ffs_workspace.{proofs.Readiness.ready_table, specs.Holds.claims_of}
+use Rattle.ffs_workspace.{proofs.Readiness.ready_table, specs.{Holds.claims_of, Tables.TakesPiece}}
 use Rattle.ffs_claims.{proofs.Inodes.{ok_where, used_below}, specs.{Leaves.Stored, Lines.{of_lines, owner_with}}}
-use Rattle.ffs_workspace.specs.Tables.{TakesPiece}
 use Rattle.ffs_claims.proofs.TableReads.{on_any}
 use Rattle.ffs_claims.proofs.claim.claim_inode.Goals as goal
 
