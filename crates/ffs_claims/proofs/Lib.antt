@@ -14,3 +14,4 @@ pub mod WordClaims
 pub mod ZeroInodes
 pub mod Limited
 pub mod SeriesClaims
+pub mod IndirectReads
