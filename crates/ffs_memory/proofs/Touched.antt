@@ -36,9 +36,9 @@ limit_filled old new n x most limits = record {
   same_length = grind (arith, length-append, length-replicate, limits.same_length);
   items = λ k. elim (cases_lt k (length old)) [
     | inl low ↦ get_or-append new (replicate n (min x most)) 0 k (omega (arith, limits.same_length))
-      ∙ limits.items k ∙ ap (λ y. min y most) (sym (get_or-append old (replicate n x) 0 k low))
+        ∙ limits.items k ∙ ap (λ y. min y most) (sym (get_or-append old (replicate n x) 0 k low))
     | inr high ↦ get_or-append_right new (replicate n (min x most)) (length old) k 0 limits.same_length high
-      ∙ limit_rest n x most (k - length old)
-      ∙ ap (λ y. min y most) (sym (get_or-append_right old (replicate n x) (length old) k 0 refl high))
+        ∙ limit_rest n x most (k - length old)
+        ∙ ap (λ y. min y most) (sym (get_or-append_right old (replicate n x) (length old) k 0 refl high))
   ];
 }
