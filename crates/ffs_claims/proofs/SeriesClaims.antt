@@ -1,11 +1,11 @@
 -- A series of Runs that the words of an indirect block name, one after the other.
-use Rattle.std.proofs.Common.{◌≡◌, ◌≢◌, ℕ, ◌+◌, ◌<◌, ◌≤◌, true, false, nat_eq, nat_lt, get_or, List, [], ◌∷◌, ap, arith, inr}
+use Rattle.std.proofs.Common.{◌≡◌, ◌≢◌, ℕ, ◌+◌, ◌<◌, ◌≤◌, false, nat_eq, nat_lt, get_or, List, [], ◌∷◌, ap, arith, inr}
 use Rattle.std.proofs.{Common.{Option, refl, sym, ◌∙◌}, lemmas.Bool.{and_parts, Decides.nat_tests}}
 use Rattle.ffs_volume.proofs.Potentials.{cond_holds, moves_then, stays, step_moves}
 use Rattle.ffs_volume.specs.{Blocks.Claims.{Claims, after_step, is_open, step_lines}, declared.Step.Step}
-use Rattle.ffs_volume.specs.{Disk.Areas.is_run_in_range, Laws.RunLengths.HasLength, declared.Layout.Layout}
+use Rattle.ffs_volume.specs.{Laws.RunLengths.HasLength, declared.Layout.Layout}
 use Rattle.ffs_image.specs.Device.{ForContents}
-use Rattle.ffs_maps.{proofs.{Bits.run_join, Masks.run_outside}, specs.Bits.AreClear}
+use Rattle.ffs_maps.{proofs.{Bits.run_join, Masks.run_outside}}
 use Rattle.ffs_walk.specs.{HeldWords.{PassesNextWord, next_address, word_step}, Rests.steps_left, Windows.BlocksHold}
 use Rattle.ffs_walk.specs.declared.{blocks.Blocks.Blocks, walk.Walk.Walk}
 use Rattle.ffs_workspace.specs.{Holds.claims_of, declared.workspace.Workspace.Workspace}
@@ -19,9 +19,9 @@ record ClaimsRunOf (v : Layout) (s : Claims) (step : Step) (start : ℕ) : Type 
   silent : (number : ℕ) → step_lines v number s step ≡ []
 
 -- a Run in range of which all fragments are unclaimed
-run_claims : (v : Layout) (s : Claims) (start block : ℕ) → start ≢ 0 → CanClaimSeries v s start v.frag →
+run_in_series : (v : Layout) (s : Claims) (start block : ℕ) → start ≢ 0 → CanClaimSeries v s start v.frag →
     ClaimsRunOf v s (word_step v.frag start block) start
-run_claims v s start block some can =
+run_in_series v s start block some can =
     let both = and_parts (nat_lt s.bad 11) (nat_lt s.dups 11) can.uncut in
     let fits = can.in_range start (omega arith) (omega arith) in
     let whole = whole_is v (record s { runs = s.runs + 1 }) start v.frag both.1 fits can.clear in
@@ -58,7 +58,7 @@ series_next {v = v} {blocks = blocks} {x = x} {y = y} {z = z} s start runs len s
     }) in
     let block = y.single.first + y.single.next in
     let step = word_step v.frag (start + len) block in
-    let did = run_claims v t (start + len) block (λ e. begins (omega (arith, e))) (record {
+    let did = run_in_series v t (start + len) block (λ e. begins (omega (arith, e))) (record {
       uncut = can.uncut;
       long = first.bound.used_length ∙ can.long;
       in_range = λ f low high. can.in_range f (omega arith) (omega arith);

@@ -11,6 +11,21 @@ use Rattle.ffs_workspace.specs.{Holds.claims_of, Lengths.IsFor, declared.workspa
 use Rattle.ffs_claims.proofs.{Frames.only_then, IndirectReads.{step_on, word_unseen}, Inodes.moves_on, UnclaimedRuns.whole_is}
 use Rattle.ffs_claims.specs.SilentWords.{ClaimsAddress, ClaimsSilently, ClaimsWords}
 
+-- a Run in range of which all fragments are unclaimed
+pub run_claims : {v : Layout} {old new : Workspace} (start block : ℕ) → is_open (claims_of old) ≡ true → start ≢ 0 →
+    is_run_in_range v start v.frag ≡ true → AreClear (bits_of old.used) start v.frag →
+    claims_of new ≡ record (claims_of old)
+    { used = set_run (bits_of old.used) start v.frag; runs = old.runs_seen + 1; kept = old.kept + v.frag } →
+    ClaimsSilently v (word_step v.frag start block) old new
+run_claims {v = v} {old = old} start block uncut some fits clear now =
+    let both = and_parts (nat_lt old.bad 11) (nat_lt old.dups 11) uncut in
+    let whole = whole_is v (record (claims_of old) { runs = old.runs_seen + 1 }) start v.frag both.1 fits clear in
+    let is_run : nat_eq start 0 ≡ false = grind (arith, nat_tests) in
+    record {
+      claims = now ∙ rw (is_run, uncut, fits) (sym whole.claims);
+      silent = λ number. rw (is_run, uncut, fits) (whole.silent number);
+    }
+
 -- one word
 pub words_once : {v : Layout} {a b : Workspace} {x y : Walk} {address : ℕ} → 0 < v.frag → v.frag ≤ 8 → IsFor v a →
     x.geometry.layout ≡ v → address ≡ next_address a.windows.blocks x → PassesWord a.windows.blocks x y →

@@ -16,6 +16,10 @@ pub record HasNext (blocks : Blocks) (w : Walk) (address : ℕ) : Type 0 where
   pub left : w.single.next < w.single.used
   pub address_is : next_address blocks w ≡ address
 
+-- two words are left of the single indirect block that a walk is in
+abbrev pub HasSecond : Walk → Type 0
+HasSecond w = w.single.next + 1 < w.single.used
+
 -- these claims, and a series of Runs from a fragment on
 abbrev pub with_series : Claims → (start runs len : ℕ) → Claims
 with_series s start runs len = record s { used = set_run s.used start len; runs = s.runs + runs; kept = s.kept + len }

@@ -1,9 +1,9 @@
 //! The words of an indirect block that are claimed with nothing to report.
 
-ghost use Rattle.std.specs.Prelude.{◌≡◌, ◌≢◌, false, IsTrue};
+ghost use Rattle.std.specs.Prelude.{◌≡◌, ◌≢◌, ◌^◌, false, IsTrue};
 ghost use Rattle.ffs_walk.specs.{HeldWords.{CanSeeWord, IsInHeldBlock, next_address}, Windows.HasRoom};
-ghost use Rattle.ffs_claims.specs.SilentWords.{CanClaimWords, ClaimsWords, with_run_counts};
-ghost use Rattle.ffs_claims.specs.Series.{CanClaimNext, ClaimsNext, HasNext, PassesSeries};
+ghost use Rattle.ffs_claims.specs.{Claiming.CanSeeNext, SilentWords.{CanClaimWords, ClaimsAddress, ClaimsWords, with_run_counts}};
+ghost use Rattle.ffs_claims.specs.Series.{CanClaimNext, ClaimsNext, HasNext, HasSecond, PassesSeries};
 
 use crate::area::DataArea;
 use ffs_layout::{Geometry, u32_at};
@@ -34,6 +34,39 @@ struct Counts {
     runs_seen: u64,
     /// How many offers the current inode keeps.
     kept: u64,
+}
+
+/// Claims what an address of an indirect block of data offers: nothing where it is a gap, else its
+/// Run, where that lies in the area, and its fragments are all unused and lie in one word of the
+/// map. Returns whether it was so: if not, nothing has changed.
+#[inline(always)]
+fn claim_address(
+    workspace: &mut Workspace,
+    counts: &mut Counts,
+    geometry: &Geometry,
+    area: &DataArea,
+    address: u32,
+) -> bool
+    requires { CanSeeNext geometry.now.layout (with_run_counts workspace.old counts.old) area.now
+        (2 ^ 63) }
+    ensures claimed { IsTrue result → ClaimsAddress geometry.now.layout address
+        (with_run_counts workspace.old counts.old) (with_run_counts workspace.new counts.new) }
+    ensures unchanged { result ≡ false → with_run_counts workspace.new counts.new
+        ≡ with_run_counts workspace.old counts.old }
+{
+    if address == 0 {
+        return true;
+    }
+    let len = geometry.layout.frag;
+    if !area.contains(address, len) {
+        return false;
+    }
+    if !workspace.used.claim(address, len) {
+        return false;
+    }
+    counts.runs_seen += 1;
+    counts.kept += u64::from(len);
+    true
 }
 
 /// The address at the next word of the single indirect block that the walk is in, as
@@ -83,9 +116,64 @@ fn pass_series(order: Order, walk: &mut Walk, blocks: &Blocks, address: u32) -> 
     series
 }
 
-/// Claims what the next words of an indirect block of data offer: nothing where the next one is a gap,
-/// else a series of Runs, where it lies in the area, and its fragments are all unused. Returns whether
-/// it was so: if not, nothing has changed.
+/// Whether the word after the next one of the single indirect block that the walk is in is used, and
+/// names the Run that comes after the Run at an address. No claim depends on it: it decides only how
+/// the next word is claimed.
+#[inline(always)]
+fn goes_on(order: Order, walk: &Walk, blocks: &Blocks, address: u32) -> bool
+    requires word { CanSeeWord blocks.now walk.now }
+    ensures { IsTrue result → HasSecond walk.now }
+{
+    let second = walk.single.next + 1;
+    if second >= walk.single.used {
+        return false;
+    }
+    let block = blocks.bytes(&walk.geometry, 0);
+    let after = u32_at(order, WORD_BYTES * second as usize, block);
+    after.wrapping_sub(address) == walk.geometry.layout.frag
+}
+
+/// Claims what the next words of an indirect block of data offer, where they name Runs in turn, at
+/// once: where these lie in the area, and their fragments are all unused. Returns whether it was so:
+/// if not, nothing has changed.
+#[inline(always)]
+fn claim_series(
+    order: Order,
+    workspace: &mut Workspace,
+    counts: &mut Counts,
+    geometry: &Geometry,
+    area: &DataArea,
+    walk: &mut Walk,
+) -> bool
+    requires can { CanClaimNext geometry.now (with_run_counts workspace.old counts.old) area.now
+        walk.old }
+    requires order { order ≡ geometry.now.layout.order }
+    ensures claimed { IsTrue result → ClaimsNext geometry.now.layout
+        (with_run_counts workspace.old counts.old) (with_run_counts workspace.new counts.new)
+        walk.old walk.new }
+    ensures unchanged { result ≡ false → (with_run_counts workspace.new counts.new
+        ≡ with_run_counts workspace.old counts.old) × (walk.new ≡ walk.old) }
+{
+    let address = next_address_in(order, walk, &workspace.windows.blocks);
+    if address == 0 {
+        return false;
+    }
+    let mut ahead = *walk;
+    let series = pass_series(order, &mut ahead, &workspace.windows.blocks, address);
+    if series.len == 0 || !area.contains(address, series.len) {
+        return false;
+    }
+    if !workspace.used.claim(address, series.len) {
+        return false;
+    }
+    counts.runs_seen += series.runs;
+    counts.kept += u64::from(series.len);
+    *walk = ahead;
+    true
+}
+
+/// Claims what the next word of an indirect block of data offers, or a series of them where the one
+/// after it goes on. Returns whether it did: if not, nothing has changed.
 #[inline(always)]
 fn claim_next(
     order: Order,
@@ -105,21 +193,13 @@ fn claim_next(
         ≡ with_run_counts workspace.old counts.old) × (walk.new ≡ walk.old) }
 {
     let address = next_address_in(order, walk, &workspace.windows.blocks);
-    if address == 0 {
-        walk.pass_word();
-        return true;
+    if goes_on(order, walk, &workspace.windows.blocks, address) {
+        return claim_series(order, workspace, counts, geometry, area, walk);
     }
-    let mut ahead = *walk;
-    let series = pass_series(order, &mut ahead, &workspace.windows.blocks, address);
-    if series.len == 0 || !area.contains(address, series.len) {
+    if !claim_address(workspace, counts, geometry, area, address) {
         return false;
     }
-    if !workspace.used.claim(address, series.len) {
-        return false;
-    }
-    counts.runs_seen += series.runs;
-    counts.kept += u64::from(series.len);
-    *walk = ahead;
+    walk.pass_word();
     true
 }
 

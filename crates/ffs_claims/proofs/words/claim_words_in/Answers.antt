@@ -1,4 +1,4 @@
-use Rattle.std.proofs.Common.{◌∙◌, ap, arith}
+use Rattle.std.proofs.Common.{◌∙◌, arith}
 use Rattle.ffs_claims.specs.SilentWords.{with_run_counts}
 use Rattle.ffs_claims.proofs.{Inodes.kept_room, Inodes.seen_bound, WordClaims.words_then}
 use Rattle.ffs_claims.proofs.words.claim_words_in.Goals as goal
