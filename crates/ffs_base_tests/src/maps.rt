@@ -104,7 +104,8 @@ fn answers(
     Ok(())
 }
 
-static SINGLE: [Answered; 6] = [
+/// Single bits.
+const SINGLE: [Answered; 6] = [
     (Call::Held, 24),
     (Call::Bits(&[]), 1),
     (Call::Set(64), 0),
@@ -113,28 +114,16 @@ static SINGLE: [Answered; 6] = [
     (Call::Bits(&[]), 1),
 ];
 
-#[test]
-fn single_bits(rt: HostRuntime) -> Result<(), Fail> {
-    answers(&rt, 130, &SINGLE)?;
-    Ok(())
-}
-
 /// The run 62 to 66 lies in two words.
-static IN_TWO_WORDS: [Answered; 4] = [
+const IN_TWO_WORDS: [Answered; 4] = [
     (Call::SetRun(62, 5), 0),
     (Call::Bits(&[(62, 5)]), 1),
     (Call::ClearBits(60), 0xffff_ffff_ffff_ff83),
     (Call::ClearBits(128), 3),
 ];
 
-#[test]
-fn run_in_two_words(rt: HostRuntime) -> Result<(), Fail> {
-    answers(&rt, 130, &IN_TWO_WORDS)?;
-    Ok(())
-}
-
 /// Runs of more than a word, 60 to 199 and 300 to 319, and how many of their bits are in others.
-static LONGER: [Answered; 11] = [
+const LONGER: [Answered; 11] = [
     (Call::SetRun(60, 140), 0),
     (Call::SetRun(300, 20), 0),
     (Call::Bits(&[(60, 140), (300, 20)]), 1),
@@ -148,13 +137,8 @@ static LONGER: [Answered; 11] = [
     (Call::Count(61, 63), 2),
 ];
 
-#[test]
-fn longer_runs(rt: HostRuntime) -> Result<(), Fail> {
-    answers(&rt, 500, &LONGER)?;
-    Ok(())
-}
-
-static CLAIMS: [Answered; 5] = [
+/// Claims beside bits that are set, and over one.
+const CLAIMS: [Answered; 5] = [
     (Call::Claim(8, 4), 1),
     (Call::Claim(10, 4), 0),
     (Call::Claim(127, 1), 1),
@@ -162,22 +146,11 @@ static CLAIMS: [Answered; 5] = [
     (Call::Claim(64, 64), 0),
 ];
 
-#[test]
-fn claims(rt: HostRuntime) -> Result<(), Fail> {
-    answers(&rt, 130, &CLAIMS)?;
-    Ok(())
-}
-
-static WHOLE_WORD: [Answered; 2] = [(Call::Claim(64, 64), 1), (Call::Bits(&[(64, 64)]), 1)];
-
-#[test]
-fn whole_word(rt: HostRuntime) -> Result<(), Fail> {
-    answers(&rt, 130, &WHOLE_WORD)?;
-    Ok(())
-}
+/// A claim of a whole word.
+const WHOLE_WORD: [Answered; 2] = [(Call::Claim(64, 64), 1), (Call::Bits(&[(64, 64)]), 1)];
 
 /// Bits that are set twice, cleared twice and claimed: 5, 64 to 127, and the last two.
-static ONES: [Answered; 17] = [
+const ONES: [Answered; 17] = [
     (Call::CountOnes, 0),
     (Call::Set(5), 0),
     (Call::Set(5), 0),
@@ -197,15 +170,9 @@ static ONES: [Answered; 17] = [
     (Call::Bits(&[(5, 1), (64, 65)]), 1),
 ];
 
-#[test]
-fn ones(rt: HostRuntime) -> Result<(), Fail> {
-    answers(&rt, 130, &ONES)?;
-    Ok(())
-}
-
 /// Parts whose words are all set, all clear, and neither: the bits up to 255 are set, and 300 to
 /// 319.
-static ALIKE_WORDS: [Answered; 7] = [
+const ALIKE_WORDS: [Answered; 7] = [
     (Call::SetRun(0, 256), 0),
     (Call::SetRun(300, 20), 0),
     (Call::Count(0, 256), 256),
@@ -215,8 +182,21 @@ static ALIKE_WORDS: [Answered; 7] = [
     (Call::CountOnes, 276),
 ];
 
+/// The bits of a map, and calls on it.
+static MAPS: [(u32, &[Answered]); 7] = [
+    (130, &SINGLE),
+    (130, &IN_TWO_WORDS),
+    (500, &LONGER),
+    (130, &CLAIMS),
+    (130, &WHOLE_WORD),
+    (130, &ONES),
+    (640, &ALIKE_WORDS),
+];
+
 #[test]
-fn ones_of_alike_words(rt: HostRuntime) -> Result<(), Fail> {
-    answers(&rt, 640, &ALIKE_WORDS)?;
+fn calls_on_maps(rt: HostRuntime) -> Result<(), Fail> {
+    for &(size, calls) in &MAPS {
+        answers(&rt, size, calls)?;
+    }
     Ok(())
 }

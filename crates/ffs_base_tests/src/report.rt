@@ -74,8 +74,9 @@ fn say_all(rt: &(impl Abort + AllocGlobal), cases: &[Said]) {
     }
 }
 
-/// Lines about a superblock before the phases, whether each is a defect, and its bytes.
-static OPENING: [Said; 9] = [
+/// Every line, whether it is a defect, and its bytes.
+static LINES: [Said; 75] = [
+    // Lines about a superblock before the phases.
     (
         Line::Location { sector: 4194303 },
         false,
@@ -121,15 +122,7 @@ static OPENING: [Said; 9] = [
         b"CAN NOT READ: BLK 18446744073709551615\n",
     ),
     (Line::CannotAlloc, false, b"cannot alloc maps\n"),
-];
-
-#[test]
-fn says_the_opening(rt: HostRuntime) {
-    say_all(&rt, &OPENING);
-}
-
-/// Why a superblock is refused, and the bytes of that line.
-static REFUSALS: [Said; 10] = [
+    // Why a superblock is refused.
     (
         Line::BadSuper(SuperFault::CannotRead { sector: 16 }),
         false,
@@ -180,15 +173,7 @@ static REFUSALS: [Said; 10] = [
         false,
         b"BAD SUPER BLOCK: VALUES DISAGREE WITH LAST ALTERNATE\n",
     ),
-];
-
-#[test]
-fn says_why_a_superblock_is_refused(rt: HostRuntime) {
-    say_all(&rt, &REFUSALS);
-}
-
-/// Headings and summaries, which are no defects.
-static HEADINGS: [Said; 9] = [
+    // Headings and summaries, which are no defects.
     (
         Line::Heading(Heading::Phase1),
         false,
@@ -255,15 +240,7 @@ static HEADINGS: [Said; 9] = [
         false,
         b"0 files, 0 used, -1 free (-1 frags, 0 blocks, -0.5% fragmentation)\n",
     ),
-];
-
-#[test]
-fn says_headings_and_the_summary(rt: HostRuntime) {
-    say_all(&rt, &HEADINGS);
-}
-
-/// What is reported of blocks and of groups, and its bytes.
-static BLOCKS: [Said; 14] = [
+    // What is reported of blocks and of groups.
     (
         Line::Block(BlockMessage::PartAlloc { inode: 3 }),
         true,
@@ -350,72 +327,7 @@ static BLOCKS: [Said; 14] = [
         true,
         b"SUMMARY INFORMATION BAD\nSALVAGE? no\n\n",
     ),
-];
-
-#[test]
-fn reports_blocks(rt: HostRuntime) {
-    say_all(&rt, &BLOCKS);
-}
-
-/// The duplicates whose lines are those of `DUPLICATES`, before its line of another kind and after
-/// it: a fragment, an inode.
-static BEFORE: [(u32, u32); 7] = [
-    (0, 0),
-    (1, 0),
-    (12, 4294967295),
-    (9, 4294967295),
-    (123, 4294967294),
-    (4294967295, 2),
-    (1234, 2),
-];
-
-static AFTER: [(u32, u32); 10] = [
-    (1234, 3),
-    (12345, 34),
-    (123456, 345),
-    (1234567, 3456),
-    (12345678, 34567),
-    (123456789, 345678),
-    (1234567890, 3456789),
-    (10, 34567890),
-    (1000000000, 345678901),
-    (4294967294, 34),
-];
-
-/// Says duplicates on a report that continues.
-fn say_dups<W: Output>(report: &mut Report<'_, W>, dups: &[(u32, u32)]) -> bool {
-    let mut is_said = true;
-    for &(fragment, inode) in dups {
-        let line = Line::Block(BlockMessage::Dup { fragment, inode });
-        is_said &= report.say(&line).is_ok();
-    }
-    is_said
-}
-
-/// Whether all lines are said, whether they are defects, and their bytes.
-fn dups_said(alloc: Global) -> ([bool; 3], bool, Vec<u8>) {
-    let mut written = Vec::new(alloc);
-    let mut out = Counted::new(&mut written);
-    let mut report = Report::new(&mut out);
-    let many = Line::Block(BlockMessage::ManyDup { inode: 2 });
-    let said = [
-        say_dups(&mut report, &BEFORE),
-        report.say(&many).is_ok(),
-        say_dups(&mut report, &AFTER),
-    ];
-    let is_defect = report.any_defect();
-    (said, is_defect, written)
-}
-
-#[test]
-fn reports_duplicates_of_inodes_in_turn(rt: HostRuntime) {
-    let (said, is_defect, written) = dups_said(rt.alloc());
-    same(&rt, &(said, is_defect), &([true; 3], true));
-    same(&rt, &written.as_slice(), &DUPLICATES);
-}
-
-/// What is reported of a directory as a whole, and its bytes.
-static DIRECTORIES: [Said; 7] = [
+    // What is reported of a directory as a whole.
     (
         Line::Directory(DirectoryLine::RootNone),
         true,
@@ -460,15 +372,7 @@ static DIRECTORIES: [Said; 7] = [
         true,
         b"DIRECTORY CORRUPTED I=7 OWNER=1001 MODE=40755\nSIZE=512 MTIME=86400\nDIR=/d?\nSALVAGE? no\n\n",
     ),
-];
-
-#[test]
-fn reports_directories(rt: HostRuntime) {
-    say_all(&rt, &DIRECTORIES);
-}
-
-/// What is reported of the first two entries of a directory, and its bytes.
-static DOTS: [Said; 10] = [
+    // What is reported of the first two entries of a directory.
     (
         Line::Dot(DotLine::MissingDot {
             attr: ATTR,
@@ -551,15 +455,7 @@ static DOTS: [Said; 10] = [
         true,
         b"EXTRA '..' ENTRY I=7 OWNER=1001 MODE=40755\nSIZE=512 MTIME=86400\nDIR=/d\nFIX? no\n\n",
     ),
-];
-
-#[test]
-fn reports_dots(rt: HostRuntime) {
-    say_all(&rt, &DOTS);
-}
-
-/// What is reported of another entry, and its bytes.
-static ENTRIES: [Said; 9] = [
+    // What is reported of another entry.
     (
         Line::Entry(EntryLine::OutOfRange {
             number: 32,
@@ -636,15 +532,7 @@ static ENTRIES: [Said; 9] = [
         true,
         b"BAD TYPE VALUE I=7 OWNER=1001 MODE=40755\nSIZE=512 MTIME=86400\nNAME=/d/?\nFIX? no\n\n",
     ),
-];
-
-#[test]
-fn reports_entries(rt: HostRuntime) {
-    say_all(&rt, &ENTRIES);
-}
-
-/// What is reported of the references of an inode, and its bytes.
-static REFERENCES: [Said; 7] = [
+    // What is reported of the references of an inode.
     (
         Line::Reference(ReferenceLine::UnrefDir { attr: ATTR }),
         true,
@@ -695,8 +583,65 @@ static REFERENCES: [Said; 7] = [
 ];
 
 #[test]
-fn reports_references(rt: HostRuntime) {
-    say_all(&rt, &REFERENCES);
+fn says_every_line(rt: HostRuntime) {
+    say_all(&rt, &LINES);
+}
+
+/// The duplicates whose lines are those of `DUPLICATES`, before its line of another kind and after
+/// it: a fragment, an inode.
+static BEFORE: [(u32, u32); 7] = [
+    (0, 0),
+    (1, 0),
+    (12, 4294967295),
+    (9, 4294967295),
+    (123, 4294967294),
+    (4294967295, 2),
+    (1234, 2),
+];
+
+static AFTER: [(u32, u32); 10] = [
+    (1234, 3),
+    (12345, 34),
+    (123456, 345),
+    (1234567, 3456),
+    (12345678, 34567),
+    (123456789, 345678),
+    (1234567890, 3456789),
+    (10, 34567890),
+    (1000000000, 345678901),
+    (4294967294, 34),
+];
+
+/// Says duplicates on a report that continues.
+fn say_dups<W: Output>(report: &mut Report<'_, W>, dups: &[(u32, u32)]) -> bool {
+    let mut is_said = true;
+    for &(fragment, inode) in dups {
+        let line = Line::Block(BlockMessage::Dup { fragment, inode });
+        is_said &= report.say(&line).is_ok();
+    }
+    is_said
+}
+
+/// Whether all lines are said, whether they are defects, and their bytes.
+fn dups_said(alloc: Global) -> ([bool; 3], bool, Vec<u8>) {
+    let mut written = Vec::new(alloc);
+    let mut out = Counted::new(&mut written);
+    let mut report = Report::new(&mut out);
+    let many = Line::Block(BlockMessage::ManyDup { inode: 2 });
+    let said = [
+        say_dups(&mut report, &BEFORE),
+        report.say(&many).is_ok(),
+        say_dups(&mut report, &AFTER),
+    ];
+    let is_defect = report.any_defect();
+    (said, is_defect, written)
+}
+
+#[test]
+fn reports_duplicates_of_inodes_in_turn(rt: HostRuntime) {
+    let (said, is_defect, written) = dups_said(rt.alloc());
+    same(&rt, &(said, is_defect), &([true; 3], true));
+    same(&rt, &written.as_slice(), &DUPLICATES);
 }
 
 /// Whether each of two calls is refused, and no defect was said.

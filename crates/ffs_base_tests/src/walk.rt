@@ -123,34 +123,14 @@ fn walks(
     Ok(())
 }
 
-static ROOT_STEPS: [Step; 1] = [data!(36, 1, 0)];
-
-static FILE_STEPS: [Step; 2] = [data!(40, 4, 0), data!(44, 1, 1)];
-
-#[test]
-fn direct_blocks(rt: HostRuntime) -> Result<(), Fail> {
-    let root = inode_with(0o40755, 512, &[36]);
-    walks(&rt, &[], &root, &ROOT_STEPS, (0, [0, 0]))?;
-    let file = inode_with(0o100644, 4097, &[40, 44]);
-    walks(&rt, &[], &file, &FILE_STEPS, (0, [0, 0]))
-}
-
 /// The addresses of an inode whose indirect block is at fragment 40.
-static INDIRECT: [u32; 13] = [0, 0, 0, 0, 0, 0, 0, 0, 0, 0, 0, 0, 40];
+const INDIRECT: [u32; 13] = [0, 0, 0, 0, 0, 0, 0, 0, 0, 0, 0, 0, 40];
 
-static TRUNCATED: [Number; 2] = [word!(40, 0, 44), word!(40, 5, 99)];
+const TRUNCATED: [Number; 2] = [word!(40, 0, 44), word!(40, 5, 99)];
 
-static TRUNCATED_STEPS: [Step; 3] = [indirect!(40), Step::Tail, data!(44, 4, 12)];
+const TREES: [u32; 15] = [0, 0, 0, 0, 0, 0, 0, 0, 0, 0, 0, 0, 0, 40, 52];
 
-#[test]
-fn partially_truncated(rt: HostRuntime) -> Result<(), Fail> {
-    let file = inode_with(0o100644, 53248, &INDIRECT);
-    walks(&rt, &TRUNCATED, &file, &TRUNCATED_STEPS, (12, [1, 0]))
-}
-
-static TREES: [u32; 15] = [0, 0, 0, 0, 0, 0, 0, 0, 0, 0, 0, 0, 0, 40, 52];
-
-static TREE_WORDS: [Number; 7] = [
+const TREE_WORDS: [Number; 7] = [
     word!(40, 1, 44),
     word!(44, 1023, 48),
     word!(52, 0, 56),
@@ -160,7 +140,7 @@ static TREE_WORDS: [Number; 7] = [
     word!(60, 2, 7),
 ];
 
-static TREE_STEPS: [Step; 9] = [
+const TREE_STEPS: [Step; 9] = [
     indirect!(40),
     indirect!(44),
     data!(48, 4, 3083),
@@ -172,11 +152,41 @@ static TREE_STEPS: [Step; 9] = [
     data!(64, 4, 1049613),
 ];
 
-/// Each indirect block that is entered is read once, and whole.
+/// An inode: its mode, its size, its first addresses.
+type Walked = (u16, u64, &'static [u32]);
+
+/// Words of the volume, an inode, its steps that aren't Gaps, the number of Gaps, and the reads:
+/// of direct blocks, of a file that is partially truncated, and of trees with holes. Each indirect
+/// block that is entered is read once, and whole.
+static WALKS: [(&[Number], Walked, &[Step], (u64, [u64; 2])); 4] = [
+    (&[], (0o40755, 512, &[36]), &[data!(36, 1, 0)], (0, [0, 0])),
+    (
+        &[],
+        (0o100644, 4097, &[40, 44]),
+        &[data!(40, 4, 0), data!(44, 1, 1)],
+        (0, [0, 0]),
+    ),
+    (
+        &TRUNCATED,
+        (0o100644, 53248, &INDIRECT),
+        &[indirect!(40), Step::Tail, data!(44, 4, 12)],
+        (12, [1, 0]),
+    ),
+    (
+        &TREE_WORDS,
+        (0o100644, 4299218944, &TREES),
+        &TREE_STEPS,
+        (2060, [5, 0]),
+    ),
+];
+
 #[test]
-fn trees_with_holes(rt: HostRuntime) -> Result<(), Fail> {
-    let file = inode_with(0o100644, 4299218944, &TREES);
-    walks(&rt, &TREE_WORDS, &file, &TREE_STEPS, (2060, [5, 0]))
+fn steps_of_walks(rt: HostRuntime) -> Result<(), Fail> {
+    for &(words, (mode, size, addresses), steps, counts) in &WALKS {
+        let inode = inode_with(mode, size, addresses);
+        walks(&rt, words, &inode, steps, counts)?;
+    }
+    Ok(())
 }
 
 /// The first step of a walk, how many Gaps are then passed over, and the next step.
@@ -280,38 +290,27 @@ fn extent(geometry: &Geometry, size: u64) -> (u64, u32) {
     (walk.logical_blocks, walk.last)
 }
 
-/// Sizes, and their extents.
-static BLOCK_EDGES: [(u64, (u64, u32)); 4] = [
+/// Sizes, and their extents: the volume has blocks of 4,096 bytes, in fragments of 1,024.
+static EXTENTS: [(u64, (u64, u32)); 9] = [
     (1, (1, 1)),
-    (4095, (1, 4)),
-    (4096, (1, 4)),
-    (4097, (2, 1)),
-];
-
-/// The volume has blocks of 4,096 bytes, in fragments of 1,024.
-#[test]
-fn sizes_at_edges_of_blocks(rt: HostRuntime) -> Result<(), Fail> {
-    let geometry = geometry(Order::Little)?;
-    same(&rt, &extent(&geometry, 0).0, &0);
-    for &(size, wanted) in &BLOCK_EDGES {
-        same(&rt, &extent(&geometry, size), &wanted);
-    }
-    Ok(())
-}
-
-static FRAGMENT_EDGES: [(u64, (u64, u32)); 5] = [
     (1023, (1, 1)),
     (1024, (1, 1)),
     (1025, (1, 2)),
+    (4095, (1, 4)),
+    (4096, (1, 4)),
+    (4097, (2, 1)),
     (7168, (2, 3)),
     (7169, (2, 4)),
 ];
 
 #[test]
-fn sizes_at_edges_of_fragments(rt: HostRuntime) -> Result<(), Fail> {
-    let geometry = geometry(Order::Big)?;
-    for &(size, wanted) in &FRAGMENT_EDGES {
-        same(&rt, &extent(&geometry, size), &wanted);
+fn sizes_at_edges(rt: HostRuntime) -> Result<(), Fail> {
+    for order in ORDERS {
+        let geometry = geometry(order)?;
+        same(&rt, &extent(&geometry, 0).0, &0);
+        for &(size, wanted) in &EXTENTS {
+            same(&rt, &extent(&geometry, size), &wanted);
+        }
     }
     Ok(())
 }

@@ -20,22 +20,36 @@ fn begins(names: &[&[u8]], start: &[u8]) -> (usize, bool) {
     (text.len(), text.as_slice().starts_with(start))
 }
 
+/// The longest name of an entry.
+const LONG: &[u8] = &[b'a'; 255];
+
+/// Names, how their path begins, and how many bytes it has: none, two short ones, and long ones
+/// that have room, and that don't.
+static PATHS: [(&[&[u8]], &[u8], usize); 5] = [
+    (&[], b"/", 1),
+    (&[b"group", b"etc"], b"/etc/group", 10),
+    (&[LONG; 3], b"/a", 768),
+    (&[LONG; 4], b"/a", 1024),
+    (&[LONG; 5], b"?/a", 769),
+];
+
+#[test]
+fn puts_names_before(rt: HostRuntime) {
+    for &(names, start, written) in &PATHS {
+        same(&rt, &begins(names, start), &(written, true));
+    }
+}
+
 #[test]
 fn cuts_what_has_no_room(rt: HostRuntime) {
-    let long = [b'a'; 255];
-    let name = long.as_slice();
-    same(&rt, &begins(&[name; 3], b"/a"), &(768, true));
-    same(&rt, &begins(&[name; 4], b"/a"), &(1024, true));
-    same(&rt, &begins(&[name; 5], b"?/a"), &(769, true));
-    let more = written(&[name, name, name, name, name, b"b"]);
-    same(&rt, &more.as_slice(), &written(&[name; 5]).as_slice());
+    let more = written(&[LONG, LONG, LONG, LONG, LONG, b"b"]);
+    same(&rt, &more.as_slice(), &written(&[LONG; 5]).as_slice());
 }
 
 #[test]
 fn clears_names_that_were_cut(rt: HostRuntime) {
-    let long = [b'a'; 255];
     let mut path = PathBuffer::new();
-    for name in [long.as_slice(); 5] {
+    for name in [LONG; 5] {
         path.push_front(name);
     }
     path.clear();
@@ -43,13 +57,6 @@ fn clears_names_that_were_cut(rt: HostRuntime) {
     let mut text = PathText::new();
     path.put(&mut text);
     same(&rt, &text.as_slice(), &b"/etc".as_slice());
-}
-
-#[test]
-fn puts_names_before(rt: HostRuntime) {
-    same(&rt, &written(&[]).as_slice(), &b"/".as_slice());
-    let names = [b"group".as_slice(), b"etc"];
-    same(&rt, &written(&names).as_slice(), &b"/etc/group".as_slice());
 }
 
 /// How many bytes the path of an entry has whose name is this many times `a`, and whether it begins

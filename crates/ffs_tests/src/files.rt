@@ -136,31 +136,29 @@ fn a_read_that_fails_is_not_tried_again(rt: HostRuntime) -> Result<(), Fail> {
     Ok(())
 }
 
-/// Whether an image is opened in a system, and how many files the system opened for it.
-fn opened(mut system: Letters) -> (bool, u64) {
+/// Whether an image is opened of a file, and how many files the system opened for it.
+fn opened(fifo: bool, sized: bool) -> (bool, u64) {
+    let mut system = Letters::new(ErrorKind::Other);
+    system.fifo = fifo;
+    system.sized = sized;
     let is_opened = RawImage::open(&mut system, "letters").is_ok();
     (is_opened, system.opened)
 }
 
-#[test]
-fn a_file_is_opened_once(rt: HostRuntime) -> Result<(), Fail> {
-    same(&rt, &opened(Letters::new(ErrorKind::Other)), &(true, 1));
-    Ok(())
-}
+/// Whether a file is a FIFO, whether it tells its size, whether it is opened, and how many files
+/// the system opens for that.
+static OPENINGS: [(bool, bool, (bool, u64)); 3] = [
+    (false, true, (true, 1)),
+    (true, true, (false, 0)),
+    (false, false, (false, 1)),
+];
 
+/// A file is opened once. A FIFO isn't opened, and a file without a size is refused.
 #[test]
-fn a_fifo_is_not_opened(rt: HostRuntime) -> Result<(), Fail> {
-    let mut system = Letters::new(ErrorKind::Other);
-    system.fifo = true;
-    same(&rt, &opened(system), &(false, 0));
-    Ok(())
-}
-
-#[test]
-fn a_file_without_a_size_is_refused(rt: HostRuntime) -> Result<(), Fail> {
-    let mut system = Letters::new(ErrorKind::Other);
-    system.sized = false;
-    same(&rt, &opened(system), &(false, 1));
+fn files_opened(rt: HostRuntime) -> Result<(), Fail> {
+    for &(fifo, sized, wanted) in &OPENINGS {
+        same(&rt, &opened(fifo, sized), &wanted);
+    }
     Ok(())
 }
 

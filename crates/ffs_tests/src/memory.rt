@@ -161,7 +161,7 @@ fn more_inodes_than_16_bits(rt: HostRuntime) -> Result<(), Fail> {
 }
 
 /// The last of a thousand words; those about 700 once it is set; 3 and 700 once 3 is set too.
-static WORDS: [(WordCall, u64); 8] = [
+const WORDS: [(WordCall, u64); 8] = [
     (WordCall::Get(999), 0),
     (WordCall::Set(700, 7), 0),
     (WordCall::Get(699), 0),
@@ -172,16 +172,8 @@ static WORDS: [(WordCall, u64); 8] = [
     (WordCall::Get(700), 7),
 ];
 
-/// Words are 0 until they are set, and the others stay.
-#[test]
-fn words_set_and_unset(rt: HostRuntime) -> Result<(), Fail> {
-    same(&rt, &thousand_words(rt.alloc())?, &(8000, 1000));
-    word_answers(&rt, &WORDS)?;
-    Ok(())
-}
-
 /// Claims beside bits that are set, over one of them, and of a word that isn't set.
-static CLAIMED: [(WordCall, u64); 8] = [
+const CLAIMED: [(WordCall, u64); 8] = [
     (WordCall::Set(3, 9), 0),
     (WordCall::Claim(3, 6), 1),
     (WordCall::Get(3), 15),
@@ -192,11 +184,17 @@ static CLAIMED: [(WordCall, u64); 8] = [
     (WordCall::Get(700), 24),
 ];
 
-/// The bits of a mask are claimed where none of them is set: beside bits that are, but not over
-/// one.
+/// Calls on words that are 0 at first.
+static WORD_CALLS: [&[(WordCall, u64)]; 2] = [&WORDS, &CLAIMED];
+
+/// Words are 0 until they are set, and the others stay. The bits of a mask are claimed where none
+/// of them is set: beside bits that are, but not over one.
 #[test]
-fn bits_claimed_once(rt: HostRuntime) -> Result<(), Fail> {
-    word_answers(&rt, &CLAIMED)?;
+fn words_set_and_claimed(rt: HostRuntime) -> Result<(), Fail> {
+    same(&rt, &thousand_words(rt.alloc())?, &(8000, 1000));
+    for &calls in &WORD_CALLS {
+        word_answers(&rt, calls)?;
+    }
     Ok(())
 }
 
@@ -259,7 +257,7 @@ fn number_answers(
 }
 
 /// The last number of a thousand; those about 700 once it is set; 3 and 700 once 3 is set too.
-static NUMBERS: [(NumberCall, u64); 8] = [
+const NUMBERS: [(NumberCall, u64); 8] = [
     (NumberCall::Get(999), 0),
     (NumberCall::Set(700, 7), 0),
     (NumberCall::Get(699), 0),
@@ -272,7 +270,7 @@ static NUMBERS: [(NumberCall, u64); 8] = [
 
 /// How many numbers a list has that is filled after 3 and 700 were set, and three of them; those
 /// about 1 once it is set.
-static FILLED: [(NumberCall, u64); 11] = [
+const FILLED: [(NumberCall, u64); 11] = [
     (NumberCall::Set(700, 7), 0),
     (NumberCall::Set(3, 9), 0),
     (NumberCall::Fill(5), 0),
@@ -286,17 +284,8 @@ static FILLED: [(NumberCall, u64); 11] = [
     (NumberCall::Get(2), 5),
 ];
 
-/// Numbers are 0 until one is set, and again once the list is filled.
-#[test]
-fn numbers_set_and_filled(rt: HostRuntime) -> Result<(), Fail> {
-    same(&rt, &thousand_numbers(rt.alloc())?, &(4000, 1000));
-    number_answers(&rt, 1000, &NUMBERS)?;
-    number_answers(&rt, 1000, &FILLED)?;
-    Ok(())
-}
-
 /// Eight numbers, of which the first four are set, after each of three parts was put in order.
-static SORTED: [(NumberCall, u64); 31] = [
+const SORTED: [(NumberCall, u64); 31] = [
     (NumberCall::Set(0, 9), 0),
     (NumberCall::Set(1, 8), 0),
     (NumberCall::Set(2, 2), 0),
@@ -330,10 +319,21 @@ static SORTED: [(NumberCall, u64); 31] = [
     (NumberCall::Get(7), 0),
 ];
 
-/// Part of a list is put in order, what wasn't set among it, and the numbers beside it stay.
+/// How many numbers a list has, and calls on it.
+static NUMBER_CALLS: [(usize, &[(NumberCall, u64)]); 3] = [
+    (1000, &NUMBERS),
+    (1000, &FILLED),
+    (8, &SORTED),
+];
+
+/// Numbers are 0 until one is set, and again once the list is filled. Part of a list is put in
+/// order, what wasn't set among it, and the numbers beside it stay.
 #[test]
-fn part_sorted(rt: HostRuntime) -> Result<(), Fail> {
-    number_answers(&rt, 8, &SORTED)?;
+fn numbers_set_filled_and_sorted(rt: HostRuntime) -> Result<(), Fail> {
+    same(&rt, &thousand_numbers(rt.alloc())?, &(4000, 1000));
+    for &(count, calls) in &NUMBER_CALLS {
+        number_answers(&rt, count, calls)?;
+    }
     Ok(())
 }
 
