@@ -14,3 +14,4 @@ pub mod WordClaims
 pub mod ZeroInodes
 pub mod Limited
 pub mod IndirectReads
+pub mod SeriesClaims

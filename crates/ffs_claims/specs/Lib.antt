@@ -8,3 +8,4 @@ pub mod Claiming
 pub mod SilentWords
 pub mod ZeroInodes
 pub mod Phases
+pub mod Series

@@ -2,6 +2,7 @@
 
 ghost use Rattle.std.specs.Prelude.{◌≡◌, ◌≤◌, IsTrue};
 ghost use Rattle.ffs_volume.specs.Blocks.Inodes.{any_nonzero};
+ghost use Rattle.ffs_workspace.specs.Tables.{HoldsInode};
 ghost use Rattle.ffs_claims.specs.ZeroInodes.{CanPassZeroInodes, EndsZeroInodes, HasTableInodes, IsZeroInode};
 ghost use Rattle.ffs_claims.specs.ZeroInodes.{PassesZeroInodes};
 
@@ -23,33 +24,35 @@ fn any_set(bytes: &[u8]) -> bool
     bits != 0
 }
 
-/// Whether the window on the inode table holds an inode, and each byte of it is zero.
+/// Whether each byte of an inode that the window on the inode table holds is zero.
 #[inline(always)]
 fn is_zero_inode(table: &Table, number: u32) -> bool
-    requires { HasTableInodes table.now }
+    requires inodes { HasTableInodes table.now }
+    requires held { HoldsInode table.now number }
     ensures { IsTrue result → IsZeroInode table.now number }
 {
-    if number < table.first || number - table.first >= table.count {
-        return false;
-    }
     let at = DINODE_SIZE * (number - table.first) as usize;
     !any_set(&table.window.bytes()[at..at + DINODE_SIZE])
 }
 
 /// The first number from `number` on, below `end`, of an inode that the window doesn't hold or that
-/// has a byte which isn't zero, and `end` where there is none.
+/// has a byte which isn't zero, and `end` where there is none. What the window holds is asked once.
 #[inline(never)]
 fn zero_inodes_end(table: &Table, number: u32, end: u32) -> u32
     requires inodes { HasTableInodes table.now }
     requires order { number ≤ end }
     ensures { EndsZeroInodes table.now number end result }
 {
-    for next in number..end {
+    if number < table.first {
+        return number;
+    }
+    let held = end.min(table.first.saturating_add(table.count));
+    for next in number..held {
         if !is_zero_inode(table, next) {
             return next;
         }
     }
-    end
+    held.max(number)
 }
 
 /// Passes over the inodes from `number` on, below `end`, that the window holds and that have zero
