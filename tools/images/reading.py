@@ -221,7 +221,8 @@ class Inode:
             opened.add(key)
         place = address * self.layout.fsize
         for k, word in enumerate(words_at(image, place, used, self.layout.order)):
-            yield from self._tree(image, word, depth - 1, first + k * below, blocks, opened)
+            if word:
+                yield from self._tree(image, word, depth - 1, first + k * below, blocks, opened)
 
 
 def inodes(image, layout):
