@@ -9,7 +9,7 @@ use Rattle.ffs_maps.{proofs.{Bits.run_join, Masks.run_outside}}
 use Rattle.ffs_walk.specs.{HeldWords.{PassesNextWord, next_address, word_step}, Rests.steps_left, Windows.BlocksHold}
 use Rattle.ffs_walk.specs.declared.{blocks.Blocks.Blocks, walk.Walk.Walk}
 use Rattle.ffs_workspace.specs.{Holds.claims_of, declared.workspace.Workspace.Workspace}
-use Rattle.ffs_claims.proofs.UnclaimedRuns.{whole_is}
+use Rattle.ffs_claims.proofs.{IndirectReads.{step_on, word_unseen}, UnclaimedRuns.whole_is}
 use Rattle.ffs_claims.specs.{Leaves.ClaimsOnly, SilentWords.ClaimsWords, declared.words.Series.Series}
 use Rattle.ffs_claims.specs.Series.{CanClaimSeries, MeansSame, PassesSeries, with_series}
 
@@ -40,6 +40,7 @@ series_none s start =
     rw (runs, kept) (record {
       claims = λ contents holds bytes e. refl;
       lines = λ contents holds bytes e number. refl;
+      indirect = λ contents holds bytes e. refl;
       bound = stays s;
     })
 
@@ -76,6 +77,12 @@ series_next {v = v} {blocks = blocks} {x = x} {y = y} {z = z} s start runs len s
       claims = λ contents holds bytes e. rw (sym (first.claims contents holds bytes e), next contents holds bytes e, now) refl;
       lines = λ contents holds bytes e number. let silent = did.silent number in
           rw (sym (first.lines contents holds bytes e number), next contents holds bytes e, now, silent) refl;
+      indirect = λ contents holds bytes e. omega (
+        arith,
+        first.indirect contents holds bytes e,
+        step_on v t (next contents holds bytes e) now,
+        word_unseen t v.frag (start + len) block,
+      );
       bound = rw now (moves_then s t _ first.bound (step_moves v t step (first.bound.used_length ∙ can.long) small
           (cond_holds (HasLength v.frag) (nat_eq (start + len) 0) _ _ (λ _. tt) (λ _. (some, omega arith)))));
     }
@@ -90,6 +97,7 @@ series_words {a = a} can now only rises p =
     record {
       claims = λ contents holds bytes e. rw now (same.claims contents holds bytes e);
       lines = λ contents holds bytes e number. rw now (same.lines contents holds bytes e number);
+      indirect = λ contents holds bytes e. rw now (same.indirect contents holds bytes e);
       uncut = ap is_open now ∙ can.uncut;
       claim_bound = rw now same.bound;
       only = only;

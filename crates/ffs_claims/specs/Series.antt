@@ -1,7 +1,7 @@
 -- Runs that the words of an indirect block name in turn, and that are claimed together.
 use Rattle.std.specs.Prelude.{◌≡◌, ℕ, ◌+◌, ◌%◌, ◌<◌, ◌≤◌, ◌^◌, true, length, List, Option}
 use Rattle.ffs_volume.specs.{Blocks.Claims.{Claims, after_steps, is_open, lines_of_steps}, Disk.Areas.is_run_in_range}
-use Rattle.ffs_volume.specs.{Laws.ClaimBounds.ClaimBound, declared.Layout.Layout}
+use Rattle.ffs_volume.specs.{Laws.ClaimBounds.ClaimBound, Report.VolumeReads.indirect_in_steps, declared.Layout.Layout}
 use Rattle.ffs_image.specs.Device.{ForContents}
 use Rattle.ffs_layout.specs.declared.geometry.Geometry.{Geometry}
 use Rattle.ffs_maps.specs.Bits.{AreClear, set_run}
@@ -33,13 +33,15 @@ pub record CanClaimSeries (v : Layout) (s : Claims) (start len : ℕ) : Type 0 w
   pub clear : AreClear s.used start len
 
 -- what a walk has left after these claims means the same claims and lines as what another had left
--- before
+-- before, and the same count of indirect blocks that are seen
 pub record MeansSame (v : Layout) (blocks : Blocks) (old new : Claims) (walk walk' : Walk) : Type 0 where
   pub claims : (contents : Option (List ℕ)) → BlocksHold v contents blocks → ForContents contents (λ bytes.
       after_steps v new (steps_left bytes walk') ≡ after_steps v old (steps_left bytes walk))
   pub lines : (contents : Option (List ℕ)) → BlocksHold v contents blocks → ForContents contents (λ bytes.
       (number : ℕ) → lines_of_steps v number new (steps_left bytes walk')
       ≡ lines_of_steps v number old (steps_left bytes walk))
+  pub indirect : (contents : Option (List ℕ)) → BlocksHold v contents blocks → ForContents contents (λ bytes.
+      indirect_in_steps v new (steps_left bytes walk') ≡ indirect_in_steps v old (steps_left bytes walk))
   pub bound : ClaimBound old new
 
 -- a walk passes over the words that name a series of Runs, from an address on, in one word of the map

@@ -30,3 +30,6 @@ loop-order-preserved c =
       words = words_then c.loop-order.invariant.words did.words;
       held = did.held;
     }
+
+pub loop-order-smaller : goal.loop-order-smaller
+loop-order-smaller c = (c.claim_next.ensures.claimed c.if-not-claim_next.false).falls
