@@ -48,8 +48,12 @@ loop-at-preserved g c =
           c.read_reached.new.lists.calm.now (read b k).calm x (inv.kept b k x set);
       once = λ b k unread.
           let s = still b k in
-          let long : number_at level place < length here.calm.now = omega (arith, dir_below old.kinds.now (number_at level place) s.dir, here.long.calm_long,
-          kinds_long inv.lent.same) in
+          let long : number_at level place < length here.calm.now = omega (
+            arith,
+            dir_below old.kinds.now (number_at level place) s.dir,
+            here.long.calm_long,
+            kinds_long inv.lent.same,
+          ) in
           read_next old.kinds.now old.marked.now here.calm.now c.read_reached.new.lists.calm.now (entries b) (g.D.Directories.right_shape base b) level c.args.low place inv.from inside
           (λ i. other_place level c.args.low place i unread inv.from) (read b k).same_result s.is_reached
           (read b k).calm long (inv.once b k unread);
