@@ -70,8 +70,8 @@ fn survey_all<I: Image>(
 /// Finds how often each inode is referred to, which inodes a plain entry names, which directories
 /// are reached from the root, and the parent of each directory. Each directory is read once.
 /// `flags` then has the calm directories, of which nothing can be reported, and each that is so by
-/// the image's bytes (`is_calm_directory`). `queue` notes no place. The windows change too. What phase 1 left (claims, kinds, marks, notes, counts of Runs)
-/// stays as it was.
+/// the image's bytes (`is_calm_directory`). `queue` notes no place. The windows change too. What
+/// phase 1 left (claims, kinds, marks, notes, counts of Runs) stays as it was.
 ///
 /// Another survey of the workspace, also after later phases, leaves the same: what the first one
 /// found stands, so it reads nothing and counts no reference twice. It calls no directory calm.
