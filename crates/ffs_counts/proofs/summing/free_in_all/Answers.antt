@@ -1,5 +1,6 @@
 use Rattle.std.proofs.Common.{ℕ, ℤ, pos, ◌+ℤ◌, ◌*ℤ◌, ◌*◌, ◌≤◌, mul-le-mul, arith, w8, w32, w64, Fits, SFits}
 use Rattle.std.proofs.{Common.unsigned_abs, lemmas.Int.{ints, to_z-of_z, fits_signed_from_abs, unsigned_abs-mul}}
+use Rattle.std.proofs.Math.IntN.{*ℤ_comm, +ℤ_comm}
 use Rattle.ffs_counts.proofs.summing.free_in_all.Goals as goal
 
 blocks_most : (frag : ℕ) (blocks : ℤ) → Fits w8 frag → SFits w32 blocks →
@@ -17,11 +18,12 @@ all_fit : (frags : ℤ) (frag : ℕ) (blocks : ℤ) → SFits w32 frags → Fits
     SFits w64 (frags +ℤ pos frag *ℤ blocks)
 all_fit frags frag blocks a f b = sum_fits frags (pos frag *ℤ blocks) a (blocks_most frag blocks f b)
 
+-- in any order of the product and of the sum
 pub overflow_mul-result : goal.overflow_mul-result
-overflow_mul-result c = grind (arith, to_z-of_z, blocks_fit)
+overflow_mul-result c = grind (arith, to_z-of_z, blocks_fit, *ℤ_comm)
 
 pub overflow_add-result : goal.overflow_add-result
-overflow_add-result c = grind (arith, to_z-of_z, blocks_fit, all_fit)
+overflow_add-result c = grind (arith, to_z-of_z, blocks_fit, all_fit, *ℤ_comm, +ℤ_comm)
 
 pub returns : goal.returns
-returns c = grind (arith, to_z-of_z, blocks_fit, all_fit)
+returns c = grind (arith, to_z-of_z, blocks_fit, all_fit, *ℤ_comm, +ℤ_comm)
