@@ -1,2 +1,0 @@
-. completion/fsck_ffs.bash
-xit
