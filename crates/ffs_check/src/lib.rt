@@ -18,7 +18,8 @@
 //!   `rest` runs these one after another.
 //! - `run` goes from the words of a command line to a look at the image that they name, by any
 //!   `program`: `words` are those that programs have in common, `opener` opens the image, and
-//!   `refusal` writes why none is opened.
+//!   `refusal` writes why none is opened. `start` makes the process of a program: its words, its
+//!   streams, and its status.
 //! - `fsck` is the program `fsck_ffs`: `args` is what its words may ask for, `parse_args` finds that
 //!   by `clap`, `wrong_words` has its texts where no check is run, and `version` what it is.
 //!

@@ -1,6 +1,6 @@
 //! Looks in an image for what is asked for, and says how that ended.
 ghost use Rattle.std.specs.Prelude.{◌≡◌, ◌+◌, ◌*◌, ◌≤◌, ℕ, Option};
-ghost use Rattle.ffs_volume.specs.{Messages.Texts.text_of, Report.Opening.fault_line};
+ghost use Rattle.ffs_volume.specs.{Messages.Texts.text_of};
 ghost use Rattle.ffs_report.specs.{Lines.message_of, Sink.Prints};
 ghost use Rattle.ffs_layout.specs.Super.{superblock_in};
 ghost use Rattle.ffs_finding.specs.Whole.{EndsBy, FindsCommand, Looks, Searches, status_of_answer};
@@ -15,6 +15,7 @@ use crate::inode::find_inode;
 use crate::lost::find_lost;
 use crate::owner::find_owner;
 use crate::request::{Command, Search};
+use ffs_check::opening::fault_line;
 use ffs_check::run::NOT_COMPLETED;
 use ffs_image::Image;
 use ffs_layout::{Super, read_super};
@@ -56,16 +57,6 @@ fn print_line<W: Output>(out: &mut W, line: &Line<'_>) -> Result<(), OutFault>
     ensures { Prints (W.sink out.old) (W.sink out.new) (text_of (message_of line.now)) result }
 {
     Report::new(out).say(line)
-}
-
-/// How a fault of the superblock is reported.
-fn fault_line(fault: SuperFault) -> Line<'static>
-    ensures { message_of result ≡ fault_line fault }
-{
-    match fault {
-        SuperFault::CannotRead { sector } => Line::CannotRead { sector },
-        fault => Line::BadSuper(fault),
-    }
 }
 
 /// Prints the line of a fault, if that has one, and returns the status.

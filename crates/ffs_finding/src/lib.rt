@@ -1,9 +1,9 @@
 //! What a report of `fsck_ffs` sends people to look for in an image of a UFS1 file system: copies of
-//! the superblock, inodes, and fields that a kernel computes with. It is the program `ffs_find`, as
-//! a library.
+//! the superblock, inodes, lost fragments, owners of a fragment, and fields that a kernel computes
+//! with. It is the program `ffs_find`, as a library.
 //!
 //! `find_in` prints the lines of a command, and returns its status. Which lines these are is in the
-//! book (`Find` of `ffs_volume`: `Copies`, `InodeText`, `Fields`); `FindsCommand` says that they
+//! book (`Find` of `ffs_volume`); `FindsCommand` says that they
 //! were printed, or what is left of them where a read or a write failed or memory was refused, what
 //! memory was taken, and how often the image was read.
 //!
@@ -15,13 +15,14 @@
 //!
 //! Its modules:
 //!
-//! - `copies`, `inode` and `fields` are the commands, and `find` puts them together. `request` is
-//!   what may be asked for.
+//! - `copies`, `inode`, `fields`, `lost` and `owner` are the commands, and `find` puts them together.
+//!   `claims` runs phase 1 for the last two, and `group_map` is the map of a group. `request` is what
+//!   may be asked for.
 //! - `run` goes from the words of a command line to a search in the image that they name: `words`
 //!   are read by `clap`. `wrong_words` says what is written where nothing is looked for.
 //!
-//! It rests on `ffs_check` for the image that a name opens, on `ffs_walk` for the class of an inode
-//! and for a window, and on `clap` for the words.
+//! It rests on `ffs_check` for a run and for the image that a name opens, on `ffs_claims` for phase 1,
+//! on `ffs_groups` and `ffs_counts` for maps, on `ffs_walk` for walks and windows, and on `clap`.
 #![tactic(auto)]
 
 mod claims;

@@ -1,5 +1,5 @@
-//! The program `ffs_find`: a look for something in the image that its words name. `main` adds the
-//! standard streams.
+//! The program `ffs_find`: a look for something in the image that its words name. `start`
+//! of `ffs_check` adds the standard streams.
 ghost use Rattle.std.specs.Prelude.{map};
 ghost use Rattle.ffs_check.specs.{Refusals.IsWritten, Run.RunEndsFlushed};
 ghost use Rattle.ffs_finding.specs.Run.{ffs_find};
