@@ -221,7 +221,8 @@ class Inode:
             opened.add(key)
         place = address * self.layout.fsize
         for k, word in enumerate(words_at(image, place, used, self.layout.order)):
-            yield from self._tree(image, word, depth - 1, first + k * below, blocks, opened)
+            if word:
+                yield from self._tree(image, word, depth - 1, first + k * below, blocks, opened)
 
 
 def inodes(image, layout):
@@ -254,6 +255,27 @@ def kept_fragments(image, layout):
             if dups == MOST_DUPS:
                 break
     return kept
+
+
+def seen_indirect(image, layout):
+    """How many runs of indirect blocks are seen of inodes: all up to an inode's eleventh bad run or eleventh duplicate."""
+    used = bytearray(map(layout.is_reserved, range(layout.size)))
+    seen = 0
+    for inode in inodes(image, layout):
+        bad = dups = 0
+        for run in inode.runs(image):
+            seen += run.block is None
+            is_bad = not layout.is_in_range(run.start, run.length)
+            bad += is_bad
+            if is_bad and bad == MOST_BAD:
+                break
+            for f in range(run.start, min(run.start + run.length, layout.size)):
+                if dups < MOST_DUPS and not layout.is_metadata(f):
+                    dups += used[f]
+                    used[f] = 1
+            if dups == MOST_DUPS:
+                break
+    return seen
 
 
 @dataclass

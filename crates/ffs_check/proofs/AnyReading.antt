@@ -2,13 +2,12 @@
 use Rattle.std.proofs.Common.{◌≡◌, ◌≤◌, ◌+◌, ◌*◌, ℕ, Bool, false, refl, inl, inr, sym, arith, List, [], ◌∷◌, ◌++◌}
 use Rattle.std.{proofs.{Common.{length-append, Ok, Err, subst, Result}, Math.Nat.mul-le-mul_left}, specs.Borrow.GName}
 use Rattle.ffs_volume.specs.{declared.{Layout.Layout, End.End}, Messages.Kinds.{Message, cannot_alloc, cannot_read}}
-use Rattle.ffs_volume.specs.Report.{Memory.runs_limit, Reads.{group_reads, line_reads, opening_reads, phase_reads}}
-use Rattle.ffs_volume.specs.{Disk.Superblock.Superblock, Report.Reads.{reads_limit, sweep_reads, table_blocks}}
+use Rattle.ffs_volume.specs.Report.{Reads.{line_reads, opening_reads, phase_reads}}
+use Rattle.ffs_volume.specs.{Disk.Superblock.Superblock, Report.Reads.{reads_limit}}
 use Rattle.ffs_layout.specs.declared.superblock.Super.{Super}
 use Rattle.ffs_report.specs.{Sink.Sink, Paid.Paid, Progress.{Progress, Said, Stopped, starts}}
-use Rattle.ffs_report.specs.{declared.fault.RunFault.{RunFault, TheVariants.{Read, Out}}, PhaseOutcome.PhaseReports}
-use Rattle.ffs_report.proofs.{Reports.{said_then, stopped_after}, Paying.{paid_beside, paid_price, paid_text}}
-use Rattle.ffs_report.proofs.Paying.{paid_then, paid_within}
+use Rattle.ffs_report.specs.{declared.fault.RunFault.{RunFault, TheVariants.{Read, Out}}}
+use Rattle.ffs_report.proofs.{Reports.{said_then, stopped_after}}
 use Rattle.ffs_pathnames.specs.declared.pass2.Root.{Root}
 use Rattle.ffs_check.specs.{AnyReads.{PhasesRead, ReadsAny, ReadsByMessages}, Ends.BrokeOffIn}
 use Rattle.ffs_check.{specs.{Ends.Printed, PhaseEnds.{EndsAs, SaysRefusal}}, proofs.EndLaws.broke_off}
@@ -17,41 +16,6 @@ use Rattle.ffs_check.{specs.{Ends.Printed, PhaseEnds.{EndsAs, SaysRefusal}}, pro
 priced : (v : Layout) (n m before after : ℕ) → after ≤ before + phase_reads v 0 + (line_reads + 1) * n → n ≤ m →
     after ≤ before + phase_reads v m
 priced v n m before after most few = grind (arith, mul-le-mul_left)
-
--- phase 1 was said, and then phase 1b, or nothing
-pub scan_paid : (v : Layout) (knows knows' : List ℕ → Type 0) (all all' : List ℕ → List Message) (a b c : Progress)
-    (before first after runs : ℕ) → PhaseReports {T = Unit {0}} knows all a b (Ok tt) →
-    first ≤ before + table_blocks v + runs → runs ≤ runs_limit v →
-    PhaseReports {T = Unit {0}} knows' all' b c (Ok tt) → after ≤ first + sweep_reads v →
-    Paid {T = Unit {0}} (line_reads + 1) a c (before + phase_reads v 0)
-    (after + (4 * sweep_reads v + group_reads v)) (Ok tt)
-scan_paid v knows knows' all all' a b c before first after runs one reads few two again =
-    let begun : Paid {T = Unit {0}} (line_reads + 1) a b (before + phase_reads v 0)
-    (first + (5 * sweep_reads v + group_reads v)) (Ok tt) =
-    paid_text knows all (Ok tt) one (omega (arith, reads, few)) in
-    paid_then begun (paid_text knows' all' (Ok tt) two (omega (arith, again)))
-
--- and then phase 2
-pub names_paid : {T U : Type 0} (v : Layout) (a b c : Progress) (before first after : ℕ) {x : T}
-    {r : Result U RunFault} → Paid (line_reads + 1) a b before (first + (4 * sweep_reads v + group_reads v)) (Ok x) →
-    Paid line_reads b c (first + 4 * sweep_reads v) after r →
-    Paid (line_reads + 1) a c before (after + group_reads v) r
-names_paid v a b c before first after one two = paid_then one
-    (paid_within {before = first + 4 * sweep_reads v + group_reads v} {after = after + group_reads v}
-    (paid_beside (group_reads v) (paid_price line_reads (line_reads + 1) (omega arith) two)) (omega arith)
-    (omega arith))
-
--- and then phase 3, or 4
-pub links_paid : {T U : Type 0} (v : Layout) (a b c : Progress) (before first after : ℕ) {x : T}
-    {r : Result U RunFault} → Paid (line_reads + 1) a b before (first + group_reads v) (Ok x) →
-    Paid 1 b c first after r → Paid (line_reads + 1) a c before (after + group_reads v) r
-links_paid v a b c before first after one two =
-    paid_then one (paid_beside (group_reads v) (paid_price 1 (line_reads + 1) (omega arith) two))
-
--- what is left for later reads isn't read where none follow
-pub left_paid : {T : Type 0} {price : ℕ} {a b : Progress} {before after : ℕ} {r : Result T RunFault} (left : ℕ) →
-    Paid price a b before (after + left) r → Paid price a b before after r
-left_paid left p = paid_within p (omega arith) (omega arith)
 
 -- the phases have ended, and a read that failed is said
 pub ended_reads : (v : Layout) (had_defect : Bool) (a b c : Progress) (before after : ℕ) (r : Result Root RunFault)

@@ -14,6 +14,7 @@ use Rattle.ffs_volume.specs.Report.Whole.{rescan_lines, group_check_lines, summa
 use Rattle.ffs_volume.specs.Report.Whole.{run_count}
 use Rattle.ffs_workspace.specs.{declared.workspace.Workspace.Workspace, Holds.HoldsClaims, Ready.IsReady}
 use Rattle.ffs_claims.specs.{Phases.IsLeftByPhase1, RescanRuns.rescan_runs}
+use Rattle.ffs_check.specs.ReadsWithin.{rescan_reads}
 
 -- what each phase reports, with its heading
 abbrev pub phase1_part : List ℕ → Superblock → List Message
@@ -73,8 +74,8 @@ pub record HasAnswers (v : Layout) (bytes : List ℕ) (old new : Workspace) : Ty
   pub again : new.runs_again ≡ (if has_rescan v (owners_of v bytes) then rescan_runs v bytes else old.runs_again)
 
 -- phase 1b, or nothing where no fragment has a DUP line: its text, what the workspace holds and answers
--- then, no more reads than those of a sweep, and the workspace is ready for the next phase. The count of
--- phase 1's Runs stays
+-- then, no more reads than those of a sweep, none where the image's bytes have no DUP line, and the
+-- workspace is ready for the next phase. The count of phase 1's Runs stays
 pub record Rescans (v : Layout) (d d' : Device) (w w' : Workspace) (old new : Progress) (before after : ℕ)
     (result : Result (Unit {0}) RunFault) : Type 0 where
   pub prints : PhaseOutcome (WithLeftByPhase1 v d w) (λ bytes. rescan_lines v bytes) d d' old new result
@@ -82,4 +83,5 @@ pub record Rescans (v : Layout) (d d' : Device) (w w' : Workspace) (old new : Pr
   pub answers : OnOk result (ForBytes (WithLeftByPhase1 v d w) (λ bytes. HasAnswers v bytes w w'))
   pub seen : w'.runs_seen ≡ w.runs_seen
   pub reads : after ≤ before + sweep_reads v
+  pub known : ForBytes (WithLeftByPhase1 v d w) (λ bytes. after ≤ before + rescan_reads v bytes)
   pub ready : IsReady v d' w'

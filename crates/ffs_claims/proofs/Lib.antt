@@ -13,3 +13,4 @@ pub mod RescanCounts
 pub mod WordClaims
 pub mod ZeroInodes
 pub mod Limited
+pub mod IndirectReads

@@ -8,7 +8,7 @@ use Rattle.ffs_maps.specs.Bits.{bits_of, AreClear, set_run}
 use Rattle.ffs_walk.specs.{Counts.EntersOnly, HeldWords.{PassesWord, next_address, word_step}, Rests.SameFileBlocks}
 use Rattle.ffs_walk.specs.{Rests.{most_steps_left, steps_left}, Windows.BlocksHold, declared.walk.Walk.Walk}
 use Rattle.ffs_workspace.specs.{Holds.claims_of, Lengths.IsFor, declared.workspace.Workspace.Workspace}
-use Rattle.ffs_claims.proofs.{Frames.only_then, Inodes.moves_on, UnclaimedRuns.whole_is}
+use Rattle.ffs_claims.proofs.{Frames.only_then, IndirectReads.{step_on, word_unseen}, Inodes.moves_on, UnclaimedRuns.whole_is}
 use Rattle.ffs_claims.specs.SilentWords.{ClaimsAddress, ClaimsSilently, ClaimsWords}
 
 -- a Run in range of which all fragments are unclaimed
@@ -42,6 +42,11 @@ words_once {v = v} {a = a} {b = b} {x = x} {y = y} {address = address} some smal
     rw (is, sym layout) (passes.steps contents (rw layout holds) bytes e) in
     record {
       claims = λ contents holds bytes e. rw (next contents holds bytes e, now) refl;
+      indirect = λ contents holds bytes e. omega (
+        arith,
+        step_on v (claims_of a) (next contents holds bytes e) now,
+        word_unseen (claims_of a) v.frag address block,
+      );
       lines = λ contents holds bytes e number. let silent = silently.silent number in grind arith;
       uncut = did.uncut;
       claim_bound = moves_on step made small (cond_holds (HasLength v.frag) (nat_eq address 0) _ _ (λ _. tt)

@@ -1,8 +1,9 @@
 -- What inodes ask for before they claim, and what they leave.
-use Rattle.std.specs.{List.range_with_len, Prelude.{◌≡◌, ℕ, ◌+◌, ◌<◌, ◌≤◌, ◌^◌, Bool, true, List, Result, OnOk, IfOk}}
-use Rattle.ffs_volume.specs.Blocks.{BlockCheck.owner_lines, Claims.{Claims, after_offer, after_offers, after_owner}}
+use Rattle.std.specs.{List.range_with_len, Prelude.{◌≡◌, ℕ, ◌+◌, ◌<◌, ◌≤◌, ◌^◌, Bool, true, List, Option, Result, OnOk, IfOk}}
+use Rattle.ffs_volume.specs.Blocks.{BlockCheck.owner_lines, Claims.{Claims, after_offer, after_offers, after_owner, at_next_inode}}
 use Rattle.ffs_volume.specs.Blocks.Claims.{after_steps, is_open, lines_of_offers, lines_of_steps, no_claims}
-use Rattle.ffs_volume.specs.{Blocks.{Inodes.class_of, Owners.Owner, Steps.steps_of}, Disk.Areas.is_run_in_range}
+use Rattle.ffs_volume.specs.{Blocks.{Inodes.class_of, Owners.{Owner, owner_of}, Steps.steps_of}, Disk.Areas.is_run_in_range}
+use Rattle.ffs_volume.specs.Report.VolumeReads.{indirect_in_steps}
 use Rattle.ffs_volume.specs.Laws.{ClaimBounds.{used_bits, ClaimBound}, RunLengths.HasLength}
 use Rattle.ffs_volume.specs.declared.{BlockMessage.BlockMessage, Class.Class, Inode.Inode, Layout.Layout, Step.Step}
 use Rattle.ffs_image.specs.Device.{Device}
@@ -93,12 +94,19 @@ pub record StepsLeave {T : Type 0} (v : Layout) (d d' : Device) (old new : Works
   pub found : SameFound old new
   pub table : new.windows.table ≡ old.windows.table
 
+-- each read is of an indirect block of the next inode that is seen, once
+abbrev pub ReadsIndirect : Layout → Claims → Owner → (reads reads' : ℕ) → Type 0
+ReadsIndirect v s o reads reads' = reads' ≤ reads + indirect_in_steps v (at_next_inode s) o.steps
+
 -- an inode is read by its block of the inode table. Where the table held the inode, nothing is read of
--- it and it stays, and each read is paid by a Run that is seen; else its block is held then
-pub record ReadsByBlock {T : Type 0} (v : Layout) (number reads reads' : ℕ) (old new : Workspace)
-    (result : Result T RunFault) : Type 0 where
+-- it and it stays, each read is paid by a Run that is seen, and in an image that gives its bytes by an
+-- indirect block that is seen; else its block is held then
+pub record ReadsByBlock {T : Type 0} (v : Layout) (contents : Option (List ℕ)) (number reads reads' : ℕ)
+    (old new : Workspace) (result : Result T RunFault) : Type 0 where
   pub again : HoldsInode old.windows.table number
       → (new.windows.table ≡ old.windows.table) × (reads' + old.runs_seen ≤ reads + new.runs_seen)
+  pub known : HoldsInode old.windows.table number → ForBytes (IsContents contents)
+      (λ bytes. ReadsIndirect v (claims_of old) (owner_of v bytes number) reads reads')
   pub block : (HoldsInode old.windows.table number → ⊥) → OnOk result (HoldsPiece v v.inopb number new.windows.table)
 
 -- what an inode leaves: what its steps leave but for `claim_bound`, `found` and `table`, a walk over the volume,
@@ -142,7 +150,8 @@ pub record ClaimsStep {E : Type 0} (v : Layout) (lines : List BlockMessage) (aft
   pub left : ClaimsInArea v old new area
 
 -- the steps of an inode claim what they offer: their lines are reported, the claims are those after
--- them, the next inode can be walked over, and each read is paid by a Run that is seen
+-- them, the next inode can be walked over, and each read is paid by a Run that is seen. An image that
+-- gives its bytes is read once for each indirect block that is seen
 pub record ClaimsSteps {T : Type 0} (g : Geometry) (number : ℕ) (inode : Inode) (d d' : Device) (reads reads' : ℕ)
     (progress progress' : Progress) (old new : Workspace) (sweep : Sweep) (result : Result T RunFault) : Type 0 where
   pub text : PhaseReports (IsContents d.contents)
@@ -153,8 +162,11 @@ pub record ClaimsSteps {T : Type 0} (g : Geometry) (number : ℕ) (inode : Inode
   pub left : StepsLeave g.layout d d' old new sweep.area result
   pub walk : sweep.walk.geometry ≡ g
   pub counted : reads' + old.runs_seen ≤ reads + new.runs_seen
+  pub known : ForBytes (IsContents d.contents) (λ bytes.
+      reads' ≤ reads + indirect_in_steps g.layout (claims_of old) (steps_of g.layout inode bytes))
 
--- an inode claims as an owner of fragments: its lines are reported, and the claims are those after it
+-- an inode claims as an owner of fragments: its lines are reported, the claims are those after it, and
+-- an image that gives its bytes is read once for each indirect block that is seen
 pub record ClaimsOwner {T : Type 0} (g : Geometry) (owner : List ℕ → Owner) (d d' : Device) (reads reads' : ℕ)
     (progress progress' : Progress) (old new : Workspace) (sweep : Sweep) (result : Result T RunFault) : Type 0 where
   pub text : PhaseReports (IsContents d.contents)
@@ -162,3 +174,5 @@ pub record ClaimsOwner {T : Type 0} (g : Geometry) (owner : List ℕ → Owner) 
   pub claims : OnOk result (ForBytes (IsContents d.contents) (λ bytes.
       claims_of new ≡ after_owner g.layout (claims_of old) (owner bytes)))
   pub left : InodeLeaves g d d' reads reads' old new sweep result
+  pub known : ForBytes (IsContents d.contents)
+      (λ bytes. ReadsIndirect g.layout (claims_of old) (owner bytes) reads reads')

@@ -2,9 +2,9 @@
 use Rattle.std.specs.Prelude.{◌≡◌, ◌<◌, ◌≤◌, ◌+◌, ◌-◌, ◌*◌, ◌^◌, ℕ, List}
 use Rattle.ffs_image.specs.Device.{Device}
 use Rattle.ffs_volume.specs.{declared.Layout.Layout, Blocks.{BlockCheck.has_rescan, Owners.owners_of}}
-use Rattle.ffs_volume.specs.Report.{Memory.runs_limit, Reads.{sweep_reads, table_blocks}, Whole.run_count}
+use Rattle.ffs_volume.specs.Report.{Memory.runs_limit, Reads.{sweep_reads, table_blocks}, VolumeReads.volume_scan_reads, Whole.run_count}
 use Rattle.ffs_report.specs.Known.{ForBytes}
-use Rattle.ffs_workspace.specs.{declared.workspace.Workspace.Workspace, Found.WithPhase1}
+use Rattle.ffs_workspace.specs.{declared.workspace.Workspace.Workspace, Found.{WithFresh, WithPhase1}}
 use Rattle.ffs_workspace.specs.Holds.{HoldsClaims, HoldsPhase1, HoldsStarts}
 use Rattle.ffs_claims.specs.RescanRuns.{rescan_runs}
 
@@ -16,10 +16,12 @@ pub record IsLeftByPhase1 (v : Layout) (bytes : List ℕ) (w : Workspace) : Type
   pub count : w.runs_seen ≡ run_count v bytes
 
 -- phase 1 reads the image at most once for each block of the inode tables and once for each Run that
--- it looks at. The Runs are no more than a volume can have; the count of phase 1b's Runs stays
-pub record Phase1Reads (v : Layout) (old new : Workspace) (before after : ℕ) : Type 0 where
+-- it looks at. The Runs are no more than a volume can have. Where the image gives its bytes, it reads of
+-- the Runs none but the indirect blocks that are seen; the count of phase 1b's Runs stays
+pub record Phase1Reads (v : Layout) (d : Device) (old new : Workspace) (before after : ℕ) : Type 0 where
   pub runs : new.runs_seen ≤ runs_limit v
   pub reads : after ≤ before + table_blocks v + new.runs_seen
+  pub known : ForBytes (WithFresh v d old) (λ bytes. after ≤ before + volume_scan_reads v bytes)
   pub again : new.runs_again ≡ old.runs_again
 
 -- phase 1b leaves what the block check found in the image's bytes, and where counts of references

@@ -1,7 +1,7 @@
 -- What the words of an indirect block claim with nothing to report.
 use Rattle.std.specs.Prelude.{◌≡◌, ℕ, ◌≤◌, ◌^◌, true, List, [], Option}
 use Rattle.ffs_volume.specs.Blocks.Claims.{after_step, after_steps, is_open, lines_of_steps, step_lines}
-use Rattle.ffs_volume.specs.{Laws.ClaimBounds.ClaimBound, declared.Layout.Layout, declared.Step.Step}
+use Rattle.ffs_volume.specs.{Laws.ClaimBounds.ClaimBound, Report.VolumeReads.indirect_in_steps, declared.Layout.Layout, declared.Step.Step}
 use Rattle.ffs_image.specs.Device.{ForContents}
 use Rattle.ffs_layout.specs.declared.geometry.Geometry.{Geometry}
 use Rattle.ffs_walk.specs.{Counts.EntersOnly, HeldWords.word_step, Rests.{SameFileBlocks, most_steps_left, steps_left}}
@@ -33,7 +33,7 @@ pub record ClaimsAddress (v : Layout) (address : ℕ) (old new : Workspace) : Ty
   pub rises : old.runs_seen ≤ new.runs_seen
 
 -- a walk passes over steps that claim what they offer: what it has left means the same claims and
--- lines as before
+-- lines as before, and the same count of indirect blocks that are seen
 pub record ClaimsWords (v : Layout) (old new : Workspace) (walk walk' : Walk) : Type 0 where
   pub claims : (contents : Option (List ℕ)) → BlocksHold v contents old.windows.blocks →
       ForContents contents (λ bytes.
@@ -42,6 +42,9 @@ pub record ClaimsWords (v : Layout) (old new : Workspace) (walk walk' : Walk) : 
       ForContents contents (λ bytes. (number : ℕ) →
       lines_of_steps v number (claims_of new) (steps_left bytes walk')
       ≡ lines_of_steps v number (claims_of old) (steps_left bytes walk))
+  pub indirect : (contents : Option (List ℕ)) → BlocksHold v contents old.windows.blocks →
+      ForContents contents (λ bytes. indirect_in_steps v (claims_of new) (steps_left bytes walk')
+      ≡ indirect_in_steps v (claims_of old) (steps_left bytes walk))
   pub uncut : is_open (claims_of new) ≡ true
   pub claim_bound : ClaimBound (claims_of old) (claims_of new)
   pub only : ClaimsOnly v old new

@@ -1,7 +1,7 @@
-use Rattle.std.proofs.Common.{ℕ, arith, refl, ◌≡◌, ◌∙◌, ap, sym, List, ◌++◌, ◌∷◌, false, replicate, []}
+use Rattle.std.proofs.Common.{ℕ, suc, arith, refl, ◌≡◌, ◌∙◌, ap, sym, List, ◌++◌, ◌∷◌, false, replicate, []}
 use Rattle.std.proofs.lemmas.Result.{err_from_is_err_and}
 use Rattle.ffs_volume.{proofs.Potentials.moves_then, specs.Blocks.Claims.{after_steps, lines_of_steps, is_open}}
-use Rattle.ffs_volume.specs.declared.Step.TheVariants.{Gap}
+use Rattle.ffs_volume.specs.{declared.Step.TheVariants.Gap, Report.VolumeReads.indirect_in_steps}
 use Rattle.ffs_report.{proofs.Reporting.{of_begins, of_stops, of_reads, of_same, says_none}, specs.Known.ForBytes}
 use Rattle.ffs_report.specs.Known.{IsContents}
 use Rattle.ffs_walk.{proofs.Counted.{top_held, top_unread}, specs.Rests.steps_left}
@@ -9,7 +9,8 @@ use Rattle.ffs_workspace.specs.Holds.{claims_of}
 use Rattle.ffs_claims.proofs.{Frames.{can_walk, ready_still, ready_read, only_then}, Inodes.{sees_next, moves_on}}
 use Rattle.ffs_claims.proofs.{Inodes.{seen_bound, claiming_none, claiming_walked, claiming_on}, StepsContinue.cut_over}
 use Rattle.ffs_claims.proofs.StepsContinue.{gaps_over, claims_on, lines_on, steps_said, without_steps}
-use Rattle.ffs_claims.{proofs.claim.claim.Goals.{in-Gap, in_default-matches}, specs.Lines.of_lines}
+use Rattle.ffs_claims.proofs.{IndirectReads.{gaps_unseen, indirect_on}, claim.claim.Goals.{in-Gap, in_default-matches}}
+use Rattle.ffs_claims.specs.Lines.{of_lines}
 use Rattle.ffs_claims.proofs.claim.claim.Goals as goal
 
 pub returns-then-not-has_steps : goal.returns-then-not-has_steps
@@ -26,6 +27,7 @@ returns-then-not-has_steps g c =
       left = claiming_none c.requires.claim;
       walk = c.requires.walk;
       counted = omega arith;
+      known = λ bytes t. omega arith;
     }
 
 pub loop-next-init : goal.loop-next-init
@@ -39,6 +41,11 @@ loop-next-init g c =
       geometry = c.restart.ensures.geometry ∙ c.requires.walk;
       held = top_held c.restart.new.self c.restart.ensures.top _;
       counted = omega (arith, top_unread c.restart.new.self c.restart.ensures.top);
+      indirect = λ bytes t. omega (
+        arith,
+        top_unread c.restart.new.self c.restart.ensures.top,
+        ap (indirect_in_steps v s) (walk.steps bytes),
+      );
       claims = λ bytes t. ap (after_steps v s) (walk.steps bytes);
       said = of_same _ _ _ _ _ _ (of_begins _ _ _)
           (λ bytes t. ap (λ xs. of_lines (lines_of_steps v c.args.claimant.now.number s xs)) (sym (walk.steps bytes)));
@@ -60,6 +67,7 @@ returns-in_err-next g c =
       left = grind arith;
       walk = c.next.ensures.same.geometry ∙ inv.geometry;
       counted = omega (arith, inv.counted, (c.in_err-next.ensures.counted inv.held).most);
+      known = λ bytes t. omega (arith, inv.indirect bytes t, (c.in_err-next.ensures.counted inv.held).most);
     })
 
 pub step-requires : goal.step-requires
@@ -89,6 +97,12 @@ returns-in_err-seen g c =
       left = claiming_on read.image c.step.ensures.left (omega (arith, c.step.ensures.runs)) tt read;
       walk = c.in_ok-next.ensures.same.geometry ∙ inv.geometry;
       counted = omega (arith, paid, inv.counted, c.step.ensures.counted);
+      known = λ bytes t. omega (
+        arith,
+        paid,
+        inv.indirect bytes t,
+        indirect_on v s c.loop-next.sweep.walk c.next.new.self c.in-Some.next inv.open_still next refl bytes t,
+      );
     })
 
 pub loop-next-preserved-then-matches : goal.loop-next-preserved-then-matches
@@ -117,6 +131,12 @@ loop-next-preserved-then-matches g c =
       counted =
           let paid = rw (c.in-Some.is, is_gap) at reads.paid in
           omega (arith, paid, inv.counted, c.skip_gaps.ensures.counted.unread);
+      indirect = λ bytes t.
+          let paid = rw (c.in-Some.is, is_gap) at reads.paid in
+          let unseen : indirect_in_steps v s (steps_left bytes c.loop-next.sweep.walk)
+          ≡ indirect_in_steps v s (rest bytes) = ap (indirect_in_steps v s) (gaps bytes t)
+          ∙ gaps_unseen v s (suc c.skip_gaps.result) (rest bytes) in
+          omega (arith, paid, inv.indirect bytes t, unseen, c.skip_gaps.ensures.counted.unread);
       claims = λ bytes t. sym (ap (after_steps v s) (gaps bytes t)
           ∙ (gaps_over v c.args.claimant.now.number s c.skip_gaps.result (rest bytes)).0)
           ∙ inv.claims bytes t;
@@ -164,6 +184,14 @@ loop-next-preserved g c =
       geometry = words.same.geometry ∙ c.in_ok-next.ensures.same.geometry ∙ inv.geometry;
       held = words.counted.held _ (rw (words.only.windows, left.only.windows) reads.held);
       counted = omega (arith, paid, inv.counted, c.step.ensures.counted, words.rises, words.counted.unread);
+      indirect = λ bytes t. omega (
+        arith,
+        paid,
+        inv.indirect bytes t,
+        indirect_on v s c.loop-next.sweep.walk c.next.new.self c.in-Some.next inv.open_still next now bytes t,
+        words.indirect image claimed.windows.blocks bytes (gives ∙ t),
+        words.counted.unread,
+      );
       claims = claims_on v s c.loop-next.sweep.walk c.next.new.self _ c.in-Some.next next now inv.claims
           (λ bytes t. sym (words.claims image claimed.windows.blocks bytes (gives ∙ t)));
       said = steps_said v n s (claims_of c.step.new.workspace) c.loop-next.sweep.walk c.next.new.self _ c.in-Some.next
@@ -196,6 +224,12 @@ returns-then-not-seen g c =
           read;
       walk = c.in_ok-next.ensures.same.geometry ∙ inv.geometry;
       counted = omega (arith, paid, inv.counted, c.step.ensures.counted);
+      known = λ bytes t. omega (
+        arith,
+        paid,
+        inv.indirect bytes t,
+        indirect_on v s c.loop-next.sweep.walk c.next.new.self c.in-Some.next inv.open_still next now.claims bytes t,
+      );
     }
 
 pub returns-in_default : goal.returns-in_default
@@ -211,4 +245,9 @@ returns-in_default g c =
       left = claiming_walked c.in_ok-next.ensures.leaves.read inv.geometry c.next.ensures.leaves.kept inv.left;
       walk = c.in_ok-next.ensures.same.geometry ∙ inv.geometry;
       counted = omega (arith, rw c.in_default.is at (c.in_ok-next.ensures.counted inv.held).paid, inv.counted);
+      known = λ bytes t. omega (
+        arith,
+        rw c.in_default.is at (c.in_ok-next.ensures.counted inv.held).paid,
+        inv.indirect bytes t,
+      );
     }

@@ -1,5 +1,6 @@
 use Rattle.std.proofs.Common.{◌≡◌, ◌+◌, ◌≤◌, true}
 use Rattle.ffs_volume.specs.Blocks.{Claims.after_steps, Claims.lines_of_steps, Claims.is_open, Steps.steps_of}
+use Rattle.ffs_volume.specs.Report.VolumeReads.{indirect_in_steps}
 use Rattle.ffs_report.specs.{Known.ForBytes, Known.IsContents, PhaseOutcome.SaidOf, Progress.progress}
 use Rattle.ffs_walk.specs.{Counts.AreHeld, Counts.unread, Rests.steps_left, Rests.most_steps_left}
 use Rattle.ffs_workspace.specs.Holds.{claims_of}
@@ -16,6 +17,9 @@ invariant-loop-next g l = let v = l.geometry.layout in let n = l.claimant.number
       held : AreHeld l.workspace.windows.blocks l.sweep.walk;
       counted : g.I.Image.reads l.image + unread l.sweep.walk + l.initial.workspace.runs_seen
           ≤ g.I.Image.reads l.initial.image + l.workspace.runs_seen;
+      indirect : ForBytes knows (λ bytes. g.I.Image.reads l.image + unread l.sweep.walk
+          + indirect_in_steps v (claims_of l.workspace) (steps_left bytes l.sweep.walk)
+          ≤ g.I.Image.reads l.initial.image + indirect_in_steps v (claims_of l.initial.workspace) (steps_of v i bytes));
       claims : ForBytes knows (λ bytes. after_steps v (claims_of l.workspace) (steps_left bytes l.sweep.walk)
           ≡ after_steps v (claims_of l.initial.workspace) (steps_of v i bytes));
       said : SaidOf knows

@@ -1,11 +1,11 @@
 use Rattle.std.proofs.{Common.{◌≡◌, arith, ap, ◌∙◌, subst}, lemmas.Result.err_from_is_err_and}
-use Rattle.ffs_volume.specs.Blocks.{BlockCheck.owner_lines, Claims.after_owner, Inodes.class_of, Owners.owner_of}
+use Rattle.ffs_volume.specs.Blocks.{BlockCheck.owner_lines, Claims.{after_owner, at_next_inode}, Inodes.class_of}
+use Rattle.ffs_volume.specs.{Blocks.{Owners.owner_of, Steps.steps_of}, Report.VolumeReads.indirect_in_steps}
 use Rattle.ffs_volume.{specs.declared.Inode.Inode, proofs.Results.on_ok as ok_then}
 use Rattle.ffs_report.{proofs.Reporting.{reads_first, reports_same, reports_knowing}, specs.Known.ForBytes}
 use Rattle.ffs_report.specs.Known.{IsContents}
-use Rattle.ffs_workspace.{proofs.Readiness.ready_table, specs.Holds.claims_of}
+use Rattle.ffs_workspace.{proofs.Readiness.ready_table, specs.{Holds.claims_of, Tables.TakesPiece}}
 use Rattle.ffs_claims.{proofs.Inodes.{ok_where, used_below}, specs.{Leaves.Stored, Lines.{of_lines, owner_with}}}
-use Rattle.ffs_workspace.specs.Tables.{TakesPiece}
 use Rattle.ffs_claims.proofs.TableReads.{on_any}
 use Rattle.ffs_claims.proofs.claim.claim_inode.Goals as goal
 
@@ -31,6 +31,7 @@ returns-in_err-inode-clause-claims g c =
       text = reads_first;
       claims = tt;
       left = grind arith;
+      known = λ bytes t. omega (arith, c.inode.ensures.counted);
     })
 
 pub returns-clause-claims : goal.returns-clause-claims
@@ -62,6 +63,12 @@ returns-clause-claims g c =
         again = did.left.again;
         counted = omega (arith, did.left.counted, c.in_ok-inode.ensures.counted);
       };
+      known = λ bytes t. omega (
+        arith,
+        did.known bytes (gives ∙ t),
+        c.in_ok-inode.ensures.counted,
+        ap (λ o. indirect_in_steps v (at_next_inode s) o.steps) (owner bytes t),
+      );
     }
 
 pub returns-in_err-inode-clause-table : goal.returns-in_err-inode-clause-table
@@ -70,17 +77,28 @@ returns-in_err-inode-clause-table g c =
     let p = err_from_is_err_and c.from_residual.result c.from_residual.ensures.1 in
     rw (p.1, p.2) (record {
       again = λ held. (c.inode.ensures.piece.0 held, omega (arith, c.inode.ensures.again held));
+      known = λ held bytes t. omega (arith, c.inode.ensures.again held);
       block = λ unheld. tt;
     })
 
 pub returns-clause-table : goal.returns-clause-table
-unfolding TakesPiece
+unfolding TakesPiece owner_of
 returns-clause-table g c =
+    let v = c.args.geometry.now.layout in
+    let s = claims_of c.args.workspace.now in
+    let gives = ap (λ d. d.contents) c.in_ok-inode.ensures.reads.read in
     let did = c.claim_read_inode.ensures in
     let counted = did.claims.left.counted in
     record {
       again = λ held.
           (did.table ∙ c.in_ok-inode.ensures.piece.0 held, omega (arith, c.in_ok-inode.ensures.again held, counted));
+      known = λ held bytes t. omega (
+        arith,
+        c.in_ok-inode.ensures.again held,
+        did.claims.known bytes (gives ∙ t),
+        ap (λ i. indirect_in_steps v (at_next_inode s) (steps_of v i bytes))
+            (c.in_ok-inode.ensures.reads.inode bytes t),
+      );
       block = λ unheld. on_any c.claim_read_inode.result (rw did.table (c.in_ok-inode.ensures.piece.1 unheld));
     }
 

@@ -1,6 +1,6 @@
 use Rattle.std.proofs.{Common.{arith, refl, [], ap, ◌∙◌, ◌≡◌, sym}, lemmas.Result.err_from_is_err_and}
 use Rattle.ffs_volume.{proofs.Potentials.kept_bound, specs.Blocks.{Claims.{after_steps, at_next_inode}, Steps.steps_of}}
-use Rattle.ffs_volume.specs.declared.Class.TheVariants.{Free}
+use Rattle.ffs_volume.specs.{Report.VolumeReads.indirect_in_steps, declared.Class.TheVariants.Free}
 use Rattle.ffs_report.proofs.Reporting.{of_fault, of_says, of_stops, says_none}
 use Rattle.ffs_maps.proofs.Bits.{bits_long}
 use Rattle.ffs_workspace.specs.Holds.{claims_of}
@@ -41,6 +41,7 @@ returns-in_err-say_class-clause-claims g c =
       text = class_stopped _ _ _ (claims_of c.args.workspace.now) c.requires.class_is c.in_err-say_class.ensures;
       claims = tt;
       left = grind arith;
+      known = λ bytes t. omega arith;
     })
 
 pub returns-in_err-claim-clause-claims : goal.returns-in_err-claim-clause-claims
@@ -56,6 +57,11 @@ returns-in_err-claim-clause-claims g c =
           c.in_ok-say_class.ensures) (λ bytes t. refl) c.in_err-claim.ensures.text;
       claims = tt;
       left = grind arith;
+      known = λ bytes t. omega (
+        arith,
+        c.claim.ensures.known bytes t,
+        ap (λ s. indirect_in_steps v s (steps_of v c.args.claimant.now.inode.now bytes)) (ap claims_of c.begin.ensures),
+      );
     })
 
 pub returns-in_err-say_count-clause-claims : goal.returns-in_err-say_count-clause-claims
@@ -71,6 +77,11 @@ returns-in_err-say_count-clause-claims g c =
           c.in_err-say_count.ensures;
       claims = tt;
       left = grind arith;
+      known = λ bytes t. omega (
+        arith,
+        c.claim.ensures.known bytes t,
+        ap (λ s. indirect_in_steps v s (steps_of v c.args.claimant.now.inode.now bytes)) (ap claims_of c.begin.ensures),
+      );
     })
 
 pub returns-clause-claims : goal.returns-clause-claims
@@ -90,6 +101,11 @@ returns-clause-claims g c =
       claims = λ bytes t. ap claims_of c.store-2.ensures.rest ∙ c.in_ok-claim.ensures.claims bytes t
           ∙ ap (λ s. after_steps v s (steps_of v c.args.claimant.now.inode.now bytes)) (ap claims_of c.begin.ensures);
       left = grind arith;
+      known = λ bytes t. omega (
+        arith,
+        c.claim.ensures.known bytes t,
+        ap (λ s. indirect_in_steps v s (steps_of v c.args.claimant.now.inode.now bytes)) (ap claims_of c.begin.ensures),
+      );
     }
 
 pub returns-then-matches-clause-claims : goal.returns-then-matches-clause-claims
@@ -111,4 +127,5 @@ returns-then-matches-clause-claims g c =
       claims = λ bytes t. ap claims_of c.store.ensures.rest ∙ ap claims_of c.begin.ensures
           ∙ sym (ap (after_steps v (at_next_inode old)) (free_steps v _ bytes free));
       left = grind arith;
+      known = λ bytes t. omega arith;
     }

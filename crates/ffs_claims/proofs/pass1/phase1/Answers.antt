@@ -8,6 +8,7 @@ use Rattle.ffs_claims.proofs.{Duplicates.{any_set, rescan_is}, Frames.{image_fro
 use Rattle.ffs_claims.proofs.Numbers.{found_begins, found_next, found_all, numbers_most, before_first, before_end}
 use Rattle.ffs_claims.proofs.{Numbers.lines_next, TableReads.{blocks_all, blocks_failed, blocks_later, blocks_next, blocks_none}}
 use Rattle.ffs_volume.proofs.Sizes.{some_inodes}
+use Rattle.ffs_claims.proofs.IndirectReads.{VolumeRead, read_all, read_begins, read_failed, read_later, read_next}
 use Rattle.ffs_claims.proofs.ZeroInodes.{AreFree, StandsAt, free_where_zero, has_inodes, lines_later, stands_later}
 use Rattle.std.proofs.{Common.{inl, inr, ◌*◌}, lemmas.Bool.cases_lt}
 use Rattle.ffs_volume.specs.Laws.ClaimBounds.{used_bits}
@@ -34,6 +35,7 @@ loop-number-init g c =
       high = λ h. omega arith;
       runs = omega (arith, c.reserve.ensures.runs);
       reads = blocks_none (omega (arith, c.reserve.ensures.runs));
+      known = λ bytes k. read_begins v bytes (omega arith) (c.reserve.ensures.claims k.1);
       again = found.again;
       claims = λ bytes k. c.reserve.ensures.claims k.1 ∙ sym (before_first v bytes);
       found = λ bytes k. found_begins bytes k.1 found;
@@ -94,6 +96,12 @@ loop-number-preserved g c =
     omega (arith, inv.runs, inv.low, c.in_ok-claim_inode.ensures.claims.left.runs_claim) in
     let reads = blocks_next c.args.geometry.now.sound c.claim_inode.ensures.table.again
     c.in_ok-claim_inode.ensures.table.block c.claim_inode.ensures.claims.left.counted inv.reads in
+    let known : ForBytes (WithFresh v (g.I.Image.device c.args.image.now) c.args.workspace.now)
+    (λ bytes. VolumeRead v bytes s' (n + 1) (g.I.Image.reads c.args.image.now) (g.I.Image.reads c.claim_inode.new.image)
+    w.windows.table) = λ bytes k. read_next c.args.geometry.now.sound lt (now bytes (contents ∙ k.0))
+    (λ held. (c.claim_inode.ensures.table.again held).0)
+    (λ held. c.claim_inode.ensures.table.known held bytes (contents ∙ k.0)) c.in_ok-claim_inode.ensures.table.block
+    (c.claim_inode.ensures.claims.known bytes (contents ∙ k.0)) (inv.known bytes k) in
     elim (cases_lt (n + 1) next) [
       | inl some ↦
           let free : ForBytes (WithFresh v (g.I.Image.device c.args.image.now) c.args.workspace.now)
@@ -107,6 +115,7 @@ loop-number-preserved g c =
             high = λ h. passes.ends.high;
             runs = omega (arith, runs, some);
             reads = blocks_later passes.ends.low reads;
+            known = λ bytes k. read_later some passes.ends.high (free bytes k) (known bytes k);
             again = c.claim_inode.ensures.claims.left.again ∙ inv.again;
             claims = λ bytes k. (stands_later (omega (arith, inv.low)) some passes.ends.high ready.made (free bytes k)
                 (stands bytes k)).claims;
@@ -125,6 +134,7 @@ loop-number-preserved g c =
             high = λ h. omega arith;
             runs = runs;
             reads = reads;
+            known = known;
             again = c.claim_inode.ensures.claims.left.again ∙ inv.again;
             claims = λ bytes k. (stands bytes k).claims;
             found = λ bytes k. (stands bytes k).found;
@@ -174,11 +184,15 @@ pub returns-in_err-claim_inode-clause-reads : goal.returns-in_err-claim_inode-cl
 returns-in_err-claim_inode-clause-reads g c =
     let inv = c.loop-number.invariant in
     let left = c.claim_inode.ensures.claims.left in
+    let contents = ap (λ d. d.contents) inv.device in
     let most = numbers_most c.loop-number.number _ inv.high in
     record {
       runs = omega (arith, inv.runs, left.bound, most);
       reads = blocks_failed c.claim_inode.new.workspace.runs_seen c.args.geometry.now.sound (omega arith) c.claim_inode.ensures.table.again left.counted
           inv.reads;
+      known = λ bytes k. read_failed c.args.geometry.now.sound (omega arith)
+          (λ held. c.claim_inode.ensures.table.known held bytes (contents ∙ k.0))
+          (c.claim_inode.ensures.claims.known bytes (contents ∙ k.0)) (inv.known bytes k);
       again = left.again ∙ inv.again;
     }
 
@@ -191,5 +205,6 @@ returns-clause-reads g c =
     record {
       runs = omega (arith, inv.runs, used_below inv.ready.ready.made, most);
       reads = blocks_all sound (omega (arith, inv.high, some_inodes v sound)) inv.reads;
+      known = λ bytes k. read_all sound (omega (arith, inv.high, some_inodes v sound)) (inv.known bytes k);
       again = inv.again;
     }

@@ -3,7 +3,7 @@ use Rattle.ffs_volume.specs.Blocks.{BlockCheck.lines_of_owners, BlockCheck.phase
 use Rattle.ffs_volume.specs.{Blocks.Owners.owners_of, Laws.ClaimBounds.used_bits, Messages.Kinds.phase1}
 use Rattle.ffs_report.specs.{Known.ForBytes, PhaseOutcome.SaidOf, Progress.progress}
 use Rattle.ffs_workspace.specs.{Found.WithFresh, Holds.claims_of, Lengths.inodes_of}
-use Rattle.ffs_claims.{proofs.{Numbers.FoundTo, TableReads.BlocksRead}, specs.Claiming.CanClaim}
+use Rattle.ffs_claims.{proofs.{IndirectReads.VolumeRead, Numbers.FoundTo, TableReads.BlocksRead}, specs.Claiming.CanClaim}
 use Rattle.ffs_claims.specs.Lines.{of_lines, owners_from}
 use Rattle.ffs_claims.proofs.pass1.phase1.Given as goal
 
@@ -18,6 +18,8 @@ invariant-loop-number g l = let v = l.geometry.layout in
       runs : l.workspace.runs_seen ≤ used_bits (claims_of l.workspace) + 22 * (l.number - 2);
       reads : BlocksRead v l.number (g.I.Image.reads l.fn.image) (g.I.Image.reads l.image) l.workspace.runs_seen
           l.workspace.windows.table;
+      known : ForBytes knows (λ bytes. VolumeRead v bytes (claims_of l.workspace) l.number
+          (g.I.Image.reads l.fn.image) (g.I.Image.reads l.image) l.workspace.windows.table);
       again : l.workspace.runs_again ≡ l.fn.workspace.runs_again;
       claims : ForBytes knows (λ bytes. claims_of l.workspace ≡ claims_before v bytes l.number);
       found : ForBytes knows (λ bytes. FoundTo v bytes l.workspace l.number);

@@ -1,0 +1,146 @@
+-- How many indirect blocks are seen, step by step and inode by inode, and how often phase 1 reads an
+-- image that gives its bytes.
+use Rattle.std.proofs.Common.{◌≡◌, ℕ, zero, suc, ◌+◌, ◌-◌, ◌<◌, ◌≤◌, true, List, ◌∷◌, ◌++◌, replicate, Some, None}
+use Rattle.std.proofs.{Common.{arith, refl, ap, ◌∙◌, sym, inl, inr, nat_eq}, lemmas.Bool.cases_Bool}
+use Rattle.ffs_volume.specs.Blocks.Claims.{Claims, after_owner, after_step, at_next_inode, is_open, no_claims}
+use Rattle.ffs_volume.specs.Blocks.{Inodes.{class_of, inode_of}, Owners.{owner_of, owners_of}}
+use Rattle.ffs_volume.specs.Report.VolumeReads.{indirect_count, indirect_in_owners, indirect_in_steps, seen_indirect}
+use Rattle.ffs_volume.specs.{Report.VolumeReads.volume_scan_reads, Laws.Geometry.IsAcceptedLayout}
+use Rattle.ffs_volume.specs.declared.{Class.TheVariants.Free, Layout.Layout, Step.{Step, TheVariants.{Gap, Run, Tail}}}
+use Rattle.ffs_report.specs.Known.{ForBytes}
+use Rattle.ffs_walk.specs.{Counts.entered, HeldWords.word_step, Rests.steps_left, declared.walk.Walk.Walk}
+use Rattle.ffs_workspace.specs.{Lengths.inodes_of, Tables.{HoldsInode, HoldsPiece}, declared.table.Table.Table}
+use Rattle.ffs_claims.proofs.{Inodes.free_steps, StepsContinue.range_more, ZeroInodes.{AreFree, free_claims}}
+use Rattle.ffs_claims.proofs.TableReads.{BlocksRead, blocks_all, blocks_failed, blocks_later, blocks_next, blocks_none}
+use Rattle.ffs_claims.specs.{Claiming.ReadsIndirect, Lines.owners_from}
+
+-- where the inode isn't cut, an indirect block is seen
+pub seen_is : (s : Claims) (step : Step) → is_open s ≡ true → seen_indirect s step ≡ entered step
+seen_is s (Run start len None) uncut = rw uncut refl
+seen_is s (Run start len (Some block)) uncut = refl
+seen_is s Tail uncut = refl
+seen_is s Gap uncut = refl
+
+-- the word of an indirect block of data is none
+pub word_unseen : (s : Claims) (frag address block : ℕ) → seen_indirect s (word_step frag address block) ≡ 0
+word_unseen s frag address block = elim (cases_Bool (nat_eq address 0)) [
+  | inl e ↦ rw e refl
+  | inr e ↦ rw e refl
+]
+
+-- nor are gaps in a row
+pub gaps_unseen : (v : Layout) (s : Claims) (n : ℕ) (steps : List Step) →
+    indirect_in_steps v s (replicate n Gap ++ steps) ≡ indirect_in_steps v s steps
+gaps_unseen v s zero steps = refl
+gaps_unseen v s (suc n) steps =
+    let one : indirect_in_steps v s (replicate (suc n) Gap ++ steps)
+    ≡ 0 + indirect_in_steps v s (replicate n Gap ++ steps) = refl in
+    omega (arith, one, gaps_unseen v s n steps)
+
+-- a step, and those after it
+pub step_on : {s' : Claims} {xs ys : List Step} {step : Step} (v : Layout) (s : Claims) → xs ≡ step ∷ ys →
+    s' ≡ after_step v s step → indirect_in_steps v s xs ≡ seen_indirect s step + indirect_in_steps v s' ys
+step_on v s next now = ap (indirect_in_steps v s) next ∙ rw now refl
+
+-- the next step of a walk is taken
+pub indirect_on : {knows : List ℕ → Type 0} {s' : Claims} (v : Layout) (s : Claims) (x y : Walk) (step : Step) →
+    is_open s ≡ true → ForBytes knows (λ bytes. steps_left bytes x ≡ step ∷ steps_left bytes y) →
+    s' ≡ after_step v s step → ForBytes knows (λ bytes. indirect_in_steps v s (steps_left bytes x)
+    ≡ entered step + indirect_in_steps v s' (steps_left bytes y))
+indirect_on {s'} v s x y step uncut next now = λ bytes t. step_on v s (next bytes t) now
+    ∙ ap (λ n. n + indirect_in_steps v s' (steps_left bytes y)) (seen_is s step uncut)
+
+-- ---- inode by inode
+-- those of an inode, and of the inodes after it
+indirect_next : (v : Layout) (bytes : List ℕ) (s s' : Claims) (n : ℕ) → n < inodes_of v →
+    s' ≡ after_owner v s (owner_of v bytes n) → indirect_in_owners v s (owners_from v bytes n)
+    ≡ indirect_in_steps v (at_next_inode s) (owner_of v bytes n).steps
+    + indirect_in_owners v s' (owners_from v bytes (n + 1))
+indirect_next v bytes s s' n low now =
+    rw (range_more n (inodes_of v - n) (inodes_of v - (n + 1)) (omega arith), now) refl
+
+-- a free inode has none
+free_unseen : (v : Layout) (bytes : List ℕ) (x : ℕ) (s : Claims) → class_of v (inode_of v bytes x) ≡ Free →
+    indirect_in_steps v s (owner_of v bytes x).steps ≡ 0
+unfolding owner_of
+free_unseen v bytes x s free = ap (indirect_in_steps v s) (free_steps v _ bytes free)
+
+free_next : (v : Layout) (bytes : List ℕ) (s : Claims) (n : ℕ) → n < inodes_of v →
+    class_of v (inode_of v bytes n) ≡ Free → indirect_in_owners v s (owners_from v bytes n)
+    ≡ indirect_in_owners v (at_next_inode s) (owners_from v bytes (n + 1))
+free_next v bytes s n low free =
+    omega (
+      arith,
+      indirect_next v bytes s (at_next_inode s) n low (sym (free_claims v bytes n s free)),
+      free_unseen v bytes n (at_next_inode s) free,
+    )
+
+free_over : (v : Layout) (bytes : List ℕ) (s : Claims) (n k : ℕ) → n + suc k ≤ inodes_of v →
+    AreFree v bytes n (n + suc k) → indirect_in_owners v s (owners_from v bytes n)
+    ≡ indirect_in_owners v (at_next_inode s) (owners_from v bytes (n + suc k))
+free_over v bytes s n zero high free = free_next v bytes s n (omega (arith, high)) (free n (omega arith) (omega arith))
+free_over v bytes s n (suc k) high free =
+    free_next v bytes s n (omega (arith, high)) (free n (omega arith) (omega arith))
+    ∙ free_over v bytes (at_next_inode s) (n + 1) k (omega (arith, high))
+    (λ x from below. free x (omega (arith, from)) (omega (arith, below)))
+    ∙ ap (λ m. indirect_in_owners v (at_next_inode s) (owners_from v bytes m)) (omega arith)
+
+-- ---- the reads before the inode n: blocks of the tables, and the indirect blocks that were seen
+pub record VolumeRead (v : Layout) (bytes : List ℕ) (s : Claims) (n reads now : ℕ) (t : Table) : Type 0 where
+  pub seen : ℕ
+  pub read : BlocksRead v n reads now seen t
+  pub rest : seen + indirect_in_owners v s (owners_from v bytes n) ≡ indirect_count v bytes
+
+pub read_begins : (v : Layout) (bytes : List ℕ) {s : Claims} {reads now : ℕ} {t : Table} → now ≤ reads →
+    s ≡ no_claims v → VolumeRead v bytes s 2 reads now t
+unfolding indirect_count owners_of
+read_begins v bytes none first =
+    let all : indirect_in_owners v (no_claims v) (owners_from v bytes 2) ≡ indirect_count v bytes = refl in
+    record { seen = 0; read = blocks_none (omega (arith, none)); rest = rw first (omega (arith, all)) }
+
+module _ {v : Layout} {bytes : List ℕ} {s : Claims} {n reads now : ℕ} {t : Table} where
+  -- the inode n was read, and its indirect blocks
+  pub read_next : {s' : Claims} {now' : ℕ} {t' : Table} → IsAcceptedLayout v → n < inodes_of v →
+      s' ≡ after_owner v s (owner_of v bytes n) → (HoldsInode t n → t' ≡ t) →
+      (HoldsInode t n → ReadsIndirect v s (owner_of v bytes n) now now') →
+      ((HoldsInode t n → ⊥) → HoldsPiece v v.inopb n t') →
+      ReadsIndirect v s (owner_of v bytes n) (now + 1) now' →
+      VolumeRead v bytes s n reads now t → VolumeRead v bytes s' (n + 1) reads now' t'
+  read_next {s'} {now'} {t'} g low after same again block few r =
+      let more = indirect_in_steps v (at_next_inode s) (owner_of v bytes n).steps in
+      record {
+        seen = r.seen + more;
+        read = blocks_next {runs = r.seen} {runs' = r.seen + more} g (λ h. (same h, omega (arith, again h))) block
+            (omega (arith, few)) r.read;
+        rest = omega (arith, r.rest, indirect_next v bytes s s' n low after);
+      }
+
+  -- free inodes are passed over, one or more
+  pub read_later : {m : ℕ} → n < m → m ≤ inodes_of v → AreFree v bytes n m → VolumeRead v bytes s n reads now t →
+      VolumeRead v bytes (at_next_inode s) m reads now t
+  read_later {m} some high free r =
+      let e : n + suc (m - n - 1) ≡ m = omega (arith, some) in
+      let over = free_over v bytes s n (m - n - 1) (omega (arith, e, high))
+      (λ x from below. free x from (omega (arith, e, below))) in
+      let passed = over ∙ ap (λ x. indirect_in_owners v (at_next_inode s) (owners_from v bytes x)) e in
+      record {
+        seen = r.seen;
+        read = blocks_later (omega (arith, some)) r.read;
+        rest = omega (arith, r.rest, passed);
+      }
+
+  -- all inodes were read
+  pub read_all : IsAcceptedLayout v → n ≤ inodes_of v → VolumeRead v bytes s n reads now t →
+      now ≤ reads + volume_scan_reads v bytes
+  read_all g high r = omega (arith, blocks_all g high r.read, r.rest)
+
+  -- and then the check of the inode n failed
+  pub read_failed : {now' : ℕ} → IsAcceptedLayout v → n < inodes_of v →
+      (HoldsInode t n → ReadsIndirect v s (owner_of v bytes n) now now') →
+      ReadsIndirect v s (owner_of v bytes n) (now + 1) now' → VolumeRead v bytes s n reads now t →
+      now' ≤ reads + volume_scan_reads v bytes
+  read_failed {now'} g low again few r =
+      let more = indirect_in_steps v (at_next_inode s) (owner_of v bytes n).steps in
+      let all = blocks_failed {now' = now'} (r.seen + more) {T = Unit {0}} g low
+      (λ h. (tt, omega (arith, again h))) (omega (arith, few)) r.read in
+      omega (arith, all, r.rest, indirect_next v bytes s (after_owner v s (owner_of v bytes n)) n low refl)
