@@ -7,15 +7,11 @@ use Rattle.ffs_volume.specs.{Disk.Superblock.Superblock, Report.{Reads.{opening_
 use Rattle.ffs_volume.specs.Report.Whole.{report_of}
 use Rattle.ffs_layout.specs.{declared.superblock.Super.Super, Super.{ReadsSuper, superblock_in}}
 use Rattle.ffs_report.specs.{Progress.Progress, Known.{ForBytes, IsContents}}
-use Rattle.ffs_check.specs.{Headline.opened_lines, Opening.SaysOpening, ReadsWithin.{PhasesReadWithin, ReadsWithin, volume_phase_reads}}
+use Rattle.ffs_check.specs.{Headline.opened_lines, Opening.SaysOpening, ReadsWithin.{PhasesReadWithin, ReadsWithin}}
 use Rattle.ffs_check.proofs.{Headlines.whole_there, Openings.{found_of, unfailed_of}}
 
 pub phases_more : (v : Layout) (n m : ℕ) → n ≤ m → phase_reads v n ≤ phase_reads v m
 phases_more v n m h = omega (arith, h)
-
-pub volume_more : (v : Layout) (bytes : List ℕ) (n m : ℕ) → n ≤ m →
-    volume_phase_reads v bytes n ≤ volume_phase_reads v bytes m
-volume_more v bytes n m h = omega (arith, h)
 
 -- the messages of the phases are among those of the report
 report_among : (bytes name : List ℕ) (sector : Option ℕ) (s : Superblock) → Ok s ≡ outcome bytes sector →
@@ -45,12 +41,7 @@ found_within image on name sector start p found reads between reads' o opened fo
         (there bytes t s e).limit,
         phases_more s.layout _ _ (report_among bytes name sector s (sym e)),
       );
-      volume = λ bytes t s e. omega (
-        arith,
-        opened,
-        (there bytes t s e).volume,
-        volume_more s.layout bytes _ _ (report_among bytes name sector s (sym e)),
-      );
+      volume = λ bytes t s e. omega (arith, opened, (there bytes t s e).volume);
     }
   where
     found_or : Result Superblock SuperFault → Superblock → Superblock

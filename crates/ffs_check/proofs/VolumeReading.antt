@@ -1,6 +1,7 @@
--- By what a volume holds, phase 1 reads no more often than the limit of its layout.
-use Rattle.std.proofs.Common.{ℕ, ◌+◌, ◌≤◌, Bool, true, false, List, [], ◌∷◌, Some, None, arith, if◌then◌else◌, inl, inr}
-use Rattle.std.{proofs.lemmas.Bool.cases_Bool, specs.List.range_with_len}
+-- By what a volume holds, the phases read no more often than the limit of its layout.
+use Rattle.std.proofs.Common.{ℕ, ◌≡◌, ◌+◌, ◌*◌, ◌≤◌, Bool, true, false, List, [], ◌∷◌, ◌++◌, Some, None, ap, arith, refl}
+use Rattle.std.proofs.Common.{if◌then◌else◌, inl, inr, length}
+use Rattle.std.{proofs.lemmas.{Bool.cases_Bool, List.{length-append, length-map}}, specs.List.range_with_len}
 use Rattle.ffs_volume.{proofs.{Potentials.offers_keep, RunBounds.runs_bounded}, specs.Blocks.BlockCheck.has_rescan}
 use Rattle.ffs_volume.specs.Blocks.{Owners.{Owner, owners_of}, Claims.{Claims, after_owner, after_owners, after_run}}
 use Rattle.ffs_volume.specs.Blocks.Claims.{after_step, after_steps, at_next_inode, is_open, no_claims}
@@ -8,7 +9,16 @@ use Rattle.ffs_volume.specs.{Laws.Geometry.IsAcceptedLayout, Report.{Memory.runs
 use Rattle.ffs_volume.specs.Report.{Reads.sweep_reads, Whole.run_count, VolumeReads.indirect_count}
 use Rattle.ffs_volume.specs.Report.VolumeReads.{indirect_in_owners, indirect_in_steps, seen_indirect}
 use Rattle.ffs_volume.specs.declared.{Layout.Layout, Step.{Step, TheVariants.{Gap, Run, Tail}}}
-use Rattle.ffs_check.specs.ReadsWithin.{rescan_reads, volume_phase_reads}
+use Rattle.ffs_volume.specs.{Disk.{Search.some_below, Superblock.Superblock}, Messages.Kinds.of_tree, Report.Reads.group_reads}
+use Rattle.ffs_volume.specs.Directories.{Connectivity.connectivity_lines, ReferenceCheck.reference_lines}
+use Rattle.ffs_volume.specs.Directories.{PathnameCheck.{continues_after_root, pathname_lines}, Volumes.volume_of}
+use Rattle.ffs_volume.specs.Report.Whole.{later_phase_lines, phase_lines}
+use Rattle.ffs_survey.proofs.Costs.{costs_part}
+use Rattle.ffs_names.{proofs.Limits.{costs_within, noted_within}, specs.Costs.{directories_cost, directory_cost, noted_costs}}
+use Rattle.ffs_pathnames.specs.Looked.{is_looked_at, phase2_cost}
+use Rattle.ffs_check.specs.ReadsWithin.{later_reads, rescan_reads, volume_phase_reads}
+use Rattle.ffs_check.specs.Rest.{after_phase2, from_phase1b, from_phase2, from_phase4, from_phase5, phase1_part}
+use Rattle.ffs_check.specs.Rest.{phase1b_part, phase2_part, phase3_part, phase4_part}
 
 -- each Run that is seen is counted
 run_rises : (v : Layout) (s : Claims) (start len : ℕ) → s.runs + 1 ≤ (after_run v s start len).runs
@@ -53,9 +63,52 @@ few_if : (b : Bool) (n : ℕ) → (if b then n else 0) ≤ n
 few_if true n = omega arith
 few_if false n = omega arith
 
--- and phase 1b
-pub volume_few : (v : Layout) (bytes : List ℕ) (lines : ℕ) → IsAcceptedLayout v →
-    volume_phase_reads v bytes lines ≤ phase_reads v lines
-volume_few v bytes lines g =
-    let again : rescan_reads v bytes ≤ sweep_reads v = few_if (has_rescan v (owners_of v bytes)) (sweep_reads v) in
-    omega (arith, indirect_few v bytes g, again)
+few_of : (b : Bool) (n m most : ℕ) → n ≤ most → m ≤ most → (if b then n else m) ≤ most
+few_of true n m most hn hm = hn
+few_of false n m most hn hm = hm
+
+-- the directories take no more than four sweeps
+directories_few : (v : Layout) (bytes : List ℕ) → IsAcceptedLayout v →
+    (if has_rescan v (owners_of v bytes) then 4 * directories_cost v bytes else phase2_cost v bytes) ≤ 4 * sweep_reads v
+directories_few v bytes g =
+    let all = costs_within v bytes g in
+    let looked = costs_part (is_looked_at v bytes) (directory_cost v bytes) (v.ncg * v.ipg) in
+    let places = few_if (some_below (is_looked_at v bytes) (v.ncg * v.ipg)) (noted_costs v bytes) in
+    few_of (has_rescan v (owners_of v bytes)) (4 * directories_cost v bytes) (phase2_cost v bytes) (4 * sweep_reads v)
+    (omega (arith, all)) (omega (arith, all, looked, places, noted_within v bytes g))
+
+-- ---- the messages of the phases are among all
+-- the whole text: phase 1, and what follows it
+pub text_parts : (bytes : List ℕ) (s : Superblock) → phase_lines bytes s ≡ phase1_part bytes s ++ from_phase1b bytes s
+unfolding phase_lines later_phase_lines
+text_parts bytes s = refl
+
+later_among : (goes : Bool) (bytes : List ℕ) (s : Superblock) →
+    later_reads goes s.layout bytes ≤ length (after_phase2 goes bytes s) + group_reads s.layout
+later_among true bytes s =
+    let three = length-append (phase3_part bytes s) (from_phase4 bytes s) in
+    let four = length-append (phase4_part bytes s) (from_phase5 bytes s) in
+    let lines3 = length-map (connectivity_lines (volume_of s.layout bytes)) of_tree in
+    let lines4 = length-map (reference_lines (volume_of s.layout bytes)) of_tree in
+    omega (arith, three, four, lines3, lines4)
+later_among false bytes s = omega arith
+
+names_among : (bytes : List ℕ) (s : Superblock) → length (pathname_lines (volume_of s.layout bytes))
+    + length (after_phase2 (continues_after_root (volume_of s.layout bytes)) bytes s) ≤ length (phase_lines bytes s)
+names_among bytes s =
+    let after = after_phase2 (continues_after_root (volume_of s.layout bytes)) bytes s in
+    let whole = ap length (text_parts bytes s) in
+    let one = length-append (phase1_part bytes s) (from_phase1b bytes s) in
+    let again = length-append (phase1b_part bytes s) (from_phase2 bytes s) in
+    let two = length-append (phase2_part bytes s) after in
+    let lines = length-map (pathname_lines (volume_of s.layout bytes)) of_tree in
+    omega (arith, whole, one, again, two, lines)
+
+-- and all phases
+pub volume_few : (s : Superblock) (bytes : List ℕ) → IsAcceptedLayout s.layout →
+    volume_phase_reads s.layout bytes ≤ phase_reads s.layout (length (phase_lines bytes s))
+volume_few s bytes g =
+    let again : rescan_reads s.layout bytes ≤ sweep_reads s.layout =
+    few_if (has_rescan s.layout (owners_of s.layout bytes)) (sweep_reads s.layout) in
+    let later = later_among (continues_after_root (volume_of s.layout bytes)) bytes s in
+    omega (arith, indirect_few s.layout bytes g, again, directories_few s.layout bytes g, later, names_among bytes s)
