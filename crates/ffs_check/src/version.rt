@@ -2,4 +2,4 @@
 
 /// The version, and the first digits of the digest of the sources that the program was built from.
 /// `tools/renew_dist` writes this line.
-pub const VERSION: &str = "1.12.0 (sources 61b81c0c042d)";
+pub const VERSION: &str = "1.13.0 (sources d175f4af5e93)";
