@@ -278,6 +278,12 @@ def seen_indirect(image, layout):
     return seen
 
 
+def survey_reads(image, layout):
+    """How many reads take the directories of a volume where nothing is cut: each run, and the inode of one that isn't a single chunk."""
+    directories = (inode for inode in inodes(image, layout) if inode.is_directory())
+    return sum(sum(1 for run in inode.runs(image)) + (inode.size != formats.CHUNK_BYTES or not inode.addresses[0]) for inode in directories)
+
+
 @dataclass
 class Counts:
     """What a group's maps and counts are when they are right."""
