@@ -9,7 +9,7 @@ use Rattle.ffs_walk.specs.{Windows.KeepsBlocks, declared.blocks.Blocks.Blocks}
 use Rattle.ffs_workspace.specs.{Found.WithPhase1, Lengths.inodes_of, Notes.{cut_in, note_at}, Ready.{IsReady, StaysReady}, declared.workspace.{Windows.Windows, Workspace.Workspace}}
 use Rattle.ffs_finding.specs.{Keepers.{LooksAtInode, WalksKept}, Outcome.{PrintsLines}}
 use Rattle.ffs_volume.specs.Find.Owner.{keeper_lines_of_inode}
-use Rattle.ffs_finding.proofs.{Owners.{inode_lines, inode_runs}, Printing.knowing}
+use Rattle.ffs_finding.proofs.{Owners.{listed_inode, inode_runs}, Printing.knowing}
 
 -- lines that are the same
 pub same_lines : {T : Type 0} (knows : List ℕ → Type 0) (all all' : List ℕ → List (List ℕ)) (a b : Sink)
@@ -79,7 +79,7 @@ found_lines {v = v} {f = f} {x = x} {d = d} {d0 = d0} {w = w} {w0 = w0} {old = o
     let note : ForBytes (WithPhase1 v d0 w0) (λ b. slice_index w.notes.items x ≡ note_at v b x) = λ b k.
     ap (λ (z : Workspace). slice_index z.notes.items x) stays.held ∙ k.1.notes x in
     same_lines (WithPhase1 v d0 w0) _ _ old new r
-    (λ b k. inode_lines v b f x (slice_index w.notes.items x) g low high (note b k))
+    (λ b k. listed_inode v b f x (slice_index w.notes.items x) g low high (note b k))
     (knowing _ (IsContents d.contents) (WithPhase1 v d0 w0) _ old new r (λ b k. ap (λ (z : Device). z.contents) e ∙ k.0)
     p.found.text)
 

@@ -47,11 +47,11 @@ cut_ends v b n note g low high e =
     ap cut_in e ∙ (cut_is_noted v b n g ∙ cut_is v b n g (number_is v n low high))
 
 -- the lines of an inode, replayed by its noted cut
-pub inode_lines : (v : Layout) (b : List ℕ) (f n note : ℕ) → IsAcceptedLayout v → 2 ≤ n → n < inodes_of v →
+pub listed_inode : (v : Layout) (b : List ℕ) (f n note : ℕ) → IsAcceptedLayout v → 2 ≤ n → n < inodes_of v →
     note ≡ note_at v b n → lines_again v f n 0 (cut_in note) fresh_replay (steps_of v (inode_of v b n) b)
     ≡ keeper_lines_of_inode v b f n
 unfolding keeper_lines_of_inode
-inode_lines v b f n note g low high e =
+listed_inode v b f n note g low high e =
     rw (cut_ends v b n note g low high e) (sym (inode_replay v f n (claims_before v b n) (steps_of v (inode_of v b n) b)))
 
 -- and its Runs

@@ -14,7 +14,7 @@ use Rattle.ffs_layout.specs.Super.{ReadsSuper}
 use Rattle.ffs_finding.specs.declared.request.{Search.{Search, TheVariants.{Inode, Fields, Lost, Owner}}, Command.Command}
 use Rattle.ffs_finding.specs.declared.{request.Command.TheVariants.{Copies, InVolume}, find.FindFault.FindFault}
 use Rattle.ffs_finding.specs.declared.find.FindFault.TheVariants.{Refused, Run, NoMemory}
-use Rattle.ffs_volume.specs.Find.{Copies.copies_lines, InodeText.inode_lines, Fields.wrong_fields}
+use Rattle.ffs_volume.specs.Find.{Copies.copies_lines, InodeText.inode_listing, Fields.wrong_fields}
 use Rattle.ffs_finding.specs.{Outcome.{PrintedTo, PrintedSome, StoppedIn}, Fields.{WithSuper, any_line}}
 use Rattle.ffs_volume.specs.Find.Lost.{lost_lines}
 use Rattle.ffs_finding.specs.Copies.{ReadsCopies}
@@ -22,7 +22,7 @@ use Rattle.ffs_volume.specs.Find.Owner.{lines_of_fragment}
 
 -- what a search prints of an image with this accepted superblock
 abbrev pub search_lines : Search → (sector : Option ℕ) → (image : List ℕ) → Superblock → List (List ℕ)
-search_lines (Inode number) sector image s = inode_lines s.layout image number
+search_lines (Inode number) sector image s = inode_listing s.layout image number
 search_lines Fields sector image s = wrong_fields s image sector
 search_lines Lost sector image s = lost_lines s.layout image
 search_lines (Owner fragment) sector image s = lines_of_fragment s.layout image fragment

@@ -3,7 +3,7 @@ ghost use Rattle.std.specs.Prelude.{◌≡◌, ◌+◌, ◌*◌, ◌≤◌, ◌<
 ghost use Rattle.ffs_volume.specs.Blocks.Inodes.{is_short_symlink as is_short_symlink_of, is_device as is_device_of, type_of, inode_from_bytes};
 ghost use Rattle.ffs_report.specs.{Known.IsContents, Sink.Prints};
 ghost use Rattle.ffs_finding.specs.Outcome.{Finds};
-ghost use Rattle.ffs_volume.specs.Find.InodeText.{place_text, numbers_text, address_text, link_text, addresses_text, bytes_text, inode_lines, class_word, fifteen_text};
+ghost use Rattle.ffs_volume.specs.Find.InodeText.{place_text, numbers_text, address_text, link_text, addresses_text, bytes_text, inode_listing, class_word, fifteen_text};
 
 use ffs_image::Image;
 use ffs_layout::{Geometry, decode_inode};
@@ -187,7 +187,7 @@ pub fn find_inode<I: Image, W: Output>(
     requires volume { geometry.now.layout.size * geometry.now.layout.fsize
         ≤ (I.device image.old).size }
     ensures prints { Finds (IsContents (I.device image.old).contents)
-        (λ bytes. inode_lines geometry.now.layout bytes number) (I.device image.old)
+        (λ bytes. inode_listing geometry.now.layout bytes number) (I.device image.old)
         (I.device image.new) (W.sink out.old) (W.sink out.new) result }
     ensures reads { I.reads image.new ≤ I.reads image.old + 1 }
 {

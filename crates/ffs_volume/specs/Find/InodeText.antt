@@ -57,8 +57,8 @@ bytes_text v place bytes i =
     place_text place (class_of v i) ++ (octal i.mode ++ (numbers_text i ++ addresses_text v bytes i))
 
 -- the text of inode x of an image; none where the volume has no such inode
-unfoldable pub inode_lines : (v : Layout) (image : List ℕ) (x : ℕ) → List (List ℕ)
-inode_lines v image x =
+unfoldable pub inode_listing : (v : Layout) (image : List ℕ) (x : ℕ) → List (List ℕ)
+inode_listing v image x =
     if nat_lt x (v.ncg * v.ipg)
     then bytes_text v (inode_place v x) (piece (inode_place v x) DINODE_SIZE image)
     (inode_from_bytes v.order (piece (inode_place v x) DINODE_SIZE image)) ∷ []

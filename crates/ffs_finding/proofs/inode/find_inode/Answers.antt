@@ -4,22 +4,22 @@ use Rattle.ffs_volume.specs.{declared.Layout.Layout, Disk.{Areas.inode_place, Nu
 use Rattle.ffs_volume.{specs.Blocks.Inodes.inode_from_bytes, proofs.AreaLaws.inode_group}
 use Rattle.ffs_layout.proofs.Answering.{taken}
 use Rattle.ffs_workspace.proofs.TablePlaces.{piece_inside}
-use Rattle.ffs_volume.specs.Find.InodeText.{bytes_text, inode_lines}
+use Rattle.ffs_volume.specs.Find.InodeText.{bytes_text, inode_listing}
 use Rattle.ffs_finding.proofs.Printing.{one, one_broken, prints_all, prints_none, stops_all, reads_first}
 use Rattle.ffs_finding.proofs.inode.find_inode.Goals as goal
 
 -- the lines of an inode that the volume has
 lines_are : (v : Layout) (b bytes : List ℕ) (x place : ℕ) → x < v.ncg * v.ipg → place ≡ inode_place v x →
     length bytes ≡ 128 → bytes ≡ take (length bytes) (drop place b) →
-    inode_lines v b x ≡ bytes_text v place bytes (inode_from_bytes v.order bytes) ∷ []
-unfolding inode_lines
+    inode_listing v b x ≡ bytes_text v place bytes (inode_from_bytes v.order bytes) ∷ []
+unfolding inode_listing
 lines_are v b bytes x place h at long is =
     let e : nat_lt x (v.ncg * v.ipg) ≡ true = grind (arith, nat_tests) in
     let read : bytes ≡ piece place 128 b = taken place 128 b bytes long is in
     rw (e, ← at, ← read) refl
 
-no_lines : (v : Layout) (b : List ℕ) (x : ℕ) → v.ncg * v.ipg ≤ x → inode_lines v b x ≡ []
-unfolding inode_lines
+no_lines : (v : Layout) (b : List ℕ) (x : ℕ) → v.ncg * v.ipg ≤ x → inode_listing v b x ≡ []
+unfolding inode_listing
 no_lines v b x h =
     let e : nat_lt x (v.ncg * v.ipg) ≡ false = grind (arith, nat_tests) in
     rw e refl
