@@ -73,3 +73,8 @@ pub record AreFreeCounts (v : Layout) (free : ℕ → Bool) (c : ℕ) (counts : 
   pub frsum : (k : ℕ) → slice_index counts.frsum k ≡ right_frsum v free c k
   pub blocks_fit : counts.blocks < 2 ^ 32
   pub fragments_fit : counts.fragments < 2 ^ 32
+
+-- so many fragments are asked about at a time: a block has fewer
+pub record IsAtOnce (n : ℕ) : Type 0 where
+  pub few : 1024 ≤ n
+  pub many : n ≤ 16384

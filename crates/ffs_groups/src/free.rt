@@ -3,16 +3,31 @@
 ghost use Rattle.std.specs.Prelude.{◌≡◌, ◌+◌, ◌-◌, ◌*◌, ◌/◌, ◌^◌, ◌<◌, ◌≤◌, count_by, ◌==◌, IfSome, ℕ};
 ghost use Rattle.ffs_volume.specs.Groups.Records.{free_stretches, stretch_of};
 ghost use Rattle.ffs_maps.specs.Bits.{bits_of, IsPart};
-ghost use Rattle.ffs_groups.specs.Free.{word_bits, whole_in, loose_in, stretches_in, HasBlocks, HasRoomToCount, HasRoomToEnd, Grown, Added, AreFreeCounts, bits_from, free_in};
+ghost use Rattle.ffs_groups.specs.Free.{word_bits, whole_in, loose_in, stretches_in, HasBlocks, HasRoomToCount, HasRoomToEnd, Grown, Added, AreFreeCounts, IsAtOnce, bits_from, free_in};
 ghost use Rattle.ffs_groups.specs.Inputs.{HasFragments};
 
 use crate::maps::group_fragments;
 use ffs_layout::Geometry;
 use ffs_maps::FragmentMap;
 
-/// How many fragments `are_free` is asked about at a time: mostly all of them are free, or all are
-/// used.
-pub const FRAGMENTS_AT_ONCE: u32 = 2048;
+/// How many fragments `are_free` is asked about at first.
+pub const FEW_FRAGMENTS: u32 = 1024;
+
+/// How many it is asked about at most.
+const MANY_FRAGMENTS: u32 = 16384;
+
+/// How many fragments `are_free` is asked about next: twice as many, where those before were alike,
+/// all free or all used. Then the next ones mostly are too.
+pub fn next_at_once(at_once: u32, alike: bool) -> u32
+    requires { IsAtOnce at_once }
+    ensures { IsAtOnce result }
+{
+    if alike {
+        MANY_FRAGMENTS.min(2 * at_once)
+    } else {
+        FEW_FRAGMENTS
+    }
+}
 
 /// Whether the fragments from `start` on and below `end` are all free (`Some(true)`), or none is
 /// (`Some(false)`); else `None`.
@@ -135,8 +150,8 @@ impl FreeCounts {
     }
 
     /// Counts what is free in some blocks from a fragment on, with one look where that is all of
-    /// them, or nothing.
-    fn add_blocks(&mut self, used: &FragmentMap, start: u64, blocks: u32, frag: u32)
+    /// them, or nothing. Returns whether it is.
+    fn add_blocks(&mut self, used: &FragmentMap, start: u64, blocks: u32, frag: u32) -> bool
         requires { HasBlocks start frag (2 ^ 61) self.old }
         ensures { Added (bits_from (free_in (bits_of used.now) used.now.size) start frag) 0 blocks
             self.old self.new }
@@ -147,13 +162,14 @@ impl FreeCounts {
             match are_free(used, start as u32, end as u32) {
                 Some(true) => {
                     self.blocks += u64::from(blocks);
-                    return;
+                    return true;
                 }
-                Some(false) => return,
+                Some(false) => return true,
                 None => (),
             }
         }
         self.add_words(used, start, blocks, frag);
+        false
     }
 }
 
@@ -172,11 +188,13 @@ pub fn free_counts(geometry: &Geometry, used: &FragmentMap, group: u32) -> FreeC
         fragments: 0,
         frsum: [0; 9],
     };
-    let most = FRAGMENTS_AT_ONCE / frag;
+    let mut at_once = FEW_FRAGMENTS;
     let mut block = 0;
     while block < blocks {
-        let many = most.min(blocks - block);
-        counts.add_blocks(used, base + u64::from(block) * u64::from(frag), many, frag);
+        let many = (at_once / frag).min(blocks - block);
+        let start = base + u64::from(block) * u64::from(frag);
+        let alike = counts.add_blocks(used, start, many, frag);
+        at_once = next_at_once(at_once, alike);
         block += many;
     }
     counts

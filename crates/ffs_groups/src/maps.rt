@@ -2,21 +2,18 @@
 //!
 //! A map's first bit is the lowest of its first byte, in both orders of bytes.
 
-ghost use Rattle.std.specs.{Prelude.{ℕ, ◌≡◌, ◌+◌, ◌*◌, ◌<◌, ◌≤◌, length, nat_eq}, Int.bit_at};
+ghost use Rattle.std.specs.{Prelude.{ℕ, ◌≡◌, ◌+◌, ◌-◌, ◌*◌, ◌<◌, ◌≤◌, length, nat_eq, IfSome}, Int.bit_at};
 ghost use Rattle.ffs_volume.specs.{Disk.{Numbers.all_below, Areas.cgbase}, Groups.Records.bit_at as map_bit};
 ghost use Rattle.ffs_volume.specs.Groups.Records.{same_bit, has_bits, is_used_inode, group_size};
 ghost use Rattle.ffs_maps.specs.Bits.{bits_of};
 ghost use Rattle.ffs_groups.specs.{Free.free_in, Inodes.class_in, Inputs.{HasFragmentMap, HasInodeMap, IsGroupSize}};
 ghost use Rattle.ffs_groups.specs.MapParts.{AreFewIn, HasMapWords, IsClearAt, SetsBit};
 
-use crate::free::{FRAGMENTS_AT_ONCE, are_free};
+use crate::free::{FEW_FRAGMENTS, are_free, next_at_once};
 use crate::inodes::{are_allocated, is_used_at};
 use byteorder::{ByteOrder, LittleEndian};
 use ffs_layout::Geometry;
 use ffs_maps::FragmentMap;
-
-/// How many words of a map `are_free` is asked about at a time.
-const WORDS_AT_ONCE: u32 = FRAGMENTS_AT_ONCE / 64;
 
 /// The bits in at most eight bytes of a map, the first one lowest. Most words are whole: their
 /// eight bytes are read together.
@@ -154,38 +151,45 @@ fn same_words(used: &FragmentMap, base: u32, block: &[u8], place: usize, words: 
     true
 }
 
-/// What `same_words` answers. Mostly all these fragments are free, or none is: then no word is made
-/// of `used`.
+/// What `same_words` answers, where it is known of all these fragments that they are free, or that
+/// none is. Mostly it is: then no word is made of `used`.
 #[tactic(auto, using(crate::proofs::MapWords::same_below))]
-fn same_words_at_once(used: &FragmentMap, base: u32, block: &[u8], place: usize, words: u32) -> bool
-    requires { HasMapWords used.now.size (length block.now) base place words }
+fn same_words_at_once(
+    used: &FragmentMap,
+    base: u32,
+    block: &[u8],
+    place: usize,
+    words: u32,
+    known: Option<bool>,
+) -> bool
+    requires words { HasMapWords used.now.size (length block.now) base place words }
+    requires known { IfSome known (λ free. (k : ℕ) → k < base + 64 * words - base
+        → free_in (bits_of used.now) used.now.size (base + k) ≡ free) }
     ensures { result ≡ has_bits block.now place (64 * words)
         (λ k. free_in (bits_of used.now) used.now.size (base + k)) }
 {
-    match are_free(used, base, base + 64 * words) {
+    match known {
         Some(free) => are_filled(block, place, words, free),
         None => same_words(used, base, block, place, words),
     }
 }
 
-/// What `same_words` answers, of any number of words: `WORDS_AT_ONCE` of them at a time.
+/// What `same_words` answers, of any number of words: at a time as many as `next_at_once` says.
 fn all_same_words(used: &FragmentMap, base: u32, block: &[u8], place: usize, words: u32) -> bool
     requires { HasMapWords used.now.size (length block.now) base place words }
     ensures { result ≡ has_bits block.now place (64 * words)
         (λ k. free_in (bits_of used.now) used.now.size (base + k)) }
 {
+    let mut at_once = FEW_FRAGMENTS;
     let mut word = 0;
     while word < words {
-        let some = WORDS_AT_ONCE.min(words - word);
-        if !same_words_at_once(
-            used,
-            base + 64 * word,
-            block,
-            place + 8 * word as usize,
-            some,
-        ) {
+        let some = (at_once / 64).min(words - word);
+        let start = base + 64 * word;
+        let known = are_free(used, start, start + 64 * some);
+        if !same_words_at_once(used, start, block, place + 8 * word as usize, some, known) {
             return false;
         }
+        at_once = next_at_once(at_once, known.is_some());
         word += some;
     }
     true

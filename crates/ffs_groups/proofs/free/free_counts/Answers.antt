@@ -6,8 +6,8 @@ use Rattle.ffs_groups.proofs.Adding.{loose_fits, added_join, added_below, no_str
 use Rattle.ffs_groups.proofs.{FreeWords.{free_there, fits_blocks, fits_fragments}, Sums.block_from}
 use Rattle.ffs_groups.proofs.free.free_counts.Goals as goal
 
-pub add_blocks-requires : goal.add_blocks-requires
-add_blocks-requires c =
+pub add_blocks-alike-requires : goal.add_blocks-alike-requires
+add_blocks-alike-requires c =
     let frag = c.args.geometry.now.layout.frag in
     let free = free_in (bits_of c.args.used.now) c.args.geometry.now.layout.size in
     record {
@@ -34,12 +34,13 @@ loop-block-preserved c =
       added = added_join (block_bits c.args.geometry.now.layout (free_in used size) c.args.group)
           (bits_from (free_in used c.args.used.now.size)
           (c.from-base.result + c.from.result * c.from-in-loop-block.result) frag)
-          c.loop-block.block c.min-many.result _ c.loop-block.counts c.add_blocks.new.self
-          c.loop-block.invariant.added c.add_blocks.ensures
+          c.loop-block.block c.min-many.result _ c.loop-block.counts c.add_blocks-alike.new.self
+          c.loop-block.invariant.added c.add_blocks-alike.ensures
           (λ k h. block_from used c.args.used.now.size size c.from-base.result c.from.result
           c.from-in-loop-block.result (cgbase c.args.geometry.now.layout c.args.group) c.loop-block.block frag k
           c.requires.size (c.from-base.ensures ∙ c.cgbase.ensures.value) c.from.ensures c.from-in-loop-block.ensures);
       within = omega (arith, c.min-many.ensures);
+      at_once = c.next_at_once-at_once.ensures;
     }
 
 pub returns : goal.returns

@@ -35,4 +35,5 @@ loop-word-preserved c =
       same = more free c.args.block.now c.args.place c.args.base c.loop-word.word c.min-some.result _
           c.loop-word.invariant.same c.same_words_at_once.ensures ∙ agree;
       within = omega (arith, c.min-some.ensures);
+      at_once = c.next_at_once-at_once.ensures;
     }
