@@ -30,12 +30,17 @@ pub fn next_at_once(at_once: u32, alike: bool) -> u32
 }
 
 /// Whether the fragments from `start` on and below `end` are all free (`Some(true)`), or none is
-/// (`Some(false)`); else `None`.
+/// (`Some(false)`); else `None`. Where not all are alike, the first 64 mostly aren't either: then no
+/// bit is counted.
 pub fn are_free(used: &FragmentMap, start: u32, end: u32) -> Option<bool>
     requires { IsPart start end used.now.size }
     ensures { IfSome result (λ free. (k : ℕ) → k < end - start
         → free_in (bits_of used.now) used.now.size (start + k) ≡ free) }
 {
+    let first = used.clear_bits(u64::from(start));
+    if first != 0 && first != u64::MAX {
+        return None;
+    }
     let count = used.count(start, end);
     if count == 0 {
         return Some(true);
