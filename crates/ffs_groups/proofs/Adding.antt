@@ -1,9 +1,9 @@
 -- What the blocks of a group add to the counts, by stretches and by blocks.
 use Rattle.std.proofs.Common.{◌≡◌, ℕ, suc, ◌+◌, ◌<◌, ◌≤◌, Bool, true, false, List, [], ◌∷◌, length, cond, arith}
-use Rattle.std.proofs.Common.{refl, ap, ◌∙◌, sym, count_by, nat_eq, min, bit_and, ◌/◌, ◌^◌, ◌==◌, ◌*◌, ◌%◌, map}
+use Rattle.std.proofs.Common.{refl, ap, sym, count_by, nat_eq, min, ◌/◌, ◌^◌, ◌==◌, ◌*◌, ◌%◌, map}
 use Rattle.std.proofs.{Common.{slice_index, ◌&&◌}, lemmas.List.Sums.{sum_by-cons, sum_by-append, count_by-le-length}}
 use Rattle.std.proofs.lemmas.{List.FromFn.length-map-range_with_len, Nat.{mul-add-lt, mul-le, div-add-mod'}}
-use Rattle.std.{proofs.lemmas.{Nat.Bits.shr_and_one, Bool.ne_eqb}, specs.{List.{range_with_len, sum_by}, Int.bit_at}}
+use Rattle.std.{specs.{List.{range_with_len, sum_by}, Int.bit_at}}
 use Rattle.ffs_volume.specs.Groups.Records.{free_stretches, stretch_of, has_bits, is_free_block}
 use Rattle.ffs_maps.proofs.{WordShifts.bit_shr, Counting.{sum_split, sum_same}, Bits.zeros_at}
 use Rattle.ffs_groups.specs.{declared.free.FreeCounts.FreeCounts, Free.{word_bits, whole_in, loose_in, stretches_in}}
@@ -54,12 +54,6 @@ pub free_within : (word n : ℕ) → count_by (λ f. f) (word_bits word 0 n) ≤
 free_within word n = omega (arith, count_by-le-length (λ f. f) (word_bits word 0 n), length_bits word 0 n)
 
 -- the test that the code makes
-pub bit_set : (word k : ℕ) → bit_and (word / 2 ^ k) 1 ≡ 1 → nat_eq (bit_at word k) 1 ≡ true
-bit_set word k e = let b : bit_at word k ≡ 1 = sym (shr_and_one word k) ∙ e in rw b refl
-
-pub bit_clear : (word k : ℕ) → (bit_and (word / 2 ^ k) 1 ≡ 1 → ⊥) → nat_eq (bit_at word k) 1 ≡ false
-bit_clear word k apart = ne_eqb (bit_at word k) 1 (λ e. apart (shr_and_one word k ∙ e))
-
 from_zero : (f : ℕ → ℕ) (n m : ℕ) → sum_by f (range_with_len 0 (n + m))
     ≡ sum_by f (range_with_len 0 n) + sum_by f (range_with_len n m)
 from_zero f n m = let at : 0 + n ≡ n = omega arith in rw at at (sum_split f 0 n m (n + m) refl)

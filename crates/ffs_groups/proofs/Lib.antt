@@ -3,3 +3,4 @@ pub mod FreeWords
 pub mod Adding
 pub mod MapWords
 pub mod Checks
+pub mod Stretches

@@ -79,24 +79,23 @@ impl FreeCounts {
     }
 
     /// Counts the free fragments of a block that isn't all free, and their stretches. The lowest
-    /// `frag` bits say which are free.
+    /// `frag` bits say which are free. Each turn passes over the used ones that come next, and
+    /// counts the stretch after them.
     fn add_loose(&mut self, bits: u64, frag: u32)
         requires { HasRoomToCount 1 frag (2 ^ 63) self.old }
         ensures { Grown 0 (count_by (λ f. f) (word_bits bits 0 frag))
             (λ k. count_by (λ n. n == k) (free_stretches 0 (word_bits bits 0 frag))) self.old
             self.new }
     {
-        let mut stretch = 0;
-        for index in 0..frag {
-            if bits >> index & 1 == 1 {
-                self.fragments += 1;
-                stretch += 1;
-            } else {
-                self.end_stretch(stretch);
-                stretch = 0;
-            }
+        let mut index = 0;
+        while index < frag {
+            let used = (bits >> index).trailing_zeros().min(frag - index);
+            let start = index + used;
+            let stretch = (bits >> start).trailing_ones().min(frag - start);
+            self.end_stretch(stretch);
+            self.fragments += u64::from(stretch);
+            index = start + stretch;
         }
-        self.end_stretch(stretch);
     }
 
     /// Counts what is free in a block, by the lowest `frag` bits.

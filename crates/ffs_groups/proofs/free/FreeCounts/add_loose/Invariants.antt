@@ -9,8 +9,11 @@ invariant-loop-index l = record {
       (word_bits l.bits l.index (l.frag - l.index)) ≡ l.initial.self.fragments + count_by (λ f. f)
       (word_bits l.bits 0 l.frag);
   frsum : (k : ℕ) → slice_index l.self.frsum k + count_by (λ n. n == k)
-      (free_stretches l.stretch (word_bits l.bits l.index (l.frag - l.index)))
+      (free_stretches 0 (word_bits l.bits l.index (l.frag - l.index)))
       ≡ slice_index l.initial.self.frsum k + count_by (λ n. n == k) (free_stretches 0 (word_bits l.bits 0 l.frag));
-  stretch : l.stretch ≤ l.index;
+  within : l.index ≤ l.frag;
   blocks : l.self.blocks ≡ l.initial.self.blocks;
 }
+
+abbrev pub decreases-loop-index : goal.decreases-loop-index
+decreases-loop-index l = l.frag - l.index
