@@ -53,7 +53,6 @@ stretches_within word n j = omega (arith, stretches_few j (word_bits word 0 n), 
 pub free_within : (word n : ℕ) → count_by (λ f. f) (word_bits word 0 n) ≤ n
 free_within word n = omega (arith, count_by-le-length (λ f. f) (word_bits word 0 n), length_bits word 0 n)
 
--- the test that the code makes
 from_zero : (f : ℕ → ℕ) (n m : ℕ) → sum_by f (range_with_len 0 (n + m))
     ≡ sum_by f (range_with_len 0 n) + sum_by f (range_with_len n m)
 from_zero f n m = let at : 0 + n ≡ n = omega arith in rw at at (sum_split f 0 n m (n + m) refl)

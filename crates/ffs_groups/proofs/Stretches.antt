@@ -126,14 +126,16 @@ next_stretch word k frag used stretch fits below few is_used is_stretch =
     let left : frag - k - used ≡ frag - (k + used) = omega arith in
     let left' : frag - (k + used) - stretch ≡ frag - (k + used + stretch) = omega arith in
     let (f, s) = skipped word k used (frag - k)
-    (λ i h. at word k i 0 (zeros_below (word / 2 ^ k) i small (omega (arith, h, is_used)))) (omega (arith, is_used)) in
+    (λ i h. at word k i 0 (zeros_below (word / 2 ^ k) i small (omega (arith, h, is_used))))
+    (omega (arith, is_used)) in
     let (g, t) = grown word (k + used) stretch (frag - (k + used)) 0
     (λ i h. at word (k + used) i 1 (ones_below (word / 2 ^ (k + used)) i small' (omega (arith, h, is_stretch, few))
     (omega (arith, h, is_stretch)))) (omega (arith, is_stretch)) in
     let alone : 0 + stretch ≡ stretch = omega arith in
     let stops = last word (k + used) frag stretch small' few within is_stretch in (
       rw left at f ∙ rw left' at g,
-      λ j. rw left at (s j) ∙ (rw (left', alone) at (t j) ∙ ended word (k + used + stretch) (frag - (k + used + stretch)) stretch j stops),
+      λ j. rw left at (s j) ∙ (rw (left', alone) at (t j)
+          ∙ ended word (k + used + stretch) (frag - (k + used + stretch)) stretch j stops),
       progress word k frag used stretch small below is_used is_stretch,
       within,
     )
@@ -147,12 +149,14 @@ next_stretch word k frag used stretch fits below few is_used is_stretch =
     last : (word start frag stretch : ℕ) → word / 2 ^ start < 2 ^ 64 → frag ≤ 8 → start + stretch ≤ frag →
         stretch ≡ min (trailing_ones w64 (word / 2 ^ start)) (frag - start) →
         (frag - (start + stretch) ≡ 0) ⊎ (bit_at word (start + stretch) ≡ 0)
-    last word start frag stretch small few within is = elim (cases_lt (trailing_ones w64 (word / 2 ^ start)) (frag - start)) [
-      | inl less ↦
-          let same : trailing_ones w64 (word / 2 ^ start) ≡ stretch = omega (arith, less, is) in
-          inr (at word start stretch 0 (rw same at (ones_end (word / 2 ^ start) (frag - start) small (omega (arith, few)) less)))
-      | inr more ↦ inl (omega (arith, more, is, within))
-    ]
+    last word start frag stretch small few within is =
+        elim (cases_lt (trailing_ones w64 (word / 2 ^ start)) (frag - start)) [
+          | inl less ↦
+              let same : trailing_ones w64 (word / 2 ^ start) ≡ stretch = omega (arith, less, is) in
+              let clear = ones_end (word / 2 ^ start) (frag - start) small (omega (arith, few)) less in
+              inr (at word start stretch 0 (rw same at clear))
+          | inr more ↦ inl (omega (arith, more, is, within))
+        ]
 
     progress : (word k frag used stretch : ℕ) → word / 2 ^ k < 2 ^ 64 → k < frag →
         used ≡ min (trailing_zeros w64 (word / 2 ^ k)) (frag - k) →
