@@ -49,7 +49,7 @@ map_same f g same (x ∷ xs) = λ i. same x i ∷ map_same f g same xs i
 abbrev pub mark : ℕ → ℕ
 mark x = bit_or (cond (eqb x 0) 255 0) (cond (eqb x 47) 255 0)
 
--- the lanes that are NUL or `/` tell whether one of the first few bytes is
+-- the lanes that are NUL or `/` say whether one of the first few bytes is
 pub lanes_tell : (xs lanes : List ℕ) (n : ℕ) → n ≤ length xs → length xs ≤ 64 → lanes ≡ map mark xs →
     nat_lt (count_trailing_zeros 64 (mask_l (map (top 7) lanes) % 2 ^ 64)) n ≡ any_nul_or_slash (take n xs)
 lanes_tell xs lanes n few most are =
