@@ -13,7 +13,7 @@ use ffs_layout::Geometry;
 use ffs_survey::{KnownInodes, NumberLists};
 use ffs_workspace::{Workspace, sweep_reads};
 
-/// What the first survey does, with as many reads as the image asks for.
+/// The first survey of a workspace, with no limit to the reads of the image.
 ///
 /// # Errors
 /// A read of the image that failed.
@@ -68,13 +68,14 @@ fn survey_all<I: Image>(
 }
 
 /// Finds how often each inode is referred to, which inodes a plain entry names, which directories
-/// are reached from the root, and the parent of each directory. Each directory is read once.
-/// `flags` then has the calm directories, of which nothing can be reported, and each that is so by
-/// the image's bytes (`is_calm_directory`). `queue` notes no place. The windows change too. What
-/// phase 1 left (claims, kinds, marks, notes, counts of Runs) stays as it was.
+/// are reached from the root, and the parent of each directory. Each directory is read once. In
+/// `flags` are then calm directories alone, of which nothing can be reported, and all that are calm
+/// by the image's bytes (`is_calm_directory`). `queue` is zero: it notes no place of a parent entry.
+/// The windows change too. What phase 1 left (claims, kinds, marks, notes, counts of Runs) stays as
+/// it was.
 ///
-/// Another survey of the workspace, also after later phases, leaves the same: what the first one
-/// found stands, so it reads nothing and counts no reference twice. It calls no directory calm.
+/// A second survey of the workspace, also after later phases, reads nothing and counts no reference
+/// again: what the first one found is there still. It flags no directory.
 ///
 /// # Errors
 /// A read of the image that failed.

@@ -2,7 +2,7 @@
 use Rattle.std.proofs.Common.{◌≡◌, ◌+◌, ◌≤◌, ℕ, Bool, List, Result, ap, length, sym, ◌∙◌}
 use Rattle.ffs_image.specs.{Reads.ReadAfter, declared.image.ImageFault.ImageFault}
 use Rattle.ffs_volume.specs.Directories.Roles.{RoledEntry}
-use Rattle.ffs_survey.specs.{Levels.FindsSurvey, Lent.{lent_in, SameLists, LeavesLent}}
+use Rattle.ffs_survey.specs.{Discover.Found, Levels.FindsSurvey, Lent.{lent_in, SameLists, LeavesLent}}
 use Rattle.ffs_survey.specs.declared.{lists.Lists.Lists, directories.Directories.Ghosts}
 
 pub same_kinds : {old new : Lists} → SameLists old new → new.kinds.now ≡ old.kinds.now
@@ -36,9 +36,10 @@ pub leaves_by : {S T : Type 0} (D : Ghosts S) {cost : (ℕ → ℕ) → ℕ} {a 
 leaves_by D ready base read same counted =
     record { reader = record { is_ready = ready; same = base; read = read; counted = counted }; lists = same }
 
--- a survey in lists that hold the same
-pub finds_same : {kinds starts f f' p p' : List ℕ} {marked m m' r r' calm calm' : List Bool}
-    {entries : ℕ → List RoledEntry} {right_shape : ℕ → Bool} → f' ≡ f → m' ≡ m → r' ≡ r → p' ≡ p → calm' ≡ calm →
-    FindsSurvey kinds marked entries right_shape starts f m r p calm →
-    FindsSurvey kinds marked entries right_shape starts f' m' r' p' calm'
+-- a survey finds it where the lists hold the same
+pub finds_same : {kinds starts : List ℕ} {marked : List Bool} {entries : ℕ → List RoledEntry}
+    {right_shape : ℕ → Bool} {found found' : Found} → found'.references ≡ found.references →
+    found'.named ≡ found.named → found'.reached ≡ found.reached → found'.parents ≡ found.parents →
+    found'.calm ≡ found.calm → FindsSurvey kinds marked entries right_shape starts found →
+    FindsSurvey kinds marked entries right_shape starts found'
 finds_same ef em er ep ec s = record { survey = rw (ef, em, er, ep) s.survey; calm = rw (er, ep, ec) s.calm; flagged = rw (er, ep, ec) s.flagged }

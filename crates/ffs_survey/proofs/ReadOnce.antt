@@ -1,4 +1,4 @@
--- Each reached directory is read once, when nothing below it is reached: so those that are calm by the
+-- Each reached directory is read once, when no child of it is reached: so those that are calm by the
 -- parents of what they name have a flag.
 use Rattle.std.proofs.Common.{◌≡◌, ◌≢◌, ℕ, zero, suc, ◌+◌, ◌-◌, ◌<◌, ◌≤◌, ◌==◌, Bool, true, false, not, ◌&&◌, ◌||◌}
 use Rattle.std.proofs.Common.{List, [], ◌∷◌, length, take, drop, get_or, All, Option, Some, None, unwrap_or, cond, arith}

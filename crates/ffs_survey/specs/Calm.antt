@@ -72,7 +72,7 @@ abbrev pub IsFlagged : ℕ → Bool → Bool → List Bool → List Bool → Typ
 IsFlagged d all_calm right_shape old new =
     (x : ℕ) → bool_at new x ≡ (bool_at old x || ((x == d) && (nat_lt d (length old) && (all_calm && right_shape))))
 
--- x isn't below the directory d: it is the root, or d isn't its parent
+-- x is no child of the directory d: it is the root, or d isn't its parent
 abbrev pub is_elsewhere : (parent_of : ℕ → ℕ) (d x : ℕ) → Bool
 is_elsewhere parent_of d x = (x == ROOTINO) || not (parent_of x == d)
 
@@ -89,17 +89,17 @@ EachCalmIsFlagged kinds marked reached parents entries right_shape calm =
     (d : ℕ) → dir_at kinds d ≡ true → bool_at reached d ≡ true
     → is_calm_by_parents kinds marked (number_at parents) (entries d) (right_shape d) d ≡ true → bool_at calm d ≡ true
 
--- nothing that is reached is below the directory d
+-- no child of the directory d is reached
 abbrev pub IsUnread : List Bool → List ℕ → ℕ → Type 0
 IsUnread reached parents d = (x : ℕ) → bool_at reached x ≡ true → is_elsewhere (number_at parents) d x ≡ true
 
--- none of these directories is read, and each is there once
+-- none of these directories is read, and none is in the list twice
 pub record AreUnread (reached : List Bool) (parents : List ℕ) (dirs : List ℕ) : Type 0 where
   pub each : All (IsUnread reached parents) dirs
   pub once : (i j e : ℕ) → i < j → j < length dirs → get_or dirs i e ≢ get_or dirs j e
 
--- The reached directory d was read when nothing below it was reached. It has a flag, if its entries are
--- calm by what was reached then, and its shape is right
+-- The reached directory d was read when no child of it was reached. It has a flag, if its entries are calm
+-- by what was reached then, and its shape is right
 pub record IsReadOnce (kinds : List ℕ) (marked reached : List Bool) (parents : List ℕ) (entries : List RoledEntry)
     (right_shape : Bool) (calm : List Bool) (d : ℕ) : Type 0 where
   pub before : ℕ → Bool

@@ -25,6 +25,17 @@ all_found l = record {
 abbrev pub found_up_to : Lists → ℕ → Found
 found_up_to l end = record (all_found l) { queue = take end l.queue.now.items }
 
+-- what lists hold that are lent one by one
+abbrev pub found_by : NumberLists → List Bool → List Bool → List Bool → Found
+found_by n named reached calm = record {
+  references = n.references.now.items;
+  named = named;
+  reached = reached;
+  parents = n.parents.now.items;
+  calm = calm;
+  queue = n.queue.now.items;
+}
+
 -- the current directory, by the lists
 abbrev pub current_in : Lists → ℕ → ℕ → CurrentDir
 current_in l dir parent = record { kinds = l.kinds.now; marked = l.marked.now; dir = dir; parent = parent }

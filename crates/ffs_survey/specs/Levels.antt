@@ -43,13 +43,13 @@ pub record ReadsDirs (kinds : List ℕ) (marked : List Bool) (dirs : List ℕ) (
   pub once : AreUnread old.reached old.parents dirs → All (λ d. IsReadOnce kinds marked new.reached new.parents
       (entries d) (right_shape d) new.calm d) dirs
 
--- a survey of these directories, counted on from these starts, and flags that only calm ones have, and each
--- that is calm by the parents of what it names
+-- A survey of these directories finds this, counted on from these starts. Only calm directories have a flag,
+-- and each has one that is calm by the parents of what it names. It says nothing of the queue
 pub record FindsSurvey (kinds : List ℕ) (marked : List Bool) (entries : ℕ → List RoledEntry) (right_shape : ℕ → Bool)
-    (starts references : List ℕ) (named reached : List Bool) (parents : List ℕ) (calm_flags : List Bool) : Type 0 where
-  pub survey : IsSurvey (graph_with kinds entries) starts references named reached parents
-  pub calm : AreCalm kinds marked reached parents entries right_shape calm_flags
-  pub flagged : EachCalmIsFlagged kinds marked reached parents entries right_shape calm_flags
+    (starts : List ℕ) (found : Found) : Type 0 where
+  pub survey : IsSurvey (graph_with kinds entries) starts found.references found.named found.reached found.parents
+  pub calm : AreCalm kinds marked found.reached found.parents entries right_shape found.calm
+  pub flagged : EachCalmIsFlagged kinds marked found.reached found.parents entries right_shape found.calm
 
 -- the directory d with these entries, which isn't reached, is read
 pub record ReadsUnreached (kinds : List ℕ) (d : ℕ) (entries : List RoledEntry) (old new : Found) : Type 0 where

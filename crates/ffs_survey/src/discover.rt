@@ -1,9 +1,8 @@
-//! What one directory, and one level of directories, names.
+//! Reads a directory, or a level of directories: what their entries name.
 ghost use Rattle.std.specs.Prelude.{◌≡◌, ◌*◌, ◌-◌, ◌^◌, ◌&&◌, nat_le, [], length, drop, take, IfOk, OnOk};
-ghost use Rattle.std.specs.Prelude.{ℕ, Bool, IsTrue, true, false};
 ghost use Rattle.std.specs.List.{sum_by};
 ghost use Rattle.ffs_volume.specs.Directories.Roles.{is_plain as is_plain_role};
-ghost use Rattle.ffs_survey.specs.{Reading.roled_of, Lists.CountLists, Survey.{bool_at, dir_at}};
+ghost use Rattle.ffs_survey.specs.{Reading.roled_of, Lists.CountLists, Survey.{bool_at}};
 ghost use Rattle.ffs_survey.specs.Lent.{found_up_to, current_of, ForKnown, CanVisit, CanCount, CanReach, CanReadLevel};
 ghost use Rattle.ffs_survey.specs.Lent.{Adopts, AddsUnreached, FlagsIfCalm, LeavesLent, Visits};
 ghost use Rattle.ffs_survey.specs.{Levels.{Discovers, ReadsReached, ReadsDirs}, Calm.{is_calm_kind, is_calm_plain, is_calm_entry}};
@@ -16,10 +15,7 @@ use crate::numbers::{is_dir, number_of};
 use ffs_image::ImageFault;
 use ffs_memory::FilledList;
 use ffs_volume::Role;
-use ffs_volume::constants::{
-    DT_BLK, DT_CHR, DT_DIR, DT_FIFO, DT_LNK, DT_REG, DT_SOCK, DT_WHT, EMPTY_DIR_KIND, ROOTINO,
-    UNKNOWN_KIND, WINO,
-};
+use ffs_volume::constants::{DT_DIR, DT_WHT, EMPTY_DIR_KIND, ROOTINO, UNKNOWN_KIND, WINO};
 
 /// Counts an entry for the inode whose number it carries, and flags that inode as named where the
 /// entry is plain.
@@ -39,8 +35,8 @@ fn count_entry(entry: EntryHead, kinds: &[u8], references: &mut FilledList<u64>,
     }
 }
 
-/// Whether a number is that of a directory that isn't reached yet. `kinds` are those of the lists,
-/// taken out of them before a loop.
+/// Whether a number is that of a directory that isn't reached yet. `kinds` is the list of kinds in
+/// `lists`: a loop takes it from there once.
 pub fn is_unreached_dir(kinds: &[u8], lists: &Lists, number: usize) -> bool
     requires { kinds.now ≡ lists.now.kinds.now }
     ensures { result ≡ is_unreached_dir_at lists.now.kinds.now lists.now.reached.now number }
@@ -57,15 +53,14 @@ fn is_new(entry: EntryHead, kinds: &[u8], lists: &Lists) -> bool
     is_plain(entry.role) && is_unreached_dir(kinds, lists, entry.number as usize)
 }
 
-/// Discovers what an entry of the current directory names: flags it as reached, gives it its
-/// parent and puts it into the queue. `top` is where the queue ends; returns where it ends then.
-/// `file` says that it is known to name no directory.
-fn visit(entry: EntryHead, file: bool, current: &CurrentDir, lists: &mut Lists, top: usize) -> usize
-    requires can { CanVisit current.now top lists.old }
-    requires file { IsTrue file → dir_at current.now.kinds.now entry.number ≡ false }
+/// Where an entry of the current directory names a directory that isn't reached yet, flags that as
+/// reached, gives it its parent, and puts it into the queue, which ends at `top`. Returns where the
+/// queue ends then.
+fn visit(entry: EntryHead, current: &CurrentDir, lists: &mut Lists, top: usize) -> usize
+    requires { CanVisit current.now top lists.old }
     ensures { Visits current.now.dir (roled_of entry []) top result lists.old lists.new }
 {
-    if file || !is_new(entry, current.kinds, lists) {
+    if !is_new(entry, current.kinds, lists) {
         return top;
     }
     let number = entry.number as usize;
@@ -122,26 +117,6 @@ fn is_calm(entry: EntryHead, index: u32, current: &CurrentDir, lists: &Lists) ->
     }
 }
 
-/// Whether nothing can be reported of the entry at an index of the current directory, since it names
-/// a file: then it discovers nothing either. Most entries do.
-fn is_calm_file(entry: EntryHead, index: u32, current: &CurrentDir) -> bool
-    ensures calm { IsTrue result → (reached : ℕ → Bool)
-        → is_calm_entry (current_of current.now) reached index (roled_of entry []) ≡ true }
-    ensures file { IsTrue result → dir_at current.now.kinds.now entry.number ≡ false }
-{
-    let number = entry.number as usize;
-    is_plain(entry.role)
-        && index >= 2
-        && entry.number >= ROOTINO
-        && number < current.kinds.len()
-        && !current.marked[number]
-        && entry.kind == current.kinds[number]
-        && matches!(
-            entry.kind,
-            DT_FIFO | DT_CHR | DT_BLK | DT_REG | DT_LNK | DT_SOCK
-        )
-}
-
 /// Flags the directory `from`, all of whose `count` entries are read, if these are calm and its
 /// shape is right.
 fn flag_calm<D: Directories>(
@@ -167,8 +142,8 @@ fn flag_calm<D: Directories>(
 
 /// Reads the directory `from` of a level: counts its entries, discovers what they name, and flags
 /// it in `calm` if nothing can be reported of it. No count grows by more than 2^28, since a
-/// directory has no more entries (`Directories::start`). Any bound far above all entries, and far
-/// below 2^64, serves for the counts before (2^60).
+/// directory has no more entries (`Directories::start`). The counts before are at most 2^60: more
+/// than all entries together, and far below 2^64.
 fn read_reached<D: Directories>(
     directories: &mut D,
     from: u32,
@@ -196,9 +171,8 @@ fn read_reached<D: Directories>(
     directories.start(from)?;
     while let Some(entry) = directories.next()? {
         count_entry(entry, current.kinds, lists.references, lists.named);
-        let file = calm_so_far && is_calm_file(entry, count, &current);
-        calm_so_far = file || (calm_so_far && is_calm(entry, count, &current, lists));
-        high = visit(entry, file, &current, lists, high);
+        calm_so_far = calm_so_far && is_calm(entry, count, &current, lists);
+        high = visit(entry, &current, lists, high);
         count += 1;
     }
     flag_calm(directories, from, calm_so_far, count, lists.calm)?;
@@ -234,8 +208,8 @@ pub fn read_level<D: Directories>(
     Ok(top)
 }
 
-/// Gives the parent `from` to what an entry of this directory names: a directory that isn't reached
-/// and has no parent yet.
+/// Where an entry of the directory `from` names a directory that isn't reached and has no parent
+/// yet, makes `from` its parent.
 fn adopt(entry: EntryHead, from: u32, lists: &mut Lists)
     ensures { Adopts from (roled_of entry []) lists.old lists.new }
 {

@@ -1,9 +1,9 @@
-use Rattle.std.proofs.{Common.{arith, ap, sym, ◌∙◌, ◌&&◌, rules, ◌≡◌, ◌∷◌, ◌<◌, List, ℕ}, lemmas.Bool.both_ways}
+use Rattle.std.proofs.Common.{arith, ap, ◌∙◌, ◌&&◌, rules, ◌≡◌, ◌∷◌, ◌<◌, List, ℕ}
 use Rattle.ffs_volume.specs.Directories.Roles.{RoledEntry, refers}
 use Rattle.ffs_survey.proofs.{CalmLaws.{calm_step, read_whole}, Discovered.{bit-le, entry_step}, Lending.still_by}
 use Rattle.ffs_survey.proofs.{Lending.{same_kinds, queue_long}, Queues.{extends_on, keeps_queue}, Totals.entry_counted}
 use Rattle.ffs_survey.specs.{Calm.is_calm_entry, Lent.current_in, Reading.roled_of, Survey.{bool_at, number_at}}
-use Rattle.ffs_survey.proofs.discover.read_reached.Goals.{then-file, else-file+then-calm_so_far-2, else-file+else-calm_so_far-2, then-calm_so_far, else-calm_so_far}
+use Rattle.ffs_survey.proofs.discover.read_reached.Goals.{then-calm_so_far, else-calm_so_far}
 use Rattle.ffs_survey.proofs.discover.read_reached.Goals as goal
 
 pub loop-entry-preserved : goal.loop-entry-preserved
@@ -22,15 +22,11 @@ loop-entry-preserved g c =
     let counted = c.count_entry.ensures in
     let visited = c.visit-high.ensures in
     let same_result = rw (same_kinds inv.lent.same) at visited.same_result in
-    let right : c.if-file.calm_so_far ≡ (c.loop-entry.calm_so_far
+    let right : c.if-calm_so_far.calm_so_far ≡ (c.loop-entry.calm_so_far
     && is_calm_entry current (bool_at c.loop-entry.lists.reached.now) c.loop-entry.count e)
-    = elim c.if-file.branch [
-      | then-file w ↦ elim c.if-calm_so_far.branch [
-        | then-calm_so_far u ↦ rw u.if-calm_so_far.true (w.calm_so_far-is ∙ (w.if-file.true ∙ sym (u.is_calm_file-file.ensures.calm (search rules) _)))
-        | else-calm_so_far u ↦ absurd (both_ways c.if-calm_so_far.file (u.file-is ∙ u.if-calm_so_far.false) w.if-file.true)
-      ]
-      | else-file+then-calm_so_far-2 w ↦ rw w.if-calm_so_far-2.true (w.calm_so_far-is ∙ w.is_calm.ensures)
-      | else-file+else-calm_so_far-2 w ↦ rw w.if-calm_so_far-2.false (w.calm_so_far-is ∙ w.if-calm_so_far-2.false)
+    = elim c.if-calm_so_far.branch [
+      | then-calm_so_far w ↦ rw w.if-calm_so_far.true (w.calm_so_far-is ∙ w.is_calm-calm_so_far.ensures)
+      | else-calm_so_far w ↦ rw w.if-calm_so_far.false (w.calm_so_far-is ∙ w.if-calm_so_far.false)
     ] in
     record {
       lent = still_by g.D.Directories (search rules) (search rules) (search rules)

@@ -3,6 +3,7 @@ use Rattle.ffs_survey.proofs.{CalmLaws.{calm_unreached, read_stays, Stays}, Cost
 use Rattle.ffs_survey.proofs.{Lending.{finds_same, kinds_long, same_kinds}, UnreachedLaws.survey_whole}
 use Rattle.ffs_survey.proofs.UnreachedLaws.{unreached_blank}
 use Rattle.ffs_survey.proofs.ReadOnce.{flagged_by_parents, read_once_stays}
+use Rattle.ffs_survey.specs.Lent.{all_found}
 use Rattle.ffs_survey.proofs.levels.survey.Goals as goal
 
 pub returns-clause-found : goal.returns-clause-found
@@ -19,8 +20,8 @@ returns-clause-found g c =
     let entries = g.D.Directories.entries (g.D.Directories.base c.args.directories.now) b in
     let part = first.found.part b k in
     let more = adds b k (unreached_blank inodes.kinds.now entries part) in
-    finds_same {f = new.references.now.items} {p = new.parents.now.items} {m = new.named.now} {r = new.reached.now}
-    {calm = new.calm.now} (search rules) (search rules) (search rules) (search rules) (search rules) (record {
+    finds_same {found = all_found new} (search rules) (search rules) (search rules) (search rules) (search rules)
+    (record {
       survey = rw second.leaves.kept.reached (survey_whole inodes.kinds.now entries
           (sane_of inodes.kinds.now entries c.requires.lists.some) reached_long
           (new.long.parents_long ∙ kinds_long second.leaves.lent.lists ∙ ap length kinds) c.limit.ensures.items.items
