@@ -1,21 +1,23 @@
 -- A series of Runs that the words of an indirect block name, one after the other.
 use Rattle.std.proofs.Common.{◌≡◌, ◌≢◌, ℕ, ◌+◌, ◌<◌, ◌≤◌, false, nat_eq, nat_lt, get_or, List, [], ◌∷◌, ap, arith, inr}
-use Rattle.std.proofs.{Common.{Option, refl, sym, ◌∙◌}, lemmas.Bool.{and_parts, Decides.nat_tests}}
+use Rattle.std.proofs.{Common.{Option, refl, sym, ◌∙◌, ◌/◌}, lemmas.Bool.{and_parts, Decides.nat_tests}}
+use Rattle.std.proofs.Math.Nat.{add-div_right, zero-div}
 use Rattle.ffs_volume.proofs.Potentials.{cond_holds, moves_then, stays, step_moves}
 use Rattle.ffs_volume.specs.{Blocks.Claims.{Claims, after_step, is_open, step_lines}, declared.Step.Step}
 use Rattle.ffs_volume.specs.{Laws.RunLengths.HasLength, declared.Layout.Layout}
 use Rattle.ffs_image.specs.Device.{ForContents}
-use Rattle.ffs_maps.{proofs.{Bits.run_join, Masks.run_outside}}
+use Rattle.ffs_maps.{proofs.{Bits.run_join, Masks.run_outside}, specs.Bits.set_run}
 use Rattle.ffs_walk.specs.{HeldWords.{PassesNextWord, next_address, word_step}, Rests.steps_left, Windows.BlocksHold}
 use Rattle.ffs_walk.specs.declared.{blocks.Blocks.Blocks, walk.Walk.Walk}
 use Rattle.ffs_workspace.specs.{Holds.claims_of, declared.workspace.Workspace.Workspace}
 use Rattle.ffs_claims.proofs.{IndirectReads.{step_on, word_unseen}, UnclaimedRuns.whole_is}
-use Rattle.ffs_claims.specs.{Leaves.ClaimsOnly, SilentWords.ClaimsWords, declared.words.Series.Series}
+use Rattle.ffs_claims.specs.{Leaves.ClaimsOnly, SilentWords.ClaimsWords}
 use Rattle.ffs_claims.specs.Series.{CanClaimSeries, MeansSame, PassesSeries, with_series}
 
 -- a step claims a Run, and nothing is reported of it
 record ClaimsRunOf (v : Layout) (s : Claims) (step : Step) (start : ℕ) : Type 0 where
-  claims : with_series s start 1 v.frag ≡ after_step v s step
+  claims : record s { used = set_run s.used start v.frag; runs = s.runs + 1; kept = s.kept + v.frag }
+      ≡ after_step v s step
   silent : (number : ℕ) → step_lines v number s step ≡ []
 
 -- a Run in range of which all fragments are unclaimed
@@ -33,9 +35,9 @@ run_in_series v s start block some can =
 
 -- no word
 pub series_none : {v : Layout} {blocks : Blocks} {w : Walk} (s : Claims) (start : ℕ) →
-    MeansSame v blocks s (with_series s start 0 0) w w
-series_none s start =
-    let runs : s.runs + 0 ≡ s.runs = omega arith in
+    MeansSame v blocks s (with_series v.frag s start 0) w w
+series_none {v = v} s start =
+    let runs : s.runs + 0 / v.frag ≡ s.runs = ap (λ n. s.runs + n) (zero-div v.frag) ∙ omega arith in
     let kept : s.kept + 0 ≡ s.kept = omega arith in
     rw (runs, kept) (record {
       claims = λ contents holds bytes e. refl;
@@ -45,12 +47,12 @@ series_none s start =
     })
 
 -- one word more
-pub series_next : {v : Layout} {blocks : Blocks} {x y z : Walk} (s : Claims) (start runs len : ℕ) → v.frag ≤ 8 →
+pub series_next : {v : Layout} {blocks : Blocks} {x y z : Walk} (s : Claims) (start len : ℕ) → v.frag ≤ 8 →
     0 < v.frag → start ≢ 0 → y.geometry.layout ≡ v → next_address blocks y ≡ start + len →
-    PassesSeries v blocks start (record { runs = runs; len = len }) x y → PassesNextWord y z →
-    CanClaimSeries v s start (len + v.frag) → MeansSame v blocks s (with_series s start (runs + 1) (len + v.frag)) x z
-series_next {v = v} {blocks = blocks} {x = x} {y = y} {z = z} s start runs len small some begins layout is p q can =
-    let t = with_series s start runs len in
+    PassesSeries v blocks start len x y → PassesNextWord y z → CanClaimSeries v s start (len + v.frag) →
+    MeansSame v blocks s (with_series v.frag s start (len + v.frag)) x z
+series_next {v = v} {blocks = blocks} {x = x} {y = y} {z = z} s start len small some begins layout is p q can =
+    let t = with_series v.frag s start len in
     let first = p.claims s (record {
       uncut = can.uncut;
       long = can.long;
@@ -66,9 +68,10 @@ series_next {v = v} {blocks = blocks} {x = x} {y = y} {z = z} s start runs len s
       clear = λ k low. run_outside s.used start len (start + len + k) false (inr (omega arith))
           ∙ ap (λ n. get_or s.used n false) (omega arith) ∙ can.clear (len + k) (omega arith);
     }) in
-    let counted : s.runs + runs + 1 ≡ s.runs + (runs + 1) = omega arith in
+    let one_more = add-div_right len some in
+    let counted : s.runs + len / v.frag + 1 ≡ s.runs + (len + v.frag) / v.frag = omega (arith, one_more) in
     let kept : s.kept + len + v.frag ≡ s.kept + (len + v.frag) = omega arith in
-    let now : with_series s start (runs + 1) (len + v.frag) ≡ after_step v t step =
+    let now : with_series v.frag s start (len + v.frag) ≡ after_step v t step =
     rw (run_join s.used start len v.frag (len + v.frag) refl, sym counted, sym kept) did.claims in
     let next : (contents : Option (List ℕ)) → BlocksHold v contents blocks →
     ForContents contents (λ bytes. steps_left bytes y ≡ step ∷ steps_left bytes z) = λ contents holds bytes e.
@@ -88,10 +91,9 @@ series_next {v = v} {blocks = blocks} {x = x} {y = y} {z = z} s start runs len s
     }
 
 -- the words of a series are claimed with nothing to report
-pub series_words : {v : Layout} {a b : Workspace} {x y : Walk} {start : ℕ} {series : Series} →
-    CanClaimSeries v (claims_of a) start series.len →
-    claims_of b ≡ with_series (claims_of a) start series.runs series.len → ClaimsOnly v a b → a.runs_seen ≤ b.runs_seen
-    → PassesSeries v a.windows.blocks start series x y → ClaimsWords v a b x y
+pub series_words : {v : Layout} {a b : Workspace} {x y : Walk} {start len : ℕ} →
+    CanClaimSeries v (claims_of a) start len → claims_of b ≡ with_series v.frag (claims_of a) start len →
+    ClaimsOnly v a b → a.runs_seen ≤ b.runs_seen → PassesSeries v a.windows.blocks start len x y → ClaimsWords v a b x y
 series_words {a = a} can now only rises p =
     let same = p.claims (claims_of a) can in
     record {
@@ -101,7 +103,7 @@ series_words {a = a} can now only rises p =
       uncut = ap is_open now ∙ can.uncut;
       claim_bound = rw now same.bound;
       only = only;
-      falls = omega (arith, p.falls);
+      falls = p.falls;
       same = p.same;
       rises = rises;
       counted = p.counted;

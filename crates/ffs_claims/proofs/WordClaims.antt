@@ -1,6 +1,6 @@
 -- What the words of an indirect block claim with nothing to report, one after the other.
 use Rattle.std.proofs.Common.{◌≡◌, ◌≢◌, ℕ, ◌+◌, ◌<◌, ◌≤◌, true, false, nat_eq, nat_lt, List, ◌∷◌, arith, refl, sym, ◌∙◌}
-use Rattle.std.proofs.{Common.Option, lemmas.Bool.{and_parts, Decides.nat_tests}}
+use Rattle.std.proofs.{Common.{Option, subst}, lemmas.Bool.{and_parts, Decides.nat_tests}}
 use Rattle.ffs_volume.{proofs.Potentials.{cond_holds, moves_then, stays}, specs.Blocks.Claims.{after_step, is_open}}
 use Rattle.ffs_volume.specs.{Disk.Areas.is_run_in_range, Laws.RunLengths.HasLength, declared.Layout.Layout}
 use Rattle.ffs_image.specs.Device.{ForContents}
@@ -10,6 +10,7 @@ use Rattle.ffs_walk.specs.{Rests.{most_steps_left, steps_left}, Windows.BlocksHo
 use Rattle.ffs_workspace.specs.{Holds.claims_of, Lengths.IsFor, declared.workspace.Workspace.Workspace}
 use Rattle.ffs_claims.proofs.{Frames.only_then, IndirectReads.{step_on, word_unseen}, Inodes.moves_on, UnclaimedRuns.whole_is}
 use Rattle.ffs_claims.specs.SilentWords.{ClaimsAddress, ClaimsSilently, ClaimsWords}
+use Rattle.ffs_claims.specs.{Claiming.CanSeeNext, declared.area.DataArea.DataArea}
 
 -- a Run in range of which all fragments are unclaimed
 pub run_claims : {v : Layout} {old new : Workspace} (start block : ℕ) → is_open (claims_of old) ≡ true → start ≢ 0 →
@@ -62,3 +63,11 @@ words_once {v = v} {a = a} {b = b} {x = x} {y = y} {address = address} some smal
 pub words_then : {v : Layout} {a b c : Workspace} {x y z : Walk} → ClaimsWords v a b x y → ClaimsWords v b c y z →
     ClaimsWords v a c x z
 words_then {a = a} {b = b} {c = c} p q = grind (arith, moves_then, only_then)
+
+-- the layout of the walk's geometry is that of the volume
+pub words_for : {v v' : Layout} {a b : Workspace} {x y : Walk} → v ≡ v' → ClaimsWords v a b x y → ClaimsWords v' a b x y
+words_for {a = a} {b = b} {x = x} {y = y} e words = subst (λ v. ClaimsWords v a b x y) e words
+
+pub sees_for : {v v' : Layout} {w : Workspace} {area : DataArea} {most : ℕ} → v ≡ v' → CanSeeNext v w area most →
+    CanSeeNext v' w area most
+sees_for {w = w} {area = area} {most = most} e sees = subst (λ v. CanSeeNext v w area most) e sees

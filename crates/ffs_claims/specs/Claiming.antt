@@ -1,8 +1,11 @@
 -- What inodes ask for before they claim, and what they leave.
-use Rattle.std.specs.{List.range_with_len, Prelude.{◌≡◌, ℕ, ◌+◌, ◌<◌, ◌≤◌, ◌^◌, Bool, true, List, Option, Result, OnOk, IfOk}}
-use Rattle.ffs_volume.specs.Blocks.{BlockCheck.owner_lines, Claims.{Claims, after_offer, after_offers, after_owner, at_next_inode}}
+use Rattle.std.specs.{List.range_with_len, Prelude.{◌≡◌, ℕ, ◌+◌, ◌<◌, ◌≤◌, ◌^◌, Bool, true, List, Option}}
+use Rattle.std.specs.Prelude.{Result, OnOk, IfOk}
+use Rattle.ffs_volume.specs.Blocks.{BlockCheck.owner_lines, Claims.{Claims, after_offer, after_offers}}
+use Rattle.ffs_volume.specs.Blocks.Claims.{after_owner, at_next_inode}
 use Rattle.ffs_volume.specs.Blocks.Claims.{after_steps, is_open, lines_of_offers, lines_of_steps, no_claims}
-use Rattle.ffs_volume.specs.{Blocks.{Inodes.class_of, Owners.{Owner, owner_of}, Steps.steps_of}, Disk.Areas.is_run_in_range}
+use Rattle.ffs_volume.specs.Blocks.{Inodes.class_of, Owners.{Owner, owner_of}, Steps.steps_of}
+use Rattle.ffs_volume.specs.Disk.Areas.{is_run_in_range}
 use Rattle.ffs_volume.specs.Report.VolumeReads.{indirect_in_steps}
 use Rattle.ffs_volume.specs.Laws.{ClaimBounds.{used_bits, ClaimBound}, RunLengths.HasLength}
 use Rattle.ffs_volume.specs.declared.{BlockMessage.BlockMessage, Class.Class, Inode.Inode, Layout.Layout, Step.Step}
@@ -16,14 +19,14 @@ use Rattle.ffs_workspace.specs.declared.workspace.Workspace.{Workspace}
 use Rattle.ffs_claims.specs.{Area.IsDataArea, Leaves.{CanOffer, ClaimsOnly, HasBegun, OffersOnly, SameFound}}
 use Rattle.ffs_claims.specs.{Lines.of_lines, declared.{area.{DataArea.DataArea, Run.Run}, claim.Sweep.Sweep}}
 
--- in a workspace as it was made only the reserved fragments are used after the call. No Run is counted
--- yet, and the rest is as claiming leaves it (`ClaimsOnly`)
+-- the reserved fragments are marked: where the workspace was as it was made, they alone are used then. No Run
+-- is counted yet, and all else is as claiming leaves it (`ClaimsOnly`)
 pub record Reserves (v : Layout) (old new : Workspace) : Type 0 where
   pub claims : IsFresh v old → claims_of new ≡ no_claims v
   pub runs : new.runs_seen ≡ 0
   pub only : ClaimsOnly v old new
 
--- inodes can claim: the workspace is ready, and each Run that lies in the area is in range
+-- an inode can claim fragments: the workspace is ready, and each Run that lies in the data area is in range
 pub record CanClaim (v : Layout) (d : Device) (w : Workspace) (area : DataArea) : Type 0 where
   pub ready : IsReady v d w
   pub all_in_range : IsDataArea v area
@@ -37,13 +40,13 @@ pub record CanClaimInode (g : Geometry) (d : Device) (w : Workspace) (sweep : Sw
   pub number_fits : number < inodes_of g.layout
   pub runs : w.runs_seen < 2 ^ 40
 
--- an inode that was read can claim: this is its class
+-- an inode that was read can claim in a sweep, and `class` is its class
 pub record CanClaimRead (g : Geometry) (d : Device) (w : Workspace) (sweep : Sweep) (number : ℕ) (class : Class)
     (i : Inode) : Type 0 where
   pub class_is : class ≡ class_of g.layout i
   pub can : CanClaimInode g d w sweep number
 
--- the steps of the current inode can claim: this is its class, the walk is over the volume, and the
+-- the steps of the current inode can claim: `class` is the inode's class, the walk is over the volume, and the
 -- inode has no bad Run, no dup offer and no kept offer yet
 pub record CanClaimSteps (g : Geometry) (d : Device) (w : Workspace) (sweep : Sweep) (class : Class) (i : Inode)
     : Type 0 where
@@ -61,7 +64,7 @@ pub record CanSeeNext (v : Layout) (w : Workspace) (area : DataArea) (most : ℕ
   pub room : w.kept < most
   pub runs : w.runs_seen < most
 
--- a step can be seen as an inode's next one: it has a step's length
+-- this step can be seen as an inode's next one: it has as many fragments as a step can have
 pub record CanSeeStep (v : Layout) (w : Workspace) (area : DataArea) (step : Step) : Type 0 where
   pub next : CanSeeNext v w area (2 ^ 62)
   pub length : HasLength v.frag step
@@ -72,13 +75,13 @@ pub record CanTakeOffers (v : Layout) (w : Workspace) (run : Run) (in_range : Bo
   pub uncut : is_open (claims_of w) ≡ true
   pub offer : CanOffer v w run.len in_range (is_run_in_range v run.start run.len)
 
--- what claiming leaves of the workspace and of the area
+-- what claiming leaves of the workspace (`ClaimsOnly`), and of the data area: each Run in it is in range
 pub record ClaimsInArea (v : Layout) (old new : Workspace) (area : DataArea) : Type 0 where
   pub only : ClaimsOnly v old new
   pub all_in_range : IsDataArea v area
 
--- an inode sees no more Runs than fragments were unused before it, and 22: each Run that it sees
--- claims a fragment, but for its bad Runs and its dup offers
+-- between two workspaces no more Runs are seen than fragments were unused at first, and 22: each Run that an
+-- inode sees claims a fragment, but for its bad Runs and its dup offers
 abbrev pub FewRuns : Layout → Workspace → Workspace → Type 0
 FewRuns v old new = new.runs_seen + used_bits (claims_of old) ≤ old.runs_seen + v.size + 22
 
@@ -98,9 +101,9 @@ pub record StepsLeave {T : Type 0} (v : Layout) (d d' : Device) (old new : Works
 abbrev pub ReadsIndirect : Layout → Claims → Owner → (reads reads' : ℕ) → Type 0
 ReadsIndirect v s o reads reads' = reads' ≤ reads + indirect_in_steps v (at_next_inode s) o.steps
 
--- an inode is read by its block of the inode table. Where the table held the inode, nothing is read of
--- it and it stays, each read is paid by a Run that is seen, and in an image that gives its bytes by an
--- indirect block that is seen; else its block is held then
+-- an inode is read by its block of the inode table. Where the window held the inode, the table isn't read and
+-- the window stays: there are no more reads than Runs that are seen, and in an image that gives its bytes no more
+-- than indirect blocks that are seen. Else the window holds the inode's block then
 pub record ReadsByBlock {T : Type 0} (v : Layout) (contents : Option (List ℕ)) (number reads reads' : ℕ)
     (old new : Workspace) (result : Result T RunFault) : Type 0 where
   pub again : HoldsInode old.windows.table number

@@ -1,7 +1,8 @@
 -- What phase 1b has reported, and what it leaves to report.
 use Rattle.std.specs.{List.{list_any, range_with_len}, Prelude.{◌≡◌, ◌≢◌, ◌<◌, ℕ, Bool, Result, OnOk, false, ◌||◌}}
 use Rattle.std.specs.Prelude.{if◌then◌else◌, List, [], ◌∷◌, map, slice_set}
-use Rattle.ffs_volume.specs.Blocks.{BlockCheck.{blames, first_offer_lines}, Claims.is_set, KeptOffers.{Offer, offer_of}}
+use Rattle.ffs_volume.specs.Blocks.{BlockCheck.{blames, first_offer_lines}, Claims.is_set}
+use Rattle.ffs_volume.specs.Blocks.KeptOffers.{Offer, offer_of}
 use Rattle.ffs_volume.specs.declared.Layout.{Layout}
 use Rattle.ffs_image.specs.Device.{Device}
 use Rattle.ffs_report.specs.{PhaseOutcome.ImageAfter, Progress.{Progress, Says}, declared.fault.RunFault.RunFault}

@@ -1,23 +1,23 @@
 -- What the words of an indirect block claim with nothing to report.
 use Rattle.std.specs.Prelude.{◌≡◌, ℕ, ◌≤◌, ◌^◌, true, List, [], Option}
 use Rattle.ffs_volume.specs.Blocks.Claims.{after_step, after_steps, is_open, lines_of_steps, step_lines}
-use Rattle.ffs_volume.specs.{Laws.ClaimBounds.ClaimBound, Report.VolumeReads.indirect_in_steps, declared.Layout.Layout, declared.Step.Step}
+use Rattle.ffs_volume.specs.{Laws.ClaimBounds.ClaimBound, Report.VolumeReads.indirect_in_steps}
+use Rattle.ffs_volume.specs.declared.{Layout.Layout, Step.Step}
 use Rattle.ffs_image.specs.Device.{ForContents}
-use Rattle.ffs_layout.specs.declared.geometry.Geometry.{Geometry}
-use Rattle.ffs_walk.specs.{Counts.EntersOnly, HeldWords.word_step, Rests.{SameFileBlocks, most_steps_left, steps_left}}
+use Rattle.ffs_walk.specs.{Counts.EntersOnly, HeldWords.word_step}
+use Rattle.ffs_walk.specs.Rests.{SameFileBlocks, most_steps_left, steps_left}
 use Rattle.ffs_walk.specs.{Windows.BlocksHold, declared.walk.Walk.Walk}
 use Rattle.ffs_workspace.specs.{Holds.claims_of, declared.workspace.Workspace.Workspace}
-use Rattle.ffs_claims.specs.{Claiming.CanSeeNext, Leaves.ClaimsOnly, declared.{area.DataArea.DataArea, words.Counts.Counts}}
+use Rattle.ffs_claims.specs.{Claiming.CanSeeNext, Leaves.ClaimsOnly}
+use Rattle.ffs_claims.specs.declared.{area.DataArea.DataArea, words.Counts.Counts}
 
 -- a workspace with these counts of Runs that are looked at, and of offers that are kept
 abbrev pub with_run_counts : Workspace → Counts → Workspace
 with_run_counts w counts = record w { runs_seen = counts.runs_seen; kept = counts.kept }
 
--- what the next words of an indirect block offer can be claimed: the inode's next step can be seen,
--- and its walk is over the volume
-pub record CanClaimWords (g : Geometry) (w : Workspace) (area : DataArea) (walk : Walk) : Type 0 where
-  pub next : CanSeeNext g.layout w area (2 ^ 62)
-  pub geometry : walk.geometry ≡ g
+-- what the next words of an indirect block offer can be claimed: the inode's next step can be seen
+abbrev pub CanClaimWords : Workspace → DataArea → Walk → Type 0
+CanClaimWords w area walk = CanSeeNext walk.geometry.layout w area (2 ^ 62)
 
 -- a step claims what it offers, and nothing is reported of it
 pub record ClaimsSilently (v : Layout) (step : Step) (old new : Workspace) : Type 0 where

@@ -2,8 +2,9 @@
 
 ghost use Rattle.std.specs.Prelude.{◌≡◌, ◌≢◌, ◌^◌, false, IsTrue};
 ghost use Rattle.ffs_walk.specs.{HeldWords.{CanSeeWord, IsInHeldBlock, next_address}, Windows.HasRoom};
-ghost use Rattle.ffs_claims.specs.{Claiming.CanSeeNext, SilentWords.{CanClaimWords, ClaimsAddress, ClaimsWords, with_run_counts}};
-ghost use Rattle.ffs_claims.specs.Series.{CanClaimNext, ClaimsNext, HasNext, HasSecond, PassesSeries};
+ghost use Rattle.ffs_claims.specs.{Claiming.CanSeeNext, SilentWords.{CanClaimWords, ClaimsAddress}};
+ghost use Rattle.ffs_claims.specs.SilentWords.{ClaimsWords, with_run_counts};
+ghost use Rattle.ffs_claims.specs.Series.{CanClaimNext, ClaimsNext, HasNext, PassesSeries};
 
 use crate::area::DataArea;
 use ffs_layout::{Geometry, u32_at};
@@ -15,16 +16,7 @@ use ffs_workspace::Workspace;
 const WORD_BYTES: usize = 4;
 
 /// How many fragments a word of the map has.
-const MAP_WORD: u32 = 64;
-
-/// Runs that the words of an indirect block name in turn: each begins where the one before it ends.
-#[derive(Clone, Copy)]
-struct Series {
-    /// How many Runs there are.
-    runs: u64,
-    /// How many fragments they have.
-    len: u32,
-}
+const MAP_WORD: u64 = 64;
 
 /// The counts of a workspace that grow with each word. They are kept apart from it while words are
 /// claimed, and so in registers.
@@ -57,15 +49,15 @@ fn claim_address(
     if address == 0 {
         return true;
     }
-    let len = geometry.layout.frag;
-    if !area.contains(address, len) {
+    let frag = geometry.layout.frag;
+    if !area.contains(address, frag) {
         return false;
     }
-    if !workspace.used.claim(address, len) {
+    if !workspace.used.claim(address, frag) {
         return false;
     }
     counts.runs_seen += 1;
-    counts.kept += u64::from(len);
+    counts.kept += u64::from(frag);
     true
 }
 
@@ -92,114 +84,90 @@ fn comes_next(order: Order, walk: &Walk, blocks: &Blocks, address: u64) -> bool
 }
 
 /// Passes over the next words of the single indirect block that the walk is in, as long as they name
-/// Runs in turn, from an address on, that lie in one word of the map.
+/// Runs in turn, from an address on, that lie in one word of the map. Returns how many fragments
+/// these Runs have.
 #[inline(always)]
-fn pass_series(order: Order, walk: &mut Walk, blocks: &Blocks, address: u32) -> Series
+fn pass_series(order: Order, walk: &mut Walk, blocks: &Blocks, address: u32) -> u32
     requires some { address ≢ 0 }
     requires held { IsInHeldBlock blocks.now walk.old }
     requires room { HasRoom walk.old.geometry.layout blocks.now }
     requires order { order ≡ walk.old.geometry.layout.order }
     ensures { PassesSeries walk.old.geometry.layout blocks.now address result walk.old walk.new }
 {
-    let frag = walk.geometry.layout.frag;
-    let room = MAP_WORD - address % MAP_WORD;
-    let mut series = Series { runs: 0, len: 0 };
-    while series.len + frag <= room {
-        let end = u64::from(address) + u64::from(series.len);
-        if !comes_next(order, walk, blocks, end) {
-            return series;
-        }
+    let frag = u64::from(walk.geometry.layout.frag);
+    let start = u64::from(address);
+    // A Run that begins after this fragment doesn't lie in the same word of the map.
+    let last = start - start % MAP_WORD + MAP_WORD - frag;
+    let mut end = start;
+    while end <= last && comes_next(order, walk, blocks, end) {
         walk.pass_word();
-        series.runs += 1;
-        series.len += frag;
+        end += frag;
     }
-    series
+    (end - start) as u32
 }
 
-/// Whether the word after the next one of the single indirect block that the walk is in is used, and
-/// names the Run that comes after the Run at an address. No claim depends on it: it decides only how
-/// the next word is claimed.
-#[inline(always)]
-fn goes_on(order: Order, walk: &Walk, blocks: &Blocks, address: u32) -> bool
-    requires word { CanSeeWord blocks.now walk.now }
-    ensures { IsTrue result → HasSecond walk.now }
-{
-    let second = walk.single.next + 1;
-    if second >= walk.single.used {
-        return false;
-    }
-    let block = blocks.bytes(&walk.geometry, 0);
-    let after = u32_at(order, WORD_BYTES * second as usize, block);
-    after.wrapping_sub(address) == walk.geometry.layout.frag
-}
-
-/// Claims what the next words of an indirect block of data offer, where they name Runs in turn, at
-/// once: where these lie in the area, and their fragments are all unused. Returns whether it was so:
-/// if not, nothing has changed.
+/// Claims at once what the next words of an indirect block of data offer, where they name Runs in
+/// turn, from an address on, that lie in the area, and whose fragments are all unused. Returns
+/// whether it was so: if not, nothing has changed.
 #[inline(always)]
 fn claim_series(
     order: Order,
     workspace: &mut Workspace,
     counts: &mut Counts,
-    geometry: &Geometry,
     area: &DataArea,
     walk: &mut Walk,
+    address: u32,
 ) -> bool
-    requires can { CanClaimNext geometry.now (with_run_counts workspace.old counts.old) area.now
-        walk.old }
-    requires order { order ≡ geometry.now.layout.order }
-    ensures claimed { IsTrue result → ClaimsNext geometry.now.layout
-        (with_run_counts workspace.old counts.old) (with_run_counts workspace.new counts.new)
-        walk.old walk.new }
+    requires some { address ≢ 0 }
+    requires can { CanClaimNext (with_run_counts workspace.old counts.old) area.now walk.old }
+    requires order { order ≡ walk.old.geometry.layout.order }
+    ensures claimed { IsTrue result → ClaimsNext (with_run_counts workspace.old counts.old)
+        (with_run_counts workspace.new counts.new) walk.old walk.new }
     ensures unchanged { result ≡ false → (with_run_counts workspace.new counts.new
         ≡ with_run_counts workspace.old counts.old) × (walk.new ≡ walk.old) }
 {
-    let address = next_address_in(order, walk, &workspace.windows.blocks);
-    if address == 0 {
-        return false;
-    }
     let mut ahead = *walk;
-    let series = pass_series(order, &mut ahead, &workspace.windows.blocks, address);
-    if series.len == 0 || !area.contains(address, series.len) {
+    let len = pass_series(order, &mut ahead, &workspace.windows.blocks, address);
+    if len == 0 || !area.contains(address, len) {
         return false;
     }
-    if !workspace.used.claim(address, series.len) {
+    if !workspace.used.claim(address, len) {
         return false;
     }
-    counts.runs_seen += series.runs;
-    counts.kept += u64::from(series.len);
+    counts.runs_seen += u64::from(len / walk.geometry.layout.frag);
+    counts.kept += u64::from(len);
     *walk = ahead;
     true
 }
 
-/// Claims what the next word of an indirect block of data offers, or a series of them where the one
-/// after it goes on. Returns whether it did: if not, nothing has changed.
+/// Claims what the next word of an indirect block of data offers, or the Runs that it and the words
+/// after it name in turn. Returns whether it did: if not, nothing has changed.
 #[inline(always)]
 fn claim_next(
     order: Order,
     workspace: &mut Workspace,
     counts: &mut Counts,
-    geometry: &Geometry,
     area: &DataArea,
     walk: &mut Walk,
 ) -> bool
-    requires can { CanClaimNext geometry.now (with_run_counts workspace.old counts.old) area.now
-        walk.old }
-    requires order { order ≡ geometry.now.layout.order }
-    ensures claimed { IsTrue result → ClaimsNext geometry.now.layout
-        (with_run_counts workspace.old counts.old) (with_run_counts workspace.new counts.new)
-        walk.old walk.new }
+    requires can { CanClaimNext (with_run_counts workspace.old counts.old) area.now walk.old }
+    requires order { order ≡ walk.old.geometry.layout.order }
+    ensures claimed { IsTrue result → ClaimsNext (with_run_counts workspace.old counts.old)
+        (with_run_counts workspace.new counts.new) walk.old walk.new }
     ensures unchanged { result ≡ false → (with_run_counts workspace.new counts.new
         ≡ with_run_counts workspace.old counts.old) × (walk.new ≡ walk.old) }
 {
     let address = next_address_in(order, walk, &workspace.windows.blocks);
-    if goes_on(order, walk, &workspace.windows.blocks, address) {
-        return claim_series(order, workspace, counts, geometry, area, walk);
+    let end = u64::from(address) + u64::from(walk.geometry.layout.frag);
+    let mut ahead = *walk;
+    ahead.pass_word();
+    if address != 0 && comes_next(order, &ahead, &workspace.windows.blocks, end) {
+        return claim_series(order, workspace, counts, area, walk, address);
     }
-    if !claim_address(workspace, counts, geometry, area, address) {
+    if !claim_address(workspace, counts, &walk.geometry, area, address) {
         return false;
     }
-    walk.pass_word();
+    *walk = ahead;
     true
 }
 
@@ -210,19 +178,17 @@ fn claim_words_in(
     order: Order,
     workspace: &mut Workspace,
     counts: &mut Counts,
-    geometry: &Geometry,
     area: &DataArea,
     walk: &mut Walk,
 )
-    requires can { CanClaimWords geometry.now (with_run_counts workspace.old counts.old) area.now
-        walk.old }
+    requires can { CanClaimWords (with_run_counts workspace.old counts.old) area.now walk.old }
     requires held { IsInHeldBlock workspace.old.windows.blocks walk.old }
-    requires order { order ≡ geometry.now.layout.order }
-    ensures { ClaimsWords geometry.now.layout (with_run_counts workspace.old counts.old)
+    requires order { order ≡ walk.old.geometry.layout.order }
+    ensures { ClaimsWords walk.old.geometry.layout (with_run_counts workspace.old counts.old)
         (with_run_counts workspace.new counts.new) walk.old walk.new }
 {
     while walk.has_word() {
-        if !claim_next(order, workspace, counts, geometry, area, walk) {
+        if !claim_next(order, workspace, counts, area, walk) {
             return;
         }
     }
@@ -234,46 +200,38 @@ fn claim_words_in(
 fn claim_counted_words(
     workspace: &mut Workspace,
     counts: &mut Counts,
-    geometry: &Geometry,
     area: &DataArea,
     walk: &mut Walk,
 )
-    requires can { CanClaimWords geometry.now (with_run_counts workspace.old counts.old) area.now
-        walk.old }
+    requires can { CanClaimWords (with_run_counts workspace.old counts.old) area.now walk.old }
     requires held { IsInHeldBlock workspace.old.windows.blocks walk.old }
-    ensures { ClaimsWords geometry.now.layout (with_run_counts workspace.old counts.old)
+    ensures { ClaimsWords walk.old.geometry.layout (with_run_counts workspace.old counts.old)
         (with_run_counts workspace.new counts.new) walk.old walk.new }
 {
     // The order is asked for once, and not for each word.
-    match geometry.layout.order {
-        Order::Little => claim_words_in(Order::Little, workspace, counts, geometry, area, walk),
-        Order::Big => claim_words_in(Order::Big, workspace, counts, geometry, area, walk),
+    match walk.geometry.layout.order {
+        Order::Little => claim_words_in(Order::Little, workspace, counts, area, walk),
+        Order::Big => claim_words_in(Order::Big, workspace, counts, area, walk),
     }
 }
 
 /// Claims what the next words of the single indirect block that the walk is in offer, as long as
 /// nothing is to be reported of them. The block is held.
 #[inline(never)]
-fn claim_held_words(
-    workspace: &mut Workspace,
-    geometry: &Geometry,
-    area: &DataArea,
-    walk: &mut Walk,
-)
-    requires can { CanClaimWords geometry.now workspace.old area.now walk.old }
+fn claim_held_words(workspace: &mut Workspace, area: &DataArea, walk: &mut Walk)
+    requires can { CanClaimWords workspace.old area.now walk.old }
     requires held { IsInHeldBlock workspace.old.windows.blocks walk.old }
-    ensures { ClaimsWords geometry.now.layout workspace.old workspace.new walk.old walk.new }
+    ensures { ClaimsWords walk.old.geometry.layout workspace.old workspace.new walk.old walk.new }
 {
     // What each word asks for or changes is a local value, which no write to the map can change, and
     // is written back once.
-    let geometry = *geometry;
     let area = *area;
     let mut passing = *walk;
     let mut counts = Counts {
         runs_seen: workspace.runs_seen,
         kept: workspace.kept,
     };
-    claim_counted_words(workspace, &mut counts, &geometry, &area, &mut passing);
+    claim_counted_words(workspace, &mut counts, &area, &mut passing);
     *walk = passing;
     workspace.runs_seen = counts.runs_seen;
     workspace.kept = counts.kept;
@@ -283,11 +241,11 @@ fn claim_held_words(
 /// nothing is to be reported of them and each Run is claimed at once. The claims are then those
 /// that the steps of these words would leave.
 #[inline(always)]
-pub fn claim_words(workspace: &mut Workspace, geometry: &Geometry, area: &DataArea, walk: &mut Walk)
-    requires { CanClaimWords geometry.now workspace.old area.now walk.old }
-    ensures { ClaimsWords geometry.now.layout workspace.old workspace.new walk.old walk.new }
+pub fn claim_words(workspace: &mut Workspace, area: &DataArea, walk: &mut Walk)
+    requires { CanClaimWords workspace.old area.now walk.old }
+    ensures { ClaimsWords walk.old.geometry.layout workspace.old workspace.new walk.old walk.new }
 {
     if walk.is_in_held_block(&workspace.windows.blocks) {
-        claim_held_words(workspace, geometry, area, walk);
+        claim_held_words(workspace, area, walk);
     }
 }

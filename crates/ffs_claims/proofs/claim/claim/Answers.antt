@@ -10,7 +10,7 @@ use Rattle.ffs_claims.proofs.{Frames.{can_walk, ready_still, ready_read, only_th
 use Rattle.ffs_claims.proofs.{Inodes.{seen_bound, claiming_none, claiming_walked, claiming_on}, StepsContinue.cut_over}
 use Rattle.ffs_claims.proofs.StepsContinue.{gaps_over, claims_on, lines_on, steps_said, without_steps}
 use Rattle.ffs_claims.proofs.{IndirectReads.{gaps_unseen, indirect_on}, claim.claim.Goals.{in-Gap, in_default-matches}}
-use Rattle.ffs_claims.specs.Lines.{of_lines}
+use Rattle.ffs_claims.{proofs.WordClaims.{sees_for, words_for}, specs.Lines.of_lines}
 use Rattle.ffs_claims.proofs.claim.claim.Goals as goal
 
 pub returns-then-not-has_steps : goal.returns-then-not-has_steps
@@ -151,12 +151,10 @@ claim_words-requires g c =
     let sound = c.args.geometry.now.sound in
     let left = c.step.ensures.left in
     let now = c.in_ok-seen.ensures in
-    record {
-      next = sees_next sound c.requires.begun left.only.made left.all_in_range (sym now.seen ∙ c.if-not-seen.false)
-          (moves_on c.in-Some.next inv.left.claim.ready.made sound.sizes.frag_high
-          (rw (inv.geometry, c.in-Some.is) at c.in_ok-next.ensures.step.fits).length now.claims inv.left.claim_bound);
-      geometry = c.in_ok-next.ensures.same.geometry ∙ inv.geometry;
-    }
+    sees_for (sym (ap (λ k. k.layout) (c.in_ok-next.ensures.same.geometry ∙ inv.geometry)))
+    (sees_next sound c.requires.begun left.only.made left.all_in_range (sym now.seen ∙ c.if-not-seen.false)
+    (moves_on c.in-Some.next inv.left.claim.ready.made sound.sizes.frag_high
+    (rw (inv.geometry, c.in-Some.is) at c.in_ok-next.ensures.step.fits).length now.claims inv.left.claim_bound))
 
 pub loop-next-preserved : goal.loop-next-preserved
 loop-next-preserved g c =
@@ -166,7 +164,8 @@ loop-next-preserved g c =
     let s = claims_of c.loop-next.workspace in
     let read = claiming_walked c.in_ok-next.ensures.leaves.read inv.geometry c.next.ensures.leaves.kept inv.left in
     let next = rw (inv.left.image, c.in-Some.is) at c.in_ok-next.ensures.step.steps in
-    let words = c.claim_words.ensures in
+    let walk = c.in_ok-next.ensures.same.geometry ∙ inv.geometry in
+    let words = words_for (ap (λ k. k.layout) walk) c.claim_words.ensures in
     let reads = c.in_ok-next.ensures.counted inv.held in
     let paid = rw c.in-Some.is at reads.paid in
     let left = c.step.ensures.left in
@@ -181,7 +180,7 @@ loop-next-preserved g c =
       left = claiming_on read.image (record { only = only_then left.only words.only; all_in_range = left.all_in_range })
           (omega (arith, seen_bound c.args.workspace.now words.only.made words.uncut moves)) moves read;
       open_still = words.uncut;
-      geometry = words.same.geometry ∙ c.in_ok-next.ensures.same.geometry ∙ inv.geometry;
+      geometry = words.same.geometry ∙ walk;
       held = words.counted.held _ (rw (words.only.windows, left.only.windows) reads.held);
       counted = omega (arith, paid, inv.counted, c.step.ensures.counted, words.rises, words.counted.unread);
       indirect = λ bytes t. omega (

@@ -157,6 +157,7 @@ returns-then-not-has_unreported_dups g c =
       leaves = λ bytes k. record {
         claims = claims_hold v bytes c.args.workspace.now _ k.1 inv.claims (reporting_over none (inv.reported bytes k));
         starts = starts_hold v bytes c.args.workspace.now _ k.1 inv.claims;
+        unsurveyed = inv.claims.surveyed ∙ k.1.unsurveyed;
         count = omega (arith, inv.count bytes k, looked_none d (runs_from v bytes n) none);
       };
       reads = record {
@@ -185,6 +186,7 @@ returns-after-loop-number g c =
         claims = claims_hold v bytes c.args.workspace.now _ k.1 inv.claims
             (reporting_ends (inv.reported bytes k) (kept_end v bytes (claims_before v bytes n) n past));
         starts = starts_hold v bytes c.args.workspace.now _ k.1 inv.claims;
+        unsurveyed = inv.claims.surveyed ∙ k.1.unsurveyed;
         count = omega (arith, inv.count bytes k, looked_end v bytes d (claims_before v bytes n) n past);
       };
       reads = record {

@@ -1,17 +1,17 @@
-use Rattle.std.proofs.Common.{◌<◌, ap, arith, refl, rules, sym, ◌∙◌}
+use Rattle.std.proofs.Common.{◌<◌, arith, refl, rules, ◌∙◌}
 use Rattle.ffs_maps.proofs.Bits.{bits_long}
-use Rattle.ffs_claims.specs.{Series.PassesSeries, SilentWords.with_run_counts}
+use Rattle.ffs_claims.specs.{SilentWords.with_run_counts}
 use Rattle.ffs_claims.proofs.{SeriesClaims.series_words, UnclaimedRuns.run_below}
 use Rattle.ffs_claims.proofs.words.claim_series.Goals as goal
 
 pub claim-requires : goal.claim-requires
 claim-requires c =
-    let start = c.next_address_in-address.result in
-    let len = c.pass_series-series.result.len in
+    let start = c.args.address in
+    let len = c.pass_series-len.result in
     let run = c.contains.ensures.0 c.if-not-contains.false in
-    let some : 0 < len = omega (arith, c.if-series-eq0.false) in
+    let some : 0 < len = omega (arith, c.if-len-eq0.false) in
     let fits = c.requires.can.next.all_in_range.runs start len run.first run.last some in
-    let within = run_below c.args.geometry.now.layout start len some fits in
+    let within = run_below c.args.walk.now.geometry.layout start len some fits in
     record { some = some; below = omega (arith, within, c.requires.can.next.made.used) }
 
 pub returns-then-not-claim-clause-unchanged : goal.returns-then-not-claim-clause-unchanged
@@ -21,20 +21,17 @@ pub returns-clause-claimed : goal.returns-clause-claimed
 returns-clause-claimed c = λ t.
     let next = c.requires.can.next in
     let a = with_run_counts c.args.workspace.now c.args.counts.now in
-    let series = c.pass_series-series.result in
-    let some : 0 < series.len = omega (arith, c.if-series-eq0.false) in
+    let some : 0 < c.pass_series-len.result = omega (arith, c.if-len-eq0.false) in
     let run = c.contains.ensures.0 c.if-not-contains.false in
-    let passes : PassesSeries c.args.geometry.now.layout a.windows.blocks c.next_address_in-address.result series
-    c.args.walk.now c.pass_series-series.new.walk =
-    rw (sym (ap (λ k. k.layout) c.requires.can.geometry)) c.pass_series-series.ensures in
+    let passes = c.pass_series-len.ensures in
     record {
       words = series_words (record {
         uncut = next.uncut;
         long = bits_long a.used ∙ next.made.used;
-        in_range = λ f low high. next.all_in_range.runs f c.args.geometry.now.layout.frag (omega (arith, run.first))
-            (omega (arith, run.last)) c.args.geometry.now.sound.sizes.frag_low;
+        in_range = λ f low high. next.all_in_range.runs f c.args.walk.now.geometry.layout.frag (omega (arith, run.first))
+            (omega (arith, run.last)) c.args.walk.now.geometry.sound.sizes.frag_low;
         clear = c.claim.ensures.clear c.if-not-claim.false;
-      }) (rw (c.claim.ensures.claimed c.if-not-claim.false, c.from.ensures) refl) (search rules) (omega arith) passes;
+      }) (rw (c.claim.ensures.claimed c.if-not-claim.false, c.from.ensures, c.from-2.ensures) refl) (search rules) (omega arith) passes;
       held = passes.held;
-      falls = omega (arith, passes.falls, passes.some some);
+      falls = passes.passes some;
     }

@@ -4,7 +4,7 @@ use Rattle.ffs_claims.proofs.words.claim_words_in.Given as goal
 
 abbrev pub invariant-loop-order : goal.invariant-loop-order
 invariant-loop-order l = record {
-  words : ClaimsWords l.geometry.layout (with_run_counts l.initial.workspace l.initial.counts)
+  words : ClaimsWords l.initial.walk.geometry.layout (with_run_counts l.initial.workspace l.initial.counts)
       (with_run_counts l.workspace l.counts) l.initial.walk l.walk;
   held : IsInHeldBlock l.workspace.windows.blocks l.walk;
 }
