@@ -69,20 +69,19 @@ fn any_nonzero(addresses: &[u32; 15]) -> bool
     bits != 0
 }
 
-/// Whether an address from an index on isn't zero. All fifteen are looked at, four at once, with no
-/// branch that depends on the index: sizes of files are mixed, and no processor foresees such a
-/// branch.
+/// Whether an address from an index on isn't zero, by a bit for each address. All fifteen are
+/// looked at, with no branch that depends on the index: sizes of files are mixed, and no processor
+/// foresees such a branch.
 #[inline(always)]
-#[tactic(auto, using(crate::proofs::AnySet::or_set, crate::proofs::AnySet::set_more, crate::proofs::AnySet::none_more))]
 fn any_address_from(addresses: &[u32; 15], from: usize) -> bool
     requires { from ≤ 15 }
     ensures { result ≡ inodes.any_nonzero (drop from addresses.now) }
 {
-    let mut bits = 0;
+    let mut bits = 0u32;
     for index in 0..15 {
-        bits |= if index < from { 0 } else { addresses[index] };
+        bits |= u32::from(addresses[index] != 0) << index;
     }
-    bits != 0
+    bits >> from != 0
 }
 
 /// Whether the addresses of an inode of the class are walked.
