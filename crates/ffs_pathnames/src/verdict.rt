@@ -117,23 +117,27 @@ pub fn first_verdict(
     verdict(inodes, entry, first, own)
 }
 
-/// Whether an entry names a file of its own type that isn't suspect, or that a plain entry has
-/// named: nothing is reported of it, wherever it is. Most entries do.
-pub fn is_known_file(inodes: &Inodes<'_>, flags: &[bool], entry: &Entry<'_>) -> bool
+/// Whether a plain entry is a whiteout, or names a file of its own type that isn't suspect, or that a
+/// plain entry has named: nothing is reported of it, wherever it is. Most entries are so.
+pub fn is_harmless(inodes: &Inodes<'_>, flags: &[bool], entry: &Entry<'_>) -> bool
     requires { length flags.now ≡ length inodes.now.kinds.now }
     ensures { IsTrue result → (vol : Volume) → Sees vol inodes.now → (own : Bool)
         → is_silent (verdict_on vol (not (slice_index_or flags.now entry.now.number false)) own
         (entry_value entry.now)) ≡ true }
 {
     let number = entry.number as usize;
-    entry.number >= ROOTINO
-        && entry.number < inodes.count()
-        && entry.kind == inodes.kinds[number]
-        && matches!(
-            entry.kind,
-            DT_FIFO | DT_CHR | DT_BLK | DT_REG | DT_LNK | DT_SOCK
-        )
-        && (!inodes.marked[number] || flags[number])
+    if entry.number >= inodes.count() {
+        return false;
+    }
+    match entry.kind {
+        DT_WHT => entry.number == WINO,
+        DT_FIFO | DT_CHR | DT_BLK | DT_REG | DT_LNK | DT_SOCK => {
+            entry.number >= ROOTINO
+                && entry.kind == inodes.kinds[number]
+                && (!inodes.marked[number] || flags[number])
+        }
+        _ => false,
+    }
 }
 
 /// Passes a plain entry of `dir`. The inode that it names is flagged, if it is suspect (the flag of
