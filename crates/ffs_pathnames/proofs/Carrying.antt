@@ -1,7 +1,7 @@
 -- What is known between two directories, carried from one to the next.
 use Rattle.std.proofs.Common.{◌≡◌, ◌-◌, ◌==◌, refl, sym, ap, ◌∙◌, ℕ, suc, Bool, true, false, ◌||◌}
 use Rattle.std.proofs.Common.{if◌then◌else◌, List, [], ◌++◌, map, get_or, Option, Some, arith, slice_index, Result, Ok}
-use Rattle.std.proofs.{Common.{Err, OnOk, IfOk, inl, inr, ◌≤◌}, lemmas.Bool.{Decides.nat_tests, cases_Bool}}
+use Rattle.std.proofs.{Common.{Err, IfOk, inl, inr, ◌≤◌}, lemmas.Bool.{Decides.nat_tests, cases_Bool}}
 use Rattle.std.proofs.lemmas.List.{get_or_default, map-append}
 use Rattle.ffs_volume.specs.{declared.{Layout.Layout, Class.{Class, TheVariants.Dir}}, Laws.Geometry.IsAcceptedLayout}
 use Rattle.ffs_volume.specs.Directories.{Roles.{Volume, is_suspect}}
@@ -12,7 +12,7 @@ use Rattle.ffs_volume.specs.{Messages.Kinds.lines_from, Blocks.Inodes.{is_direct
 use Rattle.ffs_volume.specs.Encodings.Kinds.{is_dir_kind, is_empty_dir_kind, is_allocated_kind}
 use Rattle.ffs_volume.proofs.{SearchLaws.some_below-none, Numbered.all_from_root, Sizes.some_inodes}
 use Rattle.ffs_workspace.specs.{declared.workspace.Workspace.Workspace, Lengths.{IsFor, inodes_of}, Holds.bool_at}
-use Rattle.ffs_workspace.specs.{Holds.{HoldsClaims, HoldsReferences, HoldsSurvey}, Leaves.{LeavesBlockCheck, LeavesSurvey}}
+use Rattle.ffs_workspace.specs.{Holds.{HoldsClaims, HoldsReferences, HoldsSurvey}, Leaves.{LeavesSurvey}}
 use Rattle.ffs_workspace.proofs.{KindLaws.{reports_at, suspect_is}, Leaving.{claims_left, survey_left, leaves_all}}
 use Rattle.ffs_pathnames.specs.{Gathers.passed_of, DirectoryContext.DirectoryContext, Before.{IsNonePassed, IsBefore}}
 use Rattle.ffs_pathnames.specs.{Before.{IsBeforeNoted, needs_check, root_reported}, Silent.IsSilentDirectory}
@@ -21,11 +21,7 @@ use Rattle.ffs_pathnames.proofs.{Begun.quiet_parts, StampLaws.{noted_kept, stamp
 use Rattle.ffs_pathnames.proofs.{BetweenLaws.{silent_next, silent_quiet}, EmptyLaws.{looked_is, looked_dir, names_none}}
 use Rattle.ffs_survey.specs.Survey.{suspect_at}
 
--- a fact of every answer, and of each value that is answered
-pub on_all : {T E : Type 0} (r : Result T E) (P : Type 0) → P → OnOk r P
-on_all (Ok x) P h = h
-on_all (Err e) P h = tt
-
+-- a fact of each value that is answered
 pub if_ok : {T E : Type 0} (r : Result T E) (P Q : T → Type 0) → ((x : T) → P x → Q x) → IfOk r P → IfOk r Q
 if_ok (Ok x) P Q f h = f x h
 if_ok (Err e) P Q f h = tt

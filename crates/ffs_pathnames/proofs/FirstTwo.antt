@@ -1,5 +1,5 @@
 -- The first two entries of a directory, and its parent, as they are found.
-use Rattle.std.proofs.{lemmas.Bool.{Decides.nat_tests, and_parts, cond-false, cond-true}, Common.{◌≡◌, ◌≢◌, refl, sym}}
+use Rattle.std.proofs.{lemmas.Bool.{Decides.nat_tests, and_parts, cond-false, cond-true}, Common.{◌≡◌, ◌≢◌, ap, refl, sym}}
 use Rattle.std.proofs.Common.{◌∙◌, ℕ, ◌==◌, Bool, true, false, List, ◌∷◌, Option, None, Some, arith, ne_eqb, eq-eqb}
 use Rattle.std.{proofs.Math.Nat.zero-add, specs.Option.unwrap_or}
 use Rattle.ffs_volume.specs.{Directories.{Roles.{Volume, nth_entry}, Parents.graph_of}, declared.Order.Order}
@@ -32,6 +32,9 @@ parent_back v x =
     let root = root_parent (graph_of v) x in
     let named = parent_edge (graph_of v) x 0 in
     grind (arith, nat_tests)
+
+pub none_back : (v : Volume) (x : ℕ) → unwrap_or (parent (graph_of v) x) 0 ≡ 0 → None ≡ parent (graph_of v) x
+none_back v x e = ap number_if (sym e) ∙ parent_back v x
 
 -- in terms of the chunk that was found
 pub none_found : (order : Order) (start : List ℕ) (i : ℕ) (started : Bool) → entry_at order start 0 ≡ None →

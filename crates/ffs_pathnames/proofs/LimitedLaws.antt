@@ -1,6 +1,6 @@
 -- What a look at a directory leaves of the image that it was limited on, and of the reads that are left.
-use Rattle.std.{specs.Borrow.GName, proofs.Common.{◌≡◌, ◌≤◌, ◌⊎◌, ◌+◌, ℕ, arith, Bool, Option, Some, None, IfSome}}
-use Rattle.std.proofs.{Common.{Result, Ok, Err, IfOk, MatchOption, MatchResult}, lemmas.Bool.cases_lt}
+use Rattle.std.{specs.Borrow.GName, proofs.Common.{◌≡◌, ◌≤◌, ◌+◌, ℕ, arith, Bool, Option, Some, None, IfSome}}
+use Rattle.std.proofs.{Common.{Result, Ok, Err, IfOk, MatchOption, MatchResult}}
 use Rattle.ffs_survey.specs.Costs.{TakesReads}
 use Rattle.ffs_pathnames.specs.ReadsLeft.{TakesLeft}
 use Rattle.ffs_image.specs.{declared.image.ImageFault.ImageFault, Device.Device, Limited.{GivesBack, limited_device}}

@@ -1,17 +1,17 @@
 -- Which directories need a check, by the bytes of the image.
-use Rattle.std.proofs.Common.{◌≡◌, ◌∙◌, ℕ, zero, suc, ◌+◌, ◌<◌, ◌≤◌, ◌*◌, ◌==◌, Bool, true, false, not, ◌&&◌, ◌||◌}
-use Rattle.std.proofs.Common.{List, [], ◌∷◌, ap, arith, inl, inr, refl, sym, if◌then◌else◌, slice_index, length, get_or-set_same}
-use Rattle.std.proofs.{Common.{get_or-set_other, get_or, set}, lemmas.Bool.{both_ways, cases_Bool, Decides.nat_tests, true_from_ne_false}, lemmas.List.get_or_past}
-use Rattle.ffs_volume.specs.{declared.Layout.Layout, Encodings.Lists.bool_at, Disk.Search.some_below}
-use Rattle.ffs_volume.specs.Directories.{PathnameCheck.is_sized_dir, Roles.{RoledEntry, Volume}, Volumes.{marked_at, volume_of}}
+use Rattle.std.proofs.Common.{◌≡◌, ℕ, ◌+◌, ◌<◌, ◌≤◌, ◌*◌, ◌==◌, Bool, true, false, not, ◌&&◌, ◌||◌}
+use Rattle.std.proofs.Common.{List, [], ◌∷◌, ap, arith, inl, inr, refl, slice_index, length, get_or-set_same}
+use Rattle.std.proofs.{Common.{get_or-set_other, set}, lemmas.Bool.{both_ways, cases_Bool, Decides.nat_tests, true_from_ne_false}, lemmas.List.get_or_past}
+use Rattle.ffs_volume.specs.{declared.Layout.Layout, Encodings.Lists.bool_at}
+use Rattle.ffs_volume.specs.Directories.{PathnameCheck.is_sized_dir, Roles.{RoledEntry, Volume}, Volumes.{volume_of}}
 use Rattle.ffs_volume.proofs.SearchLaws.{some_below-from}
 use Rattle.ffs_workspace.specs.{declared.workspace.Workspace.Workspace, Holds.HoldsClaims, Leaves.LeavesBlockCheck}
 use Rattle.ffs_names.specs.{CalmDirs.{is_calm_directory, FlagsEachCalm}, Costs.{directory_cost, noted_costs}}
 use Rattle.ffs_pathnames.specs.{Before.{IsNonePassed, needs_check}, Looked.{ChecksLookedAt, KeepsFlags, is_looked_at}}
-use Rattle.ffs_pathnames.specs.{Looked.places_cost, Gathers.passed_of}
+use Rattle.ffs_pathnames.specs.{Looked.places_cost}
 use Rattle.ffs_pathnames.specs.PassedNames.{PassedNames, after_entries, after_name, after_roled, is_flagged}
 use Rattle.ffs_pathnames.proofs.EmptyLaws.{looked_is}
-use Rattle.ffs_survey.{proofs.Costs.{cost_skip, cost_take}, specs.{Costs.costs_below, Survey.suspect_at}}
+use Rattle.ffs_survey.{proofs.Costs.{cost_skip, cost_take}, specs.{Costs.costs_below}}
 
 -- by a directory's kind, its mark and its flag
 not_needed : (k : ℕ) (sized marked calm flag old : Bool) → sized ≡ (k == 4) → (calm ≡ true → old ≡ true) →

@@ -1,5 +1,5 @@
 -- The path of a directory is made once for all lines on its entries.
-use Rattle.std.proofs.Common.{◌≡◌, ◌+◌, ◌*◌, ◌≤◌, ℕ, Bool, true, false, if◌then◌else◌, List, Result, Ok, ap, arith, refl}
+use Rattle.std.proofs.Common.{◌≡◌, ◌+◌, ◌≤◌, ℕ, Bool, true, false, if◌then◌else◌, List, Result, Ok, ap, arith, refl}
 use Rattle.ffs_image.specs.declared.image.{Image.Ghosts, ImageFault.ImageFault}
 use Rattle.ffs_volume.specs.{declared.{Layout.Layout, verdict.Verdict.Verdict}, Report.Reads.path_reads}
 use Rattle.ffs_workspace.specs.declared.workspace.Workspace.{Workspace}

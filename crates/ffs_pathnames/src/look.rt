@@ -11,7 +11,7 @@ ghost use Rattle.ffs_layout.specs.Entry.{entry_value};
 ghost use Rattle.ffs_pathnames.specs.PassedNames as names;
 
 use crate::inodes::Inodes;
-use crate::verdict::first_verdict;
+use crate::verdict::{first_verdict, is_harmless};
 use ffs_image::{Image, ImageFault, LimitedImage};
 use ffs_layout::{Entry, Geometry};
 use ffs_memory::FilledList;
@@ -236,7 +236,10 @@ pub fn is_quiet(
     match role {
         Role::Empty | Role::Dot | Role::Dotdot => true,
         Role::Extra => false,
-        Role::Plain => first_verdict(inodes, dir, flags, words, entry).is_silent(),
+        Role::Plain => {
+            is_harmless(inodes, flags, entry)
+                || first_verdict(inodes, dir, flags, words, entry).is_silent()
+        }
     }
 }
 

@@ -21,7 +21,8 @@ use ffs_volume::constants::ROOTINO;
 use ffs_volume::kinds::Kind;
 use ffs_workspace::Workspace;
 
-/// Whether the check continues after the root, or ends there, in phase 2: inode 2 is no directory.
+/// Whether the check continues after the root. It ends there, in phase 2, where inode 2 isn't a
+/// directory.
 #[derive(Clone, Copy, Debug, PartialEq, Eq)]
 pub enum Root {
     /// The check continues.
@@ -70,8 +71,38 @@ pub fn phase2<I: Image, W: Output>(
     check_tree(geometry, image, workspace, report)
 }
 
-/// Prints the lines of the root and, where the check continues after it, of each directory and of
-/// its entries.
+/// Begins the check of directories with no name passed: the flags of suspect inodes are cleared,
+/// and from now on such a flag says that a plain entry has named the inode. Each word of `queue`
+/// is set to 0: no parent entry's place is noted, and none is due. The survey's flags of other
+/// inodes stay, and say which directories are calm: these are left out.
+#[tactic(auto, using(ffs_workspace::proofs::PlaceLaws::filled_noted, std::proofs::lemmas::List::with_items_is, crate::proofs::StampLaws::none_due, crate::proofs::StampLaws::none_stamped))]
+pub fn clear_passed(workspace: &mut Workspace)
+    requires { AreAsLong workspace.old }
+    ensures { IsNonePassed workspace.old workspace.new }
+{
+    let inodes = Inodes {
+        kinds: workspace.kinds.as_slice(),
+        marked: workspace.marked.as_slice(),
+        parents: &workspace.parents,
+    };
+    clear_suspects(&inodes, workspace.flags.as_mut_slice());
+    workspace.queue.fill(0);
+}
+
+/// Clears the flags of suspect inodes, and no others. The loop asks nothing of an inode by a branch,
+/// so that the machine can take many inodes at once.
+fn clear_suspects(inodes: &Inodes<'_>, flags: &mut [bool])
+    requires { length flags.old ≡ length inodes.now.kinds.now }
+    ensures { (x : ℕ) → bool_at flags.new x ≡ (bool_at flags.old x
+        && not (suspect_at inodes.now.kinds.now inodes.now.marked.now x)) }
+{
+    for number in 0..inodes.count() {
+        flags[number as usize] &= !inodes.is_suspect(number);
+    }
+}
+
+/// Prints the root's line and, where the check continues after it, the lines of each directory and
+/// of its entries.
 #[tactic(auto, using(ffs_volume::proofs::Sizes::some_inodes))]
 fn check_tree<I: Image, W: Output>(
     geometry: &Geometry,
@@ -99,18 +130,8 @@ fn check_tree<I: Image, W: Output>(
     }
 }
 
-/// Whether the check continues after a root of this kind.
-fn root_of(kind: u8) -> Root
-    ensures { is_go result ≡ is_dir_kind kind }
-{
-    if (Kind { code: kind }).is_dir() {
-        Root::Go
-    } else {
-        Root::Stop
-    }
-}
-
-/// Reports where the root isn't allocated, is no directory, is marked or is of size 0.
+/// Prints the root's line, where it isn't allocated, isn't a directory, is marked, or is of size 0:
+/// one line at most.
 ///
 /// # Errors
 /// A write of the report that failed.
@@ -137,31 +158,13 @@ fn report_root<W: Output>(
     say_line(report, &Phase2Line::Directory(DirectoryLine::RootNotDir))
 }
 
-/// Takes away the flags of suspect inodes, and no others. No inode is a branch: the machine looks at
-/// many at once.
-fn clear_suspects(inodes: &Inodes<'_>, flags: &mut [bool])
-    requires { length flags.old ≡ length inodes.now.kinds.now }
-    ensures { (x : ℕ) → bool_at flags.new x ≡ (bool_at flags.old x
-        && not (suspect_at inodes.now.kinds.now inodes.now.marked.now x)) }
+/// Whether the check continues after a root of this kind.
+fn root_of(kind: u8) -> Root
+    ensures { is_go result ≡ is_dir_kind kind }
 {
-    for number in 0..inodes.count() {
-        flags[number as usize] &= !inodes.is_suspect(number);
+    if (Kind { code: kind }).is_dir() {
+        Root::Go
+    } else {
+        Root::Stop
     }
-}
-
-/// Forgets all names that were passed: clears the flags of suspect inodes, and the words of all
-/// inodes, which give stamps. The survey's flags of other inodes stay, and say which directories
-/// are left out, since nothing can be reported of them.
-#[tactic(auto, using(ffs_workspace::proofs::PlaceLaws::filled_noted, std::proofs::lemmas::List::with_items_is, crate::proofs::StampLaws::none_due, crate::proofs::StampLaws::none_stamped))]
-pub fn clear_passed(workspace: &mut Workspace)
-    requires { AreAsLong workspace.old }
-    ensures { IsNonePassed workspace.old workspace.new }
-{
-    let inodes = Inodes {
-        kinds: workspace.kinds.as_slice(),
-        marked: workspace.marked.as_slice(),
-        parents: &workspace.parents,
-    };
-    clear_suspects(&inodes, workspace.flags.as_mut_slice());
-    workspace.queue.fill(0);
 }

@@ -77,18 +77,6 @@ pub fn check_inodes<I: Image, W: Output>(
     Ok(())
 }
 
-/// Whether a directory needs a check. No inode ends the loop: the machine looks at many at once.
-fn any_to_check(workspace: &Workspace, count: u32) -> bool
-    requires { ListsInodes workspace.now count }
-    ensures { result ≡ false → (x : ℕ) → 2 ≤ x → x < count → needs_check workspace.now x ≡ false }
-{
-    let mut any = false;
-    for number in ROOTINO..count {
-        any |= needs_check(workspace, number);
-    }
-    any
-}
-
 /// The first directory that needs a check, or `count`, how many inodes there are, where none does.
 fn first_to_check(workspace: &Workspace, count: u32) -> u32
     requires { ListsInodes workspace.now count }
@@ -103,6 +91,18 @@ fn first_to_check(workspace: &Workspace, count: u32) -> u32
         }
     }
     count
+}
+
+/// Whether a directory needs a check. No inode ends the loop: the machine looks at many at once.
+fn any_to_check(workspace: &Workspace, count: u32) -> bool
+    requires { ListsInodes workspace.now count }
+    ensures { result ≡ false → (x : ℕ) → 2 ≤ x → x < count → needs_check workspace.now x ≡ false }
+{
+    let mut any = false;
+    for number in ROOTINO..count {
+        any |= needs_check(workspace, number);
+    }
+    any
 }
 
 /// Whether an inode is a directory that isn't of size 0 and isn't known to be calm. That a marked
@@ -238,6 +238,7 @@ fn begin_directory<I: Image, W: Output>(
 }
 
 /// The parent of a directory, as the survey found it.
+#[tactic(auto, using(std::proofs::lemmas::List::get_or_read_under, crate::proofs::FirstTwo::none_back))]
 fn parent_of(workspace: &Workspace, dir: u32) -> Option<u32>
     requires { dir < vec_len workspace.now.parents }
     ensures { (v : Layout) (b : List ℕ) → HoldsSurvey v b workspace.now → result

@@ -1,8 +1,8 @@
 //! The verdict on a plain entry, and what is reported by it.
-ghost use Rattle.std.specs.{Prelude.{◌≡◌, ◌<◌, false, length, IsTrue}, List.slice_index_or};
+ghost use Rattle.std.specs.{Prelude.{◌≡◌, ◌<◌, Bool, true, false, not, length, IsTrue}, List.slice_index_or};
 ghost use Rattle.ffs_volume.specs.Messages.Kinds.{reported};
 ghost use Rattle.ffs_volume.specs.Directories.PathnameCheck.{defects_lines, defects_on, is_bad_whiteout, links_lines, suspect_message};
-ghost use Rattle.ffs_volume.specs.{Directories.{PathnameCheck.{verdict_lines, verdict_on}, Roles.Volume}, Blocks.Inodes.is_allocated};
+ghost use Rattle.ffs_volume.specs.{Directories.{PathnameCheck.{is_silent, verdict_lines, verdict_on}, Roles.Volume}, Blocks.Inodes.is_allocated};
 ghost use Rattle.ffs_layout.specs.Entry.{entry_value};
 ghost use Rattle.ffs_pathnames.specs.{Gathers.asks_attr, SaysTreeMessages.SaysTreeMessages};
 ghost use Rattle.ffs_pathnames.specs.PassedNames.{first_verdict, verdict_by};
@@ -14,7 +14,9 @@ use crate::say::{LineIf, Phase2Line, say_line, say_two};
 use ffs_layout::Entry;
 use ffs_memory::FilledList;
 use ffs_report::{EntryLine, OutFault, Output, Report};
-use ffs_volume::constants::{DT_WHT, ROOTINO, WINO};
+use ffs_volume::constants::{
+    DT_BLK, DT_CHR, DT_FIFO, DT_LNK, DT_REG, DT_SOCK, DT_WHT, ROOTINO, WINO,
+};
 pub use ffs_volume::verdict::{EntryDefects, Verdict};
 use ffs_volume::{Attr, Role};
 use ffs_workspace::passed;
@@ -113,6 +115,29 @@ pub fn first_verdict(
         && inodes.belongs(entry.number, dir)
         && inodes.stamp(words, entry.number) != dir;
     verdict(inodes, entry, first, own)
+}
+
+/// Whether a plain entry is a whiteout, or names a file of its own type that isn't suspect, or that a
+/// plain entry has named: nothing is reported of it, wherever it is. Most entries are so.
+pub fn is_harmless(inodes: &Inodes<'_>, flags: &[bool], entry: &Entry<'_>) -> bool
+    requires { length flags.now ≡ length inodes.now.kinds.now }
+    ensures { IsTrue result → (vol : Volume) → Sees vol inodes.now → (own : Bool)
+        → is_silent (verdict_on vol (not (slice_index_or flags.now entry.now.number false)) own
+        (entry_value entry.now)) ≡ true }
+{
+    let number = entry.number as usize;
+    if entry.number >= inodes.count() {
+        return false;
+    }
+    match entry.kind {
+        DT_WHT => entry.number == WINO,
+        DT_FIFO | DT_CHR | DT_BLK | DT_REG | DT_LNK | DT_SOCK => {
+            entry.number >= ROOTINO
+                && entry.kind == inodes.kinds[number]
+                && (!inodes.marked[number] || flags[number])
+        }
+        _ => false,
+    }
 }
 
 /// Passes a plain entry of `dir`. The inode that it names is flagged, if it is suspect (the flag of

@@ -1,5 +1,5 @@
-use Rattle.std.proofs.Common.{refl, sym, ap, subst, ◌∙◌, ◌≡◌, ◌≤◌, ◌+◌, ℕ, Some, List, [], ◌∷◌, map, Err, arith, inl}
-use Rattle.std.{proofs.{Common.inr, lemmas.{Bool.both_ways, Result.err_from_is_err_and}}, specs.List.flat_map}
+use Rattle.std.proofs.Common.{refl, sym, ap, subst, ◌∙◌, ◌≡◌, ◌≤◌, ◌+◌, ℕ, Some, List, [], ◌∷◌, map, Err, arith}
+use Rattle.std.{proofs.{lemmas.{Bool.both_ways, Result.err_from_is_err_and}}, specs.List.flat_map}
 use Rattle.ffs_image.specs.Device.{Faulted}
 use Rattle.ffs_volume.{proofs.Numbered.as_many, specs.Directories.{Entries.{Chunk, chunk_of}, Roles.roled_chunk}}
 use Rattle.ffs_volume.specs.{Directories.Volumes.volume_of, Messages.Kinds.of_tree}

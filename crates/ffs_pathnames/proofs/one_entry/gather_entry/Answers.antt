@@ -1,8 +1,8 @@
 use Rattle.std.proofs.{Common.{ap, arith, if◌then◌else◌, ◌∙◌}, lemmas.Result.err_from_is_err_and}
 use Rattle.ffs_volume.specs.Report.Reads.{path_reads}
 use Rattle.ffs_workspace.proofs.Leaving.{windows_leave}
-use Rattle.ffs_paths.proofs.{Climbed.{few_more, few_then}, Keeping.reads_then}
-use Rattle.ffs_pathnames.proofs.{Carrying.{if_ok, on_all}, LineCounts.places_on, Passing.knows_on, StampLaws.windows_keep}
+use Rattle.ffs_paths.proofs.{Climbed.{few_more, few_then}, Keeping.reads_then, Sparing.on_all}
+use Rattle.ffs_pathnames.proofs.{Carrying.if_ok, LineCounts.places_on, Passing.knows_on, StampLaws.windows_keep}
 use Rattle.ffs_pathnames.proofs.{PathOnce.{begin_most, begin_once, verdict_most}, ReadyLaws.gather_failed}
 use Rattle.ffs_pathnames.proofs.one_entry.gather_entry.Goals as goal
 

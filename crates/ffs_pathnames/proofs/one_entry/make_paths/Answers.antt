@@ -1,4 +1,4 @@
-use Rattle.std.proofs.Common.{◌∙◌, ap, arith, refl}
+use Rattle.std.proofs.Common.{◌∙◌, ap, refl}
 use Rattle.ffs_image.specs.Device.{Device}
 use Rattle.ffs_pathnames.proofs.Limiting.{gathered, spared}
 use Rattle.ffs_pathnames.proofs.one_entry.make_paths.Goals as goal

@@ -1,5 +1,4 @@
 use Rattle.std.proofs.Common.{arith}
-use Rattle.ffs_volume.proofs.Results.{on_ok}
 use Rattle.ffs_pathnames.proofs.one_entry.make_paths_freely.Goals as goal
 
 pub returns-clause-makes : goal.returns-clause-makes

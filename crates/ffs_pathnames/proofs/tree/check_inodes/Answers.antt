@@ -11,7 +11,7 @@ use Rattle.ffs_pathnames.{specs.Before.{IsBeforeNoted, IsBefore}, proofs.{Begun.
 use Rattle.ffs_pathnames.{proofs.Skipping.{noted_before, unseen}, specs.ReadsLeft.LeftForNext}
 use Rattle.ffs_pathnames.proofs.tree.check_inodes.{Given.Over, Goals.After-check_inode}
 use Rattle.ffs_survey.proofs.Costs.{cost_take, costs_rise}
-use Rattle.ffs_names.{specs.Costs.{directories_cost, directory_cost, noted_costs}, proofs.{DirCosts.noted_all_within, Limits.costs_within}}
+use Rattle.ffs_names.{specs.Costs.{directory_cost, noted_costs}, proofs.{DirCosts.noted_all_within, Limits.costs_within}}
 use Rattle.ffs_pathnames.specs.Looked.{is_looked_at}
 use Rattle.ffs_pathnames.proofs.LookedLaws.{flags_kept, look_next, looked_at_next, places_noted}
 use Rattle.ffs_pathnames.proofs.tree.check_inodes.Goals as goal

@@ -17,7 +17,7 @@ below_root g (suc left) at l n = omega arith
 
 pub returns-then-at-eq-ROOTINO-clause-path : goal.returns-then-at-eq-ROOTINO-clause-path
 returns-then-at-eq-ROOTINO-clause-path g c = λ b t claims survey k l.
-    way_root (c.up.invariant.path b t claims survey k l) c.if-at-eq-ROOTINO.true
+    way_root (c.up.invariant.path b t claims survey k l) (omega arith)
 
 pub returns-then-path-clause-path : goal.returns-then-path-clause-path
 returns-then-path-clause-path g c = λ b t claims survey k l.
@@ -29,7 +29,7 @@ returns-then-parent-count-clause-path g c = λ b t claims survey k l.
     let way = i.path b t claims survey k l in
     let at = i.at in
     let long = i.reads.ready.made.parents in
-    let below = (parent_is _ way.left c.up.at c.index-parent.result.now way.level c.if-at-eq-ROOTINO.false
+    let below = (parent_is _ way.left c.up.at c.index-parent.result.now way.level (omega arith)
     (c.index-parent.ensures ∙ (get_or_default c.up.workspace.parents.items c.up.at c.index-parent.result.now 0
     (omega arith) ∙ (ap (λ w. slice_index w.parents.items c.up.at) i.reads.lists ∙ survey.tree.parents c.up.at)))).below in
     absurd (omega (arith, count_is c.args.geometry.now.layout b, c.if-parent-count.true, c.requires.ready.made.notes))
@@ -54,7 +54,7 @@ up-preserved g c =
       path = λ b t claims survey k l.
           let G : Graph = graph_of (volume_of c.args.geometry.now.layout b) in
           let way = i.path b t claims survey k l in
-          let above = parent_is G way.left c.up.at p way.level c.if-at-eq-ROOTINO.false
+          let above = parent_is G way.left c.up.at p way.level (omega arith)
           (is ∙ (ap (λ w. slice_index w.parents.items c.up.at) i.reads.lists ∙ survey.tree.parents c.up.at)) in
           let name = c.as_slice.ensures.value ∙ tree_on (λ g. IsNameIn g c.up.at p (name_bytes c.find_name.new.name)) i.reads
           found.finds.name b t claims survey above.is above.dir in
@@ -64,7 +64,7 @@ up-preserved g c =
           let t = ap (λ d. d.contents) i.reads.read ∙ knows.gives_bytes in
           let l = reached-level _ c.args.dir (sym (knows.survey.tree.reached c.args.dir) ∙ c.requires.reached) in
           let way = i.path b knows.gives_bytes knows.claims knows.survey l.0 l.1 in
-          let noted = noted_here way.left c.up.at knows i.reads.lists way.level c.if-at-eq-ROOTINO.false in
+          let noted = noted_here way.left c.up.at knows i.reads.lists way.level (omega arith) in
           climb_more c.as_slice.result.now (i.counted b knows) c.if-path.false (found.leaves.counted b t noted).few
           (subst (λ name. 0 < length name) (sym c.as_slice.ensures.value) (found.finds.some b t noted)) c.push_front.ensures;
     }
@@ -81,14 +81,14 @@ returns-in_err-find_name-clause-leaves g c =
           let h = i.counted b knows in
           few_more (few_then h.few
           (c.in_err-find_name.ensures.leaves.counted b (ap (λ d. d.contents) i.reads.read ∙ knows.gives_bytes)
-          (noted_here way.left c.up.at knows i.reads.lists way.level c.if-at-eq-ROOTINO.false)).few)
+          (noted_here way.left c.up.at knows i.reads.lists way.level (omega arith))).few)
           (short_way h c.if-path.false);
       names = λ b knows.
           let l = reached-level _ c.args.dir (sym (knows.survey.tree.reached c.args.dir) ∙ c.requires.reached) in
           let way = i.path b knows.gives_bytes knows.claims knows.survey l.0 l.1 in
           let one = (c.in_err-find_name.ensures.leaves.counted b (ap (λ d. d.contents) i.reads.read ∙ knows.gives_bytes)
-          (noted_here way.left c.up.at knows i.reads.lists way.level c.if-at-eq-ROOTINO.false)).few in
-          let above = below_root _ way.left c.up.at way.level c.if-at-eq-ROOTINO.false in
+          (noted_here way.left c.up.at knows i.reads.lists way.level (omega arith))).few in
+          let above = below_root _ way.left c.up.at way.level (omega arith) in
           rw l.1 (omega (arith, (i.counted b knows).few.count, way.steps, one.count, above));
     }
 
