@@ -8,13 +8,13 @@ use Rattle.clap.specs.Words.{is_simple_and_free, matches_of}
 use Rattle.clap.specs.declared.{error.Error.Error, parser.matches.ArgMatches.ArgMatches}
 use Rattle.clap.specs.{Words.rule_of, declared.builder.{arg.Arg.Arg, value_parser.ValueParser.ValueParser}}
 use Rattle.clap.proofs.OnLiterals.{clap_on_literals}
-use Rattle.ffs_check.specs.CommandWords.{AreRefusedBy, HasMatches, IsSector, LacksMemory, program}
+use Rattle.ffs_check.specs.CommandWords.{AreRefusedBy, HasMatches, IsSector, LacksMemory, fsck_program}
 
-pub simple : is_simple program ≡ true
+pub simple : is_simple fsck_program ≡ true
 unfolding clap_on_literals
 simple = refl
 
-pub free : is_simple_and_free program ≡ true
+pub free : is_simple_and_free fsck_program ≡ true
 unfolding clap_on_literals
 free = refl
 

@@ -16,7 +16,7 @@ use Rattle.ffs_volume.specs.Report.Whole.{later_phase_lines, phase_lines}
 use Rattle.ffs_survey.proofs.Costs.{costs_part}
 use Rattle.ffs_names.{proofs.Limits.{costs_within, noted_within}, specs.Costs.{directories_cost, directory_cost, noted_costs}}
 use Rattle.ffs_pathnames.specs.Looked.{is_looked_at, phase2_cost}
-use Rattle.ffs_check.specs.ReadsWithin.{later_reads, rescan_reads, volume_phase_reads}
+use Rattle.ffs_check.specs.VolumeCosts.{later_reads, rescan_reads, volume_phase_reads}
 use Rattle.ffs_check.specs.Rest.{after_phase2, from_phase1b, from_phase2, from_phase4, from_phase5, phase1_part}
 use Rattle.ffs_check.specs.Rest.{phase1b_part, phase2_part, phase3_part, phase4_part}
 
@@ -59,10 +59,6 @@ indirect_few : (v : Layout) (bytes : List ℕ) → IsAcceptedLayout v → indire
 unfolding indirect_count run_count
 indirect_few v bytes g = omega (arith, owners_rise v (no_claims v) (owners_of v bytes), runs_bounded v bytes g)
 
-few_if : (b : Bool) (n : ℕ) → (if b then n else 0) ≤ n
-few_if true n = omega arith
-few_if false n = omega arith
-
 few_of : (b : Bool) (n m most : ℕ) → n ≤ most → m ≤ most → (if b then n else m) ≤ most
 few_of true n m most hn hm = hn
 few_of false n m most hn hm = hm
@@ -73,7 +69,8 @@ directories_few : (v : Layout) (bytes : List ℕ) → IsAcceptedLayout v →
 directories_few v bytes g =
     let all = costs_within v bytes g in
     let looked = costs_part (is_looked_at v bytes) (directory_cost v bytes) (v.ncg * v.ipg) in
-    let places = few_if (some_below (is_looked_at v bytes) (v.ncg * v.ipg)) (noted_costs v bytes) in
+    let noted = noted_costs v bytes in
+    let places = few_of (some_below (is_looked_at v bytes) (v.ncg * v.ipg)) noted 0 noted (omega arith) (omega arith) in
     few_of (has_rescan v (owners_of v bytes)) (4 * directories_cost v bytes) (phase2_cost v bytes) (4 * sweep_reads v)
     (omega (arith, all)) (omega (arith, all, looked, places, noted_within v bytes g))
 
@@ -109,6 +106,6 @@ pub volume_few : (s : Superblock) (bytes : List ℕ) → IsAcceptedLayout s.layo
     volume_phase_reads s.layout bytes ≤ phase_reads s.layout (length (phase_lines bytes s))
 volume_few s bytes g =
     let again : rescan_reads s.layout bytes ≤ sweep_reads s.layout =
-    few_if (has_rescan s.layout (owners_of s.layout bytes)) (sweep_reads s.layout) in
+    few_of (has_rescan s.layout (owners_of s.layout bytes)) (sweep_reads s.layout) 0 _ (omega arith) (omega arith) in
     let later = later_among (continues_after_root (volume_of s.layout bytes)) bytes s in
     omega (arith, indirect_few s.layout bytes g, again, directories_few s.layout bytes g, later, names_among bytes s)

@@ -43,8 +43,8 @@ abbrev pub wordless : Text → App
 wordless name = let a = new_app name in record a { top = record a.top { no_binary_name = true; has_version = true } }
 
 -- the words of `fsck_ffs`
-abbrev pub program : App
-program = with_rule (with_rule (with_rule (wordless (codes "fsck_ffs")) read_only_rule) sector_rule)
+abbrev pub fsck_program : App
+fsck_program = with_rule (with_rule (with_rule (wordless (codes "fsck_ffs")) read_only_rule) sector_rule)
     (needed_rule (codes "image"))
 
 -- why `clap` refuses a program's words: nothing where it takes them
@@ -85,6 +85,6 @@ NameSector app words = IsSector (one_of (codes "sector") (matches_of app words))
 
 -- what the words of `fsck_ffs` ask for: this image, and this sector of its superblock
 pub record AskFor (words : List Text) (name : Text) (sector : Option ℕ) : Type 0 where
-  pub taken : refusals program words ≡ []
-  pub image : name ≡ named_word program (codes "image") words
-  pub place : NameSector program words sector
+  pub taken : refusals fsck_program words ≡ []
+  pub image : name ≡ named_word fsck_program (codes "image") words
+  pub place : NameSector fsck_program words sector

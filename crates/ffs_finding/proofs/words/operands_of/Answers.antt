@@ -24,8 +24,8 @@ returns c =
     record {
       taken = c.in_ok-matches.ensures.taken;
       command = word_is m _ (codes "command") _ _ _ same c.get_str.ensures c.unwrap_or.ensures refl;
-      first = word_is m _ (codes "number") _ _ _ same c.get_str-2.ensures c.unwrap_or-2.ensures refl;
-      second = c.get_str-3.ensures ∙ first_value-rows (found_of m) (codes "image") ∙ ap (first_of (codes "image")) same;
+      first = word_is m _ (codes "first") _ _ _ same c.get_str-2.ensures c.unwrap_or-2.ensures refl;
+      second = c.get_str-3.ensures ∙ first_value-rows (found_of m) (codes "second") ∙ ap (first_of (codes "second")) same;
       sector = sector_read (λ t r. ParsesUnsigned 32 10 t r × ExplainsUnsignedError 10 t r × HasUnsignedDigitsIfOk t r)
           (λ t r given. given.0) _ _ (λ none. c.get_one.ensures.none (e ∙ none))
           (λ t some. c.get_one.ensures.value t (e ∙ some));
