@@ -1,14 +1,13 @@
 -- The lines of the sectors from one on, and the reads of the sectors before it.
-use Rattle.std.proofs.Common.{◌≡◌, ◌∙◌, ℕ, ◌+◌, ◌-◌, ◌*◌, ◌/◌, ◌<◌, ◌≤◌, List, [], ◌++◌, length, Some, arith, refl, ap, sym}
-use Rattle.std.proofs.{Common.{inl, inr}, lemmas.Bool.cases_eq}
-use Rattle.std.specs.{Prelude.{count_by}, List.{flat_map, range_with_len}, Int.div_ceil}
-use Rattle.ffs_volume.{specs.Disk.Outcome.outcome, proofs.OutcomeLaws.outcome_past_end}
-use Rattle.ffs_volume.specs.Find.Copies.{asked_sectors, copies_lines, copy_lines_of, sector_count}
+use Rattle.std.proofs.Common.{◌≡◌, ◌∙◌, ℕ, ◌+◌, ◌-◌, ◌*◌, ◌/◌, ◌<◌, ◌≤◌, List, [], ◌++◌, length, Some, arith, refl, ap}
+use Rattle.std.{proofs.{Common.{sym, inl, inr}, lemmas.Bool.cases_eq}, specs.{Prelude.count_by, List.flat_map}}
+use Rattle.std.specs.{List.range_with_len, Int.div_ceil}
+use Rattle.ffs_volume.{specs.{Disk.Outcome.outcome, Find.Copies.asked_sectors}, proofs.OutcomeLaws.outcome_past_end}
+use Rattle.ffs_volume.specs.Find.Copies.{copies_lines, copy_lines_of, sector_count}
 use Rattle.ffs_image.specs.Device.{Device}
 use Rattle.ffs_walk.specs.declared.window.Window.{Window}
 use Rattle.ffs_maps.proofs.Counting.{count_join}
-use Rattle.ffs_finding.specs.Copies.{IsSectorsEnd, IsWindowOf, has_magic, super_reads}
-use Rattle.ffs_finding.proofs.Ranges.{next, none}
+use Rattle.ffs_finding.{specs.Copies.{IsSectorsEnd, IsWindowOf, has_magic, super_reads}, proofs.Ranges.{next, none}}
 
 pub count_is : sector_count ≡ 4194303
 unfolding sector_count

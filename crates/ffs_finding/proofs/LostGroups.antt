@@ -1,18 +1,16 @@
 -- What the maps of groups say wrongly: of one group by what the program has of its map, and of all groups.
-use Rattle.std.proofs.Common.{◌≡◌, ◌∙◌, ℕ, ◌+◌, ◌-◌, ◌<◌, ◌≤◌, Bool, true, false, List, [], ◌++◌, arith, refl, ap, sym, subst}
-use Rattle.std.specs.{List.{flat_map, range_with_len}, Prelude.◌||◌}
+use Rattle.std.proofs.Common.{◌≡◌, ◌∙◌, ℕ, ◌+◌, ◌-◌, ◌<◌, ◌≤◌, Bool, true, false, List, [], ◌++◌, arith, refl, ap, sym}
+use Rattle.std.{proofs.Common.subst, specs.{List.{flat_map, range_with_len}, Prelude.◌||◌}}
 use Rattle.ffs_image.specs.Device.{Device}
-use Rattle.ffs_volume.specs.{declared.Layout.Layout}
-use Rattle.ffs_volume.specs.{Disk.Areas.cgbase, Groups.Records.{bit_at, fragment_map_place, group_block, group_size, has_bits, same_bit}}
-use Rattle.ffs_volume.proofs.Below.{all_below-at}
+use Rattle.ffs_volume.specs.{declared.Layout.Layout, Disk.Areas.cgbase, Groups.Records.{bit_at, fragment_map_place}}
+use Rattle.ffs_volume.{specs.Groups.Records.{group_block, group_size, has_bits, same_bit}, proofs.Below.all_below-at}
+use Rattle.ffs_volume.specs.Find.Lost.{has_map, lost_lines, stretch_at, stretch_lines}
 use Rattle.ffs_groups.specs.Free.{free_in}
 use Rattle.ffs_maps.specs.Bits.{bits_of}
-use Rattle.ffs_report.specs.{Known.{ForBytes}}
+use Rattle.ffs_report.specs.Known.{ForBytes}
 use Rattle.ffs_workspace.specs.{declared.workspace.Workspace.Workspace, Found.WithPhase1, Holds.all_claims}
-use Rattle.ffs_finding.specs.{Fields.any_line}
-use Rattle.ffs_volume.specs.Find.Lost.{has_map, lost_lines, stretch_at, stretch_lines}
-use Rattle.ffs_finding.specs.LostMaps.{is_wrong_by, lines_of_group, lines_of_groups, no_map_lines, word_of}
-use Rattle.ffs_finding.specs.declared.lost.Wrong.{Wrong, TheVariants.{Lost, MarkedFree}}
+use Rattle.ffs_finding.specs.{Fields.any_line, LostMaps.{is_wrong_by, lines_of_group, lines_of_groups, no_map_lines}}
+use Rattle.ffs_finding.specs.{LostMaps.word_of, declared.lost.Wrong.{Wrong, TheVariants.{Lost, MarkedFree}}}
 use Rattle.ffs_finding.proofs.{Ranges.{from_zero, next, none}, WrongFields.any_more}
 
 pub without_map : (wrong : Wrong) (v : Layout) (free : ℕ → Bool) (c : ℕ) (block : List ℕ) → has_map v block ≡ false →

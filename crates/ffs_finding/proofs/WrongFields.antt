@@ -1,10 +1,9 @@
 -- The lines of wrong fields, and whether there is one.
-use Rattle.std.proofs.Common.{◌≡◌, ℕ, List, [], ◌∷◌, ◌++◌, append-nil, arith, refl, ◌∙◌, map, ◌||◌}
-use Rattle.std.specs.{List.{concat, flat_map, list_any}}
-use Rattle.ffs_finding.specs.Fields.{any_line, field_of, is_wrong, text_of_wrong}
-use Rattle.ffs_volume.specs.Find.Fields as book
-use Rattle.ffs_finding.specs.declared.fields.Field.{Field}
+use Rattle.std.{proofs.Common.{◌≡◌, ℕ, List, [], ◌∷◌, ◌++◌, append-nil, arith, refl, ◌∙◌, map, ◌||◌}, specs.List.concat}
+use Rattle.std.specs.List.{flat_map, list_any}
+use Rattle.ffs_finding.specs.{Fields.{any_line, field_of, is_wrong, text_of_wrong}, declared.fields.Field.Field}
 use Rattle.ffs_finding.proofs.Printing.{concat-append}
+use Rattle.ffs_volume.specs.Find.Fields as book
 
 text_at : (start : ℕ) (f : Field) → concat (book.field_lines start (field_of f)) ≡ text_of_wrong start f
 text_at start f = grind (arith, append-nil)

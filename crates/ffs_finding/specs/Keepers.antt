@@ -1,21 +1,18 @@
 -- What the program knows of the inodes that keep an offer of a fragment, and what its parts leave.
 use Rattle.std.specs.Prelude.{◌≡◌, ◌+◌, ◌*◌, ◌<◌, ◌≤◌, ◌^◌, ℕ, Bool, true, ◌&&◌, List, [], ◌∷◌, ◌++◌, length, Option}
-use Rattle.std.specs.Prelude.{if◌then◌else◌, nat_le, nat_lt, slice_index, vec_len, Result}
-use Rattle.std.specs.{List.{concat}}
-use Rattle.ffs_volume.specs.declared.{Inode.Inode, Layout.Layout}
-use Rattle.ffs_volume.specs.declared.Step.{Step, TheVariants.{Run, Tail, Gap}}
-use Rattle.ffs_volume.specs.{Blocks.{Inodes.inode_of, Steps.steps_of}}
-use Rattle.ffs_volume.specs.Encodings.{Replay.{Replay, fresh_replay, is_replay_open}}
-use Rattle.ffs_volume.specs.Encodings.ReplayCounts.{replay_step_by_cut, replayed_runs}
-use Rattle.ffs_volume.specs.{Report.Whole.run_count, Groups.Records.group_block}
+use Rattle.std.specs.{Prelude.{if◌then◌else◌, nat_le, nat_lt, slice_index, vec_len, Result}, List.concat}
+use Rattle.ffs_volume.specs.declared.{Inode.Inode, Layout.Layout, Step.{Step, TheVariants.{Run, Tail, Gap}}}
+use Rattle.ffs_volume.specs.{Blocks.{Inodes.inode_of, Steps.steps_of}, Encodings.Replay.{Replay, fresh_replay}}
+use Rattle.ffs_volume.specs.Encodings.{Replay.is_replay_open, ReplayCounts.{replay_step_by_cut, replayed_runs}}
+use Rattle.ffs_volume.specs.{Report.Whole.run_count, Groups.Records.group_block, Find.Owner.group_of_fragment}
+use Rattle.ffs_volume.specs.Find.Owner.{indirect_in, keeper_lines, keeper_text, map_text}
 use Rattle.ffs_image.specs.Device.{Device}
 use Rattle.ffs_report.specs.{Known.{ForBytes, IsContents}, Sink.{Sink, Prints}, declared.fault.RunFault.RunFault}
 use Rattle.ffs_walk.specs.{Keepings.{replay_in, run_taken}, Windows.{KeepsBlocks, WindowHolds}}
 use Rattle.ffs_walk.specs.declared.{blocks.Blocks.Blocks, keeping.Keeping.Keeping, window.Window.Window}
-use Rattle.ffs_workspace.specs.{Found.WithPhase1, Lengths.inodes_of, Notes.cut_in}
-use Rattle.ffs_workspace.specs.{Ready.{IsReady, StaysReady}, declared.workspace.Workspace.Workspace}
+use Rattle.ffs_workspace.specs.{Found.WithPhase1, Lengths.inodes_of, Notes.cut_in, Ready.{IsReady, StaysReady}}
+use Rattle.ffs_workspace.specs.declared.workspace.Workspace.{Workspace}
 use Rattle.ffs_finding.specs.Outcome.{Finds}
-use Rattle.ffs_volume.specs.Find.Owner.{group_of_fragment, indirect_in, keeper_lines, keeper_text, map_text}
 
 -- ---- the map of a group
 -- the map of the group of the fragment f can be looked at: the volume has f, and its group block is there

@@ -3,8 +3,7 @@ ghost use Rattle.std.specs.Prelude.{◌≡◌, None, map, MatchOption, MatchResu
 ghost use Rattle.clap.specs.{Words.{app_of, kind_of}, declared.error.kind.ErrorKind.TheVariants.OutOfMemory};
 ghost use Rattle.ffs_check.specs.CommandWords.{AreRefusedBy, HasMatches, IsArgument};
 ghost use Rattle.ffs_finding.specs.CommandWords.{HaveOperands, find_program, second_rule};
-ghost use Rattle.ffs_finding.specs.declared.request.Search.{Search};
-ghost use Rattle.ffs_finding.specs.Operands.{IsSearch, SaysOf, operands_in};
+ghost use Rattle.ffs_finding.specs.{declared.request.Search.Search, Operands.{IsSearch, SaysOf, operands_in}};
 
 use crate::request::{Command as Wanted, Search};
 use clap::{Arg, ArgAction, ArgMatches, Command, Error};

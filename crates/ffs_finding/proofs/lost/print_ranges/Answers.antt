@@ -1,6 +1,5 @@
 use Rattle.std.proofs.lemmas.Result.{err_from_is_err_and}
-use Rattle.ffs_finding.specs.LostMaps.{is_wrong_at, word_of}
-use Rattle.ffs_finding.proofs.Stretches.{at_begin, at_end, at_next, broke_at}
+use Rattle.ffs_finding.{specs.LostMaps.{is_wrong_at, word_of}, proofs.Stretches.{at_begin, at_end, at_next, broke_at}}
 use Rattle.ffs_finding.proofs.lost.print_ranges.Goals as goal
 
 pub loop-first-init : goal.loop-first-init

@@ -1,16 +1,14 @@
 use Rattle.std.proofs.Common.{◌≡◌, ◌∙◌, ◌+◌, ◌++◌, [], replicate, true, arith, refl, sym, ap}
 use Rattle.std.proofs.lemmas.{Bool.Decides.nat_tests, Result.err_from_is_err_and}
-use Rattle.ffs_volume.specs.Encodings.{Replay.{fresh_replay, is_replay_open}, ReplayCounts.{replay_step_by_cut, replayed_runs}}
-use Rattle.ffs_volume.specs.{declared.Step.TheVariants.Gap}
-use Rattle.ffs_volume.proofs.ReplayLaws.{gaps_seen}
+use Rattle.ffs_volume.specs.Encodings.{Replay.{fresh_replay, is_replay_open}, ReplayCounts.replay_step_by_cut}
+use Rattle.ffs_volume.specs.{Encodings.ReplayCounts.replayed_runs, declared.Step.TheVariants.Gap}
+use Rattle.ffs_volume.{proofs.ReplayLaws.gaps_seen, specs.Find.Owner.indirect_in}
 use Rattle.ffs_report.{proofs.Sinks.took_nil, specs.Known.{ForBytes, IsContents}}
 use Rattle.ffs_walk.{proofs.Counted.{top_held, top_unread}, specs.{Keepings.replay_in, Rests.steps_left}}
 use Rattle.ffs_claims.proofs.Rewalks.{runs_next}
-use Rattle.ffs_finding.specs.Keepers.{lines_again, step_lines_again}
-use Rattle.ffs_volume.specs.Find.Owner.{indirect_in}
-use Rattle.ffs_finding.proofs.Printing.{printed_all, prints, stops}
-use Rattle.ffs_finding.proofs.Replayed.{lines_gaps, lines_next, lines_none, lines_stopped}
-use Rattle.ffs_finding.proofs.Walking.{blocks_on, blocks_then, most_small, one_indirect, seen_pays, walk_on}
+use Rattle.ffs_finding.{specs.Keepers.{lines_again, step_lines_again}, proofs.Printing.{printed_all, prints, stops}}
+use Rattle.ffs_finding.proofs.{Replayed.{lines_gaps, lines_next, lines_none, lines_stopped}, Walking.blocks_on}
+use Rattle.ffs_finding.proofs.Walking.{blocks_then, most_small, one_indirect, seen_pays, walk_on}
 use Rattle.ffs_finding.proofs.owner.print_kept.Goals as goal
 
 pub loop-step-init : goal.loop-step-init
