@@ -213,5 +213,5 @@ pub fn find_wrong_fields<I: Image, W: Output>(
     image.read_at(start, &mut bytes)?;
     let of_layout = print_fields(out, start, &layout_fields(superblock, &bytes))?;
     let of_totals = print_fields(out, start, &total_fields(superblock, &bytes))?;
-    Ok(of_layout || of_totals)
+    Ok(of_layout | of_totals)
 }
