@@ -2,8 +2,8 @@
 -- `-n [-b sector] image`.
 use Rattle.std.specs.Prelude.{◌≡◌, ◌<◌, ◌^◌, ℕ, pos, true, false, List, [], ◌∷◌, Option, Some, None, codes, unwrap_or}
 use Rattle.std.specs.{Prelude.⊤, Str.Parse.{IsNumeral, digits_value, without_leading_plus}}
-use Rattle.clap.specs.Words.{App, HasKind, Kinds, Rule, Text, fault_of, first_of, found_of, kind_of, matches_of, new_app}
-use Rattle.clap.specs.Words.{new_rule, one_of, rows_of, rule_of, with_rule}
+use Rattle.clap.specs.Words.{App, HasKind, Kinds, Rule, Text, fault_of, first_of, found_of, kind_of, matches_of}
+use Rattle.clap.specs.Words.{new_app, new_rule, one_of, rows_of, rule_of, with_rule}
 use Rattle.clap.specs.declared.{builder.value_parser.ValueParser.TheVariants.Signed, error.Error.Error}
 use Rattle.clap.specs.declared.{error.kind.ErrorKind.TheVariants.OutOfMemory, parser.matches.ArgMatches.ArgMatches}
 use Rattle.clap.specs.declared.builder.{arg.Arg.Arg, ArgAction.TheVariants.{Set, Count}}

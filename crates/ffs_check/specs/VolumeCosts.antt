@@ -25,7 +25,8 @@ names_reads v bytes =
 abbrev pub later_reads : (goes : Bool) → Layout → (bytes : List ℕ) → ℕ
 later_reads goes v bytes =
     if goes
-    then length (connectivity_lines (volume_of v bytes)) + (length (reference_lines (volume_of v bytes)) + group_reads v)
+    then length (connectivity_lines (volume_of v bytes))
+    + (length (reference_lines (volume_of v bytes)) + group_reads v)
     else 0
 
 -- all phases read an image that gives its bytes this often at most: phase 1 its inode tables and the

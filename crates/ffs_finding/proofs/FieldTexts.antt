@@ -29,7 +29,8 @@ module _ (s : Superblock) (sector : Option ℕ) (start : ℕ) (at : start ≡ su
   pub first : flat_map (field_lines (start * 512)) (map field_of xs)
       ++ flat_map (field_lines (start * 512)) (total_fields s bytes) ≡ wrong_fields s b sector
   first =
-      ap (λ zs. flat_map (field_lines (start * 512)) zs ++ flat_map (field_lines (start * 512)) (total_fields s bytes)) layout
+      ap (λ zs. flat_map (field_lines (start * 512)) zs
+          ++ flat_map (field_lines (start * 512)) (total_fields s bytes)) layout
       ∙ sym (flat_map-append (field_lines (start * 512)) (layout_fields s.layout bytes) (total_fields s bytes))
       ∙ sym whole
 

@@ -22,7 +22,8 @@ pub with_map : (wrong : Wrong) (v : Layout) (used : List Bool) (size base end pl
     has_map v block ≡ true → place ≡ fragment_map_place v block → size ≡ v.size → base ≡ cgbase v c →
     end ≡ base + group_size v c →
     lines_of_group wrong v (free_in used v.size) c block
-    ≡ stretch_lines (word_of wrong) (λ f. is_wrong_by wrong (free_in used size f) (bit_at block place (f - base))) base end
+    ≡ stretch_lines (word_of wrong) (λ f. is_wrong_by wrong (free_in used size f)
+        (bit_at block place (f - base))) base end
 with_map Lost v used size base end place c block some at is from to = rw (some, at, is, to, from) refl
 with_map MarkedFree v used size base end place c block some at is from to = rw (some, at, is, to, from) refl
 
@@ -38,7 +39,8 @@ no_stretch word p base n fail =
     let long : base + n - base ≡ n = omega arith in
     rw long (none (stretch_at word p base (base + n)) base n (λ k low high. rw (fail k low high) refl))
 
-pub right_map : (wrong : Wrong) (v : Layout) (used : List Bool) (size place c : ℕ) (block : List ℕ) → has_map v block ≡ true →
+pub right_map : (wrong : Wrong) (v : Layout) (used : List Bool) (size place c : ℕ) (block : List ℕ) →
+    has_map v block ≡ true →
     place ≡ fragment_map_place v block → size ≡ v.size →
     has_bits block place (group_size v c) (λ k. free_in used v.size (cgbase v c + k)) ≡ true →
     lines_of_group wrong v (free_in used v.size) c block ≡ []
@@ -49,7 +51,8 @@ right_map wrong v used size place c block some at is right =
     ∙ no_stretch (word_of wrong) (λ f. is_wrong_by wrong (free f) (bit_at block place (f - base))) base (group_size v c)
     (λ f low high.
     let back : base + (f - base) ≡ f = omega (arith, low) in
-    let same = all_below-at (group_size v c) (f - base) (λ k. same_bit (bit_at block place k) (free (base + k))) right (omega (arith, low, high)) in
+    let same = all_below-at (group_size v c) (f - base) (λ k. same_bit (bit_at block place k) (free (base + k))) right
+    (omega (arith, low, high)) in
     wrong_none wrong (free f) (bit_at block place (f - base))
     (subst (λ (k : ℕ). same_bit (bit_at block place (f - base)) (free k) ≡ true) back same))
 
@@ -83,7 +86,8 @@ module _ (wrong : Wrong) (v : Layout) (free : ℕ → Bool) where
       any ≡ any_line (before_group c image) → found ≡ any_line (lines_of_group wrong v free c block) →
       (any || found) ≡ any_line (before_group (c + 1) image)
   any_next image block c any found is before here =
-      rw (from_zero (group_lines wrong v free image) c, any_more (before_group c image) (group_lines wrong v free image c), before, here, is) refl
+      rw (from_zero (group_lines wrong v free image) c, any_more (before_group c image)
+          (group_lines wrong v free image c), before, here, is) refl
 
   pub any_all : (image : List ℕ) (c : ℕ) (any : Bool) → c ≤ v.ncg → v.ncg ≤ c → any ≡ any_line (before_group c image) →
       any ≡ any_line (lines_of_groups wrong v free image)

@@ -37,7 +37,8 @@ number_is : (v : Layout) (n : ℕ) → 2 ≤ n → n < inodes_of v → is_inode_
 number_is v n low high = grind (arith, nat_tests)
 
 -- the cut that is noted is the one with which the inode ends
-cut_ends : (v : Layout) (b : List ℕ) (n note : ℕ) → IsAcceptedLayout v → 2 ≤ n → n < inodes_of v → note ≡ note_at v b n →
+cut_ends : (v : Layout) (b : List ℕ) (n note : ℕ) → IsAcceptedLayout v → 2 ≤ n → n < inodes_of v →
+    note ≡ note_at v b n →
     cut_in note ≡ cut_of (after_steps v (at_next_inode (claims_before v b n)) (steps_of v (inode_of v b n) b))
 cut_ends v b n note g low high e =
     ap cut_in e ∙ (cut_is_noted v b n g ∙ cut_is v b n g (number_is v n low high))
@@ -48,7 +49,8 @@ pub listed_inode : (v : Layout) (b : List ℕ) (f n note : ℕ) → IsAcceptedLa
     ≡ keeper_lines_of_inode v b f n
 unfolding keeper_lines_of_inode
 listed_inode v b f n note g low high e =
-    rw (cut_ends v b n note g low high e) (sym (inode_replay v f n (claims_before v b n) (steps_of v (inode_of v b n) b)))
+    rw (cut_ends v b n note g low high e) (sym (inode_replay v f n (claims_before v b n)
+        (steps_of v (inode_of v b n) b)))
 
 -- and its Runs
 pub inode_runs : (v : Layout) (b : List ℕ) (n note : ℕ) → IsAcceptedLayout v → 2 ≤ n → n < inodes_of v →

@@ -1,10 +1,11 @@
 -- What the words of `ffs_find` ask for, as `clap` reads them: `[-n] [-b sector] COMMAND [NUMBER] image`.
-use Rattle.std.specs.Prelude.{◌≡◌, ◌<◌, ◌^◌, ℕ, List, [], Option, Some, None, codes}
-use Rattle.std.specs.Str.Parse.{IsNumeral, digits_value, without_leading_plus}
+use Rattle.std.specs.{Prelude.{◌≡◌, ◌<◌, ◌^◌, ℕ, List, [], Option, Some, None, codes}, Str.Parse.IsNumeral}
+use Rattle.std.specs.Str.Parse.{digits_value, without_leading_plus}
 use Rattle.clap.specs.Words.{App, Rule, Text, first_of, matches_of, new_rule, with_rule}
 use Rattle.clap.specs.declared.builder.ArgAction.TheVariants.{Set}
-use Rattle.ffs_check.specs.CommandWords.{NameSector, needed_rule, no_write_rule, refusals, sector_rule, named_word, wordless}
-use Rattle.ffs_finding.specs.declared.request.{Search.{TheVariants.{Inode, Fields, Lost, Owner}}, Command.Command}
+use Rattle.ffs_check.specs.CommandWords.{NameSector, needed_rule, no_write_rule, refusals, sector_rule, named_word}
+use Rattle.ffs_check.specs.CommandWords.{wordless}
+use Rattle.ffs_finding.specs.declared.request.{Search.TheVariants.{Inode, Fields, Lost, Owner}, Command.Command}
 use Rattle.ffs_finding.specs.declared.request.Command.TheVariants.{Copies, InVolume}
 
 -- one more word, which may be there

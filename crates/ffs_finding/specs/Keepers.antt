@@ -43,7 +43,8 @@ run_text f x earlier start taken block = if is_in_run f start taken then keeper_
 -- the lines of a step and of steps
 abbrev pub step_lines_again : Layout → (f x earlier cut : ℕ) → Replay → Step → List (List ℕ)
 step_lines_again v f x earlier cut r (Run start len block) =
-    if is_replay_open cut r && is_in_run f start (run_taken v cut r start len) then keeper_text x earlier block ∷ [] else []
+    if is_replay_open cut r && is_in_run f start (run_taken v cut r start len) then keeper_text x earlier block
+        ∷ [] else []
 step_lines_again v f x earlier cut r Tail = []
 step_lines_again v f x earlier cut r Gap = []
 
@@ -83,7 +84,8 @@ pub record CanLookAtInode (v : Layout) (d : Device) (w : Workspace) (x : ℕ) : 
 -- the inode x was looked at: its lines were printed, by its noted cut, and only windows have changed
 pub record LooksAtInode {T : Type 0} (v : Layout) (f x : ℕ) (d d' : Device) (count count' : ℕ) (w w' : Workspace)
     (old new : Sink) (result : Result T RunFault) : Type 0 where
-  pub found : Finds (IsContents d.contents) (λ b. lines_again v f x 0 (cut_in (slice_index w.notes.items x)) fresh_replay
+  pub found : Finds (IsContents d.contents) (λ b. lines_again v f x 0
+      (cut_in (slice_index w.notes.items x)) fresh_replay
       (steps_of v (inode_of v b x) b)) d d' old new result
   pub stays : StaysReady v d' w w'
   pub reads : ForBytes (IsContents d.contents) (λ b. count' ≤ count + 1

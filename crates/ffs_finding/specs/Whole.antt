@@ -69,7 +69,8 @@ SearchAnswers search sector s d d' held held' old new (Err (Run (Read fault))) =
     Faulted d d' fault.sector × PrintedSome (WithSuper d sector s) (λ b. search_lines search sector b s) old new
 SearchAnswers search sector s d d' held held' old new (Err (Run (Out fault))) =
     (d' ≡ d) × StoppedIn (WithSuper d sector s) (λ b. search_lines search sector b s) old new
-SearchAnswers search sector s d d' held held' old new (Err NoMemory) = (d' ≡ d) × (new ≡ old) × RefusedOneMore held held'
+SearchAnswers search sector s d d' held held' old new (Err NoMemory) =
+    (d' ≡ d) × (new ≡ old) × RefusedOneMore held held'
 
 -- how often a search reads an image after the superblock, in a volume of this layout: `lost` for phase 1 and
 -- the block of each group twice, `owner` for phase 1 and a sweep over all inodes

@@ -1,12 +1,14 @@
 //! `fields`: fields of the superblock that a kernel computes with, and that a check doesn't look at.
-ghost use Rattle.std.specs.{Prelude.{◌≡◌, ◌+◌, ◌*◌, ◌^◌, ◌≤◌, ◌<◌, length, map, IfOk}, Int.{cast_signed, div_ceil, w64}};
-ghost use Rattle.std.specs.List.{flat_map, list_any};
+ghost use Rattle.std.specs.{Prelude.{◌≡◌, ◌+◌, ◌*◌, ◌^◌, ◌≤◌, ◌<◌, length, map, IfOk}, Int.{cast_signed, div_ceil}};
+ghost use Rattle.std.specs.{Int.w64, List.{flat_map, list_any}};
 ghost use Rattle.ffs_volume.specs.Disk.{Numbers.u64_at as u64_in, Outcome.super_sector};
-ghost use Rattle.ffs_volume.specs.declared.constants.TheConstants.{DEV_BSIZE};
+ghost use Rattle.ffs_volume.specs.{declared.constants.TheConstants.DEV_BSIZE, Find.Fields.{exponent_of, field_32}};
+ghost use Rattle.ffs_volume.specs.Find.Fields.{field_lines, field_text, layout_fields, mask_of, total_64, total_fields};
+ghost use Rattle.ffs_volume.specs.Find.Fields.{wrong_fields};
 ghost use Rattle.ffs_layout.specs.Super.{superblock_in};
 ghost use Rattle.ffs_report.specs.{Known.ForBytes, Sink.Prints};
-ghost use Rattle.ffs_finding.specs.{Outcome.Finds, Fields.{PrintsFields, WithSuper, any_line, field_of, is_wrong, text_of_wrong}};
-ghost use Rattle.ffs_volume.specs.Find.Fields.{exponent_of, field_32, field_lines, field_text, layout_fields, mask_of, total_64, total_fields, wrong_fields};
+ghost use Rattle.ffs_finding.specs.{Outcome.Finds, Fields.{PrintsFields, WithSuper, any_line, field_of, is_wrong}};
+ghost use Rattle.ffs_finding.specs.Fields.{text_of_wrong};
 
 use byteorder::{BigEndian, ByteOrder, LittleEndian};
 use ffs_image::Image;

@@ -1,11 +1,12 @@
-use Rattle.std.proofs.Common.{◌≡◌, ◌∙◌, ◌*◌, ◌++◌, ◌||◌, ℕ, Bool, List, [], map, true, false, arith, rules, refl, ap, append-nil, length, take, drop, Option}
-use Rattle.std.{proofs.lemmas.Result.err_from_is_err_and, specs.List.{concat, flat_map}}
-use Rattle.ffs_volume.specs.Disk.{Numbers.piece, Outcome.{super_bytes, super_sector}}
+use Rattle.std.proofs.Common.{◌≡◌, ◌∙◌, ◌*◌, ◌++◌, ◌||◌, ℕ, Bool, List, [], map, true, false, arith, rules, refl, ap}
+use Rattle.std.proofs.{Common.{append-nil, length, take, drop, Option}, lemmas.Result.err_from_is_err_and}
+use Rattle.std.specs.List.{concat, flat_map}
+use Rattle.ffs_volume.specs.{Disk.{Numbers.piece, Outcome.{super_bytes, super_sector}}, Find.Fields.field_lines}
+use Rattle.ffs_volume.specs.Find.Fields.{total_fields}
 use Rattle.ffs_layout.{specs.Super.superblock_in, proofs.{Copying.default_sector, Answering.taken}}
 use Rattle.ffs_report.proofs.Sinks.{took_nil, took_then, broke_off_after}
-use Rattle.ffs_volume.specs.Find.Fields.{field_lines, total_fields}
-use Rattle.ffs_finding.specs.Fields.{field_of}
-use Rattle.ffs_finding.proofs.{FieldTexts.{too_short, first, both, any}, Printing.{concat-append, reads_first}}
+use Rattle.ffs_finding.{specs.Fields.field_of, proofs.FieldTexts.{too_short, first, both, any}}
+use Rattle.ffs_finding.proofs.Printing.{concat-append, reads_first}
 use Rattle.ffs_finding.proofs.fields.find_wrong_fields.Goals as goal
 
 -- the bytes that were read are those of the superblock

@@ -13,7 +13,8 @@ returns-in_err-print_range g c =
     let m = c.args.map.now in
     let p = err_from_is_err_and c.from_residual.result c.from_residual.ensures.1 in
     rw (p.1) (record {
-      text = broke_at (word_of c.args.wrong) (is_wrong_at c.args.wrong m) m.base m.end c.loop-first.first c.next-end.result
+      text = broke_at (word_of c.args.wrong) (is_wrong_at c.args.wrong m) m.base m.end c.loop-first.first
+          c.next-end.result
           c.loop-first.any _ _ _ c.loop-first.invariant c.loop-first-test.true c.next-end.ensures
           (rw c.word.ensures at c.in_err-print_range.ensures);
       any = tt;

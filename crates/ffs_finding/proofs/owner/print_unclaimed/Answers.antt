@@ -9,7 +9,8 @@ pub fill-requires : goal.fill-requires
 fill-requires g c =
     let v = c.args.geometry.now.layout in
     let s = c.args.geometry.now.sound in
-    let inside = block_inside v (group_of_fragment v c.args.fragment) s (group_below v c.args.fragment s c.requires.below) in
+    let inside = block_inside v (group_of_fragment v c.args.fragment) s
+    (group_below v c.args.fragment s c.requires.below) in
     record {
       room = omega (arith, s.parts.cgsize_high, c.requires.room);
       inside = omega (arith, inside, c.group_place-place.ensures, c.requires.volume);
