@@ -59,7 +59,7 @@ offers_use v f i s (h ∷ fs) ok long =
     let one = offer_uses v f i s h ok long in
     let more = offers_use v f i (after_offer v s h) fs ok (one.long ∙ long) in
     rw (any_of-append f (if nat_lt s.dups 11 then offer_of i h ∷ [] else [])
-        (kept_in_offers v i (after_offer v s h) fs))
+    (kept_in_offers v i (after_offer v s h) fs))
     (uses_then one more)
 
 -- the counts of an inode are no part of it
@@ -118,15 +118,18 @@ inode_uses v b f x g ok low =
 
 inodes_use : (v : Layout) (b : List ℕ) (f x k : ℕ) → IsAcceptedLayout v → is_fragment_in_range v f ≡ true → 2 ≤ x →
     Uses f (claims_before v b x) (claims_before v b (x + k))
-        (any_line (flat_map (keeper_lines_of_inode v b f) (range_with_len x k)))
+    (any_line (flat_map (keeper_lines_of_inode v b f) (range_with_len x k)))
 inodes_use v b f x zero g ok low =
     let same : x + 0 ≡ x = omega arith in rw same (uses_none f (claims_before v b x) (claims_before v b x) refl)
 inodes_use v b f x (suc k) g ok low =
     let one = inode_uses v b f x g ok low in
     let more = inodes_use v b f (x + 1) k g ok (omega arith) in
     let place : x + suc k ≡ x + 1 + k = omega arith in
-    rw (place, any_more (keeper_lines_of_inode v b f x)
-        (flat_map (keeper_lines_of_inode v b f) (range_with_len (x + 1) k)))
+    rw (
+      place,
+      any_more (keeper_lines_of_inode v b f x)
+          (flat_map (keeper_lines_of_inode v b f) (range_with_len (x + 1) k)),
+    )
     (uses_then one more)
 
 reserved_bit : (v : Layout) (f : ℕ) → f < v.size → is_set (reserved_map v) f ≡ is_reserved v f

@@ -30,7 +30,7 @@ module _ (s : Superblock) (sector : Option ℕ) (start : ℕ) (at : start ≡ su
       ++ flat_map (field_lines (start * 512)) (total_fields s bytes) ≡ wrong_fields s b sector
   first =
       ap (λ zs. flat_map (field_lines (start * 512)) zs
-          ++ flat_map (field_lines (start * 512)) (total_fields s bytes)) layout
+      ++ flat_map (field_lines (start * 512)) (total_fields s bytes)) layout
       ∙ sym (flat_map-append (field_lines (start * 512)) (layout_fields s.layout bytes) (total_fields s bytes))
       ∙ sym whole
 

@@ -88,7 +88,7 @@ pub found_reads : {T : Type 0} {v : Layout} {f x count count' : ℕ} {d d' d0 on
     {old new : Sink} {r : Result T RunFault} → d ≡ d0 → StaysReady v on w0 w → IsAcceptedLayout v → 2 ≤ x →
     x < inodes_of v → LooksAtInode v f x d d' count count' w w' old new r →
     ForBytes (WithPhase1 v d0 w0) (λ b. count' + (claims_before v b x).runs
-        ≤ count + 1 + (claims_before v b (x + 1)).runs)
+    ≤ count + 1 + (claims_before v b (x + 1)).runs)
 found_reads {v = v} {x = x} {d = d} {w = w} e stays g low high p = λ b k.
     let note = ap (λ (z : Workspace). slice_index z.notes.items x) stays.held ∙ k.1.notes x in
     let runs = inode_runs v b x (slice_index w.notes.items x) g low high note in

@@ -23,7 +23,7 @@ pub with_map : (wrong : Wrong) (v : Layout) (used : List Bool) (size base end pl
     end ≡ base + group_size v c →
     lines_of_group wrong v (free_in used v.size) c block
     ≡ stretch_lines (word_of wrong) (λ f. is_wrong_by wrong (free_in used size f)
-        (bit_at block place (f - base))) base end
+    (bit_at block place (f - base))) base end
 with_map Lost v used size base end place c block some at is from to = rw (some, at, is, to, from) refl
 with_map MarkedFree v used size base end place c block some at is from to = rw (some, at, is, to, from) refl
 
@@ -86,8 +86,14 @@ module _ (wrong : Wrong) (v : Layout) (free : ℕ → Bool) where
       any ≡ any_line (before_group c image) → found ≡ any_line (lines_of_group wrong v free c block) →
       (any || found) ≡ any_line (before_group (c + 1) image)
   any_next image block c any found is before here =
-      rw (from_zero (group_lines wrong v free image) c, any_more (before_group c image)
-          (group_lines wrong v free image c), before, here, is) refl
+      rw (
+        from_zero (group_lines wrong v free image) c,
+        any_more (before_group c image)
+            (group_lines wrong v free image c),
+        before,
+        here,
+        is,
+      ) refl
 
   pub any_all : (image : List ℕ) (c : ℕ) (any : Bool) → c ≤ v.ncg → v.ncg ≤ c → any ≡ any_line (before_group c image) →
       any ≡ any_line (lines_of_groups wrong v free image)

@@ -52,7 +52,7 @@ module _ (f : ℕ) (sector : Option ℕ) (s : Superblock) (d : Device) (held hel
 
     stopped : (d' : Device) (a b : Sink) (fault : RunFault) →
         Finds {T = Unit {0}} (WithPhase1 s.layout d1 w) (λ bytes. lines_of_fragment s.layout bytes f) d1 d' a b
-            (Err fault) →
+        (Err fault) →
         SearchAnswers (Owner f) sector s d d' held held' a b (Err (Run fault))
     stopped d' a b (Read fault) p = (rw same at p.image, lines {T = Unit {0}} a b (Err (Read fault)) p.text)
     stopped d' a b (Out fault) p = (p.image ∙ same, lines {T = Unit {0}} a b (Err (Out fault)) p.text)
@@ -62,7 +62,7 @@ module _ (f : ℕ) (sector : Option ℕ) (s : Superblock) (d : Device) (held hel
         Granted held held' (held_of s.layout) → between ≤ before + scan_reads s.layout →
         after ≤ between + sweep_reads s.layout →
         Finds {T = Unit {0}} (WithPhase1 s.layout d1 w) (λ bytes. lines_of_fragment s.layout bytes f) d1 d' a b
-            (Err fault) →
+        (Err fault) →
         Searches (Owner f) sector s d d' held held' before after a b (Err (Run fault))
     owner_failed d' before between after a b fault took first second p = record {
       answer = stopped d' a b fault p;
@@ -74,7 +74,7 @@ module _ (f : ℕ) (sector : Option ℕ) (s : Superblock) (d : Device) (held hel
         Granted held held' (held_of s.layout) → between ≤ before + scan_reads s.layout →
         after ≤ between + sweep_reads s.layout →
         Finds {T = Unit {0}} (WithPhase1 s.layout d1 w)
-            (λ bytes. lines_of_fragment s.layout bytes f) d1 d' a b (Ok tt) →
+        (λ bytes. lines_of_fragment s.layout bytes f) d1 d' a b (Ok tt) →
         Searches (Owner f) sector s d d' held held' before after a b (Ok false)
     owner_found d' before between after a b took first second p = record {
       answer = (p.image ∙ same, lines {T = Unit {0}} a b (Ok tt) p.text, λ bytes k. refl);

@@ -50,7 +50,7 @@ pub listed_inode : (v : Layout) (b : List ℕ) (f n note : ℕ) → IsAcceptedLa
 unfolding keeper_lines_of_inode
 listed_inode v b f n note g low high e =
     rw (cut_ends v b n note g low high e) (sym (inode_replay v f n (claims_before v b n)
-        (steps_of v (inode_of v b n) b)))
+    (steps_of v (inode_of v b n) b)))
 
 -- and its Runs
 pub inode_runs : (v : Layout) (b : List ℕ) (n note : ℕ) → IsAcceptedLayout v → 2 ≤ n → n < inodes_of v →

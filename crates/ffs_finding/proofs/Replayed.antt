@@ -120,7 +120,7 @@ inode_replay v f x s steps = rw (begins_by_cut (cut_of (after_steps v (at_next_i
 pub lines_next : (v : Layout) (f x earlier earlier' cut : ℕ) (r r' : Replay) (step : Step) (R R' : List Step) →
     R ≡ step ∷ R' → r' ≡ replay_step_by_cut v cut r step → earlier' ≡ earlier + indirect_in step →
     lines_again v f x earlier cut r R ≡ step_lines_again v f x earlier cut r step
-        ++ lines_again v f x earlier' cut r' R'
+    ++ lines_again v f x earlier' cut r' R'
 unfolding lines_again
 lines_next v f x earlier earlier' cut r r' step R R' e now more = rw (e, now, more) refl
 

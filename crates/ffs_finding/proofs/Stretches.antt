@@ -23,7 +23,7 @@ prefix_is p f (suc n) (suc j) few pass stop =
     let rest = prefix_is p (f + 1) n j (omega (arith, few))
     (λ k low high. pass k (omega (arith, low)) (omega (arith, high)))
     (λ h. let place : f + suc j ≡ f + 1 + j = omega arith in subst (λ (k : ℕ). p k ≡ false) place
-        (stop (omega (arith, h)))) in
+    (stop (omega (arith, h)))) in
     rw (at, rest) (omega arith)
 
 module _ (word : List ℕ) (p : ℕ → Bool) (base end : ℕ) where
@@ -150,7 +150,7 @@ module _ (word : List ℕ) (p : ℕ → Bool) (base end : ℕ) where
       (λ k low high. found.others k low high) in
       let text : concat (before h) ≡ concat (before f) ++ range_text word f (g - 1) =
       ap concat (same ∙ line) ∙ concat-append (before f) _
-          ∙ ap (λ (xs : List ℕ). concat (before f) ++ xs) (append-nil _) in
+      ∙ ap (λ (xs : List ℕ). concat (before f) ++ xs) (append-nil _) in
       record {
         low = omega (arith, at.low, stops.order, found.order);
         high = found.within;
@@ -168,7 +168,7 @@ module _ (word : List ℕ) (p : ℕ → Bool) (base end : ℕ) where
       let text : concat (before g) ≡ concat (before f) ++ range_text word f (g - 1) =
       ap concat line ∙ concat-append (before f) _ ∙ ap (λ (xs : List ℕ). concat (before f) ++ xs) (append-nil _) in
       rw (all_lines g (omega (arith, at.low, stops.order)) stops.within)
-          (rw (concat-append (before g) (rest_from g), text)
+      (rw (concat-append (before g) (rest_from g), text)
       (broke_off_more a c _ (concat (rest_from g)) (broke_off_after a b c _ _ at.took broke)))
 
   -- no further stretch

@@ -44,7 +44,7 @@ run_text f x earlier start taken block = if is_in_run f start taken then keeper_
 abbrev pub step_lines_again : Layout → (f x earlier cut : ℕ) → Replay → Step → List (List ℕ)
 step_lines_again v f x earlier cut r (Run start len block) =
     if is_replay_open cut r && is_in_run f start (run_taken v cut r start len) then keeper_text x earlier block
-        ∷ [] else []
+    ∷ [] else []
 step_lines_again v f x earlier cut r Tail = []
 step_lines_again v f x earlier cut r Gap = []
 

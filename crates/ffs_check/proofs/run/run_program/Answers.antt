@@ -15,7 +15,7 @@ run_ends_flushed : {R I O E S : Type 0} (program : Meaning R) (device : I → De
     FlushedAfter was_flushed contents between new ran_status status → out.taken ≡ contents old → out.failures ≡ 0 →
     out'.taken ≡ contents between → ∥ IsCaused was_written out'.failures ∥₁ →
     RunEndsFlushed program device reads opens refuses writes was_written was_flushed contents words opener opener'
-        errors errors' old
+    errors errors' old
     new status
 run_ends_flushed program device reads opens refuses writes was_written was_flushed contents words opener opener'
     errors errors'

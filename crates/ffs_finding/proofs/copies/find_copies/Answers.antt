@@ -41,7 +41,7 @@ returns-in_err-find_copy-clause-reads g c =
       known = λ b k. reads_all b d.size n _ _ (omega (arith, c.sectors_end-sector-end.ensures.below))
           (omega (arith, inside, c.size.ensures))
           (reads_next d b n _ _ _ _ (omega arith) inv.first (inv.known b k) inv.at (e.counted b k)
-              (λ at. e.again at b k));
+          (λ at. e.again at b k));
       any = omega (arith, e.any, inv.any, count_is, c.sectors_end-sector-end.ensures.below);
     }
 

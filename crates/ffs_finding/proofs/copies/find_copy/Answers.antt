@@ -51,7 +51,7 @@ returns-in_err-print_copy-in-Ok g c =
         room = e.window.room;
         holds = holds_on (g.I.Image.device c.args.image.now) (g.I.Image.device c.has_magic.new.image)
             (g.I.Image.device c.read_super.new.image) c.has_magic.new.window e.read
-                (ap (λ x. x.contents) s.0) e.window.holds;
+            (ap (λ x. x.contents) s.0) e.window.holds;
       };
       counted = λ b k. let reads = two b k in omega (arith, e.counted, reads, c.in-Ok.ensures.reads);
       again = λ at b k. let reads = two b k in omega (arith, e.again at, reads, c.in-Ok.ensures.reads);
@@ -75,7 +75,7 @@ returns-in_ok-print_copy-in-Ok g c =
         room = e.window.room;
         holds = holds_on (g.I.Image.device c.args.image.now) (g.I.Image.device c.has_magic.new.image)
             (g.I.Image.device c.read_super.new.image) c.has_magic.new.window e.read
-                (ap (λ x. x.contents) s.0) e.window.holds;
+            (ap (λ x. x.contents) s.0) e.window.holds;
       };
       counted = λ b k. let reads = two b k in omega (arith, e.counted, reads, c.in-Ok.ensures.reads);
       again = λ at b k. let reads = two b k in omega (arith, e.again at, reads, c.in-Ok.ensures.reads);

@@ -57,7 +57,7 @@ returns-in_err-found g c =
         image = fill.read;
         text = stops _ _ (from_group c.args.wrong v free (n + 1)) _ _ _ _ _ inv.printed
             (λ b k. groups_next c.args.wrong v free b _ n c.loop-group-test.true
-                (held v _ c.fill.new.self _ _ n c.bytes.ensures fill.bytes c.group_place-place.ensures b k))
+            (held v _ c.fill.new.self _ _ n c.bytes.ensures fill.bytes c.group_place-place.ensures b k))
             c.in_err-found.ensures.text;
       };
       any = tt;
@@ -80,10 +80,10 @@ loop-group-preserved g c =
       reads = omega (arith, inv.reads, fill.counted);
       any_is = λ b k. any_next c.args.wrong v free b _ n _ _
           (held v _ c.fill.new.self _ _ n c.bytes.ensures fill.bytes c.group_place-place.ensures b k)
-              (inv.any_is b k) c.in_ok-found.ensures.any;
+          (inv.any_is b k) c.in_ok-found.ensures.any;
       printed = prints _ _ (from_group c.args.wrong v free (n + 1)) _ _ _ _ _ inv.printed
           (λ b k. groups_next c.args.wrong v free b _ n c.loop-group-test.true
-              (held v _ c.fill.new.self _ _ n c.bytes.ensures fill.bytes c.group_place-place.ensures b k))
+          (held v _ c.fill.new.self _ _ n c.bytes.ensures fill.bytes c.group_place-place.ensures b k))
           c.in_ok-found.ensures.text;
     }
 

@@ -72,7 +72,7 @@ returns-in_err-print_step g c =
             (c.loop-step.earlier + indirect_in c.in-Some.step) c.args.sought.cut
             (replay_step_by_cut v c.args.sought.cut r c.in-Some.step) (steps_left b c.next.new.self)) _
             (step_lines_again v c.args.sought.fragment c.args.sought.number c.loop-step.earlier c.args.sought.cut r
-                c.in-Some.step)
+            c.in-Some.step)
             _ _ _ inv.printed
             (λ b k. lines_next v c.args.sought.fragment c.args.sought.number c.loop-step.earlier _ c.args.sought.cut r _
             c.in-Some.step _ _ (next b k) refl refl)
@@ -154,8 +154,15 @@ loop-step-preserved-then-matches g c =
           let more = runs_next v cut r r' c.in-Some.step _ _ (next b k) now in
           let skipped = ap (replayed_runs v cut r') (gaps b k)
           ∙ gaps_seen v cut r' c.skip_gaps.result (steps_left b c.skip_gaps.new.self) in
-          omega (arith, inv.paid b k, paid, more, seen_pays cut r c.in-Some.step inv.going, skipped,
-              passed.counted.unread);
+          omega (
+            arith,
+            inv.paid b k,
+            paid,
+            more,
+            seen_pays cut r c.in-Some.step inv.going,
+            skipped,
+            passed.counted.unread,
+          );
       printed = prints _ _ _ _ (step_lines_again v c.args.sought.fragment c.args.sought.number c.loop-step.earlier cut r
           c.in-Some.step) _ _ _ inv.printed
           (λ b k. lines_next v c.args.sought.fragment c.args.sought.number c.loop-step.earlier _ cut r r'

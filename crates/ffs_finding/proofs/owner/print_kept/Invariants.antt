@@ -25,7 +25,7 @@ invariant-loop-step g l =
       printed : PrintedTo (IsContents d.contents) (λ b. lines_again v l.sought.fragment l.sought.number l.earlier
           l.sought.cut
           (replay_in l.keeping) (steps_left b l.walk)) (λ b. lines_again v l.sought.fragment l.sought.number 0
-              l.sought.cut
+          l.sought.cut
           fresh_replay (steps_of v l.inode b)) (g.W.Output.sink l.fn.out) (g.W.Output.sink l.out);
     }
 

@@ -10,9 +10,9 @@ text_is : (v : Layout) (f x earlier cut : ℕ) (r : Replay) (start len : ℕ) (b
     run_text f x earlier start taken block ≡ concat (step_lines_again v f x earlier cut r (Run start len block))
 text_is v f x earlier cut r start len block taken going is =
     rw (going, ← is) (elim (cases_Bool (is_in_run f start taken)) [
-  | inl q ↦ rw q (sym (append-nil _))
-  | inr q ↦ rw q refl
-])
+      | inl q ↦ rw q (sym (append-nil _))
+      | inr q ↦ rw q refl
+    ])
 
 pub returns-in-Run : goal.returns-in-Run
 returns-in-Run g c =
