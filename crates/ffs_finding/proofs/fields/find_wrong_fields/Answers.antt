@@ -1,11 +1,11 @@
-use Rattle.std.proofs.Common.{◌≡◌, ◌∙◌, ◌*◌, ◌++◌, ◌||◌, ℕ, Bool, List, [], map, true, false, arith, rules, refl, ap}
+use Rattle.std.proofs.Common.{◌≡◌, ◌∙◌, ◌*◌, ◌++◌, ◌||◌, ℕ, Bool, List, [], arith, rules, refl, ap}
 use Rattle.std.proofs.{Common.{append-nil, length, take, drop, Option}, lemmas.Result.err_from_is_err_and}
 use Rattle.std.specs.List.{concat, flat_map}
 use Rattle.ffs_volume.specs.{Disk.{Numbers.piece, Outcome.{super_bytes, super_sector}}, Find.Fields.field_lines}
 use Rattle.ffs_volume.specs.Find.Fields.{total_fields}
 use Rattle.ffs_layout.{specs.Super.superblock_in, proofs.{Copying.default_sector, Answering.taken}}
 use Rattle.ffs_report.proofs.Sinks.{took_nil, took_then, broke_off_after}
-use Rattle.ffs_finding.{specs.Fields.field_of, proofs.FieldTexts.{too_short, first, both, any}}
+use Rattle.ffs_finding.{specs.Fields.wrong_lines, proofs.FieldTexts.{too_short, first, both, any}}
 use Rattle.ffs_finding.proofs.Printing.{concat-append, reads_first}
 use Rattle.ffs_finding.proofs.fields.find_wrong_fields.Goals as goal
 
@@ -56,7 +56,7 @@ returns-in_err-of_layout-clause-prints g c =
     rw (p.1, p.2) (record {
       image = search rules;
       text = record {
-        lines = flat_map (field_lines (c.from-start.result * 512)) (map field_of c.layout_fields.result);
+        lines = wrong_lines (c.from-start.result * 512) c.layout_fields.result;
         rest = λ b. flat_map (field_lines (c.from-start.result * 512)) (total_fields s c.read_at.new.buf);
         right = λ b k. first s c.args.sector c.from-start.result at b c.read_at.new.buf
             (super_read c.from-start.result c.args.sector b c.read_at.new.buf at (search rules)
@@ -71,20 +71,19 @@ returns-in_err-of_totals-clause-prints g c =
     c.from-start.ensures ∙ c.unwrap_or.ensures ∙ default_sector c.args.sector in
     let s = superblock_in c.args.superblock.now in
     let p = err_from_is_err_and c.from_residual-in_err-of_totals.result c.from_residual-in_err-of_totals.ensures.1 in
-    let f = field_lines (c.from-start.result * 512) in
-    let xs = map field_of c.layout_fields.result in
-    let ys = map field_of c.total_fields.result in
+    let xs = wrong_lines (c.from-start.result * 512) c.layout_fields.result in
+    let ys = wrong_lines (c.from-start.result * 512) c.total_fields.result in
     rw (p.1, p.2) (record {
       image = search rules;
       text = record {
-        lines = flat_map f xs ++ flat_map f ys;
+        lines = xs ++ ys;
         rest = λ b. [];
         right = λ b k. append-nil _ ∙ both s c.args.sector c.from-start.result at b c.read_at.new.buf
             (super_read c.from-start.result c.args.sector b c.read_at.new.buf at (search rules)
             (c.in_ok-read_at.ensures.bytes.bytes b k.0)) c.layout_fields.result c.layout_fields.ensures
             c.total_fields.result c.total_fields.ensures;
-        broke_off = rw (concat-append (flat_map f xs) (flat_map f ys))
-            (broke_off_after _ _ _ (concat (flat_map f xs)) (concat (flat_map f ys)) c.in_ok-of_layout.ensures.text
+        broke_off = rw (concat-append xs ys)
+            (broke_off_after _ _ _ (concat xs) (concat ys) c.in_ok-of_layout.ensures.text
             c.in_err-of_totals.ensures.text);
       };
     })
@@ -94,19 +93,18 @@ returns-clause-prints g c =
     let at : c.from-start.result ≡ super_sector c.args.sector =
     c.from-start.ensures ∙ c.unwrap_or.ensures ∙ default_sector c.args.sector in
     let s = superblock_in c.args.superblock.now in
-    let f = field_lines (c.from-start.result * 512) in
-    let xs = map field_of c.layout_fields.result in
-    let ys = map field_of c.total_fields.result in
+    let xs = wrong_lines (c.from-start.result * 512) c.layout_fields.result in
+    let ys = wrong_lines (c.from-start.result * 512) c.total_fields.result in
     record {
       image = search rules;
       text = record {
-        lines = flat_map f xs ++ flat_map f ys;
+        lines = xs ++ ys;
         right = λ b k. append-nil _ ∙ both s c.args.sector c.from-start.result at b c.read_at.new.buf
             (super_read c.from-start.result c.args.sector b c.read_at.new.buf at (search rules)
             (c.in_ok-read_at.ensures.bytes.bytes b k.0)) c.layout_fields.result c.layout_fields.ensures
             c.total_fields.result c.total_fields.ensures;
-        took = rw (concat-append (flat_map f xs) (flat_map f ys))
-            (took_then _ _ _ (concat (flat_map f xs)) (concat (flat_map f ys)) c.in_ok-of_layout.ensures.text
+        took = rw (concat-append xs ys)
+            (took_then _ _ _ (concat xs) (concat ys) c.in_ok-of_layout.ensures.text
             c.in_ok-of_totals.ensures.text);
       };
     }
