@@ -1,20 +1,18 @@
 -- What the matches of the words say of the image and of the sector.
-use Rattle.std.proofs.Common.{arith, ◌≡◌, ◌∙◌, ◌++◌, ◌∷◌, [], ℕ, List, Option, Some, None, Ok, Err, Result, refl, ap, true}
-use Rattle.std.proofs.Common.{subst, sym, IfOk, MatchResult}
-use Rattle.std.{proofs.{Common.option_map, lemmas.List.map-append}, specs.{Prelude.unwrap_or, Borrow.Bor}}
-use Rattle.std.specs.Str.Parse.{ParsesUnsigned}
+use Rattle.std.proofs.Common.{arith, ◌≡◌, ◌∙◌, ◌++◌, ◌∷◌, [], ℕ, List, Option, Some, None, Ok, Err, Result, refl, ap}
+use Rattle.std.proofs.{Common.{true, subst, sym, IfOk, MatchResult, option_map}, lemmas.List.map-append}
+use Rattle.std.specs.{Prelude.unwrap_or, Borrow.Bor, Str.Parse.ParsesUnsigned}
 use Rattle.clap.specs.Words.{AddsShortAliases, App, FailsBy, HasKind, HasMatchesOf, ReadsOne, Text, fault_of, is_simple}
-use Rattle.clap.specs.Words.{is_simple_and_free, matches_of}
-use Rattle.clap.specs.declared.{error.Error.Error, parser.matches.ArgMatches.ArgMatches}
-use Rattle.clap.specs.{Words.rule_of, declared.builder.{arg.Arg.Arg, value_parser.ValueParser.ValueParser}}
-use Rattle.clap.proofs.OnLiterals.{clap_on_literals}
-use Rattle.ffs_check.specs.CommandWords.{AreRefusedBy, HasMatches, IsSector, LacksMemory, program}
+use Rattle.clap.specs.{Words.{is_simple_and_free, matches_of, rule_of}, declared.error.Error.Error}
+use Rattle.clap.specs.declared.{parser.matches.ArgMatches.ArgMatches, builder.arg.Arg.Arg}
+use Rattle.clap.{specs.declared.builder.value_parser.ValueParser.ValueParser, proofs.OnLiterals.clap_on_literals}
+use Rattle.ffs_check.specs.CommandWords.{AreRefusedBy, HasMatches, IsSector, LacksMemory, fsck_program}
 
-pub simple : is_simple program ≡ true
+pub simple : is_simple fsck_program ≡ true
 unfolding clap_on_literals
 simple = refl
 
-pub free : is_simple_and_free program ≡ true
+pub free : is_simple_and_free fsck_program ≡ true
 unfolding clap_on_literals
 free = refl
 

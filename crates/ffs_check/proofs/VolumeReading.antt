@@ -1,24 +1,24 @@
 -- By what a volume holds, the phases read no more often than the limit of its layout.
-use Rattle.std.proofs.Common.{ℕ, ◌≡◌, ◌+◌, ◌*◌, ◌≤◌, Bool, true, false, List, [], ◌∷◌, ◌++◌, Some, None, ap, arith, refl}
-use Rattle.std.proofs.Common.{if◌then◌else◌, inl, inr, length}
-use Rattle.std.{proofs.lemmas.{Bool.cases_Bool, List.{length-append, length-map}}, specs.List.range_with_len}
+use Rattle.std.proofs.Common.{ℕ, ◌≡◌, ◌+◌, ◌*◌, ◌≤◌, Bool, true, false, List, [], ◌∷◌, ◌++◌, Some, None, ap, arith}
+use Rattle.std.proofs.{Common.{refl, if◌then◌else◌, inl, inr, length}, lemmas.{Bool.cases_Bool, List.length-append}}
+use Rattle.std.{proofs.lemmas.List.length-map, specs.List.range_with_len}
 use Rattle.ffs_volume.{proofs.{Potentials.offers_keep, RunBounds.runs_bounded}, specs.Blocks.BlockCheck.has_rescan}
 use Rattle.ffs_volume.specs.Blocks.{Owners.{Owner, owners_of}, Claims.{Claims, after_owner, after_owners, after_run}}
 use Rattle.ffs_volume.specs.Blocks.Claims.{after_step, after_steps, at_next_inode, is_open, no_claims}
 use Rattle.ffs_volume.specs.{Laws.Geometry.IsAcceptedLayout, Report.{Memory.runs_limit, Reads.phase_reads}}
-use Rattle.ffs_volume.specs.Report.{Reads.sweep_reads, Whole.run_count, VolumeReads.indirect_count}
-use Rattle.ffs_volume.specs.Report.VolumeReads.{indirect_in_owners, indirect_in_steps, seen_indirect}
+use Rattle.ffs_volume.specs.Report.{Reads.{sweep_reads, group_reads}, Whole.{run_count, later_phase_lines, phase_lines}}
+use Rattle.ffs_volume.specs.Report.VolumeReads.{indirect_count, indirect_in_owners, indirect_in_steps, seen_indirect}
 use Rattle.ffs_volume.specs.declared.{Layout.Layout, Step.{Step, TheVariants.{Gap, Run, Tail}}}
-use Rattle.ffs_volume.specs.{Disk.{Search.some_below, Superblock.Superblock}, Messages.Kinds.of_tree, Report.Reads.group_reads}
+use Rattle.ffs_volume.specs.{Disk.{Search.some_below, Superblock.Superblock}, Messages.Kinds.of_tree}
 use Rattle.ffs_volume.specs.Directories.{Connectivity.connectivity_lines, ReferenceCheck.reference_lines}
 use Rattle.ffs_volume.specs.Directories.{PathnameCheck.{continues_after_root, pathname_lines}, Volumes.volume_of}
-use Rattle.ffs_volume.specs.Report.Whole.{later_phase_lines, phase_lines}
 use Rattle.ffs_survey.proofs.Costs.{costs_part}
-use Rattle.ffs_names.{proofs.Limits.{costs_within, noted_within}, specs.Costs.{directories_cost, directory_cost, noted_costs}}
+use Rattle.ffs_names.{proofs.Limits.{costs_within, noted_within}, specs.Costs.{directories_cost, directory_cost}}
+use Rattle.ffs_names.specs.Costs.{noted_costs}
 use Rattle.ffs_pathnames.specs.Looked.{is_looked_at, phase2_cost}
-use Rattle.ffs_check.specs.ReadsWithin.{later_reads, rescan_reads, volume_phase_reads}
-use Rattle.ffs_check.specs.Rest.{after_phase2, from_phase1b, from_phase2, from_phase4, from_phase5, phase1_part}
-use Rattle.ffs_check.specs.Rest.{phase1b_part, phase2_part, phase3_part, phase4_part}
+use Rattle.ffs_check.specs.{VolumeCosts.{later_reads, rescan_reads, volume_phase_reads}, Rest.after_phase2}
+use Rattle.ffs_check.specs.Rest.{from_phase1b, from_phase2, from_phase4, from_phase5, phase1_part, phase1b_part}
+use Rattle.ffs_check.specs.Rest.{phase2_part, phase3_part, phase4_part}
 
 -- each Run that is seen is counted
 run_rises : (v : Layout) (s : Claims) (start len : ℕ) → s.runs + 1 ≤ (after_run v s start len).runs
@@ -59,10 +59,6 @@ indirect_few : (v : Layout) (bytes : List ℕ) → IsAcceptedLayout v → indire
 unfolding indirect_count run_count
 indirect_few v bytes g = omega (arith, owners_rise v (no_claims v) (owners_of v bytes), runs_bounded v bytes g)
 
-few_if : (b : Bool) (n : ℕ) → (if b then n else 0) ≤ n
-few_if true n = omega arith
-few_if false n = omega arith
-
 few_of : (b : Bool) (n m most : ℕ) → n ≤ most → m ≤ most → (if b then n else m) ≤ most
 few_of true n m most hn hm = hn
 few_of false n m most hn hm = hm
@@ -73,7 +69,8 @@ directories_few : (v : Layout) (bytes : List ℕ) → IsAcceptedLayout v →
 directories_few v bytes g =
     let all = costs_within v bytes g in
     let looked = costs_part (is_looked_at v bytes) (directory_cost v bytes) (v.ncg * v.ipg) in
-    let places = few_if (some_below (is_looked_at v bytes) (v.ncg * v.ipg)) (noted_costs v bytes) in
+    let noted = noted_costs v bytes in
+    let places = few_of (some_below (is_looked_at v bytes) (v.ncg * v.ipg)) noted 0 noted (omega arith) (omega arith) in
     few_of (has_rescan v (owners_of v bytes)) (4 * directories_cost v bytes) (phase2_cost v bytes) (4 * sweep_reads v)
     (omega (arith, all)) (omega (arith, all, looked, places, noted_within v bytes g))
 
@@ -109,6 +106,6 @@ pub volume_few : (s : Superblock) (bytes : List ℕ) → IsAcceptedLayout s.layo
     volume_phase_reads s.layout bytes ≤ phase_reads s.layout (length (phase_lines bytes s))
 volume_few s bytes g =
     let again : rescan_reads s.layout bytes ≤ sweep_reads s.layout =
-    few_if (has_rescan s.layout (owners_of s.layout bytes)) (sweep_reads s.layout) in
+    few_of (has_rescan s.layout (owners_of s.layout bytes)) (sweep_reads s.layout) 0 _ (omega arith) (omega arith) in
     let later = later_among (continues_after_root (volume_of s.layout bytes)) bytes s in
     omega (arith, indirect_few s.layout bytes g, again, directories_few s.layout bytes g, later, names_among bytes s)

@@ -18,7 +18,8 @@ pub record ReadsByMessages {Target : Type 0} (whole broken : Target → Target �
 
 -- how often the phases read an image whose bytes are known, and any image, for the messages that
 -- went out
-pub record PhasesRead {Target : Type 0} (whole broken : Target → Target → List Message → Type 0) (knows : List ℕ → Type 0)
+pub record PhasesRead {Target : Type 0} (whole broken : Target → Target → List Message → Type 0)
+    (knows : List ℕ → Type 0)
     (s : Superblock) (old new : Target) (before after : ℕ) : Type 0 where
   pub known : ForBytes knows (λ bytes. PhasesReadWithin s bytes before after)
   pub any : ReadsByMessages whole broken (phase_reads s.layout) old new before after

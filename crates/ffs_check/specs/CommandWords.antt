@@ -2,8 +2,8 @@
 -- `-n [-b sector] image`.
 use Rattle.std.specs.Prelude.{◌≡◌, ◌<◌, ◌^◌, ℕ, pos, true, false, List, [], ◌∷◌, Option, Some, None, codes, unwrap_or}
 use Rattle.std.specs.{Prelude.⊤, Str.Parse.{IsNumeral, digits_value, without_leading_plus}}
-use Rattle.clap.specs.Words.{App, HasKind, Kinds, Rule, Text, fault_of, first_of, found_of, kind_of, matches_of, new_app}
-use Rattle.clap.specs.Words.{new_rule, one_of, rows_of, rule_of, with_rule}
+use Rattle.clap.specs.Words.{App, HasKind, Kinds, Rule, Text, fault_of, first_of, found_of, kind_of, matches_of}
+use Rattle.clap.specs.Words.{new_app, new_rule, one_of, rows_of, rule_of, with_rule}
 use Rattle.clap.specs.declared.{builder.value_parser.ValueParser.TheVariants.Signed, error.Error.Error}
 use Rattle.clap.specs.declared.{error.kind.ErrorKind.TheVariants.OutOfMemory, parser.matches.ArgMatches.ArgMatches}
 use Rattle.clap.specs.declared.builder.{arg.Arg.Arg, ArgAction.TheVariants.{Set, Count}}
@@ -43,8 +43,8 @@ abbrev pub wordless : Text → App
 wordless name = let a = new_app name in record a { top = record a.top { no_binary_name = true; has_version = true } }
 
 -- the words of `fsck_ffs`
-abbrev pub program : App
-program = with_rule (with_rule (with_rule (wordless (codes "fsck_ffs")) read_only_rule) sector_rule)
+abbrev pub fsck_program : App
+fsck_program = with_rule (with_rule (with_rule (wordless (codes "fsck_ffs")) read_only_rule) sector_rule)
     (needed_rule (codes "image"))
 
 -- why `clap` refuses a program's words: nothing where it takes them
@@ -85,6 +85,6 @@ NameSector app words = IsSector (one_of (codes "sector") (matches_of app words))
 
 -- what the words of `fsck_ffs` ask for: this image, and this sector of its superblock
 pub record AskFor (words : List Text) (name : Text) (sector : Option ℕ) : Type 0 where
-  pub taken : refusals program words ≡ []
-  pub image : name ≡ named_word program (codes "image") words
-  pub place : NameSector program words sector
+  pub taken : refusals fsck_program words ≡ []
+  pub image : name ≡ named_word fsck_program (codes "image") words
+  pub place : NameSector fsck_program words sector

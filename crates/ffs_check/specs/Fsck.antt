@@ -5,7 +5,7 @@ use Rattle.ffs_image.specs.Device.{Device}
 use Rattle.ffs_volume.specs.{declared.End.End, Report.Whole.status_of}
 use Rattle.ffs_report.specs.Sink.{Sink}
 use Rattle.ffs_check.specs.{AnyReads.CheckReads, Headline.Headline, Program.Meaning, Taken.TakesOfSystem}
-use Rattle.ffs_check.specs.{CommandWords.{AskFor, LacksMemory, program}, Refusals.{IsTextFor, refusal_text}}
+use Rattle.ffs_check.specs.{CommandWords.{AskFor, LacksMemory, fsck_program}, Refusals.{IsTextFor, refusal_text}}
 
 -- an image was checked under a name, its superblock at a sector, and the status is that of the check's end
 pub record IsChecked (name : List ℕ) (sector : Option ℕ) (image image' : Device) (reads reads' : ℕ) (out out' : Sink)
@@ -20,7 +20,7 @@ pub record IsChecked (name : List ℕ) (sector : Option ℕ) (image image' : Dev
 abbrev pub fsck_ffs : Meaning (Option ℕ)
 fsck_ffs = record {
   asks = AskFor;
-  refuses = IsTextFor program refusal_text;
-  lacks_memory = LacksMemory program;
+  refuses = IsTextFor fsck_program refusal_text;
+  lacks_memory = LacksMemory fsck_program;
   looks = IsChecked;
 }

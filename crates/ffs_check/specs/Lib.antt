@@ -12,3 +12,4 @@ pub mod Refusals
 pub mod Rest
 pub mod Run
 pub mod Taken
+pub mod VolumeCosts

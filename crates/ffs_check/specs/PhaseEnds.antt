@@ -1,13 +1,14 @@
 -- How the phases of a check end, how often they read, and what they leave. `knows` is what is known of the
 -- image's bytes, and `s` the superblock: with it the bytes determine the text, and whether the check
 -- continues after the root.
-use Rattle.std.specs.Prelude.{◌≡◌, ◌⊎◌, ◌<◌, ◌≤◌, ℕ, Bool, false, true, ◌||◌, List, [], ◌∷◌, ◌++◌, length, Result, Ok, Err, IfOk, is_ok}
+use Rattle.std.specs.Prelude.{◌≡◌, ◌⊎◌, ◌<◌, ◌≤◌, ℕ, Bool, false, true, ◌||◌, List, [], ◌∷◌, ◌++◌, length, Result, Ok}
+use Rattle.std.specs.Prelude.{Err, IfOk, is_ok}
 use Rattle.ffs_image.specs.Device.{Device, Faulted}
 use Rattle.ffs_volume.specs.declared.End.{End, TheVariants.{ReadFault, WriteFault, NoMemory}}
 use Rattle.ffs_volume.specs.{Disk.Superblock.Superblock, Directories.PathnameCheck.continues_after_root}
 use Rattle.ffs_volume.specs.{Directories.Volumes.volume_of, Report.Whole.{end_by, phase_lines}, Messages.Kinds.Message}
-use Rattle.ffs_volume.specs.{Report.Memory.runs_limit, declared.Layout.Layout}
-use Rattle.ffs_volume.specs.Messages.Kinds.{cannot_alloc, cannot_read}
+use Rattle.ffs_volume.specs.{Messages.Kinds.{cannot_alloc, cannot_read}, Report.Memory.runs_limit}
+use Rattle.ffs_volume.specs.declared.Layout.{Layout}
 use Rattle.ffs_report.specs.{Known.{ForBytes, IsContents}, PhaseOutcome.{ImageAfter, SaidOf, StoppedOf}}
 use Rattle.ffs_report.specs.{Progress.{Progress, Said, Stopped}, declared.fault.RunFault.{RunFault, TheVariants.Read}}
 use Rattle.ffs_report.specs.declared.fault.RunFault.TheVariants.{Out}

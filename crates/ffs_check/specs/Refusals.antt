@@ -1,16 +1,14 @@
 -- What is written to standard error where a program looks at no image, by what `clap` answered of the words.
-use Rattle.std.specs.Prelude.{◌≡◌, ◌⊎◌, ◌∷◌, ◌++◌, ℕ, List, [], Option, Result}
-use Rattle.std.specs.{Io.KnownBytes.Appends, declared.io.Error.Error}
-use Rattle.clap.specs.declared.error.kind.ErrorKind.{ErrorKind}
-use Rattle.clap.specs.declared.error.kind.ErrorKind.TheVariants as kind
+use Rattle.std.specs.{Prelude.{◌≡◌, ◌⊎◌, ◌∷◌, ◌++◌, ℕ, List, [], Option, Result}, Io.KnownBytes.Appends}
+use Rattle.std.specs.declared.io.Error.{Error}
+use Rattle.clap.specs.{declared.error.kind.ErrorKind.ErrorKind, Words.{App, IsAmong, Text}}
 use Rattle.ffs_report.specs.Outlet.{WriteFailed}
-use Rattle.clap.specs.Words.{App, IsAmong, Text}
-use Rattle.ffs_check.specs.{CommandWords.refusals, Program.Meaning}
-use Rattle.ffs_check.specs.declared.program.NotAsked.{NotAsked, TheVariants.{Refused, NoMemory}}
-use Rattle.ffs_check.specs.declared.refusal.Refusal.{Refusal}
-use Rattle.ffs_check.specs.declared.version.TheConstants.{VERSION}
-use Rattle.ffs_check.specs.declared.wrong_words.TheConstants.{HELP, NAME, NEEDED, NO_SECTOR, OTHER_MISTAKE, SECTOR_RANGE}
-use Rattle.ffs_check.specs.declared.wrong_words.TheConstants.{TWO_SECTORS, UNKNOWN, USAGE}
+use Rattle.ffs_check.specs.{CommandWords.refusals, Program.Meaning, declared.program.NotAsked.NotAsked}
+use Rattle.ffs_check.specs.declared.{program.NotAsked.TheVariants.{Refused, NoMemory}, refusal.Refusal.Refusal}
+use Rattle.ffs_check.specs.declared.{version.TheConstants.VERSION, wrong_words.TheConstants.{HELP, NAME, NEEDED}}
+use Rattle.ffs_check.specs.declared.wrong_words.TheConstants.{NO_SECTOR, OTHER_MISTAKE, SECTOR_RANGE, TWO_SECTORS}
+use Rattle.ffs_check.specs.declared.wrong_words.TheConstants.{UNKNOWN, USAGE}
+use Rattle.clap.specs.declared.error.kind.ErrorKind.TheVariants as kind
 
 -- what the text of status 2 begins with: the help, the name of the program, or what is wrong with the words
 abbrev pub first_text : ErrorKind → List ℕ

@@ -1,7 +1,8 @@
 //! The arguments of the command line.
 ghost use Rattle.std.specs.Prelude.{◌≡◌, map, IfOk, MatchResult};
 ghost use Rattle.clap.specs.{Words.{app_of, kind_of}, declared.error.kind.ErrorKind.TheVariants.OutOfMemory};
-ghost use Rattle.ffs_check.specs.CommandWords.{AreRefusedBy, AskFor, HasMatches, IsArgument, program, read_only_rule};
+ghost use Rattle.ffs_check.specs.CommandWords.{AreRefusedBy, AskFor, HasMatches, IsArgument, fsck_program};
+ghost use Rattle.ffs_check.specs.CommandWords.{read_only_rule};
 
 use crate::args::Args;
 use crate::words::{needed_argument, no_write_argument, sector_argument, wordless_command};
@@ -17,7 +18,7 @@ fn read_only_argument<'a>(alloc: Global) -> Result<Arg<'a>, AllocError>
 
 /// The arguments that the program takes.
 fn command<'a>(alloc: Global) -> Result<Command<'a>, Error>
-    ensures { MatchResult result (λ command. app_of command ≡ program)
+    ensures { MatchResult result (λ command. app_of command ≡ fsck_program)
         (λ error. kind_of error ≡ OutOfMemory) }
 {
     let read_only = read_only_argument(alloc)?;
@@ -32,8 +33,8 @@ fn command<'a>(alloc: Global) -> Result<Command<'a>, Error>
 /// Asks `clap` what the words say: the one call that may say of them that memory was refused.
 #[tactic(auto, unfolding(crate::specs::CommandWords::LacksMemory))]
 fn matches_of<'a>(alloc: Global, words: &'a [&'a str]) -> Result<ArgMatches<'a>, Error>
-    ensures { MatchResult result (HasMatches program (map (λ word. word.now) words.now))
-        (AreRefusedBy program (map (λ word. word.now) words.now)) }
+    ensures { MatchResult result (HasMatches fsck_program (map (λ word. word.now) words.now))
+        (AreRefusedBy fsck_program (map (λ word. word.now) words.now)) }
 {
     command(alloc)?.try_get_matches_from(words)
 }
@@ -48,7 +49,7 @@ pub fn parse_args<'a>(alloc: Global, words: &'a [&'a str]) -> Result<Args<'a>, E
     // the version, or because memory was refused, where `clap` answered so.
     ensures { MatchResult result
         (λ args. AskFor (map (λ word. word.now) words.now) args.name.now args.sector)
-        (AreRefusedBy program (map (λ word. word.now) words.now)) }
+        (AreRefusedBy fsck_program (map (λ word. word.now) words.now)) }
 {
     let matches = matches_of(alloc, words)?;
     Ok(Args {

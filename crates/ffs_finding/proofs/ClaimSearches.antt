@@ -4,12 +4,14 @@ use Rattle.ffs_image.specs.Device.{Device}
 use Rattle.ffs_memory.specs.Account.{Account}
 use Rattle.ffs_volume.specs.{declared.Layout.Layout, Disk.Superblock.Superblock}
 use Rattle.ffs_check.specs.Taken.{AsksMemory}
-use Rattle.ffs_report.specs.{Known.{ForBytes, IsContents}, Sink.Sink, declared.fault.RunFault.{RunFault, TheVariants.{Read, Out}}}
-use Rattle.ffs_workspace.specs.{declared.workspace.Workspace.Workspace, Found.WithPhase1, Holds.HoldsPhase1, Lengths.held_of}
-use Rattle.ffs_finding.specs.declared.{find.FindFault.{FindFault, TheVariants.{Refused, Run, NoMemory}}, request.Search.Search}
-use Rattle.ffs_finding.specs.{Claims.ClaimsAnswer, Fields.WithSuper, Outcome.{Finds, PrintsLines}}
-use Rattle.ffs_finding.specs.Whole.{SearchAnswers, search_lines}
-use Rattle.ffs_finding.proofs.Printing.{knowing, reads_first}
+use Rattle.ffs_report.specs.{Known.{ForBytes, IsContents}, Sink.Sink, declared.fault.RunFault.RunFault}
+use Rattle.ffs_report.specs.declared.fault.RunFault.TheVariants.{Read, Out}
+use Rattle.ffs_workspace.specs.{declared.workspace.Workspace.Workspace, Found.WithPhase1, Holds.HoldsPhase1}
+use Rattle.ffs_workspace.specs.Lengths.{held_of}
+use Rattle.ffs_finding.specs.declared.find.FindFault.{FindFault, TheVariants.{Refused, Run, NoMemory}}
+use Rattle.ffs_finding.specs.{declared.request.Search.Search, Claims.ClaimsAnswer, Fields.WithSuper, Outcome.Finds}
+use Rattle.ffs_finding.{specs.{Outcome.PrintsLines, Whole.{SearchAnswers, search_lines}}, proofs.Printing.knowing}
+use Rattle.ffs_finding.proofs.Printing.{reads_first}
 
 -- what was taken, where no workspace was made
 pub refused_memory : (v : Layout) (d d' : Device) (held held' : Account) (fault : FindFault) →

@@ -1,18 +1,19 @@
 -- A fragment is claimed just where an inode keeps an offer of it.
-use Rattle.std.proofs.Common.{◌≡◌, ◌≢◌, ◌∙◌, ℕ, zero, suc, ◌+◌, ◌*◌, ◌-◌, ◌<◌, ◌≤◌, ◌==◌, Bool, true, false, ◌||◌, List, [], ◌∷◌, ◌++◌}
-use Rattle.std.proofs.Common.{length, length-set, arith, refl, sym, inl, inr, nat_lt, if◌then◌else◌, slice_set}
-use Rattle.std.proofs.lemmas.{Bool.{cases_Bool, cases_eq, Decides.nat_tests}, List.{get_or-set_other, get_or-set_same}}
-use Rattle.std.proofs.lemmas.List.{Folds.list_any-append, FromFn.{get_or-map-range_with_len}}
-use Rattle.std.specs.{List.{flat_map, list_any, range_with_len}}
-use Rattle.ffs_volume.proofs.{OwnerLaws.before_next, Potentials.{in_range_below}, CutLaws.before_length}
+use Rattle.std.proofs.Common.{◌≡◌, ◌≢◌, ◌∙◌, ℕ, zero, suc, ◌+◌, ◌*◌, ◌-◌, ◌<◌, ◌≤◌, ◌==◌, Bool, true, false, ◌||◌, List}
+use Rattle.std.proofs.Common.{[], ◌∷◌, ◌++◌, length, length-set, arith, refl, sym, inl, inr, nat_lt, if◌then◌else◌}
+use Rattle.std.proofs.{Common.slice_set, lemmas.{Bool.{cases_Bool, cases_eq, Decides.nat_tests}, List.get_or-set_other}}
+use Rattle.std.proofs.lemmas.List.{get_or-set_same, Folds.list_any-append, FromFn.get_or-map-range_with_len}
+use Rattle.std.specs.List.{flat_map, list_any, range_with_len}
+use Rattle.ffs_volume.proofs.{OwnerLaws.before_next, Potentials.in_range_below, CutLaws.before_length}
 use Rattle.ffs_volume.specs.Blocks.Claims.{Claims, no_claims, reserved_map, at_next_inode, is_open, is_set, after_offer}
-use Rattle.ffs_volume.specs.Blocks.Claims.{after_offers, after_run, after_step, after_steps}
-use Rattle.ffs_volume.specs.Blocks.{Inodes.inode_of, KeptOffers.{Offer, offer_of, kept_in_offers, kept_in_run}}
-use Rattle.ffs_volume.specs.Blocks.{KeptSteps.claims_before, Owners.{owner_of, owners_of}, Steps.steps_of}
-use Rattle.ffs_volume.specs.Disk.Areas.{is_fragment_in_range, is_reserved, is_run_in_range}
-use Rattle.ffs_volume.specs.{Laws.Geometry.IsAcceptedLayout, declared.{Layout.Layout, Step.{Step, TheVariants.{Run, Tail, Gap}}}}
+use Rattle.ffs_volume.specs.Blocks.{Claims.{after_offers, after_run, after_step, after_steps}, Inodes.inode_of}
+use Rattle.ffs_volume.specs.Blocks.{KeptOffers.{Offer, offer_of, kept_in_offers, kept_in_run}, KeptSteps.claims_before}
+use Rattle.ffs_volume.specs.{Blocks.{Owners.{owner_of, owners_of}, Steps.steps_of}, Disk.Areas.is_fragment_in_range}
+use Rattle.ffs_volume.specs.{Disk.Areas.{is_reserved, is_run_in_range}, Laws.Geometry.IsAcceptedLayout}
+use Rattle.ffs_volume.specs.declared.{Layout.Layout, Step.{Step, TheVariants.{Run, Tail, Gap}}}
+use Rattle.ffs_volume.specs.Find.Owner.{indirect_in, keeper_lines, keeper_text, keeps_in_step, keeper_lines_of_inode}
+use Rattle.ffs_volume.specs.Find.Owner.{keeper_lines_of_step, keeper_lines_of_steps}
 use Rattle.ffs_workspace.specs.Holds.{all_claims}
-use Rattle.ffs_volume.specs.Find.Owner.{indirect_in, keeper_lines, keeper_text, keeps_in_step, keeper_lines_of_inode, keeper_lines_of_step, keeper_lines_of_steps}
 use Rattle.ffs_finding.{specs.Fields.any_line, proofs.WrongFields.any_more}
 
 -- some offer is of the fragment f
@@ -57,7 +58,8 @@ offers_use v f i s [] ok long = uses_none f s s refl
 offers_use v f i s (h ∷ fs) ok long =
     let one = offer_uses v f i s h ok long in
     let more = offers_use v f i (after_offer v s h) fs ok (one.long ∙ long) in
-    rw (any_of-append f (if nat_lt s.dups 11 then offer_of i h ∷ [] else []) (kept_in_offers v i (after_offer v s h) fs))
+    rw (any_of-append f (if nat_lt s.dups 11 then offer_of i h ∷ [] else [])
+    (kept_in_offers v i (after_offer v s h) fs))
     (uses_then one more)
 
 -- the counts of an inode are no part of it
@@ -115,14 +117,19 @@ inode_uses v b f x g ok low =
     (uses_from refl (steps_use v f x 0 (at_next_inode s) (steps_of v (inode_of v b x) b) ok (before_length v b x g)))
 
 inodes_use : (v : Layout) (b : List ℕ) (f x k : ℕ) → IsAcceptedLayout v → is_fragment_in_range v f ≡ true → 2 ≤ x →
-    Uses f (claims_before v b x) (claims_before v b (x + k)) (any_line (flat_map (keeper_lines_of_inode v b f) (range_with_len x k)))
+    Uses f (claims_before v b x) (claims_before v b (x + k))
+    (any_line (flat_map (keeper_lines_of_inode v b f) (range_with_len x k)))
 inodes_use v b f x zero g ok low =
     let same : x + 0 ≡ x = omega arith in rw same (uses_none f (claims_before v b x) (claims_before v b x) refl)
 inodes_use v b f x (suc k) g ok low =
     let one = inode_uses v b f x g ok low in
     let more = inodes_use v b f (x + 1) k g ok (omega arith) in
     let place : x + suc k ≡ x + 1 + k = omega arith in
-    rw (place, any_more (keeper_lines_of_inode v b f x) (flat_map (keeper_lines_of_inode v b f) (range_with_len (x + 1) k)))
+    rw (
+      place,
+      any_more (keeper_lines_of_inode v b f x)
+          (flat_map (keeper_lines_of_inode v b f) (range_with_len (x + 1) k)),
+    )
     (uses_then one more)
 
 reserved_bit : (v : Layout) (f : ℕ) → f < v.size → is_set (reserved_map v) f ≡ is_reserved v f

@@ -16,7 +16,8 @@ unfailed knows all output b (Ok x) quiet p = grind arith
 unfailed knows all output b (Err (Read fault)) quiet p = grind arith
 unfailed knows all output b (Err (Out fault)) quiet p = elim p.stopped.cause [
   | inl failed ↦ (let bad : false ≡ true = failed in absurd (cc))
-  | inr rose ↦ let none : b.sink.failures ≡ 0 = ap (λ (s : Sink). s.failures) quiet in absurd (omega (arith, rose, none))
+  | inr rose ↦
+      let none : b.sink.failures ≡ 0 = ap (λ (s : Sink). s.failures) quiet in absurd (omega (arith, rose, none))
 ]
 
 -- what phase 1 leaves is what it holds

@@ -1,14 +1,13 @@
 -- The lines of the sectors from one on, and the reads of the sectors before it.
-use Rattle.std.proofs.Common.{◌≡◌, ◌∙◌, ℕ, ◌+◌, ◌-◌, ◌*◌, ◌/◌, ◌<◌, ◌≤◌, List, [], ◌++◌, length, Some, arith, refl, ap, sym}
-use Rattle.std.proofs.{Common.{inl, inr}, lemmas.Bool.cases_eq}
-use Rattle.std.specs.{Prelude.{count_by}, List.{flat_map, range_with_len}, Int.div_ceil}
-use Rattle.ffs_volume.{specs.Disk.Outcome.outcome, proofs.OutcomeLaws.outcome_past_end}
-use Rattle.ffs_volume.specs.Find.Copies.{asked_sectors, copies_lines, copy_lines_of, sector_count}
+use Rattle.std.proofs.Common.{◌≡◌, ◌∙◌, ℕ, ◌+◌, ◌-◌, ◌*◌, ◌/◌, ◌<◌, ◌≤◌, List, [], ◌++◌, length, Some, arith, refl, ap}
+use Rattle.std.{proofs.{Common.{sym, inl, inr}, lemmas.Bool.cases_eq}, specs.{Prelude.count_by, List.flat_map}}
+use Rattle.std.specs.{List.range_with_len, Int.div_ceil}
+use Rattle.ffs_volume.{specs.{Disk.Outcome.outcome, Find.Copies.asked_sectors}, proofs.OutcomeLaws.outcome_past_end}
+use Rattle.ffs_volume.specs.Find.Copies.{copies_lines, copy_lines_of, sector_count}
 use Rattle.ffs_image.specs.Device.{Device}
 use Rattle.ffs_walk.specs.declared.window.Window.{Window}
 use Rattle.ffs_maps.proofs.Counting.{count_join}
-use Rattle.ffs_finding.specs.Copies.{IsSectorsEnd, IsWindowOf, has_magic, super_reads}
-use Rattle.ffs_finding.proofs.Ranges.{next, none}
+use Rattle.ffs_finding.{specs.Copies.{IsSectorsEnd, IsWindowOf, has_magic, super_reads}, proofs.Ranges.{next, none}}
 
 pub count_is : sector_count ≡ 4194303
 unfolding sector_count
@@ -27,7 +26,8 @@ unfolding copies_lines lines_from
 lines_begin b = let all : sector_count + 1 - 1 ≡ sector_count = omega arith in
     ap (λ (n : ℕ). flat_map (lines_at b) (range_with_len 1 n)) (sym all)
 
-pub lines_next : (b : List ℕ) (sector : ℕ) → sector < 4194304 → lines_from b sector ≡ lines_at b sector ++ lines_from b (sector + 1)
+pub lines_next : (b : List ℕ) (sector : ℕ) → sector < 4194304 →
+    lines_from b sector ≡ lines_at b sector ++ lines_from b (sector + 1)
 unfolding lines_from
 lines_next b sector h =
     let some : 0 < sector_count + 1 - sector = omega (arith, count_is) in
@@ -50,16 +50,19 @@ magics b n = count_by (has_magic b) (range_with_len 1 n)
 one_magic : (b : List ℕ) (sector : ℕ) → 2 * count_by (has_magic b) (range_with_len sector 1) ≡ super_reads b sector
 one_magic b sector = grind arith
 
-magics_next : (b : List ℕ) (sector : ℕ) → 0 < sector → 2 * magics b sector ≡ 2 * magics b (sector - 1) + super_reads b sector
+magics_next : (b : List ℕ) (sector : ℕ) → 0 < sector →
+    2 * magics b sector ≡ 2 * magics b (sector - 1) + super_reads b sector
 magics_next b sector some =
     let joined = count_join (has_magic b) 1 (sector - 1) 1 sector _ _ (omega arith) refl refl in
     let place : 1 + (sector - 1) ≡ sector = omega arith in
     let last = one_magic b sector in
     grind (arith, joined, place, last)
 
-pub magics_within : (b : List ℕ) (sector : ℕ) → sector < 4194304 → magics b sector ≤ count_by (has_magic b) asked_sectors
+pub magics_within : (b : List ℕ) (sector : ℕ) → sector < 4194304 →
+    magics b sector ≤ count_by (has_magic b) asked_sectors
 magics_within b sector h =
-    let joined = count_join (has_magic b) 1 sector (sector_count - sector) sector_count _ _ (omega (arith, count_is)) refl refl in
+    let joined = count_join (has_magic b) 1 sector (sector_count - sector) sector_count _ _
+    (omega (arith, count_is)) refl refl in
     omega (arith, joined)
 
 same_window : (d : Device) (sector : ℕ) (w : Window) → 0 < sector → (sector + 2) / 128 ≡ (sector + 1) / 128 →

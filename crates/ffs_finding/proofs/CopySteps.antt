@@ -1,10 +1,10 @@
 -- What looking at one sector leaves, by what was found there.
-use Rattle.std.proofs.Common.{◌≡◌, ◌∙◌, ℕ, ◌+◌, ◌*◌, ◌≤◌, true, false, List, [], length, Option, Some, Ok, arith, ap, subst, sym, inl, inr}
+use Rattle.std.proofs.Common.{◌≡◌, ◌∙◌, ℕ, ◌+◌, ◌*◌, ◌≤◌, true, false, List, [], length, Option, Some, Ok, arith, ap}
+use Rattle.std.proofs.Common.{subst, sym, inl, inr}
 use Rattle.ffs_image.specs.Device.{Device, ForContents, IsSized, Faulted}
-use Rattle.ffs_volume.specs.Disk.{Outcome.outcome, Superblock.Superblock}
+use Rattle.ffs_volume.specs.{Disk.{Outcome.outcome, Superblock.Superblock}, Find.Copies.copy_lines_of}
 use Rattle.ffs_layout.specs.Super.{ReadsSuper, IsUnreadable}
 use Rattle.ffs_walk.specs.{Windows.WindowHolds, declared.window.Window.Window}
-use Rattle.ffs_volume.specs.Find.Copies.{copy_lines_of}
 use Rattle.ffs_finding.{specs.Copies.{has_magic, super_reads}, proofs.Magics.no_magic}
 
 pub sized_at : (d : Device) (b : List ℕ) → IsSized d → d.contents ≡ Some b → length b ≡ d.size
@@ -23,7 +23,8 @@ pub two_reads : (d : Device) (sector : ℕ) → ForContents d.contents (λ b. tr
 two_reads d sector there b k = let is = there b k in grind arith
 
 -- the superblock that was read is the one of the image's bytes
-pub same_super : (d old new : Device) (sector : Option ℕ) (s : Superblock) → old ≡ d → ReadsSuper old new sector (Ok s) →
+pub same_super : (d old new : Device) (sector : Option ℕ) (s : Superblock) → old ≡ d →
+    ReadsSuper old new sector (Ok s) →
     (new ≡ d) × ForContents d.contents (λ b. Ok s ≡ outcome b sector)
 same_super d old new sector s same p =
     subst (λ (x : Device). (new ≡ x) × ForContents x.contents (λ b. Ok s ≡ outcome b sector)) same

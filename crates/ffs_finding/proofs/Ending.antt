@@ -6,13 +6,12 @@ use Rattle.ffs_volume.specs.{Report.Opening.fault_line, Disk.Outcome.outcome}
 use Rattle.ffs_report.specs.{Known.{ForBytes, IsContents}, Sink.Sink, declared.fault.RunFault.TheVariants.{Read, Out}}
 use Rattle.ffs_memory.specs.Account.{Account}
 use Rattle.ffs_layout.specs.Super.{ReadsSuper}
-use Rattle.ffs_finding.specs.declared.{request.{Search.Search, Command.{Command, TheVariants.{Copies, InVolume}}}}
+use Rattle.ffs_finding.specs.declared.request.{Search.Search, Command.{Command, TheVariants.{Copies, InVolume}}}
 use Rattle.ffs_finding.specs.declared.find.FindFault.{FindFault, TheVariants.{Refused, Run, NoMemory}}
-use Rattle.ffs_finding.specs.Outcome.{PrintedTo, StoppedIn}
+use Rattle.ffs_finding.specs.{Outcome.{PrintedTo, StoppedIn}, Whole.{Answers, EndsBy, EndsByLine, FindEnds, IsRefusal}}
+use Rattle.ffs_finding.{specs.Whole.{command_lines, lines_by, search_lines, status_by}, proofs.Printing.one}
+use Rattle.ffs_finding.proofs.Printing.{one_broken, prints_all, stops_all, reads_first}
 use Rattle.ffs_check.specs.Run.{IsPrintedOrBrokeOff}
-use Rattle.ffs_finding.specs.Whole.{Answers, EndsBy, EndsByLine, FindEnds, IsRefusal, command_lines}
-use Rattle.ffs_finding.specs.Whole.{lines_by, search_lines, status_by}
-use Rattle.ffs_finding.proofs.Printing.{one, one_broken, prints_all, stops_all, reads_first}
 
 module _ (sector : Option ℕ) (search : Search) (d d' : Device) (held held' : Account) (a c : Sink) (fault : SuperFault)
     (status : ℕ) where

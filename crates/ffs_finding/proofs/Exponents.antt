@@ -1,9 +1,7 @@
 -- The exponents of powers of two.
-use Rattle.std.proofs.Common.{◌≡◌, ℕ, ◌+◌, ◌*◌, ◌^◌, ◌<◌, ◌≤◌, true, false, arith, ap, nat_lt}
-use Rattle.std.proofs.{Math.Pow.pow_mono, lemmas.{Grind.pow_more, Bool.Decides.nat_tests}}
-use Rattle.std.specs.Prelude.{unwrap_or}
-use Rattle.ffs_volume.{proofs.SearchLaws.first_below-is}
-use Rattle.ffs_volume.specs.Find.Fields.{exponent_of}
+use Rattle.std.proofs.{Common.{◌≡◌, ℕ, ◌+◌, ◌*◌, ◌^◌, ◌<◌, ◌≤◌, true, false, arith, ap, nat_lt}, Math.Pow.pow_mono}
+use Rattle.std.{proofs.lemmas.{Grind.pow_more, Bool.Decides.nat_tests}, specs.Prelude.unwrap_or}
+use Rattle.ffs_volume.{proofs.SearchLaws.first_below-is, specs.Find.Fields.exponent_of}
 
 above : (n r : ℕ) → n < 2 * 2 ^ r → nat_lt n (2 ^ (r + 1)) ≡ true
 above n r h = let power : 2 ^ (r + 1) ≡ 2 ^ r * 2 = pow_more 2 r in

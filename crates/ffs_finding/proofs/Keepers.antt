@@ -1,15 +1,15 @@
 -- How an inode is looked at.
 use Rattle.std.proofs.Common.{◌≡◌, ◌∙◌, ℕ, ◌+◌, ◌<◌, ◌≤◌, List, Result, Ok, Err, slice_index, arith, ap, refl}
 use Rattle.ffs_image.specs.Device.{Device}
-use Rattle.ffs_volume.specs.{Blocks.KeptSteps.claims_before, Laws.Geometry.IsAcceptedLayout}
-use Rattle.ffs_volume.specs.{Blocks.{Inodes.inode_of}, declared.{Inode.Inode, Layout.Layout}}
+use Rattle.ffs_volume.specs.{Blocks.{KeptSteps.claims_before, Inodes.inode_of}, Laws.Geometry.IsAcceptedLayout}
+use Rattle.ffs_volume.specs.{declared.{Inode.Inode, Layout.Layout}, Find.Owner.keeper_lines_of_inode}
 use Rattle.ffs_report.specs.{Known.{ForBytes, IsContents}, Sink.Sink, PhaseOutcome.ImageAfter}
 use Rattle.ffs_report.specs.declared.fault.RunFault.{RunFault, TheVariants.{Read, Out}}
 use Rattle.ffs_walk.specs.{Windows.KeepsBlocks, declared.blocks.Blocks.Blocks}
-use Rattle.ffs_workspace.specs.{Found.WithPhase1, Lengths.inodes_of, Notes.{cut_in, note_at}, Ready.{IsReady, StaysReady}, declared.workspace.{Windows.Windows, Workspace.Workspace}}
-use Rattle.ffs_finding.specs.{Keepers.{LooksAtInode, WalksKept}, Outcome.{PrintsLines}}
-use Rattle.ffs_volume.specs.Find.Owner.{keeper_lines_of_inode}
-use Rattle.ffs_finding.proofs.{Owners.{listed_inode, inode_runs}, Printing.knowing}
+use Rattle.ffs_workspace.specs.{Found.WithPhase1, Lengths.inodes_of, Notes.{cut_in, note_at}, Ready.IsReady}
+use Rattle.ffs_workspace.specs.{Ready.StaysReady, declared.workspace.{Windows.Windows, Workspace.Workspace}}
+use Rattle.ffs_finding.{specs.{Keepers.{LooksAtInode, WalksKept}, Outcome.PrintsLines}, proofs.Owners.listed_inode}
+use Rattle.ffs_finding.proofs.{Owners.inode_runs, Printing.knowing}
 
 -- lines that are the same
 pub same_lines : {T : Type 0} (knows : List ℕ → Type 0) (all all' : List ℕ → List (List ℕ)) (a b : Sink)
@@ -87,7 +87,8 @@ found_lines {v = v} {f = f} {x = x} {d = d} {d0 = d0} {w = w} {w0 = w0} {old = o
 pub found_reads : {T : Type 0} {v : Layout} {f x count count' : ℕ} {d d' d0 on : Device} {w w' w0 : Workspace}
     {old new : Sink} {r : Result T RunFault} → d ≡ d0 → StaysReady v on w0 w → IsAcceptedLayout v → 2 ≤ x →
     x < inodes_of v → LooksAtInode v f x d d' count count' w w' old new r →
-    ForBytes (WithPhase1 v d0 w0) (λ b. count' + (claims_before v b x).runs ≤ count + 1 + (claims_before v b (x + 1)).runs)
+    ForBytes (WithPhase1 v d0 w0) (λ b. count' + (claims_before v b x).runs
+    ≤ count + 1 + (claims_before v b (x + 1)).runs)
 found_reads {v = v} {x = x} {d = d} {w = w} e stays g low high p = λ b k.
     let note = ap (λ (z : Workspace). slice_index z.notes.items x) stays.held ∙ k.1.notes x in
     let runs = inode_runs v b x (slice_index w.notes.items x) g low high note in

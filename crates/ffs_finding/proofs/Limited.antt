@@ -34,7 +34,8 @@ pub record SearchServed {T : Type 0} (knows : List ℕ → Type 0) (all : List �
     (name_lent name : GName) (limit asked : ℕ) (spent : Bool) (old new : Sink) (r : Result T RunFault) : Type 0 where
   pub same_image : name_lent ≡ name
   pub few : asked ≤ limit → spent ≡ false
-  pub refused : (x : T) → spent ≡ true → ForBytes knows (λ bytes. spent ≡ false) → Finds knows all lent below old new (Ok x)
+  pub refused : (x : T) → spent ≡ true → ForBytes knows (λ bytes. spent ≡ false) →
+      Finds knows all lent below old new (Ok x)
   pub answered : spent ≡ false → Finds knows all lent below old new r
 
 -- the contract of the search, with the clause of the limited image on what is below
@@ -45,7 +46,8 @@ pub search_served : {T : Type 0} {knows : List ℕ → Type 0} {all : List ℕ �
     above.lent ≡ (limited_device d given before most).lent → above.contents ≡ d.contents → above.size ≡ d.size →
     GivesBack d below given name before reads' most left asked s (limited_device d given before most) above) →
     SearchServed knows all lent below name_lent name limit asked s old new r
-search_served {lent = lent} {below = below} {name_lent = name_lent} {reads = reads} {limit = limit} {s = s} {r = r} p back =
+search_served {lent = lent} {below = below} {name_lent = name_lent} {reads = reads} {limit = limit} {s = s}
+    {r = r} p back =
     let over = image_over (limited_device lent name_lent reads limit) _ r p.image in
     let g = back lent name_lent reads limit over.lent over.contents over.size in
     record {

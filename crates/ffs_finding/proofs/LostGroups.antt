@@ -1,18 +1,16 @@
 -- What the maps of groups say wrongly: of one group by what the program has of its map, and of all groups.
-use Rattle.std.proofs.Common.{◌≡◌, ◌∙◌, ℕ, ◌+◌, ◌-◌, ◌<◌, ◌≤◌, Bool, true, false, List, [], ◌++◌, arith, refl, ap, sym, subst}
-use Rattle.std.specs.{List.{flat_map, range_with_len}, Prelude.◌||◌}
+use Rattle.std.proofs.Common.{◌≡◌, ◌∙◌, ℕ, ◌+◌, ◌-◌, ◌<◌, ◌≤◌, Bool, true, false, List, [], ◌++◌, arith, refl, ap, sym}
+use Rattle.std.{proofs.Common.subst, specs.{List.{flat_map, range_with_len}, Prelude.◌||◌}}
 use Rattle.ffs_image.specs.Device.{Device}
-use Rattle.ffs_volume.specs.{declared.Layout.Layout}
-use Rattle.ffs_volume.specs.{Disk.Areas.cgbase, Groups.Records.{bit_at, fragment_map_place, group_block, group_size, has_bits, same_bit}}
-use Rattle.ffs_volume.proofs.Below.{all_below-at}
+use Rattle.ffs_volume.specs.{declared.Layout.Layout, Disk.Areas.cgbase, Groups.Records.{bit_at, fragment_map_place}}
+use Rattle.ffs_volume.{specs.Groups.Records.{group_block, group_size, has_bits, same_bit}, proofs.Below.all_below-at}
+use Rattle.ffs_volume.specs.Find.Lost.{has_map, lost_lines, stretch_at, stretch_lines}
 use Rattle.ffs_groups.specs.Free.{free_in}
 use Rattle.ffs_maps.specs.Bits.{bits_of}
-use Rattle.ffs_report.specs.{Known.{ForBytes}}
+use Rattle.ffs_report.specs.Known.{ForBytes}
 use Rattle.ffs_workspace.specs.{declared.workspace.Workspace.Workspace, Found.WithPhase1, Holds.all_claims}
-use Rattle.ffs_finding.specs.{Fields.any_line}
-use Rattle.ffs_volume.specs.Find.Lost.{has_map, lost_lines, stretch_at, stretch_lines}
-use Rattle.ffs_finding.specs.LostMaps.{is_wrong_by, lines_of_group, lines_of_groups, no_map_lines, word_of}
-use Rattle.ffs_finding.specs.declared.lost.Wrong.{Wrong, TheVariants.{Lost, MarkedFree}}
+use Rattle.ffs_finding.specs.{Fields.any_line, LostMaps.{is_wrong_by, lines_of_group, lines_of_groups, no_map_lines}}
+use Rattle.ffs_finding.specs.{LostMaps.word_of, declared.lost.Wrong.{Wrong, TheVariants.{Lost, MarkedFree}}}
 use Rattle.ffs_finding.proofs.{Ranges.{from_zero, next, none}, WrongFields.any_more}
 
 pub without_map : (wrong : Wrong) (v : Layout) (free : ℕ → Bool) (c : ℕ) (block : List ℕ) → has_map v block ≡ false →
@@ -24,7 +22,8 @@ pub with_map : (wrong : Wrong) (v : Layout) (used : List Bool) (size base end pl
     has_map v block ≡ true → place ≡ fragment_map_place v block → size ≡ v.size → base ≡ cgbase v c →
     end ≡ base + group_size v c →
     lines_of_group wrong v (free_in used v.size) c block
-    ≡ stretch_lines (word_of wrong) (λ f. is_wrong_by wrong (free_in used size f) (bit_at block place (f - base))) base end
+    ≡ stretch_lines (word_of wrong) (λ f. is_wrong_by wrong (free_in used size f)
+    (bit_at block place (f - base))) base end
 with_map Lost v used size base end place c block some at is from to = rw (some, at, is, to, from) refl
 with_map MarkedFree v used size base end place c block some at is from to = rw (some, at, is, to, from) refl
 
@@ -40,7 +39,8 @@ no_stretch word p base n fail =
     let long : base + n - base ≡ n = omega arith in
     rw long (none (stretch_at word p base (base + n)) base n (λ k low high. rw (fail k low high) refl))
 
-pub right_map : (wrong : Wrong) (v : Layout) (used : List Bool) (size place c : ℕ) (block : List ℕ) → has_map v block ≡ true →
+pub right_map : (wrong : Wrong) (v : Layout) (used : List Bool) (size place c : ℕ) (block : List ℕ) →
+    has_map v block ≡ true →
     place ≡ fragment_map_place v block → size ≡ v.size →
     has_bits block place (group_size v c) (λ k. free_in used v.size (cgbase v c + k)) ≡ true →
     lines_of_group wrong v (free_in used v.size) c block ≡ []
@@ -51,7 +51,8 @@ right_map wrong v used size place c block some at is right =
     ∙ no_stretch (word_of wrong) (λ f. is_wrong_by wrong (free f) (bit_at block place (f - base))) base (group_size v c)
     (λ f low high.
     let back : base + (f - base) ≡ f = omega (arith, low) in
-    let same = all_below-at (group_size v c) (f - base) (λ k. same_bit (bit_at block place k) (free (base + k))) right (omega (arith, low, high)) in
+    let same = all_below-at (group_size v c) (f - base) (λ k. same_bit (bit_at block place k) (free (base + k))) right
+    (omega (arith, low, high)) in
     wrong_none wrong (free f) (bit_at block place (f - base))
     (subst (λ (k : ℕ). same_bit (bit_at block place (f - base)) (free k) ≡ true) back same))
 
@@ -85,7 +86,14 @@ module _ (wrong : Wrong) (v : Layout) (free : ℕ → Bool) where
       any ≡ any_line (before_group c image) → found ≡ any_line (lines_of_group wrong v free c block) →
       (any || found) ≡ any_line (before_group (c + 1) image)
   any_next image block c any found is before here =
-      rw (from_zero (group_lines wrong v free image) c, any_more (before_group c image) (group_lines wrong v free image c), before, here, is) refl
+      rw (
+        from_zero (group_lines wrong v free image) c,
+        any_more (before_group c image)
+            (group_lines wrong v free image c),
+        before,
+        here,
+        is,
+      ) refl
 
   pub any_all : (image : List ℕ) (c : ℕ) (any : Bool) → c ≤ v.ncg → v.ncg ≤ c → any ≡ any_line (before_group c image) →
       any ≡ any_line (lines_of_groups wrong v free image)

@@ -1,17 +1,14 @@
 -- The lines of lost fragments and of those that are marked as free, one list after the other.
-use Rattle.std.proofs.Common.{◌≡◌, ℕ, Bool, List, [], ◌++◌, append-nil, Ok, Err, refl, sym}
-use Rattle.std.specs.{Prelude.◌||◌}
+use Rattle.std.{proofs.Common.{◌≡◌, ℕ, Bool, List, [], ◌++◌, append-nil, Ok, Err, refl, sym}, specs.Prelude.◌||◌}
 use Rattle.ffs_image.specs.Device.{Device}
-use Rattle.ffs_volume.specs.declared.Layout.{Layout}
+use Rattle.ffs_volume.specs.{declared.Layout.Layout, Find.Lost.lost_lines}
 use Rattle.ffs_groups.specs.Free.{free_in}
 use Rattle.ffs_maps.specs.Bits.{bits_of}
 use Rattle.ffs_report.specs.{Known.{ForBytes, IsContents}, Sink.Sink, declared.fault.RunFault.RunFault}
 use Rattle.ffs_workspace.specs.{declared.workspace.Workspace.Workspace, Found.WithPhase1}
-use Rattle.ffs_finding.specs.{Fields.any_line, Outcome.{PrintedTo, PrintsLines}}
-use Rattle.ffs_volume.specs.Find.Lost.{lost_lines}
-use Rattle.ffs_finding.specs.LostMaps.{lines_of_groups}
-use Rattle.ffs_finding.specs.declared.lost.Wrong.TheVariants.{Lost, MarkedFree}
-use Rattle.ffs_finding.proofs.{LostGroups.both, Printing.{begins, knowing, part, part_fault}, WrongFields.any_more}
+use Rattle.ffs_finding.specs.{Fields.any_line, Outcome.{PrintedTo, PrintsLines}, LostMaps.lines_of_groups}
+use Rattle.ffs_finding.{specs.declared.lost.Wrong.TheVariants.{Lost, MarkedFree}, proofs.LostGroups.both}
+use Rattle.ffs_finding.proofs.{Printing.{begins, knowing, part, part_fault}, WrongFields.any_more}
 
 module _ (v : Layout) (d : Device) (w : Workspace) where
   abbrev first : (image : List ℕ) → List (List ℕ)

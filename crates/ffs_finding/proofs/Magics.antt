@@ -1,8 +1,9 @@
 -- The magic number of a superblock, in a window on an image.
-use Rattle.std.proofs.Common.{◌≡◌, ℕ, ◌+◌, ◌*◌, ◌≤◌, ◌==◌, ◌||◌, ◌∙◌, Bool, true, false, List, [], ◌∷◌, length, Option, Some, None, Err, take, drop, is_some, arith, refl, sym, ap, ap₂}
+use Rattle.std.proofs.Common.{◌≡◌, ℕ, ◌+◌, ◌*◌, ◌≤◌, ◌==◌, ◌||◌, ◌∙◌, Bool, true, false, List, [], ◌∷◌, length, Option}
+use Rattle.std.proofs.Common.{Some, None, Err, take, drop, is_some, arith, refl, sym, ap, ap₂}
 use Rattle.std.specs.Prelude.{if◌then◌else◌}
 use Rattle.ffs_volume.specs.declared.{Order.{Order, TheVariants.{Little, Big}}, constants.TheConstants.FS_MAGIC}
-use Rattle.ffs_volume.specs.Disk.{Numbers.{number, u32_at, piece}, Superblock.order_of, Outcome.{outcome}}
+use Rattle.ffs_volume.specs.Disk.{Numbers.{number, u32_at, piece}, Superblock.order_of, Outcome.outcome}
 use Rattle.ffs_volume.{specs.declared.SuperFault.TheVariants.Magic, proofs.OutcomeLaws.outcome_magic}
 use Rattle.ffs_workspace.proofs.TablePlaces.{piece_of}
 use Rattle.ffs_finding.specs.Copies.{has_magic}
@@ -45,7 +46,8 @@ pub magic_there : (b xs : List ℕ) (sector place n at : ℕ) → xs ≡ piece p
 magic_there b xs sector place n at is there inside =
     let little : u32_at Little at xs ≡ u32_at Little 1372 (piece (sector * 512) 1376 b) =
     ap (u32_at Little at) is ∙ number_in Little place n at b inside
-    ∙ ap (λ (k : ℕ). number Little 4 (piece k 4 b)) there ∙ sym (number_in Little (sector * 512) 1376 1372 b (omega arith)) in
+    ∙ ap (λ (k : ℕ). number Little 4 (piece k 4 b)) there
+    ∙ sym (number_in Little (sector * 512) 1376 1372 b (omega arith)) in
     let big : u32_at Big at xs ≡ u32_at Big 1372 (piece (sector * 512) 1376 b) =
     ap (u32_at Big at) is ∙ number_in Big place n at b inside
     ∙ ap (λ (k : ℕ). number Big 4 (piece k 4 b)) there ∙ sym (number_in Big (sector * 512) 1376 1372 b (omega arith)) in

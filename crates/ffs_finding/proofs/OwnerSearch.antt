@@ -4,13 +4,14 @@ use Rattle.ffs_check.specs.Taken.{AsksMemory}
 use Rattle.ffs_image.specs.Device.{Device}
 use Rattle.ffs_memory.specs.Account.{Account, Granted}
 use Rattle.ffs_volume.specs.{Disk.Superblock.Superblock, Report.Reads.{scan_reads, sweep_reads}}
-use Rattle.ffs_report.specs.{Known.{ForBytes, IsContents}, Sink.Sink, declared.fault.RunFault.{RunFault, TheVariants.{Read, Out}}}
-use Rattle.ffs_workspace.specs.{Found.WithPhase1, Holds.HoldsPhase1, Lengths.held_of, declared.workspace.Workspace.Workspace}
-use Rattle.ffs_finding.specs.declared.{find.FindFault.{FindFault, TheVariants.{Refused, Run, NoMemory}}}
-use Rattle.ffs_finding.specs.declared.request.Search.TheVariants.{Owner}
-use Rattle.ffs_finding.specs.{Claims.{ClaimsAnswer, TakesClaims}, Fields.WithSuper, Outcome.{Finds, PrintsLines}}
 use Rattle.ffs_volume.specs.Find.Owner.{lines_of_fragment}
-use Rattle.ffs_finding.specs.Whole.{SearchAnswers, Searches}
+use Rattle.ffs_report.specs.{Known.{ForBytes, IsContents}, Sink.Sink, declared.fault.RunFault.RunFault}
+use Rattle.ffs_report.specs.declared.fault.RunFault.TheVariants.{Read, Out}
+use Rattle.ffs_workspace.specs.{Found.WithPhase1, Holds.HoldsPhase1, Lengths.held_of}
+use Rattle.ffs_workspace.specs.declared.workspace.Workspace.{Workspace}
+use Rattle.ffs_finding.specs.declared.find.FindFault.{FindFault, TheVariants.{Refused, Run, NoMemory}}
+use Rattle.ffs_finding.specs.{declared.request.Search.TheVariants.Owner, Claims.{ClaimsAnswer, TakesClaims}}
+use Rattle.ffs_finding.specs.{Fields.WithSuper, Outcome.{Finds, PrintsLines}, Whole.{SearchAnswers, Searches}}
 use Rattle.ffs_finding.proofs.Printing.{knowing, reads_first}
 
 module _ (f : ℕ) (sector : Option ℕ) (s : Superblock) (d : Device) (held held' : Account) where
@@ -50,7 +51,8 @@ module _ (f : ℕ) (sector : Option ℕ) (s : Superblock) (d : Device) (held hel
     lines {T} a b r p = knowing T _ _ _ a b r known p
 
     stopped : (d' : Device) (a b : Sink) (fault : RunFault) →
-        Finds {T = Unit {0}} (WithPhase1 s.layout d1 w) (λ bytes. lines_of_fragment s.layout bytes f) d1 d' a b (Err fault) →
+        Finds {T = Unit {0}} (WithPhase1 s.layout d1 w) (λ bytes. lines_of_fragment s.layout bytes f) d1 d' a b
+        (Err fault) →
         SearchAnswers (Owner f) sector s d d' held held' a b (Err (Run fault))
     stopped d' a b (Read fault) p = (rw same at p.image, lines {T = Unit {0}} a b (Err (Read fault)) p.text)
     stopped d' a b (Out fault) p = (p.image ∙ same, lines {T = Unit {0}} a b (Err (Out fault)) p.text)
@@ -59,7 +61,8 @@ module _ (f : ℕ) (sector : Option ℕ) (s : Superblock) (d : Device) (held hel
     pub owner_failed : (d' : Device) (before between after : ℕ) (a b : Sink) (fault : RunFault) →
         Granted held held' (held_of s.layout) → between ≤ before + scan_reads s.layout →
         after ≤ between + sweep_reads s.layout →
-        Finds {T = Unit {0}} (WithPhase1 s.layout d1 w) (λ bytes. lines_of_fragment s.layout bytes f) d1 d' a b (Err fault) →
+        Finds {T = Unit {0}} (WithPhase1 s.layout d1 w) (λ bytes. lines_of_fragment s.layout bytes f) d1 d' a b
+        (Err fault) →
         Searches (Owner f) sector s d d' held held' before after a b (Err (Run fault))
     owner_failed d' before between after a b fault took first second p = record {
       answer = stopped d' a b fault p;
@@ -70,7 +73,8 @@ module _ (f : ℕ) (sector : Option ℕ) (s : Superblock) (d : Device) (held hel
     pub owner_found : (d' : Device) (before between after : ℕ) (a b : Sink) →
         Granted held held' (held_of s.layout) → between ≤ before + scan_reads s.layout →
         after ≤ between + sweep_reads s.layout →
-        Finds {T = Unit {0}} (WithPhase1 s.layout d1 w) (λ bytes. lines_of_fragment s.layout bytes f) d1 d' a b (Ok tt) →
+        Finds {T = Unit {0}} (WithPhase1 s.layout d1 w)
+        (λ bytes. lines_of_fragment s.layout bytes f) d1 d' a b (Ok tt) →
         Searches (Owner f) sector s d d' held held' before after a b (Ok false)
     owner_found d' before between after a b took first second p = record {
       answer = (p.image ∙ same, lines {T = Unit {0}} a b (Ok tt) p.text, λ bytes k. refl);

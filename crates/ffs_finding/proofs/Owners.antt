@@ -1,21 +1,17 @@
 -- The lines of inodes, one after another.
 use Rattle.std.proofs.Common.{◌≡◌, ◌∙◌, ℕ, ◌+◌, ◌-◌, ◌<◌, ◌≤◌, true, false, List, [], ◌++◌, arith, refl, ap, sym}
-use Rattle.std.proofs.lemmas.Bool.Decides.{nat_tests}
-use Rattle.std.specs.List.{flat_map, range_with_len}
+use Rattle.std.{proofs.lemmas.Bool.Decides.nat_tests, specs.List.{flat_map, range_with_len}}
 use Rattle.ffs_volume.proofs.{CutLaws.cut_is, OwnerLaws.before_next, ReplayLaws.replay_is_runs}
-use Rattle.ffs_volume.specs.Blocks.{Claims.{at_next_inode, after_steps}, KeptSteps.claims_before}
-use Rattle.ffs_volume.specs.Blocks.Inodes.{inode_of, class_of, is_allocated, is_file_or_dir}
-use Rattle.ffs_volume.specs.{Directories.Volumes.class_at, Encodings.Kinds.kind_at}
-use Rattle.ffs_volume.specs.declared.Class.{Class, TheVariants.{Free, Partial, Unknown, File, Dir}}
-use Rattle.ffs_workspace.proofs.KindLaws.{reports_at}
-use Rattle.ffs_volume.specs.{Blocks.{Owners.{owner_of}, Steps.steps_of}, Directories.Volumes.is_inode_number}
-use Rattle.ffs_volume.specs.Encodings.{Replay.{cut_of, fresh_replay}, ReplayCounts.replayed_runs}
-use Rattle.ffs_volume.specs.{Laws.Geometry.IsAcceptedLayout, declared.Layout.Layout}
-use Rattle.ffs_workspace.proofs.NoteLaws.{cut_is_noted}
-use Rattle.ffs_workspace.specs.{Lengths.inodes_of, Notes.{cut_in, note_at}}
-use Rattle.ffs_finding.specs.Keepers.{lines_again}
-use Rattle.ffs_volume.specs.Find.Owner.{keeper_lines, keeper_lines_of_inode}
-use Rattle.ffs_finding.proofs.{Ranges.next, Replayed.inode_replay}
+use Rattle.ffs_volume.specs.Blocks.{Claims.{at_next_inode, after_steps}, KeptSteps.claims_before, Inodes.inode_of}
+use Rattle.ffs_volume.specs.{Blocks.Inodes.{class_of, is_allocated, is_file_or_dir}, Directories.Volumes.class_at}
+use Rattle.ffs_volume.specs.{Directories.Volumes.is_inode_number, Encodings.Kinds.kind_at, declared.Class.Class}
+use Rattle.ffs_volume.specs.{declared.Class.TheVariants.{Free, Partial, Unknown, File, Dir}, Blocks.Owners.owner_of}
+use Rattle.ffs_volume.specs.{Blocks.Steps.steps_of, Encodings.Replay.{cut_of, fresh_replay}}
+use Rattle.ffs_volume.specs.{Encodings.ReplayCounts.replayed_runs, Laws.Geometry.IsAcceptedLayout}
+use Rattle.ffs_volume.specs.{declared.Layout.Layout, Find.Owner.{keeper_lines, keeper_lines_of_inode}}
+use Rattle.ffs_workspace.{proofs.{KindLaws.reports_at, NoteLaws.cut_is_noted}, specs.{Lengths.inodes_of, Notes.cut_in}}
+use Rattle.ffs_workspace.specs.Notes.{note_at}
+use Rattle.ffs_finding.{specs.Keepers.lines_again, proofs.{Ranges.next, Replayed.inode_replay}}
 
 -- the lines of the inodes from n on
 unfoldable pub keepers_from : (v : Layout) (b : List ℕ) (f n : ℕ) → List (List ℕ)
@@ -41,7 +37,8 @@ number_is : (v : Layout) (n : ℕ) → 2 ≤ n → n < inodes_of v → is_inode_
 number_is v n low high = grind (arith, nat_tests)
 
 -- the cut that is noted is the one with which the inode ends
-cut_ends : (v : Layout) (b : List ℕ) (n note : ℕ) → IsAcceptedLayout v → 2 ≤ n → n < inodes_of v → note ≡ note_at v b n →
+cut_ends : (v : Layout) (b : List ℕ) (n note : ℕ) → IsAcceptedLayout v → 2 ≤ n → n < inodes_of v →
+    note ≡ note_at v b n →
     cut_in note ≡ cut_of (after_steps v (at_next_inode (claims_before v b n)) (steps_of v (inode_of v b n) b))
 cut_ends v b n note g low high e =
     ap cut_in e ∙ (cut_is_noted v b n g ∙ cut_is v b n g (number_is v n low high))
@@ -52,7 +49,8 @@ pub listed_inode : (v : Layout) (b : List ℕ) (f n note : ℕ) → IsAcceptedLa
     ≡ keeper_lines_of_inode v b f n
 unfolding keeper_lines_of_inode
 listed_inode v b f n note g low high e =
-    rw (cut_ends v b n note g low high e) (sym (inode_replay v f n (claims_before v b n) (steps_of v (inode_of v b n) b)))
+    rw (cut_ends v b n note g low high e) (sym (inode_replay v f n (claims_before v b n)
+    (steps_of v (inode_of v b n) b)))
 
 -- and its Runs
 pub inode_runs : (v : Layout) (b : List ℕ) (n note : ℕ) → IsAcceptedLayout v → 2 ≤ n → n < inodes_of v →

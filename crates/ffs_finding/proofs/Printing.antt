@@ -1,9 +1,9 @@
 -- How lines are printed, one after another.
-use Rattle.std.proofs.Common.{◌≡◌, refl, ◌∙◌, sym, ℕ, List, [], ◌∷◌, ◌++◌, append_assoc, append-nil, Result, Ok, Err, arith}
-use Rattle.std.specs.List.{concat}
+use Rattle.std.proofs.Common.{◌≡◌, refl, ◌∙◌, sym, ℕ, List, [], ◌∷◌, ◌++◌, append_assoc, append-nil, Result, Ok, Err}
+use Rattle.std.{proofs.Common.arith, specs.List.concat}
 use Rattle.ffs_report.specs.{Known.ForBytes, Sink.{Sink, Took, BrokeOff}, declared.fault.RunFault.RunFault}
-use Rattle.ffs_report.specs.declared.fault.RunFault.TheVariants.{Read, Out}
-use Rattle.ffs_report.proofs.Sinks.{took_nil, took_then, broke_off_after}
+use Rattle.ffs_report.{specs.declared.fault.RunFault.TheVariants.{Read, Out}, proofs.Sinks.{took_nil, took_then}}
+use Rattle.ffs_report.proofs.Sinks.{broke_off_after}
 use Rattle.ffs_finding.specs.Outcome.{PrintedTo, PrintedSome, StoppedIn, PrintsLines}
 
 -- the bytes of lines and of others after them
@@ -104,7 +104,8 @@ part_fault T E knows rest this rest' all a b c (Out fault) p e q = record {
 }
 
 -- nothing is to come
-pub printed_all : (knows : List ℕ → Type 0) (rest all : List ℕ → List (List ℕ)) (a b : Sink) → PrintedTo knows rest all a b
+pub printed_all : (knows : List ℕ → Type 0) (rest all : List ℕ → List (List ℕ)) (a b : Sink) →
+    PrintedTo knows rest all a b
     → ForBytes knows (λ bytes. rest bytes ≡ []) → PrintedTo knows (λ bytes. []) all a b
 printed_all knows rest all a b p e = record {
   lines = p.lines;

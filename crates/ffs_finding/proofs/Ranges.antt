@@ -1,6 +1,6 @@
 -- Texts and lines of the numbers of a range, one after another.
-use Rattle.std.proofs.Common.{◌≡◌, ℕ, zero, suc, ◌+◌, ◌-◌, ◌<◌, ◌≤◌, List, [], ◌++◌, append_assoc, append-nil, arith, refl, subst, sym, ap, ◌∙◌}
-use Rattle.std.specs.List.{flat_map, range_with_len}
+use Rattle.std.proofs.Common.{◌≡◌, ℕ, zero, suc, ◌+◌, ◌-◌, ◌<◌, ◌≤◌, List, [], ◌++◌, append_assoc, append-nil, arith}
+use Rattle.std.{proofs.Common.{refl, subst, sym, ap, ◌∙◌}, specs.List.{flat_map, range_with_len}}
 use Rattle.ffs_report.{specs.Sink.{Sink, Took, BrokeOff}, proofs.Sinks.{took_then, broke_off_after, broke_off_more}}
 
 module _ {X : Type 0} (f : ℕ → List X) where

@@ -1,18 +1,17 @@
 -- The offers of an inode that is walked over again, step by step: those that it keeps.
 use Rattle.std.proofs.Common.{◌≡◌, ℕ, zero, suc, ◌+◌, ◌-◌, ◌≤◌, true, false, ◌==◌, if◌then◌else◌, List, [], ◌∷◌, ◌++◌}
 use Rattle.std.proofs.Common.{map, replicate, arith, refl, ap, ◌∙◌, inl, inr, Option, nat_lt, ◌&&◌}
-use Rattle.std.proofs.lemmas.Bool.{cases_Bool, Decides.nat_tests}
-use Rattle.std.specs.List.{list_any, range_with_len}
+use Rattle.std.{proofs.lemmas.Bool.{cases_Bool, Decides.nat_tests}, specs.List.{list_any, range_with_len}}
 use Rattle.ffs_volume.proofs.{Potentials.{cond_holds, offers_keep}, PrefixLaws.full_offers, ReplayIsKeeping.replay_of}
-use Rattle.ffs_volume.proofs.ReplayIsKeeping.{seen_replays, step_replays, step_few}
-use Rattle.ffs_volume.specs.Blocks.Claims.{after_offers, Claims, at_next_inode, is_open, after_step, after_steps, after_offer}
+use Rattle.ffs_volume.{proofs.ReplayIsKeeping.{seen_replays, step_replays, step_few}, specs.Blocks.Claims.after_offers}
+use Rattle.ffs_volume.specs.Blocks.Claims.{Claims, at_next_inode, is_open, after_step, after_steps, after_offer}
 use Rattle.ffs_volume.specs.Blocks.KeptOffers.{offer_of, kept_in_run, kept_in_offers, kept_in_step}
-use Rattle.ffs_volume.specs.Encodings.{Replay.{Replay, is_replay_open, fresh_replay, cut_of, replay_after_step}}
-use Rattle.ffs_volume.specs.Encodings.ReplayCounts.{replay_step_by_cut}
-use Rattle.ffs_volume.specs.declared.{Layout.Layout, Step.{Step, TheVariants.{Run, Tail, Gap}}}
+use Rattle.ffs_volume.specs.Encodings.Replay.{Replay, is_replay_open, fresh_replay, cut_of, replay_after_step}
+use Rattle.ffs_volume.specs.{Encodings.ReplayCounts.replay_step_by_cut, declared.{Layout.Layout, Step.Step}}
+use Rattle.ffs_volume.specs.{declared.Step.TheVariants.{Run, Tail, Gap}, Find.Owner.{indirect_in, keeper_lines_of_step}}
+use Rattle.ffs_volume.specs.Find.Owner.{keeper_lines_of_steps}
 use Rattle.ffs_walk.specs.Keepings.{run_taken}
 use Rattle.ffs_claims.specs.Rescan.{step_offers_again}
-use Rattle.ffs_volume.specs.Find.Owner.{indirect_in, keeper_lines_of_step, keeper_lines_of_steps}
 use Rattle.ffs_finding.specs.Keepers.{is_in_run, lines_again, step_lines_again}
 
 -- ---- the offers that are kept are the first ones
@@ -120,7 +119,8 @@ inode_replay v f x s steps = rw (begins_by_cut (cut_of (after_steps v (at_next_i
 -- ---- how a walk goes on
 pub lines_next : (v : Layout) (f x earlier earlier' cut : ℕ) (r r' : Replay) (step : Step) (R R' : List Step) →
     R ≡ step ∷ R' → r' ≡ replay_step_by_cut v cut r step → earlier' ≡ earlier + indirect_in step →
-    lines_again v f x earlier cut r R ≡ step_lines_again v f x earlier cut r step ++ lines_again v f x earlier' cut r' R'
+    lines_again v f x earlier cut r R ≡ step_lines_again v f x earlier cut r step
+    ++ lines_again v f x earlier' cut r' R'
 unfolding lines_again
 lines_next v f x earlier earlier' cut r r' step R R' e now more = rw (e, now, more) refl
 

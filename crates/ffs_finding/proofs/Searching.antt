@@ -3,12 +3,12 @@ use Rattle.std.proofs.Common.{◌≡◌, ◌∙◌, ◌*◌, ◌+◌, ◌≤◌,
 use Rattle.ffs_image.specs.Device.{Device, ForContents}
 use Rattle.ffs_memory.specs.Account.{Account}
 use Rattle.ffs_workspace.specs.Lengths.{held_of}
-use Rattle.ffs_volume.specs.{declared.Layout.Layout, Report.Memory.held_limit}
-use Rattle.ffs_volume.specs.{Disk.{Superblock.Superblock, Outcome.outcome}, Laws.Geometry.IsAcceptedLayout}
+use Rattle.ffs_volume.specs.{declared.Layout.Layout, Report.Memory.held_limit, Disk.Superblock.Superblock}
+use Rattle.ffs_volume.specs.{Disk.Outcome.outcome, Laws.Geometry.IsAcceptedLayout}
 use Rattle.ffs_report.specs.{Known.{ForBytes, IsContents}, Sink.Sink, declared.fault.RunFault.TheVariants.{Read, Out}}
-use Rattle.ffs_finding.specs.declared.{find.FindFault.{FindFault, TheVariants.{Refused, Run, NoMemory}}}
-use Rattle.ffs_finding.specs.declared.request.{Search.{Search, TheVariants.{Inode, Fields, Lost, Owner}}, Command.TheVariants.InVolume}
-use Rattle.ffs_finding.specs.{Fields.{WithSuper}, Outcome.{PrintedTo}}
+use Rattle.ffs_finding.specs.declared.find.FindFault.{FindFault, TheVariants.{Refused, Run, NoMemory}}
+use Rattle.ffs_finding.specs.declared.request.Search.{Search, TheVariants.{Inode, Fields, Lost, Owner}}
+use Rattle.ffs_finding.specs.{declared.request.Command.TheVariants.InVolume, Fields.WithSuper, Outcome.PrintedTo}
 use Rattle.ffs_finding.specs.Whole.{Answers, Looks, SearchAnswers, Searches, TakesForSearch, TakesMemory, command_lines}
 use Rattle.ffs_finding.specs.Whole.{lines_by, search_lines, status_by, status_of_answer}
 
@@ -22,7 +22,11 @@ module _ (search : Search) (sector : Option ℕ) (s : Superblock) (d : Device)
       PrintedTo (WithSuper d sector s) rest (λ b. search_lines search sector b s) a b →
       PrintedTo (IsContents d.contents) rest (command_lines (InVolume sector search)) a b
   printed rest a b p =
-      record { lines = p.lines; right = λ bytes k. p.right bytes (k, accepted bytes k) ∙ lines_are bytes k; took = p.took }
+      record {
+        lines = p.lines;
+        right = λ bytes k. p.right bytes (k, accepted bytes k) ∙ lines_are bytes k;
+        took = p.took;
+      }
 
   answers : (d' : Device) (held held' : Account) (a b : Sink) (r : Result Bool FindFault) →
       SearchAnswers search sector s d d' held held' a b r → Answers (InVolume sector search) d d' held held' a b r

@@ -1,12 +1,12 @@
 -- The lines of stretches of numbers that pass, one after another.
-use Rattle.std.proofs.Common.{◌≡◌, ◌∙◌, ℕ, zero, suc, ◌+◌, ◌-◌, ◌<◌, ◌≤◌, Bool, true, false, List, [], ◌∷◌, ◌++◌, append-nil, arith, refl, ap, sym, subst, inl, inr}
-use Rattle.std.proofs.lemmas.Bool.{cases_lt}
+use Rattle.std.proofs.Common.{◌≡◌, ◌∙◌, ℕ, zero, suc, ◌+◌, ◌-◌, ◌<◌, ◌≤◌, Bool, true, false, List, [], ◌∷◌, ◌++◌}
+use Rattle.std.proofs.{Common.{append-nil, arith, refl, ap, sym, subst, inl, inr}, lemmas.Bool.cases_lt}
 use Rattle.std.specs.{List.{concat, flat_map, prefix_len, range_with_len}, Prelude.◌||◌}
-use Rattle.ffs_report.{specs.Sink.{Sink, Took, BrokeOff}, proofs.Sinks.{took_nil, took_then, broke_off_after, broke_off_more}}
-use Rattle.ffs_finding.specs.Fields.{any_line}
+use Rattle.ffs_report.{specs.Sink.{Sink, Took, BrokeOff}, proofs.Sinks.{took_nil, took_then, broke_off_after}}
+use Rattle.ffs_report.proofs.Sinks.{broke_off_more}
+use Rattle.ffs_finding.{specs.{Fields.any_line, LostMaps.IsNext}, proofs.{Printing.concat-append, Ranges.{none, split}}}
+use Rattle.ffs_finding.proofs.{Ranges.next, WrongFields.any_more}
 use Rattle.ffs_volume.specs.Find.Lost.{range_text, stretch_at, stretch_length, stretch_lines}
-use Rattle.ffs_finding.specs.LostMaps.{IsNext}
-use Rattle.ffs_finding.proofs.{Printing.concat-append, Ranges.{none, split, next}, WrongFields.any_more}
 
 or_true : (b : Bool) → (b || true) ≡ true
 or_true b = grind arith
@@ -20,8 +20,10 @@ prefix_is p f (suc n) zero few pass stop = let place : f + 0 ≡ f = omega arith
     let at : p f ≡ false = subst (λ (k : ℕ). p k ≡ false) place (stop (omega arith)) in rw at refl
 prefix_is p f (suc n) (suc j) few pass stop =
     let at : p f ≡ true = pass f (omega arith) (omega arith) in
-    let rest = prefix_is p (f + 1) n j (omega (arith, few)) (λ k low high. pass k (omega (arith, low)) (omega (arith, high)))
-    (λ h. let place : f + suc j ≡ f + 1 + j = omega arith in subst (λ (k : ℕ). p k ≡ false) place (stop (omega (arith, h)))) in
+    let rest = prefix_is p (f + 1) n j (omega (arith, few))
+    (λ k low high. pass k (omega (arith, low)) (omega (arith, high)))
+    (λ h. let place : f + suc j ≡ f + 1 + j = omega arith in subst (λ (k : ℕ). p k ≡ false) place
+    (stop (omega (arith, h)))) in
     rw (at, rest) (omega arith)
 
 module _ (word : List ℕ) (p : ℕ → Bool) (base end : ℕ) where
@@ -147,7 +149,8 @@ module _ (word : List ℕ) (p : ℕ → Bool) (base end : ℕ) where
       let same : before h ≡ before g = before_none g h (omega (arith, at.low, stops.order)) found.order
       (λ k low high. found.others k low high) in
       let text : concat (before h) ≡ concat (before f) ++ range_text word f (g - 1) =
-      ap concat (same ∙ line) ∙ concat-append (before f) _ ∙ ap (λ (xs : List ℕ). concat (before f) ++ xs) (append-nil _) in
+      ap concat (same ∙ line) ∙ concat-append (before f) _
+      ∙ ap (λ (xs : List ℕ). concat (before f) ++ xs) (append-nil _) in
       record {
         low = omega (arith, at.low, stops.order, found.order);
         high = found.within;
@@ -164,7 +167,8 @@ module _ (word : List ℕ) (p : ℕ → Bool) (base end : ℕ) where
       let line = one_line f g any a b at inside stops in
       let text : concat (before g) ≡ concat (before f) ++ range_text word f (g - 1) =
       ap concat line ∙ concat-append (before f) _ ∙ ap (λ (xs : List ℕ). concat (before f) ++ xs) (append-nil _) in
-      rw (all_lines g (omega (arith, at.low, stops.order)) stops.within) (rw (concat-append (before g) (rest_from g), text)
+      rw (all_lines g (omega (arith, at.low, stops.order)) stops.within)
+      (rw (concat-append (before g) (rest_from g), text)
       (broke_off_more a c _ (concat (rest_from g)) (broke_off_after a b c _ _ at.took broke)))
 
   -- no further stretch

@@ -4,11 +4,10 @@ use Rattle.std.proofs.lemmas.Nat.{mul-le}
 use Rattle.ffs_image.specs.Device.{Device}
 use Rattle.ffs_layout.specs.declared.geometry.Geometry.{Geometry}
 use Rattle.ffs_walk.specs.{declared.{blocks.Blocks.Blocks, walk.Walk.Walk}, Windows.{CanWalk, KeepsBlocks}}
-use Rattle.ffs_volume.specs.Encodings.{Replay.{Replay, is_replay_open}, ReplayCounts.seen_run}
-use Rattle.ffs_volume.specs.declared.Step.{Step, TheVariants.{Run, Tail, Gap}}
-use Rattle.ffs_walk.specs.{Counts.entered, Fits.IsSpent, Frames.frame_left, declared.frame.Frame.Frame}
-use Rattle.ffs_volume.specs.Find.Owner.{indirect_in}
-use Rattle.ffs_walk.specs.Rests.{IsAtTop, most_at, most_steps_left}
+use Rattle.ffs_walk.specs.{Counts.entered, Fits.IsSpent, Frames.frame_left, declared.frame.Frame.Frame, Rests.IsAtTop}
+use Rattle.ffs_walk.specs.Rests.{most_at, most_steps_left}
+use Rattle.ffs_volume.specs.{Encodings.{Replay.{Replay, is_replay_open}, ReplayCounts.seen_run}, declared.Step.Step}
+use Rattle.ffs_volume.specs.{declared.Step.TheVariants.{Run, Tail, Gap}, Find.Owner.indirect_in}
 
 -- at most how many steps lie under an address, by the words of a block
 most_under : (n m1 m2 m3 : ℕ) → n ≤ 16384 → m1 ≡ 2 + n * 1 → m2 ≡ 2 + n * m1 → m3 ≡ 2 + n * m2 → m3 ≤ 4398583414786

@@ -1,35 +1,47 @@
--- The lines of wrong fields, and whether there is one.
-use Rattle.std.proofs.Common.{◌≡◌, ℕ, List, [], ◌∷◌, ◌++◌, append-nil, arith, refl, ◌∙◌, map, ◌||◌}
-use Rattle.std.specs.{List.{concat, flat_map, list_any}}
-use Rattle.ffs_finding.specs.Fields.{any_line, field_of, is_wrong, text_of_wrong}
-use Rattle.ffs_volume.specs.Find.Fields as book
-use Rattle.ffs_finding.specs.declared.fields.Field.{Field}
+-- The lines of wrong fields, field by field, and whether there is one.
+use Rattle.std.proofs.Common.{◌≡◌, ◌∙◌, ℕ, ◌+◌, ◌<◌, List, [], ◌∷◌, ◌++◌, ◌||◌, Bool, refl, ap, length, take, get_or}
+use Rattle.std.proofs.{Common.{add-one, append-nil}, Math.Seq.take-suc, lemmas.List.Concat.flat_map-append}
+use Rattle.std.specs.List.{concat, flat_map}
+use Rattle.ffs_report.{specs.Sink.{Sink, Took, BrokeOff}, proofs.Sinks.{took_then, broke_off_in_item}}
+use Rattle.ffs_volume.specs.Find.Fields.{field_lines}
+use Rattle.ffs_finding.specs.{Fields.{any_line, field_of, wrong_lines}, declared.fields.Field.Field}
 use Rattle.ffs_finding.proofs.Printing.{concat-append}
-
-text_at : (start : ℕ) (f : Field) → concat (book.field_lines start (field_of f)) ≡ text_of_wrong start f
-text_at start f = grind (arith, append-nil)
-
-pub lines_are : (start : ℕ) (fields : List Field) →
-    concat (flat_map (book.field_lines start) (map field_of fields)) ≡ flat_map (text_of_wrong start) fields
-lines_are start [] = refl
-lines_are start (f ∷ fields) =
-    concat-append (book.field_lines start (field_of f)) (flat_map (book.field_lines start) (map field_of fields))
-    ∙ grind (arith, text_at start f, lines_are start fields)
 
 pub any_more : (xs ys : List (List ℕ)) → any_line (xs ++ ys) ≡ (any_line xs || any_line ys)
 any_more [] ys = refl
 any_more (x ∷ xs) ys = refl
 
-any_at : (start : ℕ) (f : Field) → any_line (book.field_lines start (field_of f)) ≡ is_wrong f
-any_at start f = grind arith
+module _ (start : ℕ) (fields : List Field) (i : ℕ) (d : Field) (low : i < length fields) where
+  -- the lines of the fields before the one at i, and those of that one
+  abbrev before : List (List ℕ)
+  before = wrong_lines start (take i fields)
 
-pub any_is : (start : ℕ) (fields : List Field) →
-    list_any is_wrong fields ≡ any_line (flat_map (book.field_lines start) (map field_of fields))
-any_is start [] = refl
-any_is start (f ∷ fields) =
-    grind (
-      arith,
-      any_more (book.field_lines start (field_of f)) (flat_map (book.field_lines start) (map field_of fields)),
-      any_at start f,
-      any_is start fields,
-    )
+  abbrev here : List (List ℕ)
+  here = field_lines start (field_of (get_or fields i d))
+
+  next : wrong_lines start (take (i + 1) fields) ≡ before ++ here
+  next =
+      ap (λ (n : ℕ). wrong_lines start (take n fields)) (add-one i)
+      ∙ ap (wrong_lines start) (take-suc fields i d low)
+      ∙ flat_map-append (λ (f : Field). field_lines start (field_of f)) (take i fields) (get_or fields i d ∷ [])
+      ∙ ap (λ (ls : List (List ℕ)). before ++ ls) (append-nil here)
+
+  pub took_next : (a b c : Sink) → Took a b (concat before) → Took b c (concat here) →
+      Took a c (concat (wrong_lines start (take (i + 1) fields)))
+  took_next a b c p q = rw (next, concat-append before here) (took_then a b c (concat before) (concat here) p q)
+
+  pub any_next : (any found : Bool) → any ≡ any_line before → found ≡ any_line here →
+      (any || found) ≡ any_line (wrong_lines start (take (i + 1) fields))
+  any_next any found p q = rw (next, any_more before here, p, q) refl
+
+  -- the output failed in the line of the field at i
+  pub broke_at : (a b c : Sink) → Took a b (concat before) → BrokeOff b c (concat here) →
+      BrokeOff a c (concat (wrong_lines start fields))
+  broke_at a b c p q = rw (texts fields) (broke_off_in_item (λ (f : Field). concat (field_lines start (field_of f))) a b c
+      fields i d low (rw (texts (take i fields)) at p) q)
+    where
+      texts : (xs : List Field) → concat (wrong_lines start xs)
+          ≡ flat_map (λ (f : Field). concat (field_lines start (field_of f))) xs
+      texts [] = refl
+      texts (x ∷ xs) = concat-append (field_lines start (field_of x)) (wrong_lines start xs)
+          ∙ ap (λ (ys : List ℕ). concat (field_lines start (field_of x)) ++ ys) (texts xs)

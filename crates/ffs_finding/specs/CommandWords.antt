@@ -1,23 +1,24 @@
 -- What the words of `ffs_find` ask for, as `clap` reads them: `[-n] [-b sector] COMMAND [NUMBER] image`.
-use Rattle.std.specs.Prelude.{◌≡◌, ◌<◌, ◌^◌, ℕ, List, [], Option, Some, None, codes}
-use Rattle.std.specs.Str.Parse.{IsNumeral, digits_value, without_leading_plus}
+use Rattle.std.specs.{Prelude.{◌≡◌, ◌<◌, ◌^◌, ℕ, List, [], Option, Some, None, codes}, Str.Parse.IsNumeral}
+use Rattle.std.specs.Str.Parse.{digits_value, without_leading_plus}
 use Rattle.clap.specs.Words.{App, Rule, Text, first_of, matches_of, new_rule, with_rule}
 use Rattle.clap.specs.declared.builder.ArgAction.TheVariants.{Set}
-use Rattle.ffs_check.specs.CommandWords.{NameSector, needed_rule, no_write_rule, refusals, sector_rule, named_word, wordless}
-use Rattle.ffs_finding.specs.declared.request.{Search.{TheVariants.{Inode, Fields, Lost, Owner}}, Command.Command}
+use Rattle.ffs_check.specs.CommandWords.{NameSector, needed_rule, no_write_rule, refusals, sector_rule, named_word}
+use Rattle.ffs_check.specs.CommandWords.{wordless}
+use Rattle.ffs_finding.specs.declared.request.{Search.TheVariants.{Inode, Fields, Lost, Owner}, Command.Command}
 use Rattle.ffs_finding.specs.declared.request.Command.TheVariants.{Copies, InVolume}
 
--- the image, after a number
-abbrev pub last_rule : Rule
-last_rule = record (new_rule (codes "image")) { action = Some Set }
+-- one more word, which may be there
+abbrev pub second_rule : Rule
+second_rule = record (new_rule (codes "second")) { action = Some Set }
 
 -- the words of `ffs_find`
 abbrev pub find_program : App
 find_program = with_rule (with_rule (with_rule (with_rule (with_rule (wordless (codes "ffs_find")) no_write_rule)
-    sector_rule) (needed_rule (codes "command"))) (needed_rule (codes "number"))) last_rule
+    sector_rule) (needed_rule (codes "command"))) (needed_rule (codes "first"))) second_rule
 
--- what the words that aren't options say: the command, the word after it, and one more, if there is
--- one; and the sector
+-- what the words that aren't options say: the command, the word after it, which is a number or the image,
+-- and one more, the image, if there is one; and the sector
 pub record Operands : Type 0 where
   pub command : Text
   pub first : Text
@@ -28,8 +29,8 @@ pub record Operands : Type 0 where
 pub record HaveOperands (words : List Text) (o : Operands) : Type 0 where
   pub taken : refusals find_program words ≡ []
   pub command : o.command ≡ named_word find_program (codes "command") words
-  pub first : o.first ≡ named_word find_program (codes "number") words
-  pub second : o.second ≡ first_of (codes "image") (matches_of find_program words)
+  pub first : o.first ≡ named_word find_program (codes "first") words
+  pub second : o.second ≡ first_of (codes "second") (matches_of find_program words)
   pub sector : NameSector find_program words o.sector
 
 -- a text writes a number of 32 bits

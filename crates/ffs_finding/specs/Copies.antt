@@ -1,10 +1,10 @@
 -- The search for magic numbers, window by window.
-use Rattle.std.specs.Prelude.{◌≡◌, ℕ, ◌+◌, ◌-◌, ◌*◌, ◌/◌, ◌<◌, ◌≤◌, min, Bool, List, Some, is_some, Result, IfOk, OnOk, vec_len, count_by}
-use Rattle.std.specs.{Prelude.if◌then◌else◌, Int.div_ceil}
+use Rattle.std.specs.Prelude.{◌≡◌, ℕ, ◌+◌, ◌-◌, ◌*◌, ◌/◌, ◌<◌, ◌≤◌, min, Bool, List, Some, is_some, Result, IfOk, OnOk}
+use Rattle.std.specs.{Prelude.{vec_len, count_by, if◌then◌else◌}, Int.div_ceil}
 use Rattle.ffs_image.specs.{Device.{Device, ForContents}, Reads.ReadAfter, declared.image.ImageFault.ImageFault}
-use Rattle.ffs_volume.specs.Disk.{Superblock.order_of, Outcome.{outcome, super_bytes}}
+use Rattle.ffs_volume.specs.{Disk.{Superblock.order_of, Outcome.{outcome, super_bytes}}, Find.Copies.asked_sectors}
+use Rattle.ffs_volume.specs.Find.Copies.{copy_lines_of, sector_count}
 use Rattle.ffs_report.specs.{Known.IsContents, Sink.Sink, declared.fault.RunFault.RunFault}
-use Rattle.ffs_volume.specs.Find.Copies.{asked_sectors, copy_lines_of, sector_count}
 use Rattle.ffs_finding.specs.Outcome.{Finds}
 use Rattle.ffs_walk.specs.{Windows.WindowHolds, declared.window.Window.Window}
 

@@ -1,7 +1,6 @@
 -- The map of fragments in a group block.
 use Rattle.std.specs.{Prelude.{◌≡◌, ◌+◌, ◌≤◌, ℕ, true, false, List, Option, Some, None}, Int.div_ceil}
-use Rattle.ffs_volume.specs.{declared.Layout.Layout, Groups.Records.fragment_map_place}
-use Rattle.ffs_volume.specs.Find.Lost.{has_map}
+use Rattle.ffs_volume.specs.{declared.Layout.Layout, Groups.Records.fragment_map_place, Find.Lost.has_map}
 
 -- where the map of fragments begins in a block, if it has one
 abbrev pub IsMapPlace : Layout → List ℕ → Option ℕ → Type 0

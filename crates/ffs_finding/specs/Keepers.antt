@@ -1,21 +1,18 @@
 -- What the program knows of the inodes that keep an offer of a fragment, and what its parts leave.
 use Rattle.std.specs.Prelude.{◌≡◌, ◌+◌, ◌*◌, ◌<◌, ◌≤◌, ◌^◌, ℕ, Bool, true, ◌&&◌, List, [], ◌∷◌, ◌++◌, length, Option}
-use Rattle.std.specs.Prelude.{if◌then◌else◌, nat_le, nat_lt, slice_index, vec_len, Result}
-use Rattle.std.specs.{List.{concat}}
-use Rattle.ffs_volume.specs.declared.{Inode.Inode, Layout.Layout}
-use Rattle.ffs_volume.specs.declared.Step.{Step, TheVariants.{Run, Tail, Gap}}
-use Rattle.ffs_volume.specs.{Blocks.{Inodes.inode_of, Steps.steps_of}}
-use Rattle.ffs_volume.specs.Encodings.{Replay.{Replay, fresh_replay, is_replay_open}}
-use Rattle.ffs_volume.specs.Encodings.ReplayCounts.{replay_step_by_cut, replayed_runs}
-use Rattle.ffs_volume.specs.{Report.Whole.run_count, Groups.Records.group_block}
+use Rattle.std.specs.{Prelude.{if◌then◌else◌, nat_le, nat_lt, slice_index, vec_len, Result}, List.concat}
+use Rattle.ffs_volume.specs.declared.{Inode.Inode, Layout.Layout, Step.{Step, TheVariants.{Run, Tail, Gap}}}
+use Rattle.ffs_volume.specs.{Blocks.{Inodes.inode_of, Steps.steps_of}, Encodings.Replay.{Replay, fresh_replay}}
+use Rattle.ffs_volume.specs.Encodings.{Replay.is_replay_open, ReplayCounts.{replay_step_by_cut, replayed_runs}}
+use Rattle.ffs_volume.specs.{Report.Whole.run_count, Groups.Records.group_block, Find.Owner.group_of_fragment}
+use Rattle.ffs_volume.specs.Find.Owner.{indirect_in, keeper_lines, keeper_text, map_text}
 use Rattle.ffs_image.specs.Device.{Device}
 use Rattle.ffs_report.specs.{Known.{ForBytes, IsContents}, Sink.{Sink, Prints}, declared.fault.RunFault.RunFault}
 use Rattle.ffs_walk.specs.{Keepings.{replay_in, run_taken}, Windows.{KeepsBlocks, WindowHolds}}
 use Rattle.ffs_walk.specs.declared.{blocks.Blocks.Blocks, keeping.Keeping.Keeping, window.Window.Window}
-use Rattle.ffs_workspace.specs.{Found.WithPhase1, Lengths.inodes_of, Notes.cut_in}
-use Rattle.ffs_workspace.specs.{Ready.{IsReady, StaysReady}, declared.workspace.Workspace.Workspace}
+use Rattle.ffs_workspace.specs.{Found.WithPhase1, Lengths.inodes_of, Notes.cut_in, Ready.{IsReady, StaysReady}}
+use Rattle.ffs_workspace.specs.declared.workspace.Workspace.{Workspace}
 use Rattle.ffs_finding.specs.Outcome.{Finds}
-use Rattle.ffs_volume.specs.Find.Owner.{group_of_fragment, indirect_in, keeper_lines, keeper_text, map_text}
 
 -- ---- the map of a group
 -- the map of the group of the fragment f can be looked at: the volume has f, and its group block is there
@@ -46,7 +43,8 @@ run_text f x earlier start taken block = if is_in_run f start taken then keeper_
 -- the lines of a step and of steps
 abbrev pub step_lines_again : Layout → (f x earlier cut : ℕ) → Replay → Step → List (List ℕ)
 step_lines_again v f x earlier cut r (Run start len block) =
-    if is_replay_open cut r && is_in_run f start (run_taken v cut r start len) then keeper_text x earlier block ∷ [] else []
+    if is_replay_open cut r && is_in_run f start (run_taken v cut r start len) then keeper_text x earlier block
+    ∷ [] else []
 step_lines_again v f x earlier cut r Tail = []
 step_lines_again v f x earlier cut r Gap = []
 
@@ -86,7 +84,8 @@ pub record CanLookAtInode (v : Layout) (d : Device) (w : Workspace) (x : ℕ) : 
 -- the inode x was looked at: its lines were printed, by its noted cut, and only windows have changed
 pub record LooksAtInode {T : Type 0} (v : Layout) (f x : ℕ) (d d' : Device) (count count' : ℕ) (w w' : Workspace)
     (old new : Sink) (result : Result T RunFault) : Type 0 where
-  pub found : Finds (IsContents d.contents) (λ b. lines_again v f x 0 (cut_in (slice_index w.notes.items x)) fresh_replay
+  pub found : Finds (IsContents d.contents) (λ b. lines_again v f x 0
+      (cut_in (slice_index w.notes.items x)) fresh_replay
       (steps_of v (inode_of v b x) b)) d d' old new result
   pub stays : StaysReady v d' w w'
   pub reads : ForBytes (IsContents d.contents) (λ b. count' ≤ count + 1

@@ -1,16 +1,15 @@
 -- The map of a group as the program has it, and what it prints of it.
-use Rattle.std.specs.Prelude.{◌≡◌, ◌≤◌, ◌<◌, ◌+◌, ◌-◌, ◌*◌, ℕ, Bool, not, ◌&&◌, List, [], ◌∷◌, codes, length, Result, IfOk, vec_len}
-use Rattle.std.specs.{List.{concat, flat_map}, Int.div_ceil}
+use Rattle.std.specs.Prelude.{◌≡◌, ◌≤◌, ◌<◌, ◌+◌, ◌-◌, ◌*◌, ℕ, Bool, not, ◌&&◌, List, [], ◌∷◌, codes, length, Result}
+use Rattle.std.specs.{Prelude.{IfOk, vec_len}, List.flat_map, Int.div_ceil}
 use Rattle.ffs_image.specs.Device.{Device}
 use Rattle.ffs_volume.specs.{declared.Layout.Layout, Groups.Records.{bit_at, group_block, group_numbers}}
-use Rattle.ffs_volume.specs.Messages.Texts.{number_text}
+use Rattle.ffs_volume.specs.{Messages.Texts.number_text, Find.Lost.{lost_of_group, wrongly_free_of_group}}
 use Rattle.ffs_maps.specs.Bits.{bits_of}
 use Rattle.ffs_groups.specs.Free.{free_in}
-use Rattle.ffs_report.specs.{Known.{ForBytes, IsContents}, Sink.{Sink, Prints}, declared.fault.RunFault.RunFault}
+use Rattle.ffs_report.specs.{Known.{ForBytes, IsContents}, Sink.Sink, declared.fault.RunFault.RunFault}
 use Rattle.ffs_walk.specs.{Windows.WindowHolds, declared.window.Window.Window}
-use Rattle.ffs_finding.specs.{Fields.any_line, Outcome.Finds}
-use Rattle.ffs_volume.specs.Find.Lost.{lost_of_group, wrongly_free_of_group}
-use Rattle.ffs_finding.specs.declared.lost.{GroupMap.GroupMap, Wrong.{Wrong, TheVariants.{Lost, MarkedFree}}}
+use Rattle.ffs_finding.specs.{Fields.any_line, Outcome.Finds, declared.lost.{GroupMap.GroupMap, Wrong.Wrong}}
+use Rattle.ffs_finding.specs.declared.lost.Wrong.TheVariants.{Lost, MarkedFree}
 
 -- the word before the fragments of which a map says this wrongly
 abbrev pub word_of : Wrong → List ℕ
@@ -51,11 +50,6 @@ pub record IsNext (p : ℕ → Bool) (answer : Bool) (from end found : ℕ) : Ty
   pub within : found ≤ end
   pub others : (f : ℕ) → from ≤ f → f < found → p f ≡ not answer
   pub at : found < end → p found ≡ answer
-
--- these lines were printed, or the output failed among them; the answer is whether there is one
-pub record PrintsWhether {E : Type 0} (lines : List (List ℕ)) (old new : Sink) (result : Result Bool E) : Type 0 where
-  pub text : Prints old new (concat lines) result
-  pub any : IfOk result (λ b. b ≡ any_line lines)
 
 -- the lines of a group that has no map
 abbrev pub no_map_lines : Wrong → ℕ → List (List ℕ)

@@ -1,8 +1,9 @@
 -- The operands as the program has them, and what it reads of them.
 use Rattle.std.specs.Prelude.{◌≡◌, ℕ, List, Option, Some, None, codes, option_map}
 use Rattle.ffs_check.specs.declared.program.Asked.{Asked}
+use Rattle.ffs_finding.specs.declared.{words.Operands.Operands, request.{Command.Command, Search.Search}}
+use Rattle.ffs_finding.specs.declared.request.Search.TheVariants.{Inode, Fields, Lost, Owner}
 use Rattle.ffs_finding.specs.CommandWords as words
-use Rattle.ffs_finding.specs.declared.{words.Operands.Operands, request.{Command.Command, Search.{Search, TheVariants.{Inode, Fields, Lost, Owner}}}}
 
 -- the operands of the program as those of the definitions
 abbrev pub operands_in : Operands → words.Operands

@@ -1,9 +1,8 @@
 -- What a command leaves of its image and of its output, by its answer. `all` are the lines that it
 -- prints of an image's bytes, and `knows` says which bytes these are.
-use Rattle.std.specs.Prelude.{◌≡◌, ℕ, List, [], ◌++◌, Result, Ok, Err}
-use Rattle.std.specs.List.{concat}
+use Rattle.std.specs.{Prelude.{◌≡◌, ℕ, List, [], ◌++◌, Result, Ok, Err}, List.concat}
 use Rattle.ffs_image.specs.Device.{Device}
-use Rattle.ffs_report.specs.{Known.{ForBytes}, Sink.{Sink, Took, BrokeOff}, PhaseOutcome.ImageAfter}
+use Rattle.ffs_report.specs.{Known.ForBytes, Sink.{Sink, Took, BrokeOff}, PhaseOutcome.ImageAfter}
 use Rattle.ffs_report.specs.declared.fault.RunFault.{RunFault, TheVariants.{Read, Out}}
 
 -- whole lines were printed, and with `rest`, those that are to come, they are `all`

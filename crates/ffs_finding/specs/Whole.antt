@@ -1,24 +1,22 @@
 -- What the program prints of an image, and its status, by what it is asked for.
-use Rattle.std.specs.Prelude.{◌≡◌, ◌⊎◌, ◌≤◌, ◌+◌, ◌*◌, ℕ, Bool, true, false, ◌&&◌, List, [], ◌∷◌, if◌then◌else◌, Option, Result, Ok, Err}
+use Rattle.std.specs.Prelude.{◌≡◌, ◌⊎◌, ◌≤◌, ◌+◌, ◌*◌, ℕ, Bool, true, false, ◌&&◌, List, [], ◌∷◌, if◌then◌else◌, Option}
+use Rattle.std.specs.Prelude.{Result, Ok, Err}
 use Rattle.ffs_image.specs.Device.{Device, Faulted, ForContents}
 use Rattle.ffs_volume.specs.{declared.{Layout.Layout, SuperFault.SuperFault}, Laws.Geometry.IsAcceptedLayout}
-use Rattle.ffs_volume.specs.Disk.{Superblock.Superblock, Outcome.outcome}
-use Rattle.ffs_volume.specs.{Messages.{Kinds.{cannot_read, cannot_alloc}, Texts.text_of}, Report.Opening.fault_line}
-use Rattle.ffs_volume.specs.Report.Reads.{opening_reads, scan_reads, sweep_reads}
-use Rattle.ffs_report.specs.{Known.{ForBytes, IsContents}, Sink.Sink}
-use Rattle.ffs_report.specs.declared.fault.RunFault.{TheVariants.{Read, Out}}
+use Rattle.ffs_volume.specs.{Disk.{Superblock.Superblock, Outcome.outcome}, Messages.Kinds.{cannot_read, cannot_alloc}}
+use Rattle.ffs_volume.specs.{Messages.Texts.text_of, Report.{Opening.fault_line, Reads.{opening_reads, scan_reads}}}
+use Rattle.ffs_volume.specs.{Report.Reads.sweep_reads, Find.{Copies.copies_lines, InodeText.inode_listing}}
+use Rattle.ffs_volume.specs.Find.{Fields.wrong_fields, Lost.lost_lines, Owner.lines_of_fragment}
+use Rattle.ffs_report.specs.{Known.{ForBytes, IsContents}, Sink.Sink, declared.fault.RunFault.TheVariants.{Read, Out}}
 use Rattle.ffs_memory.specs.Account.{Account, RefusedOneMore}
 use Rattle.ffs_check.specs.{Run.IsPrintedOrBrokeOff, Taken.{AsksMemory, Takes}}
 use Rattle.ffs_workspace.specs.Lengths.{held_of}
 use Rattle.ffs_layout.specs.Super.{ReadsSuper}
-use Rattle.ffs_finding.specs.declared.request.{Search.{Search, TheVariants.{Inode, Fields, Lost, Owner}}, Command.Command}
-use Rattle.ffs_finding.specs.declared.{request.Command.TheVariants.{Copies, InVolume}, find.FindFault.FindFault}
-use Rattle.ffs_finding.specs.declared.find.FindFault.TheVariants.{Refused, Run, NoMemory}
-use Rattle.ffs_volume.specs.Find.{Copies.copies_lines, InodeText.inode_listing, Fields.wrong_fields}
+use Rattle.ffs_finding.specs.declared.request.Search.{Search, TheVariants.{Inode, Fields, Lost, Owner}}
+use Rattle.ffs_finding.specs.declared.request.Command.{Command, TheVariants.{Copies, InVolume}}
+use Rattle.ffs_finding.specs.declared.find.FindFault.{FindFault, TheVariants.{Refused, Run, NoMemory}}
 use Rattle.ffs_finding.specs.{Outcome.{PrintedTo, PrintedSome, StoppedIn}, Fields.{WithSuper, any_line}}
-use Rattle.ffs_volume.specs.Find.Lost.{lost_lines}
 use Rattle.ffs_finding.specs.Copies.{ReadsCopies}
-use Rattle.ffs_volume.specs.Find.Owner.{lines_of_fragment}
 
 -- what a search prints of an image with this accepted superblock
 abbrev pub search_lines : Search → (sector : Option ℕ) → (image : List ℕ) → Superblock → List (List ℕ)
@@ -71,7 +69,8 @@ SearchAnswers search sector s d d' held held' old new (Err (Run (Read fault))) =
     Faulted d d' fault.sector × PrintedSome (WithSuper d sector s) (λ b. search_lines search sector b s) old new
 SearchAnswers search sector s d d' held held' old new (Err (Run (Out fault))) =
     (d' ≡ d) × StoppedIn (WithSuper d sector s) (λ b. search_lines search sector b s) old new
-SearchAnswers search sector s d d' held held' old new (Err NoMemory) = (d' ≡ d) × (new ≡ old) × RefusedOneMore held held'
+SearchAnswers search sector s d d' held held' old new (Err NoMemory) =
+    (d' ≡ d) × (new ≡ old) × RefusedOneMore held held'
 
 -- how often a search reads an image after the superblock, in a volume of this layout: `lost` for phase 1 and
 -- the block of each group twice, `owner` for phase 1 and a sweep over all inodes

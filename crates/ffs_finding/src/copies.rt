@@ -1,11 +1,12 @@
 //! `copies`: the sectors at which a superblock is accepted.
 ghost use Rattle.std.specs.Prelude.{◌≡◌, ◌+◌, ◌*◌, ◌≤◌, ◌<◌, ◌||◌, ◌==◌, length, vec_len};
-ghost use Rattle.ffs_volume.specs.{Disk.Outcome.outcome, Disk.Numbers.u32_at as u32_in};
-ghost use Rattle.ffs_volume.specs.declared.{Order.TheVariants.{Little, Big}, constants.TheConstants.FS_MAGIC};
-ghost use Rattle.ffs_report.specs.{Known.IsContents, Sink.Prints};
-ghost use Rattle.ffs_finding.specs.{Outcome.Finds, Copies.{CanLookAt, LooksForMagic, IsSectorsEnd, LooksAt, ReadsCopies}};
-ghost use Rattle.ffs_walk.specs.Windows.{WindowHolds};
+ghost use Rattle.ffs_volume.specs.{Disk.{Outcome.outcome, Numbers.u32_at as u32_in}, declared.Order.TheVariants.Little};
+ghost use Rattle.ffs_volume.specs.declared.{Order.TheVariants.Big, constants.TheConstants.FS_MAGIC};
 ghost use Rattle.ffs_volume.specs.Find.Copies.{copies_lines, copy_lines_of, copy_text, order_word, role_text};
+ghost use Rattle.ffs_report.specs.{Known.IsContents, Sink.Prints};
+ghost use Rattle.ffs_finding.specs.{Outcome.Finds, Copies.{CanLookAt, LooksForMagic, IsSectorsEnd, LooksAt}};
+ghost use Rattle.ffs_finding.specs.Copies.{ReadsCopies};
+ghost use Rattle.ffs_walk.specs.Windows.{WindowHolds};
 
 use ffs_image::{Image, ImageFault};
 use ffs_layout::{Geometry, Order, read_super, u32_at};

@@ -1,12 +1,13 @@
 //! `fields`: fields of the superblock that a kernel computes with, and that a check doesn't look at.
-ghost use Rattle.std.specs.{Prelude.{◌≡◌, ◌+◌, ◌*◌, ◌^◌, ◌≤◌, ◌<◌, length, map, IfOk}, Int.{cast_signed, div_ceil, w64}};
-ghost use Rattle.std.specs.List.{flat_map, list_any};
+ghost use Rattle.std.specs.{Prelude.{◌≡◌, ◌+◌, ◌*◌, ◌^◌, ◌≤◌, ◌<◌, length, map, IfOk}, Int.{cast_signed, div_ceil}};
+ghost use Rattle.std.specs.Int.{w64};
 ghost use Rattle.ffs_volume.specs.Disk.{Numbers.u64_at as u64_in, Outcome.super_sector};
-ghost use Rattle.ffs_volume.specs.declared.constants.TheConstants.{DEV_BSIZE};
+ghost use Rattle.ffs_volume.specs.{declared.constants.TheConstants.DEV_BSIZE, Find.Fields.{exponent_of, field_32}};
+ghost use Rattle.ffs_volume.specs.Find.Fields.{field_lines, field_text, layout_fields, mask_of, total_64, total_fields};
+ghost use Rattle.ffs_volume.specs.Find.Fields.{wrong_fields};
 ghost use Rattle.ffs_layout.specs.Super.{superblock_in};
 ghost use Rattle.ffs_report.specs.{Known.ForBytes, Sink.Prints};
-ghost use Rattle.ffs_finding.specs.{Outcome.Finds, Fields.{PrintsFields, WithSuper, any_line, field_of, is_wrong, text_of_wrong}};
-ghost use Rattle.ffs_volume.specs.Find.Fields.{exponent_of, field_32, field_lines, field_text, layout_fields, mask_of, total_64, total_fields, wrong_fields};
+ghost use Rattle.ffs_finding.specs.{Outcome.Finds, Fields.{PrintsWhether, WithSuper, any_line, field_of, wrong_lines}};
 
 use byteorder::{BigEndian, ByteOrder, LittleEndian};
 use ffs_image::Image;
@@ -141,49 +142,36 @@ fn print_field<W: Output>(out: &mut W, start: u64, field: &Field) -> Result<(), 
     )
 }
 
-/// Prints the line of a field, where it is wrong.
-fn print_wrong_field<W: Output>(out: &mut W, start: u64, field: &Field) -> Result<(), OutFault>
+/// Prints the line of a field, where it is wrong, and returns whether it is.
+#[tactic(auto, using(crate::proofs::Printing::one, crate::proofs::Printing::one_broken))]
+fn print_wrong_field<W: Output>(out: &mut W, start: u64, field: &Field) -> Result<bool, OutFault>
     requires { start < 2 ^ 63 }
-    ensures { Prints (W.sink out.old) (W.sink out.new) (text_of_wrong start field.now) result }
+    ensures { PrintsWhether (field_lines start (field_of field.now)) (W.sink out.old)
+        (W.sink out.new) result }
 {
     if field.has == field.wants {
-        return Ok(());
+        return Ok(false);
     }
-    print_field(out, start, field)
-}
-
-/// Prints the lines of those fields that are wrong.
-fn print_wrong_fields<W: Output>(out: &mut W, start: u64, fields: &[Field]) -> Result<(), OutFault>
-    requires { start < 2 ^ 63 }
-    ensures { Prints (W.sink out.old) (W.sink out.new)
-        (flat_map (text_of_wrong start) fields.now) result }
-{
-    for field in fields {
-        print_wrong_field(out, start, field)?;
-    }
-    Ok(())
-}
-
-/// Whether a field is wrong.
-fn is_any_wrong(fields: &[Field]) -> bool
-    ensures { result ≡ list_any is_wrong fields.now }
-{
-    let mut is_any_wrong = false;
-    for field in fields {
-        is_any_wrong |= field.has != field.wants;
-    }
-    is_any_wrong
+    print_field(out, start, field)?;
+    Ok(true)
 }
 
 /// Prints the lines of those fields that are wrong, and returns whether there is one.
-#[tactic(auto, using(crate::proofs::WrongFields::lines_are, crate::proofs::WrongFields::any_is))]
-fn print_fields<W: Output>(out: &mut W, start: u64, fields: &[Field]) -> Result<bool, OutFault>
+fn print_wrong_fields<W: Output>(
+    out: &mut W,
+    start: u64,
+    fields: &[Field],
+) -> Result<bool, OutFault>
     requires { start < 2 ^ 63 }
-    ensures { PrintsFields start (map field_of fields.now) (W.sink out.old) (W.sink out.new)
+    ensures { PrintsWhether (wrong_lines start fields.now) (W.sink out.old) (W.sink out.new)
         result }
 {
-    print_wrong_fields(out, start, fields)?;
-    Ok(is_any_wrong(fields))
+    let mut any = false;
+    for field in fields {
+        let found = print_wrong_field(out, start, field)?;
+        any |= found;
+    }
+    Ok(any)
 }
 
 /// Prints which fields of an accepted superblock, at a sector or at the usual place, aren't what its
@@ -211,7 +199,7 @@ pub fn find_wrong_fields<I: Image, W: Output>(
         return Ok(false);
     }
     image.read_at(start, &mut bytes)?;
-    let of_layout = print_fields(out, start, &layout_fields(superblock, &bytes))?;
-    let of_totals = print_fields(out, start, &total_fields(superblock, &bytes))?;
-    Ok(of_layout || of_totals)
+    let of_layout = print_wrong_fields(out, start, &layout_fields(superblock, &bytes))?;
+    let of_totals = print_wrong_fields(out, start, &total_fields(superblock, &bytes))?;
+    Ok(of_layout | of_totals)
 }

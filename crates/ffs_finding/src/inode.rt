@@ -1,9 +1,11 @@
 //! `inode`: where an inode lies, and what it says.
 ghost use Rattle.std.specs.Prelude.{◌≡◌, ◌+◌, ◌*◌, ◌≤◌, ◌<◌};
-ghost use Rattle.ffs_volume.specs.Blocks.Inodes.{is_short_symlink as is_short_symlink_of, is_device as is_device_of, type_of, inode_from_bytes};
+ghost use Rattle.ffs_volume.specs.Blocks.Inodes.{is_short_symlink as is_short_symlink_of, is_device as is_device_of};
+ghost use Rattle.ffs_volume.specs.{Blocks.Inodes.{type_of, inode_from_bytes}, Find.InodeText.place_text};
+ghost use Rattle.ffs_volume.specs.Find.InodeText.{numbers_text, address_text, link_text, addresses_text, bytes_text};
+ghost use Rattle.ffs_volume.specs.Find.InodeText.{inode_listing, class_word, fifteen_text};
 ghost use Rattle.ffs_report.specs.{Known.IsContents, Sink.Prints};
 ghost use Rattle.ffs_finding.specs.Outcome.{Finds};
-ghost use Rattle.ffs_volume.specs.Find.InodeText.{place_text, numbers_text, address_text, link_text, addresses_text, bytes_text, inode_listing, class_word, fifteen_text};
 
 use ffs_image::Image;
 use ffs_layout::{Geometry, decode_inode};

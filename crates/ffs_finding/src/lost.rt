@@ -4,9 +4,10 @@ ghost use Rattle.ffs_maps.specs.Bits.{bits_of};
 ghost use Rattle.ffs_groups.specs.Free.{free_in};
 ghost use Rattle.ffs_report.specs.{Known.ForBytes, Sink.Prints};
 ghost use Rattle.ffs_workspace.specs.{Found.WithPhase1, Ready.IsReady};
-ghost use Rattle.ffs_finding.specs.{Fields.any_line, Outcome.Finds};
+ghost use Rattle.ffs_finding.specs.{Fields.{PrintsWhether, any_line}, Outcome.Finds, LostMaps.{CanReadGroups, word_of}};
+ghost use Rattle.ffs_finding.specs.LostMaps.{CanSayGroup, FindsWrong, IsGroupMap, IsInMap, IsInMapOrEnd, IsNext};
+ghost use Rattle.ffs_finding.specs.LostMaps.{is_wrong_at, lines_of_group, no_map_lines};
 ghost use Rattle.ffs_volume.specs.Find.Lost.{lost_lines, range_text, stretch_lines};
-ghost use Rattle.ffs_finding.specs.LostMaps.{CanReadGroups, CanSayGroup, FindsWrong, IsGroupMap, IsInMap, IsInMapOrEnd, IsNext, PrintsWhether, is_wrong_at, lines_of_group, no_map_lines, word_of};
 
 use crate::group_map::{is_marked_free, map_place};
 use ffs_groups::{group_fragments, same_fragment_map};

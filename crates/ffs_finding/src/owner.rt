@@ -1,13 +1,15 @@
 //! `owner`: to what a fragment belongs.
 ghost use Rattle.std.specs.Prelude.{◌≡◌, ◌+◌, ◌*◌, ◌/◌, ◌≤◌, ◌<◌, ◌^◌, length, true, slice_index, vec_len};
-ghost use Rattle.ffs_volume.specs.Disk.Areas.{is_reserved};
-ghost use Rattle.ffs_volume.specs.{Blocks.Inodes.inode_of, Encodings.{Kinds.is_allocated_kind, Replay.is_replay_open}, Report.Reads.sweep_reads, Groups.Records.bit_at};
+ghost use Rattle.ffs_volume.specs.{Disk.Areas.is_reserved, Blocks.Inodes.inode_of, Encodings.Kinds.is_allocated_kind};
+ghost use Rattle.ffs_volume.specs.{Encodings.Replay.is_replay_open, Report.Reads.sweep_reads, Groups.Records.bit_at};
+ghost use Rattle.ffs_volume.specs.Find.Owner.{indirect_in, keeper_text, keeper_lines, map_text, lines_of_fragment};
+ghost use Rattle.ffs_volume.specs.Find.Owner.{part_text, reserved_text, table_text};
 ghost use Rattle.ffs_report.specs.{Known.IsContents, Sink.Prints};
 ghost use Rattle.ffs_walk.specs.{Keepings.replay_in, Windows.CanWalk};
 ghost use Rattle.ffs_workspace.specs.{Found.WithPhase1, Notes.cut_in, Ready.IsReady};
-ghost use Rattle.ffs_volume.specs.Find.Owner.{indirect_in, keeper_text, keeper_lines, map_text, lines_of_fragment, part_text, reserved_text, table_text};
-ghost use Rattle.ffs_finding.specs.{Outcome.Finds};
-ghost use Rattle.ffs_finding.specs.Keepers.{CanLookAtInode, CanPrintMap, CanPrintStep, CanReadMap, map_lines, LooksAtInode, LooksAtAll, PrintsStep, WalksKept, is_in_run, run_text};
+ghost use Rattle.ffs_finding.specs.{Outcome.Finds, Keepers.{CanLookAtInode, CanPrintMap, CanPrintStep, CanReadMap}};
+ghost use Rattle.ffs_finding.specs.Keepers.{map_lines, LooksAtInode, LooksAtAll, PrintsStep, WalksKept, is_in_run};
+ghost use Rattle.ffs_finding.specs.Keepers.{run_text};
 
 use crate::group_map::{is_marked_free, map_place};
 use ffs_image::{Image, LimitedImage};

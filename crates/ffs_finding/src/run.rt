@@ -6,7 +6,7 @@ ghost use Rattle.ffs_finding.specs.Run.{ffs_find};
 
 use crate::find::find_in;
 use crate::request::Command;
-use crate::words::{operands_of, request_of};
+use crate::words::{asked_of, operands_of};
 use crate::wrong_words::refusal_of;
 use clap::error::ErrorKind;
 use ffs_check::opener::Opener;
@@ -28,7 +28,7 @@ impl Program for Find {
 
     fn request_of<'a>(alloc: Global, words: &'a [&'a str]) -> Result<Asked<'a, Command>, NotAsked> {
         match operands_of(alloc, words) {
-            Ok(operands) => match request_of(&operands) {
+            Ok(operands) => match asked_of(&operands) {
                 Some(asked) => Ok(asked),
                 None => Err(NotAsked::Refused(refusal_of(ErrorKind::UnknownArgument))),
             },

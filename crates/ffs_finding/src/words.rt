@@ -2,9 +2,8 @@
 ghost use Rattle.std.specs.Prelude.{◌≡◌, None, map, MatchOption, MatchResult};
 ghost use Rattle.clap.specs.{Words.{app_of, kind_of}, declared.error.kind.ErrorKind.TheVariants.OutOfMemory};
 ghost use Rattle.ffs_check.specs.CommandWords.{AreRefusedBy, HasMatches, IsArgument};
-ghost use Rattle.ffs_finding.specs.CommandWords.{HaveOperands, find_program, last_rule};
-ghost use Rattle.ffs_finding.specs.declared.request.Search.{Search};
-ghost use Rattle.ffs_finding.specs.Operands.{IsSearch, SaysOf, operands_in};
+ghost use Rattle.ffs_finding.specs.CommandWords.{HaveOperands, find_program, second_rule};
+ghost use Rattle.ffs_finding.specs.{declared.request.Search.Search, Operands.{IsSearch, SaysOf, operands_in}};
 
 use crate::request::{Command as Wanted, Search};
 use clap::{Arg, ArgAction, ArgMatches, Command, Error};
@@ -12,11 +11,11 @@ use ffs_check::program::Asked;
 use ffs_check::words::{needed_argument, no_write_argument, sector_argument, wordless_command};
 use std::alloc::Global;
 
-/// The image, after a number.
-fn image_argument<'a>(alloc: Global) -> Arg<'a>
-    ensures { IsArgument result last_rule }
+/// A word that may follow the first one after the command.
+fn second_argument<'a>(alloc: Global) -> Arg<'a>
+    ensures { IsArgument result second_rule }
 {
-    Arg::new(alloc, "image").action(ArgAction::Set)
+    Arg::new(alloc, "second").action(ArgAction::Set)
 }
 
 /// The words that the program takes.
@@ -30,8 +29,8 @@ fn command<'a>(alloc: Global) -> Result<Command<'a>, Error>
             .arg(no_write)?
             .arg(sector_argument(alloc))?
             .arg(needed_argument(alloc, "command"))?
-            .arg(needed_argument(alloc, "number"))?
-            .arg(image_argument(alloc))?,
+            .arg(needed_argument(alloc, "first"))?
+            .arg(second_argument(alloc))?,
     )
 }
 
@@ -69,14 +68,14 @@ pub(crate) fn operands_of<'a>(alloc: Global, words: &'a [&'a str]) -> Result<Ope
     let matches = matches_of(alloc, words)?;
     Ok(Operands {
         command: matches.get_str("command").unwrap_or(""),
-        first: matches.get_str("number").unwrap_or(""),
-        second: matches.get_str("image"),
+        first: matches.get_str("first").unwrap_or(""),
+        second: matches.get_str("second"),
         sector: matches.get_one::<u32>("sector"),
     })
 }
 
 /// What operands without a number ask for, if they ask for something.
-fn plain_request<'a>(operands: &Operands<'a>) -> Option<Asked<'a, Wanted>>
+fn asked_without_number<'a>(operands: &Operands<'a>) -> Option<Asked<'a, Wanted>>
     requires { operands.now.second ≡ None }
     ensures { SaysOf (operands_in operands.now) result }
 {
@@ -114,12 +113,12 @@ fn numbered_search(command: &str, number: u32) -> Option<Search>
 }
 
 /// What the operands ask for, if they ask for something.
-pub(crate) fn request_of<'a>(operands: &Operands<'a>) -> Option<Asked<'a, Wanted>>
+pub(crate) fn asked_of<'a>(operands: &Operands<'a>) -> Option<Asked<'a, Wanted>>
     ensures { SaysOf (operands_in operands.now) result }
 {
     let sector = operands.sector;
     let Some(name) = operands.second else {
-        return plain_request(operands);
+        return asked_without_number(operands);
     };
     let Ok(number) = operands.first.parse::<u32>() else {
         return None;

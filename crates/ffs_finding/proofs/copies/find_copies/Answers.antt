@@ -40,7 +40,8 @@ returns-in_err-find_copy-clause-reads g c =
     record {
       known = λ b k. reads_all b d.size n _ _ (omega (arith, c.sectors_end-sector-end.ensures.below))
           (omega (arith, inside, c.size.ensures))
-          (reads_next d b n _ _ _ _ (omega arith) inv.first (inv.known b k) inv.at (e.counted b k) (λ at. e.again at b k));
+          (reads_next d b n _ _ _ _ (omega arith) inv.first (inv.known b k) inv.at (e.counted b k)
+          (λ at. e.again at b k));
       any = omega (arith, e.any, inv.any, count_is, c.sectors_end-sector-end.ensures.below);
     }
 
@@ -58,7 +59,8 @@ loop-sector-preserved g c =
       at = λ h. subst (λ (k : ℕ). IsWindowOf d k c.find_copy.new.window) back e.window.at;
       first = λ h. absurd (omega (arith, h));
       known = λ b k.
-          let most = reads_next d b n _ _ _ _ (omega arith) inv.first (inv.known b k) inv.at (e.counted b k) (λ at. e.again at b k) in
+          let most = reads_next d b n _ _ _ _ (omega arith) inv.first (inv.known b k) inv.at (e.counted b k)
+          (λ at. e.again at b k) in
           let same : magics b n ≡ magics b (n + 1 - 1) = ap (magics b) back in
           omega (arith, most, same);
       any = omega (arith, e.any, inv.any);

@@ -22,7 +22,8 @@ returns-then-not-found g c =
     record {
       found = record {
         image = e.read;
-        text = prints_none (no_line (g.I.Image.device c.args.image.now) c.args.sector (g.met.I.Image.sized c.args.image.now) c.requires.inside
+        text = prints_none (no_line (g.I.Image.device c.args.image.now) c.args.sector
+            (g.met.I.Image.sized c.args.image.now) c.requires.inside
             (λ b k. sym c.if-not-found.true ∙ e.answer b k));
       };
       window = record { at = e.window.at; room = e.window.room; holds = e.window.holds };
@@ -37,7 +38,8 @@ returns-in_err-print_copy-in-Ok g c =
     c.from_residual-in_err-print_copy-in-Ok.ensures.1 in
     let e = c.in_ok-found.ensures in
     let s = same_super (g.I.Image.device c.args.image.now) _ _ _ _ e.read c.in-Ok.ensures.answer in
-    let two = two_reads (g.I.Image.device c.args.image.now) c.args.sector (λ b k. sym c.if-not-found.false ∙ e.answer b k) in
+    let two = two_reads (g.I.Image.device c.args.image.now) c.args.sector
+    (λ b k. sym c.if-not-found.false ∙ e.answer b k) in
     rw (p.1, p.2) (record {
       found = record {
         image = s.0;
@@ -48,7 +50,8 @@ returns-in_err-print_copy-in-Ok g c =
         at = search rules;
         room = e.window.room;
         holds = holds_on (g.I.Image.device c.args.image.now) (g.I.Image.device c.has_magic.new.image)
-            (g.I.Image.device c.read_super.new.image) c.has_magic.new.window e.read (ap (λ x. x.contents) s.0) e.window.holds;
+            (g.I.Image.device c.read_super.new.image) c.has_magic.new.window e.read
+            (ap (λ x. x.contents) s.0) e.window.holds;
       };
       counted = λ b k. let reads = two b k in omega (arith, e.counted, reads, c.in-Ok.ensures.reads);
       again = λ at b k. let reads = two b k in omega (arith, e.again at, reads, c.in-Ok.ensures.reads);
@@ -59,17 +62,20 @@ pub returns-in_ok-print_copy-in-Ok : goal.returns-in_ok-print_copy-in-Ok
 returns-in_ok-print_copy-in-Ok g c =
     let e = c.in_ok-found.ensures in
     let s = same_super (g.I.Image.device c.args.image.now) _ _ _ _ e.read c.in-Ok.ensures.answer in
-    let two = two_reads (g.I.Image.device c.args.image.now) c.args.sector (λ b k. sym c.if-not-found.false ∙ e.answer b k) in
+    let two = two_reads (g.I.Image.device c.args.image.now) c.args.sector
+    (λ b k. sym c.if-not-found.false ∙ e.answer b k) in
     record {
       found = record {
         image = s.0;
-        text = prints_all (λ b k. ap (copy_lines_of c.args.sector) (sym (s.1 b k))) (one c.in_ok-print_copy-in-Ok.ensures);
+        text = prints_all (λ b k. ap (copy_lines_of c.args.sector) (sym (s.1 b k)))
+            (one c.in_ok-print_copy-in-Ok.ensures);
       };
       window = record {
         at = e.window.at;
         room = e.window.room;
         holds = holds_on (g.I.Image.device c.args.image.now) (g.I.Image.device c.has_magic.new.image)
-            (g.I.Image.device c.read_super.new.image) c.has_magic.new.window e.read (ap (λ x. x.contents) s.0) e.window.holds;
+            (g.I.Image.device c.read_super.new.image) c.has_magic.new.window e.read
+            (ap (λ x. x.contents) s.0) e.window.holds;
       };
       counted = λ b k. let reads = two b k in omega (arith, e.counted, reads, c.in-Ok.ensures.reads);
       again = λ at b k. let reads = two b k in omega (arith, e.again at, reads, c.in-Ok.ensures.reads);
@@ -79,9 +85,11 @@ returns-in_ok-print_copy-in-Ok g c =
 pub returns-in-Err-CannotRead : goal.returns-in-Err-CannotRead
 returns-in-Err-CannotRead g c =
     let e = c.in_ok-found.ensures in
-    let failed = unread (g.I.Image.device c.args.image.now) _ _ c.args.sector c.in-Err-CannotRead.sector e.read c.requires.inside
+    let failed = unread (g.I.Image.device c.args.image.now) _ _ c.args.sector c.in-Err-CannotRead.sector e.read
+    c.requires.inside
     (c.in-Err-CannotRead.ensures.inside_or_unreadable c.in-Err-CannotRead.sector c.in-Err-CannotRead.field-0-is) in
-    let two = two_reads (g.I.Image.device c.args.image.now) c.args.sector (λ b k. sym c.if-not-found.false ∙ e.answer b k) in
+    let two = two_reads (g.I.Image.device c.args.image.now) c.args.sector
+    (λ b k. sym c.if-not-found.false ∙ e.answer b k) in
     record {
       found = record { image = failed; text = reads_first };
       window = record {

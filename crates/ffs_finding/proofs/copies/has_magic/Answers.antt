@@ -7,7 +7,8 @@ returns g c =
     let fills = c.in_ok-fill.ensures.fills in
     record {
       answer = λ b k. c.is_magic.ensures
-          ∙ magic_there b c.bytes.result.now c.args.sector _ _ _ (c.bytes.ensures ∙ fills.bytes b k) (omega arith) (omega arith);
+          ∙ magic_there b c.bytes.result.now c.args.sector _ _ _ (c.bytes.ensures ∙ fills.bytes b k) (omega arith)
+          (omega arith);
       read = fills.read;
       window = record {
         at = record { place = omega (arith, fills.place.0); length = omega (arith, fills.place.1) };

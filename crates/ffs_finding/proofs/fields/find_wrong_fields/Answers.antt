@@ -1,11 +1,12 @@
-use Rattle.std.proofs.Common.{◌≡◌, ◌∙◌, ◌*◌, ◌++◌, ◌||◌, ℕ, Bool, List, [], map, true, false, arith, rules, refl, ap, append-nil, length, take, drop, Option}
-use Rattle.std.{proofs.lemmas.Result.err_from_is_err_and, specs.List.{concat, flat_map}}
-use Rattle.ffs_volume.specs.Disk.{Numbers.piece, Outcome.{super_bytes, super_sector}}
+use Rattle.std.proofs.Common.{◌≡◌, ◌∙◌, ◌*◌, ◌++◌, ◌||◌, ℕ, Bool, List, [], arith, rules, refl, ap}
+use Rattle.std.proofs.{Common.{append-nil, length, take, drop, Option}, lemmas.Result.err_from_is_err_and}
+use Rattle.std.specs.List.{concat, flat_map}
+use Rattle.ffs_volume.specs.{Disk.{Numbers.piece, Outcome.{super_bytes, super_sector}}, Find.Fields.field_lines}
+use Rattle.ffs_volume.specs.Find.Fields.{total_fields}
 use Rattle.ffs_layout.{specs.Super.superblock_in, proofs.{Copying.default_sector, Answering.taken}}
 use Rattle.ffs_report.proofs.Sinks.{took_nil, took_then, broke_off_after}
-use Rattle.ffs_volume.specs.Find.Fields.{field_lines, total_fields}
-use Rattle.ffs_finding.specs.Fields.{field_of}
-use Rattle.ffs_finding.proofs.{FieldTexts.{too_short, first, both, any}, Printing.{concat-append, reads_first}}
+use Rattle.ffs_finding.{specs.Fields.wrong_lines, proofs.FieldTexts.{too_short, first, both, any}}
+use Rattle.ffs_finding.proofs.Printing.{concat-append, reads_first}
 use Rattle.ffs_finding.proofs.fields.find_wrong_fields.Goals as goal
 
 -- the bytes that were read are those of the superblock
@@ -14,12 +15,9 @@ super_read : (start : ℕ) (sector : Option ℕ) (b bytes : List ℕ) → start 
 super_read start sector b bytes at long read =
     taken (start * 512) 1376 b bytes long read ∙ ap (λ (n : ℕ). piece (n * 512) 1376 b) at
 
--- whether there is a line, where the first part has one, or hasn't
-either : (x a b whole : Bool) → x ≡ true → x ≡ a → (a || b) ≡ whole → x ≡ whole
-either x a b whole is same e = grind arith
-
-second : (x a y b whole : Bool) → x ≡ false → x ≡ a → y ≡ b → (a || b) ≡ whole → y ≡ whole
-second x a y b whole is same other e = grind arith
+-- whether there is a line in one of the two parts
+either : (x a y b whole : Bool) → x ≡ a → y ≡ b → (a || b) ≡ whole → (x || y) ≡ whole
+either x a y b whole is other e = rw (is, other) e
 
 pub returns-then-size-start-clause-prints : goal.returns-then-size-start-clause-prints
 returns-then-size-start-clause-prints g c =
@@ -58,7 +56,7 @@ returns-in_err-of_layout-clause-prints g c =
     rw (p.1, p.2) (record {
       image = search rules;
       text = record {
-        lines = flat_map (field_lines (c.from-start.result * 512)) (map field_of c.layout_fields.result);
+        lines = wrong_lines (c.from-start.result * 512) c.layout_fields.result;
         rest = λ b. flat_map (field_lines (c.from-start.result * 512)) (total_fields s c.read_at.new.buf);
         right = λ b k. first s c.args.sector c.from-start.result at b c.read_at.new.buf
             (super_read c.from-start.result c.args.sector b c.read_at.new.buf at (search rules)
@@ -73,84 +71,50 @@ returns-in_err-of_totals-clause-prints g c =
     c.from-start.ensures ∙ c.unwrap_or.ensures ∙ default_sector c.args.sector in
     let s = superblock_in c.args.superblock.now in
     let p = err_from_is_err_and c.from_residual-in_err-of_totals.result c.from_residual-in_err-of_totals.ensures.1 in
-    let f = field_lines (c.from-start.result * 512) in
-    let xs = map field_of c.layout_fields.result in
-    let ys = map field_of c.total_fields.result in
+    let xs = wrong_lines (c.from-start.result * 512) c.layout_fields.result in
+    let ys = wrong_lines (c.from-start.result * 512) c.total_fields.result in
     rw (p.1, p.2) (record {
       image = search rules;
       text = record {
-        lines = flat_map f xs ++ flat_map f ys;
+        lines = xs ++ ys;
         rest = λ b. [];
         right = λ b k. append-nil _ ∙ both s c.args.sector c.from-start.result at b c.read_at.new.buf
             (super_read c.from-start.result c.args.sector b c.read_at.new.buf at (search rules)
             (c.in_ok-read_at.ensures.bytes.bytes b k.0)) c.layout_fields.result c.layout_fields.ensures
             c.total_fields.result c.total_fields.ensures;
-        broke_off = rw (concat-append (flat_map f xs) (flat_map f ys))
-            (broke_off_after _ _ _ (concat (flat_map f xs)) (concat (flat_map f ys)) c.in_ok-of_layout.ensures.text
+        broke_off = rw (concat-append xs ys)
+            (broke_off_after _ _ _ (concat xs) (concat ys) c.in_ok-of_layout.ensures.text
             c.in_err-of_totals.ensures.text);
       };
     })
 
-pub returns-then-of_layout-clause-prints : goal.returns-then-of_layout-clause-prints
-returns-then-of_layout-clause-prints g c =
+pub returns-clause-prints : goal.returns-clause-prints
+returns-clause-prints g c =
     let at : c.from-start.result ≡ super_sector c.args.sector =
     c.from-start.ensures ∙ c.unwrap_or.ensures ∙ default_sector c.args.sector in
     let s = superblock_in c.args.superblock.now in
-    let f = field_lines (c.from-start.result * 512) in
-    let xs = map field_of c.layout_fields.result in
-    let ys = map field_of c.total_fields.result in
+    let xs = wrong_lines (c.from-start.result * 512) c.layout_fields.result in
+    let ys = wrong_lines (c.from-start.result * 512) c.total_fields.result in
     record {
       image = search rules;
       text = record {
-        lines = flat_map f xs ++ flat_map f ys;
+        lines = xs ++ ys;
         right = λ b k. append-nil _ ∙ both s c.args.sector c.from-start.result at b c.read_at.new.buf
             (super_read c.from-start.result c.args.sector b c.read_at.new.buf at (search rules)
             (c.in_ok-read_at.ensures.bytes.bytes b k.0)) c.layout_fields.result c.layout_fields.ensures
             c.total_fields.result c.total_fields.ensures;
-        took = rw (concat-append (flat_map f xs) (flat_map f ys))
-            (took_then _ _ _ (concat (flat_map f xs)) (concat (flat_map f ys)) c.in_ok-of_layout.ensures.text
+        took = rw (concat-append xs ys)
+            (took_then _ _ _ (concat xs) (concat ys) c.in_ok-of_layout.ensures.text
             c.in_ok-of_totals.ensures.text);
       };
     }
 
-pub returns-then-of_layout-clause-any : goal.returns-then-of_layout-clause-any
-returns-then-of_layout-clause-any g c = λ b k.
+pub returns-clause-any : goal.returns-clause-any
+returns-clause-any g c = λ b k.
     let at : c.from-start.result ≡ super_sector c.args.sector =
     c.from-start.ensures ∙ c.unwrap_or.ensures ∙ default_sector c.args.sector in
     let e = any (superblock_in c.args.superblock.now) c.args.sector c.from-start.result at b c.read_at.new.buf
     (super_read c.from-start.result c.args.sector b c.read_at.new.buf at (search rules)
     (c.in_ok-read_at.ensures.bytes.bytes b k.0)) c.layout_fields.result c.layout_fields.ensures
     c.total_fields.result c.total_fields.ensures in
-    either _ _ _ _ c.if-of_layout.true c.in_ok-of_layout.ensures.any e
-
-pub returns-else-of_layout-clause-prints : goal.returns-else-of_layout-clause-prints
-returns-else-of_layout-clause-prints g c =
-    let at : c.from-start.result ≡ super_sector c.args.sector =
-    c.from-start.ensures ∙ c.unwrap_or.ensures ∙ default_sector c.args.sector in
-    let s = superblock_in c.args.superblock.now in
-    let f = field_lines (c.from-start.result * 512) in
-    let xs = map field_of c.layout_fields.result in
-    let ys = map field_of c.total_fields.result in
-    record {
-      image = search rules;
-      text = record {
-        lines = flat_map f xs ++ flat_map f ys;
-        right = λ b k. append-nil _ ∙ both s c.args.sector c.from-start.result at b c.read_at.new.buf
-            (super_read c.from-start.result c.args.sector b c.read_at.new.buf at (search rules)
-            (c.in_ok-read_at.ensures.bytes.bytes b k.0)) c.layout_fields.result c.layout_fields.ensures
-            c.total_fields.result c.total_fields.ensures;
-        took = rw (concat-append (flat_map f xs) (flat_map f ys))
-            (took_then _ _ _ (concat (flat_map f xs)) (concat (flat_map f ys)) c.in_ok-of_layout.ensures.text
-            c.in_ok-of_totals.ensures.text);
-      };
-    }
-
-pub returns-else-of_layout-clause-any : goal.returns-else-of_layout-clause-any
-returns-else-of_layout-clause-any g c = λ b k.
-    let at : c.from-start.result ≡ super_sector c.args.sector =
-    c.from-start.ensures ∙ c.unwrap_or.ensures ∙ default_sector c.args.sector in
-    let e = any (superblock_in c.args.superblock.now) c.args.sector c.from-start.result at b c.read_at.new.buf
-    (super_read c.from-start.result c.args.sector b c.read_at.new.buf at (search rules)
-    (c.in_ok-read_at.ensures.bytes.bytes b k.0)) c.layout_fields.result c.layout_fields.ensures
-    c.total_fields.result c.total_fields.ensures in
-    second _ _ _ _ _ c.if-of_layout.false c.in_ok-of_layout.ensures.any c.in_ok-of_totals.ensures.any e
+    either _ _ _ _ _ c.in_ok-of_layout.ensures.any c.in_ok-of_totals.ensures.any e

@@ -36,7 +36,8 @@ returns g c = λ sector.
     record {
       answer = (
         found.image,
-        all_answer Lost sector (superblock_in c.args.superblock.now) (g.I.Image.device c.args.image.now) (g.I.Image.device c.find_lost.new.image)
+        all_answer Lost sector (superblock_in c.args.superblock.now) (g.I.Image.device c.args.image.now)
+            (g.I.Image.device c.find_lost.new.image)
             (g.M.Memory.account c.args.memory.now) (g.M.Memory.account c.claimed_workspace.new.memory) _ _
             c.in_ok-workspace.workspace c.in_ok-find_lost.field-0 made.answer.3 found.text,
         λ b k. any b (k.0, made.answer.3 b k.0),

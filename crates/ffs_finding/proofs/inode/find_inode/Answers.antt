@@ -1,10 +1,10 @@
-use Rattle.std.proofs.Common.{◌≡◌, ℕ, ◌*◌, ◌<◌, ◌≤◌, List, [], ◌∷◌, true, false, arith, nat_lt, refl, rules, length, take, drop}
-use Rattle.std.proofs.lemmas.{Result.err_from_is_err_and, Bool.Decides.nat_tests}
+use Rattle.std.proofs.Common.{◌≡◌, ℕ, ◌*◌, ◌<◌, ◌≤◌, List, [], ◌∷◌, true, false, arith, nat_lt, refl, rules, length}
+use Rattle.std.proofs.{Common.{take, drop}, lemmas.{Result.err_from_is_err_and, Bool.Decides.nat_tests}}
 use Rattle.ffs_volume.specs.{declared.Layout.Layout, Disk.{Areas.inode_place, Numbers.piece}}
-use Rattle.ffs_volume.{specs.Blocks.Inodes.inode_from_bytes, proofs.AreaLaws.inode_group}
+use Rattle.ffs_volume.{specs.{Blocks.Inodes.inode_from_bytes, Find.InodeText.bytes_text}, proofs.AreaLaws.inode_group}
+use Rattle.ffs_volume.specs.Find.InodeText.{inode_listing}
 use Rattle.ffs_layout.proofs.Answering.{taken}
 use Rattle.ffs_workspace.proofs.TablePlaces.{piece_inside}
-use Rattle.ffs_volume.specs.Find.InodeText.{bytes_text, inode_listing}
 use Rattle.ffs_finding.proofs.Printing.{one, one_broken, prints_all, prints_none, stops_all, reads_first}
 use Rattle.ffs_finding.proofs.inode.find_inode.Goals as goal
 
@@ -46,7 +46,8 @@ returns-in_err-read_at-clause-prints g c =
 pub returns-in_err-print_bytes-clause-prints : goal.returns-in_err-print_bytes-clause-prints
 returns-in_err-print_bytes-clause-prints g c =
     let v = c.args.geometry.now.layout in
-    let p = err_from_is_err_and c.from_residual-in_err-print_bytes.result c.from_residual-in_err-print_bytes.ensures.1 in
+    let p = err_from_is_err_and c.from_residual-in_err-print_bytes.result
+    c.from_residual-in_err-print_bytes.ensures.1 in
     rw (p.1, p.2) (record {
       image = search rules;
       text = stops_all (λ b k. lines_are v b c.read_at.new.buf c.args.number _ (omega arith) c.inode_place-place.ensures

@@ -1,8 +1,7 @@
 use Rattle.std.proofs.{Common.{arith, ◌≡◌, ◌<◌, ℕ, List, subst}, lemmas.Result.err_from_is_err_and}
 use Rattle.std.specs.List.{flat_map, range_with_len}
-use Rattle.ffs_volume.specs.declared.Layout.{Layout}
+use Rattle.ffs_volume.specs.{declared.Layout.Layout, Find.InodeText.{address_text, fifteen_text}}
 use Rattle.ffs_report.{specs.Sink.{Sink, Took, BrokeOff}, proofs.Sinks.took_nil}
-use Rattle.ffs_volume.specs.Find.InodeText.{address_text, fifteen_text}
 use Rattle.ffs_finding.proofs.Ranges.{took_next, broke_off_in}
 use Rattle.ffs_finding.proofs.inode.print_addresses.Goals as goal
 

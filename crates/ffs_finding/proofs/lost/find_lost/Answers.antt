@@ -8,7 +8,8 @@ returns-in_err-lost-clause-prints g c =
     let e = c.in_err-lost.ensures.found in
     rw (p.1, p.2) (record {
       image = e.image;
-      text = fault_in_first c.args.geometry.now.layout (g.I.Image.device c.args.image.now) c.args.workspace.now _ _ _ e.text;
+      text = fault_in_first c.args.geometry.now.layout (g.I.Image.device c.args.image.now) c.args.workspace.now
+          _ _ _ e.text;
     })
 
 pub returns-in_err-free-clause-prints : goal.returns-in_err-free-clause-prints

@@ -1,13 +1,14 @@
 use Rattle.std.proofs.{Common.{◌∙◌, ◌≡◌, ◌+◌, ℕ, List, [], Option, ap, arith, refl}, lemmas.Result.err_from_is_err_and}
 use Rattle.ffs_image.specs.Device.{ForContents}
-use Rattle.ffs_volume.specs.{declared.Layout.Layout, Disk.{Areas.group_place, Numbers.piece}, Groups.Records.group_block}
+use Rattle.ffs_volume.specs.{declared.Layout.Layout, Disk.{Areas.group_place, Numbers.piece}}
+use Rattle.ffs_volume.specs.Groups.Records.{group_block}
 use Rattle.ffs_walk.specs.{Windows.held_bytes, declared.window.Window.Window}
 use Rattle.ffs_maps.specs.Bits.{bits_of}
 use Rattle.ffs_groups.specs.Free.{free_in}
 use Rattle.ffs_report.{specs.Known.{ForBytes, IsContents}, proofs.Sinks.took_nil}
 use Rattle.ffs_counts.proofs.RecordPlaces.{block_inside}
-use Rattle.ffs_finding.proofs.Printing.{printed_all, prints, stops}
-use Rattle.ffs_finding.proofs.LostGroups.{any_all, any_next, from_group, groups_begin, groups_end, groups_next}
+use Rattle.ffs_finding.proofs.{Printing.{printed_all, prints, stops}, LostGroups.{any_all, any_next, from_group}}
+use Rattle.ffs_finding.proofs.LostGroups.{groups_begin, groups_end, groups_next}
 use Rattle.ffs_finding.proofs.lost.find_wrong.Goals as goal
 
 -- the window holds the block of a group
@@ -55,7 +56,8 @@ returns-in_err-found g c =
       found = record {
         image = fill.read;
         text = stops _ _ (from_group c.args.wrong v free (n + 1)) _ _ _ _ _ inv.printed
-            (λ b k. groups_next c.args.wrong v free b _ n c.loop-group-test.true (held v _ c.fill.new.self _ _ n c.bytes.ensures fill.bytes c.group_place-place.ensures b k))
+            (λ b k. groups_next c.args.wrong v free b _ n c.loop-group-test.true
+            (held v _ c.fill.new.self _ _ n c.bytes.ensures fill.bytes c.group_place-place.ensures b k))
             c.in_err-found.ensures.text;
       };
       any = tt;
@@ -76,9 +78,12 @@ loop-group-preserved g c =
       room = fill.room ∙ inv.room;
       holds = rw (fill.read) at fill.holds;
       reads = omega (arith, inv.reads, fill.counted);
-      any_is = λ b k. any_next c.args.wrong v free b _ n _ _ (held v _ c.fill.new.self _ _ n c.bytes.ensures fill.bytes c.group_place-place.ensures b k) (inv.any_is b k) c.in_ok-found.ensures.any;
+      any_is = λ b k. any_next c.args.wrong v free b _ n _ _
+          (held v _ c.fill.new.self _ _ n c.bytes.ensures fill.bytes c.group_place-place.ensures b k)
+          (inv.any_is b k) c.in_ok-found.ensures.any;
       printed = prints _ _ (from_group c.args.wrong v free (n + 1)) _ _ _ _ _ inv.printed
-          (λ b k. groups_next c.args.wrong v free b _ n c.loop-group-test.true (held v _ c.fill.new.self _ _ n c.bytes.ensures fill.bytes c.group_place-place.ensures b k))
+          (λ b k. groups_next c.args.wrong v free b _ n c.loop-group-test.true
+          (held v _ c.fill.new.self _ _ n c.bytes.ensures fill.bytes c.group_place-place.ensures b k))
           c.in_ok-found.ensures.text;
     }
 
@@ -93,7 +98,8 @@ returns g c =
         image = inv.device;
         text = printed_all _ _ _ _ _ inv.printed (λ b k. groups_end c.args.wrong v free b n c.loop-group-test.false);
       };
-      any = λ b k. any_all c.args.wrong v free b n _ c.loop-group.auto.group-end c.loop-group-test.false (inv.any_is b k);
+      any = λ b k. any_all c.args.wrong v free b n _ c.loop-group.auto.group-end c.loop-group-test.false
+          (inv.any_is b k);
       room = inv.room;
       holds = rw (inv.device) inv.holds;
       reads = omega (arith, inv.reads, c.loop-group.auto.group-end);

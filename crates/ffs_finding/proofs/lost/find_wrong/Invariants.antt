@@ -1,5 +1,4 @@
-use Rattle.std.proofs.Common.{◌≡◌, ◌≤◌, ◌+◌}
-use Rattle.std.specs.Prelude.{vec_len}
+use Rattle.std.{proofs.Common.{◌≡◌, ◌≤◌, ◌+◌}, specs.Prelude.vec_len}
 use Rattle.ffs_maps.specs.Bits.{bits_of}
 use Rattle.ffs_groups.specs.Free.{free_in}
 use Rattle.ffs_report.specs.Known.{ForBytes, IsContents}

@@ -8,7 +8,8 @@ use Rattle.ffs_finding.proofs.lost.print_group.Goals as goal
 pub returns-in_default : goal.returns-in_default
 returns-in_default g c =
     rw (without_map c.args.wrong c.args.geometry.now.layout
-    (free_in (bits_of c.args.used.now) c.args.geometry.now.layout.size) c.args.group c.args.block.now c.in_default.ensures)
+    (free_in (bits_of c.args.used.now) c.args.geometry.now.layout.size) c.args.group c.args.block.now
+    c.in_default.ensures)
     c.print_no_map.ensures
 
 pub returns : goal.returns

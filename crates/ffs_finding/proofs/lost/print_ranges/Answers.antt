@@ -1,6 +1,5 @@
 use Rattle.std.proofs.lemmas.Result.{err_from_is_err_and}
-use Rattle.ffs_finding.specs.LostMaps.{is_wrong_at, word_of}
-use Rattle.ffs_finding.proofs.Stretches.{at_begin, at_end, at_next, broke_at}
+use Rattle.ffs_finding.{specs.LostMaps.{is_wrong_at, word_of}, proofs.Stretches.{at_begin, at_end, at_next, broke_at}}
 use Rattle.ffs_finding.proofs.lost.print_ranges.Goals as goal
 
 pub loop-first-init : goal.loop-first-init
@@ -14,7 +13,8 @@ returns-in_err-print_range g c =
     let m = c.args.map.now in
     let p = err_from_is_err_and c.from_residual.result c.from_residual.ensures.1 in
     rw (p.1) (record {
-      text = broke_at (word_of c.args.wrong) (is_wrong_at c.args.wrong m) m.base m.end c.loop-first.first c.next-end.result
+      text = broke_at (word_of c.args.wrong) (is_wrong_at c.args.wrong m) m.base m.end c.loop-first.first
+          c.next-end.result
           c.loop-first.any _ _ _ c.loop-first.invariant c.loop-first-test.true c.next-end.ensures
           (rw c.word.ensures at c.in_err-print_range.ensures);
       any = tt;

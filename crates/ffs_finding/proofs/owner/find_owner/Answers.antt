@@ -1,13 +1,13 @@
 use Rattle.std.proofs.Common.{◌≡◌, ◌∙◌, ℕ, ◌<◌, ◌≤◌, Bool, true, false, List, [], ◌∷◌, nat_lt, arith, refl, sym, ap}
 use Rattle.std.proofs.lemmas.{Bool.Decides.nat_tests, Result.err_from_is_err_and}
 use Rattle.ffs_image.specs.Device.{Device}
-use Rattle.ffs_volume.specs.{Blocks.Claims.is_set, Disk.Areas.is_reserved, Laws.Geometry.IsAcceptedLayout, declared.Layout.Layout}
+use Rattle.ffs_volume.specs.{Blocks.Claims.is_set, Disk.Areas.is_reserved, Laws.Geometry.IsAcceptedLayout}
+use Rattle.ffs_volume.specs.{declared.Layout.Layout, Find.Owner.{keeper_lines, or_lines, lines_of_fragment}}
+use Rattle.ffs_volume.specs.Find.Owner.{reserved_text}
 use Rattle.ffs_maps.specs.Bits.{bits_of}
 use Rattle.ffs_report.specs.Known.{ForBytes}
 use Rattle.ffs_workspace.specs.{Found.WithPhase1, declared.workspace.Workspace.Workspace}
-use Rattle.ffs_finding.specs.{Fields.any_line, Keepers.map_lines}
-use Rattle.ffs_volume.specs.Find.Owner.{keeper_lines, or_lines, lines_of_fragment, reserved_text}
-use Rattle.ffs_finding.proofs.{Claimed.claimed_is, Keepers.same_lines}
+use Rattle.ffs_finding.{specs.{Fields.any_line, Keepers.map_lines}, proofs.{Claimed.claimed_is, Keepers.same_lines}}
 use Rattle.ffs_finding.proofs.Printing.{knowing, one, one_broken, prints_all, prints_none, stops_all}
 use Rattle.ffs_finding.proofs.owner.find_owner.Goals as goal
 
@@ -72,7 +72,8 @@ returns-then-get-clause-prints g c =
     let did = c.find_keepers.ensures.prints in
     record {
       image = did.image;
-      text = same_lines (WithPhase1 v d c.args.workspace.now) (λ b. keeper_lines v b f) (λ b. lines_of_fragment v b f) _ _ _
+      text = same_lines (WithPhase1 v d c.args.workspace.now) (λ b. keeper_lines v b f)
+          (λ b. lines_of_fragment v b f) _ _ _
           (λ b k. sym (others v b f (omega arith) free ∙ first_ones (keeper_lines v b f) (map_lines v b f)
           (sym (some b k) ∙ c.if-get.true))) did.text;
     }
@@ -88,7 +89,8 @@ returns-clause-prints g c =
     let did = c.print_unclaimed.ensures.prints in
     record {
       image = did.image;
-      text = same_lines (WithPhase1 v d c.args.workspace.now) (λ b. map_lines v b f) (λ b. lines_of_fragment v b f) _ _ _
+      text = same_lines (WithPhase1 v d c.args.workspace.now) (λ b. map_lines v b f)
+          (λ b. lines_of_fragment v b f) _ _ _
           (λ b k. sym (others v b f (omega arith) free ∙ second_ones (keeper_lines v b f) (map_lines v b f)
           (sym (some b k) ∙ c.if-get.false)))
           (knowing _ _ (WithPhase1 v d c.args.workspace.now) _ _ _ _ (λ b k. k.0) did.text);

@@ -1,7 +1,6 @@
 use Rattle.std.proofs.Common.{◌≡◌, ◌∙◌, ◌+◌, ◌-◌, ◌<◌, ◌≤◌, ℕ, List, Bool, true, false, codes, arith, refl, sym}
 use Rattle.ffs_volume.specs.{declared.Layout.Layout, Disk.Areas.cgbase, Messages.Texts.number_text}
-use Rattle.ffs_volume.specs.Groups.Records.{bit_at, fragment_map_place}
-use Rattle.ffs_volume.specs.Laws.Geometry.{IsAcceptedLayout}
+use Rattle.ffs_volume.specs.{Groups.Records.{bit_at, fragment_map_place}, Laws.Geometry.IsAcceptedLayout}
 use Rattle.ffs_volume.specs.Find.{Lost.{has_map, is_marked_free}, Owner.{group_of_fragment, map_text}}
 use Rattle.ffs_finding.proofs.owner.print_by_map.Goals as goal
 

@@ -1,8 +1,6 @@
-use Rattle.std.proofs.Common.{arith, ap, refl}
-use Rattle.std.proofs.lemmas.Result.{err_from_is_err_and}
+use Rattle.std.proofs.{Common.{arith, ap, refl}, lemmas.Result.err_from_is_err_and}
 use Rattle.ffs_workspace.proofs.Readiness.{ready_table}
-use Rattle.ffs_finding.proofs.Printing.{reads_first}
-use Rattle.ffs_finding.proofs.Keepers.{looks_from}
+use Rattle.ffs_finding.proofs.{Printing.reads_first, Keepers.looks_from}
 use Rattle.ffs_finding.proofs.owner.print_keeper.Goals as goal
 
 pub returns-in_err-inode : goal.returns-in_err-inode

@@ -1,13 +1,14 @@
-use Rattle.std.proofs.Common.{◌≡◌, ◌∙◌, ◌+◌, ◌++◌, ◌<◌, ◌≤◌, ℕ, Bool, false, List, [], Result, Err, slice_index, arith, refl, sym, ap}
-use Rattle.std.proofs.lemmas.{Bool.Decides.nat_tests, Result.err_from_is_err_and}
+use Rattle.std.proofs.Common.{◌≡◌, ◌∙◌, ◌+◌, ◌++◌, ◌<◌, ◌≤◌, ℕ, Bool, false, List, [], Result, Err, slice_index, arith}
+use Rattle.std.proofs.{Common.{refl, sym, ap}, lemmas.{Bool.Decides.nat_tests, Result.err_from_is_err_and}}
 use Rattle.ffs_volume.specs.{declared.Layout.Layout, Encodings.Kinds.{is_allocated_kind, kind_at}}
-use Rattle.ffs_report.{proofs.Sinks.took_nil, specs.{Known.ForBytes, declared.fault.RunFault.RunFault}}
-use Rattle.ffs_workspace.specs.{Found.WithPhase1, Lengths.inodes_of, Notes.note_at, declared.workspace.Workspace.Workspace}
-use Rattle.ffs_claims.proofs.{Numbers.numbers_most, Rescanned.runs_most, Frames.image_from}
 use Rattle.ffs_volume.specs.Find.Owner.{keeper_lines_of_inode}
-use Rattle.ffs_finding.proofs.Keepers.{found_lines, found_reads, stays_then}
-use Rattle.ffs_finding.proofs.Owners.{inode_runs, keepers_begin, keepers_end, keepers_from, keepers_next, no_lines}
-use Rattle.ffs_finding.proofs.Printing.{part, part_fault, printed_all}
+use Rattle.ffs_report.{proofs.Sinks.took_nil, specs.{Known.ForBytes, declared.fault.RunFault.RunFault}}
+use Rattle.ffs_workspace.specs.{Found.WithPhase1, Lengths.inodes_of, Notes.note_at}
+use Rattle.ffs_workspace.specs.declared.workspace.Workspace.{Workspace}
+use Rattle.ffs_claims.proofs.{Numbers.numbers_most, Rescanned.runs_most, Frames.image_from}
+use Rattle.ffs_finding.proofs.{Keepers.{found_lines, found_reads, stays_then}, Owners.{inode_runs, keepers_begin}}
+use Rattle.ffs_finding.proofs.{Owners.{keepers_end, keepers_from, keepers_next, no_lines}, Printing.{part, part_fault}}
+use Rattle.ffs_finding.proofs.Printing.{printed_all}
 use Rattle.ffs_finding.proofs.owner.print_keepers.Goals as goal
 
 pub loop-number-init : goal.loop-number-init
@@ -39,7 +40,8 @@ returns-in_err-print_keeper g c =
       found = record {
         image = image_from (g.I.Image.device c.print_keeper.new.image)
             fault inv.device did.found.image;
-        text = part_fault (Unit {0}) (Unit {0}) _ _ (λ b. keeper_lines_of_inode v b f n) (λ b. keepers_from v b f (n + 1)) _ _ _
+        text = part_fault (Unit {0}) (Unit {0}) _ _ (λ b. keeper_lines_of_inode v b f n)
+            (λ b. keepers_from v b f (n + 1)) _ _ _
             _ c.in_err-print_keeper.field-0.0 inv.printed (λ b k. keepers_next v b f n high)
             (found_lines inv.device inv.stays sound inv.low high did);
       };

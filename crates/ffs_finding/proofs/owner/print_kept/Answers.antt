@@ -1,16 +1,14 @@
 use Rattle.std.proofs.Common.{◌≡◌, ◌∙◌, ◌+◌, ◌++◌, [], replicate, true, arith, refl, sym, ap}
 use Rattle.std.proofs.lemmas.{Bool.Decides.nat_tests, Result.err_from_is_err_and}
-use Rattle.ffs_volume.specs.Encodings.{Replay.{fresh_replay, is_replay_open}, ReplayCounts.{replay_step_by_cut, replayed_runs}}
-use Rattle.ffs_volume.specs.{declared.Step.TheVariants.Gap}
-use Rattle.ffs_volume.proofs.ReplayLaws.{gaps_seen}
+use Rattle.ffs_volume.specs.Encodings.{Replay.{fresh_replay, is_replay_open}, ReplayCounts.replay_step_by_cut}
+use Rattle.ffs_volume.specs.{Encodings.ReplayCounts.replayed_runs, declared.Step.TheVariants.Gap}
+use Rattle.ffs_volume.{proofs.ReplayLaws.gaps_seen, specs.Find.Owner.indirect_in}
 use Rattle.ffs_report.{proofs.Sinks.took_nil, specs.Known.{ForBytes, IsContents}}
 use Rattle.ffs_walk.{proofs.Counted.{top_held, top_unread}, specs.{Keepings.replay_in, Rests.steps_left}}
 use Rattle.ffs_claims.proofs.Rewalks.{runs_next}
-use Rattle.ffs_finding.specs.Keepers.{lines_again, step_lines_again}
-use Rattle.ffs_volume.specs.Find.Owner.{indirect_in}
-use Rattle.ffs_finding.proofs.Printing.{printed_all, prints, stops}
-use Rattle.ffs_finding.proofs.Replayed.{lines_gaps, lines_next, lines_none, lines_stopped}
-use Rattle.ffs_finding.proofs.Walking.{blocks_on, blocks_then, most_small, one_indirect, seen_pays, walk_on}
+use Rattle.ffs_finding.{specs.Keepers.{lines_again, step_lines_again}, proofs.Printing.{printed_all, prints, stops}}
+use Rattle.ffs_finding.proofs.{Replayed.{lines_gaps, lines_next, lines_none, lines_stopped}, Walking.blocks_on}
+use Rattle.ffs_finding.proofs.Walking.{blocks_then, most_small, one_indirect, seen_pays, walk_on}
 use Rattle.ffs_finding.proofs.owner.print_kept.Goals as goal
 
 pub loop-step-init : goal.loop-step-init
@@ -73,7 +71,8 @@ returns-in_err-print_step g c =
         text = stops _ _ (λ b. lines_again v c.args.sought.fragment c.args.sought.number
             (c.loop-step.earlier + indirect_in c.in-Some.step) c.args.sought.cut
             (replay_step_by_cut v c.args.sought.cut r c.in-Some.step) (steps_left b c.next.new.self)) _
-            (step_lines_again v c.args.sought.fragment c.args.sought.number c.loop-step.earlier c.args.sought.cut r c.in-Some.step)
+            (step_lines_again v c.args.sought.fragment c.args.sought.number c.loop-step.earlier c.args.sought.cut r
+            c.in-Some.step)
             _ _ _ inv.printed
             (λ b k. lines_next v c.args.sought.fragment c.args.sought.number c.loop-step.earlier _ c.args.sought.cut r _
             c.in-Some.step _ _ (next b k) refl refl)
@@ -107,7 +106,8 @@ loop-step-preserved g c =
       cut = did.cut ∙ inv.cut;
       going = rw (did.cut ∙ inv.cut) at (sym c.is_replay_open.ensures ∙ c.if-not-is_replay_open.false);
       geometry = c.in_ok-step.ensures.same.geometry ∙ inv.geometry;
-      blocks = blocks_on (g.I.Image.device c.args.image.now) (g.I.Image.device c.next.new.image) inv.geometry (ap (λ d. d.contents) image) inv.blocks c.next.ensures.leaves.kept;
+      blocks = blocks_on (g.I.Image.device c.args.image.now) (g.I.Image.device c.next.new.image) inv.geometry
+          (ap (λ d. d.contents) image) inv.blocks c.next.ensures.leaves.kept;
       held = reads.held;
       room = omega (arith, inv.room, falls, c.indirect_in-earlier.ensures, one_indirect c.in-Some.step);
       paid = λ b k.
@@ -146,14 +146,23 @@ loop-step-preserved-then-matches g c =
       cut = did.cut ∙ inv.cut;
       going = rw (did.cut ∙ inv.cut) at (sym c.is_replay_open.ensures ∙ c.if-not-is_replay_open.false);
       geometry = passed.same.geometry ∙ same;
-      blocks = blocks_on (g.I.Image.device c.args.image.now) (g.I.Image.device c.next.new.image) inv.geometry (ap (λ d. d.contents) image) inv.blocks c.next.ensures.leaves.kept;
+      blocks = blocks_on (g.I.Image.device c.args.image.now) (g.I.Image.device c.next.new.image) inv.geometry
+          (ap (λ d. d.contents) image) inv.blocks c.next.ensures.leaves.kept;
       held = passed.counted.held _ reads.held;
       room = omega (arith, inv.room, falls, passed.falls, c.indirect_in-earlier.ensures, one_indirect c.in-Some.step);
       paid = λ b k.
           let more = runs_next v cut r r' c.in-Some.step _ _ (next b k) now in
           let skipped = ap (replayed_runs v cut r') (gaps b k)
           ∙ gaps_seen v cut r' c.skip_gaps.result (steps_left b c.skip_gaps.new.self) in
-          omega (arith, inv.paid b k, paid, more, seen_pays cut r c.in-Some.step inv.going, skipped, passed.counted.unread);
+          omega (
+            arith,
+            inv.paid b k,
+            paid,
+            more,
+            seen_pays cut r c.in-Some.step inv.going,
+            skipped,
+            passed.counted.unread,
+          );
       printed = prints _ _ _ _ (step_lines_again v c.args.sought.fragment c.args.sought.number c.loop-step.earlier cut r
           c.in-Some.step) _ _ _ inv.printed
           (λ b k. lines_next v c.args.sought.fragment c.args.sought.number c.loop-step.earlier _ cut r r'

@@ -8,10 +8,11 @@ use Rattle.ffs_finding.proofs.owner.print_step.Goals as goal
 text_is : (v : Layout) (f x earlier cut : ℕ) (r : Replay) (start len : ℕ) (block : Option ℕ) (taken : ℕ) →
     is_replay_open cut r ≡ true → taken ≡ run_taken v cut r start len →
     run_text f x earlier start taken block ≡ concat (step_lines_again v f x earlier cut r (Run start len block))
-text_is v f x earlier cut r start len block taken going is = rw (going, ← is) (elim (cases_Bool (is_in_run f start taken)) [
-  | inl q ↦ rw q (sym (append-nil _))
-  | inr q ↦ rw q refl
-])
+text_is v f x earlier cut r start len block taken going is =
+    rw (going, ← is) (elim (cases_Bool (is_in_run f start taken)) [
+      | inl q ↦ rw q (sym (append-nil _))
+      | inr q ↦ rw q refl
+    ])
 
 pub returns-in-Run : goal.returns-in-Run
 returns-in-Run g c =

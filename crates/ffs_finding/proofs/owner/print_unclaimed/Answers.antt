@@ -1,17 +1,16 @@
-use Rattle.std.proofs.Common.{◌≡◌, ◌∙◌, ℕ, List, [], ◌∷◌, arith, rules, refl, ap}
-use Rattle.std.proofs.lemmas.Result.{err_from_is_err_and}
-use Rattle.ffs_volume.{specs.{declared.Layout.Layout, Disk.Numbers.piece, Groups.Records.group_block}, proofs.AreaLaws.group_below}
+use Rattle.std.proofs.{Common.{◌≡◌, ◌∙◌, ℕ, List, [], ◌∷◌, arith, rules, refl, ap}, lemmas.Result.err_from_is_err_and}
+use Rattle.ffs_volume.specs.{declared.Layout.Layout, Disk.Numbers.piece, Groups.Records.group_block}
+use Rattle.ffs_volume.{proofs.AreaLaws.group_below, specs.Find.Owner.{group_of_fragment, map_text}}
 use Rattle.ffs_counts.proofs.RecordPlaces.{block_inside}
-use Rattle.ffs_finding.specs.Keepers.{map_lines}
-use Rattle.ffs_volume.specs.Find.Owner.{group_of_fragment, map_text}
-use Rattle.ffs_finding.proofs.Printing.{one, one_broken, prints_all, reads_first, stops_all}
+use Rattle.ffs_finding.{specs.Keepers.map_lines, proofs.Printing.{one, one_broken, prints_all, reads_first, stops_all}}
 use Rattle.ffs_finding.proofs.owner.print_unclaimed.Goals as goal
 
 pub fill-requires : goal.fill-requires
 fill-requires g c =
     let v = c.args.geometry.now.layout in
     let s = c.args.geometry.now.sound in
-    let inside = block_inside v (group_of_fragment v c.args.fragment) s (group_below v c.args.fragment s c.requires.below) in
+    let inside = block_inside v (group_of_fragment v c.args.fragment) s
+    (group_below v c.args.fragment s c.requires.below) in
     record {
       room = omega (arith, s.parts.cgsize_high, c.requires.room);
       inside = omega (arith, inside, c.group_place-place.ensures, c.requires.volume);

@@ -1,7 +1,8 @@
 use Rattle.std.proofs.Common.{◌≡◌, ◌∙◌, ℕ, List, Some, None, sym, ap, arith, option_map}
-use Rattle.ffs_finding.specs.declared.request.{Command.{Command, TheVariants.{Copies, InVolume}}, Search.{Search, TheVariants.{Inode, Fields, Lost, Owner}}}
-use Rattle.ffs_finding.specs.{CommandWords.{IsNumber, Operands, OperandsAskFor}, Operands.{IsSearch, operands_in}}
-use Rattle.ffs_finding.proofs.words.request_of.Goals as goal
+use Rattle.ffs_finding.specs.declared.request.{Command.{Command, TheVariants.{Copies, InVolume}}, Search.Search}
+use Rattle.ffs_finding.specs.{declared.request.Search.TheVariants.{Inode, Fields, Lost, Owner}, CommandWords.IsNumber}
+use Rattle.ffs_finding.specs.{CommandWords.{Operands, OperandsAskFor}, Operands.{IsSearch, operands_in}}
+use Rattle.ffs_finding.proofs.words.asked_of.Goals as goal
 
 -- an image after a number: only a command with a number is asked for
 none_asked : (o : Operands) (image : List ℕ) (n : ℕ) → o.second ≡ Some image →
