@@ -64,15 +64,13 @@ few_of true n m most hn hm = hn
 few_of false n m most hn hm = hm
 
 -- the directories take no more than four sweeps
-directories_few : (v : Layout) (bytes : List ℕ) → IsAcceptedLayout v →
-    (if has_rescan v (owners_of v bytes) then 4 * directories_cost v bytes else phase2_cost v bytes) ≤ 4 * sweep_reads v
+directories_few : (v : Layout) (bytes : List ℕ) → IsAcceptedLayout v → phase2_cost v bytes ≤ 4 * sweep_reads v
 directories_few v bytes g =
     let all = costs_within v bytes g in
     let looked = costs_part (is_looked_at v bytes) (directory_cost v bytes) (v.ncg * v.ipg) in
     let noted = noted_costs v bytes in
     let places = few_of (some_below (is_looked_at v bytes) (v.ncg * v.ipg)) noted 0 noted (omega arith) (omega arith) in
-    few_of (has_rescan v (owners_of v bytes)) (4 * directories_cost v bytes) (phase2_cost v bytes) (4 * sweep_reads v)
-    (omega (arith, all)) (omega (arith, all, looked, places, noted_within v bytes g))
+    omega (arith, all, looked, places, noted_within v bytes g)
 
 -- ---- the messages of the phases are among all
 -- the whole text: phase 1, and what follows it

@@ -66,10 +66,6 @@ from_phase1b bytes s = phase1b_part bytes s ++ from_phase2 bytes s
 abbrev pub WithLeftByPhase1 : Layout → Device → Workspace → List ℕ → Type 0
 WithLeftByPhase1 v d w bytes = IsContents d.contents bytes × IsLeftByPhase1 v bytes w
 
--- without a DUP line nothing is surveyed yet
-abbrev pub IsFirstWithoutDups : Layout → (bytes : List ℕ) → Workspace → Type 0
-IsFirstWithoutDups v bytes w = has_rescan v (owners_of v bytes) ≡ false → w.surveyed ≡ false
-
 -- what `has_dups` and `runs` answer after a check of a workspace: whether phase 1 has a DUP line, and how
 -- many Runs phases 1 and 1b looked at. Where phase 1b isn't run its count is as it was before
 pub record HasAnswers (v : Layout) (bytes : List ℕ) (old new : Workspace) : Type 0 where
@@ -79,8 +75,7 @@ pub record HasAnswers (v : Layout) (bytes : List ℕ) (old new : Workspace) : Ty
 
 -- phase 1b, or nothing where no fragment has a DUP line: its text, what the workspace holds and answers
 -- then, no more reads than those of a sweep, none where the image's bytes have no DUP line, and the
--- workspace is ready for the next phase. The count of phase 1's Runs stays. Without a DUP line nothing
--- is surveyed yet, as phase 1 left it
+-- workspace is ready for the next phase. The count of phase 1's Runs stays, and nothing is surveyed yet
 pub record Rescans (v : Layout) (d d' : Device) (w w' : Workspace) (old new : Progress) (before after : ℕ)
     (result : Result (Unit {0}) RunFault) : Type 0 where
   pub prints : PhaseOutcome (WithLeftByPhase1 v d w) (λ bytes. rescan_lines v bytes) d d' old new result
@@ -89,5 +84,5 @@ pub record Rescans (v : Layout) (d d' : Device) (w w' : Workspace) (old new : Pr
   pub seen : w'.runs_seen ≡ w.runs_seen
   pub reads : after ≤ before + sweep_reads v
   pub known : ForBytes (WithLeftByPhase1 v d w) (λ bytes. after ≤ before + rescan_reads v bytes)
-  pub unsurveyed : ForBytes (WithLeftByPhase1 v d w) (λ bytes. IsFirstWithoutDups v bytes w')
+  pub unsurveyed : OnOk result (ForBytes (WithLeftByPhase1 v d w) (λ bytes. w'.surveyed ≡ false))
   pub ready : IsReady v d' w'

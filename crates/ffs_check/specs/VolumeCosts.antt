@@ -13,12 +13,9 @@ use Rattle.ffs_pathnames.specs.Looked.{phase2_cost}
 abbrev pub rescan_reads : Layout → (bytes : List ℕ) → ℕ
 rescan_reads v bytes = if has_rescan v (owners_of v bytes) then sweep_reads v else 0
 
--- phase 2 reads directories as `phase2_cost` says. Of what phase 1b leaves it isn't stated that nothing is
--- surveyed yet: after it each directory counts four times. Its messages take `line_reads` each
+-- phase 2 reads directories as `phase2_cost` says, and for each of its messages `line_reads` times
 abbrev pub names_reads : Layout → (bytes : List ℕ) → ℕ
-names_reads v bytes =
-    (if has_rescan v (owners_of v bytes) then 4 * directories_cost v bytes else phase2_cost v bytes)
-    + line_reads * length (pathname_lines (volume_of v bytes))
+names_reads v bytes = phase2_cost v bytes + line_reads * length (pathname_lines (volume_of v bytes))
 
 -- where the check continues after the root, phases 3 and 4 read an inode for each of their messages, and
 -- phase 5 reads the groups
