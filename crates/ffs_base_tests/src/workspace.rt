@@ -1,7 +1,8 @@
 //! What a workspace holds when it is made, in bytes and in bits.
 
 ghost use Rattle.std.specs.Prelude.{◌≡◌};
-ghost use Rattle.ffs_workspace.specs.{Lengths.inodes_of, Tables.CanReadInodes};
+ghost use Rattle.ffs_workspace.specs.Tables.{CanReadInodes};
+ghost use Rattle.ffs_volume.specs.Blocks.Inodes.{inodes_of};
 
 use crate::compare::same;
 use ffs_image::{Image, ImageFault};

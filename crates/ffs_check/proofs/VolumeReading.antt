@@ -13,10 +13,12 @@ use Rattle.ffs_volume.specs.{Disk.{Search.some_below, Superblock.Superblock}, Me
 use Rattle.ffs_volume.specs.Directories.{Connectivity.connectivity_lines, ReferenceCheck.reference_lines}
 use Rattle.ffs_volume.specs.Directories.{PathnameCheck.{continues_after_root, pathname_lines}, Volumes.volume_of}
 use Rattle.ffs_survey.proofs.Costs.{costs_part}
-use Rattle.ffs_names.{proofs.Limits.{costs_within, noted_within}, specs.Costs.{directories_cost, directory_cost}}
-use Rattle.ffs_names.specs.Costs.{noted_costs}
-use Rattle.ffs_pathnames.specs.Looked.{is_looked_at, phase2_cost}
-use Rattle.ffs_check.specs.{VolumeCosts.{later_reads, rescan_reads, volume_phase_reads}, Rest.after_phase2}
+use Rattle.ffs_names.proofs.Limits.{costs_within, noted_within}
+use Rattle.ffs_volume.specs.Report.DirectoryReads.{directories_cost, directory_cost}
+use Rattle.ffs_volume.specs.Report.DirectoryReads.{noted_costs}
+use Rattle.ffs_volume.specs.Report.DirectoryReads.{is_looked_at, phase2_cost}
+use Rattle.ffs_check.specs.Rest.{after_phase2}
+use Rattle.ffs_volume.specs.Report.VolumeReads.{later_reads, rescan_reads, volume_phase_reads}
 use Rattle.ffs_check.specs.Rest.{from_phase1b, from_phase2, from_phase4, from_phase5, phase1_part, phase1b_part}
 use Rattle.ffs_check.specs.Rest.{phase2_part, phase3_part, phase4_part}
 

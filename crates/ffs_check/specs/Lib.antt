@@ -12,4 +12,3 @@ pub mod Refusals
 pub mod Rest
 pub mod Run
 pub mod Taken
-pub mod VolumeCosts

@@ -3,7 +3,7 @@ use Rattle.std.specs.Prelude.{◌≡◌, ◌≤◌, ◌+◌, ℕ, List, length, 
 use Rattle.ffs_image.specs.Device.{Device, ForContents}
 use Rattle.ffs_volume.specs.{declared.SuperFault.SuperFault, Disk.{Outcome.outcome, Superblock.Superblock}}
 use Rattle.ffs_volume.specs.Report.{Reads.{opening_reads, phase_reads, reads_limit}, Whole.{phase_lines, report_of}}
-use Rattle.ffs_check.specs.VolumeCosts.{volume_phase_reads}
+use Rattle.ffs_volume.specs.Report.VolumeReads.{volume_phase_reads}
 
 -- the phases read the image at most as often as the layout allows, and as what the volume holds does
 pub record PhasesReadWithin (s : Superblock) (bytes : List ℕ) (reads reads' : ℕ) : Type 0 where

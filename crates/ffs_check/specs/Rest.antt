@@ -14,7 +14,7 @@ use Rattle.ffs_volume.specs.Report.Whole.{rescan_lines, group_check_lines, summa
 use Rattle.ffs_volume.specs.Report.Whole.{run_count}
 use Rattle.ffs_workspace.specs.{declared.workspace.Workspace.Workspace, Holds.HoldsClaims, Ready.IsReady}
 use Rattle.ffs_claims.specs.{Phases.IsLeftByPhase1, RescanRuns.rescan_runs}
-use Rattle.ffs_check.specs.VolumeCosts.{rescan_reads}
+use Rattle.ffs_volume.specs.Report.VolumeReads.{rescan_reads}
 
 -- what each phase reports, with its heading
 abbrev pub phase1_part : List ℕ → Superblock → List Message

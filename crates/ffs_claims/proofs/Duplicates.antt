@@ -21,7 +21,8 @@ use Rattle.ffs_volume.specs.declared.{Class.TheVariants.Unknown, Layout.Layout, 
 use Rattle.ffs_volume.specs.declared.Step.TheVariants.{Gap}
 use Rattle.ffs_workspace.proofs.Leaving.{counts_unsurveyed}
 use Rattle.ffs_workspace.specs.Holds.{marked_by_phase1_at, all_claims, HoldsPhase1, HoldsClaims, has_blame}
-use Rattle.ffs_workspace.specs.{Lengths.{set_count, inodes_of}, declared.workspace.Workspace.Workspace}
+use Rattle.ffs_workspace.specs.{Lengths.set_count, declared.workspace.Workspace.Workspace}
+use Rattle.ffs_volume.specs.Blocks.Inodes.{inodes_of}
 use Rattle.ffs_claims.proofs.Numbers.{before_first}
 
 -- a fact of two choices by one test, and where one of them takes a second test too

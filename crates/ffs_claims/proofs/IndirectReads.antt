@@ -9,7 +9,8 @@ use Rattle.ffs_volume.specs.{Report.VolumeReads.volume_scan_reads, Laws.Geometry
 use Rattle.ffs_volume.specs.declared.{Class.TheVariants.Free, Layout.Layout, Step.{Step, TheVariants.{Gap, Run, Tail}}}
 use Rattle.ffs_report.specs.Known.{ForBytes}
 use Rattle.ffs_walk.specs.{Counts.entered, HeldWords.word_step, Rests.steps_left, declared.walk.Walk.Walk}
-use Rattle.ffs_workspace.specs.{Lengths.inodes_of, Tables.{HoldsInode, HoldsPiece}, declared.table.Table.Table}
+use Rattle.ffs_workspace.specs.{Tables.{HoldsInode, HoldsPiece}, declared.table.Table.Table}
+use Rattle.ffs_volume.specs.Blocks.Inodes.{inodes_of}
 use Rattle.ffs_claims.proofs.{Inodes.free_steps, StepsContinue.range_more, ZeroInodes.{AreFree, free_claims}}
 use Rattle.ffs_claims.proofs.TableReads.{BlocksRead, blocks_all, blocks_failed, blocks_later, blocks_next, blocks_none}
 use Rattle.ffs_claims.specs.{Claiming.ReadsIndirect, Lines.owners_from}

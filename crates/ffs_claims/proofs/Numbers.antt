@@ -9,7 +9,8 @@ use Rattle.ffs_volume.specs.Blocks.{KeptSteps.claims_before, Owners.{owner_of, o
 use Rattle.ffs_volume.specs.{Directories.Volumes.is_inode_number, Encodings.{Kinds.kind_at, Links.start_at}}
 use Rattle.ffs_volume.specs.{Encodings.Replay.cut_of, declared.{Class.TheVariants.Free, Inode.Inode, Layout.Layout}}
 use Rattle.ffs_workspace.specs.Holds.{claims_of, IsFresh, HoldsPhase1, has_blame, marked_by_phase1_at, all_claims}
-use Rattle.ffs_workspace.specs.{Lengths.{IsFor, inodes_of}, Notes.{note_of, note_at}}
+use Rattle.ffs_workspace.specs.Lengths.{IsFor}
+use Rattle.ffs_volume.specs.{Blocks.Inodes.inodes_of, Encodings.Notes.{note_of, note_at}}
 use Rattle.ffs_workspace.specs.declared.workspace.Workspace.{Workspace}
 use Rattle.ffs_claims.{proofs.StepsContinue.{range_more, lines_append}, specs.Leaves.{SameFound, Stored}}
 use Rattle.ffs_claims.specs.Lines.{of_lines, owners_from}

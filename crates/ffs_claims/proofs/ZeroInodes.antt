@@ -12,7 +12,8 @@ use Rattle.ffs_walk.specs.{Windows.{WindowHolds, held_bytes}, declared.window.Wi
 use Rattle.ffs_workspace.specs.{Tables.{IsTableOf}, declared.table.Table.Table}
 use Rattle.ffs_workspace.proofs.TablePlaces.{held_there}
 use Rattle.ffs_volume.{proofs.OwnerLaws.before_next, specs.Blocks.{BlockCheck.lines_of_owners, KeptSteps.claims_before}}
-use Rattle.ffs_workspace.specs.{Holds.claims_of, Lengths.{IsFor, inodes_of}, declared.workspace.Workspace.Workspace}
+use Rattle.ffs_workspace.specs.{Holds.claims_of, Lengths.IsFor, declared.workspace.Workspace.Workspace}
+use Rattle.ffs_volume.specs.Blocks.Inodes.{inodes_of}
 use Rattle.ffs_claims.proofs.{Inodes.free_steps, Numbers.{FoundTo, found_next, lines_next, stored_free}}
 use Rattle.ffs_claims.specs.Lines.{of_lines, owners_from}
 use Rattle.ffs_claims.specs.ZeroInodes.{HasTableInodes, IsZeroInode}

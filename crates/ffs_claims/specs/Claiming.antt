@@ -13,7 +13,8 @@ use Rattle.ffs_image.specs.Device.{Device}
 use Rattle.ffs_report.specs.{Known.{ForBytes, IsContents}, PhaseOutcome.{ImageAfter, PhaseReports}, Progress.Progress}
 use Rattle.ffs_report.specs.{Progress.Says, declared.fault.RunFault.RunFault}
 use Rattle.ffs_layout.specs.declared.geometry.Geometry.{Geometry}
-use Rattle.ffs_workspace.specs.{Holds.{IsFresh, claims_of}, Lengths.{IsFor, inodes_of}, Ready.IsReady}
+use Rattle.ffs_workspace.specs.{Holds.{IsFresh, claims_of}, Lengths.IsFor, Ready.IsReady}
+use Rattle.ffs_volume.specs.Blocks.Inodes.{inodes_of}
 use Rattle.ffs_workspace.specs.Tables.{HoldsInode, HoldsPiece}
 use Rattle.ffs_workspace.specs.declared.workspace.Workspace.{Workspace}
 use Rattle.ffs_claims.specs.{Area.IsDataArea, Leaves.{CanOffer, ClaimsOnly, HasBegun, OffersOnly, SameFound}}

@@ -6,7 +6,7 @@ use Rattle.ffs_volume.specs.Blocks.Steps.{steps_of}
 use Rattle.ffs_volume.specs.{Disk.Areas.is_fragment_in_range, Messages.Kinds.{Message, of_blocks}}
 use Rattle.ffs_volume.specs.declared.BlockMessage.{BlockMessage, TheVariants.{Bad, Dup, ManyBad, ManyDup}}
 use Rattle.ffs_volume.specs.declared.{Class.Class, Inode.Inode, Layout.Layout, constants.TheConstants.MAXDUP}
-use Rattle.ffs_workspace.specs.Lengths.{inodes_of}
+use Rattle.ffs_volume.specs.Blocks.Inodes.{inodes_of}
 
 -- the messages of the block check's lines
 abbrev pub of_lines : List BlockMessage → List Message

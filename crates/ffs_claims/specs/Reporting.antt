@@ -7,7 +7,8 @@ use Rattle.ffs_volume.specs.declared.Layout.{Layout}
 use Rattle.ffs_image.specs.Device.{Device}
 use Rattle.ffs_report.specs.{PhaseOutcome.ImageAfter, Progress.{Progress, Says}, declared.fault.RunFault.RunFault}
 use Rattle.ffs_maps.specs.Bits.{bits_of}
-use Rattle.ffs_workspace.specs.{Holds.bool_at, Lengths.IsFor, Lengths.inodes_of, Lengths.set_count, Ready.IsReady}
+use Rattle.ffs_workspace.specs.{Holds.bool_at, Lengths.{IsFor, set_count}, Ready.IsReady}
+use Rattle.ffs_volume.specs.Blocks.Inodes.{inodes_of}
 use Rattle.ffs_workspace.specs.declared.workspace.Workspace.{Workspace}
 use Rattle.ffs_claims.specs.Lines.{of_lines}
 

@@ -3,7 +3,8 @@
 ghost use Rattle.std.specs.Prelude.{◌+◌, ◌∷◌, OnOk, slice_index};
 ghost use Rattle.ffs_volume.specs.Blocks.{BlockCheck.phase1b_lines, Inodes.inode_of, Owners.owners_of};
 ghost use Rattle.ffs_report.specs.{Known.ForBytes, PhaseOutcome.PhaseOutcome, Progress.progress};
-ghost use Rattle.ffs_workspace.specs.{Found.WithPhase1, Notes.cut_in, Ready.IsReady};
+ghost use Rattle.ffs_workspace.specs.{Found.WithPhase1, Ready.IsReady};
+ghost use Rattle.ffs_volume.specs.Encodings.Notes.{cut_in};
 ghost use Rattle.ffs_claims.specs.{Lines.of_lines, Phases.{IsLeftByPhase1b, Phase1bReads, RescanReads}};
 ghost use Rattle.ffs_claims.specs.{Reporting.CanRewalk, RescanRuns.{CanReportStep, ReportsStep, Rewalks}};
 ghost use Rattle.ffs_volume.specs.Messages.Kinds as messages;

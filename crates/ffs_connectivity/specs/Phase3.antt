@@ -4,7 +4,8 @@ use Rattle.ffs_image.specs.Device.{Device}
 use Rattle.ffs_volume.specs.{declared.Layout.Layout, Directories.Volumes.volume_of, Messages.Kinds.of_tree}
 use Rattle.ffs_report.specs.{Progress.Progress, PhaseOutcome.PhaseOutcome, ReadsFor.ReadsFor}
 use Rattle.ffs_report.specs.declared.fault.RunFault.{RunFault}
-use Rattle.ffs_workspace.specs.{declared.workspace.Workspace.Workspace, Leaves.LeavesSurvey, Lengths.inodes_of}
+use Rattle.ffs_workspace.specs.{declared.workspace.Workspace.Workspace, Leaves.LeavesSurvey}
+use Rattle.ffs_volume.specs.Blocks.Inodes.{inodes_of}
 use Rattle.ffs_workspace.specs.{Found.WithSurvey, Ready.{IsReady, StaysReady}}
 use Rattle.ffs_connectivity.specs.{Leaders.HasLeaders, Lines.unref_dir_lines}
 

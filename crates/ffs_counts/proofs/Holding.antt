@@ -15,7 +15,8 @@ use Rattle.ffs_volume.specs.{Directories.Volumes.{marked_at, volume_of, volume_w
 use Rattle.ffs_volume.specs.{Disk.Numbers.i16_at, Encodings.Kinds.{kind_at, class_of_kind, is_empty_dir_kind}}
 use Rattle.ffs_volume.{specs.Messages.Kinds.{Message, TreeMessage, of_tree, lines_from}, proofs.LinkLaws.AreMet}
 use Rattle.ffs_volume.proofs.{LinkLaws.links_met, Numbered.all_from}
-use Rattle.ffs_workspace.specs.{declared.workspace.Workspace.Workspace, Lengths.inodes_of, Holds.HoldsClaims}
+use Rattle.ffs_workspace.specs.{declared.workspace.Workspace.Workspace, Holds.HoldsClaims}
+use Rattle.ffs_volume.specs.Blocks.Inodes.{inodes_of}
 use Rattle.ffs_workspace.{specs.Holds.{HoldsFindings, bool_at}, proofs.KindLaws.{suspect_is, some_is}}
 use Rattle.ffs_counts.{specs.References.{reference_reported, is_dead_by, is_right_by}, proofs.Classes.same_test}
 

@@ -7,7 +7,8 @@ use Rattle.ffs_volume.specs.{Directories.{ReferenceCheck.reference_lines_at, Vol
 use Rattle.ffs_report.specs.{Progress.Progress, PhaseOutcome.PhaseOutcome, ReadsFor.ReadsFor}
 use Rattle.ffs_report.specs.declared.fault.RunFault.{RunFault}
 use Rattle.ffs_groups.specs.Inodes.{class_in}
-use Rattle.ffs_workspace.specs.{declared.workspace.Workspace.Workspace, Lengths.inodes_of, Found.WithFindings}
+use Rattle.ffs_workspace.specs.{declared.workspace.Workspace.Workspace, Found.WithFindings}
+use Rattle.ffs_volume.specs.Blocks.Inodes.{inodes_of}
 use Rattle.ffs_workspace.specs.Ready.{IsReady, StaysReady}
 
 -- the lists by which an inode is reported have an element for it

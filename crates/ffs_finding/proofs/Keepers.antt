@@ -6,7 +6,8 @@ use Rattle.ffs_volume.specs.{declared.{Inode.Inode, Layout.Layout}, Find.Owner.k
 use Rattle.ffs_report.specs.{Known.{ForBytes, IsContents}, Sink.Sink, PhaseOutcome.ImageAfter}
 use Rattle.ffs_report.specs.declared.fault.RunFault.{RunFault, TheVariants.{Read, Out}}
 use Rattle.ffs_walk.specs.{Windows.KeepsBlocks, declared.blocks.Blocks.Blocks}
-use Rattle.ffs_workspace.specs.{Found.WithPhase1, Lengths.inodes_of, Notes.{cut_in, note_at}, Ready.IsReady}
+use Rattle.ffs_workspace.specs.{Found.WithPhase1, Ready.IsReady}
+use Rattle.ffs_volume.specs.{Blocks.Inodes.inodes_of, Encodings.Notes.{cut_in, note_at}}
 use Rattle.ffs_workspace.specs.{Ready.StaysReady, declared.workspace.{Windows.Windows, Workspace.Workspace}}
 use Rattle.ffs_finding.{specs.{Keepers.{LooksAtInode, WalksKept}, Outcome.PrintsLines}, proofs.Owners.listed_inode}
 use Rattle.ffs_finding.proofs.{Owners.inode_runs, Printing.knowing}

@@ -9,8 +9,9 @@ use Rattle.ffs_volume.specs.{declared.Class.TheVariants.{Free, Partial, Unknown,
 use Rattle.ffs_volume.specs.{Blocks.Steps.steps_of, Encodings.Replay.{cut_of, fresh_replay}}
 use Rattle.ffs_volume.specs.{Encodings.ReplayCounts.replayed_runs, Laws.Geometry.IsAcceptedLayout}
 use Rattle.ffs_volume.specs.{declared.Layout.Layout, Find.Owner.{keeper_lines, keeper_lines_of_inode}}
-use Rattle.ffs_workspace.{proofs.{KindLaws.reports_at, NoteLaws.cut_is_noted}, specs.{Lengths.inodes_of, Notes.cut_in}}
-use Rattle.ffs_workspace.specs.Notes.{note_at}
+use Rattle.ffs_workspace.proofs.{KindLaws.reports_at, NoteLaws.cut_is_noted}
+use Rattle.ffs_volume.specs.{Blocks.Inodes.inodes_of, Encodings.Notes.cut_in}
+use Rattle.ffs_volume.specs.Encodings.Notes.{note_at}
 use Rattle.ffs_finding.{specs.Keepers.lines_again, proofs.{Ranges.next, Replayed.inode_replay}}
 
 -- the lines of the inodes from n on

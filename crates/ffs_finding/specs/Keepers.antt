@@ -10,7 +10,8 @@ use Rattle.ffs_image.specs.Device.{Device}
 use Rattle.ffs_report.specs.{Known.{ForBytes, IsContents}, Sink.{Sink, Prints}, declared.fault.RunFault.RunFault}
 use Rattle.ffs_walk.specs.{Keepings.{replay_in, run_taken}, Windows.{KeepsBlocks, WindowHolds}}
 use Rattle.ffs_walk.specs.declared.{blocks.Blocks.Blocks, keeping.Keeping.Keeping, window.Window.Window}
-use Rattle.ffs_workspace.specs.{Found.WithPhase1, Lengths.inodes_of, Notes.cut_in, Ready.{IsReady, StaysReady}}
+use Rattle.ffs_workspace.specs.{Found.WithPhase1, Ready.{IsReady, StaysReady}}
+use Rattle.ffs_volume.specs.{Blocks.Inodes.inodes_of, Encodings.Notes.cut_in}
 use Rattle.ffs_workspace.specs.declared.workspace.Workspace.{Workspace}
 use Rattle.ffs_finding.specs.Outcome.{Finds}
 

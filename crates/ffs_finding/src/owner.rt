@@ -6,7 +6,8 @@ ghost use Rattle.ffs_volume.specs.Find.Owner.{indirect_in, keeper_text, keeper_l
 ghost use Rattle.ffs_volume.specs.Find.Owner.{part_text, reserved_text, table_text};
 ghost use Rattle.ffs_report.specs.{Known.IsContents, Sink.Prints};
 ghost use Rattle.ffs_walk.specs.{Keepings.replay_in, Windows.CanWalk};
-ghost use Rattle.ffs_workspace.specs.{Found.WithPhase1, Notes.cut_in, Ready.IsReady};
+ghost use Rattle.ffs_workspace.specs.{Found.WithPhase1, Ready.IsReady};
+ghost use Rattle.ffs_volume.specs.Encodings.Notes.{cut_in};
 ghost use Rattle.ffs_finding.specs.{Outcome.Finds, Keepers.{CanLookAtInode, CanPrintMap, CanPrintStep, CanReadMap}};
 ghost use Rattle.ffs_finding.specs.Keepers.{map_lines, LooksAtInode, LooksAtAll, PrintsStep, WalksKept, is_in_run};
 ghost use Rattle.ffs_finding.specs.Keepers.{run_text};

@@ -7,9 +7,10 @@ use mathlib.Core.Path.{fun_ext}
 use Rattle.ffs_volume.specs.{declared.Layout.Layout, Encodings.{Kinds.kind_at, Lists.{bool_at, number_at}}}
 use Rattle.ffs_volume.specs.Directories.{Graph.reached, Parents.graph_of, Roles.{is_dir, roled_entries}}
 use Rattle.ffs_volume.specs.Directories.Volumes.{marked_at, volume_of}
-use Rattle.ffs_workspace.specs.Lengths.{inodes_of}
-use Rattle.ffs_survey.specs.{Calm.{EachCalmIsFlagged, is_calm_by_parents}, Survey.IsSurvey}
-use Rattle.ffs_names.specs.{CalmDirs.{is_calm_directory, kinds_in, marks_in, parent_number}, RightShapes.is_right_shape}
+use Rattle.ffs_volume.specs.Blocks.Inodes.{inodes_of}
+use Rattle.ffs_survey.specs.{Calm.EachCalmIsFlagged, Survey.IsSurvey}
+use Rattle.ffs_volume.specs.Directories.Calm.{is_calm_by_parents}
+use Rattle.ffs_volume.specs.Directories.Calm.{is_calm_directory, kinds_in, marks_in, parent_number, is_right_shape}
 use Rattle.ffs_names.specs.Readers.{Base, dir_entries, dir_right_shape}
 use Rattle.ffs_names.proofs.DirLaws.{kind_dirs}
 

@@ -13,7 +13,8 @@ use Rattle.ffs_layout.specs.declared.geometry.Geometry.{Geometry}
 use Rattle.ffs_walk.{proofs.Counted.{top_held, top_unread}, specs.{Rests.{IsAtTop, IsOver}, Keepings.replay_in}}
 use Rattle.ffs_workspace.proofs.NoteLaws.{IsOneChunkAt}
 use Rattle.ffs_names.specs.{Costs.BeginsAtChunk, OneChunk.one_chunk_at, Readings.{chunks_in, gap_after}}
-use Rattle.ffs_names.specs.{RightShapes.is_right_size, RunCursors.{cursor_chunks, reading_by}}
+use Rattle.ffs_names.specs.RunCursors.{cursor_chunks, reading_by}
+use Rattle.ffs_volume.specs.Directories.Calm.{is_right_size}
 use Rattle.ffs_names.{specs.declared.chunks.Chunks.Chunks, proofs.{Advances.{over_rest, over_runs}, Begins.all_taken}}
 use Rattle.ffs_names.proofs.{DirLaws.dir_parts, ReadCounts.{first_held, run_at_most}}
 

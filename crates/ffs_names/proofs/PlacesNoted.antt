@@ -19,7 +19,8 @@ use Rattle.ffs_volume.specs.Directories.Volumes.{volume_with}
 use Rattle.ffs_walk.specs.declared.{blocks.Blocks.Blocks, window.Window.Window}
 use Rattle.ffs_workspace.proofs.Leaving.{counts_same}
 use Rattle.ffs_workspace.proofs.PlaceLaws.{any_naming-roled, name_in-after, name_in-among, name_in-roled}
-use Rattle.ffs_workspace.specs.{Holds.{HoldsClaims, HoldsSurvey}, Lengths.inodes_of, Ready.IsReady}
+use Rattle.ffs_workspace.specs.{Holds.{HoldsClaims, HoldsSurvey}, Ready.IsReady}
+use Rattle.ffs_volume.specs.Blocks.Inodes.{inodes_of}
 use Rattle.ffs_workspace.specs.Places.{entries_in_chunk, entries_in_part, is_due, name_in, part_size, place_in, ArePlaces}
 use Rattle.ffs_workspace.specs.{Places.{AreNoted, IsNoted}, Tables.KeepsTable}
 use Rattle.ffs_workspace.proofs.PartLaws.{begins_part, lies_in_part, BeginsPart}

@@ -6,8 +6,9 @@ use Rattle.ffs_volume.proofs.{CutLaws.cut_is, OwnerLaws.before_next, ReplayLaws.
 use Rattle.ffs_volume.specs.Blocks.{Claims.Claims, KeptSteps.claims_before, Owners.{owner_of, owners_of}}
 use Rattle.ffs_volume.specs.{Directories.{Roles.is_dir, Volumes.{is_inode_number, volume_of}}, Report.Whole.run_count}
 use Rattle.ffs_volume.specs.{Laws.Geometry.IsAcceptedLayout, declared.Layout.Layout}
-use Rattle.ffs_survey.specs.Costs.{costs_all}
-use Rattle.ffs_names.{specs.{Costs.{directories_cost, directory_cost}, SeenRuns.RunsAreSeen}, proofs.DirCosts.cost_is}
+use Rattle.ffs_volume.specs.Report.DirectoryReads.{costs_all}
+use Rattle.ffs_names.{specs.SeenRuns.RunsAreSeen, proofs.DirCosts.cost_is}
+use Rattle.ffs_volume.specs.Report.DirectoryReads.{directories_cost, directory_cost}
 use Rattle.ffs_names.proofs.{DirCosts.cost_none, DirLaws.dir_is}
 
 pub runs_seen_by : RunsAreSeen

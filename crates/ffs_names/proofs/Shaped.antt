@@ -7,7 +7,8 @@ use Rattle.ffs_volume.specs.{declared.Order.Order, Directories.Entries.{Entry, C
 use Rattle.ffs_volume.specs.{Directories.{Entries.{has_gap, is_sound}, PathnameCheck.are_sound}, Blocks.Steps.steps_of}
 use Rattle.ffs_volume.specs.Encodings.{Replay.{fresh_replay, replayed_steps}, ReplayCounts.replayed_runs}
 use Rattle.ffs_walk.specs.declared.{blocks.Blocks.Blocks, window.Window.Window}
-use Rattle.ffs_names.specs.{Costs.{HoldsReading, to_read}, RightShapes.is_right_size, Readings.chunks_in}
+use Rattle.ffs_names.specs.{Costs.{HoldsReading, to_read}, Readings.chunks_in}
+use Rattle.ffs_volume.specs.Directories.Calm.{is_right_size}
 use Rattle.ffs_names.specs.{Readings.{gap_left, rest}, Shapes.BeginsDirectory, declared.chunks.Chunks.Chunks}
 use Rattle.ffs_names.{specs.declared.entries.Entries.Entries, proofs.Entered.{end_of_chunk, end_seen, none_from}}
 use Rattle.ffs_names.proofs.EntryCounts.{at_most}

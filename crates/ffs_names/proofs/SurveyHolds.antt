@@ -6,13 +6,15 @@ use Rattle.std.specs.Prelude.{Result, Ok, Err, OnOk}
 use Rattle.ffs_volume.specs.{declared.Layout.Layout, Encodings.Kinds.kind_at, Directories.Parents.graph_of}
 use Rattle.ffs_volume.specs.Directories.{Roles.roled_entries, Volumes.{volume_of, volume_with}}
 use Rattle.ffs_volume.specs.Encodings.Links.{start_at}
-use Rattle.ffs_workspace.specs.{Holds.{HoldsClaims, HoldsReferences, HoldsStarts}, Lengths.inodes_of}
+use Rattle.ffs_workspace.specs.Holds.{HoldsClaims, HoldsReferences, HoldsStarts}
+use Rattle.ffs_volume.specs.Blocks.Inodes.{inodes_of}
 use Rattle.ffs_workspace.{proofs.Leaving.counts_surveyed, specs.{Holds.HoldsTree, Leaves.LeavesBlockCheck}}
 use Rattle.ffs_workspace.specs.declared.workspace.Workspace.{Workspace}
 use Rattle.ffs_survey.specs.{Calm.AreCalm, SurveyLaws.references_is, Survey.{graph_with, most_start, references_to}}
 use Rattle.ffs_survey.specs.Survey.{IsSurvey}
 use Rattle.ffs_names.specs.{Readers.{Base, dir_entries, dir_right_shape}, Surveys.FlagsCalm}
-use Rattle.ffs_names.{specs.RightShapes.is_right_directory, proofs.{DirLaws.kind_dirs, SameGraphs.survey_same}}
+use Rattle.ffs_names.proofs.{DirLaws.kind_dirs, SameGraphs.survey_same}
+use Rattle.ffs_volume.specs.Directories.Calm.{is_right_directory}
 
 pub none_ended : {T A : Type 0} {K : A → Type 0} (o : Option T) (P : A → Type 0) → ((b : A) → K b → IfNone o (P b))
     → IfNone o ((b : A) → K b → P b)

@@ -1,20 +1,19 @@
 -- How many reads of the image a reading of a directory still takes, and how many a directory takes in all.
-use Rattle.std.specs.Prelude.{◌≡◌, ℕ, ◌+◌, ◌*◌, ◌<◌, ◌≤◌, ◌==◌, Bool, true, false, ◌&&◌, ◌||◌, nat_lt, if◌then◌else◌}
+use Rattle.std.specs.Prelude.{◌≡◌, ℕ, ◌+◌, ◌<◌, ◌≤◌, ◌==◌, Bool, true, false, ◌&&◌, ◌||◌, nat_lt, if◌then◌else◌}
 use Rattle.std.specs.{Prelude.{List, ◌∷◌, Option}, List.flat_map}
 use Rattle.ffs_image.specs.Device.{ForContents}
 use Rattle.ffs_volume.specs.declared.{Class.Class, Inode.Inode, Layout.Layout, Step.{Step, TheVariants.Run}}
-use Rattle.ffs_volume.specs.{Blocks.{Inodes.{class_of, inode_of}, Steps.steps_of}, Directories.Entries.has_gap}
-use Rattle.ffs_volume.specs.Directories.{Roles.{is_dir, roled_chunk, roled_entries}, Volumes.volume_of}
-use Rattle.ffs_volume.specs.Encodings.{Replay.{cut_at, fresh_replay, replayed_steps}, ReplayCounts.replayed_runs}
+use Rattle.ffs_volume.specs.{Blocks.{Inodes.class_of, Steps.steps_of}, Directories.Entries.has_gap}
+use Rattle.ffs_volume.specs.Directories.{Roles.{roled_chunk, roled_entries}, Volumes.volume_of}
+use Rattle.ffs_volume.specs.Encodings.{Replay.{fresh_replay, replayed_steps}, ReplayCounts.replayed_runs}
 use Rattle.ffs_volume.specs.Report.Reads.{sweep_reads}
 use Rattle.ffs_layout.specs.declared.geometry.Geometry.{Geometry}
 use Rattle.ffs_walk.specs.{Counts.{AreHeld, entered, unread}, declared.{blocks.Blocks.Blocks, window.Window.Window}}
-use Rattle.ffs_workspace.specs.Notes.{first_noted, note_at}
-use Rattle.ffs_survey.specs.Costs.{costs_all}
 use Rattle.ffs_names.specs.{OneChunk.one_chunk_at, Readings.{chunks_in, gap_left, rest, runs_after, runs_left}}
 use Rattle.ffs_names.specs.{Readings.{BeginsAt, Continues}, RunCursors.IsWhole}
 use Rattle.ffs_names.specs.declared.{chunks.Chunks.Chunks, entries.Entries.Entries}
 use Rattle.ffs_names.specs.declared.run_cursor.RunCursor.{RunCursor}
+use Rattle.ffs_volume.specs.Report.DirectoryReads.{noted_cost, noted_costs}
 
 -- 1 where the current Run has chunks and is still to be read: none of them was given yet
 abbrev pub unread_run : RunCursor → ℕ
@@ -86,32 +85,6 @@ reads_for_entries b r = if may_read r then to_read b r.chunks else 0
 -- what a reading of entries has read and needs again is held
 abbrev pub HoldsEntries : Blocks → Window → Entries → Type 0
 HoldsEntries blocks w r = may_read r ≡ true → HoldsReading blocks w r.chunks
-
--- how many Runs of the inode x are seen
-abbrev pub directory_runs : Layout → List ℕ → ℕ → ℕ
-directory_runs v b x = replayed_runs v (cut_at v b x) fresh_replay (steps_of v (inode_of v b x) b)
-
--- at most how many reads a directory takes: its inode, and each of its Runs that is seen; none
--- for another inode
-abbrev pub directory_cost : Layout → List ℕ → ℕ → ℕ
-directory_cost v b x = if is_dir (volume_of v b) x then 1 + directory_runs v b x else 0
-
--- the same of all directories
-abbrev pub directories_cost : Layout → List ℕ → ℕ
-directories_cost v b = costs_all (directory_cost v b) (v.ncg * v.ipg)
-
--- how many reads the inode x takes where its note is known: none, where that has a directory's only chunk
-abbrev pub inode_reads : Layout → List ℕ → ℕ → ℕ
-inode_reads v b x = if nat_lt (note_at v b x) first_noted then 1 else 0
-
--- at most how many reads a directory takes in a sweep, which knows the notes: its inode, if that is read,
--- and each of its Runs that is seen; none for another inode
-abbrev pub noted_cost : Layout → List ℕ → ℕ → ℕ
-noted_cost v b x = if is_dir (volume_of v b) x then inode_reads v b x + directory_runs v b x else 0
-
--- the same of all directories
-abbrev pub noted_costs : Layout → List ℕ → ℕ
-noted_costs v b = costs_all (noted_cost v b) (v.ncg * v.ipg)
 
 -- a call reads no more often than all directories take in a sweep, by the bytes of the image where
 -- `known` holds of them, and any image no more often than a sweep may

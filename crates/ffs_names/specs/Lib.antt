@@ -4,7 +4,6 @@ pub mod EntriesToCome
 pub mod RunCursors
 pub mod Readings
 pub mod Entering
-pub mod RightShapes
 pub mod Shapes
 pub mod OneChunk
 pub mod Readers

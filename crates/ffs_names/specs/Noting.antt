@@ -10,9 +10,11 @@ use Rattle.ffs_volume.specs.declared.{constants.TheConstants.ROOTINO, Layout.Lay
 use Rattle.ffs_volume.specs.{Directories.{Graph.is_naming_entry, Roles.{RoledEntry, roled_entries}, Volumes.volume_of}}
 use Rattle.ffs_volume.specs.Encodings.Lists.{bool_at}
 use Rattle.ffs_workspace.specs.Places.{entries_in_part, is_due, name_in, place_in, AreNoted}
-use Rattle.ffs_workspace.specs.{Places.IsNoted, Holds.HoldsSurvey, Lengths.inodes_of, Ready.IsReady}
+use Rattle.ffs_workspace.specs.{Places.IsNoted, Holds.HoldsSurvey, Ready.IsReady}
+use Rattle.ffs_volume.specs.Blocks.Inodes.{inodes_of}
 use Rattle.ffs_workspace.specs.declared.workspace.{Windows.Windows, Workspace.Workspace}
-use Rattle.ffs_names.specs.{Costs.{noted_cost, to_read, HoldsReading}, Windows.CanReadChunks}
+use Rattle.ffs_names.specs.{Costs.{to_read, HoldsReading}, Windows.CanReadChunks}
+use Rattle.ffs_volume.specs.Report.DirectoryReads.{noted_cost}
 use Rattle.ffs_names.specs.declared.chunks.Chunks.{Chunks}
 
 -- a place that isn't 0 and has 31 bits can be noted for children of p, which isn't 0, by lists of one

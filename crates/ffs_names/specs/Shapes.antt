@@ -9,7 +9,8 @@ use Rattle.ffs_volume.specs.Encodings.{Replay.replayed_steps, ReplayCounts.repla
 use Rattle.ffs_layout.specs.declared.geometry.Geometry.{Geometry}
 use Rattle.ffs_walk.specs.declared.{blocks.Blocks.Blocks, window.Window.Window}
 use Rattle.ffs_survey.specs.{declared.entry_head.EntryHead.EntryHead, Reading.roled_of}
-use Rattle.ffs_names.specs.{RightShapes.is_right_size, Readings.{rest, gap_left, chunks_in}, Entering.to_come}
+use Rattle.ffs_names.specs.{Readings.{rest, gap_left, chunks_in}, Entering.to_come}
+use Rattle.ffs_volume.specs.Directories.Calm.{is_right_size}
 use Rattle.ffs_names.specs.{Entering.{last_name, left}, Costs.{reads_for_entries, HoldsEntries}}
 use Rattle.ffs_names.specs.declared.entries.Entries.{Entries}
 

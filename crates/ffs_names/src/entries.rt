@@ -2,7 +2,8 @@
 
 ghost use Rattle.std.specs.Prelude.{◌≡◌, ◌+◌, ◌-◌, ◌*◌, ◌/◌, ◌≤◌, ◌^◌, IfOk};
 ghost use Rattle.ffs_image.specs.Device.{ForContents};
-ghost use Rattle.ffs_names.specs.{OneChunk.one_chunk_at as one_chunk, RightShapes.is_right_size, Windows.CanWalkDir};
+ghost use Rattle.ffs_names.specs.{OneChunk.one_chunk_at as one_chunk, Windows.CanWalkDir};
+ghost use Rattle.ffs_volume.specs.Directories.Calm.{is_right_size};
 ghost use Rattle.ffs_names.specs.Windows.{CanReadChunks};
 ghost use Rattle.ffs_survey.specs.Costs.{TakesReads};
 ghost use Rattle.ffs_walk.specs.declared.window.Window.{Window};

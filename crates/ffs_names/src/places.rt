@@ -6,11 +6,13 @@ ghost use Rattle.ffs_image.specs.Device.{ForContents};
 ghost use Rattle.ffs_layout.specs.Entry.{entry_value};
 ghost use Rattle.ffs_volume.specs.Directories.{Entries.entries_of, Roles.{is_dir, role_of as role_in, roled_chunk}};
 ghost use Rattle.ffs_volume.specs.Directories.{Roles.roled_from, Volumes.volume_of};
-ghost use Rattle.ffs_workspace.specs.{Holds.{HoldsClaims, HoldsSurvey}, Notes.note_at, Ready.IsReady};
+ghost use Rattle.ffs_workspace.specs.{Holds.{HoldsClaims, HoldsSurvey}, Ready.IsReady};
+ghost use Rattle.ffs_volume.specs.Encodings.Notes.{note_at};
 ghost use Rattle.ffs_workspace.specs.Tables.{CanReadInode, TableAfter};
 ghost use Rattle.ffs_names.specs.Noting.{is_child, BeginsNotes, CanNote, CanNoteChunks, CanNoteDirectory, HoldsPlaces};
 ghost use Rattle.ffs_names.specs.Noting.{LeavesChildren, LeavesNoted, LeavesPlaces, NotesDirectory, NotesEntries};
-ghost use Rattle.ffs_names.specs.{Noting.NotesInWords, Costs.{noted_cost, noted_costs, BeginsChunks}};
+ghost use Rattle.ffs_names.specs.{Noting.NotesInWords, Costs.BeginsChunks};
+ghost use Rattle.ffs_volume.specs.Report.DirectoryReads.{noted_cost, noted_costs};
 ghost use Rattle.ffs_names.specs.{Costs.{BeginsReads, SweepsOnce}, Readings.rest};
 
 use crate::chunk_entries::ChunkEntries;

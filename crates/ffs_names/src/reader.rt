@@ -53,7 +53,8 @@ impl<I: Image> Directories for DirectoryReader<'_, I> {
     ghost use Rattle.ffs_names.specs.Readers.{Base as ReaderBase, KnowsReader, dir_entries, dir_right_shape, IsReaderReady};
     ghost use Rattle.ffs_names.specs.Shapes.{has_right_shape, HasEnded};
     ghost use Rattle.ffs_names.specs.Entering.{to_come, left as entries_left, last_name};
-    ghost use Rattle.ffs_names.specs.Costs.{noted_cost, reads_for_entries, HoldsEntries};
+    ghost use Rattle.ffs_names.specs.Costs.{reads_for_entries, HoldsEntries};
+    ghost use Rattle.ffs_volume.specs.Report.DirectoryReads.{noted_cost};
 
     ghost Base = { ReaderBase };
 

@@ -3,7 +3,8 @@
 ghost use Rattle.std.specs.Prelude.{◌≡◌, ◌+◌, ◌≤◌, false, OnOk};
 ghost use Rattle.ffs_image.specs.Device.{ForContents};
 ghost use Rattle.ffs_workspace.specs.{Ready.IsReady, Holds.HoldsClaims};
-ghost use Rattle.ffs_names.specs.{Surveys.{IsSurveyed, LeavesClaims}, Costs.{noted_costs, SweepsOnce}};
+ghost use Rattle.ffs_names.specs.{Surveys.{IsSurveyed, LeavesClaims}, Costs.SweepsOnce};
+ghost use Rattle.ffs_volume.specs.Report.DirectoryReads.{noted_costs};
 ghost use Rattle.ffs_names.specs.CalmDirs.{FlagsEachCalm};
 
 use crate::entries::Entries;

@@ -11,7 +11,8 @@ use Rattle.ffs_volume.specs.{Directories.Volumes.volume_with, Messages.Kinds.{Tr
 use Rattle.ffs_volume.specs.{Messages.Kinds.lines_from, Blocks.Inodes.{is_directory, is_allocated}}
 use Rattle.ffs_volume.specs.Encodings.Kinds.{is_dir_kind, is_empty_dir_kind, is_allocated_kind}
 use Rattle.ffs_volume.proofs.{SearchLaws.some_below-none, Numbered.all_from_root, Sizes.some_inodes}
-use Rattle.ffs_workspace.specs.{declared.workspace.Workspace.Workspace, Lengths.{IsFor, inodes_of}, Holds.bool_at}
+use Rattle.ffs_workspace.specs.{declared.workspace.Workspace.Workspace, Lengths.IsFor, Holds.bool_at}
+use Rattle.ffs_volume.specs.Blocks.Inodes.{inodes_of}
 use Rattle.ffs_workspace.specs.{Holds.{HoldsClaims, HoldsReferences, HoldsSurvey}, Leaves.{LeavesSurvey}}
 use Rattle.ffs_workspace.proofs.{KindLaws.{reports_at, suspect_is}, Leaving.{claims_left, survey_left, leaves_all}}
 use Rattle.ffs_pathnames.specs.{Gathers.passed_of, DirectoryContext.DirectoryContext, Before.{IsNonePassed, IsBefore}}

@@ -6,12 +6,15 @@ use Rattle.ffs_volume.specs.{declared.Layout.Layout, Encodings.Lists.bool_at}
 use Rattle.ffs_volume.specs.Directories.{PathnameCheck.is_sized_dir, Roles.{RoledEntry, Volume}, Volumes.{volume_of}}
 use Rattle.ffs_volume.proofs.SearchLaws.{some_below-from}
 use Rattle.ffs_workspace.specs.{declared.workspace.Workspace.Workspace, Holds.HoldsClaims, Leaves.LeavesBlockCheck}
-use Rattle.ffs_names.specs.{CalmDirs.{is_calm_directory, FlagsEachCalm}, Costs.{directory_cost, noted_costs}}
-use Rattle.ffs_pathnames.specs.{Before.{IsNonePassed, needs_check}, Looked.{ChecksLookedAt, KeepsFlags, is_looked_at}}
-use Rattle.ffs_pathnames.specs.{Looked.places_cost}
+use Rattle.ffs_names.specs.CalmDirs.{FlagsEachCalm}
+use Rattle.ffs_volume.specs.{Directories.Calm.is_calm_directory, Report.DirectoryReads.{directory_cost, noted_costs}}
+use Rattle.ffs_pathnames.specs.{Before.{IsNonePassed, needs_check}, Looked.{ChecksLookedAt, KeepsFlags}}
+use Rattle.ffs_volume.specs.Report.DirectoryReads.{is_looked_at}
+use Rattle.ffs_volume.specs.Report.DirectoryReads.{places_cost}
 use Rattle.ffs_pathnames.specs.PassedNames.{PassedNames, after_entries, after_name, after_roled, is_flagged}
 use Rattle.ffs_pathnames.proofs.EmptyLaws.{looked_is}
-use Rattle.ffs_survey.{proofs.Costs.{cost_skip, cost_take}, specs.{Costs.costs_below}}
+use Rattle.ffs_survey.proofs.Costs.{cost_skip, cost_take}
+use Rattle.ffs_volume.specs.Report.DirectoryReads.{costs_below}
 
 -- by a directory's kind, its mark and its flag
 not_needed : (k : ℕ) (sized marked calm flag old : Bool) → sized ≡ (k == 4) → (calm ≡ true → old ≡ true) →

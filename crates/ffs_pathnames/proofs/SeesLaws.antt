@@ -7,9 +7,11 @@ use Rattle.ffs_volume.{specs.{Laws.Geometry.IsAcceptedLayout, Directories.Climb.
 use Rattle.ffs_volume.specs.Directories.{Entries.{Chunk, has_gap}, Roles.{roled_chunk, roled_entries}}
 use Rattle.ffs_volume.specs.Directories.Volumes.{volume_of, volume_with, is_inode_number, chunk_source_of}
 use Rattle.ffs_volume.specs.Encodings.Replay.{cut_at, fresh_replay, replayed_steps}
-use Rattle.ffs_workspace.specs.{declared.workspace.Workspace.Workspace, Lengths.inodes_of, Holds.HoldsClaims}
+use Rattle.ffs_workspace.specs.{declared.workspace.Workspace.Workspace, Holds.HoldsClaims}
+use Rattle.ffs_volume.specs.Blocks.Inodes.{inodes_of}
 use Rattle.ffs_workspace.{specs.Holds.HoldsSurvey, proofs.KindLaws.{reports_at, dir_is, suspect_is, type_is, class_is}}
-use Rattle.ffs_workspace.{specs.Notes.cut_in, proofs.NoteLaws.cut_is_noted}
+use Rattle.ffs_workspace.proofs.NoteLaws.{cut_is_noted}
+use Rattle.ffs_volume.specs.Encodings.Notes.{cut_in}
 use Rattle.ffs_names.specs.Readings.{chunks_in}
 use Rattle.ffs_pathnames.specs.{declared.inodes.Inodes.Inodes, Sees.Sees}
 

@@ -22,11 +22,12 @@ use Rattle.ffs_volume.specs.{Directories.Roles.{roled_chunk, roled_entries}, Enc
 use Rattle.ffs_volume.specs.Encodings.{Kinds.{is_allocated_kind, is_unknown_kind, type_of_kind}, Replay.cut_at}
 use Rattle.ffs_volume.specs.Encodings.Replay.{fresh_replay, replayed_steps}
 use Rattle.ffs_names.{specs.{RunCursors.reading_by, Surveys.FlagsCalm}, proofs.DirLaws.kind_dirs}
-use Rattle.ffs_names.specs.RightShapes.{is_right_size, is_right_shape}
+use Rattle.ffs_volume.specs.Directories.Calm.{is_right_size, is_right_shape}
 use Rattle.ffs_workspace.specs.{declared.workspace.Workspace.Workspace, Lengths.IsFor, Holds.{bool_at, HoldsClaims}}
 use Rattle.ffs_workspace.{specs.Holds.HoldsSurvey, proofs.KindLaws.{reports_at, suspect_is, type_is}}
-use Rattle.ffs_survey.specs.{Survey.{number_at, dir_at}, Calm.{are_calm, IsCalm, CurrentDir, is_calm_kind}}
-use Rattle.ffs_survey.specs.Calm.{is_calm_plain, is_calm_role, is_calm_entry, reached_after}
+use Rattle.ffs_survey.specs.{Survey.number_at, Calm.IsCalm}
+use Rattle.ffs_volume.specs.{Encodings.Kinds.dir_at, Directories.Calm.{are_calm, CurrentDir, is_calm_kind}}
+use Rattle.ffs_volume.specs.Directories.Calm.{is_calm_plain, is_calm_role, is_calm_entry, reached_after}
 use Rattle.ffs_survey.proofs.CalmLaws.{calm_names_new, calm_new}
 use Rattle.ffs_pathnames.{specs.Silent.IsSilentDirectory, proofs.SeesLaws.{chunks_are, chunks_read, settled}}
 use Rattle.ffs_pathnames.specs.PassedNames.{after_look, are_quiet, belongs, first_verdict, is_quiet}

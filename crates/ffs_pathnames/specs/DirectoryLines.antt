@@ -7,11 +7,12 @@ use Rattle.ffs_volume.specs.{declared.Layout.Layout, Directories.{PathnameCheck.
 use Rattle.ffs_volume.specs.Directories.Volumes.{volume_of}
 use Rattle.ffs_volume.specs.Report.Reads.{line_reads, path_reads, sweep_reads}
 use Rattle.ffs_volume.specs.Messages.Kinds.{TreeMessage, of_tree}
-use Rattle.ffs_names.specs.Costs.{directories_cost, directory_cost, directory_runs}
+use Rattle.ffs_volume.specs.Report.DirectoryReads.{directories_cost, directory_cost, directory_runs}
 use Rattle.ffs_paths.specs.declared.kept_parent.KeptParent.{KeptParent}
 use Rattle.ffs_workspace.specs.{Places.AreNoted, declared.workspace.Workspace.Workspace}
 use Rattle.ffs_workspace.specs.{Holds.{HoldsClaims, HoldsSurvey}, Leaves.LeavesBlockCheck, Ready.IsReady}
-use Rattle.ffs_pathnames.specs.Looked.{ChecksLookedAt, looks_cost, places_cost}
+use Rattle.ffs_pathnames.specs.Looked.{ChecksLookedAt}
+use Rattle.ffs_volume.specs.Report.DirectoryReads.{looks_cost, places_cost}
 use Rattle.ffs_pathnames.specs.{Before.IsBefore, Gathers.passed_of, LineReads.{again_reads, ReadsByLines}}
 use Rattle.ffs_pathnames.specs.{PassedNames.{are_quiet, directory_reported}, Ready.{LinesLeave, PhaseLeaves}}
 use Rattle.ffs_pathnames.specs.declared.tree.Checking.{Checking}

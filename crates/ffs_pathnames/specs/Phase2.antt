@@ -8,8 +8,8 @@ use Rattle.ffs_report.specs.{Known.ForBytes, Paid.Paid, Progress.{Progress, Said
 use Rattle.ffs_report.specs.declared.fault.RunFault.TheVariants.{Read, Out}
 use Rattle.ffs_workspace.specs.{declared.workspace.Workspace.Workspace, Found.WithClaims}
 use Rattle.ffs_workspace.specs.Holds.{HoldsClaims, HoldsReferences, HoldsSurvey}
-use Rattle.ffs_names.specs.Costs.{directories_cost}
-use Rattle.ffs_pathnames.specs.Looked.{phase2_cost}
+use Rattle.ffs_volume.specs.Report.DirectoryReads.{directories_cost}
+use Rattle.ffs_volume.specs.Report.DirectoryReads.{phase2_cost}
 use Rattle.ffs_pathnames.specs.{RootAnswers.is_go, declared.pass2.Root.Root}
 
 -- the check continues after the root as the image's bytes say, and the workspace holds what the block

@@ -1,6 +1,7 @@
 //! A second reading of a directory, and the lines of its entries, one after another.
 ghost use Rattle.std.specs.Prelude.{◌≡◌};
-ghost use Rattle.ffs_names.specs.{Costs.directory_runs, Windows.CanReadChunks};
+ghost use Rattle.ffs_names.specs.Windows.{CanReadChunks};
+ghost use Rattle.ffs_volume.specs.Report.DirectoryReads.{directory_runs};
 ghost use Rattle.ffs_volume.specs.Directories.Volumes.{volume_of};
 ghost use Rattle.ffs_report.specs.Progress.{progress};
 ghost use Rattle.ffs_pathnames.specs.{Gathers.{passed_of, roled_lines_by, roled_value}, Looks.roled_in};

@@ -1,6 +1,6 @@
 //! A first look at a directory: whether it is sure that nothing is reported of its entries.
 ghost use Rattle.std.specs.Prelude.{◌≡◌, ◌+◌, ◌≤◌, true, false, List, ◌∷◌};
-ghost use Rattle.ffs_names.specs.Costs.{directory_cost, directory_runs};
+ghost use Rattle.ffs_volume.specs.Report.DirectoryReads.{directory_cost, directory_runs};
 ghost use Rattle.ffs_pathnames.specs.DirectoryContext.{DirectoryContext, KnowsDirectory};
 ghost use Rattle.ffs_pathnames.specs.{Examines.{Examines, ExaminesWithin, IsExamined, IsLookedAt}, StartChunks.start_chunk};
 ghost use Rattle.ffs_pathnames.specs.{Looks.{IsChunkLook, StampsEntry}, Ready.{ReadyToLook, ReadyToRead}};

@@ -4,14 +4,15 @@ ghost use Rattle.ffs_report.specs.Progress.{progress};
 ghost use Rattle.ffs_volume.specs.{declared.Layout.Layout, Messages.Kinds.lines_from};
 ghost use Rattle.ffs_volume.specs.Directories.{Parents.graph_of, Graph.parent, Volumes.volume_of};
 ghost use Rattle.ffs_volume.specs.Directories.PathnameCheck.{dir_header_lines, directory_lines, sized_dir_lines};
-ghost use Rattle.ffs_names.specs.Costs.{directory_cost};
+ghost use Rattle.ffs_volume.specs.Report.DirectoryReads.{directory_cost};
 ghost use Rattle.ffs_pathnames.specs.{ReadsLeft.{LeftForNext, LeftForBoth, LeftForLook}, PassedRight.AreRightBefore};
 ghost use Rattle.ffs_pathnames.specs.Before.{ListsInode, ListsInodes, IsBeforeNoted, IsFirstToCheck, needs_check};
 ghost use Rattle.ffs_pathnames.specs.{Gathers.passed_of, Looked.KeepsFlags, Ready.{ReadyToCheck, ReadyToPath}};
 ghost use Rattle.ffs_pathnames.specs.Begins.{AreFirstTwo, IsDirectoryBegun};
 ghost use Rattle.ffs_pathnames.specs.{HeaderValues.facts_lines, DirectoryContext.KnowsHeader};
 ghost use Rattle.ffs_pathnames.specs.DirectoryLines.{ReadsQuietOnce, ReportsDirectory, ReportsLines, ReportsTree};
-ghost use Rattle.ffs_workspace.specs.{Holds.HoldsSurvey, Lengths.inodes_of, Ready.IsReady};
+ghost use Rattle.ffs_workspace.specs.{Holds.HoldsSurvey, Ready.IsReady};
+ghost use Rattle.ffs_volume.specs.Blocks.Inodes.{inodes_of};
 ghost use Rattle.ffs_layout.specs.Entry.{entry_value};
 
 use crate::entries::report_directory;

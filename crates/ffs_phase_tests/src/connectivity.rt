@@ -1,7 +1,8 @@
 //! What is reported of a volume with directories that are cut off.
 
 ghost use Rattle.std.specs.Prelude.{◌≡◌, ℕ, List, Option, IfOk};
-ghost use Rattle.ffs_workspace.specs.{Lengths.{IsFor, HoldWindows, inodes_of}, Ready.IsReady};
+ghost use Rattle.ffs_workspace.specs.{Lengths.{IsFor, HoldWindows}, Ready.IsReady};
+ghost use Rattle.ffs_volume.specs.Blocks.Inodes.{inodes_of};
 
 use crate::compare::same;
 use ffs_connectivity::phase3;

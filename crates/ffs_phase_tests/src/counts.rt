@@ -2,7 +2,8 @@
 //! them out by hand.
 
 ghost use Rattle.std.specs.Prelude.{◌≡◌, ℕ, List, Option, IfOk, length};
-ghost use Rattle.ffs_workspace.specs.{Lengths.{IsFor, HoldWindows, inodes_of}, Ready.IsReady};
+ghost use Rattle.ffs_workspace.specs.{Lengths.{IsFor, HoldWindows}, Ready.IsReady};
+ghost use Rattle.ffs_volume.specs.Blocks.Inodes.{inodes_of};
 
 use crate::compare::same;
 use ffs_claims::phase1;

@@ -2,7 +2,8 @@
 //! that of one in the second chunk of another directory.
 
 ghost use Rattle.std.specs.Prelude.{◌≡◌, ℕ, List, Option, IfOk};
-ghost use Rattle.ffs_workspace.specs.Lengths.{IsFor, HoldWindows, inodes_of};
+ghost use Rattle.ffs_workspace.specs.Lengths.{IsFor, HoldWindows};
+ghost use Rattle.ffs_volume.specs.Blocks.Inodes.{inodes_of};
 
 use crate::compare::same;
 use ffs_layout::{Geometry, Order};

@@ -9,7 +9,7 @@
 
 ghost use Rattle.std.specs.Prelude.{◌≡◌, ◌≤◌, ◌*◌, IfOk, length, vec_len};
 ghost use Rattle.ffs_image.specs.Device.{Faulted, IsAt, IsSized};
-ghost use Rattle.ffs_workspace.specs.Lengths.{inodes_of};
+ghost use Rattle.ffs_volume.specs.Blocks.Inodes.{inodes_of};
 
 use ffs_image::{Image, ImageFault, MemoryImage};
 use ffs_layout::{Geometry, Inode, Layout, Order, SuperFault};

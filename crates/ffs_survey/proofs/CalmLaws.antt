@@ -6,9 +6,11 @@ use mathlib.Core.Path.{fun_ext}
 use Rattle.ffs_volume.specs.Directories.{Graph.{Graph, is_naming_entry}, Roles.{RoledEntry, is_plain}}
 use Rattle.ffs_volume.specs.declared.Role.TheVariants.{Empty, Dot, Dotdot, Extra, Plain}
 use Rattle.ffs_volume.{proofs.SearchLaws.first_below-is_none, specs.declared.Role.Role}
-use Rattle.ffs_survey.specs.Calm.{CurrentDir, is_calm_role, is_calm_entry, reached_after, are_calm, AreCalm, IsCalm}
+use Rattle.ffs_survey.specs.Calm.{AreCalm, IsCalm}
+use Rattle.ffs_volume.specs.Directories.Calm.{CurrentDir, is_calm_role, is_calm_entry, reached_after, are_calm}
 use Rattle.ffs_survey.specs.{Calm.IsFlagged, Discover.{from_entries, nothing, SameResult, IsFrontier, LevelsKnown}}
-use Rattle.ffs_survey.{specs.Survey.{bool_at, dir_at, number_at}, proofs.Frontiers.frontier_within}
+use Rattle.ffs_survey.{specs.Survey.{bool_at, number_at}, proofs.Frontiers.frontier_within}
+use Rattle.ffs_volume.specs.Encodings.Kinds.{dir_at}
 use Rattle.ffs_survey.specs.Discover.{Found, IsRead}
 
 -- a calm plain entry that names a directory is before any other that reaches it

@@ -6,7 +6,8 @@ use Rattle.std.proofs.lemmas.List.{Sums.{sum_by-le, sum_by-set, sum_by_push}, at
 use Rattle.std.specs.Option.{option_or}
 use Rattle.ffs_volume.specs.Directories.{Graph.edge, Roles.{RoledEntry, is_plain}}
 use Rattle.ffs_survey.specs.Discover.{SameResult, bit, from_dirs, from_entries, is_unreached_dir, nothing, occurrences}
-use Rattle.ffs_survey.specs.{Discover.unset, Survey.{bool_at, dir_at, graph_with, number_at}}
+use Rattle.ffs_survey.specs.{Discover.unset, Survey.{bool_at, graph_with, number_at}}
+use Rattle.ffs_volume.specs.Encodings.Kinds.{dir_at}
 
 -- tests of numbers, and reading a list in which one element is set
 pub ruleset set_tests = (nat_tests, get_or-set_other, get_or-set_same)

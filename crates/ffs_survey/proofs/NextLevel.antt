@@ -5,7 +5,8 @@ use Rattle.ffs_volume.specs.Directories.{Graph.Graph, Roles.RoledEntry}
 use Rattle.ffs_memory.specs.Filled.{SortsPart}
 use Rattle.ffs_survey.specs.{declared.lists.Lists.Lists, Lent.{SameLists, found_up_to, CountsAtMost}, Levels.Discovers}
 use Rattle.ffs_survey.specs.Discover.{IsReachedDir, Found, Extends, SameResult, IsFrontier, LevelsKnown, from_dirs}
-use Rattle.ffs_survey.specs.{Discover.{nothing, unset}, Survey.{dir_at, number_at, graph_with}}
+use Rattle.ffs_survey.specs.{Discover.{nothing, unset}, Survey.{number_at, graph_with}}
+use Rattle.ffs_volume.specs.Encodings.Kinds.{dir_at}
 use Rattle.ffs_survey.proofs.{CalmLaws.frontier_reached, Frontiers.{frontier_dirs, sane_of}, Lending.kinds_long}
 use Rattle.ffs_survey.proofs.{Lending.queue_long, Queues.{level_after, queue_parts, same_result_after}}
 

@@ -11,7 +11,8 @@ use Rattle.ffs_survey.proofs.Frontiers.{next_level, frontier_from, queue_grows, 
 use Rattle.ffs_survey.{proofs.Frontiers.{occurrences-permutation, no_more, root_alone}, specs.Discover.Extends}
 use Rattle.ffs_survey.specs.Discover.{occurrences, from_dirs, nothing, SameResult, IsFrontier, LevelsKnown, IsCount}
 use Rattle.ffs_survey.specs.{Discover.{Counts, IsReachedPart, count_of, any_of, none, never}, Survey.bool_at}
-use Rattle.ffs_survey.{specs.Survey.{number_at, graph_with, dir_at, counted_in}, proofs.Totals.{any_all, count_all}}
+use Rattle.ffs_survey.{specs.Survey.{number_at, graph_with, counted_in}, proofs.Totals.{any_all, count_all}}
+use Rattle.ffs_volume.specs.Encodings.Kinds.{dir_at}
 
 -- a queue that is extended twice
 pub extends_on : {a b c : ℕ} {q q' q'' : List ℕ} → Extends a b q q' → Extends b c q' q'' → Extends a c q q''

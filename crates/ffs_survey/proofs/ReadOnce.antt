@@ -8,10 +8,13 @@ use Rattle.std.proofs.lemmas.List.{get_or-drop, get_or_default, length-drop, get
 use Rattle.ffs_volume.specs.declared.{Role.{Role, TheVariants.{Empty, Dot, Dotdot, Extra, Plain}}}
 use Rattle.ffs_volume.specs.Directories.{Climb.is_value, Graph.{Graph, level, parent, within}, Roles.RoledEntry}
 use Rattle.ffs_volume.proofs.{ClimbLaws.is_value-true, Graphs.IsSane, LevelLaws.{level-from, within-zero}}
-use Rattle.ffs_survey.specs.Calm.{CurrentDir, is_calm_role, is_calm_entry, reached_after, are_calm, IsFlagged}
-use Rattle.ffs_survey.specs.Calm.{AreUnread, is_calm_by_parents, is_elsewhere, IsReadOnce, IsUnread}
+use Rattle.ffs_survey.specs.Calm.{IsFlagged}
+use Rattle.ffs_volume.specs.Directories.Calm.{CurrentDir, is_calm_role, is_calm_entry, reached_after, are_calm}
+use Rattle.ffs_survey.specs.Calm.{AreUnread, IsReadOnce, IsUnread}
+use Rattle.ffs_volume.specs.Directories.Calm.{is_calm_by_parents, is_elsewhere}
 use Rattle.ffs_survey.specs.Discover.{bit, from_entries, nothing, occurrences, parent_at, SameResult, IsFrontier, LevelsKnown}
-use Rattle.ffs_survey.specs.{ParentLaws.{parent_above, root_level}, Survey.{bool_at, dir_at, graph_with, number_at}}
+use Rattle.ffs_survey.specs.{ParentLaws.{parent_above, root_level}, Survey.{bool_at, graph_with, number_at}}
+use Rattle.ffs_volume.specs.Encodings.Kinds.{dir_at}
 use Rattle.ffs_survey.proofs.{CalmLaws.{Stays, all_calm, same_result_stays}, Discovered.{bit-le, set_tests}}
 use Rattle.ffs_survey.proofs.Frontiers.{bit-one, frontier_within, occurrences-at, occurrences-cons, occurrences-head}
 use Rattle.ffs_survey.proofs.{Frontiers.{frontier_dirs, occurrences-index, sane_of, within-bound}, Queues.at_place}

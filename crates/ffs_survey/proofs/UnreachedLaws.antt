@@ -9,7 +9,8 @@ use Rattle.ffs_volume.{proofs.SearchLaws.first_below-is_none, specs.Directories.
 use Rattle.ffs_volume.specs.{Directories.Graph.{reached, parent}, Disk.Search.{first_below, earliest, some_below}}
 use Rattle.ffs_volume.{proofs.{Graphs.IsSane, Unreached.parent-unreached}, specs.Directories.Roles.RoledEntry}
 use Rattle.ffs_survey.specs.Discover.{Found, Counts, count_in, any_in, none, never, counted_by, IsReachedPart, IsRead}
-use Rattle.ffs_survey.specs.{Discover.{is_unreached_dir, is_unreached_edge}, Survey.{bool_at, number_at, dir_at}}
+use Rattle.ffs_survey.specs.{Discover.{is_unreached_dir, is_unreached_edge}, Survey.{bool_at, number_at}}
+use Rattle.ffs_volume.specs.Encodings.Kinds.{dir_at}
 use Rattle.ffs_survey.{specs.Survey.{graph_with, counted_in, start_in, IsSurvey}, proofs.Discovered.dir_below}
 use Rattle.ffs_survey.proofs.Totals.{counted_both, some_both}
 

@@ -4,7 +4,8 @@ use Rattle.std.specs.Prelude.{◌||◌, length, take, if◌then◌else◌, List,
 use Rattle.std.specs.{Prelude.{unwrap_or, find, count_by}, List.{list_any, sum_by}}
 use Rattle.ffs_volume.specs.{Directories.{Roles.{RoledEntry, refers}, Climb.is_value}, Disk.Search.first_below}
 use Rattle.ffs_volume.specs.Directories.Graph.{Graph, is_naming_entry, is_naming_dir, edge, within, level, parent}
-use Rattle.ffs_survey.specs.Survey.{bool_at, number_at, dir_at, counted_in}
+use Rattle.ffs_survey.specs.Survey.{bool_at, number_at, counted_in}
+use Rattle.ffs_volume.specs.Encodings.Kinds.{dir_at}
 
 -- what a survey has found so far: references, named and reached inodes, parents, calm directories,
 -- and the queue

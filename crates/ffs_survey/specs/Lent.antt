@@ -5,8 +5,11 @@ use Rattle.ffs_image.specs.{Reads.ReadAfter, declared.image.ImageFault.ImageFaul
 use Rattle.ffs_volume.specs.Directories.{Graph.is_naming_entry, Roles.RoledEntry}
 use Rattle.ffs_survey.specs.declared.lists.{Lists.Lists, KnownInodes.KnownInodes, NumberLists.NumberLists}
 use Rattle.ffs_survey.specs.declared.lists.{CurrentDir.CurrentDir as LentDir}
-use Rattle.ffs_survey.specs.{declared.directories.Directories.Ghosts, Survey.{number_at, bool_at, dir_at, graph_with, most_start}}
-use Rattle.ffs_survey.specs.{Calm.{CurrentDir, AreCalm, IsFlagged, IsReadOnce}, Costs.costs_below}
+use Rattle.ffs_survey.specs.{declared.directories.Directories.Ghosts, Survey.{number_at, bool_at, graph_with}}
+use Rattle.ffs_survey.specs.Survey.{most_start}
+use Rattle.ffs_volume.specs.Encodings.Kinds.{dir_at}
+use Rattle.ffs_survey.specs.Calm.{AreCalm, IsFlagged, IsReadOnce}
+use Rattle.ffs_volume.specs.{Directories.Calm.CurrentDir, Report.DirectoryReads.costs_below}
 use Rattle.ffs_survey.specs.Discover.{Extends, Found, IsReachedDir, IsReachedPart, SameResult, from_entries}
 use Rattle.ffs_survey.specs.{Discover.{is_unreached_dir, nothing, unset}, Levels.ReadsUnreached, Lists.{AreLists, GrowsBy}}
 

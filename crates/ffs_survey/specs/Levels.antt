@@ -1,7 +1,8 @@
 -- What the reading of directories makes of what a survey has found.
 use Rattle.std.specs.Prelude.{◌≡◌, ℕ, ◌+◌, ◌<◌, ◌≤◌, ◌==◌, All, Bool, true, ◌&&◌, cond, List, length, take}
 use Rattle.ffs_volume.specs.Directories.Roles.{RoledEntry}
-use Rattle.ffs_survey.specs.{Survey.{bool_at, number_at, graph_with, IsSurvey}, Calm.{are_calm, AreCalm, IsFlagged}}
+use Rattle.ffs_survey.specs.{Survey.{bool_at, number_at, graph_with, IsSurvey}, Calm.{AreCalm, IsFlagged}}
+use Rattle.ffs_volume.specs.Directories.Calm.{are_calm}
 use Rattle.ffs_survey.specs.Calm.{AreUnread, EachCalmIsFlagged, IsReadOnce}
 use Rattle.ffs_survey.specs.Discover.{Found, SameResult, Counts, from_entries, from_dirs, nothing, count_in}
 use Rattle.ffs_survey.specs.{Discover.{any_in, count_of, any_of, none, never, is_unreached_dir, unset}, Lists.GrowsBy}

@@ -1,15 +1,12 @@
 -- What a survey of directories finds of each inode, and the graph that it goes over.
-use Rattle.std.specs.Prelude.{◌≡◌, ℕ, zero, suc, ◌+◌, ◌<◌, ◌==◌, Bool, ◌&&◌, ◌||◌, not, nat_le, min, if◌then◌else◌}
+use Rattle.std.specs.Prelude.{◌≡◌, ℕ, zero, suc, ◌+◌, ◌<◌, ◌==◌, Bool, ◌&&◌, ◌||◌, not, min, if◌then◌else◌}
 use Rattle.std.specs.Prelude.{List, length, count_by, unwrap_or}
 use Rattle.ffs_volume.specs.{declared.constants.TheConstants.{NO_LINKS, ROOTINO}, Directories.Roles.RoledEntry}
 use Rattle.ffs_volume.specs.Directories.{Roles.refers, Graph.{Graph, is_named, reached as is_reached, parent}}
 pub use Rattle.ffs_volume.specs.Encodings.Lists.{bool_at, number_at}
 use Rattle.ffs_volume.specs.Encodings.Kinds.{is_empty_dir_kind}
 pub use Rattle.ffs_volume.specs.Encodings.Kinds.{is_dir_kind}
-
--- x is a directory, by a list with a kind for each inode
-abbrev pub dir_at : List ℕ → ℕ → Bool
-dir_at kinds x = nat_le 2 x && is_dir_kind (number_at kinds x)
+use Rattle.ffs_volume.specs.Encodings.Kinds.{dir_at}
 
 -- x is suspect: marked, or a directory of size 0
 abbrev pub suspect_at : List ℕ → List Bool → ℕ → Bool

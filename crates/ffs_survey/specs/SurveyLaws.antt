@@ -8,7 +8,8 @@ use Rattle.ffs_volume.specs.{Blocks.Inodes.{is_known_type, any_nonzero, is_direc
 use Rattle.ffs_volume.specs.Directories.Roles.{roled_entries, is_dir, is_suspect, refers, references, references_below}
 use Rattle.ffs_volume.specs.Directories.{Volumes.{class_at, marked_at, volume_of, volume_with}, Parents.graph_of}
 use Rattle.ffs_volume.specs.Encodings.Kinds.{kind_of}
-use Rattle.ffs_survey.specs.Survey.{bool_at, number_at, is_dir_kind, dir_at, suspect_at, counted_below, references_to}
+use Rattle.ffs_survey.specs.Survey.{bool_at, number_at, is_dir_kind, suspect_at, counted_below, references_to}
+use Rattle.ffs_volume.specs.Encodings.Kinds.{dir_at}
 
 -- the references of the graph are the volume's
 pub references_is : (v : Volume) (x : ℕ) → references_to (graph_of v) x ≡ references v x

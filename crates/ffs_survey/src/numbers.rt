@@ -1,6 +1,7 @@
 //! Lists with a number for each inode: kinds and parents.
 ghost use Rattle.std.specs.Prelude.{◌≡◌};
-ghost use Rattle.ffs_survey.specs.Survey.{dir_at, number_at};
+ghost use Rattle.ffs_survey.specs.Survey.{number_at};
+ghost use Rattle.ffs_volume.specs.Encodings.Kinds.{dir_at};
 
 use ffs_memory::FilledList;
 use ffs_volume::constants::ROOTINO;

@@ -1,5 +1,5 @@
--- Directories: entries and their roles, levels and parents, paths, and the lines of phases 2, 3 and
--- 4. Four tests have one meaning: `is_directory` takes a class, `is_dir` a number of a volume,
+-- Directories: entries and their roles, levels and parents, paths, the lines of phases 2, 3 and 4, and
+-- the directories of which phase 2 can report nothing. Four tests have one meaning: `is_directory` takes a class, `is_dir` a number of a volume,
 -- `is_dir_inode`, of `Groups`, a number and the classes, and `is_dir_kind`, of `Encodings`, what
 -- the program stores. The `kind` of an entry is its type, DT_DIR and so on.
 pub mod Entries
@@ -12,3 +12,4 @@ pub mod PathnameCheck
 pub mod Connectivity
 pub mod ReferenceCheck
 pub mod Volumes
+pub mod Calm

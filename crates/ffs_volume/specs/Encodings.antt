@@ -1,7 +1,9 @@
 -- What a workspace, the memory of a check, stores of an inode: its class as a number, where the
--- count of its references starts, and its kept offers as one number, from which they are replayed.
+-- count of its references starts, its kept offers as one number, from which they are replayed, and the
+-- address of a directory's only chunk.
 pub mod Kinds
 pub mod Links
 pub mod Lists
 pub mod Replay
 pub mod ReplayCounts
+pub mod Notes

@@ -4,4 +4,5 @@ pub mod Opening
 pub mod Whole
 pub mod Memory
 pub mod Reads
+pub mod DirectoryReads
 pub mod VolumeReads

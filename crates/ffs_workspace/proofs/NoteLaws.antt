@@ -6,7 +6,7 @@ use Rattle.ffs_volume.specs.{Laws.Geometry.IsAcceptedLayout, Blocks.{Inodes.inod
 use Rattle.ffs_volume.specs.Blocks.{Claims.{Claims, at_next_inode, after_steps}, KeptSteps.claims_before}
 use Rattle.ffs_volume.specs.{Directories.Volumes.class_at, Encodings.Replay.{cut_of, cut_at}}
 use Rattle.ffs_volume.proofs.{Potentials.{owner_moves, kept_bound}, CutLaws.{before_length, cut_is}}
-use Rattle.ffs_workspace.specs.Notes.{first_noted, note_of, note_at, cut_in}
+use Rattle.ffs_volume.specs.Encodings.Notes.{first_noted, note_of, note_at, cut_in}
 
 -- an inode keeps fewer offers than the first note of an address
 kept_few : (v : Layout) (image : List ℕ) (x : ℕ) → IsAcceptedLayout v

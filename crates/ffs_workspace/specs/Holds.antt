@@ -6,8 +6,9 @@ use Rattle.ffs_volume.specs.Blocks.{Owners.owners_of, Claims.{Claims, no_claims,
 use Rattle.ffs_volume.specs.{Blocks.KeptSteps.claims_before, Directories.Graph.{is_named, reached, parent}}
 use Rattle.ffs_volume.specs.Directories.{Roles.references, Parents.graph_of, Volumes.{is_inode_number, marked_at}}
 use Rattle.ffs_volume.specs.{Directories.Volumes.volume_of, Encodings.{Kinds.kind_at, Links.start_at}}
-use Rattle.ffs_workspace.specs.{Notes.note_at, Places.ArePlaces, declared.workspace.Workspace.Workspace}
-use Rattle.ffs_workspace.specs.Lengths.{inodes_of}
+use Rattle.ffs_workspace.specs.{Places.ArePlaces, declared.workspace.Workspace.Workspace}
+use Rattle.ffs_volume.specs.Encodings.Notes.{note_at}
+use Rattle.ffs_volume.specs.Blocks.Inodes.{inodes_of}
 use Rattle.ffs_maps.specs.Bits.{bits_of}
 pub use Rattle.ffs_volume.specs.Encodings.Lists.{bool_at}
 

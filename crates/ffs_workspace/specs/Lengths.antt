@@ -4,10 +4,7 @@ use Rattle.ffs_volume.specs.declared.Layout.{Layout}
 use Rattle.ffs_maps.specs.Bits.{bits_of}
 use Rattle.ffs_walk.specs.Windows.{WindowHolds, BlocksHold}
 use Rattle.ffs_workspace.specs.{declared.workspace.Workspace.Workspace, Tables.IsTableOf}
-
--- how many inodes a volume has
-abbrev pub inodes_of : Layout → ℕ
-inodes_of v = v.ncg * v.ipg
+use Rattle.ffs_volume.specs.Blocks.Inodes.{inodes_of}
 
 -- how many bits of a map are set
 abbrev pub set_count : List Bool → ℕ

@@ -1,7 +1,7 @@
 //! What is noted of an inode, in 32 bits, between phase 1 and the others.
 
 ghost use Rattle.std.specs.Prelude.{◌≡◌, ◌+◌, ◌<◌, MatchOption};
-ghost use Rattle.ffs_workspace.specs.Notes.{first_noted, has_one_chunk, note_of, cut_in};
+ghost use Rattle.ffs_volume.specs.Encodings.Notes.{first_noted, has_one_chunk, note_of, cut_in};
 
 use ffs_volume::constants::DIRBLKSIZ;
 use ffs_volume::{Class, Inode};

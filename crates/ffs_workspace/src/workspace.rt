@@ -88,7 +88,7 @@ pub struct Workspace {
 
 impl Workspace {
     ghost use Rattle.ffs_workspace.specs.Lengths.{IsFor, has_unreported_dups, held_of};
-    ghost use Rattle.ffs_workspace.specs.Notes.{cut_in};
+    ghost use Rattle.ffs_volume.specs.Encodings.Notes.{cut_in};
     ghost use Rattle.ffs_workspace.specs.Ready.{AsksOfSystem, IsNew};
 
     /// Takes all memory of a check of the volume from an allocator, and holds nothing yet.

@@ -105,3 +105,7 @@ is_allocated File = true
 is_allocated Dir = true
 is_allocated Unknown = true
 is_allocated _ = false
+
+-- how many inodes a volume has
+abbrev pub inodes_of : Layout → ℕ
+inodes_of v = v.ncg * v.ipg

@@ -4,6 +4,8 @@ use Rattle.std.specs.Prelude.{ℕ, Bool, not, ◌||◌, ◌==◌, if◌then◌el
 use Rattle.ffs_volume.specs.declared.{constants.TheConstants.{DT_DIR, EMPTY_DIR_KIND, UNKNOWN_KIND}, Layout.Layout}
 use Rattle.ffs_volume.specs.declared.{Inode.Inode, Class.{Class, TheVariants.{Free, Partial, Unknown, File, Dir}}}
 use Rattle.ffs_volume.specs.{Blocks.Inodes.{inode_of, type_of}, Directories.Volumes.class_at}
+use Rattle.std.specs.Prelude.{nat_le, ◌&&◌}
+use Rattle.ffs_volume.specs.Encodings.Lists.{number_at}
 
 -- 0 where nothing is allocated, and a number of its own for the class Unknown and for a directory
 -- of size 0; else the type of the file or directory
@@ -45,3 +47,7 @@ class_of_kind k =
 -- the type of a file or directory, by its kind
 abbrev pub type_of_kind : ℕ → ℕ
 type_of_kind k = if is_dir_kind k then DT_DIR else k
+
+-- x is a directory, by a list with a kind for each inode
+abbrev pub dir_at : List ℕ → ℕ → Bool
+dir_at kinds x = nat_le 2 x && is_dir_kind (number_at kinds x)

@@ -1,5 +1,5 @@
 -- What `copies` prints: the sectors at which `-b` is accepted.
-use Rattle.std.specs.Prelude.{ℕ, ◌+◌, ◌-◌, ◌*◌, ◌/◌, ◌==◌, ◌&&◌, Bool, List, [], ◌∷◌, ◌++◌, codes, decimal, if◌then◌else◌, Option, Some, Result, Ok, Err}
+use Rattle.std.specs.Prelude.{ℕ, ◌*◌, ◌/◌, ◌==◌, ◌&&◌, Bool, List, [], ◌∷◌, ◌++◌, codes, decimal, if◌then◌else◌, Some, Result, Ok, Err}
 use Rattle.std.specs.{Prelude.nat_lt, List.{concat, flat_map, range_with_len}}
 use Rattle.ffs_volume.specs.declared.{constants.TheConstants.{DEV_BSIZE, SUPERBLOCK_SECTOR}, Layout.Layout, Order.Order}
 use Rattle.ffs_volume.specs.declared.{Order.TheVariants.{Little, Big}, SuperFault.SuperFault}

@@ -2,8 +2,8 @@
 -- computes with, where they aren't what the layout gives.
 use Rattle.std.specs.Prelude.{ℕ, ◌+◌, ◌-◌, ◌*◌, ◌/◌, ◌^◌, Bool, List, [], ◌∷◌, ◌++◌, codes, decimal, if◌then◌else◌, ℤ, pos, unwrap_or, Option, nat_lt}
 use Rattle.std.specs.{Ordering.int_eq, List.{concat, flat_map, slice_index_or}, Fmt.signed_decimal, Int.{div_ceil, cast_signed, w64}}
-use Rattle.ffs_volume.specs.declared.{constants.TheConstants.{DEV_BSIZE, SUPERBLOCK_BYTES}, Layout.Layout, Order.Order}
-use Rattle.ffs_volume.specs.Disk.{Numbers.{u32_at, u64_at, piece}, Search.first_below, Superblock.Superblock}
+use Rattle.ffs_volume.specs.declared.{constants.TheConstants.{DEV_BSIZE}, Layout.Layout, Order.Order}
+use Rattle.ffs_volume.specs.Disk.{Numbers.{u32_at, u64_at}, Search.first_below, Superblock.Superblock}
 use Rattle.ffs_volume.specs.Disk.Outcome.{super_sector, super_bytes}
 
 -- a field: its name, where it begins in the superblock, in bytes, what it has, and what it should have

@@ -1,5 +1,5 @@
 -- What `inode` prints: where the 128 bytes of an inode begin in the image, and what they say.
-use Rattle.std.specs.Prelude.{ℕ, ◌+◌, ◌*◌, ◌==◌, List, [], ◌∷◌, ◌++◌, codes, decimal, take, drop, map, slice_index, if◌then◌else◌, nat_lt}
+use Rattle.std.specs.Prelude.{ℕ, ◌*◌, ◌==◌, List, [], ◌∷◌, ◌++◌, codes, decimal, map, slice_index, if◌then◌else◌, nat_lt}
 use Rattle.std.specs.{List.{concat, flat_map, range_with_len}, Fmt.signed_decimal}
 use Rattle.ffs_volume.specs.declared.{constants.TheConstants.DINODE_SIZE, Layout.Layout, Inode.Inode, Class.Class}
 use Rattle.ffs_volume.specs.declared.Class.TheVariants.{Free, Partial, Unknown, File, Dir}

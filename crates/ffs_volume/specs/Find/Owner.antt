@@ -5,7 +5,7 @@ use Rattle.std.specs.Prelude.{if◌then◌else◌, Option, Some, None, nat_le, n
 use Rattle.std.specs.{List.{concat, flat_map, list_any}, Int.div_ceil}
 use Rattle.ffs_volume.specs.declared.{constants.TheConstants.DINODE_SIZE, Layout.Layout}
 use Rattle.ffs_volume.specs.declared.Step.{Step, TheVariants.{Run, Tail, Gap}}
-use Rattle.ffs_volume.specs.Disk.Areas.{cgbase, cgstart, cgsblock, is_reserved}
+use Rattle.ffs_volume.specs.Disk.Areas.{cgstart, cgsblock, is_reserved}
 use Rattle.ffs_volume.specs.Blocks.{Inodes.inode_of, Steps.steps_of, Owners.inode_numbers}
 use Rattle.ffs_volume.specs.Blocks.Claims.{Claims, at_next_inode, after_step}
 use Rattle.ffs_volume.specs.Blocks.{KeptOffers.kept_in_step, KeptSteps.claims_before}

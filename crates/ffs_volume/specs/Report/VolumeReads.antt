@@ -1,9 +1,14 @@
--- How often a check reads an image that gives its bytes, by what the volume holds: the indirect blocks
--- that its inodes have.
+-- How often a check reads an image that gives its bytes, by what the volume holds: its inode tables and
+-- indirect blocks, its directories, and each phase for its own messages.
 use Rattle.std.specs.Prelude.{ℕ, ◌+◌, List, [], ◌∷◌, Some, None, if◌then◌else◌}
 use Rattle.ffs_volume.specs.declared.{Layout.Layout, Step.{Step, TheVariants.{Run, Tail, Gap}}}
 use Rattle.ffs_volume.specs.Blocks.{Claims.{Claims, after_owner, after_step, at_next_inode, is_open, no_claims}}
 use Rattle.ffs_volume.specs.{Blocks.Owners.{Owner, owners_of}, Report.Reads.table_blocks}
+use Rattle.std.specs.Prelude.{Bool, length, ◌*◌}
+use Rattle.ffs_volume.specs.{Blocks.BlockCheck.has_rescan, Report.DirectoryReads.phase2_cost}
+use Rattle.ffs_volume.specs.Directories.{Connectivity.connectivity_lines, ReferenceCheck.reference_lines}
+use Rattle.ffs_volume.specs.Directories.{PathnameCheck.{continues_after_root, pathname_lines}, Volumes.volume_of}
+use Rattle.ffs_volume.specs.Report.Reads.{group_reads, line_reads, sweep_reads}
 
 -- 1 for an indirect block that is seen, else 0
 abbrev pub seen_indirect : Claims → Step → ℕ
@@ -30,3 +35,26 @@ indirect_count v image = indirect_in_owners v (no_claims v) (owners_of v image)
 -- phase 1 reads each block of the inode tables once, and each indirect block that is seen once
 abbrev pub volume_scan_reads : Layout → List ℕ → ℕ
 volume_scan_reads v image = table_blocks v + indirect_count v image
+
+-- phase 1b sweeps over a volume only where phase 1 has a DUP line
+abbrev pub rescan_reads : Layout → (bytes : List ℕ) → ℕ
+rescan_reads v bytes = if has_rescan v (owners_of v bytes) then sweep_reads v else 0
+
+-- phase 2 reads directories as `phase2_cost` says, and for each of its messages `line_reads` times
+abbrev pub names_reads : Layout → (bytes : List ℕ) → ℕ
+names_reads v bytes = phase2_cost v bytes + line_reads * length (pathname_lines (volume_of v bytes))
+
+-- where the check continues after the root, phases 3 and 4 read an inode for each of their messages, and
+-- phase 5 reads the groups
+abbrev pub later_reads : (goes : Bool) → Layout → (bytes : List ℕ) → ℕ
+later_reads goes v bytes =
+    if goes
+    then length (connectivity_lines (volume_of v bytes))
+    + (length (reference_lines (volume_of v bytes)) + group_reads v)
+    else 0
+
+-- all phases read an image that gives its bytes this often at most: phase 1 its inode tables and the
+-- indirect blocks that are seen, phase 2 its directories, and each phase for its own messages alone
+abbrev pub volume_phase_reads : Layout → (bytes : List ℕ) → ℕ
+volume_phase_reads v bytes = volume_scan_reads v bytes + (rescan_reads v bytes + (names_reads v bytes
+    + later_reads (continues_after_root (volume_of v bytes)) v bytes))

@@ -3,7 +3,8 @@ use Rattle.ffs_volume.{proofs.OwnerLaws.before_next, specs.Blocks.{BlockCheck.ph
 use Rattle.ffs_volume.specs.{Blocks.{KeptSteps.claims_before, Owners.{owner_of, owners_of}}, Report.Whole.run_count}
 use Rattle.ffs_report.proofs.Reporting.{of_part, of_fault, of_same, reports_knowing, says_heading, stops_heading}
 use Rattle.ffs_report.{proofs.Reporting.said_knows, specs.Known.ForBytes}
-use Rattle.ffs_workspace.specs.{Found.WithFresh, Holds.{claims_of, all_claims}, Lengths.inodes_of}
+use Rattle.ffs_workspace.specs.{Found.WithFresh, Holds.{claims_of, all_claims}}
+use Rattle.ffs_volume.specs.Blocks.Inodes.{inodes_of}
 use Rattle.ffs_claims.proofs.{Duplicates.{any_set, rescan_is}, Frames.{image_from, ready_begun, ready_still}, Inodes.used_below}
 use Rattle.ffs_claims.proofs.Numbers.{found_begins, found_next, found_all, numbers_most, before_first, before_end}
 use Rattle.ffs_claims.proofs.{Numbers.lines_next, TableReads.{blocks_all, blocks_failed, blocks_later, blocks_next, blocks_none}}

@@ -5,7 +5,8 @@ use Rattle.ffs_volume.specs.{Blocks.{KeptSteps.claims_before, Owners.owners_of},
 use Rattle.ffs_report.proofs.Reporting.{of_begins, of_says, of_part, of_fault, of_stops, of_same, reports_knowing}
 use Rattle.ffs_report.{proofs.Reporting.said_knows, specs.{Known.ForBytes, declared.fault.RunFault.RunFault}}
 use Rattle.ffs_maps.specs.Bits.{bits_of}
-use Rattle.ffs_workspace.specs.{Found.WithPhase1, Holds.all_claims, Lengths.{inodes_of, set_count}}
+use Rattle.ffs_workspace.specs.{Found.WithPhase1, Holds.all_claims, Lengths.set_count}
+use Rattle.ffs_volume.specs.Blocks.Inodes.{inodes_of}
 use Rattle.ffs_claims.proofs.{Duplicates.{none_first, none_left}, Frames.{claims_then, image_from}}
 use Rattle.ffs_claims.proofs.{Numbers.{numbers_most, before_first}, Reportings.{reporting_more, reporting_ends}}
 use Rattle.ffs_claims.proofs.{Reportings.{reporting_begins, lines_split, reporting_over}, RescanCounts.look_most}

@@ -4,7 +4,8 @@ use Rattle.ffs_volume.specs.Blocks.{KeptOffers.kept_in_owners, KeptSteps.claims_
 use Rattle.ffs_volume.specs.Messages.Kinds.{phase1b}
 use Rattle.ffs_report.specs.{Known.ForBytes, PhaseOutcome.SaidOf, Progress.progress}
 use Rattle.ffs_maps.specs.Bits.{bits_of}
-use Rattle.ffs_workspace.specs.{Found.WithPhase1, Lengths.inodes_of, Ready.IsReady}
+use Rattle.ffs_workspace.specs.{Found.WithPhase1, Ready.IsReady}
+use Rattle.ffs_volume.specs.Blocks.Inodes.{inodes_of}
 use Rattle.ffs_claims.{proofs.{Reportings.Reporting, Rescanned.{kept_from, runs_from}}, specs.Lines.of_lines}
 use Rattle.ffs_claims.specs.{Reporting.RescanKeeps, RescanRuns.{RunsPay, runs_until_reported, rescan_runs}}
 use Rattle.ffs_claims.proofs.pass1b.rescan_inodes.Given as goal

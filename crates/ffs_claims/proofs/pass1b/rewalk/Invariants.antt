@@ -4,7 +4,8 @@ use Rattle.ffs_volume.specs.Encodings.Replay.{fresh_replay, is_replay_open}
 use Rattle.ffs_report.specs.{Known.ForBytes, Known.IsContents, PhaseOutcome.SaidOf, Progress.progress}
 use Rattle.ffs_maps.specs.Bits.{bits_of}
 use Rattle.ffs_walk.specs.{Counts.AreHeld, Counts.unread, Keepings.replay_in, Rests.steps_left, Rests.most_steps_left}
-use Rattle.ffs_workspace.specs.{Lengths.set_count, Notes.cut_in}
+use Rattle.ffs_workspace.specs.Lengths.{set_count}
+use Rattle.ffs_volume.specs.Encodings.Notes.{cut_in}
 use Rattle.ffs_claims.proofs.Rewalks.{Rereads, Rewalking}
 use Rattle.ffs_claims.specs.{Lines.of_lines, Rescan.offers_again, RescanRuns.RunsPay}
 use Rattle.ffs_claims.proofs.pass1b.rewalk.Given as goal

@@ -4,7 +4,8 @@ use Rattle.ffs_volume.{specs.Directories.Volumes.volume_of, proofs.Numbered.{as_
 use Rattle.ffs_report.{specs.Known.ForBytes, proofs.Paying.{paid_answer, paid_fault, paid_says, paid_stops, paid_then}}
 use Rattle.ffs_report.proofs.Reporting.{of_fault, of_part, of_same, reports_knowing, said_knows, says_heading}
 use Rattle.ffs_report.proofs.Reporting.{stops_heading}
-use Rattle.ffs_workspace.{specs.{Found.WithSurvey, Lengths.inodes_of}, proofs.PlaceLaws.filled_noted}
+use Rattle.ffs_workspace.{specs.Found.WithSurvey, proofs.PlaceLaws.filled_noted}
+use Rattle.ffs_volume.specs.Blocks.Inodes.{inodes_of}
 use Rattle.ffs_workspace.proofs.Leaving.{claims_left, survey_left, leaves_more, windows_leave}
 use Rattle.ffs_connectivity.{specs.Lines.unref_dir_lines, proofs.UnrefLines.{leaders_held, lines_after, lines_begin}}
 use Rattle.ffs_connectivity.proofs.pass3.phase3.Goals.{At-loop-number}

@@ -2,9 +2,11 @@ use Rattle.std.proofs.Common.{◌≡◌, ◌≢◌, ◌<◌, ◌*◌, ◌+◌, �
 use Rattle.std.proofs.{Common.{rules, slice_index, slice_set, sym}, lemmas.Grind.{common_steps, get_or_default_zero}}
 use Rattle.std.proofs.lemmas.Result.{err_from_is_err_and}
 use Rattle.ffs_volume.proofs.Sizes.{some_inodes}
-use Rattle.ffs_workspace.specs.{Lengths.inodes_of, Places.{is_due, place_in}, declared.workspace.Workspace.Workspace}
+use Rattle.ffs_workspace.specs.{Places.{is_due, place_in}, declared.workspace.Workspace.Workspace}
+use Rattle.ffs_volume.specs.Blocks.Inodes.{inodes_of}
 use Rattle.ffs_survey.proofs.Costs.{cost_take, costs_rise}
-use Rattle.ffs_names.{specs.{Costs.noted_cost, Noting.{BeginsNotes, KeepsToRead}}, proofs.PlacesNoted.claims_noted}
+use Rattle.ffs_names.{specs.Noting.{BeginsNotes, KeepsToRead}, proofs.PlacesNoted.claims_noted}
+use Rattle.ffs_volume.specs.Report.DirectoryReads.{noted_cost}
 use Rattle.ffs_names.proofs.PlacesNoted.{coming_end, coming_first, coming_noted, none_due, only_fewer, parent_is_dir}
 use Rattle.ffs_names.proofs.PlacesNoted.{passed_next, places_after, places_same, set_other, set_same, survey_noted}
 use Rattle.ffs_names.proofs.places.note_all.Goals.{then-is_due+in_ok-note_directory, else-is_due}

@@ -2,8 +2,9 @@ use Rattle.std.proofs.Common.{◌≡◌, ◌<◌, ◌≤◌, ◌+◌, ℕ, false
 use Rattle.ffs_image.specs.Device.{ForContents}
 use Rattle.ffs_workspace.specs.{Holds.{HoldsClaims, HoldsSurvey}, Ready.IsReady, Places.is_due}
 use Rattle.ffs_workspace.specs.Places.{ArePlaces}
-use Rattle.ffs_survey.specs.Costs.{costs_all}
-use Rattle.ffs_names.{specs.Costs.noted_cost, proofs.PlacesNoted.{AreComing, OnlyParents}}
+use Rattle.ffs_volume.specs.Report.DirectoryReads.{costs_all}
+use Rattle.ffs_names.proofs.PlacesNoted.{AreComing, OnlyParents}
+use Rattle.ffs_volume.specs.Report.DirectoryReads.{noted_cost}
 use Rattle.ffs_names.proofs.places.note_all.Given as goal
 
 abbrev pub invariant-loop-dir : goal.invariant-loop-dir

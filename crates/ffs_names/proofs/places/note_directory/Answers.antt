@@ -1,7 +1,7 @@
 use Rattle.std.proofs.Common.{◌≡◌, ◌∙◌, ℕ, List, ap, arith, slice_index}
 use Rattle.std.proofs.lemmas.Grind.{common_steps, get_or_default_zero}
 use Rattle.ffs_volume.proofs.Results.{on_ok}
-use Rattle.ffs_workspace.specs.Notes.{note_at}
+use Rattle.ffs_volume.specs.Encodings.Notes.{note_at}
 use Rattle.ffs_names.proofs.{Continuing.contents_kept, PlacesNoted.ready_noted}
 use Rattle.ffs_names.proofs.places.note_directory.Given as given
 use Rattle.ffs_names.proofs.places.note_directory.Goals as goal

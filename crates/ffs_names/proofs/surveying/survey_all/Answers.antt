@@ -7,7 +7,7 @@ use Rattle.ffs_names.{specs.Readers.{Base, KnowsReader}, proofs.SurveyHolds.{vol
 use Rattle.ffs_names.proofs.{SurveyHolds.{holds_calm, holds_references, on_ok_is}, surveying.survey_all.Goals.After-survey-surveyed}
 use Rattle.ffs_names.proofs.CalmDirLaws.{flags_each_calm}
 use Rattle.ffs_volume.specs.{Directories.Volumes.marked_at, Encodings.Lists.bool_at}
-use Rattle.ffs_workspace.specs.Lengths.{inodes_of}
+use Rattle.ffs_volume.specs.Blocks.Inodes.{inodes_of}
 use Rattle.ffs_names.proofs.surveying.survey_all.Given as given
 use Rattle.ffs_names.proofs.surveying.survey_all.Goals as goal
 

@@ -3,7 +3,8 @@ use Rattle.ffs_volume.specs.{Messages.Kinds.of_tree, Report.Reads.{line_reads, p
 use Rattle.ffs_pathnames.specs.LineReads.{again_reads, path_owed}
 use Rattle.ffs_volume.specs.Directories.{Roles.{roled_chunk, roled_entries}, Volumes.volume_of}
 use Rattle.ffs_report.specs.{Known.ForBytes, Paid.Paid, PhaseOutcome.SaidOf, Progress.progress}
-use Rattle.ffs_names.specs.{Readings.rest, Costs.{directory_runs, to_read, HoldsReading}}
+use Rattle.ffs_names.specs.{Readings.rest, Costs.{to_read, HoldsReading}}
+use Rattle.ffs_volume.specs.Report.DirectoryReads.{directory_runs}
 use Rattle.ffs_workspace.specs.{Leaves.LeavesSurvey, Places.AreNoted}
 use Rattle.ffs_pathnames.specs.{Ready.ReadyWith, Gathers.passed_of, Stamps.KeepPlaces, DirectoryContext.BeginsPathOf}
 use Rattle.ffs_pathnames.specs.{ReadsLeft.LeftForRuns, PassedNames.{after_entries, entries_reported}}

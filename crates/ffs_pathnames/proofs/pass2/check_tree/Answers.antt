@@ -2,7 +2,7 @@ use Rattle.std.proofs.Common.{◌≡◌, ◌≤◌, ◌++◌, ◌+◌, ◌*◌, 
 use Rattle.std.proofs.{Common.{true, false, arith, length, Result, Err}, lemmas.Result.err_from_is_err_and}
 use Rattle.ffs_workspace.specs.Holds.{HoldsClaims}
 use Rattle.ffs_pathnames.{specs.Before.{IsBefore, root_reported}, proofs.LineCounts.lines_long}
-use Rattle.ffs_names.specs.Costs.{directories_cost}
+use Rattle.ffs_volume.specs.Report.DirectoryReads.{directories_cost}
 use Rattle.ffs_pathnames.proofs.Carrying.{goes_is, root_kind_is, root_marked_is, tree_is, tree_lines}
 use Rattle.ffs_pathnames.proofs.pass2.check_tree.{Given.Over, Goals.{After-report_root, After-check_inodes}}
 use Rattle.ffs_volume.specs.{Encodings.Kinds.is_dir_kind, Directories.Volumes.volume_of, Messages.Kinds.of_tree}
@@ -16,7 +16,8 @@ use Rattle.ffs_report.specs.declared.fault.RunFault.{RunFault, TheVariants.{Read
 use Rattle.ffs_workspace.{specs.{Ready.IsReady, declared.workspace.Workspace.Workspace}, proofs.Leaving.block_check_kept}
 use Rattle.ffs_pathnames.{specs.{DirectoryLines.ReportsTree, RootAnswers.AnswersRoot}, proofs.Begun.image_same}
 use Rattle.ffs_pathnames.specs.declared.pass2.Root.{Root}
-use Rattle.ffs_pathnames.specs.Looked.{ChecksLookedAt, looks_cost, places_cost}
+use Rattle.ffs_pathnames.specs.Looked.{ChecksLookedAt}
+use Rattle.ffs_volume.specs.Report.DirectoryReads.{looks_cost, places_cost}
 use Rattle.ffs_pathnames.proofs.pass2.check_tree.Goals as goal
 
 -- what the kind of the root that was read says

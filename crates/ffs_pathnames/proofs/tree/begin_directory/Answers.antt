@@ -11,7 +11,7 @@ use Rattle.ffs_pathnames.{specs.DirectoryContext.DirectoryContext, proofs.Passin
 use Rattle.ffs_pathnames.proofs.Begun.{said_same, fault_same, image_same, starts_are, begun_is}
 use Rattle.ffs_pathnames.proofs.{StampLaws.{windows_keep, keep_more, noted_kept}, tree.begin_directory.Given.Over}
 use Rattle.ffs_pathnames.proofs.tree.begin_directory.Goals.{After-report_header}
-use Rattle.ffs_names.specs.Costs.{directory_cost}
+use Rattle.ffs_volume.specs.Report.DirectoryReads.{directory_cost}
 use Rattle.ffs_workspace.{proofs.Leaving.{leaves_more, survey_left, windows_leave}, specs.Places.AreNoted}
 use Rattle.ffs_paths.proofs.Keeping.{kept_parent_on}
 use Rattle.ffs_layout.specs.Entry.{entry_value}

@@ -14,7 +14,8 @@ use Rattle.ffs_pathnames.proofs.{Passing.knows_on, StampLaws.{keep_more, noted_k
 use Rattle.ffs_pathnames.proofs.{Carrying.if_ok, LookedLaws.flags_after}
 use Rattle.ffs_pathnames.{proofs.LineCounts.lines_long, specs.ReadsLeft.{LeftForBoth, LeftForLook, LeftForRuns}}
 use Rattle.ffs_pathnames.proofs.tree.check_directory.{Given.Over, Goals.{After-begin_directory, After-report_directory}}
-use Rattle.ffs_names.{specs.Costs.{directory_cost, directory_runs}, proofs.DirCosts.cost_is as cost_of_dir}
+use Rattle.ffs_names.proofs.DirCosts.{cost_is as cost_of_dir}
+use Rattle.ffs_volume.specs.Report.DirectoryReads.{directory_cost, directory_runs}
 use Rattle.ffs_pathnames.proofs.tree.check_directory.Goals as goal
 
 abbrev Known : (g : Over) → After-begin_directory g → List ℕ → Type 0

@@ -1,6 +1,7 @@
 use Rattle.std.proofs.{Common.{◌≡◌, ℕ, Bool, List, arith, ◌∙◌, sym, true, false, ◌≢◌}, lemmas.Bool.ne_eqb}
 use Rattle.ffs_volume.{proofs.Unreached.IsLost, specs.Directories.Graph.{Graph, is_dead_in}}
-use Rattle.ffs_survey.{proofs.UnrefLaws.{dead_is, unref_is, parent-below}, specs.Survey.{IsTree, bool_at, dir_at, suspect_at}}
+use Rattle.ffs_survey.{proofs.UnrefLaws.{dead_is, unref_is, parent-below}, specs.Survey.{IsTree, bool_at, suspect_at}}
+use Rattle.ffs_volume.specs.Encodings.Kinds.{dir_at}
 use Rattle.ffs_survey.proofs.unref.is_unref.Goals as goal
 
 -- a directory that passed the first four tests
