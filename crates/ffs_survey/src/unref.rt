@@ -17,7 +17,7 @@ pub fn is_suspect(kinds: &[u8], marked: &[bool], number: usize) -> bool
     let kind = Kind {
         code: kinds[number],
     };
-    marked[number] || kind.is_empty_dir()
+    marked[number] | kind.is_empty_dir()
 }
 
 /// Whether an inode is dead: suspect, not the root, and named by no plain entry.
