@@ -1,6 +1,7 @@
 -- An inode of zero bytes is free.
 use Rattle.std.proofs.Common.{◌≡◌, ◌*◌, ◌+◌, ◌-◌, ◌<◌, ◌≤◌, ◌++◌, ℕ, zero, suc, false, List, [], ◌∷◌, length, replicate, Option, arith}
-use Rattle.std.proofs.{Common.{refl, ap, ◌∙◌, sym, subst, drop, vec_len}, lemmas.{Bool.Decides.nat_tests, List.{length-drop, length-take-le}}}
+use Rattle.std.proofs.{Common.{refl, ap, ◌∙◌, sym, subst, drop, take, vec_len}, Math.Seq.take-add}
+use Rattle.std.proofs.lemmas.{Bool.Decides.nat_tests, List.{drop-drop, length-drop, length-take-le, Folds.list_any-append}}
 use Rattle.std.specs.List.{slice_range}
 use Rattle.ffs_image.specs.Device.{ForContents}
 use Rattle.ffs_volume.specs.{Blocks.Inodes.{any_nonzero, class_of, inode_from_bytes, inode_of}, Disk.Numbers.piece}
@@ -16,7 +17,35 @@ use Rattle.ffs_workspace.specs.{Holds.claims_of, Lengths.IsFor, declared.workspa
 use Rattle.ffs_volume.specs.Blocks.Inodes.{inodes_of}
 use Rattle.ffs_claims.proofs.{Inodes.free_steps, Numbers.{FoundTo, found_next, lines_next, stored_free}}
 use Rattle.ffs_claims.specs.Lines.{of_lines, owners_from}
-use Rattle.ffs_claims.specs.ZeroInodes.{HasTableInodes, IsZeroInode}
+use Rattle.ffs_claims.specs.ZeroInodes.{AreZeroInodes, HasTableInodes, HoldsInodes, IsZeroInode}
+
+-- the bytes of a range, and those after it
+range_split : (xs : List ℕ) (a b c : ℕ) → a ≤ b → b ≤ c → slice_range xs a c ≡ slice_range xs a b ++ slice_range xs b c
+range_split xs a b c low high =
+    let long : c - a ≡ (b - a) + (c - b) = omega (arith, low, high) in
+    let there : a + (b - a) ≡ b = omega (arith, low) in
+    ap (λ n. take n (drop a xs)) long ∙ take-add (b - a) (c - b) (drop a xs)
+    ∙ ap (λ ys. take (b - a) (drop a xs) ++ take (c - b) ys) (drop-drop (b - a) a xs ∙ ap (λ n. drop n xs) there)
+
+-- where no byte of a range is set, none of a part of it is
+part_zero : (xs : List ℕ) (a b c d : ℕ) → a ≤ b → b ≤ c → c ≤ d → any_nonzero (slice_range xs a d) ≡ false →
+    any_nonzero (slice_range xs b c) ≡ false
+part_zero xs a b c d low order high none =
+    let first = range_split xs a b d low (omega (arith, order, high)) in
+    let second = range_split xs b c d order high in
+    grind (arith, list_any-append, none, first, second)
+
+-- inodes in a row that are held, and none of whose bytes is set
+pub zero_inodes : {t : Table} (number count : ℕ) → HoldsInodes t number (number + count) →
+    any_nonzero (slice_range (held_bytes t.window) (128 * (number - t.first)) (128 * (number - t.first + count))) ≡ false →
+    AreZeroInodes t number (number + count)
+zero_inodes {t = t} number count held none = λ x low high.
+    let has = held x low high in
+    record {
+      held = has;
+      zero = part_zero (held_bytes t.window) (128 * (number - t.first)) (128 * (x - t.first)) (128 * (x - t.first) + 128)
+          (128 * (number - t.first + count)) (omega (arith, low)) (omega arith) (omega (arith, low, high, has)) none;
+    }
 
 -- a list with no number but zero
 zeros_are : (xs : List ℕ) → any_nonzero xs ≡ false → xs ≡ replicate (length xs) 0

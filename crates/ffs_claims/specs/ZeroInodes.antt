@@ -10,17 +10,25 @@ pub record HasTableInodes (t : Table) : Type 0 where
   pub inside : (x : ℕ) → HoldsInode t x → DINODE_SIZE * (x - t.first) + DINODE_SIZE ≤ t.window.length
   pub fits : t.window.length ≤ vec_len t.window.buffer
 
+-- the window on the inode table holds the inodes from a number on and before another one
+abbrev pub HoldsInodes : Table → ℕ → ℕ → Type 0
+HoldsInodes t number end = (x : ℕ) → number ≤ x → x < end → HoldsInode t x
+
 -- the window on the inode table holds the inode x, and each byte of it is zero
 pub record IsZeroInode (t : Table) (x : ℕ) : Type 0 where
   pub held : HoldsInode t x
   pub zero : any_nonzero (slice_range (held_bytes t.window) (DINODE_SIZE * (x - t.first))
       (DINODE_SIZE * (x - t.first) + DINODE_SIZE)) ≡ false
 
+-- the inodes from a number on and before another one are inodes of zero bytes that are held
+abbrev pub AreZeroInodes : Table → ℕ → ℕ → Type 0
+AreZeroInodes t number end = (x : ℕ) → number ≤ x → x < end → IsZeroInode t x
+
 -- the inodes from a number on and before another one, at most `end`, are inodes of zero bytes that are held
 pub record EndsZeroInodes (t : Table) (number end next : ℕ) : Type 0 where
   pub low : number ≤ next
   pub high : next ≤ end
-  pub zero : (x : ℕ) → number ≤ x → x < next → IsZeroInode t x
+  pub zero : AreZeroInodes t number next
 
 -- inodes of zero bytes can be passed over from a number on: an inode is before it
 pub record CanPassZeroInodes (w : Workspace) (number end : ℕ) : Type 0 where

@@ -1,10 +1,9 @@
 //! Inodes of zero bytes, which are free.
 
-ghost use Rattle.std.specs.Prelude.{◌≡◌, ◌≤◌, IsTrue};
+ghost use Rattle.std.specs.Prelude.{◌≡◌, ◌<◌, ◌≤◌, ◌+◌, IsTrue};
 ghost use Rattle.ffs_volume.specs.Blocks.Inodes.{any_nonzero};
-ghost use Rattle.ffs_workspace.specs.Tables.{HoldsInode};
-ghost use Rattle.ffs_claims.specs.ZeroInodes.{CanPassZeroInodes, EndsZeroInodes, HasTableInodes, IsZeroInode};
-ghost use Rattle.ffs_claims.specs.ZeroInodes.{PassesZeroInodes};
+ghost use Rattle.ffs_claims.specs.ZeroInodes.{CanPassZeroInodes, EndsZeroInodes, HasTableInodes, HoldsInodes};
+ghost use Rattle.ffs_claims.specs.ZeroInodes.{AreZeroInodes, PassesZeroInodes};
 
 use crate::store::begin;
 use ffs_volume::constants::DINODE_SIZE;
@@ -24,15 +23,40 @@ fn any_set(bytes: &[u8]) -> bool
     bits != 0
 }
 
-/// Whether each byte of an inode that the window on the inode table holds is zero.
+/// How many inodes are tested together, after one that has zero bytes alone.
+const AT_ONCE: u32 = 2;
+
+/// Whether each byte of `count` inodes in a row, which the window on the inode table holds, is zero.
 #[inline(always)]
-fn is_zero_inode(table: &Table, number: u32) -> bool
+#[tactic(auto, using(crate::proofs::ZeroInodes::zero_inodes))]
+fn are_zero_inodes(table: &Table, number: u32, count: u32) -> bool
     requires inodes { HasTableInodes table.now }
-    requires held { HoldsInode table.now number }
-    ensures { IsTrue result → IsZeroInode table.now number }
+    requires held { HoldsInodes table.now number (number + count) }
+    requires some { 0 < count }
+    ensures { IsTrue result → AreZeroInodes table.now number (number + count) }
 {
-    let at = DINODE_SIZE * (number - table.first) as usize;
-    !any_set(&table.window.bytes()[at..at + DINODE_SIZE])
+    let from = (number - table.first) as usize;
+    let bytes = table.window.bytes();
+    !any_set(&bytes[DINODE_SIZE * from..DINODE_SIZE * (from + count as usize)])
+}
+
+/// The first of the numbers from `number` on, `AT_ONCE` apart, at which fewer than so many are left
+/// below `end`, or an inode of these has a byte which isn't zero.
+#[inline(always)]
+fn zero_inodes_at_once(table: &Table, number: u32, end: u32) -> u32
+    requires inodes { HasTableInodes table.now }
+    requires held { HoldsInodes table.now number end }
+    requires order { number ≤ end }
+    ensures { EndsZeroInodes table.now number end result }
+{
+    let times = (end - number) / AT_ONCE;
+    for time in 0..times {
+        let next = number + AT_ONCE * time;
+        if !are_zero_inodes(table, next, AT_ONCE) {
+            return next;
+        }
+    }
+    number + AT_ONCE * times
 }
 
 /// The first number from `number` on, below `end`, of an inode that the window doesn't hold or that
@@ -43,16 +67,16 @@ fn zero_inodes_end(table: &Table, number: u32, end: u32) -> u32
     requires order { number ≤ end }
     ensures { EndsZeroInodes table.now number end result }
 {
-    if number < table.first {
+    let held = end.min(table.first.saturating_add(table.count));
+    if number < table.first || held <= number || !are_zero_inodes(table, number, 1) {
         return number;
     }
-    let held = end.min(table.first.saturating_add(table.count));
-    for next in number..held {
-        if !is_zero_inode(table, next) {
+    for next in zero_inodes_at_once(table, number + 1, held)..held {
+        if !are_zero_inodes(table, next, 1) {
             return next;
         }
     }
-    held.max(number)
+    held
 }
 
 /// Passes over the inodes from `number` on, below `end`, that the window holds and that have zero

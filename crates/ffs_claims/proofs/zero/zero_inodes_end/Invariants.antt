@@ -1,6 +1,5 @@
-use Rattle.std.proofs.Common.{ℕ, ◌<◌, ◌≤◌}
-use Rattle.ffs_claims.specs.ZeroInodes.{IsZeroInode}
+use Rattle.ffs_claims.specs.ZeroInodes.{AreZeroInodes}
 use Rattle.ffs_claims.proofs.zero.zero_inodes_end.Given as goal
 
 abbrev pub invariant-loop-next : goal.invariant-loop-next
-invariant-loop-next l = (x : ℕ) → l.number ≤ x → x < l.next → IsZeroInode l.table x
+invariant-loop-next l = AreZeroInodes l.table l.number l.next
