@@ -3,4 +3,5 @@ pub mod Ready
 pub mod Records
 pub mod References
 pub mod Reserved
+pub mod Summing
 pub mod Totals

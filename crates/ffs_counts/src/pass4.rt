@@ -1,19 +1,19 @@
 //! Phase 4: how often inodes are referred to.
 
-ghost use Rattle.std.specs.Prelude.{◌≡◌, ◌<◌, ◌∷◌, map, length};
+ghost use Rattle.std.specs.Prelude.{◌≡◌, ◌<◌, ◌∷◌, false, map, length};
 ghost use Rattle.ffs_volume.specs.Messages.Kinds.{of_tree, phase4 as phase4_heading};
 ghost use Rattle.ffs_volume.specs.Directories.{ReferenceCheck.reference_lines, Volumes.volume_of};
 ghost use Rattle.ffs_report.specs.{Progress.progress, PhaseOutcome.PhaseOutcome, ReadsFor.ReadsFor};
 ghost use Rattle.ffs_workspace.specs.{Found.WithFindings, Ready.{IsReady, StaysReady}};
-ghost use Rattle.ffs_counts.specs.Ready.{CanCheckAllocated, ChecksInode, HasElements, AreFreeFrom};
+ghost use Rattle.ffs_counts.specs.Ready.{CanCheckAllocated, ChecksInode, HasElements, AreFree, AreFreeFrom};
 ghost use Rattle.ffs_counts.specs.References.{is_dead_by, is_right_by};
 
 use crate::reference::{line_for, references_by, say_line};
-use ffs_groups::are_allocated;
 use ffs_image::Image;
 use ffs_layout::Geometry;
 use ffs_report::{Heading, Line, Output, Report, RunFault};
 use ffs_volume::constants::LINKS_MET;
+use ffs_volume::kinds::Kind;
 use ffs_workspace::Workspace;
 
 /// Whether an inode is dead, by the lists of a workspace.
@@ -41,6 +41,19 @@ fn is_right(workspace: &Workspace, number: u32) -> bool
 /// How many free inodes are passed over at once.
 const FREE_AT_ONCE: usize = 64;
 
+/// Whether one of the inodes of some kinds is allocated. No inode ends the loop: the machine looks
+/// at many at once.
+#[inline(always)]
+fn any_allocated(kinds: &[u8]) -> bool
+    ensures { result ≡ false → AreFree kinds.now }
+{
+    let mut any = false;
+    for kind in kinds {
+        any |= Kind { code: *kind }.is_allocated();
+    }
+    any
+}
+
 /// How many inodes from `first` on are passed over, since they are free: `FREE_AT_ONCE`, or only
 /// that one, or none.
 #[inline(always)]
@@ -54,9 +67,10 @@ fn free_from(kinds: &[u8], first: usize) -> usize
     if kinds.len() - first < FREE_AT_ONCE {
         return 1;
     }
-    match are_allocated(&kinds[first..first + FREE_AT_ONCE]) {
-        Some(false) => FREE_AT_ONCE,
-        _ => 1,
+    if any_allocated(&kinds[first..first + FREE_AT_ONCE]) {
+        1
+    } else {
+        FREE_AT_ONCE
     }
 }
 

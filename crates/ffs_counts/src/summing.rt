@@ -9,7 +9,8 @@ ghost use Rattle.ffs_layout.specs.Super.{superblock_in};
 ghost use Rattle.ffs_maps.specs.Bits.{bits_of};
 ghost use Rattle.ffs_report.specs.{Lines.message_of, Progress.progress, PhaseOutcome.PhaseOutcome};
 ghost use Rattle.ffs_image.specs.Device.{Device};
-ghost use Rattle.ffs_groups.specs.Inodes.{class_in};
+ghost use Rattle.ffs_groups.specs.Inodes.{AreFew};
+ghost use Rattle.ffs_counts.specs.Summing.{files_among};
 ghost use Rattle.ffs_workspace.specs.{Holds.HoldsClaims, Lengths.IsFor};
 ghost use Rattle.ffs_counts.specs.Reserved.{HasReserved, claimed_in};
 
@@ -19,15 +20,34 @@ use ffs_report::{Line, Output, Report, RunFault};
 use ffs_volume::kinds::Kind;
 use ffs_workspace::Workspace;
 
+/// How many inodes are counted at once by a counter of one byte: fewer than 256, so it doesn't wrap.
+const INODES_AT_ONCE: usize = 192;
+
+/// How many of the inodes from `first` on and below `end` are files or directories. A byte holds it,
+/// so that the machine counts many at once.
+#[tactic(auto, using(ffs_maps::proofs::Counting::count_within))]
+fn few_files(kinds: &[u8], first: usize, end: usize) -> u8
+    requires { AreFew kinds.now first end }
+    ensures { result ≡ files_among kinds.now first end }
+{
+    let mut files = 0;
+    for inode in first..end {
+        files += u8::from(Kind { code: kinds[inode] }.is_file_or_dir());
+    }
+    files
+}
+
 /// How many files and directories there are.
 fn file_count(kinds: &[u8]) -> u32
     requires { length kinds.now < 2 ^ 32 }
-    ensures { result ≡ count_by (λ x. is_file_or_dir (class_in kinds.now x))
-        (range_with_len 2 (length kinds.now - 2)) }
+    ensures { result ≡ files_among kinds.now 2 (length kinds.now) }
 {
     let mut files = 0;
-    for inode in 2..kinds.len() {
-        files += u32::from(Kind { code: kinds[inode] }.is_file_or_dir());
+    let mut inode = 2;
+    while inode < kinds.len() {
+        let next = kinds.len().min(inode + INODES_AT_ONCE);
+        files += u32::from(few_files(kinds, inode, next));
+        inode = next;
     }
     files
 }

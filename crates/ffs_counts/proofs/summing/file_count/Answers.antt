@@ -1,20 +1,37 @@
-use Rattle.std.proofs.Common.{arith, ap, ◌∙◌, ◌≡◌, ◌+◌, ◌-◌, length}
+use Rattle.std.proofs.Common.{arith, ℕ, List, ◌∙◌, ◌≡◌, ◌<◌, ◌≤◌, ◌+◌, ◌-◌, ◌^◌}
 use Rattle.ffs_volume.specs.Blocks.Inodes.{is_file_or_dir}
-use Rattle.ffs_groups.{specs.Inodes.class_in, proofs.Sums.{count_more, count_fits}}
-use Rattle.ffs_maps.proofs.Ones.{one_if}
+use Rattle.ffs_groups.specs.Inodes.{class_in}
+use Rattle.ffs_maps.proofs.Counting.{count_join_at, count_within}
+use Rattle.ffs_counts.specs.Summing.{files_among}
 use Rattle.ffs_counts.proofs.summing.file_count.Goals as goal
+
+-- some inodes, and those after them
+files_join : (kinds : List ℕ) (mid end files few x : ℕ) → files ≡ files_among kinds 2 mid → few ≡ files_among kinds mid end →
+    2 ≤ mid → mid ≤ end → x ≡ few → files + x ≡ files_among kinds 2 end
+files_join kinds mid end files few x one two low high same =
+    count_join_at (λ i. is_file_or_dir (class_in kinds i)) 2 mid end (end - mid) files x low (omega (arith, high)) one
+    (same ∙ two)
+
+files_fit : (kinds : List ℕ) (end files : ℕ) → files ≡ files_among kinds 2 end → end < 2 ^ 32 → files < 2 ^ 32
+files_fit kinds end files is few =
+    omega (arith, is, few, count_within (λ i. is_file_or_dir (class_in kinds i)) 2 (end - 2))
 
 pub overflow_add-files : goal.overflow_add-files
 overflow_add-files c =
-    let at : c.loop-inode.inode ≡ 2 + (c.loop-inode.inode - 2) = omega arith in
+    let all = files_join c.args.kinds.now c.loop-inode.inode c.min-next.result c.loop-inode.files c.few_files.result
+    c.from-files.result c.loop-inode.invariant.files c.few_files.ensures c.loop-inode.invariant.above
+    (omega (arith, c.min-next.ensures, c.loop-inode-test.true)) c.from-files.ensures in
     omega (
       arith,
-      count_fits (λ x. is_file_or_dir (class_in c.args.kinds.now x)) 2 (c.loop-inode.inode - 2)
-          (length c.args.kinds.now) c.loop-inode.files c.from-files.result c.is_file_or_dir.result
-          c.loop-inode.invariant.files (one_if _ _ c.from-files.ensures)
-          (c.is_file_or_dir.ensures ∙ ap (λ j. is_file_or_dir (class_in c.args.kinds.now j)) at)
-          (omega (arith, c.loop-inode-test.true)) c.requires,
+      files_fit c.args.kinds.now c.min-next.result (c.loop-inode.files + c.from-files.result) all
+          (omega (arith, c.min-next.ensures, c.requires)),
     )
 
 pub loop-inode-preserved : goal.loop-inode-preserved
-loop-inode-preserved c = grind (arith, count_more, one_if)
+loop-inode-preserved c = record {
+  files = files_join c.args.kinds.now c.loop-inode.inode c.min-next.result c.loop-inode.files c.few_files.result
+      c.from-files.result c.loop-inode.invariant.files c.few_files.ensures c.loop-inode.invariant.above
+      (omega (arith, c.min-next.ensures, c.loop-inode-test.true)) c.from-files.ensures;
+  above = omega (arith, c.min-next.ensures, c.loop-inode.invariant.above, c.loop-inode-test.true);
+  within = omega (arith, c.min-next.ensures);
+}
