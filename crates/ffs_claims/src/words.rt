@@ -1,4 +1,11 @@
 //! The words of an indirect block that are claimed with nothing to report.
+//!
+//! From the last function up: `claim_words` asks whether the block is held; `claim_held_words` takes
+//! the counts out of the workspace, and `claim_counted_words` asks for the byte order, both once;
+//! `claim_words_in` goes from word to word. `claim_next` claims one word by `claim_address`, or, where
+//! the next one names the fragments after its Run, all such words together by `claim_series`, which
+//! `pass_series` counts. Where a word isn't claimed, nothing has changed, and the caller takes it as a
+//! step.
 
 ghost use Rattle.std.specs.Prelude.{◌≡◌, ◌≢◌, ◌^◌, false, IsTrue};
 ghost use Rattle.ffs_walk.specs.{HeldWords.{CanSeeWord, IsInHeldBlock, next_address}, Windows.HasRoom};
@@ -30,7 +37,8 @@ struct Counts {
 
 /// Claims what an address of an indirect block of data offers: nothing where it is a gap, else its
 /// Run, where that lies in the area, and its fragments are all unused and lie in one word of the
-/// map. Returns whether it was so: if not, nothing has changed.
+/// map. Returns whether it was so: if not, nothing has changed. The counts are below 2^63 before, so
+/// that they stay below 2^64: one word adds at most eight.
 #[inline(always)]
 fn claim_address(
     workspace: &mut Workspace,

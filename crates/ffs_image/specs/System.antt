@@ -16,7 +16,7 @@ abbrev pub IsEndOf : {F : Type 0} → (F → Result ℕ Error → F → Type 0) 
 IsEndOf was_sought old new size = was_sought old (Ok size) new
 
 -- the file of a name that is no FIFO was opened, which is all that was asked of the system since the
--- name was looked up, and the file told its size
+-- name was looked up, and the file gave its size
 pub record IsOpened {Y F : Type 0} (was_looked_up : Y → List ℕ → Result Bool Error → Type 0)
     (was_opened : Y → List ℕ → Result F Error → Y → Type 0) (was_sought : F → Result ℕ Error → F → Type 0)
     (old new : Y) (name : List ℕ) (file : F) (size : ℕ) : Type 0 where
@@ -40,7 +40,7 @@ pub record IsUnopened {Y F : Type 0} (was_looked_up : Y → List ℕ → Result 
   pub error : Error
   pub unopened : was_opened old name (Err error) new
 
--- the file of a name that is no FIFO was opened, and its size can't be told
+-- the file of a name that is no FIFO was opened, and doesn't give its size
 pub record IsUnsized {Y F : Type 0} (was_looked_up : Y → List ℕ → Result Bool Error → Type 0)
     (was_opened : Y → List ℕ → Result F Error → Y → Type 0) (was_sought : F → Result ℕ Error → F → Type 0)
     (old new : Y) (name : List ℕ) : Type 0 where
@@ -49,10 +49,10 @@ pub record IsUnsized {Y F : Type 0} (was_looked_up : Y → List ℕ → Result B
   pub opened : was_opened old name (Ok first) new
   pub last : F
   pub error : Error
-  pub untold : was_sought first (Err error) last
+  pub unsized : was_sought first (Err error) last
 
--- no image of a name is opened: it is a FIFO or can't be looked up, or its opening failed, or its
--- size can't be told
+-- no image of a name is opened: it is a FIFO or can't be looked up, or its opening failed, or the file
+-- doesn't give its size
 abbrev pub OpenFails : {Y F : Type 0} → (Y → List ℕ → Result Bool Error → Type 0)
     → (Y → List ℕ → Result F Error → Y → Type 0) → (F → Result ℕ Error → F → Type 0) → Y → Y → List ℕ → Type 0
 OpenFails was_looked_up was_opened was_sought old new name =

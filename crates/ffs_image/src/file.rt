@@ -9,7 +9,7 @@ use crate::system::{RawFile, System};
 use std::fs::File;
 
 /// A file can't be opened as an image: the system can't look it up or open it, it is a FIFO, or its
-/// size can't be told.
+/// size isn't known.
 #[derive(Clone, Copy, Debug, PartialEq, Eq, thiserror::Error)]
 #[error("the image can't be opened")]
 pub struct OpenFault;
@@ -33,7 +33,7 @@ impl<F: RawFile + Drop> SourceImage<OpenedFile<F>> {
     ///
     /// # Errors
     /// The file can't be opened, it is a FIFO, whose opening would wait for a writer, or its size
-    /// can't be told, as that of a terminal.
+    /// isn't known, as that of a terminal.
     pub fn open<Y: System<File = F>>(system: &mut Y, name: &str) -> Result<RawImage<F>, OpenFault>
         ensures opens { MatchResult result (λ image. IsOpened Y.was_looked_up Y.was_opened
             F.was_sought system.old system.new name.now image.source.file image.source.size)

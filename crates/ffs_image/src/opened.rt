@@ -37,7 +37,7 @@ fn read_uninterrupted<F: RawFile>(file: &mut F, buf: &mut [u8], at: u64) -> io::
 
 impl<F: RawFile + Drop> OpenedFile<F> {
     /// Opens a file for reading, once and no other, and takes its size once. A FIFO, whose opening
-    /// waits for a writer, is refused, and so is a file whose size can't be told.
+    /// waits for a writer, is refused, and so is a file whose size isn't known.
     pub(crate) fn open<Y: System<File = F>>(
         system: &mut Y,
         name: &str,

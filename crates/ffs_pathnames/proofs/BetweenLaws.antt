@@ -5,7 +5,7 @@ use Rattle.std.proofs.lemmas.{List.{get_or-set_other, get_or-set_same, set_past}
 use Rattle.std.proofs.{Math.Bool.or-false, lemmas.Bool.{and_parts, both_ways}}
 use Rattle.ffs_pathnames.{proofs.{FirstTwo.parent_edge, PassedLaws.IsDirectory}, specs.Silent.IsSilentDirectory}
 use Rattle.ffs_pathnames.proofs.{PassedLaws.{calm_roled, right_after}, LookLaws.{AreStamped, stamped_all}}
-use Rattle.ffs_pathnames.{proofs.LookLaws.{looks_all_long, suspects_flagged}, specs.PassedNames.{PassedNames, is_calm}}
+use Rattle.ffs_pathnames.{proofs.LookLaws.{looks_all_long, suspects_flagged}, specs.PassedNames.{PassedNames, is_flagged_calm}}
 use Rattle.ffs_pathnames.specs.PassedNames.{is_flagged}
 use Rattle.ffs_pathnames.specs.PassedNames.{after_roled, after_entries, belongs, after_look, after_looks, are_quiet}
 use Rattle.ffs_pathnames.specs.PassedRight.{AreRight, AreRightBefore}
@@ -55,7 +55,7 @@ entries_small v s [] m x h = h
 entries_small v s (e ∷ es) m x h = entries_small v s es (after_roled v s m e) x (roled_small v s e m x h)
 
 entries_calm : (v : Volume) (s : ℕ) (es : List RoledEntry) (m : PassedNames) (x : ℕ) →
-    is_calm v (after_entries v s m es) x ≡ is_calm v m x
+    is_flagged_calm v (after_entries v s m es) x ≡ is_flagged_calm v m x
 entries_calm v s [] m x = refl
 entries_calm v s (e ∷ es) m x = entries_calm v s es (after_roled v s m e) x ∙ calm_roled v s e x m
 

@@ -20,4 +20,4 @@ mod SilentLaws
 pub mod LimitedLaws
 pub mod EntryReports
 pub mod PathOnce
-pub mod LookedLaws
+pub mod ChecksNeededLaws

@@ -29,7 +29,7 @@ pub record IsBefore (v : Layout) (contents : Option (List ℕ)) (w : Workspace) 
   pub survey : HoldsSurvey v b w
   pub passed : AreRightBefore (volume_of v b) d (passed_of w)
 
--- and, where words have room for the places, that of each directory is noted
+-- and a place is noted of the parent entry of each directory that is reached and isn't the root
 pub record IsBeforeNoted (v : Layout) (contents : Option (List ℕ)) (w : Workspace) (d : ℕ) (b : List ℕ) : Type 0 where
   pub before : IsBefore v contents w d b
   pub noted : AreNoted v b w.queue.items

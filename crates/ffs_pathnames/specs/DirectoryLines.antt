@@ -11,7 +11,7 @@ use Rattle.ffs_volume.specs.Report.DirectoryReads.{directories_cost, directory_c
 use Rattle.ffs_paths.specs.declared.kept_parent.KeptParent.{KeptParent}
 use Rattle.ffs_workspace.specs.{Places.AreNoted, declared.workspace.Workspace.Workspace}
 use Rattle.ffs_workspace.specs.{Holds.{HoldsClaims, HoldsSurvey}, Leaves.LeavesBlockCheck, Ready.IsReady}
-use Rattle.ffs_pathnames.specs.Looked.{ChecksLookedAt}
+use Rattle.ffs_pathnames.specs.ChecksNeeded.{ChecksLookedAt}
 use Rattle.ffs_volume.specs.Report.DirectoryReads.{looks_cost, places_cost}
 use Rattle.ffs_pathnames.specs.{Before.IsBefore, Gathers.passed_of, LineReads.{again_reads, ReadsByLines}}
 use Rattle.ffs_pathnames.specs.{PassedNames.{are_quiet, directory_reported}, Ready.{LinesLeave, PhaseLeaves}}

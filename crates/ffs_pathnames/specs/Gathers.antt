@@ -14,7 +14,7 @@ use Rattle.ffs_paths.specs.{DirectoryPaths.IsPathOf, KeptParents.{KeepsChild, Pa
 use Rattle.ffs_paths.specs.declared.{entry_paths.EntryPaths.EntryPaths, kept_parent.KeptParent.KeptParent}
 use Rattle.ffs_pathnames.specs.{DirectoryContext.{DirectoryContext, KeepsPath, KnowsPath}, Ready.LimitedPathLeaves}
 use Rattle.ffs_pathnames.specs.declared.one_entry.{DirectoryEntry.DirectoryEntry, EntryTexts.EntryTexts}
-use Rattle.ffs_pathnames.specs.{PassedNames.{PassedNames, roled_reported, verdict_by}, Stamps.stamps_of}
+use Rattle.ffs_pathnames.specs.{PassedNames.{PassedNames, roled_reported, second_verdict}, Stamps.stamps_of}
 use Rattle.ffs_pathnames.specs.LineReads.{again_reads, ReadsPathOnce}
 use Rattle.ffs_workspace.specs.{declared.workspace.Workspace.Workspace, Holds.{HoldsClaims, HoldsSurvey}, Lengths.IsFor}
 
@@ -45,7 +45,7 @@ roled_lines_by vol w e = roled_reported vol e.dir (passed_of w) (roled_value e)
 -- of a plain one, and of an extra one
 abbrev pub plain_lines_by : Volume → Workspace → DirectoryEntry → List TreeMessage
 plain_lines_by vol w e =
-    plain_lines vol e.dir (entry_value e.entry) (verdict_by vol e.dir (passed_of w) (entry_value e.entry))
+    plain_lines vol e.dir (entry_value e.entry) (second_verdict vol e.dir (passed_of w) (entry_value e.entry))
 
 abbrev pub extra_reported : Volume → DirectoryEntry → List TreeMessage
 extra_reported vol e = extra_lines (attributes vol e.dir) (dir_path (graph_of vol) e.dir) (entry_value e.entry)
@@ -78,7 +78,7 @@ verdict_reads verdict = if_wanted (asks_path verdict) path_reads + if_wanted (as
 pub record IsVerdictIn (w : Workspace) (s : ℕ) (e : Entry) (answer : Verdict) : Type 0 where
   pub below : IsTrue (asks_attr answer) → e.number < vec_len w.kinds
   pub verdict : (v : Layout) (b : List ℕ) → IsFor v w → HoldsClaims v b w → HoldsSurvey v b w
-      → answer ≡ verdict_by (volume_of v b) s (passed_of w) e
+      → answer ≡ second_verdict (volume_of v b) s (passed_of w) e
 
 -- the lists that say something of each inode are as long as one another
 pub record AreAsLong (w : Workspace) : Type 0 where

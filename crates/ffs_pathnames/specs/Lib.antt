@@ -20,4 +20,4 @@ pub mod Looks
 pub mod ReadsLeft
 pub mod Phase2
 pub mod NextChunks
-pub mod Looked
+pub mod ChecksNeeded

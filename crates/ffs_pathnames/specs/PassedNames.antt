@@ -17,8 +17,8 @@ abbrev pub is_flagged : PassedNames → ℕ → Bool
 is_flagged m x = slice_index_or m.flags x false
 
 -- x isn't suspect, and its flag says that it is a calm directory
-abbrev pub is_calm : Volume → PassedNames → ℕ → Bool
-is_calm vol m x = not (is_suspect vol x) && is_flagged m x
+abbrev pub is_flagged_calm : Volume → PassedNames → ℕ → Bool
+is_flagged_calm vol m x = not (is_suspect vol x) && is_flagged m x
 
 -- the parent entry of x is due in s: for the second reading of s it is still to come
 abbrev pub is_stamped : ℕ → PassedNames → ℕ → Bool
@@ -36,12 +36,12 @@ after_roled vol s m e =
     if is_plain e.role && nat_lt e.entry.number vol.count then after_name vol s m e.entry.number else m
 
 -- the verdict on a plain entry of s by the names that were passed, for the second reading of s
-abbrev pub verdict_by : Volume → ℕ → PassedNames → Entry → Verdict
-verdict_by vol s m e = verdict_on vol (not (is_flagged m e.number)) (is_stamped s m e.number) e
+abbrev pub second_verdict : Volume → ℕ → PassedNames → Entry → Verdict
+second_verdict vol s m e = verdict_on vol (not (is_flagged m e.number)) (is_stamped s m e.number) e
 
 -- what is reported of an entry
 unfoldable pub roled_reported : Volume → ℕ → PassedNames → RoledEntry → List TreeMessage
-roled_reported vol s m e = role_lines vol s e.role e.entry (verdict_by vol s m e.entry)
+roled_reported vol s m e = role_lines vol s e.role e.entry (second_verdict vol s m e.entry)
 
 -- some entries of s, one after another
 abbrev pub after_entries : Volume → ℕ → PassedNames → List RoledEntry → PassedNames

@@ -3,7 +3,7 @@ use Rattle.std.specs.{Prelude.{◌≡◌, ◌≢◌, ℕ, ◌<◌, true, not, �
 use Rattle.ffs_volume.specs.{declared.constants.TheConstants.{WINO, ROOTINO}, Disk.Search.some_below}
 use Rattle.ffs_volume.specs.Directories.{Graph.{is_naming_entry, is_naming_dir}, Roles.{Volume, RoledEntry, is_suspect}}
 use Rattle.ffs_volume.specs.Directories.Parents.{graph_of}
-use Rattle.ffs_pathnames.specs.{Silent.IsSilentDirectory, PassedNames.{PassedNames, is_flagged, is_calm, is_stamped}}
+use Rattle.ffs_pathnames.specs.{Silent.IsSilentDirectory, PassedNames.{PassedNames, is_flagged, is_flagged_calm, is_stamped}}
 use Rattle.ffs_pathnames.specs.PassedNames.{belongs}
 
 -- what is remembered is right within the directory s, after its entries `done`
@@ -21,4 +21,4 @@ pub record AreRightBefore (vol : Volume) (s : ℕ) (m : PassedNames) : Type 0 wh
   pub stamps : (x : ℕ) → x < vol.count → slice_index m.stamps x < s
   pub flags_length : length m.flags ≡ vol.count
   pub stamps_length : length m.stamps ≡ vol.count
-  pub calm : (x : ℕ) → is_calm vol m x ≡ true → IsSilentDirectory vol x
+  pub calm : (x : ℕ) → is_flagged_calm vol m x ≡ true → IsSilentDirectory vol x

@@ -33,8 +33,8 @@ Phase2Ends v d w w' old new (Err (Out fault)) = ⊤
 -- An image that gives its bytes is read at most `pathname_reads` times, and any image no more than four
 -- sweeps, and `line_reads` for each message that was begun. What a volume holds counts, too: its directories
 -- are read for the survey, for the places of parent entries, and twice for the messages. Where the survey is
--- the first, those of which nothing can be reported are read for the survey alone, and where there are no others,
--- no places are noted
+-- the first, those of which nothing can be reported are not read for the messages; and where there are no
+-- others, no places are noted either, so that each is read for the survey alone
 pub record Phase2Reads {T : Type 0} (v : Layout) (d : Device) (w : Workspace) (old new : Progress) (before after : ℕ)
     (result : Result T RunFault) : Type 0 where
   pub known : ForBytes (WithClaims v d w) (λ bytes.

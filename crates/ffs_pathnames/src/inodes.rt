@@ -90,7 +90,7 @@ impl<'a> Inodes<'a> {
 
     /// The inode's parent, where the entry there is due by the inode's word (`is_due`), else 0.
     #[tactic(auto, using(std::proofs::lemmas::List::get_or_read_under, crate::proofs::StampLaws::stamp_at, crate::proofs::StampLaws::none_stamped))]
-    pub fn stamp(&self, words: &FilledList<u32>, inode: u32) -> u32
+    pub fn stamp_of(&self, words: &FilledList<u32>, inode: u32) -> u32
         requires { HasWordOf self.now inode words.now.items }
         ensures { result ≡ slice_index
             (stamps_of self.now.parents.now.items words.now.items) inode }

@@ -13,7 +13,7 @@ ghost use Rattle.ffs_workspace.specs.Ready.{IsReady};
 ghost use Rattle.ffs_paths.specs.{KeptParents.KeepsParent, Reads.IsReadyFor};
 
 use crate::inodes::Inodes;
-use crate::verdict::{entry_verdict, say_verdict};
+use crate::verdict::{say_verdict, second_verdict};
 use ffs_image::{Image, ImageFault, LimitedImage};
 use ffs_layout::{Entry, Geometry};
 use ffs_names::is_one_dot;
@@ -344,7 +344,7 @@ fn verdict_of(workspace: &Workspace, dir: u32, entry: &Entry<'_>) -> Verdict
         marked: workspace.marked.as_slice(),
         parents: &workspace.parents,
     };
-    entry_verdict(
+    second_verdict(
         &inodes,
         dir,
         workspace.flags.as_slice(),

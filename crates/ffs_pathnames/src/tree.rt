@@ -7,7 +7,7 @@ ghost use Rattle.ffs_volume.specs.Directories.PathnameCheck.{dir_header_lines, d
 ghost use Rattle.ffs_volume.specs.Report.DirectoryReads.{directory_cost};
 ghost use Rattle.ffs_pathnames.specs.{ReadsLeft.{LeftForNext, LeftForBoth, LeftForLook}, PassedRight.AreRightBefore};
 ghost use Rattle.ffs_pathnames.specs.Before.{ListsInode, ListsInodes, IsBeforeNoted, IsFirstToCheck, needs_check};
-ghost use Rattle.ffs_pathnames.specs.{Gathers.passed_of, Looked.KeepsFlags, Ready.{ReadyToCheck, ReadyToPath}};
+ghost use Rattle.ffs_pathnames.specs.{Gathers.passed_of, ChecksNeeded.KeepsFlags, Ready.{ReadyToCheck, ReadyToPath}};
 ghost use Rattle.ffs_pathnames.specs.Begins.{AreFirstTwo, IsDirectoryBegun};
 ghost use Rattle.ffs_pathnames.specs.{HeaderValues.facts_lines, DirectoryContext.KnowsHeader};
 ghost use Rattle.ffs_pathnames.specs.DirectoryLines.{ReadsQuietOnce, ReportsDirectory, ReportsLines, ReportsTree};

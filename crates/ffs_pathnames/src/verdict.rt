@@ -5,7 +5,7 @@ ghost use Rattle.ffs_volume.specs.Directories.PathnameCheck.{defects_lines, defe
 ghost use Rattle.ffs_volume.specs.{Directories.{PathnameCheck.{is_silent, verdict_lines, verdict_on}, Roles.Volume}, Blocks.Inodes.is_allocated};
 ghost use Rattle.ffs_layout.specs.Entry.{entry_value};
 ghost use Rattle.ffs_pathnames.specs.{Gathers.asks_attr, SaysTreeMessages.SaysTreeMessages};
-ghost use Rattle.ffs_pathnames.specs.PassedNames.{first_verdict, verdict_by};
+ghost use Rattle.ffs_pathnames.specs.PassedNames.{first_verdict, second_verdict};
 ghost use Rattle.ffs_pathnames.specs.Sees.{CanLook, HasFlagAndWord, PassesEntry, Sees, passed_in, stamps_in};
 ghost use Rattle.ffs_report.specs.Progress.{progress};
 
@@ -77,7 +77,7 @@ fn is_flagged(inodes: &Inodes<'_>, flags: &[bool], inode: u32) -> bool
 
 /// The verdict on a plain entry of a directory for the second reading of it: its parent entry is
 /// the one that is due.
-pub fn entry_verdict(
+pub fn second_verdict(
     inodes: &Inodes<'_>,
     dir: u32,
     flags: &[bool],
@@ -87,11 +87,11 @@ pub fn entry_verdict(
     requires { HasFlagAndWord inodes.now flags.now words.now.items }
     ensures below { IsTrue (asks_attr result) → entry.now.number < length inodes.now.kinds.now }
     ensures is { (vol : Volume) → Sees vol inodes.now → result
-        ≡ verdict_by vol dir (passed_in inodes.now flags.now words.now.items)
+        ≡ second_verdict vol dir (passed_in inodes.now flags.now words.now.items)
         (entry_value entry.now) }
 {
     let first = !is_flagged(inodes, flags, entry.number);
-    let own = entry.number < inodes.count() && inodes.stamp(words, entry.number) == dir;
+    let own = entry.number < inodes.count() && inodes.stamp_of(words, entry.number) == dir;
     verdict(inodes, entry, first, own)
 }
 
@@ -113,12 +113,13 @@ pub fn first_verdict(
     let first = !is_flagged(inodes, flags, entry.number);
     let own = entry.number < inodes.count()
         && inodes.belongs(entry.number, dir)
-        && inodes.stamp(words, entry.number) != dir;
+        && inodes.stamp_of(words, entry.number) != dir;
     verdict(inodes, entry, first, own)
 }
 
-/// Whether a plain entry is a whiteout, or names a file of its own type that isn't suspect, or that a
-/// plain entry has named: nothing is reported of it, wherever it is. Most entries are so.
+/// Whether a plain entry is a whiteout; or it has the type of the file that it names, and that file
+/// isn't marked, or an entry has named it already. Nothing is reported of such an entry, in whichever
+/// directory it is. Most entries are so.
 pub fn is_harmless(inodes: &Inodes<'_>, flags: &[bool], entry: &Entry<'_>) -> bool
     requires { length flags.now ≡ length inodes.now.kinds.now }
     ensures { IsTrue result → (vol : Volume) → Sees vol inodes.now → (own : Bool)
@@ -165,7 +166,7 @@ pub fn pass(
     if inodes.is_suspect(entry.number) {
         flags[index] = true;
     }
-    if inodes.stamp(words, entry.number) == dir {
+    if inodes.stamp_of(words, entry.number) == dir {
         words.set(index, passed(words[index]));
     }
 }

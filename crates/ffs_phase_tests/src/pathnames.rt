@@ -4,7 +4,7 @@
 use crate::compare::same;
 use ffs_layout::Entry;
 use ffs_pathnames::inodes::Inodes;
-use ffs_pathnames::verdict::{EntryDefects, Verdict, entry_verdict, pass};
+use ffs_pathnames::verdict::{EntryDefects, Verdict, pass, second_verdict};
 use ffs_samples::numbers;
 use ffs_volume::verdict::{DotDefects, HeaderDefects};
 use ffs_volume::{Label, Role};
@@ -52,7 +52,7 @@ fn verdict_on(number: u32, kind: u8, alloc: Global) -> Result<Verdict, AllocErro
     };
     let words = numbers(&[0, 0, 0, 0, due(0), 0, due(0), 0, 0], alloc)?;
     let entry = entry(number, kind);
-    Ok(entry_verdict(&inodes, 2, &[false; 9], &words, &entry))
+    Ok(second_verdict(&inodes, 2, &[false; 9], &words, &entry))
 }
 
 /// The number and the type of an entry, the verdict on it, and whether that has no message.
@@ -95,11 +95,11 @@ fn verdicts_in_turn(alloc: Global) -> Result<([Verdict; 3], u32), AllocError> {
     let mut words = numbers(&[0, 0, 0, 0, due(7), 0, due(0), 0, 0], alloc)?;
     let directory = entry(4, 4);
     let file = entry(8, 8);
-    let first = entry_verdict(&inodes, 2, &passed, &words, &file);
+    let first = second_verdict(&inodes, 2, &passed, &words, &file);
     pass(&inodes, 2, &mut passed, &mut words, Role::Plain, &directory);
     pass(&inodes, 2, &mut passed, &mut words, Role::Plain, &file);
-    let second = entry_verdict(&inodes, 2, &passed, &words, &directory);
-    let third = entry_verdict(&inodes, 2, &passed, &words, &file);
+    let second = second_verdict(&inodes, 2, &passed, &words, &directory);
+    let third = second_verdict(&inodes, 2, &passed, &words, &file);
     Ok(([first, second, third], words[4]))
 }
 

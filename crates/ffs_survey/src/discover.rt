@@ -104,7 +104,7 @@ fn is_calm_plain(entry: EntryHead, current: &CurrentDir, lists: &Lists) -> bool
 }
 
 /// Whether nothing can be reported of the entry at an index of the current directory.
-fn is_calm(entry: EntryHead, index: u32, current: &CurrentDir, lists: &Lists) -> bool
+fn is_calm_entry(entry: EntryHead, index: u32, current: &CurrentDir, lists: &Lists) -> bool
     requires { current.now.kinds.now ≡ lists.now.kinds.now }
     ensures { result ≡ is_calm_entry (current_of current.now) (bool_at lists.now.reached.now) index
         (roled_of entry []) }
@@ -172,7 +172,7 @@ fn read_reached<D: Directories>(
     directories.start(from)?;
     while let Some(entry) = directories.next()? {
         count_entry(entry, current.kinds, lists.references, lists.named);
-        calm_so_far = calm_so_far && is_calm(entry, count, &current, lists);
+        calm_so_far = calm_so_far && is_calm_entry(entry, count, &current, lists);
         high = visit(entry, &current, lists, high);
         count += 1;
     }

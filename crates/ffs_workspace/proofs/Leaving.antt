@@ -52,7 +52,7 @@ pub counts_stand : (v : Layout) (b : List ℕ) (w : Workspace) → HoldsCounts v
 unfolding HoldsCounts
 counts_stand v b w h e = h.1 e
 
--- references, as far as they are counted, where what they stand in is as it was
+-- references, as far as they are counted, where the lists that hold them are as they were
 pub counts_same : (v : Layout) (b : List ℕ) (old new : Workspace) → new.references ≡ old.references →
     new.surveyed ≡ old.surveyed → new.named ≡ old.named → new.reached ≡ old.reached → new.parents ≡ old.parents →
     HoldsCounts v b old → HoldsCounts v b new

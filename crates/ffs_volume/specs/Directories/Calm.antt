@@ -4,7 +4,8 @@ use Rattle.std.specs.{List.range_with_len, Option.unwrap_or}
 use Rattle.ffs_volume.specs.declared.constants.TheConstants.{WINO, ROOTINO, DT_DIR, DT_WHT, EMPTY_DIR_KIND, UNKNOWN_KIND}
 use Rattle.ffs_volume.specs.declared.{constants.TheConstants.{DIRBLKSIZ, MINDIRSIZE}, Layout.Layout}
 use Rattle.ffs_volume.specs.declared.Role.{Role, TheVariants.{Empty, Dot, Dotdot, Extra, Plain}}
-use Rattle.ffs_volume.specs.{Blocks.Inodes.inodes_of, Encodings.{Kinds.{dir_at, kind_at}, Lists.{bool_at, number_at}}}
+use Rattle.ffs_volume.specs.{Blocks.Inodes.inodes_of, Encodings.Lists.{bool_at, number_at}}
+use Rattle.ffs_volume.specs.Encodings.Kinds.{dir_at, is_allocated_kind, kind_at}
 use Rattle.ffs_volume.specs.Directories.{Graph.{is_naming_entry, parent, reached}, Parents.graph_of, PathnameCheck.are_sound}
 use Rattle.ffs_volume.specs.Directories.{Roles.{RoledEntry, Volume, is_dir, roled_entries}, Volumes.{marked_at, volume_of}}
 
@@ -32,7 +33,7 @@ pub record CurrentDir : Type 0 where
 -- that is reached
 abbrev pub is_calm_kind : ℕ → Bool → Bool
 is_calm_kind kind reached =
-    not (kind == 0) && (not (kind == EMPTY_DIR_KIND) && (not (kind == DT_WHT) && (not (kind == UNKNOWN_KIND)
+    is_allocated_kind kind && (not (kind == EMPTY_DIR_KIND) && (not (kind == DT_WHT) && (not (kind == UNKNOWN_KIND)
     && not ((kind == DT_DIR) && reached))))
 
 -- a plain entry is a whiteout; or the inode that it names is one of the volume and isn't marked, and
@@ -45,14 +46,15 @@ is_calm_plain kinds marked reached x kind =
 -- an entry at an index of the directory: `.` is the first, `..` the second, and all others are
 -- empty or plain
 abbrev pub is_calm_role : CurrentDir → (ℕ → Bool) → ℕ → Role → ℕ → ℕ → Bool
-is_calm_role s reached i Dot number kind = (i == 0) && ((number == s.dir) && (kind == DT_DIR))
-is_calm_role s reached i Dotdot number kind = (i == 1) && ((number == s.parent) && (kind == DT_DIR))
-is_calm_role s reached i Extra number kind = false
-is_calm_role s reached i Empty number kind = nat_le 2 i
-is_calm_role s reached i Plain number kind = nat_le 2 i && is_calm_plain s.kinds s.marked reached number kind
+is_calm_role current reached i Dot number kind = (i == 0) && ((number == current.dir) && (kind == DT_DIR))
+is_calm_role current reached i Dotdot number kind = (i == 1) && ((number == current.parent) && (kind == DT_DIR))
+is_calm_role current reached i Extra number kind = false
+is_calm_role current reached i Empty number kind = nat_le 2 i
+is_calm_role current reached i Plain number kind =
+    nat_le 2 i && is_calm_plain current.kinds current.marked reached number kind
 
 abbrev pub is_calm_entry : CurrentDir → (ℕ → Bool) → ℕ → RoledEntry → Bool
-is_calm_entry s reached i e = is_calm_role s reached i e.role e.entry.number e.entry.kind
+is_calm_entry current reached i e = is_calm_role current reached i e.role e.entry.number e.entry.kind
 
 -- what is reached after an entry: a directory that it names, too
 abbrev pub reached_after : List ℕ → (ℕ → Bool) → RoledEntry → ℕ → Bool
@@ -60,8 +62,9 @@ reached_after kinds reached e x = reached x || (dir_at kinds x && is_naming_entr
 
 -- all entries from an index on, where this is reached before them; the first two aren't missing
 abbrev pub are_calm : CurrentDir → (ℕ → Bool) → ℕ → List RoledEntry → Bool
-are_calm s reached i [] = nat_le 2 i
-are_calm s reached i (e ∷ es) = is_calm_entry s reached i e && are_calm s (reached_after s.kinds reached e) (suc i) es
+are_calm current reached i [] = nat_le 2 i
+are_calm current reached i (e ∷ es) =
+    is_calm_entry current reached i e && are_calm current (reached_after current.kinds reached e) (suc i) es
 
 -- x is no child of the directory d: it is the root, or d isn't its parent
 abbrev pub is_elsewhere : (parent_of : ℕ → ℕ) (d x : ℕ) → Bool

@@ -6,14 +6,14 @@ use Rattle.ffs_volume.specs.declared.{Layout.Layout, Inode.Inode, Class.Class, c
 use Rattle.ffs_volume.specs.{Blocks.Inodes.{inode_of, is_directory}, Directories.Volumes.class_at}
 use Rattle.ffs_volume.specs.Encodings.Replay.{cut_at}
 
--- notes from this number on are addresses, from 0 on. No inode keeps so many offers: it keeps at
--- most 99 more than the volume has fragments, of which there are fewer than 2^31. The 99 are 8 for
--- each of eleven bad Runs, and eleven dup offers, as `offers_potential` counts them (the eleventh
--- bad Run keeps nothing); any number up to 128 would serve
+-- notes from this number on are addresses, from 0 on. No inode keeps so many offers, since each one
+-- that it keeps is of one of three kinds: it claims a fragment that was unused (fewer than 2^31), it
+-- is in a bad Run (at most 8 in each of at most eleven), or it is a dup offer (at most eleven). So
+-- there are fewer than 2^31 + 99, by `few_kept` of `ClaimBound`; 128 is the next power of two
 abbrev pub first_noted : ℕ
 first_noted = 2 ^ 31 + 128
 
--- only addresses below this one are noted, so that each note fits 32 bits
+-- only addresses below this one are noted: first_noted plus an address is then below 2^32
 abbrev pub noted_below : ℕ
 noted_below = 2 ^ 31 - 128
 

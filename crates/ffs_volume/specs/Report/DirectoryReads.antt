@@ -14,7 +14,7 @@ costs_below r c (suc n) = costs_below r c n + cond (r n) (c n) 0
 
 -- of all numbers below n
 abbrev pub costs_all : (ℕ → ℕ) → ℕ → ℕ
-costs_all c n = costs_below (λ s. true) c n
+costs_all c n = costs_below (λ x. true) c n
 
 -- how many Runs of the inode x are seen
 abbrev pub directory_runs : Layout → List ℕ → ℕ → ℕ
@@ -27,7 +27,7 @@ directory_cost v b x = if is_dir (volume_of v b) x then 1 + directory_runs v b x
 
 -- the same of all directories
 abbrev pub directories_cost : Layout → List ℕ → ℕ
-directories_cost v b = costs_all (directory_cost v b) (v.ncg * v.ipg)
+directories_cost v b = costs_all (directory_cost v b) (inodes_of v)
 
 -- how many reads the inode x takes where its note is known: none, where that has a directory's only chunk
 abbrev pub inode_reads : Layout → List ℕ → ℕ → ℕ
@@ -40,7 +40,7 @@ noted_cost v b x = if is_dir (volume_of v b) x then inode_reads v b x + director
 
 -- the same of all directories
 abbrev pub noted_costs : Layout → List ℕ → ℕ
-noted_costs v b = costs_all (noted_cost v b) (v.ncg * v.ipg)
+noted_costs v b = costs_all (noted_cost v b) (inodes_of v)
 
 -- d is a directory that isn't of size 0, and it is marked, or something may be reported of it
 abbrev pub is_looked_at : Layout → List ℕ → ℕ → Bool

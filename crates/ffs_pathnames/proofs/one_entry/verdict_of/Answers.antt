@@ -1,7 +1,7 @@
 use Rattle.std.proofs.Common.{arith, refl, ap, ◌∙◌}
 use Rattle.ffs_volume.specs.Directories.Volumes.{volume_of}
 use Rattle.ffs_layout.specs.Entry.{entry_value}
-use Rattle.ffs_pathnames.{specs.Gathers.passed_of, specs.PassedNames.verdict_by, proofs.SeesLaws.sees}
+use Rattle.ffs_pathnames.{specs.Gathers.passed_of, specs.PassedNames.second_verdict, proofs.SeesLaws.sees}
 use Rattle.ffs_pathnames.proofs.one_entry.verdict_of.Goals as goal
 
 pub returns : goal.returns
@@ -9,7 +9,7 @@ returns c =
     let w = c.args.workspace.now in
     let e = entry_value c.args.entry.now in
     record {
-      below = λ q. omega (arith, c.entry_verdict.ensures.below q, c.as_slice.ensures.len);
+      below = λ q. omega (arith, c.second_verdict.ensures.below q, c.as_slice.ensures.len);
       verdict = λ v b made h r.
           let shows = sees v b w _ (record {
             kinds = c.as_slice.ensures.value;
@@ -17,7 +17,7 @@ returns c =
             parents = refl;
             count = c.as_slice.ensures.len ∙ made.kinds;
           }) h r in
-          c.entry_verdict.ensures.is (volume_of v b) shows
-          ∙ ap (λ ms. verdict_by (volume_of v b) c.args.dir (record { flags = ms; stamps = (passed_of w).stamps }) e)
+          c.second_verdict.ensures.is (volume_of v b) shows
+          ∙ ap (λ ms. second_verdict (volume_of v b) c.args.dir (record { flags = ms; stamps = (passed_of w).stamps }) e)
           c.as_slice-3.ensures.value;
     }

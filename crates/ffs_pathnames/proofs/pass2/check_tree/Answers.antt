@@ -16,7 +16,7 @@ use Rattle.ffs_report.specs.declared.fault.RunFault.{RunFault, TheVariants.{Read
 use Rattle.ffs_workspace.{specs.{Ready.IsReady, declared.workspace.Workspace.Workspace}, proofs.Leaving.block_check_kept}
 use Rattle.ffs_pathnames.{specs.{DirectoryLines.ReportsTree, RootAnswers.AnswersRoot}, proofs.Begun.image_same}
 use Rattle.ffs_pathnames.specs.declared.pass2.Root.{Root}
-use Rattle.ffs_pathnames.specs.Looked.{ChecksLookedAt}
+use Rattle.ffs_pathnames.specs.ChecksNeeded.{ChecksLookedAt}
 use Rattle.ffs_volume.specs.Report.DirectoryReads.{looks_cost, places_cost}
 use Rattle.ffs_pathnames.proofs.pass2.check_tree.Goals as goal
 

@@ -9,7 +9,7 @@ use Rattle.ffs_pathnames.specs.{declared.pass2.Root.Root, Before.IsBefore, Phase
 use Rattle.ffs_pathnames.proofs.{Carrying.{before_first, references_on}, SilentLaws.calm_silent}
 use Rattle.ffs_pathnames.proofs.pass2.phase2.{Given.Over, Goals.After-check_tree}
 use Rattle.ffs_names.proofs.{DirCosts.noted_all_within, RunSums.costs_bounded}
-use Rattle.ffs_pathnames.proofs.LookedLaws.{looked_at_first}
+use Rattle.ffs_pathnames.proofs.ChecksNeededLaws.{looked_at_first}
 use Rattle.ffs_workspace.specs.{declared.workspace.Workspace.Workspace, Found.WithClaims, Holds.HoldsClaims}
 use Rattle.ffs_workspace.specs.Holds.{HoldsReferences, HoldsSurvey}
 use Rattle.ffs_workspace.proofs.Leaving.{block_check_kept, block_check_left, block_check_more}

@@ -11,7 +11,7 @@ use Rattle.ffs_pathnames.specs.{declared.look.Examination.Examination, Gathers.p
 use Rattle.ffs_pathnames.{specs.PassedNames.{PassedNames, entries_reported, is_flagged}, proofs.Begun.{image_same, said_same, directory_is, lines_parts}}
 use Rattle.ffs_pathnames.proofs.Begun.{quiet_parts, reported_parts, quiet_after, reported_after, starts_within}
 use Rattle.ffs_pathnames.proofs.{Passing.knows_on, StampLaws.{keep_more, noted_kept}, LineCounts.checked_twice}
-use Rattle.ffs_pathnames.proofs.{Carrying.if_ok, LookedLaws.flags_after}
+use Rattle.ffs_pathnames.proofs.{Carrying.if_ok, ChecksNeededLaws.flags_after}
 use Rattle.ffs_pathnames.{proofs.LineCounts.lines_long, specs.ReadsLeft.{LeftForBoth, LeftForLook, LeftForRuns}}
 use Rattle.ffs_pathnames.proofs.tree.check_directory.{Given.Over, Goals.{After-begin_directory, After-report_directory}}
 use Rattle.ffs_names.proofs.DirCosts.{cost_is as cost_of_dir}

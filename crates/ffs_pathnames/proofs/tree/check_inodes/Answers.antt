@@ -15,7 +15,7 @@ use Rattle.ffs_survey.proofs.Costs.{cost_take, costs_rise}
 use Rattle.ffs_names.proofs.{DirCosts.noted_all_within, Limits.costs_within}
 use Rattle.ffs_volume.specs.Report.DirectoryReads.{directory_cost, noted_costs}
 use Rattle.ffs_volume.specs.Report.DirectoryReads.{is_looked_at}
-use Rattle.ffs_pathnames.proofs.LookedLaws.{flags_kept, look_next, looked_at_next, places_noted}
+use Rattle.ffs_pathnames.proofs.ChecksNeededLaws.{flags_kept, look_next, looked_at_next, places_noted}
 use Rattle.ffs_pathnames.proofs.tree.check_inodes.Goals as goal
 
 -- what is known before an inode, and what is left suffices for it

@@ -4,7 +4,7 @@ use Rattle.ffs_volume.specs.{Messages.Kinds.of_tree, Messages.Kinds.lines_from, 
 use Rattle.ffs_volume.specs.Directories.{PathnameCheck.directory_lines, Volumes.volume_of}
 use Rattle.ffs_workspace.specs.Leaves.{LeavesBlockCheck}
 use Rattle.ffs_volume.specs.Blocks.Inodes.{inodes_of}
-use Rattle.ffs_pathnames.specs.Looked.{ChecksLookedAt}
+use Rattle.ffs_pathnames.specs.ChecksNeeded.{ChecksLookedAt}
 use Rattle.ffs_volume.specs.Report.DirectoryReads.{is_looked_at, places_cost}
 use Rattle.ffs_pathnames.specs.{Ready.ReadyWith, Before.IsBefore, Before.IsBeforeNoted}
 use Rattle.ffs_volume.specs.Report.DirectoryReads.{costs_all, costs_below}

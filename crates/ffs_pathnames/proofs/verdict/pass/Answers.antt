@@ -5,8 +5,8 @@ use Rattle.ffs_layout.specs.Entry.{entry_value}
 use Rattle.ffs_pathnames.proofs.{StampLaws.after_pass, verdict.pass.Goals.{then-is_suspect, else-is_suspect}}
 use Rattle.ffs_pathnames.proofs.verdict.pass.Goals as goal
 
-pub returns-then-stamp-dir : goal.returns-then-stamp-dir
-returns-then-stamp-dir c = record {
+pub returns-then-stamp_of-dir : goal.returns-then-stamp_of-dir
+returns-then-stamp_of-dir c = record {
   after = λ v s.
       let plain : is_plain c.args.role ≡ true = search rules in
       let x = c.args.entry.now.number in
@@ -19,6 +19,6 @@ returns-then-stamp-dir c = record {
       after_pass v c.args.inodes.now c.args.dir c.passed.result c.is_suspect.result flags _ c.args.words.now.items _
       c.args.role (entry_value c.args.entry.now) s plain
       (subst (λ n. x < n) c.count.ensures c.if-entry-count.false) c.is_suspect.ensures flagged
-      (sym c.stamp.ensures ∙ c.if-stamp-dir.true) c.set.ensures.items c.passed.ensures.due;
+      (sym c.stamp_of.ensures ∙ c.if-stamp_of-dir.true) c.set.ensures.items c.passed.ensures.due;
   words = grind (arith, common_steps);
 }

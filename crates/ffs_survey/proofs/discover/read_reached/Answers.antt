@@ -26,7 +26,7 @@ loop-entry-preserved g c =
     let right : c.if-calm_so_far.calm_so_far ≡ (c.loop-entry.calm_so_far
     && is_calm_entry current (bool_at c.loop-entry.lists.reached.now) c.loop-entry.count e)
     = elim c.if-calm_so_far.branch [
-      | then-calm_so_far w ↦ rw w.if-calm_so_far.true (w.calm_so_far-is ∙ w.is_calm-calm_so_far.ensures)
+      | then-calm_so_far w ↦ rw w.if-calm_so_far.true (w.calm_so_far-is ∙ w.is_calm_entry-calm_so_far.ensures)
       | else-calm_so_far w ↦ rw w.if-calm_so_far.false (w.calm_so_far-is ∙ w.if-calm_so_far.false)
     ] in
     record {

@@ -1,5 +1,5 @@
--- Which directories phase 2 looks at for its messages, and how many reads it takes for the directories of a
--- volume, by the bytes of its image.
+-- Which directories need a check in phase 2, by the bytes of the image, and that a call takes away none of the
+-- flags by which others need none.
 use Rattle.std.specs.Prelude.{◌≡◌, ℕ, true, false, List}
 use Rattle.ffs_volume.specs.{declared.Layout.Layout, Encodings.Lists.bool_at}
 use Rattle.ffs_workspace.specs.declared.workspace.Workspace.{Workspace}

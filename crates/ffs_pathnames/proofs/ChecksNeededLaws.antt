@@ -1,4 +1,4 @@
--- Which directories need a check, by the bytes of the image.
+-- Which directories need a check in phase 2, by the bytes of the image.
 use Rattle.std.proofs.Common.{◌≡◌, ℕ, ◌+◌, ◌<◌, ◌≤◌, ◌*◌, ◌==◌, Bool, true, false, not, ◌&&◌, ◌||◌}
 use Rattle.std.proofs.Common.{List, [], ◌∷◌, ap, arith, inl, inr, refl, slice_index, length, get_or-set_same}
 use Rattle.std.proofs.{Common.{get_or-set_other, set}, lemmas.Bool.{both_ways, cases_Bool, Decides.nat_tests, true_from_ne_false}, lemmas.List.get_or_past}
@@ -8,7 +8,7 @@ use Rattle.ffs_volume.proofs.SearchLaws.{some_below-from}
 use Rattle.ffs_workspace.specs.{declared.workspace.Workspace.Workspace, Holds.HoldsClaims, Leaves.LeavesBlockCheck}
 use Rattle.ffs_names.specs.CalmDirs.{FlagsEachCalm}
 use Rattle.ffs_volume.specs.{Directories.Calm.is_calm_directory, Report.DirectoryReads.{directory_cost, noted_costs}}
-use Rattle.ffs_pathnames.specs.{Before.{IsNonePassed, needs_check}, Looked.{ChecksLookedAt, KeepsFlags}}
+use Rattle.ffs_pathnames.specs.{Before.{IsNonePassed, needs_check}, ChecksNeeded.{ChecksLookedAt, KeepsFlags}}
 use Rattle.ffs_volume.specs.Report.DirectoryReads.{is_looked_at}
 use Rattle.ffs_volume.specs.Report.DirectoryReads.{places_cost}
 use Rattle.ffs_pathnames.specs.PassedNames.{PassedNames, after_entries, after_name, after_roled, is_flagged}
