@@ -1,5 +1,5 @@
 -- A search in a workspace that holds what phase 1 leaves: what its faults, and its lines, say of the command.
-use Rattle.std.proofs.Common.{ℕ, Option, Result, Ok, Err, refl}
+use Rattle.std.proofs.Common.{ℕ, Option, Result, Err, refl}
 use Rattle.ffs_image.specs.Device.{Device}
 use Rattle.ffs_memory.specs.Account.{Account}
 use Rattle.ffs_volume.specs.{declared.Layout.Layout, Disk.Superblock.Superblock}
