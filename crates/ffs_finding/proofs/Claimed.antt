@@ -14,7 +14,7 @@ use Rattle.ffs_volume.specs.declared.{Layout.Layout, Step.{Step, TheVariants.{Ru
 use Rattle.ffs_volume.specs.Find.Owner.{indirect_in, keeper_lines, keeper_text, keeps_in_step, keeper_lines_of_inode}
 use Rattle.ffs_volume.specs.Find.Owner.{keeper_lines_of_step, keeper_lines_of_steps}
 use Rattle.ffs_workspace.specs.Holds.{all_claims}
-use Rattle.ffs_finding.{specs.Fields.any_line, proofs.WrongFields.any_more}
+use Rattle.ffs_finding.{specs.Outcome.any_line, proofs.WrongFields.any_more}
 
 -- some offer is of the fragment f
 abbrev any_of : ℕ → List Offer → Bool

@@ -1,27 +1,23 @@
 -- What phase 1 leaves over an output that never fails.
-use Rattle.std.proofs.Common.{◌≡◌, ℕ, List, Result, Ok, Err, arith, true, false, inl, inr, ap}
-use Rattle.std.specs.{Borrow.GName, Prelude.{IfErr, OnOk}}
+use Rattle.std.proofs.Common.{◌≡◌, ℕ, List, Err, arith, true, false, inl, inr, ap}
+use Rattle.std.specs.Borrow.{GName}
+use Rattle.ffs_image.specs.Device.{Device}
+use Rattle.ffs_memory.specs.Account.{Account, Granted}
 use Rattle.ffs_volume.specs.{declared.Layout.Layout, Messages.Kinds.Message}
-use Rattle.ffs_report.specs.{Known.ForBytes, PhaseOutcome.PhaseReports, Progress.{Progress, starts}, Sink.Sink}
+use Rattle.ffs_report.specs.{PhaseOutcome.{ImageAfter, PhaseReports}, Progress.{Progress, starts}, Sink.Sink}
 use Rattle.ffs_report.specs.declared.fault.RunFault.{RunFault, TheVariants.{Read, Out}}
-use Rattle.ffs_workspace.specs.{declared.workspace.Workspace.Workspace, Holds.HoldsPhase1}
-use Rattle.ffs_claims.specs.Phases.{IsLeftByPhase1}
-use Rattle.ffs_finding.specs.Claims.{IsReadFault, discarding}
+use Rattle.ffs_workspace.specs.Lengths.{held_of}
+use Rattle.ffs_finding.specs.{declared.find.FindFault.TheVariants.Run, Claims.{TakesClaims, discarding}}
 
--- no write of it failed
-pub unfailed : (knows : List ℕ → Type 0) (all : List ℕ → List Message) (output : GName) (b : Progress)
-    (r : Result (Unit {0}) RunFault) → b.sink ≡ discarding →
-    PhaseReports knows all (starts output discarding) b r → IfErr r IsReadFault
-unfailed knows all output b (Ok x) quiet p = grind arith
-unfailed knows all output b (Err (Read fault)) quiet p = grind arith
-unfailed knows all output b (Err (Out fault)) quiet p = elim p.stopped.cause [
-  | inl failed ↦ (let bad : false ≡ true = failed in absurd (cc))
+-- where phase 1 failed, a read did
+pub failed : (knows : List ℕ → Type 0) (all : List ℕ → List Message) (output : GName) (a b : Progress)
+    (v : Layout) (d d' : Device) (held held' : Account) (fault : RunFault) → a ≡ starts output discarding →
+    b.sink ≡ discarding → PhaseReports {T = Unit {0}} knows all a b (Err fault) →
+    ImageAfter {T = Unit {0}} d d' (Err fault) → Granted held held' (held_of v) →
+    TakesClaims v d d' held held' (Err (Run fault))
+failed knows all output a b v d d' held held' (Read fault) begun quiet p image took = (image, took)
+failed knows all output a b v d d' held held' (Out fault) begun quiet p image took = elim (rw begun at p.stopped.cause) [
+  | inl broken ↦ (let bad : false ≡ true = broken in absurd (cc))
   | inr rose ↦
       let none : b.sink.failures ≡ 0 = ap (λ (s : Sink). s.failures) quiet in absurd (omega (arith, rose, none))
 ]
-
--- what phase 1 leaves is what it holds
-pub held : (knows : List ℕ → Type 0) (v : Layout) (w : Workspace) (r : Result (Unit {0}) RunFault) →
-    OnOk r (ForBytes knows (λ b. IsLeftByPhase1 v b w)) → OnOk r (ForBytes knows (λ b. HoldsPhase1 v b w))
-held knows v w (Ok x) p = λ b k. (p b k).holds
-held knows v w (Err fault) p = tt

@@ -7,7 +7,7 @@ use Rattle.ffs_volume.specs.Disk.{Outcome.{outcome, super_bytes, super_sector}, 
 use Rattle.ffs_volume.{proofs.OutcomeLaws.outcome_past_end, specs.Find.Fields.{field_lines, layout_fields}}
 use Rattle.ffs_volume.specs.Find.Fields.{total_fields, wrong_fields}
 use Rattle.ffs_volume.specs.Find.Fields as book
-use Rattle.ffs_finding.specs.{Fields.{any_line, field_of, wrong_lines}, declared.fields.Field.Field}
+use Rattle.ffs_finding.specs.{Outcome.any_line, Fields.{field_of, wrong_lines}, declared.fields.Field.Field}
 use Rattle.ffs_finding.proofs.{CopySteps.sized_at, WrongFields.any_more}
 
 -- no superblock is accepted that ends after the image

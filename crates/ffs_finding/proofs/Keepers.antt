@@ -9,7 +9,7 @@ use Rattle.ffs_walk.specs.{Windows.KeepsBlocks, declared.blocks.Blocks.Blocks}
 use Rattle.ffs_workspace.specs.{Found.WithPhase1, Ready.IsReady}
 use Rattle.ffs_volume.specs.{Blocks.Inodes.inodes_of, Encodings.Notes.{cut_in, note_at}}
 use Rattle.ffs_workspace.specs.{Ready.StaysReady, declared.workspace.{Windows.Windows, Workspace.Workspace}}
-use Rattle.ffs_finding.{specs.{Keepers.{LooksAtInode, WalksKept}, Outcome.PrintsLines}, proofs.Owners.listed_inode}
+use Rattle.ffs_finding.{specs.{Keepers.{LooksAtInode, WalksKept, sought_in}, Outcome.{Moment, PrintsLines}}, proofs.Owners.listed_inode}
 use Rattle.ffs_finding.proofs.{Owners.inode_runs, Printing.knowing}
 
 -- lines that are the same
@@ -46,51 +46,54 @@ ready_after : {v : Layout} {w : Workspace} {b : Blocks} (d d' : Device) → d'.c
     IsReady v d' (record w { windows = record w.windows { blocks = b } })
 ready_after d d' e size kept r = grind arith
 
+-- a walk leaves a workspace ready
+pub stays_from : {T : Type 0} {v : Layout} {w : Workspace} {windows : Windows} {b : Blocks} (d d' : Device)
+    (r : Result T RunFault) → ImageAfter d d' r → IsReady v d (record w { windows = windows }) →
+    KeepsBlocks v d'.contents windows.blocks b →
+    StaysReady v d' w (record w { windows = record windows { blocks = b } })
+stays_from d d' r image ready kept =
+    let same = image_kept d d' r image in
+    record { held = refl; ready = ready_after d d' same.0 same.1 kept ready }
+
 -- an inode was read before, as the image gives it
-pub looks_from : {T : Type 0} {v : Layout} {f x cut count now count' : ℕ} {old new : Sink} {w : Workspace}
-    {windows : Windows} {b : Blocks} {r : Result T RunFault} (i : Inode) (d d1 d' : Device) → d1 ≡ d →
+pub looks_from : {T : Type 0} {v : Layout} {f x cut count now count' : ℕ} {old new : Sink}
+    {r : Result T RunFault} (i : Inode) (w : Workspace) (d d1 d' : Device) → d1 ≡ d →
     ForBytes (IsContents d.contents) (λ bytes. i ≡ inode_of v bytes x) → now ≤ count + 1 →
-    cut ≡ cut_in (slice_index w.notes.items x) → IsReady v d1 (record w { windows = windows }) →
-    WalksKept v f x cut i d1 d' now count' windows.blocks b old new r →
-    LooksAtInode v f x d d' count count' w (record w { windows = record windows { blocks = b } }) old new r
-looks_from {v = v} {f = f} {x = x} {cut = cut} {old = old} {new = new} {w = w} {windows = windows} {b = b} {r = r}
-    i d d1 d' e h few is ready p =
+    cut ≡ cut_in (slice_index w.notes.items x) →
+    WalksKept v (record { fragment = f; number = x; cut = cut }) i (record { image = d1; reads = now; out = old })
+    (record { image = d'; reads = count'; out = new }) r →
+    LooksAtInode v (sought_in f x w) (record { image = d; reads = count; out = old })
+    (record { image = d'; reads = count'; out = new }) r
+looks_from {old = old} {new = new} {r = r} i w d d1 d' e h few is p =
     let q = rw (e, is) at p in
-    let image = rw e at p.found.image in
-    let kept = image_kept d d' r image in
     record {
       found = record {
-        image = image;
+        image = q.found.image;
         text = same_lines (IsContents d.contents) _ _ old new r (λ bytes k. rw (h bytes k) refl) q.found.text;
-      };
-      stays = record {
-        held = refl;
-        ready = ready_after d d' kept.0 kept.1 p.blocks (rw e at ready);
       };
       reads = λ bytes k. omega (arith, few, rw (h bytes k) at (q.reads bytes k));
     }
 
 -- the lines of an inode that was looked at, in a workspace of which only windows have changed
-pub found_lines : {T : Type 0} {v : Layout} {f x count count' : ℕ} {d d' d0 on : Device} {w w' w0 : Workspace}
-    {old new : Sink} {r : Result T RunFault} → d ≡ d0 → StaysReady v on w0 w → IsAcceptedLayout v → 2 ≤ x →
-    x < inodes_of v → LooksAtInode v f x d d' count count' w w' old new r →
-    PrintsLines (WithPhase1 v d0 w0) (λ b. keeper_lines_of_inode v b f x) old new r
-found_lines {v = v} {f = f} {x = x} {d = d} {d0 = d0} {w = w} {w0 = w0} {old = old} {new = new} {r = r} e stays g low
-    high p =
+pub found_lines : {T : Type 0} {v : Layout} {f x : ℕ} {m m' : Moment} {d0 on : Device} {w w0 : Workspace}
+    {r : Result T RunFault} → m.image ≡ d0 → StaysReady v on w0 w → IsAcceptedLayout v → 2 ≤ x →
+    x < inodes_of v → LooksAtInode v (sought_in f x w) m m' r →
+    PrintsLines (WithPhase1 v d0 w0) (λ b. keeper_lines_of_inode v b f x) m.out m'.out r
+found_lines {v = v} {f = f} {x = x} {m = m} {m' = m'} {d0 = d0} {w = w} {w0 = w0} {r = r} e stays g low high p =
     let note : ForBytes (WithPhase1 v d0 w0) (λ b. slice_index w.notes.items x ≡ note_at v b x) = λ b k.
     ap (λ (z : Workspace). slice_index z.notes.items x) stays.held ∙ k.1.notes x in
-    same_lines (WithPhase1 v d0 w0) _ _ old new r
+    same_lines (WithPhase1 v d0 w0) _ _ m.out m'.out r
     (λ b k. listed_inode v b f x (slice_index w.notes.items x) g low high (note b k))
-    (knowing _ (IsContents d.contents) (WithPhase1 v d0 w0) _ old new r (λ b k. ap (λ (z : Device). z.contents) e ∙ k.0)
-    p.found.text)
+    (knowing _ (IsContents m.image.contents) (WithPhase1 v d0 w0) _ m.out m'.out r
+    (λ b k. ap (λ (z : Device). z.contents) e ∙ k.0) p.found.text)
 
 -- and its reads
-pub found_reads : {T : Type 0} {v : Layout} {f x count count' : ℕ} {d d' d0 on : Device} {w w' w0 : Workspace}
-    {old new : Sink} {r : Result T RunFault} → d ≡ d0 → StaysReady v on w0 w → IsAcceptedLayout v → 2 ≤ x →
-    x < inodes_of v → LooksAtInode v f x d d' count count' w w' old new r →
-    ForBytes (WithPhase1 v d0 w0) (λ b. count' + (claims_before v b x).runs
-    ≤ count + 1 + (claims_before v b (x + 1)).runs)
-found_reads {v = v} {x = x} {d = d} {w = w} e stays g low high p = λ b k.
+pub found_reads : {T : Type 0} {v : Layout} {f x : ℕ} {m m' : Moment} {d0 on : Device} {w w0 : Workspace}
+    {r : Result T RunFault} → m.image ≡ d0 → StaysReady v on w0 w → IsAcceptedLayout v → 2 ≤ x →
+    x < inodes_of v → LooksAtInode v (sought_in f x w) m m' r →
+    ForBytes (WithPhase1 v d0 w0) (λ b. m'.reads + (claims_before v b x).runs
+    ≤ m.reads + 1 + (claims_before v b (x + 1)).runs)
+found_reads {v = v} {x = x} {w = w} e stays g low high p = λ b k.
     let note = ap (λ (z : Workspace). slice_index z.notes.items x) stays.held ∙ k.1.notes x in
     let runs = inode_runs v b x (slice_index w.notes.items x) g low high note in
     omega (arith, runs, p.reads b (ap (λ (z : Device). z.contents) e ∙ k.0))

@@ -21,4 +21,3 @@ pub mod LostGroups
 pub mod LostParts
 pub mod ClaimSearches
 pub mod Searching
-pub mod OwnerSearch

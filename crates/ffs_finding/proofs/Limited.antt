@@ -35,13 +35,17 @@ pub record SearchServed {T : Type 0} (knows : List ℕ → Type 0) (all : List �
   pub same_image : name_lent ≡ name
   pub few : asked ≤ limit → spent ≡ false
   pub refused : (x : T) → spent ≡ true → ForBytes knows (λ bytes. spent ≡ false) →
-      Finds knows all lent below old new (Ok x)
-  pub answered : spent ≡ false → Finds knows all lent below old new r
+      (k k' : ℕ) → Finds knows all (record { image = lent; reads = k; out = old })
+      (record { image = below; reads = k'; out = new }) (Ok x)
+  pub answered : spent ≡ false → (k k' : ℕ) → Finds knows all (record { image = lent; reads = k; out = old })
+      (record { image = below; reads = k'; out = new }) r
 
 -- the contract of the search, with the clause of the limited image on what is below
 pub search_served : {T : Type 0} {knows : List ℕ → Type 0} {all : List ℕ → List (List ℕ)} {lent below : Device}
-    {name_lent name : GName} {reads reads' limit left asked : ℕ} {s : Bool} {above : Device} {old new : Sink}
-    {r : Result T RunFault} → Finds knows all (limited_device lent name_lent reads limit) above old new r →
+    {name_lent name : GName} {reads reads' limit left asked k k' : ℕ} {s : Bool} {above : Device} {old new : Sink}
+    {r : Result T RunFault} → Finds knows all
+    (record { image = limited_device lent name_lent reads limit; reads = k; out = old })
+    (record { image = above; reads = k'; out = new }) r →
     ((d : Device) (given : GName) (before : ℕ) (most : ℕ) →
     above.lent ≡ (limited_device d given before most).lent → above.contents ≡ d.contents → above.size ≡ d.size →
     GivesBack d below given name before reads' most left asked s (limited_device d given before most) above) →
@@ -53,6 +57,6 @@ search_served {lent = lent} {below = below} {name_lent = name_lent} {reads = rea
     record {
       same_image = sym g.same_image;
       few = λ e. grind arith;
-      refused = λ x e none. record { image = g.refused e; text = refused_text g r x e none p.image p.text };
-      answered = λ e. record { image = image_through g r e p.image; text = p.text };
+      refused = λ x e none k k'. record { image = g.refused e; text = refused_text g r x e none p.image p.text };
+      answered = λ e k k'. record { image = image_through g r e p.image; text = p.text };
     }

@@ -9,7 +9,7 @@ use Rattle.ffs_groups.specs.Free.{free_in}
 use Rattle.ffs_maps.specs.Bits.{bits_of}
 use Rattle.ffs_report.specs.Known.{ForBytes}
 use Rattle.ffs_workspace.specs.{declared.workspace.Workspace.Workspace, Found.WithPhase1, Holds.all_claims}
-use Rattle.ffs_finding.specs.{Fields.any_line, LostMaps.{is_wrong_by, lines_of_group, lines_of_groups, no_map_lines}}
+use Rattle.ffs_finding.specs.{Outcome.any_line, LostMaps.{is_wrong_by, lines_of_group, lines_of_groups, no_map_lines}}
 use Rattle.ffs_finding.specs.{LostMaps.word_of, declared.lost.Wrong.{Wrong, TheVariants.{Lost, MarkedFree}}}
 use Rattle.ffs_finding.proofs.{Ranges.{from_zero, next, none}, WrongFields.any_more}
 

@@ -6,7 +6,7 @@ use Rattle.ffs_groups.specs.Free.{free_in}
 use Rattle.ffs_maps.specs.Bits.{bits_of}
 use Rattle.ffs_report.specs.{Known.{ForBytes, IsContents}, Sink.Sink, declared.fault.RunFault.RunFault}
 use Rattle.ffs_workspace.specs.{declared.workspace.Workspace.Workspace, Found.WithPhase1}
-use Rattle.ffs_finding.specs.{Fields.any_line, Outcome.{PrintedTo, PrintsLines}, LostMaps.lines_of_groups}
+use Rattle.ffs_finding.specs.{Outcome.{PrintedTo, PrintsLines, any_line}, LostMaps.lines_of_groups}
 use Rattle.ffs_finding.{specs.declared.lost.Wrong.TheVariants.{Lost, MarkedFree}, proofs.LostGroups.both}
 use Rattle.ffs_finding.proofs.{Printing.{begins, knowing, part, part_fault}, WrongFields.any_more}
 

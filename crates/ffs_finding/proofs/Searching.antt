@@ -1,16 +1,26 @@
 -- A search in a volume, as the command that asks for it.
-use Rattle.std.proofs.Common.{◌≡◌, ◌∙◌, ◌*◌, ◌+◌, ◌≤◌, ℕ, Bool, List, [], Option, Result, Ok, Err, sym, ap, arith, inr}
+use Rattle.std.proofs.Common.{◌≡◌, ◌∙◌, ◌*◌, ◌+◌, ◌≤◌, ℕ, Bool, List, [], Option, Result, Ok, Err, sym, ap, arith, inl, inr}
+use Rattle.std.proofs.Common.{refl}
+use Rattle.ffs_check.specs.Taken.{AsksMemory}
 use Rattle.ffs_image.specs.Device.{Device, ForContents}
-use Rattle.ffs_memory.specs.Account.{Account}
+use Rattle.ffs_memory.specs.Account.{Account, RefusedOneMore}
 use Rattle.ffs_workspace.specs.Lengths.{held_of}
 use Rattle.ffs_volume.specs.{declared.Layout.Layout, Report.Memory.held_limit, Disk.Superblock.Superblock}
 use Rattle.ffs_volume.specs.{Disk.Outcome.outcome, Laws.Geometry.IsAcceptedLayout}
 use Rattle.ffs_report.specs.{Known.{ForBytes, IsContents}, Sink.Sink, declared.fault.RunFault.TheVariants.{Read, Out}}
 use Rattle.ffs_finding.specs.declared.find.FindFault.{FindFault, TheVariants.{Refused, Run, NoMemory}}
 use Rattle.ffs_finding.specs.declared.request.Search.{Search, TheVariants.{Inode, Fields, Lost, Owner}}
-use Rattle.ffs_finding.specs.{declared.request.Command.TheVariants.InVolume, Fields.WithSuper, Outcome.PrintedTo}
-use Rattle.ffs_finding.specs.Whole.{Answers, Looks, SearchAnswers, Searches, TakesForSearch, TakesMemory, command_lines}
-use Rattle.ffs_finding.specs.Whole.{lines_by, search_lines, status_by, status_of_answer}
+use Rattle.ffs_finding.specs.{declared.request.Command.TheVariants.InVolume, Fields.WithSuper, Outcome.{Moment, PrintedTo}}
+use Rattle.ffs_finding.specs.Whole.{Answers, IsGranted, Looks, SearchAnswers, Searches, TakesForSearch, TakesMemory}
+use Rattle.ffs_finding.specs.Whole.{command_lines, lines_by, search_lines, status_by, status_of_answer}
+
+-- memory was refused, where the answer says so
+refused : (search : Search) (v : Layout) (held held' : Account) → TakesForSearch search v held held' (Err NoMemory) →
+    RefusedOneMore held held'
+refused (Inode number) v held held' p = absurd (p.1 refl)
+refused Fields v held held' p = absurd (p.1 refl)
+refused Lost v held held' p = p.rose
+refused (Owner fragment) v held held' p = p.rose
 
 module _ (search : Search) (sector : Option ℕ) (s : Superblock) (d : Device)
     (accepted : ForContents d.contents (λ b. outcome b sector ≡ Ok s)) where
@@ -28,18 +38,20 @@ module _ (search : Search) (sector : Option ℕ) (s : Superblock) (d : Device)
         took = p.took;
       }
 
-  answers : (d' : Device) (held held' : Account) (a b : Sink) (r : Result Bool FindFault) →
-      SearchAnswers search sector s d d' held held' a b r → Answers (InVolume sector search) d d' held held' a b r
-  answers d' held held' a b (Ok defect) p = (
+  answers : (between before : ℕ) (a : Sink) (m : Moment) (held held' : Account) (r : Result Bool FindFault) →
+      SearchAnswers search sector s (record { image = d; reads = between; out = a }) m r →
+      TakesForSearch search s.layout held held' r →
+      Answers (InVolume sector search) (record { image = d; reads = before; out = a }) m held held' r
+  answers between before a m held held' (Ok defect) p t = (
     p.0,
-    printed (λ bytes. []) a b p.1,
+    printed (λ bytes. []) a m.out p.1,
     λ bytes k. ap status_of_answer (p.2 bytes (k, accepted bytes k))
         ∙ sym (ap (status_by search (search_lines search sector bytes)) (accepted bytes k)),
   )
-  answers d' held held' a b (Err (Refused fault)) p = absurd p
-  answers d' held held' a b (Err (Run (Read fault))) p =
-      (p.0, record { rest = p.1.rest; printed = printed p.1.rest a b p.1.printed })
-  answers d' held held' a b (Err (Run (Out fault))) p = (
+  answers between before a m held held' (Err (Refused fault)) p t = absurd p
+  answers between before a m held held' (Err (Run (Read fault))) p t =
+      (p.0, record { rest = p.1.rest; printed = printed p.1.rest a m.out p.1.printed })
+  answers between before a m held held' (Err (Run (Out fault))) p t = (
     p.0,
     record {
       lines = p.1.lines;
@@ -48,32 +60,48 @@ module _ (search : Search) (sector : Option ℕ) (s : Superblock) (d : Device)
       broke_off = p.1.broke_off;
     },
   )
-  answers d' held held' a b (Err NoMemory) p = p
+  answers between before a m held held' (Err NoMemory) p t = (p.0, p.1, refused search s.layout held held' t)
 
 -- what the lists and buffers of a check take is within their bound
 held_within : (v : Layout) → held_of v ≤ held_limit v
 held_within v = omega arith
 
-takes : (search : Search) (sector : Option ℕ) (s : Superblock) (d : Device) (held held' : Account) →
-    ForContents d.contents (λ b. outcome b sector ≡ Ok s) → TakesForSearch search s.layout held held' →
-    TakesMemory (InVolume sector search) d held held'
-takes (Inode number) sector s d held held' accepted p = p
-takes Fields sector s d held held' accepted p = p
-takes Lost sector s d held held' accepted p =
-    inr (record { found = s; accepted = accepted; asked = p; within = held_within s.layout })
-takes (Owner fragment) sector s d held held' accepted p =
-    inr (record { found = s; accepted = accepted; asked = p; within = held_within s.layout })
+asked : (bytes : ℕ) (held held' : Account) (r : Result Bool FindFault) → IsGranted bytes held held' r →
+    AsksMemory held held' bytes
+asked bytes held held' (Ok defect) p = inl p
+asked bytes held held' (Err (Refused fault)) p = inl p
+asked bytes held held' (Err (Run fault)) p = inl p
+asked bytes held held' (Err NoMemory) p = inr p
+
+takes : (search : Search) (sector : Option ℕ) (s : Superblock) (d : Device) (held held' : Account)
+    (r : Result Bool FindFault) → ForContents d.contents (λ b. outcome b sector ≡ Ok s) →
+    TakesForSearch search s.layout held held' r → TakesMemory (InVolume sector search) d held held'
+takes (Inode number) sector s d held held' r accepted p = p.0
+takes Fields sector s d held held' r accepted p = p.0
+takes Lost sector s d held held' r accepted p = inr (record {
+  found = s;
+  accepted = accepted;
+  asked = asked (held_of s.layout) held held' r p;
+  within = held_within s.layout;
+})
+takes (Owner fragment) sector s d held held' r accepted p = inr (record {
+  found = s;
+  accepted = accepted;
+  asked = asked (held_of s.layout) held held' r p;
+  within = held_within s.layout;
+})
 
 -- a search was made after the superblock was read
-pub looked : (search : Search) (sector : Option ℕ) (s : Superblock) (d d' : Device) (held held' : Account)
-    (before between after : ℕ) (a b : Sink) (r : Result Bool FindFault) →
+pub looked : (search : Search) (sector : Option ℕ) (s : Superblock) (d : Device) (before between : ℕ) (a : Sink)
+    (m : Moment) (held held' : Account) (r : Result Bool FindFault) →
     ForContents d.contents (λ b. outcome b sector ≡ Ok s) → IsAcceptedLayout s.layout →
     s.layout.size * s.layout.fsize ≤ d.size → between ≤ before + 2 →
-    Searches search sector s d d' held held' between after a b r →
-    Looks (InVolume sector search) d d' held held' before after a b r
-looked search sector s d d' held held' before between after a b r accepted sound inside opened p = record {
-  answers = answers search sector s d accepted d' held held' a b r p.answer;
-  memory = takes search sector s d held held' accepted p.memory;
+    Searches search sector s (record { image = d; reads = between; out = a }) m r →
+    TakesForSearch search s.layout held held' r →
+    Looks (InVolume sector search) (record { image = d; reads = before; out = a }) m held held' r
+looked search sector s d before between a m held held' r accepted sound inside opened p t = record {
+  answers = answers search sector s d accepted between before a m held held' r p.answer t;
+  memory = takes search sector s d held held' r accepted t;
   reads = inr (record {
     found = s;
     accepted = accepted;

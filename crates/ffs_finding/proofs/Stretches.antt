@@ -4,7 +4,7 @@ use Rattle.std.proofs.{Common.{append-nil, arith, refl, ap, sym, subst, inl, inr
 use Rattle.std.specs.{List.{concat, flat_map, prefix_len, range_with_len}, Prelude.◌||◌}
 use Rattle.ffs_report.{specs.Sink.{Sink, Took, BrokeOff}, proofs.Sinks.{took_nil, took_then, broke_off_after}}
 use Rattle.ffs_report.proofs.Sinks.{broke_off_more}
-use Rattle.ffs_finding.{specs.{Fields.any_line, LostMaps.IsNext}, proofs.{Printing.concat-append, Ranges.{none, split}}}
+use Rattle.ffs_finding.{specs.{Outcome.any_line, LostMaps.IsNext}, proofs.{Printing.concat-append, Ranges.{none, split}}}
 use Rattle.ffs_finding.proofs.{Ranges.next, WrongFields.any_more}
 use Rattle.ffs_volume.specs.Find.Lost.{range_text, stretch_at, stretch_length, stretch_lines}
 

@@ -4,7 +4,7 @@ use Rattle.std.proofs.{Common.{add-one, append-nil}, Math.Seq.take-suc, lemmas.L
 use Rattle.std.specs.List.{concat, flat_map}
 use Rattle.ffs_report.{specs.Sink.{Sink, Took, BrokeOff}, proofs.Sinks.{took_then, broke_off_in_item}}
 use Rattle.ffs_volume.specs.Find.Fields.{field_lines}
-use Rattle.ffs_finding.specs.{Fields.{any_line, field_of, wrong_lines}, declared.fields.Field.Field}
+use Rattle.ffs_finding.specs.{Outcome.any_line, Fields.{field_of, wrong_lines}, declared.fields.Field.Field}
 use Rattle.ffs_finding.proofs.Printing.{concat-append}
 
 pub any_more : (xs ys : List (List ℕ)) → any_line (xs ++ ys) ≡ (any_line xs || any_line ys)

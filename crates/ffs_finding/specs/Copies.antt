@@ -4,8 +4,8 @@ use Rattle.std.specs.{Prelude.{vec_len, count_by, if◌then◌else◌}, Int.div_
 use Rattle.ffs_image.specs.{Device.{Device, ForContents}, Reads.ReadAfter, declared.image.ImageFault.ImageFault}
 use Rattle.ffs_volume.specs.{Disk.{Superblock.order_of, Outcome.{outcome, super_bytes}}, Find.Copies.asked_sectors}
 use Rattle.ffs_volume.specs.Find.Copies.{copy_lines_of, sector_count}
-use Rattle.ffs_report.specs.{Known.IsContents, Sink.Sink, declared.fault.RunFault.RunFault}
-use Rattle.ffs_finding.specs.Outcome.{Finds}
+use Rattle.ffs_report.specs.{Known.IsContents, declared.fault.RunFault.RunFault}
+use Rattle.ffs_finding.specs.Outcome.{Finds, Moment}
 use Rattle.ffs_walk.specs.{Windows.WindowHolds, declared.window.Window.Window}
 
 -- a superblock with a magic number, in one of the two orders of bytes, begins at a sector
@@ -34,21 +34,20 @@ pub record IsWindowOf (d : Device) (sector : ℕ) (w : Window) : Type 0 where
   pub place : w.place ≡ window_place sector
   pub length : w.length ≡ window_length d.size (window_place sector)
 
--- the window of a sector was read, unless it was there already; it has its room and holds what the
--- image gives
-pub record WindowAfter {T E : Type 0} (d d' : Device) (sector : ℕ) (before after : Window) (result : Result T E) :
-    Type 0 where
+-- the window is that of a sector now, unless a read failed; it has its room and holds what the image gives
+pub record WindowAfter {T E : Type 0} (d d' : Device) (sector : ℕ) (after : Window) (result : Result T E) : Type 0 where
   pub at : OnOk result (IsWindowOf d sector after)
   pub room : vec_len after.buffer ≡ 65536
   pub holds : WindowHolds d'.contents after
 
--- the answer is whether a magic number is there, by one read at most, and by none where the window
--- was that of the sector
-pub record LooksForMagic (d d' : Device) (sector reads reads' : ℕ) (before after : Window)
-    (result : Result Bool ImageFault) : Type 0 where
+-- the answer is whether a magic number is there
+pub record LooksForMagic (d d' : Device) (sector : ℕ) (after : Window) (result : Result Bool ImageFault) : Type 0 where
   pub answer : IfOk result (λ found. ForContents d.contents (λ b. found ≡ has_magic b sector))
   pub read : ReadAfter d d' result
-  pub window : WindowAfter d d' sector before after result
+  pub window : WindowAfter d d' sector after result
+
+-- one read at most, and none where the window was that of the sector before
+pub record ReadsWindow (d : Device) (sector : ℕ) (before : Window) (reads reads' : ℕ) : Type 0 where
   pub counted : reads' ≤ reads + 1
   pub again : IsWindowOf d sector before → reads' ≤ reads
 
@@ -57,13 +56,14 @@ abbrev pub super_reads : (image : List ℕ) (sector : ℕ) → ℕ
 super_reads image sector = if has_magic image sector then 2 else 0
 
 -- the line of a sector was printed, where a superblock is accepted there, or what a fault leaves of it
-pub record LooksAt (d d' : Device) (sector reads reads' : ℕ) (before after : Window) (old new : Sink)
-    (result : Result (Unit {0}) RunFault) : Type 0 where
-  pub found : Finds (IsContents d.contents) (λ b. copy_lines_of sector (outcome b (Some sector))) d d' old new result
-  pub window : WindowAfter d d' sector before after result
-  pub counted : ForContents d.contents (λ b. reads' ≤ reads + 1 + super_reads b sector)
-  pub again : IsWindowOf d sector before → ForContents d.contents (λ b. reads' ≤ reads + super_reads b sector)
-  pub any : reads' ≤ reads + 3
+pub record LooksAt (sector : ℕ) (before after : Window) (old new : Moment) (result : Result (Unit {0}) RunFault) :
+    Type 0 where
+  pub found : Finds (IsContents old.image.contents) (λ b. copy_lines_of sector (outcome b (Some sector))) old new result
+  pub window : WindowAfter old.image new.image sector after result
+  pub counted : ForContents old.image.contents (λ b. new.reads ≤ old.reads + 1 + super_reads b sector)
+  pub again : IsWindowOf old.image sector before
+      → ForContents old.image.contents (λ b. new.reads ≤ old.reads + super_reads b sector)
+  pub any : new.reads ≤ old.reads + 3
 
 -- the image was read once for each window of 65,536 bytes at most, and twice for each magic number; any
 -- image, also one that gives other bytes each time, at most three times for each sector

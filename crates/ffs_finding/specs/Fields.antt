@@ -1,11 +1,11 @@
 -- A field of the superblock as the program has it, and what its lines leave.
-use Rattle.std.specs.Prelude.{◌≡◌, ℕ, Bool, true, false, List, [], ◌∷◌, Option, Ok, Result, IfOk}
+use Rattle.std.specs.Prelude.{◌≡◌, ℕ, Bool, List, Option, Ok, Result, IfOk}
 use Rattle.std.specs.List.{concat, flat_map}
 use Rattle.ffs_image.specs.Device.{Device}
 use Rattle.ffs_volume.specs.Disk.{Superblock.Superblock, Outcome.outcome}
 use Rattle.ffs_report.specs.{Known.IsContents, Sink.{Sink, Prints}}
 use Rattle.ffs_volume.specs.Find.Fields as book
-use Rattle.ffs_finding.specs.declared.fields.Field.{Field}
+use Rattle.ffs_finding.specs.{Outcome.any_line, declared.fields.Field.Field}
 
 -- a field of the program as one of the definitions
 abbrev pub field_of : Field → book.Field
@@ -14,11 +14,6 @@ field_of f = record { name = f.name.now; place = f.place; has = f.has; wants = f
 -- the lines of those of these fields that are wrong
 abbrev pub wrong_lines : (start : ℕ) → List Field → List (List ℕ)
 wrong_lines start fields = flat_map (λ f. book.field_lines start (field_of f)) fields
-
--- there is a line
-abbrev pub any_line : List (List ℕ) → Bool
-any_line [] = false
-any_line (line ∷ lines) = true
 
 -- these lines were printed, or the output failed among them; the answer is whether there is one
 pub record PrintsWhether {E : Type 0} (lines : List (List ℕ)) (old new : Sink) (result : Result Bool E) : Type 0 where

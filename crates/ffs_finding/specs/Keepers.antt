@@ -7,13 +7,13 @@ use Rattle.ffs_volume.specs.Encodings.{Replay.is_replay_open, ReplayCounts.{repl
 use Rattle.ffs_volume.specs.{Report.Whole.run_count, Groups.Records.group_block, Find.Owner.group_of_fragment}
 use Rattle.ffs_volume.specs.Find.Owner.{indirect_in, keeper_lines, keeper_text, map_text}
 use Rattle.ffs_image.specs.Device.{Device}
-use Rattle.ffs_report.specs.{Known.{ForBytes, IsContents}, Sink.{Sink, Prints}, declared.fault.RunFault.RunFault}
-use Rattle.ffs_walk.specs.{Keepings.{replay_in, run_taken}, Windows.{KeepsBlocks, WindowHolds}}
-use Rattle.ffs_walk.specs.declared.{blocks.Blocks.Blocks, keeping.Keeping.Keeping, window.Window.Window}
-use Rattle.ffs_workspace.specs.{Found.WithPhase1, Ready.{IsReady, StaysReady}}
+use Rattle.ffs_report.specs.{Known.{ForBytes, IsContents}, declared.fault.RunFault.RunFault}
+use Rattle.ffs_walk.specs.{Keepings.{replay_in, run_taken}, Windows.WindowHolds}
+use Rattle.ffs_walk.specs.declared.{keeping.Keeping.Keeping, window.Window.Window}
+use Rattle.ffs_workspace.specs.{Found.WithPhase1, Ready.IsReady}
 use Rattle.ffs_volume.specs.{Blocks.Inodes.inodes_of, Encodings.Notes.cut_in}
 use Rattle.ffs_workspace.specs.declared.workspace.Workspace.{Workspace}
-use Rattle.ffs_finding.specs.Outcome.{Finds}
+use Rattle.ffs_finding.specs.{Outcome.{Finds, Moment}, declared.owner.Sought.Sought}
 
 -- ---- the map of a group
 -- the map of the group of the fragment f can be looked at: the volume has f, and its group block is there
@@ -60,41 +60,47 @@ pub record CanPrintStep (k : Keeping) (earlier : ℕ) : Type 0 where
   pub going : is_replay_open k.cut (replay_in k) ≡ true
   pub room : earlier + 1 < 2 ^ 64
 
--- a step was gone over: its line was printed, if it has one, and the replay goes on
-pub record PrintsStep {T E : Type 0} (v : Layout) (f x earlier : ℕ) (step : Step) (k k' : Keeping) (old new : Sink)
-    (result : Result T E) : Type 0 where
-  pub text : Prints old new (concat (step_lines_again v f x earlier k.cut (replay_in k) step)) result
+-- the bytes of the line of a step, if it has one
+abbrev pub step_text : Layout → Sought → (earlier : ℕ) → Keeping → Step → List ℕ
+step_text v s earlier k step = concat (step_lines_again v s.fragment s.number earlier k.cut (replay_in k) step)
+
+-- the replay goes on after a step
+pub record GoesOn (v : Layout) (step : Step) (k k' : Keeping) : Type 0 where
   pub next : replay_in k' ≡ replay_step_by_cut v k.cut (replay_in k) step
   pub cut : k'.cut ≡ k.cut
 
--- an inode with this cut was walked over: its lines were printed, and the image was read at most once for
--- each Run that is seen
-pub record WalksKept {T : Type 0} (v : Layout) (f x cut : ℕ) (inode : Inode) (d d' : Device) (count count' : ℕ)
-    (before after : Blocks) (old new : Sink) (result : Result T RunFault) : Type 0 where
-  pub found : Finds (IsContents d.contents) (λ b. lines_again v f x 0 cut fresh_replay (steps_of v inode b)) d d' old
-      new result
-  pub blocks : KeepsBlocks v d'.contents before after
-  pub reads : ForBytes (IsContents d.contents)
-      (λ b. count' ≤ count + replayed_runs v cut fresh_replay (steps_of v inode b))
+-- the lines of a fragment in an inode with this cut, whose blocks have these steps
+abbrev pub sought_lines : Layout → Sought → List Step → List (List ℕ)
+sought_lines v s steps = lines_again v s.fragment s.number 0 s.cut fresh_replay steps
+
+-- an inode was walked over: its lines were printed, and the image was read at most once for each Run that
+-- is seen
+pub record WalksKept {T : Type 0} (v : Layout) (s : Sought) (inode : Inode) (old new : Moment)
+    (result : Result T RunFault) : Type 0 where
+  pub found : Finds (IsContents old.image.contents) (λ b. sought_lines v s (steps_of v inode b)) old new result
+  pub reads : ForBytes (IsContents old.image.contents)
+      (λ b. new.reads ≤ old.reads + replayed_runs v s.cut fresh_replay (steps_of v inode b))
 
 -- the inode x can be looked at
 pub record CanLookAtInode (v : Layout) (d : Device) (w : Workspace) (x : ℕ) : Type 0 where
   pub ready : IsReady v d w
   pub number : x < inodes_of v
 
--- the inode x was looked at: its lines were printed, by its noted cut, and only windows have changed
-pub record LooksAtInode {T : Type 0} (v : Layout) (f x : ℕ) (d d' : Device) (count count' : ℕ) (w w' : Workspace)
-    (old new : Sink) (result : Result T RunFault) : Type 0 where
-  pub found : Finds (IsContents d.contents) (λ b. lines_again v f x 0
-      (cut_in (slice_index w.notes.items x)) fresh_replay
-      (steps_of v (inode_of v b x) b)) d d' old new result
-  pub stays : StaysReady v d' w w'
-  pub reads : ForBytes (IsContents d.contents) (λ b. count' ≤ count + 1
-      + replayed_runs v (cut_in (slice_index w.notes.items x)) fresh_replay (steps_of v (inode_of v b x) b))
+-- the fragment f and the inode x, with its cut as it is noted
+abbrev pub sought_in : (f x : ℕ) → Workspace → Sought
+sought_in f x w = record { fragment = f; number = x; cut = cut_in (slice_index w.notes.items x) }
+
+-- an inode was read and looked at: its lines were printed, with one read more
+pub record LooksAtInode {T : Type 0} (v : Layout) (s : Sought) (old new : Moment) (result : Result T RunFault) :
+    Type 0 where
+  pub found : Finds (IsContents old.image.contents) (λ b. sought_lines v s (steps_of v (inode_of v b s.number) b))
+      old new result
+  pub reads : ForBytes (IsContents old.image.contents) (λ b. new.reads ≤ old.reads + 1
+      + replayed_runs v s.cut fresh_replay (steps_of v (inode_of v b s.number) b))
 
 -- all inodes were looked at: their lines were printed, and the image was read at most once for each inode
 -- and once for each Run that is seen
-pub record LooksAtAll {T : Type 0} (v : Layout) (f : ℕ) (d d' : Device) (count count' : ℕ) (w : Workspace)
-    (old new : Sink) (result : Result T RunFault) : Type 0 where
-  pub found : Finds (WithPhase1 v d w) (λ b. keeper_lines v b f) d d' old new result
-  pub reads : ForBytes (WithPhase1 v d w) (λ b. count' ≤ count + inodes_of v + run_count v b)
+pub record LooksAtAll {T : Type 0} (v : Layout) (f : ℕ) (w : Workspace) (old new : Moment)
+    (result : Result T RunFault) : Type 0 where
+  pub found : Finds (WithPhase1 v old.image w) (λ b. keeper_lines v b f) old new result
+  pub reads : ForBytes (WithPhase1 v old.image w) (λ b. new.reads ≤ old.reads + inodes_of v + run_count v b)

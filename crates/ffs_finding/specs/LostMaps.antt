@@ -1,14 +1,14 @@
 -- The map of a group as the program has it, and what it prints of it.
 use Rattle.std.specs.Prelude.{◌≡◌, ◌≤◌, ◌<◌, ◌+◌, ◌-◌, ◌*◌, ℕ, Bool, not, ◌&&◌, List, [], ◌∷◌, codes, length, Result}
-use Rattle.std.specs.{Prelude.{IfOk, vec_len}, List.flat_map, Int.div_ceil}
+use Rattle.std.specs.{Prelude.vec_len, List.flat_map, Int.div_ceil}
 use Rattle.ffs_image.specs.Device.{Device}
 use Rattle.ffs_volume.specs.{declared.Layout.Layout, Groups.Records.{bit_at, group_block, group_numbers}}
 use Rattle.ffs_volume.specs.{Messages.Texts.number_text, Find.Lost.{lost_of_group, wrongly_free_of_group}}
 use Rattle.ffs_maps.specs.Bits.{bits_of}
 use Rattle.ffs_groups.specs.Free.{free_in}
-use Rattle.ffs_report.specs.{Known.{ForBytes, IsContents}, Sink.Sink, declared.fault.RunFault.RunFault}
+use Rattle.ffs_report.specs.{Known.IsContents, declared.fault.RunFault.RunFault}
 use Rattle.ffs_walk.specs.{Windows.WindowHolds, declared.window.Window.Window}
-use Rattle.ffs_finding.specs.{Fields.any_line, Outcome.Finds, declared.lost.{GroupMap.GroupMap, Wrong.Wrong}}
+use Rattle.ffs_finding.specs.{Outcome.{FindsAny, Moment}, declared.lost.{GroupMap.GroupMap, Wrong.Wrong}}
 use Rattle.ffs_finding.specs.declared.lost.Wrong.TheVariants.{Lost, MarkedFree}
 
 -- the word before the fragments of which a map says this wrongly
@@ -72,18 +72,19 @@ pub record CanSayGroup (v : Layout) (mapped c : ℕ) (block : List ℕ) : Type 0
   pub size : mapped ≡ v.size
   pub length_is : length block ≡ v.cgsize
 
+-- a window has room for a block, and holds what the image gives
+pub record IsBlockWindow (v : Layout) (d : Device) (w : Window) : Type 0 where
+  pub room : vec_len w.buffer ≡ v.bsize
+  pub holds : WindowHolds d.contents w
+
 -- the groups of a volume can be read into a window, and compared with a map of it
 pub record CanReadGroups (v : Layout) (d : Device) (mapped : ℕ) (w : Window) : Type 0 where
   pub volume : v.size * v.fsize ≤ d.size
   pub size : mapped ≡ v.size
-  pub room : vec_len w.buffer ≡ v.bsize
-  pub holds : WindowHolds d.contents w
+  pub window : IsBlockWindow v d w
 
--- what the maps of all groups say wrongly was printed; the answer is whether there is a line
-pub record FindsWrong (wrong : Wrong) (v : Layout) (free : ℕ → Bool) (d d' : Device) (before after : ℕ) (old new : Sink)
-    (w : Window) (result : Result Bool RunFault) : Type 0 where
-  pub found : Finds (IsContents d.contents) (lines_of_groups wrong v free) d d' old new result
-  pub any : IfOk result (λ any. ForBytes (IsContents d.contents) (λ b. any ≡ any_line (lines_of_groups wrong v free b)))
-  pub room : vec_len w.buffer ≡ v.bsize
-  pub holds : WindowHolds d'.contents w
-  pub reads : after ≤ before + v.ncg
+-- what the maps of all groups say wrongly was printed, with a read of each group block at most
+pub record FindsWrong (wrong : Wrong) (v : Layout) (free : ℕ → Bool) (old new : Moment)
+    (result : Result Bool RunFault) : Type 0 where
+  pub lines : FindsAny (IsContents old.image.contents) (lines_of_groups wrong v free) old new result
+  pub reads : new.reads ≤ old.reads + v.ncg

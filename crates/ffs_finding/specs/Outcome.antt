@@ -1,9 +1,21 @@
 -- What a command leaves of its image and of its output, by its answer. `all` are the lines that it
 -- prints of an image's bytes, and `knows` says which bytes these are.
-use Rattle.std.specs.{Prelude.{◌≡◌, ℕ, List, [], ◌++◌, Result, Ok, Err}, List.concat}
+use Rattle.std.specs.{Prelude.{◌≡◌, ℕ, Bool, true, false, List, [], ◌∷◌, ◌++◌, Result, Ok, Err, IfOk}, List.concat}
 use Rattle.ffs_image.specs.Device.{Device}
+use Rattle.ffs_image.specs.declared.image.Image as image
 use Rattle.ffs_report.specs.{Known.ForBytes, Sink.{Sink, Took, BrokeOff}, PhaseOutcome.ImageAfter}
+use Rattle.ffs_report.specs.declared.output.Output as output
 use Rattle.ffs_report.specs.declared.fault.RunFault.{RunFault, TheVariants.{Read, Out}}
+
+-- a moment of a command: the image, how often it was read by then, and the output
+pub record Moment : Type 0 where
+  pub image : Device
+  pub reads : ℕ
+  pub out : Sink
+
+-- the moment at which an image and an output are these
+abbrev pub moment : {I W : Type 0} → image.Ghosts I → output.Ghosts W → I → W → Moment
+moment I W image out = record { image = I.device image; reads = I.reads image; out = W.sink out }
 
 -- whole lines were printed, and with `rest`, those that are to come, they are `all`
 pub record PrintedTo (knows : List ℕ → Type 0) (rest all : List ℕ → List (List ℕ)) (old new : Sink) : Type 0 where
@@ -30,8 +42,19 @@ PrintsLines knows all old new (Ok x) = PrintedTo knows (λ bytes. []) all old ne
 PrintsLines knows all old new (Err (Read fault)) = PrintedSome knows all old new
 PrintsLines knows all old new (Err (Out fault)) = StoppedIn knows all old new
 
+-- there is a line
+abbrev pub any_line : List (List ℕ) → Bool
+any_line [] = false
+any_line (line ∷ lines) = true
+
 -- what a command leaves of its image, and what it prints
-pub record Finds {T : Type 0} (knows : List ℕ → Type 0) (all : List ℕ → List (List ℕ)) (device device' : Device)
-    (old new : Sink) (result : Result T RunFault) : Type 0 where
-  pub image : ImageAfter device device' result
-  pub text : PrintsLines knows all old new result
+pub record Finds {T : Type 0} (knows : List ℕ → Type 0) (all : List ℕ → List (List ℕ)) (old new : Moment)
+    (result : Result T RunFault) : Type 0 where
+  pub image : ImageAfter old.image new.image result
+  pub text : PrintsLines knows all old.out new.out result
+
+-- the same, and the answer is whether there is a line
+pub record FindsAny (knows : List ℕ → Type 0) (all : List ℕ → List (List ℕ)) (old new : Moment)
+    (result : Result Bool RunFault) : Type 0 where
+  pub found : Finds knows all old new result
+  pub any : IfOk result (λ any. ForBytes knows (λ bytes. any ≡ any_line (all bytes)))

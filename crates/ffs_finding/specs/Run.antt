@@ -1,13 +1,11 @@
 -- What `ffs_find` promises: what its words ask for, by which texts they are refused, and how a look at an image
 -- ends.
 use Rattle.std.specs.Prelude.{◌≡◌, ◌⊎◌, ℕ, List}
-use Rattle.ffs_image.specs.Device.{Device}
-use Rattle.ffs_report.specs.Sink.{Sink}
 use Rattle.ffs_memory.specs.{System.account_of, Account.unused, declared.system.SystemMemory.SystemMemory}
 use Rattle.ffs_check.specs.{CommandWords.LacksMemory, Program.Meaning, Refusals.IsTextFor}
 use Rattle.ffs_finding.specs.declared.request.Command.{Command}
 use Rattle.ffs_finding.specs.CommandWords.{HaveOperands, Operands, OperandsAskFor, find_program}
-use Rattle.ffs_finding.specs.{Whole.FindsCommand, WrongWords.{find_refusal_text, no_command_text}}
+use Rattle.ffs_finding.specs.{Outcome.Moment, Whole.FindsCommand, WrongWords.{find_refusal_text, no_command_text}}
 
 -- the words ask for a command, of the image of a name
 pub record AskForCommand (words : List (List ℕ)) (name : List ℕ) (command : Command) : Type 0 where
@@ -27,12 +25,11 @@ IsFindText words text =
     IsTextFor find_program find_refusal_text words text ⊎ (AskForNone words × (text ≡ no_command_text))
 
 -- a command was looked for in an image, with memory of the system of which nothing was granted before
-pub record IsLookedFor (name : List ℕ) (command : Command) (image image' : Device) (reads reads' : ℕ) (out out' : Sink)
-    (status : ℕ) : Type 0 where
+pub record IsLookedFor (command : Command) (old new : Moment) (status : ℕ) : Type 0 where
   pub memory : SystemMemory
   pub memory' : SystemMemory
   pub begun : account_of memory ≡ unused
-  pub found : FindsCommand command image image' (account_of memory) (account_of memory') reads reads' out out' status
+  pub found : FindsCommand command old new (account_of memory) (account_of memory') status
 
 -- a look for what a command asks for
 abbrev pub ffs_find : Meaning Command
@@ -40,5 +37,6 @@ ffs_find = record {
   asks = AskForCommand;
   refuses = IsFindText;
   lacks_memory = LacksMemory find_program;
-  looks = IsLookedFor;
+  looks = λ name command image image' reads reads' out out' status. IsLookedFor command
+      (record { image = image; reads = reads; out = out }) (record { image = image'; reads = reads'; out = out' }) status;
 }

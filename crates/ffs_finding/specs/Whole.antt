@@ -8,14 +8,14 @@ use Rattle.ffs_volume.specs.{Messages.Texts.text_of, Report.{Opening.fault_line,
 use Rattle.ffs_volume.specs.{Report.Reads.sweep_reads, Find.{Copies.copies_lines, InodeText.inode_listing}}
 use Rattle.ffs_volume.specs.Find.{Fields.wrong_fields, Lost.lost_lines, Owner.lines_of_fragment}
 use Rattle.ffs_report.specs.{Known.{ForBytes, IsContents}, Sink.Sink, declared.fault.RunFault.TheVariants.{Read, Out}}
-use Rattle.ffs_memory.specs.Account.{Account, RefusedOneMore}
+use Rattle.ffs_memory.specs.Account.{Account, Granted, GaveUp, RefusedOneMore}
 use Rattle.ffs_check.specs.{Run.IsPrintedOrBrokeOff, Taken.{AsksMemory, Takes}}
 use Rattle.ffs_workspace.specs.Lengths.{held_of}
 use Rattle.ffs_layout.specs.Super.{ReadsSuper}
 use Rattle.ffs_finding.specs.declared.request.Search.{Search, TheVariants.{Inode, Fields, Lost, Owner}}
 use Rattle.ffs_finding.specs.declared.request.Command.{Command, TheVariants.{Copies, InVolume}}
 use Rattle.ffs_finding.specs.declared.find.FindFault.{FindFault, TheVariants.{Refused, Run, NoMemory}}
-use Rattle.ffs_finding.specs.{Outcome.{PrintedTo, PrintedSome, StoppedIn}, Fields.{WithSuper, any_line}}
+use Rattle.ffs_finding.specs.{Outcome.{Moment, PrintedTo, PrintedSome, StoppedIn, any_line}, Fields.WithSuper}
 use Rattle.ffs_finding.specs.Copies.{ReadsCopies}
 
 -- what a search prints of an image with this accepted superblock
@@ -58,19 +58,20 @@ command_status (InVolume sector search) image =
     status_by search (search_lines search sector image) (outcome image sector)
 
 -- a search printed its lines, and the answer is whether a defect was found
-abbrev pub SearchAnswers : Search → Option ℕ → Superblock → Device → Device → Account → Account → Sink → Sink
-    → Result Bool FindFault → Type 0
-SearchAnswers search sector s d d' held held' old new (Ok defect) =
-    (d' ≡ d) × PrintedTo (WithSuper d sector s) (λ b. []) (λ b. search_lines search sector b s) old new
-    × ForBytes (WithSuper d sector s)
+abbrev pub SearchAnswers : Search → Option ℕ → Superblock → Moment → Moment → Result Bool FindFault → Type 0
+SearchAnswers search sector s old new (Ok defect) =
+    (new.image ≡ old.image)
+    × PrintedTo (WithSuper old.image sector s) (λ b. []) (λ b. search_lines search sector b s) old.out new.out
+    × ForBytes (WithSuper old.image sector s)
     (λ b. defect ≡ (finds_defects search && any_line (search_lines search sector b s)))
-SearchAnswers search sector s d d' held held' old new (Err (Refused fault)) = ⊥
-SearchAnswers search sector s d d' held held' old new (Err (Run (Read fault))) =
-    Faulted d d' fault.sector × PrintedSome (WithSuper d sector s) (λ b. search_lines search sector b s) old new
-SearchAnswers search sector s d d' held held' old new (Err (Run (Out fault))) =
-    (d' ≡ d) × StoppedIn (WithSuper d sector s) (λ b. search_lines search sector b s) old new
-SearchAnswers search sector s d d' held held' old new (Err NoMemory) =
-    (d' ≡ d) × (new ≡ old) × RefusedOneMore held held'
+SearchAnswers search sector s old new (Err (Refused fault)) = ⊥
+SearchAnswers search sector s old new (Err (Run (Read fault))) =
+    Faulted old.image new.image fault.sector
+    × PrintedSome (WithSuper old.image sector s) (λ b. search_lines search sector b s) old.out new.out
+SearchAnswers search sector s old new (Err (Run (Out fault))) =
+    (new.image ≡ old.image)
+    × StoppedIn (WithSuper old.image sector s) (λ b. search_lines search sector b s) old.out new.out
+SearchAnswers search sector s old new (Err NoMemory) = (new.image ≡ old.image) × (new.out ≡ old.out)
 
 -- how often a search reads an image after the superblock, in a volume of this layout: `lost` for phase 1 and
 -- the block of each group twice, `owner` for phase 1 and a sweep over all inodes
@@ -80,21 +81,30 @@ search_reads Fields v = 1
 search_reads Lost v = scan_reads v + 2 * v.ncg
 search_reads (Owner fragment) v = scan_reads v + sweep_reads v
 
+-- a search in a volume with this accepted superblock: what it printed, and how often it read the image
+pub record Searches (search : Search) (sector : Option ℕ) (s : Superblock) (old new : Moment)
+    (result : Result Bool FindFault) : Type 0 where
+  pub answer : SearchAnswers search sector s old new result
+  pub reads : new.reads ≤ old.reads + search_reads search s.layout
+
+-- bytes of the memory were granted, or a request for them was refused, as the answer says
+abbrev pub IsGranted : (bytes : ℕ) → Account → Account → Result Bool FindFault → Type 0
+IsGranted bytes held held' (Ok defect) = Granted held held' bytes
+IsGranted bytes held held' (Err (Refused fault)) = Granted held held' bytes
+IsGranted bytes held held' (Err (Run fault)) = Granted held held' bytes
+IsGranted bytes held held' (Err NoMemory) = GaveUp held held' bytes
+
+-- nothing of the memory was asked for
+abbrev pub AsksNothing : Account → Account → Result Bool FindFault → Type 0
+AsksNothing held held' result = (held' ≡ held) × (result ≡ Err NoMemory → ⊥)
+
 -- what a search takes of the memory, in a volume of this layout: nothing, or what the workspace of a check
 -- holds
-abbrev pub TakesForSearch : Search → Layout → Account → Account → Type 0
-TakesForSearch (Inode number) v held held' = held' ≡ held
-TakesForSearch Fields v held held' = held' ≡ held
-TakesForSearch Lost v held held' = AsksMemory held held' (held_of v)
-TakesForSearch (Owner fragment) v held held' = AsksMemory held held' (held_of v)
-
--- a search in a volume with this accepted superblock: what it printed, what it took of the memory, and how
--- often it read the image
-pub record Searches (search : Search) (sector : Option ℕ) (s : Superblock) (d d' : Device) (held held' : Account)
-    (before after : ℕ) (old new : Sink) (result : Result Bool FindFault) : Type 0 where
-  pub answer : SearchAnswers search sector s d d' held held' old new result
-  pub memory : TakesForSearch search s.layout held held'
-  pub reads : after ≤ before + search_reads search s.layout
+abbrev pub TakesForSearch : Search → Layout → Account → Account → Result Bool FindFault → Type 0
+TakesForSearch (Inode number) v held held' result = AsksNothing held held' result
+TakesForSearch Fields v held held' result = AsksNothing held held' result
+TakesForSearch Lost v held held' result = IsGranted (held_of v) held held' result
+TakesForSearch (Owner fragment) v held held' result = IsGranted (held_of v) held held' result
 
 -- the line of a fault was printed, or the output failed in it, and the status is 8
 abbrev pub EndsByLine : Sink → Sink → List ℕ → ℕ → Type 0
@@ -118,51 +128,55 @@ IsRefusal Copies d d' fault = ⊥
 IsRefusal (InVolume sector search) d d' fault = ReadsSuper d d' sector (Err fault)
 
 -- what a command answers, before the line of a fault
-abbrev pub Answers : Command → Device → Device → Account → Account → Sink → Sink → Result Bool FindFault → Type 0
-Answers command d d' held held' old new (Ok defect) =
-    (d' ≡ d) × PrintedTo (IsContents d.contents) (λ b. []) (command_lines command) old new
-    × ForBytes (IsContents d.contents) (λ b. status_of_answer defect ≡ command_status command b)
-Answers command d d' held held' old new (Err (Refused fault)) = (new ≡ old) × IsRefusal command d d' fault
-Answers command d d' held held' old new (Err (Run (Read fault))) =
-    Faulted d d' fault.sector × PrintedSome (IsContents d.contents) (command_lines command) old new
-Answers command d d' held held' old new (Err (Run (Out fault))) =
-    (d' ≡ d) × StoppedIn (IsContents d.contents) (command_lines command) old new
-Answers command d d' held held' old new (Err NoMemory) = (d' ≡ d) × (new ≡ old) × RefusedOneMore held held'
+abbrev pub Answers : Command → Moment → Moment → Account → Account → Result Bool FindFault → Type 0
+Answers command old new held held' (Ok defect) =
+    (new.image ≡ old.image)
+    × PrintedTo (IsContents old.image.contents) (λ b. []) (command_lines command) old.out new.out
+    × ForBytes (IsContents old.image.contents) (λ b. status_of_answer defect ≡ command_status command b)
+Answers command old new held held' (Err (Refused fault)) =
+    (new.out ≡ old.out) × IsRefusal command old.image new.image fault
+Answers command old new held held' (Err (Run (Read fault))) =
+    Faulted old.image new.image fault.sector
+    × PrintedSome (IsContents old.image.contents) (command_lines command) old.out new.out
+Answers command old new held held' (Err (Run (Out fault))) =
+    (new.image ≡ old.image) × StoppedIn (IsContents old.image.contents) (command_lines command) old.out new.out
+Answers command old new held held' (Err NoMemory) =
+    (new.image ≡ old.image) × (new.out ≡ old.out) × RefusedOneMore held held'
 
 -- all lines were printed, and the status is that of the command
-pub record AllFound (command : Command) (d d' : Device) (old new : Sink) (status : ℕ) : Type 0 where
-  pub no_read_failed : d' ≡ d
-  pub printed : PrintedTo (IsContents d.contents) (λ b. []) (command_lines command) old new
-  pub status_is : ForBytes (IsContents d.contents) (λ b. status ≡ command_status command b)
+pub record AllFound (command : Command) (old new : Moment) (status : ℕ) : Type 0 where
+  pub no_read_failed : new.image ≡ old.image
+  pub printed : PrintedTo (IsContents old.image.contents) (λ b. []) (command_lines command) old.out new.out
+  pub status_is : ForBytes (IsContents old.image.contents) (λ b. status ≡ command_status command b)
 
 -- a read failed: whole lines were printed, and then the line that says so, perhaps a part of that
-pub record CutByRead (command : Command) (d d' : Device) (old new : Sink) (status : ℕ) : Type 0 where
+pub record CutByRead (command : Command) (old new : Moment) (status : ℕ) : Type 0 where
   pub sector : ℕ
-  pub faulted : Faulted d d' sector
+  pub faulted : Faulted old.image new.image sector
   pub between : Sink
-  pub printed : PrintedSome (IsContents d.contents) (command_lines command) old between
-  pub line : IsPrintedOrBrokeOff between new (text_of (cannot_read sector))
+  pub printed : PrintedSome (IsContents old.image.contents) (command_lines command) old.out between
+  pub line : IsPrintedOrBrokeOff between new.out (text_of (cannot_read sector))
   pub status_is : status ≡ 8
 
 -- the output failed among the lines, and nothing was printed after that
-pub record BrokeOffAmong (command : Command) (d d' : Device) (old new : Sink) (status : ℕ) : Type 0 where
-  pub no_read_failed : d' ≡ d
-  pub stopped : StoppedIn (IsContents d.contents) (command_lines command) old new
+pub record BrokeOffAmong (command : Command) (old new : Moment) (status : ℕ) : Type 0 where
+  pub no_read_failed : new.image ≡ old.image
+  pub stopped : StoppedIn (IsContents old.image.contents) (command_lines command) old.out new.out
   pub status_is : status ≡ 8
 
 -- the memory was refused before anything was printed, and the line that says so was printed, perhaps a
 -- part of it
-pub record MemoryLacked (d d' : Device) (held held' : Account) (old new : Sink) (status : ℕ) : Type 0 where
-  pub no_read_failed : d' ≡ d
+pub record MemoryLacked (old new : Moment) (held held' : Account) (status : ℕ) : Type 0 where
+  pub no_read_failed : new.image ≡ old.image
   pub refused : RefusedOneMore held held'
-  pub line : IsPrintedOrBrokeOff old new (text_of cannot_alloc)
+  pub line : IsPrintedOrBrokeOff old.out new.out (text_of cannot_alloc)
   pub status_is : status ≡ 8
 
 -- how a command ends on an image
-abbrev pub FindEnds : Command → Device → Device → Account → Account → Sink → Sink → ℕ → Type 0
-FindEnds command d d' held held' old new status =
-    AllFound command d d' old new status ⊎ (CutByRead command d d' old new status
-    ⊎ (BrokeOffAmong command d d' old new status ⊎ MemoryLacked d d' held held' old new status))
+abbrev pub FindEnds : Command → Moment → Moment → Account → Account → ℕ → Type 0
+FindEnds command old new held held' status =
+    AllFound command old new status ⊎ (CutByRead command old new status
+    ⊎ (BrokeOffAmong command old new status ⊎ MemoryLacked old new held held' status))
 
 -- what a command takes of the memory: `copies` a window, `lost` and `owner` the workspace of a check
 abbrev pub TakesMemory : Command → Device → Account → Account → Type 0
@@ -187,16 +201,15 @@ ReadsForCommand (InVolume sector search) d before after =
     (after ≤ before + opening_reads) ⊎ ReadsVolume search sector d before after
 
 -- a command was looked for, but for the line of a fault
-pub record Looks (command : Command) (d d' : Device) (held held' : Account) (before after : ℕ) (old new : Sink)
-    (result : Result Bool FindFault) : Type 0 where
-  pub answers : Answers command d d' held held' old new result
-  pub memory : TakesMemory command d held held'
-  pub reads : ReadsForCommand command d before after
+pub record Looks (command : Command) (old new : Moment) (held held' : Account) (result : Result Bool FindFault) :
+    Type 0 where
+  pub answers : Answers command old new held held' result
+  pub memory : TakesMemory command old.image held held'
+  pub reads : ReadsForCommand command old.image old.reads new.reads
 
 -- a command was looked for: what was printed and the status, what was taken of the memory, and how often
 -- the image was read
-pub record FindsCommand (command : Command) (d d' : Device) (held held' : Account) (before after : ℕ) (old new : Sink)
-    (status : ℕ) : Type 0 where
-  pub ends : FindEnds command d d' held held' old new status
-  pub memory : TakesMemory command d held held'
-  pub reads : ReadsForCommand command d before after
+pub record FindsCommand (command : Command) (old new : Moment) (held held' : Account) (status : ℕ) : Type 0 where
+  pub ends : FindEnds command old new held held' status
+  pub memory : TakesMemory command old.image held held'
+  pub reads : ReadsForCommand command old.image old.reads new.reads

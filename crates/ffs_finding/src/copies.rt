@@ -4,8 +4,8 @@ ghost use Rattle.ffs_volume.specs.{Disk.{Outcome.outcome, Numbers.u32_at as u32_
 ghost use Rattle.ffs_volume.specs.declared.{Order.TheVariants.Big, constants.TheConstants.FS_MAGIC};
 ghost use Rattle.ffs_volume.specs.Find.Copies.{copies_lines, copy_lines_of, copy_text, order_word, role_text};
 ghost use Rattle.ffs_report.specs.{Known.IsContents, Sink.Prints};
-ghost use Rattle.ffs_finding.specs.{Outcome.Finds, Copies.{CanLookAt, LooksForMagic, IsSectorsEnd, LooksAt}};
-ghost use Rattle.ffs_finding.specs.Copies.{ReadsCopies};
+ghost use Rattle.ffs_finding.specs.{Outcome.{Finds, moment}, Copies.{CanLookAt, IsSectorsEnd, LooksAt}};
+ghost use Rattle.ffs_finding.specs.Copies.{LooksForMagic, ReadsCopies, ReadsWindow};
 ghost use Rattle.ffs_walk.specs.Windows.{WindowHolds};
 
 use ffs_image::{Image, ImageFault};
@@ -94,8 +94,10 @@ fn is_magic(bytes: &[u8], place: usize) -> bool
 /// A read of the image that failed.
 fn has_magic<I: Image>(image: &mut I, window: &mut Window, sector: u32) -> Result<bool, ImageFault>
     requires { CanLookAt (I.device image.old) sector window.old }
-    ensures { LooksForMagic (I.device image.old) (I.device image.new) sector (I.reads image.old)
-        (I.reads image.new) window.old window.new result }
+    ensures answer { LooksForMagic (I.device image.old) (I.device image.new) sector window.new
+        result }
+    ensures reads { ReadsWindow (I.device image.old) sector window.old (I.reads image.old)
+        (I.reads image.new) }
 {
     let place = (u64::from(sector) + SECTORS_BEFORE_MAGIC) * DEV_BSIZE;
     let start = place / WINDOW_BYTES * WINDOW_BYTES;
@@ -112,8 +114,8 @@ fn find_copy<I: Image, W: Output>(
     out: &mut W,
 ) -> Result<(), RunFault>
     requires { CanLookAt (I.device image.old) sector window.old }
-    ensures { LooksAt (I.device image.old) (I.device image.new) sector (I.reads image.old)
-        (I.reads image.new) window.old window.new (W.sink out.old) (W.sink out.new) result }
+    ensures { LooksAt sector window.old window.new (moment I.Image W.Output image.old out.old)
+        (moment I.Image W.Output image.new out.new) result }
 {
     let found = has_magic(image, window, sector)?;
     if !found {
@@ -155,7 +157,8 @@ pub fn find_copies<I: Image, W: Output>(
     requires room { vec_len window.old.buffer ≡ 65536 }
     requires holds { WindowHolds (I.device image.old).contents window.old }
     ensures prints { Finds (IsContents (I.device image.old).contents) copies_lines
-        (I.device image.old) (I.device image.new) (W.sink out.old) (W.sink out.new) result }
+        (moment I.Image W.Output image.old out.old) (moment I.Image W.Output image.new out.new)
+        result }
     ensures reads { ReadsCopies (I.device image.old) (I.reads image.old) (I.reads image.new) }
 {
     for sector in 1..sectors_end(image.size()) {

@@ -1,13 +1,13 @@
 //! `fields`: fields of the superblock that a kernel computes with, and that a check doesn't look at.
-ghost use Rattle.std.specs.{Prelude.{◌≡◌, ◌+◌, ◌*◌, ◌^◌, ◌≤◌, ◌<◌, length, map, IfOk}, Int.{cast_signed, div_ceil}};
+ghost use Rattle.std.specs.{Prelude.{◌≡◌, ◌+◌, ◌*◌, ◌^◌, ◌≤◌, ◌<◌, length, map}, Int.{cast_signed, div_ceil}};
 ghost use Rattle.std.specs.Int.{w64};
 ghost use Rattle.ffs_volume.specs.Disk.{Numbers.u64_at as u64_in, Outcome.super_sector};
 ghost use Rattle.ffs_volume.specs.{declared.constants.TheConstants.DEV_BSIZE, Find.Fields.{exponent_of, field_32}};
 ghost use Rattle.ffs_volume.specs.Find.Fields.{field_lines, field_text, layout_fields, mask_of, total_64, total_fields};
 ghost use Rattle.ffs_volume.specs.Find.Fields.{wrong_fields};
 ghost use Rattle.ffs_layout.specs.Super.{superblock_in};
-ghost use Rattle.ffs_report.specs.{Known.ForBytes, Sink.Prints};
-ghost use Rattle.ffs_finding.specs.{Outcome.Finds, Fields.{PrintsWhether, WithSuper, any_line, field_of, wrong_lines}};
+ghost use Rattle.ffs_report.specs.Sink.{Prints};
+ghost use Rattle.ffs_finding.specs.{Outcome.{FindsAny, moment}, Fields.{PrintsWhether, WithSuper, field_of, wrong_lines}};
 
 use byteorder::{BigEndian, ByteOrder, LittleEndian};
 use ffs_image::Image;
@@ -185,12 +185,10 @@ pub fn find_wrong_fields<I: Image, W: Output>(
     superblock: &Super,
     out: &mut W,
 ) -> Result<bool, RunFault>
-    ensures prints { Finds (WithSuper (I.device image.old) sector (superblock_in superblock.now))
-        (λ bytes. wrong_fields (superblock_in superblock.now) bytes sector) (I.device image.old)
-        (I.device image.new) (W.sink out.old) (W.sink out.new) result }
-    ensures any { IfOk result (λ any. ForBytes
-        (WithSuper (I.device image.old) sector (superblock_in superblock.now))
-        (λ bytes. any ≡ any_line (wrong_fields (superblock_in superblock.now) bytes sector))) }
+    ensures prints { FindsAny (WithSuper (I.device image.old) sector (superblock_in superblock.now))
+        (λ bytes. wrong_fields (superblock_in superblock.now) bytes sector)
+        (moment I.Image W.Output image.old out.old) (moment I.Image W.Output image.new out.new)
+        result }
     ensures reads { I.reads image.new ≤ I.reads image.old + 1 }
 {
     let start = u64::from(sector.unwrap_or(SUPERBLOCK_SECTOR as u32)) * DEV_BSIZE;

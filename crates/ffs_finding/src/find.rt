@@ -3,7 +3,7 @@ ghost use Rattle.std.specs.Prelude.{◌≡◌, ◌+◌, ◌*◌, ◌≤◌, ℕ,
 ghost use Rattle.ffs_volume.specs.{Messages.Texts.text_of};
 ghost use Rattle.ffs_report.specs.{Lines.message_of, Sink.Prints};
 ghost use Rattle.ffs_layout.specs.Super.{superblock_in};
-ghost use Rattle.ffs_finding.specs.Whole.{EndsBy, FindsCommand, Looks, Searches, status_of_answer};
+ghost use Rattle.ffs_finding.specs.{Outcome.moment, Whole.{EndsBy, FindsCommand, Looks, Searches, TakesForSearch}};
 ghost use Rattle.ffs_finding.specs.declared.find.FindFault.TheVariants.{Run, NoMemory};
 ghost use Rattle.ffs_finding.specs.declared.request.Search.TheVariants.{Lost, Owner};
 ghost use Rattle.ffs_finding.specs.declared.request.Command.TheVariants.{Copies, InVolume};
@@ -88,9 +88,11 @@ fn look_for_lost<M: Memory, I: Image, W: Output>(
 ) -> Result<bool, FindFault>
     requires volume { superblock.now.geometry.layout.size * superblock.now.geometry.layout.fsize
         ≤ (I.device image.old).size }
-    ensures { (sector : Option ℕ) → Searches Lost sector (superblock_in superblock.now)
-        (I.device image.old) (I.device image.new) (M.account memory.old) (M.account memory.new)
-        (I.reads image.old) (I.reads image.new) (W.sink out.old) (W.sink out.new) result }
+    ensures answer { (sector : Option ℕ) → Searches Lost sector (superblock_in superblock.now)
+        (moment I.Image W.Output image.old out.old) (moment I.Image W.Output image.new out.new)
+        result }
+    ensures memory { TakesForSearch Lost superblock.now.geometry.layout (M.account memory.old)
+        (M.account memory.new) result }
 {
     let geometry = &superblock.geometry;
     let mut workspace = claimed_workspace(memory, image, geometry)?;
@@ -110,9 +112,11 @@ fn look_for_owner<M: Memory, I: Image, W: Output>(
 ) -> Result<bool, FindFault>
     requires volume { superblock.now.geometry.layout.size * superblock.now.geometry.layout.fsize
         ≤ (I.device image.old).size }
-    ensures { (sector : Option ℕ) → Searches (Owner fragment) sector (superblock_in superblock.now)
-        (I.device image.old) (I.device image.new) (M.account memory.old) (M.account memory.new)
-        (I.reads image.old) (I.reads image.new) (W.sink out.old) (W.sink out.new) result }
+    ensures answer { (sector : Option ℕ) → Searches (Owner fragment) sector
+        (superblock_in superblock.now) (moment I.Image W.Output image.old out.old)
+        (moment I.Image W.Output image.new out.new) result }
+    ensures memory { TakesForSearch (Owner fragment) superblock.now.geometry.layout
+        (M.account memory.old) (M.account memory.new) result }
 {
     let geometry = &superblock.geometry;
     let mut workspace = claimed_workspace(memory, image, geometry)?;
@@ -135,9 +139,11 @@ fn search<M: Memory, I: Image, W: Output>(
 ) -> Result<bool, FindFault>
     requires volume { superblock.now.geometry.layout.size * superblock.now.geometry.layout.fsize
         ≤ (I.device image.old).size }
-    ensures { Searches search sector (superblock_in superblock.now) (I.device image.old)
-        (I.device image.new) (M.account memory.old) (M.account memory.new) (I.reads image.old)
-        (I.reads image.new) (W.sink out.old) (W.sink out.new) result }
+    ensures answer { Searches search sector (superblock_in superblock.now)
+        (moment I.Image W.Output image.old out.old) (moment I.Image W.Output image.new out.new)
+        result }
+    ensures memory { TakesForSearch search superblock.now.geometry.layout (M.account memory.old)
+        (M.account memory.new) result }
 {
     match search {
         Search::Inode { number } => {
@@ -158,9 +164,9 @@ fn look_in_volume<M: Memory, I: Image, W: Output>(
     what: Search,
     out: &mut W,
 ) -> Result<bool, FindFault>
-    ensures { Looks (InVolume sector what) (I.device image.old) (I.device image.new)
-        (M.account memory.old) (M.account memory.new) (I.reads image.old) (I.reads image.new)
-        (W.sink out.old) (W.sink out.new) result }
+    ensures { Looks (InVolume sector what) (moment I.Image W.Output image.old out.old)
+        (moment I.Image W.Output image.new out.new) (M.account memory.old) (M.account memory.new)
+        result }
 {
     match read_super(image, sector) {
         Ok(superblock) => search(memory, image, sector, what, &superblock, out),
@@ -174,9 +180,9 @@ fn look_for_copies<M: Memory, I: Image, W: Output>(
     image: &mut I,
     out: &mut W,
 ) -> Result<bool, FindFault>
-    ensures { Looks Copies (I.device image.old) (I.device image.new) (M.account memory.old)
-        (M.account memory.new) (I.reads image.old) (I.reads image.new) (W.sink out.old)
-        (W.sink out.new) result }
+    ensures { Looks Copies (moment I.Image W.Output image.old out.old)
+        (moment I.Image W.Output image.new out.new) (M.account memory.old) (M.account memory.new)
+        result }
 {
     let mut window = Window::over(memory.bytes(WINDOW_BYTES as usize)?);
     find_copies(image, &mut window, out)?;
@@ -193,9 +199,9 @@ fn look<M: Memory, I: Image, W: Output>(
     command: Command,
     out: &mut W,
 ) -> Result<bool, FindFault>
-    ensures { Looks command (I.device image.old) (I.device image.new) (M.account memory.old)
-        (M.account memory.new) (I.reads image.old) (I.reads image.new) (W.sink out.old)
-        (W.sink out.new) result }
+    ensures { Looks command (moment I.Image W.Output image.old out.old)
+        (moment I.Image W.Output image.new out.new) (M.account memory.old) (M.account memory.new)
+        result }
 {
     match command {
         Command::Copies => look_for_copies(memory, image, out),
@@ -214,9 +220,9 @@ pub fn find_in<M: Memory, I: Image, W: Output>(
     command: Command,
     out: &mut W,
 ) -> u8
-    ensures { FindsCommand command (I.device image.old) (I.device image.new)
-        (M.account memory.old) (M.account memory.new) (I.reads image.old) (I.reads image.new)
-        (W.sink out.old) (W.sink out.new) result }
+    ensures { FindsCommand command (moment I.Image W.Output image.old out.old)
+        (moment I.Image W.Output image.new out.new) (M.account memory.old) (M.account memory.new)
+        result }
 {
     let answer = look(memory, image, command, out);
     end(answer, out)

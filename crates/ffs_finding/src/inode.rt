@@ -5,7 +5,7 @@ ghost use Rattle.ffs_volume.specs.{Blocks.Inodes.{type_of, inode_from_bytes}, Fi
 ghost use Rattle.ffs_volume.specs.Find.InodeText.{numbers_text, address_text, link_text, addresses_text, bytes_text};
 ghost use Rattle.ffs_volume.specs.Find.InodeText.{inode_listing, class_word, fifteen_text};
 ghost use Rattle.ffs_report.specs.{Known.IsContents, Sink.Prints};
-ghost use Rattle.ffs_finding.specs.Outcome.{Finds};
+ghost use Rattle.ffs_finding.specs.Outcome.{Finds, moment};
 
 use ffs_image::Image;
 use ffs_layout::{Geometry, decode_inode};
@@ -189,8 +189,9 @@ pub fn find_inode<I: Image, W: Output>(
     requires volume { geometry.now.layout.size * geometry.now.layout.fsize
         ≤ (I.device image.old).size }
     ensures prints { Finds (IsContents (I.device image.old).contents)
-        (λ bytes. inode_listing geometry.now.layout bytes number) (I.device image.old)
-        (I.device image.new) (W.sink out.old) (W.sink out.new) result }
+        (λ bytes. inode_listing geometry.now.layout bytes number)
+        (moment I.Image W.Output image.old out.old) (moment I.Image W.Output image.new out.new)
+        result }
     ensures reads { I.reads image.new ≤ I.reads image.old + 1 }
 {
     if number >= geometry.layout.ncg * geometry.layout.ipg {

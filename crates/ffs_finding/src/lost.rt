@@ -1,11 +1,11 @@
 //! `lost`: where the maps of the groups say otherwise than what is used.
-ghost use Rattle.std.specs.Prelude.{◌≡◌, ◌+◌, ◌*◌, ◌≤◌, IfOk};
+ghost use Rattle.std.specs.Prelude.{◌≡◌, ◌+◌, ◌*◌, ◌≤◌};
 ghost use Rattle.ffs_maps.specs.Bits.{bits_of};
 ghost use Rattle.ffs_groups.specs.Free.{free_in};
-ghost use Rattle.ffs_report.specs.{Known.ForBytes, Sink.Prints};
+ghost use Rattle.ffs_report.specs.Sink.{Prints};
 ghost use Rattle.ffs_workspace.specs.{Found.WithPhase1, Ready.IsReady};
-ghost use Rattle.ffs_finding.specs.{Fields.{PrintsWhether, any_line}, Outcome.Finds, LostMaps.{CanReadGroups, word_of}};
-ghost use Rattle.ffs_finding.specs.LostMaps.{CanSayGroup, FindsWrong, IsGroupMap, IsInMap, IsInMapOrEnd, IsNext};
+ghost use Rattle.ffs_finding.specs.{Fields.PrintsWhether, Outcome.{FindsAny, moment}, LostMaps.{CanReadGroups, word_of}};
+ghost use Rattle.ffs_finding.specs.LostMaps.{CanSayGroup, FindsWrong, IsBlockWindow, IsGroupMap, IsInMap, IsInMapOrEnd, IsNext};
 ghost use Rattle.ffs_finding.specs.LostMaps.{is_wrong_at, lines_of_group, no_map_lines};
 ghost use Rattle.ffs_volume.specs.Find.Lost.{lost_lines, range_text, stretch_lines};
 
@@ -171,10 +171,11 @@ fn find_wrong<I: Image, W: Output>(
     out: &mut W,
 ) -> Result<bool, RunFault>
     requires { CanReadGroups geometry.now.layout (I.device image.old) used.now.size window.old }
-    ensures { FindsWrong wrong geometry.now.layout
-        (free_in (bits_of used.now) geometry.now.layout.size) (I.device image.old)
-        (I.device image.new) (I.reads image.old) (I.reads image.new) (W.sink out.old)
-        (W.sink out.new) window.new result }
+    ensures prints { FindsWrong wrong geometry.now.layout
+        (free_in (bits_of used.now) geometry.now.layout.size)
+        (moment I.Image W.Output image.old out.old) (moment I.Image W.Output image.new out.new)
+        result }
+    ensures window { IsBlockWindow geometry.now.layout (I.device image.new) window.new }
 {
     let mut any = false;
     for group in 0..geometry.layout.ncg {
@@ -199,12 +200,9 @@ pub fn find_lost<I: Image, W: Output>(
     out: &mut W,
 ) -> Result<bool, RunFault>
     requires ready { IsReady geometry.now.layout (I.device image.old) workspace.old }
-    ensures prints { Finds (WithPhase1 geometry.now.layout (I.device image.old) workspace.old)
-        (λ bytes. lost_lines geometry.now.layout bytes) (I.device image.old) (I.device image.new)
-        (W.sink out.old) (W.sink out.new) result }
-    ensures any { IfOk result (λ any. ForBytes
-        (WithPhase1 geometry.now.layout (I.device image.old) workspace.old)
-        (λ bytes. any ≡ any_line (lost_lines geometry.now.layout bytes))) }
+    ensures prints { FindsAny (WithPhase1 geometry.now.layout (I.device image.old) workspace.old)
+        (λ bytes. lost_lines geometry.now.layout bytes) (moment I.Image W.Output image.old out.old)
+        (moment I.Image W.Output image.new out.new) result }
     ensures reads { I.reads image.new ≤ I.reads image.old + 2 * geometry.now.layout.ncg }
 {
     let Workspace { used, windows, .. } = workspace;

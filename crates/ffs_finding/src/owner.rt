@@ -5,12 +5,12 @@ ghost use Rattle.ffs_volume.specs.{Encodings.Replay.is_replay_open, Report.Reads
 ghost use Rattle.ffs_volume.specs.Find.Owner.{indirect_in, keeper_text, keeper_lines, map_text, lines_of_fragment};
 ghost use Rattle.ffs_volume.specs.Find.Owner.{part_text, reserved_text, table_text};
 ghost use Rattle.ffs_report.specs.{Known.IsContents, Sink.Prints};
-ghost use Rattle.ffs_walk.specs.{Keepings.replay_in, Windows.CanWalk};
-ghost use Rattle.ffs_workspace.specs.{Found.WithPhase1, Ready.IsReady};
+ghost use Rattle.ffs_walk.specs.{Keepings.replay_in, Windows.{CanWalk, KeepsBlocks}};
+ghost use Rattle.ffs_workspace.specs.{Found.WithPhase1, Ready.{IsReady, StaysReady}};
 ghost use Rattle.ffs_volume.specs.Encodings.Notes.{cut_in};
-ghost use Rattle.ffs_finding.specs.{Outcome.Finds, Keepers.{CanLookAtInode, CanPrintMap, CanPrintStep, CanReadMap}};
-ghost use Rattle.ffs_finding.specs.Keepers.{map_lines, LooksAtInode, LooksAtAll, PrintsStep, WalksKept, is_in_run};
-ghost use Rattle.ffs_finding.specs.Keepers.{run_text};
+ghost use Rattle.ffs_finding.specs.{Outcome.{Finds, moment}, Keepers.{CanLookAtInode, CanPrintMap, CanPrintStep, CanReadMap}};
+ghost use Rattle.ffs_finding.specs.Keepers.{GoesOn, LooksAtInode, LooksAtAll, WalksKept, is_in_run};
+ghost use Rattle.ffs_finding.specs.Keepers.{map_lines, run_text, sought_in, step_text};
 
 use crate::group_map::{is_marked_free, map_place};
 use ffs_image::{Image, LimitedImage};
@@ -128,8 +128,9 @@ fn print_unclaimed<I: Image, W: Output>(
 ) -> Result<(), RunFault>
     requires { CanReadMap geometry.now.layout (I.device image.old) window.old fragment }
     ensures prints { Finds (IsContents (I.device image.old).contents)
-        (λ bytes. map_lines geometry.now.layout bytes fragment) (I.device image.old)
-        (I.device image.new) (W.sink out.old) (W.sink out.new) result }
+        (λ bytes. map_lines geometry.now.layout bytes fragment)
+        (moment I.Image W.Output image.old out.old) (moment I.Image W.Output image.new out.new)
+        result }
     ensures reads { I.reads image.new ≤ I.reads image.old + 1 }
 {
     let place = geometry.group_place(fragment / geometry.layout.fpg);
@@ -189,8 +190,9 @@ fn print_step<W: Output>(
     step: Step,
 ) -> Result<(), OutFault>
     requires { CanPrintStep keeping.old earlier }
-    ensures { PrintsStep geometry.now.layout sought.fragment sought.number earlier step keeping.old
-        keeping.new (W.sink out.old) (W.sink out.new) result }
+    ensures prints { Prints (W.sink out.old) (W.sink out.new)
+        (step_text geometry.now.layout sought earlier keeping.old step) result }
+    ensures goes_on { GoesOn geometry.now.layout step keeping.old keeping.new }
 {
     match step {
         Step::Run { start, len, block } => {
@@ -221,9 +223,11 @@ fn print_kept<I: Image, W: Output>(
     out: &mut W,
 ) -> Result<(), RunFault>
     requires { CanWalk geometry.now.layout (I.device image.old) blocks.old }
-    ensures { WalksKept geometry.now.layout sought.fragment sought.number sought.cut inode.now
-        (I.device image.old) (I.device image.new) (I.reads image.old) (I.reads image.new)
-        blocks.old blocks.new (W.sink out.old) (W.sink out.new) result }
+    ensures walks { WalksKept geometry.now.layout sought inode.now
+        (moment I.Image W.Output image.old out.old) (moment I.Image W.Output image.new out.new)
+        result }
+    ensures blocks { KeepsBlocks geometry.now.layout (I.device image.new).contents blocks.old
+        blocks.new }
 {
     let mut keeping = Keeping::start(sought.cut);
     let mut walk = Walk::start(geometry, inode);
@@ -251,9 +255,11 @@ fn print_keeper<I: Image, W: Output>(
     out: &mut W,
 ) -> Result<(), RunFault>
     requires { CanLookAtInode geometry.now.layout (I.device image.old) workspace.old number }
-    ensures { LooksAtInode geometry.now.layout fragment number (I.device image.old)
-        (I.device image.new) (I.reads image.old) (I.reads image.new) workspace.old workspace.new
-        (W.sink out.old) (W.sink out.new) result }
+    ensures looks { LooksAtInode geometry.now.layout (sought_in fragment number workspace.old)
+        (moment I.Image W.Output image.old out.old) (moment I.Image W.Output image.new out.new)
+        result }
+    ensures stays { StaysReady geometry.now.layout (I.device image.new) workspace.old
+        workspace.new }
 {
     let windows = &mut workspace.windows;
     let inode = windows.table.inode(geometry, number, image)?;
@@ -285,8 +291,8 @@ fn print_keepers<I: Image, W: Output>(
     out: &mut W,
 ) -> Result<(), RunFault>
     requires { IsReady geometry.now.layout (I.device image.old) workspace.old }
-    ensures { LooksAtAll geometry.now.layout fragment (I.device image.old) (I.device image.new)
-        (I.reads image.old) (I.reads image.new) workspace.old (W.sink out.old) (W.sink out.new)
+    ensures { LooksAtAll geometry.now.layout fragment workspace.old
+        (moment I.Image W.Output image.old out.old) (moment I.Image W.Output image.new out.new)
         result }
 {
     for number in 2..geometry.layout.ncg * geometry.layout.ipg {
@@ -309,8 +315,9 @@ fn find_keepers<I: Image, W: Output>(
 ) -> Result<(), RunFault>
     requires { IsReady geometry.now.layout (I.device image.old) workspace.old }
     ensures prints { Finds (WithPhase1 geometry.now.layout (I.device image.old) workspace.old)
-        (λ bytes. keeper_lines geometry.now.layout bytes fragment) (I.device image.old)
-        (I.device image.new) (W.sink out.old) (W.sink out.new) result }
+        (λ bytes. keeper_lines geometry.now.layout bytes fragment)
+        (moment I.Image W.Output image.old out.old) (moment I.Image W.Output image.new out.new)
+        result }
     ensures reads { I.reads image.new ≤ I.reads image.old + sweep_reads geometry.now.layout }
 {
     let mut limited = LimitedImage::new(image, sweep_reads(geometry));
@@ -340,8 +347,9 @@ pub fn find_owner<I: Image, W: Output>(
 ) -> Result<(), RunFault>
     requires ready { IsReady geometry.now.layout (I.device image.old) workspace.old }
     ensures prints { Finds (WithPhase1 geometry.now.layout (I.device image.old) workspace.old)
-        (λ bytes. lines_of_fragment geometry.now.layout bytes fragment) (I.device image.old)
-        (I.device image.new) (W.sink out.old) (W.sink out.new) result }
+        (λ bytes. lines_of_fragment geometry.now.layout bytes fragment)
+        (moment I.Image W.Output image.old out.old) (moment I.Image W.Output image.new out.new)
+        result }
     ensures reads { I.reads image.new ≤ I.reads image.old + sweep_reads geometry.now.layout }
 {
     if fragment >= geometry.layout.size {

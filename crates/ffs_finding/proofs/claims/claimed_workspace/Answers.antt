@@ -1,17 +1,31 @@
+use Rattle.std.proofs.{Common.{arith, refl}, lemmas.Result.err_from_is_err_and}
+use Rattle.ffs_finding.proofs.Claiming.{failed}
 use Rattle.ffs_finding.proofs.claims.claimed_workspace.Goals as goal
 
-pub claim_all-requires : goal.claim_all-requires
-claim_all-requires g c = record {
-  made = c.in_ok-workspace.ensures.new.made;
-  volume = c.requires;
-  windows = c.in_ok-workspace.ensures.new.windows _;
+pub phase1-requires : goal.phase1-requires
+phase1-requires g c = record {
+  ready = record {
+    made = c.in_ok-workspace.ensures.new.made;
+    volume = c.requires;
+    windows = c.in_ok-workspace.ensures.new.windows _;
+  };
 }
 
-pub returns : goal.returns
-returns g c =
+pub returns-in_err-phase1-clause-takes : goal.returns-in_err-phase1-clause-takes
+returns-in_err-phase1-clause-takes g c =
+    let p = err_from_is_err_and c.from_residual-in_err-phase1.result c.from_residual-in_err-phase1.ensures.1 in
+    let did = c.in_err-phase1.ensures.prints in
+    rw (p.1, p.2) (failed _ _ _ _ _ c.args.geometry.now.layout _ _ _ _ c.in_err-phase1.field-0.0
+    c.new.ensures refl did.text did.image c.in_ok-workspace.ensures.asks)
+
+pub returns-in_err-phase1-clause-reads : goal.returns-in_err-phase1-clause-reads
+returns-in_err-phase1-clause-reads g c = let p = c.phase1.ensures.reads in omega (arith, p.reads, p.runs)
+
+pub returns-clause-takes : goal.returns-clause-takes
+returns-clause-takes g c =
     let new = c.in_ok-workspace.ensures in
-    let done = c.in_ok-claim_all.ensures in
-    record {
-      answer = (done.image, new.asks, done.ready, λ b k. done.holds b (k, new.new.fresh));
-      reads = done.reads;
-    }
+    let did = c.in_ok-phase1.ensures in
+    (did.prints.image, new.asks, did.ready, λ b k. (did.leaves b (k, new.new.fresh)).holds)
+
+pub returns-clause-reads : goal.returns-clause-reads
+returns-clause-reads g c = let p = c.phase1.ensures.reads in omega (arith, p.reads, p.runs)

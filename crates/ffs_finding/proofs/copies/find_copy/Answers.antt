@@ -7,18 +7,20 @@ use Rattle.ffs_finding.proofs.copies.find_copy.Goals as goal
 pub returns-in_err-found : goal.returns-in_err-found
 returns-in_err-found g c =
     let p = err_from_is_err_and c.from_residual.result c.from_residual.ensures.1 in
-    let e = c.in_err-found.ensures in
+    let e = c.in_err-found.ensures.answer in
+    let read = c.has_magic.ensures.reads in
     rw (p.1, p.2) (record {
       found = record { image = e.read; text = reads_first };
       window = record { at = search rules; room = e.window.room; holds = e.window.holds };
-      counted = λ b k. omega (arith, e.counted);
-      again = λ at b k. omega (arith, e.again at);
-      any = omega (arith, e.counted);
+      counted = λ b k. omega (arith, read.counted);
+      again = λ at b k. omega (arith, read.again at);
+      any = omega (arith, read.counted);
     })
 
 pub returns-then-not-found : goal.returns-then-not-found
 returns-then-not-found g c =
-    let e = c.in_ok-found.ensures in
+    let e = c.in_ok-found.ensures.answer in
+    let read = c.has_magic.ensures.reads in
     record {
       found = record {
         image = e.read;
@@ -27,16 +29,17 @@ returns-then-not-found g c =
             (λ b k. sym c.if-not-found.true ∙ e.answer b k));
       };
       window = record { at = e.window.at; room = e.window.room; holds = e.window.holds };
-      counted = λ b k. omega (arith, e.counted);
-      again = λ at b k. omega (arith, e.again at);
-      any = omega (arith, e.counted);
+      counted = λ b k. omega (arith, read.counted);
+      again = λ at b k. omega (arith, read.again at);
+      any = omega (arith, read.counted);
     }
 
 pub returns-in_err-print_copy-in-Ok : goal.returns-in_err-print_copy-in-Ok
 returns-in_err-print_copy-in-Ok g c =
     let p = err_from_is_err_and c.from_residual-in_err-print_copy-in-Ok.result
     c.from_residual-in_err-print_copy-in-Ok.ensures.1 in
-    let e = c.in_ok-found.ensures in
+    let e = c.in_ok-found.ensures.answer in
+    let read = c.has_magic.ensures.reads in
     let s = same_super (g.I.Image.device c.args.image.now) _ _ _ _ e.read c.in-Ok.ensures.answer in
     let two = two_reads (g.I.Image.device c.args.image.now) c.args.sector
     (λ b k. sym c.if-not-found.false ∙ e.answer b k) in
@@ -53,14 +56,15 @@ returns-in_err-print_copy-in-Ok g c =
             (g.I.Image.device c.read_super.new.image) c.has_magic.new.window e.read
             (ap (λ x. x.contents) s.0) e.window.holds;
       };
-      counted = λ b k. let reads = two b k in omega (arith, e.counted, reads, c.in-Ok.ensures.reads);
-      again = λ at b k. let reads = two b k in omega (arith, e.again at, reads, c.in-Ok.ensures.reads);
-      any = omega (arith, e.counted, c.in-Ok.ensures.reads);
+      counted = λ b k. let reads = two b k in omega (arith, read.counted, reads, c.in-Ok.ensures.reads);
+      again = λ at b k. let reads = two b k in omega (arith, read.again at, reads, c.in-Ok.ensures.reads);
+      any = omega (arith, read.counted, c.in-Ok.ensures.reads);
     })
 
 pub returns-in_ok-print_copy-in-Ok : goal.returns-in_ok-print_copy-in-Ok
 returns-in_ok-print_copy-in-Ok g c =
-    let e = c.in_ok-found.ensures in
+    let e = c.in_ok-found.ensures.answer in
+    let read = c.has_magic.ensures.reads in
     let s = same_super (g.I.Image.device c.args.image.now) _ _ _ _ e.read c.in-Ok.ensures.answer in
     let two = two_reads (g.I.Image.device c.args.image.now) c.args.sector
     (λ b k. sym c.if-not-found.false ∙ e.answer b k) in
@@ -77,14 +81,15 @@ returns-in_ok-print_copy-in-Ok g c =
             (g.I.Image.device c.read_super.new.image) c.has_magic.new.window e.read
             (ap (λ x. x.contents) s.0) e.window.holds;
       };
-      counted = λ b k. let reads = two b k in omega (arith, e.counted, reads, c.in-Ok.ensures.reads);
-      again = λ at b k. let reads = two b k in omega (arith, e.again at, reads, c.in-Ok.ensures.reads);
-      any = omega (arith, e.counted, c.in-Ok.ensures.reads);
+      counted = λ b k. let reads = two b k in omega (arith, read.counted, reads, c.in-Ok.ensures.reads);
+      again = λ at b k. let reads = two b k in omega (arith, read.again at, reads, c.in-Ok.ensures.reads);
+      any = omega (arith, read.counted, c.in-Ok.ensures.reads);
     }
 
 pub returns-in-Err-CannotRead : goal.returns-in-Err-CannotRead
 returns-in-Err-CannotRead g c =
-    let e = c.in_ok-found.ensures in
+    let e = c.in_ok-found.ensures.answer in
+    let read = c.has_magic.ensures.reads in
     let failed = unread (g.I.Image.device c.args.image.now) _ _ c.args.sector c.in-Err-CannotRead.sector e.read
     c.requires.inside
     (c.in-Err-CannotRead.ensures.inside_or_unreadable c.in-Err-CannotRead.sector c.in-Err-CannotRead.field-0-is) in
@@ -98,7 +103,7 @@ returns-in-Err-CannotRead g c =
         holds = holds_on (g.I.Image.device c.args.image.now) (g.I.Image.device c.has_magic.new.image)
             (g.I.Image.device c.read_super.new.image) c.has_magic.new.window e.read failed.contents e.window.holds;
       };
-      counted = λ b k. let reads = two b k in omega (arith, e.counted, reads, c.in-Err-CannotRead.ensures.reads);
-      again = λ at b k. let reads = two b k in omega (arith, e.again at, reads, c.in-Err-CannotRead.ensures.reads);
-      any = omega (arith, e.counted, c.in-Err-CannotRead.ensures.reads);
+      counted = λ b k. let reads = two b k in omega (arith, read.counted, reads, c.in-Err-CannotRead.ensures.reads);
+      again = λ at b k. let reads = two b k in omega (arith, read.again at, reads, c.in-Err-CannotRead.ensures.reads);
+      any = omega (arith, read.counted, c.in-Err-CannotRead.ensures.reads);
     }

@@ -2,8 +2,8 @@ use Rattle.std.proofs.Common.{◌∙◌, arith}
 use Rattle.ffs_finding.proofs.Magics.{magic_there}
 use Rattle.ffs_finding.proofs.copies.has_magic.Goals as goal
 
-pub returns : goal.returns
-returns g c =
+pub returns-clause-answer : goal.returns-clause-answer
+returns-clause-answer g c =
     let fills = c.in_ok-fill.ensures.fills in
     record {
       answer = λ b k. c.is_magic.ensures
@@ -15,6 +15,12 @@ returns g c =
         room = omega (arith, fills.room, c.requires.room);
         holds = fills.holds;
       };
+    }
+
+pub returns-clause-reads : goal.returns-clause-reads
+returns-clause-reads g c =
+    let fills = c.in_ok-fill.ensures.fills in
+    record {
       counted = fills.counted;
       again = λ h. fills.again (omega (arith, h.place)) (omega (arith, h.length));
     }

@@ -25,27 +25,23 @@ returns-then-size-start-clause-prints g c =
     let at : c.from-start.result ≡ super_sector c.args.sector =
     c.from-start.ensures ∙ c.unwrap_or.ensures ∙ default_sector c.args.sector in
     record {
-      image = refl;
-      text = record {
-        lines = [];
-        right = λ b k. absurd (too_short d b c.args.sector (superblock_in c.args.superblock.now) _
-            (g.met.I.Image.sized c.args.image.now) k.0 at (omega (arith, c.size.ensures)) k.1);
-        took = took_nil _;
+      found = record {
+        image = refl;
+        text = record {
+          lines = [];
+          right = λ b k. absurd (too_short d b c.args.sector (superblock_in c.args.superblock.now) _
+              (g.met.I.Image.sized c.args.image.now) k.0 at (omega (arith, c.size.ensures)) k.1);
+          took = took_nil _;
+        };
       };
+      any = λ b k. absurd (too_short d b c.args.sector (superblock_in c.args.superblock.now) _
+          (g.met.I.Image.sized c.args.image.now) k.0 at (omega (arith, c.size.ensures)) k.1);
     }
-
-pub returns-then-size-start-clause-any : goal.returns-then-size-start-clause-any
-returns-then-size-start-clause-any g c = λ b k.
-    let d = g.I.Image.device c.args.image.now in
-    let at : c.from-start.result ≡ super_sector c.args.sector =
-    c.from-start.ensures ∙ c.unwrap_or.ensures ∙ default_sector c.args.sector in
-    absurd (too_short d b c.args.sector (superblock_in c.args.superblock.now) _
-    (g.met.I.Image.sized c.args.image.now) k.0 at (omega (arith, c.size.ensures)) k.1)
 
 pub returns-in_err-read_at-clause-prints : goal.returns-in_err-read_at-clause-prints
 returns-in_err-read_at-clause-prints g c =
     let p = err_from_is_err_and c.from_residual.result c.from_residual.ensures.1 in
-    rw (p.1, p.2) (record { image = search rules; text = reads_first })
+    rw (p.1, p.2) (record { found = record { image = search rules; text = reads_first }; any = tt })
 
 pub returns-in_err-of_layout-clause-prints : goal.returns-in_err-of_layout-clause-prints
 returns-in_err-of_layout-clause-prints g c =
@@ -54,15 +50,18 @@ returns-in_err-of_layout-clause-prints g c =
     let s = superblock_in c.args.superblock.now in
     let p = err_from_is_err_and c.from_residual-in_err-of_layout.result c.from_residual-in_err-of_layout.ensures.1 in
     rw (p.1, p.2) (record {
-      image = search rules;
-      text = record {
-        lines = wrong_lines (c.from-start.result * 512) c.layout_fields.result;
-        rest = λ b. flat_map (field_lines (c.from-start.result * 512)) (total_fields s c.read_at.new.buf);
-        right = λ b k. first s c.args.sector c.from-start.result at b c.read_at.new.buf
-            (super_read c.from-start.result c.args.sector b c.read_at.new.buf at (search rules)
-            (c.in_ok-read_at.ensures.bytes.bytes b k.0)) c.layout_fields.result c.layout_fields.ensures;
-        broke_off = c.in_err-of_layout.ensures.text;
+      found = record {
+        image = search rules;
+        text = record {
+          lines = wrong_lines (c.from-start.result * 512) c.layout_fields.result;
+          rest = λ b. flat_map (field_lines (c.from-start.result * 512)) (total_fields s c.read_at.new.buf);
+          right = λ b k. first s c.args.sector c.from-start.result at b c.read_at.new.buf
+              (super_read c.from-start.result c.args.sector b c.read_at.new.buf at (search rules)
+              (c.in_ok-read_at.ensures.bytes.bytes b k.0)) c.layout_fields.result c.layout_fields.ensures;
+          broke_off = c.in_err-of_layout.ensures.text;
+        };
       };
+      any = tt;
     })
 
 pub returns-in_err-of_totals-clause-prints : goal.returns-in_err-of_totals-clause-prints
@@ -74,18 +73,21 @@ returns-in_err-of_totals-clause-prints g c =
     let xs = wrong_lines (c.from-start.result * 512) c.layout_fields.result in
     let ys = wrong_lines (c.from-start.result * 512) c.total_fields.result in
     rw (p.1, p.2) (record {
-      image = search rules;
-      text = record {
-        lines = xs ++ ys;
-        rest = λ b. [];
-        right = λ b k. append-nil _ ∙ both s c.args.sector c.from-start.result at b c.read_at.new.buf
-            (super_read c.from-start.result c.args.sector b c.read_at.new.buf at (search rules)
-            (c.in_ok-read_at.ensures.bytes.bytes b k.0)) c.layout_fields.result c.layout_fields.ensures
-            c.total_fields.result c.total_fields.ensures;
-        broke_off = rw (concat-append xs ys)
-            (broke_off_after _ _ _ (concat xs) (concat ys) c.in_ok-of_layout.ensures.text
-            c.in_err-of_totals.ensures.text);
+      found = record {
+        image = search rules;
+        text = record {
+          lines = xs ++ ys;
+          rest = λ b. [];
+          right = λ b k. append-nil _ ∙ both s c.args.sector c.from-start.result at b c.read_at.new.buf
+              (super_read c.from-start.result c.args.sector b c.read_at.new.buf at (search rules)
+              (c.in_ok-read_at.ensures.bytes.bytes b k.0)) c.layout_fields.result c.layout_fields.ensures
+              c.total_fields.result c.total_fields.ensures;
+          broke_off = rw (concat-append xs ys)
+              (broke_off_after _ _ _ (concat xs) (concat ys) c.in_ok-of_layout.ensures.text
+              c.in_err-of_totals.ensures.text);
+        };
       };
+      any = tt;
     })
 
 pub returns-clause-prints : goal.returns-clause-prints
@@ -96,25 +98,23 @@ returns-clause-prints g c =
     let xs = wrong_lines (c.from-start.result * 512) c.layout_fields.result in
     let ys = wrong_lines (c.from-start.result * 512) c.total_fields.result in
     record {
-      image = search rules;
-      text = record {
-        lines = xs ++ ys;
-        right = λ b k. append-nil _ ∙ both s c.args.sector c.from-start.result at b c.read_at.new.buf
-            (super_read c.from-start.result c.args.sector b c.read_at.new.buf at (search rules)
-            (c.in_ok-read_at.ensures.bytes.bytes b k.0)) c.layout_fields.result c.layout_fields.ensures
-            c.total_fields.result c.total_fields.ensures;
-        took = rw (concat-append xs ys)
-            (took_then _ _ _ (concat xs) (concat ys) c.in_ok-of_layout.ensures.text
-            c.in_ok-of_totals.ensures.text);
+      found = record {
+        image = search rules;
+        text = record {
+          lines = xs ++ ys;
+          right = λ b k. append-nil _ ∙ both s c.args.sector c.from-start.result at b c.read_at.new.buf
+              (super_read c.from-start.result c.args.sector b c.read_at.new.buf at (search rules)
+              (c.in_ok-read_at.ensures.bytes.bytes b k.0)) c.layout_fields.result c.layout_fields.ensures
+              c.total_fields.result c.total_fields.ensures;
+          took = rw (concat-append xs ys)
+              (took_then _ _ _ (concat xs) (concat ys) c.in_ok-of_layout.ensures.text
+              c.in_ok-of_totals.ensures.text);
+        };
       };
+      any = λ b k.
+          let e = any (superblock_in c.args.superblock.now) c.args.sector c.from-start.result at b c.read_at.new.buf
+          (super_read c.from-start.result c.args.sector b c.read_at.new.buf at (search rules)
+          (c.in_ok-read_at.ensures.bytes.bytes b k.0)) c.layout_fields.result c.layout_fields.ensures
+          c.total_fields.result c.total_fields.ensures in
+          either _ _ _ _ _ c.in_ok-of_layout.ensures.any c.in_ok-of_totals.ensures.any e;
     }
-
-pub returns-clause-any : goal.returns-clause-any
-returns-clause-any g c = λ b k.
-    let at : c.from-start.result ≡ super_sector c.args.sector =
-    c.from-start.ensures ∙ c.unwrap_or.ensures ∙ default_sector c.args.sector in
-    let e = any (superblock_in c.args.superblock.now) c.args.sector c.from-start.result at b c.read_at.new.buf
-    (super_read c.from-start.result c.args.sector b c.read_at.new.buf at (search rules)
-    (c.in_ok-read_at.ensures.bytes.bytes b k.0)) c.layout_fields.result c.layout_fields.ensures
-    c.total_fields.result c.total_fields.ensures in
-    either _ _ _ _ _ c.in_ok-of_layout.ensures.any c.in_ok-of_totals.ensures.any e

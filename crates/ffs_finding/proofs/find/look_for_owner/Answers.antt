@@ -1,26 +1,59 @@
-use Rattle.std.proofs.lemmas.Result.{err_from_is_err_and}
+use Rattle.std.proofs.{Common.{Ok, arith, refl}, lemmas.Result.err_from_is_err_and}
 use Rattle.ffs_layout.specs.Super.{superblock_in}
-use Rattle.ffs_finding.proofs.OwnerSearch.{claims_failed, owner_failed, owner_found}
+use Rattle.ffs_finding.{specs.{declared.request.Search.TheVariants.Owner, Outcome.moment}, proofs.ClaimSearches.lines_answer}
+use Rattle.ffs_finding.proofs.ClaimSearches.{fault_answer, refused_answer, refused_memory}
 use Rattle.ffs_finding.proofs.find.look_for_owner.Goals as goal
 
-pub returns-in_err-workspace : goal.returns-in_err-workspace
-returns-in_err-workspace g c = λ sector.
+pub returns-in_err-workspace-clause-answer : goal.returns-in_err-workspace-clause-answer
+returns-in_err-workspace-clause-answer g c = λ sector.
     let p = err_from_is_err_and c.from_residual.result c.from_residual.ensures.1 in
-    rw (p.1, p.2) (claims_failed c.args.fragment sector (superblock_in c.args.superblock.now) _ _ _ _ _ _ _ _
-    c.in_err-workspace.ensures)
+    let made = c.in_err-workspace.ensures in
+    rw (p.1, p.2) (record {
+      answer = refused_answer (Owner c.args.fragment) sector (superblock_in c.args.superblock.now)
+          (moment g.I.Image g.W.Output c.args.image.now c.args.out.now) _
+          (g.I.Image.reads c.claimed_workspace.new.image) _ _ c.in_err-workspace.field-0.0 made.takes;
+      reads = omega (arith, made.reads);
+    })
 
-pub returns-in_err-find_owner : goal.returns-in_err-find_owner
-returns-in_err-find_owner g c = λ sector.
-    let from = c.from_residual-in_err-find_owner in
-    let p = err_from_is_err_and from.result from.ensures.1 in
-    let claims = c.in_ok-workspace.ensures in
-    rw (p.1, p.2) (owner_failed c.args.fragment sector (superblock_in c.args.superblock.now) _ _ _
-    (g.I.Image.device c.claimed_workspace.new.image) c.in_ok-workspace.workspace claims.answer.0 claims.answer.3
-    _ _ _ _ _ _ _ claims.answer.1 claims.reads c.find_owner.ensures.reads c.in_err-find_owner.ensures.prints)
+pub returns-in_err-workspace-clause-memory : goal.returns-in_err-workspace-clause-memory
+returns-in_err-workspace-clause-memory g c =
+    let p = err_from_is_err_and c.from_residual.result c.from_residual.ensures.1 in
+    rw (p.1, p.2) (refused_memory c.args.superblock.now.geometry.layout _ _ _ _ c.in_err-workspace.field-0.0
+    c.in_err-workspace.ensures.takes)
 
-pub returns : goal.returns
-returns g c = λ sector.
-    let claims = c.in_ok-workspace.ensures in
-    owner_found c.args.fragment sector (superblock_in c.args.superblock.now) _ _ _
-    (g.I.Image.device c.claimed_workspace.new.image) c.in_ok-workspace.workspace claims.answer.0 claims.answer.3
-    _ _ _ _ _ _ claims.answer.1 claims.reads c.find_owner.ensures.reads c.in_ok-find_owner.ensures.prints
+pub returns-in_err-find_owner-clause-answer : goal.returns-in_err-find_owner-clause-answer
+returns-in_err-find_owner-clause-answer g c = λ sector.
+    let p = err_from_is_err_and c.from_residual-in_err-find_owner.result c.from_residual-in_err-find_owner.ensures.1 in
+    let made = c.in_ok-workspace.ensures in
+    let found = rw (made.takes.0) at c.in_err-find_owner.ensures.prints in
+    rw (p.1, p.2) (record {
+      answer = fault_answer (Owner c.args.fragment) sector (superblock_in c.args.superblock.now)
+          (moment g.I.Image g.W.Output c.args.image.now c.args.out.now)
+          (moment g.I.Image g.W.Output c.find_owner.new.image c.find_owner.new.out) c.in_ok-workspace.workspace
+          made.takes.3 (Unit {0}) c.in_err-find_owner.field-0.0 found.image found.text;
+      reads = omega (arith, made.reads, c.find_owner.ensures.reads);
+    })
+
+pub returns-in_err-find_owner-clause-memory : goal.returns-in_err-find_owner-clause-memory
+returns-in_err-find_owner-clause-memory g c =
+    let p = err_from_is_err_and c.from_residual-in_err-find_owner.result c.from_residual-in_err-find_owner.ensures.1 in
+    rw (p.1, p.2) (c.in_ok-workspace.ensures.takes.1)
+
+pub returns-clause-answer : goal.returns-clause-answer
+returns-clause-answer g c = λ sector.
+    let made = c.in_ok-workspace.ensures in
+    let found = rw (made.takes.0) at c.in_ok-find_owner.ensures.prints in
+    record {
+      answer = (
+        found.image,
+        lines_answer (Owner c.args.fragment) sector (superblock_in c.args.superblock.now)
+            (moment g.I.Image g.W.Output c.args.image.now c.args.out.now)
+            (moment g.I.Image g.W.Output c.find_owner.new.image c.find_owner.new.out) c.in_ok-workspace.workspace
+            made.takes.3 (Unit {0}) (Ok tt) found.text,
+        λ b k. refl,
+      );
+      reads = omega (arith, made.reads, c.find_owner.ensures.reads);
+    }
+
+pub returns-clause-memory : goal.returns-clause-memory
+returns-clause-memory g c = c.in_ok-workspace.ensures.takes.1

@@ -1,5 +1,6 @@
 use Rattle.std.proofs.Common.{refl, sym}
 use Rattle.ffs_layout.specs.Super.{superblock_in}
+use Rattle.ffs_finding.specs.Outcome.{moment}
 use Rattle.ffs_finding.proofs.{CopySteps.same_super, Searching.looked}
 use Rattle.ffs_finding.proofs.find.look_in_volume.Goals as goal
 
@@ -9,5 +10,7 @@ returns-in-Ok g c =
     let super = c.in-Ok.superblock in
     let opened = c.in-Ok.ensures in
     let read = same_super d d _ c.args.sector (superblock_in super) refl opened.answer in
-    looked c.args.what c.args.sector (superblock_in super) d _ _ _ _ _ _ _ _ _ (λ b k. sym (read.1 b k))
-    super.geometry.sound opened.inside_or_unreadable opened.reads (rw (read.0) at c.search.ensures)
+    looked c.args.what c.args.sector (superblock_in super) d _ _ _
+    (moment g.I.Image g.W.Output c.search.new.image c.search.new.out) _ _ _ (λ b k. sym (read.1 b k))
+    super.geometry.sound opened.inside_or_unreadable opened.reads (rw (read.0) at c.search.ensures.answer)
+    c.search.ensures.memory

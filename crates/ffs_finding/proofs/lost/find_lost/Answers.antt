@@ -5,36 +5,40 @@ use Rattle.ffs_finding.proofs.lost.find_lost.Goals as goal
 pub returns-in_err-lost-clause-prints : goal.returns-in_err-lost-clause-prints
 returns-in_err-lost-clause-prints g c =
     let p = err_from_is_err_and c.from_residual.result c.from_residual.ensures.1 in
-    let e = c.in_err-lost.ensures.found in
+    let e = c.in_err-lost.ensures.prints.lines.found in
     rw (p.1, p.2) (record {
-      image = e.image;
-      text = fault_in_first c.args.geometry.now.layout (g.I.Image.device c.args.image.now) c.args.workspace.now
-          _ _ _ e.text;
+      found = record {
+        image = e.image;
+        text = fault_in_first c.args.geometry.now.layout (g.I.Image.device c.args.image.now) c.args.workspace.now
+            _ _ _ e.text;
+      };
+      any = tt;
     })
 
 pub returns-in_err-free-clause-prints : goal.returns-in_err-free-clause-prints
 returns-in_err-free-clause-prints g c =
     let p = err_from_is_err_and c.from_residual-in_err-free.result c.from_residual-in_err-free.ensures.1 in
-    let one = c.in_ok-lost.ensures.found in
-    let two = rw (one.image) at c.in_err-free.ensures in
+    let one = c.in_ok-lost.ensures.prints.lines.found in
+    let two = rw (one.image) at c.in_err-free.ensures.prints.lines.found in
     rw (p.1, p.2) (record {
-      image = two.found.image;
-      text = fault_in_second c.args.geometry.now.layout (g.I.Image.device c.args.image.now) c.args.workspace.now _ _ _
-          c.in_ok-lost.lost _ one.text two.found.text;
+      found = record {
+        image = two.image;
+        text = fault_in_second c.args.geometry.now.layout (g.I.Image.device c.args.image.now) c.args.workspace.now
+            _ _ _ c.in_ok-lost.lost _ one.text two.text;
+      };
+      any = tt;
     })
 
 pub returns-clause-prints : goal.returns-clause-prints
 returns-clause-prints g c =
-    let one = c.in_ok-lost.ensures.found in
-    let two = rw (one.image) at c.in_ok-free.ensures in
+    let d = g.I.Image.device c.args.image.now in
+    let one = c.in_ok-lost.ensures.prints.lines in
+    let two = rw (one.found.image) at c.in_ok-free.ensures.prints.lines in
     record {
-      image = two.found.image;
-      text = printed_both c.args.geometry.now.layout (g.I.Image.device c.args.image.now) c.args.workspace.now _ _ _
-          c.in_ok-lost.lost c.in_ok-free.free c.in_ok-free.free one.text two.found.text;
+      found = record {
+        image = two.found.image;
+        text = printed_both c.args.geometry.now.layout d c.args.workspace.now _ _ _ c.in_ok-lost.lost c.in_ok-free.free
+            c.in_ok-free.free one.found.text two.found.text;
+      };
+      any = any_of_both c.args.geometry.now.layout d c.args.workspace.now _ _ one.any two.any;
     }
-
-pub returns-clause-any : goal.returns-clause-any
-returns-clause-any g c =
-    let one = c.in_ok-lost.ensures in
-    let two = rw (one.found.image) at c.in_ok-free.ensures in
-    any_of_both c.args.geometry.now.layout (g.I.Image.device c.args.image.now) c.args.workspace.now _ _ one.any two.any

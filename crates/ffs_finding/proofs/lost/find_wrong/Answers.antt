@@ -22,8 +22,7 @@ loop-group-init g c =
     let v = c.args.geometry.now.layout in
     record {
       device = refl;
-      room = c.requires.room;
-      holds = c.requires.holds;
+      window = c.requires.window;
       reads = omega arith;
       any_is = λ b k. refl;
       printed = record {
@@ -39,13 +38,13 @@ fill-requires g c =
     let inv = c.loop-group.invariant in
     let fits = block_inside v c.loop-group.group c.args.geometry.now.sound c.loop-group-test.true in
     rw (inv.device) (record {
-      room = omega (arith, inv.room, c.args.geometry.now.sound.parts.cgsize_high);
+      room = omega (arith, inv.window.room, c.args.geometry.now.sound.parts.cgsize_high);
       inside = omega (arith, fits, c.requires.volume, c.group_place-place.ensures);
-      holds = inv.holds;
+      holds = inv.window.holds;
     })
 
-pub returns-in_err-found : goal.returns-in_err-found
-returns-in_err-found g c =
+pub returns-in_err-found-clause-prints : goal.returns-in_err-found-clause-prints
+returns-in_err-found-clause-prints g c =
     let v = c.args.geometry.now.layout in
     let free = free_in (bits_of c.args.used.now) v.size in
     let inv = c.loop-group.invariant in
@@ -53,16 +52,16 @@ returns-in_err-found g c =
     let fill = rw (inv.device) at c.in_ok-fill.ensures.fills in
     let p = err_from_is_err_and c.from_residual-in_err-found.result c.from_residual-in_err-found.ensures.1 in
     rw (p.1, p.2) (record {
-      found = record {
-        image = fill.read;
-        text = stops _ _ (from_group c.args.wrong v free (n + 1)) _ _ _ _ _ inv.printed
-            (λ b k. groups_next c.args.wrong v free b _ n c.loop-group-test.true
-            (held v _ c.fill.new.self _ _ n c.bytes.ensures fill.bytes c.group_place-place.ensures b k))
-            c.in_err-found.ensures.text;
+      lines = record {
+        found = record {
+          image = fill.read;
+          text = stops _ _ (from_group c.args.wrong v free (n + 1)) _ _ _ _ _ inv.printed
+              (λ b k. groups_next c.args.wrong v free b _ n c.loop-group-test.true
+              (held v _ c.fill.new.self _ _ n c.bytes.ensures fill.bytes c.group_place-place.ensures b k))
+              c.in_err-found.ensures.text;
+        };
+        any = tt;
       };
-      any = tt;
-      room = fill.room ∙ inv.room;
-      holds = fill.holds;
       reads = omega (arith, inv.reads, fill.counted, c.loop-group-test.true);
     })
 
@@ -75,8 +74,7 @@ loop-group-preserved g c =
     let fill = rw (inv.device) at c.in_ok-fill.ensures.fills in
     record {
       device = fill.read;
-      room = fill.room ∙ inv.room;
-      holds = rw (fill.read) at fill.holds;
+      window = record { room = fill.room ∙ inv.window.room; holds = rw (fill.read) at fill.holds };
       reads = omega (arith, inv.reads, fill.counted);
       any_is = λ b k. any_next c.args.wrong v free b _ n _ _
           (held v _ c.fill.new.self _ _ n c.bytes.ensures fill.bytes c.group_place-place.ensures b k)
@@ -87,20 +85,23 @@ loop-group-preserved g c =
           c.in_ok-found.ensures.text;
     }
 
-pub returns : goal.returns
-returns g c =
+pub returns-clause-prints : goal.returns-clause-prints
+returns-clause-prints g c =
     let v = c.args.geometry.now.layout in
     let free = free_in (bits_of c.args.used.now) v.size in
     let inv = c.loop-group.invariant in
     let n = c.loop-group.group in
     record {
-      found = record {
-        image = inv.device;
-        text = printed_all _ _ _ _ _ inv.printed (λ b k. groups_end c.args.wrong v free b n c.loop-group-test.false);
+      lines = record {
+        found = record {
+          image = inv.device;
+          text = printed_all _ _ _ _ _ inv.printed (λ b k. groups_end c.args.wrong v free b n c.loop-group-test.false);
+        };
+        any = λ b k. any_all c.args.wrong v free b n _ c.loop-group.auto.group-end c.loop-group-test.false
+            (inv.any_is b k);
       };
-      any = λ b k. any_all c.args.wrong v free b n _ c.loop-group.auto.group-end c.loop-group-test.false
-          (inv.any_is b k);
-      room = inv.room;
-      holds = rw (inv.device) inv.holds;
       reads = omega (arith, inv.reads, c.loop-group.auto.group-end);
     }
+
+pub returns-clause-window : goal.returns-clause-window
+returns-clause-window g c = let inv = c.loop-group.invariant in rw (inv.device) (inv.window)

@@ -1,9 +1,8 @@
-use Rattle.std.{proofs.Common.{◌≡◌, ◌≤◌, ◌+◌}, specs.Prelude.vec_len}
+use Rattle.std.proofs.Common.{◌≡◌, ◌≤◌, ◌+◌}
 use Rattle.ffs_maps.specs.Bits.{bits_of}
 use Rattle.ffs_groups.specs.Free.{free_in}
 use Rattle.ffs_report.specs.Known.{ForBytes, IsContents}
-use Rattle.ffs_walk.specs.Windows.{WindowHolds}
-use Rattle.ffs_finding.specs.{Fields.any_line, LostMaps.lines_of_groups, Outcome.PrintedTo}
+use Rattle.ffs_finding.specs.{LostMaps.{IsBlockWindow, lines_of_groups}, Outcome.{PrintedTo, any_line}}
 use Rattle.ffs_finding.proofs.LostGroups.{before_group, from_group}
 use Rattle.ffs_finding.proofs.lost.find_wrong.Given as goal
 
@@ -14,8 +13,7 @@ invariant-loop-group g l =
     let free = free_in (bits_of l.used) v.size in
     record {
       device : g.I.Image.device l.image ≡ d;
-      room : vec_len l.window.buffer ≡ v.bsize;
-      holds : WindowHolds d.contents l.window;
+      window : IsBlockWindow v d l.window;
       reads : g.I.Image.reads l.image ≤ g.I.Image.reads l.fn.image + l.group;
       any_is : ForBytes (IsContents d.contents) (λ b. l.any ≡ any_line (before_group l.wrong v free l.group b));
       printed : PrintedTo (IsContents d.contents) (from_group l.wrong v free l.group) (lines_of_groups l.wrong v free)

@@ -24,10 +24,10 @@ returns-then-is_spent-clause-prints g c =
     let back = search_served (rw c.new-limited.ensures.device at c.print_keepers-found.ensures.found)
     c.is_spent.ensures.below in
     let image = c.image-1.given.1 back.same_image ∙ c.drop-limited.ensures.below in
-    rw image (back.refused tt c.if-is_spent.true (fits g at))
+    rw image (back.refused tt c.if-is_spent.true (fits g at) _ _)
 
 pub returns-clause-prints : goal.returns-clause-prints
 returns-clause-prints g c =
     let back = search_served (rw c.new-limited.ensures.device at c.print_keepers-found.ensures.found)
     c.is_spent.ensures.below in
-    rw (c.image-2-1.given.1 back.same_image ∙ c.drop-limited-2.ensures.below) (back.answered c.if-is_spent.false)
+    rw (c.image-2-1.given.1 back.same_image ∙ c.drop-limited-2.ensures.below) (back.answered c.if-is_spent.false _ _)

@@ -7,7 +7,7 @@ use Rattle.ffs_volume.specs.Find.Owner.{reserved_text}
 use Rattle.ffs_maps.specs.Bits.{bits_of}
 use Rattle.ffs_report.specs.Known.{ForBytes}
 use Rattle.ffs_workspace.specs.{Found.WithPhase1, declared.workspace.Workspace.Workspace}
-use Rattle.ffs_finding.{specs.{Fields.any_line, Keepers.map_lines}, proofs.{Claimed.claimed_is, Keepers.same_lines}}
+use Rattle.ffs_finding.{specs.{Outcome.any_line, Keepers.map_lines}, proofs.{Claimed.claimed_is, Keepers.same_lines}}
 use Rattle.ffs_finding.proofs.Printing.{knowing, one, one_broken, prints_all, prints_none, stops_all}
 use Rattle.ffs_finding.proofs.owner.find_owner.Goals as goal
 

@@ -34,7 +34,7 @@ returns-in_err-print_keeper g c =
     let n = c.loop-number.number in
     let f = c.args.fragment in
     let sound = c.args.geometry.now.sound in
-    let did = c.in_err-print_keeper.ensures in
+    let did = c.in_err-print_keeper.ensures.looks in
     let fault : Result (Unit {0}) RunFault = Err c.in_err-print_keeper.field-0.0 in
     let high : n < inodes_of v = omega arith in
     rw (p.1, p.2) (record {
@@ -105,11 +105,11 @@ loop-number-preserved g c =
     let n = c.loop-number.number in
     let f = c.args.fragment in
     let sound = c.args.geometry.now.sound in
-    let did = c.in_ok-print_keeper.ensures in
+    let did = c.in_ok-print_keeper.ensures.looks in
     let high : n < inodes_of v = omega arith in
     record {
       device = did.found.image ∙ inv.device;
-      stays = stays_then inv.stays did.stays;
+      stays = stays_then inv.stays c.print_keeper.ensures.stays;
       low = omega (arith, inv.low);
       high = λ h. omega (arith, high);
       paid = λ b k. omega (arith, inv.paid b k, inv.low, found_reads inv.device inv.stays sound inv.low high did b k);

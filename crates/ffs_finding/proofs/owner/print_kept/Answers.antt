@@ -36,8 +36,8 @@ pub next-requires : goal.next-requires
 next-requires g c =
     walk_on c.loop-step.invariant.geometry c.loop-step.invariant.device c.requires c.loop-step.invariant.blocks
 
-pub returns-in_err-step : goal.returns-in_err-step
-returns-in_err-step g c =
+pub returns-in_err-step-clause-walks : goal.returns-in_err-step-clause-walks
+returns-in_err-step-clause-walks g c =
     let p = err_from_is_err_and c.from_residual.result c.from_residual.ensures.1 in
     let inv = c.loop-step.invariant in
     let reads = c.in_err-step.ensures.counted inv.held in
@@ -46,7 +46,6 @@ returns-in_err-step g c =
         image = rw inv.device at c.in_err-step.ensures.leaves.read;
         text = record { rest = _; printed = inv.printed };
       };
-      blocks = blocks_then inv.geometry inv.blocks c.next.ensures.leaves.kept;
       reads = λ b k. omega (arith, inv.paid b k, reads.most);
     })
 
@@ -55,8 +54,8 @@ print_step-requires g c =
     let inv = c.loop-step.invariant in
     record { going = rw inv.cut inv.going; room = omega (arith, inv.room) }
 
-pub returns-in_err-print_step : goal.returns-in_err-print_step
-returns-in_err-print_step g c =
+pub returns-in_err-print_step-clause-walks : goal.returns-in_err-print_step-clause-walks
+returns-in_err-print_step-clause-walks g c =
     let from = c.from_residual-in_err-print_step in
     let p = err_from_is_err_and from.result from.ensures.1 in
     let inv = c.loop-step.invariant in
@@ -76,9 +75,8 @@ returns-in_err-print_step g c =
             _ _ _ inv.printed
             (λ b k. lines_next v c.args.sought.fragment c.args.sought.number c.loop-step.earlier _ c.args.sought.cut r _
             c.in-Some.step _ _ (next b k) refl refl)
-            (rw inv.cut at c.in_err-print_step.ensures.text);
+            (rw inv.cut at c.in_err-print_step.ensures.prints);
       };
-      blocks = blocks_then inv.geometry inv.blocks c.next.ensures.leaves.kept;
       reads = λ b k. omega (arith, inv.paid b k, reads.most);
     })
 
@@ -93,9 +91,9 @@ loop-step-preserved g c =
     let cut = c.args.sought.cut in
     let r = replay_in c.loop-step.keeping in
     let r' = replay_in c.print_step.new.keeping in
-    let did = c.in_ok-print_step.ensures in
+    let did = c.print_step.ensures.goes_on in
     let now = rw inv.cut at did.next in
-    let text = rw inv.cut at did.text in
+    let text = rw inv.cut at c.in_ok-print_step.ensures.prints in
     let next = rw (inv.device, c.in-Some.is) at c.in_ok-step.ensures.step.steps in
     let falls = rw c.in-Some.is at c.in_ok-step.ensures.step.falls in
     let reads = c.in_ok-step.ensures.counted inv.held in
@@ -127,9 +125,9 @@ loop-step-preserved-then-matches g c =
     let cut = c.args.sought.cut in
     let r = replay_in c.loop-step.keeping in
     let r' = replay_in c.print_step.new.keeping in
-    let did = c.in_ok-print_step.ensures in
+    let did = c.print_step.ensures.goes_on in
     let now = rw inv.cut at did.next in
-    let text = rw inv.cut at did.text in
+    let text = rw inv.cut at c.in_ok-print_step.ensures.prints in
     let next = rw (inv.device, c.in-Some.is) at c.in_ok-step.ensures.step.steps in
     let falls = rw c.in-Some.is at c.in_ok-step.ensures.step.falls in
     let reads = c.in_ok-step.ensures.counted inv.held in
@@ -175,16 +173,16 @@ loop-step-preserved-then-matches g c =
           text;
     }
 
-pub returns-then-not-is_replay_open : goal.returns-then-not-is_replay_open
-returns-then-not-is_replay_open g c =
+pub returns-then-not-is_replay_open-clause-walks : goal.returns-then-not-is_replay_open-clause-walks
+returns-then-not-is_replay_open-clause-walks g c =
     let inv = c.loop-step.invariant in
     let v = c.args.geometry.now.layout in
     let cut = c.args.sought.cut in
     let r = replay_in c.loop-step.keeping in
     let r' = replay_in c.print_step.new.keeping in
-    let did = c.in_ok-print_step.ensures in
+    let did = c.print_step.ensures.goes_on in
     let now = rw inv.cut at did.next in
-    let text = rw inv.cut at did.text in
+    let text = rw inv.cut at c.in_ok-print_step.ensures.prints in
     let next = rw (inv.device, c.in-Some.is) at c.in_ok-step.ensures.step.steps in
     let reads = c.in_ok-step.ensures.counted inv.held in
     let image = c.in_ok-step.ensures.leaves.read ∙ inv.device in
@@ -200,12 +198,11 @@ returns-then-not-is_replay_open g c =
             c.in-Some.step ++ ls) (lines_stopped v c.args.sought.fragment c.args.sought.number _ cut r' _ shut))
             text;
       };
-      blocks = blocks_then inv.geometry inv.blocks c.next.ensures.leaves.kept;
       reads = λ b k. omega (arith, inv.paid b k, reads.most);
     }
 
-pub returns-in_default : goal.returns-in_default
-returns-in_default g c =
+pub returns-in_default-clause-walks : goal.returns-in_default-clause-walks
+returns-in_default-clause-walks g c =
     let inv = c.loop-step.invariant in
     let reads = c.in_ok-step.ensures.counted inv.held in
     let over = rw (inv.device, c.in_default.is) at c.in_ok-step.ensures.step.steps in
@@ -215,6 +212,21 @@ returns-in_default g c =
         text = printed_all _ _ _ _ _ inv.printed (λ b k. lines_none c.args.geometry.now.layout c.args.sought.fragment
             c.args.sought.number c.loop-step.earlier c.args.sought.cut (replay_in c.loop-step.keeping) _ (over b k));
       };
-      blocks = blocks_then inv.geometry inv.blocks c.next.ensures.leaves.kept;
       reads = λ b k. omega (arith, inv.paid b k, reads.most);
     }
+
+pub returns-in_err-step-clause-blocks : goal.returns-in_err-step-clause-blocks
+returns-in_err-step-clause-blocks g c =
+    let inv = c.loop-step.invariant in blocks_then inv.geometry inv.blocks c.next.ensures.leaves.kept
+
+pub returns-in_err-print_step-clause-blocks : goal.returns-in_err-print_step-clause-blocks
+returns-in_err-print_step-clause-blocks g c =
+    let inv = c.loop-step.invariant in blocks_then inv.geometry inv.blocks c.next.ensures.leaves.kept
+
+pub returns-then-not-is_replay_open-clause-blocks : goal.returns-then-not-is_replay_open-clause-blocks
+returns-then-not-is_replay_open-clause-blocks g c =
+    let inv = c.loop-step.invariant in blocks_then inv.geometry inv.blocks c.next.ensures.leaves.kept
+
+pub returns-in_default-clause-blocks : goal.returns-in_default-clause-blocks
+returns-in_default-clause-blocks g c =
+    let inv = c.loop-step.invariant in blocks_then inv.geometry inv.blocks c.next.ensures.leaves.kept

@@ -14,13 +14,15 @@ text_is v f x earlier cut r start len block taken going is =
       | inr q ↦ rw q refl
     ])
 
-pub returns-in-Run : goal.returns-in-Run
-returns-in-Run g c =
+pub returns-in-Run-clause-prints : goal.returns-in-Run-clause-prints
+returns-in-Run-clause-prints g c =
     let v = c.args.geometry.now.layout in
     let again = c.take-taken.ensures.replays v c.in-Run.start c.in-Run.block c.in_range.ensures in
-    rw c.in-Run.is (record {
-      text = rw (text_is v c.args.sought.fragment c.args.sought.number c.args.earlier _ _ c.in-Run.start c.in-Run.len
-          c.in-Run.block c.take-taken.result c.requires.going again.count) at c.print_run.ensures;
-      next = again.after;
-      cut = c.take-taken.ensures.cut;
-    })
+    rw (c.in-Run.is) (rw (text_is v c.args.sought.fragment c.args.sought.number c.args.earlier _ _ c.in-Run.start
+    c.in-Run.len c.in-Run.block c.take-taken.result c.requires.going again.count) at c.print_run.ensures)
+
+pub returns-in-Run-clause-goes_on : goal.returns-in-Run-clause-goes_on
+returns-in-Run-clause-goes_on g c =
+    let again = c.take-taken.ensures.replays c.args.geometry.now.layout c.in-Run.start c.in-Run.block
+    c.in_range.ensures in
+    rw (c.in-Run.is) (record { next = again.after; cut = c.take-taken.ensures.cut })
