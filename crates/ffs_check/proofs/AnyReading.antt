@@ -9,7 +9,7 @@ use Rattle.ffs_report.specs.{Sink.Sink, Paid.Paid, Progress.{Progress, Said, Sto
 use Rattle.ffs_report.specs.{declared.fault.RunFault.{RunFault, TheVariants.{Read, Out}}}
 use Rattle.ffs_report.proofs.{Reports.{said_then, stopped_after}}
 use Rattle.ffs_pathnames.specs.declared.pass2.Root.{Root}
-use Rattle.ffs_check.specs.{AnyReads.{PhasesRead, ReadsAny, ReadsByMessages}, Ends.BrokeOffIn}
+use Rattle.ffs_check.specs.{AnyReads.{PhasesRead, ReadsByMessages, ReadsOfVolume}, Ends.BrokeOffIn}
 use Rattle.ffs_check.{specs.{Ends.Printed, PhaseEnds.{EndsAs, SaysRefusal}}, proofs.EndLaws.broke_off}
 
 -- the price of each message, beside what the phases read for none
@@ -68,20 +68,20 @@ pub whole_reads : (size : ℕ) (found : Super) (output : GName) (sink : Sink) (p
     (before between after : ℕ) → found.geometry.layout.size * found.geometry.layout.fsize ≤ size →
     Said (starts output sink) p lines → between ≤ before + opening_reads →
     ReadsByMessages Said Stopped (phase_reads found.geometry.layout) p c between after →
-    ReadsAny size sink c.sink before after
-whole_reads size found output sink p c lines before between after inside said opened phases = inr (record {
+    ReadsOfVolume size sink c.sink before after
+whole_reads size found output sink p c lines before between after inside said opened phases = record {
   layout = found.geometry.layout;
   accepted = found.geometry.sound;
   inside = inside;
   reads = printed_reads (reads_limit found.geometry.layout) (starts output sink) c before after refl
       (opened_reads found.geometry.layout (starts output sink) p c lines before between after said opened
       phases);
-})
+}
 
 -- where an output is is known
-pub any_at : (size : ℕ) (out at at' : Sink) (before after : ℕ) → at ≡ at' → ReadsAny size out at before after →
-    ReadsAny size out at' before after
-any_at size out at at' before after e r = subst (λ to. ReadsAny size out to before after) e r
+pub volume_at : (size : ℕ) (out at at' : Sink) (before after : ℕ) → at ≡ at' → ReadsOfVolume size out at before after →
+    ReadsOfVolume size out at' before after
+volume_at size out at at' before after e r = subst (λ to. ReadsOfVolume size out to before after) e r
 
 -- the phases alone were said to a report that had just begun, and printed
 pub rest_reads : {knows : List ℕ → Type 0} (s : Superblock) (output : GName) (sink : Sink) (c : Progress)

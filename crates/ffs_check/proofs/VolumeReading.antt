@@ -14,7 +14,7 @@ use Rattle.ffs_volume.specs.Directories.{Connectivity.connectivity_lines, Refere
 use Rattle.ffs_volume.specs.Directories.{PathnameCheck.{continues_after_root, pathname_lines}, Volumes.volume_of}
 use Rattle.ffs_survey.proofs.Costs.{costs_part}
 use Rattle.ffs_names.proofs.Limits.{costs_within, noted_within}
-use Rattle.ffs_volume.specs.Report.DirectoryReads.{directories_cost, directory_cost}
+use Rattle.ffs_volume.specs.Report.DirectoryReads.{directory_cost}
 use Rattle.ffs_volume.specs.Report.DirectoryReads.{noted_costs}
 use Rattle.ffs_volume.specs.Report.DirectoryReads.{is_looked_at, phase2_cost}
 use Rattle.ffs_check.specs.Rest.{after_phase2}

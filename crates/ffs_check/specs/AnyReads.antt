@@ -39,13 +39,9 @@ pub record ReadsOfVolume (size : ℕ) (out out' : Sink) (before after : ℕ) : T
   pub inside : layout.size * layout.fsize ≤ size
   pub reads : ReadsByMessages Printed BrokeOffIn (reads_limit layout) out out' before after
 
--- the whole check of any image of this size: it was read at most twice, or within the limit of the volume
-abbrev pub ReadsAny : (size : ℕ) → Sink → Sink → (before after : ℕ) → Type 0
-ReadsAny size out out' before after = (after ≤ before + opening_reads) ⊎ ReadsOfVolume size out out' before after
-
 -- how often the whole check reads an image that gives its bytes, and any image, also one that gives
--- other bytes each time
+-- other bytes each time: at most twice, or within the limit of the volume
 pub record CheckReads (image : Device) (name : List ℕ) (asked_sector : Option ℕ) (out out' : Sink)
     (before after : ℕ) : Type 0 where
   pub reads : ReadsWithin image name asked_sector before after
-  pub any : ReadsAny image.size out out' before after
+  pub any : (after ≤ before + opening_reads) ⊎ ReadsOfVolume image.size out out' before after

@@ -16,7 +16,7 @@ use Rattle.ffs_pathnames.specs.{declared.pass2.Root.Root, RootAnswers.is_go}
 use Rattle.ffs_memory.specs.Account.{Account}
 use Rattle.ffs_workspace.specs.{declared.workspace.Workspace.Workspace, Found.WithFresh, Lengths.{IsFor, held_of}}
 use Rattle.ffs_workspace.specs.Ready.{IsReady}
-use Rattle.ffs_check.specs.{AnyReads.{PhasesPay, PhasesRead}, Ends.Ends, Headline.can_end_report, Rest.HasAnswers}
+use Rattle.ffs_check.specs.{AnyReads.PhasesRead, Ends.Ends, Headline.can_end_report, Rest.HasAnswers}
 use Rattle.ffs_check.specs.Taken.{TakesBytes}
 
 -- a read failed before the text was complete: whole messages were said, and others were to come
@@ -48,15 +48,10 @@ pub record LeavesAnswers (whole : Bool) (knows : List ℕ → Type 0) (v : Layou
   pub known : whole ≡ true → ForBytes knows (λ bytes. HasAnswers v bytes w w')
   pub most : w'.runs_seen ≤ runs_limit v
 
--- the phases have run, with at most so many reads as an image of these bytes asks for, and as any image
--- does for the messages that were begun; the workspace says how many Runs were looked at, and is ready for
--- the image as it is now
-pub record RunsPhases (s : Superblock) (d d' : Device) (w w' : Workspace) (old new : Progress) (before after : ℕ)
-    (result : Result Root RunFault) : Type 0 where
-  pub ran : HaveRun s d d' w old new result
-  pub reads : PhasesPay (WithFresh s.layout d w) s old new before after result
-  pub answers : LeavesAnswers (is_ok result) (WithFresh s.layout d w) s.layout w w'
-  pub ready : IsReady s.layout d' w'
+-- after the phases the workspace says how many Runs were looked at, and is ready for the image as it is now
+pub record LeavesPhases (v : Layout) (d d' : Device) (w w' : Workspace) (result : Result Root RunFault) : Type 0 where
+  pub answers : LeavesAnswers (is_ok result) (WithFresh v d w) v w w'
+  pub ready : IsReady v d' w'
 
 -- the line of a failed read or of refused memory was said, and this is the end; or the output failed in it
 abbrev pub LineEnds : Progress → Progress → Message → End → End → Type 0

@@ -2,8 +2,7 @@
 -- the image's bytes there, what phase 1b does, and what a workspace answers then.
 use Rattle.std.specs.Prelude.{ℕ, ◌≡◌, ◌≤◌, ◌+◌, Bool, false, if◌then◌else◌, List, [], ◌∷◌, ◌++◌, map, Result, OnOk}
 use Rattle.ffs_image.specs.Device.{Device}
-use Rattle.ffs_report.specs.{Known.{ForBytes, IsContents}, PhaseOutcome.PhaseOutcome, Progress.Progress}
-use Rattle.ffs_report.specs.declared.fault.RunFault.{RunFault}
+use Rattle.ffs_report.specs.{Known.{ForBytes, IsContents}, declared.fault.RunFault.RunFault}
 use Rattle.ffs_volume.specs.{declared.Layout.Layout, Disk.Superblock.Superblock, Blocks.Owners.owners_of}
 use Rattle.ffs_volume.specs.Directories.{Volumes.volume_of, Connectivity.connectivity_lines}
 use Rattle.ffs_volume.specs.{Directories.ReferenceCheck.reference_lines, Messages.Kinds.{Message, phase1, phase2}}
@@ -73,16 +72,17 @@ pub record HasAnswers (v : Layout) (bytes : List ℕ) (old new : Workspace) : Ty
   pub seen : new.runs_seen ≡ run_count v bytes
   pub again : new.runs_again ≡ (if has_rescan v (owners_of v bytes) then rescan_runs v bytes else old.runs_again)
 
--- phase 1b, or nothing where no fragment has a DUP line: its text, what the workspace holds and answers
--- then, no more reads than those of a sweep, none where the image's bytes have no DUP line, and the
--- workspace is ready for the next phase. The count of phase 1's Runs stays, and nothing is surveyed yet
-pub record Rescans (v : Layout) (d d' : Device) (w w' : Workspace) (old new : Progress) (before after : ℕ)
-    (result : Result (Unit {0}) RunFault) : Type 0 where
-  pub prints : PhaseOutcome (WithLeftByPhase1 v d w) (λ bytes. rescan_lines v bytes) d d' old new result
-  pub holds : OnOk result (ForBytes (WithLeftByPhase1 v d w) (λ bytes. HoldsClaims v bytes w'))
-  pub answers : OnOk result (ForBytes (WithLeftByPhase1 v d w) (λ bytes. HasAnswers v bytes w w'))
-  pub seen : w'.runs_seen ≡ w.runs_seen
-  pub reads : after ≤ before + sweep_reads v
+-- what a workspace holds and answers after phase 1b, where it ran: the count of phase 1's Runs stays,
+-- nothing is surveyed yet, and it is ready for the next phase
+pub record LeavesRescan (v : Layout) (d d' : Device) (w w' : Workspace) (result : Result (Unit {0}) RunFault) : Type 0
+  where
+    pub holds : OnOk result (ForBytes (WithLeftByPhase1 v d w) (λ bytes. HoldsClaims v bytes w'))
+    pub answers : OnOk result (ForBytes (WithLeftByPhase1 v d w) (λ bytes. HasAnswers v bytes w w'))
+    pub seen : w'.runs_seen ≡ w.runs_seen
+    pub unsurveyed : OnOk result (ForBytes (WithLeftByPhase1 v d w) (λ bytes. w'.surveyed ≡ false))
+    pub ready : IsReady v d' w'
+
+-- no more reads than those of a sweep, and none where the image's bytes have no DUP line
+pub record RescanReadsWithin (v : Layout) (d : Device) (w : Workspace) (before after : ℕ) : Type 0 where
+  pub any : after ≤ before + sweep_reads v
   pub known : ForBytes (WithLeftByPhase1 v d w) (λ bytes. after ≤ before + rescan_reads v bytes)
-  pub unsurveyed : OnOk result (ForBytes (WithLeftByPhase1 v d w) (λ bytes. w'.surveyed ≡ false))
-  pub ready : IsReady v d' w'

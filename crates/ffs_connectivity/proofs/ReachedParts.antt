@@ -1,5 +1,5 @@
 -- Inodes whose directories are all reached, part after part.
-use Rattle.std.proofs.Common.{◌≡◌, ◌+◌, ◌-◌, ◌<◌, ◌≤◌, ℕ, Bool, List, arith, drop, length, take, inl, inr}
+use Rattle.std.proofs.Common.{◌≡◌, ◌+◌, ◌-◌, ◌≤◌, ℕ, Bool, List, arith, drop, length, take, inl, inr}
 use Rattle.std.proofs.lemmas.{Bool.cases_lt, List.{get_or-drop, get_or-take, length-drop, length-take}}
 use Rattle.ffs_connectivity.specs.Unreached.{AreAllReached, AreReachedBelow}
 

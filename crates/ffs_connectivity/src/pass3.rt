@@ -4,9 +4,8 @@ ghost use Rattle.std.specs.Prelude.{◌≡◌, ◌<◌, ◌^◌, ◌∷◌, fals
 ghost use Rattle.ffs_report.specs.{Progress.progress, PhaseOutcome.PhaseOutcome, ReadsFor.ReadsFor};
 ghost use Rattle.ffs_volume.specs.{Directories.Connectivity.connectivity_lines, Messages.Kinds.of_tree};
 ghost use Rattle.ffs_volume.specs.Directories.Volumes.{volume_of};
-ghost use Rattle.ffs_connectivity.specs.{Phase3.IsLeftByPhase3, Unreached.{AreAllReached, AreReachedBelow}};
-ghost use Rattle.ffs_connectivity.specs.Unreached.{IsFirstUnreached};
-ghost use Rattle.ffs_workspace.specs.{Found.WithSurvey, Ready.IsReady};
+ghost use Rattle.ffs_connectivity.specs.Unreached.{AreAllReached, AreReachedBelow, IsFirstUnreached};
+ghost use Rattle.ffs_workspace.specs.{Found.WithSurvey, Leaves.LeavesSurvey, Ready.IsReady};
 ghost use Rattle.ffs_volume.specs.Messages.Kinds as messages;
 
 use crate::unref::check_inode;
@@ -90,8 +89,8 @@ pub fn phase3<I: Image, W: Output>(
         (λ bytes. length (connectivity_lines (volume_of geometry.now.layout bytes)))
         (progress W.sink report.old) (progress W.sink report.new) (I.reads image.old)
         (I.reads image.new) result }
-    ensures leaves { IsLeftByPhase3 geometry.now.layout (I.device image.new) workspace.old
-        workspace.new }
+    ensures leaves { LeavesSurvey workspace.old workspace.new }
+    ensures ready { IsReady geometry.now.layout (I.device image.new) workspace.new }
 {
     report.say(&Line::Heading(Heading::Phase3))?;
     let first = first_unreached(&workspace.kinds, &workspace.reached);

@@ -1,7 +1,10 @@
 //! The line on a lost directory.
 
-ghost use Rattle.ffs_report.specs.Progress.{progress};
-ghost use Rattle.ffs_connectivity.specs.Phase3.{CanReportLost, ReportsLost};
+ghost use Rattle.std.specs.Prelude.{length, map};
+ghost use Rattle.ffs_report.specs.{Progress.progress, PhaseOutcome.PhaseOutcome, ReadsFor.ReadsFor};
+ghost use Rattle.ffs_volume.specs.{Directories.Volumes.volume_of, Messages.Kinds.of_tree};
+ghost use Rattle.ffs_workspace.specs.{Found.WithSurvey, Ready.StaysReady};
+ghost use Rattle.ffs_connectivity.specs.{Lines.unref_dir_lines, Phase3.CanReportLost};
 
 use ffs_image::Image;
 use ffs_layout::Geometry;
@@ -23,9 +26,17 @@ pub fn check_inode<I: Image, W: Output>(
     report: &mut Report<'_, W>,
 ) -> Result<(), RunFault>
     requires { CanReportLost geometry.now.layout (I.device image.old) workspace.old number }
-    ensures { ReportsLost geometry.now.layout (I.device image.old) (I.device image.new)
-        workspace.old workspace.new number (progress W.sink report.old)
-        (progress W.sink report.new) (I.reads image.old) (I.reads image.new) result }
+    ensures prints { PhaseOutcome
+        (WithSurvey geometry.now.layout (I.device image.old) workspace.old)
+        (λ bytes. map of_tree (unref_dir_lines (volume_of geometry.now.layout bytes) number))
+        (I.device image.old) (I.device image.new) (progress W.sink report.old)
+        (progress W.sink report.new) result }
+    ensures reads { ReadsFor (WithSurvey geometry.now.layout (I.device image.old) workspace.old)
+        (λ bytes. length (unref_dir_lines (volume_of geometry.now.layout bytes) number))
+        (progress W.sink report.old) (progress W.sink report.new) (I.reads image.old)
+        (I.reads image.new) result }
+    ensures stays { StaysReady geometry.now.layout (I.device image.new) workspace.old
+        workspace.new }
 {
     let found = Surveyed {
         kinds: &workspace.kinds,

@@ -1,5 +1,5 @@
 -- How often the groups' blocks and summary records are read, group after group.
-use Rattle.std.proofs.Common.{ℕ, zero, suc, ◌≡◌, ◌∙◌, ◌+◌, ◌-◌, ◌*◌, ◌/◌, ◌%◌, ◌<◌, ◌≤◌, ap, arith, min}
+use Rattle.std.proofs.Common.{ℕ, zero, suc, ◌≡◌, ◌∙◌, ◌+◌, ◌*◌, ◌%◌, ◌<◌, ◌≤◌, ap, arith, min}
 use Rattle.std.{specs.Int.div_ceil, proofs.Math.Nat.{div-add-mod', mod-lt}}
 use Rattle.ffs_volume.specs.declared.{constants.TheConstants.CSUM_SIZE, Layout.Layout}
 use Rattle.ffs_volume.specs.{Disk.Areas.summary_place, Report.Reads.records_at_once}
@@ -11,7 +11,7 @@ abbrev pub reads_below : ℕ → ℕ
 reads_below n = n + div_ceil n records_at_once
 
 -- a group whose record is the first that is read takes two reads, and another one
-by_place : (r before now : ℕ) → now ≤ before + 2 → ((r ≡ 0 → ⊥) → now ≤ before + 1) → now + min 1 r ≤ before + 2
+by_place : (r before now : ℕ) → now ≤ before + 1 + 1 → ((r ≡ 0 → ⊥) → now ≤ before + 1) → now + min 1 r ≤ before + 2
 by_place zero before now two one = omega (arith, two)
 by_place (suc r) before now two one = let again = one (λ e. absurd (cc)) in omega (arith, again)
 
@@ -25,7 +25,7 @@ below_next n =
       mod-lt (n + 1) {m = 256} (omega arith),
     )
 
-pub reads_next : (n reads before now : ℕ) → before ≤ reads + reads_below n → now ≤ before + 2 →
+pub reads_next : (n reads before now : ℕ) → before ≤ reads + reads_below n → now ≤ before + 1 + 1 →
     ((n % records_at_once ≡ 0 → ⊥) → now ≤ before + 1) → now ≤ reads + reads_below (n + 1)
 reads_next n reads before now so_far two one =
     omega (arith, so_far, by_place (n % 256) before now two one, below_next n)
@@ -42,7 +42,7 @@ reads_within n all few =
       mod-lt all {m = 256} (omega arith),
     )
 
-pub next_within : (n all reads before now : ℕ) → n < all → before ≤ reads + reads_below n → now ≤ before + 2 →
+pub next_within : (n all reads before now : ℕ) → n < all → before ≤ reads + reads_below n → now ≤ before + 1 + 1 →
     ((n % records_at_once ≡ 0 → ⊥) → now ≤ before + 1) → now ≤ reads + reads_below all
 next_within n all reads before now low so_far two one =
     omega (arith, reads_next n reads before now so_far two one, reads_within (n + 1) all (omega (arith, low)))

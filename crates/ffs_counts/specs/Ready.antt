@@ -1,15 +1,10 @@
--- What the check of references needs of a workspace, which inodes it passes over, and what it reports and
--- leaves at another.
-use Rattle.std.specs.Prelude.{ℕ, ◌≡◌, ◌+◌, ◌<◌, ◌≤◌, List, length, vec_len, true, false, slice_index, map, Result}
+-- What the check of references needs of a workspace, and which inodes it passes over.
+use Rattle.std.specs.Prelude.{ℕ, ◌≡◌, ◌+◌, ◌<◌, ◌≤◌, List, length, vec_len, true, false, slice_index}
 use Rattle.ffs_image.specs.Device.{Device}
 use Rattle.ffs_volume.specs.{declared.Layout.Layout, Blocks.Inodes.is_allocated, Encodings.Kinds.class_of_kind}
-use Rattle.ffs_volume.specs.{Directories.{ReferenceCheck.reference_lines_at, Volumes.volume_of}, Messages.Kinds.of_tree}
-use Rattle.ffs_report.specs.{Progress.Progress, PhaseOutcome.PhaseOutcome, ReadsFor.ReadsFor}
-use Rattle.ffs_report.specs.declared.fault.RunFault.{RunFault}
 use Rattle.ffs_groups.specs.Inodes.{class_in}
-use Rattle.ffs_workspace.specs.{declared.workspace.Workspace.Workspace, Found.WithFindings}
 use Rattle.ffs_volume.specs.Blocks.Inodes.{inodes_of}
-use Rattle.ffs_workspace.specs.Ready.{IsReady, StaysReady}
+use Rattle.ffs_workspace.specs.{declared.workspace.Workspace.Workspace, Ready.IsReady}
 
 -- the lists by which an inode is reported have an element for it
 pub record HasElements (w : Workspace) (number : ℕ) : Type 0 where
@@ -33,13 +28,3 @@ pub record AreFreeFrom (kinds : List ℕ) (first n : ℕ) : Type 0 where
   pub within : first + n ≤ length kinds
   pub free : (k : ℕ) → k < n → is_allocated (class_in kinds (first + k)) ≡ false
   pub allocated : n ≡ 0 → is_allocated (class_in kinds first) ≡ true
-
--- the lines of inode x were said, or what a fault leaves of them, by a read at most for each line, and
--- only windows have changed
-pub record ChecksInode (v : Layout) (d d' : Device) (w w' : Workspace) (x : ℕ) (old new : Progress)
-    (before after : ℕ) (result : Result (Unit {0}) RunFault) : Type 0 where
-  pub prints : PhaseOutcome (WithFindings v d w)
-      (λ bytes. map of_tree (reference_lines_at (volume_of v bytes) x)) d d' old new result
-  pub reads : ReadsFor (WithFindings v d w) (λ bytes. length (reference_lines_at (volume_of v bytes) x)) old new
-      before after result
-  pub stays : StaysReady v d' w w'

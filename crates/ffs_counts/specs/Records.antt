@@ -8,7 +8,7 @@ use Rattle.ffs_maps.specs.Bits.{bits_of}
 use Rattle.ffs_groups.specs.{Check.{AreCounts, lines_of}, Free.free_in, Inodes.class_in}
 use Rattle.ffs_groups.specs.declared.{check.GroupFindings.GroupFindings, counts.Counts.Counts}
 use Rattle.ffs_workspace.specs.{Tables.{CanReadInodes, TableAfter}, declared.table.Table.Table}
-use Rattle.ffs_workspace.specs.{Ready.{IsReady, StaysReady}, declared.workspace.Workspace.Workspace}
+use Rattle.ffs_workspace.specs.{Ready.IsReady, declared.workspace.Workspace.Workspace}
 
 -- the first of the groups whose records are read with that of group c
 abbrev pub first_read : ℕ → ℕ
@@ -35,14 +35,15 @@ pub record CanReadRecord (v : Layout) (d : Device) (c : ℕ) (t : Table) : Type 
   pub group : c < v.ncg
   pub ready : CanReadInodes v d t
 
--- the record of group c is read with those round it, by one read at most, and by none where the window
--- of the table has them already. The answer is where it is in that window
-pub record ReadsRecord (v : Layout) (d d' : Device) (before after : ℕ) (c : ℕ) (old new : Table)
-    (result : Result ℕ ImageFault) : Type 0 where
-  pub there : IfOk result (HoldsRecord v d.contents new.window c)
-  pub leaves : TableAfter v d d' new result
+-- the record of group c was read with those round it. The answer is where it is in the table's window
+pub record ReadsRecord (v : Layout) (d d' : Device) (c : ℕ) (t : Table) (result : Result ℕ ImageFault) : Type 0 where
+  pub there : IfOk result (HoldsRecord v d.contents t.window c)
+  pub leaves : TableAfter v d d' t result
+
+-- the records that are read with that of group c take one read at most, and none where a window has them
+pub record AreReadOnce (v : Layout) (w : Window) (c : ℕ) (before after : ℕ) : Type 0 where
   pub counted : after ≤ before + 1
-  pub again : IsAtRecords v old.window c → after ≤ before
+  pub again : IsAtRecords v w c → after ≤ before
 
 -- the records of group c can be read, and these are its counts by what the workspace holds
 pub record CanReadGroup (v : Layout) (d : Device) (w : Workspace) (c : ℕ) (right : Counts) : Type 0 where
@@ -50,15 +51,11 @@ pub record CanReadGroup (v : Layout) (d : Device) (w : Workspace) (c : ℕ) (rig
   pub counts : AreCounts v (free_in (bits_of w.used) v.size) (class_in w.kinds.items) c right
   pub ready : IsReady v d w
 
--- the block of group c and its summary record were read, each once at most, and no record where the
--- window of the table had it; what is found in them gives the lines of the group by the image's bytes,
--- and only windows have changed
-pub record GroupIsRead (v : Layout) (d d' : Device) (before after : ℕ) (old new : Workspace) (c : ℕ)
-    (result : Result GroupFindings ImageFault) : Type 0 where
-  pub found : IfOk result (λ f. ForContents d.contents
-      (λ b. lines_of f c ≡ group_lines v b (free_in (bits_of old.used) v.size) (class_in old.kinds.items) c))
+-- the block of group c and its summary record were read into the windows of a workspace: what is found in
+-- them gives the lines of the group by the image's bytes, and by what the workspace holds
+pub record GroupIsRead (v : Layout) (d d' : Device) (w : Workspace) (c : ℕ) (result : Result GroupFindings ImageFault) :
+    Type 0 where
+  pub lines : IfOk result (λ f. ForContents d.contents
+      (λ b. lines_of f c ≡ group_lines v b (free_in (bits_of w.used) v.size) (class_in w.kinds.items) c))
   pub read : ReadAfter d d' result
-  pub records : OnOk result (IsAtRecords v new.windows.table.window c)
-  pub counted : after ≤ before + 2
-  pub again : IsAtRecords v old.windows.table.window c → after ≤ before + 1
-  pub stays : StaysReady v d' old new
+  pub records : OnOk result (IsAtRecords v w.windows.table.window c)

@@ -1,6 +1,8 @@
 //! The records of a cylinder group, read from an image.
 
-ghost use Rattle.ffs_counts.specs.Records.{CanReadGroup, CanReadRecord, GroupIsRead, ReadsRecord};
+ghost use Rattle.std.specs.Prelude.{◌+◌};
+ghost use Rattle.ffs_workspace.specs.Ready.{StaysReady};
+ghost use Rattle.ffs_counts.specs.Records.{AreReadOnce, CanReadGroup, CanReadRecord, GroupIsRead, ReadsRecord};
 
 use ffs_groups::{Counts, GroupFindings, Usage, compare_group};
 use ffs_image::{Image, ImageFault};
@@ -24,8 +26,10 @@ fn read_summaries<I: Image>(
     group: u32,
 ) -> Result<usize, ImageFault>
     requires { CanReadRecord geometry.now.layout (I.device image.old) group table.old }
-    ensures { ReadsRecord geometry.now.layout (I.device image.old) (I.device image.new)
-        (I.reads image.old) (I.reads image.new) group table.old table.new result }
+    ensures read { ReadsRecord geometry.now.layout (I.device image.old) (I.device image.new) group
+        table.new result }
+    ensures reads { AreReadOnce geometry.now.layout table.old.window group (I.reads image.old)
+        (I.reads image.new) }
 {
     let first = group - group % RECORDS_AT_ONCE;
     let count = RECORDS_AT_ONCE.min(geometry.layout.ncg - first);
@@ -52,8 +56,14 @@ pub fn read_group<I: Image>(
 ) -> Result<GroupFindings, ImageFault>
     requires { CanReadGroup geometry.now.layout (I.device image.old) workspace.old group
         counts.now }
-    ensures { GroupIsRead geometry.now.layout (I.device image.old) (I.device image.new)
-        (I.reads image.old) (I.reads image.new) workspace.old workspace.new group result }
+    ensures found { GroupIsRead geometry.now.layout (I.device image.old) (I.device image.new)
+        workspace.new group result }
+
+    // One read for the group's block, and what its summary record takes.
+    ensures reads { AreReadOnce geometry.now.layout workspace.old.windows.table.window group
+        (I.reads image.old + 1) (I.reads image.new) }
+    ensures stays { StaysReady geometry.now.layout (I.device image.new) workspace.old
+        workspace.new }
 {
     let windows = &mut workspace.windows;
     let at = read_summaries(geometry, image, &mut windows.table, group)?;

@@ -2,10 +2,11 @@
 
 ghost use Rattle.std.specs.Prelude.{◌≡◌, ◌<◌, ◌∷◌, false, map, length};
 ghost use Rattle.ffs_volume.specs.Messages.Kinds.{of_tree, phase4 as phase4_heading};
-ghost use Rattle.ffs_volume.specs.Directories.{ReferenceCheck.reference_lines, Volumes.volume_of};
+ghost use Rattle.ffs_volume.specs.Directories.ReferenceCheck.{reference_lines, reference_lines_at};
+ghost use Rattle.ffs_volume.specs.Directories.Volumes.{volume_of};
 ghost use Rattle.ffs_report.specs.{Progress.progress, PhaseOutcome.PhaseOutcome, ReadsFor.ReadsFor};
 ghost use Rattle.ffs_workspace.specs.{Found.WithFindings, Ready.{IsReady, StaysReady}};
-ghost use Rattle.ffs_counts.specs.Ready.{CanCheckAllocated, ChecksInode, HasElements, AreFree, AreFreeFrom};
+ghost use Rattle.ffs_counts.specs.Ready.{CanCheckAllocated, HasElements, AreFree, AreFreeFrom};
 ghost use Rattle.ffs_counts.specs.References.{is_dead_by, is_right_by};
 
 use crate::reference::{line_for, references_by, say_line};
@@ -83,9 +84,17 @@ fn check_inode<I: Image, W: Output>(
     report: &mut Report<'_, W>,
 ) -> Result<(), RunFault>
     requires { CanCheckAllocated geometry.now.layout (I.device image.old) workspace.old number }
-    ensures { ChecksInode geometry.now.layout (I.device image.old) (I.device image.new)
-        workspace.old workspace.new number (progress W.sink report.old)
-        (progress W.sink report.new) (I.reads image.old) (I.reads image.new) result }
+    ensures prints { PhaseOutcome
+        (WithFindings geometry.now.layout (I.device image.old) workspace.old)
+        (λ bytes. map of_tree (reference_lines_at (volume_of geometry.now.layout bytes) number))
+        (I.device image.old) (I.device image.new) (progress W.sink report.old)
+        (progress W.sink report.new) result }
+    ensures reads { ReadsFor (WithFindings geometry.now.layout (I.device image.old) workspace.old)
+        (λ bytes. length (reference_lines_at (volume_of geometry.now.layout bytes) number))
+        (progress W.sink report.old) (progress W.sink report.new) (I.reads image.old)
+        (I.reads image.new) result }
+    ensures stays { StaysReady geometry.now.layout (I.device image.new) workspace.old
+        workspace.new }
 {
     if is_right(workspace, number) {
         return Ok(());

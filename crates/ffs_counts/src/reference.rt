@@ -1,12 +1,13 @@
 //! What is reported of an inode by the entries that refer to it.
 
 ghost use Rattle.std.specs.Prelude.{◌≡◌, ◌-◌, map};
-ghost use Rattle.ffs_volume.specs.{Messages.Kinds.of_tree, Disk.Numbers.equals_natural};
+ghost use Rattle.ffs_volume.specs.Messages.Kinds.{of_tree};
 ghost use Rattle.ffs_volume.specs.{Directories.PathnameCheck.{attributes_of, label_of}, Encodings.Kinds.class_of_kind};
 ghost use Rattle.ffs_volume.specs.Encodings.Links.{links_start};
 ghost use Rattle.ffs_report.specs.Progress.{progress, Says};
 ghost use Rattle.ffs_counts.specs.References.{lines_as, reference_reported};
 
+use crate::totals::is_count_of;
 use ffs_report::{Line, OutFault, Output, ReferenceLine, Report};
 use ffs_volume::kinds::Kind;
 use ffs_volume::{Attr, Inode};
@@ -18,17 +19,6 @@ pub fn references_by(count: u64, inode: &Inode) -> u64
     ensures { result ≡ count - links_start inode.now.nlink }
 {
     count.saturating_sub(links_start(inode.nlink))
-}
-
-/// Whether a count of links is this number.
-fn is_links(nlink: i16, references: u64) -> bool
-    ensures { result ≡ equals_natural nlink references }
-{
-    if nlink < 0 {
-        false
-    } else {
-        u64::from(nlink as u16) == references
-    }
 }
 
 /// The line of an inode that is allocated, if it has one.
@@ -53,12 +43,12 @@ pub fn line_for(
         return Some(ReferenceLine::DeadZero { attr });
     }
     if references == 0 {
-        if is_links(count, 0) {
+        if is_count_of(i32::from(count), 0) {
             return Some(ReferenceLine::UnrefZero { label, attr });
         }
         return Some(ReferenceLine::Unref { label, attr });
     }
-    if is_links(count, references) {
+    if is_count_of(i32::from(count), references) {
         return None;
     }
     Some(ReferenceLine::LinkCount {

@@ -19,8 +19,8 @@ pub struct Totals {
     pub fragments: u64,
 }
 
-/// Whether a number of the superblock is this count.
-fn is_count_of(found: i32, right: u64) -> bool
+/// Whether a signed number of the volume is this count.
+pub fn is_count_of(found: i32, right: u64) -> bool
     ensures { result ≡ equals_natural found right }
 {
     if found < 0 {

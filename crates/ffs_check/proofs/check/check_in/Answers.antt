@@ -1,7 +1,7 @@
-use Rattle.std.proofs.Common.{arith, rules, inl, refl}
+use Rattle.std.proofs.Common.{arith, rules, inl, inr, refl}
 use Rattle.ffs_report.specs.Progress.{progress}
 use Rattle.ffs_check.proofs.{Counting.{reads_failed, writes_failed}, Follows.{found_ends, not_refused}}
-use Rattle.ffs_check.proofs.{AnyReading.{any_at, whole_reads}, Headlines.{opening_ends, headline_at}}
+use Rattle.ffs_check.proofs.{AnyReading.{volume_at, whole_reads}, Headlines.{opening_ends, headline_at}}
 use Rattle.ffs_check.proofs.{Reading.{found_within, opened_within}, Taken.{takes, opened_for_memory}}
 use Rattle.ffs_check.proofs.check.check_in.Goals as goal
 
@@ -52,8 +52,8 @@ returns-in-Ok-clause-reads g c =
     record {
       reads = found_within _ _ _ _ _ _ c.in-Ok.superblock _ _ _ c.in-Ok.ensures.opened c.in-Ok.ensures.answers.reads
           phases.known;
-      any = any_at _ _ (g.W.Output.sink c.check_accepted.new.report.out.now) _ _ _ (search rules)
+      any = inr (volume_at _ _ (g.W.Output.sink c.check_accepted.new.report.out.now) _ _ _ (search rules)
           (whole_reads _ c.in-Ok.superblock _ (g.W.Output.sink c.args.out.now)
           (progress g.W.Output.sink c.say_opening.new.report) (progress g.W.Output.sink c.check_accepted.new.report)
-          _ _ _ _ c.in-Ok.ensures.answers.inside_or_unreadable opened.ends.0 c.in-Ok.ensures.answers.reads phases.any);
+          _ _ _ _ c.in-Ok.ensures.answers.inside_or_unreadable opened.ends.0 c.in-Ok.ensures.answers.reads phases.any));
     }

@@ -13,6 +13,6 @@ returns g c =
         known = phases.reads.known;
         any = ended_reads s.layout _ _ _ _ _ _ _ _ phases.reads.paid c.end_run.ensures;
       };
-      answers = answers_end c.args.had_defect _ _ c.run_phases-answer.result _ c.end_run.ensures phases.answers;
-      made = phases.ready.made;
+      answers = answers_end c.args.had_defect _ _ c.run_phases-answer.result _ c.end_run.ensures phases.leaves.answers;
+      made = phases.leaves.ready.made;
     }

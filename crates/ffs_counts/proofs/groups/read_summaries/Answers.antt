@@ -16,12 +16,16 @@ fill-requires g c =
 
 pub returns : goal.returns
 returns g c = record {
-  again = λ at. c.in_ok-fill.ensures.fills.again
-      (ap (λ (t : Table). t.window.place) c.forget.ensures ∙ at.starts ∙ sym c.summary_place-place.ensures)
-      (ap (λ (t : Table). t.window.length) c.forget.ensures ∙ at.length ∙ ap (λ n. 16 * n) (sym c.min-count.ensures));
-  there = record_there c.args.geometry.now.layout (g.I.Image.device c.args.image.now).contents c.fill.new.self
-      c.args.group c.requires.group (c.in_ok-fill.ensures.fills.place.0 ∙ c.summary_place-place.ensures)
-      (c.in_ok-fill.ensures.fills.place.1 ∙ ap (λ n. 16 * n) c.min-count.ensures) (search rules);
-  leaves = search rules;
-  counted = omega arith;
+  read = record {
+    there = record_there c.args.geometry.now.layout (g.I.Image.device c.args.image.now).contents c.fill.new.self
+        c.args.group c.requires.group (c.in_ok-fill.ensures.fills.place.0 ∙ c.summary_place-place.ensures)
+        (c.in_ok-fill.ensures.fills.place.1 ∙ ap (λ n. 16 * n) c.min-count.ensures) (search rules);
+    leaves = search rules;
+  };
+  reads = record {
+    counted = omega arith;
+    again = λ at. c.in_ok-fill.ensures.fills.again
+        (ap (λ (t : Table). t.window.place) c.forget.ensures ∙ at.starts ∙ sym c.summary_place-place.ensures)
+        (ap (λ (t : Table). t.window.length) c.forget.ensures ∙ at.length ∙ ap (λ n. 16 * n) (sym c.min-count.ensures));
+  };
 }

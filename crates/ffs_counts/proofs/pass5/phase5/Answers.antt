@@ -24,8 +24,9 @@ gone_on : (g : given.Over) (c : In_ok-found g) (once' : AlreadyReported) →
 gone_on g c once' noted bytes k =
     let inv = c.loop-group.invariant in
     groups_go_on c.args.superblock.now.geometry.layout c.args.superblock.now.cstotal c.args.workspace.now
-    c.loop-group.workspace bytes _ once' _ c.loop-group.group c.loop-group-test.true inv.stays.held
-    (c.in_ok-found.ensures.found bytes (ap (λ d. d.contents) inv.device ∙ k.0)) noted
+    c.read_group.new.workspace bytes _ once' _ c.loop-group.group c.loop-group-test.true
+    (held_on c.args.workspace.now c.loop-group.workspace _ inv.stays.held c.in_ok-found.ensures.stays.held)
+    (c.in_ok-found.ensures.found.lines bytes (ap (λ d. d.contents) inv.device ∙ k.0)) noted
 
 -- the lines after the last group
 ended : (g : given.Over) (c : After-are-right g) →
@@ -65,14 +66,14 @@ loop-group-preserved g c =
     let n = c.loop-group.group in
     let counts = c.group_counts-counts in
     record {
-      device = c.in_ok-found.ensures.read ∙ inv.device;
+      device = c.in_ok-found.ensures.found.read ∙ inv.device;
       stays = record {
         held = held_on w c.loop-group.workspace _ inv.stays.held c.in_ok-found.ensures.stays.held;
         ready = c.in_ok-found.ensures.stays.ready;
       };
-      reads = reads_next n _ _ _ inv.reads c.in_ok-found.ensures.counted
-          (λ more. c.in_ok-found.ensures.again (inv.records more));
-      records = records_next v _ n c.in_ok-found.ensures.records;
+      reads = reads_next n _ _ _ inv.reads c.in_ok-found.ensures.reads.counted
+          (λ more. c.in_ok-found.ensures.reads.again (inv.records more));
+      records = records_next v _ n c.in_ok-found.ensures.found.records;
       up = up_next n c.loop-group.totals _ counts.result.summary inv.up c.add.ensures (omega (arith, counts.type_inv))
           (omega (arith, counts.type_inv)) (omega (arith, counts.type_inv)) (omega (arith, counts.type_inv));
       totals = totals_next v (free_of v w) (class_in w.kinds.items) n c.loop-group.totals _ _ inv.totals c.add.ensures
@@ -103,14 +104,14 @@ returns-clause-prints g c = record {
 pub returns-in_err-found-clause-reads : goal.returns-in_err-found-clause-reads
 returns-in_err-found-clause-reads g c =
     let inv = c.loop-group.invariant in
-    let found = c.in_err-found.ensures in
+    let found = c.in_err-found.ensures.reads in
     next_within c.loop-group.group _ _ _ _ c.loop-group-test.true inv.reads found.counted
     (λ more. found.again (inv.records more))
 
 pub returns-in_err-say_group-clause-reads : goal.returns-in_err-say_group-clause-reads
 returns-in_err-say_group-clause-reads g c =
     let inv = c.loop-group.invariant in
-    let found = c.in_ok-found.ensures in
+    let found = c.in_ok-found.ensures.reads in
     next_within c.loop-group.group _ _ _ _ c.loop-group-test.true inv.reads found.counted
     (λ more. found.again (inv.records more))
 
