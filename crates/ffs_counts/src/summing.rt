@@ -3,7 +3,7 @@
 ghost use Rattle.std.specs.Prelude.{◌≡◌, ◌∷◌, [], ◌-◌, ◌<◌, ◌^◌, length, count_by, pos, ◌+ℤ◌, ◌*ℤ◌, int_div};
 ghost use Rattle.std.specs.List.{range_with_len};
 ghost use Rattle.ffs_volume.specs.{Disk.Areas.{cgbase, is_reserved}, Groups.Records.group_size};
-ghost use Rattle.ffs_volume.specs.{Blocks.Inodes.is_file_or_dir, Report.Whole.{summary_of, file_count as files_of}};
+ghost use Rattle.ffs_volume.specs.Report.Whole.{summary_of, file_count as files_of};
 ghost use Rattle.ffs_volume.specs.Report.Whole.{claimed_count as claimed_of};
 ghost use Rattle.ffs_layout.specs.Super.{superblock_in};
 ghost use Rattle.ffs_maps.specs.Bits.{bits_of};
