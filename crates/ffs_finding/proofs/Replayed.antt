@@ -116,7 +116,7 @@ pub inode_replay : (v : Layout) (f x : ℕ) (s : Claims) (steps : List Step) →
 inode_replay v f x s steps = rw (begins_by_cut (cut_of (after_steps v (at_next_inode s) steps)))
     at (lines_replay v f x 0 (at_next_inode s) steps (omega arith))
 
--- ---- how a walk goes on
+-- ---- how a walk continues
 pub lines_next : (v : Layout) (f x earlier earlier' cut : ℕ) (r r' : Replay) (step : Step) (R R' : List Step) →
     R ≡ step ∷ R' → r' ≡ replay_step_by_cut v cut r step → earlier' ≡ earlier + indirect_in step →
     lines_again v f x earlier cut r R ≡ step_lines_again v f x earlier cut r step

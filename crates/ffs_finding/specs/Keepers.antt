@@ -64,8 +64,8 @@ pub record CanPrintStep (k : Keeping) (earlier : ℕ) : Type 0 where
 abbrev pub step_text : Layout → Sought → (earlier : ℕ) → Keeping → Step → List ℕ
 step_text v s earlier k step = concat (step_lines_again v s.fragment s.number earlier k.cut (replay_in k) step)
 
--- the replay goes on after a step
-pub record GoesOn (v : Layout) (step : Step) (k k' : Keeping) : Type 0 where
+-- the replay continues after a step
+pub record Continues (v : Layout) (step : Step) (k k' : Keeping) : Type 0 where
   pub next : replay_in k' ≡ replay_step_by_cut v k.cut (replay_in k) step
   pub cut : k'.cut ≡ k.cut
 

@@ -1,5 +1,5 @@
 //! The fragments that inodes claim: phase 1 of a check (fsck(8)), run for what it leaves.
-ghost use Rattle.std.specs.Prelude.{◌+◌, ◌*◌, ◌≤◌};
+ghost use Rattle.std.specs.Prelude.{◌≡◌, ◌+◌, ◌*◌, ◌≤◌, length};
 ghost use Rattle.ffs_volume.specs.Report.Reads.{scan_reads};
 ghost use Rattle.ffs_finding.specs.Claims.{TakesClaims, discarding};
 
@@ -17,6 +17,9 @@ struct Discarding;
 
 impl Output for Discarding {
     ghost sink = { λ _. discarding };
+
+    // A piece is taken whole.
+    ghost was_put = { λ _ piece result _. result ≡ Ok (length piece) };
 
     fn failures(&self) -> u64 {
         0

@@ -4,9 +4,9 @@
 
 mod areas;
 mod faults;
-mod judged;
 mod lengths;
 mod row;
+mod watched;
 
 use row::Row;
 use std::{fs, io};

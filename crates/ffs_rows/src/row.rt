@@ -2,7 +2,7 @@
 
 use crate::Tally;
 use crate::areas::Areas;
-use crate::judged::JudgedImage;
+use crate::watched::WatchedImage;
 use ffs_check::args::Args;
 use ffs_check::check::check;
 use ffs_check::run::run;
@@ -92,13 +92,13 @@ impl Row {
         Ok(status)
     }
 
-    /// The row's image in memory, which judges its reads.
+    /// The row's image in memory, which watches its reads.
     ///
     /// # Errors
     /// The memory was refused.
-    fn judged(&self, alloc: Global) -> Result<JudgedImage<MemoryImage>, AllocError> {
+    fn watched(&self, alloc: Global) -> Result<WatchedImage<MemoryImage>, AllocError> {
         let areas = Areas::new(self.image.as_slice(), self.sector);
-        Ok(JudgedImage::new(self.in_memory(alloc)?, areas))
+        Ok(WatchedImage::new(self.in_memory(alloc)?, areas))
     }
 
     /// Compares the row with a check of its image in memory, of which each read covers no more than
@@ -108,7 +108,7 @@ impl Row {
     /// A file that can't be written or read, and standard output that failed.
     pub fn compare(&self, rt: &HostRuntime, tally: &mut Tally) -> io::Result<()> {
         let name = self.name.as_str();
-        let mut image = self.judged(rt.alloc())?;
+        let mut image = self.watched(rt.alloc())?;
         let (end, text) = self.checked(rt.alloc(), &mut image);
         let agrees = end.status() == self.status && text == self.report;
         tally.count(rt, name, "in memory", agrees)?;

@@ -15,7 +15,7 @@ const LONG: &str = "ffs_image_long_n.img";
 
 const LETTERS: &[u8; 4] = b"abcd";
 
-/// A system whose files have four letters, and tell their size or don't. Each read gives one of
+/// A system whose files have four letters, and give their size or don't. Each read gives one of
 /// them, and every second one fails. It counts the files that it opens.
 #[derive(Clone, Copy)]
 struct Letters {
@@ -145,7 +145,7 @@ fn opened(fifo: bool, sized: bool) -> (bool, u64) {
     (is_opened, system.opened)
 }
 
-/// Whether a file is a FIFO, whether it tells its size, whether it is opened, and how many files
+/// Whether a file is a FIFO, whether it gives its size, whether it is opened, and how many files
 /// the system opens for that.
 static OPENINGS: [(bool, bool, (bool, u64)); 3] = [
     (false, true, (true, 1)),

@@ -1,4 +1,4 @@
-//! An image that judges its reads.
+//! An image that watches its reads.
 
 ghost use Rattle.std.specs.Prelude.{◌≡◌};
 
@@ -15,18 +15,18 @@ pub struct Read {
 /// An image over another one, that finds the first read which covers more than one part of the
 /// volume.
 #[derive(Drop)]
-pub struct JudgedImage<I: Image + Drop> {
+pub struct WatchedImage<I: Image + Drop> {
     inner: I,
     areas: Areas,
     first_wrong: Option<Read>,
 }
 
-impl<I: Image + Drop> JudgedImage<I> {
-    /// Judges the reads of an image by the areas of its volume.
-    pub fn new(inner: I, areas: Areas) -> JudgedImage<I>
+impl<I: Image + Drop> WatchedImage<I> {
+    /// Watches the reads of an image by the areas of its volume.
+    pub fn new(inner: I, areas: Areas) -> WatchedImage<I>
         ensures { result.inner ≡ inner }
     {
-        JudgedImage {
+        WatchedImage {
             inner,
             areas,
             first_wrong: None,
@@ -39,7 +39,7 @@ impl<I: Image + Drop> JudgedImage<I> {
     }
 }
 
-impl<I: Image + Drop> Image for JudgedImage<I> {
+impl<I: Image + Drop> Image for WatchedImage<I> {
     ghost device = { λ w. I.device w.inner };
 
     ghost reads = { λ w. I.reads w.inner };
