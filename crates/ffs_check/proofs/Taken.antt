@@ -1,5 +1,5 @@
 -- What a check takes of its memory, after an accepted superblock.
-use Rattle.std.proofs.Common.{◌≡◌, arith, inl, inr, sym, subst, ℕ, Bool, true, false, List, Option, Ok, Err}
+use Rattle.std.proofs.Common.{◌≡◌, ◌*◌, ◌≤◌, arith, inl, inr, sym, subst, ℕ, Bool, true, false, List, Option, Ok, Err}
 use Rattle.ffs_image.specs.Device.{Device, ForContents}
 use Rattle.ffs_memory.specs.{Account.{Account, unused}, System.account_of, declared.system.SystemMemory.SystemMemory}
 use Rattle.ffs_volume.specs.declared.End.{End, TheVariants.{Consistent, Defects, RootStop, WriteFault, NoMemory}}
@@ -17,12 +17,15 @@ accepted_by image image' sector s (inr read) = λ bytes t. sym (read.1 bytes t)
 
 pub takes : (image on : Device) (name : List ℕ) (sector : Option ℕ) (start p : Progress) (found : Super)
     (old new : Account) →
-    SaysOpening image on start p name sector (Ok found) → AsksMemory old new (held_of found.geometry.layout) →
-    TakesWorkspace image sector old new
-takes image on name sector start p found old new o a = record {
+    SaysOpening image on start p name sector (Ok found) →
+    found.geometry.layout.size * found.geometry.layout.fsize ≤ image.size →
+    AsksMemory old new (held_of found.geometry.layout) → TakesWorkspace image sector old new
+takes image on name sector start p found old new o inside a = record {
   found = superblock_in found;
   accepted = accepted_by image on sector (superblock_in found)
       (subst (λ r. ReadsSuper image on sector r) o.ends.1 o.super_is_read);
+  sound = found.geometry.sound;
+  inside = inside;
   asked = a;
   within = omega arith;
 }

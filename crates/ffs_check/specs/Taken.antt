@@ -1,10 +1,10 @@
 -- What a check takes of its memory.
-use Rattle.std.specs.Prelude.{◌≡◌, ◌≤◌, ◌⊎◌, ℕ, Option, Ok}
+use Rattle.std.specs.Prelude.{◌≡◌, ◌≤◌, ◌*◌, ◌⊎◌, ℕ, Option, Ok}
 use Rattle.ffs_image.specs.Device.{Device, ForContents}
 use Rattle.ffs_memory.specs.{System.account_of, Account.{Account, Granted, GaveUp, RefusedOneMore, unused}}
 use Rattle.ffs_memory.specs.declared.system.SystemMemory.{SystemMemory}
 use Rattle.ffs_volume.specs.{declared.End.{End, TheVariants.NoMemory}, Report.Memory.held_limit, Disk.Outcome.outcome}
-use Rattle.ffs_volume.specs.Disk.Superblock.{Superblock}
+use Rattle.ffs_volume.specs.{Disk.Superblock.Superblock, Laws.Geometry.IsAcceptedLayout}
 use Rattle.ffs_workspace.specs.Lengths.{held_of}
 
 -- these bytes were granted, or a request was refused before all of them were
@@ -16,11 +16,13 @@ pub record TakesBytes (bytes : ℕ) (old new : Account) (end : End) : Type 0 whe
   pub asked : AsksMemory old new bytes
   pub refused : end ≡ NoMemory → RefusedOneMore old new
 
--- what the workspace of an accepted volume holds was granted and no byte more, which is within the
--- limit, or a request was refused
+-- what the workspace of an accepted volume, which lies in the image, holds was granted and no byte
+-- more, which is within the limit of that volume, or a request was refused
 pub record TakesWorkspace (image : Device) (asked_sector : Option ℕ) (old new : Account) : Type 0 where
   pub found : Superblock
   pub accepted : ForContents image.contents (λ bytes. outcome bytes asked_sector ≡ Ok found)
+  pub sound : IsAcceptedLayout found.layout
+  pub inside : found.layout.size * found.layout.fsize ≤ image.size
   pub asked : AsksMemory old new (held_of found.layout)
   pub within : held_of found.layout ≤ held_limit found.layout
 

@@ -75,18 +75,23 @@ asked bytes held held' (Err NoMemory) p = inr p
 
 takes : (search : Search) (sector : Option ℕ) (s : Superblock) (d : Device) (held held' : Account)
     (r : Result Bool FindFault) → ForContents d.contents (λ b. outcome b sector ≡ Ok s) →
+    IsAcceptedLayout s.layout → s.layout.size * s.layout.fsize ≤ d.size →
     TakesForSearch search s.layout held held' r → TakesMemory (InVolume sector search) d held held'
-takes (Inode number) sector s d held held' r accepted p = p.0
-takes Fields sector s d held held' r accepted p = p.0
-takes Lost sector s d held held' r accepted p = inr (record {
+takes (Inode number) sector s d held held' r accepted sound inside p = p.0
+takes Fields sector s d held held' r accepted sound inside p = p.0
+takes Lost sector s d held held' r accepted sound inside p = inr (record {
   found = s;
   accepted = accepted;
+  sound = sound;
+  inside = inside;
   asked = asked (held_of s.layout) held held' r p;
   within = held_within s.layout;
 })
-takes (Owner fragment) sector s d held held' r accepted p = inr (record {
+takes (Owner fragment) sector s d held held' r accepted sound inside p = inr (record {
   found = s;
   accepted = accepted;
+  sound = sound;
+  inside = inside;
   asked = asked (held_of s.layout) held held' r p;
   within = held_within s.layout;
 })
@@ -101,7 +106,7 @@ pub looked : (search : Search) (sector : Option ℕ) (s : Superblock) (d : Devic
     Looks (InVolume sector search) (record { image = d; reads = before; out = a }) m held held' r
 looked search sector s d before between a m held held' r accepted sound inside opened p t = record {
   answers = answers search sector s d accepted between before a m held held' r p.answer t;
-  memory = takes search sector s d held held' r accepted t;
+  memory = takes search sector s d held held' r accepted sound inside t;
   reads = inr (record {
     found = s;
     accepted = accepted;

@@ -13,7 +13,8 @@ pub record Moment : Type 0 where
   pub reads : ℕ
   pub out : Sink
 
--- the moment at which an image and an output are these
+-- the moment at which an image and an output are these. I and W are what their types give to contracts as
+-- an Image and as an Output: in a contract I.Image and W.Output
 abbrev pub moment : {I W : Type 0} → image.Ghosts I → output.Ghosts W → I → W → Moment
 moment I W image out = record { image = I.device image; reads = I.reads image; out = W.sink out }
 

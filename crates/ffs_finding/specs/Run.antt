@@ -24,7 +24,8 @@ abbrev pub IsFindText : List (List ℕ) → (text : List ℕ) → Type 0
 IsFindText words text =
     IsTextFor find_program find_refusal_text words text ⊎ (AskForNone words × (text ≡ no_command_text))
 
--- a command was looked for in an image, with memory of the system of which nothing was granted before
+-- what a command asks for was looked for in an image, with memory of the system of which nothing was
+-- granted before
 pub record IsLookedFor (command : Command) (old new : Moment) (status : ℕ) : Type 0 where
   pub memory : SystemMemory
   pub memory' : SystemMemory

@@ -143,7 +143,8 @@ Answers command old new held held' (Err (Run (Out fault))) =
 Answers command old new held held' (Err NoMemory) =
     (new.image ≡ old.image) × (new.out ≡ old.out) × RefusedOneMore held held'
 
--- all lines were printed, and the status is that of the command
+-- all lines were printed, which may be the one line of a refused superblock, and the status is that of
+-- the command
 pub record AllFound (command : Command) (old new : Moment) (status : ℕ) : Type 0 where
   pub no_read_failed : new.image ≡ old.image
   pub printed : PrintedTo (IsContents old.image.contents) (λ b. []) (command_lines command) old.out new.out
@@ -200,15 +201,15 @@ ReadsForCommand Copies d before after = ReadsCopies d before after
 ReadsForCommand (InVolume sector search) d before after =
     (after ≤ before + opening_reads) ⊎ ReadsVolume search sector d before after
 
--- a command was looked for, but for the line of a fault
+-- what a command asks for was looked for; the line of a fault is still to come
 pub record Looks (command : Command) (old new : Moment) (held held' : Account) (result : Result Bool FindFault) :
     Type 0 where
   pub answers : Answers command old new held held' result
   pub memory : TakesMemory command old.image held held'
   pub reads : ReadsForCommand command old.image old.reads new.reads
 
--- a command was looked for: what was printed and the status, what was taken of the memory, and how often
--- the image was read
+-- what a command asks for was looked for: what was printed and the status, what was taken of the memory,
+-- and how often the image was read
 pub record FindsCommand (command : Command) (old new : Moment) (held held' : Account) (status : ℕ) : Type 0 where
   pub ends : FindEnds command old new held held' status
   pub memory : TakesMemory command old.image held held'

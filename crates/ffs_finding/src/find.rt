@@ -52,76 +52,76 @@ impl From<AllocError> for FindFault {
     }
 }
 
-/// Prints a line of a report.
-fn print_line<W: Output>(out: &mut W, line: &Line<'_>) -> Result<(), OutFault>
-    ensures { Prints (W.sink out.old) (W.sink out.new) (text_of (message_of line.now)) result }
-{
-    Report::new(out).say(line)
-}
-
-/// Prints the line of a fault, if that has one, and returns the status.
-fn end<W: Output>(answer: Result<bool, FindFault>, out: &mut W) -> u8
-    ensures { EndsBy (W.sink out.old) (W.sink out.new) answer result }
-{
-    let line = match answer {
-        Ok(defect) => return u8::from(defect),
-        Err(FindFault::Refused(fault)) => fault_line(fault),
-        Err(FindFault::Run(RunFault::Read(fault))) => Line::CannotRead {
-            sector: fault.sector,
-        },
-        Err(FindFault::Run(RunFault::Out(_))) => return NOT_COMPLETED,
-        Err(FindFault::NoMemory) => Line::CannotAlloc,
-    };
-    let _ = print_line(out, &line);
-    NOT_COMPLETED
-}
-
-/// Runs phase 1 of a check, and looks for fragments that are lost, or marked as free though they are used.
+/// Looks in an image for what a command asks for, prints it, and returns the exit status: 0, 1
+/// where a defect was found, or 8 where the search didn't run to its end.
 ///
-/// # Errors
-/// A read of the image or a write failed, or the memory was refused.
-fn look_for_lost<M: Memory, I: Image, W: Output>(
+/// A superblock that is refused and a read that failed are reported as a check does; after a write
+/// that failed nothing more is printed.
+pub fn find_in<M: Memory, I: Image, W: Output>(
     memory: &mut M,
     image: &mut I,
-    superblock: &Super,
+    command: Command,
     out: &mut W,
-) -> Result<bool, FindFault>
-    requires volume { superblock.now.geometry.layout.size * superblock.now.geometry.layout.fsize
-        ≤ (I.device image.old).size }
-    ensures answer { (sector : Option ℕ) → Searches Lost sector (superblock_in superblock.now)
-        (moment I.Image W.Output image.old out.old) (moment I.Image W.Output image.new out.new)
+) -> u8
+    ensures { FindsCommand command (moment I.Image W.Output image.old out.old)
+        (moment I.Image W.Output image.new out.new) (M.account memory.old) (M.account memory.new)
         result }
-    ensures memory { TakesForSearch Lost superblock.now.geometry.layout (M.account memory.old)
-        (M.account memory.new) result }
 {
-    let geometry = &superblock.geometry;
-    let mut workspace = claimed_workspace(memory, image, geometry)?;
-    Ok(find_lost(image, geometry, &mut workspace, out)?)
+    let answer = look(memory, image, command, out);
+    end(answer, out)
 }
 
-/// Runs phase 1 of a check, and looks for what a fragment belongs to.
+/// Looks in an image for what a command asks for, and prints it, but for the line of a fault.
 ///
 /// # Errors
-/// A read of the image or a write failed, or the memory was refused.
-fn look_for_owner<M: Memory, I: Image, W: Output>(
+/// The superblock is refused, a read of the image or a write failed, or the memory was refused.
+fn look<M: Memory, I: Image, W: Output>(
     memory: &mut M,
     image: &mut I,
-    superblock: &Super,
-    fragment: u32,
+    command: Command,
     out: &mut W,
 ) -> Result<bool, FindFault>
-    requires volume { superblock.now.geometry.layout.size * superblock.now.geometry.layout.fsize
-        ≤ (I.device image.old).size }
-    ensures answer { (sector : Option ℕ) → Searches (Owner fragment) sector
-        (superblock_in superblock.now) (moment I.Image W.Output image.old out.old)
-        (moment I.Image W.Output image.new out.new) result }
-    ensures memory { TakesForSearch (Owner fragment) superblock.now.geometry.layout
-        (M.account memory.old) (M.account memory.new) result }
+    ensures { Looks command (moment I.Image W.Output image.old out.old)
+        (moment I.Image W.Output image.new out.new) (M.account memory.old) (M.account memory.new)
+        result }
 {
-    let geometry = &superblock.geometry;
-    let mut workspace = claimed_workspace(memory, image, geometry)?;
-    find_owner(image, geometry, &mut workspace, fragment, out)?;
+    match command {
+        Command::Copies => look_for_copies(memory, image, out),
+        Command::InVolume { sector, search } => look_in_volume(memory, image, sector, search, out),
+    }
+}
+
+/// Takes a window, and looks for copies of the superblock.
+fn look_for_copies<M: Memory, I: Image, W: Output>(
+    memory: &mut M,
+    image: &mut I,
+    out: &mut W,
+) -> Result<bool, FindFault>
+    ensures { Looks Copies (moment I.Image W.Output image.old out.old)
+        (moment I.Image W.Output image.new out.new) (M.account memory.old) (M.account memory.new)
+        result }
+{
+    let mut window = Window::over(memory.bytes(WINDOW_BYTES as usize)?);
+    find_copies(image, &mut window, out)?;
     Ok(false)
+}
+
+/// Looks for something in a volume.
+fn look_in_volume<M: Memory, I: Image, W: Output>(
+    memory: &mut M,
+    image: &mut I,
+    sector: Option<u32>,
+    what: Search,
+    out: &mut W,
+) -> Result<bool, FindFault>
+    ensures { Looks (InVolume sector what) (moment I.Image W.Output image.old out.old)
+        (moment I.Image W.Output image.new out.new) (M.account memory.old) (M.account memory.new)
+        result }
+{
+    match read_super(image, sector) {
+        Ok(superblock) => search(memory, image, sector, what, &superblock, out),
+        Err(fault) => Err(FindFault::Refused(fault)),
+    }
 }
 
 /// Looks for something in a volume with an accepted superblock, and returns whether a defect was
@@ -156,74 +156,76 @@ fn search<M: Memory, I: Image, W: Output>(
     }
 }
 
-/// Looks for something in a volume.
-fn look_in_volume<M: Memory, I: Image, W: Output>(
+/// Runs phase 1 of a check, and looks for fragments that are lost, or marked as free though they are used.
+///
+/// # Errors
+/// A read of the image or a write failed, or the memory was refused.
+fn look_for_lost<M: Memory, I: Image, W: Output>(
     memory: &mut M,
     image: &mut I,
-    sector: Option<u32>,
-    what: Search,
+    superblock: &Super,
     out: &mut W,
 ) -> Result<bool, FindFault>
-    ensures { Looks (InVolume sector what) (moment I.Image W.Output image.old out.old)
-        (moment I.Image W.Output image.new out.new) (M.account memory.old) (M.account memory.new)
+    requires volume { superblock.now.geometry.layout.size * superblock.now.geometry.layout.fsize
+        ≤ (I.device image.old).size }
+    // Whichever sector the superblock came from: only `fields` prints it.
+    ensures answer { (sector : Option ℕ) → Searches Lost sector (superblock_in superblock.now)
+        (moment I.Image W.Output image.old out.old) (moment I.Image W.Output image.new out.new)
         result }
+    ensures memory { TakesForSearch Lost superblock.now.geometry.layout (M.account memory.old)
+        (M.account memory.new) result }
 {
-    match read_super(image, sector) {
-        Ok(superblock) => search(memory, image, sector, what, &superblock, out),
-        Err(fault) => Err(FindFault::Refused(fault)),
-    }
+    let geometry = &superblock.geometry;
+    let mut workspace = claimed_workspace(memory, image, geometry)?;
+    Ok(find_lost(image, geometry, &mut workspace, out)?)
 }
 
-/// Takes a window, and looks for copies of the superblock.
-fn look_for_copies<M: Memory, I: Image, W: Output>(
+/// Runs phase 1 of a check, and looks for what a fragment belongs to.
+///
+/// # Errors
+/// A read of the image or a write failed, or the memory was refused.
+fn look_for_owner<M: Memory, I: Image, W: Output>(
     memory: &mut M,
     image: &mut I,
+    superblock: &Super,
+    fragment: u32,
     out: &mut W,
 ) -> Result<bool, FindFault>
-    ensures { Looks Copies (moment I.Image W.Output image.old out.old)
-        (moment I.Image W.Output image.new out.new) (M.account memory.old) (M.account memory.new)
-        result }
+    requires volume { superblock.now.geometry.layout.size * superblock.now.geometry.layout.fsize
+        ≤ (I.device image.old).size }
+    // Whichever sector the superblock came from: only `fields` prints it.
+    ensures answer { (sector : Option ℕ) → Searches (Owner fragment) sector
+        (superblock_in superblock.now) (moment I.Image W.Output image.old out.old)
+        (moment I.Image W.Output image.new out.new) result }
+    ensures memory { TakesForSearch (Owner fragment) superblock.now.geometry.layout
+        (M.account memory.old) (M.account memory.new) result }
 {
-    let mut window = Window::over(memory.bytes(WINDOW_BYTES as usize)?);
-    find_copies(image, &mut window, out)?;
+    let geometry = &superblock.geometry;
+    let mut workspace = claimed_workspace(memory, image, geometry)?;
+    find_owner(image, geometry, &mut workspace, fragment, out)?;
     Ok(false)
 }
 
-/// Looks in an image for what a command asks for, and prints it, but for the line of a fault.
-///
-/// # Errors
-/// The superblock is refused, a read of the image or a write failed, or the memory was refused.
-fn look<M: Memory, I: Image, W: Output>(
-    memory: &mut M,
-    image: &mut I,
-    command: Command,
-    out: &mut W,
-) -> Result<bool, FindFault>
-    ensures { Looks command (moment I.Image W.Output image.old out.old)
-        (moment I.Image W.Output image.new out.new) (M.account memory.old) (M.account memory.new)
-        result }
+/// Prints the line of a fault, if that has one, and returns the status.
+fn end<W: Output>(answer: Result<bool, FindFault>, out: &mut W) -> u8
+    ensures { EndsBy (W.sink out.old) (W.sink out.new) answer result }
 {
-    match command {
-        Command::Copies => look_for_copies(memory, image, out),
-        Command::InVolume { sector, search } => look_in_volume(memory, image, sector, search, out),
-    }
+    let line = match answer {
+        Ok(defect) => return u8::from(defect),
+        Err(FindFault::Refused(fault)) => fault_line(fault),
+        Err(FindFault::Run(RunFault::Read(fault))) => Line::CannotRead {
+            sector: fault.sector,
+        },
+        Err(FindFault::Run(RunFault::Out(_))) => return NOT_COMPLETED,
+        Err(FindFault::NoMemory) => Line::CannotAlloc,
+    };
+    let _ = print_line(out, &line);
+    NOT_COMPLETED
 }
 
-/// Looks in an image for what a command asks for, prints it, and returns the exit status: 0, 1
-/// where a defect was found, or 8 where the search didn't run to its end.
-///
-/// A superblock that is refused and a read that failed are reported as a check does; after a write
-/// that failed nothing more is printed.
-pub fn find_in<M: Memory, I: Image, W: Output>(
-    memory: &mut M,
-    image: &mut I,
-    command: Command,
-    out: &mut W,
-) -> u8
-    ensures { FindsCommand command (moment I.Image W.Output image.old out.old)
-        (moment I.Image W.Output image.new out.new) (M.account memory.old) (M.account memory.new)
-        result }
+/// Prints a line of a report.
+fn print_line<W: Output>(out: &mut W, line: &Line<'_>) -> Result<(), OutFault>
+    ensures { Prints (W.sink out.old) (W.sink out.new) (text_of (message_of line.now)) result }
 {
-    let answer = look(memory, image, command, out);
-    end(answer, out)
+    Report::new(out).say(line)
 }

@@ -116,7 +116,7 @@ fn print_ranges<W: Output>(out: &mut W, map: &GroupMap<'_>, wrong: Wrong) -> Res
     Ok(any)
 }
 
-/// Prints once that a group has no map: before the fragments that are marked as free nothing.
+/// Prints that a group has no map, in the pass over lost fragments alone, so once.
 fn print_no_map<W: Output>(out: &mut W, group: u32, wrong: Wrong) -> Result<bool, OutFault>
     ensures { PrintsWhether (no_map_lines wrong group) (W.sink out.old) (W.sink out.new) result }
 {

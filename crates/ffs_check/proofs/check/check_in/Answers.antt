@@ -32,7 +32,12 @@ returns-in-Ok-clause-failures g c = record {
 pub returns-in-Ok-clause-memory : goal.returns-in-Ok-clause-memory
 returns-in-Ok-clause-memory g c =
     let memory = c.check_accepted.ensures.memory in
-    record { takes = grind (arith, takes); refused = memory.refused }
+    let opened = c.in-Ok.ensures in
+    record {
+      takes = inr (takes _ _ _ _ _ _ c.in-Ok.superblock _ _ opened.opened opened.answers.inside_or_unreadable
+          memory.asked);
+      refused = memory.refused;
+    }
 
 pub returns-in-Err-clause-memory : goal.returns-in-Err-clause-memory
 returns-in-Err-clause-memory g c = record {
