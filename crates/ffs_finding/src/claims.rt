@@ -1,5 +1,5 @@
 //! The fragments that inodes claim: phase 1 of a check (fsck(8)), run for what it leaves.
-ghost use Rattle.std.specs.Prelude.{◌≡◌, ◌+◌, ◌*◌, ◌≤◌, length};
+ghost use Rattle.std.specs.Prelude.{◌≡◌, ◌+◌, ◌*◌, ◌≤◌, Ok, length};
 ghost use Rattle.ffs_volume.specs.Report.Reads.{scan_reads};
 ghost use Rattle.ffs_finding.specs.Claims.{TakesClaims, discarding};
 
