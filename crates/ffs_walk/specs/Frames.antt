@@ -5,7 +5,7 @@ use Rattle.ffs_image.specs.{Device.{Device, ForContents}, declared.image.ImageFa
 use Rattle.ffs_volume.specs.{declared.{Layout.Layout, Step.{Step, TheVariants.Tail}}, Blocks.Steps.block_bytes}
 use Rattle.ffs_volume.specs.Blocks.Steps.{tail_of, any_nonzero_from, steps_under}
 use Rattle.ffs_walk.specs.declared.{blocks.Blocks.Blocks, frame.{Frame.Frame, Item.Item}}
-use Rattle.ffs_walk.specs.{declared.frame.Item.TheVariants.{UnusedWord, Word}, Counts.ReadsFrame, Windows.CanFill}
+use Rattle.ffs_walk.specs.{declared.frame.Item.TheVariants.{UnusedWord, Word}, Windows.CanFill}
 
 -- the steps that a frame has left, where `child` has the steps at an address
 abbrev pub frame_rest : Layout → List ℕ → (ℕ → ℕ → List Step) → ℕ → Frame → List Step
@@ -54,11 +54,10 @@ pub record CanTake (v : Layout) (d : Device) (span level : ℕ) (f : Frame) (blo
   pub small : f.first + f.next * span < 2 ^ 64
   pub ready : CanFill v d level f.address blocks
 
--- the next item of a frame is taken, from its block, which is read where it isn't held and counts as read
--- then; where a read failed none is taken. In both cases the frame stays in its block
-pub record TakesItem (v : Layout) (d d' : Device) (reads reads' span level : ℕ) (old new : Frame)
-    (before after : Blocks) (result : Result Item ImageFault) : Type 0 where
-  pub item : IfOk result (IsNextItem v d.contents span old new)
-  pub block : ReadsFrame v d d' reads reads' level old new before after result
+-- the next item of a frame is taken, in an image of these contents, and its block counts as read then; where
+-- a read failed none is taken. In both cases the frame stays in its block
+pub record TakesItem (v : Layout) (contents : Option (List ℕ)) (span : ℕ) (old new : Frame)
+    (result : Result Item ImageFault) : Type 0 where
+  pub item : IfOk result (IsNextItem v contents span old new)
   pub read : OnOk result (new.unread ≡ false)
   pub same : IsSameBlock old new

@@ -1,7 +1,7 @@
 -- What is left of a walk.
 use Rattle.std.specs.Prelude.{◌≡◌, ℕ, zero, suc, ◌+◌, ◌-◌, ◌*◌, ◌<◌, ◌≤◌, List, [], ◌∷◌, ◌++◌, if◌then◌else◌, Option}
 use Rattle.std.specs.Prelude.{None, IfSome, MatchOption, Result, Ok, IfOk, OnErr}
-use Rattle.ffs_image.specs.{Device.{Device, ForContents}, declared.image.ImageFault.ImageFault}
+use Rattle.ffs_image.specs.{Device.ForContents, declared.image.ImageFault.ImageFault}
 use Rattle.ffs_volume.specs.declared.{Class.Class, Inode.Inode, Step.Step}
 use Rattle.ffs_volume.specs.Blocks.{Inodes.{class_of, logical_blocks_of}, Steps.FileBlocks}
 use Rattle.ffs_volume.specs.Blocks.Steps.{data_step, indirect_steps, steps_at, steps_of, steps_of_addresses, is_walked}
@@ -9,7 +9,7 @@ use Rattle.ffs_layout.specs.declared.geometry.Geometry.{Geometry}
 use Rattle.ffs_walk.specs.{declared.{walk.Walk.Walk, frame.{Frame.Frame, Item.Item}}, Frames.{frame_rest, frame_left}}
 use Rattle.ffs_walk.specs.{Frames.{item_steps, item_left}, Fits.{FrameFits, IsBelow, IsSpent}, Lengths.IsStepOf}
 use Rattle.ffs_walk.specs.Counts.{AreHeld, EntersOnly, IsEntered, StepReads, entered, entered_by}
-use Rattle.ffs_walk.specs.{Windows.BlocksAfter, declared.blocks.Blocks.Blocks}
+use Rattle.ffs_walk.specs.{Windows.{BlocksAfter, ImageWith}, declared.blocks.Blocks.Blocks}
 
 -- the blocks of the file that a walk is over, as the definition of steps takes them
 abbrev pub file_blocks_of : Walk → FileBlocks
@@ -144,11 +144,11 @@ pub record GivesStep (contents : Option (List ℕ)) (old new : Walk) (result : R
 
 -- the next step of a walk is taken, or a read failed, which doesn't end the walk: what is given and
 -- what is left. Where the blocks that were read are held, only one that was still to be read is read
-pub record Advances (d d' : Device) (reads reads' : ℕ) (before after : Blocks) (old new : Walk)
-    (result : Result (Option Step) ImageFault) : Type 0 where
-  pub gives : GivesStep d.contents old new result
-  pub leaves : BlocksAfter old.geometry.layout d d' before after result
-  pub counted : AreHeld before old → StepReads reads reads' after old new result
+pub record Advances (before after : ImageWith Blocks) (old new : Walk) (result : Result (Option Step) ImageFault) :
+    Type 0 where
+  pub gives : GivesStep before.image.contents old new result
+  pub leaves : BlocksAfter old.geometry.layout before after result
+  pub counted : AreHeld before.cache old → StepReads before after old new result
 
 -- the step at the next of the inode's own addresses is taken, whatever the image holds; where there
 -- is none, the walk stays as it is
@@ -159,11 +159,11 @@ pub record IsTopStep (old new : Walk) (answer : Option Step) : Type 0 where
 
 -- the next step of a walk is taken, and the walk has the others left; it is over after a failed
 -- read. Where the blocks that were read are held, only one that was still to be read is read
-pub record TakesStep (d d' : Device) (reads reads' : ℕ) (before after : Blocks) (old new : Walk)
-    (result : Result (Option Step) ImageFault) : Type 0 where
-  pub step : IfOk result (IsNextStep d.contents old new)
+pub record TakesStep (before after : ImageWith Blocks) (old new : Walk) (result : Result (Option Step) ImageFault) :
+    Type 0 where
+  pub step : IfOk result (IsNextStep before.image.contents old new)
   pub over : IsOver old → result ≡ Ok None
   pub fault : OnErr result (IsOver new)
   pub same : SameFileBlocks old new
-  pub leaves : BlocksAfter old.geometry.layout d d' before after result
-  pub counted : AreHeld before old → StepReads reads reads' after old new result
+  pub leaves : BlocksAfter old.geometry.layout before after result
+  pub counted : AreHeld before.cache old → StepReads before after old new result

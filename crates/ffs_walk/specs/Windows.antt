@@ -2,10 +2,23 @@
 use Rattle.std.specs.Prelude.{◌≡◌, ◌*◌, ◌+◌, ◌<◌, ◌≤◌, ℕ, List, length, take, Option, Some, None, vec_len, get_or}
 use Rattle.std.specs.Prelude.{Result, OnOk, OnErr, IsTrue}
 use Rattle.ffs_image.specs.{Device.{Device, ForContents}, Reads.ReadAfter, declared.image.ImageFault.ImageFault}
+use Rattle.ffs_image.specs.declared.image.Image as image
 use Rattle.ffs_volume.specs.{declared.Layout.Layout, Disk.{Areas.is_run_in_range, Numbers.piece}}
 use Rattle.ffs_volume.specs.Blocks.Steps.{address_in, block_bytes}
 use Rattle.ffs_memory.specs.declared.fixed_list.FixedList.{FixedList}
 use Rattle.ffs_walk.specs.declared.{window.Window.Window, blocks.Blocks.Blocks}
+
+-- a moment of an image that is read through a cache, as a window or the blocks of a walk: the image, how
+-- often it was read by then, and the cache
+pub record ImageWith (T : Type 0) : Type 0 where
+  pub image : Device
+  pub reads : ℕ
+  pub cache : T
+
+-- the moment at which an image and its cache are these. I is what its type gives to contracts as an
+-- Image: in a contract I.Image
+abbrev pub image_with : {I T : Type 0} → image.Ghosts I → I → T → ImageWith T
+image_with I image cache = record { image = I.device image; reads = I.reads image; cache = cache }
 
 -- the bytes that a window holds
 abbrev pub held_bytes : Window → List ℕ
@@ -57,10 +70,10 @@ pub record KeepsBlocks (v : Layout) (contents : Option (List ℕ)) (before after
 
 -- a call that may read an indirect block leaves the image as a read does, and blocks that hold what
 -- the image gives
-pub record BlocksAfter {T : Type 0} (v : Layout) (d d' : Device) (before after : Blocks)
-    (result : Result T ImageFault) : Type 0 where
-  pub kept : KeepsBlocks v d'.contents before after
-  pub read : ReadAfter d d' result
+pub record BlocksAfter {T : Type 0} (v : Layout) (old new : ImageWith Blocks) (result : Result T ImageFault) : Type 0
+  where
+    pub kept : KeepsBlocks v new.image.contents old.cache new.cache
+    pub read : ReadAfter old.image new.image result
 
 -- the block at an address is held for a level, with the image's bytes, where the image gives them
 pub record HoldsBlockAt (v : Layout) (contents : Option (List ℕ)) (level address : ℕ) (blocks : Blocks) : Type 0
@@ -76,13 +89,13 @@ pub record CanFill (v : Layout) (d : Device) (level address : ℕ) (blocks : Blo
 
 -- the block at an address is held for a level, or a read of it failed; the other levels hold what
 -- they held. It is read at most once, and not where it was held already
-pub record FillsBlock {T : Type 0} (v : Layout) (d d' : Device) (reads reads' level address : ℕ) (before after : Blocks)
+pub record FillsBlock {T : Type 0} (v : Layout) (level address : ℕ) (old new : ImageWith Blocks)
     (result : Result T ImageFault) : Type 0 where
-  pub held : OnOk result (HoldsBlockAt v d.contents level address after)
-  pub leaves : BlocksAfter v d d' before after result
-  pub others : (other : ℕ) → (other ≡ level → ⊥) → held_address other after ≡ held_address other before
-  pub counted : reads' ≤ reads + 1
-  pub again : held_address level before ≡ Some address → reads' ≤ reads
+  pub held : OnOk result (HoldsBlockAt v old.image.contents level address new.cache)
+  pub leaves : BlocksAfter v old new result
+  pub others : (other : ℕ) → (other ≡ level → ⊥) → held_address other new.cache ≡ held_address other old.cache
+  pub counted : new.reads ≤ old.reads + 1
+  pub again : held_address level old.cache ≡ Some address → new.reads ≤ old.reads
 
 -- `size` bytes of a place may be asked for: the image has them, and the window has room for them and
 -- holds what the image gives
@@ -93,16 +106,16 @@ pub record CanFillWindow (d : Device) (at size : ℕ) (w : Window) : Type 0 wher
 
 -- a window with the room that it had holds `size` bytes of a place, or after a failed read none. They
 -- are read at most once, and not where it held just these
-pub record FillsWindow {T : Type 0} (d d' : Device) (reads reads' at size : ℕ) (before after : Window)
-    (result : Result T ImageFault) : Type 0 where
-  pub bytes : OnOk result (ForContents d.contents (λ b. held_bytes after ≡ piece at size b))
-  pub place : OnOk result ((after.place ≡ at) × (after.length ≡ size))
-  pub empty : OnErr result (after.length ≡ 0)
-  pub room : vec_len after.buffer ≡ vec_len before.buffer
-  pub holds : WindowHolds d'.contents after
-  pub read : ReadAfter d d' result
-  pub counted : reads' ≤ reads + 1
-  pub again : before.place ≡ at → before.length ≡ size → reads' ≤ reads
+pub record FillsWindow {T : Type 0} (at size : ℕ) (old new : ImageWith Window) (result : Result T ImageFault) : Type 0
+  where
+    pub bytes : OnOk result (ForContents old.image.contents (λ b. held_bytes new.cache ≡ piece at size b))
+    pub place : OnOk result ((new.cache.place ≡ at) × (new.cache.length ≡ size))
+    pub empty : OnErr result (new.cache.length ≡ 0)
+    pub room : vec_len new.cache.buffer ≡ vec_len old.cache.buffer
+    pub holds : WindowHolds new.image.contents new.cache
+    pub read : ReadAfter old.image new.image result
+    pub counted : new.reads ≤ old.reads + 1
+    pub again : old.cache.place ≡ at → old.cache.length ≡ size → new.reads ≤ old.reads
 
 -- a window over a list that holds nothing, and so what any image gives
 pub record IsEmptyWindow (list : FixedList ℕ) (w : Window) : Type 0 where

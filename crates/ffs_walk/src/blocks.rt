@@ -16,7 +16,7 @@ pub struct Blocks {
 }
 
 impl Blocks {
-    ghost use Rattle.ffs_walk.specs.Windows.{AreEmptyBlocks, AreLevelBytes, CanFill, FillsBlock, HasLevel};
+    ghost use Rattle.ffs_walk.specs.Windows.{AreEmptyBlocks, AreLevelBytes, CanFill, FillsBlock, HasLevel, image_with};
 
     /// Blocks that hold nothing, over a buffer of at least three blocks' bytes. It takes no memory.
     pub fn over(buffer: FixedList<u8>) -> Blocks
@@ -42,8 +42,8 @@ impl Blocks {
         image: &mut I,
     ) -> Result<(), ImageFault>
         requires { CanFill geometry.now.layout (I.device image.old) level address self.old }
-        ensures { FillsBlock geometry.now.layout (I.device image.old) (I.device image.new)
-            (I.reads image.old) (I.reads image.new) level address self.old self.new result }
+        ensures { FillsBlock geometry.now.layout level address
+            (image_with I.Image image.old self.old) (image_with I.Image image.new self.new) result }
     {
         if self.held[level] == Some(address) {
             return Ok(());

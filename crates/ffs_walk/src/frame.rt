@@ -36,7 +36,7 @@ pub enum Item {
 
 impl Frame {
     ghost use Rattle.ffs_walk.specs.{Fits.{HasNoWords, IsWordLeft}, Frames.{CanTake, TakesItem}};
-    ghost use Rattle.ffs_walk.specs.Skips.{CanSkip, PassesZeros};
+    ghost use Rattle.ffs_walk.specs.{Counts.ReadsFrame, Skips.{CanSkip, PassesZeros}, Windows.{BlocksAfter, image_with}};
 
     /// A frame of no words, in no block.
     pub fn spent() -> Frame
@@ -73,9 +73,12 @@ impl Frame {
         blocks: &mut Blocks,
     ) -> Result<Item, ImageFault>
         requires { CanTake geometry.now.layout (I.device image.old) span level self.old blocks.old }
-        ensures { TakesItem geometry.now.layout (I.device image.old) (I.device image.new)
-            (I.reads image.old) (I.reads image.new) span level self.old self.new blocks.old
-            blocks.new result }
+        ensures item { TakesItem geometry.now.layout (I.device image.old).contents span self.old
+            self.new result }
+        ensures block { ReadsFrame level self.old self.new (image_with I.Image image.old blocks.old)
+            (image_with I.Image image.new blocks.new) result }
+        ensures leaves { BlocksAfter geometry.now.layout (image_with I.Image image.old blocks.old)
+            (image_with I.Image image.new blocks.new) result }
     {
         blocks.fill(geometry, level, self.address, image)?;
         let block = blocks.bytes(geometry, level);

@@ -54,7 +54,7 @@ impl Walk {
     ghost use Rattle.ffs_walk.specs.{Fits.{CanEnter, IsIndirect}, Skips.{EndsZeroAddresses, PassesGaps}};
     ghost use Rattle.ffs_walk.specs.Rests.{Advances, ComesNext, Enters, IsAtTop, IsDataStep, IsFirstOf};
     ghost use Rattle.ffs_walk.specs.Rests.{IsEndedWalk, IsTopStep, IsWalkByClass, IsWalkOf, Stops, TakesStep};
-    ghost use Rattle.ffs_walk.specs.Windows.{CanWalk, HasRoom};
+    ghost use Rattle.ffs_walk.specs.Windows.{CanWalk, HasRoom, image_with};
     ghost use Rattle.ffs_walk.specs.HeldWords.{CanSeeWord, IsInHeldBlock, CanPassWord, PassesNextWord};
     ghost use Rattle.ffs_walk.specs.HeldWords.{next_address};
     ghost use Rattle.ffs_walk.specs.declared.blocks.Blocks.{Blocks};
@@ -220,8 +220,8 @@ impl Walk {
         blocks: &mut Blocks,
     ) -> Result<Option<Step>, ImageFault>
         requires { CanWalk self.old.geometry.layout (I.device image.old) blocks.old }
-        ensures { Advances (I.device image.old) (I.device image.new) (I.reads image.old)
-            (I.reads image.new) blocks.old blocks.new self.old self.new result }
+        ensures { Advances (image_with I.Image image.old blocks.old)
+            (image_with I.Image image.new blocks.new) self.old self.new result }
     {
         let words = u64::from(self.geometry.layout.nindir);
         if self.single.is_left() {
@@ -265,8 +265,8 @@ impl Walk {
         blocks: &mut Blocks,
     ) -> Result<Option<Step>, ImageFault>
         requires { CanWalk self.old.geometry.layout (I.device image.old) blocks.old }
-        ensures { TakesStep (I.device image.old) (I.device image.new) (I.reads image.old)
-            (I.reads image.new) blocks.old blocks.new self.old self.new result }
+        ensures { TakesStep (image_with I.Image image.old blocks.old)
+            (image_with I.Image image.new blocks.new) self.old self.new result }
     {
         match self.advance(image, blocks) {
             Ok(step) => Ok(step),

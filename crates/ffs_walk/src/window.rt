@@ -19,7 +19,7 @@ pub struct Window {
 }
 
 impl Window {
-    ghost use Rattle.ffs_walk.specs.Windows.{CanFillWindow, FillsWindow, IsEmptyWindow, held_bytes};
+    ghost use Rattle.ffs_walk.specs.Windows.{CanFillWindow, FillsWindow, IsEmptyWindow, held_bytes, image_with};
 
     /// A window that holds nothing. It takes no memory.
     pub fn over(buffer: FixedList<u8>) -> Window
@@ -50,8 +50,8 @@ impl Window {
         length: usize,
     ) -> Result<(), ImageFault>
         requires { CanFillWindow (I.device image.old) place length self.old }
-        ensures fills { FillsWindow (I.device image.old) (I.device image.new) (I.reads image.old)
-            (I.reads image.new) place length self.old self.new result }
+        ensures fills { FillsWindow place length (image_with I.Image image.old self.old)
+            (image_with I.Image image.new self.new) result }
     {
         if self.is_at(place, length) {
             return Ok(());

@@ -3,8 +3,8 @@ use Rattle.ffs_walk.proofs.FrameSteps.{word_taken, less_left}
 use Rattle.ffs_walk.proofs.frame.Frame.take.Goals as goal
 use Rattle.ffs_walk.proofs.frame.Frame.take.Goals.{then-self+else-any_from, else-self}
 
-pub returns : goal.returns
-returns g c =
+pub returns-clause-item : goal.returns-clause-item
+returns-clause-item g c =
     let known : c.if-self.self.1.1.1.1.1.0 ≡ false = grind arith in
     record {
       item = record {
@@ -16,7 +16,6 @@ returns g c =
             (grind arith) c.word-address.ensures);
         falls = rw known (λ most. less_left most c.args.self.now c.requires.left);
       };
-      block = search rules;
       read = known;
       same = search rules;
     }

@@ -27,21 +27,21 @@ take-requires-then-is_left-3 g c =
 
 pub returns-then-is_left : goal.returns-then-is_left
 returns-then-is_left g c =
-    let took = c.in_ok-item.ensures in
+    let took = c.in_ok-item.ensures.item in
     let first = c.step_in_single.ensures in
     record {
       gives = gives_one _ _ _ _ (λ h. omega (arith, h.single.0, c.is_left.ensures.left.0 c.if-is_left.true))
           (λ bytes t. in_first _ _ _ _ (took.item.steps bytes t (steps_at (file_blocks_of c.args.self.now) bytes 0))
           ∙ first.steps bytes)
           first.fits (omega (arith, took.item.falls 1, first.left)) (record { geometry = refl; blocks = refl });
-      leaves = record { kept = took.block.leaves.kept; read = took.block.leaves.read };
+      leaves = record { kept = c.in_ok-item.ensures.leaves.kept; read = c.in_ok-item.ensures.leaves.read };
       counted = grind arith;
     }
 
 pub returns-then-is_left-2 : goal.returns-then-is_left-2
 returns-then-is_left-2 g c =
     let w = c.args.self.now in
-    let took = c.in_ok-item-2.ensures in
+    let took = c.in_ok-item-2.ensures.item in
     let steps = rw c.from-words.ensures at took.item.steps in
     let first = c.step_in_double.ensures in
     record {
@@ -53,14 +53,14 @@ returns-then-is_left-2 g c =
           (steps bytes t (child 1)) ∙ first.steps bytes)
           first.fits (omega (arith, first.left, took.item.falls (most_at w.geometry.layout.nindir 1)))
           (record { geometry = first.same.geometry; blocks = first.same.blocks });
-      leaves = record { kept = took.block.leaves.kept; read = took.block.leaves.read };
-      counted = λ h. double_reads _ _ _ _ _ _ _ _ _ h took.block took.read refl refl first.counted;
+      leaves = record { kept = c.in_ok-item-2.ensures.leaves.kept; read = c.in_ok-item-2.ensures.leaves.read };
+      counted = λ h. double_reads _ _ _ _ _ _ _ h c.in_ok-item-2.ensures.block took.read refl refl first.counted;
     }
 
 pub returns-then-is_left-3 : goal.returns-then-is_left-3
 returns-then-is_left-3 g c =
     let w = c.args.self.now in
-    let took = c.in_ok-item-3.ensures in
+    let took = c.in_ok-item-3.ensures.item in
     let steps = rw c.from-words.ensures at took.item.steps in
     let first = c.step_in_triple.ensures in
     record {
@@ -73,8 +73,8 @@ returns-then-is_left-3 g c =
           (c.is_left-2.ensures.spent c.if-is_left-2.false)) (steps bytes t (child 2)) ∙ first.steps bytes)
           first.fits (omega (arith, first.left, took.item.falls (most_at w.geometry.layout.nindir 2)))
           (record { geometry = first.same.geometry; blocks = first.same.blocks });
-      leaves = record { kept = took.block.leaves.kept; read = took.block.leaves.read };
-      counted = λ h. triple_reads _ _ _ _ _ _ _ _ _ h took.block took.read refl refl first.counted;
+      leaves = record { kept = c.in_ok-item-3.ensures.leaves.kept; read = c.in_ok-item-3.ensures.leaves.read };
+      counted = λ h. triple_reads _ _ _ _ _ _ _ h c.in_ok-item-3.ensures.block took.read refl refl first.counted;
     }
 
 pub returns : goal.returns
