@@ -7,7 +7,7 @@ use Rattle.ffs_memory.specs.declared.fixed_list.FixedList.{FixedList}
 use Rattle.ffs_volume.specs.declared.{constants.TheConstants.DINODE_SIZE, Inode.Inode, Layout.Layout}
 use Rattle.ffs_volume.specs.{Blocks.Inodes.inode_of, Disk.Areas.{cgstart, inode_place}, Laws.Geometry.IsAcceptedLayout}
 use Rattle.ffs_volume.specs.Disk.Numbers.{piece}
-use Rattle.ffs_walk.specs.Windows.{WindowHolds, held_bytes}
+use Rattle.ffs_walk.specs.Windows.{ImageWith, WindowHolds, held_bytes}
 use Rattle.ffs_workspace.specs.declared.table.Table.{Table}
 
 -- a block of the inode table is whole pieces of n inodes
@@ -93,12 +93,12 @@ pub record TableAfter {T : Type 0} (v : Layout) (d d' : Device) (t : Table) (res
     pub read : ReadAfter d d' result
 
 -- the piece of n inodes of the table that has the inode x is read, by one read at most
-pub record ReadsPiece {T : Type 0} (v : Layout) (d d' : Device) (reads reads' n x : ℕ) (t : Table)
+pub record ReadsPiece {T : Type 0} (v : Layout) (n x : ℕ) (old new : ImageWith Table)
     (result : Result T ImageFault) : Type 0 where
-  pub has : OnOk result (HoldsInode t x)
-  pub piece : OnOk result (HoldsPiece v n x t)
-  pub leaves : TableAfter v d d' t result
-  pub counted : reads' ≤ reads + 1
+  pub has : OnOk result (HoldsInode new.cache x)
+  pub piece : OnOk result (HoldsPiece v n x new.cache)
+  pub leaves : TableAfter v old.image new.image new.cache result
+  pub counted : new.reads ≤ old.reads + 1
 
 -- the inode x is read: it is that of the image's bytes, where the image gives them, and the table holds
 -- what the image gives
@@ -121,21 +121,20 @@ TakesPiece v n x old new result = (HoldsInode old x → new ≡ old) ×
 
 -- the bytes of the inode x are in the window from the place on that is returned. They are read at most
 -- once, with their block, and not where the table held the inode
-pub record LoadsInode (v : Layout) (d d' : Device) (reads reads' x : ℕ) (old new : Table)
-    (result : Result ℕ ImageFault) : Type 0 where
-  pub there : IfOk result (IsHeldAt v d.contents new x)
-  pub leaves : TableAfter v d d' new result
-  pub counted : reads' ≤ reads + 1
-  pub again : HoldsInode old x → reads' ≤ reads
-  pub block : TakesPiece v v.inopb x old new result
+pub record LoadsInode (v : Layout) (x : ℕ) (old new : ImageWith Table) (result : Result ℕ ImageFault) : Type 0 where
+  pub there : IfOk result (IsHeldAt v old.image.contents new.cache x)
+  pub leaves : TableAfter v old.image new.image new.cache result
+  pub counted : new.reads ≤ old.reads + 1
+  pub again : HoldsInode old.cache x → new.reads ≤ old.reads
+  pub block : TakesPiece v v.inopb x old.cache new.cache result
 
 -- the inode x is read, with its piece of n inodes: once at most, and not where the table held it
-pub record ReadsInodeOnce (v : Layout) (n : ℕ) (d d' : Device) (before after x : ℕ) (old new : Table)
+pub record ReadsInodeOnce (v : Layout) (n x : ℕ) (old new : ImageWith Table)
     (result : Result Inode ImageFault) : Type 0 where
-  pub reads : ReadsInode v d d' x new result
-  pub counted : after ≤ before + 1
-  pub again : HoldsInode old x → after ≤ before
-  pub piece : TakesPiece v n x old new result
+  pub reads : ReadsInode v old.image new.image x new.cache result
+  pub counted : new.reads ≤ old.reads + 1
+  pub again : HoldsInode old.cache x → new.reads ≤ old.reads
+  pub piece : TakesPiece v n x old.cache new.cache result
 
 -- a table over a list that holds no inode, and so what any image of any layout gives
 pub record IsEmptyTable (list : FixedList ℕ) (t : Table) : Type 0 where

@@ -46,6 +46,7 @@ impl Table {
     ghost use Rattle.ffs_workspace.specs.Tables.{CanReadInode, CanReadPiece, DividesBlocks, HoldsInode};
     ghost use Rattle.ffs_workspace.specs.Tables.{IsEmptyTable, LoadsInode, ReadsInodeOnce, ReadsPiece};
     ghost use Rattle.ffs_workspace.specs.Tables.{count_to_read, follows};
+    ghost use Rattle.ffs_walk.specs.Windows.{image_with};
 
     /// A table that holds no inode. It takes no memory.
     pub fn over(buffer: FixedList<u8>) -> Table
@@ -83,8 +84,8 @@ impl Table {
         image: &mut I,
     ) -> Result<(), ImageFault>
         requires { CanReadPiece geometry.now.layout (I.device image.old) count number self.old }
-        ensures { ReadsPiece geometry.now.layout (I.device image.old) (I.device image.new)
-            (I.reads image.old) (I.reads image.new) count number self.new result }
+        ensures { ReadsPiece geometry.now.layout count number
+            (image_with I.Image image.old self.old) (image_with I.Image image.new self.new) result }
     {
         let place = piece_place(geometry, number, count);
         self.forget();
@@ -106,8 +107,8 @@ impl Table {
         image: &mut I,
     ) -> Result<usize, ImageFault>
         requires { CanReadInode geometry.now.layout (I.device image.old) number self.old }
-        ensures { LoadsInode geometry.now.layout (I.device image.old) (I.device image.new)
-            (I.reads image.old) (I.reads image.new) number self.old self.new result }
+        ensures { LoadsInode geometry.now.layout number (image_with I.Image image.old self.old)
+            (image_with I.Image image.new self.new) result }
     {
         if !self.has(number) {
             self.read_piece(geometry, number, geometry.layout.inopb, image)?;
@@ -129,9 +130,8 @@ impl Table {
         image: &mut I,
     ) -> Result<Inode, ImageFault>
         requires { CanReadInode geometry.now.layout (I.device image.old) number self.old }
-        ensures { ReadsInodeOnce geometry.now.layout geometry.now.layout.inopb
-            (I.device image.old) (I.device image.new) (I.reads image.old) (I.reads image.new)
-            number self.old self.new result }
+        ensures { ReadsInodeOnce geometry.now.layout geometry.now.layout.inopb number
+            (image_with I.Image image.old self.old) (image_with I.Image image.new self.new) result }
     {
         let at = self.load(geometry, number, image)?;
         let bytes = self.window.bytes();
@@ -178,9 +178,8 @@ impl Table {
         image: &mut I,
     ) -> Result<Inode, ImageFault>
         requires { CanReadInode geometry.now.layout (I.device image.old) number self.old }
-        ensures { ReadsInodeOnce geometry.now.layout (count_to_read self.old number)
-            (I.device image.old) (I.device image.new) (I.reads image.old) (I.reads image.new)
-            number self.old self.new result }
+        ensures { ReadsInodeOnce geometry.now.layout (count_to_read self.old number) number
+            (image_with I.Image image.old self.old) (image_with I.Image image.new self.new) result }
     {
         if !self.has(number) {
             let count = self.count_to_read(number);
