@@ -7,9 +7,9 @@ use Rattle.ffs_volume.specs.Groups.Records.{GroupCounts, right_group_counts, rig
 use Rattle.ffs_volume.specs.Groups.Records.{has_right_record, maps_fit, has_right_maps, has_right_sums}
 use Rattle.ffs_volume.specs.Groups.GroupCheck.{unless}
 use Rattle.ffs_layout.specs.declared.group.GroupSummary.{GroupSummary}
-use Rattle.ffs_maps.specs.{Bits.bits_of, declared.FragmentMap.FragmentMap}
+use Rattle.ffs_maps.specs.Bits.{bits_of}
 use Rattle.ffs_groups.specs.{Free.free_in, Inodes.class_in, Inputs.HasMaps, declared.counts.Counts.Counts}
-use Rattle.ffs_groups.specs.declared.{counts.SummaryCounts.SummaryCounts, check.GroupFindings.GroupFindings}
+use Rattle.ffs_groups.specs.declared.{counts.SummaryCounts.SummaryCounts, check.{GroupFindings.GroupFindings, Usage.Usage}}
 
 -- the counts of a summary in memory, as the definitions have them
 abbrev pub group_counts_of : SummaryCounts → GroupCounts
@@ -41,24 +41,30 @@ lines_of f c =
     then unless f.counts_right FreeCounts ++ (unless f.maps_right MapsWrong ++ unless f.sums_right GroupSums)
     else GroupMagic c ∷ unless f.counts_right FreeCounts
 
+-- which fragments are free where these are used, and the class of each inode
+abbrev pub free_by : Layout → Usage → ℕ → Bool
+free_by v usage = free_in (bits_of usage.fragments.now) v.size
+
+abbrev pub class_by : Usage → ℕ → Class
+class_by usage = class_in usage.kinds.now
+
 -- the maps of group c can be compared: a map of used fragments and the kinds of inodes are there, and
 -- its group block
-pub record CanCompareMaps (v : Layout) (mapped : ℕ) (kinds : List ℕ) (c : ℕ) (block : List ℕ) : Type 0 where
-  pub maps : HasMaps v mapped kinds c
+pub record CanCompareMaps (v : Layout) (usage : Usage) (c : ℕ) (block : List ℕ) : Type 0 where
+  pub maps : HasMaps v usage.fragments.now.size usage.kinds.now c
   pub block_length : length block ≡ v.cgsize
 
 -- so can all records of group c: its right counts are there too, and its record of the summary area
-pub record CanCompareGroup (v : Layout) (used : FragmentMap) (kinds : List ℕ) (c : ℕ) (counts : Counts)
-    (summary block : List ℕ) : Type 0 where
-  pub maps : CanCompareMaps v used.size kinds c block
-  pub right_counts : AreCounts v (free_in (bits_of used) v.size) (class_in kinds) c counts
+pub record CanCompareGroup (v : Layout) (usage : Usage) (c : ℕ) (counts : Counts) (summary block : List ℕ) :
+    Type 0 where
+  pub maps : CanCompareMaps v usage c block
+  pub right_counts : AreCounts v (free_by v usage) (class_by usage) c counts
   pub summary_length : length summary ≡ 16
 
 -- each finding says whether the records of group c are right: in the summary area, and in its group
 -- block
-pub record AreFound (v : Layout) (free : ℕ → Bool) (class : ℕ
-    → Class) (c : ℕ) (summary block : List ℕ) (f : GroupFindings) : Type 0 where
+pub record AreFound (v : Layout) (usage : Usage) (c : ℕ) (summary block : List ℕ) (f : GroupFindings) : Type 0 where
   pub magic : f.magic_right ≡ has_right_magic v block
-  pub counts : f.counts_right ≡ has_right_record v free class c summary
-  pub maps : f.maps_right ≡ (maps_fit v block && has_right_maps v free class c block)
-  pub sums : f.sums_right ≡ has_right_sums v free class c block
+  pub counts : f.counts_right ≡ has_right_record v (free_by v usage) (class_by usage) c summary
+  pub maps : f.maps_right ≡ (maps_fit v block && has_right_maps v (free_by v usage) (class_by usage) c block)
+  pub sums : f.sums_right ≡ has_right_sums v (free_by v usage) (class_by usage) c block

@@ -1,11 +1,10 @@
 //! The records of a cylinder group, compared with what they should be.
 
-ghost use Rattle.std.specs.{Prelude.{◌≡◌, ◌+◌, ◌*◌, ◌<◌, ◌==◌, ◌&&◌, nat_le}, Int.div_ceil};
-ghost use Rattle.ffs_volume.specs.{Disk.{Areas.cgbase, Numbers.all_below}, Groups.Records.{has_bits, is_used_inode}};
-ghost use Rattle.ffs_volume.specs.Groups.Records.{group_size};
-ghost use Rattle.ffs_maps.specs.Bits.{bits_of};
-ghost use Rattle.ffs_groups.specs.Check.{AreFound, CanCompareGroup, CanCompareMaps, has_bits_of, same_counts, same_frsum_at};
-ghost use Rattle.ffs_groups.specs.{Free.free_in, Inodes.class_in};
+ghost use Rattle.std.specs.Prelude.{◌≡◌, ◌<◌, ◌==◌, ◌&&◌, ℕ, List};
+ghost use Rattle.ffs_volume.specs.{Disk.Numbers.all_below, Groups.Records.{group_size, has_right_maps, maps_fit}};
+ghost use Rattle.ffs_layout.specs.Group.{group_of};
+ghost use Rattle.ffs_groups.specs.Check.{AreFound, CanCompareGroup, CanCompareMaps, class_by, free_by, has_bits_of};
+ghost use Rattle.ffs_groups.specs.Check.{same_counts, same_frsum_at};
 
 use crate::counts::{Counts, SummaryCounts};
 use crate::maps::{group_fragments, same_fragment_map, same_inode_map};
@@ -67,12 +66,11 @@ fn same_frsum(found: &[i32; 8], right: &[u64; 9]) -> bool
     true
 }
 
-/// Whether the maps end within the group block.
+/// Whether the maps end within the group block that has these numbers.
+#[tactic(auto, unfolding(ffs_volume::specs::Groups::Records::maps_fit))]
 fn places_fit(geometry: &Geometry, found: &Group) -> bool
-    ensures { result ≡ (nat_le (found.now.iusedoff + div_ceil geometry.now.layout.ipg 8)
-        geometry.now.layout.cgsize
-        && nat_le (found.now.freeoff + div_ceil geometry.now.layout.fpg 8)
-        geometry.now.layout.cgsize) }
+    ensures { (block : List ℕ) → found.now ≡ group_of geometry.now.layout.order block
+        → result ≡ maps_fit geometry.now.layout block }
 {
     let inodes = u64::from(geometry.layout.ipg.div_ceil(8));
     let fragments = u64::from(geometry.layout.fpg.div_ceil(8));
@@ -81,6 +79,7 @@ fn places_fit(geometry: &Geometry, found: &Group) -> bool
 }
 
 /// Whether both maps end within the group block and have the right bits.
+#[tactic(auto, unfolding(ffs_volume::specs::Groups::Records::maps_fit, ffs_volume::specs::Groups::Records::has_right_maps))]
 fn maps_are_right(
     geometry: &Geometry,
     usage: &Usage<'_>,
@@ -88,18 +87,11 @@ fn maps_are_right(
     found: &Group,
     block: &[u8],
 ) -> bool
-    requires { CanCompareMaps geometry.now.layout usage.now.fragments.now.size usage.now.kinds.now
-        group block.now }
-    ensures { result
-        ≡ ((nat_le (found.now.iusedoff + div_ceil geometry.now.layout.ipg 8)
-        geometry.now.layout.cgsize
-        && nat_le (found.now.freeoff + div_ceil geometry.now.layout.fpg 8)
-        geometry.now.layout.cgsize)
-        && (has_bits block.now found.now.iusedoff geometry.now.layout.ipg
-        (λ k. is_used_inode (class_in usage.now.kinds.now) (group * geometry.now.layout.ipg + k))
-        && has_bits block.now found.now.freeoff (group_size geometry.now.layout group)
-        (λ k. free_in (bits_of usage.now.fragments.now) geometry.now.layout.size
-        (cgbase geometry.now.layout group + k)))) }
+    requires ready { CanCompareMaps geometry.now.layout usage.now group block.now }
+    requires numbers { found.now ≡ group_of geometry.now.layout.order block.now }
+    ensures { result ≡ (maps_fit geometry.now.layout block.now
+        && has_right_maps geometry.now.layout (free_by geometry.now.layout usage.now)
+        (class_by usage.now) group block.now) }
 {
     places_fit(geometry, found)
         && same_inode_map(geometry, usage.kinds, group, block, found.iusedoff)
@@ -131,11 +123,9 @@ pub fn compare_group(
     summary: &[u8],
     block: &[u8],
 ) -> GroupFindings
-    requires { CanCompareGroup geometry.now.layout usage.now.fragments.now usage.now.kinds.now group
-        counts.now summary.now block.now }
-    ensures { AreFound geometry.now.layout
-        (free_in (bits_of usage.now.fragments.now) geometry.now.layout.size)
-        (class_in usage.now.kinds.now) group summary.now block.now result }
+    requires { CanCompareGroup geometry.now.layout usage.now group counts.now summary.now
+        block.now }
+    ensures { AreFound geometry.now.layout usage.now group summary.now block.now result }
 {
     let found = Group::decode(geometry.layout.order, block);
     let record = GroupSummary::decode(geometry.layout.order, 0, summary);
