@@ -1,5 +1,5 @@
 -- A run of no fragment is in range.
-use Rattle.std.proofs.Common.{◌≡◌, ℕ, nat_eq, true, refl, arith}
+use Rattle.std.proofs.Common.{◌≡◌, ℕ, true, refl}
 use Rattle.ffs_volume.specs.{declared.Layout.Layout, Disk.{Areas.is_run_in_range, Numbers.all_below}}
 
 no_fragment : (v : Layout) (start : ℕ) → is_run_in_range v start 0 ≡ true

@@ -1,5 +1,5 @@
 -- What is read and compared of a superblock and its copies.
-use Rattle.std.specs.Prelude.{◌≡◌, ℕ, ◌+◌, ◌<◌, ◌≤◌, ◌/◌, ◌⊎◌, true, false, List, Option, None, Result, MatchResult}
+use Rattle.std.specs.Prelude.{◌≡◌, ℕ, ◌+◌, ◌<◌, ◌≤◌, ◌/◌, ◌⊎◌, true, false, List, Option, None, Result, Ok, Err}
 use Rattle.ffs_image.specs.Device.{Device, Faulted, ForContents}
 use Rattle.ffs_volume.specs.declared.{Order.Order, SuperFault.{SuperFault, TheVariants.{CannotRead, Disagree}}}
 use Rattle.ffs_volume.specs.Disk.{Numbers.piece, Outcome.{copy_agrees, copy_place}, Superblock.layout_of}
@@ -16,11 +16,10 @@ pub record IsUnreadCopy (old new : Device) (at : ℕ) (answer : SuperFault) : Ty
   pub fault : answer ≡ CannotRead (at / DEV_BSIZE)
   pub cause : Faulted old new (at / DEV_BSIZE) ⊎ ((new ≡ old) × (old.size < at + SUPERBLOCK_BYTES))
 
--- a superblock is read at a place, by one read at most: its bytes are given, or it can't be read
-pub record ReadsSuperblockBytes (old new : Device) (reads reads' at : ℕ) (copy : List ℕ)
-    (result : Result (Unit {0}) SuperFault) : Type 0 where
-  pub copied : MatchResult result (λ _. IsCopy old new at copy) (IsUnreadCopy old new at)
-  pub counted : reads' ≤ reads + 1
+-- a superblock is read at a place: its bytes are given, or it can't be read
+abbrev pub ReadsSuperblockBytes : Device → Device → (at : ℕ) → (copy : List ℕ) → Result (Unit {0}) SuperFault → Type 0
+ReadsSuperblockBytes old new at copy (Ok x) = IsCopy old new at copy
+ReadsSuperblockBytes old new at copy (Err fault) = IsUnreadCopy old new at fault
 
 -- the last copy agrees, where it is compared
 pub record CopyAgrees (old new : Device) (sector : Option ℕ) (order : Order) (bytes : List ℕ) : Type 0 where
@@ -46,10 +45,7 @@ abbrev pub IsCopyFault : Device → Device → Option ℕ → Order → List ℕ
 IsCopyFault old new sector order bytes answer =
     CopyUnread old new sector order bytes answer ⊎ CopyDiffers old new sector order bytes answer
 
--- the last copy is compared, where no sector was asked for, by one read at most: it agrees, or this
--- gives a fault
-pub record ComparesCopy (old new : Device) (reads reads' : ℕ) (sector : Option ℕ) (order : Order) (bytes : List ℕ)
-    (result : Result (Unit {0}) SuperFault) : Type 0 where
-  pub compared : MatchResult result (λ _. CopyAgrees old new sector order bytes)
-      (IsCopyFault old new sector order bytes)
-  pub counted : reads' ≤ reads + 1
+-- the last copy is compared, where no sector was asked for: it agrees, or this gives a fault
+abbrev pub ComparesCopy : Device → Device → Option ℕ → Order → List ℕ → Result (Unit {0}) SuperFault → Type 0
+ComparesCopy old new sector order bytes (Ok x) = CopyAgrees old new sector order bytes
+ComparesCopy old new sector order bytes (Err fault) = IsCopyFault old new sector order bytes fault

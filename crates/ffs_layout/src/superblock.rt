@@ -56,8 +56,9 @@ fn read_superblock_bytes<I: Image>(
     out: &mut [u8; SUPERBLOCK_BYTES],
 ) -> Result<(), SuperFault>
     requires { at < 2 ^ 63 }
-    ensures { ReadsSuperblockBytes (I.device image.old) (I.device image.new) (I.reads image.old)
-        (I.reads image.new) at out.new result }
+    ensures copied { ReadsSuperblockBytes (I.device image.old) (I.device image.new) at out.new
+        result }
+    ensures counted { I.reads image.new ≤ I.reads image.old + 1 }
 {
     if image.size() < at + SUPERBLOCK_BYTES as u64 {
         return Err(SuperFault::CannotRead {
@@ -151,8 +152,9 @@ fn check_copy<I: Image>(
 ) -> Result<(), SuperFault>
     requires { IsAccepted (layout_of order bytes.now) (I.device image.old).size
         geometry.now.layout }
-    ensures { ComparesCopy (I.device image.old) (I.device image.new) (I.reads image.old)
-        (I.reads image.new) sector order bytes.now result }
+    ensures compared { ComparesCopy (I.device image.old) (I.device image.new) sector order bytes.now
+        result }
+    ensures counted { I.reads image.new ≤ I.reads image.old + 1 }
 {
     if sector.is_some() {
         return Ok(());
