@@ -30,8 +30,7 @@ impl<Y: System> Opener for Y {
 
     ghost use Rattle.ffs_image.specs.System.{IsOpened, OpenFails};
 
-    ghost opens = { λ old name image new. IsOpened Y.was_looked_up Y.was_opened Y.File.was_sought
-        old new name image.source.file image.source.size };
+    ghost opens = { λ old name image new. IsOpened Y.System old new name image.source };
 
     ghost refuses = { λ old name new. OpenFails Y.was_looked_up Y.was_opened Y.File.was_sought
         old new name };

@@ -1,7 +1,7 @@
 -- What a part that read through a limited image leaves of the image below it.
 use Rattle.std.{specs.Borrow.GName, proofs.Common.{◌≡◌, ◌≤◌, ◌+◌, ℕ, Bool, true, false, Result, Ok, Err, arith}}
-use Rattle.ffs_image.specs.{declared.image.ImageFault.ImageFault, Device.Device, Limited.{GivesBack, limited_device}}
-use Rattle.ffs_image.specs.Reads.{ReadAfter}
+use Rattle.ffs_image.specs.{declared.image.ImageFault.ImageFault, Device.Device, Reads.ReadAfter}
+use Rattle.ffs_image.specs.Limited.{GivesBack, GivesBackLent, LentAt, lent_at, limited_device}
 
 -- an image that was only read is over the same images, and gives the same bytes
 pub record StaysOver (old new : Device) : Type 0 where
@@ -13,20 +13,18 @@ pub read_over : {T : Type 0} (old new : Device) (r : Result T ImageFault) → Re
 read_over old new (Ok x) h = grind arith
 read_over old new (Err fault) h = record { lent = h.lent; contents = h.contents; size = h.size }
 
-module _ {lent below : Device} {name_lent name : GName} {reads reads' limit left asked : ℕ} {spent : Bool}
-    {above above' : Device} (g : GivesBack lent below name_lent name reads reads' limit left asked spent above above')
-  where
-    -- the image below was read no more often than the limit
-    pub limit_kept : reads' ≤ reads + limit
-    limit_kept = grind arith
+module _ {old new : LentAt} {asked : ℕ} {spent : Bool} {above : Device} (g : GivesBack old new asked spent above) where
+  -- the image below was read no more often than the limit
+  pub limit_kept : new.reads ≤ old.reads + old.left
+  limit_kept = grind arith
 
-    -- nor more often than the limited image was asked
-    pub asked_kept : reads' ≤ reads + asked
-    asked_kept = grind arith
+  -- nor more often than the limited image was asked
+  pub asked_kept : new.reads ≤ old.reads + asked
+  asked_kept = grind arith
 
-    -- no read is refused where no more are asked for than the limit
-    pub never_refused : asked ≤ limit → spent ≡ false
-    never_refused few = grind arith
+  -- no read is refused where no more are asked for than the limit
+  pub never_refused : asked ≤ old.left → spent ≡ false
+  never_refused few = grind arith
 
 -- what a part that read a limited image leaves of the image below: its reads, and its answer's
 -- meaning, where none was refused
@@ -43,8 +41,7 @@ pub record ServedBy {T : Type 0} (lent below : Device) (name_lent name : GName) 
 
 served_back : {T : Type 0} {lent below : Device} {name_lent name : GName} {reads reads' limit left asked : ℕ} {s : Bool}
     {above' : Device} (r : Result T ImageFault) → ReadAfter (limited_device lent name_lent reads limit) above' r →
-    GivesBack lent below name_lent name reads reads' limit left asked s
-    (limited_device lent name_lent reads limit) above' →
+    GivesBack (lent_at lent name_lent reads limit) (lent_at below name reads' left) asked s above' →
     ServedBy lent below name_lent name reads reads' limit asked s r
 served_back r h g = grind arith
 
@@ -52,10 +49,8 @@ served_back r h g = grind arith
 pub served : {T : Type 0} {lent below : Device} {name_lent name : GName} {reads reads' limit left asked : ℕ} {s : Bool}
     {above' : Device} {r : Result T ImageFault} →
     ReadAfter (limited_device lent name_lent reads limit) above' r →
-    ((d : Device) (given : GName) (before : ℕ) (most : ℕ) → above'.lent ≡ (limited_device d given before most).lent →
-    above'.contents ≡ d.contents → above'.size ≡ d.size →
-    GivesBack d below given name before reads' most left asked s (limited_device d given before most) above') →
+    GivesBackLent (lent_at below name reads' left) asked s above' →
     ServedBy lent below name_lent name reads reads' limit asked s r
 served {lent = lent} {name_lent = name_lent} {reads = reads} {limit = limit} {above' = above'} {r = r} h back =
     let over = read_over (limited_device lent name_lent reads limit) above' r h in
-    served_back r h (back lent name_lent reads limit over.lent over.contents over.size)
+    served_back r h (back (lent_at lent name_lent reads limit) over.lent over.contents over.size)

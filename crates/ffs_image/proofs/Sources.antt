@@ -27,5 +27,5 @@ pub read_more : {S E : Type 0} (was_read : S → ℕ → ℕ → Result ℕ E �
     IsReadTo was_read at len (before + some) a c
 read_more was_read at len before some a b c p q = record {
   count = suc p.count;
-  pieces = (before, b, p.pieces, record { some = some; read = q; sum = refl });
+  pieces = (before, some, b, p.pieces, q, refl);
 }

@@ -26,16 +26,36 @@ limited_device d name reads limit = record d {
 abbrev pub reads_asked : (limit left : ℕ) → (spent : Bool) → ℕ
 reads_asked limit left spent = limit - left + (if spent then 1 else 0)
 
+-- a moment of an image that is lent to one with a limit: the image, the reference to it, how often it was
+-- read by then, and how many reads are left of the limit
+pub record LentAt : Type 0 where
+  pub image : Device
+  pub name : GName
+  pub reads : ℕ
+  pub left : ℕ
+
+abbrev pub lent_at : Device → GName → (reads left : ℕ) → LentAt
+lent_at d name reads left = record { image = d; name = name; reads = reads; left = left }
+
+-- what the image above shows when the one below has just been lent
+abbrev pub shown_above : LentAt → Device
+shown_above lent = limited_device lent.image lent.name lent.reads lent.left
+
 -- after calls that leave the image above as it was, or with one failed read, the image below is
 -- given back: with no more reads than the limit less what is left of it, as it was lent, or with
 -- that failed read, if it isn't one that the limit refused. None is refused but where more reads
 -- were asked for than the limit
-pub record GivesBack (lent below : Device) (name_lent name : GName) (reads reads' limit left asked : ℕ)
-    (spent : Bool) (above above' : Device) : Type 0 where
-  pub same_image : name ≡ name_lent
-  pub most : reads' + left ≤ reads + limit
-  pub left_of : limit ≤ left + asked
-  pub asked_more : spent ≡ true → limit < asked
-  pub untouched : above' ≡ above → (spent ≡ false) × (below ≡ lent)
-  pub refused : spent ≡ true → below ≡ lent
-  pub faulted : (sector : ℕ) → Faulted above above' sector → spent ≡ false → Faulted lent below sector
+pub record GivesBack (old new : LentAt) (asked : ℕ) (spent : Bool) (above : Device) : Type 0 where
+  pub same_image : new.name ≡ old.name
+  pub most : new.reads + new.left ≤ old.reads + old.left
+  pub left_of : old.left ≤ new.left + asked
+  pub asked_more : spent ≡ true → old.left < asked
+  pub untouched : above ≡ shown_above old → (spent ≡ false) × (new.image ≡ old.image)
+  pub refused : spent ≡ true → new.image ≡ old.image
+  pub faulted : (sector : ℕ) → Faulted (shown_above old) above sector → spent ≡ false
+      → Faulted old.image new.image sector
+
+-- so it is given back as whichever image the one above shows to have been lent
+abbrev pub GivesBackLent : (new : LentAt) (asked : ℕ) (spent : Bool) (above : Device) → Type 0
+GivesBackLent new asked spent above = (old : LentAt) → above.lent ≡ (shown_above old).lent
+    → above.contents ≡ old.image.contents → above.size ≡ old.image.size → GivesBack old new asked spent above

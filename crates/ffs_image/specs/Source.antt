@@ -50,19 +50,12 @@ pub record Fills {T E : Type 0} (old new : SourceState) (at : ℕ) (xs : List �
   pub bytes : OnOk result (AreAt old.contents at xs)
   pub left : SourceAfter old new result
 
--- after the first ones of len bytes at a place, some more were read, by a read of all that were left
-pub record ReadsMore {S E : Type 0} (was_read : S → ℕ → ℕ → Result ℕ E → S → Type 0) (at len before after : ℕ)
-    (old new : S) : Type 0 where
-  pub some : ℕ
-  pub read : was_read old (at + before) (len - before) (Ok some) new
-  pub sum : after ≡ before + some
-
--- the first ones of len bytes at a place were read, by so many reads
+-- the first ones of len bytes at a place were read, by so many reads: each was of all bytes that were left
 abbrev pub Pieces : {S E : Type 0} → (S → ℕ → ℕ → Result ℕ E → S → Type 0) → ℕ → ℕ → ℕ → ℕ → S → S → Type 0
 Pieces was_read at len zero filled old new = (filled ≡ 0) × (new ≡ old)
 Pieces {S} was_read at len (suc n) filled old new =
-    (before : ℕ) × (between : S) × Pieces was_read at len n before old between
-    × ReadsMore was_read at len before filled between new
+    (before : ℕ) × (some : ℕ) × (between : S) × Pieces was_read at len n before old between
+    × was_read between (at + before) (len - before) (Ok some) new × (filled ≡ before + some)
 
 -- the first ones of len bytes at a place were read, piece after piece
 pub record IsReadTo {S E : Type 0} (was_read : S → ℕ → ℕ → Result ℕ E → S → Type 0) (at len filled : ℕ)

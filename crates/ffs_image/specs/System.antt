@@ -1,7 +1,9 @@
 -- What was asked of a system and of its files, and with which answers.
 use Rattle.std.specs.Prelude.{◌≡◌, ◌⊎◌, ℕ, Bool, true, false, List, Result, Ok, Err, Option, None, Some, IfSome}
 use Rattle.std.specs.{Prelude.{MatchResult, ⊤, refl}, declared.io.Error.Error}
-use Rattle.ffs_image.specs.{Device.ForContents, Interrupted.IsTriedAgain}
+use Rattle.ffs_image.specs.{Device.ForContents, Interrupted.IsTriedAgain, declared.opened.OpenedFile.OpenedFile}
+use Rattle.ffs_image.specs.declared.system.System as system
+use Rattle.ffs_image.specs.declared.system.RawFile as rawfile
 
 -- what a read gives of some of the bytes at a place: how many it gave, or a fault where it failed
 -- or gave none
@@ -11,19 +13,14 @@ pub record SomeOf {F E : Type 0} (was_read : F → Result ℕ Error → F → Ty
   pub tried : IsTriedAgain was_read old new answer
   pub result_is : MatchResult result (λ n. answer ≡ Ok n) (λ _. MatchResult answer (λ n. n ≡ 0) (λ _. ⊤))
 
--- a file was asked for its end, and answered: that is its size in bytes
-abbrev pub IsEndOf : {F : Type 0} → (F → Result ℕ Error → F → Type 0) → F → F → ℕ → Type 0
-IsEndOf was_sought old new size = was_sought old (Ok size) new
-
 -- the file of a name that is no FIFO was opened, which is all that was asked of the system since the
 -- name was looked up, and the file gave its size
-pub record IsOpened {Y F : Type 0} (was_looked_up : Y → List ℕ → Result Bool Error → Type 0)
-    (was_opened : Y → List ℕ → Result F Error → Y → Type 0) (was_sought : F → Result ℕ Error → F → Type 0)
-    (old new : Y) (name : List ℕ) (file : F) (size : ℕ) : Type 0 where
-  pub no_fifo : was_looked_up old name (Ok false)
+pub record IsOpened {S F : Type 0} {R : rawfile.Ghosts F} (Y : system.Ghosts S F) (old new : S) (name : List ℕ)
+    (opened : OpenedFile F R) : Type 0 where
+  pub no_fifo : Y.was_looked_up old name (Ok false)
   pub first : F
-  pub opened : was_opened old name (Ok first) new
-  pub sized : IsEndOf was_sought first file size
+  pub opened_as : Y.was_opened old name (Ok first) new
+  pub sized : R.was_sought first (Ok opened.size) opened.file
 
 -- a name is that of a FIFO, or can't be looked up, and nothing is opened
 pub record IsPassedOver {Y : Type 0} (was_looked_up : Y → List ℕ → Result Bool Error → Type 0) (old new : Y)

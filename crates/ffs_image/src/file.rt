@@ -35,8 +35,8 @@ impl<F: RawFile + Drop> SourceImage<OpenedFile<F>> {
     /// The file can't be opened, it is a FIFO, whose opening would wait for a writer, or its size
     /// isn't known, as that of a terminal.
     pub fn open<Y: System<File = F>>(system: &mut Y, name: &str) -> Result<RawImage<F>, OpenFault>
-        ensures opens { MatchResult result (λ image. IsOpened Y.was_looked_up Y.was_opened
-            F.was_sought system.old system.new name.now image.source.file image.source.size)
+        ensures opens { MatchResult result
+            (λ image. IsOpened Y.System system.old system.new name.now image.source)
             (λ _. OpenFails Y.was_looked_up Y.was_opened F.was_sought system.old system.new
             name.now) }
         ensures failures { IfOk result (λ image. (image.source.failures ≡ 0)

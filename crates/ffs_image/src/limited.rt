@@ -1,6 +1,6 @@
 //! An image with a limit on its reads.
-ghost use Rattle.std.specs.{Prelude.{◌≡◌, ◌+◌, ◌≤◌, ◌||◌, ℕ, true, false}, Borrow.GName};
-ghost use Rattle.ffs_image.specs.{Device.Device, Limited.{after_reads, limited_device, reads_asked, GivesBack}};
+ghost use Rattle.std.specs.Prelude.{◌≡◌, ◌+◌, ◌≤◌, ◌||◌, true, false};
+ghost use Rattle.ffs_image.specs.Limited.{GivesBackLent, after_reads, lent_at, limited_device, reads_asked};
 
 use crate::image::{Image, ImageFault};
 use std::snapshot::Snapshot;
@@ -68,15 +68,9 @@ impl<'a, I: Image> LimitedImage<'a, I> {
     /// image below.
     pub fn is_spent(&self) -> bool
         ensures value { result ≡ self.now.spent }
-        ensures below { (d : Device) (name : GName) (reads limit : ℕ)
-            → (⟦<LimitedImage<'a, I> as Image>⟧.device self.now).lent
-            ≡ (limited_device d name reads limit).lent
-            → (⟦<LimitedImage<'a, I> as Image>⟧.device self.now).contents ≡ d.contents
-            → (⟦<LimitedImage<'a, I> as Image>⟧.device self.now).size ≡ d.size
-            → GivesBack d (I.device self.now.below.now) name self.now.below.ghost_name
-            reads (I.reads self.now.below.now) limit self.now.left
+        ensures below { GivesBackLent (lent_at (I.device self.now.below.now)
+            self.now.below.ghost_name (I.reads self.now.below.now) self.now.left)
             (⟦<LimitedImage<'a, I> as Image>⟧.reads self.now) result
-            (limited_device d name reads limit)
             (⟦<LimitedImage<'a, I> as Image>⟧.device self.now) }
     {
         self.spent

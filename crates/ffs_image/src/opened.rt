@@ -1,7 +1,6 @@
 //! A file that is open for reading alone.
 ghost use Rattle.std.specs.{Prelude.{◌≡◌, length, IfOk, MatchResult}};
 ghost use Rattle.ffs_image.specs.{Device.ForContents, Interrupted.IsTriedAgain, Source.{GivesBytes, GivesSome}};
-ghost use Rattle.ffs_image.specs.System.{IsOpened, OpenFails, SomeOf};
 
 use crate::file::OpenFault;
 use crate::interrupted::is_interrupted;
@@ -36,14 +35,15 @@ fn read_uninterrupted<F: RawFile>(file: &mut F, buf: &mut [u8], at: u64) -> io::
 }
 
 impl<F: RawFile + Drop> OpenedFile<F> {
+    ghost use Rattle.ffs_image.specs.System.{IsOpened, OpenFails};
+
     /// Opens a file for reading, once and no other, and takes its size once. A FIFO, whose opening
     /// waits for a writer, is refused, and so is a file whose size isn't known.
     pub(crate) fn open<Y: System<File = F>>(
         system: &mut Y,
         name: &str,
     ) -> Result<OpenedFile<F>, OpenFault>
-        ensures opens { MatchResult result (λ opened. IsOpened Y.was_looked_up Y.was_opened
-            F.was_sought system.old system.new name.now opened.file opened.size)
+        ensures opens { MatchResult result (IsOpened Y.System system.old system.new name.now)
             (λ _. OpenFails Y.was_looked_up Y.was_opened F.was_sought system.old system.new
             name.now) }
         ensures failures { IfOk result (λ opened. opened.failures ≡ 0) }
@@ -67,7 +67,7 @@ impl<F: RawFile + Drop> OpenedFile<F> {
 }
 
 impl<F: RawFile> Source for OpenedFile<F> {
-    ghost use Rattle.ffs_image.specs.System.{if_given};
+    ghost use Rattle.ffs_image.specs.System.{SomeOf, if_given};
 
     ghost state = { λ f. record { contents = F.contents f.file; size = f.size; failures = f.failures } };
 
