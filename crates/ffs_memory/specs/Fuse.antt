@@ -1,8 +1,7 @@
 -- Which request a fuse refuses.
-use Rattle.std.specs.Prelude.{◌≡◌, ℕ, ◌+◌, ◌-◌, ◌*◌, ◌^◌, ◌==◌, Bool, min, if◌then◌else◌, Result, IsErr}
+use Rattle.std.specs.Prelude.{◌≡◌, ℕ, ◌+◌, ◌-◌, ◌^◌, ◌==◌, Bool, min, if◌then◌else◌, Result, IsErr}
 use Rattle.std.specs.Bool.{OnTrue, OnFalse}
-use Rattle.ffs_memory.specs.{Account.{Account, Asks, Gives, GivesWords}, declared.fixed_list.FixedList.FixedList}
-use Rattle.ffs_memory.specs.{declared.fuse.FuseMemory.FuseMemory, Words.Words}
+use Rattle.ffs_memory.specs.{Account.{Account, Asks}, declared.fuse.FuseMemory.FuseMemory}
 
 -- the request after which none is left
 abbrev pub is_blown : ℕ → Bool
@@ -27,18 +26,6 @@ pub record BurnsAtRequest {M T E : Type 0} (account : M → Account) (old new : 
   pub left : new.left ≡ left_after old.left
   pub blown : OnTrue (is_blown old.left) (IsErr result × (new.inner ≡ old.inner))
   pub passed : OnFalse (is_blown old.left) (Asks (account old.inner) (account new.inner) bytes result)
-
--- a memory with a fuse serves one request: as any memory does, and the fuse says which one is refused
-pub record Serves {M A E : Type 0} (account_below : M → Account) (account_of : FuseMemory M → Account)
-    (old new : FuseMemory M) (n bytes : ℕ) (x : A) (result : Result (FixedList A) E) : Type 0 where
-  pub given : Gives (account_of old) (account_of new) n bytes x result
-  pub fuse : BurnsAtRequest account_below old new bytes result
-
--- a memory with a fuse serves a request for words that are 0 until they are set
-pub record ServesWords {M E : Type 0} (account_below : M → Account) (account_of : FuseMemory M → Account)
-    (old new : FuseMemory M) (n : ℕ) (result : Result Words E) : Type 0 where
-  pub given : GivesWords (account_of old) (account_of new) n result
-  pub fuse : BurnsAtRequest account_below old new (8 * n) result
 
 -- a memory with a fuse is made of one below, whose account it shows, and the fuse has refused no
 -- request yet

@@ -1,6 +1,6 @@
 //! A memory that refuses a request where it is asked to.
 ghost use Rattle.std.specs.Prelude.{◌*◌, false};
-ghost use Rattle.ffs_memory.specs.Fuse.{CountsRequest, IsFusedMemory, Serves, ServesWords};
+ghost use Rattle.ffs_memory.specs.{Account.{Gives, GivesWords}, Fuse.{BurnsAtRequest, CountsRequest, IsFusedMemory}};
 
 use crate::filled_list::FilledList;
 use crate::fixed_list::FixedList;
@@ -62,8 +62,9 @@ impl<M: Memory> Memory for FuseMemory<M> {
     }
 
     fn bytes(&mut self, n: usize) -> Result<FixedList<u8>, AllocError>
-        ensures { Serves M.account ⟦<FuseMemory<M> as Memory>⟧.account self.old self.new n n 0
-            result }
+        ensures given { Gives (⟦<FuseMemory<M> as Memory>⟧.account self.old)
+            (⟦<FuseMemory<M> as Memory>⟧.account self.new) n n 0 result }
+        ensures fuse { BurnsAtRequest M.account self.old self.new n result }
     {
         if self.blows() {
             return Err(AllocError);
@@ -72,8 +73,9 @@ impl<M: Memory> Memory for FuseMemory<M> {
     }
 
     fn flags(&mut self, n: usize) -> Result<FixedList<bool>, AllocError>
-        ensures { Serves M.account ⟦<FuseMemory<M> as Memory>⟧.account self.old self.new n n false
-            result }
+        ensures given { Gives (⟦<FuseMemory<M> as Memory>⟧.account self.old)
+            (⟦<FuseMemory<M> as Memory>⟧.account self.new) n n false result }
+        ensures fuse { BurnsAtRequest M.account self.old self.new n result }
     {
         if self.blows() {
             return Err(AllocError);
@@ -82,8 +84,9 @@ impl<M: Memory> Memory for FuseMemory<M> {
     }
 
     fn numbers(&mut self, n: usize) -> Result<FilledList<u32>, AllocError>
-        ensures { Serves M.account ⟦<FuseMemory<M> as Memory>⟧.account self.old self.new n (4 * n) 0
-            result }
+        ensures given { Gives (⟦<FuseMemory<M> as Memory>⟧.account self.old)
+            (⟦<FuseMemory<M> as Memory>⟧.account self.new) n (4 * n) 0 result }
+        ensures fuse { BurnsAtRequest M.account self.old self.new (4 * n) result }
     {
         if self.blows() {
             return Err(AllocError);
@@ -92,8 +95,9 @@ impl<M: Memory> Memory for FuseMemory<M> {
     }
 
     fn long_numbers(&mut self, n: usize) -> Result<FilledList<u64>, AllocError>
-        ensures { Serves M.account ⟦<FuseMemory<M> as Memory>⟧.account self.old self.new n (8 * n) 0
-            result }
+        ensures given { Gives (⟦<FuseMemory<M> as Memory>⟧.account self.old)
+            (⟦<FuseMemory<M> as Memory>⟧.account self.new) n (8 * n) 0 result }
+        ensures fuse { BurnsAtRequest M.account self.old self.new (8 * n) result }
     {
         if self.blows() {
             return Err(AllocError);
@@ -102,8 +106,9 @@ impl<M: Memory> Memory for FuseMemory<M> {
     }
 
     fn zeroed_words(&mut self, n: usize) -> Result<ZeroedWords, AllocError>
-        ensures { ServesWords M.account ⟦<FuseMemory<M> as Memory>⟧.account self.old self.new n
-            result }
+        ensures given { GivesWords (⟦<FuseMemory<M> as Memory>⟧.account self.old)
+            (⟦<FuseMemory<M> as Memory>⟧.account self.new) n result }
+        ensures fuse { BurnsAtRequest M.account self.old self.new (8 * n) result }
     {
         if self.blows() {
             return Err(AllocError);
