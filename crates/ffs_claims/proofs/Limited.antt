@@ -2,7 +2,8 @@
 use Rattle.std.{specs.Borrow.GName, proofs.Common.{◌≡◌, ◌≤◌, ℕ, Bool, true, false}}
 use Rattle.std.proofs.{Common.{List, arith, refl, sym, Result, Ok, Err, inl, inr, ◌∙◌}, lemmas.Bool.cases_Bool}
 use Rattle.ffs_volume.specs.{Messages.Kinds.Message}
-use Rattle.ffs_image.{specs.{Device.Device, Limited.{GivesBack, limited_device}}, proofs.Limits.StaysOver}
+use Rattle.ffs_image.{specs.Device.Device, proofs.Limits.StaysOver}
+use Rattle.ffs_image.specs.Limited.{GivesBack, GivesBackLent, LentAt, lent_at, limited_device, shown_above}
 use Rattle.ffs_report.specs.{Known.ForBytes, Progress.Progress, PhaseOutcome.{ImageAfter, PhaseOutcome, PhaseReports}}
 use Rattle.ffs_report.specs.declared.fault.RunFault.{RunFault, TheVariants.{Read, Out}}
 
@@ -17,16 +18,16 @@ image_over old new (Err (Out fault)) h = same_over h
 
 -- what a limited image gives back: where no read was refused, the answer is that of the image below;
 -- and the report, where one was: it is of no known bytes
-module _ {T : Type 0} {lent below : Device} {name_lent name : GName} {reads reads' limit left asked : ℕ} {spent : Bool}
-    {above above' : Device}
-    (g : GivesBack lent below name_lent name reads reads' limit left asked spent above above') where
-  image_through : (r : Result T RunFault) → spent ≡ false → ImageAfter above above' r → ImageAfter lent below r
+module _ {T : Type 0} {lent given : LentAt} {asked : ℕ} {spent : Bool} {above : Device}
+    (g : GivesBack lent given asked spent above) where
+  image_through : (r : Result T RunFault) → spent ≡ false → ImageAfter (shown_above lent) above r →
+      ImageAfter lent.image given.image r
   image_through (Ok x) s h = (g.untouched h).1
   image_through (Err (Read fault)) s h = g.faulted fault.sector h s
   image_through (Err (Out fault)) s h = (g.untouched h).1
 
   refused_text : {knows : List ℕ → Type 0} {all : List ℕ → List Message} {old new : Progress} (r : Result T RunFault)
-      (x : T) → spent ≡ true → ForBytes knows (λ bytes. spent ≡ false) → ImageAfter above above' r →
+      (x : T) → spent ≡ true → ForBytes knows (λ bytes. spent ≡ false) → ImageAfter (shown_above lent) above r →
       PhaseReports knows all old new r → PhaseReports knows all old new (Ok x)
   refused_text (Ok y) x s none h p = p
   refused_text (Err (Read fault)) x s none h p = record {
@@ -54,14 +55,12 @@ pub phase_served : {T : Type 0} {knows : List ℕ → Type 0} {all : List ℕ �
     {name_lent name : GName} {reads reads' limit left asked : ℕ} {s : Bool} {above : Device} {old new : Progress}
     {r : Result T RunFault} →
     PhaseOutcome knows all (limited_device lent name_lent reads limit) above old new r →
-    ((d : Device) (given : GName) (before : ℕ) (most : ℕ) →
-    above.lent ≡ (limited_device d given before most).lent → above.contents ≡ d.contents → above.size ≡ d.size →
-    GivesBack d below given name before reads' most left asked s (limited_device d given before most) above) →
+    GivesBackLent (lent_at below name reads' left) asked s above →
     PhaseServed knows all lent below above name_lent name limit asked s old new r
 phase_served {lent = lent} {below = below} {name_lent = name_lent} {reads = reads} {limit = limit} {s = s} {r = r} p
     back =
     let over = image_over (limited_device lent name_lent reads limit) _ r p.image in
-    let g = back lent name_lent reads limit over.lent over.contents over.size in
+    let g = back (lent_at lent name_lent reads limit) over.lent over.contents over.size in
     let stays : StaysOver lent below = elim (cases_Bool s) [
       | inl e ↦ same_over (g.refused e)
       | inr e ↦ image_over lent below r (image_through g r e p.image)

@@ -144,7 +144,7 @@ pub record SeesBy (c c' : Chunks) (start len : ℕ) (block : Option ℕ) (taken 
   pub walk : c'.walk ≡ c.walk
   pub bytes_to_read : c'.bytes_to_read ≡ c.bytes_to_read
   pub cut : c'.keeping.cut ≡ c.keeping.cut
-  pub replays : Replays c.walk.geometry.layout start len block c.keeping c'.keeping taken
+  pub replays : Replays c.walk.geometry.layout (Run start len block) (taken == len) c.keeping c'.keeping
   pub runs : c'.runs ≡ min (c.runs + 1) (2 ^ 64 - 1)
   pub gap : c'.gap ≡ c.gap
 

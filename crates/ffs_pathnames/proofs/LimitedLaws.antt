@@ -3,7 +3,8 @@ use Rattle.std.{specs.Borrow.GName, proofs.Common.{◌≡◌, ◌≤◌, ◌+◌
 use Rattle.std.proofs.{Common.{Result, Ok, Err, IfOk, MatchOption, MatchResult}}
 use Rattle.ffs_survey.specs.Costs.{TakesReads}
 use Rattle.ffs_pathnames.specs.ReadsLeft.{TakesLeft}
-use Rattle.ffs_image.specs.{declared.image.ImageFault.ImageFault, Device.Device, Limited.{GivesBack, limited_device}}
+use Rattle.ffs_image.specs.{declared.image.ImageFault.ImageFault, Device.Device}
+use Rattle.ffs_image.specs.Limited.{GivesBackLent, lent_at, limited_device}
 use Rattle.ffs_image.{specs.Reads.ReadAfter, proofs.Limits.{ServedBy}}
 use Rattle.ffs_names.specs.Windows.{CanReadChunks}
 use Rattle.ffs_volume.specs.declared.Layout.{Layout}
@@ -24,9 +25,7 @@ pub record LookedBy {T : Type 0} (lent below : Device) (name_lent name : GName) 
 pub looked : {T : Type 0} {lent below : Device} {name_lent name : GName} {reads reads' limit left asked : ℕ} {s : Bool}
     {above' : Device} {r : Result T ImageFault} →
     ReadAfter (limited_device lent name_lent reads limit) above' r →
-    ((d : Device) (given : GName) (before : ℕ) (most : ℕ) → above'.lent ≡ (limited_device d given before most).lent →
-    above'.contents ≡ d.contents → above'.size ≡ d.size →
-    GivesBack d below given name before reads' most left asked s (limited_device d given before most) above') →
+    GivesBackLent (lent_at below name reads' left) asked s above' →
     LookedBy lent below name_lent name reads reads' limit left asked s r
 looked {lent = lent} {name_lent = name_lent} {reads = reads} {limit = limit} {above' = above'} {r = r} h back =
     grind arith

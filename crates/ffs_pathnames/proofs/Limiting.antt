@@ -1,7 +1,8 @@
 -- What a line shows was gathered over an image with a limit: what of the image below was read.
 use Rattle.std.{specs.Borrow.GName, proofs.Common.{◌≡◌, ◌+◌, ◌≤◌, ℕ, sym, ap, subst, ◌∙◌, arith, Bool, true, false}}
 use Rattle.std.proofs.{Common.{List, Result, Ok, Err}, lemmas.Bool.both_ways}
-use Rattle.ffs_image.specs.{Device.Device, Limited.{GivesBack, limited_device}, declared.image.ImageFault.ImageFault}
+use Rattle.ffs_image.specs.{Device.Device, declared.image.ImageFault.ImageFault}
+use Rattle.ffs_image.specs.Limited.{GivesBackLent, lent_at, limited_device}
 use Rattle.ffs_image.proofs.Limits.{ServedBy, read_over, served}
 use Rattle.ffs_volume.specs.declared.Layout.{Layout}
 use Rattle.ffs_workspace.specs.{declared.workspace.Workspace.Workspace, Ready.IsReady}
@@ -42,9 +43,7 @@ pub gathered : {T : Type 0} {v : Layout} {d d' l l' : Device} {w w' : Workspace}
     {name_lent name : GName} {reads reads' limit left before asked n : ℕ} {spent : Bool} {r : Result T ImageFault} →
     l ≡ limited_device d name_lent reads limit → before ≡ 0 → limit ≡ n →
     PathLeaves n v l l' before asked w w' s r →
-    ((below : Device) (given : GName) (counted : ℕ) (most : ℕ) →
-    l'.lent ≡ (limited_device below given counted most).lent → l'.contents ≡ below.contents → l'.size ≡ below.size →
-    GivesBack below d' given name counted reads' most left asked spent (limited_device below given counted most) l') →
+    GivesBackLent (lent_at d' name reads' left) asked spent l' →
     IsGathered n v d d' name_lent name reads reads' w w' s spent r
 gathered {v = v} {d = d} {d' = d'} {w = w} {w' = w'} {name_lent = lent} {name = name} {reads = reads}
     {reads' = reads'} {limit = limit} {asked = asked} {n = n} {spent = spent} {r = r} over begins price p back =
@@ -92,9 +91,7 @@ spares_below {v = v} {d = d} {l = l} {w = w} same begins few spares =
 pub spared : {T : Type 0} {v : Layout} {d d' l l' : Device} {w w' : Workspace} {s s' : KeptParent}
     {name_lent name : GName} {reads reads' limit left before asked n x : ℕ} {spent : Bool} {r : Result T ImageFault} →
     l ≡ limited_device d name_lent reads limit → before ≡ 0 → PathLeaves n v l l' before asked w w' s' r →
-    ((below : Device) (given : GName) (counted : ℕ) (most : ℕ) →
-    l'.lent ≡ (limited_device below given counted most).lent → l'.contents ≡ below.contents → l'.size ≡ below.size →
-    GivesBack below d' given name counted reads' most left asked spent (limited_device below given counted most) l') →
+    GivesBackLent (lent_at d' name reads' left) asked spent l' →
     SparesReads v l before asked x w s → SparesReads v d reads reads' x w s
 spared {v = v} {d = d} {d' = d'} {w = w} {name_lent = lent} {name = name} {reads = reads} {reads' = reads'}
     {limit = limit} {asked = asked} {spent = spent} {r = r} over begins p back spares =

@@ -7,11 +7,12 @@ pub returns-in-Run : goal.returns-in-Run
 returns-in-Run g c =
     let r = c.in-Run in
     let replays = c.take-taken.ensures.replays c.args.geometry.now.layout r.start r.block c.in_range.ensures in
+    let count = c.take-taken.ensures.count c.args.geometry.now.layout r.start c.in_range.ensures in
     let did = c.report_run.ensures in
     rw r.is (record {
-      said = rw (c.requires.going, ← replays.count) did.said;
+      said = rw (c.requires.going, ← count) did.said;
       reported = on_ok_weaker c.report_run.result (λ p. record {
-        reported = rw (c.requires.going, ← replays.count)
+        reported = rw (c.requires.going, ← count)
             (reported_from c.args.workspace.now _ c.report_run.new.workspace p refl refl);
         next = replays.after;
         cut = c.take-taken.ensures.cut;

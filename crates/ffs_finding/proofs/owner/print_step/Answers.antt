@@ -17,9 +17,9 @@ text_is v f x earlier cut r start len block taken going is =
 pub returns-in-Run-clause-prints : goal.returns-in-Run-clause-prints
 returns-in-Run-clause-prints g c =
     let v = c.args.geometry.now.layout in
-    let again = c.take-taken.ensures.replays v c.in-Run.start c.in-Run.block c.in_range.ensures in
+    let count = c.take-taken.ensures.count v c.in-Run.start c.in_range.ensures in
     rw (c.in-Run.is) (rw (text_is v c.args.sought.fragment c.args.sought.number c.args.earlier _ _ c.in-Run.start
-    c.in-Run.len c.in-Run.block c.take-taken.result c.requires.going again.count) at c.print_run.ensures)
+    c.in-Run.len c.in-Run.block c.take-taken.result c.requires.going count) at c.print_run.ensures)
 
 pub returns-in-Run-clause-continues : goal.returns-in-Run-clause-continues
 returns-in-Run-clause-continues g c =
