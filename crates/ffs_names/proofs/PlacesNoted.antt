@@ -269,7 +269,8 @@ parent_dir g x s other h = grind (arith, by_dir, cond-false)
 
 -- places are right after the directory p is noted
 pub places_after : {v : Layout} {b : List ℕ} {w : Workspace} {old new : List ℕ} {p : ℕ} → HoldsSurvey v b w →
-    (is_dir (volume_of v b) p ≡ true → NotesEntries v b w.parents.items old new p (roled_entries (volume_of v b) p)) →
+    (is_dir (volume_of v b) p ≡ true
+    → NotesEntries v b (is_child w.parents.items p) (roled_entries (volume_of v b) p) old new) →
     NotesChildren w.parents.items old new p → ArePlaces v b old → ArePlaces v b new
 places_after {v = v} {b = b} {w = w} {p = p} survey noted children right x q k there is =
     go (is_child w.parents.items p x) refl
@@ -403,8 +404,8 @@ coming_first {v = v} {b = b} {w = w} {words = words} long begins survey x p unde
 pub coming_noted : {v : Layout} {b : List ℕ} {w : Workspace} {mid new : List ℕ} {d : ℕ} (old : List ℕ) → HoldsSurvey v b
     w → ((x : ℕ) → place_in (slice_index mid x) ≡ place_in (slice_index old x)) → ((x : ℕ) → x ≢ d
     → is_due (slice_index mid x) ≡ is_due (slice_index old x)) → (is_dir (volume_of v b) d ≡ true → NotesEntries v b
-    w.parents.items mid new d (roled_entries (volume_of v b) d)) → NotesChildren w.parents.items mid new d → AreComing v
-    b old → AreComing v b new
+    (is_child w.parents.items d) (roled_entries (volume_of v b) d) mid new) → NotesChildren w.parents.items mid new d →
+    AreComing v b old → AreComing v b new
 coming_noted {v = v} {b = b} {w = w} {mid = mid} {new = new} {d = d} old survey same due noted children coming
     x p under = go (cases_eq p d)
   where

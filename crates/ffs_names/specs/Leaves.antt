@@ -10,32 +10,71 @@ use Rattle.ffs_names.specs.Readings.{gap_left, CountsRuns, IsSame}
 use Rattle.ffs_names.specs.{RunCursors.{IsGivenChunk, StepsOn}, Windows.{CanReadChunks, CanWalkDir}}
 use Rattle.ffs_names.specs.declared.{chunks.Chunks.Chunks, entries.Entries.Entries, run_cursor.RunCursor.RunCursor}
 
+-- In these moments `image` is the image, and `reads` how often it was read by then. In a contract the I that
+-- makes one is I.Image: what the type of the image gives to contracts.
+
+-- a moment at which a Run is read into a window
+pub record RunReading : Type 0 where
+  pub image : Device
+  pub reads : ℕ
+  pub window : Window
+
+abbrev pub run_reading : {S : Type 0} → Ghosts S → S → Window → RunReading
+run_reading I image window = record { image = I.device image; reads = I.reads image; window = window }
+
+-- a moment of a walk over the blocks of a directory
+pub record DirWalk : Type 0 where
+  pub image : Device
+  pub reads : ℕ
+  pub blocks : Blocks
+  pub chunks : Chunks
+
+abbrev pub dir_walk : {S : Type 0} → Ghosts S → S → Blocks → Chunks → DirWalk
+dir_walk I image blocks chunks =
+    record { image = I.device image; reads = I.reads image; blocks = blocks; chunks = chunks }
+
+-- a moment of a reading of a directory, by chunks or by entries: `window` is that of its chunks
+pub record DirReading (R : Type 0) : Type 0 where
+  pub image : Device
+  pub reads : ℕ
+  pub blocks : Blocks
+  pub window : Window
+  pub reading : R
+
+abbrev pub dir_reading : {S R : Type 0} → Ghosts S → S → Blocks → Window → R → DirReading R
+dir_reading I image blocks window reading = record {
+  image = I.device image;
+  reads = I.reads image;
+  blocks = blocks;
+  window = window;
+  reading = reading;
+}
+
 -- what a call leaves that reads a chunk of a Run: a window with the room that it had, which holds
 -- what the image gives, and the Run too, where a chunk of it is left. The Run is read once
-pub record LeavesRun {T : Type 0} (cursor : RunCursor) (d d' : Device) (reads reads' : ℕ) (w w' : Window)
-    (result : Result T ImageFault) : Type 0 where
-  pub room : vec_len w'.buffer ≡ vec_len w.buffer
-  pub holds : WindowHolds d'.contents w'
-  pub read : ReadAfter d d' result
-  pub counted : HoldsRun w cursor → reads' ≤ reads + unread_run cursor
-  pub held : OnOk result (cursor.next + 1 < cursor.count → (w'.place ≡ cursor.place) × (w'.length ≡ cursor.length))
+pub record LeavesRun {T : Type 0} (cursor : RunCursor) (old new : RunReading) (result : Result T ImageFault) : Type 0
+  where
+    pub room : vec_len new.window.buffer ≡ vec_len old.window.buffer
+    pub holds : WindowHolds new.image.contents new.window
+    pub read : ReadAfter old.image new.image result
+    pub counted : HoldsRun old.window cursor → new.reads ≤ old.reads + unread_run cursor
+    pub held : OnOk result (cursor.next + 1 < cursor.count → (new.window.place ≡ cursor.place)
+        × (new.window.length ≡ cursor.length))
 
 -- what a call leaves that moves on to a Run, or looks for holes: it can walk on, and only reads the
 -- image, at most as often as the reading may
-pub record LeavesWalk {S T : Type 0} (I : Ghosts S) (old new : Chunks) (image image' : S) (blocks blocks' : Blocks)
-    (result : Result T ImageFault) : Type 0 where
-  pub same : IsSame old new
-  pub ready : CanWalkDir old.walk.geometry.layout (I.device image') blocks'
-  pub read : ReadAfter (I.device image) (I.device image') result
-  pub counted : (w : Window) → HoldsReading blocks w old → ForContents (I.device image).contents (λ b.
-      TakesReads (I.reads image) (I.reads image') (to_read b old) (to_read b new) (HoldsReading blocks' w new) result)
+pub record LeavesWalk {T : Type 0} (old new : DirWalk) (result : Result T ImageFault) : Type 0 where
+  pub same : IsSame old.chunks new.chunks
+  pub ready : CanWalkDir old.chunks.walk.geometry.layout new.image new.blocks
+  pub read : ReadAfter old.image new.image result
+  pub counted : (w : Window) → HoldsReading old.blocks w old.chunks → ForContents old.image.contents (λ b. TakesReads
+      old.reads new.reads (to_read b old.chunks) (to_read b new.chunks) (HoldsReading new.blocks w new.chunks) result)
 
 -- a call looks for a hole among the kept steps of a directory: those that a reading of its chunks has
 -- seen, and those that are left
-pub record LooksForGap {S : Type 0} (I : Ghosts S) (old new : Chunks) (image image' : S) (blocks blocks' : Blocks)
-    (result : Result Bool ImageFault) : Type 0 where
-  pub gap : IfOk result (λ g. ForContents (I.device image).contents (λ b. g ≡ (old.gap || gap_left b old)))
-  pub leaves : LeavesWalk I old new image image' blocks blocks' result
+pub record LooksForGap (old new : DirWalk) (result : Result Bool ImageFault) : Type 0 where
+  pub gap : IfOk result (λ g. ForContents old.image.contents (λ b. g ≡ (old.chunks.gap || gap_left b old.chunks)))
+  pub leaves : LeavesWalk old new result
 
 -- a walk has no step left, in the volume that it was over
 pub record EndsWalk (old new : Walk) : Type 0 where
@@ -43,41 +82,38 @@ pub record EndsWalk (old new : Walk) : Type 0 where
   pub geometry : new.geometry ≡ old.geometry
 
 -- what a call leaves that reads a chunk
-pub record LeavesChunks {T : Type 0} (old new : Chunks) (d d' : Device) (blocks : Blocks) (chunk : Window)
-    (result : Result T ImageFault) : Type 0 where
-  pub same : IsSame old new
-  pub ready : CanReadChunks old.walk.geometry.layout d' blocks chunk
-  pub read : ReadAfter d d' result
+pub record LeavesChunks {T : Type 0} (old new : DirReading Chunks) (result : Result T ImageFault) : Type 0 where
+  pub same : IsSame old.reading new.reading
+  pub ready : CanReadChunks old.reading.walk.geometry.layout new.image new.blocks new.window
+  pub read : ReadAfter old.image new.image result
 
 -- what a call leaves that gives the next chunk, if there is one: where that is in the image, how many Runs
 -- were looked at, and how many chunks may still come. These are one fewer after a chunk and none after a
 -- fault, and where none may come nothing is read
-pub record LeavesNext {S : Type 0} (I : Ghosts S) (old new : Chunks) (image image' : S) (blocks : Blocks) (w : Window)
-    (chunk : List ℕ) (result : Result (Option ℕ) ImageFault) : Type 0 where
-  pub geometry : new.walk.geometry ≡ old.walk.geometry
-  pub ready : CanReadChunks old.walk.geometry.layout (I.device image') blocks w
-  pub read : ReadAfter (I.device image) (I.device image') result
-  pub place : IfOk result (λ o. IfSome o (λ _.
-      IsGivenChunk old.walk.geometry.layout (I.device image).contents new.run_cursor chunk))
-  pub steps : IfOk result (λ o. IfSome o (λ _. StepsOn old.run_cursor new.run_cursor))
-  pub runs : CountsRuns (I.device image).contents old new result
-  pub budget : MatchResult result (λ o. MatchOption o (new.budget ≡ old.budget) (λ _. new.budget + 1 ≡ old.budget))
-      (λ _. new.budget ≡ 0)
-  pub over : old.budget ≡ 0 → (result ≡ Ok None) × (I.reads image' ≤ I.reads image)
+pub record LeavesNext (old new : DirReading Chunks) (chunk : List ℕ) (result : Result (Option ℕ) ImageFault) : Type 0
+  where
+    pub geometry : new.reading.walk.geometry ≡ old.reading.walk.geometry
+    pub ready : CanReadChunks old.reading.walk.geometry.layout new.image new.blocks new.window
+    pub read : ReadAfter old.image new.image result
+    pub place : IfOk result (λ o. IfSome o (λ _.
+        IsGivenChunk old.reading.walk.geometry.layout old.image.contents new.reading.run_cursor chunk))
+    pub steps : IfOk result (λ o. IfSome o (λ _. StepsOn old.reading.run_cursor new.reading.run_cursor))
+    pub runs : CountsRuns old.image.contents old.reading new.reading result
+    pub budget : MatchResult result (λ o. MatchOption o (new.reading.budget ≡ old.reading.budget)
+        (λ _. new.reading.budget + 1 ≡ old.reading.budget)) (λ _. new.reading.budget ≡ 0)
+    pub over : old.reading.budget ≡ 0 → (result ≡ Ok None) × (new.reads ≤ old.reads)
 
 -- what a call leaves that gives the next entry, if there is one: that is in a chunk of the image, and fewer
 -- may come after it
-pub record LeavesEntries {S : Type 0} (I : Ghosts S) (old new : Entries) (image image' : S) (blocks : Blocks) (w : Window)
-    (result : Result (Option EntryHead) ImageFault) : Type 0 where
-  pub geometry : new.chunks.walk.geometry ≡ old.chunks.walk.geometry
-  pub ready : CanReadChunks old.chunks.walk.geometry.layout (I.device image') blocks w
-  pub read : ReadAfter (I.device image) (I.device image') result
-  pub place : IfOk result (λ o. IfSome o (λ _. GivesFromChunk (I.device image).contents old new))
-  pub left : IfOk result (λ o. IfSome o (λ _. left new < left old))
+pub record LeavesEntries (old new : DirReading Entries) (result : Result (Option EntryHead) ImageFault) : Type 0 where
+  pub geometry : new.reading.chunks.walk.geometry ≡ old.reading.chunks.walk.geometry
+  pub ready : CanReadChunks old.reading.chunks.walk.geometry.layout new.image new.blocks new.window
+  pub read : ReadAfter old.image new.image result
+  pub place : IfOk result (λ o. IfSome o (λ _. GivesFromChunk old.image.contents old.reading new.reading))
+  pub left : IfOk result (λ o. IfSome o (λ _. left new.reading < left old.reading))
 
 -- what a call leaves that walks on, but for how often it reads
-pub record LeavesBlocks {T : Type 0} (old new : Chunks) (d d' : Device) (blocks : Blocks) (result : Result T ImageFault) :
-    Type 0 where
-  pub same : IsSame old new
-  pub ready : CanWalkDir old.walk.geometry.layout d' blocks
-  pub read : ReadAfter d d' result
+pub record LeavesBlocks {T : Type 0} (old new : DirWalk) (result : Result T ImageFault) : Type 0 where
+  pub same : IsSame old.chunks new.chunks
+  pub ready : CanWalkDir old.chunks.walk.geometry.layout new.image new.blocks
+  pub read : ReadAfter old.image new.image result

@@ -8,6 +8,7 @@ pub mod Shapes
 pub mod OneChunk
 pub mod Readers
 pub mod Surveys
+pub mod Sweeps
 pub mod Noting
 pub mod SeenRuns
 pub mod Costs

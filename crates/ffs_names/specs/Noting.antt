@@ -13,7 +13,7 @@ use Rattle.ffs_workspace.specs.Places.{entries_in_part, is_due, name_in, place_i
 use Rattle.ffs_workspace.specs.{Places.IsNoted, Holds.HoldsSurvey, Ready.IsReady}
 use Rattle.ffs_volume.specs.Blocks.Inodes.{inodes_of}
 use Rattle.ffs_workspace.specs.declared.workspace.{Windows.Windows, Workspace.Workspace}
-use Rattle.ffs_names.specs.{Costs.{to_read, HoldsReading}, Windows.CanReadChunks}
+use Rattle.ffs_names.specs.{Costs.{to_read, HoldsReading}, Sweeps.Sweep, Windows.CanReadChunks}
 use Rattle.ffs_volume.specs.Report.DirectoryReads.{noted_cost}
 use Rattle.ffs_names.specs.declared.chunks.Chunks.{Chunks}
 
@@ -25,13 +25,26 @@ pub record CanNote (parents words : Vec ℕ Global) (p place : ℕ) : Type 0 whe
   pub small : place < 2 ^ 31
   pub long : vec_len parents ≡ vec_len words
 
+-- a moment at which chunks of a directory are noted: the image, how often it was read by then, its windows,
+-- the reading of the chunks, and the words that have the places
+pub record ChunkNoting : Type 0 where
+  pub image : Device
+  pub reads : ℕ
+  pub windows : Windows
+  pub chunks : Chunks
+  pub words : Vec ℕ Global
+
+-- the moment at which these are so. I is what the type of the image gives to contracts: I.Image in a contract
+abbrev pub chunk_noting : {S : Type 0} → Ghosts S → S → Windows → Chunks → Vec ℕ Global → ChunkNoting
+chunk_noting I image windows chunks words =
+    record { image = I.device image; reads = I.reads image; windows = windows; chunks = chunks; words = words }
+
 -- the chunks of p can be read, of which none was given yet, and noted
-pub record CanNoteChunks (v : Layout) (d : Device) (w : Windows) (c : Chunks) (parents words : Vec ℕ Global) (p : ℕ) :
-    Type 0 where
-  pub ready : CanReadChunks v d w.blocks w.current
-  pub first : c.run_cursor.next ≡ 0
+pub record CanNoteChunks (parents : Vec ℕ Global) (p : ℕ) (m : ChunkNoting) : Type 0 where
+  pub ready : CanReadChunks m.chunks.walk.geometry.layout m.image m.windows.blocks m.windows.current
+  pub first : m.chunks.run_cursor.next ≡ 0
   pub dir : 0 < p
-  pub lengths : vec_len parents ≡ vec_len words
+  pub lengths : vec_len parents ≡ vec_len m.words
 
 -- so can those of an inode of the volume
 pub record CanNoteDirectory (v : Layout) (d : Device) (w : Workspace) (p : ℕ) : Type 0 where
@@ -62,14 +75,14 @@ pub record NotesInWords (parents old new : Vec ℕ Global) (p place : ℕ) (es :
   pub noted : NotesChunk parents.items old.items new.items p place es
   pub long : vec_len new ≡ vec_len old
 
--- each place that is noted anew is that of an inode with the parent p: the first plain entry of the
--- part that names it has the name of the first one of p, which has the entries es. A place is noted
--- of each inode with the parent p that a plain one of these entries names, if none or a right one
--- was noted before
-pub record NotesEntries (v : Layout) (b parents old new : List ℕ) (p : ℕ) (es : List RoledEntry) : Type 0 where
+-- the entries es of the parent of some inodes are noted: of each place that is noted anew the first plain
+-- entry of the part that names the inode has the name of the first one of es. A place is noted of each
+-- child that a plain one of these entries names, if none or a right one was noted before
+pub record NotesEntries (v : Layout) (b : List ℕ) (child : ℕ → Bool) (es : List RoledEntry) (old new : List ℕ) :
+    Type 0 where
   pub places : (x k : ℕ) → place_in (slice_index new x) ≡ suc k → (place_in (slice_index old x) ≡ suc k)
       ⊎ (name_in x (entries_in_part v b k) ≡ name_in x es)
-  pub all : (x : ℕ) → is_child parents p x ≡ true → list_any (is_naming_entry x) es ≡ true →
+  pub all : (x : ℕ) → child x ≡ true → list_any (is_naming_entry x) es ≡ true →
       (place_in (slice_index old x) ≡ 0) ⊎ IsNoted v b old x → IsNoted v b new x
 
 -- no place of an inode with another parent is noted, and what is to be read stays so
@@ -79,11 +92,11 @@ pub record NotesChildren (parents old new : List ℕ) (p : ℕ) : Type 0 where
 
 -- the places of the entries of the directory p are noted, where no read failed, and the image was read at
 -- most as often as the directory asks for
-pub record NotesDirectory {T : Type 0} (v : Layout) (b : List ℕ) (old new : Workspace) (p reads reads' : ℕ)
+pub record NotesDirectory {T : Type 0} (v : Layout) (b : List ℕ) (p : ℕ) (old new : Sweep)
     (result : Result T ImageFault) : Type 0 where
-  pub noted : OnOk result (NotesEntries v b old.parents.items old.queue.items new.queue.items p
-      (roled_entries (volume_of v b) p))
-  pub counted : reads' ≤ reads + noted_cost v b p
+  pub noted : OnOk result (NotesEntries v b (is_child old.workspace.parents.items p) (roled_entries (volume_of v b) p)
+      old.workspace.queue.items new.workspace.queue.items)
+  pub counted : new.reads ≤ old.reads + noted_cost v b p
 
 -- p is the parent of an inode with a number greater than the root's
 pub record IsParent (parents : List ℕ) (p : ℕ) : Type 0 where
@@ -110,31 +123,30 @@ pub record HoldsPlaces (v : Layout) (b : List ℕ) (w : Workspace) : Type 0 wher
 
 -- what a call leaves that notes the chunks of p that are to come: the other windows are as they were, only
 -- children of p are noted, in as many words, and the image is read at most as often as these chunks ask for
-pub record LeavesNoted {S T : Type 0} (I : Ghosts S) (old new : Chunks) (image image' : S) (before after : Windows)
-    (parents words words' : Vec ℕ Global) (p : ℕ) (result : Result T ImageFault) : Type 0 where
-  pub geometry : new.walk.geometry ≡ old.walk.geometry
-  pub ready : CanReadChunks old.walk.geometry.layout (I.device image') after.blocks after.current
-  pub read : ReadAfter (I.device image) (I.device image') result
-  pub counted : HoldsReading before.blocks before.current old → ForContents (I.device image).contents
-      (λ b. I.reads image' ≤ I.reads image + to_read b old)
-  pub others : after ≡ record before { blocks = after.blocks; current = after.current }
-  pub children : NotesChildren parents.items words.items words'.items p
-  pub long : vec_len words' ≡ vec_len words
+pub record LeavesNoted {T : Type 0} (parents : Vec ℕ Global) (p : ℕ) (old new : ChunkNoting)
+    (result : Result T ImageFault) : Type 0 where
+  pub geometry : new.chunks.walk.geometry ≡ old.chunks.walk.geometry
+  pub ready : CanReadChunks old.chunks.walk.geometry.layout new.image new.windows.blocks new.windows.current
+  pub read : ReadAfter old.image new.image result
+  pub counted : HoldsReading old.windows.blocks old.windows.current old.chunks → ForContents old.image.contents
+      (λ b. new.reads ≤ old.reads + to_read b old.chunks)
+  pub others : new.windows ≡ record old.windows { blocks = new.windows.blocks; current = new.windows.current }
+  pub children : NotesChildren parents.items old.words.items new.words.items p
+  pub long : vec_len new.words ≡ vec_len old.words
 
 -- what a call leaves that notes places of children of p in `queue`: only the windows change beside it,
 -- the workspace is ready, and the image was only read
-pub record LeavesChildren {T : Type 0} (v : Layout) (d d' : Device) (old new : Workspace) (p : ℕ)
-    (result : Result T ImageFault) : Type 0 where
-  pub lists : new ≡ record old { windows = new.windows; queue = new.queue }
-  pub ready : IsReady v d' new
-  pub read : ReadAfter d d' result
-  pub children : NotesChildren old.parents.items old.queue.items new.queue.items p
+pub record LeavesChildren {T : Type 0} (v : Layout) (p : ℕ) (old new : Sweep) (result : Result T ImageFault)
+    : Type 0 where
+  pub lists : new.workspace ≡ record old.workspace { windows = new.workspace.windows; queue = new.workspace.queue }
+  pub ready : IsReady v new.image new.workspace
+  pub read : ReadAfter old.image new.image result
+  pub children : NotesChildren old.workspace.parents.items old.workspace.queue.items new.workspace.queue.items p
 
 -- what a call leaves that notes all places: only the windows and `queue` change, the workspace is ready,
 -- the image was only read, and no word is due where no read failed
-pub record LeavesPlaces {T : Type 0} (v : Layout) (d d' : Device) (old new : Workspace) (result : Result T ImageFault) :
-    Type 0 where
-  pub lists : new ≡ record old { windows = new.windows; queue = new.queue }
-  pub ready : IsReady v d' new
-  pub read : ReadAfter d d' result
-  pub none_due : OnOk result ((x : ℕ) → is_due (slice_index new.queue.items x) ≡ false)
+pub record LeavesPlaces {T : Type 0} (v : Layout) (old new : Sweep) (result : Result T ImageFault) : Type 0 where
+  pub lists : new.workspace ≡ record old.workspace { windows = new.workspace.windows; queue = new.workspace.queue }
+  pub ready : IsReady v new.image new.workspace
+  pub read : ReadAfter old.image new.image result
+  pub none_due : OnOk result ((x : ℕ) → is_due (slice_index new.workspace.queue.items x) ≡ false)

@@ -48,7 +48,7 @@ impl Chunks {
     ghost use Rattle.ffs_names.specs.Costs.{to_read, BeginsAtChunk, BeginsByClass, BeginsReading, HoldsReading, SeesRun};
     ghost use Rattle.ffs_names.specs.RunCursors.{last_place, IsGivenChunk, StepsOn};
     ghost use Rattle.ffs_names.specs.Readings.{all_chunks, rest, CanSee, ContinuesTo, CountsNoMore, FindsNextRun, GivesChunk, IsSame};
-    ghost use Rattle.ffs_names.specs.Leaves.{LeavesChunks, LeavesNext, LeavesWalk};
+    ghost use Rattle.ffs_names.specs.Leaves.{dir_reading, dir_walk, LeavesChunks, LeavesNext, LeavesWalk};
 
     /// Looks at the Run that comes next in the walk: one of data that is kept whole, and is in
     /// range, becomes the current Run. Any other has no chunks.
@@ -83,8 +83,8 @@ impl Chunks {
         ensures continues { ForContents (I.device image.old).contents (λ b. MatchResult result
             (λ _. ContinuesTo b self.old self.new) (λ _. CountsNoMore b self.old self.new)) }
         ensures found { IfOk result (FindsNextRun (I.device image.old).contents self.old self.new) }
-        ensures leaves { LeavesWalk I.Image self.old self.new image.old image.new blocks.old
-            blocks.new result }
+        ensures leaves { LeavesWalk (dir_walk I.Image image.old blocks.old self.old)
+            (dir_walk I.Image image.new blocks.new self.new) result }
     {
         'steps: while self.run_cursor.next == self.run_cursor.count {
             if !self.keeping.is_replay_open() {
@@ -126,8 +126,9 @@ impl Chunks {
             → ForContents (I.device image.old).contents (λ b. TakesReads (I.reads image.old)
             (I.reads image.new) (to_read b self.old) (to_read b self.new)
             (HoldsReading blocks.new window.new self.new) result) }
-        ensures leaves { LeavesChunks self.old self.new (I.device image.old) (I.device image.new)
-            blocks.new window.new result }
+        ensures leaves { LeavesChunks
+            (dir_reading I.Image image.old blocks.old window.old self.old)
+            (dir_reading I.Image image.new blocks.new window.new self.new) result }
     {
         if !self.advance(image, blocks)? {
             return Ok(None);
@@ -226,8 +227,8 @@ impl Chunks {
             → ForContents (I.device image.old).contents (λ b. TakesReads (I.reads image.old)
             (I.reads image.new) (to_read b self.old) (to_read b self.new)
             (HoldsReading blocks.new window.new self.new) result) }
-        ensures leaves { LeavesNext I.Image self.old self.new image.old image.new blocks.new
-            window.new chunk.new result }
+        ensures leaves { LeavesNext (dir_reading I.Image image.old blocks.old window.old self.old)
+            (dir_reading I.Image image.new blocks.new window.new self.new) chunk.new result }
     {
         if self.budget == 0 {
             return Ok(None);

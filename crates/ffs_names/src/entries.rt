@@ -55,7 +55,8 @@ fn has_right_size(inode: &Inode) -> bool
 }
 
 impl Entries {
-    ghost use Rattle.ffs_names.specs.{Costs.{reads_for_entries, HoldsEntries}, Leaves.{LeavesBlocks, LeavesEntries}};
+    ghost use Rattle.ffs_names.specs.Costs.{reads_for_entries, HoldsEntries};
+    ghost use Rattle.ffs_names.specs.Leaves.{dir_reading, dir_walk, LeavesBlocks, LeavesEntries};
     ghost use Rattle.ffs_names.specs.Shapes.{has_right_shape, BeginsIn, GivesEntry, HasEnded, HasStopped, RestartsIn, TakesFromChunk};
     ghost use Rattle.ffs_names.specs.Entering.{last_name};
 
@@ -166,8 +167,9 @@ impl Entries {
             → ForContents (I.device image.old).contents (λ b. TakesReads (I.reads image.old)
             (I.reads image.new) (reads_for_entries b self.old) (reads_for_entries b self.new)
             (HoldsEntries blocks.new window.new self.new) result) }
-        ensures leaves { LeavesEntries I.Image self.old self.new image.old image.new blocks.new
-            window.new result }
+        ensures leaves { LeavesEntries
+            (dir_reading I.Image image.old blocks.old window.old self.old)
+            (dir_reading I.Image image.new blocks.new window.new self.new) result }
     {
         'chunks: loop {
             match self.take() {
@@ -205,8 +207,8 @@ impl Entries {
             → ForContents (I.device image.old).contents (λ b. TakesReads (I.reads image.old)
             (I.reads image.new) (reads_for_entries b self.old) (reads_for_entries b self.new)
             (HoldsEntries blocks.new w self.new) result) }
-        ensures leaves { LeavesBlocks self.old.chunks self.new.chunks (I.device image.old)
-            (I.device image.new) blocks.new result }
+        ensures leaves { LeavesBlocks (dir_walk I.Image image.old blocks.old self.old.chunks)
+            (dir_walk I.Image image.new blocks.new self.new.chunks) result }
     {
         if !self.right_so_far {
             return Ok(false);

@@ -1,7 +1,7 @@
 //! Whether a hole of a directory is kept.
 ghost use Rattle.std.specs.Prelude.{IsTrue};
 ghost use Rattle.ffs_walk.specs.Rests.{IsOver};
-ghost use Rattle.ffs_names.specs.{Windows.CanWalkDir, Leaves.{EndsWalk, LooksForGap}};
+ghost use Rattle.ffs_names.specs.{Windows.CanWalkDir, Leaves.{dir_walk, EndsWalk, LooksForGap}};
 
 use crate::chunks::Chunks;
 use ffs_image::{Image, ImageFault};
@@ -45,8 +45,8 @@ fn find_gap<I: Image>(
     chunks: &mut Chunks,
 ) -> Result<bool, ImageFault>
     requires { CanWalkDir chunks.old.walk.geometry.layout (I.device image.old) blocks.old }
-    ensures { LooksForGap I.Image chunks.old chunks.new image.old image.new blocks.old blocks.new
-        result }
+    ensures { LooksForGap (dir_walk I.Image image.old blocks.old chunks.old)
+        (dir_walk I.Image image.new blocks.new chunks.new) result }
 {
     'runs: while chunks.advance(image, blocks)? {
         // Its chunks are passed over.
@@ -67,8 +67,8 @@ pub fn gap_of<I: Image>(
     chunks: &mut Chunks,
 ) -> Result<bool, ImageFault>
     requires { CanWalkDir chunks.old.walk.geometry.layout (I.device image.old) blocks.old }
-    ensures { LooksForGap I.Image chunks.old chunks.new image.old image.new blocks.old blocks.new
-        result }
+    ensures { LooksForGap (dir_walk I.Image image.old blocks.old chunks.old)
+        (dir_walk I.Image image.new blocks.new chunks.new) result }
 {
     if is_walk_over(chunks) {
         return Ok(chunks.gap);

@@ -9,9 +9,9 @@ ghost use Rattle.ffs_volume.specs.Directories.{Roles.roled_from, Volumes.volume_
 ghost use Rattle.ffs_workspace.specs.{Holds.{HoldsClaims, HoldsSurvey}, Ready.IsReady};
 ghost use Rattle.ffs_volume.specs.Encodings.Notes.{note_at};
 ghost use Rattle.ffs_workspace.specs.Tables.{CanReadInode, TableAfter};
-ghost use Rattle.ffs_names.specs.Noting.{is_child, BeginsNotes, CanNote, CanNoteChunks, CanNoteDirectory, HoldsPlaces};
-ghost use Rattle.ffs_names.specs.Noting.{LeavesChildren, LeavesNoted, LeavesPlaces, NotesDirectory, NotesEntries};
-ghost use Rattle.ffs_names.specs.{Noting.NotesInWords, Costs.BeginsChunks};
+ghost use Rattle.ffs_names.specs.Noting.{chunk_noting, is_child, BeginsNotes, CanNote, CanNoteChunks, CanNoteDirectory};
+ghost use Rattle.ffs_names.specs.Noting.{HoldsPlaces, LeavesChildren, LeavesNoted, LeavesPlaces, NotesDirectory};
+ghost use Rattle.ffs_names.specs.{Noting.{NotesEntries, NotesInWords}, Costs.BeginsChunks, Sweeps.sweep};
 ghost use Rattle.ffs_volume.specs.Report.DirectoryReads.{noted_cost, noted_costs};
 ghost use Rattle.ffs_names.specs.{Costs.{BeginsReads, SweepsOnce}, Readings.rest};
 
@@ -98,13 +98,14 @@ fn note_chunks<I: Image>(
     parents: &FilledList<u32>,
     words: &mut FilledList<u32>,
 ) -> Result<(), ImageFault>
-    requires { CanNoteChunks chunks.old.walk.geometry.layout (I.device image.old) windows.old
-        chunks.old parents.now words.old dir }
+    requires { CanNoteChunks parents.now dir
+        (chunk_noting I.Image image.old windows.old chunks.old words.old) }
     ensures noted { OnOk result (ForContents (I.device image.old).contents
-        (λ b. NotesEntries chunks.old.walk.geometry.layout b parents.now.items words.old.items
-        words.new.items dir (flat_map roled_chunk (rest b chunks.old)))) }
-    ensures leaves { LeavesNoted I.Image chunks.old chunks.new image.old image.new windows.old
-        windows.new parents.now words.old words.new dir result }
+        (λ b. NotesEntries chunks.old.walk.geometry.layout b (is_child parents.now.items dir)
+        (flat_map roled_chunk (rest b chunks.old)) words.old.items words.new.items)) }
+    ensures leaves { LeavesNoted parents.now dir
+        (chunk_noting I.Image image.old windows.old chunks.old words.old)
+        (chunk_noting I.Image image.new windows.new chunks.new words.new) result }
 {
     let order = chunks.walk.geometry.layout.order;
     let mut chunk = [0u8; DIRBLKSIZ];
@@ -165,10 +166,10 @@ fn note_directory<I: Image>(
     ensures notes { ForContents (I.device image.old).contents
         (λ b. HoldsClaims geometry.now.layout b workspace.old
         → is_dir (volume_of geometry.now.layout b) dir ≡ true
-        → NotesDirectory geometry.now.layout b workspace.old workspace.new dir
-        (I.reads image.old) (I.reads image.new) result) }
-    ensures leaves { LeavesChildren geometry.now.layout (I.device image.old) (I.device image.new)
-        workspace.old workspace.new dir result }
+        → NotesDirectory geometry.now.layout b dir (sweep I.Image image.old workspace.old)
+        (sweep I.Image image.new workspace.new) result) }
+    ensures leaves { LeavesChildren geometry.now.layout dir (sweep I.Image image.old workspace.old)
+        (sweep I.Image image.new workspace.new) result }
 {
     let note = workspace.notes[dir as usize];
     let table = &mut workspace.windows.table;
@@ -219,8 +220,8 @@ fn note_all<I: Image>(
         (λ b. HoldsClaims geometry.now.layout b workspace.old
         → HoldsSurvey geometry.now.layout b workspace.old
         → I.reads image.new ≤ I.reads image.old + noted_costs geometry.now.layout b) }
-    ensures leaves { LeavesPlaces geometry.now.layout (I.device image.old) (I.device image.new)
-        workspace.old workspace.new result }
+    ensures leaves { LeavesPlaces geometry.now.layout (sweep I.Image image.old workspace.old)
+        (sweep I.Image image.new workspace.new) result }
 {
     flag_parents(&workspace.reached, &workspace.parents, &mut workspace.queue);
     for dir in ROOTINO..geometry.layout.ncg * geometry.layout.ipg {
@@ -255,8 +256,8 @@ pub fn note_places<I: Image>(
     ensures reads { SweepsOnce geometry.now.layout (I.device image.old).contents
         (λ b. HoldsClaims geometry.now.layout b workspace.old
         × HoldsSurvey geometry.now.layout b workspace.old) (I.reads image.old) (I.reads image.new) }
-    ensures leaves { LeavesPlaces geometry.now.layout (I.device image.old) (I.device image.new)
-        workspace.old workspace.new result }
+    ensures leaves { LeavesPlaces geometry.now.layout (sweep I.Image image.old workspace.old)
+        (sweep I.Image image.new workspace.new) result }
 {
     let mut limited = LimitedImage::new(image, sweep_reads(geometry));
     let noted = note_all(geometry, &mut limited, workspace);

@@ -29,7 +29,7 @@ pub struct RunCursor {
 
 impl RunCursor {
     ghost use Rattle.ffs_names.specs.RunCursors.{BeginsRun, HasNoChunks};
-    ghost use Rattle.ffs_names.specs.Leaves.{LeavesRun};
+    ghost use Rattle.ffs_names.specs.Leaves.{run_reading, LeavesRun};
     ghost use Rattle.ffs_names.specs.Fits.{CanBeginRun};
     ghost use Rattle.ffs_names.specs.Windows.{CanReadRun};
 
@@ -94,8 +94,8 @@ impl RunCursor {
         requires { CanReadRun self.now (I.device image.old) window.old }
         ensures chunk { OnOk result (ForContents (I.device image.old).contents
             (λ b. chunk.new ≡ piece (self.now.place + 512 * self.now.next) 512 b)) }
-        ensures leaves { LeavesRun self.now (I.device image.old) (I.device image.new)
-            (I.reads image.old) (I.reads image.new) window.old window.new result }
+        ensures leaves { LeavesRun self.now (run_reading I.Image image.old window.old)
+            (run_reading I.Image image.new window.new) result }
     {
         if without_window && self.count == 1 {
             return image.read_at(self.place, chunk);

@@ -25,7 +25,7 @@ use Rattle.ffs_names.{specs.{RunCursors.reading_by, Surveys.FlagsCalm}, proofs.D
 use Rattle.ffs_volume.specs.Directories.Calm.{is_right_size, is_right_shape}
 use Rattle.ffs_workspace.specs.{declared.workspace.Workspace.Workspace, Lengths.IsFor, Holds.{bool_at, HoldsClaims}}
 use Rattle.ffs_workspace.{specs.Holds.HoldsSurvey, proofs.KindLaws.{reports_at, suspect_is, type_is}}
-use Rattle.ffs_survey.specs.{Survey.number_at, Calm.IsCalm}
+use Rattle.ffs_survey.specs.{Survey.number_at, Calm.{dir_by, IsCalm}}
 use Rattle.ffs_volume.specs.{Encodings.Kinds.dir_at, Directories.Calm.{are_calm, CurrentDir, is_calm_kind}}
 use Rattle.ffs_volume.specs.Directories.Calm.{is_calm_plain, is_calm_role, is_calm_entry, reached_after}
 use Rattle.ffs_survey.proofs.CalmLaws.{calm_names_new, calm_new}
@@ -277,7 +277,7 @@ unfolding parent
 root_up v = refl
 
 calm_belongs : (v : Volume) (kinds : List ℕ) (marked reached : List Bool) (parents : List ℕ) (sound : Bool) (d x : ℕ) →
-    2 ≤ d → Shown v kinds marked parents → IsCalm kinds marked reached parents (roled_entries v d) sound d
+    2 ≤ d → Shown v kinds marked parents → IsCalm (dir_by kinds marked parents d) reached parents (roled_entries v d) sound
     → is_dir v x ≡ true → list_any (is_naming_entry x) (roled_entries v d) ≡ true → belongs v d x ≡ true
 calm_belongs v kinds marked reached parents sound d x two sh c dir named =
     let at = sh.dirs x ∙ dir in

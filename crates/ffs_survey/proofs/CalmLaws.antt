@@ -6,10 +6,11 @@ use mathlib.Core.Path.{fun_ext}
 use Rattle.ffs_volume.specs.Directories.{Graph.{Graph, is_naming_entry}, Roles.{RoledEntry, is_plain}}
 use Rattle.ffs_volume.specs.declared.Role.TheVariants.{Empty, Dot, Dotdot, Extra, Plain}
 use Rattle.ffs_volume.{proofs.SearchLaws.first_below-is_none, specs.declared.Role.Role}
-use Rattle.ffs_survey.specs.Calm.{AreCalm, IsCalm}
+use Rattle.ffs_survey.specs.Calm.{dir_by, AreCalm, IsCalm}
 use Rattle.ffs_volume.specs.Directories.Calm.{CurrentDir, is_calm_role, is_calm_entry, reached_after, are_calm}
-use Rattle.ffs_survey.specs.{Calm.IsFlagged, Discover.{from_entries, nothing, SameResult, IsFrontier, LevelsKnown}}
+use Rattle.ffs_survey.specs.{Calm.IsFlagged, Discover.{from_entries, IsFrontier, LevelsKnown}}
 use Rattle.ffs_survey.{specs.Survey.{bool_at, number_at}, proofs.Frontiers.frontier_within}
+use Rattle.ffs_survey.proofs.Remaining.{nothing, SameResult}
 use Rattle.ffs_volume.specs.Encodings.Kinds.{dir_at}
 use Rattle.ffs_survey.specs.Discover.{Found, IsRead}
 
@@ -44,7 +45,7 @@ pub same_result_stays : {a : ℕ → Option ℕ} {r r' : List Bool} {p p' q q' :
 same_result_stays c = grind arith
 
 calm_stays : {kinds : List ℕ} {m r r' : List Bool} {p p' : List ℕ} {es : List RoledEntry} {right_shape : Bool} {d : ℕ} →
-    Stays r p r' p' → IsCalm kinds m r p es right_shape d → IsCalm kinds m r' p' es right_shape d
+    Stays r p r' p' → IsCalm (dir_by kinds m p d) r p es right_shape → IsCalm (dir_by kinds m p' d) r' p' es right_shape
 calm_stays {d = d} s c = grind arith
 
 -- all entries of d are calm, by what was reached before it was read
@@ -55,7 +56,7 @@ all_calm kinds m r p d es =
 -- a directory is calm once it is read, by its entries and its shape
 calm_found : {kinds : List ℕ} {r r' : List Bool} {p p' q q' : List ℕ} {right_shape : Bool} (m : List Bool) (d : ℕ)
     (es : List RoledEntry) → SameResult (from_entries kinds d es) r p q nothing r' p' q' → bool_at r d ≡ true →
-    all_calm kinds m r p d es ≡ true → right_shape ≡ true → IsCalm kinds m r' p' es right_shape d
+    all_calm kinds m r p d es ≡ true → right_shape ≡ true → IsCalm (dir_by kinds m p' d) r' p' es right_shape
 calm_found {kinds = kinds} {r = r} {p = p} m d es c h calm right =
     let s = same_result_stays c in
     record {
@@ -102,7 +103,7 @@ calm_read {kinds = kinds} {m = m} {r' = r'} {p' = p'} entries right_shape d f f'
       | inr now ↦
           let is = and_parts (x == d) _ now in
           let calm = and_parts _ (right_shape d) (and_parts (nat_lt d (length f)) _ is.1).1 in
-          subst (λ z. IsCalm kinds m r' p' (entries z) (right_shape z) z) (sym (eqb-true x d is.0))
+          subst (λ z. IsCalm (dir_by kinds m p' z) r' p' (entries z) (right_shape z)) (sym (eqb-true x d is.0))
           (calm_found m d (entries d) c h calm.0 calm.1)
     ]
 

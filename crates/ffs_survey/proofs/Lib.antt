@@ -1,3 +1,4 @@
+pub mod Remaining
 mod Discovered
 mod Frontiers
 mod Totals

@@ -4,8 +4,8 @@ use Rattle.std.{proofs.Common.{ap, All, true}, specs.declared.{vec.Vec.Vec, allo
 use Rattle.ffs_volume.specs.Directories.{Graph.Graph, Roles.RoledEntry}
 use Rattle.ffs_memory.specs.Filled.{SortsPart}
 use Rattle.ffs_survey.specs.{declared.lists.Lists.Lists, Lent.{SameLists, found_up_to, CountsAtMost}, Levels.Discovers}
-use Rattle.ffs_survey.specs.Discover.{IsReachedDir, Found, Extends, SameResult, IsFrontier, LevelsKnown, from_dirs}
-use Rattle.ffs_survey.specs.{Discover.{nothing, unset}, Survey.{number_at, graph_with}}
+use Rattle.ffs_survey.specs.Discover.{IsReachedDir, Found, Extends, IsFrontier, LevelsKnown, from_dirs}
+use Rattle.ffs_survey.{specs.{Discover.unset, Survey.{number_at, graph_with}}, proofs.Remaining.{nothing, SameResult}}
 use Rattle.ffs_volume.specs.Encodings.Kinds.{dir_at}
 use Rattle.ffs_survey.proofs.{CalmLaws.frontier_reached, Frontiers.{frontier_dirs, sane_of}, Lending.kinds_long}
 use Rattle.ffs_survey.proofs.{Lending.queue_long, Queues.{level_after, queue_parts, same_result_after}}
@@ -45,8 +45,8 @@ level_reached entries root level i d l = record {
 
 pub next_room : {here mid : Lists} {new : Vec ℕ Global} {low high end : ℕ} {reads : Found → Found → Type 0} →
     SameLists here mid → HasRoomForLevel low high here.references.now.items here.reached.now here.queue.now.items →
-    Discovers (length here.kinds.now) ((high - low) * 2 ^ 28) high end reads (found_up_to here high)
-    (found_up_to mid end) → SortsPart mid.queue.now new high end →
+    Discovers ((high - low) * 2 ^ 28) high end reads (found_up_to here high) (found_up_to mid end) →
+    SortsPart mid.queue.now new high end →
     HasRoomForLevel high end mid.references.now.items mid.reached.now new.items
 next_room {here = here} {mid = mid} {new = new} {high = high} {end = end} same room found sorted =
     grind (arith, kinds_long, queue_long)

@@ -9,8 +9,9 @@ use Rattle.ffs_volume.{specs.Directories.{Graph.{Graph, is_naming_dir, parent}, 
 use Rattle.ffs_volume.specs.Directories.Roles.{refers}
 use Rattle.ffs_survey.proofs.Frontiers.{next_level, frontier_from, queue_grows, IsNext, occurrences-append}
 use Rattle.ffs_survey.{proofs.Frontiers.{occurrences-permutation, no_more, root_alone}, specs.Discover.Extends}
-use Rattle.ffs_survey.specs.Discover.{occurrences, from_dirs, nothing, SameResult, IsFrontier, LevelsKnown, IsCount}
-use Rattle.ffs_survey.specs.{Discover.{Counts, IsReachedPart, count_of, any_of, none, never}, Survey.bool_at}
+use Rattle.ffs_survey.specs.Discover.{occurrences, from_dirs, IsFrontier, LevelsKnown, IsCount}
+use Rattle.ffs_survey.specs.{Discover.{IsReachedPart, count_of, any_of}, Survey.bool_at}
+use Rattle.ffs_survey.proofs.Remaining.{nothing, none, never, Counts, SameResult}
 use Rattle.ffs_survey.{specs.Survey.{number_at, graph_with, counted_in}, proofs.Totals.{any_all, count_all}}
 use Rattle.ffs_volume.specs.Encodings.Kinds.{dir_at}
 

@@ -10,9 +10,10 @@ use Rattle.ffs_volume.specs.Directories.{Climb.is_value, Graph.{Graph, level, pa
 use Rattle.ffs_volume.proofs.{ClimbLaws.is_value-true, Graphs.IsSane, LevelLaws.{level-from, within-zero}}
 use Rattle.ffs_survey.specs.Calm.{IsFlagged}
 use Rattle.ffs_volume.specs.Directories.Calm.{CurrentDir, is_calm_role, is_calm_entry, reached_after, are_calm}
-use Rattle.ffs_survey.specs.Calm.{AreUnread, IsReadOnce, IsUnread}
+use Rattle.ffs_survey.specs.Calm.{dir_by, AreUnread, IsReadOnce, IsUnread}
 use Rattle.ffs_volume.specs.Directories.Calm.{is_calm_by_parents, is_elsewhere}
-use Rattle.ffs_survey.specs.Discover.{bit, from_entries, nothing, occurrences, parent_at, SameResult, IsFrontier, LevelsKnown}
+use Rattle.ffs_survey.specs.Discover.{bit, from_entries, occurrences, parent_at, IsFrontier, LevelsKnown}
+use Rattle.ffs_survey.proofs.Remaining.{nothing, SameResult}
 use Rattle.ffs_survey.specs.{ParentLaws.{parent_above, root_level}, Survey.{bool_at, graph_with, number_at}}
 use Rattle.ffs_volume.specs.Encodings.Kinds.{dir_at}
 use Rattle.ffs_survey.proofs.{CalmLaws.{Stays, all_calm, same_result_stays}, Discovered.{bit-le, set_tests}}
@@ -41,7 +42,7 @@ calm_less s r r' i (e ∷ es) h c =
 
 -- a directory that was read so has a flag, if it is calm by the parents of what it names
 pub flagged_by_parents : {kinds : List ℕ} {m r : List Bool} {p : List ℕ} {es : List RoledEntry} {right_shape : Bool}
-    {f : List Bool} {d : ℕ} → IsReadOnce kinds m r p es right_shape f d →
+    {f : List Bool} {d : ℕ} → IsReadOnce (dir_by kinds m p d) r p es right_shape f →
     is_calm_by_parents kinds m (number_at p) es right_shape d ≡ true → bool_at f d ≡ true
 flagged_by_parents {kinds = kinds} {m = m} {p = p} {es = es} {right_shape = right_shape} {d = d} once calm =
     let s : CurrentDir = record { kinds = kinds; marked = m; dir = d; parent = number_at p d } in
@@ -51,7 +52,7 @@ flagged_by_parents {kinds = kinds} {m = m} {p = p} {es = es} {right_shape = righ
 -- ---- what stays of a directory that was read
 pub read_once_stays : {kinds : List ℕ} {m r r' : List Bool} {p p' : List ℕ} {es : List RoledEntry} {right_shape : Bool}
     {f f' : List Bool} {d : ℕ} → Stays r p r' p' → ((x : ℕ) → bool_at f x ≡ true → bool_at f' x ≡ true) →
-    IsReadOnce kinds m r p es right_shape f d → IsReadOnce kinds m r' p' es right_shape f' d
+    IsReadOnce (dir_by kinds m p d) r p es right_shape f → IsReadOnce (dir_by kinds m p' d) r' p' es right_shape f'
 read_once_stays {p = p} {p' = p'} {f = f} {f' = f'} {d = d} s more once = record {
   before = once.before;
   elsewhere = λ x b. rw (s.parents x (once.known x b)) (once.elsewhere x b);
@@ -64,7 +65,7 @@ read_once_stays {p = p} {p' = p'} {f = f} {f' = f'} {d = d} s more once = record
 pub read_once : {kinds : List ℕ} {r r' : List Bool} {p p' q q' : List ℕ} {right_shape : Bool} (m : List Bool)
     (d : ℕ) (es : List RoledEntry) (f f' : List Bool) → SameResult (from_entries kinds d es) r p q nothing r' p' q' →
     bool_at r d ≡ true → IsFlagged d (all_calm kinds m r p d es) right_shape f f' → d < length f →
-    IsUnread r p d → IsReadOnce kinds m r' p' es right_shape f' d
+    IsUnread r p d → IsReadOnce (dir_by kinds m p' d) r' p' es right_shape f'
 read_once {kinds = kinds} {r = r} {p = p} {right_shape = right_shape} m d es f f' c h flags long unread =
     let s = same_result_stays c in
     let flag = flags d in
@@ -173,15 +174,15 @@ all_places P low xs each i d l =
 pub record IsReadTo (kinds : List ℕ) (m r : List Bool) (p : List ℕ) (entries : ℕ → List RoledEntry)
     (right_shape : ℕ → Bool) (f : List Bool) (level : List ℕ) (low at : ℕ) : Type 0 where
   pub done : (i : ℕ) → low ≤ i → i < at →
-      IsReadOnce kinds m r p (entries (number_at level i)) (right_shape (number_at level i)) f (number_at level i)
+      IsReadOnce (dir_by kinds m p (number_at level i)) r p (entries (number_at level i)) (right_shape (number_at level i)) f
   pub unread : (i : ℕ) → at ≤ i → i < length level → IsUnread r p (number_at level i)
 
 pub level_read : {kinds : List ℕ} {m r r' : List Bool} {p p' : List ℕ} {f : List Bool} (entries : ℕ → List RoledEntry)
     (right_shape : ℕ → Bool) (level : List ℕ) (low at : ℕ) → length level ≤ at → (AreUnread r p (drop low level) →
     IsReadTo kinds m r' p' entries right_shape f level low at) → AreUnread r p (drop low level) →
-    All (λ d. IsReadOnce kinds m r' p' (entries d) (right_shape d) f d) (drop low level)
+    All (λ d. IsReadOnce (dir_by kinds m p' d) r' p' (entries d) (right_shape d) f) (drop low level)
 level_read {kinds = kinds} {m = m} {r' = r'} {p' = p'} {f = f} entries right_shape level low at end read unread =
-    all_places (λ d. IsReadOnce kinds m r' p' (entries d) (right_shape d) f d) low level
+    all_places (λ d. IsReadOnce (dir_by kinds m p' d) r' p' (entries d) (right_shape d) f) low level
     (λ i from inside. (read unread).done i from (omega arith))
 
 pub read_from : {kinds : List ℕ} {m r : List Bool} {p : List ℕ} {entries : ℕ → List RoledEntry}
@@ -210,8 +211,7 @@ read_next {r = r} {r' = r'} {p = p} {p' = p'} kinds m f f' entries right_shape l
         | inl before ↦ read_once_stays (same_result_stays c) grow (read.done i l before)
         | inr after ↦
             let here : at ≡ i = omega arith in
-            subst (λ z. IsReadOnce kinds m r' p' (entries (number_at level z)) (right_shape (number_at level z)) f'
-            (number_at level z)) here
+            subst (λ z. IsReadOnce (dir_by kinds m p' (number_at level z)) r' p' (entries (number_at level z)) (right_shape (number_at level z)) f') here
             (read_once m d (entries d) f f' c h flags long (read.unread at (omega arith) inside))
       ];
       unread = λ i l b. unread_next kinds (entries d) c (others i (omega arith) b)
@@ -223,17 +223,15 @@ read_next {r = r} {r' = r'} {p = p} {p' = p'} kinds m f f' entries right_shape l
 pub read_on_queue : {kinds : List ℕ} {m r r' : List Bool} {p p' : List ℕ} {f f' : List Bool}
     (entries : ℕ → List RoledEntry) (right_shape : ℕ → Bool) (low high : ℕ) (q q' : List ℕ) → low ≤ high → high ≤ length q →
     take high q' ≡ take high q → Stays r p r' p' → ((x : ℕ) → bool_at f x ≡ true → bool_at f' x ≡ true) →
-    ((i : ℕ) → i < low → IsReadOnce kinds m r p (entries (number_at q i)) (right_shape (number_at q i)) f
-    (number_at q i)) →
-    All (λ d. IsReadOnce kinds m r' p' (entries d) (right_shape d) f' d) (drop low (take high q)) →
-    (i : ℕ) → i < high → IsReadOnce kinds m r' p' (entries (number_at q' i)) (right_shape (number_at q' i)) f'
-    (number_at q' i)
+    ((i : ℕ) → i < low → IsReadOnce (dir_by kinds m p (number_at q i)) r p (entries (number_at q i)) (right_shape (number_at q i)) f) →
+    All (λ d. IsReadOnce (dir_by kinds m p' d) r' p' (entries d) (right_shape d) f') (drop low (take high q)) →
+    (i : ℕ) → i < high → IsReadOnce (dir_by kinds m p' (number_at q' i)) r' p' (entries (number_at q' i)) (right_shape (number_at q' i)) f'
 read_on_queue {kinds = kinds} {m = m} {r' = r'} {p' = p'} {f' = f'} entries right_shape low high q q' ordered inside kept
     stays more before now i l =
     let level_is : number_at (take high q) i ≡ number_at q' i =
     ap (λ xs. number_at xs i) (sym kept) ∙ get_or-take high q' i 0 l in
     let old_is : number_at (take high q) i ≡ number_at q i = get_or-take high q i 0 l in
-    let P : ℕ → Type 0 = λ d. IsReadOnce kinds m r' p' (entries d) (right_shape d) f' d in
+    let P : ℕ → Type 0 = λ d. IsReadOnce (dir_by kinds m p' d) r' p' (entries d) (right_shape d) f' in
     elim (cases_lt i low) [
       | inl b ↦ subst P (sym old_is ∙ level_is) (read_once_stays stays more (before i b))
       | inr a ↦ subst P level_is
@@ -244,15 +242,14 @@ read_on_queue {kinds = kinds} {m = m} {r' = r'} {p' = p'} {f' = f'} entries righ
 pub read_each : {kinds : List ℕ} {m r : List Bool} {p : List ℕ} {f : List Bool} (entries : ℕ → List RoledEntry)
     (right_shape : ℕ → Bool) (high : ℕ) (q : List ℕ) →
     ((x : ℕ) → occurrences x (take high q) ≡ bit (bool_at r x)) →
-    ((i : ℕ) → i < high → IsReadOnce kinds m r p (entries (number_at q i)) (right_shape (number_at q i)) f
-    (number_at q i)) → (d : ℕ) → bool_at r d ≡ true → IsReadOnce kinds m r p (entries d) (right_shape d) f d
+    ((i : ℕ) → i < high → IsReadOnce (dir_by kinds m p (number_at q i)) r p (entries (number_at q i)) (right_shape (number_at q i)) f) → (d : ℕ) → bool_at r d ≡ true → IsReadOnce (dir_by kinds m p d) r p (entries d) (right_shape d) f
 read_each {kinds = kinds} {m = m} {r = r} {p = p} {f = f} entries right_shape high q queued read d reached =
     let some : 1 ≤ occurrences d (take high q) = omega (arith, queued d, ap bit reached) in
     let at = occurrences-index d (take high q) some in
     let inside = at.1 in
     let below : at.0 < high = omega (arith, length-take high q, inside) in
     let is : number_at q at.0 ≡ d = sym (get_or-take high q at.0 0 below) ∙ at.2 in
-    subst (λ z. IsReadOnce kinds m r p (entries z) (right_shape z) f z) is (read at.0 below)
+    subst (λ z. IsReadOnce (dir_by kinds m p z) r p (entries z) (right_shape z) f) is (read at.0 below)
 
 -- where inode 2 is no directory, no directory is reached
 pub root_alone_reached : (r : List Bool) (kinds : List ℕ) (d : ℕ) → ((x : ℕ) → bool_at r x ≡ false) →

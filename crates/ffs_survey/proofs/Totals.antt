@@ -8,8 +8,9 @@ use Rattle.ffs_volume.proofs.{Booleans.both_imply, SearchLaws.{some_below-from, 
 use Rattle.ffs_volume.specs.Directories.{Graph.{Graph, is_naming_dir, is_naming_entry}, Roles.{RoledEntry, refers}}
 use Rattle.ffs_volume.specs.Disk.Search.{first_below, some_below}
 use Rattle.ffs_survey.proofs.Frontiers.{occurrences-cases, occurrences-cons, occurrences-nil, occurrences-head, bit-one}
-use Rattle.ffs_survey.specs.Discover.{bit, occurrences, count_of, any_of, counted_by, Counts, count_in, any_in, none}
-use Rattle.ffs_survey.specs.{Discover.never, Survey.{counted_in, counted_below, number_at, bool_at, graph_with}}
+use Rattle.ffs_survey.specs.Discover.{bit, occurrences, count_of, any_of, counted_by, count_in, any_in}
+use Rattle.ffs_survey.specs.Survey.{counted_in, counted_below, number_at, bool_at, graph_with}
+use Rattle.ffs_survey.proofs.Remaining.{none, never, Counts}
 use Rattle.ffs_volume.specs.Encodings.Kinds.{dir_at}
 use Rattle.ffs_volume.specs.Report.DirectoryReads.{costs_below}
 

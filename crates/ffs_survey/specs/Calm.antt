@@ -4,25 +4,29 @@ use Rattle.std.specs.{Prelude.length, List.list_any}
 use Rattle.ffs_volume.specs.Directories.{Roles.RoledEntry, Graph.is_naming_entry}
 use Rattle.ffs_survey.specs.Survey.{bool_at, number_at}
 use Rattle.ffs_volume.specs.Encodings.Kinds.{dir_at}
-use Rattle.ffs_volume.specs.Directories.Calm.{are_calm, is_elsewhere, is_calm_by_parents}
+use Rattle.ffs_volume.specs.Directories.Calm.{are_calm, is_elsewhere, is_calm_by_parents, CurrentDir}
 
--- The directory d is calm: its shape is right, and so are its entries, by what was reached before
+-- the directory d, by the kinds, the marks and the parents of all inodes
+abbrev pub dir_by : List ℕ → List Bool → List ℕ → ℕ → CurrentDir
+dir_by kinds marked parents d = record { kinds = kinds; marked = marked; dir = d; parent = number_at parents d }
+
+-- The directory s is calm: its shape is right, and so are its entries, by what was reached before
 -- it. It is reached, and each directory that it names is reached from it.
-pub record IsCalm (kinds : List ℕ) (marked reached : List Bool) (parents : List ℕ) (entries : List RoledEntry)
-    (right_shape : Bool) (d : ℕ) : Type 0 where
+pub record IsCalm (s : CurrentDir) (reached : List Bool) (parents : List ℕ) (entries : List RoledEntry)
+    (right_shape : Bool) : Type 0 where
   pub before : ℕ → Bool
-  pub begins : before d ≡ true
-  pub entries_right : are_calm (record { kinds = kinds; marked = marked; dir = d; parent = number_at parents d })
-      before 0 entries ≡ true
+  pub begins : before s.dir ≡ true
+  pub entries_right : are_calm s before 0 entries ≡ true
   pub shape_right : right_shape ≡ true
-  pub is_reached : bool_at reached d ≡ true
-  pub below : (x : ℕ) → dir_at kinds x ≡ true → list_any (is_naming_entry x) entries ≡ true
-      → (bool_at reached x ≡ true) × (number_at parents x ≡ d)
+  pub is_reached : bool_at reached s.dir ≡ true
+  pub below : (x : ℕ) → dir_at s.kinds x ≡ true → list_any (is_naming_entry x) entries ≡ true
+      → (bool_at reached x ≡ true) × (number_at parents x ≡ s.dir)
 
 -- all directories with a flag are calm
 abbrev pub AreCalm : List ℕ → List Bool → List Bool → List ℕ → (ℕ → List RoledEntry) → (ℕ → Bool) → List Bool → Type 0
 AreCalm kinds marked reached parents entries right_shape calm =
-    (d : ℕ) → bool_at calm d ≡ true → IsCalm kinds marked reached parents (entries d) (right_shape d) d
+    (d : ℕ) → bool_at calm d ≡ true
+    → IsCalm (dir_by kinds marked parents d) reached parents (entries d) (right_shape d)
 
 -- the flag of d is set where all its entries are calm and its shape is right, and no other flag changes
 abbrev pub IsFlagged : ℕ → Bool → Bool → List Bool → List Bool → Type 0
@@ -45,13 +49,12 @@ pub record AreUnread (reached : List Bool) (parents : List ℕ) (dirs : List ℕ
   pub each : All (IsUnread reached parents) dirs
   pub once : (i j e : ℕ) → i < j → j < length dirs → get_or dirs i e ≢ get_or dirs j e
 
--- The reached directory d was read when no child of it was reached. It has a flag, if its entries are calm
+-- The reached directory s was read when no child of it was reached. It has a flag, if its entries are calm
 -- by what was reached then, and its shape is right
-pub record IsReadOnce (kinds : List ℕ) (marked reached : List Bool) (parents : List ℕ) (entries : List RoledEntry)
-    (right_shape : Bool) (calm : List Bool) (d : ℕ) : Type 0 where
+pub record IsReadOnce (s : CurrentDir) (reached : List Bool) (parents : List ℕ) (entries : List RoledEntry)
+    (right_shape : Bool) (calm : List Bool) : Type 0 where
   pub before : ℕ → Bool
-  pub elsewhere : (x : ℕ) → before x ≡ true → is_elsewhere (number_at parents) d x ≡ true
+  pub elsewhere : (x : ℕ) → before x ≡ true → is_elsewhere (number_at parents) s.dir x ≡ true
   pub known : (x : ℕ) → before x ≡ true → bool_at reached x ≡ true
-  pub is_reached : bool_at reached d ≡ true
-  pub flagged : are_calm (record { kinds = kinds; marked = marked; dir = d; parent = number_at parents d }) before 0
-      entries ≡ true → right_shape ≡ true → bool_at calm d ≡ true
+  pub is_reached : bool_at reached s.dir ≡ true
+  pub flagged : are_calm s before 0 entries ≡ true → right_shape ≡ true → bool_at calm s.dir ≡ true

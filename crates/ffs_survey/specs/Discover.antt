@@ -7,9 +7,11 @@ use Rattle.ffs_volume.specs.Directories.Graph.{Graph, is_naming_entry, is_naming
 use Rattle.ffs_survey.specs.Survey.{bool_at, number_at, counted_in}
 use Rattle.ffs_volume.specs.Encodings.Kinds.{dir_at}
 
--- what a survey has found so far: references, named and reached inodes, parents, calm directories,
--- and the queue
+-- what the lists of a survey hold at a moment: the kinds and the marks that it goes by, and what it has found
+-- so far: references, named and reached inodes, parents, calm directories, and the queue
 pub record Found : Type 0 where
+  pub kinds : List ℕ
+  pub marked : List Bool
   pub references : List ℕ
   pub named : List Bool
   pub reached : List Bool
@@ -38,20 +40,14 @@ from_entries kinds s rest x = cond (dir_at kinds x && list_any (is_naming_entry 
 abbrev pub from_dirs : Graph → List ℕ → ℕ → Option ℕ
 from_dirs g ss x = find (λ s. edge g s x) ss
 
--- nothing is to come
-abbrev pub nothing : ℕ → Option ℕ
-nothing x = None
-
--- Reading on changes no final result: what was found plus what the entries still to be read would
--- add is the same before and after. Here of reached inodes, parents and the queue; `todo` is the
--- parent that those entries give.
-pub record SameResult (todo : ℕ → Option ℕ) (reached : List Bool) (parents queue : List ℕ) (todo' : ℕ → Option ℕ)
-    (reached' : List Bool) (parents' queue' : List ℕ) : Type 0 where
-  pub reaches : (x : ℕ) → (bool_at reached' x || is_some (todo' x)) ≡ (bool_at reached x || is_some (todo x))
-  pub parent : (x : ℕ) → cond (bool_at reached' x) (number_at parents' x) (unwrap_or (todo' x) (number_at parents' x))
-      ≡ cond (bool_at reached x) (number_at parents x) (unwrap_or (todo x) (number_at parents x))
-  pub queued : (x : ℕ) → occurrences x queue' + bit (is_some (todo' x) && not (bool_at reached' x))
-      ≡ occurrences x queue + bit (is_some (todo x) && not (bool_at reached x))
+-- what was read is discovered: `given` is the parent that it gives to an inode, if any. Each such inode is
+-- reached, and one that wasn't before has this parent, and is queued
+pub record AreDiscovered (given : ℕ → Option ℕ) (old new : Found) : Type 0 where
+  pub reaches : (x : ℕ) → bool_at new.reached x ≡ (bool_at old.reached x || is_some (given x))
+  pub parent_is : (x : ℕ) → number_at new.parents x
+      ≡ cond (bool_at old.reached x) (number_at old.parents x) (unwrap_or (given x) (number_at old.parents x))
+  pub queued : (x : ℕ) → occurrences x new.queue
+      ≡ occurrences x old.queue + bit (is_some (given x) && not (bool_at old.reached x))
 
 -- how many of these entries refer to x, and whether a plain one names it
 abbrev pub count_in : List RoledEntry → ℕ → ℕ
@@ -74,19 +70,10 @@ pub record IsCounted (n : ℕ) (e : RoledEntry) (references : List ℕ) (named :
   pub counts : (x : ℕ) → x < n → number_at references' x ≡ number_at references x + bit (refers x e)
   pub names : (x : ℕ) → x < n → bool_at named' x ≡ (bool_at named x || is_naming_entry x e)
 
--- none is to come
-abbrev pub none : ℕ → ℕ
-none x = 0
-
-abbrev pub never : ℕ → Bool
-never x = false
-
--- As `SameResult`, of the references of the numbers below n, and of which are named: the entries still to
--- be read add `count` references to a number, and name it where `name` says so.
-pub record Counts (n : ℕ) (count : ℕ → ℕ) (name : ℕ → Bool) (references : List ℕ) (named : List Bool)
-    (count' : ℕ → ℕ) (name' : ℕ → Bool) (references' : List ℕ) (named' : List Bool) : Type 0 where
-  pub counts : (x : ℕ) → x < n → number_at references' x + count' x ≡ number_at references x + count x
-  pub names : (x : ℕ) → x < n → (bool_at named' x || name' x) ≡ (bool_at named x || name x)
+-- what was read is counted: it refers `count` times to a number below n, and names it where `name` says so
+pub record AreCounted (n : ℕ) (count : ℕ → ℕ) (name : ℕ → Bool) (old new : Found) : Type 0 where
+  pub counts : (x : ℕ) → x < n → number_at new.references x ≡ number_at old.references x + count x
+  pub names : (x : ℕ) → x < n → bool_at new.named x ≡ (bool_at old.named x || name x)
 
 -- what exactly these directories refer to, counted on from these starts, and what they name
 pub record IsCount (g : Graph) (dirs : List ℕ) (starts references : List ℕ) (named : List Bool) : Type 0 where

@@ -8,14 +8,16 @@ use Rattle.ffs_survey.specs.declared.lists.{CurrentDir.CurrentDir as LentDir}
 use Rattle.ffs_survey.specs.{declared.directories.Directories.Ghosts, Survey.{number_at, bool_at, graph_with}}
 use Rattle.ffs_survey.specs.Survey.{most_start}
 use Rattle.ffs_volume.specs.Encodings.Kinds.{dir_at}
-use Rattle.ffs_survey.specs.Calm.{AreCalm, IsFlagged, IsReadOnce}
+use Rattle.ffs_survey.specs.Calm.{dir_by, AreCalm, IsFlagged, IsReadOnce}
 use Rattle.ffs_volume.specs.{Directories.Calm.CurrentDir, Report.DirectoryReads.costs_below}
-use Rattle.ffs_survey.specs.Discover.{Extends, Found, IsReachedDir, IsReachedPart, SameResult, from_entries}
-use Rattle.ffs_survey.specs.{Discover.{is_unreached_dir, nothing, unset}, Levels.ReadsUnreached, Lists.{AreLists, GrowsBy}}
+use Rattle.ffs_survey.specs.Discover.{AreDiscovered, Extends, Found, IsReachedDir, IsReachedPart, from_entries}
+use Rattle.ffs_survey.specs.{Discover.{is_unreached_dir, unset}, Levels.ReadsUnreached, Lists.{AreLists, GrowsBy}}
 
 -- what the lists hold
 abbrev pub all_found : Lists → Found
 all_found l = record {
+  kinds = l.kinds.now;
+  marked = l.marked.now;
   references = l.references.now.items;
   named = l.named.now;
   reached = l.reached.now;
@@ -29,8 +31,10 @@ abbrev pub found_up_to : Lists → ℕ → Found
 found_up_to l end = record (all_found l) { queue = take end l.queue.now.items }
 
 -- what lists hold that are lent one by one
-abbrev pub found_by : NumberLists → List Bool → List Bool → List Bool → Found
-found_by n named reached calm = record {
+abbrev pub found_by : KnownInodes → NumberLists → List Bool → List Bool → List Bool → Found
+found_by i n named reached calm = record {
+  kinds = i.kinds.now;
+  marked = i.marked.now;
   references = n.references.now.items;
   named = named;
   reached = reached;
@@ -122,8 +126,7 @@ pub record CanVisit (current : LentDir) (top : ℕ) (l : Lists) : Type 0 where
 -- it had and ends at `end`, with what is newly reached; nothing is counted
 pub record Visits (d : ℕ) (e : RoledEntry) (top end : ℕ) (old new : Lists) : Type 0 where
   pub ends : end + unset new.reached.now ≡ top + unset old.reached.now
-  pub same_result : SameResult (from_entries old.kinds.now d (e ∷ [])) old.reached.now old.parents.now.items
-      (take top old.queue.now.items) nothing new.reached.now new.parents.now.items (take end new.queue.now.items)
+  pub discovered : AreDiscovered (from_entries old.kinds.now d (e ∷ [])) (found_up_to old top) (found_up_to new end)
   pub extends : Extends top end old.queue.now.items new.queue.now.items
   pub counts : KeepsCounts old new
 
@@ -137,8 +140,7 @@ module _ {S : Type 0} (D : Ghosts S) where
   -- the reader is ready, and these lists have an entry for every inode
   pub record CanSurvey (reader : S) (i : KnownInodes) (n : NumberLists) (named reached calm : List Bool) : Type 0 where
     pub ready : D.ready reader
-    pub lists : AreLists i.kinds.now i.marked.now n.references.now.items named reached n.parents.now.items calm
-        n.queue.now.items
+    pub lists : AreLists (found_by i n named reached calm)
 
   -- the reader is ready, nothing is found yet, and no count of references is past the greatest start
   pub record CanBegin (reader : S) (l : Lists) : Type 0 where
@@ -220,7 +222,7 @@ module _ {S : Type 0} (D : Ghosts S) where
     pub calm : ForKnown old (λ entries right_shape. AreCalm l.kinds.now l.marked.now l'.reached.now
         l'.parents.now.items entries right_shape l'.calm.now)
     pub read : ForKnown old (λ entries right_shape. (d : ℕ) → dir_at l.kinds.now d ≡ true
-        → bool_at l'.reached.now d ≡ true → IsReadOnce l.kinds.now l.marked.now l'.reached.now l'.parents.now.items
-        (entries d) (right_shape d) l'.calm.now d)
+        → bool_at l'.reached.now d ≡ true → IsReadOnce (dir_by l.kinds.now l.marked.now l'.parents.now.items d)
+        l'.reached.now l'.parents.now.items (entries d) (right_shape d) l'.calm.now)
     pub once : (b : List ℕ) → D.knows (D.base old) b → D.reads new ≤ D.reads old
         + costs_below (bool_at l'.reached.now) (D.cost (D.base old) b) (length l.kinds.now)

@@ -1,7 +1,7 @@
 -- The lists of a survey: each has an entry for every inode.
 use Rattle.std.specs.Prelude.{◌≡◌, ℕ, ◌+◌, ◌<◌, ◌≤◌, ◌^◌, Bool, List, length}
 use Rattle.ffs_volume.specs.Directories.Climb.{is_leader_within}
-use Rattle.ffs_survey.specs.{Survey.{bool_at, number_at}, Cycles.parent_in}
+use Rattle.ffs_survey.specs.{Survey.{bool_at, number_at}, Cycles.parent_in, Discover.Found}
 
 -- the references of each inode and whether an entry names it: one more reference of x fits
 pub record CountLists (kinds references : List ℕ) (named : List Bool) (x : ℕ) : Type 0 where
@@ -10,17 +10,16 @@ pub record CountLists (kinds references : List ℕ) (named : List Bool) (x : ℕ
   pub room : x < length kinds → number_at references x + 1 < 2 ^ 64
 
 -- all lists of a survey. There are more than two inodes, and fewer than 2^31
-pub record AreLists (kinds : List ℕ) (marked : List Bool) (references : List ℕ) (named reached : List Bool)
-    (parents : List ℕ) (calm : List Bool) (queue : List ℕ) : Type 0 where
-  pub some : 2 < length kinds
-  pub few : length kinds < 2 ^ 31
-  pub marked_long : length marked ≡ length kinds
-  pub references_long : length references ≡ length kinds
-  pub named_long : length named ≡ length kinds
-  pub reached_long : length reached ≡ length kinds
-  pub parents_long : length parents ≡ length kinds
-  pub calm_long : length calm ≡ length kinds
-  pub queue_long : length queue ≡ length kinds
+pub record AreLists (l : Found) : Type 0 where
+  pub some : 2 < length l.kinds
+  pub few : length l.kinds < 2 ^ 31
+  pub marked_long : length l.marked ≡ length l.kinds
+  pub references_long : length l.references ≡ length l.kinds
+  pub named_long : length l.named ≡ length l.kinds
+  pub reached_long : length l.reached ≡ length l.kinds
+  pub parents_long : length l.parents ≡ length l.kinds
+  pub calm_long : length l.calm ≡ length l.kinds
+  pub queue_long : length l.queue ≡ length l.kinds
 
 -- the lists of a survey have an element for each inode, and `leaders` says which of them is the least
 -- number on a cycle of parents

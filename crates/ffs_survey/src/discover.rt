@@ -152,10 +152,10 @@ fn read_reached<D: Directories>(
     top: usize,
 ) -> Result<usize, ImageFault>
     requires { CanReach D.Directories (2 ^ 60) top directories.old lists.old }
-    ensures found { IfOk result (λ n. Discovers (length lists.old.kinds.now) (2 ^ 28) top n
+    ensures found { IfOk result (λ n. Discovers (2 ^ 28) top n
         (λ old new. ForKnown D.Directories directories.old (λ entries right_shape.
-        ReadsReached lists.old.kinds.now lists.old.marked.now from (entries from)
-        (right_shape from) old new)) (found_up_to lists.old top) (found_up_to lists.new n)) }
+        ReadsReached from (entries from) (right_shape from) old new))
+        (found_up_to lists.old top) (found_up_to lists.new n)) }
     ensures leaves { LeavesLent D.Directories (λ cost. cost from) directories.old directories.new
         lists.old lists.new result }
 {
@@ -192,11 +192,10 @@ pub fn read_level<D: Directories>(
     high: usize,
 ) -> Result<usize, ImageFault>
     requires { CanReadLevel D.Directories low high directories.old lists.old }
-    ensures found { IfOk result (λ n.
-        Discovers (length lists.old.kinds.now) ((high - low) * 2 ^ 28) high n
+    ensures found { IfOk result (λ n. Discovers ((high - low) * 2 ^ 28) high n
         (λ old new. ForKnown D.Directories directories.old (λ entries right_shape.
-        ReadsDirs lists.old.kinds.now lists.old.marked.now (drop low old.queue) entries
-        right_shape old new)) (found_up_to lists.old high) (found_up_to lists.new n)) }
+        ReadsDirs (drop low old.queue) entries right_shape old new))
+        (found_up_to lists.old high) (found_up_to lists.new n)) }
     ensures leaves { LeavesLent D.Directories
         (λ cost. sum_by cost (drop low (take high lists.old.queue.now.items)))
         directories.old directories.new lists.old lists.new result }

@@ -46,7 +46,16 @@ pub struct Lists<'kinds, 'marked, 'named, 'reached, 'calm, 'lists> {
     pub calm: &'calm mut [bool],
     /// The directories that are reached, level after level.
     pub queue: &'lists mut FilledList<u32>,
-    ghost long: { AreLists kinds.now marked.now references.now.items named.now reached.now parents.now.items calm.now queue.now.items },
+    ghost long: { AreLists (record {
+      kinds = kinds.now;
+      marked = marked.now;
+      references = references.now.items;
+      named = named.now;
+      reached = reached.now;
+      parents = parents.now.items;
+      calm = calm.now;
+      queue = queue.now.items;
+    }) },
 }
 
 /// The directory whose entries are read, with the lists by which it is found whether they are calm.

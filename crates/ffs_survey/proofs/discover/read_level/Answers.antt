@@ -3,7 +3,8 @@ use Rattle.ffs_survey.proofs.Queues.{at_place, extends_on, is_extended, keeps_qu
 use Rattle.ffs_survey.proofs.{CalmLaws.calm_read, CalmLaws.same_result_stays, Costs.next_cost, Discovered.level_step}
 use Rattle.ffs_survey.proofs.{Lending.{leaves_by, kinds_long, same_kinds, same_marks, still_by}, Totals.dir_counted}
 use Rattle.ffs_survey.proofs.{Discovered.dir_below, ReadOnce.{flags_grow, level_read, other_place, read_from, read_next}}
-use Rattle.ffs_survey.specs.{Discover.IsReachedDir, Survey.number_at}
+use Rattle.ffs_survey.{specs.{Discover.IsReachedDir, Survey.number_at}, proofs.Remaining.{counted_same, discovered_same}}
+use Rattle.ffs_survey.proofs.Remaining.{discovered_whole}
 use Rattle.ffs_survey.proofs.discover.read_level.Goals as goal
 
 pub loop-at-preserved : goal.loop-at-preserved
@@ -22,6 +23,7 @@ loop-at-preserved g c =
     let is : c.number_of-from.result ≡ number_at level place =
     c.number_of-from.ensures ∙ number_kept place c.loop-at-test.true inv.extends in
     let read = rw is at found.read in
+    let same = λ (b : List ℕ) (k : g.D.Directories.knows base b). discovered_same (read b k).discovered in
     let still = λ (b : List ℕ) (k : g.D.Directories.knows base b).
     at_place (IsReachedDir old.kinds.now here.reached.now) c.args.low place level (inv.still b k) inv.from inside in
     record {
@@ -35,14 +37,15 @@ loop-at-preserved g c =
       top = omega (arith, found.ends, inv.top);
       same_result = λ b k.
           level_step old.kinds.now (entries b) level place inside (still b k).dir (inv.same_result b k)
-          (read b k).same_result;
+          (same b k);
       counts = λ b k.
-          dir_counted old.kinds.now (entries b) level place inside (still b k).dir (inv.counts b k) (read b k).counts;
+          dir_counted old.kinds.now (entries b) level place inside (still b k).dir (inv.counts b k)
+          (counted_same (read b k).counted);
       still = λ b k i d l.
           let s = inv.still b k i d l in
-          record { dir = s.dir; is_reached = (same_result_stays (read b k).same_result).reached _ s.is_reached };
+          record { dir = s.dir; is_reached = (same_result_stays (same b k)).reached _ s.is_reached };
       calm = λ b k before.
-          calm_read (entries b) (g.D.Directories.right_shape base b) _ _ _ (read b k).same_result (still b k).is_reached
+          calm_read (entries b) (g.D.Directories.right_shape base b) _ _ _ (same b k) (still b k).is_reached
           (read b k).calm (inv.calm b k before);
       kept = λ b k x set. flags_grow _ _ (g.D.Directories.right_shape base b (number_at level place)) here.calm.now
           c.read_reached.new.lists.calm.now (read b k).calm x (inv.kept b k x set);
@@ -55,7 +58,7 @@ loop-at-preserved g c =
             kinds_long inv.lent.same,
           ) in
           read_next old.kinds.now old.marked.now here.calm.now c.read_reached.new.lists.calm.now (entries b) (g.D.Directories.right_shape base b) level c.args.low place inv.from inside
-          (λ i. other_place level c.args.low place i unread inv.from) (read b k).same_result s.is_reached
+          (λ i. other_place level c.args.low place i unread inv.from) (same b k) s.is_reached
           (read b k).calm long (inv.once b k unread);
     }
 
@@ -72,7 +75,7 @@ returns-clause-found g c =
     let once = λ (b : List ℕ) (k : g.D.Directories.knows base b).
     level_read (g.D.Directories.entries base b) (g.D.Directories.right_shape base b) level c.args.low c.loop-at.at end
     (inv.once b k) in
-    grind (arith, keeps_queue, empty_level)
+    grind (arith, keeps_queue, empty_level, discovered_whole)
 
 pub returns-in_err-top-clause-leaves : goal.returns-in_err-top-clause-leaves
 returns-in_err-top-clause-leaves g c =

@@ -1,7 +1,7 @@
 use Rattle.std.proofs.Common.{◌≡◌, ℕ, ◌+◌, ◌-◌, ◌*◌, ◌<◌, ◌≤◌, ◌^◌, true, List, length, take, drop, All, sum_by}
-use Rattle.ffs_survey.specs.Discover.{Extends, SameResult, IsReachedDir, Counts, from_dirs, unset, count_of, any_of}
+use Rattle.ffs_survey.specs.Discover.{Extends, IsReachedDir, from_dirs, unset, count_of, any_of}
 use Rattle.ffs_survey.{specs.{Calm.{AreCalm, AreUnread}, Survey.{bool_at, graph_with, number_at}}, proofs.Lending.StillLent}
-use Rattle.ffs_survey.proofs.ReadOnce.{IsReadTo}
+use Rattle.ffs_survey.proofs.{ReadOnce.IsReadTo, Remaining.{Counts, SameResult}}
 use Rattle.ffs_survey.proofs.discover.read_level.Given as goal
 
 abbrev pub invariant-loop-at : goal.invariant-loop-at

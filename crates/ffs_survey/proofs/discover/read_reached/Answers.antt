@@ -2,6 +2,7 @@ use Rattle.std.proofs.Common.{arith, ap, ◌∙◌, ◌&&◌, rules, ◌≡◌, 
 use Rattle.ffs_volume.specs.Directories.Roles.{RoledEntry, refers}
 use Rattle.ffs_survey.proofs.{CalmLaws.{calm_step, read_whole}, Discovered.{bit-le, entry_step}, Lending.still_by}
 use Rattle.ffs_survey.proofs.{Lending.{same_kinds, queue_long}, Queues.{extends_on, keeps_queue}, Totals.entry_counted}
+use Rattle.ffs_survey.proofs.Remaining.{discovered_same, discovered_whole}
 use Rattle.ffs_survey.specs.{Lent.current_in, Reading.roled_of, Survey.{bool_at, number_at}}
 use Rattle.ffs_volume.specs.Directories.Calm.{is_calm_entry}
 use Rattle.ffs_survey.proofs.discover.read_reached.Goals.{then-calm_so_far, else-calm_so_far}
@@ -22,7 +23,7 @@ loop-entry-preserved g c =
     let current = current_in old c.args.from c.number_of-parent.result in
     let counted = c.count_entry.ensures in
     let visited = c.visit-high.ensures in
-    let same_result = rw (same_kinds inv.lent.same) at visited.same_result in
+    let same_result = rw (same_kinds inv.lent.same) at (discovered_same visited.discovered) in
     let right : c.if-calm_so_far.calm_so_far ≡ (c.loop-entry.calm_so_far
     && is_calm_entry current (bool_at c.loop-entry.lists.reached.now) c.loop-entry.count e)
     = elim c.if-calm_so_far.branch [
@@ -53,4 +54,4 @@ loop-entry-preserved g c =
     }
 
 pub returns-clause-found : goal.returns-clause-found
-returns-clause-found g c = grind (arith, keeps_queue, read_whole)
+returns-clause-found g c = grind (arith, keeps_queue, read_whole, discovered_whole)

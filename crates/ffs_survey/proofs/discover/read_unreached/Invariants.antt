@@ -1,6 +1,6 @@
 use Rattle.std.proofs.Common.{◌≡◌, ℕ, ◌+◌, ◌<◌, ◌≤◌, ◌^◌, List, length, cond, eqb, ◌&&◌}
-use Rattle.ffs_survey.specs.{Discover.{Counts, count_in, any_in, is_unreached_dir}, Lent.KeepsReached, Survey.number_at}
-use Rattle.ffs_survey.proofs.Lending.{StillLent}
+use Rattle.ffs_survey.specs.{Discover.{count_in, any_in, is_unreached_dir}, Lent.KeepsReached, Survey.number_at}
+use Rattle.ffs_survey.proofs.{Lending.StillLent, Remaining.Counts}
 use Rattle.ffs_survey.proofs.discover.read_unreached.Given as goal
 
 abbrev pub invariant-loop-entry : goal.invariant-loop-entry

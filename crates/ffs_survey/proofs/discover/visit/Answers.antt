@@ -1,5 +1,6 @@
 use Rattle.std.proofs.{Common.{arith, rules, ◌∙◌, sym, []}, lemmas.Grind.common_steps}
-use Rattle.ffs_survey.{specs.Reading.roled_of, proofs.Discovered.{visit_hit, unset-set, new_entry}}
+use Rattle.ffs_survey.{specs.Reading.roled_of, proofs.Discovered.{visit_hit, visit_miss, unset-set, new_entry}}
+use Rattle.ffs_survey.{specs.Lent.found_up_to, proofs.Remaining.discovered_whole}
 use Rattle.ffs_survey.proofs.discover.visit.Goals as goal
 
 pub set-requires-2 : goal.set-requires-2
@@ -18,8 +19,17 @@ returns c =
     let u = unset-set lists.reached.now c.args.entry.number (omega (arith, b)) n.unmarked in
     record {
       ends = omega (arith, u);
-      same_result = rw (c.set.ensures.items, c.set-2.ensures.items) (visit_hit lists.queue.now.items
-          c.args.current.now.dir c.args.top n (omega (arith, b)) (omega (arith, b)) (omega (arith, u)));
+      discovered = discovered_whole _ _ (rw (c.set.ensures.items, c.set-2.ensures.items) (visit_hit
+          lists.queue.now.items c.args.current.now.dir c.args.top n (omega (arith, b)) (omega (arith, b)) (omega (arith, u))));
       extends = grind (arith, common_steps);
       counts = search rules;
     }
+
+pub returns-then-not-is_new : goal.returns-then-not-is_new
+returns-then-not-is_new c = record {
+  ends = omega arith;
+  discovered = visit_miss (found_up_to c.args.lists.now c.args.top) c.args.current.now.dir (roled_of c.args.entry [])
+      (sym c.is_new.ensures ∙ c.if-not-is_new.true);
+  extends = search rules;
+  counts = search rules;
+}

@@ -4,7 +4,7 @@ use Rattle.ffs_survey.proofs.Queues.{counted_on, reached_part, alone_part, none_
 use Rattle.ffs_survey.proofs.{CalmLaws.{calm_none, same_result_stays}, Costs.{level_costs, queue_costs, queue_within}}
 use Rattle.ffs_survey.proofs.{Discovered.{unset-le, unset-set}, Lending.{kinds_long, same_kinds, same_marks}}
 use Rattle.ffs_survey.proofs.{Lending.still_by, NextLevel.{AtLevel, few_counted, level_reached, next_room, next_at}}
-use Rattle.ffs_survey.specs.{Discover.Extends, Survey.graph_with}
+use Rattle.ffs_survey.{specs.{Discover.Extends, Survey.graph_with}, proofs.Remaining.{counted_same, discovered_same}}
 use Rattle.ffs_survey.proofs.ReadOnce.{read_each, read_on_queue, root_alone_reached, unread_level}
 use Rattle.ffs_survey.proofs.levels.survey_reached.Goals as goal
 
@@ -73,11 +73,12 @@ loop-low-preserved g c =
       levels = λ b k. let before = inv.levels b k in
           record {
             depth = before.depth + 1;
-            at = next_at kinds (entries b) c.args.lists.now.long.some extends sorted (read b k).same_result
+            at = next_at kinds (entries b) c.args.lists.now.long.some extends sorted (discovered_same (read b k).discovered)
                 before.depth before.at;
           };
       counts = λ b k.
-          counted_on c.loop-low.low c.loop-low.high queue _ inv.room.ordered kept (inv.counts b k) (read b k).counts;
+          counted_on c.loop-low.low c.loop-low.high queue _ inv.room.ordered kept (inv.counts b k)
+          (counted_same (read b k).counted);
       calm = λ b k. (read b k).calm (inv.calm b k);
       read = λ b k.
           let right_shape = g.D.Directories.right_shape (g.D.Directories.base c.args.directories.now) b in
@@ -86,7 +87,8 @@ loop-low-preserved g c =
           let unread = unread_level kinds (entries b) c.args.lists.now.long.some root level.frontier level.levels in
           let inside : c.loop-low.high ≤ length queue = omega (arith, inv.room.room) in
           read_on_queue (entries b) right_shape c.loop-low.low c.loop-low.high queue c.sort_part.new.self.items
-          inv.room.ordered inside kept (same_result_stays (read b k).same_result) (read b k).kept (inv.read b k)
+          inv.room.ordered inside kept (same_result_stays (discovered_same (read b k).discovered)) (read b k).kept
+          (inv.read b k)
           ((read b k).once unread);
     }
 
