@@ -1,13 +1,14 @@
 -- What a path leaves unread where that of the parent is kept.
-use Rattle.std.proofs.Common.{◌≡◌, ◌∙◌, ◌↔◌, ◌+◌, ◌≤◌, ℕ, List, Option, Some, None, Result, Ok, Err, sym, subst, refl, arith}
+use Rattle.std.proofs.Common.{◌≡◌, ◌∙◌, ◌↔◌, ◌+◌, ◌≤◌, ℕ, List, Option, Some, None, Result, Ok, Err, sym, subst, refl, ap, arith}
 use Rattle.std.specs.Prelude.{OnOk}
 use Rattle.ffs_image.specs.declared.image.ImageFault.{ImageFault}
 use Rattle.ffs_volume.specs.{declared.Layout.Layout, Directories.{Parents.graph_of, Volumes.volume_of}}
 use Rattle.ffs_workspace.specs.declared.workspace.Workspace.{Workspace}
-use Rattle.ffs_paths.specs.{Climbing.IsParentOf, Reads.{HoldsPlaceOf, KnowsPlaces, names_to, PathMoment, ReadsNames}}
-use Rattle.ffs_paths.specs.KeptParents.{HasPathOf, KeepsChild, KeepsParent, KeptMoment, PathCosts, SparesReads}
-use Rattle.ffs_paths.{specs.declared.kept_parent.KeptParent.KeptParent, proofs.Climbed.{few_more, names_more}}
-use Rattle.ffs_paths.proofs.Keeping.{leaves_so, reads_as}
+use Rattle.ffs_paths.specs.{Climbing.IsParentOf, Reads.{HoldsPlaceOf, KnowsPlaces, names_to, PathMoment, ReadsName}}
+use Rattle.ffs_paths.specs.Reads.{ReadsNames, ReadsPartOf}
+use Rattle.ffs_paths.specs.KeptParents.{HasPathOf, HoldsPlaceThen, KeepsChild, KeepsParent, KeepsPathOf, KeptMoment, PathCosts, SparesReads}
+use Rattle.ffs_paths.{specs.declared.kept_parent.KeptParent.KeptParent, proofs.Climbed.{few_more, few_then, names_more, noted_child}}
+use Rattle.ffs_paths.proofs.Keeping.{kept_so, reads_as, reads_then}
 
 -- the survey found one parent at most
 one_parent : {w : Workspace} {x p q : ℕ} → IsParentOf w x p → IsParentOf w x q → p ≡ q
@@ -40,6 +41,33 @@ keeps_child {p = p} of kept = record {
   same = λ none. absurd (none p of);
 }
 
+-- and the window holds the part of the name
+held_then : {T : Type 0} {v : Layout} {x : ℕ} (old mid new : PathMoment) (result : Result T ImageFault) →
+    ((b : List ℕ) → KnowsPlaces v old.image.contents old.workspace b → ReadsPartOf v x mid new result) →
+    OnOk result (HoldsPlaceThen v x old new)
+held_then old mid new (Ok y) name = λ b p k of. (name b k).held
+held_then old mid new (Err e) name = tt
+
+pub costs_name : {S T : Type 0} {v : Layout} {x p : ℕ} {old new : KeptMoment} {mid : PathMoment} {s : KeptParent} {a : S}
+    {result : Result T ImageFault} → IsParentOf old.at.workspace x p → KeepsPathOf v p old.at mid s (Ok a) →
+    (HasPathOf old.kept p → (mid.reads ≡ old.at.reads) × (mid.workspace ≡ old.at.workspace)) →
+    ReadsName v x mid new.at result → OnOk result (KeepsParent v new.at.image.contents new.at.workspace new.kept) →
+    OnOk result (KeepsChild old.at.workspace x old.kept new.kept) → PathCosts v x old new result
+costs_name {v = v} {old = old} {new = new} {mid = mid} {result = result} of kept same name right child =
+    let reads = kept.reads.reads in
+    let part = λ (b : List ℕ) (k : KnowsPlaces v old.at.image.contents old.at.workspace b).
+    name.counted b (ap (λ d. d.contents) reads.read ∙ k.gives_bytes) (noted_child k of reads.lists) in
+    record {
+      leaves = record {
+        reads = reads_then reads name.reads;
+        counted = λ b k. few_then (kept.reads.counted b k) (part b k).few;
+        kept_parent = right;
+      };
+      spares = spares_name of kept.reads.names same (λ b k. (part b k).few.count) (λ b k. (part b k).again);
+      keeps = child;
+      held = held_then old.at mid new.at result part;
+    }
+
 -- ---- an inode without a parent
 none_some : {o : Option ℕ} {p : ℕ} → o ≡ None → o ≡ Some p → ⊥
 none_some n s = grind arith
@@ -58,7 +86,11 @@ pub costs_none : {T : Type 0} {v : Layout} {x : ℕ} {old new : PathMoment} {res
     (s : KeptParent) → ((p : ℕ) → IsParentOf old.workspace x p → ⊥) → KeepsParent v old.image.contents old.workspace s →
     ReadsNames v x old new result → PathCosts v x (record { at = old; kept = s }) (record { at = new; kept = s }) result
 costs_none {result = result} s none right left = record {
-  leaves = leaves_so s left.reads (λ b k. few_more (left.counted b k) (omega arith)) right;
+  leaves = record {
+    reads = left.reads;
+    counted = λ b k. few_more (left.counted b k) (omega arith);
+    kept_parent = kept_so result s left.reads right;
+  };
   spares = record {
     names = left.names;
     kept = λ b p k of has. absurd (none p of);
@@ -71,29 +103,9 @@ costs_none {result = result} s none right left = record {
 -- the same of another answer, which is no fault either
 pub costs_as : {S T : Type 0} {v : Layout} {x : ℕ} {old new : KeptMoment} {a : S} {b : T} →
     PathCosts v x old new (Ok a) → PathCosts v x old new (Ok b)
-costs_as costs = record {
-  leaves = record {
-    reads = reads_as costs.leaves.reads;
-    counted = costs.leaves.counted;
-    kept_parent = costs.leaves.kept_parent;
-  };
-  spares = costs.spares;
-  keeps = costs.keeps;
-  held = costs.held;
-}
+costs_as costs = grind (arith, reads_as)
 
 -- and of a fault
 pub costs_fault : {S T : Type 0} {v : Layout} {x : ℕ} {old new : KeptMoment} {e : ImageFault} →
     PathCosts {T = S} v x old new (Err e) → PathCosts {T = T} v x old new (Err e)
-costs_fault costs =
-    let r = costs.leaves.reads in
-    record {
-      leaves = record {
-        reads = record { lists = r.lists; current = r.current; ready = r.ready; read = r.read };
-        counted = costs.leaves.counted;
-        kept_parent = tt;
-      };
-      spares = costs.spares;
-      keeps = tt;
-      held = tt;
-    }
+costs_fault costs = grind arith

@@ -2,11 +2,10 @@
 use Rattle.std.specs.Prelude.{◌≡◌, ◌⊎◌, ◌+◌, ◌*◌, ◌<◌, ◌≤◌, ℕ, List, [], ◌∷◌, ◌++◌, Option, Some, Result, OnOk, slice_index}
 use Rattle.ffs_image.specs.{Device.Device, declared.image.{Image.Ghosts, ImageFault.ImageFault}}
 use Rattle.ffs_volume.specs.{declared.Layout.Layout, Directories.{Graph.Graph, Parents.graph_of, Paths.path_names}}
-use Rattle.ffs_volume.specs.Directories.Volumes.{volume_of}
+use Rattle.ffs_volume.specs.{Directories.Volumes.volume_of, Report.Reads.path_reads}
 use Rattle.ffs_workspace.specs.{declared.workspace.Workspace.Workspace, Ready.IsReady, Places.place_in}
 use Rattle.ffs_workspace.specs.Holds.{HoldsClaims, HoldsSurvey}
 use Rattle.ffs_paths.specs.{Climbing.IsParentOf, DirectoryPaths.IsPathOf}
-use Rattle.ffs_volume.specs.Report.Reads.{path_reads}
 use Rattle.ffs_paths.specs.Reads.{HoldsPlaceOf, KnowsPlaces, names_to, OnlyReads, PathMoment, path_moment, ReadsAtMost}
 use Rattle.ffs_paths.specs.Reads.{ReadsNames}
 use Rattle.ffs_paths.specs.{Slashes.HaveNoSlash, NameTexts.name_bytes, declared.kept_parent.KeptParent.KeptParent}
@@ -107,7 +106,7 @@ pub record PathCosts {T : Type 0} (v : Layout) (x : ℕ) (old new : KeptMoment) 
     Type 0 where
   -- it only reads, `path_reads` times at most where each place is noted, and what is kept of a parent is right
   pub leaves : PathLeaves v path_reads old.at new.at new.kept result
-  -- a read at most for each name: one where the path of the parent is kept, none where the window holds the name
+  -- at most a read for each name, one where the parent's path is kept, none where the window has the name, too
   pub spares : SparesReads v x old new
   -- the path of that parent is kept then, and x with it
   pub keeps : OnOk result (KeepsChild old.at.workspace x old.kept new.kept)
