@@ -1,4 +1,4 @@
-use Rattle.std.proofs.Common.{◌≡◌, ◌≢◌, ◌+◌, ◌<◌, ◌≤◌, ◌∙◌, ◌∷◌, ap, length, sym, subst, arith, ℕ, zero, suc, Some}
+use Rattle.std.proofs.Common.{◌≡◌, ◌≢◌, ◌<◌, ◌∙◌, ◌∷◌, ap, length, sym, subst, arith, ℕ, zero, suc, Some}
 use Rattle.std.proofs.Common.{slice_index}
 use Rattle.ffs_survey.specs.ParentLaws.{root_level}
 use Rattle.std.proofs.lemmas.List.{get_or_default}
