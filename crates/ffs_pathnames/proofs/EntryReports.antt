@@ -17,7 +17,8 @@ use Rattle.ffs_paths.specs.Reads.{KnowsPlaces}
 
 module _ {S : Type 0} {v : Layout} {d d' : Device} {w w' : Workspace} {x : ℕ} {t t' : EntryTexts} {s : KeptParent}
     {lines : Volume → List TreeMessage} {reads reads' : ℕ} {r : Result S ImageFault}
-    (keeps : KeepsPath v d w x t t') (left : LimitedPathLeaves line_reads v d d' reads reads' w w' s r)
+    (keeps : KeepsPath v d w x t t') (left : LimitedPathLeaves v line_reads (record { image = d; reads = reads; workspace = w })
+    (record { image = d'; reads = reads'; workspace = w' }) s r)
     (stays : IsTrue t.begun → IsTrue t'.begun)
     (once : (bytes : List ℕ) → KnowsPlaces v d.contents w bytes → ReadsPathOnce 1 t t' reads reads')
     (some : ForBytes (DirectoryContext v d.contents w x) (λ bytes. 1 ≤ length (lines (volume_of v bytes)))) where

@@ -6,9 +6,17 @@ use Rattle.ffs_image.proofs.Limits.{ServedBy, read_over, served}
 use Rattle.ffs_volume.specs.declared.Layout.{Layout}
 use Rattle.ffs_workspace.specs.{declared.workspace.Workspace.Workspace, Ready.IsReady}
 use Rattle.ffs_workspace.proofs.Readiness.{ready_same}
-use Rattle.ffs_paths.specs.{Reads.{KnowsPlaces, OnlyReads, ReadsAtMost}, KeptParents.{KeepsParent, PathLeaves, SparesReads}}
+use Rattle.ffs_paths.specs.{Reads.{KnowsPlaces, OnlyReads, PathMoment, ReadsAtMost}, KeptParents.{KeepsParent, KeptMoment}}
+use Rattle.ffs_paths.specs.KeptParents.{PathLeaves, SparesReads}
 use Rattle.ffs_paths.specs.declared.kept_parent.KeptParent.{KeptParent}
 use Rattle.ffs_pathnames.{specs.{DirectoryContext.DirectoryContext, Ready.LimitedPathLeaves}, proofs.LineCounts.knows_places}
+
+-- the moment at which an image, how often it was read, and a workspace are these; and what is kept of a parent
+abbrev path_at : Device → ℕ → Workspace → PathMoment
+path_at d reads w = record { image = d; reads = reads; workspace = w }
+
+abbrev kept_at : Device → ℕ → Workspace → KeptParent → KeptMoment
+kept_at d reads w s = record { at = path_at d reads w; kept = s }
 
 -- what was gathered over a limited image leaves of the image below and of the workspace; where a
 -- read was refused, what is kept of the parent is forgotten
@@ -16,9 +24,9 @@ pub record IsGathered {T : Type 0} (n : ℕ) (v : Layout) (d d' : Device) (name_
     (w w' : Workspace) (s : KeptParent) (spent : Bool) (r : Result T ImageFault) : Type 0 where
   pub same_image : name_lent ≡ name
   pub all : (b : List ℕ) (x : ℕ) → DirectoryContext v d.contents w x b → spent ≡ true → ⊥
-  pub leaves : spent ≡ false → LimitedPathLeaves n v d d' count count' w w' s r
+  pub leaves : spent ≡ false → LimitedPathLeaves v n (path_at d count w) (path_at d' count' w') s r
   pub forgets : spent ≡ true → (x : T) (s' : KeptParent) → KeepsParent v d'.contents w' s'
-      → LimitedPathLeaves n v d d' count count' w w' s' (Ok x)
+      → LimitedPathLeaves v n (path_at d count w) (path_at d' count' w') s' (Ok x)
 
 -- the image below gives what the one above does
 module _ {T : Type 0} {v : Layout} {d d' l' : Device} {w w' : Workspace} {name_lent name : GName}
@@ -31,9 +39,10 @@ module _ {T : Type 0} {v : Layout} {d d' l' : Device} {w w' : Workspace} {name_l
 
 path_below : {T : Type 0} {n count count' before asked : ℕ} {v : Layout} {d d' l' : Device} {w w' : Workspace}
     {s : KeptParent} {name_lent name : GName} {limit : ℕ} {spent : Bool} (r : Result T ImageFault) →
-    ServedBy d d' name_lent name count count' limit asked spent r → spent ≡ false → ReadsAtMost n v d w w' count count' →
-    PathLeaves n v (limited_device d name_lent count limit) l' before asked w w' s r
-    → PathLeaves n v d d' count count' w w' s r
+    ServedBy d d' name_lent name count count' limit asked spent r → spent ≡ false →
+    ReadsAtMost v n (path_at d count w) (path_at d' count' w') →
+    PathLeaves v n (path_at (limited_device d name_lent count limit) before w) (path_at l' asked w') s r
+    → PathLeaves v n (path_at d count w) (path_at d' count' w') s r
 path_below (Ok x) back none few p = grind (arith, subst, ap)
 path_below (Err f) back none few p = grind arith
 
@@ -41,7 +50,7 @@ path_below (Err f) back none few p = grind arith
 pub gathered : {T : Type 0} {v : Layout} {d d' l l' : Device} {w w' : Workspace} {s : KeptParent}
     {name_lent name : GName} {reads reads' limit left before asked n : ℕ} {spent : Bool} {r : Result T ImageFault} →
     l ≡ limited_device d name_lent reads limit → before ≡ 0 → limit ≡ n →
-    PathLeaves n v l l' before asked w w' s r →
+    PathLeaves v n (path_at l before w) (path_at l' asked w') s r →
     ((below : Device) (given : GName) (counted : ℕ) (most : ℕ) →
     l'.lent ≡ (limited_device below given counted most).lent → l'.contents ≡ below.contents → l'.size ≡ below.size →
     GivesBack below d' given name counted reads' most left asked spent (limited_device below given counted most) l') →
@@ -51,7 +60,7 @@ gathered {v = v} {d = d} {d' = d'} {w = w} {w' = w'} {name_lent = lent} {name = 
     let path = rw over at p in
     let below : ServedBy d d' lent name reads reads' limit asked spent r = served path.reads.read back in
     let most : reads' ≤ reads + n = rw (← price) below.most in
-    let few : ReadsAtMost n v d w w' reads reads' = λ b k. record
+    let few : ReadsAtMost v n (path_at d reads w) (path_at d' reads' w') = λ b k. record
     { count = most; blocks = (path.counted b k).blocks } in
     record {
       same_image = below.same_image;
@@ -75,9 +84,10 @@ gathered {v = v} {d = d} {d' = d'} {w = w} {w' = w'} {name_lent = lent} {name = 
     }
 
 -- a path spared as many reads of the image below
-spares_below : {v : Layout} {d l : Device} {w : Workspace} {s : KeptParent} {x reads reads' before asked : ℕ} →
-    l.contents ≡ d.contents → before ≡ 0 → reads' ≤ reads + asked → SparesReads v l before asked x w s →
-    SparesReads v d reads reads' x w s
+spares_below : {v : Layout} {d d' l l' : Device} {w w' : Workspace} {s s' s'' : KeptParent}
+    {x reads reads' before asked : ℕ} → l.contents ≡ d.contents → before ≡ 0 → reads' ≤ reads + asked →
+    SparesReads v x (kept_at l before w s) (kept_at l' asked w' s'') →
+    SparesReads v x (kept_at d reads w s) (kept_at d' reads' w' s')
 spares_below {v = v} {d = d} {l = l} {w = w} same begins few spares =
     let known : (b : List ℕ) → KnowsPlaces v d.contents w b → KnowsPlaces v l.contents w b = λ b k.
     subst (λ contents. KnowsPlaces v contents w b) (sym same) k in
@@ -89,13 +99,15 @@ spares_below {v = v} {d = d} {l = l} {w = w} same begins few spares =
           omega (arith, begins, few, most);
     }
 
-pub spared : {T : Type 0} {v : Layout} {d d' l l' : Device} {w w' : Workspace} {s s' : KeptParent}
+pub spared : {T : Type 0} {v : Layout} {d d' l l' : Device} {w w' : Workspace} {s s' s'' : KeptParent}
     {name_lent name : GName} {reads reads' limit left before asked n x : ℕ} {spent : Bool} {r : Result T ImageFault} →
-    l ≡ limited_device d name_lent reads limit → before ≡ 0 → PathLeaves n v l l' before asked w w' s' r →
+    l ≡ limited_device d name_lent reads limit → before ≡ 0 →
+    PathLeaves v n (path_at l before w) (path_at l' asked w') s'' r →
     ((below : Device) (given : GName) (counted : ℕ) (most : ℕ) →
     l'.lent ≡ (limited_device below given counted most).lent → l'.contents ≡ below.contents → l'.size ≡ below.size →
     GivesBack below d' given name counted reads' most left asked spent (limited_device below given counted most) l') →
-    SparesReads v l before asked x w s → SparesReads v d reads reads' x w s
+    SparesReads v x (kept_at l before w s) (kept_at l' asked w' s'') →
+    SparesReads v x (kept_at d reads w s) (kept_at d' reads' w' s')
 spared {v = v} {d = d} {d' = d'} {w = w} {name_lent = lent} {name = name} {reads = reads} {reads' = reads'}
     {limit = limit} {asked = asked} {spent = spent} {r = r} over begins p back spares =
     let path = rw over at p in

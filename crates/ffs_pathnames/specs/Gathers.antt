@@ -10,7 +10,8 @@ use Rattle.ffs_volume.specs.Directories.PathnameCheck.{attributes, extra_lines, 
 use Rattle.ffs_volume.specs.Report.Reads.{line_reads, path_reads}
 use Rattle.ffs_layout.specs.Entry.{entry_value}
 use Rattle.ffs_report.specs.Known.{ForBytes}
-use Rattle.ffs_paths.specs.{DirectoryPaths.IsPathOf, KeptParents.{KeepsChild, PathLeaves, SparesReads}, LastPaths.last_path, Reads.{KnowsPlaces, OnlyReadsFew}}
+use Rattle.ffs_paths.specs.{DirectoryPaths.IsPathOf, KeptParents.{kept_moment, KeepsChild, PathLeaves, SparesReads}}
+use Rattle.ffs_paths.specs.{LastPaths.last_path, Reads.{KnowsPlaces, OnlyReadsFew, path_moment}}
 use Rattle.ffs_paths.specs.declared.{entry_paths.EntryPaths.EntryPaths, kept_parent.KeptParent.KeptParent}
 use Rattle.ffs_pathnames.specs.{DirectoryContext.{DirectoryContext, KeepsPath, KnowsPath}, Ready.LimitedPathLeaves}
 use Rattle.ffs_pathnames.specs.declared.one_entry.{DirectoryEntry.DirectoryEntry, EntryTexts.EntryTexts}
@@ -93,12 +94,12 @@ module _ {S : Type 0} (I : Ghosts S) (v : Layout) (old new : S) (w w' : Workspac
   -- what calls leave that make at most n reads, paths among them, if each chunk has a number
   abbrev pub ReadsForPaths : {T : Type 0} → ℕ → KeptParent → Result T ImageFault → Type 0
   ReadsForPaths n s result =
-      LimitedPathLeaves n v (I.device old) (I.device new) (I.reads old) (I.reads new) w w' s result
+      LimitedPathLeaves v n (path_moment I old w) (path_moment I new w') s result
 
   -- the attributes of the inode x are read, in one read at most
   pub record ReadsAttr (x : ℕ) (result : Result Attr ImageFault) : Type 0 where
     pub attr : IfOk result (λ a. ForContents (I.device old).contents (λ b. a ≡ attributes (volume_of v b) x))
-    pub reads : OnlyReadsFew 1 v (I.device old) (I.device new) (I.reads old) (I.reads new) w w' result
+    pub reads : OnlyReadsFew v 1 (path_moment I old w) (path_moment I new w') result
 
   -- so many reads were made at most, where each place is noted
   abbrev pub ReadsByPlaces : (most : ℕ) → Type 0
@@ -111,13 +112,12 @@ module _ {S : Type 0} (I : Ghosts S) (v : Layout) (old new : S) (w w' : Workspac
     pub made : OnOk result (ForBytes (KnowsPath v (I.device old).contents w x t) (λ b.
         IsPathOf (graph_of (volume_of v b)) x t'.paths.directory))
     pub path : KeepsPath v (I.device old) w x t t'
-    pub leaves : PathLeaves path_reads v (I.device old) (I.device new) (I.reads old) (I.reads new) w w' t'.kept_parent
-        result
+    pub leaves : PathLeaves v path_reads (path_moment I old w) (path_moment I new w') t'.kept_parent result
 
   -- a path of the directory x spares the reads of what is kept, and leaves that for the next, whichever
   -- directory y is checked
   pub record SparesPath {T : Type 0} (x : ℕ) (s s' : KeptParent) (result : Result T ImageFault) : Type 0 where
-    pub reads : SparesReads v (I.device old) (I.reads old) (I.reads new) x w s
+    pub reads : SparesReads v x (kept_moment I old w s) (kept_moment I new w' s')
     pub keeps : OnOk result ((y : ℕ) → ForBytes (DirectoryContext v (I.device old).contents w y) (λ b. KeepsChild w x s s'))
 
   -- the path is made, with at most `path_reads` reads of any image
@@ -163,7 +163,7 @@ module _ {S : Type 0} (I : Ghosts S) (v : Layout) (old new : S) (w w' : Workspac
         → (IsTrue (asks_path verdict) → path ≡ dir_path (graph_of (volume_of v b)) e.number)
         → IsEnough (volume_of v b) verdict dir e.number e.name a (last_path p') path))
     pub same : p'.directory ≡ p.directory
-    pub reads : OnlyReadsFew (if_wanted (asks_attr verdict) 1) v (I.device old) (I.device new) (I.reads old) (I.reads new) w w' result
+    pub reads : OnlyReadsFew v (if_wanted (asks_attr verdict) 1) (path_moment I old w) (path_moment I new w') result
 
   -- all that messages of a verdict on an entry show, where the path of its directory is made; that stays
   pub record GathersWithPath (e : Entry) (verdict : Verdict) (t t' : EntryTexts) (result : Result Attr ImageFault)

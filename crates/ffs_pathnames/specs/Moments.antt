@@ -1,4 +1,5 @@
--- Moments of the check of directories.
+-- Moments of the check of directories. Where no line is printed that of `ffs_paths` serves: `PathMoment` (the
+-- image, how often it was read by then, and the workspace).
 use Rattle.std.specs.Prelude.{ℕ}
 use Rattle.ffs_image.specs.Device.{Device}
 use Rattle.ffs_image.specs.declared.image.Image as image
@@ -6,16 +7,9 @@ use Rattle.ffs_report.specs.{Progress.{Progress, progress}, declared.report.Repo
 use Rattle.ffs_report.specs.declared.output.Output as output
 use Rattle.ffs_names.specs.declared.chunks.Chunks.{Chunks}
 use Rattle.ffs_workspace.specs.declared.workspace.{Windows.Windows, Workspace.Workspace}
+pub use Rattle.ffs_paths.specs.Reads.{PathMoment, path_moment}
 
-pub record PathMoment : Type 0 where
-  pub image : Device
-  pub reads : ℕ
-  pub workspace : Workspace
-
-abbrev pub path_moment : {I : Type 0} → image.Ghosts I → I → Workspace → PathMoment
-path_moment I image w = record { image = I.device image; reads = I.reads image; workspace = w }
-
--- a moment of printing lines: the image, its reads and the workspace at the time, how far the report has
+-- a moment of printing lines: the image, its reads and the workspace at that time, how far the report has
 -- come, and what is kept from one line to the next, as the texts of entries (`tt` where nothing is)
 pub record LinesMoment (K : Type 0) : Type 0 where
   pub at : PathMoment

@@ -5,8 +5,8 @@ use Rattle.ffs_volume.specs.declared.Layout.{Layout}
 use Rattle.ffs_workspace.specs.{declared.workspace.Workspace.Workspace, Ready.IsReady, Leaves.LeavesSurvey}
 use Rattle.ffs_volume.specs.Encodings.Notes.{cut_in}
 use Rattle.ffs_report.specs.{PhaseOutcome.ImageAfter, declared.fault.RunFault.RunFault}
-use Rattle.ffs_paths.specs.{Reads.IsReadyFor, declared.kept_parent.KeptParent.KeptParent}
-use Rattle.ffs_pathnames.specs.{declared.look.Directory.Directory, Moments.PathMoment, Stamps.KeepPlaces}
+use Rattle.ffs_paths.specs.{Reads.{IsReadyFor, PathMoment}, declared.kept_parent.KeptParent.KeptParent}
+use Rattle.ffs_pathnames.specs.{declared.look.Directory.Directory, Stamps.KeepPlaces}
 pub use Rattle.ffs_paths.specs.KeptParents.{ReadyWith, ReadyToPath, PathLeaves}
 
 -- all is ready for a call, and the inode x is there, where it is wanted
@@ -41,10 +41,10 @@ ReadyAfter v d w s (Err e) = IsReady v d w
 
 -- what a call leaves that makes paths, and reads what messages show. It makes n reads at most: by known
 -- bytes where each place is noted, and of any image where each chunk has a number
-pub record LimitedPathLeaves {T : Type 0} (n : ℕ) (v : Layout) (d d' : Device) (count count' : ℕ) (w w' : Workspace)
-    (s : KeptParent) (result : Result T ImageFault) : Type 0 where
-  pub path : PathLeaves n v d d' count count' w w' s result
-  pub most : count' ≤ count + n
+pub record LimitedPathLeaves {T : Type 0} (v : Layout) (n : ℕ) (old new : PathMoment) (s : KeptParent)
+    (result : Result T ImageFault) : Type 0 where
+  pub path : PathLeaves v n old new s result
+  pub most : new.reads ≤ old.reads + n
 
 -- what a call of the phase leaves: the image, but for a read that failed, what the block check and
 -- the survey found, the places that words note, and all that the next call asks for

@@ -1,13 +1,13 @@
 -- How far a climb to the root has come, and how often it has read.
 use Rattle.std.proofs.Common.{◌≡◌, ◌≢◌, ℕ, zero, suc, ◌+◌, ◌*◌, ◌<◌, ◌≤◌, false, List, ◌∷◌, length, ltb-false, Some}
 use Rattle.std.proofs.Common.{arith, Option, Result, sym, ◌∙◌, true}
-use Rattle.ffs_image.specs.{Device.Device, declared.image.ImageFault.ImageFault}
+use Rattle.ffs_image.specs.declared.image.ImageFault.{ImageFault}
 use Rattle.ffs_volume.specs.Directories.{Graph.{Graph, level}, Paths.joined, Parents.graph_of, Volumes.volume_of}
 use Rattle.ffs_volume.{specs.declared.Layout.Layout, proofs.LevelLaws.reached-level}
 use Rattle.ffs_survey.specs.ParentLaws.{root_level}
 use Rattle.ffs_workspace.specs.{Holds.{bool_at, HoldsSurvey}, Places.IsNoted, declared.workspace.Workspace.Workspace}
 use Rattle.ffs_paths.specs.{Buffers.HoldsNames, Climbing.IsParentOf}
-use Rattle.ffs_paths.specs.Reads.{ForTree, KnowsPlaces, names_to, OnlyReads, ReadsFew, ReadsNames}
+use Rattle.ffs_paths.specs.Reads.{ForTree, KnowsPlaces, names_to, OnlyReads, PathMoment, ReadsFew, ReadsNames}
 use Rattle.ffs_paths.{proofs.{LongestEnds.joined-length, WaysUp.{IsOnWay, parent_is}}, specs.declared.buffer.PathBuffer.PathBuffer}
 
 -- so many steps were climbed, with a read for each at most, and with a name for each that takes two
@@ -60,11 +60,12 @@ climbed_names : {g : Graph} {k d at step reads reads' : ℕ} {w w' : Workspace} 
 climbed_names l way h = rw l (omega (arith, way.steps, h.few.count))
 
 -- so it leaves what it states
-pub climb_leaves : {T : Type 0} {v : Layout} {d d' : Device} {w w' : Workspace} {x at step count count' : ℕ}
-    {p : PathBuffer} {result : Result T ImageFault} → bool_at w.reached.items x ≡ true → OnlyReads v d d' w w' result →
-    ForTree v d w (λ tree. (k : ℕ) → level tree x ≡ Some k → IsOnWay tree k x at step p) →
-    ((b : List ℕ) → KnowsPlaces v d.contents w b → HasClimbed step count count' w w' p) →
-    ReadsNames v d d' count count' x w w' result
+pub climb_leaves : {T : Type 0} {v : Layout} {old new : PathMoment} {x at step : ℕ} {p : PathBuffer}
+    {result : Result T ImageFault} → bool_at old.workspace.reached.items x ≡ true →
+    OnlyReads v old.image new.image old.workspace new.workspace result →
+    ForTree v old.image old.workspace (λ tree. (k : ℕ) → level tree x ≡ Some k → IsOnWay tree k x at step p) →
+    ((b : List ℕ) → KnowsPlaces v old.image.contents old.workspace b →
+    HasClimbed step old.reads new.reads old.workspace new.workspace p) → ReadsNames v x old new result
 climb_leaves {x = x} reached reads way counted = record {
   reads = reads;
   counted = λ b k. few_more (counted b k).few (counted b k).most;

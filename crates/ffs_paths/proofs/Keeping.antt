@@ -4,7 +4,7 @@ use Rattle.ffs_image.specs.{Device.Device, Reads.ReadAfter, declared.image.Image
 use Rattle.ffs_volume.specs.{declared.Layout.Layout, Directories.Graph.Graph}
 use Rattle.ffs_workspace.specs.{declared.workspace.Workspace.Workspace, Leaves.LeavesSurvey, Ready.IsReady}
 use Rattle.ffs_workspace.proofs.Leaving.{claims_held, claims_left, survey_held, survey_left, windows_leave}
-use Rattle.ffs_paths.specs.{Reads.{ForTree, OnlyReads, ReadsAtMost}, declared.kept_parent.KeptParent.KeptParent}
+use Rattle.ffs_paths.specs.{Reads.{ForTree, OnlyReads, PathMoment, ReadsAtMost, ReadsNames}, declared.kept_parent.KeptParent.KeptParent}
 use Rattle.ffs_paths.specs.KeptParents.{IsKeptParent, KeepsParent, PathLeaves, SamePlaces}
 use Rattle.ffs_walk.specs.{declared.{window.Window.Window, blocks.Blocks.Blocks}, Windows.WindowHolds}
 use Rattle.ffs_names.specs.Windows.{CanReadChunks}
@@ -36,29 +36,36 @@ pub reads_as : {S T : Type 0} {v : Layout} {d d' : Device} {w w' : Workspace} {x
 reads_as r = record { lists = r.lists; current = r.current; ready = r.ready; read = r.read }
 
 -- what a call leaves that made a path
-pub leaves_with : {T : Type 0} {most count count' : ℕ} {v : Layout} {d d' : Device} {w w' : Workspace} {x : T}
-    (s : KeptParent) → OnlyReads v d d' w w' (Ok x) → ReadsAtMost most v d w w' count count'
-    → KeepsParent v d.contents w s → PathLeaves most v d d' count count' w w' s (Ok x)
+pub leaves_with : {T : Type 0} {v : Layout} {most : ℕ} {old new : PathMoment} {x : T} (s : KeptParent) →
+    OnlyReads v old.image new.image old.workspace new.workspace (Ok x) → ReadsAtMost v most old new →
+    KeepsParent v old.image.contents old.workspace s → PathLeaves v most old new s (Ok x)
 leaves_with s r few k = record { reads = r; counted = few; kept_parent = kept_on s r k }
 
 -- the same of a call that may have failed
-pub leaves_so : {T : Type 0} {most count count' : ℕ} {v : Layout} {d d' : Device} {w w' : Workspace}
-    {result : Result T ImageFault} (s : KeptParent) → OnlyReads v d d' w w' result
-    → ReadsAtMost most v d w w' count count' → KeepsParent v d.contents w s
-    → PathLeaves most v d d' count count' w w' s result
+pub leaves_so : {T : Type 0} {v : Layout} {most : ℕ} {old new : PathMoment} {result : Result T ImageFault}
+    (s : KeptParent) → OnlyReads v old.image new.image old.workspace new.workspace result → ReadsAtMost v most old new →
+    KeepsParent v old.image.contents old.workspace s → PathLeaves v most old new s result
 leaves_so {result = Ok x} s r few k = leaves_with s r few k
 leaves_so {result = Err e} s r few k = record { reads = r; counted = few; kept_parent = tt }
 
 -- what a call leaves that kept a path
-pub leaves_kept : {S T : Type 0} {most count count' : ℕ} {v : Layout} {d d' : Device} {w w' : Workspace} {x : S} {y : T}
-    (s : KeptParent) → OnlyReads v d d' w w' (Ok x) → ReadsAtMost most v d w w' count count'
-    → ForTree v d w (λ g. IsKeptParent g s) → PathLeaves most v d d' count count' w w' s (Ok y)
+pub leaves_kept : {S T : Type 0} {v : Layout} {most : ℕ} {old new : PathMoment} {x : S} {y : T} (s : KeptParent) →
+    OnlyReads v old.image new.image old.workspace new.workspace (Ok x) → ReadsAtMost v most old new →
+    ForTree v old.image old.workspace (λ g. IsKeptParent g s) → PathLeaves v most old new s (Ok y)
 leaves_kept s r few kept = leaves_with s (reads_as r) few (record { right = kept })
 
 -- nothing was read yet
 pub no_reads : {T : Type 0} {v : Layout} {d : Device} {w : Workspace} {x : T} → IsReady v d w →
     OnlyReads v d d w w (Ok x)
 no_reads r = record { lists = refl; current = refl; ready = r; read = refl }
+
+pub names_none : {T : Type 0} {v : Layout} {x : ℕ} {now : PathMoment} {y : T} → IsReady v now.image now.workspace →
+    ReadsNames v x now now (Ok y)
+names_none r = record {
+  reads = no_reads r;
+  counted = λ b k. record { count = omega arith; blocks = refl };
+  names = λ b k. omega arith;
+}
 
 -- a call that only reads, after another
 pub reads_then : {S T : Type 0} {v : Layout} {old mid last : Device} {before w after : Workspace} {x : S}

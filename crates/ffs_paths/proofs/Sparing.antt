@@ -1,33 +1,34 @@
 -- What a path leaves unread where that of the parent is kept.
-use Rattle.std.proofs.Common.{◌≡◌, ◌≢◌, ◌∙◌, ◌↔◌, ◌+◌, ◌≤◌, ℕ, List, Option, Some, None, Result, Ok, Err, sym, subst, refl, arith}
+use Rattle.std.proofs.Common.{◌≡◌, ◌∙◌, ◌↔◌, ◌+◌, ◌≤◌, ℕ, List, Option, Some, None, Result, Ok, Err, sym, subst, refl, arith}
 use Rattle.std.specs.Prelude.{OnOk}
-use Rattle.ffs_image.specs.Device.{Device}
+use Rattle.ffs_image.specs.declared.image.ImageFault.{ImageFault}
 use Rattle.ffs_volume.specs.{declared.Layout.Layout, Directories.{Parents.graph_of, Volumes.volume_of}}
 use Rattle.ffs_workspace.specs.declared.workspace.Workspace.{Workspace}
-use Rattle.ffs_paths.specs.{Climbing.IsParentOf, Reads.{HoldsPlaceOf, KnowsPlaces, names_to}}
-use Rattle.ffs_paths.specs.{KeptParents.{HasPathOf, KeepsChild, SparesReads}, declared.kept_parent.KeptParent.KeptParent}
-use Rattle.ffs_paths.proofs.Climbed.{names_more}
+use Rattle.ffs_paths.specs.{Climbing.IsParentOf, Reads.{HoldsPlaceOf, KnowsPlaces, names_to, PathMoment, ReadsNames}}
+use Rattle.ffs_paths.specs.KeptParents.{HasPathOf, KeepsChild, KeepsParent, KeptMoment, PathCosts, SparesReads}
+use Rattle.ffs_paths.{specs.declared.kept_parent.KeptParent.KeptParent, proofs.Climbed.{few_more, names_more}}
+use Rattle.ffs_paths.proofs.Keeping.{leaves_so, reads_as}
 
 -- the survey found one parent at most
 one_parent : {w : Workspace} {x p q : ℕ} → IsParentOf w x p → IsParentOf w x q → p ≡ q
 one_parent of is = of.is ∙ sym is.is
 
 -- the path of the parent was kept, and then the name was read
-pub spares_name : {v : Layout} {d : Device} {count mid count' x p : ℕ} {w w' : Workspace} {s : KeptParent} →
-    IsParentOf w x p →
-    ((b : List ℕ) → KnowsPlaces v d.contents w b → mid ≤ count + names_to (graph_of (volume_of v b)) p) →
-    (HasPathOf s p → (mid ≡ count) × (w' ≡ w)) →
-    ((b : List ℕ) → KnowsPlaces v d.contents w b → count' ≤ mid + 1) →
-    ((b : List ℕ) → KnowsPlaces v d.contents w b → HoldsPlaceOf v w' x → count' ≤ mid) →
-    SparesReads v d count count' x w s
-spares_name {v = v} {x = x} {s = s} of names same one again = record {
+pub spares_name : {v : Layout} {x p mid : ℕ} {w : Workspace} {old new : KeptMoment} →
+    IsParentOf old.at.workspace x p → ((b : List ℕ) → KnowsPlaces v old.at.image.contents old.at.workspace b →
+    mid ≤ old.at.reads + names_to (graph_of (volume_of v b)) p) →
+    (HasPathOf old.kept p → (mid ≡ old.at.reads) × (w ≡ old.at.workspace)) →
+    ((b : List ℕ) → KnowsPlaces v old.at.image.contents old.at.workspace b → new.at.reads ≤ mid + 1) →
+    ((b : List ℕ) → KnowsPlaces v old.at.image.contents old.at.workspace b → HoldsPlaceOf v w x → new.at.reads ≤ mid) →
+    SparesReads v x old new
+spares_name {v = v} {x = x} {old = old} of names same one again = record {
   names = λ b k. let a = names b k in let l = one b k in let e = names_more k.survey of in omega (arith, a, l, e);
   kept = λ b q k is has.
-      let e = same (subst (HasPathOf s) (one_parent is of) has) in
+      let e = same (subst (HasPathOf old.kept) (one_parent is of) has) in
       let l = one b k in
       omega (arith, e.0, l);
   again = λ b q k is has held.
-      let e = same (subst (HasPathOf s) (one_parent is of) has) in
+      let e = same (subst (HasPathOf old.kept) (one_parent is of) has) in
       let l = again b k (subst (λ w. HoldsPlaceOf v w x) (sym e.1) held) in
       omega (arith, e.0, l);
 }
@@ -47,20 +48,52 @@ pub no_parent : {w : Workspace} {x : ℕ} {o : Option ℕ} → o ≡ None → ((
     (p : ℕ) → IsParentOf w x p → ⊥
 no_parent none some p of = none_some none ((some p).1 of)
 
-pub spares_none : {v : Layout} {d : Device} {count count' x : ℕ} {w : Workspace} {s : KeptParent} →
-    ((p : ℕ) → IsParentOf w x p → ⊥) →
-    ((b : List ℕ) → KnowsPlaces v d.contents w b → count' ≤ count + names_to (graph_of (volume_of v b)) x) →
-    SparesReads v d count count' x w s
-spares_none none names = record {
-  names = names;
-  kept = λ b p k of has. absurd (none p of);
-  again = λ b p k of has held. absurd (none p of);
-}
-
-pub keeps_none : {w : Workspace} {x : ℕ} (s : KeptParent) → ((p : ℕ) → IsParentOf w x p → ⊥) → KeepsChild w x s s
-keeps_none s none = record { parent = λ p of. absurd (none p of); same = λ n. refl }
-
 -- a fact of every answer
 pub on_all : {T E : Type 0} (r : Result T E) (P : Type 0) → P → OnOk r P
 on_all (Ok x) P h = h
 on_all (Err e) P h = tt
+
+-- its path is read anew, and what was kept stays
+pub costs_none : {T : Type 0} {v : Layout} {x : ℕ} {old new : PathMoment} {result : Result T ImageFault}
+    (s : KeptParent) → ((p : ℕ) → IsParentOf old.workspace x p → ⊥) → KeepsParent v old.image.contents old.workspace s →
+    ReadsNames v x old new result → PathCosts v x (record { at = old; kept = s }) (record { at = new; kept = s }) result
+costs_none {result = result} s none right left = record {
+  leaves = leaves_so s left.reads (λ b k. few_more (left.counted b k) (omega arith)) right;
+  spares = record {
+    names = left.names;
+    kept = λ b p k of has. absurd (none p of);
+    again = λ b p k of has held. absurd (none p of);
+  };
+  keeps = on_all result _ (record { parent = λ p of. absurd (none p of); same = λ n. refl });
+  held = on_all result _ (λ b p k of. absurd (none p of));
+}
+
+-- the same of another answer, which is no fault either
+pub costs_as : {S T : Type 0} {v : Layout} {x : ℕ} {old new : KeptMoment} {a : S} {b : T} →
+    PathCosts v x old new (Ok a) → PathCosts v x old new (Ok b)
+costs_as costs = record {
+  leaves = record {
+    reads = reads_as costs.leaves.reads;
+    counted = costs.leaves.counted;
+    kept_parent = costs.leaves.kept_parent;
+  };
+  spares = costs.spares;
+  keeps = costs.keeps;
+  held = costs.held;
+}
+
+-- and of a fault
+pub costs_fault : {S T : Type 0} {v : Layout} {x : ℕ} {old new : KeptMoment} {e : ImageFault} →
+    PathCosts {T = S} v x old new (Err e) → PathCosts {T = T} v x old new (Err e)
+costs_fault costs =
+    let r = costs.leaves.reads in
+    record {
+      leaves = record {
+        reads = record { lists = r.lists; current = r.current; ready = r.ready; read = r.read };
+        counted = costs.leaves.counted;
+        kept_parent = tt;
+      };
+      spares = costs.spares;
+      keeps = tt;
+      held = tt;
+    }

@@ -1,12 +1,14 @@
 -- What is kept for the path of the next directory.
 use Rattle.std.specs.Prelude.{◌≡◌, ◌⊎◌, ◌+◌, ◌*◌, ◌<◌, ◌≤◌, ℕ, List, [], ◌∷◌, ◌++◌, Option, Some, Result, OnOk, slice_index}
-use Rattle.ffs_image.specs.{Device.Device, declared.image.ImageFault.ImageFault}
+use Rattle.ffs_image.specs.{Device.Device, declared.image.{Image.Ghosts, ImageFault.ImageFault}}
 use Rattle.ffs_volume.specs.{declared.Layout.Layout, Directories.{Graph.Graph, Parents.graph_of, Paths.path_names}}
 use Rattle.ffs_volume.specs.Directories.Volumes.{volume_of}
 use Rattle.ffs_workspace.specs.{declared.workspace.Workspace.Workspace, Ready.IsReady, Places.place_in}
 use Rattle.ffs_workspace.specs.Holds.{HoldsClaims, HoldsSurvey}
 use Rattle.ffs_paths.specs.{Climbing.IsParentOf, DirectoryPaths.IsPathOf}
-use Rattle.ffs_paths.specs.Reads.{HoldsPlaceOf, KnowsPlaces, names_to, OnlyReads, ReadsAtMost}
+use Rattle.ffs_volume.specs.Report.Reads.{path_reads}
+use Rattle.ffs_paths.specs.Reads.{HoldsPlaceOf, KnowsPlaces, names_to, OnlyReads, PathMoment, path_moment, ReadsAtMost}
+use Rattle.ffs_paths.specs.Reads.{ReadsNames}
 use Rattle.ffs_paths.specs.{Slashes.HaveNoSlash, NameTexts.name_bytes, declared.kept_parent.KeptParent.KeptParent}
 
 -- the names down to d are those down to s, and one more
@@ -51,11 +53,29 @@ pub record CanKeepChild (v : Layout) (d : Device) (w : Workspace) (s : KeptParen
 
 -- what a call leaves that makes so many reads at most for a path, where each place is noted; where
 -- it failed, what is kept of a parent may be wrong
-pub record PathLeaves {T : Type 0} (most : ℕ) (v : Layout) (d d' : Device) (count count' : ℕ) (w w' : Workspace)
-    (s : KeptParent) (result : Result T ImageFault) : Type 0 where
-  pub reads : OnlyReads v d d' w w' result
-  pub counted : ReadsAtMost most v d w w' count count'
-  pub kept_parent : OnOk result (KeepsParent v d'.contents w' s)
+pub record PathLeaves {T : Type 0} (v : Layout) (most : ℕ) (old new : PathMoment) (s : KeptParent)
+    (result : Result T ImageFault) : Type 0 where
+  pub reads : OnlyReads v old.image new.image old.workspace new.workspace result
+  pub counted : ReadsAtMost v most old new
+  pub kept_parent : OnOk result (KeepsParent v new.image.contents new.workspace s)
+
+-- a call keeps the path of the directory x, as that of the next one's parent
+pub record KeepsPathOf {T : Type 0} (v : Layout) (x : ℕ) (old new : PathMoment) (s : KeptParent)
+    (result : Result T ImageFault) : Type 0 where
+  -- x is the parent that is kept
+  pub parent : OnOk result (s.parent ≡ x)
+  -- and what is kept of it is right
+  pub kept_parent : OnOk result (KeepsParent v new.image.contents new.workspace s)
+  -- it only reads: a read at most for each name of that path, and no more than the way up takes
+  pub reads : ReadsNames v x old new result
+
+-- a moment of calls for one path after another: what is kept of a parent, too
+pub record KeptMoment : Type 0 where
+  pub at : PathMoment
+  pub kept : KeptParent
+
+abbrev pub kept_moment : {I : Type 0} → Ghosts I → I → Workspace → KeptParent → KeptMoment
+kept_moment I image w s = record { at = path_moment I image w; kept = s }
 
 -- the path of the directory d is kept: d is the parent, or the child
 abbrev pub HasPathOf : KeptParent → (d : ℕ) → Type 0
@@ -63,12 +83,14 @@ HasPathOf s d = (s.parent ≡ d) ⊎ (s.child ≡ d)
 
 -- a path of the directory x makes, where each place is noted, a read at most for each of its names; one
 -- where that of its parent is kept; and none where the window holds the part with its name, too
-pub record SparesReads (v : Layout) (d : Device) (count count' x : ℕ) (w : Workspace) (s : KeptParent) : Type 0 where
-  pub names : (b : List ℕ) → KnowsPlaces v d.contents w b → count' ≤ count + names_to (graph_of (volume_of v b)) x
-  pub kept : (b : List ℕ) (p : ℕ) → KnowsPlaces v d.contents w b → IsParentOf w x p → HasPathOf s p
-      → count' ≤ count + 1
-  pub again : (b : List ℕ) (p : ℕ) → KnowsPlaces v d.contents w b → IsParentOf w x p → HasPathOf s p
-      → HoldsPlaceOf v w x → count' ≤ count
+pub record SparesReads (v : Layout) (x : ℕ) (old new : KeptMoment) : Type 0 where
+  pub names : (b : List ℕ) → KnowsPlaces v old.at.image.contents old.at.workspace b
+      → new.at.reads ≤ old.at.reads + names_to (graph_of (volume_of v b)) x
+  pub kept : (b : List ℕ) (p : ℕ) → KnowsPlaces v old.at.image.contents old.at.workspace b
+      → IsParentOf old.at.workspace x p → HasPathOf old.kept p → new.at.reads ≤ old.at.reads + 1
+  pub again : (b : List ℕ) (p : ℕ) → KnowsPlaces v old.at.image.contents old.at.workspace b
+      → IsParentOf old.at.workspace x p → HasPathOf old.kept p → HoldsPlaceOf v old.at.workspace x
+      → new.at.reads ≤ old.at.reads
 
 -- the path of the parent of x is kept then, and x with it; where x has no parent, what was kept before
 pub record KeepsChild (w : Workspace) (x : ℕ) (s s' : KeptParent) : Type 0 where
@@ -76,6 +98,18 @@ pub record KeepsChild (w : Workspace) (x : ℕ) (s s' : KeptParent) : Type 0 whe
   pub same : ((p : ℕ) → IsParentOf w x p → ⊥) → s' ≡ s
 
 -- and the window holds the part of the place of x, where it has a parent and each place is noted
-abbrev pub HoldsPlaceThen : Layout → Device → (w w' : Workspace) → (x : ℕ) → Type 0
-HoldsPlaceThen v d w w' x =
-    (b : List ℕ) (p : ℕ) → KnowsPlaces v d.contents w b → IsParentOf w x p → HoldsPlaceOf v w' x
+abbrev pub HoldsPlaceThen : Layout → (x : ℕ) → (old new : PathMoment) → Type 0
+HoldsPlaceThen v x old new = (b : List ℕ) (p : ℕ) → KnowsPlaces v old.image.contents old.workspace b
+    → IsParentOf old.workspace x p → HoldsPlaceOf v new.workspace x
+
+-- what a call for the path of the directory x costs, and what it leaves for the next one
+pub record PathCosts {T : Type 0} (v : Layout) (x : ℕ) (old new : KeptMoment) (result : Result T ImageFault) :
+    Type 0 where
+  -- it only reads, `path_reads` times at most where each place is noted, and what is kept of a parent is right
+  pub leaves : PathLeaves v path_reads old.at new.at new.kept result
+  -- a read at most for each name: one where the path of the parent is kept, none where the window holds the name
+  pub spares : SparesReads v x old new
+  -- the path of that parent is kept then, and x with it
+  pub keeps : OnOk result (KeepsChild old.at.workspace x old.kept new.kept)
+  -- and the window holds the part of the place of x
+  pub held : OnOk result (HoldsPlaceThen v x old.at new.at)

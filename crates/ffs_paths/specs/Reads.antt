@@ -1,12 +1,23 @@
 -- What a call that only reads the image leaves of a workspace, and how often it reads.
 use Rattle.std.specs.Prelude.{◌≡◌, suc, ◌+◌, ◌*◌, ◌/◌, ◌<◌, ◌≤◌, ℕ, List, Option, Result, Some, true, OnOk, slice_index}
 use Rattle.std.specs.Option.{unwrap_or}
-use Rattle.ffs_image.specs.{Device.{Device, ForContents}, Reads.ReadAfter, declared.image.ImageFault.ImageFault}
+use Rattle.ffs_image.specs.{Device.{Device, ForContents}, Reads.ReadAfter, declared.image.{Image.Ghosts, ImageFault.ImageFault}}
 use Rattle.ffs_volume.specs.declared.{constants.TheConstants.MAXPATHLEN, Layout.Layout}
 use Rattle.ffs_volume.specs.Directories.{Graph.{Graph, level}, Parents.graph_of, Volumes.volume_of}
 use Rattle.ffs_workspace.specs.{declared.workspace.Workspace.Workspace, Places.{AreNoted, IsNoted, part_size, place_in}}
 use Rattle.ffs_workspace.specs.{Ready.IsReady}
 use Rattle.ffs_workspace.specs.Holds.{bool_at, HoldsClaims, HoldsSurvey}
+
+-- a moment of calls for paths: the image, how often it was read by then, and the workspace
+pub record PathMoment : Type 0 where
+  pub image : Device
+  pub reads : ℕ
+  pub workspace : Workspace
+
+-- the moment at which an image and a workspace are these. I is what the image's type gives to contracts: in a
+-- contract I.Image
+abbrev pub path_moment : {I : Type 0} → Ghosts I → I → Workspace → PathMoment
+path_moment I image w = record { image = I.device image; reads = I.reads image; workspace = w }
 
 -- the workspace is ready for reads of the inode x
 pub record IsReadyFor (v : Layout) (d : Device) (w : Workspace) (x : ℕ) : Type 0 where
@@ -40,10 +51,10 @@ pub record ReadsFew (most reads reads' : ℕ) (before after : Workspace) : Type 
   pub blocks : after.windows.blocks ≡ before.windows.blocks
 
 -- a call that makes so many reads at most leaves all of the workspace but its windows
-pub record OnlyReadsFew {T : Type 0} (most : ℕ) (v : Layout) (old new : Device) (count count' : ℕ)
-    (before after : Workspace) (result : Result T ImageFault) : Type 0 where
-  pub reads : OnlyReads v old new before after result
-  pub counted : ReadsFew most count count' before after
+pub record OnlyReadsFew {T : Type 0} (v : Layout) (most : ℕ) (old new : PathMoment) (result : Result T ImageFault) :
+    Type 0 where
+  pub reads : OnlyReads v old.image new.image old.workspace new.workspace result
+  pub counted : ReadsFew most old.reads new.reads old.workspace new.workspace
 
 -- the window of other directories holds the part that is noted as the place of x, if one is noted
 abbrev pub HoldsPlaceOf : Layout → Workspace → (x : ℕ) → Type 0
@@ -51,27 +62,28 @@ HoldsPlaceOf v w x = (k : ℕ) → place_in (slice_index w.queue.items x) ≡ su
     → (w.windows.other.place ≡ part_size v * k) × (w.windows.other.length ≡ part_size v)
 
 -- the part with the place of x is read once at most, and not where the window holds it; then it holds it
-pub record ReadsPartOf {T : Type 0} (v : Layout) (count count' x : ℕ) (before after : Workspace)
-    (result : Result T ImageFault) : Type 0 where
-  pub few : ReadsFew 1 count count' before after
-  pub again : HoldsPlaceOf v before x → count' ≤ count
-  pub held : OnOk result (HoldsPlaceOf v after x)
+pub record ReadsPartOf {T : Type 0} (v : Layout) (x : ℕ) (old new : PathMoment) (result : Result T ImageFault) :
+    Type 0 where
+  pub few : ReadsFew 1 old.reads new.reads old.workspace new.workspace
+  pub again : HoldsPlaceOf v old.workspace x → new.reads ≤ old.reads
+  pub held : OnOk result (HoldsPlaceOf v new.workspace x)
 
 -- a call for the place of x makes one read at most, and none where the window holds its part; where the
 -- place is one, the window holds it then
-pub record ReadsPlace {T : Type 0} (v : Layout) (old new : Device) (count count' x : ℕ) (before after : Workspace)
-    (result : Result T ImageFault) : Type 0 where
-  pub reads : OnlyReads v old new before after result
-  pub counted : ReadsFew 1 count count' before after
-  pub again : HoldsPlaceOf v before x → count' ≤ count
-  pub held : ForContents old.contents (λ b. IsNoted v b before.queue.items x → OnOk result (HoldsPlaceOf v after x))
+pub record ReadsPlace {T : Type 0} (v : Layout) (x : ℕ) (old new : PathMoment) (result : Result T ImageFault) :
+    Type 0 where
+  pub reads : OnlyReads v old.image new.image old.workspace new.workspace result
+  pub counted : ReadsFew 1 old.reads new.reads old.workspace new.workspace
+  pub again : HoldsPlaceOf v old.workspace x → new.reads ≤ old.reads
+  pub held : ForContents old.image.contents
+      (λ b. IsNoted v b old.workspace.queue.items x → OnOk result (HoldsPlaceOf v new.workspace x))
 
 -- a call for the name of the directory x reads the part of its place alone, where that is noted
-pub record ReadsName {T : Type 0} (v : Layout) (old new : Device) (count count' x : ℕ) (before after : Workspace)
-    (result : Result T ImageFault) : Type 0 where
-  pub reads : OnlyReads v old new before after result
-  pub counted : ForContents old.contents
-      (λ b. IsNoted v b before.queue.items x → ReadsPartOf v count count' x before after result)
+pub record ReadsName {T : Type 0} (v : Layout) (x : ℕ) (old new : PathMoment) (result : Result T ImageFault) :
+    Type 0 where
+  pub reads : OnlyReads v old.image new.image old.workspace new.workspace result
+  pub counted : ForContents old.image.contents
+      (λ b. IsNoted v b old.workspace.queue.items x → ReadsPartOf v x old new result)
 
 -- the image gives these bytes, the workspace holds what the block check and the survey leave, and
 -- it notes the place of each directory that is reached
@@ -82,9 +94,9 @@ pub record KnowsPlaces (v : Layout) (contents : Option (List ℕ)) (w : Workspac
   pub places : AreNoted v b w.queue.items
 
 -- so many reads were made at most, where each place is noted
-abbrev pub ReadsAtMost : (most : ℕ) → Layout → Device → (before after : Workspace) → (reads reads' : ℕ) → Type 0
-ReadsAtMost most v d before after reads reads' = (b : List ℕ) → KnowsPlaces v d.contents before b
-    → ReadsFew most reads reads' before after
+abbrev pub ReadsAtMost : Layout → (most : ℕ) → (old new : PathMoment) → Type 0
+ReadsAtMost v most old new = (b : List ℕ) → KnowsPlaces v old.image.contents old.workspace b
+    → ReadsFew most old.reads new.reads old.workspace new.workspace
 
 -- how many names lead down to the directory x, none where it isn't reached
 abbrev pub names_to : Graph → ℕ → ℕ
@@ -97,9 +109,9 @@ climb_reads = MAXPATHLEN / 2 + 1
 
 -- a call for the path of the directory x leaves all of the workspace but its windows. Where each place is
 -- noted, it makes a read at most for each name of that path, and no more than the way up takes
-pub record ReadsNames {T : Type 0} (v : Layout) (old new : Device) (count count' x : ℕ) (before after : Workspace)
-    (result : Result T ImageFault) : Type 0 where
-  pub reads : OnlyReads v old new before after result
-  pub counted : ReadsAtMost climb_reads v old before after count count'
-  pub names : (b : List ℕ) → KnowsPlaces v old.contents before b
-      → count' ≤ count + names_to (graph_of (volume_of v b)) x
+pub record ReadsNames {T : Type 0} (v : Layout) (x : ℕ) (old new : PathMoment) (result : Result T ImageFault) :
+    Type 0 where
+  pub reads : OnlyReads v old.image new.image old.workspace new.workspace result
+  pub counted : ReadsAtMost v climb_reads old new
+  pub names : (b : List ℕ) → KnowsPlaces v old.image.contents old.workspace b
+      → new.reads ≤ old.reads + names_to (graph_of (volume_of v b)) x

@@ -1,13 +1,12 @@
 //! The path of a directory's parent, kept for the directory that comes next.
 
-ghost use Rattle.std.specs.Prelude.{◌≡◌, ◌↔◌, ◌<◌, ◌≤◌, ◌+◌, true, ℕ, List, Option, Some, IfOk, OnOk, min, vec_len};
-ghost use Rattle.ffs_volume.specs.{declared.Layout.Layout, Directories.Paths.dir_path, Report.Reads.path_reads};
-ghost use Rattle.ffs_volume.specs.Directories.{Parents.graph_of, Volumes.volume_of};
+ghost use Rattle.std.specs.Prelude.{◌≡◌, ◌↔◌, ◌<◌, ℕ, List, Option, Some, IfOk, OnOk, min, vec_len};
+ghost use Rattle.ffs_volume.specs.{declared.Layout.Layout, Directories.Paths.dir_path};
 ghost use Rattle.ffs_workspace.specs.declared.workspace.Workspace.{Workspace as WorkspaceIn};
 ghost use Rattle.ffs_paths.specs.{Climbing.IsParentOf, DirectoryPaths.IsPathOf};
-ghost use Rattle.ffs_paths.specs.Reads.{ForTree, KnowsPlaces, climb_reads, names_to};
-ghost use Rattle.ffs_paths.specs.KeptParents.{CanKeepChild, HasPathOf, KeepsParent, PathLeaves, ReadyToPath};
-ghost use Rattle.ffs_paths.specs.KeptParents.{HoldsPlaceThen, KeepsChild, SparesReads};
+ghost use Rattle.ffs_paths.specs.Reads.{ForTree, path_moment};
+ghost use Rattle.ffs_paths.specs.KeptParents.{CanKeepChild, HasPathOf, KeepsParent, KeepsPathOf, kept_moment};
+ghost use Rattle.ffs_paths.specs.KeptParents.{PathCosts, ReadyToPath};
 
 use crate::buffer::{PathBuffer, PathText};
 use crate::name::find_name;
@@ -76,13 +75,9 @@ impl KeptParent {
     ) -> Result<(), ImageFault>
         requires { ReadyToPath geometry.now.layout (I.device image.old) workspace.old self.old
             dir }
-        ensures kept { OnOk result (self.new.parent ≡ dir) }
-        ensures leaves { PathLeaves climb_reads geometry.now.layout (I.device image.old)
-            (I.device image.new) (I.reads image.old) (I.reads image.new) workspace.old workspace.new
-            self.new result }
-        ensures names { (b : List ℕ) → KnowsPlaces geometry.now.layout
-            (I.device image.old).contents workspace.old b → I.reads image.new
-            ≤ I.reads image.old + names_to (graph_of (volume_of geometry.now.layout b)) dir }
+        ensures keeps { KeepsPathOf geometry.now.layout dir
+            (path_moment I.Image image.old workspace.old)
+            (path_moment I.Image image.new workspace.new) self.new result }
         ensures same { HasPathOf self.old dir
             → (image.new ≡ image.old) × (workspace.new ≡ workspace.old) }
     {
@@ -110,14 +105,9 @@ impl KeptParent {
     ) -> Result<(), ImageFault>
         requires { CanKeepChild geometry.now.layout (I.device image.old) workspace.old self.old
             parent dir }
-        ensures child { OnOk result ((self.new.parent ≡ parent) × (self.new.child ≡ dir)) }
-        ensures leaves { PathLeaves path_reads geometry.now.layout (I.device image.old)
-            (I.device image.new) (I.reads image.old) (I.reads image.new) workspace.old workspace.new
-            self.new result }
-        ensures spares { SparesReads geometry.now.layout (I.device image.old) (I.reads image.old)
-            (I.reads image.new) dir workspace.old self.old }
-        ensures held { OnOk result (HoldsPlaceThen geometry.now.layout (I.device image.old)
-            workspace.old workspace.new dir) }
+        ensures { PathCosts geometry.now.layout dir
+            (kept_moment I.Image image.old workspace.old self.old)
+            (kept_moment I.Image image.new workspace.new self.new) result }
     {
         self.keep_path_of(geometry, image, workspace, parent)?;
         find_name(geometry, image, workspace, parent, dir, &mut self.name)?;
@@ -141,14 +131,9 @@ impl KeptParent {
         ensures path { IfOk result (λ path.
             ForTree geometry.now.layout (I.device image.old) workspace.old
             (λ g. IsPathOf g dir path)) }
-        ensures leaves { PathLeaves path_reads geometry.now.layout (I.device image.old)
-            (I.device image.new) (I.reads image.old) (I.reads image.new) workspace.old workspace.new
-            self.new result }
-        ensures keeps { OnOk result (KeepsChild workspace.old dir self.old self.new) }
-        ensures spares { SparesReads geometry.now.layout (I.device image.old) (I.reads image.old)
-            (I.reads image.new) dir workspace.old self.old }
-        ensures held { OnOk result (HoldsPlaceThen geometry.now.layout (I.device image.old)
-            workspace.old workspace.new dir) }
+        ensures costs { PathCosts geometry.now.layout dir
+            (kept_moment I.Image image.old workspace.old self.old)
+            (kept_moment I.Image image.new workspace.new self.new) result }
     {
         let Some(parent) = parent_of(workspace, dir) else {
             return directory_path(geometry, image, workspace, dir);
@@ -173,14 +158,9 @@ impl KeptParent {
             dir }
         ensures path { OnOk result (ForTree geometry.now.layout (I.device image.old) workspace.old
             (λ g. text.new.items ≡ dir_path g dir)) }
-        ensures leaves { PathLeaves path_reads geometry.now.layout (I.device image.old)
-            (I.device image.new) (I.reads image.old) (I.reads image.new) workspace.old workspace.new
-            self.new result }
-        ensures keeps { OnOk result (KeepsChild workspace.old dir self.old self.new) }
-        ensures spares { SparesReads geometry.now.layout (I.device image.old) (I.reads image.old)
-            (I.reads image.new) dir workspace.old self.old }
-        ensures held { OnOk result (HoldsPlaceThen geometry.now.layout (I.device image.old)
-            workspace.old workspace.new dir) }
+        ensures costs { PathCosts geometry.now.layout dir
+            (kept_moment I.Image image.old workspace.old self.old)
+            (kept_moment I.Image image.new workspace.new self.new) result }
     {
         let Some(parent) = parent_of(workspace, dir) else {
             directory_path(geometry, image, workspace, dir)?.put(text);

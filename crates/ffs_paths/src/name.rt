@@ -4,7 +4,7 @@ ghost use Rattle.std.specs.Prelude.{◌≡◌, ◌==◌, ◌&&◌, ◌/◌, fals
 ghost use Rattle.ffs_volume.specs.Directories.{Entries.entries_of, Roles.{is_plain, role_of, roled_from}};
 ghost use Rattle.ffs_layout.specs.Entry.{entry_value};
 ghost use Rattle.ffs_paths.specs.{Climbing.{FindsFirstName, FindsName, FindsNoted, IsNameIn}, NameTexts.name_bytes};
-ghost use Rattle.ffs_paths.specs.Reads.{ForTree, IsReadyFor, OnlyReads, ReadsName, ReadsPlace};
+ghost use Rattle.ffs_paths.specs.Reads.{ForTree, IsReadyFor, OnlyReads, path_moment, ReadsName, ReadsPlace};
 ghost use Rattle.ffs_workspace.specs.Places.{entries_in_chunks};
 
 use crate::name_text::NameText;
@@ -77,8 +77,9 @@ fn find_by_place<I: Image>(
     requires { IsReadyFor geometry.now.layout (I.device image.old) workspace.old dir }
     ensures finds { IfOk result (FindsNoted geometry.now.layout (I.device image.old) workspace.old
         dir (name_bytes name.new)) }
-    ensures leaves { ReadsPlace geometry.now.layout (I.device image.old) (I.device image.new)
-        (I.reads image.old) (I.reads image.new) dir workspace.old workspace.new result }
+    ensures leaves { ReadsPlace geometry.now.layout dir
+        (path_moment I.Image image.old workspace.old) (path_moment I.Image image.new workspace.new)
+        result }
 {
     let Some(part) = noted_part(workspace.queue[dir as usize]) else {
         return Ok(false);
@@ -150,8 +151,9 @@ pub fn find_name<I: Image>(
     requires { IsReadyFor geometry.now.layout (I.device image.old) workspace.old (max dir parent) }
     ensures finds { OnOk result (FindsName geometry.now.layout (I.device image.old) workspace.old
         dir parent (name_bytes name.new)) }
-    ensures leaves { ReadsName geometry.now.layout (I.device image.old) (I.device image.new)
-        (I.reads image.old) (I.reads image.new) dir workspace.old workspace.new result }
+    ensures leaves { ReadsName geometry.now.layout dir
+        (path_moment I.Image image.old workspace.old) (path_moment I.Image image.new workspace.new)
+        result }
 {
     if find_by_place(geometry, image, workspace, dir, name)? {
         return Ok(());

@@ -4,7 +4,7 @@ ghost use Rattle.std.specs.Prelude.{◌≡◌, ◌<◌, ◌≤◌, ℕ, List, []
 ghost use Rattle.ffs_volume.specs.Directories.{Graph.{Graph, level}, Paths.{dir_path, entry_path, names_down}};
 ghost use Rattle.ffs_workspace.specs.Holds.{bool_at};
 ghost use Rattle.ffs_paths.specs.{Buffers.HoldsNames, Climbing.{in_room, path_in}, DirectoryPaths.{HoldsPath, IsPathOf}};
-ghost use Rattle.ffs_paths.specs.{Reads.{CanClimb, ForTree, IsReadyFor, ReadsNames}, Slashes.HaveNoSlash};
+ghost use Rattle.ffs_paths.specs.{Reads.{CanClimb, ForTree, IsReadyFor, path_moment, ReadsNames}, Slashes.HaveNoSlash};
 
 use crate::buffer::{LONGEST_NAME, PathBuffer, PathText};
 use crate::name::find_name;
@@ -95,8 +95,9 @@ fn climb<I: Image>(
     ensures path { OnOk result
         (ForTree geometry.now.layout (I.device image.old) workspace.old (λ g.
         (k : ℕ) → level g dir ≡ Some k → HoldsNames path.new (names_down g k dir))) }
-    ensures leaves { ReadsNames geometry.now.layout (I.device image.old) (I.device image.new)
-        (I.reads image.old) (I.reads image.new) dir workspace.old workspace.new result }
+    ensures leaves { ReadsNames geometry.now.layout dir
+        (path_moment I.Image image.old workspace.old) (path_moment I.Image image.new workspace.new)
+        result }
 {
     let count = workspace.notes.len();
     path.clear();
@@ -134,8 +135,9 @@ pub fn put_directory<I: Image>(
     requires { IsReadyFor geometry.now.layout (I.device image.old) workspace.old dir }
     ensures path { OnOk result (ForTree geometry.now.layout (I.device image.old) workspace.old
         (λ g. IsPathOf g dir path.new)) }
-    ensures leaves { ReadsNames geometry.now.layout (I.device image.old) (I.device image.new)
-        (I.reads image.old) (I.reads image.new) dir workspace.old workspace.new result }
+    ensures leaves { ReadsNames geometry.now.layout dir
+        (path_moment I.Image image.old workspace.old) (path_moment I.Image image.new workspace.new)
+        result }
 {
     path.reached = is_reached(workspace, dir);
     if path.reached {
@@ -157,8 +159,9 @@ pub fn directory_path<I: Image>(
     requires { IsReadyFor geometry.now.layout (I.device image.old) workspace.old dir }
     ensures path { IfOk result (λ path.
         ForTree geometry.now.layout (I.device image.old) workspace.old (λ g. IsPathOf g dir path)) }
-    ensures leaves { ReadsNames geometry.now.layout (I.device image.old) (I.device image.new)
-        (I.reads image.old) (I.reads image.new) dir workspace.old workspace.new result }
+    ensures leaves { ReadsNames geometry.now.layout dir
+        (path_moment I.Image image.old workspace.old) (path_moment I.Image image.new workspace.new)
+        result }
 {
     let mut path = DirectoryPath {
         reached: false,
@@ -184,8 +187,9 @@ pub fn path_of<I: Image>(
     requires { IsReadyFor geometry.now.layout (I.device image.old) workspace.old dir }
     ensures path { OnOk result (ForTree geometry.now.layout (I.device image.old) workspace.old
         (λ g. text.new.items ≡ path_in g dir (option_map (λ n. n.now) name.entry))) }
-    ensures leaves { ReadsNames geometry.now.layout (I.device image.old) (I.device image.new)
-        (I.reads image.old) (I.reads image.new) dir workspace.old workspace.new result }
+    ensures leaves { ReadsNames geometry.now.layout dir
+        (path_moment I.Image image.old workspace.old) (path_moment I.Image image.new workspace.new)
+        result }
 {
     let path = directory_path(geometry, image, workspace, dir)?;
     match name {

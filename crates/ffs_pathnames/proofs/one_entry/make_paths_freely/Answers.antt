@@ -6,6 +6,6 @@ returns-clause-makes g c = grind arith
 
 pub returns-clause-spares : goal.returns-clause-spares
 returns-clause-spares g c = record {
-  reads = c.in_ok-path.ensures.spares;
-  keeps = λ y b k. c.in_ok-path.ensures.keeps;
+  reads = c.in_ok-path.ensures.costs.spares;
+  keeps = λ y b k. c.in_ok-path.ensures.costs.keeps;
 }
