@@ -4,7 +4,7 @@ use Rattle.std.proofs.{Common.{Err, append-nil, ltb-true}, lemmas.{List.map-appe
 use Rattle.ffs_pathnames.proofs.{LineCounts.lines_long, LookLaws.quiet_silent, PassedLaws.size_of}
 use Rattle.ffs_pathnames.proofs.{PassedLaws.{IsDirectory, right_reported}, BetweenLaws.{unstamped, looked}}
 use Rattle.ffs_pathnames.proofs.BetweenLaws.{looked_right, quiet_next, reported_next}
-use Rattle.ffs_pathnames.specs.{declared.look.Examination.Examination, Examines.{IsExamined, LeavesAllButDue}}
+use Rattle.ffs_pathnames.specs.{declared.look.Examination.Examination, Examines.{IsExamined, LeavesAllButDue, StampsOwn}}
 use Rattle.ffs_pathnames.specs.{Begins.{AreFirstTwo, IsDirectoryBegun}, PassedRight.AreRightBefore}
 use Rattle.ffs_pathnames.specs.PassedNames.{PassedNames, are_quiet, entries_reported, after_entries}
 use Rattle.ffs_volume.specs.{declared.Layout.Layout, Blocks.Inodes.inode_of, Directories.{Entries.Entry, Graph.parent}}
@@ -48,18 +48,18 @@ unfolding volume_of volume_with
 size_of_inode v b d = refl
 
 -- what was found is the volume's
-pub starts_are : (v : Layout) (b : List ℕ) (d : ℕ) (old new : Workspace) (e : Examination) (start : List ℕ)
+pub starts_are : (v : Layout) (b : List ℕ) (d : ℕ) (old : Workspace) (e : Examination) (start : List ℕ)
     (above : Option ℕ) (first second : Option Entry) →
-    IsExamined v b d old e start new → above ≡ parent (graph_of (volume_of v b)) d →
+    IsExamined v b d old e start → above ≡ parent (graph_of (volume_of v b)) d →
     AreFirstTwo first second e.look.started v.order start →
     header_lines (header_defects d e.inode.size above e.look.gap e.look.sound first second)
     (attributes (volume_of v b) d) (dir_path (graph_of (volume_of v b)) d) ≡ dir_header_lines (volume_of v b) d
 unfolding dir_header_lines start_entry
-starts_are v b d old new e start above first second f p two =
+starts_are v b d old e start above first second f p two =
     let size = size_of_inode v b d in grind arith
 
 pub begun_is : (v : Layout) (b : List ℕ) (d : ℕ) (old new more : Workspace) (e : Examination) (start : List ℕ) →
-    IsExamined v b d old e start new → LeavesAllButDue old new → more ≡ record new { windows = more.windows } →
+    IsExamined v b d old e start × StampsOwn v b d old new → LeavesAllButDue old new → more ≡ record new { windows = more.windows } →
     IsDirectoryBegun v b d old e more
 begun_is v b d old new more e start f q m = grind arith
 

@@ -1,15 +1,16 @@
 -- The lines of an entry, one at least, for which texts were gathered.
-use Rattle.std.proofs.Common.{◌≡◌, ◌≤◌, ap, ℕ, IsTrue, List, length, map, Result, Ok, Err}
+use Rattle.std.proofs.Common.{◌≡◌, ◌≤◌, ap, append-nil, ℕ, IsTrue, List, [], ◌∷◌, length, map, Result, Ok, Err}
 use Rattle.ffs_image.specs.{Device.Device, declared.image.ImageFault.ImageFault}
-use Rattle.ffs_volume.specs.{declared.Layout.Layout, Directories.{Roles.Volume, Volumes.volume_of}}
+use Rattle.ffs_volume.specs.{declared.Layout.Layout, Directories.{Roles.{RoledEntry, Volume}, Volumes.volume_of}}
 use Rattle.ffs_volume.specs.{Messages.Kinds.{TreeMessage, of_tree}, Report.Reads.line_reads}
 use Rattle.ffs_report.specs.{Known.ForBytes, Progress.{Progress, Said, Stopped}}
 use Rattle.ffs_report.proofs.{Paying.{paid_reads, paid_says, paid_stops}, Reporting.{reads_first, says_all, stops_all}}
-use Rattle.ffs_report.specs.declared.fault.RunFault.TheVariants.{Read, Out}
+use Rattle.ffs_report.specs.declared.fault.RunFault.{RunFault, TheVariants.{Read, Out}}
 use Rattle.ffs_workspace.specs.declared.workspace.Workspace.{Workspace}
 use Rattle.ffs_paths.specs.declared.kept_parent.KeptParent.{KeptParent}
 use Rattle.ffs_pathnames.specs.{DirectoryContext.{DirectoryContext, KeepsPath, KnowsPath}, Ready.LimitedPathLeaves}
-use Rattle.ffs_pathnames.specs.{EntryLines.ReportsEntries, declared.one_entry.EntryTexts.EntryTexts}
+use Rattle.ffs_pathnames.specs.{EntryLines.ReportsEntries, Moments.LinesMoment, declared.one_entry.EntryTexts.EntryTexts}
+use Rattle.ffs_pathnames.specs.PassedNames.{PassedNames, entries_reported, roled_reported}
 use Rattle.ffs_pathnames.{specs.LineReads.ReadsPathOnce, proofs.PathOnce.by_once}
 use Rattle.ffs_pathnames.proofs.LineCounts.{by_line, knows_places, some_said}
 use Rattle.ffs_paths.specs.Reads.{KnowsPlaces}
@@ -21,9 +22,16 @@ module _ {S : Type 0} {v : Layout} {d d' : Device} {w w' : Workspace} {x : ℕ} 
     (stays : IsTrue t.begun → IsTrue t'.begun)
     (once : (bytes : List ℕ) → KnowsPlaces v d.contents w bytes → ReadsPathOnce 1 t t' reads reads')
     (some : ForBytes (DirectoryContext v d.contents w x) (λ bytes. 1 ≤ length (lines (volume_of v bytes)))) where
+  -- the moments before and after
+  abbrev before : Progress → LinesMoment EntryTexts
+  before a = record { at = record { image = d; reads = reads; workspace = w }; said = a; kept = t }
+
+  abbrev after : Progress → LinesMoment EntryTexts
+  after b = record { at = record { image = d'; reads = reads'; workspace = w' }; said = b; kept = t' }
+
   -- a read failed
   pub entry_unread : {T : Type 0} {a : Progress} {fault : _} →
-      ReportsEntries {T = T} v d w w' x t t' lines a a reads reads' (Err (Read fault))
+      ReportsEntries {T = T} v x lines (before a) (after a) (Err (Read fault))
   entry_unread = record {
     text = reads_first;
     path = keeps;
@@ -36,7 +44,7 @@ module _ {S : Type 0} {v : Layout} {d d' : Device} {w w' : Workspace} {x : ℕ} 
   -- the lines were said, or the output failed among them
   pub entry_said : {T : Type 0} {a b : Progress} {y : T} (ms : List TreeMessage) → 1 ≤ length ms →
       ForBytes (KnowsPath v d.contents w x t) (λ bytes. lines (volume_of v bytes) ≡ ms) → Said a b (map of_tree ms) →
-      ReportsEntries v d w w' x t t' lines a b reads reads' (Ok y)
+      ReportsEntries v x lines (before a) (after b) (Ok y)
   entry_said ms many right said = record {
     text = says_all (λ bytes k. ap (map of_tree) (right bytes k)) said;
     path = keeps;
@@ -48,7 +56,7 @@ module _ {S : Type 0} {v : Layout} {d d' : Device} {w w' : Workspace} {x : ℕ} 
 
   pub entry_stopped : {T : Type 0} {a b : Progress} {fault : _} (ms : List TreeMessage) → 1 ≤ length ms →
       ForBytes (KnowsPath v d.contents w x t) (λ bytes. lines (volume_of v bytes) ≡ ms) → Stopped a b (map of_tree ms) →
-      ReportsEntries {T = T} v d w w' x t t' lines a b reads reads' (Err (Out fault))
+      ReportsEntries {T = T} v x lines (before a) (after b) (Err (Out fault))
   entry_stopped ms many right stopped = record {
     text = stops_all (λ bytes k. ap (map of_tree) (right bytes k)) stopped;
     path = keeps;
@@ -57,3 +65,9 @@ module _ {S : Type 0} {v : Layout} {d d' : Device} {w w' : Workspace} {x : ℕ} 
     counted = λ bytes k noted. by_line _ (left.path.counted bytes (knows_places _ _ _ _ bytes k noted)) (some bytes k);
     paid = paid_stops _ stopped (some_said _ many) left.most;
   }
+
+-- the lines of an entry alone are its lines
+pub one_entry : {T : Type 0} {v : Layout} {x : ℕ} {m : PassedNames} {e : RoledEntry} {old new : LinesMoment EntryTexts}
+    {r : Result T RunFault} → ReportsEntries v x (λ vol. roled_reported vol x m e) old new r →
+    ReportsEntries v x (λ vol. entries_reported vol x m (e ∷ [])) old new r
+one_entry lines = simp append-nil lines

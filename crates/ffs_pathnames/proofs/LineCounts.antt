@@ -1,6 +1,6 @@
 -- How many lines there are, and how many reads they make.
-use Rattle.std.proofs.Common.{◌≡◌, ◌≤◌, ◌+◌, ◌*◌, ℕ, refl, ap, subst, ◌∙◌, arith, Option, List, ◌∷◌, ◌++◌, length}
-use Rattle.std.proofs.{Common.{length-append, Ok, map}, lemmas.{Bool.Decides.nat_tests, List.length-map}}
+use Rattle.std.proofs.Common.{◌≡◌, ◌≤◌, ◌+◌, ◌*◌, ℕ, refl, ap, subst, ◌∙◌, arith, List, [], ◌∷◌, ◌++◌, length}
+use Rattle.std.proofs.{Common.{append-nil, length-append, Ok, Option, map}, lemmas.{Bool.Decides.nat_tests, List.length-map}}
 use Rattle.ffs_image.specs.Device.{Device}
 use Rattle.ffs_volume.specs.{declared.{Attr.Attr, Layout.Layout}, Report.Reads.line_reads, Directories.Entries.Entry}
 use Rattle.ffs_volume.specs.Directories.{PathnameCheck.extra_lines, Roles.{RoledEntry, Volume}}
@@ -59,8 +59,10 @@ extra_some about path e = grind (arith, nat_tests)
 pub entry_counted : (v : Volume) (s : ℕ) (m : PassedNames) {m' : PassedNames} (e : RoledEntry)
     (es es' : List RoledEntry) →
     es ≡ e ∷ es' → after_roled v s m e ≡ m' →
-    length (entries_reported v s m es) ≡ length (roled_reported v s m e) + length (entries_reported v s m' es')
-entry_counted v s m e es es' is after = rw (is, ← after) (length-append (roled_reported v s m e) _)
+    length (entries_reported v s m es)
+    ≡ length (entries_reported v s m (e ∷ [])) + length (entries_reported v s m' es')
+entry_counted v s m e es es' is after =
+    rw (is, ← after, append-nil (roled_reported v s m e)) (length-append (roled_reported v s m e) _)
 
 -- those of two parts
 pub lines_long : (all one more : List TreeMessage) → map of_tree all ≡ map of_tree one ++ map of_tree more →

@@ -1,6 +1,6 @@
 -- Entries are reported and passed, one after another and chunk by chunk.
 use Rattle.std.proofs.Common.{◌≡◌, refl, sym, ap, ◌∙◌, ℕ, ◌<◌, ◌^◌, true, List, [], ◌∷◌, ◌++◌, append_assoc, map}
-use Rattle.std.{proofs.{Common.{Option, arith, subst, Bool}, lemmas.List.map-append}, specs.List.flat_map}
+use Rattle.std.{proofs.{Common.{Option, append-nil, arith, subst, Bool}, lemmas.List.map-append}, specs.List.flat_map}
 use Rattle.ffs_volume.specs.{declared.{Layout.Layout, Inode.Inode}, Disk.Areas.is_run_in_range}
 use Rattle.ffs_volume.specs.{Laws.Geometry.IsAcceptedLayout, Blocks.{Inodes.inode_of, Steps.steps_of}}
 use Rattle.ffs_volume.specs.{Directories.{Volumes.volume_of, Entries.{Chunk, chunks_of}}, Messages.Kinds.of_tree}
@@ -28,9 +28,10 @@ reported_more v s m (x ∷ xs) ys = rw (reported_more v s (after_roled v s m x) 
 pub entry_reported : (v : Volume) (s : ℕ) (m : PassedNames) {m' : PassedNames} (e : RoledEntry)
     (es es' : List RoledEntry) →
     es ≡ e ∷ es' → after_roled v s m e ≡ m' →
-    map of_tree (entries_reported v s m es) ≡ map of_tree (roled_reported v s m e)
+    map of_tree (entries_reported v s m es) ≡ map of_tree (entries_reported v s m (e ∷ []))
     ++ map of_tree (entries_reported v s m' es')
-entry_reported v s m e es es' is after = rw (is, ← after) (map-append of_tree (roled_reported v s m e) _)
+entry_reported v s m e es es' is after =
+    rw (is, ← after, append-nil (roled_reported v s m e)) (map-append of_tree (roled_reported v s m e) _)
 
 -- an entry is passed
 pub entry_passed : (v : Volume) (s : ℕ) {all : PassedNames} (m : PassedNames) {m' : PassedNames} {e : RoledEntry}

@@ -1,11 +1,11 @@
 -- What a look at a directory finds, how often it reads for it, and what of a workspace stays.
 use Rattle.std.specs.{Prelude.{◌≡◌, ◌+◌, ◌≤◌, ℕ, ◌==◌, IfOk, List, [], Result}, List.find}
-use Rattle.ffs_image.specs.{Device.Device, Reads.ReadAfter, declared.image.ImageFault.ImageFault}
+use Rattle.ffs_image.specs.{Reads.ReadAfter, declared.image.ImageFault.ImageFault}
 use Rattle.ffs_report.specs.Known.{ForBytes}
 use Rattle.ffs_volume.specs.{declared.Layout.Layout, Blocks.Inodes.inode_of, Directories.Roles.roled_entries}
 use Rattle.ffs_volume.specs.Directories.{PathnameCheck.are_sound, Volumes.volume_of}
 use Rattle.ffs_pathnames.specs.{declared.look.{Examination.Examination, FirstLook.FirstLook}, Gathers.passed_of}
-use Rattle.ffs_pathnames.specs.{PassedNames.{are_quiet, after_looks}, StartChunks.start_chunk, Stamps.KeepPlaces}
+use Rattle.ffs_pathnames.specs.{Moments.PathMoment, PassedNames.{are_quiet, after_looks}, StartChunks.start_chunk, Stamps.KeepPlaces}
 use Rattle.ffs_workspace.specs.{declared.workspace.Workspace.Workspace, Leaves.LeavesSurvey, Ready.IsReady}
 
 -- a call leaves what the phases before the pathname check left, the flags, and the places that words note
@@ -16,47 +16,43 @@ pub record LeavesAllButDue (old new : Workspace) : Type 0 where
 
 -- what the first look at a directory leaves: the image, but for a read that failed, and all of the
 -- workspace but which words are due
-pub record ExamineLeaves {T : Type 0} (v : Layout) (d d' : Device) (old new : Workspace)
-    (result : Result T ImageFault) : Type 0 where
-  pub lists : LeavesAllButDue old new
-  pub ready : IsReady v d' new
-  pub read : ReadAfter d d' result
+pub record ExamineLeaves {T : Type 0} (v : Layout) (old new : PathMoment) (result : Result T ImageFault) :
+    Type 0 where
+  pub lists : LeavesAllButDue old.workspace new.workspace
+  pub ready : IsReady v new.image new.workspace
+  pub read : ReadAfter old.image new.image result
 
 -- what a look at the directory d finds: whether a Gap of it is kept, whether its chunks are sound, the
--- chunk at the start of the file, whether it is sure that nothing is reported of its entries; and each
--- inode that belongs to it is stamped
-pub record IsLookedAt (v : Layout) (b : List ℕ) (d : ℕ) (old : Workspace) (f : FirstLook) (start : List ℕ)
-    (new : Workspace) : Type 0 where
+-- chunk at the start of the file, and whether it is sure that nothing is reported of its entries
+pub record IsLookedAt (v : Layout) (b : List ℕ) (d : ℕ) (old : Workspace) (f : FirstLook) (start : List ℕ) :
+    Type 0 where
   pub gap : f.gap ≡ (volume_of v b).gap d
   pub sound : f.sound ≡ are_sound ((volume_of v b).chunks d)
   pub started : find (λ c. c.offset == 0) ((volume_of v b).chunks d) ≡ start_chunk [] f.started v.order start
   pub quiet : f.quiet ≡ are_quiet (volume_of v b) d old.flags.items (passed_of old).stamps
       (roled_entries (volume_of v b) d)
-  pub stamps : (passed_of new).stamps
-      ≡ after_looks (volume_of v b) d (passed_of old).stamps (roled_entries (volume_of v b) d)
 
 -- the same, and its inode is the image's
-pub record IsExamined (v : Layout) (b : List ℕ) (d : ℕ) (old : Workspace) (e : Examination) (start : List ℕ)
-    (new : Workspace) : Type 0 where
+pub record IsExamined (v : Layout) (b : List ℕ) (d : ℕ) (old : Workspace) (e : Examination) (start : List ℕ) :
+    Type 0 where
   pub inode : e.inode ≡ inode_of v b d
-  pub look : IsLookedAt v b d old e.look start new
+  pub look : IsLookedAt v b d old e.look start
 
--- a look at a directory finds what `finds` says, by what is known of the bytes, and makes `cost` reads at
--- most; it leaves all but which words are due
-pub record Examines {T : Type 0} (v : Layout) (d d' : Device) (old new : Workspace) (knows : List ℕ → Type 0)
-    (cost : List ℕ → ℕ) (finds : T → List ℕ → Type 0) (count count' : ℕ) (result : Result T ImageFault) :
-    Type 0 where
+-- each inode that belongs to the directory d is stamped
+abbrev pub StampsOwn : Layout → (b : List ℕ) → (d : ℕ) → (old new : Workspace) → Type 0
+StampsOwn v b d old new = (passed_of new).stamps
+    ≡ after_looks (volume_of v b) d (passed_of old).stamps (roled_entries (volume_of v b) d)
+
+-- a look at a directory finds what `finds` says, by what is known of the bytes, and leaves all but which
+-- words are due
+pub record Examines {T : Type 0} (v : Layout) (knows : List ℕ → Type 0) (finds : T → List ℕ → Type 0)
+    (old new : PathMoment) (result : Result T ImageFault) : Type 0 where
   pub found : IfOk result (λ x. ForBytes knows (finds x))
-  pub reads : ForBytes knows (λ b. count' ≤ count + cost b)
-  pub leaves : ExamineLeaves v d d' old new result
+  pub leaves : ExamineLeaves v old new result
 
--- the same of a look that takes its reads of those that are left: it finds this where they suffice,
--- and makes no more than these, of any image
-pub record ExaminesWithin {T : Type 0} (v : Layout) (d d' : Device) (old new : Workspace) (knows : List ℕ → Type 0)
-    (cost : List ℕ → ℕ) (finds : T → List ℕ → Type 0) (count count' left left' : ℕ) (result : Result T ImageFault) :
-    Type 0 where
-  pub found : IfOk result (λ x. ForBytes knows (λ b. cost b ≤ left → finds x b))
+-- a look takes its reads of those that are left: `cost` at most, by what is known of the bytes, and no more
+-- than are left, of any image
+pub record TakesLook (knows : List ℕ → Type 0) (cost : List ℕ → ℕ) (count count' left left' : ℕ) : Type 0 where
   pub reads : ForBytes knows (λ b. count' ≤ count + cost b)
   pub kept : ForBytes knows (λ b. left ≤ left' + cost b)
   pub most : count' + left' ≤ count + left
-  pub leaves : ExamineLeaves v d d' old new result

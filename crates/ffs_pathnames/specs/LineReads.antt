@@ -2,16 +2,16 @@
 use Rattle.std.specs.Prelude.{ℕ, ◌+◌, ◌*◌, ◌≤◌, if◌then◌else◌, List, length}
 use Rattle.ffs_volume.specs.{Messages.Kinds.TreeMessage, declared.Layout.Layout}
 use Rattle.ffs_volume.specs.Report.Reads.{line_reads, path_reads}
-use Rattle.ffs_workspace.specs.{Places.AreNoted, declared.workspace.Workspace.Workspace}
+use Rattle.ffs_workspace.specs.{Places.AreNoted}
 use Rattle.ffs_paths.specs.Reads.{ReadsFew}
-use Rattle.ffs_pathnames.specs.declared.one_entry.EntryTexts.{EntryTexts}
+use Rattle.ffs_pathnames.specs.{Moments.PathMoment, declared.one_entry.EntryTexts.EntryTexts}
 
 -- `line_reads` reads were made at most for each of these lines, which are those of an image's
 -- bytes, and none into the window of indirect blocks, where the place of each directory is noted
 abbrev pub ReadsByLines : Layout → (knows : List ℕ → Type 0) → (lines : List ℕ → List TreeMessage) →
-    (before after : Workspace) → (reads reads' : ℕ) → Type 0
-ReadsByLines v knows lines before after reads reads' = (b : List ℕ) → knows b → AreNoted v b before.queue.items
-    → ReadsFew (line_reads * length (lines b)) reads reads' before after
+    (old new : PathMoment) → Type 0
+ReadsByLines v knows lines old new = (b : List ℕ) → knows b → AreNoted v b old.workspace.queue.items
+    → ReadsFew (line_reads * length (lines b)) old.reads new.reads old.workspace new.workspace
 
 -- where the path of its directory is made, a message on an entry reads the path of the directory that the
 -- entry names, and an inode

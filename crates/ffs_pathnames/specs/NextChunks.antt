@@ -1,44 +1,41 @@
 -- What reading the next chunk of a directory gives, takes and leaves. No more than the reads that are
 -- left are made for it.
 use Rattle.std.specs.Prelude.{◌≡◌, ◌+◌, ◌≤◌, ℕ, IfOk, List, Option, IfSome, Result}
-use Rattle.ffs_image.specs.{Device.{Device, ForContents}, Reads.ReadAfter, declared.image.ImageFault.ImageFault}
+use Rattle.ffs_image.specs.{Device.ForContents, Reads.ReadAfter, declared.image.ImageFault.ImageFault}
 use Rattle.ffs_names.specs.{Costs.{to_read, HoldsReading}, Readings.{rest, GivesChunk}, Windows.CanReadChunks}
-use Rattle.ffs_names.specs.declared.chunks.Chunks.{Chunks}
 use Rattle.ffs_survey.specs.Costs.{TakesReads}
-use Rattle.ffs_workspace.specs.declared.workspace.Windows.{Windows}
-use Rattle.ffs_pathnames.specs.ReadsLeft.{TakesLeft}
+use Rattle.ffs_pathnames.specs.{Moments.SecondReading, ReadsLeft.TakesLeft}
 
 -- the answer is the next chunk by the image's bytes, where the reads that are left suffice, and a
 -- chunk that comes is one less to come
-pub record GivesNext (contents : Option (List ℕ)) (windows : Windows) (old new : Chunks)
-    (bytes : List ℕ) (left : ℕ) (answer : Option ℕ) : Type 0 where
-  pub chunk : HoldsReading windows.blocks windows.current old → ForContents contents (λ b. to_read b old ≤ left
-      → GivesChunk b (rest b) old new bytes answer)
-  pub budget : IfSome answer (λ _. new.budget + 1 ≡ old.budget)
+pub record GivesNext (old new : SecondReading) (bytes : List ℕ) (answer : Option ℕ) : Type 0 where
+  pub chunk : HoldsReading old.windows.blocks old.windows.current old.chunks
+      → ForContents old.image.contents (λ b. to_read b old.chunks ≤ old.left
+      → GivesChunk b (rest b) old.chunks new.chunks bytes answer)
+  pub budget : IfSome answer (λ _. new.chunks.budget + 1 ≡ old.chunks.budget)
 
 -- the reads that it makes, and takes of those that are left
-pub record TakesNext (contents : Option (List ℕ)) (windows windows' : Windows) (old new : Chunks)
-    (count count' left left' : ℕ) (result : Result (Option ℕ) ImageFault) : Type 0 where
-  pub reads : HoldsReading windows.blocks windows.current old
-      → ForContents contents (λ b. to_read b old ≤ left → TakesReads count count' (to_read b old) (to_read b new)
-      (HoldsReading windows'.blocks windows'.current new) result)
-  pub kept : HoldsReading windows.blocks windows.current old
-      → ForContents contents (λ b. to_read b old ≤ left
-      → TakesLeft left left' (to_read b old) (to_read b new) result)
-  pub most : count' + left' ≤ count + left
+pub record TakesNext (old new : SecondReading) (result : Result (Option ℕ) ImageFault) : Type 0 where
+  pub reads : HoldsReading old.windows.blocks old.windows.current old.chunks
+      → ForContents old.image.contents (λ b. to_read b old.chunks ≤ old.left
+      → TakesReads old.reads new.reads (to_read b old.chunks) (to_read b new.chunks)
+      (HoldsReading new.windows.blocks new.windows.current new.chunks) result)
+  pub kept : HoldsReading old.windows.blocks old.windows.current old.chunks
+      → ForContents old.image.contents (λ b. to_read b old.chunks ≤ old.left
+      → TakesLeft old.left new.left (to_read b old.chunks) (to_read b new.chunks) result)
+  pub most : new.reads + new.left ≤ old.reads + old.left
 
 -- the image, but for a read that failed, and windows that can be read into
-pub record NextLeaves (old new : Chunks) (d d' : Device) (windows windows' : Windows)
-    (result : Result (Option ℕ) ImageFault) : Type 0 where
-  pub geometry : new.walk.geometry ≡ old.walk.geometry
-  pub ready : CanReadChunks old.walk.geometry.layout d' windows'.blocks windows'.current
-  pub read : ReadAfter d d' result
-  pub others : windows' ≡ record windows { blocks = windows'.blocks; current = windows'.current }
+pub record NextLeaves (old new : SecondReading) (result : Result (Option ℕ) ImageFault) : Type 0 where
+  pub geometry : new.chunks.walk.geometry ≡ old.chunks.walk.geometry
+  pub ready : CanReadChunks old.chunks.walk.geometry.layout new.image new.windows.blocks new.windows.current
+  pub read : ReadAfter old.image new.image result
+  pub others : new.windows ≡ record old.windows { blocks = new.windows.blocks; current = new.windows.current }
 
 -- a reading of the next chunk gives it, or none, takes reads of those that are left, and leaves the other
 -- windows as they were
-pub record ReadsNext (d d' : Device) (windows windows' : Windows) (old new : Chunks) (bytes : List ℕ)
-    (count count' left left' : ℕ) (result : Result (Option ℕ) ImageFault) : Type 0 where
-  pub chunk : IfOk result (GivesNext d.contents windows old new bytes left)
-  pub takes : TakesNext d.contents windows windows' old new count count' left left' result
-  pub leaves : NextLeaves old new d d' windows windows' result
+pub record ReadsNext (old new : SecondReading) (bytes : List ℕ) (result : Result (Option ℕ) ImageFault) :
+    Type 0 where
+  pub chunk : IfOk result (GivesNext old new bytes)
+  pub takes : TakesNext old new result
+  pub leaves : NextLeaves old new result

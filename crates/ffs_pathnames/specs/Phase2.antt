@@ -3,8 +3,8 @@ use Rattle.std.specs.Prelude.{◌≡◌, ◌⊎◌, ◌≤◌, ◌+◌, ◌*◌,
 use Rattle.ffs_image.specs.Device.{Device}
 use Rattle.ffs_volume.specs.declared.Layout.{Layout}
 use Rattle.ffs_volume.specs.Directories.{PathnameCheck.{continues_after_root, pathname_lines}, Volumes.volume_of}
-use Rattle.ffs_volume.specs.{Messages.Kinds.phase2, Report.Reads.{line_reads, pathname_reads, sweep_reads}}
-use Rattle.ffs_report.specs.{Known.ForBytes, Paid.Paid, Progress.{Progress, Said}, declared.fault.RunFault.RunFault}
+use Rattle.ffs_volume.specs.{Messages.Kinds.phase2, Report.Reads.{line_reads, pathname_reads}}
+use Rattle.ffs_report.specs.{Known.ForBytes, Progress.{Progress, Said}, declared.fault.RunFault.RunFault}
 use Rattle.ffs_report.specs.declared.fault.RunFault.TheVariants.{Read, Out}
 use Rattle.ffs_workspace.specs.{declared.workspace.Workspace.Workspace, Found.WithClaims}
 use Rattle.ffs_workspace.specs.Holds.{HoldsClaims, HoldsReferences, HoldsSurvey}
@@ -30,17 +30,14 @@ Phase2Ends v d w w' old new (Err (Read fault)) = Said old new (phase2 ∷ [])
     ⊎ ForBytes (WithClaims v d w) (λ bytes. continues_after_root (volume_of v bytes) ≡ true)
 Phase2Ends v d w w' old new (Err (Out fault)) = ⊤
 
--- An image that gives its bytes is read at most `pathname_reads` times, and any image no more than four
--- sweeps, and `line_reads` for each message that was begun. What a volume holds counts, too: its directories
--- are read for the survey, for the places of parent entries, and twice for the messages. Where the survey is
--- the first, those of which nothing can be reported are not read for the messages; and where there are no
--- others, no places are noted either, so that each is read for the survey alone
-pub record Phase2Reads {T : Type 0} (v : Layout) (d : Device) (w : Workspace) (old new : Progress) (before after : ℕ)
-    (result : Result T RunFault) : Type 0 where
+-- An image that gives its bytes is read at most `pathname_reads` times. What a volume holds counts, too: its
+-- directories are read for the survey, for the places of parent entries, and twice for the messages. Where the
+-- survey is the first, those of which nothing can be reported are not read for the messages; and where there are
+-- no others, no places are noted either, so that each is read for the survey alone
+pub record Phase2Reads (v : Layout) (d : Device) (w : Workspace) (before after : ℕ) : Type 0 where
   pub known : ForBytes (WithClaims v d w) (λ bytes.
       after ≤ before + pathname_reads v (length (pathname_lines (volume_of v bytes))))
   pub directories : ForBytes (WithClaims v d w) (λ bytes.
       after ≤ before + (4 * directories_cost v bytes + line_reads * length (pathname_lines (volume_of v bytes))))
   pub looked_at : w.surveyed ≡ false → ForBytes (WithClaims v d w) (λ bytes.
       after ≤ before + (phase2_cost v bytes + line_reads * length (pathname_lines (volume_of v bytes))))
-  pub paid : Paid line_reads old new (before + 4 * sweep_reads v) after result

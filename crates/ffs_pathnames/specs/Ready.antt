@@ -48,18 +48,18 @@ pub record LimitedPathLeaves {T : Type 0} (v : Layout) (n : ℕ) (old new : Path
 
 -- what a call of the phase leaves: the image, but for a read that failed, what the block check and
 -- the survey found, the places that words note, and all that the next call asks for
-pub record PhaseLeaves {T : Type 0} (v : Layout) (d d' : Device) (w w' : Workspace) (s : KeptParent)
-    (result : Result T RunFault) : Type 0 where
-  pub image : ImageAfter d d' result
-  pub survey : LeavesSurvey w w'
-  pub places : KeepPlaces w.queue.items w'.queue.items
-  pub ready : ReadyAfter v d' w' s result
+pub record PhaseLeaves {T : Type 0} (v : Layout) (old new : PathMoment) (s : KeptParent) (result : Result T RunFault) :
+    Type 0 where
+  pub image : ImageAfter old.image new.image result
+  pub survey : LeavesSurvey old.workspace new.workspace
+  pub places : KeepPlaces old.workspace.queue.items new.workspace.queue.items
+  pub ready : ReadyAfter v new.image new.workspace s result
 
 -- the same of a call that changes nothing of the workspace but its windows; the window of the
 -- current directory is as it was
-pub record LinesLeave {T : Type 0} (v : Layout) (d d' : Device) (w w' : Workspace) (s : KeptParent)
-    (result : Result T RunFault) : Type 0 where
-  pub image : ImageAfter d d' result
-  pub lists : w' ≡ record w { windows = w'.windows }
-  pub current : w'.windows.current ≡ w.windows.current
-  pub ready : ReadyAfter v d' w' s result
+pub record LinesLeave {T : Type 0} (v : Layout) (old new : PathMoment) (s : KeptParent) (result : Result T RunFault) :
+    Type 0 where
+  pub image : ImageAfter old.image new.image result
+  pub lists : new.workspace ≡ record old.workspace { windows = new.workspace.windows }
+  pub current : new.workspace.windows.current ≡ old.workspace.windows.current
+  pub ready : ReadyAfter v new.image new.workspace s result

@@ -1,14 +1,13 @@
 -- What the lists of a workspace show of a volume.
 use Rattle.std.specs.Prelude.{◌≡◌, ℕ, Bool, List, ◌<◌, ◌≤◌, ◌/◌, ◌==◌, true, false, length, slice_index}
-use Rattle.std.specs.declared.{alloc.Global.Global, vec.Vec.Vec}
 use Rattle.ffs_volume.specs.{Blocks.Inodes.is_allocated, Blocks.Inodes.is_unknown, Encodings.Kinds.class_of_kind}
-use Rattle.ffs_volume.specs.Directories.Roles.{RoledEntry, Volume, is_dir, is_suspect}
+use Rattle.ffs_volume.specs.Directories.Roles.{Volume, is_dir, is_suspect}
 use Rattle.ffs_volume.specs.Directories.{Climb.is_value, Graph.parent, Parents.graph_of}
 use Rattle.ffs_volume.specs.Encodings.Kinds.{is_dir_kind, is_allocated_kind, is_unknown_kind, type_of_kind}
 use Rattle.ffs_workspace.specs.Holds.{bool_at}
 use Rattle.ffs_survey.specs.Survey.{suspect_at}
-use Rattle.ffs_pathnames.specs.{declared.inodes.Inodes.Inodes, PassedNames.{PassedNames, after_roled}}
-use Rattle.ffs_pathnames.specs.Stamps.{KeepsWords, stamps_of}
+use Rattle.ffs_pathnames.specs.{declared.inodes.Inodes.Inodes, PassedNames.PassedNames}
+use Rattle.ffs_pathnames.specs.Stamps.{stamps_of}
 
 -- of each inode its kind, whether it is marked, and its parent
 pub record Sees (vol : Volume) (i : Inodes) : Type 0 where
@@ -39,13 +38,6 @@ pub record HasFlagAndWord (i : Inodes) (flags : List Bool) (words : List ℕ) : 
 pub record HasWordOf (i : Inodes) (x : ℕ) (words : List ℕ) : Type 0 where
   pub inode : x < length i.kinds.now
   pub each : length words ≡ length i.kinds.now
-
--- an entry e of the directory s is passed, by its role, and places stay
-pub record PassesEntry (i : Inodes) (s : ℕ) (e : RoledEntry) (flags flags' : List Bool) (old new : Vec ℕ Global)
-    : Type 0 where
-  pub after : (vol : Volume) → Sees vol i
-      → after_roled vol s (passed_in i flags old.items) e ≡ passed_in i flags' new.items
-  pub words : KeepsWords old new
 
 -- each inode has a word, and the directory that stamps is the root or one after it
 pub record CanStamp (i : Inodes) (s : ℕ) (words : List ℕ) : Type 0 where

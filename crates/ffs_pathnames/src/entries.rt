@@ -1,11 +1,10 @@
 //! A second reading of a directory, and the lines of its entries, one after another.
-ghost use Rattle.std.specs.Prelude.{◌≡◌};
+ghost use Rattle.std.specs.Prelude.{◌≡◌, [], ◌∷◌};
 ghost use Rattle.ffs_names.specs.Windows.{CanReadChunks};
 ghost use Rattle.ffs_volume.specs.Report.DirectoryReads.{directory_runs};
 ghost use Rattle.ffs_volume.specs.Directories.Volumes.{volume_of};
-ghost use Rattle.ffs_report.specs.Progress.{progress};
 ghost use Rattle.ffs_pathnames.specs.{Gathers.{passed_of, roled_lines_by, roled_value}, Looks.roled_in};
-ghost use Rattle.ffs_pathnames.specs.{Ready.{ReadyToPath, ReadyToReport}, ReadsLeft.LeftForRuns, NextChunks.ReadsNext};
+ghost use Rattle.ffs_pathnames.specs.{Ready.{ReadyToPath, ReadyToReport}, ReadsLeft.LeftForRuns, NextChunks.ReadsNext, Moments.{lines_moment, second_reading}};
 ghost use Rattle.ffs_pathnames.specs.{DirectoryLines.{ReadsForEntries, ReportsDirectory}, EntryLines.{PassesEntries, ReportsOneEntry}};
 ghost use Rattle.ffs_pathnames.specs.PassedNames as names;
 
@@ -38,9 +37,8 @@ fn next_chunk<I: Image>(
 ) -> Result<Option<u64>, ImageFault>
     requires { CanReadChunks chunks.old.walk.geometry.layout (I.device image.old)
         windows.old.blocks windows.old.current }
-    ensures { ReadsNext (I.device image.old) (I.device image.new) windows.old windows.new
-        chunks.old chunks.new bytes.new (I.reads image.old) (I.reads image.new)
-        reads_left.old reads_left.new result }
+    ensures { ReadsNext (second_reading I.Image image.old reads_left.old windows.old chunks.old)
+        (second_reading I.Image image.new reads_left.new windows.new chunks.new) bytes.new result }
 {
     let mut limited = LimitedImage::new(image, *reads_left);
     let offset = chunks.next(
@@ -70,20 +68,22 @@ pub fn report_directory<I: Image, W: Output>(
 ) -> Result<(), RunFault>
     requires { ReadyToReport geometry.now.layout (I.device image.old) workspace.old
         checking.old.texts.kept_parent directory.now }
-    ensures lines { ReportsDirectory geometry.now.layout (I.device image.old) (I.device image.new)
-        workspace.old workspace.new checking.old checking.new
+    ensures lines { ReportsDirectory geometry.now.layout (record {
+          knows = LeftForRuns geometry.now.layout (I.device image.old) workspace.old directory.now
+              checking.old.reads_left;
+          own = λ b. directory_runs geometry.now.layout b directory.now.number;
+          lines = λ b. names.directory_reported (volume_of geometry.now.layout b)
+              directory.now.number (passed_of workspace.old);
+          after = λ _ b. names.after_directory (volume_of geometry.now.layout b)
+              directory.now.number (passed_of workspace.old) ≡ passed_of workspace.new;
+        })
+        (lines_moment I.Image W.Output image.old workspace.old report.old checking.old)
+        (lines_moment I.Image W.Output image.new workspace.new report.new checking.new) result }
+    ensures once { ReadsForEntries geometry.now.layout
         (LeftForRuns geometry.now.layout (I.device image.old) workspace.old directory.now
-        checking.old.reads_left)
-        (λ b. directory_runs geometry.now.layout b directory.now.number)
-        (λ b. names.directory_reported (volume_of geometry.now.layout b) directory.now.number
-        (passed_of workspace.old))
-        (λ _ b. names.after_directory (volume_of geometry.now.layout b) directory.now.number
-        (passed_of workspace.old) ≡ passed_of workspace.new)
-        (progress W.sink report.old) (progress W.sink report.new)
-        (I.reads image.old) (I.reads image.new) result }
-    ensures once { ReadsForEntries geometry.now.layout workspace.old
-        (LeftForRuns geometry.now.layout (I.device image.old) workspace.old directory.now
-        checking.old.reads_left) directory.now.number (I.reads image.old) (I.reads image.new) }
+        checking.old.reads_left) directory.now.number
+        (lines_moment I.Image W.Output image.old workspace.old report.old checking.old)
+        (lines_moment I.Image W.Output image.new workspace.new report.new checking.new) }
 {
     let mut chunks = Chunks::start(geometry, &directory.inode, directory.cut);
     let mut bytes = [0u8; DIRBLKSIZ];
@@ -123,11 +123,10 @@ fn report_by_role<I: Image, W: Output>(
 ) -> Result<(), RunFault>
     requires { ReadyToPath geometry.now.layout (I.device image.old) workspace.old
         texts.old.kept_parent entry.now.dir }
-    ensures { ReportsOneEntry geometry.now.layout (I.device image.old) (I.device image.new)
-        workspace.old workspace.new entry.now.dir texts.old texts.new
+    ensures { ReportsOneEntry geometry.now.layout entry.now.dir
         (λ v. roled_lines_by v workspace.old entry.now)
-        (progress W.sink report.old) (progress W.sink report.new)
-        (I.reads image.old) (I.reads image.new) result }
+        (lines_moment I.Image W.Output image.old workspace.old report.old texts.old)
+        (lines_moment I.Image W.Output image.new workspace.new report.new texts.new) result }
 {
     match entry.role {
         Role::Empty => Ok(()),
@@ -152,12 +151,9 @@ pub fn report_entry<I: Image, W: Output>(
 ) -> Result<(), RunFault>
     requires { ReadyToPath geometry.now.layout (I.device image.old) workspace.old
         texts.old.kept_parent entry.now.dir }
-    ensures { PassesEntries geometry.now.layout (I.device image.old) (I.device image.new)
-        workspace.old workspace.new entry.now.dir texts.old texts.new
-        (λ v. roled_lines_by v workspace.old entry.now)
-        (λ v. names.after_roled v entry.now.dir (passed_of workspace.old) (roled_value entry.now))
-        (progress W.sink report.old) (progress W.sink report.new)
-        (I.reads image.old) (I.reads image.new) result }
+    ensures { PassesEntries geometry.now.layout entry.now.dir (roled_value entry.now ∷ [])
+        (lines_moment I.Image W.Output image.old workspace.old report.old texts.old)
+        (lines_moment I.Image W.Output image.new workspace.new report.new texts.new) result }
 {
     report_by_role(geometry, image, workspace, texts, report, entry)?;
     let inodes = Inodes {
@@ -190,14 +186,10 @@ pub fn report_chunk<I: Image, W: Output>(
 ) -> Result<(), RunFault>
     requires { ReadyToPath geometry.now.layout (I.device image.old) workspace.old
         texts.old.kept_parent chunk.now.dir }
-    ensures { PassesEntries geometry.now.layout (I.device image.old) (I.device image.new)
-        workspace.old workspace.new chunk.now.dir texts.old texts.new
-        (λ v. names.entries_reported v chunk.now.dir (passed_of workspace.old)
-        (roled_in geometry.now.layout.order chunk.now))
-        (λ v. names.after_entries v chunk.now.dir (passed_of workspace.old)
-        (roled_in geometry.now.layout.order chunk.now))
-        (progress W.sink report.old) (progress W.sink report.new)
-        (I.reads image.old) (I.reads image.new) result }
+    ensures { PassesEntries geometry.now.layout chunk.now.dir
+        (roled_in geometry.now.layout.order chunk.now)
+        (lines_moment I.Image W.Output image.old workspace.old report.old texts.old)
+        (lines_moment I.Image W.Output image.new workspace.new report.new texts.new) result }
 {
     let order = geometry.layout.order;
     let mut entries = ChunkEntries::of_chunk(order, chunk.bytes);

@@ -1,11 +1,12 @@
 //! A first look at a directory: whether it is sure that nothing is reported of its entries.
-ghost use Rattle.std.specs.Prelude.{◌≡◌, ◌+◌, ◌≤◌, true, false, List, ◌∷◌};
+ghost use Rattle.std.specs.Prelude.{◌≡◌, ◌+◌, ◌≤◌, true, false, List, [], ◌∷◌};
 ghost use Rattle.ffs_volume.specs.Report.DirectoryReads.{directory_cost, directory_runs};
-ghost use Rattle.ffs_pathnames.specs.DirectoryContext.{DirectoryContext, KnowsDirectory};
-ghost use Rattle.ffs_pathnames.specs.{Examines.{Examines, ExaminesWithin, IsExamined, IsLookedAt}, StartChunks.start_chunk};
-ghost use Rattle.ffs_pathnames.specs.{Looks.{IsChunkLook, StampsEntry}, Ready.{ReadyToLook, ReadyToRead}};
+ghost use Rattle.ffs_report.specs.Known.{ForBytes};
+ghost use Rattle.ffs_pathnames.specs.{DirectoryContext.{DirectoryContext, KnowsDirectory}, Moments.path_moment, ReadsLeft.LeftForLook};
+ghost use Rattle.ffs_pathnames.specs.{Examines.{Examines, IsExamined, IsLookedAt, StampsOwn, TakesLook}, StartChunks.start_chunk};
+ghost use Rattle.ffs_pathnames.specs.{Looks.{StampsEntries, roled_in}, Ready.{ReadyToLook, ReadyToRead}};
 ghost use Rattle.ffs_pathnames.specs.Sees.{CanLook, CanStamp, Sees, stamps_in};
-ghost use Rattle.ffs_volume.specs.{declared.{Order.Order, Role.Role}, Directories.Entries.{Chunk, chunk_of}};
+ghost use Rattle.ffs_volume.specs.{declared.{Order.Order, Role.Role}, Directories.Entries.{Chunk, chunk_of, is_sound}};
 ghost use Rattle.ffs_volume.specs.Directories.Roles.{Volume};
 ghost use Rattle.ffs_layout.specs.Entry.{entry_value};
 ghost use Rattle.ffs_pathnames.specs.PassedNames as names;
@@ -38,12 +39,15 @@ fn examine_all<I: Image>(
     start: &mut [u8; DIRBLKSIZ],
 ) -> Result<Examination, ImageFault>
     requires { ReadyToLook geometry.now.layout (I.device image.old) workspace.old dir }
-    ensures { Examines geometry.now.layout (I.device image.old) (I.device image.new)
-        workspace.old workspace.new
+    ensures examines { Examines geometry.now.layout
         (DirectoryContext geometry.now.layout (I.device image.old).contents workspace.old dir)
-        (λ b. directory_cost geometry.now.layout b dir)
-        (λ e b. IsExamined geometry.now.layout b dir workspace.old e start.new workspace.new)
-        (I.reads image.old) (I.reads image.new) result }
+        (λ e b. IsExamined geometry.now.layout b dir workspace.old e start.new
+        × StampsOwn geometry.now.layout b dir workspace.old workspace.new)
+        (path_moment I.Image image.old workspace.old) (path_moment I.Image image.new workspace.new)
+        result }
+    ensures cost { ForBytes
+        (DirectoryContext geometry.now.layout (I.device image.old).contents workspace.old dir)
+        (λ b. I.reads image.new ≤ I.reads image.old + directory_cost geometry.now.layout b dir) }
 {
     let inode = workspace.windows.table.inode_by_part(geometry, dir, image)?;
     let directory = Directory {
@@ -100,12 +104,16 @@ pub fn examine<I: Image>(
     start: &mut [u8; DIRBLKSIZ],
 ) -> Result<Examination, ImageFault>
     requires { ReadyToLook geometry.now.layout (I.device image.old) workspace.old dir }
-    ensures { ExaminesWithin geometry.now.layout (I.device image.old) (I.device image.new)
-        workspace.old workspace.new
+    ensures examines { Examines geometry.now.layout
+        (LeftForLook geometry.now.layout (I.device image.old) workspace.old dir reads_left.old)
+        (λ e b. IsExamined geometry.now.layout b dir workspace.old e start.new
+        × StampsOwn geometry.now.layout b dir workspace.old workspace.new)
+        (path_moment I.Image image.old workspace.old) (path_moment I.Image image.new workspace.new)
+        result }
+    ensures cost { TakesLook
         (DirectoryContext geometry.now.layout (I.device image.old).contents workspace.old dir)
         (λ b. directory_cost geometry.now.layout b dir)
-        (λ e b. IsExamined geometry.now.layout b dir workspace.old e start.new workspace.new)
-        (I.reads image.old) (I.reads image.new) reads_left.old reads_left.new result }
+        (I.reads image.old) (I.reads image.new) reads_left.old reads_left.new }
 {
     let mut limited = LimitedImage::new(image, *reads_left);
     let examined = examine_all(geometry, &mut limited, workspace, dir, start);
@@ -171,13 +179,16 @@ pub fn look_directory<I: Image>(
     start: &mut [u8; DIRBLKSIZ],
 ) -> Result<FirstLook, ImageFault>
     requires { ReadyToRead geometry.now.layout (I.device image.old) workspace.old directory.now }
-    ensures { Examines geometry.now.layout (I.device image.old) (I.device image.new)
-        workspace.old workspace.new
+    ensures looks { Examines geometry.now.layout
         (KnowsDirectory geometry.now.layout (I.device image.old) workspace.old directory.now)
-        (λ b. directory_runs geometry.now.layout b directory.now.number)
         (λ f b. IsLookedAt geometry.now.layout b directory.now.number workspace.old f start.new
-        workspace.new)
-        (I.reads image.old) (I.reads image.new) result }
+        × StampsOwn geometry.now.layout b directory.now.number workspace.old workspace.new)
+        (path_moment I.Image image.old workspace.old) (path_moment I.Image image.new workspace.new)
+        result }
+    ensures cost { ForBytes
+        (KnowsDirectory geometry.now.layout (I.device image.old) workspace.old directory.now)
+        (λ b. I.reads image.new
+        ≤ I.reads image.old + directory_runs geometry.now.layout b directory.now.number) }
 {
     let inodes = Inodes {
         kinds: workspace.kinds.as_slice(),
@@ -253,7 +264,7 @@ pub fn stamp(
     entry: &Entry<'_>,
 )
     requires { CanStamp inodes.now dir words.old.items }
-    ensures { StampsEntry inodes.now dir (record { role = role; entry = entry_value entry.now })
+    ensures { StampsEntries inodes.now dir (record { role = role; entry = entry_value entry.now } ∷ [])
         words.old words.new }
 {
     if role != Role::Plain {
@@ -298,7 +309,14 @@ pub fn look_chunk(
     chunk: &DirectoryChunk<'_>,
 ) -> ChunkLook
     requires { CanLook inodes.now chunk.now.dir flags.now words.old.items }
-    ensures { IsChunkLook inodes.now order flags.now chunk.now result words.old words.new }
+    // Whether it is sure that nothing is reported of them.
+    ensures quiet { (vol : Volume) → Sees vol inodes.now → result.quiet
+        ≡ names.are_quiet vol chunk.now.dir flags.now (stamps_in inodes.now words.old.items)
+        (roled_in order chunk.now) }
+    // Whether they fill the chunk.
+    ensures sound { result.sound ≡ is_sound order chunk.now.bytes.now }
+    ensures stamps { StampsEntries inodes.now chunk.now.dir (roled_in order chunk.now) words.old
+        words.new }
 {
     let dir = chunk.dir;
     let mut entries = ChunkEntries::of_chunk(order, chunk.bytes);

@@ -1,7 +1,7 @@
 //! The lines of a plain or an extra entry, and what lines of entries and directories show.
 ghost use Rattle.std.specs.Prelude.{◌≡◌, ℕ, List, Option};
 ghost use Rattle.ffs_volume.specs.{declared.Layout.Layout, Directories.PathnameCheck.extra_lines};
-ghost use Rattle.ffs_pathnames.specs.{EntryLines.ReportsEntries, Ready.{ReadyToPath, ReadyWhere, ReadyWith, LinesLeave}};
+ghost use Rattle.ffs_pathnames.specs.{EntryLines.ReportsEntries, Moments.{lines_moment, path_moment}, Ready.{ReadyToPath, ReadyWhere, ReadyWith, LinesLeave}};
 ghost use Rattle.ffs_pathnames.specs.{SaysTreeMessages.SaysTreeMessages, Gathers.{AreAsLong, IsVerdictIn, asks_attr, asks_path}};
 ghost use Rattle.ffs_pathnames.specs.Gathers.{extra_reported, plain_lines_by, BeginsPath, MakesPath, MakesPathLimited};
 ghost use Rattle.ffs_pathnames.specs.Gathers.{ReadsAttr, PutsPath, PutsWanted, SparesPath, GathersInode, GathersWithPath};
@@ -367,13 +367,12 @@ pub fn report_plain<I: Image, W: Output>(
 ) -> Result<(), RunFault>
     requires ready { ReadyToPath geometry.now.layout (I.device image.old) workspace.old
         texts.old.kept_parent entry.now.dir }
-    ensures lines { ReportsEntries geometry.now.layout (I.device image.old) workspace.old
-        workspace.new entry.now.dir texts.old texts.new
+    ensures lines { ReportsEntries geometry.now.layout entry.now.dir
         (λ v. plain_lines_by v workspace.old entry.now)
-        (progress W.sink report.old) (progress W.sink report.new)
-        (I.reads image.old) (I.reads image.new) result }
-    ensures leaves { LinesLeave geometry.now.layout (I.device image.old) (I.device image.new)
-        workspace.old workspace.new texts.new.kept_parent result }
+        (lines_moment I.Image W.Output image.old workspace.old report.old texts.old)
+        (lines_moment I.Image W.Output image.new workspace.new report.new texts.new) result }
+    ensures leaves { LinesLeave geometry.now.layout (path_moment I.Image image.old workspace.old)
+        (path_moment I.Image image.new workspace.new) texts.new.kept_parent result }
 {
     let verdict = verdict_of(workspace, entry.dir, &entry.entry);
     if verdict.is_silent() {
@@ -406,13 +405,12 @@ pub fn report_extra<I: Image, W: Output>(
 ) -> Result<(), RunFault>
     requires { ReadyToPath geometry.now.layout (I.device image.old) workspace.old
         texts.old.kept_parent entry.now.dir }
-    ensures lines { ReportsEntries geometry.now.layout (I.device image.old) workspace.old
-        workspace.new entry.now.dir texts.old texts.new
+    ensures lines { ReportsEntries geometry.now.layout entry.now.dir
         (λ v. extra_reported v entry.now)
-        (progress W.sink report.old) (progress W.sink report.new)
-        (I.reads image.old) (I.reads image.new) result }
-    ensures leaves { LinesLeave geometry.now.layout (I.device image.old) (I.device image.new)
-        workspace.old workspace.new texts.new.kept_parent result }
+        (lines_moment I.Image W.Output image.old workspace.old report.old texts.old)
+        (lines_moment I.Image W.Output image.new workspace.new report.new texts.new) result }
+    ensures leaves { LinesLeave geometry.now.layout (path_moment I.Image image.old workspace.old)
+        (path_moment I.Image image.new workspace.new) texts.new.kept_parent result }
 {
     let attr = gather_extra(geometry, image, workspace, texts, entry.dir)?;
     say_extra(report, attr, texts.directory.as_slice(), &entry.entry)?;

@@ -1,12 +1,12 @@
 //! Phase 2: pathnames (fsck(8)).
-ghost use Rattle.std.specs.Prelude.{◌≡◌, ◌∷◌, length, map, ◌&&◌, not, ℕ};
-ghost use Rattle.ffs_report.specs.{PhaseOutcome.PhaseOutcome, Progress.progress};
+ghost use Rattle.std.specs.Prelude.{◌≡◌, ◌+◌, ◌*◌, ◌∷◌, length, map, ◌&&◌, not, ℕ};
+ghost use Rattle.ffs_report.specs.{Paid.Paid, PhaseOutcome.PhaseOutcome, Progress.progress};
 ghost use Rattle.ffs_volume.specs.Directories.{PathnameCheck.pathname_lines, Volumes.volume_of};
-ghost use Rattle.ffs_volume.specs.{Encodings.Kinds.is_dir_kind, Messages.Kinds.of_tree};
+ghost use Rattle.ffs_volume.specs.{Encodings.Kinds.is_dir_kind, Messages.Kinds.of_tree, Report.Reads.{line_reads, sweep_reads}};
 ghost use Rattle.ffs_workspace.specs.{Found.WithClaims, Holds.bool_at, Leaves.LeavesBlockCheck, Ready.IsReady};
 ghost use Rattle.ffs_pathnames.specs.{Before.{root_reported, IsNonePassed}, Gathers.AreAsLong};
 ghost use Rattle.ffs_pathnames.specs.{Phase2.{Phase2Ends, Phase2Reads}, RootAnswers.{AnswersRoot, is_go}};
-ghost use Rattle.ffs_pathnames.specs.{DirectoryLines.ReportsTree, SaysTreeMessages.SaysTreeMessages};
+ghost use Rattle.ffs_pathnames.specs.{DirectoryLines.ReportsTree, Moments.lines_moment, SaysTreeMessages.SaysTreeMessages};
 ghost use Rattle.ffs_survey.specs.Survey.{suspect_at};
 ghost use Rattle.ffs_volume.specs.Messages.Kinds as messages;
 
@@ -59,8 +59,11 @@ pub fn phase2<I: Image, W: Output>(
     ensures leaves { Phase2Ends geometry.now.layout (I.device image.old) workspace.old
         workspace.new (progress W.sink report.old) (progress W.sink report.new) result }
     ensures reads { Phase2Reads geometry.now.layout (I.device image.old) workspace.old
-        (progress W.sink report.old) (progress W.sink report.new) (I.reads image.old)
-        (I.reads image.new) result }
+        (I.reads image.old) (I.reads image.new) }
+
+    // Any image is read no more than four sweeps, and `line_reads` for each message that was begun.
+    ensures paid { Paid line_reads (progress W.sink report.old) (progress W.sink report.new)
+        (I.reads image.old + 4 * sweep_reads geometry.now.layout) (I.reads image.new) result }
 
     // What the block check left stays, also where a read or a write failed.
     ensures block_check { LeavesBlockCheck workspace.old workspace.new }
@@ -112,11 +115,9 @@ fn check_tree<I: Image, W: Output>(
     report: &mut Report<'_, W>,
 ) -> Result<Root, RunFault>
     requires { IsReady geometry.now.layout (I.device image.old) workspace.old }
-    ensures tree { ReportsTree geometry.now.layout (I.device image.old) (I.device image.new)
-        workspace.old workspace.new
-        (λ b. pathname_lines (volume_of geometry.now.layout b))
-        (progress W.sink report.old) (progress W.sink report.new)
-        (I.reads image.old) (I.reads image.new) result }
+    ensures tree { ReportsTree geometry.now.layout pathname_lines
+        (lines_moment I.Image W.Output image.old workspace.old report.old tt)
+        (lines_moment I.Image W.Output image.new workspace.new report.new tt) result }
     ensures root { AnswersRoot geometry.now.layout (I.device image.old) workspace.old result }
 {
     let kind = workspace.kinds[ROOTINO as usize];

@@ -1,6 +1,5 @@
 //! The check of directories, one after another, by number.
 ghost use Rattle.std.specs.Prelude.{suc, ◌≡◌, ◌-◌, ◌*◌, ◌<◌, ◌≤◌, ℕ, true, false, vec_len, List, option_map};
-ghost use Rattle.ffs_report.specs.Progress.{progress};
 ghost use Rattle.ffs_volume.specs.{declared.Layout.Layout, Messages.Kinds.lines_from};
 ghost use Rattle.ffs_volume.specs.Directories.{Parents.graph_of, Graph.parent, Volumes.volume_of};
 ghost use Rattle.ffs_volume.specs.Directories.PathnameCheck.{dir_header_lines, directory_lines, sized_dir_lines};
@@ -9,8 +8,8 @@ ghost use Rattle.ffs_pathnames.specs.{ReadsLeft.{LeftForNext, LeftForBoth, LeftF
 ghost use Rattle.ffs_pathnames.specs.Before.{ListsInode, ListsInodes, IsBeforeNoted, IsFirstToCheck, needs_check};
 ghost use Rattle.ffs_pathnames.specs.{Gathers.passed_of, ChecksNeeded.KeepsFlags, Ready.{ReadyToCheck, ReadyToPath}};
 ghost use Rattle.ffs_pathnames.specs.Begins.{AreFirstTwo, IsDirectoryBegun};
-ghost use Rattle.ffs_pathnames.specs.{HeaderValues.facts_lines, DirectoryContext.KnowsHeader};
-ghost use Rattle.ffs_pathnames.specs.DirectoryLines.{ReadsQuietOnce, ReportsDirectory, ReportsLines, ReportsTree};
+ghost use Rattle.ffs_pathnames.specs.Moments.{lines_moment};
+ghost use Rattle.ffs_pathnames.specs.DirectoryLines.{ReadsQuietOnce, ReportsDirectory, ReportsHeader, ReportsTree};
 ghost use Rattle.ffs_workspace.specs.{Holds.HoldsSurvey, Ready.IsReady};
 ghost use Rattle.ffs_volume.specs.Blocks.Inodes.{inodes_of};
 ghost use Rattle.ffs_layout.specs.Entry.{entry_value};
@@ -51,12 +50,10 @@ pub fn check_inodes<I: Image, W: Output>(
     report: &mut Report<'_, W>,
 ) -> Result<(), RunFault>
     requires { IsReady geometry.now.layout (I.device image.old) workspace.old }
-    ensures tree { ReportsTree geometry.now.layout (I.device image.old) (I.device image.new)
-        workspace.old workspace.new
-        (λ b. lines_from (directory_lines (volume_of geometry.now.layout b)) 2
-        (inodes_of geometry.now.layout - 2))
-        (progress W.sink report.old) (progress W.sink report.new)
-        (I.reads image.old) (I.reads image.new) result }
+    ensures tree { ReportsTree geometry.now.layout
+        (λ vol. lines_from (directory_lines vol) 2 (inodes_of geometry.now.layout - 2))
+        (lines_moment I.Image W.Output image.old workspace.old report.old tt)
+        (lines_moment I.Image W.Output image.new workspace.new report.new tt) result }
 
     // Where no directory needs a check, the workspace is left as it was.
     ensures unchecked { ((x : ℕ) → 2 ≤ x → x < inodes_of geometry.now.layout
@@ -127,16 +124,16 @@ fn check_inode<I: Image, W: Output>(
 ) -> Result<(), RunFault>
     requires { ReadyToCheck geometry.now.layout (I.device image.old) workspace.old
         checking.old.texts.kept_parent number }
-    ensures lines { ReportsDirectory geometry.now.layout (I.device image.old) (I.device image.new)
-        workspace.old workspace.new checking.old checking.new
-        (LeftForNext geometry.now.layout (I.device image.old) workspace.old number
-        checking.old.reads_left)
-        (λ b. 2 * directory_cost geometry.now.layout b number)
-        (λ b. directory_lines (volume_of geometry.now.layout b) number)
-        (λ _ b. IsBeforeNoted geometry.now.layout (I.device image.old).contents
-        workspace.new (suc number) b × KeepsFlags workspace.old workspace.new)
-        (progress W.sink report.old) (progress W.sink report.new)
-        (I.reads image.old) (I.reads image.new) result }
+    ensures lines { ReportsDirectory geometry.now.layout (record {
+          knows = LeftForNext geometry.now.layout (I.device image.old) workspace.old number
+              checking.old.reads_left;
+          own = λ b. 2 * directory_cost geometry.now.layout b number;
+          lines = λ b. directory_lines (volume_of geometry.now.layout b) number;
+          after = λ _ b. IsBeforeNoted geometry.now.layout (I.device image.old).contents
+              workspace.new (suc number) b × KeepsFlags workspace.old workspace.new;
+        })
+        (lines_moment I.Image W.Output image.old workspace.old report.old checking.old)
+        (lines_moment I.Image W.Output image.new workspace.new report.new checking.new) result }
 
     // Where the directory needs no check, nothing is read.
     ensures skipped { needs_check workspace.old number ≡ false
@@ -160,19 +157,21 @@ fn check_directory<I: Image, W: Output>(
 ) -> Result<(), RunFault>
     requires { ReadyToCheck geometry.now.layout (I.device image.old) workspace.old
         checking.old.texts.kept_parent dir }
-    ensures lines { ReportsDirectory geometry.now.layout (I.device image.old) (I.device image.new)
-        workspace.old workspace.new checking.old checking.new
+    ensures lines { ReportsDirectory geometry.now.layout (record {
+          knows = LeftForBoth geometry.now.layout (I.device image.old) workspace.old dir
+              checking.old.reads_left;
+          own = λ b. 2 * directory_cost geometry.now.layout b dir;
+          lines = λ b. sized_dir_lines (volume_of geometry.now.layout b) dir;
+          after = λ _ b. AreRightBefore (volume_of geometry.now.layout b) (suc dir)
+              (passed_of workspace.new) × KeepsFlags workspace.old workspace.new;
+        })
+        (lines_moment I.Image W.Output image.old workspace.old report.old checking.old)
+        (lines_moment I.Image W.Output image.new workspace.new report.new checking.new) result }
+    ensures quiet { ReadsQuietOnce geometry.now.layout
         (LeftForBoth geometry.now.layout (I.device image.old) workspace.old dir
-        checking.old.reads_left)
-        (λ b. 2 * directory_cost geometry.now.layout b dir)
-        (λ b. sized_dir_lines (volume_of geometry.now.layout b) dir)
-        (λ _ b. AreRightBefore (volume_of geometry.now.layout b) (suc dir)
-        (passed_of workspace.new) × KeepsFlags workspace.old workspace.new)
-        (progress W.sink report.old) (progress W.sink report.new)
-        (I.reads image.old) (I.reads image.new) result }
-    ensures quiet { ReadsQuietOnce geometry.now.layout workspace.old
-        (LeftForBoth geometry.now.layout (I.device image.old) workspace.old dir
-        checking.old.reads_left) dir (I.reads image.old) (I.reads image.new) }
+        checking.old.reads_left) dir
+        (lines_moment I.Image W.Output image.old workspace.old report.old checking.old)
+        (lines_moment I.Image W.Output image.new workspace.new report.new checking.new) }
 {
     let examined = begin_directory(geometry, image, workspace, checking, report, dir)?;
     if examined.look.quiet {
@@ -197,15 +196,15 @@ fn begin_directory<I: Image, W: Output>(
 ) -> Result<Examination, RunFault>
     requires { ReadyToCheck geometry.now.layout (I.device image.old) workspace.old
         checking.old.texts.kept_parent dir }
-    ensures { ReportsDirectory geometry.now.layout (I.device image.old) (I.device image.new)
-        workspace.old workspace.new checking.old checking.new
-        (LeftForLook geometry.now.layout (I.device image.old) workspace.old dir
-        checking.old.reads_left)
-        (λ b. directory_cost geometry.now.layout b dir)
-        (λ b. dir_header_lines (volume_of geometry.now.layout b) dir)
-        (λ e b. IsDirectoryBegun geometry.now.layout b dir workspace.old e workspace.new)
-        (progress W.sink report.old) (progress W.sink report.new)
-        (I.reads image.old) (I.reads image.new) result }
+    ensures { ReportsDirectory geometry.now.layout (record {
+          knows = LeftForLook geometry.now.layout (I.device image.old) workspace.old dir
+              checking.old.reads_left;
+          own = λ b. directory_cost geometry.now.layout b dir;
+          lines = λ b. dir_header_lines (volume_of geometry.now.layout b) dir;
+          after = λ e b. IsDirectoryBegun geometry.now.layout b dir workspace.old e workspace.new;
+        })
+        (lines_moment I.Image W.Output image.old workspace.old report.old checking.old)
+        (lines_moment I.Image W.Output image.new workspace.new report.new checking.new) result }
 {
     let mut start = [0u8; DIRBLKSIZ];
     let examined = examine(
@@ -284,12 +283,9 @@ fn report_header<I: Image, W: Output>(
 ) -> Result<(), RunFault>
     requires { ReadyToPath geometry.now.layout (I.device image.old) workspace.old kept_parent.old
         header.number }
-    ensures { ReportsLines geometry.now.layout (I.device image.old) (I.device image.new)
-        workspace.old workspace.new kept_parent.new
-        (KnowsHeader geometry.now.layout (I.device image.old) workspace.old header.entry)
-        (λ b. facts_lines (volume_of geometry.now.layout b) header.entry)
-        (progress W.sink report.old) (progress W.sink report.new)
-        (I.reads image.old) (I.reads image.new) result }
+    ensures { ReportsHeader geometry.now.layout header.entry
+        (lines_moment I.Image W.Output image.old workspace.old report.old kept_parent.old)
+        (lines_moment I.Image W.Output image.new workspace.new report.new kept_parent.new) result }
 {
     let defects = header_defects(&header);
     if defects.is_none() {

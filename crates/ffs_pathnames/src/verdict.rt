@@ -5,8 +5,8 @@ ghost use Rattle.ffs_volume.specs.Directories.PathnameCheck.{defects_lines, defe
 ghost use Rattle.ffs_volume.specs.{Directories.{PathnameCheck.{is_silent, verdict_lines, verdict_on}, Roles.Volume}, Blocks.Inodes.is_allocated};
 ghost use Rattle.ffs_layout.specs.Entry.{entry_value};
 ghost use Rattle.ffs_pathnames.specs.{Gathers.asks_attr, SaysTreeMessages.SaysTreeMessages};
-ghost use Rattle.ffs_pathnames.specs.PassedNames.{first_verdict, second_verdict};
-ghost use Rattle.ffs_pathnames.specs.Sees.{CanLook, HasFlagAndWord, PassesEntry, Sees, passed_in, stamps_in};
+ghost use Rattle.ffs_pathnames.specs.{PassedNames.{after_roled, first_verdict, second_verdict}, Stamps.KeepsWords};
+ghost use Rattle.ffs_pathnames.specs.Sees.{CanLook, HasFlagAndWord, Sees, passed_in};
 ghost use Rattle.ffs_report.specs.Progress.{progress};
 
 use crate::inodes::Inodes;
@@ -153,8 +153,11 @@ pub fn pass(
     entry: &Entry<'_>,
 )
     requires { HasFlagAndWord inodes.now flags.old words.old.items }
-    ensures { PassesEntry inodes.now dir (record { role = role; entry = entry_value entry.now })
-        flags.old flags.new words.old words.new }
+    ensures after { (vol : Volume) → Sees vol inodes.now
+        → after_roled vol dir (passed_in inodes.now flags.old words.old.items)
+        (record { role = role; entry = entry_value entry.now })
+        ≡ passed_in inodes.now flags.new words.new.items }
+    ensures words { KeepsWords words.old words.new }
 {
     if role != Role::Plain {
         return;

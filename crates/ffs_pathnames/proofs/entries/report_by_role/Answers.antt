@@ -1,16 +1,15 @@
 use Rattle.std.proofs.Common.{◌≡◌, arith, refl, ℕ, List, [], Ok}
-use Rattle.ffs_image.specs.Device.{Device}
 use Rattle.ffs_volume.specs.{declared.Layout.Layout, Directories.Roles.Volume, Messages.Kinds.{TreeMessage}}
 use Rattle.ffs_report.{specs.Progress.Progress, proofs.{Reporting.says_none, Paying.paid_none}}
-use Rattle.ffs_workspace.specs.declared.workspace.Workspace.{Workspace}
-use Rattle.ffs_pathnames.specs.{EntryLines.ReportsOneEntry, Ready.ReadyToPath, PassedNames.roled_reported}
+use Rattle.ffs_pathnames.specs.{EntryLines.ReportsOneEntry, Moments.{LinesMoment, PathMoment}, Ready.ReadyToPath, PassedNames.roled_reported}
 use Rattle.ffs_pathnames.{specs.declared.one_entry.EntryTexts.EntryTexts}
 use Rattle.ffs_pathnames.proofs.entries.report_by_role.Goals as goal
 
 -- where there is no line, nothing changes
-nothing_said : {v : Layout} {d : Device} {w : Workspace} {x : ℕ} {t : EntryTexts} {lines : Volume → List TreeMessage}
-    {said : Progress} {reads : ℕ} → ReadyToPath v d w t.kept_parent x → ((vol : Volume) → lines vol ≡ []) →
-    ReportsOneEntry {T = Unit {0}} v d d w w x t t lines said said reads reads (Ok tt)
+nothing_said : {v : Layout} {at : PathMoment} {x : ℕ} {t : EntryTexts} {lines : Volume → List TreeMessage}
+    {said : Progress} → ReadyToPath v at.image at.workspace t.kept_parent x → ((vol : Volume) → lines vol ≡ []) →
+    let now : LinesMoment EntryTexts = record { at = at; said = said; kept = t } in
+    ReportsOneEntry {T = Unit {0}} v x lines now now (Ok tt)
 nothing_said r none = grind (arith, says_none, paid_none)
 
 pub returns-in-Empty : goal.returns-in-Empty

@@ -3,18 +3,18 @@ use Rattle.std.proofs.{Common.{ap, refl, ◌∙◌, rules}, lemmas.{List.with_it
 use Rattle.ffs_volume.specs.Directories.Volumes.{volume_of}
 use Rattle.ffs_workspace.{specs.declared.workspace.Workspace.Workspace, proofs.Leaving.{claims_left, survey_left}}
 use Rattle.ffs_workspace.proofs.Leaving.{leaves_more, windows_leave}
-use Rattle.ffs_pathnames.{specs.Gathers.{passed_of, roled_value}, proofs.{Passing.passes, SeesLaws.sees}}
+use Rattle.ffs_pathnames.{specs.Gathers.{passed_of, roled_value}, proofs.{EntryReports.one_entry, Passing.passes, SeesLaws.sees}}
 use Rattle.ffs_pathnames.proofs.StampLaws.{keep_more, names_leave, windows_keep}
 use Rattle.ffs_paths.proofs.Keeping.{kept_parent_on}
 use Rattle.ffs_report.proofs.Paying.{paid_answer}
 use Rattle.ffs_pathnames.proofs.entries.report_entry.Goals as goal
 
 pub returns-in_err-report_by_role : goal.returns-in_err-report_by_role
-returns-in_err-report_by_role g c = grind (arith, err_from_is_err_and)
+returns-in_err-report_by_role g c = grind (arith, err_from_is_err_and, one_entry)
 
 pub returns : goal.returns
 returns g c =
-    let lines = c.in_ok-report_by_role.ensures.lines in
+    let lines = one_entry c.in_ok-report_by_role.ensures.lines in
     let left = c.in_ok-report_by_role.ensures.leaves in
     let before = c.args.workspace.now in
     let here = c.report_by_role.new.workspace in

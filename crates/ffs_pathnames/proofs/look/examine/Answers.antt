@@ -14,7 +14,7 @@ after : (g : Over) (c : After-is_spent g) →
     c.examine_all-examined.new.image.left
     (reads_asked c.examine_all-examined.new.image.limit c.examine_all-examined.new.image.left
     c.examine_all-examined.new.image.spent) c.is_spent.result c.examine_all-examined.result
-after g c = looked (rw c.new-limited.ensures.device at c.examine_all-examined.ensures.leaves.read) c.is_spent.ensures.below
+after g c = looked (rw c.new-limited.ensures.device at c.examine_all-examined.ensures.examines.leaves.read) c.is_spent.ensures.below
 
 -- what is known of the bytes is known of those of the limited image
 known : (g : Over) (c : After-is_spent g) (b : List ℕ) → DirectoryContext c.args.geometry.now.layout
@@ -45,19 +45,23 @@ pub returns : goal.returns
 returns g c =
     let at = (goal.at.returns g c).After-is_spent in
     let back = after g at in
-    let left = c.examine_all-examined.ensures.leaves in
+    let left = c.examine_all-examined.ensures.examines.leaves in
     let image = c.image-2-1.given.1 back.served.same_image ∙ c.drop-limited-2.ensures.below in
     let over = read_over _ _ c.examine_all-examined.result (rw c.new-limited.ensures.device at left.read) in
     rw (image, c.left.ensures.value) (record {
-      found = if_ok c.examine_all-examined.result _ _ (λ e h b k enough. h b (known g at b k))
-          c.examine_all-examined.ensures.found;
-      reads = λ b k. (taken g at b k).0;
-      kept = λ b k. (taken g at b k).1;
-      most = back.most;
-      leaves = record {
-        lists = left.lists;
-        ready = ready_same c.args.geometry.now.layout _ _ _ (back.served.contents ∙ sym over.contents)
-            (back.served.size ∙ sym over.size) left.ready;
-        read = back.served.read c.if-is_spent.false;
+      examines = record {
+        found = if_ok c.examine_all-examined.result _ _ (λ e h b k. h b (known g at b k.0))
+            c.examine_all-examined.ensures.examines.found;
+        leaves = record {
+          lists = left.lists;
+          ready = ready_same c.args.geometry.now.layout _ _ _ (back.served.contents ∙ sym over.contents)
+              (back.served.size ∙ sym over.size) left.ready;
+          read = back.served.read c.if-is_spent.false;
+        };
+      };
+      cost = record {
+        reads = λ b k. (taken g at b k).0;
+        kept = λ b k. (taken g at b k).1;
+        most = back.most;
       };
     })

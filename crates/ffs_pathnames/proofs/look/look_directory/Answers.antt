@@ -66,14 +66,14 @@ chunks-preserved g c =
     record {
       same = c.in_ok-offset.ensures.leaves.read ∙ inv.same;
       geometry = c.in_ok-offset.ensures.leaves.geometry ∙ inv.geometry;
-      words = words_more inv.words look.words;
+      words = words_more inv.words look.stamps.words;
       others = others_stay c.args.workspace.now.windows c.chunks.windows c.next.new.blocks c.next.new.window inv.others;
       ready = rw inv.geometry at c.in_ok-offset.ensures.leaves.ready;
       quiet = λ b t h r small. chunk_quiet (volume_of v b) x.number w.flags.items old c.chunks.quiet (next b t)
-          (rw c.as_slice-flags.ensures.value at (look.quiet (volume_of v b) (seen b h r))) (look.stamps (volume_of v b) (seen b h r))
+          (rw c.as_slice-flags.ensures.value at (look.quiet (volume_of v b) (seen b h r))) (look.stamps.after (volume_of v b) (seen b h r))
           (inv.quiet b t h r small);
       stamps = λ b t h r small. chunk_stamps (volume_of v b) x.number old (next b t)
-          (look.stamps (volume_of v b) (seen b h r)) (inv.stamps b t h r small);
+          (look.stamps.after (volume_of v b) (seen b h r)) (inv.stamps b t h r small);
       sound = λ b t h. chunk_sound c.chunks.sound (next b t) look.sound (inv.sound b t h);
       gap = λ b t. inv.gap b t ∙ sym (read b (now b t)).gap;
       started = λ b t h. inv.started b t h ∙ (ap (λ l. start_chunk l c.chunks.started order c.chunks.start) (next b t)
@@ -101,42 +101,45 @@ returns g c =
     let read = next.leaves in
     let gap = c.in_ok-gap.ensures in
     record {
-      found = λ b k.
-          let dir = dir_is v b x.number k.0.dir in
-          let small = subst (λ i. i.size < 2 ^ 31) (sym k.1) (dir_size v (inode_of v b x.number) dir.1) in
-          let cut = cut_here x.number sound c.requires.cut k.0.claims in
-          let chunks = chunks_are v b x.number sound dir.0 k.1 cut in
-          let t = k.0.gives_bytes in
-          let now = ap (λ d. d.contents) inv.same ∙ t in
-          let later = ap (λ d. d.contents) (read.read ∙ inv.same) ∙ t in
-          let came = (rw c.in_default.is at next.chunk) b now in
-          let none = came.chunks.0 in
-          record {
-            gap = gap.gap b later ∙ (came.gap ∙ (sym (inv.gap b t) ∙ gap_is v b x.number sound dir.0 k.1 cut));
-            sound = all_sound c.chunks.sound none (inv.sound b t small) ∙ ap are_sound chunks;
-            started = sym (ap (find (λ e. e.offset == 0)) chunks) ∙ (inv.started b t small
-                ∙ ap (λ l. start_chunk l c.chunks.started v.order c.chunks.start) none);
-            quiet = all_quiet (volume_of v b) x.number w.flags.items _ c.chunks.quiet none (inv.quiet b t k.0.claims k.0.survey small)
-                ∙ ap (are_quiet (volume_of v b) x.number w.flags.items (passed_of w).stamps) (seen_are v b x.number _ chunks);
-            stamps = all_stamps (volume_of v b) x.number _ none (inv.stamps b t k.0.claims k.0.survey small)
-                ∙ ap (after_looks (volume_of v b) x.number (passed_of w).stamps) (seen_are v b x.number _ chunks);
-          };
-      reads = λ b k.
+      looks = record {
+        found = λ b k.
+            let dir = dir_is v b x.number k.0.dir in
+            let small = subst (λ i. i.size < 2 ^ 31) (sym k.1) (dir_size v (inode_of v b x.number) dir.1) in
+            let cut = cut_here x.number sound c.requires.cut k.0.claims in
+            let chunks = chunks_are v b x.number sound dir.0 k.1 cut in
+            let t = k.0.gives_bytes in
+            let now = ap (λ d. d.contents) inv.same ∙ t in
+            let later = ap (λ d. d.contents) (read.read ∙ inv.same) ∙ t in
+            let came = (rw c.in_default.is at next.chunk) b now in
+            let none = came.chunks.0 in (
+              record {
+                gap = gap.gap b later ∙ (came.gap ∙ (sym (inv.gap b t) ∙ gap_is v b x.number sound dir.0 k.1 cut));
+                sound = all_sound c.chunks.sound none (inv.sound b t small) ∙ ap are_sound chunks;
+                started = sym (ap (find (λ e. e.offset == 0)) chunks) ∙ (inv.started b t small
+                    ∙ ap (λ l. start_chunk l c.chunks.started v.order c.chunks.start) none);
+                quiet = all_quiet (volume_of v b) x.number w.flags.items _ c.chunks.quiet none (inv.quiet b t k.0.claims k.0.survey small)
+                    ∙ ap (are_quiet (volume_of v b) x.number w.flags.items (passed_of w).stamps) (seen_are v b x.number _ chunks);
+              },
+              all_stamps (volume_of v b) x.number _ none (inv.stamps b t k.0.claims k.0.survey small)
+                  ∙ ap (after_looks (volume_of v b) x.number (passed_of w).stamps) (seen_are v b x.number _ chunks),
+            );
+        leaves = record {
+          lists = queue_leaves w _ refl inv.words.places;
+          ready = ready_looked v _ _ w _ _ c.requires.look.ready.ready
+              (ap (λ d. d.contents) (gap.leaves.read ∙ (read.read ∙ inv.same)))
+              (others_stay w.windows c.chunks.windows c.gap_of.new.blocks c.next.new.window inv.others)
+              (can_read_more v _ _ _ _ _ (rw inv.geometry at read.ready) (ap (λ d. d.contents) gap.leaves.read)
+              (rw (read.geometry ∙ inv.geometry) at gap.leaves.ready)) inv.words.long;
+          read = gap.leaves.read ∙ (read.read ∙ inv.same);
+        };
+      };
+      cost = λ b k.
           let t = k.0.gives_bytes in
           let cut = cut_here x.number c.args.geometry.now.sound c.requires.cut k.0.claims in
           let took = next.reads (inv.held b t) b (ap (λ d. d.contents) inv.same ∙ t) in
           let most = (gap.leaves.counted c.next.new.window took.held b
           (ap (λ d. d.contents) (read.read ∙ inv.same) ∙ t)).most in
           omega (arith, most, took.paid, inv.reads b t, runs_are v b x.number x.inode x.cut k.1 cut);
-      leaves = record {
-        lists = queue_leaves w _ refl inv.words.places;
-        ready = ready_looked v _ _ w _ _ c.requires.look.ready.ready
-            (ap (λ d. d.contents) (gap.leaves.read ∙ (read.read ∙ inv.same)))
-            (others_stay w.windows c.chunks.windows c.gap_of.new.blocks c.next.new.window inv.others)
-            (can_read_more v _ _ _ _ _ (rw inv.geometry at read.ready) (ap (λ d. d.contents) gap.leaves.read)
-            (rw (read.geometry ∙ inv.geometry) at gap.leaves.ready)) inv.words.long;
-        read = gap.leaves.read ∙ (read.read ∙ inv.same);
-      };
     }
 
 -- a read failed
@@ -149,21 +152,23 @@ returns-in_err-offset g c =
     let read = c.in_err-offset.ensures.leaves in
     let p = err_from_is_err_and c.from_residual.result c.from_residual.ensures.1 in
     rw (p.1, p.2) (record {
-      found = tt;
-      reads = λ b k.
+      looks = record {
+        found = tt;
+        leaves = record {
+          lists = queue_leaves w _ refl inv.words.places;
+          ready = ready_looked v _ _ w _ _ c.requires.look.ready.ready
+              (read.read.contents ∙ ap (λ d. d.contents) inv.same)
+              (others_stay w.windows c.chunks.windows c.next.new.blocks c.next.new.window inv.others)
+              (rw inv.geometry at read.ready) inv.words.long;
+          read = subst (λ d. Faulted d (g.I.Image.device c.next.new.image) c.in_err-offset.field-0.0.sector) inv.same
+              read.read;
+        };
+      };
+      cost = λ b k.
           let t = k.0.gives_bytes in
           let cut = cut_here x.number c.args.geometry.now.sound c.requires.cut k.0.claims in
           let most = (c.next.ensures.reads (inv.held b t) b (ap (λ d. d.contents) inv.same ∙ t)).most in
           omega (arith, most, inv.reads b t, runs_are v b x.number x.inode x.cut k.1 cut);
-      leaves = record {
-        lists = queue_leaves w _ refl inv.words.places;
-        ready = ready_looked v _ _ w _ _ c.requires.look.ready.ready
-            (read.read.contents ∙ ap (λ d. d.contents) inv.same)
-            (others_stay w.windows c.chunks.windows c.next.new.blocks c.next.new.window inv.others)
-            (rw inv.geometry at read.ready) inv.words.long;
-        read = subst (λ d. Faulted d (g.I.Image.device c.next.new.image) c.in_err-offset.field-0.0.sector) inv.same
-            read.read;
-      };
     })
 
 pub returns-in_err-gap : goal.returns-in_err-gap
@@ -176,22 +181,24 @@ returns-in_err-gap g c =
     let gap = c.in_err-gap.ensures.leaves in
     let p = err_from_is_err_and c.from_residual-in_err-gap.result c.from_residual-in_err-gap.ensures.1 in
     rw (p.1, p.2) (record {
-      found = tt;
-      reads = λ b k.
+      looks = record {
+        found = tt;
+        leaves = record {
+          lists = queue_leaves w _ refl inv.words.places;
+          ready = ready_looked v _ _ w _ _ c.requires.look.ready.ready
+              (gap.read.contents ∙ ap (λ d. d.contents) (read.read ∙ inv.same))
+              (others_stay w.windows c.chunks.windows c.gap_of.new.blocks c.next.new.window inv.others)
+              (can_read_more v _ _ _ _ _ (rw inv.geometry at read.ready) gap.read.contents
+              (rw (read.geometry ∙ inv.geometry) at gap.ready)) inv.words.long;
+          read = subst (λ d. Faulted d (g.I.Image.device c.gap_of.new.image) c.in_err-gap.field-0.0.sector)
+              (read.read ∙ inv.same) gap.read;
+        };
+      };
+      cost = λ b k.
           let t = k.0.gives_bytes in
           let cut = cut_here x.number c.args.geometry.now.sound c.requires.cut k.0.claims in
           let took = c.in_ok-offset.ensures.reads (inv.held b t) b (ap (λ d. d.contents) inv.same ∙ t) in
           let most = (c.gap_of.ensures.leaves.counted c.next.new.window took.held b
           (ap (λ d. d.contents) (read.read ∙ inv.same) ∙ t)).most in
           omega (arith, most, took.paid, inv.reads b t, runs_are v b x.number x.inode x.cut k.1 cut);
-      leaves = record {
-        lists = queue_leaves w _ refl inv.words.places;
-        ready = ready_looked v _ _ w _ _ c.requires.look.ready.ready
-            (gap.read.contents ∙ ap (λ d. d.contents) (read.read ∙ inv.same))
-            (others_stay w.windows c.chunks.windows c.gap_of.new.blocks c.next.new.window inv.others)
-            (can_read_more v _ _ _ _ _ (rw inv.geometry at read.ready) gap.read.contents
-            (rw (read.geometry ∙ inv.geometry) at gap.ready)) inv.words.long;
-        read = subst (λ d. Faulted d (g.I.Image.device c.gap_of.new.image) c.in_err-gap.field-0.0.sector)
-            (read.read ∙ inv.same) gap.read;
-      };
     })

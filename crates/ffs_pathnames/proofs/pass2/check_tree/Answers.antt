@@ -5,7 +5,7 @@ use Rattle.ffs_pathnames.{specs.Before.{IsBefore, root_reported}, proofs.LineCou
 use Rattle.ffs_volume.specs.Report.DirectoryReads.{directories_cost}
 use Rattle.ffs_pathnames.proofs.Carrying.{goes_is, root_kind_is, root_marked_is, tree_is, tree_lines}
 use Rattle.ffs_pathnames.proofs.pass2.check_tree.{Given.Over, Goals.{After-report_root, After-check_inodes}}
-use Rattle.ffs_volume.specs.{Encodings.Kinds.is_dir_kind, Directories.Volumes.volume_of, Messages.Kinds.of_tree}
+use Rattle.ffs_volume.specs.{Encodings.Kinds.is_dir_kind, Directories.{Roles.Volume, Volumes.volume_of}, Messages.Kinds.of_tree}
 use Rattle.ffs_volume.specs.{Directories.PathnameCheck.{continues_after_root, pathname_lines}, Report.Reads.line_reads}
 use Rattle.ffs_report.proofs.{Reporting.{of_begins, of_says, of_stops, of_part, of_fault}, Paying.paid_said}
 use Rattle.ffs_report.proofs.Paying.{paid_answer, paid_fault, paid_text, paid_then}
@@ -14,7 +14,7 @@ use Rattle.ffs_image.specs.Device.{Device}
 use Rattle.ffs_report.specs.{Known.ForBytes, PhaseOutcome.{ImageAfter, PhaseReports}, Progress.Progress}
 use Rattle.ffs_report.specs.declared.fault.RunFault.{RunFault, TheVariants.{Read, Out}}
 use Rattle.ffs_workspace.{specs.{Ready.IsReady, declared.workspace.Workspace.Workspace}, proofs.Leaving.block_check_kept}
-use Rattle.ffs_pathnames.{specs.{DirectoryLines.ReportsTree, RootAnswers.AnswersRoot}, proofs.Begun.image_same}
+use Rattle.ffs_pathnames.{specs.{DirectoryLines.ReportsTree, Moments.PathMoment, RootAnswers.AnswersRoot}, proofs.Begun.image_same}
 use Rattle.ffs_pathnames.specs.declared.pass2.Root.{Root}
 use Rattle.ffs_pathnames.specs.ChecksNeeded.{ChecksLookedAt}
 use Rattle.ffs_volume.specs.Report.DirectoryReads.{looks_cost, places_cost}
@@ -88,10 +88,11 @@ looks_few g c b is k checks =
     omega (arith, tree, long)
 
 -- what is said, what is read for it, and what is left, where nothing is read
-only_said : {T : Type 0} {v : Layout} {d : Device} {w : Workspace} {lines : List ℕ → List TreeMessage}
+only_said : {T : Type 0} {v : Layout} {d : Device} {w : Workspace} {lines : Volume → List TreeMessage}
     {said said' : Progress} {count : ℕ} (r : Result T RunFault) → ImageAfter d d r → IsReady v d w →
-    PhaseReports (IsBefore v d.contents w 2) (λ b. map of_tree (lines b)) said said' r →
-    ReportsTree v d d w w lines said said' count count r
+    PhaseReports (IsBefore v d.contents w 2) (λ b. map of_tree (lines (volume_of v b))) said said' r →
+    let at : PathMoment = record { image = d; reads = count; workspace = w } in
+    ReportsTree v lines (record { at = at; said = said; kept = tt }) (record { at = at; said = said'; kept = tt }) r
 only_said {w = w} r image ready text = let kept = block_check_kept w in grind (arith, paid_text)
 
 pub returns-in_err-report_root-clause-tree : goal.returns-in_err-report_root-clause-tree

@@ -98,8 +98,10 @@ returns-in_err-say-clause-reads g c = record {
   known = λ b k. omega arith;
   directories = λ b k. omega arith;
   looked_at = λ first b k. omega arith;
-  paid = paid_text _ _ _ (returns-in_err-say-clause-prints g c).text (omega arith);
 }
+
+pub returns-in_err-say-clause-paid : goal.returns-in_err-say-clause-paid
+returns-in_err-say-clause-paid g c = paid_text _ _ _ (returns-in_err-say-clause-prints g c).text (omega arith)
 
 pub returns-in_err-survey-clause-reads : goal.returns-in_err-survey-clause-reads
 returns-in_err-survey-clause-reads g c = record {
@@ -108,9 +110,11 @@ returns-in_err-survey-clause-reads g c = record {
       let v = c.args.geometry.now.layout in
       omega (arith, c.survey.ensures.reads.each b k.0 k.1, noted_all_within v b (v.ncg * v.ipg));
   looked_at = λ first b k. omega (arith, c.survey.ensures.reads.each b k.0 k.1);
-  paid = paid_text _ _ _ (returns-in_err-survey-clause-prints g c).text
-      (omega (arith, c.survey.ensures.reads.most));
 }
+
+pub returns-in_err-survey-clause-paid : goal.returns-in_err-survey-clause-paid
+returns-in_err-survey-clause-paid g c =
+    paid_text _ _ _ (returns-in_err-survey-clause-prints g c).text (omega (arith, c.survey.ensures.reads.most))
 
 pub returns-clause-reads : goal.returns-clause-reads
 returns-clause-reads g c = record {
@@ -128,7 +132,9 @@ returns-clause-reads g c = record {
       let checks = looked_at_first v b c.survey.new.workspace c.clear_passed.new.workspace claims flags
       c.clear_passed.ensures in
       omega (arith, c.survey.ensures.reads.each b k.0 k.1, c.check_tree.ensures.tree.looks b before checks);
-  paid = paid_then
-      (paid_said (phase2 ∷ []) c.in_ok-say.ensures.said (omega (arith, c.survey.ensures.reads.most)))
-      c.check_tree.ensures.tree.paid;
 }
+
+pub returns-clause-paid : goal.returns-clause-paid
+returns-clause-paid g c = paid_then
+    (paid_said (phase2 ∷ []) c.in_ok-say.ensures.said (omega (arith, c.survey.ensures.reads.most)))
+    c.check_tree.ensures.tree.paid

@@ -27,9 +27,9 @@ known : (g : Over) (c : After-report_header g) (b : List ℕ) → Known g c b �
     c.args.dir b × (c.in_ok-examined.examined.inode.size ≡ (inode_of c.args.geometry.now.layout b c.args.dir).size)
 known g c b k = (
   knows_on c.args.geometry.now.layout _ _ c.args.workspace.now c.examine.new.workspace c.args.dir b
-      (ap (λ d. d.contents) c.in_ok-examined.ensures.leaves.read) c.in_ok-examined.ensures.leaves.lists.survey
-      c.in_ok-examined.ensures.leaves.lists.places k.0,
-  ap (λ i. i.size) (c.in_ok-examined.ensures.found b k.0 k.1).inode,
+      (ap (λ d. d.contents) c.in_ok-examined.ensures.examines.leaves.read) c.in_ok-examined.ensures.examines.leaves.lists.survey
+      c.in_ok-examined.ensures.examines.leaves.lists.places k.0,
+  ap (λ i. i.size) (c.in_ok-examined.ensures.examines.found b k).0.inode,
 )
 
 -- the lines are the directory's
@@ -42,9 +42,9 @@ lines_are : (g : Over) (c : After-report_header g) (b : List ℕ) → Known g c 
     ≡ dir_header_lines (volume_of c.args.geometry.now.layout b) c.args.dir
 lines_are g c b k =
     let v = c.args.geometry.now.layout in
-    starts_are v b c.args.dir c.args.workspace.now c.examine.new.workspace c.in_ok-examined.examined _ _ _ _
-    (c.in_ok-examined.ensures.found b k.0 k.1) (c.parent_of-parent.ensures v b
-    (survey_left v b _ _ c.in_ok-examined.ensures.leaves.lists.survey k.0.survey))
+    starts_are v b c.args.dir c.args.workspace.now c.in_ok-examined.examined _ _ _ _
+    (c.in_ok-examined.ensures.examines.found b k).0 (c.parent_of-parent.ensures v b
+    (survey_left v b _ _ c.in_ok-examined.ensures.examines.leaves.lists.survey k.0.survey))
     c.first_two.ensures
 
 -- the reads
@@ -54,8 +54,8 @@ reads_few : (g : Over) (c : After-report_header g) (b : List ℕ) → Known g c 
     + (directory_cost c.args.geometry.now.layout b c.args.dir
     + line_reads * length (dir_header_lines (volume_of c.args.geometry.now.layout b) c.args.dir))
 reads_few g c b k noted =
-    let lists = c.in_ok-examined.ensures.leaves.lists in
-    let examined = c.examine.ensures.reads b k.0 in
+    let lists = c.in_ok-examined.ensures.examines.leaves.lists in
+    let examined = c.examine.ensures.cost.reads b k.0 in
     let said = (c.report_header.ensures.counted b (known g c b k)
     (noted_kept c.args.geometry.now.layout b _ c.examine.new.workspace.queue.items lists.places noted)).count in
     let now = rw (lines_are g c b k) at said in
@@ -71,13 +71,13 @@ examine-requires g c = grind arith
 pub returns-in_err-examined : goal.returns-in_err-examined
 returns-in_err-examined g c =
     let looks = c.in_err-examined.ensures in
-    let left = looks.leaves in
+    let left = looks.examines.leaves in
     let p = err_from_is_err_and c.from_residual.result c.from_residual.ensures.1 in
     rw (p.1, p.2) (record {
       text = of_reads _ _ _ _ _ (of_begins _ _ _);
-      reads = λ b k noted. omega (arith, looks.reads b k.0);
-      kept = λ b k. looks.kept b k.0;
-      paid = paid_failed looks.most;
+      reads = λ b k noted. omega (arith, looks.cost.reads b k.0);
+      kept = λ b k. looks.cost.kept b k.0;
+      paid = paid_failed looks.cost.most;
       holds = tt;
       leaves = record {
         image = left.read;
@@ -91,7 +91,7 @@ pub returns-in_err-report_header : goal.returns-in_err-report_header
 returns-in_err-report_header g c =
     let at = (goal.at.returns-in_err-report_header g c).After-report_header in
     let looks = c.in_ok-examined.ensures in
-    let lists = looks.leaves.lists in
+    let lists = looks.examines.leaves.lists in
     let said = c.in_err-report_header.ensures in
     let p = err_from_is_err_and c.from_residual-in_err-report_header.result
     c.from_residual-in_err-report_header.ensures.1 in
@@ -99,13 +99,13 @@ returns-in_err-report_header g c =
       text = fault_same (Unit {0}) Examination _ _ _ _ _ _ c.in_err-report_header.field-0.0
           (known g at) (λ b k. ap (map of_tree) (lines_are g at b k)) said.text;
       reads = reads_few g at;
-      kept = λ b k. looks.kept b k.0;
+      kept = λ b k. looks.cost.kept b k.0;
       paid = paid_fault c.in_err-report_header.field-0.0
-          (paid_then (paid_none {T = Unit {0}} {x = tt} looks.most)
+          (paid_then (paid_none {T = Unit {0}} {x = tt} looks.cost.most)
           (paid_beside c.examine.new.reads_left said.paid));
       holds = tt;
       leaves = record {
-        image = image_same (Unit {0}) Examination _ _ _ c.in_err-report_header.field-0.0 looks.leaves.read
+        image = image_same (Unit {0}) Examination _ _ _ c.in_err-report_header.field-0.0 looks.examines.leaves.read
             said.leaves.image;
         survey = leaves_more _ _ _ lists.survey (windows_leave _ _ said.leaves.lists);
         places = keep_more _ _ _ lists.places (windows_keep c.examine.new.workspace c.report_header.new.workspace
@@ -118,19 +118,19 @@ pub returns : goal.returns
 returns g c =
     let at = (goal.at.returns g c).After-report_header in
     let looks = c.in_ok-examined.ensures in
-    let lists = looks.leaves.lists in
+    let lists = looks.examines.leaves.lists in
     let said = c.in_ok-report_header.ensures in
     record {
       text = said_same _ _ _ _ _ _ (known g at) (λ b k. ap (map of_tree) (lines_are g at b k)) said.text;
       reads = reads_few g at;
-      kept = λ b k. looks.kept b k.0;
-      paid = paid_answer (paid_then (paid_none {T = Unit {0}} {x = tt} looks.most)
+      kept = λ b k. looks.cost.kept b k.0;
+      paid = paid_answer (paid_then (paid_none {T = Unit {0}} {x = tt} looks.cost.most)
           (paid_beside c.examine.new.reads_left said.paid));
       holds = λ b k.
           begun_is c.args.geometry.now.layout b c.args.dir c.args.workspace.now c.examine.new.workspace _
-          c.in_ok-examined.examined _ (looks.found b k.0 k.1) lists said.leaves.lists;
+          c.in_ok-examined.examined _ (looks.examines.found b k) lists said.leaves.lists;
       leaves = record {
-        image = said.leaves.image ∙ looks.leaves.read;
+        image = said.leaves.image ∙ looks.examines.leaves.read;
         survey = leaves_more _ _ _ lists.survey (windows_leave _ _ said.leaves.lists);
         places = keep_more _ _ _ lists.places (windows_keep c.examine.new.workspace c.report_header.new.workspace
             said.leaves.lists);
