@@ -1,26 +1,23 @@
 -- What inodes ask for before they claim, and what they leave.
-use Rattle.std.specs.{List.range_with_len, Prelude.{◌≡◌, ℕ, ◌+◌, ◌<◌, ◌≤◌, ◌^◌, Bool, true, List, Option}}
+use Rattle.std.specs.{List.range_with_len, Prelude.{◌≡◌, ℕ, ◌+◌, ◌<◌, ◌≤◌, ◌^◌, Bool, true, List}}
 use Rattle.std.specs.Prelude.{Result, OnOk, IfOk}
-use Rattle.ffs_volume.specs.Blocks.{BlockCheck.owner_lines, Claims.{Claims, after_offer, after_offers}}
-use Rattle.ffs_volume.specs.Blocks.Claims.{after_owner, at_next_inode}
-use Rattle.ffs_volume.specs.Blocks.Claims.{after_step, after_steps, is_open, lines_of_offers, lines_of_steps}
-use Rattle.ffs_volume.specs.Blocks.Claims.{no_claims, step_lines}
-use Rattle.ffs_volume.specs.Blocks.{Inodes.class_of, Owners.{Owner, owner_of}}
-use Rattle.ffs_volume.specs.Disk.Areas.{is_run_in_range}
-use Rattle.ffs_volume.specs.Report.VolumeReads.{indirect_in_steps}
+use Rattle.ffs_volume.specs.Blocks.{BlockCheck.owner_lines, Inodes.{class_of, inodes_of}, Owners.{Owner, owner_of}}
+use Rattle.ffs_volume.specs.Blocks.Claims.{Claims, after_offer, after_offers, after_owner, after_step, after_steps}
+use Rattle.ffs_volume.specs.Blocks.Claims.{at_next_inode, is_open, lines_of_offers, lines_of_steps, no_claims}
+use Rattle.ffs_volume.specs.{Blocks.Claims.step_lines, Disk.Areas.is_run_in_range, Report.VolumeReads.indirect_in_steps}
 use Rattle.ffs_volume.specs.Laws.{ClaimBounds.{used_bits, ClaimBound}, RunLengths.HasLength}
 use Rattle.ffs_volume.specs.declared.{Class.Class, Inode.Inode, Layout.Layout, Step.Step}
 use Rattle.ffs_image.specs.Device.{Device}
 use Rattle.ffs_report.specs.{Known.{ForBytes, IsContents}, PhaseOutcome.{ImageAfter, PhaseReports}, Progress.Says}
 use Rattle.ffs_report.specs.declared.fault.RunFault.{RunFault}
 use Rattle.ffs_layout.specs.declared.geometry.Geometry.{Geometry}
+use Rattle.ffs_walk.specs.Counts.{entered}
 use Rattle.ffs_workspace.specs.{Holds.{IsFresh, claims_of}, Lengths.IsFor, Ready.IsReady}
-use Rattle.ffs_volume.specs.Blocks.Inodes.{inodes_of}
 use Rattle.ffs_workspace.specs.Tables.{HoldsInode, HoldsPiece}
 use Rattle.ffs_workspace.specs.declared.workspace.Workspace.{Workspace}
 use Rattle.ffs_claims.specs.{Area.IsDataArea, Leaves.{CanOffer, ClaimsOnly, HasBegun, OffersOnly, SameFound}}
-use Rattle.ffs_walk.specs.Counts.{entered}
-use Rattle.ffs_claims.specs.{Lines.of_lines, Moments.{ClaimMoment, SweepMoment}, declared.{area.{DataArea.DataArea, Run.Run}, claim.Sweep.Sweep}}
+use Rattle.ffs_claims.specs.{Lines.of_lines, Moments.{ClaimMoment, SweepMoment}}
+use Rattle.ffs_claims.specs.declared.{area.{DataArea.DataArea, Run.Run}, claim.Sweep.Sweep}
 
 -- the reserved fragments are marked: where the workspace was as it was made, they alone are used then. No Run
 -- is counted yet, and all else is as claiming leaves it (`ClaimsOnly`)

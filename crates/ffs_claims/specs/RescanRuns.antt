@@ -6,9 +6,9 @@ use Rattle.ffs_volume.specs.Blocks.{BlockCheck.first_offer_lines, Claims.{Claims
 use Rattle.ffs_volume.specs.Blocks.{Claims.{after_step, after_owner, after_owners}, KeptOffers.{Offer, kept_in_run}}
 use Rattle.ffs_volume.specs.Blocks.{KeptOffers.offer_of, Owners.{Owner, owners_of}, Steps.steps_of}
 use Rattle.ffs_volume.specs.Encodings.{Replay.{Replay, is_replay_open, fresh_replay}, ReplayCounts.replayed_runs}
-use Rattle.ffs_volume.specs.{Encodings.ReplayCounts.{replay_step_by_cut, seen_run}, Laws.RunLengths.HasLength}
+use Rattle.ffs_volume.specs.Encodings.{Notes.cut_in, ReplayCounts.{replay_step_by_cut, seen_run}}
+use Rattle.ffs_volume.specs.Laws.RunLengths.{HasLength}
 use Rattle.ffs_volume.specs.declared.{Inode.Inode, Layout.Layout, Step.{Step, TheVariants.{Run, Tail, Gap}}}
-use Rattle.ffs_volume.specs.Encodings.Notes.{cut_in}
 use Rattle.ffs_report.specs.{Known.{ForBytes, IsContents}, PhaseOutcome.PhaseReports, declared.fault.RunFault.RunFault}
 use Rattle.ffs_maps.specs.Bits.{bits_of}
 use Rattle.ffs_walk.specs.{Counts.entered, Keepings.{replay_in, run_taken}, declared.keeping.Keeping.Keeping}

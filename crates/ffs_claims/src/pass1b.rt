@@ -6,8 +6,9 @@ ghost use Rattle.ffs_report.specs.{Known.ForBytes, PhaseOutcome.PhaseOutcome, Pr
 ghost use Rattle.ffs_workspace.specs.{Found.WithPhase1, Ready.IsReady};
 ghost use Rattle.ffs_walk.specs.Keepings.{replay_in};
 ghost use Rattle.ffs_claims.specs.{Lines.of_lines, Moments.{after_one_read, claim_moment, sweep_moment}};
-ghost use Rattle.ffs_claims.specs.{Phases.{IsLeftByPhase1b, Phase1bReads, RescanReads}, Reporting.{CanRewalk, ReportsOffers}};
-ghost use Rattle.ffs_claims.specs.{Rescan.{ReplaysStep, step_offers_again}, RescanRuns.{CanReportStep, CountsStep, Rewalks}};
+ghost use Rattle.ffs_claims.specs.{Phases.{IsLeftByPhase1b, Phase1bReads, RescanReads}, Reporting.CanRewalk};
+ghost use Rattle.ffs_claims.specs.{Reporting.ReportsOffers, Rescan.{ReplaysStep, step_offers_again}};
+ghost use Rattle.ffs_claims.specs.RescanRuns.{CanReportStep, CountsStep, Rewalks};
 ghost use Rattle.ffs_volume.specs.Messages.Kinds as messages;
 
 use crate::report_offer::report_run;

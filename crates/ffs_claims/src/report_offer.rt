@@ -4,7 +4,8 @@ ghost use Rattle.std.specs.{List.range_with_len, Prelude.{◌≡◌, [], ◌∷�
 ghost use Rattle.ffs_volume.specs.Blocks.{BlockCheck.first_offer_lines, KeptOffers.offer_of};
 ghost use Rattle.ffs_report.specs.Progress.{progress, Says};
 ghost use Rattle.ffs_maps.specs.Bits.{bits_of};
-ghost use Rattle.ffs_claims.specs.{Lines.of_lines, Moments.claim_moment, Reporting.{CanReport, ReportsOffer, ReportsOffers}};
+ghost use Rattle.ffs_claims.specs.{Lines.of_lines, Moments.claim_moment};
+ghost use Rattle.ffs_claims.specs.Reporting.{CanReport, ReportsOffer, ReportsOffers};
 
 use ffs_layout::Geometry;
 use ffs_report::{Line, OutFault, Output, Report};
