@@ -9,7 +9,7 @@ use Rattle.ffs_volume.specs.{Blocks.{Steps.steps_of}, Laws.ClaimBounds.{used_bit
 use Rattle.ffs_volume.specs.{Laws.{Geometry.IsAcceptedLayout, RunLengths.HasLength}, Messages.Kinds.Message}
 use Rattle.ffs_volume.specs.declared.{Class.{Class, TheVariants.Free}, Inode.Inode, Layout.Layout, Step.Step}
 use Rattle.ffs_report.{proofs.Reporting.{of_part, of_begins, of_says, of_stops}, specs.Known.{ForBytes, IsContents}}
-use Rattle.ffs_report.specs.{PhaseOutcome.{SaidOf, StoppedOf, ImageAfter}, Progress.{Progress, Said, Stopped}}
+use Rattle.ffs_report.specs.{PhaseOutcome.{SaidOf, StoppedOf}, Progress.{Progress, Said, Stopped}}
 use Rattle.ffs_report.specs.declared.fault.RunFault.{RunFault}
 use Rattle.ffs_image.specs.Device.{Device}
 use Rattle.ffs_layout.specs.declared.geometry.Geometry.{Geometry}
@@ -52,23 +52,23 @@ sees_next {u = u} g begun made all_in_range uncut m =
     grind arith
 
 -- ---- where the claiming of its steps is, before it ends
-abbrev pub Claiming : Layout → Device → Device → Workspace → Workspace → DataArea → Type 0
-Claiming v d0 d u w area = StepsLeave {T = Unit {0}} v d0 d u w area (Ok tt)
+abbrev pub Claiming : Layout → Device → Workspace → Workspace → DataArea → Type 0
+Claiming v d u w area = StepsLeave {T = Unit {0}} v d u w area (Ok tt)
 
 -- nothing is claimed yet, a walk took its next step, and something was claimed
 pub claiming_none : {v : Layout} {d : Device} {w : Workspace} {area : DataArea} → CanClaim v d w area →
-    Claiming v d d w w area
+    Claiming v d w w area
 claiming_none {w = w} can = let few = used_below can.ready.made in let same = found_none w in grind arith
 
-pub claiming_walked : {g k : Geometry} {d0 d d' : Device} {u w : Workspace} {b : Blocks} {area : DataArea} → d' ≡ d →
-    k ≡ g → KeepsBlocks k.layout d'.contents w.windows.blocks b → Claiming g.layout d0 d u w area →
-    Claiming g.layout d0 d' u (record w { windows = record w.windows { blocks = b } }) area
+pub claiming_walked : {g k : Geometry} {d d' : Device} {u w : Workspace} {b : Blocks} {area : DataArea} → d' ≡ d →
+    k ≡ g → KeepsBlocks k.layout d'.contents w.windows.blocks b → Claiming g.layout d u w area →
+    Claiming g.layout d' u (record w { windows = record w.windows { blocks = b } }) area
 claiming_walked e same kept p = let ready = ready_walked e same kept p.claim.ready in grind arith
 
-pub claiming_on : {T : Type 0} {r : Result T RunFault} {v : Layout} {d0 d : Device} {u w w' : Workspace}
-    {area area' : DataArea} → ImageAfter d0 d r → ClaimsInArea v w w' area' → FewRuns v u w' →
-    OnOk r (ClaimBound (claims_of u) (claims_of w')) → Claiming v d0 d u w area → StepsLeave v d0 d u w' area' r
-claiming_on image left few moves p =
+pub claiming_on : {T : Type 0} {r : Result T RunFault} {v : Layout} {d : Device} {u w w' : Workspace}
+    {area area' : DataArea} → ClaimsInArea v w w' area' → FewRuns v u w' →
+    OnOk r (ClaimBound (claims_of u) (claims_of w')) → Claiming v d u w area → StepsLeave v d u w' area' r
+claiming_on left few moves p =
     let ready = ready_still left.only.made left.only.windows p.claim.ready in
     let found = found_then p.found left.only.found in
     grind arith

@@ -18,9 +18,9 @@ use Rattle.ffs_claims.proofs.Frames.{ready_still, ready_walked, image_from, clai
 use Rattle.ffs_claims.proofs.{Inodes.ok_where, Reportings.{reporting_over, Reporting, reporting_begins, reporting_more}}
 use Rattle.ffs_claims.proofs.Reportings.{reporting_ends, reported_from, reported_to, lines_split}
 use Rattle.ffs_claims.{proofs.RescanCounts.{looked_none, looked_next, again_gaps}, specs.Lines.of_lines}
-use Rattle.ffs_claims.specs.{Reporting.{ReportsOnly, RewalkLeaves, after_first}, Rescan.step_offers_again}
-use Rattle.ffs_claims.specs.{Rescan.offers_again, RescanRuns.{Rewalks, RoseBy, Rewalked, runs_until_reported}}
-use Rattle.ffs_claims.specs.RescanRuns.{steps_runs_again, RunsPay, StepReported, Counted}
+use Rattle.ffs_claims.specs.{Moments.SweepMoment, Reporting.{OffersReported, ReportsOnly, RewalkLeaves, after_first}}
+use Rattle.ffs_claims.specs.Rescan.{ReplaysStep, offers_again, step_offers_again}
+use Rattle.ffs_claims.specs.RescanRuns.{Counted, Rewalks, Rewalked, RoseBy, RunsPay, runs_until_reported, steps_runs_again}
 
 offers_next : (v : Layout) (i cut : ℕ) (r r' : Replay) (step : Step) (R R' : List Step) → R ≡ step ∷ R' →
     r' ≡ replay_step_by_cut v cut r step →
@@ -63,13 +63,14 @@ rewalk_begins {w = w} e same = rw (e, same)
 -- a step more
 pub rewalk_on : {v : Layout} {i cut : ℕ} {all : List Step} {step : Step} {k k' : Keeping} {R R' : List Step}
     {u w w' : Workspace} {windows : Windows} → k.cut ≡ cut → R ≡ step ∷ R' → is_replay_open cut (replay_in k) ≡ true →
-    set_count (bits_of w.duplicates) ≢ 0 → StepReported v i step k k' (record w { windows = windows }) w' →
-    Counted w.runs_again w'.runs_again (seen_run k.cut (replay_in k) step) →
+    set_count (bits_of w.duplicates) ≢ 0 →
+    OffersReported (step_offers_again v i k.cut (replay_in k) step) (record w { windows = windows }) w' →
+    ReplaysStep v step k k' → Counted w.runs_again w'.runs_again (seen_run k.cut (replay_in k) step) →
     Rewalking v i cut all (replay_in k) R u w → Rewalking v i cut all (replay_in k') R' u w'
 rewalk_on {v = v} {i = i} {cut = cut} {step = step} {k = k} {k' = k'} {R = R} {R' = R'} {w = w} {w' = w'} same e going
-    some p q t =
-    let did = reported_from w _ w' (rw same at p.reported) refl refl in
-    let now = rw same at p.next in
+    some p on q t =
+    let did = reported_from w _ w' (rw same at p) refl refl in
+    let now = rw same at on.next in
     record {
       reported = reporting_more t.reported (offers_next v i cut _ _ step R R' e now) did;
       runs = omega (arith, t.runs, rw same at q.most, runs_next v cut (replay_in k) (replay_in k') step R R' e now);
@@ -118,15 +119,16 @@ pub rewalked_from : {v : Layout} {i cut : ℕ} {all : List Step} {u w : Workspac
 rewalked_from {u = u} p = record { reported = reported_from u _ _ p.reported refl refl; count = p.count }
 
 -- an inode was read before, as the image gives it
-pub rewalks_from : {T : Type 0} {v : Layout} {n cut reads now reads' : ℕ} {d' d'' : Device} {a b : Progress}
-    {u w : Workspace} {windows : Windows} {r : Result T RunFault} (i : Inode) (d : Device) (inode : List ℕ → Inode) →
-    d' ≡ d → ForBytes (IsContents d.contents) (λ bytes. i ≡ inode bytes) → now ≤ reads →
-    Rewalks v n cut (λ _. i) d' d'' now reads' a b (record u { windows = windows }) w r →
-    Rewalks v n cut inode d d'' reads reads' a b u w r
-rewalks_from {T = T} {v = v} {n = n} {cut = cut} {d' = d'} {d'' = d''} {u = u} {r = r} i d inode e h few p =
-    let gives : ForBytes (IsContents d.contents) (IsContents d'.contents) = λ bytes t. ap (λ x. x.contents) e ∙ t in
-    let image = image_from d'' r e p.left.image in
-    let claims = claims_then (claims_still (claims_none u)) p.left.claims in
+pub rewalks_from : {T : Type 0} {v : Layout} {n now : ℕ} {d' : Device} {windows : Windows} {old new : SweepMoment}
+    {r : Result T RunFault} (i : Inode) (inode : List ℕ → Inode) → d' ≡ old.image →
+    ForBytes (IsContents old.image.contents) (λ bytes. i ≡ inode bytes) → now ≤ old.reads →
+    Rewalks v n (λ _. i) (record old { image = d'; reads = now; workspace = record old.workspace { windows = windows } })
+    new r → Rewalks v n inode old new r
+rewalks_from {d' = d'} {old = old} {new = new} {r = r} i inode e h few p =
+    let gives : ForBytes (IsContents old.image.contents) (IsContents d'.contents) = λ bytes t.
+    ap (λ x. x.contents) e ∙ t in
+    let image = image_from new.image r e p.left.image in
+    let claims = claims_then (claims_still (claims_none old.workspace)) p.left.claims in
     record {
       text = grind (arith, reports_same, reports_knowing);
       rewalked = grind (arith, ok_where, rewalked_from);
@@ -136,21 +138,21 @@ rewalks_from {T = T} {v = v} {n = n} {cut = cut} {d' = d'} {d'' = d''} {u = u} {
     }
 
 -- a step more is reported
-pub rewalk_said : {knows : List ℕ → Type 0} {all : List ℕ → List Message} {a b c : Progress} {v : Layout} {i cut : ℕ}
-    {k k' : Keeping} {step : Step} {old new : Workspace} (x y : Walk) (rest : List ℕ → List BlockMessage) →
+pub rewalk_said : {knows : List ℕ → Type 0} {all : List ℕ → List Message} {a b c : Progress} {v : Layout} {cut : ℕ}
+    {k k' : Keeping} {step : Step} {old new : Workspace} (i : ℕ) (x y : Walk) (rest : List ℕ → List BlockMessage) →
     k.cut ≡ cut → SaidOf knows (λ bytes. of_lines (first_offer_lines (bits_of old.duplicates)
     (offers_again v i cut (replay_in k) (steps_left bytes x)))) all a b →
-    ForBytes knows (λ bytes. steps_left bytes x ≡ step ∷ steps_left bytes y) → StepReported v i step k k' old new →
+    ForBytes knows (λ bytes. steps_left bytes x ≡ step ∷ steps_left bytes y) →
+    OffersReported (step_offers_again v i k.cut (replay_in k) step) old new → ReplaysStep v step k k' →
     ForBytes knows (λ bytes. first_offer_lines (bits_of new.duplicates)
     (offers_again v i cut (replay_in k') (steps_left bytes y)) ≡ rest bytes) →
     Said b c (of_lines (first_offer_lines (bits_of old.duplicates) (step_offers_again v i k.cut (replay_in k) step))) →
     SaidOf knows (λ bytes. of_lines (rest bytes)) all a c
-rewalk_said {v = v} {i = i} {cut = cut} {k = k} {k' = k'} {step = step} {old = old} {new = new} x y rest cuts said next
-    p
-    same out =
+rewalk_said {v = v} {cut = cut} {k = k} {k' = k'} {step = step} {old = old} {new = new} i x y rest cuts said next
+    p on same out =
     of_says _ _ _ _ _ _ _ _ said (λ bytes t. lines_step v i cut (replay_in k) (replay_in k') step (steps_left bytes x)
-    (steps_left bytes y) (bits_of old.duplicates) (bits_of new.duplicates) (next bytes t) (rw cuts at p.next)
-    (rw cuts at p.reported.dup)
+    (steps_left bytes y) (bits_of old.duplicates) (bits_of new.duplicates) (next bytes t) (rw cuts at on.next)
+    (rw cuts at p.dup)
     ∙ ap (λ xs. of_lines (first_offer_lines (bits_of old.duplicates) (step_offers_again v i cut (replay_in k) step))
     ++ of_lines xs) (same bytes t)) (rw cuts at out)
 

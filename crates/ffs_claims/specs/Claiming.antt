@@ -1,24 +1,23 @@
 -- What inodes ask for before they claim, and what they leave.
-use Rattle.std.specs.{List.range_with_len, Prelude.{◌≡◌, ℕ, ◌+◌, ◌<◌, ◌≤◌, ◌^◌, Bool, true, List, Option}}
+use Rattle.std.specs.{List.range_with_len, Prelude.{◌≡◌, ℕ, ◌+◌, ◌<◌, ◌≤◌, ◌^◌, Bool, true, List}}
 use Rattle.std.specs.Prelude.{Result, OnOk, IfOk}
-use Rattle.ffs_volume.specs.Blocks.{BlockCheck.owner_lines, Claims.{Claims, after_offer, after_offers}}
-use Rattle.ffs_volume.specs.Blocks.Claims.{after_owner, at_next_inode}
-use Rattle.ffs_volume.specs.Blocks.Claims.{after_steps, is_open, lines_of_offers, lines_of_steps, no_claims}
-use Rattle.ffs_volume.specs.Blocks.{Inodes.class_of, Owners.{Owner, owner_of}, Steps.steps_of}
-use Rattle.ffs_volume.specs.Disk.Areas.{is_run_in_range}
-use Rattle.ffs_volume.specs.Report.VolumeReads.{indirect_in_steps}
+use Rattle.ffs_volume.specs.Blocks.{BlockCheck.owner_lines, Inodes.{class_of, inodes_of}, Owners.{Owner, owner_of}}
+use Rattle.ffs_volume.specs.Blocks.Claims.{Claims, after_offer, after_offers, after_owner, after_step, after_steps}
+use Rattle.ffs_volume.specs.Blocks.Claims.{at_next_inode, is_open, lines_of_offers, lines_of_steps, no_claims}
+use Rattle.ffs_volume.specs.{Blocks.Claims.step_lines, Disk.Areas.is_run_in_range, Report.VolumeReads.indirect_in_steps}
 use Rattle.ffs_volume.specs.Laws.{ClaimBounds.{used_bits, ClaimBound}, RunLengths.HasLength}
-use Rattle.ffs_volume.specs.declared.{BlockMessage.BlockMessage, Class.Class, Inode.Inode, Layout.Layout, Step.Step}
+use Rattle.ffs_volume.specs.declared.{Class.Class, Inode.Inode, Layout.Layout, Step.Step}
 use Rattle.ffs_image.specs.Device.{Device}
-use Rattle.ffs_report.specs.{Known.{ForBytes, IsContents}, PhaseOutcome.{ImageAfter, PhaseReports}, Progress.Progress}
-use Rattle.ffs_report.specs.{Progress.Says, declared.fault.RunFault.RunFault}
+use Rattle.ffs_report.specs.{Known.{ForBytes, IsContents}, PhaseOutcome.{ImageAfter, PhaseReports}, Progress.Says}
+use Rattle.ffs_report.specs.declared.fault.RunFault.{RunFault}
 use Rattle.ffs_layout.specs.declared.geometry.Geometry.{Geometry}
+use Rattle.ffs_walk.specs.Counts.{entered}
 use Rattle.ffs_workspace.specs.{Holds.{IsFresh, claims_of}, Lengths.IsFor, Ready.IsReady}
-use Rattle.ffs_volume.specs.Blocks.Inodes.{inodes_of}
 use Rattle.ffs_workspace.specs.Tables.{HoldsInode, HoldsPiece}
 use Rattle.ffs_workspace.specs.declared.workspace.Workspace.{Workspace}
 use Rattle.ffs_claims.specs.{Area.IsDataArea, Leaves.{CanOffer, ClaimsOnly, HasBegun, OffersOnly, SameFound}}
-use Rattle.ffs_claims.specs.{Lines.of_lines, declared.{area.{DataArea.DataArea, Run.Run}, claim.Sweep.Sweep}}
+use Rattle.ffs_claims.specs.{Lines.of_lines, Moments.{ClaimMoment, SweepMoment}}
+use Rattle.ffs_claims.specs.declared.{area.{DataArea.DataArea, Run.Run}, claim.Sweep.Sweep}
 
 -- the reserved fragments are marked: where the workspace was as it was made, they alone are used then. No Run
 -- is counted yet, and all else is as claiming leaves it (`ClaimsOnly`)
@@ -40,12 +39,6 @@ pub record CanClaimInode (g : Geometry) (d : Device) (w : Workspace) (sweep : Sw
   pub walk : sweep.walk.geometry ≡ g
   pub number_fits : number < inodes_of g.layout
   pub runs : w.runs_seen < 2 ^ 40
-
--- an inode that was read can claim in a sweep, and `class` is its class
-pub record CanClaimRead (g : Geometry) (d : Device) (w : Workspace) (sweep : Sweep) (number : ℕ) (class : Class)
-    (i : Inode) : Type 0 where
-  pub class_is : class ≡ class_of g.layout i
-  pub can : CanClaimInode g d w sweep number
 
 -- the steps of the current inode can claim: `class` is the inode's class, the walk is over the volume, and the
 -- inode has no bad Run, no dup offer and no kept offer yet
@@ -86,13 +79,11 @@ pub record ClaimsInArea (v : Layout) (old new : Workspace) (area : DataArea) : T
 abbrev pub FewRuns : Layout → Workspace → Workspace → Type 0
 FewRuns v old new = new.runs_seen + used_bits (claims_of old) ≤ old.runs_seen + v.size + 22
 
--- what the steps of an inode leave: the image, but for a read that failed, few Runs more, claims
--- within the bound (`ClaimBound`), what was found and the piece of the inode table as they were, and all
--- that the next inode asks for
-pub record StepsLeave {T : Type 0} (v : Layout) (d d' : Device) (old new : Workspace) (area : DataArea)
+-- what the steps of an inode leave: few Runs more, claims within the bound (`ClaimBound`), what was found and
+-- the piece of the inode table as they were, and all that the next inode asks for, with the image as it is then
+pub record StepsLeave {T : Type 0} (v : Layout) (d : Device) (old new : Workspace) (area : DataArea)
     (result : Result T RunFault) : Type 0 where
-  pub image : ImageAfter d d' result
-  pub claim : CanClaim v d' new area
+  pub claim : CanClaim v d new area
   pub bound : FewRuns v old new
   pub claim_bound : OnOk result (ClaimBound (claims_of old) (claims_of new))
   pub found : SameFound old new
@@ -105,27 +96,29 @@ ReadsIndirect v s o reads reads' = reads' ≤ reads + indirect_in_steps v (at_ne
 -- an inode is read by its block of the inode table. Where the window held the inode, the table isn't read and
 -- the window stays: there are no more reads than Runs that are seen, and in an image that gives its bytes no more
 -- than indirect blocks that are seen. Else the window holds the inode's block then
-pub record ReadsByBlock {T : Type 0} (v : Layout) (contents : Option (List ℕ)) (number reads reads' : ℕ)
-    (old new : Workspace) (result : Result T RunFault) : Type 0 where
-  pub again : HoldsInode old.windows.table number
-      → (new.windows.table ≡ old.windows.table) × (reads' + old.runs_seen ≤ reads + new.runs_seen)
-  pub known : HoldsInode old.windows.table number → ForBytes (IsContents contents)
-      (λ bytes. ReadsIndirect v (claims_of old) (owner_of v bytes number) reads reads')
-  pub block : (HoldsInode old.windows.table number → ⊥) → OnOk result (HoldsPiece v v.inopb number new.windows.table)
+pub record ReadsByBlock {T : Type 0} (v : Layout) (number : ℕ) (old new : SweepMoment) (result : Result T RunFault)
+    : Type 0 where
+  pub again : HoldsInode old.workspace.windows.table number →
+      (new.workspace.windows.table ≡ old.workspace.windows.table)
+      × (new.reads + old.workspace.runs_seen ≤ old.reads + new.workspace.runs_seen)
+  pub known : HoldsInode old.workspace.windows.table number → ForBytes (IsContents old.image.contents)
+      (λ bytes. ReadsIndirect v (claims_of old.workspace) (owner_of v bytes number) old.reads new.reads)
+  pub block : (HoldsInode old.workspace.windows.table number → ⊥)
+      → OnOk result (HoldsPiece v v.inopb number new.workspace.windows.table)
 
--- what an inode leaves: what its steps leave but for `claim_bound`, `found` and `table`, a walk over the volume,
--- and the count of phase 1b's Runs as it was. Each Run that it sees claims a fragment, but for 22, and
--- each read is paid by a Run that is seen
-pub record InodeLeaves {T : Type 0} (g : Geometry) (d d' : Device) (reads reads' : ℕ) (old new : Workspace)
-    (sweep : Sweep) (result : Result T RunFault) : Type 0 where
-  pub image : ImageAfter d d' result
-  pub claim : CanClaim g.layout d' new sweep.area
+-- what an inode leaves: the image, but for a read that failed, what its steps leave but for `claim_bound`, `found`
+-- and `table`, a walk over the volume, and the count of phase 1b's Runs as it was. Each Run that it sees claims a
+-- fragment, but for 22, and each read is paid by a Run that is seen
+pub record InodeLeaves {T : Type 0} (g : Geometry) (old new : SweepMoment) (sweep : Sweep) (result : Result T RunFault)
+    : Type 0 where
+  pub image : ImageAfter old.image new.image result
+  pub claim : CanClaim g.layout new.image new.workspace sweep.area
   pub walk : sweep.walk.geometry ≡ g
-  pub bound : FewRuns g.layout old new
-  pub runs_claim : OnOk result (new.runs_seen + used_bits (claims_of old)
-      ≤ old.runs_seen + used_bits (claims_of new) + 22)
-  pub again : new.runs_again ≡ old.runs_again
-  pub counted : reads' + old.runs_seen ≤ reads + new.runs_seen
+  pub bound : FewRuns g.layout old.workspace new.workspace
+  pub runs_claim : OnOk result (new.workspace.runs_seen + used_bits (claims_of old.workspace)
+      ≤ old.workspace.runs_seen + used_bits (claims_of new.workspace) + 22)
+  pub again : new.workspace.runs_again ≡ old.workspace.runs_again
+  pub counted : new.reads + old.workspace.runs_seen ≤ old.reads + new.workspace.runs_seen
 
 -- an offer is taken: the claims are those after it, and the rest is as offers leave it
 pub record TakesOffer (v : Layout) (fragment : ℕ) (old new : Workspace) : Type 0 where
@@ -134,49 +127,49 @@ pub record TakesOffer (v : Layout) (fragment : ℕ) (old new : Workspace) : Type
 
 -- the offers of a Run are taken, one after another: their lines are said, the claims are those after
 -- them, and the rest is as offers leave it
-pub record TakesOffers {T E : Type 0} (v : Layout) (number : ℕ) (run : Run) (progress progress' : Progress)
-    (old new : Workspace) (result : Result T E) : Type 0 where
-  pub said : Says progress progress'
-      (of_lines (lines_of_offers v number (claims_of old) (range_with_len run.start run.len))) result
-  pub claims : OnOk result (claims_of new ≡ after_offers v (claims_of old) (range_with_len run.start run.len))
-  pub only : OffersOnly v old new
+pub record TakesOffers {T E : Type 0} (v : Layout) (number : ℕ) (run : Run) (old new : ClaimMoment)
+    (result : Result T E) : Type 0 where
+  pub said : Says old.report new.report
+      (of_lines (lines_of_offers v number (claims_of old.workspace) (range_with_len run.start run.len))) result
+  pub claims : OnOk result (claims_of new.workspace
+      ≡ after_offers v (claims_of old.workspace) (range_with_len run.start run.len))
+  pub only : OffersOnly v old.workspace new.workspace
 
--- a step of an inode claims what it offers: these lines are said, the claims are these then, and the
--- answer is whether the next step is seen. It sees at most one Run, and at least `least`, and the rest is
--- as claiming leaves it
-pub record ClaimsStep {E : Type 0} (v : Layout) (lines : List BlockMessage) (after : Claims) (least : ℕ)
-    (progress progress' : Progress) (old new : Workspace) (area : DataArea) (result : Result Bool E) : Type 0 where
-  pub said : Says progress progress' (of_lines lines) result
-  pub claims : OnOk result (claims_of new ≡ after)
-  pub seen : IfOk result (λ seen. seen ≡ is_open (claims_of new))
-  pub counted : old.runs_seen + least ≤ new.runs_seen
-  pub runs : new.runs_seen ≤ old.runs_seen + 1
-  pub left : ClaimsInArea v old new area
+-- a step of an inode claims what it offers: its lines are said, the claims are those after it, and the
+-- answer is whether the next step is seen. At most one Run is seen, and one where it is an indirect block
+pub record ClaimsStep {E : Type 0} (v : Layout) (number : ℕ) (step : Step) (old new : ClaimMoment)
+    (result : Result Bool E) : Type 0 where
+  pub said : Says old.report new.report (of_lines (step_lines v number (claims_of old.workspace) step)) result
+  pub claims : OnOk result (claims_of new.workspace ≡ after_step v (claims_of old.workspace) step)
+  pub seen : IfOk result (λ seen. seen ≡ is_open (claims_of new.workspace))
+  pub counted : old.workspace.runs_seen + entered step ≤ new.workspace.runs_seen
+  pub runs : new.workspace.runs_seen ≤ old.workspace.runs_seen + 1
 
--- the steps of an inode claim what they offer: their lines are reported, the claims are those after
+-- the steps of an owner claim what they offer: their lines are reported, the claims are those after
 -- them, the next inode can be walked over, and each read is paid by a Run that is seen. An image that
 -- gives its bytes is read once for each indirect block that is seen
-pub record ClaimsSteps {T : Type 0} (g : Geometry) (number : ℕ) (inode : Inode) (d d' : Device) (reads reads' : ℕ)
-    (progress progress' : Progress) (old new : Workspace) (sweep : Sweep) (result : Result T RunFault) : Type 0 where
-  pub text : PhaseReports (IsContents d.contents)
-      (λ bytes. of_lines (lines_of_steps g.layout number (claims_of old) (steps_of g.layout inode bytes)))
-      progress progress' result
-  pub claims : OnOk result (ForBytes (IsContents d.contents) (λ bytes.
-      claims_of new ≡ after_steps g.layout (claims_of old) (steps_of g.layout inode bytes)))
-  pub left : StepsLeave g.layout d d' old new sweep.area result
+pub record ClaimsSteps {T : Type 0} (g : Geometry) (owner : List ℕ → Owner) (old new : SweepMoment) (sweep : Sweep)
+    (result : Result T RunFault) : Type 0 where
+  pub text : PhaseReports (IsContents old.image.contents) (λ bytes.
+      of_lines (lines_of_steps g.layout (owner bytes).number (claims_of old.workspace) (owner bytes).steps))
+      old.report new.report result
+  pub claims : OnOk result (ForBytes (IsContents old.image.contents) (λ bytes.
+      claims_of new.workspace ≡ after_steps g.layout (claims_of old.workspace) (owner bytes).steps))
+  pub image : ImageAfter old.image new.image result
+  pub left : StepsLeave g.layout new.image old.workspace new.workspace sweep.area result
   pub walk : sweep.walk.geometry ≡ g
-  pub counted : reads' + old.runs_seen ≤ reads + new.runs_seen
-  pub known : ForBytes (IsContents d.contents) (λ bytes.
-      reads' ≤ reads + indirect_in_steps g.layout (claims_of old) (steps_of g.layout inode bytes))
+  pub counted : new.reads + old.workspace.runs_seen ≤ old.reads + new.workspace.runs_seen
+  pub known : ForBytes (IsContents old.image.contents) (λ bytes.
+      new.reads ≤ old.reads + indirect_in_steps g.layout (claims_of old.workspace) (owner bytes).steps)
 
 -- an inode claims as an owner of fragments: its lines are reported, the claims are those after it, and
 -- an image that gives its bytes is read once for each indirect block that is seen
-pub record ClaimsOwner {T : Type 0} (g : Geometry) (owner : List ℕ → Owner) (d d' : Device) (reads reads' : ℕ)
-    (progress progress' : Progress) (old new : Workspace) (sweep : Sweep) (result : Result T RunFault) : Type 0 where
-  pub text : PhaseReports (IsContents d.contents)
-      (λ bytes. of_lines (owner_lines g.layout (claims_of old) (owner bytes))) progress progress' result
-  pub claims : OnOk result (ForBytes (IsContents d.contents) (λ bytes.
-      claims_of new ≡ after_owner g.layout (claims_of old) (owner bytes)))
-  pub left : InodeLeaves g d d' reads reads' old new sweep result
-  pub known : ForBytes (IsContents d.contents)
-      (λ bytes. ReadsIndirect g.layout (claims_of old) (owner bytes) reads reads')
+pub record ClaimsOwner {T : Type 0} (g : Geometry) (owner : List ℕ → Owner) (old new : SweepMoment) (sweep : Sweep)
+    (result : Result T RunFault) : Type 0 where
+  pub text : PhaseReports (IsContents old.image.contents)
+      (λ bytes. of_lines (owner_lines g.layout (claims_of old.workspace) (owner bytes))) old.report new.report result
+  pub claims : OnOk result (ForBytes (IsContents old.image.contents) (λ bytes.
+      claims_of new.workspace ≡ after_owner g.layout (claims_of old.workspace) (owner bytes)))
+  pub left : InodeLeaves g old new sweep result
+  pub known : ForBytes (IsContents old.image.contents)
+      (λ bytes. ReadsIndirect g.layout (claims_of old.workspace) (owner bytes) old.reads new.reads)

@@ -1,6 +1,7 @@
 pub mod Rescan
 pub mod Lines
 pub mod Leaves
+pub mod Moments
 pub mod Reporting
 pub mod RescanRuns
 pub mod Area

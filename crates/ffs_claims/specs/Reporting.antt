@@ -1,16 +1,16 @@
 -- What phase 1b has reported, and what it leaves to report.
-use Rattle.std.specs.{List.{list_any, range_with_len}, Prelude.{◌≡◌, ◌≢◌, ◌<◌, ℕ, Bool, Result, OnOk, false, ◌||◌}}
-use Rattle.std.specs.Prelude.{if◌then◌else◌, List, [], ◌∷◌, map, slice_set}
+use Rattle.std.specs.{List.list_any, Prelude.{◌≡◌, ◌≢◌, ◌<◌, ℕ, Bool, Result, OnOk, false, ◌||◌}}
+use Rattle.std.specs.Prelude.{if◌then◌else◌, List, [], ◌∷◌, slice_set}
 use Rattle.ffs_volume.specs.Blocks.{BlockCheck.{blames, first_offer_lines}, Claims.is_set}
-use Rattle.ffs_volume.specs.Blocks.KeptOffers.{Offer, offer_of}
+use Rattle.ffs_volume.specs.Blocks.KeptOffers.{Offer}
 use Rattle.ffs_volume.specs.declared.Layout.{Layout}
 use Rattle.ffs_image.specs.Device.{Device}
-use Rattle.ffs_report.specs.{PhaseOutcome.ImageAfter, Progress.{Progress, Says}, declared.fault.RunFault.RunFault}
+use Rattle.ffs_report.specs.{PhaseOutcome.ImageAfter, Progress.Says, declared.fault.RunFault.RunFault}
 use Rattle.ffs_maps.specs.Bits.{bits_of}
 use Rattle.ffs_workspace.specs.{Holds.bool_at, Lengths.{IsFor, set_count}, Ready.IsReady}
 use Rattle.ffs_volume.specs.Blocks.Inodes.{inodes_of}
 use Rattle.ffs_workspace.specs.declared.workspace.Workspace.{Workspace}
-use Rattle.ffs_claims.specs.Lines.{of_lines}
+use Rattle.ffs_claims.specs.{Lines.of_lines, Moments.ClaimMoment}
 
 -- the fragments whose first kept offer is still to be reported, after some offers
 abbrev pub after_first : List Bool → List Offer → List Bool
@@ -52,14 +52,14 @@ pub record ReportsOffer (v : Layout) (offer : Offer) (old new : Workspace) : Typ
   pub reported : OffersReported (offer ∷ []) old new
   pub only : OffersReportedOnly v old new
 
--- the kept offers of a Run are gone over: those are reported that are the first of a fragment with a
--- DUP line, and the rest is as reporting leaves it
-pub record ReportsRun {T E : Type 0} (v : Layout) (number start len : ℕ) (progress progress' : Progress)
-    (old new : Workspace) (result : Result T E) : Type 0 where
-  pub said : Says progress progress' (of_lines (first_offer_lines (bits_of old.duplicates)
-      (map (offer_of number) (range_with_len start len)))) result
-  pub reported : OnOk result (OffersReported (map (offer_of number) (range_with_len start len)) old new)
-  pub only : OffersReportedOnly v old new
+-- kept offers are gone over: those are reported that are the first of a fragment with a DUP line, and
+-- the rest is as reporting leaves it
+pub record ReportsOffers {T E : Type 0} (v : Layout) (offers : List Offer) (old new : ClaimMoment)
+    (result : Result T E) : Type 0 where
+  pub said : Says old.report new.report
+      (of_lines (first_offer_lines (bits_of old.workspace.duplicates) offers)) result
+  pub reported : OnOk result (OffersReported offers old.workspace new.workspace)
+  pub only : ReportsOnly v old.workspace new.workspace
 
 -- first kept offers of an inode can be reported: the workspace was made for the volume, and the
 -- inode's number is one of it

@@ -1,21 +1,20 @@
 -- How many Runs phase 1b looks at: those that are seen, in order, until each fragment with a DUP
 -- line has its first kept offer reported.
 use Rattle.std.specs.{List.range_with_len, Prelude.{◌≡◌, ◌<◌, ◌≤◌, ℕ, ◌+◌, ◌-◌, ◌^◌, Bool, List, [], ◌∷◌, ◌++◌, ◌==◌}}
-use Rattle.std.specs.Prelude.{if◌then◌else◌, map, Result, OnOk, true}
+use Rattle.std.specs.Prelude.{if◌then◌else◌, map, Result, OnOk, slice_index, true}
 use Rattle.ffs_volume.specs.Blocks.{BlockCheck.first_offer_lines, Claims.{Claims, no_claims, at_next_inode, is_open}}
 use Rattle.ffs_volume.specs.Blocks.{Claims.{after_step, after_owner, after_owners}, KeptOffers.{Offer, kept_in_run}}
 use Rattle.ffs_volume.specs.Blocks.{KeptOffers.offer_of, Owners.{Owner, owners_of}, Steps.steps_of}
 use Rattle.ffs_volume.specs.Encodings.{Replay.{Replay, is_replay_open, fresh_replay}, ReplayCounts.replayed_runs}
-use Rattle.ffs_volume.specs.{Encodings.ReplayCounts.{replay_step_by_cut, seen_run}, Laws.RunLengths.HasLength}
+use Rattle.ffs_volume.specs.Encodings.{Notes.cut_in, ReplayCounts.{replay_step_by_cut, seen_run}}
+use Rattle.ffs_volume.specs.Laws.RunLengths.{HasLength}
 use Rattle.ffs_volume.specs.declared.{Inode.Inode, Layout.Layout, Step.{Step, TheVariants.{Run, Tail, Gap}}}
-use Rattle.ffs_image.specs.Device.{Device}
-use Rattle.ffs_report.specs.{Known.{ForBytes, IsContents}, PhaseOutcome.PhaseReports, Progress.{Progress, Says}}
-use Rattle.ffs_report.specs.declared.fault.RunFault.{RunFault}
+use Rattle.ffs_report.specs.{Known.{ForBytes, IsContents}, PhaseOutcome.PhaseReports, declared.fault.RunFault.RunFault}
 use Rattle.ffs_maps.specs.Bits.{bits_of}
 use Rattle.ffs_walk.specs.{Counts.entered, Keepings.{replay_in, run_taken}, declared.keeping.Keeping.Keeping}
 use Rattle.ffs_workspace.specs.{Lengths.set_count, declared.workspace.Workspace.Workspace}
-use Rattle.ffs_claims.specs.{Lines.of_lines, Reporting.{after_first, CanReport, OffersReported, ReportsOnly}}
-use Rattle.ffs_claims.specs.{Reporting.RewalkLeaves, Rescan.{offers_again, step_offers_again}}
+use Rattle.ffs_claims.specs.{Lines.of_lines, Moments.SweepMoment, Reporting.{after_first, CanReport, OffersReported}}
+use Rattle.ffs_claims.specs.{Reporting.RewalkLeaves, Rescan.offers_again}
 
 -- the kept offers of each Run that is seen: of a step, of steps, and of inodes
 abbrev pub step_runs : Layout → ℕ → Claims → Step → List (List Offer)
@@ -70,12 +69,6 @@ pub record RunsPay (reads reads' old new : ℕ) : Type 0 where
   pub rises : new < 2 ^ 64 - 1 → old ≤ new
   pub paid : new < 2 ^ 64 - 1 → reads' + old ≤ reads + new
 
--- a step of an inode was gone over: what it keeps is reported, and the next step follows
-pub record StepReported (v : Layout) (number : ℕ) (step : Step) (k k' : Keeping) (old new : Workspace) : Type 0 where
-  pub reported : OffersReported (step_offers_again v number k.cut (replay_in k) step) old new
-  pub next : replay_in k' ≡ replay_step_by_cut v k.cut (replay_in k) step
-  pub cut : k'.cut ≡ k.cut
-
 -- a step of an inode can be gone over: first kept offers of the inode can be reported, the inode isn't
 -- cut before the step, and the step has a length
 pub record CanReportStep (v : Layout) (w : Workspace) (number : ℕ) (k : Keeping) (step : Step) : Type 0 where
@@ -83,16 +76,10 @@ pub record CanReportStep (v : Layout) (w : Workspace) (number : ℕ) (k : Keepin
   pub going : is_replay_open k.cut (replay_in k) ≡ true
   pub length : HasLength v.frag step
 
--- a step of an inode is gone over: of the offers that it keeps those are reported that are the first
--- of a fragment with a DUP line, its Run is counted, and the rest is as reporting leaves it
-pub record ReportsStep {T E : Type 0} (v : Layout) (number : ℕ) (step : Step) (k k' : Keeping)
-    (progress progress' : Progress) (old new : Workspace) (result : Result T E) : Type 0 where
-  pub said : Says progress progress' (of_lines (first_offer_lines (bits_of old.duplicates)
-      (step_offers_again v number k.cut (replay_in k) step))) result
-  pub reported : OnOk result (StepReported v number step k k' old new)
-  pub runs : Counted old.runs_again new.runs_again (seen_run k.cut (replay_in k) step)
-  pub counted : new.runs_again < 2 ^ 64 - 1 → old.runs_again + entered step ≤ new.runs_again
-  pub only : ReportsOnly v old new
+-- the Run of a step that is gone over is counted, if it is seen
+pub record CountsStep (k : Keeping) (step : Step) (old new : ℕ) : Type 0 where
+  pub runs : Counted old new (seen_run k.cut (replay_in k) step)
+  pub counted : new < 2 ^ 64 - 1 → old + entered step ≤ new
 
 -- an inode with this cut was walked over again: its kept offers were gone over, and its Runs were
 -- counted up to the one that reports the last fragment with a DUP line
@@ -101,15 +88,22 @@ pub record Rewalked (v : Layout) (number cut : ℕ) (steps : List Step) (old new
   pub count : RoseBy old.runs_again new.runs_again (runs_until_reported (bits_of old.duplicates)
       (steps_runs_again v number cut fresh_replay steps))
 
--- an inode with this cut is walked over again: of its kept offers those are reported that are the
--- first of a fragment with a DUP line, and its Runs are counted, which pay for the reads
-pub record Rewalks {T : Type 0} (v : Layout) (number cut : ℕ) (inode : List ℕ → Inode) (d d' : Device)
-    (reads reads' : ℕ) (progress progress' : Progress) (old new : Workspace) (result : Result T RunFault) : Type 0 where
-  pub text : PhaseReports (IsContents d.contents) (λ bytes. of_lines (first_offer_lines (bits_of old.duplicates)
-      (offers_again v number cut fresh_replay (steps_of v (inode bytes) bytes)))) progress progress' result
-  pub rewalked : OnOk result (ForBytes (IsContents d.contents) (λ bytes.
-      Rewalked v number cut (steps_of v (inode bytes) bytes) old new))
-  pub runs : ForBytes (IsContents d.contents) (λ bytes.
-      new.runs_again ≤ old.runs_again + replayed_runs v cut fresh_replay (steps_of v (inode bytes) bytes))
-  pub left : RewalkLeaves v d d' old new result
-  pub counted : RunsPay reads reads' old.runs_again new.runs_again
+-- the cut that is noted of an inode
+abbrev pub noted_cut : Workspace → ℕ → ℕ
+noted_cut w number = cut_in (slice_index w.notes.items number)
+
+-- an inode is walked over again: of its kept offers those are reported that are the first of a fragment
+-- with a DUP line, and its Runs are counted, which pay for the reads
+pub record Rewalks {T : Type 0} (v : Layout) (number : ℕ) (inode : List ℕ → Inode) (old new : SweepMoment)
+    (result : Result T RunFault) : Type 0 where
+  pub text : PhaseReports (IsContents old.image.contents) (λ bytes.
+      of_lines (first_offer_lines (bits_of old.workspace.duplicates)
+      (offers_again v number (noted_cut old.workspace number) fresh_replay (steps_of v (inode bytes) bytes))))
+      old.report new.report result
+  pub rewalked : OnOk result (ForBytes (IsContents old.image.contents) (λ bytes.
+      Rewalked v number (noted_cut old.workspace number) (steps_of v (inode bytes) bytes) old.workspace new.workspace))
+  pub runs : ForBytes (IsContents old.image.contents) (λ bytes.
+      new.workspace.runs_again ≤ old.workspace.runs_again
+      + replayed_runs v (noted_cut old.workspace number) fresh_replay (steps_of v (inode bytes) bytes))
+  pub left : RewalkLeaves v old.image new.image old.workspace new.workspace result
+  pub counted : RunsPay old.reads new.reads old.workspace.runs_again new.workspace.runs_again

@@ -1,14 +1,14 @@
 //! The offers of Runs, and what is reported of them.
 
-ghost use Rattle.std.specs.Prelude.{◌≡◌, ◌^◌, IfOk, IsTrue, false, true};
-ghost use Rattle.ffs_volume.specs.Blocks.Claims.{after_run, after_step, offer_lines, run_lines, step_lines};
-ghost use Rattle.ffs_volume.specs.Disk.Areas.{is_fragment_in_range, is_run_in_range};
+ghost use Rattle.std.specs.Prelude.{◌≡◌, ◌^◌, ℕ, IfOk, IsTrue, Option, false, true};
+ghost use Rattle.ffs_volume.specs.{Blocks.Claims.offer_lines, Disk.Areas.{is_fragment_in_range, is_run_in_range}};
 ghost use Rattle.ffs_report.specs.Progress.{progress, Says};
-ghost use Rattle.ffs_walk.specs.Counts.{entered};
 ghost use Rattle.ffs_workspace.specs.Holds.{claims_of};
-ghost use Rattle.ffs_claims.specs.Claiming.{ClaimsStep, CanSeeNext, CanTakeOffers, CanSeeStep, TakesOffer, TakesOffers};
-ghost use Rattle.ffs_claims.specs.{Leaves.CanOffer, Lines.{has_dup_line, of_lines}};
+ghost use Rattle.ffs_claims.specs.Claiming.{CanSeeNext, CanSeeStep, CanTakeOffers, ClaimsInArea, ClaimsStep};
+ghost use Rattle.ffs_claims.specs.{Claiming.{TakesOffer, TakesOffers}, Leaves.CanOffer, Moments.claim_moment};
+ghost use Rattle.ffs_claims.specs.Lines.{has_dup_line, of_lines};
 ghost use Rattle.ffs_volume.specs.Blocks.Claims as claims;
+ghost use Rattle.ffs_volume.specs.declared.Step.TheVariants as steps;
 
 use crate::area::{DataArea, Run};
 use crate::lines::{say_bad, say_dup};
@@ -98,8 +98,9 @@ fn offers<W: Output>(
 ) -> Result<(), OutFault>
     requires { CanOffer geometry.now.layout workspace.old run.len in_range
         (is_run_in_range geometry.now.layout run.start run.len) }
-    ensures { TakesOffers geometry.now.layout number run (progress W.sink report.old)
-        (progress W.sink report.new) workspace.old workspace.new result }
+    ensures { TakesOffers geometry.now.layout number run
+        (claim_moment W.Output workspace.old report.old)
+        (claim_moment W.Output workspace.new report.new) result }
 {
     for index in 0..run.len {
         offer(
@@ -124,8 +125,9 @@ fn run_in_range<W: Output>(
     report: &mut Report<'_, W>,
 ) -> Result<bool, OutFault>
     requires { CanTakeOffers geometry.now.layout workspace.old run true }
-    ensures taken { TakesOffers geometry.now.layout number run (progress W.sink report.old)
-        (progress W.sink report.new) workspace.old workspace.new result }
+    ensures taken { TakesOffers geometry.now.layout number run
+        (claim_moment W.Output workspace.old report.old)
+        (claim_moment W.Output workspace.new report.new) result }
     ensures seen { IfOk result (λ seen. seen ≡ claims.is_open (claims_of workspace.new)) }
 {
     if workspace.used.claim(run.start, run.len) {
@@ -146,8 +148,9 @@ fn offers_of_bad_run<W: Output>(
     report: &mut Report<'_, W>,
 ) -> Result<(), OutFault>
     requires { CanTakeOffers geometry.now.layout workspace.old run false }
-    ensures { TakesOffers geometry.now.layout number run (progress W.sink report.old)
-        (progress W.sink report.new) workspace.old workspace.new result }
+    ensures { TakesOffers geometry.now.layout number run
+        (claim_moment W.Output workspace.old report.old)
+        (claim_moment W.Output workspace.new report.new) result }
 {
     if run.start >= geometry.layout.size {
         workspace.kept += u64::from(run.len);
@@ -166,11 +169,11 @@ fn take_run<W: Output>(
     report: &mut Report<'_, W>,
 ) -> Result<bool, OutFault>
     requires { CanSeeNext geometry.now.layout workspace.old area.old (2 ^ 62) }
-    ensures { ClaimsStep geometry.now.layout
-        (run_lines geometry.now.layout number (claims_of workspace.old) run.start run.len)
-        (after_run geometry.now.layout (claims_of workspace.old) run.start run.len) 1
-        (progress W.sink report.old) (progress W.sink report.new) workspace.old workspace.new
-        area.new result }
+    // Whichever block of the file the Run is, or an indirect block.
+    ensures claims { (block : Option ℕ) → ClaimsStep geometry.now.layout number
+        (steps.Run run.start run.len block) (claim_moment W.Output workspace.old report.old)
+        (claim_moment W.Output workspace.new report.new) result }
+    ensures left { ClaimsInArea geometry.now.layout workspace.old workspace.new area.new }
 {
     workspace.runs_seen += 1;
     if area.in_range(geometry, run.start, run.len) {
@@ -199,11 +202,10 @@ pub fn step<W: Output>(
     report: &mut Report<'_, W>,
 ) -> Result<bool, OutFault>
     requires { CanSeeStep geometry.now.layout workspace.old area.old step }
-    ensures { ClaimsStep geometry.now.layout
-        (step_lines geometry.now.layout number (claims_of workspace.old) step)
-        (after_step geometry.now.layout (claims_of workspace.old) step) (entered step)
-        (progress W.sink report.old) (progress W.sink report.new) workspace.old workspace.new
-        area.new result }
+    ensures claims { ClaimsStep geometry.now.layout number step
+        (claim_moment W.Output workspace.old report.old)
+        (claim_moment W.Output workspace.new report.new) result }
+    ensures left { ClaimsInArea geometry.now.layout workspace.old workspace.new area.new }
 {
     match step {
         Step::Run { start, len, .. } => {

@@ -1,12 +1,14 @@
 //! Phase 1b: rescan for more dups (fsck(8)).
 
-ghost use Rattle.std.specs.Prelude.{◌+◌, ◌∷◌, OnOk, slice_index};
+ghost use Rattle.std.specs.Prelude.{◌∷◌, OnOk};
 ghost use Rattle.ffs_volume.specs.Blocks.{BlockCheck.phase1b_lines, Inodes.inode_of, Owners.owners_of};
 ghost use Rattle.ffs_report.specs.{Known.ForBytes, PhaseOutcome.PhaseOutcome, Progress.progress};
 ghost use Rattle.ffs_workspace.specs.{Found.WithPhase1, Ready.IsReady};
-ghost use Rattle.ffs_volume.specs.Encodings.Notes.{cut_in};
-ghost use Rattle.ffs_claims.specs.{Lines.of_lines, Phases.{IsLeftByPhase1b, Phase1bReads, RescanReads}};
-ghost use Rattle.ffs_claims.specs.{Reporting.CanRewalk, RescanRuns.{CanReportStep, ReportsStep, Rewalks}};
+ghost use Rattle.ffs_walk.specs.Keepings.{replay_in};
+ghost use Rattle.ffs_claims.specs.{Lines.of_lines, Moments.{after_one_read, claim_moment, sweep_moment}};
+ghost use Rattle.ffs_claims.specs.{Phases.{IsLeftByPhase1b, Phase1bReads, RescanReads}, Reporting.CanRewalk};
+ghost use Rattle.ffs_claims.specs.{Reporting.ReportsOffers, Rescan.{ReplaysStep, step_offers_again}};
+ghost use Rattle.ffs_claims.specs.RescanRuns.{CanReportStep, CountsStep, Rewalks};
 ghost use Rattle.ffs_volume.specs.Messages.Kinds as messages;
 
 use crate::report_offer::report_run;
@@ -28,9 +30,12 @@ fn report_step<W: Output>(
     report: &mut Report<'_, W>,
 ) -> Result<(), OutFault>
     requires { CanReportStep geometry.now.layout workspace.old number keeping.old step }
-    ensures { ReportsStep geometry.now.layout number step keeping.old keeping.new
-        (progress W.sink report.old) (progress W.sink report.new) workspace.old workspace.new
-        result }
+    ensures reported { ReportsOffers geometry.now.layout
+        (step_offers_again geometry.now.layout number keeping.old.cut (replay_in keeping.old) step)
+        (claim_moment W.Output workspace.old report.old)
+        (claim_moment W.Output workspace.new report.new) result }
+    ensures replays { OnOk result (ReplaysStep geometry.now.layout step keeping.old keeping.new) }
+    ensures runs { CountsStep keeping.old step workspace.old.runs_again workspace.new.runs_again }
 {
     match step {
         Step::Run { start, len, .. } => {
@@ -52,11 +57,9 @@ fn rewalk<I: Image, W: Output>(
     report: &mut Report<'_, W>,
 ) -> Result<(), RunFault>
     requires { CanRewalk geometry.now.layout (I.device image.old) workspace.old number }
-    ensures { Rewalks geometry.now.layout number
-        (cut_in (slice_index workspace.old.notes.items number)) (λ _. inode.now)
-        (I.device image.old) (I.device image.new) (I.reads image.old) (I.reads image.new)
-        (progress W.sink report.old) (progress W.sink report.new) workspace.old workspace.new
-        result }
+    ensures { Rewalks geometry.now.layout number (λ _. inode.now)
+        (sweep_moment I.Image W.Output image.old workspace.old report.old)
+        (sweep_moment I.Image W.Output image.new workspace.new report.new) result }
 {
     let cut = workspace.noted_cut(number);
     let mut keeping = Keeping::start(cut);
@@ -86,11 +89,9 @@ fn rewalk_inode<I: Image, W: Output>(
 ) -> Result<(), RunFault>
     requires { CanRewalk geometry.now.layout (I.device image.old) workspace.old number }
     ensures { Rewalks geometry.now.layout number
-        (cut_in (slice_index workspace.old.notes.items number))
-        (λ bytes. inode_of geometry.now.layout bytes number) (I.device image.old)
-        (I.device image.new) (I.reads image.old + 1) (I.reads image.new)
-        (progress W.sink report.old) (progress W.sink report.new) workspace.old workspace.new
-        result }
+        (λ bytes. inode_of geometry.now.layout bytes number)
+        (after_one_read (sweep_moment I.Image W.Output image.old workspace.old report.old))
+        (sweep_moment I.Image W.Output image.new workspace.new report.new) result }
 {
     let inode = workspace.windows.table.inode(geometry, number, image)?;
     rewalk(geometry, image, workspace, number, &inode, report)

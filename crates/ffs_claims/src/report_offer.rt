@@ -1,10 +1,11 @@
 //! The first kept offers of fragments that have a DUP line, reported once each.
 
-ghost use Rattle.std.specs.Prelude.{[], ◌∷◌};
+ghost use Rattle.std.specs.{List.range_with_len, Prelude.{◌≡◌, [], ◌∷◌, map}};
 ghost use Rattle.ffs_volume.specs.Blocks.{BlockCheck.first_offer_lines, KeptOffers.offer_of};
 ghost use Rattle.ffs_report.specs.Progress.{progress, Says};
 ghost use Rattle.ffs_maps.specs.Bits.{bits_of};
-ghost use Rattle.ffs_claims.specs.{Lines.of_lines, Reporting.{CanReport, ReportsOffer, ReportsRun}};
+ghost use Rattle.ffs_claims.specs.{Lines.of_lines, Moments.claim_moment};
+ghost use Rattle.ffs_claims.specs.Reporting.{CanReport, ReportsOffer, ReportsOffers};
 
 use ffs_layout::Geometry;
 use ffs_report::{Line, OutFault, Output, Report};
@@ -57,8 +58,11 @@ pub fn report_run<W: Output>(
     report: &mut Report<'_, W>,
 ) -> Result<(), OutFault>
     requires { CanReport geometry.now.layout workspace.old number }
-    ensures { ReportsRun geometry.now.layout number start len (progress W.sink report.old)
-        (progress W.sink report.new) workspace.old workspace.new result }
+    ensures reported { ReportsOffers geometry.now.layout
+        (map (offer_of number) (range_with_len start len))
+        (claim_moment W.Output workspace.old report.old)
+        (claim_moment W.Output workspace.new report.new) result }
+    ensures runs { workspace.new.runs_again ≡ workspace.old.runs_again }
 {
     for index in 0..len {
         report_offer(

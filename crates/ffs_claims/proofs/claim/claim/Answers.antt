@@ -24,6 +24,7 @@ returns-then-not-has_steps g c =
       text = says_none
           (λ bytes t. ap (λ xs. of_lines (lines_of_steps v c.args.claimant.now.number s xs)) (none bytes));
       claims = λ bytes t. sym (ap (after_steps v s) (none bytes));
+      image = refl;
       left = claiming_none c.requires.claim;
       walk = c.requires.walk;
       counted = omega arith;
@@ -36,6 +37,7 @@ loop-next-init g c =
     let s = claims_of c.args.workspace.now in
     let walk = rw c.requires.walk at c.restart.ensures.walk c.requires.class_is in
     record {
+      device = refl;
       left = claiming_none c.requires.claim;
       open_still = rw (c.requires.begun.bad, c.requires.begun.dups) refl;
       geometry = c.restart.ensures.geometry ∙ c.requires.walk;
@@ -64,6 +66,7 @@ returns-in_err-next g c =
     rw (p.1, p.2) (record {
       text = of_reads _ _ _ _ _ inv.said;
       claims = tt;
+      image = rw inv.device at err;
       left = grind arith;
       walk = c.next.ensures.same.geometry ∙ inv.geometry;
       counted = omega (arith, inv.counted, (c.in_err-next.ensures.counted inv.held).most);
@@ -87,16 +90,17 @@ returns-in_err-seen g c =
     let v = c.args.geometry.now.layout in
     let s = claims_of c.loop-next.workspace in
     let read = claiming_walked c.in_ok-next.ensures.leaves.read inv.geometry c.next.ensures.leaves.kept inv.left in
-    let next = rw (inv.left.image, c.in-Some.is) at c.in_ok-next.ensures.step.steps in
+    let next = rw (inv.device, c.in-Some.is) at c.in_ok-next.ensures.step.steps in
     let few = seen_bound c.args.workspace.now read.claim.ready.made inv.open_still read.claim_bound in
     let paid = rw c.in-Some.is at (c.in_ok-next.ensures.counted inv.held).paid in
     rw (p.1, p.2) (record {
       text = of_stops _ _ _ _ _ _ _ _ inv.said (lines_on v _ s _ c.loop-next.sweep.walk c.next.new.self
-          c.in-Some.next next refl) c.in_err-seen.ensures.said;
+          c.in-Some.next next refl) c.in_err-seen.ensures.claims.said;
       claims = tt;
-      left = claiming_on read.image c.step.ensures.left (omega (arith, c.step.ensures.runs)) tt read;
+      image = c.in_ok-next.ensures.leaves.read ∙ inv.device;
+      left = claiming_on c.step.ensures.left (omega (arith, c.step.ensures.claims.runs)) tt read;
       walk = c.in_ok-next.ensures.same.geometry ∙ inv.geometry;
-      counted = omega (arith, paid, inv.counted, c.step.ensures.counted);
+      counted = omega (arith, paid, inv.counted, c.step.ensures.claims.counted);
       known = λ bytes t. omega (
         arith,
         paid,
@@ -113,6 +117,7 @@ loop-next-preserved-then-matches g c =
     let read = claiming_walked c.in_ok-next.ensures.leaves.read inv.geometry c.next.ensures.leaves.kept inv.left in
     let same = c.in_ok-next.ensures.same.geometry ∙ inv.geometry in
     let reads = c.in_ok-next.ensures.counted inv.held in
+    let image = c.in_ok-next.ensures.leaves.read ∙ inv.device in
     let is_gap : c.in-Some.next ≡ Gap = elim c.match-matches.branch [
       | in-Gap w ↦ w.in-Gap.is
       | in_default-matches w ↦ cc
@@ -120,10 +125,11 @@ loop-next-preserved-then-matches g c =
     let rest = λ (bytes : List ℕ). steps_left bytes c.skip_gaps.new.self in
     let gaps : ForBytes (IsContents (g.I.Image.device c.args.image.now).contents)
     (λ bytes. steps_left bytes c.loop-next.sweep.walk ≡ Gap ∷ replicate c.skip_gaps.result Gap ++ rest bytes) =
-    λ bytes t. (rw (inv.left.image, c.in-Some.is, is_gap) at c.in_ok-next.ensures.step.steps) bytes t
+    λ bytes t. (rw (inv.device, c.in-Some.is, is_gap) at c.in_ok-next.ensures.step.steps) bytes t
     ∙ ap (λ xs. Gap ∷ xs) (c.skip_gaps.ensures.steps (g.I.Image.device c.next.new.image).contents
-    (rw same read.claim.ready.windows.blocks) bytes (ap (λ d. d.contents) read.image ∙ t)) in
+    (rw same read.claim.ready.windows.blocks) bytes (ap (λ d. d.contents) image ∙ t)) in
     record {
+      device = image;
       left = read;
       open_still = inv.open_still;
       geometry = c.skip_gaps.ensures.same.geometry ∙ same;
@@ -150,7 +156,7 @@ claim_words-requires g c =
     let inv = c.loop-next.invariant in
     let sound = c.args.geometry.now.sound in
     let left = c.step.ensures.left in
-    let now = c.in_ok-seen.ensures in
+    let now = c.in_ok-seen.ensures.claims in
     sees_for (sym (ap (λ k. k.layout) (c.in_ok-next.ensures.same.geometry ∙ inv.geometry)))
     (sees_next sound c.requires.begun left.only.made left.all_in_range (sym now.seen ∙ c.if-not-seen.false)
     (moves_on c.in-Some.next inv.left.claim.ready.made sound.sizes.frag_high
@@ -163,39 +169,41 @@ loop-next-preserved g c =
     let v = c.args.geometry.now.layout in
     let s = claims_of c.loop-next.workspace in
     let read = claiming_walked c.in_ok-next.ensures.leaves.read inv.geometry c.next.ensures.leaves.kept inv.left in
-    let next = rw (inv.left.image, c.in-Some.is) at c.in_ok-next.ensures.step.steps in
+    let next = rw (inv.device, c.in-Some.is) at c.in_ok-next.ensures.step.steps in
     let walk = c.in_ok-next.ensures.same.geometry ∙ inv.geometry in
     let words = words_for (ap (λ k. k.layout) walk) c.claim_words.ensures in
     let reads = c.in_ok-next.ensures.counted inv.held in
     let paid = rw c.in-Some.is at reads.paid in
     let left = c.step.ensures.left in
-    let now = c.in_ok-seen.ensures.claims in
+    let now = c.in_ok-seen.ensures.claims.claims in
     let claimed = ready_still left.only.made left.only.windows read.claim.ready in
     let moves = moves_then _ (claims_of c.step.new.workspace) _
     (moves_on c.in-Some.next inv.left.claim.ready.made c.args.geometry.now.sound.sizes.frag_high
     (rw (inv.geometry, c.in-Some.is) at c.in_ok-next.ensures.step.fits).length now inv.left.claim_bound) words.claim_bound in
-    let image = (g.I.Image.device c.next.new.image).contents in
-    let gives = ap (λ d. d.contents) read.image in
+    let image = c.in_ok-next.ensures.leaves.read ∙ inv.device in
+    let contents = (g.I.Image.device c.next.new.image).contents in
+    let gives = ap (λ d. d.contents) image in
     record {
-      left = claiming_on read.image (record { only = only_then left.only words.only; all_in_range = left.all_in_range })
+      device = image;
+      left = claiming_on (record { only = only_then left.only words.only; all_in_range = left.all_in_range })
           (omega (arith, seen_bound c.args.workspace.now words.only.made words.uncut moves)) moves read;
       open_still = words.uncut;
       geometry = words.same.geometry ∙ walk;
       held = words.counted.held _ (rw (words.only.windows, left.only.windows) reads.held);
-      counted = omega (arith, paid, inv.counted, c.step.ensures.counted, words.rises, words.counted.unread);
+      counted = omega (arith, paid, inv.counted, c.step.ensures.claims.counted, words.rises, words.counted.unread);
       indirect = λ bytes t. omega (
         arith,
         paid,
         inv.indirect bytes t,
         indirect_on v s c.loop-next.sweep.walk c.next.new.self c.in-Some.next inv.open_still next now bytes t,
-        words.indirect image claimed.windows.blocks bytes (gives ∙ t),
+        words.indirect contents claimed.windows.blocks bytes (gives ∙ t),
         words.counted.unread,
       );
       claims = claims_on v s c.loop-next.sweep.walk c.next.new.self _ c.in-Some.next next now inv.claims
-          (λ bytes t. sym (words.claims image claimed.windows.blocks bytes (gives ∙ t)));
+          (λ bytes t. sym (words.claims contents claimed.windows.blocks bytes (gives ∙ t)));
       said = steps_said v n s (claims_of c.step.new.workspace) c.loop-next.sweep.walk c.next.new.self _ c.in-Some.next
-          inv.said next now (λ bytes t. sym (words.lines image claimed.windows.blocks bytes (gives ∙ t) n))
-          c.in_ok-seen.ensures.said;
+          inv.said next now (λ bytes t. sym (words.lines contents claimed.windows.blocks bytes (gives ∙ t) n))
+          c.in_ok-seen.ensures.claims.said;
     }
 
 pub returns-then-not-seen : goal.returns-then-not-seen
@@ -206,23 +214,24 @@ returns-then-not-seen g c =
     let s' = claims_of c.step.new.workspace in
     let n = c.args.claimant.now.number in
     let read = claiming_walked c.in_ok-next.ensures.leaves.read inv.geometry c.next.ensures.leaves.kept inv.left in
-    let now = c.in_ok-seen.ensures in
+    let now = c.in_ok-seen.ensures.claims in
     let few = seen_bound c.args.workspace.now read.claim.ready.made inv.open_still read.claim_bound in
     let cut : is_open s' ≡ false = sym now.seen ∙ c.if-not-seen.true in
-    let next = rw (inv.left.image, c.in-Some.is) at c.in_ok-next.ensures.step.steps in
+    let next = rw (inv.device, c.in-Some.is) at c.in_ok-next.ensures.step.steps in
     let paid = rw c.in-Some.is at (c.in_ok-next.ensures.counted inv.held).paid in
     record {
       text = steps_said v n s s' c.loop-next.sweep.walk c.next.new.self (λ bytes. []) c.in-Some.next inv.said next
           now.claims (λ bytes t. (cut_over v n s' (steps_left bytes c.next.new.self) cut).1)
-          c.in_ok-seen.ensures.said;
+          c.in_ok-seen.ensures.claims.said;
       claims = claims_on v s c.loop-next.sweep.walk c.next.new.self (λ bytes. s') c.in-Some.next next now.claims
           inv.claims (λ bytes t. (cut_over v n s' (steps_left bytes c.next.new.self) cut).0);
-      left = claiming_on read.image c.step.ensures.left (omega (arith, c.step.ensures.runs))
+      image = c.in_ok-next.ensures.leaves.read ∙ inv.device;
+      left = claiming_on c.step.ensures.left (omega (arith, c.step.ensures.claims.runs))
           (moves_on c.in-Some.next inv.left.claim.ready.made c.args.geometry.now.sound.sizes.frag_high
           (rw (inv.geometry, c.in-Some.is) at c.in_ok-next.ensures.step.fits).length now.claims inv.left.claim_bound)
           read;
       walk = c.in_ok-next.ensures.same.geometry ∙ inv.geometry;
-      counted = omega (arith, paid, inv.counted, c.step.ensures.counted);
+      counted = omega (arith, paid, inv.counted, c.step.ensures.claims.counted);
       known = λ bytes t. omega (
         arith,
         paid,
@@ -236,11 +245,12 @@ returns-in_default g c =
     let inv = c.loop-next.invariant in
     let v = c.args.geometry.now.layout in
     let s = claims_of c.loop-next.workspace in
-    let over = rw (inv.left.image, c.in_default.is) at c.in_ok-next.ensures.step.steps in
+    let over = rw (inv.device, c.in_default.is) at c.in_ok-next.ensures.step.steps in
     record {
       text = of_same _ _ _ _ _ _ inv.said
           (λ bytes t. ap (λ xs. of_lines (lines_of_steps v c.args.claimant.now.number s xs)) (over bytes t));
       claims = λ bytes t. sym (ap (after_steps v s) (over bytes t)) ∙ inv.claims bytes t;
+      image = c.in_ok-next.ensures.leaves.read ∙ inv.device;
       left = claiming_walked c.in_ok-next.ensures.leaves.read inv.geometry c.next.ensures.leaves.kept inv.left;
       walk = c.in_ok-next.ensures.same.geometry ∙ inv.geometry;
       counted = omega (arith, rw c.in_default.is at (c.in_ok-next.ensures.counted inv.held).paid, inv.counted);

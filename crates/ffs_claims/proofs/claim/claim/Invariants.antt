@@ -10,8 +10,8 @@ use Rattle.ffs_claims.proofs.claim.claim.Given as goal
 abbrev pub invariant-loop-next : goal.invariant-loop-next
 invariant-loop-next g l = let v = l.geometry.layout in let n = l.claimant.number in let i = l.claimant.inode.now in
     let knows = IsContents (g.I.Image.device l.initial.image).contents in record {
-      left : Claiming v (g.I.Image.device l.initial.image) (g.I.Image.device l.image) l.initial.workspace l.workspace
-          l.sweep.area;
+      device : g.I.Image.device l.image ≡ g.I.Image.device l.initial.image;
+      left : Claiming v (g.I.Image.device l.image) l.initial.workspace l.workspace l.sweep.area;
       open_still : is_open (claims_of l.workspace) ≡ true;
       geometry : l.sweep.walk.geometry ≡ l.geometry;
       held : AreHeld l.workspace.windows.blocks l.sweep.walk;

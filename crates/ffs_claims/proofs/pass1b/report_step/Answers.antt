@@ -1,6 +1,6 @@
 use Rattle.std.proofs.{Common.{inl, inr, arith, refl, rules}, lemmas.Result.on_ok_weaker}
 use Rattle.ffs_report.{proofs.Reports.said_none, specs.Progress.progress}
-use Rattle.ffs_claims.proofs.{Frames.reports_none, Reportings.{reported_from, reported_none}}
+use Rattle.ffs_claims.proofs.{Frames.reports_none, Reportings.{reported_from, reported_none}, TableReads.on_any}
 use Rattle.ffs_claims.proofs.pass1b.report_step.Goals as goal
 
 pub returns-in-Run : goal.returns-in-Run
@@ -10,16 +10,14 @@ returns-in-Run g c =
     let count = c.take-taken.ensures.count c.args.geometry.now.layout r.start c.in_range.ensures in
     let did = c.report_run.ensures in
     rw r.is (record {
-      said = rw (c.requires.going, ← count) did.said;
-      reported = on_ok_weaker c.report_run.result (λ p. record {
-        reported = rw (c.requires.going, ← count)
-            (reported_from c.args.workspace.now _ c.report_run.new.workspace p refl refl);
-        next = replays.after;
-        cut = c.take-taken.ensures.cut;
-      }) did.reported;
-      runs = grind arith;
-      counted = grind arith;
-      only = search rules;
+      reported = record {
+        said = rw (c.requires.going, ← count) did.reported.said;
+        reported = on_ok_weaker c.report_run.result (λ p. rw (c.requires.going, ← count)
+            (reported_from c.args.workspace.now _ c.report_run.new.workspace p refl refl)) did.reported.reported;
+        only = search rules;
+      };
+      replays = on_any c.report_run.result (record { next = replays.after; cut = c.take-taken.ensures.cut });
+      runs = record { runs = grind arith; counted = grind arith };
     })
 
 pub returns-in-Tail : goal.returns-in-Tail

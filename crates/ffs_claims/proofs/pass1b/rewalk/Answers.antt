@@ -76,19 +76,19 @@ returns-in_err-report_step g c =
     let r = replay_in c.loop-next.keeping in
     let r' = replay_step_by_cut v cut r c.in-Some.next in
     let on = rereads_on c.in_ok-next.ensures.leaves.read inv.geometry c.next.ensures.leaves.kept
-    c.report_step.ensures.only inv.left in
+    c.report_step.ensures.reported.only inv.left in
     let next = rw (inv.left.image, c.in-Some.is) at c.in_ok-next.ensures.step.steps in
     rw (p.1, p.2) (record {
       text = of_stops _ _ _ _ _ _ _ _ inv.said (λ bytes t. lines_step v n cut r r' c.in-Some.next
           (steps_left bytes c.loop-next.walk) (steps_left bytes c.next.new.self) d _ (next bytes t) refl refl)
-          (rw inv.cut at c.in_err-report_step.ensures.said);
+          (rw inv.cut at c.in_err-report_step.ensures.reported.said);
       rewalked = tt;
       runs = λ bytes t.
           let rest = runs_next v cut r r' c.in-Some.next (steps_left bytes c.loop-next.walk)
           (steps_left bytes c.next.new.self) (next bytes t) refl in
-          omega (arith, (inv.walk bytes t).runs, rw inv.cut at c.report_step.ensures.runs.most);
+          omega (arith, (inv.walk bytes t).runs, rw inv.cut at c.report_step.ensures.runs.runs.most);
       left = record { image = on.image; ready = on.ready; claims = on.claims };
-      counted = runs_pay_ends _ _ _ _ _ inv.counted c.report_step.ensures.counted
+      counted = runs_pay_ends _ _ _ _ _ inv.counted c.report_step.ensures.runs.counted
           (rw c.in-Some.is at (c.in_ok-next.ensures.counted inv.held).paid);
     })
 
@@ -99,9 +99,10 @@ loop-next-preserved-then-matches g c =
     let cut = cut_in (slice_index c.args.workspace.now.notes.items c.args.number) in
     let r' = replay_in c.report_step.new.keeping in
     let on = rereads_on c.in_ok-next.ensures.leaves.read inv.geometry c.next.ensures.leaves.kept
-    c.report_step.ensures.only inv.left in
+    c.report_step.ensures.reported.only inv.left in
     let reads = c.in_ok-next.ensures.counted inv.held in
-    let did = c.in_ok-report_step.ensures.reported in
+    let reported = c.in_ok-report_step.ensures.reported.reported in
+    let did = c.in_ok-report_step.ensures.replays in
     let same = c.in_ok-next.ensures.same.geometry ∙ inv.geometry in
     let next = rw (inv.left.image, c.in-Some.is) at c.in_ok-next.ensures.step.steps in
     let gaps : ForBytes (IsContents (g.I.Image.device c.args.image.now).contents)
@@ -115,25 +116,26 @@ loop-next-preserved-then-matches g c =
       going = rw (did.cut ∙ inv.cut) at (sym c.is_replay_open.ensures ∙ c.if-not-is_replay_open.false);
       pending = some_left _ _ c.has_unreported_dups.ensures c.if-not-has_unreported_dups.false;
       geometry = c.skip_gaps.ensures.same.geometry ∙ same;
-      held = c.skip_gaps.ensures.counted.held _ (rw c.report_step.ensures.only.windows reads.held);
-      counted = runs_pay_on _ _ _ _ _ _ inv.counted c.report_step.ensures.counted (rw c.in-Some.is at reads.paid)
+      held = c.skip_gaps.ensures.counted.held _ (rw c.report_step.ensures.reported.only.windows reads.held);
+      counted = runs_pay_on _ _ _ _ _ _ inv.counted c.report_step.ensures.runs.counted (rw c.in-Some.is at reads.paid)
           c.skip_gaps.ensures.counted.unread;
       walk = λ bytes t. rewalk_gaps c.skip_gaps.result (gaps bytes t)
-          (rewalk_on inv.cut (next bytes t) inv.going inv.pending did c.report_step.ensures.runs (inv.walk bytes t));
-      said = rewalk_said c.loop-next.walk c.next.new.self _ inv.cut inv.said next did (λ bytes t. rw (
+          (rewalk_on inv.cut (next bytes t) inv.going inv.pending reported did c.report_step.ensures.runs.runs (inv.walk bytes t));
+      said = rewalk_said c.args.number c.loop-next.walk c.next.new.self _ inv.cut inv.said next reported did (λ bytes t. rw (
         gaps bytes t,
         (again_gaps v c.args.number cut r' c.skip_gaps.result (steps_left bytes c.skip_gaps.new.self)).0,
       ) refl)
-          c.in_ok-report_step.ensures.said;
+          c.in_ok-report_step.ensures.reported.said;
     }
 
 pub loop-next-preserved : goal.loop-next-preserved
 loop-next-preserved g c =
     let inv = c.loop-next.invariant in
     let on = rereads_on c.in_ok-next.ensures.leaves.read inv.geometry c.next.ensures.leaves.kept
-    c.report_step.ensures.only inv.left in
+    c.report_step.ensures.reported.only inv.left in
     let reads = c.in_ok-next.ensures.counted inv.held in
-    let did = c.in_ok-report_step.ensures.reported in
+    let reported = c.in_ok-report_step.ensures.reported.reported in
+    let did = c.in_ok-report_step.ensures.replays in
     let next = rw (inv.left.image, c.in-Some.is) at c.in_ok-next.ensures.step.steps in
     record {
       left = on;
@@ -141,13 +143,13 @@ loop-next-preserved g c =
       going = rw (did.cut ∙ inv.cut) at (sym c.is_replay_open.ensures ∙ c.if-not-is_replay_open.false);
       pending = some_left _ _ c.has_unreported_dups.ensures c.if-not-has_unreported_dups.false;
       geometry = c.in_ok-next.ensures.same.geometry ∙ inv.geometry;
-      held = rw c.report_step.ensures.only.windows reads.held;
-      counted = runs_pay_on _ _ _ _ _ _ inv.counted c.report_step.ensures.counted (rw c.in-Some.is at reads.paid)
+      held = rw c.report_step.ensures.reported.only.windows reads.held;
+      counted = runs_pay_on _ _ _ _ _ _ inv.counted c.report_step.ensures.runs.counted (rw c.in-Some.is at reads.paid)
           (omega arith);
       walk = λ bytes t.
-          rewalk_on inv.cut (next bytes t) inv.going inv.pending did c.report_step.ensures.runs (inv.walk bytes t);
-      said = rewalk_said c.loop-next.walk c.next.new.self _ inv.cut inv.said next did (λ bytes t. refl)
-          c.in_ok-report_step.ensures.said;
+          rewalk_on inv.cut (next bytes t) inv.going inv.pending reported did c.report_step.ensures.runs.runs (inv.walk bytes t);
+      said = rewalk_said c.args.number c.loop-next.walk c.next.new.self _ inv.cut inv.said next reported did (λ bytes t. refl)
+          c.in_ok-report_step.ensures.reported.said;
     }
 
 pub returns-then-not-is_replay_open : goal.returns-then-not-is_replay_open
@@ -155,21 +157,22 @@ unfolding runs_until_reported
 returns-then-not-is_replay_open g c =
     let inv = c.loop-next.invariant in
     let d' = bits_of c.report_step.new.workspace.duplicates in
-    let did = c.in_ok-report_step.ensures.reported in
+    let reported = c.in_ok-report_step.ensures.reported.reported in
+    let did = c.in_ok-report_step.ensures.replays in
     let shut = rw (did.cut ∙ inv.cut) at (sym c.is_replay_open.ensures ∙ c.if-not-is_replay_open.true) in
     let next = rw (inv.left.image, c.in-Some.is) at c.in_ok-next.ensures.step.steps in
     let walk = λ (bytes : List ℕ) (t : IsContents (g.I.Image.device c.args.image.now).contents bytes).
-    rewalk_on inv.cut (next bytes t) inv.going inv.pending did c.report_step.ensures.runs (inv.walk bytes t) in
+    rewalk_on inv.cut (next bytes t) inv.going inv.pending reported did c.report_step.ensures.runs.runs (inv.walk bytes t) in
     let none = λ (bytes : List ℕ). again_stopped c.args.geometry.now.layout c.args.number _ _
     (steps_left bytes c.next.new.self) shut in
     record {
-      text = rewalk_said c.loop-next.walk c.next.new.self (λ bytes. []) inv.cut inv.said next did
-          (λ bytes t. ap (first_offer_lines d') (none bytes).0) c.in_ok-report_step.ensures.said;
+      text = rewalk_said c.args.number c.loop-next.walk c.next.new.self (λ bytes. []) inv.cut inv.said next reported did
+          (λ bytes t. ap (first_offer_lines d') (none bytes).0) c.in_ok-report_step.ensures.reported.said;
       rewalked = λ bytes t. rewalk_ends (none bytes).0 (ap (runs_until_reported d') (none bytes).1) (walk bytes t);
       runs = λ bytes t. omega (arith, (walk bytes t).runs);
       left = rereads_on c.in_ok-next.ensures.leaves.read inv.geometry c.next.ensures.leaves.kept
-          c.report_step.ensures.only inv.left;
-      counted = runs_pay_ends _ _ _ _ _ inv.counted c.report_step.ensures.counted
+          c.report_step.ensures.reported.only inv.left;
+      counted = runs_pay_ends _ _ _ _ _ inv.counted c.report_step.ensures.runs.counted
           (rw c.in-Some.is at (c.in_ok-next.ensures.counted inv.held).paid);
     }
 
@@ -177,19 +180,20 @@ pub returns-then-not-has_unreported_dups : goal.returns-then-not-has_unreported_
 returns-then-not-has_unreported_dups g c =
     let inv = c.loop-next.invariant in
     let d' = bits_of c.report_step.new.workspace.duplicates in
-    let did = c.in_ok-report_step.ensures.reported in
+    let reported = c.in_ok-report_step.ensures.reported.reported in
+    let did = c.in_ok-report_step.ensures.replays in
     let none = none_left (set_count d') _ c.has_unreported_dups.ensures c.if-not-has_unreported_dups.true in
     let next = rw (inv.left.image, c.in-Some.is) at c.in_ok-next.ensures.step.steps in
     let walk = λ (bytes : List ℕ) (t : IsContents (g.I.Image.device c.args.image.now).contents bytes).
-    rewalk_on inv.cut (next bytes t) inv.going inv.pending did c.report_step.ensures.runs (inv.walk bytes t) in
+    rewalk_on inv.cut (next bytes t) inv.going inv.pending reported did c.report_step.ensures.runs.runs (inv.walk bytes t) in
     record {
-      text = rewalk_said c.loop-next.walk c.next.new.self (λ bytes. []) inv.cut inv.said next did
-          (λ bytes t. none_first d' _ none) c.in_ok-report_step.ensures.said;
+      text = rewalk_said c.args.number c.loop-next.walk c.next.new.self (λ bytes. []) inv.cut inv.said next reported did
+          (λ bytes t. none_first d' _ none) c.in_ok-report_step.ensures.reported.said;
       rewalked = λ bytes t. rewalk_over none (walk bytes t);
       runs = λ bytes t. omega (arith, (walk bytes t).runs);
       left = rereads_on c.in_ok-next.ensures.leaves.read inv.geometry c.next.ensures.leaves.kept
-          c.report_step.ensures.only inv.left;
-      counted = runs_pay_ends _ _ _ _ _ inv.counted c.report_step.ensures.counted
+          c.report_step.ensures.reported.only inv.left;
+      counted = runs_pay_ends _ _ _ _ _ inv.counted c.report_step.ensures.runs.counted
           (rw c.in-Some.is at (c.in_ok-next.ensures.counted inv.held).paid);
     }
 

@@ -28,5 +28,5 @@ returns-in_err-inode g c =
     })
 
 pub returns : goal.returns
-returns g c = rewalks_from c.in_ok-inode.inode (g.I.Image.device c.args.image.now) _
-    c.in_ok-inode.ensures.reads.read c.in_ok-inode.ensures.reads.inode c.inode.ensures.counted c.rewalk.ensures
+returns g c = rewalks_from c.in_ok-inode.inode _ c.in_ok-inode.ensures.reads.read c.in_ok-inode.ensures.reads.inode
+    c.inode.ensures.counted c.rewalk.ensures

@@ -15,15 +15,15 @@ loop-index-init g c =
       said = to_begins _ _;
     })
 
-pub returns-in_err-report_offer : goal.returns-in_err-report_offer
-returns-in_err-report_offer g c =
+pub returns-in_err-report_offer-clause-reported : goal.returns-in_err-report_offer-clause-reported
+returns-in_err-report_offer-clause-reported g c =
     let f = c.from.result + c.from-in-loop-index.result in
     rw ((err_from_is_err_and c.from_residual.result c.from_residual.ensures.1).1) (record {
       said = to_stops _ _ _ _ _ _ _ c.loop-index.invariant.said (lines_split _ _ _ (offer_of c.args.number f ∷ []) _
           (run_next c.args.number c.args.start c.args.len c.loop-index.index f c.loop-index-test.true (omega arith))
           refl) c.in_err-report_offer.ensures.said;
       reported = tt;
-      only = offers_reported_then c.loop-index.invariant.only c.report_offer.ensures.reported.only;
+      only = (offers_reported_then c.loop-index.invariant.only c.report_offer.ensures.reported.only).reporting;
     })
 
 pub loop-index-preserved : goal.loop-index-preserved
@@ -40,13 +40,13 @@ loop-index-preserved g c =
           c.in_ok-report_offer.ensures.said;
     }
 
-pub returns : goal.returns
-returns g c =
+pub returns-clause-reported : goal.returns-clause-reported
+returns-clause-reported g c =
     let inv = c.loop-index.invariant in
     let over = run_over c.args.number c.args.start c.args.len c.loop-index.index (omega arith) in
     record {
       said = to_ends _ _ _ _ inv.said
           (ap (λ (os : List Offer). of_lines (first_offer_lines (bits_of c.loop-index.workspace.duplicates) os)) over);
       reported = reporting_ends inv.reported over;
-      only = inv.only;
+      only = inv.only.reporting;
     }
