@@ -107,7 +107,8 @@ pub fn say_count<W: Output>(
         (claims_of workspace.now))) result }
 {
     let right = workspace.kept * (u64::from(geometry.layout.fsize) / DEV_BSIZE);
-    if is_file_or_dir(class) && is_open(workspace) && u64::from(found) != right {
+    // Most counts are right: that is asked first.
+    if u64::from(found) != right && is_file_or_dir(class) && is_open(workspace) {
         return report.say(&Line::Block(BlockMessage::BlockCount {
             inode: number,
             found,
