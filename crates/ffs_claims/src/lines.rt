@@ -1,10 +1,11 @@
 //! The lines of phase 1.
 
-ghost use Rattle.std.specs.Prelude.{◌≡◌, ◌<◌, ◌^◌};
+ghost use Rattle.std.specs.Prelude.{◌≡◌, ◌==◌, ◌&&◌, ◌<◌, ◌^◌, not};
 ghost use Rattle.ffs_volume.specs.Blocks.{BlockCheck.{class_lines, count_lines}, Inodes.is_file_or_dir};
 ghost use Rattle.ffs_report.specs.Progress.{progress, Says};
 ghost use Rattle.ffs_workspace.specs.Holds.{claims_of};
 ghost use Rattle.ffs_claims.specs.Lines.{of_lines, counted_owner, dup_lines, bad_lines};
+ghost use Rattle.ffs_volume.specs.Blocks.Claims as claims;
 
 use crate::offer::is_open;
 use ffs_layout::Geometry;
@@ -88,6 +89,16 @@ fn is_file_or_dir(class: Class) -> bool
     }
 }
 
+/// Whether an inode's count of sectors isn't the right one, where that is known: of a file or a
+/// directory that isn't cut. Most counts are right: so that is asked first.
+#[inline(always)]
+fn is_wrong_count(workspace: &Workspace, class: Class, found: u32, right: u64) -> bool
+    ensures { result ≡ (is_file_or_dir class
+        && (claims.is_open (claims_of workspace.now) && not (found == right))) }
+{
+    u64::from(found) != right && is_file_or_dir(class) && is_open(workspace)
+}
+
 /// Reports an inode whose count of sectors of 512 bytes is wrong.
 ///
 /// # Errors
@@ -107,7 +118,7 @@ pub fn say_count<W: Output>(
         (claims_of workspace.now))) result }
 {
     let right = workspace.kept * (u64::from(geometry.layout.fsize) / DEV_BSIZE);
-    if is_file_or_dir(class) && is_open(workspace) && u64::from(found) != right {
+    if is_wrong_count(workspace, class, found, right) {
         return report.say(&Line::Block(BlockMessage::BlockCount {
             inode: number,
             found,

@@ -28,11 +28,8 @@ fn kind_of(class: Class, inode: &Inode) -> u8
     match class {
         Class::Free | Class::Partial => 0,
         Class::Unknown => UNKNOWN_KIND,
-        Class::Dir => if inode.size == 0 {
-            EMPTY_DIR_KIND
-        } else {
-            DT_DIR
-        },
+        Class::Dir if inode.size == 0 => EMPTY_DIR_KIND,
+        Class::Dir => DT_DIR,
         Class::File => (inode.mode / 4096) as u8, // the type: the mode's upper four bits
     }
 }
@@ -61,17 +58,6 @@ fn cut_of(workspace: &Workspace) -> u32
     workspace.kept.min(4294967295) as u32
 }
 
-/// Where the count of an inode's references starts.
-#[inline(always)]
-fn start_of(class: Class, inode: &Inode) -> u64
-    ensures { result ≡ start_of class inode.now }
-{
-    match class {
-        Class::File | Class::Dir | Class::Unknown => links_start(inode.nlink),
-        Class::Free | Class::Partial => 0,
-    }
-}
-
 /// Sets what is noted of an inode, if that isn't what the list holds already: so its memory is
 /// touched only for inodes of which something is noted.
 #[inline(always)]
@@ -84,15 +70,20 @@ fn store_note(list: &mut FilledList<u32>, number: usize, note: u32)
     }
 }
 
-/// Sets where the count of an inode's references starts, in the same way: memory is touched only
-/// for inodes that are in use.
+/// Sets where the count of an inode's references starts. That isn't 0 where the inode is in use: for
+/// others memory is touched only where the list has another number.
 #[inline(always)]
-fn store_start(list: &mut FilledList<u64>, number: usize, start: u64)
+fn store_start(list: &mut FilledList<u64>, number: usize, class: Class, inode: &Inode)
     requires { number < vec_len list.old }
-    ensures { list.new.items ≡ slice_set list.old.items number start }
+    ensures { list.new.items ≡ slice_set list.old.items number (start_of class inode.now) }
 {
-    if list[number] != start {
-        list.set(number, start);
+    match class {
+        Class::File | Class::Dir | Class::Unknown => list.set(number, links_start(inode.nlink)),
+        Class::Free | Class::Partial => {
+            if list[number] != 0 {
+                list.set(number, 0);
+            }
+        }
     }
 }
 
@@ -114,9 +105,5 @@ pub fn store(workspace: &mut Workspace, number: u32, class: Class, inode: &Inode
     workspace.kinds[number as usize] = kind;
     workspace.marked[number as usize] = marked;
     store_note(&mut workspace.notes, number as usize, note);
-    store_start(
-        &mut workspace.references,
-        number as usize,
-        start_of(class, inode),
-    );
+    store_start(&mut workspace.references, number as usize, class, inode);
 }

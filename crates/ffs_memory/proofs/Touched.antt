@@ -1,9 +1,9 @@
 -- Lists of which some elements are touched, and one value is in the rest of their memory.
-use Rattle.std.proofs.Common.{◌≡◌, ◌<◌, ◌+◌, ◌-◌, ◌++◌, ◌∙◌, ℕ, zero, suc, List, ap, arith, get_or, inl, inr, length, min}
+use Rattle.std.proofs.Common.{◌≡◌, ◌<◌, ◌+◌, ◌-◌, ◌++◌, ◌∷◌, ◌∙◌, [], ℕ, zero, suc, List, ap, arith, get_or, inl, inr, length, min}
 use Rattle.std.proofs.Common.{refl, replicate, slice_set, sym, vec_len}
 use Rattle.std.proofs.lemmas.List.{append_assoc, get_or-append_right, length-append, length-replicate}
 use Rattle.std.proofs.lemmas.List.{replicate-append-replicate, set-append_left}
-use Rattle.std.proofs.{Math.ListN.{get_or-append}, lemmas.Bool.cases_lt}
+use Rattle.std.proofs.{Math.{ListN.get_or-append, Seq.set-append_seam}, lemmas.Bool.cases_lt}
 use Rattle.std.specs.{Prelude.vec_capacity, declared.{vec.Vec.Vec, alloc.Global.Global}}
 use Rattle.ffs_memory.specs.{Filled.{filled, LimitsItems}, Words.Touches}
 
@@ -22,6 +22,15 @@ module _ {A : Type 0} where
   pub set_filled : (touched : Vec A Global) (index n : ℕ) (x y : A) → index < vec_len touched →
       slice_set touched.items index y ++ replicate n x ≡ slice_set (touched.items ++ replicate n x) index y
   set_filled touched index n x y inside = grind (arith, set-append_left)
+
+  -- the element after the touched ones is set
+  pub set_next : (touched : Vec A Global) (n m : ℕ) (x y : A) → m ≡ suc n →
+      (touched.items ++ y ∷ []) ++ replicate n x
+      ≡ slice_set (touched.items ++ replicate m x) (length touched.items) y
+  set_next touched n m x y more =
+      append_assoc touched.items (y ∷ []) (replicate n x)
+      ∙ sym (set-append_seam touched.items x (replicate n x) y)
+      ∙ ap (λ k. slice_set (touched.items ++ replicate k x) (length touched.items) y) (sym more)
 
 -- one number again and again, limited
 limit_rest : (n x most k : ℕ) → get_or (replicate n (min x most)) k 0 ≡ min (get_or (replicate n x) k 0) most

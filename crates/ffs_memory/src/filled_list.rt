@@ -54,8 +54,13 @@ impl<T: Copy> FilledList<T> {
         requires { index < vec_len self.old }
         ensures { Sets self.old self.new index value }
     {
-        touch(&mut self.touched, index, self.rest);
-        self.touched[index] = value;
+        // Many lists are filled in the order of their indices.
+        if self.touched.len() == index {
+            self.touched.push_reserved(value);
+        } else {
+            touch(&mut self.touched, index, self.rest);
+            self.touched[index] = value;
+        }
     }
 
     /// Sets all elements to one value. None is touched then, and the memory is kept.

@@ -12,17 +12,13 @@ pub(crate) fn touch<T: Copy>(touched: &mut Vec<T>, index: usize, rest: T)
     ensures { Touches touched.old touched.new index rest }
 {
     if touched.len() <= index {
-        if touched.len() == index {
-            touched.push_reserved(rest);
-        } else {
-            touch_more(touched, index, rest);
-        }
+        touch_more(touched, index, rest);
     }
 }
 
 /// Does what `touch` does, for any number of elements. It isn't inlined, since an element that is
-/// asked for is mostly touched already, or is the next one. The list is a local value meanwhile, so
-/// that all elements are written in one go.
+/// asked for is mostly touched already. The list is a local value meanwhile, so that all elements
+/// are written in one go.
 #[inline(never)]
 fn touch_more<T: Copy>(touched: &mut Vec<T>, index: usize, rest: T)
     requires { index < vec_capacity touched.old }

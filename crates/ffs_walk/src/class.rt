@@ -9,6 +9,7 @@ use crate::pieces::{after_pieces, pieces_of};
 use ffs_layout::Geometry;
 use ffs_volume::constants::{DT_BLK, DT_CHR, DT_DIR, DT_FIFO, DT_LNK, DT_REG, DT_SOCK, NDADDR};
 use ffs_volume::{Class, Inode};
+use std::simd::prelude::*;
 
 /// How many of the fifteen addresses a file of `blocks` logical blocks uses, where an indirect
 /// block has `words` addresses.
@@ -42,18 +43,26 @@ pub fn last_length(geometry: &Geometry, inode: &Inode) -> u32
     }
 }
 
+/// The type of an inode (fs(5)): the upper four bits of its mode.
+#[inline(always)]
+fn type_of(inode: &Inode) -> u8
+    ensures { result ≡ inodes.type_of inode.now.mode }
+{
+    (inode.mode / 4096) as u8
+}
+
 /// Whether this is the type of a character or a block device.
-fn is_device(kind: u16) -> bool
+fn is_device(kind: u8) -> bool
     ensures { result ≡ inodes.is_device kind }
 {
-    kind == u16::from(DT_CHR) || kind == u16::from(DT_BLK)
+    matches!(kind, DT_CHR | DT_BLK)
 }
 
 /// Whether an inode is of a symbolic link whose text is in the inode.
 fn is_short_symlink(geometry: &Geometry, inode: &Inode) -> bool
     ensures { result ≡ inodes.is_short_symlink geometry.now.layout inode.now }
 {
-    inode.mode / 4096 == u16::from(DT_LNK) && inode.size < u64::from(geometry.layout.maxsymlinklen)
+    type_of(inode) == DT_LNK && inode.size < u64::from(geometry.layout.maxsymlinklen)
 }
 
 /// Whether an address isn't zero.
@@ -70,18 +79,17 @@ fn any_nonzero(addresses: &[u32; 15]) -> bool
 }
 
 /// Whether an address from an index on isn't zero, by a bit for each address. All fifteen are
-/// looked at, with no branch that depends on the index: sizes of files are mixed, and no processor
-/// foresees such a branch.
+/// looked at together, with no branch that depends on the index: sizes of files are mixed, and no
+/// processor foresees such a branch.
 #[inline(always)]
 fn any_address_from(addresses: &[u32; 15], from: usize) -> bool
     requires { from ≤ 15 }
     ensures { result ≡ inodes.any_nonzero (drop from addresses.now) }
 {
-    let mut bits = 0u32;
-    for index in 0..15 {
-        bits |= u32::from(addresses[index] != 0) << index;
-    }
-    bits >> from != 0
+    let mut lanes = [0; 16];
+    lanes[..15].copy_from_slice(addresses);
+    let nonzero = u32x16::from_array(lanes).simd_ne(u32x16::splat(0));
+    nonzero.to_bitmask() >> from != 0
 }
 
 /// Whether the addresses of an inode of the class are walked.
@@ -93,7 +101,7 @@ fn is_walked(geometry: &Geometry, inode: &Inode, class: Class) -> bool
         Class::File | Class::Dir => true,
         _ => false,
     };
-    walks && !(is_device(inode.mode / 4096) || is_short_symlink(geometry, inode))
+    walks && !(is_device(type_of(inode)) || is_short_symlink(geometry, inode))
 }
 
 /// Whether an inode of the class has steps: its addresses are walked, and it isn't empty.
@@ -120,11 +128,11 @@ fn greatest_size(geometry: &Geometry) -> u64
 /// Whether an inode of this size, of 2^31 bytes or more, is too large: a directory always is.
 #[cold]
 #[inline(never)]
-fn is_refused_size(geometry: &Geometry, kind: u16, size: u64) -> bool
+fn is_refused_size(geometry: &Geometry, kind: u8, size: u64) -> bool
     ensures { 2147483647 < size → (inode : Inode) → inodes.type_of inode.mode ≡ kind
         → inode.size ≡ size → result ≡ inodes.is_too_large geometry.now.layout inode }
 {
-    kind == u16::from(DT_DIR) || greatest_size(geometry) < size
+    kind == DT_DIR || greatest_size(geometry) < size
 }
 
 /// Whether an inode of the type and the size is larger than its addresses reach, or is a directory
@@ -132,7 +140,7 @@ fn is_refused_size(geometry: &Geometry, kind: u16, size: u64) -> bool
 /// further.
 #[inline(always)]
 #[tactic(auto, using(crate::proofs::Sizes::size_large))]
-fn is_too_large(geometry: &Geometry, kind: u16, size: u64) -> bool
+fn is_too_large(geometry: &Geometry, kind: u8, size: u64) -> bool
     ensures { (inode : Inode) → inodes.type_of inode.mode ≡ kind → inode.size ≡ size
         → result ≡ inodes.is_too_large geometry.now.layout inode }
 {
@@ -167,7 +175,7 @@ fn addresses_allowed(geometry: &Geometry, inode: &Inode) -> usize
         return inode.size.div_ceil(4) as usize;
     }
     let blocks = logical_blocks_of(geometry, inode);
-    let counted = if is_device(inode.mode / 4096) {
+    let counted = if is_device(type_of(inode)) {
         blocks + 1
     } else {
         blocks
@@ -176,15 +184,13 @@ fn addresses_allowed(geometry: &Geometry, inode: &Inode) -> usize
 }
 
 /// Whether this is one of the seven types of fs(5).
-fn is_known_type(kind: u16) -> bool
+fn is_known_type(kind: u8) -> bool
     ensures { result ≡ inodes.is_known_type kind }
 {
-    kind == u16::from(DT_FIFO)
-        || is_device(kind)
-        || kind == u16::from(DT_DIR)
-        || kind == u16::from(DT_REG)
-        || kind == u16::from(DT_LNK)
-        || kind == u16::from(DT_SOCK)
+    matches!(
+        kind,
+        DT_FIFO | DT_CHR | DT_DIR | DT_BLK | DT_REG | DT_LNK | DT_SOCK
+    )
 }
 
 /// The class of an inode, by its mode, its size and its addresses (fs(5)).
@@ -193,8 +199,7 @@ fn is_known_type(kind: u16) -> bool
 pub fn class_of(geometry: &Geometry, inode: &Inode) -> Class
     ensures { result ≡ inodes.class_of geometry.now.layout inode.now }
 {
-    // The type is the upper four bits of the mode.
-    let kind = inode.mode / 4096;
+    let kind = type_of(inode);
     if kind == 0 {
         return if inode.mode == 0 && inode.size == 0 && !any_nonzero(&inode.addresses) {
             Class::Free
@@ -212,7 +217,7 @@ pub fn class_of(geometry: &Geometry, inode: &Inode) -> Class
     if any_address_from(&inode.addresses, used) {
         return Class::Unknown;
     }
-    if kind == u16::from(DT_DIR) {
+    if kind == DT_DIR {
         Class::Dir
     } else {
         Class::File
