@@ -7,8 +7,8 @@
 //! ```text
 //! let mut image = MemoryImage::new(bytes);
 //! let args = Args { name: "an image in memory", sector: None };
-//! let mut report = Vec::new(alloc);
-//! let end = check(alloc, &mut image, &args, &mut Counted::new(&mut report));
+//! let mut text = Vec::new(alloc);
+//! let end = check(alloc, &mut image, &args, &mut Counted::new(&mut text));
 //! ```
 //!
 //! The same in parts, each by its own call, with one report for all of them:
@@ -23,9 +23,14 @@
 //!
 //! ```text
 //! let geometry = &superblock.geometry;
+//! let mut report = Report::new(&mut out);
 //! phase1(geometry, &mut image, &mut workspace, &mut report)?;
 //! if workspace.has_dups() { phase1b(geometry, &mut image, &mut workspace, &mut report)?; }
-//! let root = phase2(geometry, &mut image, &mut workspace, &mut report)?;
+//! if let Root::Stop = phase2(geometry, &mut image, &mut workspace, &mut report)? { return Ok(()); }
+//! phase3(geometry, &mut image, &mut workspace, &mut report)?;
+//! phase4(geometry, &mut image, &mut workspace, &mut report)?;
+//! phase5(&superblock, &mut image, &mut workspace, &mut report)?;
+//! summary(&superblock, &workspace, &mut report)?;
 //! ```
 //!
 //! `run` is what the program runs. `check_rest`, `path_of`, `Chunks` with `runs`, and the fields of a
