@@ -1,18 +1,27 @@
 -- What a survey finds, which directories it flags, and what it leaves as it was.
-use Rattle.std.specs.Prelude.{ℕ, List, Result}
+use Rattle.std.specs.Prelude.{◌≡◌, ℕ, false, List, Result, slice_index}
 use Rattle.ffs_image.specs.{Device.Device, Reads.ReadAfter, declared.image.ImageFault.ImageFault}
 use Rattle.ffs_volume.specs.{declared.Layout.Layout, Directories.{Roles.roled_entries, Volumes.volume_of}}
 use Rattle.ffs_survey.specs.Calm.{AreCalm}
-use Rattle.ffs_volume.specs.Directories.Calm.{is_right_directory}
+use Rattle.ffs_volume.specs.{Directories.Calm.is_right_directory, Encodings.Lists.bool_at}
 use Rattle.ffs_workspace.specs.{declared.workspace.Workspace.Workspace, Leaves.LeavesBlockCheck, Ready.IsReady}
 use Rattle.ffs_workspace.specs.Holds.{HoldsClaims, HoldsReferences, HoldsSurvey}
 
--- what a survey leaves: the workspace is ready for the next call, and the image was only read
+-- what a survey leaves: the workspace is ready for the next call, `queue` is zero, so that it notes no
+-- place of a parent entry, and the image was only read
 pub record LeavesClaims {T : Type 0} (v : Layout) (d d' : Device) (old new : Workspace) (result : Result T ImageFault) :
     Type 0 where
   pub same : LeavesBlockCheck old new
+  pub unnoted : (x : ℕ) → slice_index new.queue.items x ≡ 0
   pub ready : IsReady v d' new
   pub read : ReadAfter d d' result
+
+-- a survey of a workspace that was surveyed before reads nothing, and changes nothing but that no flag is set
+-- and no place is noted
+pub record SurveysNoMore (reads reads' : ℕ) (old new : Workspace) : Type 0 where
+  pub unread : reads' ≡ reads
+  pub stays : new ≡ record old { flags = new.flags; queue = new.queue }
+  pub unflagged : (x : ℕ) → bool_at new.flags.items x ≡ false
 
 -- `flags` has only calm directories, by the kinds and marks of the workspace
 pub record FlagsCalm (v : Layout) (b : List ℕ) (w : Workspace) : Type 0 where

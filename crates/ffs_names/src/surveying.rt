@@ -1,9 +1,9 @@
 //! The survey of a volume's directories.
 
-ghost use Rattle.std.specs.Prelude.{◌≡◌, ◌+◌, ◌≤◌, false, OnOk};
+ghost use Rattle.std.specs.Prelude.{◌≡◌, ◌+◌, ◌≤◌, false, true, OnOk};
 ghost use Rattle.ffs_image.specs.Device.{ForContents};
 ghost use Rattle.ffs_workspace.specs.{Ready.IsReady, Holds.HoldsClaims};
-ghost use Rattle.ffs_names.specs.{Surveys.{IsSurveyed, LeavesClaims}, Costs.SweepsOnce};
+ghost use Rattle.ffs_names.specs.{Surveys.{IsSurveyed, LeavesClaims, SurveysNoMore}, Costs.SweepsOnce};
 ghost use Rattle.ffs_volume.specs.Report.DirectoryReads.{noted_costs};
 ghost use Rattle.ffs_names.specs.CalmDirs.{FlagsEachCalm};
 
@@ -97,6 +97,8 @@ pub fn survey<I: Image>(
     ensures reads { SweepsOnce geometry.now.layout (I.device image.old).contents
         (λ b. HoldsClaims geometry.now.layout b workspace.old) (I.reads image.old)
         (I.reads image.new) }
+    ensures again { workspace.old.surveyed ≡ true → SurveysNoMore (I.reads image.old)
+        (I.reads image.new) workspace.old workspace.new }
     ensures leaves { LeavesClaims geometry.now.layout (I.device image.old) (I.device image.new)
         workspace.old workspace.new result }
 {

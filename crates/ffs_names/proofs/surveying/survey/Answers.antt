@@ -1,6 +1,6 @@
-use Rattle.std.proofs.Common.{◌≡◌, ◌∙◌, ℕ, zero, suc, false, refl, replicate, rules}
+use Rattle.std.proofs.Common.{◌≡◌, ◌∙◌, ℕ, zero, suc, false, refl, replicate, rules, ap, slice_index}
 use Rattle.std.proofs.lemmas.List.{with_items_is}
-use Rattle.ffs_workspace.proofs.{Leaving.{counts_same, counts_stand}, PlaceLaws.filled_noted}
+use Rattle.ffs_workspace.proofs.{Leaving.{counts_same, counts_stand}, PlaceLaws.{filled_noted, zero_index}, Readiness.ready_same}
 use Rattle.ffs_survey.{proofs.CalmLaws.calm_none, specs.Survey.bool_at}
 use Rattle.ffs_names.proofs.surveying.survey.Goals as goal
 
@@ -30,3 +30,11 @@ returns-then-workspace-clause-survey g c = λ b t h.
       };
       calm = record { calm = calm_none _ _ _ (λ x. rw flags (none_set _ x)) };
     }
+
+pub returns-then-workspace-clause-leaves : goal.returns-then-workspace-clause-leaves
+returns-then-workspace-clause-leaves g c = record {
+  same = search rules;
+  unnoted = λ x. ap (λ ws. slice_index ws x) c.fill-then-workspace.ensures.items ∙ zero_index _ x;
+  ready = search (rules, ready_same);
+  read = search rules;
+}

@@ -2,7 +2,7 @@ use Rattle.std.proofs.Common.{◌∙◌, ◌≡◌, ◌*◌, ℕ, List, Some, le
 use Rattle.std.proofs.lemmas.List.{with_items_is}
 use Rattle.ffs_volume.{proofs.Sizes.some_inodes, specs.Encodings.Kinds.kind_at}
 use Rattle.ffs_workspace.proofs.Leaving.{counts_begin}
-use Rattle.ffs_workspace.{proofs.PlaceLaws.filled_noted, specs.{Holds.HoldsClaims, Tables.IsTableOf}}
+use Rattle.ffs_workspace.{proofs.PlaceLaws.{filled_noted, zero_index}, specs.{Holds.HoldsClaims, Tables.IsTableOf}}
 use Rattle.ffs_names.{specs.Readers.{Base, KnowsReader}, proofs.SurveyHolds.{volume_survey, holds_claims, holds_tree, volume_calm}}
 use Rattle.ffs_names.proofs.{SurveyHolds.{holds_calm, holds_references, on_ok_is}, surveying.survey_all.Goals.After-survey-surveyed}
 use Rattle.ffs_names.proofs.CalmDirLaws.{flags_each_calm}
@@ -39,6 +39,7 @@ returns-clause-leaves g c =
     let table = subst (λ l. IsTableOf l c.survey-surveyed.new.directories.windows.now.table) same r.table in
     record {
       same = search rules;
+      unnoted = λ x. ap (λ ws. slice_index ws x) c.fill.ensures.items ∙ zero_index _ x;
       ready = record {
         made = search rules;
         volume = rw (image, ← same) r.volume;
