@@ -54,7 +54,7 @@ pub fn conditions_are_reported()
     ensures { ConditionsAreReported }
 {}
 
-/// Whole reports of small images: the base image in both orders, which is so consistent, and images
+/// Whole reports of small images: the base image in both orders, which is consistent, and images
 /// with a defect; the bytes of messages; and the steps that an inode keeps.
 pub fn examples_hold()
     ensures { WorkedExamples }

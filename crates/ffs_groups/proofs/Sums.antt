@@ -28,10 +28,6 @@ pub count_more : (p : ℕ → Bool) (a n count r : ℕ) (b : Bool) → count ≡
     count + r ≡ count_by p (range_with_len a (n + 1))
 count_more p a n count r b e f g = grind (arith, sum_more)
 
-pub count_fits : (p : ℕ → Bool) (a n m count r : ℕ) (b : Bool) → count ≡ count_by p (range_with_len a n) →
-    r ≡ cond b 1 0 → b ≡ p (a + n) → n < m → m < 2 ^ 32 → count + r < 2 ^ 32
-count_fits p a n m count r b e f g h fits = omega (arith, count_more p a n count r b e f g, count_within p a (n + 1))
-
 abbrev num : Bool → ℕ
 num b = cond b 1 0
 

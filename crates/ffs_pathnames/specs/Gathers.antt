@@ -91,7 +91,7 @@ pub record AreAsLong (w : Workspace) : Type 0 where
 
 -- what calls gather that messages show; they only read the image
 module _ {S : Type 0} (I : Ghosts S) (v : Layout) (old new : S) (w w' : Workspace) where
-  -- what calls leave that make at most n reads, paths among them, if each chunk has a number
+  -- what calls leave that make at most n reads, paths among them
   abbrev pub ReadsForPaths : {T : Type 0} → ℕ → KeptParent → Result T ImageFault → Type 0
   ReadsForPaths n s result =
       LimitedPathLeaves v n (path_moment I old w) (path_moment I new w') s result

@@ -39,8 +39,7 @@ abbrev pub ReadyAfter : {T E : Type 0} → Layout → Device → Workspace → K
 ReadyAfter v d w s (Ok x) = ReadyWith v d w s
 ReadyAfter v d w s (Err e) = IsReady v d w
 
--- what a call leaves that makes paths, and reads what messages show. It makes n reads at most: by known
--- bytes where each place is noted, and of any image where each chunk has a number
+-- what a call leaves that makes paths, and reads what messages show. It makes n reads at most, of any image
 pub record LimitedPathLeaves {T : Type 0} (v : Layout) (n : ℕ) (old new : PathMoment) (s : KeptParent)
     (result : Result T ImageFault) : Type 0 where
   pub path : PathLeaves v n old new s result

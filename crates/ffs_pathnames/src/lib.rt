@@ -9,8 +9,9 @@
 //!
 //! Its modules, in the order of the phase:
 //!
-//! - `pass2` is the phase: the workspace is made ready, and the root reported. No name is passed yet,
-//!   and of the survey's flags those of inodes that aren't suspect stay.
+//! - `pass2` is the phase: it clears the flags of suspect inodes, since from here on such a flag says
+//!   that an entry has named the inode (the others still say which directories are calm), and reports
+//!   the root.
 //! - `tree` goes over the directories by number, once the places of parent entries are noted
 //!   (`ffs_names::note_places`), and checks one of them.
 //! - `look` reads a directory once: its inode, then its chunks, then their entries, by the `verdict`

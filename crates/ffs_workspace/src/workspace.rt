@@ -179,8 +179,8 @@ impl Workspace {
         maps + lists + buffers as u64
     }
 
-    /// Whether phase 1 printed a DUP line: so that phase 1b is to run (fsck(8)). It is false before
-    /// phase 1, and the answer stays after the later phases.
+    /// Whether a phase 1 that ended with `Ok` printed a DUP line: so that phase 1b is to run (fsck(8)). It
+    /// is false before that. A phase 1 that failed leaves the answer as it was, and so do the later phases.
     pub fn has_dups(&self) -> bool
         ensures { result ≡ self.now.found_dups }
     {
