@@ -1,4 +1,3 @@
-use Rattle.std.proofs.Common.{◌≤◌, refl}
 use Rattle.ffs_claims.proofs.WordClaims.{address_once, sees_still, words_then}
 use Rattle.ffs_claims.proofs.words.claim_counted_direct.Goals as goal
 
