@@ -1,4 +1,4 @@
--- What the words of an indirect block claim with nothing to report.
+-- What the words of an indirect block, and the direct addresses of an inode, claim with nothing to report.
 use Rattle.std.specs.Prelude.{◌≡◌, ℕ, ◌≤◌, ◌^◌, true, List, [], Option}
 use Rattle.ffs_volume.specs.Blocks.Claims.{after_step, after_steps, is_open, lines_of_steps, step_lines}
 use Rattle.ffs_volume.specs.{Laws.ClaimBounds.ClaimBound, Report.VolumeReads.indirect_in_steps}
@@ -15,7 +15,7 @@ use Rattle.ffs_claims.specs.declared.{area.DataArea.DataArea, words.Counts.Count
 abbrev pub with_run_counts : Workspace → Counts → Workspace
 with_run_counts w counts = record w { runs_seen = counts.runs_seen; kept = counts.kept }
 
--- what the next words of an indirect block offer can be claimed: the inode's next step can be seen
+-- what the next addresses of a walk offer can be claimed: the inode's next step can be seen
 abbrev pub CanClaimWords : Workspace → DataArea → Walk → Type 0
 CanClaimWords w area walk = CanSeeNext walk.geometry.layout w area (2 ^ 62)
 
@@ -24,10 +24,15 @@ pub record ClaimsSilently (v : Layout) (step : Step) (old new : Workspace) : Typ
   pub claims : claims_of new ≡ after_step v (claims_of old) step
   pub silent : (number : ℕ) → step_lines v number (claims_of old) step ≡ []
 
--- the step of an address of an indirect block claims what it offers, wherever in the file it is:
--- nothing is reported of it, and the inode isn't cut by it
-pub record ClaimsAddress (v : Layout) (address : ℕ) (old new : Workspace) : Type 0 where
-  pub claims : (block : ℕ) → ClaimsSilently v (word_step v.frag address block) old new
+-- what an address offers can be claimed: in a volume of some layout, the inode's next step can be seen
+pub record CanClaimAddress (w : Workspace) (area : DataArea) : Type 0 where
+  pub layout : Layout
+  pub next : CanSeeNext layout w area (2 ^ 63)
+
+-- the step of an address of a block of data, which has so many fragments, claims what it offers,
+-- wherever in the file it is: nothing is reported of it, and the inode isn't cut by it
+pub record ClaimsAddress (v : Layout) (address len : ℕ) (old new : Workspace) : Type 0 where
+  pub claims : (block : ℕ) → ClaimsSilently v (word_step len address block) old new
   pub uncut : is_open (claims_of new) ≡ true
   pub only : ClaimsOnly v old new
   pub rises : old.runs_seen ≤ new.runs_seen

@@ -1,20 +1,23 @@
-//! The words of an indirect block that are claimed with nothing to report.
+//! The words of an indirect block, and the direct addresses of an inode, that are claimed with nothing
+//! to report.
 //!
 //! From the last function up: `claim_words` asks whether the block is held; `claim_held_words` takes
 //! the counts out of the workspace, and `claim_counted_words` asks for the byte order, both once;
 //! `claim_words_in` goes from word to word. `claim_next` claims one word by `claim_address`, or, where
 //! the next one names the fragments after its Run, all such words together by `claim_series`, which
 //! `pass_series` counts. Where a word isn't claimed, nothing has changed, and the caller takes it as a
-//! step.
+//! step. `claim_direct` does the same for direct addresses, one by one.
 
-ghost use Rattle.std.specs.Prelude.{◌≡◌, ◌≢◌, ◌^◌, false, IsTrue};
+ghost use Rattle.std.specs.Prelude.{◌≡◌, ◌≢◌, ◌^◌, ◌<◌, false, IsTrue};
+ghost use Rattle.ffs_volume.specs.declared.Layout.{Layout};
 ghost use Rattle.ffs_walk.specs.{HeldWords.{CanSeeWord, IsInHeldBlock, next_address}, Windows.HasRoom};
+ghost use Rattle.ffs_walk.specs.Rests.{IsAtTop};
 ghost use Rattle.ffs_claims.specs.{Claiming.CanSeeNext, SilentWords.{CanClaimWords, ClaimsAddress}};
-ghost use Rattle.ffs_claims.specs.SilentWords.{ClaimsWords, with_run_counts};
+ghost use Rattle.ffs_claims.specs.SilentWords.{CanClaimAddress, ClaimsWords, with_run_counts};
 ghost use Rattle.ffs_claims.specs.Series.{CanClaimNext, ClaimsNext, HasNext, PassesSeries};
 
 use crate::area::DataArea;
-use ffs_layout::{Geometry, u32_at};
+use ffs_layout::u32_at;
 use ffs_volume::Order;
 use ffs_walk::{Blocks, Walk};
 use ffs_workspace::Workspace;
@@ -35,37 +38,59 @@ struct Counts {
     kept: u64,
 }
 
-/// Claims what an address of an indirect block of data offers: nothing where it is a gap, else its
-/// Run, where that lies in the area, and its fragments are all unused and lie in one word of the
-/// map. Returns whether it was so: if not, nothing has changed. The counts are below 2^63 before, so
-/// that they stay below 2^64: one word adds at most eight.
+impl Counts {
+    ghost use Rattle.ffs_claims.specs.SilentWords.{with_run_counts};
+
+    /// The counts of a workspace.
+    #[inline(always)]
+    fn of(workspace: &Workspace) -> Counts
+        ensures { workspace.now ≡ with_run_counts workspace.now result }
+    {
+        Counts {
+            runs_seen: workspace.runs_seen,
+            kept: workspace.kept,
+        }
+    }
+
+    /// Writes the counts back into the workspace.
+    #[inline(always)]
+    fn write_to(&self, workspace: &mut Workspace)
+        ensures { workspace.new ≡ with_run_counts workspace.old self.now }
+    {
+        workspace.runs_seen = self.runs_seen;
+        workspace.kept = self.kept;
+    }
+}
+
+/// Claims what an address of a block of data offers: nothing where it is a gap, else its Run of
+/// `len` fragments, where that lies in the area, and its fragments are all unused and lie in one
+/// word of the map. Returns whether it was so: if not, nothing has changed. The counts are below
+/// 2^63 before, so that they stay below 2^64.
 #[inline(always)]
 fn claim_address(
     workspace: &mut Workspace,
     counts: &mut Counts,
-    geometry: &Geometry,
     area: &DataArea,
     address: u32,
+    len: u32,
 ) -> bool
-    requires { CanSeeNext geometry.now.layout (with_run_counts workspace.old counts.old) area.now
-        (2 ^ 63) }
-    ensures claimed { IsTrue result → ClaimsAddress geometry.now.layout address
-        (with_run_counts workspace.old counts.old) (with_run_counts workspace.new counts.new) }
+    requires some { 0 < len }
+    requires can { CanClaimAddress (with_run_counts workspace.old counts.old) area.now }
+    ensures claimed { IsTrue result → (layout : Layout)
+        → CanSeeNext layout (with_run_counts workspace.old counts.old) area.now (2 ^ 63)
+        → ClaimsAddress layout address len (with_run_counts workspace.old counts.old)
+        (with_run_counts workspace.new counts.new) }
     ensures unchanged { result ≡ false → with_run_counts workspace.new counts.new
         ≡ with_run_counts workspace.old counts.old }
 {
     if address == 0 {
         return true;
     }
-    let frag = geometry.layout.frag;
-    if !area.contains(address, frag) {
-        return false;
-    }
-    if !workspace.used.claim(address, frag) {
+    if !area.contains(address, len) || !workspace.used.claim(address, len) {
         return false;
     }
     counts.runs_seen += 1;
-    counts.kept += u64::from(frag);
+    counts.kept += u64::from(len);
     true
 }
 
@@ -172,7 +197,7 @@ fn claim_next(
     if address != 0 && comes_next(order, &ahead, &workspace.windows.blocks, end) {
         return claim_series(order, workspace, counts, area, walk, address);
     }
-    if !claim_address(workspace, counts, &walk.geometry, area, address) {
+    if !claim_address(workspace, counts, area, address, walk.geometry.layout.frag) {
         return false;
     }
     *walk = ahead;
@@ -235,14 +260,10 @@ fn claim_held_words(workspace: &mut Workspace, area: &DataArea, walk: &mut Walk)
     // is written back once.
     let area = *area;
     let mut passing = *walk;
-    let mut counts = Counts {
-        runs_seen: workspace.runs_seen,
-        kept: workspace.kept,
-    };
+    let mut counts = Counts::of(workspace);
     claim_counted_words(workspace, &mut counts, &area, &mut passing);
     *walk = passing;
-    workspace.runs_seen = counts.runs_seen;
-    workspace.kept = counts.kept;
+    counts.write_to(workspace);
 }
 
 /// Claims what the next words of the single indirect block that the walk is in offer, as long as
@@ -256,4 +277,42 @@ pub fn claim_words(workspace: &mut Workspace, area: &DataArea, walk: &mut Walk)
     if walk.is_in_held_block(&workspace.windows.blocks) {
         claim_held_words(workspace, area, walk);
     }
+}
+
+/// Claims what the inode's direct addresses that come next offer, as `claim_direct` does, with the
+/// counts apart from the workspace.
+#[inline(always)]
+fn claim_counted_direct(
+    workspace: &mut Workspace,
+    counts: &mut Counts,
+    area: &DataArea,
+    walk: &mut Walk,
+)
+    requires can { CanClaimWords (with_run_counts workspace.old counts.old) area.now walk.old }
+    requires top { IsAtTop walk.old }
+    ensures { ClaimsWords walk.old.geometry.layout (with_run_counts workspace.old counts.old)
+        (with_run_counts workspace.new counts.new) walk.old walk.new }
+{
+    while walk.has_direct() {
+        let (address, len) = walk.next_direct();
+        if !claim_address(workspace, counts, area, address, len) {
+            return;
+        }
+        walk.pass_direct();
+    }
+}
+
+/// Claims what the inode's direct addresses that come next offer, as long as nothing is to be
+/// reported of them and each Run is claimed at once, as `claim_words` does. The walk is in no
+/// indirect block.
+#[inline(never)]
+pub fn claim_direct(workspace: &mut Workspace, area: &DataArea, walk: &mut Walk)
+    requires can { CanClaimWords workspace.old area.now walk.old }
+    requires top { IsAtTop walk.old }
+    ensures { ClaimsWords walk.old.geometry.layout workspace.old workspace.new walk.old walk.new }
+{
+    let area = *area;
+    let mut counts = Counts::of(workspace);
+    claim_counted_direct(workspace, &mut counts, &area, walk);
+    counts.write_to(workspace);
 }

@@ -24,9 +24,9 @@ pub record CanSeeWord (blocks : Blocks) (w : Walk) : Type 0 where
 abbrev pub next_address : Blocks → Walk → ℕ
 next_address blocks w = address_in w.geometry.layout (level_bytes w.geometry.layout 0 blocks) w.single.next
 
--- the step at a word of an indirect block of data, where a block has so many fragments
-abbrev pub word_step : (frag address block : ℕ) → Step
-word_step frag address block = if address == 0 then Gap else Run address frag (Some block)
+-- the step at an address of a logical block of data that has so many fragments
+abbrev pub word_step : (len address block : ℕ) → Step
+word_step len address block = if address == 0 then Gap else Run address len (Some block)
 
 -- a walk passes over the next word of the single indirect block that it is in: the step at it is
 -- passed over

@@ -7,3 +7,4 @@ pub mod Rests
 pub mod Skips
 pub mod HeldWords
 pub mod Counts
+pub mod Directs

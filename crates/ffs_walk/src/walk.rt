@@ -56,8 +56,23 @@ impl Walk {
     ghost use Rattle.ffs_walk.specs.Rests.{IsEndedWalk, IsTopStep, IsWalkByClass, IsWalkOf, Stops, TakesStep};
     ghost use Rattle.ffs_walk.specs.Windows.{CanWalk, HasRoom, image_with};
     ghost use Rattle.ffs_walk.specs.HeldWords.{CanSeeWord, IsInHeldBlock, CanPassWord, PassesNextWord};
-    ghost use Rattle.ffs_walk.specs.HeldWords.{next_address};
+    ghost use Rattle.ffs_walk.specs.{Directs.{HasDirect, IsNextDirect, PassesDirect}, HeldWords.next_address};
+    ghost use Rattle.ffs_walk.specs.Rests.{file_blocks_of};
+    ghost use Rattle.ffs_volume.specs.Blocks.Steps.{data_length};
     ghost use Rattle.ffs_walk.specs.declared.blocks.Blocks.{Blocks};
+
+    /// How many fragments a logical block of data has.
+    #[inline(always)]
+    fn length_at(&self, block: u64) -> u32
+        ensures value { result ≡ data_length (file_blocks_of self.now) block }
+        ensures within { (0 < result) × (result ≤ self.now.geometry.layout.frag) }
+    {
+        if block < NDADDR && block + 1 == self.logical_blocks {
+            self.last
+        } else {
+            self.geometry.layout.frag
+        }
+    }
 
     /// The step at the address of a data block.
     fn data(&self, address: u32, block: u64) -> Step
@@ -67,14 +82,9 @@ impl Walk {
         if address == 0 {
             return Step::Gap;
         }
-        let len = if block < NDADDR && block + 1 == self.logical_blocks {
-            self.last
-        } else {
-            self.geometry.layout.frag
-        };
         Step::Run {
             start: address,
-            len,
+            len: self.length_at(block),
             block: Some(block),
         }
     }
@@ -359,6 +369,35 @@ impl Walk {
         ensures { PassesNextWord self.old self.new }
     {
         self.single.next += 1;
+    }
+
+    /// Whether the next of the inode's own addresses is used, and that of a direct block.
+    #[inline(always)]
+    pub fn has_direct(&self) -> bool
+        ensures { IsTrue result → HasDirect self.now }
+    {
+        u64::from(self.next) < NDADDR && self.next < self.used
+    }
+
+    /// The next of the inode's own addresses, which is direct, and how many fragments its block has.
+    #[inline(always)]
+    pub fn next_direct(&self) -> (u32, u32)
+        requires { HasDirect self.now }
+        ensures { IsNextDirect self.now result.0 result.1 }
+    {
+        let len = self.length_at(u64::from(self.next));
+        (self.addresses[self.next as usize], len)
+    }
+
+    /// Passes over the next of the inode's own addresses, which is direct, where the walk is in no
+    /// indirect block.
+    #[inline(always)]
+    pub fn pass_direct(&mut self)
+        requires top { IsAtTop self.old }
+        requires some { HasDirect self.old }
+        ensures { PassesDirect self.old self.new }
+    {
+        self.next += 1;
     }
 
     /// A walk that has ended, to be begun for an inode of the volume.

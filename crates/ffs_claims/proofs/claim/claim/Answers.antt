@@ -1,4 +1,4 @@
-use Rattle.std.proofs.Common.{ℕ, suc, arith, refl, ◌≡◌, ◌∙◌, ap, sym, List, ◌++◌, ◌∷◌, false, replicate, []}
+use Rattle.std.proofs.Common.{ℕ, suc, arith, refl, ◌≡◌, ◌∙◌, ap, sym, List, ◌++◌, ◌∷◌, true, false, replicate, []}
 use Rattle.std.proofs.lemmas.Result.{err_from_is_err_and}
 use Rattle.ffs_volume.{proofs.Potentials.moves_then, specs.Blocks.Claims.{after_steps, lines_of_steps, is_open}}
 use Rattle.ffs_volume.specs.{declared.Step.TheVariants.Gap, Report.VolumeReads.indirect_in_steps}
@@ -31,26 +31,45 @@ returns-then-not-has_steps g c =
       known = λ bytes t. omega arith;
     }
 
+pub claim_direct-requires-clause-can : goal.claim_direct-requires-clause-can
+claim_direct-requires-clause-can g c =
+    let none = claiming_none c.requires.claim in
+    let uncut : is_open (claims_of c.args.workspace.now) ≡ true = rw (c.requires.begun.bad, c.requires.begun.dups) refl in
+    sees_for (sym (ap (λ k. k.layout) (c.restart.ensures.geometry ∙ c.requires.walk)))
+    (sees_next c.args.geometry.now.sound c.requires.begun none.claim.ready.made none.claim.all_in_range uncut
+    none.claim_bound)
+
 pub loop-next-init : goal.loop-next-init
 loop-next-init g c =
     let v = c.args.geometry.now.layout in
     let s = claims_of c.args.workspace.now in
     let walk = rw c.requires.walk at c.restart.ensures.walk c.requires.class_is in
+    let top = c.restart.ensures.top in
+    let begins = c.restart.ensures.geometry ∙ c.requires.walk in
+    let words = words_for (ap (λ k. k.layout) begins) c.claim_direct.ensures in
+    let none = claiming_none c.requires.claim in
+    let image = (g.I.Image.device c.args.image.now).contents in
+    let blocks = none.claim.ready.windows.blocks in
     record {
       device = refl;
-      left = claiming_none c.requires.claim;
-      open_still = rw (c.requires.begun.bad, c.requires.begun.dups) refl;
-      geometry = c.restart.ensures.geometry ∙ c.requires.walk;
-      held = top_held c.restart.new.self c.restart.ensures.top _;
-      counted = omega (arith, top_unread c.restart.new.self c.restart.ensures.top);
+      left = claiming_on (record { only = words.only; all_in_range = none.claim.all_in_range })
+          (omega (arith, seen_bound c.args.workspace.now words.only.made words.uncut words.claim_bound))
+          words.claim_bound none;
+      open_still = words.uncut;
+      geometry = words.same.geometry ∙ begins;
+      held = words.counted.held _ (top_held c.restart.new.self top _);
+      counted = omega (arith, top_unread c.restart.new.self top, words.rises, words.counted.unread);
       indirect = λ bytes t. omega (
         arith,
-        top_unread c.restart.new.self c.restart.ensures.top,
+        top_unread c.restart.new.self top,
+        words.counted.unread,
+        words.indirect image blocks bytes t,
         ap (indirect_in_steps v s) (walk.steps bytes),
       );
-      claims = λ bytes t. ap (after_steps v s) (walk.steps bytes);
+      claims = λ bytes t. words.claims image blocks bytes t ∙ ap (after_steps v s) (walk.steps bytes);
       said = of_same _ _ _ _ _ _ (of_begins _ _ _)
-          (λ bytes t. ap (λ xs. of_lines (lines_of_steps v c.args.claimant.now.number s xs)) (sym (walk.steps bytes)));
+          (λ bytes t. ap of_lines (sym (words.lines image blocks bytes t c.args.claimant.now.number
+          ∙ ap (lines_of_steps v c.args.claimant.now.number s) (walk.steps bytes))));
     }
 
 pub next-requires : goal.next-requires

@@ -9,23 +9,23 @@ use Rattle.ffs_claims.proofs.claim.claim.Given as goal
 
 abbrev pub invariant-loop-next : goal.invariant-loop-next
 invariant-loop-next g l = let v = l.geometry.layout in let n = l.claimant.number in let i = l.claimant.inode.now in
-    let knows = IsContents (g.I.Image.device l.initial.image).contents in record {
-      device : g.I.Image.device l.image ≡ g.I.Image.device l.initial.image;
-      left : Claiming v (g.I.Image.device l.image) l.initial.workspace l.workspace l.sweep.area;
+    let knows = IsContents (g.I.Image.device l.fn.image).contents in record {
+      device : g.I.Image.device l.image ≡ g.I.Image.device l.fn.image;
+      left : Claiming v (g.I.Image.device l.image) l.fn.workspace l.workspace l.sweep.area;
       open_still : is_open (claims_of l.workspace) ≡ true;
       geometry : l.sweep.walk.geometry ≡ l.geometry;
       held : AreHeld l.workspace.windows.blocks l.sweep.walk;
-      counted : g.I.Image.reads l.image + unread l.sweep.walk + l.initial.workspace.runs_seen
-          ≤ g.I.Image.reads l.initial.image + l.workspace.runs_seen;
+      counted : g.I.Image.reads l.image + unread l.sweep.walk + l.fn.workspace.runs_seen
+          ≤ g.I.Image.reads l.fn.image + l.workspace.runs_seen;
       indirect : ForBytes knows (λ bytes. g.I.Image.reads l.image + unread l.sweep.walk
           + indirect_in_steps v (claims_of l.workspace) (steps_left bytes l.sweep.walk)
-          ≤ g.I.Image.reads l.initial.image + indirect_in_steps v (claims_of l.initial.workspace) (steps_of v i bytes));
+          ≤ g.I.Image.reads l.fn.image + indirect_in_steps v (claims_of l.fn.workspace) (steps_of v i bytes));
       claims : ForBytes knows (λ bytes. after_steps v (claims_of l.workspace) (steps_left bytes l.sweep.walk)
-          ≡ after_steps v (claims_of l.initial.workspace) (steps_of v i bytes));
+          ≡ after_steps v (claims_of l.fn.workspace) (steps_of v i bytes));
       said : SaidOf knows
           (λ bytes. of_lines (lines_of_steps v n (claims_of l.workspace) (steps_left bytes l.sweep.walk)))
-          (λ bytes. of_lines (lines_of_steps v n (claims_of l.initial.workspace) (steps_of v i bytes)))
-          (progress g.W.Output.sink l.initial.report) (progress g.W.Output.sink l.report);
+          (λ bytes. of_lines (lines_of_steps v n (claims_of l.fn.workspace) (steps_of v i bytes)))
+          (progress g.W.Output.sink l.fn.report) (progress g.W.Output.sink l.report);
     }
 
 abbrev pub decreases-loop-next : goal.decreases-loop-next

@@ -1,6 +1,5 @@
-use Rattle.std.proofs.Common.{ap, arith, sym}
-use Rattle.ffs_claims.specs.SilentWords.{with_run_counts}
-use Rattle.ffs_claims.proofs.{Inodes.kept_room, Inodes.seen_bound, WordClaims.{sees_for, words_for, words_then}}
+use Rattle.std.proofs.Common.{ap, sym}
+use Rattle.ffs_claims.proofs.WordClaims.{sees_for, sees_still, words_for, words_then}
 use Rattle.ffs_claims.proofs.words.claim_words_in.Goals as goal
 
 -- where the next word isn't claimed, nothing has changed
@@ -11,13 +10,10 @@ returns-then-not-claim_next c =
 
 pub claim_next-requires-clause-can : goal.claim_next-requires-clause-can
 claim_next-requires-clause-can c =
-    let next = c.requires.can in
     let words = c.loop-order.invariant.words in
-    let size = c.args.walk.now.geometry.sound.numbers.size_below in
-    let kept = kept_room (with_run_counts c.args.workspace.now c.args.counts.now) words.only.made words.uncut words.claim_bound in
-    let seen = seen_bound (with_run_counts c.args.workspace.now c.args.counts.now) words.only.made words.uncut words.claim_bound in
     record {
-      next = sees_for (sym (ap (λ k. k.layout) words.same.geometry)) (grind arith);
+      next = sees_for (sym (ap (λ k. k.layout) words.same.geometry))
+          (sees_still c.args.walk.now.geometry.sound c.requires.can words);
       held = c.loop-order.invariant.held;
       left = c.has_word.ensures.0 c.loop-order-test.true;
     }
