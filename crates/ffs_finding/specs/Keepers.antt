@@ -64,11 +64,6 @@ pub record CanPrintStep (k : Keeping) (earlier : ℕ) : Type 0 where
 abbrev pub step_text : Layout → Sought → (earlier : ℕ) → Keeping → Step → List ℕ
 step_text v s earlier k step = concat (step_lines_again v s.fragment s.number earlier k.cut (replay_in k) step)
 
--- the replay continues after a step
-pub record Continues (v : Layout) (step : Step) (k k' : Keeping) : Type 0 where
-  pub next : replay_in k' ≡ replay_step_by_cut v k.cut (replay_in k) step
-  pub cut : k'.cut ≡ k.cut
-
 -- the lines of a fragment in an inode with this cut, whose blocks have these steps
 abbrev pub sought_lines : Layout → Sought → List Step → List (List ℕ)
 sought_lines v s steps = lines_again v s.fragment s.number 0 s.cut fresh_replay steps

@@ -21,8 +21,8 @@ returns-in-Run-clause-prints g c =
     rw (c.in-Run.is) (rw (text_is v c.args.sought.fragment c.args.sought.number c.args.earlier _ _ c.in-Run.start
     c.in-Run.len c.in-Run.block c.take-taken.result c.requires.going count) at c.print_run.ensures)
 
-pub returns-in-Run-clause-continues : goal.returns-in-Run-clause-continues
-returns-in-Run-clause-continues g c =
+pub returns-in-Run-clause-replays : goal.returns-in-Run-clause-replays
+returns-in-Run-clause-replays g c =
     let again = c.take-taken.ensures.replays c.args.geometry.now.layout c.in-Run.start c.in-Run.block
     c.in_range.ensures in
     rw (c.in-Run.is) (record { next = again.after; cut = c.take-taken.ensures.cut })
