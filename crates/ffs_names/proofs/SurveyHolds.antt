@@ -3,6 +3,7 @@ use Rattle.std.proofs.Common.{◌≡◌, ◌∙◌, ◌+◌, ◌≤◌, ℕ, Boo
 use Rattle.std.proofs.{Common.{slice_index, sym, refl}, lemmas.Bool.and_parts}
 use Rattle.std.specs.Result.{is_ok}
 use Rattle.std.specs.Prelude.{Result, Ok, Err, OnOk}
+use Rattle.ffs_image.specs.Device.{ForContents}
 use Rattle.ffs_volume.specs.{declared.Layout.Layout, Encodings.Kinds.kind_at, Directories.Parents.graph_of}
 use Rattle.ffs_volume.specs.Directories.{Roles.roled_entries, Volumes.{volume_of, volume_with}}
 use Rattle.ffs_volume.specs.Encodings.Links.{start_at}
@@ -64,6 +65,12 @@ holds_claims v b old new same surveyed references tree h =
 pub on_ok_is : {T E : Type 0} (r : Result T E) (P Q : Type 0) → (is_ok r ≡ true → P → Q) → OnOk r P → OnOk r Q
 on_ok_is (Ok x) P Q f h = f refl h
 on_ok_is (Err e) P Q f h = h
+
+-- a fact of an Ok answer, by each list of bytes that an image gives
+pub on_ok_each : {T E : Type 0} {contents : Option (List ℕ)} {H : List ℕ → Type 0} (P : List ℕ → Type 0)
+    (r : Result T E) → ForContents contents (λ b. H b → OnOk r (P b)) → OnOk r (ForContents contents (λ b. H b → P b))
+on_ok_each P (Ok x) f = f
+on_ok_each P (Err e) f = tt
 
 -- flags of a survey of a volume
 pub volume_calm : (t : Base) (b kinds : List ℕ) (marked marks : List Bool) (parents : List ℕ) (flags : List Bool) →

@@ -78,8 +78,8 @@ pub record NotesInWords (parents old new : Vec ℕ Global) (p place : ℕ) (es :
 -- the entries es of the parent of some inodes are noted: of each place that is noted anew the first plain
 -- entry of the part that names the inode has the name of the first one of es. A place is noted of each
 -- child that a plain one of these entries names, if none or a right one was noted before
-pub record NotesEntries (v : Layout) (b : List ℕ) (child : ℕ → Bool) (es : List RoledEntry) (old new : List ℕ) :
-    Type 0 where
+pub record NotesEntries (v : Layout) (b : List ℕ) (child : ℕ → Bool) (es : List RoledEntry) (old new : List ℕ)
+    : Type 0 where
   pub places : (x k : ℕ) → place_in (slice_index new x) ≡ suc k → (place_in (slice_index old x) ≡ suc k)
       ⊎ (name_in x (entries_in_part v b k) ≡ name_in x es)
   pub all : (x : ℕ) → child x ≡ true → list_any (is_naming_entry x) es ≡ true →

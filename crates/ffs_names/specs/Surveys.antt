@@ -1,11 +1,13 @@
 -- What a survey finds, which directories it flags, and what it leaves as it was.
-use Rattle.std.specs.Prelude.{◌≡◌, ℕ, false, List, Result, slice_index}
+use Rattle.std.specs.Prelude.{◌≡◌, ◌+◌, ◌≤◌, ℕ, false, List, OnOk, Result, slice_index}
 use Rattle.ffs_image.specs.{Device.Device, Reads.ReadAfter, declared.image.ImageFault.ImageFault}
 use Rattle.ffs_volume.specs.{declared.Layout.Layout, Directories.{Roles.roled_entries, Volumes.volume_of}}
 use Rattle.ffs_survey.specs.Calm.{AreCalm}
 use Rattle.ffs_volume.specs.{Directories.Calm.is_right_directory, Encodings.Lists.bool_at}
 use Rattle.ffs_workspace.specs.{declared.workspace.Workspace.Workspace, Leaves.LeavesBlockCheck, Ready.IsReady}
 use Rattle.ffs_workspace.specs.Holds.{HoldsClaims, HoldsReferences, HoldsSurvey}
+use Rattle.ffs_volume.specs.Report.DirectoryReads.{noted_costs}
+use Rattle.ffs_names.specs.{CalmDirs.FlagsEachCalm, Sweeps.Sweep}
 
 -- what a survey leaves: the workspace is ready for the next call, `queue` is zero, so that it notes no
 -- place of a parent entry, and the image was only read
@@ -35,3 +37,11 @@ pub record IsSurveyed (v : Layout) (b : List ℕ) (w : Workspace) : Type 0 where
   pub references : HoldsReferences v b w
   pub claims : HoldsClaims v b w
   pub calm : FlagsCalm v b w
+
+-- a survey reads all directories: where no read failed, what it finds is held, and each calm directory has a
+-- flag. The image was read at most as often as the directories ask for
+pub record SurveysAll {T : Type 0} (v : Layout) (b : List ℕ) (old new : Sweep) (result : Result T ImageFault) : Type 0
+  where
+    pub found : OnOk result (IsSurveyed v b new.workspace)
+    pub flags : OnOk result (FlagsEachCalm v b new.workspace)
+    pub counted : new.reads ≤ old.reads + noted_costs v b

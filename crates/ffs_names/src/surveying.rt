@@ -1,10 +1,10 @@
 //! The survey of a volume's directories.
 
-ghost use Rattle.std.specs.Prelude.{◌≡◌, ◌+◌, ◌≤◌, false, true, OnOk};
+ghost use Rattle.std.specs.Prelude.{◌≡◌, false, true, OnOk};
 ghost use Rattle.ffs_image.specs.Device.{ForContents};
 ghost use Rattle.ffs_workspace.specs.{Ready.IsReady, Holds.HoldsClaims};
-ghost use Rattle.ffs_names.specs.{Surveys.{IsSurveyed, LeavesClaims, SurveysNoMore}, Costs.SweepsOnce};
-ghost use Rattle.ffs_volume.specs.Report.DirectoryReads.{noted_costs};
+ghost use Rattle.ffs_names.specs.{Costs.SweepsOnce, Sweeps.sweep};
+ghost use Rattle.ffs_names.specs.Surveys.{IsSurveyed, LeavesClaims, SurveysAll, SurveysNoMore};
 ghost use Rattle.ffs_names.specs.CalmDirs.{FlagsEachCalm};
 
 use crate::entries::Entries;
@@ -25,15 +25,10 @@ fn survey_all<I: Image>(
 ) -> Result<(), ImageFault>
     requires ready { IsReady geometry.now.layout (I.device image.old) workspace.old }
     requires first { workspace.old.surveyed ≡ false }
-    ensures survey { OnOk result (ForContents (I.device image.old).contents
+    ensures survey { ForContents (I.device image.old).contents
         (λ b. HoldsClaims geometry.now.layout b workspace.old
-        → IsSurveyed geometry.now.layout b workspace.new)) }
-    ensures flags { OnOk result (ForContents (I.device image.old).contents
-        (λ b. HoldsClaims geometry.now.layout b workspace.old
-        → FlagsEachCalm geometry.now.layout b workspace.new)) }
-    ensures reads { ForContents (I.device image.old).contents
-        (λ b. HoldsClaims geometry.now.layout b workspace.old
-        → I.reads image.new ≤ I.reads image.old + noted_costs geometry.now.layout b) }
+        → SurveysAll geometry.now.layout b (sweep I.Image image.old workspace.old)
+        (sweep I.Image image.new workspace.new) result) }
     ensures leaves { LeavesClaims geometry.now.layout (I.device image.old) (I.device image.new)
         workspace.old workspace.new result }
 {

@@ -2,6 +2,7 @@ use Rattle.std.proofs.Common.{◌≡◌, ◌∙◌, ℕ, zero, suc, false, refl,
 use Rattle.std.proofs.lemmas.List.{with_items_is}
 use Rattle.ffs_workspace.proofs.{Leaving.{counts_same, counts_stand}, PlaceLaws.{filled_noted, zero_index}, Readiness.ready_same}
 use Rattle.ffs_survey.{proofs.CalmLaws.calm_none, specs.Survey.bool_at}
+use Rattle.ffs_names.proofs.SurveyHolds.{on_ok_each}
 use Rattle.ffs_names.proofs.surveying.survey.Goals as goal
 
 none_set : (n x : ℕ) → bool_at (replicate n false) x ≡ false
@@ -38,3 +39,12 @@ returns-then-workspace-clause-leaves g c = record {
   ready = search (rules, ready_same);
   read = search rules;
 }
+
+-- what the first survey found, by the bytes of the image below the limit
+pub returns-clause-survey : goal.returns-clause-survey
+returns-clause-survey g c = on_ok_each _ c.survey_all-surveyed.result (λ b t h.
+    (c.survey_all-surveyed.ensures.survey b (ap (λ d. d.contents) c.new-limited.ensures.device ∙ t) h).found)
+
+pub returns-clause-flags : goal.returns-clause-flags
+returns-clause-flags g c = λ first. on_ok_each _ c.survey_all-surveyed.result (λ b t h.
+    (c.survey_all-surveyed.ensures.survey b (ap (λ d. d.contents) c.new-limited.ensures.device ∙ t) h).flags)

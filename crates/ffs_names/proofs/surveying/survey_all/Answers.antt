@@ -54,60 +54,56 @@ returns-clause-leaves g c =
     }
 
 pub returns-clause-survey : goal.returns-clause-survey
-returns-clause-survey g c = on_ok_is c.survey-surveyed.result _ _ (λ ok s b t h.
+returns-clause-survey g c = λ b t h.
     let at = (goal.at.returns-clause-survey g c).After-survey-surveyed in
     let v = c.args.geometry.now.layout in
     let w = c.args.workspace.now in
     let n = c.survey-surveyed.new in
-    let counts = n.numbers.references.now.items in
     let parents = n.numbers.parents.now.items in
-    let reached = with_items_is w.reached n.reached (search rules) in
-    let found = s b (known g at b t h) in
-    let survey = volume_survey (base g at) b c.deref-2.result.now {counts = counts} (search rules) (kinds g at b h)
-    found.survey in
-    let begun = counts_begin v b w h.counts c.requires.first in
-    let named = with_items_is w.named n.named (search rules) in
+    let flags = with_items_is w.flags n.calm (search rules) in
+    let knows = known g at b t h in
     record {
-      survey = record {
-        tree = holds_tree v b _ _ counts n.named n.reached parents named reached (search rules) survey;
-        places = filled_noted _ _ _ _ c.fill.ensures.items;
-      };
-      references = holds_references v b w _ (search rules) (search rules) begun survey;
-      claims = holds_claims v b w _ (search rules) (c.is_ok-workspace.ensures.value ∙ ok)
-          (holds_references v b w _ (search rules) (search rules) begun survey)
-          (holds_tree v b _ _ counts n.named n.reached parents named reached (search rules) survey) h;
-      calm = holds_calm v b _ c.deref-2.result.now c.deref-3.result.now n.reached parents n.calm
-          (sym c.deref-2.ensures.value) (sym c.deref-3.ensures.value) reached (search rules)
-          (with_items_is w.flags n.calm (search rules))
-          (volume_calm (base g at) b c.deref-2.result.now c.deref-3.result.now n.reached parents n.calm found.calm);
-    })
-    c.survey-surveyed.ensures.found
+      found = on_ok_is c.survey-surveyed.result _ _ (λ ok s.
+          let counts = n.numbers.references.now.items in
+          let reached = with_items_is w.reached n.reached (search rules) in
+          let found = s b knows in
+          let survey = volume_survey (base g at) b c.deref-2.result.now {counts = counts} (search rules)
+          (kinds g at b h) found.survey in
+          let begun = counts_begin v b w h.counts c.requires.first in
+          let named = with_items_is w.named n.named (search rules) in
+          record {
+            survey = record {
+              tree = holds_tree v b _ _ counts n.named n.reached parents named reached (search rules) survey;
+              places = filled_noted _ _ _ _ c.fill.ensures.items;
+            };
+            references = holds_references v b w _ (search rules) (search rules) begun survey;
+            claims = holds_claims v b w _ (search rules) (c.is_ok-workspace.ensures.value ∙ ok)
+                (holds_references v b w _ (search rules) (search rules) begun survey)
+                (holds_tree v b _ _ counts n.named n.reached parents named reached (search rules) survey) h;
+            calm = holds_calm v b _ c.deref-2.result.now c.deref-3.result.now n.reached parents n.calm
+                (sym c.deref-2.ensures.value) (sym c.deref-3.ensures.value) reached (search rules) flags
+                (volume_calm (base g at) b c.deref-2.result.now c.deref-3.result.now n.reached parents n.calm found.calm);
+          })
+          c.survey-surveyed.ensures.found;
+      flags = on_ok_is c.survey-surveyed.result _ _ (λ ok s.
+          let found = s b knows in
+          let survey = volume_survey (base g at) b c.deref-2.result.now (search rules) (kinds g at b h) found.survey in
+          let marks : (x : ℕ) → bool_at c.deref-3.result.now x ≡ marked_at v b x =
+          λ x. ap (λ xs. bool_at xs x) c.deref-3.ensures.value ∙ h.marked x in
+          let marked_long : length c.deref-3.result.now ≡ inodes_of v =
+          omega (arith, c.deref-3.ensures.len, c.requires.ready.made.marked) in
+          record {
+            flagged = λ d calm. ap (λ xs. bool_at xs d) flags
+                ∙ flags_each_calm (base g at) b c.deref-2.result.now _ _ c.deref-3.result.now _ n.reached
+                parents n.calm (search rules) (kinds g at b h) marked_long marks survey found.flagged d calm;
+          })
+          c.survey-surveyed.ensures.found;
+      counted =
+          let image = c.image-1.given.1 (sym (ap (λ x. x.image_lent) c.survey-surveyed.ensures.leaves.same)) in
+          let all : length c.deref-2.result.now ≡ v.ncg * v.ipg =
+          omega (arith, c.deref-2.ensures.len, c.requires.ready.made.kinds) in
+          rw image (rw all at (c.survey-surveyed.ensures.leaves.counted b knows));
+    }
 
 pub survey-surveyed-requires : goal.survey-surveyed-requires
 survey-surveyed-requires g c = record { ready = search rules; lists = grind (arith, some_inodes, kinds) }
-
-pub returns-clause-reads : goal.returns-clause-reads
-returns-clause-reads g c = λ b t h.
-    let v = c.args.geometry.now.layout in
-    let image = c.image-1.given.1 (sym (ap (λ x. x.image_lent) c.survey-surveyed.ensures.leaves.same)) in
-    let at = (goal.at.returns-clause-reads g c).After-survey-surveyed in
-    let all : length c.deref-2.result.now ≡ v.ncg * v.ipg = omega (arith, c.deref-2.ensures.len, c.requires.ready.made.kinds) in
-    rw image (rw all at (c.survey-surveyed.ensures.leaves.counted b (known g at b t h)))
-
-pub returns-clause-flags : goal.returns-clause-flags
-returns-clause-flags g c = on_ok_is c.survey-surveyed.result _ _ (λ ok s b t h.
-    let at = (goal.at.returns-clause-flags g c).After-survey-surveyed in
-    let w = c.args.workspace.now in
-    let n = c.survey-surveyed.new in
-    let found = s b (known g at b t h) in
-    let survey = volume_survey (base g at) b c.deref-2.result.now (search rules) (kinds g at b h) found.survey in
-    let marks : (x : ℕ) → bool_at c.deref-3.result.now x ≡ marked_at c.args.geometry.now.layout b x =
-    λ x. ap (λ xs. bool_at xs x) c.deref-3.ensures.value ∙ h.marked x in
-    let marked_long : length c.deref-3.result.now ≡ inodes_of c.args.geometry.now.layout =
-    omega (arith, c.deref-3.ensures.len, c.requires.ready.made.marked) in
-    record {
-      flagged = λ d calm. ap (λ xs. bool_at xs d) (with_items_is w.flags n.calm (search rules))
-          ∙ flags_each_calm (base g at) b c.deref-2.result.now _ _ c.deref-3.result.now _ n.reached
-          n.numbers.parents.now.items n.calm (search rules) (kinds g at b h) marked_long marks survey found.flagged d calm;
-    })
-    c.survey-surveyed.ensures.found
