@@ -87,7 +87,7 @@ fn maps_are_right(
     found: &Group,
     block: &[u8],
 ) -> bool
-    requires ready { CanCompareMaps geometry.now.layout usage.now group block.now }
+    requires maps { CanCompareMaps geometry.now.layout usage.now group block.now }
     requires numbers { found.now ≡ group_of geometry.now.layout.order block.now }
     ensures { result ≡ (maps_fit geometry.now.layout block.now
         && has_right_maps geometry.now.layout (free_by geometry.now.layout usage.now)

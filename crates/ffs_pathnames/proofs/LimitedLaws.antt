@@ -5,7 +5,7 @@ use Rattle.ffs_survey.specs.Costs.{TakesReads}
 use Rattle.ffs_pathnames.specs.ReadsLeft.{TakesLeft}
 use Rattle.ffs_image.specs.{declared.image.ImageFault.ImageFault, Device.Device}
 use Rattle.ffs_image.specs.Limited.{GivesBackLent, lent_at, limited_device}
-use Rattle.ffs_image.{specs.Reads.ReadAfter, proofs.Limits.{ServedBy}}
+use Rattle.ffs_image.{specs.Reads.ReadAfter, proofs.Limits.{ServedBy, read_over, served}}
 use Rattle.ffs_names.specs.Windows.{CanReadChunks}
 use Rattle.ffs_volume.specs.declared.Layout.{Layout}
 use Rattle.ffs_walk.specs.declared.{blocks.Blocks.Blocks, window.Window.Window}
@@ -28,7 +28,9 @@ pub looked : {T : Type 0} {lent below : Device} {name_lent name : GName} {reads 
     GivesBackLent (lent_at below name reads' left) asked s above' →
     LookedBy lent below name_lent name reads reads' limit left asked s r
 looked {lent = lent} {name_lent = name_lent} {reads = reads} {limit = limit} {above' = above'} {r = r} h back =
-    grind arith
+    let over = read_over (limited_device lent name_lent reads limit) above' r h in
+    let g = back (lent_at lent name_lent reads limit) over.lent over.contents over.size in
+    record { served = served h back; most = g.most; kept = g.left_of }
 
 -- what was asked of the limited image was taken of the image below
 pub taken_below : {T : Type 0} {r : Result T ImageFault} {reads reads' asked asked' before after : ℕ} {held : Type 0} →
