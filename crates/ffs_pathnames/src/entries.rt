@@ -69,14 +69,14 @@ pub fn report_directory<I: Image, W: Output>(
     requires { ReadyToReport geometry.now.layout (I.device image.old) workspace.old
         checking.old.texts.kept_parent directory.now }
     ensures lines { ReportsDirectory geometry.now.layout (record {
-          knows = LeftForRuns geometry.now.layout (I.device image.old) workspace.old directory.now
-              checking.old.reads_left;
-          own = λ b. directory_runs geometry.now.layout b directory.now.number;
-          lines = λ b. names.directory_reported (volume_of geometry.now.layout b)
-              directory.now.number (passed_of workspace.old);
-          after = λ _ b. names.after_directory (volume_of geometry.now.layout b)
-              directory.now.number (passed_of workspace.old) ≡ passed_of workspace.new;
-        })
+      knows = LeftForRuns geometry.now.layout (I.device image.old) workspace.old directory.now
+          checking.old.reads_left;
+      own = λ b. directory_runs geometry.now.layout b directory.now.number;
+      lines = λ b. names.directory_reported (volume_of geometry.now.layout b)
+          directory.now.number (passed_of workspace.old);
+      after = λ _ b. names.after_directory (volume_of geometry.now.layout b)
+          directory.now.number (passed_of workspace.old) ≡ passed_of workspace.new;
+    })
         (lines_moment I.Image W.Output image.old workspace.old report.old checking.old)
         (lines_moment I.Image W.Output image.new workspace.new report.new checking.new) result }
     ensures once { ReadsForEntries geometry.now.layout

@@ -125,13 +125,13 @@ fn check_inode<I: Image, W: Output>(
     requires { ReadyToCheck geometry.now.layout (I.device image.old) workspace.old
         checking.old.texts.kept_parent number }
     ensures lines { ReportsDirectory geometry.now.layout (record {
-          knows = LeftForNext geometry.now.layout (I.device image.old) workspace.old number
-              checking.old.reads_left;
-          own = λ b. 2 * directory_cost geometry.now.layout b number;
-          lines = λ b. directory_lines (volume_of geometry.now.layout b) number;
-          after = λ _ b. IsBeforeNoted geometry.now.layout (I.device image.old).contents
-              workspace.new (suc number) b × KeepsFlags workspace.old workspace.new;
-        })
+      knows = LeftForNext geometry.now.layout (I.device image.old) workspace.old number
+          checking.old.reads_left;
+      own = λ b. 2 * directory_cost geometry.now.layout b number;
+      lines = λ b. directory_lines (volume_of geometry.now.layout b) number;
+      after = λ _ b. IsBeforeNoted geometry.now.layout (I.device image.old).contents
+          workspace.new (suc number) b × KeepsFlags workspace.old workspace.new;
+    })
         (lines_moment I.Image W.Output image.old workspace.old report.old checking.old)
         (lines_moment I.Image W.Output image.new workspace.new report.new checking.new) result }
 
@@ -158,13 +158,13 @@ fn check_directory<I: Image, W: Output>(
     requires { ReadyToCheck geometry.now.layout (I.device image.old) workspace.old
         checking.old.texts.kept_parent dir }
     ensures lines { ReportsDirectory geometry.now.layout (record {
-          knows = LeftForBoth geometry.now.layout (I.device image.old) workspace.old dir
-              checking.old.reads_left;
-          own = λ b. 2 * directory_cost geometry.now.layout b dir;
-          lines = λ b. sized_dir_lines (volume_of geometry.now.layout b) dir;
-          after = λ _ b. AreRightBefore (volume_of geometry.now.layout b) (suc dir)
-              (passed_of workspace.new) × KeepsFlags workspace.old workspace.new;
-        })
+      knows = LeftForBoth geometry.now.layout (I.device image.old) workspace.old dir
+          checking.old.reads_left;
+      own = λ b. 2 * directory_cost geometry.now.layout b dir;
+      lines = λ b. sized_dir_lines (volume_of geometry.now.layout b) dir;
+      after = λ _ b. AreRightBefore (volume_of geometry.now.layout b) (suc dir)
+          (passed_of workspace.new) × KeepsFlags workspace.old workspace.new;
+    })
         (lines_moment I.Image W.Output image.old workspace.old report.old checking.old)
         (lines_moment I.Image W.Output image.new workspace.new report.new checking.new) result }
     ensures quiet { ReadsQuietOnce geometry.now.layout
@@ -197,12 +197,12 @@ fn begin_directory<I: Image, W: Output>(
     requires { ReadyToCheck geometry.now.layout (I.device image.old) workspace.old
         checking.old.texts.kept_parent dir }
     ensures { ReportsDirectory geometry.now.layout (record {
-          knows = LeftForLook geometry.now.layout (I.device image.old) workspace.old dir
-              checking.old.reads_left;
-          own = λ b. directory_cost geometry.now.layout b dir;
-          lines = λ b. dir_header_lines (volume_of geometry.now.layout b) dir;
-          after = λ e b. IsDirectoryBegun geometry.now.layout b dir workspace.old e workspace.new;
-        })
+      knows = LeftForLook geometry.now.layout (I.device image.old) workspace.old dir
+          checking.old.reads_left;
+      own = λ b. directory_cost geometry.now.layout b dir;
+      lines = λ b. dir_header_lines (volume_of geometry.now.layout b) dir;
+      after = λ e b. IsDirectoryBegun geometry.now.layout b dir workspace.old e workspace.new;
+    })
         (lines_moment I.Image W.Output image.old workspace.old report.old checking.old)
         (lines_moment I.Image W.Output image.new workspace.new report.new checking.new) result }
 {
