@@ -15,6 +15,10 @@ use Rattle.ffs_pathnames.{specs.LineReads.ReadsPathOnce, proofs.PathOnce.by_once
 use Rattle.ffs_pathnames.proofs.LineCounts.{by_line, knows_places, some_said}
 use Rattle.ffs_paths.specs.Reads.{KnowsPlaces}
 
+-- the moment at which an image, how often it was read, a workspace, a report and the texts are these
+abbrev pub entries_at : Device → ℕ → Workspace → Progress → EntryTexts → LinesMoment EntryTexts
+entries_at d reads w said t = record { at = record { image = d; reads = reads; workspace = w }; said = said; kept = t }
+
 module _ {S : Type 0} {v : Layout} {d d' : Device} {w w' : Workspace} {x : ℕ} {t t' : EntryTexts} {s : KeptParent}
     {lines : Volume → List TreeMessage} {reads reads' : ℕ} {r : Result S ImageFault}
     (keeps : KeepsPath v d w x t t') (left : LimitedPathLeaves v line_reads (record { image = d; reads = reads; workspace = w })
@@ -22,16 +26,9 @@ module _ {S : Type 0} {v : Layout} {d d' : Device} {w w' : Workspace} {x : ℕ} 
     (stays : IsTrue t.begun → IsTrue t'.begun)
     (once : (bytes : List ℕ) → KnowsPlaces v d.contents w bytes → ReadsPathOnce 1 t t' reads reads')
     (some : ForBytes (DirectoryContext v d.contents w x) (λ bytes. 1 ≤ length (lines (volume_of v bytes)))) where
-  -- the moments before and after
-  abbrev before : Progress → LinesMoment EntryTexts
-  before a = record { at = record { image = d; reads = reads; workspace = w }; said = a; kept = t }
-
-  abbrev after : Progress → LinesMoment EntryTexts
-  after b = record { at = record { image = d'; reads = reads'; workspace = w' }; said = b; kept = t' }
-
   -- a read failed
   pub entry_unread : {T : Type 0} {a : Progress} {fault : _} →
-      ReportsEntries {T = T} v x lines (before a) (after a) (Err (Read fault))
+      ReportsEntries {T = T} v x lines (entries_at d reads w a t) (entries_at d' reads' w' a t') (Err (Read fault))
   entry_unread = record {
     text = reads_first;
     path = keeps;
@@ -44,7 +41,7 @@ module _ {S : Type 0} {v : Layout} {d d' : Device} {w w' : Workspace} {x : ℕ} 
   -- the lines were said, or the output failed among them
   pub entry_said : {T : Type 0} {a b : Progress} {y : T} (ms : List TreeMessage) → 1 ≤ length ms →
       ForBytes (KnowsPath v d.contents w x t) (λ bytes. lines (volume_of v bytes) ≡ ms) → Said a b (map of_tree ms) →
-      ReportsEntries v x lines (before a) (after b) (Ok y)
+      ReportsEntries v x lines (entries_at d reads w a t) (entries_at d' reads' w' b t') (Ok y)
   entry_said ms many right said = record {
     text = says_all (λ bytes k. ap (map of_tree) (right bytes k)) said;
     path = keeps;
@@ -56,7 +53,7 @@ module _ {S : Type 0} {v : Layout} {d d' : Device} {w w' : Workspace} {x : ℕ} 
 
   pub entry_stopped : {T : Type 0} {a b : Progress} {fault : _} (ms : List TreeMessage) → 1 ≤ length ms →
       ForBytes (KnowsPath v d.contents w x t) (λ bytes. lines (volume_of v bytes) ≡ ms) → Stopped a b (map of_tree ms) →
-      ReportsEntries {T = T} v x lines (before a) (after b) (Err (Out fault))
+      ReportsEntries {T = T} v x lines (entries_at d reads w a t) (entries_at d' reads' w' b t') (Err (Out fault))
   entry_stopped ms many right stopped = record {
     text = stops_all (λ bytes k. ap (map of_tree) (right bytes k)) stopped;
     path = keeps;
@@ -67,7 +64,7 @@ module _ {S : Type 0} {v : Layout} {d d' : Device} {w w' : Workspace} {x : ℕ} 
   }
 
 -- the lines of an entry alone are its lines
-pub one_entry : {T : Type 0} {v : Layout} {x : ℕ} {m : PassedNames} {e : RoledEntry} {old new : LinesMoment EntryTexts}
-    {r : Result T RunFault} → ReportsEntries v x (λ vol. roled_reported vol x m e) old new r →
+pub one_entry : {T : Type 0} {v : Layout} {x : ℕ} {old new : LinesMoment EntryTexts} {r : Result T RunFault}
+    (m : PassedNames) (e : RoledEntry) → ReportsEntries v x (λ vol. roled_reported vol x m e) old new r →
     ReportsEntries v x (λ vol. entries_reported vol x m (e ∷ [])) old new r
-one_entry lines = simp append-nil lines
+one_entry m e lines = simp append-nil lines

@@ -1,5 +1,5 @@
 -- What is ready stays so where a chunk is read.
-use Rattle.std.{proofs.Common.{◌≡◌, ◌≤◌, ◌+◌, ℕ, arith, ap, rules, Result, Ok, Err, vec_len}, specs.declared.alloc.Global.Global}
+use Rattle.std.{proofs.Common.{◌≡◌, ◌≤◌, ◌+◌, ℕ, Bool, arith, ap, rules, Result, Ok, Err, vec_len}, specs.declared.alloc.Global.Global}
 use Rattle.std.specs.declared.vec.Vec.{Vec}
 use Rattle.ffs_image.specs.{Device.Device, declared.image.ImageFault.ImageFault}
 use Rattle.ffs_volume.specs.declared.Layout.{Layout}
@@ -46,6 +46,12 @@ pub ready_looked : (v : Layout) (d d' : Device) (w : Workspace) (windows : Windo
     → CanReadChunks v d' windows.blocks windows.current → vec_len queue ≡ vec_len w.queue
     → IsReady v d' (record w { windows = windows; queue = queue })
 ready_looked v d d' w windows queue r same others can long = grind arith
+
+-- and where other names were passed
+pub ready_passed : (v : Layout) (d : Device) (w : Workspace) (flags : Vec Bool Global) (queue : Vec ℕ Global) → IsReady v d w
+    → vec_len flags ≡ vec_len w.flags → vec_len queue ≡ vec_len w.queue
+    → IsReady v d (record w { flags = flags; queue = queue })
+ready_passed v d w flags queue r marked long = grind arith
 
 -- the windows of chunks after reads into that of indirect blocks alone
 pub can_read_more : (v : Layout) (d d' : Device) (blocks blocks' : Blocks) (chunk : Window) →

@@ -264,7 +264,8 @@ pub fn stamp(
     entry: &Entry<'_>,
 )
     requires { CanStamp inodes.now dir words.old.items }
-    ensures { StampsEntries inodes.now dir (record { role = role; entry = entry_value entry.now } ∷ [])
+    ensures { StampsEntries inodes.now dir
+        (record { role = role; entry = entry_value entry.now } ∷ [])
         words.old words.new }
 {
     if role != Role::Plain {

@@ -1,20 +1,35 @@
-use Rattle.std.proofs.Common.{arith}
-use Rattle.std.proofs.{Common.{ap, refl, ◌∙◌, rules}, lemmas.{List.with_items_is, Result.err_from_is_err_and}}
+use Rattle.std.proofs.{Common.{ap, refl, ◌∙◌}, lemmas.{List.with_items_is, Result.err_from_is_err_and}}
 use Rattle.ffs_volume.specs.Directories.Volumes.{volume_of}
 use Rattle.ffs_workspace.{specs.declared.workspace.Workspace.Workspace, proofs.Leaving.{claims_left, survey_left}}
 use Rattle.ffs_workspace.proofs.Leaving.{leaves_more, windows_leave}
 use Rattle.ffs_pathnames.{specs.Gathers.{passed_of, roled_value}, proofs.{EntryReports.one_entry, Passing.passes, SeesLaws.sees}}
-use Rattle.ffs_pathnames.proofs.StampLaws.{keep_more, names_leave, windows_keep}
+use Rattle.ffs_pathnames.proofs.{ReadyLaws.ready_passed, StampLaws.{keep_more, names_leave, windows_keep}}
 use Rattle.ffs_paths.proofs.Keeping.{kept_parent_on}
 use Rattle.ffs_report.proofs.Paying.{paid_answer}
 use Rattle.ffs_pathnames.proofs.entries.report_entry.Goals as goal
 
 pub returns-in_err-report_by_role : goal.returns-in_err-report_by_role
-returns-in_err-report_by_role g c = grind (arith, err_from_is_err_and, one_entry)
+returns-in_err-report_by_role g c =
+    let failed = c.in_err-report_by_role.ensures in
+    let before = c.args.workspace.now in
+    let here = c.report_by_role.new.workspace in
+    let p = err_from_is_err_and c.from_residual.result c.from_residual.ensures.1 in
+    rw (p.1, p.2) (record {
+      lines = one_entry (passed_of before) (roled_value c.args.entry.now) failed.lines;
+      passed = tt;
+      leaves = record {
+        image = failed.leaves.image;
+        survey = windows_leave _ _ failed.leaves.lists;
+        places = windows_keep before here failed.leaves.lists;
+        ready = failed.leaves.ready;
+      };
+      current = failed.leaves.current;
+    })
 
 pub returns : goal.returns
 returns g c =
-    let lines = one_entry c.in_ok-report_by_role.ensures.lines in
+    let lines = one_entry (passed_of c.args.workspace.now) (roled_value c.args.entry.now)
+    c.in_ok-report_by_role.ensures.lines in
     let left = c.in_ok-report_by_role.ensures.leaves in
     let before = c.args.workspace.now in
     let here = c.report_by_role.new.workspace in
@@ -50,7 +65,7 @@ returns g c =
         survey = leaves_more _ _ _ kept surveyed;
         places = keep_more _ _ _ (windows_keep before here left.lists) passed.words.places;
         ready = record {
-          ready = search rules;
+          ready = ready_passed _ _ here _ _ left.ready.ready refl passed.words.long;
           kept_parent = kept_parent_on _ _ _ _ _ _ refl surveyed passed.words.places left.ready.kept_parent;
         };
       };
