@@ -2,8 +2,8 @@
 use Rattle.std.proofs.Common.{arith, ◌≡◌, inl, inr, ap, ℕ, true, List, Option}
 use Rattle.ffs_image.specs.Device.{Device}
 use Rattle.ffs_volume.specs.{declared.End.{End, TheVariants.{Refused, ReadFault, WriteFault}}, Messages.Kinds.Message}
-use Rattle.ffs_report.specs.Sink.{Sink}
-use Rattle.ffs_check.specs.{Failures.{ReadsFailed, WritesFailed}, Headline.{can_end_report, IsCutShort, Headline}}
+use Rattle.ffs_check.specs.{Ends.Cut, Failures.{ReadsFailed, WritesFailed}, Moment.Moment}
+use Rattle.ffs_check.specs.Headline.{can_end_report, IsCutShort, Headline}
 
 reads_none : (end : End) (old new : ℕ) → can_end_report end ≡ true → new ≡ old → ReadsFailed end old new
 reads_none (Refused fault) old new c e = inl e
@@ -16,42 +16,41 @@ writes_none WriteFault old new c e = absurd (cc)
 writes_none end old new c e = e
 
 -- where a check is cut short, one read had failed, or the memory was refused
-cut_reads : {image image' : Device} {name : List ℕ} {sector : Option ℕ} {text said : List Message} {line : Message}
-    {end : End} → IsCutShort image image' name sector text said line end →
-    ReadsFailed end image.failures image'.failures × ReadsFailed WriteFault image.failures image'.failures
+cut_reads : {image image' : Device} {name : List ℕ} {sector : Option ℕ} {text : List Message} {cut : Cut} →
+    IsCutShort name sector image image' text cut →
+    ReadsFailed cut.end image.failures image'.failures × ReadsFailed WriteFault image.failures image'.failures
 cut_reads (inl super) = (rw super.end_is (inr super.faulted.rose), inr super.faulted.rose)
 cut_reads (inr (inl later)) = (rw later.end_is later.faulted.rose, inr later.faulted.rose)
 cut_reads (inr (inr unstarted)) = grind arith
 
-cut_writes : {image image' : Device} {name : List ℕ} {sector : Option ℕ} {text said : List Message} {line : Message}
-    {end : End} (old new : ℕ) → IsCutShort image image' name sector text said line end → new ≡ old →
-    WritesFailed end old new
+cut_writes : {image image' : Device} {name : List ℕ} {sector : Option ℕ} {text : List Message} {cut : Cut}
+    (old new : ℕ) → IsCutShort name sector image image' text cut → new ≡ old → WritesFailed cut.end old new
 cut_writes old new (inl super) e = rw super.end_is e
 cut_writes old new (inr (inl later)) e = rw later.end_is e
 cut_writes old new (inr (inr unstarted)) e = rw unstarted.end_is e
 
-module _ (image image' : Device) (name : List ℕ) (sector : Option ℕ) (out out' : Sink) (end : End)
-    (h : Headline image image' name sector out out' end) where
-  pub reads_failed : ReadsFailed end image.failures image'.failures
+module _ (name : List ℕ) (sector : Option ℕ) (old new : Moment) (end : End) (h : Headline name sector old new end) where
+  pub reads_failed : ReadsFailed end old.image.failures new.image.failures
   reads_failed = elim h.ends [
-    | inl all ↦ reads_none end image.failures image'.failures all.end_is.can_end
-        (ap (λ d. d.failures) all.no_read_failed)
-    | inr r ↦ elim r [
-      | inl short ↦
-          let failed = cut_reads short.cut in
-          elim short.ends [ inl went ↦ rw went.1 failed.0 | inr broke ↦ rw broke.1 failed.1 ]
-      | inr part ↦ rw part.end_is (inl (ap (λ d. d.failures) part.no_read_failed))
-    ]
+    | inl read ↦
+        let same = ap (λ (d : Device). d.failures) read.no_read_failed in
+        elim read.ends [
+          | inl whole ↦ reads_none end old.image.failures new.image.failures whole.1.can_end same
+          | inr part ↦ rw part.1 (inl same)
+        ]
+    | inr short ↦
+        let failed = cut_reads short.is_cut in
+        elim short.ends [ inl went ↦ rw went.1 failed.0 | inr broke ↦ rw broke.1 failed.1 ]
   ]
 
-  pub writes_failed : WritesFailed end out.failures out'.failures
+  pub writes_failed : WritesFailed end old.out.failures new.out.failures
   writes_failed = elim h.ends [
-    | inl all ↦ writes_none end out.failures out'.failures all.end_is.can_end all.went_out.failures
-    | inr r ↦ elim r [
-      | inl short ↦ elim short.ends [
-        | inl went ↦ rw went.1 (cut_writes out.failures out'.failures short.cut went.0.failures)
-        | inr broke ↦ rw broke.1 (rw broke.0.went_out.failures at broke.0.broke_off.rose)
-      ]
-      | inr part ↦ rw part.end_is part.broke_off.rose
+    | inl read ↦ elim read.ends [
+      | inl whole ↦ writes_none end old.out.failures new.out.failures whole.1.can_end whole.0.failures
+      | inr part ↦ rw part.1 part.0.rose
+    ]
+    | inr short ↦ elim short.ends [
+      | inl went ↦ rw went.1 (cut_writes old.out.failures new.out.failures short.is_cut went.0.failures)
+      | inr broke ↦ rw broke.1 (rw broke.0.went_out.failures at broke.0.broke_off.rose)
     ]
   ]

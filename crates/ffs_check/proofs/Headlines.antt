@@ -1,6 +1,6 @@
 -- The headline, of an opening and of what follows it.
 use Rattle.std.proofs.Common.{arith, ◌≡◌, ◌⊎◌, inl, inr, refl, ◌∙◌, sym, ap, subst, ℕ, Bool, true, List, [], ◌∷◌, ◌++◌}
-use Rattle.std.{proofs.Common.{append_assoc, append-nil, Option, Result, Ok, Err}, specs.Borrow.GName}
+use Rattle.std.proofs.Common.{append_assoc, append-nil, Option, Result, Ok, Err}
 use Rattle.ffs_image.specs.Device.{Device, Faulted, ForContents}
 use Rattle.ffs_volume.specs.declared.{SuperFault.{SuperFault, TheVariants.CannotRead}, End.{End, TheVariants.Refused}}
 use Rattle.ffs_volume.specs.{declared.End.TheVariants.WriteFault, Disk.{Superblock.Superblock, Outcome.outcome}}
@@ -8,19 +8,15 @@ use Rattle.ffs_volume.specs.Directories.{PathnameCheck.continues_after_root, Vol
 use Rattle.ffs_volume.specs.{Messages.Kinds.{Message, has_defect}, Report.Opening.{head_lines, super_lines, fault_line}}
 use Rattle.ffs_volume.specs.Report.{Opening.opening_lines, Whole.{phase_lines, report_lines, end_by, end_of}}
 use Rattle.ffs_volume.specs.Report.Whole.{lines_by_outcome, end_by_outcome, report_of, report_end}
-use Rattle.ffs_report.{specs.{Sink.Sink, Progress.{Progress, Said, Stopped, starts}}, proofs.Reports.stopped_after}
-use Rattle.ffs_report.proofs.Reports.{stopped_more}
+use Rattle.ffs_volume.specs.Messages.Texts.{texts_of}
+use Rattle.ffs_report.specs.Sink.{BrokeOff, Took}
 use Rattle.ffs_layout.specs.Super.{IsSuperSector, ReadsSuper}
 use Rattle.ffs_certificate.proofs.ReportLaws.{certified}
-use Rattle.ffs_check.specs.{Ends.{BrokeOffIn, BrokeOffInLine, Printed}, Opening.SaysOpening, Headline.can_end_report}
-use Rattle.ffs_check.{specs.Headline.{Certifies, opened_lines, Headline}, proofs.EndLaws.{broke_off, broke_in_line}}
-use Rattle.ffs_check.proofs.Endings.{at_contents, at_known}
+use Rattle.ffs_check.specs.{Ends.BrokeOffInLine, Headline.{Certifies, Headline, can_end_report}, Moment.Moment}
+use Rattle.ffs_check.{specs.Opening.OpeningOf, proofs.EndLaws.{broke_after, broke_more}}
+use Rattle.ffs_check.proofs.{Endings.{at_contents, at_known}, Openings.no_defect_head}
 
 -- ---- the report, in its parts
-no_defect_head : (name : List ℕ) (sector : Option ℕ) (xs : List Message) → has_defect (head_lines name sector ++ xs)
-    ≡ has_defect xs
-no_defect_head name sector xs = grind arith
-
 report_there : (bytes name : List ℕ) (sector : Option ℕ) (found : Result Superblock SuperFault) →
     found ≡ outcome bytes sector → head_lines name sector ++ lines_by_outcome bytes found ≡ report_of bytes name sector
 unfolding report_of
@@ -43,17 +39,17 @@ opening_then bytes name sector found = grind (arith, append_assoc, append-nil)
 
 pub whole_there : (bytes name : List ℕ) (sector : Option ℕ) (s : Superblock) (text : List Message) →
     Ok s ≡ outcome bytes sector → text ≡ phase_lines bytes s →
-    opened_lines name sector s ++ text ≡ report_of bytes name sector
+    opening_lines name sector (Ok s) ++ text ≡ report_of bytes name sector
 unfolding report_lines
 whole_there bytes name sector s text e t =
-    ap (λ xs. opened_lines name sector s ++ xs) t
+    ap (λ xs. opening_lines name sector (Ok s) ++ xs) t
     ∙ append_assoc (head_lines name sector) (super_lines s) (phase_lines bytes s)
     ∙ report_there bytes name sector (Ok s) e
 
-pub defect_there : (bytes name : List ℕ) (sector : Option ℕ) (s : Superblock) (text : List Message) →
-    text ≡ phase_lines bytes s → has_defect (opened_lines name sector s ++ text) ≡ has_defect (report_lines bytes s)
+pub defect_there : (bytes : List ℕ) (s : Superblock) (text : List Message) → text ≡ phase_lines bytes s →
+    has_defect (super_lines s ++ text) ≡ has_defect (report_lines bytes s)
 unfolding report_lines
-defect_there bytes name sector s text t = grind (arith, append_assoc, no_defect_head)
+defect_there bytes s text t = ap (λ xs. has_defect (super_lines s ++ xs)) t
 
 pub end_of_there : (bytes : List ℕ) (s : Superblock) (on defect : Bool) →
     on ≡ continues_after_root (volume_of s.layout bytes) → defect ≡ has_defect (report_lines bytes s) →
@@ -92,101 +88,95 @@ whole_right : (image : Device) (name : List ℕ) (sector : Option ℕ) →
     ForContents image.contents (λ bytes. whole_report image name sector ≡ report_of bytes name sector)
 whole_right image name sector bytes t = grind (arith, at_known, report_there)
 
-module _ (image image' : Device) (name : List ℕ) (sector : Option ℕ) (output : GName) (sink : Sink) (p : Progress) where
+module _ (name : List ℕ) (sector : Option ℕ) (old new : Moment) where
   -- ---- a read of the superblock, or of its last copy, failed
-  failed : (fault : SuperFault) (end : End) → fault ≡ CannotRead image'.failed_sector →
-      Faulted image image' image'.failed_sector →
-      ForContents image.contents (λ bytes. IsSuperSector bytes sector image'.failed_sector) →
-      (Printed sink p.sink (head_lines name sector ++ (fault_line fault ∷ [])) × (end ≡ Refused fault))
-      ⊎ (BrokeOffInLine Printed BrokeOffIn sink p.sink (head_lines name sector) (fault_line fault)
-      × (end ≡ WriteFault)) →
-      Headline image image' name sector sink p.sink end
+  failed : (fault : SuperFault) (end : End) → fault ≡ CannotRead new.image.failed_sector →
+      Faulted old.image new.image new.image.failed_sector →
+      ForContents old.image.contents (λ bytes. IsSuperSector bytes sector new.image.failed_sector) →
+      (Took old.out new.out (texts_of (head_lines name sector ++ (fault_line fault ∷ []))) × (end ≡ Refused fault))
+      ⊎ (BrokeOffInLine old.out new.out (head_lines name sector) (fault_line fault) × (end ≡ WriteFault)) →
+      Headline name sector old new end
   failed fault end e f at ends = record {
-    text = whole_report image name sector;
-    is_report = whole_right image name sector;
-    ends = inr (inl (record {
-      said = head_lines name sector;
-      line = fault_line fault;
-      cut_end = Refused fault;
-      cut = inl (record { faulted = f; place = at; said_is = refl; line_is = ap fault_line e; end_is = ap Refused e });
+    text = whole_report old.image name sector;
+    is_report = whole_right old.image name sector;
+    ends = inr (record {
+      cut = record { said = head_lines name sector; line = fault_line fault; end = Refused fault };
+      is_cut = inl (record {
+        faulted = f;
+        place = at;
+        said_is = refl;
+        line_is = ap fault_line e;
+        end_is = ap Refused e;
+      });
       ends = ends;
-    }));
+    });
   }
 
   -- ---- the opening ended the check
-  refused : (fault : SuperFault) → ReadsSuper image image' sector (Err fault) →
-      Said (starts output sink) p (opening_lines name sector (Err fault)) →
-      Headline image image' name sector sink p.sink (Refused fault)
-  refused fault (inl read) said = failed fault (Refused fault) read.0.0 read.0.1 read.1 (inl (said.took, refl))
+  refused : (fault : SuperFault) → ReadsSuper old.image new.image sector (Err fault) →
+      Took old.out new.out (texts_of (opening_lines name sector (Err fault))) →
+      Headline name sector old new (Refused fault)
+  refused fault (inl read) said = failed fault (Refused fault) read.0.0 read.0.1 read.1 (inl (said, refl))
   refused fault (inr read) said =
-      let report : ForContents image.contents
-      (λ bytes. opening_lines name sector (Err fault) ≡ report_of bytes name sector) =
+      let text = opening_lines name sector (Err fault) in
+      let report : ForContents old.image.contents (λ bytes. text ≡ report_of bytes name sector) =
       λ bytes t. report_there bytes name sector (Err fault) (read.1 bytes t) in
-      let last : ForContents image.contents (λ bytes. Refused fault ≡ report_end bytes sector) =
+      let last : ForContents old.image.contents (λ bytes. Refused fault ≡ report_end bytes sector) =
       λ bytes t. end_there bytes sector (Err fault) (read.1 bytes t) in
       record {
-        text = opening_lines name sector (Err fault);
+        text = text;
         is_report = report;
         ends = inl (record {
           no_read_failed = read.0;
-          went_out = said.took;
-          end_is = record {
-            can_end = refl;
-            value = last;
-            certifies = λ bytes t. certifies bytes name sector (opening_lines name sector (Err fault)) (Refused fault)
-                (report bytes t) (last bytes t);
-          };
+          ends = inl (
+            said,
+            record {
+              can_end = refl;
+              value = last;
+              certifies = λ bytes t. certifies bytes name sector text (Refused fault) (report bytes t) (last bytes t);
+            },
+          );
         });
       }
 
   -- the output failed where no read had
-  stopped : (found : Result Superblock SuperFault) → image' ≡ image →
-      ForContents image.contents (λ bytes. found ≡ outcome bytes sector) →
-      Stopped (starts output sink) p (opening_lines name sector found) →
-      Headline image image' name sector sink p.sink WriteFault
+  stopped : (found : Result Superblock SuperFault) → new.image ≡ old.image →
+      ForContents old.image.contents (λ bytes. found ≡ outcome bytes sector) →
+      BrokeOff old.out new.out (texts_of (opening_lines name sector found)) → Headline name sector old new WriteFault
   stopped found none_failed right stop =
-      let text = opening_lines name sector found ++ at_contents image.contents (λ bytes. more_of bytes found) in
+      let more = at_contents old.image.contents (λ bytes. more_of bytes found) in
       record {
-        text = text;
-        is_report = λ bytes t. ap (λ more. opening_lines name sector found ++ more)
-            (at_known image.contents (λ bytes. more_of bytes found) bytes t)
+        text = opening_lines name sector found ++ more;
+        is_report = λ bytes t. ap (λ xs. opening_lines name sector found ++ xs)
+            (at_known old.image.contents (λ bytes. more_of bytes found) bytes t)
             ∙ opening_then bytes name sector found ∙ report_there bytes name sector found (right bytes t);
-        ends = inr (inr (record {
+        ends = inl (record {
           no_read_failed = none_failed;
-          broke_off = broke_off (starts output sink) p text refl
-              (stopped_more (starts output sink) p (opening_lines name sector found)
-              (at_contents image.contents (λ bytes. more_of bytes found)) stop);
-          end_is = refl;
-        }));
+          ends = inr (broke_more old.out new.out (opening_lines name sector found) more stop, refl);
+        });
       }
 
   -- the output failed in the line of a fault
-  stopped_in_line : (fault : SuperFault) → ReadsSuper image image' sector (Err fault) →
-      BrokeOffInLine Said Stopped (starts output sink) p (head_lines name sector) (fault_line fault) →
-      Headline image image' name sector sink p.sink WriteFault
-  stopped_in_line fault (inl read) stop = failed fault WriteFault read.0.0 read.0.1 read.1
-      (inr (broke_in_line (starts output sink) p (head_lines name sector) (fault_line fault) refl stop, refl))
+  stopped_in_line : (fault : SuperFault) → ReadsSuper old.image new.image sector (Err fault) →
+      BrokeOffInLine old.out new.out (head_lines name sector) (fault_line fault) →
+      Headline name sector old new WriteFault
+  stopped_in_line fault (inl read) stop = failed fault WriteFault read.0.0 read.0.1 read.1 (inr (stop, refl))
   stopped_in_line fault (inr read) stop = stopped (Err fault) read.0 read.1
-      (stopped_after (starts output sink) stop.between p (head_lines name sector) (fault_line fault ∷ []) stop.went_out
+      (broke_after old.out stop.between new.out (head_lines name sector) (fault_line fault ∷ []) stop.went_out
       stop.broke_off)
 
   -- the opening's answer
-  pub opening_ends : (end : End) → SaysOpening image image' (starts output sink) p name sector (Err end) →
-      Headline image image' name sector sink p.sink end
-  opening_ends end o = elim o.ends [
-    | inl not_accepted ↦ subst (λ e. Headline image image' name sector sink p.sink e) (sym not_accepted.end_is)
-        (refused not_accepted.fault
-        (subst (λ f. ReadsSuper image image' sector f) not_accepted.found_is o.super_is_read) not_accepted.went_out)
-    | inr stops ↦ elim stops [
-      | inl stop ↦ subst (λ e. Headline image image' name sector sink p.sink e) (sym stop.end_is)
-          (stopped o.found stop.no_read_failed stop.found_is stop.broke_off)
-      | inr stop ↦ subst (λ e. Headline image image' name sector sink p.sink e) (sym stop.end_is)
-          (stopped_in_line stop.fault (subst (λ f. ReadsSuper image image' sector f) stop.found_is o.super_is_read)
-          stop.in_line)
-    ]
-  ]
-
-pub headline_at : (image image' : Device) (name : List ℕ) (sector : Option ℕ) (out at at' : Sink) (end : End) → at ≡ at'
-    →
-    Headline image image' name sector out at end → Headline image image' name sector out at' end
-headline_at image image' name sector out at at' end e h = subst (λ to. Headline image image' name sector out to end) e h
+  pub opening_ends : (end : End) → OpeningOf name sector old new (Err end) → Headline name sector old new end
+  opening_ends end o =
+      let read : (fault : SuperFault) → o.found ≡ Err fault → ReadsSuper old.image new.image sector (Err fault) =
+      λ fault e. subst (ReadsSuper old.image new.image sector) e o.super_is_read in
+      elim o.ends [
+        | inl not_accepted ↦ subst (Headline name sector old new) (sym not_accepted.end_is)
+            (refused not_accepted.fault (read not_accepted.fault not_accepted.found_is) not_accepted.went_out)
+        | inr stops ↦ elim stops [
+          | inl stop ↦ subst (Headline name sector old new) (sym stop.end_is)
+              (stopped o.found stop.no_read_failed stop.found_is stop.broke_off)
+          | inr stop ↦ subst (Headline name sector old new) (sym stop.end_is)
+              (stopped_in_line stop.fault (read stop.fault stop.found_is) stop.in_line)
+        ]
+      ]

@@ -4,10 +4,10 @@ use Rattle.std.proofs.lemmas.List.{length-append}
 use Rattle.ffs_image.specs.Device.{Device}
 use Rattle.ffs_volume.specs.{declared.{Layout.Layout, SuperFault.SuperFault}, Disk.Outcome.outcome}
 use Rattle.ffs_volume.specs.{Disk.Superblock.Superblock, Report.{Reads.{opening_reads, phase_reads}, Whole.phase_lines}}
-use Rattle.ffs_volume.specs.Report.Whole.{report_of}
+use Rattle.ffs_volume.specs.Report.{Opening.opening_lines, Whole.report_of}
 use Rattle.ffs_layout.specs.{declared.superblock.Super.Super, Super.{ReadsSuper, superblock_in}}
-use Rattle.ffs_report.specs.{Progress.Progress, Known.{ForBytes, IsContents}}
-use Rattle.ffs_check.specs.{Headline.opened_lines, Opening.SaysOpening, ReadsWithin.{PhasesReadWithin, ReadsWithin}}
+use Rattle.ffs_report.specs.Known.{ForBytes, IsContents}
+use Rattle.ffs_check.specs.{Moment.Moment, Opening.OpeningOf, Reads.{PhasesReadWithin, ReadsWithin}}
 use Rattle.ffs_check.proofs.{Headlines.whole_there, Openings.{found_of, unfailed_of}}
 
 pub phases_more : (v : Layout) (n m : ℕ) → n ≤ m → phase_reads v n ≤ phase_reads v m
@@ -18,21 +18,21 @@ report_among : (bytes name : List ℕ) (sector : Option ℕ) (s : Superblock) �
     length (phase_lines bytes s) ≤ length (report_of bytes name sector)
 report_among bytes name sector s accepted =
     let whole = ap length (whole_there bytes name sector s (phase_lines bytes s) accepted refl) in
-    omega (arith, whole, length-append (opened_lines name sector s) (phase_lines bytes s))
+    omega (arith, whole, length-append (opening_lines name sector (Ok s)) (phase_lines bytes s))
 
 -- a superblock was accepted, and the phases follow, or nothing is read any more
-pub found_within : (image on : Device) (name : List ℕ) (sector : Option ℕ) (start p : Progress) (found : Super)
-    (reads between reads' : ℕ) → SaysOpening image on start p name sector (Ok found) → between ≤ reads + opening_reads →
-    ForBytes (IsContents on.contents) (λ bytes. PhasesReadWithin (superblock_in found) bytes between reads') →
-    ReadsWithin image name sector reads reads'
-found_within image on name sector start p found reads between reads' o opened follows =
-    let answers = subst (λ r. ReadsSuper image on sector r) o.ends.1 o.super_is_read in
-    let still = unfailed_of image on sector (superblock_in found) answers in
-    let is = found_of image on sector (superblock_in found) answers in
-    let there : ForBytes (IsContents image.contents) (λ bytes. (s : Superblock) → outcome bytes sector ≡ Ok s →
-    PhasesReadWithin s bytes between reads') = λ bytes t s e.
+pub found_within : (name : List ℕ) (sector : Option ℕ) (old on : Moment) (found : Super) (reads' : ℕ) →
+    OpeningOf name sector old on (Ok found) → on.reads ≤ old.reads + opening_reads →
+    ForBytes (IsContents on.image.contents) (λ bytes. PhasesReadWithin (superblock_in found) bytes on.reads reads') →
+    ReadsWithin old.image name sector old.reads reads'
+found_within name sector old on found reads' o opened follows =
+    let answers = subst (ReadsSuper old.image on.image sector) o.ends.1 o.super_is_read in
+    let still = unfailed_of old.image on.image sector (superblock_in found) answers in
+    let is = found_of old.image on.image sector (superblock_in found) answers in
+    let there : ForBytes (IsContents old.image.contents) (λ bytes. (s : Superblock) → outcome bytes sector ≡ Ok s →
+    PhasesReadWithin s bytes on.reads reads') = λ bytes t s e.
     let same : superblock_in found ≡ s = ap (λ r. found_or r s) (is bytes t ∙ e) in
-    subst (λ x. PhasesReadWithin x bytes between reads') same (follows bytes (ap (λ d. d.contents) still ∙ t)) in
+    subst (λ x. PhasesReadWithin x bytes on.reads reads') same (follows bytes (ap (λ d. d.contents) still ∙ t)) in
     record {
       refused = λ bytes t fault e. let no : Ok (superblock_in found) ≡ Err fault = is bytes t ∙ e in absurd (cc);
       accepted = λ bytes t s e. omega (

@@ -4,26 +4,24 @@ use Rattle.ffs_image.specs.Device.{Device, ForContents}
 use Rattle.ffs_memory.specs.{Account.{Account, unused}, System.account_of, declared.system.SystemMemory.SystemMemory}
 use Rattle.ffs_volume.specs.declared.End.{End, TheVariants.{Consistent, Defects, RootStop, WriteFault, NoMemory}}
 use Rattle.ffs_volume.specs.{Disk.{Outcome.outcome, Superblock.Superblock}, Report.Whole.end_by}
-use Rattle.ffs_report.specs.Progress.{Progress}
 use Rattle.ffs_layout.specs.{declared.superblock.Super.Super, Super.{ReadsSuper, superblock_in}}
 use Rattle.ffs_workspace.specs.Lengths.{held_of}
-use Rattle.ffs_check.specs.{PhaseEnds.SaysPhases, Opening.SaysOpening, Taken.{AsksMemory, TakesOfMemory, TakesOfSystem}}
-use Rattle.ffs_check.specs.Taken.{TakesWorkspace}
+use Rattle.ffs_check.specs.{Moment.Moment, Opening.OpeningOf, PhaseEnds.PhasesEnd}
+use Rattle.ffs_check.specs.Taken.{AsksMemory, TakesOfMemory, TakesOfSystem, TakesWorkspace}
 
 accepted_by : (image image' : Device) (sector : Option ℕ) (s : Superblock) → ReadsSuper image image' sector (Ok s) →
     ForContents image.contents (λ bytes. outcome bytes sector ≡ Ok s)
 accepted_by image image' sector s (inl failed) = absurd failed.0.0
 accepted_by image image' sector s (inr read) = λ bytes t. sym (read.1 bytes t)
 
-pub takes : (image on : Device) (name : List ℕ) (sector : Option ℕ) (start p : Progress) (found : Super)
-    (old new : Account) →
-    SaysOpening image on start p name sector (Ok found) →
-    found.geometry.layout.size * found.geometry.layout.fsize ≤ image.size →
-    AsksMemory old new (held_of found.geometry.layout) → TakesWorkspace image sector old new
-takes image on name sector start p found old new o inside a = record {
+pub takes : (name : List ℕ) (sector : Option ℕ) (old on : Moment) (found : Super) (held held' : Account) →
+    OpeningOf name sector old on (Ok found) →
+    found.geometry.layout.size * found.geometry.layout.fsize ≤ old.image.size →
+    AsksMemory held held' (held_of found.geometry.layout) → TakesWorkspace old.image sector held held'
+takes name sector old on found held held' o inside a = record {
   found = superblock_in found;
-  accepted = accepted_by image on sector (superblock_in found)
-      (subst (λ r. ReadsSuper image on sector r) o.ends.1 o.super_is_read);
+  accepted = accepted_by old.image on.image sector (superblock_in found)
+      (subst (ReadsSuper old.image on.image sector) o.ends.1 o.super_is_read);
   sound = found.geometry.sound;
   inside = inside;
   asked = a;
@@ -39,14 +37,14 @@ not_broken : WriteFault ≡ NoMemory → ⊥
 not_broken e = (let w : WriteFault ≡ NoMemory = e in cc)
 
 -- phases that have run don't end as `NoMemory`
-pub not_for_memory : (knows : List ℕ → Type 0) (s : Superblock) (image image' : Device) (old new : Progress)
-    (end : End) → SaysPhases false knows s image image' old new end → end ≡ NoMemory → ⊥
-not_for_memory knows s image image' old new end ran e = grind (arith, not_by, not_broken)
+pub not_for_memory : (knows : List ℕ → Type 0) (s : Superblock) (old new : Moment) (end : End) →
+    PhasesEnd knows s old new end → end ≡ NoMemory → ⊥
+not_for_memory knows s old new end ran e = grind (arith, not_by, not_broken)
 
 -- nor does an opening
-pub opened_for_memory : (image on : Device) (old new : Progress) (name : List ℕ) (sector : Option ℕ) (end : End) →
-    SaysOpening image on old new name sector (Err end) → end ≡ NoMemory → ⊥
-opened_for_memory image on old new name sector end o e = grind (arith, not_broken)
+pub opened_for_memory : (name : List ℕ) (sector : Option ℕ) (old new : Moment) (end : End) →
+    OpeningOf name sector old new (Err end) → end ≡ NoMemory → ⊥
+opened_for_memory name sector old new end o e = grind (arith, not_broken)
 
 -- a check over the memory of the system, which was new
 pub of_system : (image : Device) (sector : Option ℕ) (end : End) (memory memory' : SystemMemory) →

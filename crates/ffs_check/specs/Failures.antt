@@ -1,11 +1,11 @@
 -- What the end of a check says of how many reads failed in it, none or one, of how many writes, none
 -- or one, and of a superblock that can't be read.
 use Rattle.std.specs.Prelude.{◌≡◌, ◌⊎◌, ℕ, Option}
-use Rattle.ffs_image.specs.Device.{Device, Rose}
-use Rattle.ffs_report.specs.Sink.{Sink}
+use Rattle.ffs_image.specs.Device.{Rose}
 use Rattle.ffs_layout.specs.Super.{IsUnreadable}
 use Rattle.ffs_volume.specs.declared.{SuperFault.TheVariants.CannotRead, End.{End, TheVariants.{Consistent, Defects}}}
 use Rattle.ffs_volume.specs.declared.End.TheVariants.{Refused, RootStop, ReadFault, WriteFault, NoMemory}
+use Rattle.ffs_check.specs.Moment.{Moment}
 
 -- what an end says of the counts of failed reads before and after
 abbrev pub ReadsFailed : End → ℕ → ℕ → Type 0
@@ -29,7 +29,8 @@ WritesFailed WriteFault old new = Rose old new
 
 -- what an end says of the failed reads of an image and the failed writes of an output. A superblock
 -- that can't be read is a failed read, or lies past the image's end
-pub record HaveFailed (end : End) (asked_sector : Option ℕ) (image image' : Device) (out out' : Sink) : Type 0 where
-  pub reads : ReadsFailed end image.failures image'.failures
-  pub writes : WritesFailed end out.failures out'.failures
-  pub unreadable : (sector : ℕ) → end ≡ Refused (CannotRead sector) → IsUnreadable image image' asked_sector sector
+pub record HaveFailed (asked_sector : Option ℕ) (old new : Moment) (end : End) : Type 0 where
+  pub reads : ReadsFailed end old.image.failures new.image.failures
+  pub writes : WritesFailed end old.out.failures new.out.failures
+  pub unreadable : (sector : ℕ) → end ≡ Refused (CannotRead sector)
+      → IsUnreadable old.image new.image asked_sector sector

@@ -1,19 +1,16 @@
 -- What `fsck_ffs` promises: what its words ask for, by which texts they are refused, and how a check that it
 -- runs over an image ends.
 use Rattle.std.specs.Prelude.{◌≡◌, ℕ, List, Option}
-use Rattle.ffs_image.specs.Device.{Device}
 use Rattle.ffs_volume.specs.{declared.End.End, Report.Whole.status_of}
-use Rattle.ffs_report.specs.Sink.{Sink}
-use Rattle.ffs_check.specs.{AnyReads.CheckReads, Headline.Headline, Program.Meaning, Taken.TakesOfSystem}
+use Rattle.ffs_check.specs.{Headline.Headline, Moment.Moment, Program.Meaning, Reads.CheckReads, Taken.TakesOfSystem}
 use Rattle.ffs_check.specs.{CommandWords.{AskFor, LacksMemory, fsck_program}, Refusals.{IsTextFor, refusal_text}}
 
 -- an image was checked under a name, its superblock at a sector, and the status is that of the check's end
-pub record IsChecked (name : List ℕ) (sector : Option ℕ) (image image' : Device) (reads reads' : ℕ) (out out' : Sink)
-    (status : ℕ) : Type 0 where
+pub record IsChecked (name : List ℕ) (sector : Option ℕ) (old new : Moment) (status : ℕ) : Type 0 where
   pub end : End
-  pub headline : Headline image image' name sector out out' end
-  pub memory : TakesOfSystem image sector end
-  pub reads_within : CheckReads image name sector out out' reads reads'
+  pub headline : Headline name sector old new end
+  pub memory : TakesOfSystem old.image sector end
+  pub reads_within : CheckReads name sector old new
   pub status_is : status ≡ status_of end
 
 -- a check of an image, asked for by its sector

@@ -1,13 +1,13 @@
-pub mod AnyReads
 pub mod CommandWords
 pub mod Ends
 pub mod Failures
 pub mod Fsck
 pub mod Headline
+pub mod Moment
 pub mod Opening
 pub mod PhaseEnds
 pub mod Program
-pub mod ReadsWithin
+pub mod Reads
 pub mod Refusals
 pub mod Rest
 pub mod Run

@@ -7,7 +7,8 @@ use Rattle.ffs_image.specs.Device.{Device, Faulted}
 use Rattle.ffs_volume.specs.declared.End.{End, TheVariants.{ReadFault, WriteFault, NoMemory}}
 use Rattle.ffs_volume.specs.{Disk.Superblock.Superblock, Directories.PathnameCheck.continues_after_root}
 use Rattle.ffs_volume.specs.{Directories.Volumes.volume_of, Report.Whole.{end_by, phase_lines}, Messages.Kinds.Message}
-use Rattle.ffs_volume.specs.{Messages.Kinds.{cannot_alloc, cannot_read}, Report.Memory.runs_limit}
+use Rattle.ffs_volume.specs.{Messages.Kinds.{cannot_alloc, cannot_read, has_defect}, Report.Memory.runs_limit}
+use Rattle.ffs_volume.specs.Report.Opening.{super_lines}
 use Rattle.ffs_volume.specs.declared.Layout.{Layout}
 use Rattle.ffs_report.specs.{Known.{ForBytes, IsContents}, PhaseOutcome.{ImageAfter, SaidOf, StoppedOf}}
 use Rattle.ffs_report.specs.{Progress.{Progress, Said, Stopped}, declared.fault.RunFault.{RunFault, TheVariants.Read}}
@@ -16,8 +17,8 @@ use Rattle.ffs_pathnames.specs.{declared.pass2.Root.Root, RootAnswers.is_go}
 use Rattle.ffs_memory.specs.Account.{Account}
 use Rattle.ffs_workspace.specs.{declared.workspace.Workspace.Workspace, Found.WithFresh, Lengths.{IsFor, held_of}}
 use Rattle.ffs_workspace.specs.Ready.{IsReady}
-use Rattle.ffs_check.specs.{AnyReads.PhasesRead, Ends.Ends, Headline.can_end_report, Rest.HasAnswers}
-use Rattle.ffs_check.specs.Taken.{TakesBytes}
+use Rattle.ffs_check.specs.{Ends.{Cut, Ends}, Headline.can_end_report, Reads.PhasesRead, Rest.HasAnswers}
+use Rattle.ffs_check.specs.{Moment.{Moment, ReportMoment, at_output}, Taken.TakesBytes}
 
 -- a read failed before the text was complete: whole messages were said, and others were to come
 pub record SaidNotAll (knows : List ℕ → Type 0) (all : List ℕ → List Message) (old new : Progress) : Type 0 where
@@ -35,12 +36,13 @@ ReportsOrStopsEarly knows all old new (Err (Out fault)) = StoppedOf knows all ol
 
 -- the phases have run over a workspace that holds nothing yet: what they leave of the image, what
 -- they reported, and whether the check continues after the root
-pub record HaveRun (s : Superblock) (d d' : Device) (w : Workspace) (old new : Progress)
-    (result : Result Root RunFault) : Type 0 where
-  pub image : ImageAfter d d' result
-  pub text : ReportsOrStopsEarly (WithFresh s.layout d w) (λ bytes. phase_lines bytes s) old new result
-  pub goes : IfOk result (λ root. ForBytes (WithFresh s.layout d w)
-      (λ bytes. is_go root ≡ continues_after_root (volume_of s.layout bytes)))
+pub record HaveRun (s : Superblock) (w : Workspace) (old new : ReportMoment) (result : Result Root RunFault) : Type 0
+  where
+    pub image : ImageAfter old.image new.image result
+    pub text : ReportsOrStopsEarly (WithFresh s.layout old.image w) (λ bytes. phase_lines bytes s) old.report new.report
+        result
+    pub goes : IfOk result (λ root. ForBytes (WithFresh s.layout old.image w)
+        (λ bytes. is_go root ≡ continues_after_root (volume_of s.layout bytes)))
 
 -- what a check leaves of the counts of Runs and of what `has_dups` answers: where it came to its end
 -- (`whole`), what the bytes determine; and never more Runs than a volume can have
@@ -80,53 +82,42 @@ pub record IsEndByRoot (knows : List ℕ → Type 0) (s : Superblock) (defect : 
   pub end_is : end ≡ end_by continued defect
 
 -- a read failed before the text was complete: whole messages of it were said, and others were to come
-pub record IsCutByRead (knows : List ℕ → Type 0) (text : List Message) (image image' : Device) (said : List Message)
-    (line : Message) (end : End) : Type 0 where
-  pub sector : ℕ
-  pub faulted : Faulted image image' sector
-  pub rest : List Message
-  pub makes_text : said ++ rest ≡ text
-  pub more : ForBytes knows (λ bytes. 0 < length rest)
-  pub line_is : line ≡ cannot_read sector
-  pub end_is : end ≡ ReadFault sector
+pub record IsCutByRead (knows : List ℕ → Type 0) (text : List Message) (image image' : Device) (cut : Cut) : Type 0
+  where
+    pub sector : ℕ
+    pub faulted : Faulted image image' sector
+    pub rest : List Message
+    pub makes_text : cut.said ++ rest ≡ text
+    pub more : ForBytes knows (λ bytes. 0 < length rest)
+    pub line_is : cut.line ≡ cannot_read sector
+    pub end_is : cut.end ≡ ReadFault sector
 
--- the messages of the phases on the image's bytes went out, or what a fault leaves of them. `has_defect_by`
--- says of their text whether a defect was reported in it or in the opening. No end is `NoMemory`
-pub record PhasesEnd {Target : Type 0} (whole broken : Target → Target → List Message → Type 0)
-    (has_defect_by : List Message → Bool) (knows : List ℕ → Type 0) (s : Superblock) (image image' : Device)
-    (old new : Target) (end : End) : Type 0 where
+-- the messages of the phases on the image's bytes went out, or what a fault leaves of them. The end counts
+-- a defect that was reported among them, or in the opening. No end is `NoMemory`
+pub record PhasesEnd (knows : List ℕ → Type 0) (s : Superblock) (old new : Moment) (end : End) : Type 0 where
   pub text : List Message
   pub right : ForBytes knows (λ bytes. text ≡ phase_lines bytes s)
-  pub ends : Ends whole broken image image' old new text (IsEndByRoot knows s (has_defect_by text))
-      (IsCutByRead knows text image image') end
-
--- what the phases say to a report. Whether a defect was reported isn't read off the text: the report keeps
--- whether it has said one, and an opening that another report said may have had one (`had_defect`)
-abbrev pub SaysPhases : Bool → (List ℕ → Type 0) → Superblock → Device → Device → Progress → Progress → End → Type 0
-SaysPhases had_defect knows s image image' old new end =
-    PhasesEnd Said Stopped (λ text. had_defect || new.defect) knows s image image' old new end
+  pub ends : Ends old new text (IsEndByRoot knows s (has_defect (super_lines s ++ text)))
+      (IsCutByRead knows text old.image new.image) end
 
 -- the phases have run to an end: what went out, how often they read an image that gives its bytes,
 -- and any image, what the workspace answers then, and its lists keep their lengths
-pub record RunsToEnd {Target : Type 0} (whole broken : Target → Target → List Message → Type 0)
-    (has_defect_by : List Message → Bool) (knows : List ℕ → Type 0) (s : Superblock) (image image' : Device)
-    (w w' : Workspace) (old new : Target) (before after : ℕ) (end : End) : Type 0 where
-  pub ran : PhasesEnd whole broken has_defect_by knows s image image' old new end
-  pub reads : PhasesRead whole broken knows s old new before after
-  pub answers : LeavesAnswers (can_end_report end) knows s.layout w w'
+pub record RunsToEnd (s : Superblock) (w w' : Workspace) (old new : Moment) (end : End) : Type 0 where
+  pub ran : PhasesEnd (WithFresh s.layout old.image w) s old new end
+  pub reads : PhasesRead (WithFresh s.layout old.image w) s old new
+  pub answers : LeavesAnswers (can_end_report end) (WithFresh s.layout old.image w) s.layout w w'
   pub made : IsFor s.layout w'
 
 -- what follows an accepted superblock: the memory of the check was refused, and that was said; or
 -- its phases have run
-abbrev pub SaysRest : Superblock → Device → Device → Progress → Progress → End → Type 0
-SaysRest s image image' old new end =
-    ((image' ≡ image) × SaysRefusal old new end)
-    ⊎ SaysPhases false (IsContents image.contents) s image image' old new end
+abbrev pub SaysRest : Superblock → ReportMoment → ReportMoment → End → Type 0
+SaysRest s old new end =
+    ((new.image ≡ old.image) × SaysRefusal old.report new.report end)
+    ⊎ PhasesEnd (IsContents old.image.contents) s (at_output old) (at_output new) end
 
 -- what an accepted superblock leads to: what is said, what is taken of the memory, and how often the
 -- image is read
-pub record FollowsAccepted (s : Superblock) (image image' : Device) (old new : Progress) (held held' : Account)
-    (before after : ℕ) (end : End) : Type 0 where
-  pub followed : SaysRest s image image' old new end
+pub record FollowsAccepted (s : Superblock) (held held' : Account) (old new : ReportMoment) (end : End) : Type 0 where
+  pub followed : SaysRest s old new end
   pub memory : TakesBytes (held_of s.layout) held held' end
-  pub reads : PhasesRead Said Stopped (IsContents image.contents) s old new before after
+  pub reads : PhasesRead (IsContents old.image.contents) s (at_output old) (at_output new)

@@ -5,7 +5,10 @@ use Rattle.std.specs.{Prelude.codes, declared.io.Error.Error}
 use Rattle.ffs_image.specs.Device.{Device}
 use Rattle.ffs_volume.specs.Messages.{Kinds.cannot_alloc, Texts.text_of}
 use Rattle.ffs_report.specs.{Outlet.IsCaused, Sink.{BrokeOff, Sink, Took}}
-use Rattle.ffs_check.specs.Program.{Meaning}
+use Rattle.ffs_report.specs.declared.outlet.Outlet as outlet
+use Rattle.ffs_image.specs.declared.image.Image as image
+use Rattle.ffs_check.specs.declared.opener.Opener as opener
+use Rattle.ffs_check.specs.{Moment.Moment, Program.Meaning, Refusals.IsWritten}
 
 -- the line where the image can't be opened
 abbrev pub unopened_text : List ℕ → List ℕ
@@ -15,67 +18,91 @@ unopened_text name = codes "Can't open " ++ (name ++ (10 ∷ []))
 abbrev pub IsPrintedOrBrokeOff : Sink → Sink → List ℕ → Type 0
 IsPrintedOrBrokeOff out out' text = Took out out' text ⊎ BrokeOff out out' text
 
--- an image was opened under a name, and the program looked at it for what was asked
-pub record IsOpenedAndSeen {R : Type 0} (program : Meaning R) (I : Type 0) (device : I → Device) (reads : I → ℕ)
-    (opens : List ℕ → I → Type 0) (name : List ℕ) (request : R) (out out' : Sink) (status : ℕ) : Type 0 where
-  pub image : I
-  pub image' : I
-  pub opened : opens name image
-  pub seen : program.looks name request (device image) (device image') (reads image) (reads image') out out' status
+-- how images are opened, and what contracts see of one that was
+pub record Images (O : Type 0) : Type 1 where
+  pub Image : Type 0
+  pub device : Image → Device
+  pub reads : Image → ℕ
+  pub opens : O → List ℕ → Image → O → Type 0
+  pub refuses : O → List ℕ → O → Type 0
+
+-- those of an opener. I and O are what the types give to contracts as an Image and as an Opener
+abbrev pub images_of : {I O : Type 0} → image.Ghosts I → opener.Ghosts O I → Images O
+images_of {I} {O} looked_at opened = record {
+  Image = I;
+  device = looked_at.device;
+  reads = looked_at.reads;
+  opens = opened.opens;
+  refuses = opened.refuses;
+}
+
+-- a moment of a run: what opens its image, and its output
+pub record RunMoment (O : Type 0) : Type 0 where
+  pub opener : O
+  pub out : Sink
+
+-- the moment at which they are these
+abbrev pub run_moment : {O : Type 0} → O → Sink → RunMoment O
+run_moment opener out = record { opener = opener; out = out }
+
+-- an image was opened under a name, and a look at it ended as `looks` says
+pub record IsOpenedAndSeen {O : Type 0} (images : Images O) (name : List ℕ) (looks : Moment → Moment → ℕ → Type 0)
+    (old new : RunMoment O) (status : ℕ) : Type 0 where
+  pub image : images.Image
+  pub image' : images.Image
+  pub opened : images.opens old.opener name image new.opener
+  pub seen : looks (record { image = images.device image; reads = images.reads image; out = old.out })
+      (record { image = images.device image'; reads = images.reads image'; out = new.out }) status
 
 -- no image could be opened under a name, and that was printed
-pub record IsOpenFailure (refuses : List ℕ → Type 0) (name : List ℕ) (out out' : Sink) (status : ℕ) : Type 0 where
-  pub refused : refuses name
-  pub printed : IsPrintedOrBrokeOff out out' (unopened_text name)
+pub record IsOpenFailure {O : Type 0} (images : Images O) (name : List ℕ) (old new : RunMoment O) (status : ℕ) :
+    Type 0 where
+  pub refused : images.refuses old.opener name new.opener
+  pub printed : IsPrintedOrBrokeOff old.out new.out (unopened_text name)
   pub status_is : status ≡ 8
 
--- the program looked at the image of a name, or that couldn't be opened
-abbrev pub LooksAtImageOf : {R I : Type 0} → Meaning R → (I → Device) → (reads : I → ℕ) → (List ℕ → I → Type 0)
-    → (List ℕ → Type 0) → List ℕ → R → Sink → Sink → ℕ → Type 0
-LooksAtImageOf {R} {I} program device reads opens refuses name request out out' status =
-    IsOpenedAndSeen program I device reads opens name request out out' status
-    ⊎ IsOpenFailure refuses name out out' status
+-- the image of a name was looked at, or couldn't be opened
+abbrev pub LooksAtImageOf : {O : Type 0} → Images O → (name : List ℕ) → (Moment → Moment → ℕ → Type 0) → RunMoment O
+    → RunMoment O → ℕ → Type 0
+LooksAtImageOf images name looks old new status =
+    IsOpenedAndSeen images name looks old new status ⊎ IsOpenFailure images name old new status
 
 -- the words ask for something of the image of a name, and the program looked at that image, or it couldn't
--- be opened. Nothing is opened beside it, and nothing goes to standard error
-pub record RunsAsAsked {R I O E : Type 0} (program : Meaning R) (device : I → Device) (reads : I → ℕ)
-    (opens : O → List ℕ → I → O → Type 0) (refuses : O → List ℕ → O → Type 0) (words : List (List ℕ))
-    (opener opener' : O) (errors errors' : E) (out out' : Sink) (status : ℕ) : Type 0 where
+-- be opened. Nothing is opened beside it
+pub record RunsAsAsked {R O : Type 0} (program : Meaning R) (images : Images O) (words : List (List ℕ))
+    (old new : RunMoment O) (status : ℕ) : Type 0 where
   pub name : List ℕ
   pub request : R
   pub asked : program.asks words name request
-  pub looked : LooksAtImageOf program device reads (λ name image. opens opener name image opener')
-      (λ name. refuses opener name opener') name request out out' status
-  pub quiet : errors' ≡ errors
+  pub looked : LooksAtImageOf images name (program.looks name request) old new status
 
--- the words are wrong, or ask for the help or the version, and the text for that goes to standard
--- error, once. Nothing is printed to the output, and no image is opened
-pub record IsRefused {R O E : Type 0} (program : Meaning R) (writes : E → E → List ℕ → Type 0) (words : List (List ℕ))
-    (opener opener' : O) (errors errors' : E) (out out' : Sink) (status : ℕ) : Type 0 where
+-- the words are wrong, or ask for the help or the version, and the text for that was written, once.
+-- Nothing is printed to the output, and no image is opened
+pub record IsRefused {R O : Type 0} (program : Meaning R) (was_written : List ℕ → Type 0) (words : List (List ℕ))
+    (old new : RunMoment O) (status : ℕ) : Type 0 where
   pub text : List ℕ
   pub refused : program.refuses words text
-  pub written : writes errors errors' text
-  pub unprinted : out' ≡ out
-  pub unopened : opener' ≡ opener
+  pub written : was_written text
+  pub unprinted : new.out ≡ old.out
+  pub unopened : new.opener ≡ old.opener
   pub status_is : status ≡ 2
 
--- memory was refused while the words were read. No image is opened, and nothing goes to standard error
-pub record HadNoMemory {R O E : Type 0} (program : Meaning R) (words : List (List ℕ)) (opener opener' : O)
-    (errors errors' : E) (out out' : Sink) (status : ℕ) : Type 0 where
+-- memory was refused while the words were read. No image is opened
+pub record HadNoMemory {R O : Type 0} (program : Meaning R) (words : List (List ℕ)) (old new : RunMoment O)
+    (status : ℕ) : Type 0 where
   pub lacked : program.lacks_memory words
-  pub printed : IsPrintedOrBrokeOff out out' (text_of cannot_alloc)
-  pub unopened : opener' ≡ opener
-  pub quiet : errors' ≡ errors
+  pub printed : IsPrintedOrBrokeOff old.out new.out (text_of cannot_alloc)
+  pub unopened : new.opener ≡ old.opener
   pub status_is : status ≡ 8
 
--- how a run of a program ends. Only where the words are refused something goes to standard error
-abbrev pub RunEnds : {R I O E : Type 0} → Meaning R → (I → Device) → (reads : I → ℕ)
-    → (O → List ℕ → I → O → Type 0) → (O → List ℕ → O → Type 0) → (E → E → List ℕ → Type 0) → List (List ℕ)
-    → O → O → E → E → Sink → Sink → ℕ → Type 0
-RunEnds program device reads opens refuses writes words opener opener' errors errors' out out' status =
-    RunsAsAsked program device reads opens refuses words opener opener' errors errors' out out' status
-    ⊎ (IsRefused program writes words opener opener' errors errors' out out' status
-    ⊎ HadNoMemory program words opener opener' errors errors' out out' status)
+-- how a run of a program ends: as asked, or without memory, and then nothing goes to standard error; or
+-- refused, and the text for that goes there
+abbrev pub RunEnds : {R O E : Type 0} → Meaning R → Images O → outlet.Ghosts E → List (List ℕ) → RunMoment O
+    → RunMoment O → (errors errors' : E) → ℕ → Type 0
+RunEnds program images outlet words old new errors errors' status =
+    ((errors' ≡ errors)
+    × (RunsAsAsked program images words old new status ⊎ HadNoMemory program words old new status))
+    ⊎ IsRefused program (IsWritten outlet.contents outlet.was_written errors errors') words old new status
 
 -- the words weren't refused, and the writer was flushed after the run: the status stays where the
 -- flush succeeded, and is 8 where it failed
@@ -99,21 +126,18 @@ abbrev pub FlushedAfter : {S : Type 0} → (S → Result (Unit {0}) Error → S 
 FlushedAfter was_flushed contents old new ran_status status =
     IsUnprinted old new ran_status status ⊎ IsFlushed was_flushed contents old new ran_status status
 
--- how a run of a program ends whose writer is flushed after it: `out` and `out'` are the writer as an output, before
--- the run and after it, and `between` is the writer before the flush. The output failed only where a
--- write did
-pub record RunEndsFlushed {R I O E S : Type 0} (program : Meaning R) (device : I → Device) (reads : I → ℕ)
-    (opens : O → List ℕ → I → O → Type 0) (refuses : O → List ℕ → O → Type 0) (writes : E → E → List ℕ → Type 0)
-    (was_written : S → List ℕ → Result ℕ Error → S → Type 0) (was_flushed : S → Result (Unit {0}) Error → S → Type 0)
-    (contents : S → Option (List ℕ)) (words : List (List ℕ)) (opener opener' : O) (errors errors' : E) (old new : S)
+-- how a run ends whose writer is flushed after it: `out` and `out'` are the writer as an output, before the
+-- run and after it, `ends` says how the run ends, and `between` is the writer before the flush. The output
+-- failed only where a write did
+pub record RunEndsFlushed {S : Type 0} (outlet : outlet.Ghosts S) (ends : Sink → Sink → ℕ → Type 0) (old new : S)
     (status : ℕ) : Type 0 where
   pub out : Sink
   pub out' : Sink
   pub between : S
-  pub before : out.taken ≡ contents old
+  pub before : out.taken ≡ outlet.contents old
   pub unfailed : out.failures ≡ 0
-  pub after : out'.taken ≡ contents between
-  pub caused : ∥ IsCaused was_written out'.failures ∥₁
+  pub after : out'.taken ≡ outlet.contents between
+  pub caused : ∥ IsCaused outlet.was_written out'.failures ∥₁
   pub ran_status : ℕ
-  pub ran : RunEnds program device reads opens refuses writes words opener opener' errors errors' out out' ran_status
-  pub flushed : FlushedAfter was_flushed contents between new ran_status status
+  pub ran : ends out out' ran_status
+  pub flushed : FlushedAfter outlet.was_flushed outlet.contents between new ran_status status

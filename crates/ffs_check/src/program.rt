@@ -1,7 +1,7 @@
 //! What the programs have in common: each reads its words, opens the image that they name, and looks
 //! at it. `run` runs one, and `specs/Program.antt` says what each promises.
 ghost use Rattle.std.specs.Prelude.{◌≡◌, map, MatchResult};
-ghost use Rattle.ffs_check.specs.{Program.Meaning, Refusals.IsNotAsked};
+ghost use Rattle.ffs_check.specs.{Moment.moment, Program.Meaning, Refusals.IsNotAsked};
 
 use crate::refusal::Refusal;
 use ffs_image::Image;
@@ -55,8 +55,8 @@ pub trait Program {
     ) -> u8
         // It prints and ends as the program promises, and the output holds the reference that it
         // held.
-        ensures looks { meaning.looks asked.now.name.now asked.now.request (I.device image.old)
-            (I.device image.new) (I.reads image.old) (I.reads image.new) (W.sink out.old)
-            (W.sink out.new) result }
+        ensures looks { meaning.looks asked.now.name.now asked.now.request
+            (moment I.Image W.Output image.old out.old) (moment I.Image W.Output image.new out.new)
+            result }
         ensures lent { (W.sink out.new).lent ≡ (W.sink out.old).lent };
 }

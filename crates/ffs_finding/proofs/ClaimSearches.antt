@@ -8,7 +8,8 @@ use Rattle.ffs_report.specs.declared.fault.RunFault.TheVariants.{Read, Out}
 use Rattle.ffs_workspace.specs.{declared.workspace.Workspace.Workspace, Found.WithPhase1, Holds.HoldsPhase1}
 use Rattle.ffs_workspace.specs.Lengths.{held_of}
 use Rattle.ffs_finding.specs.declared.find.FindFault.{FindFault, TheVariants.{Refused, Run, NoMemory}}
-use Rattle.ffs_finding.specs.{declared.request.Search.Search, Claims.TakesClaims, Fields.WithSuper, Outcome.Moment}
+use Rattle.ffs_check.specs.Moment.{Moment}
+use Rattle.ffs_finding.specs.{declared.request.Search.Search, Claims.TakesClaims, Fields.WithSuper}
 use Rattle.ffs_finding.{specs.{Outcome.PrintsLines, Whole.{IsGranted, SearchAnswers, search_lines}}, proofs.Printing.knowing}
 use Rattle.ffs_finding.proofs.Printing.{reads_first}
 

@@ -7,10 +7,10 @@ use Rattle.ffs_memory.specs.Account.{Account}
 use Rattle.ffs_layout.specs.Super.{ReadsSuper}
 use Rattle.ffs_finding.specs.declared.request.{Search.Search, Command.{Command, TheVariants.{Copies, InVolume}}}
 use Rattle.ffs_finding.specs.declared.find.FindFault.{FindFault, TheVariants.{Refused, Run, NoMemory}}
-use Rattle.ffs_finding.specs.{Outcome.{Moment, PrintedTo, StoppedIn}, Whole.{Answers, EndsBy, EndsByLine, FindEnds, IsRefusal}}
+use Rattle.ffs_finding.specs.{Outcome.{PrintedTo, StoppedIn}, Whole.{Answers, EndsBy, EndsByLine, FindEnds, IsRefusal}}
 use Rattle.ffs_finding.{specs.Whole.{command_lines, lines_by, search_lines, status_by}, proofs.Printing.one}
 use Rattle.ffs_finding.proofs.Printing.{one_broken, prints_all, stops_all, reads_first}
-use Rattle.ffs_check.specs.Run.{IsPrintedOrBrokeOff}
+use Rattle.ffs_check.specs.{Moment.Moment, Run.IsPrintedOrBrokeOff}
 
 module _ (sector : Option ℕ) (search : Search) (m m' : Moment) (held held' : Account) (fault : SuperFault) (status : ℕ)
   where

@@ -9,7 +9,8 @@ use Rattle.ffs_walk.specs.{Windows.KeepsBlocks, declared.blocks.Blocks.Blocks}
 use Rattle.ffs_workspace.specs.{Found.WithPhase1, Ready.IsReady}
 use Rattle.ffs_volume.specs.{Blocks.Inodes.inodes_of, Encodings.Notes.{cut_in, note_at}}
 use Rattle.ffs_workspace.specs.{Ready.StaysReady, declared.workspace.{Windows.Windows, Workspace.Workspace}}
-use Rattle.ffs_finding.{specs.{Keepers.{LooksAtInode, WalksKept, sought_in}, Outcome.{Moment, PrintsLines}}, proofs.Owners.listed_inode}
+use Rattle.ffs_check.specs.Moment.{Moment}
+use Rattle.ffs_finding.{specs.{Keepers.{LooksAtInode, WalksKept, sought_in}, Outcome.PrintsLines}, proofs.Owners.listed_inode}
 use Rattle.ffs_finding.proofs.{Owners.inode_runs, Printing.knowing}
 
 -- lines that are the same

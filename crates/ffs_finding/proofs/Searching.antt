@@ -1,7 +1,7 @@
 -- A search in a volume, as the command that asks for it.
 use Rattle.std.proofs.Common.{◌≡◌, ◌∙◌, ◌*◌, ◌+◌, ◌≤◌, ℕ, Bool, List, [], Option, Result, Ok, Err, sym, ap, arith, inl, inr}
 use Rattle.std.proofs.Common.{refl}
-use Rattle.ffs_check.specs.Taken.{AsksMemory}
+use Rattle.ffs_check.specs.{Moment.Moment, Taken.AsksMemory}
 use Rattle.ffs_image.specs.Device.{Device, ForContents}
 use Rattle.ffs_memory.specs.Account.{Account, RefusedOneMore}
 use Rattle.ffs_workspace.specs.Lengths.{held_of}
@@ -10,7 +10,7 @@ use Rattle.ffs_volume.specs.{Disk.Outcome.outcome, Laws.Geometry.IsAcceptedLayou
 use Rattle.ffs_report.specs.{Known.{ForBytes, IsContents}, Sink.Sink, declared.fault.RunFault.TheVariants.{Read, Out}}
 use Rattle.ffs_finding.specs.declared.find.FindFault.{FindFault, TheVariants.{Refused, Run, NoMemory}}
 use Rattle.ffs_finding.specs.declared.request.Search.{Search, TheVariants.{Inode, Fields, Lost, Owner}}
-use Rattle.ffs_finding.specs.{declared.request.Command.TheVariants.InVolume, Fields.WithSuper, Outcome.{Moment, PrintedTo}}
+use Rattle.ffs_finding.specs.{declared.request.Command.TheVariants.InVolume, Fields.WithSuper, Outcome.PrintedTo}
 use Rattle.ffs_finding.specs.Whole.{Answers, IsGranted, Looks, SearchAnswers, Searches, TakesForSearch, TakesMemory}
 use Rattle.ffs_finding.specs.Whole.{command_lines, lines_by, search_lines, status_by, status_of_answer}
 

@@ -5,7 +5,8 @@ use Rattle.ffs_image.specs.{Device.{Device, ForContents}, Reads.ReadAfter, decla
 use Rattle.ffs_volume.specs.{Disk.{Superblock.order_of, Outcome.{outcome, super_bytes}}, Find.Copies.asked_sectors}
 use Rattle.ffs_volume.specs.Find.Copies.{copy_lines_of, sector_count}
 use Rattle.ffs_report.specs.{Known.IsContents, declared.fault.RunFault.RunFault}
-use Rattle.ffs_finding.specs.Outcome.{Finds, Moment}
+use Rattle.ffs_check.specs.Moment.{Moment}
+use Rattle.ffs_finding.specs.Outcome.{Finds}
 use Rattle.ffs_walk.specs.{Windows.WindowHolds, declared.window.Window.Window}
 
 -- a superblock with a magic number, in one of the two orders of bytes, begins at a sector

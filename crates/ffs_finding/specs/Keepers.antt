@@ -13,7 +13,8 @@ use Rattle.ffs_walk.specs.declared.{keeping.Keeping.Keeping, window.Window.Windo
 use Rattle.ffs_workspace.specs.{Found.WithPhase1, Ready.IsReady}
 use Rattle.ffs_volume.specs.{Blocks.Inodes.inodes_of, Encodings.Notes.cut_in}
 use Rattle.ffs_workspace.specs.declared.workspace.Workspace.{Workspace}
-use Rattle.ffs_finding.specs.{Outcome.{Finds, Moment}, declared.owner.Sought.Sought}
+use Rattle.ffs_check.specs.Moment.{Moment}
+use Rattle.ffs_finding.specs.{Outcome.Finds, declared.owner.Sought.Sought}
 
 -- ---- the map of a group
 -- the map of the group of the fragment f can be looked at: the volume has f, and its group block is there

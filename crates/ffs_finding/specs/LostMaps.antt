@@ -8,7 +8,8 @@ use Rattle.ffs_maps.specs.Bits.{bits_of}
 use Rattle.ffs_groups.specs.Free.{free_in}
 use Rattle.ffs_report.specs.{Known.IsContents, declared.fault.RunFault.RunFault}
 use Rattle.ffs_walk.specs.{Windows.WindowHolds, declared.window.Window.Window}
-use Rattle.ffs_finding.specs.{Outcome.{FindsAny, Moment}, declared.lost.{GroupMap.GroupMap, Wrong.Wrong}}
+use Rattle.ffs_check.specs.Moment.{Moment}
+use Rattle.ffs_finding.specs.{Outcome.FindsAny, declared.lost.{GroupMap.GroupMap, Wrong.Wrong}}
 use Rattle.ffs_finding.specs.declared.lost.Wrong.TheVariants.{Lost, MarkedFree}
 
 -- the word before the fragments of which a map says this wrongly

@@ -1,22 +1,9 @@
 -- What a command leaves of its image and of its output, by its answer. `all` are the lines that it
 -- prints of an image's bytes, and `knows` says which bytes these are.
 use Rattle.std.specs.{Prelude.{◌≡◌, ℕ, Bool, true, false, List, [], ◌∷◌, ◌++◌, Result, Ok, Err, IfOk}, List.concat}
-use Rattle.ffs_image.specs.Device.{Device}
-use Rattle.ffs_image.specs.declared.image.Image as image
 use Rattle.ffs_report.specs.{Known.ForBytes, Sink.{Sink, Took, BrokeOff}, PhaseOutcome.ImageAfter}
-use Rattle.ffs_report.specs.declared.output.Output as output
 use Rattle.ffs_report.specs.declared.fault.RunFault.{RunFault, TheVariants.{Read, Out}}
-
--- a moment of a command: the image, how often it was read by then, and the output
-pub record Moment : Type 0 where
-  pub image : Device
-  pub reads : ℕ
-  pub out : Sink
-
--- the moment at which an image and an output are these. I and W are what their types give to contracts as
--- an Image and as an Output: in a contract I.Image and W.Output
-abbrev pub moment : {I W : Type 0} → image.Ghosts I → output.Ghosts W → I → W → Moment
-moment I W image out = record { image = I.device image; reads = I.reads image; out = W.sink out }
+use Rattle.ffs_check.specs.Moment.{Moment}
 
 -- whole lines were printed, and with `rest`, those that are to come, they are `all`
 pub record PrintedTo (knows : List ℕ → Type 0) (rest all : List ℕ → List (List ℕ)) (old new : Sink) : Type 0 where

@@ -9,13 +9,13 @@ use Rattle.ffs_volume.specs.{Report.Reads.sweep_reads, Find.{Copies.copies_lines
 use Rattle.ffs_volume.specs.Find.{Fields.wrong_fields, Lost.lost_lines, Owner.lines_of_fragment}
 use Rattle.ffs_report.specs.{Known.{ForBytes, IsContents}, Sink.Sink, declared.fault.RunFault.TheVariants.{Read, Out}}
 use Rattle.ffs_memory.specs.Account.{Account, Granted, GaveUp, RefusedOneMore}
-use Rattle.ffs_check.specs.{Run.IsPrintedOrBrokeOff, Taken.{AsksMemory, Takes}}
+use Rattle.ffs_check.specs.{Moment.Moment, Run.IsPrintedOrBrokeOff, Taken.{AsksMemory, Takes}}
 use Rattle.ffs_workspace.specs.Lengths.{held_of}
 use Rattle.ffs_layout.specs.Super.{ReadsSuper}
 use Rattle.ffs_finding.specs.declared.request.Search.{Search, TheVariants.{Inode, Fields, Lost, Owner}}
 use Rattle.ffs_finding.specs.declared.request.Command.{Command, TheVariants.{Copies, InVolume}}
 use Rattle.ffs_finding.specs.declared.find.FindFault.{FindFault, TheVariants.{Refused, Run, NoMemory}}
-use Rattle.ffs_finding.specs.{Outcome.{Moment, PrintedTo, PrintedSome, StoppedIn, any_line}, Fields.WithSuper}
+use Rattle.ffs_finding.specs.{Outcome.{PrintedTo, PrintedSome, StoppedIn, any_line}, Fields.WithSuper}
 use Rattle.ffs_finding.specs.Copies.{ReadsCopies}
 
 -- what a search prints of an image with this accepted superblock

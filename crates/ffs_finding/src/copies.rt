@@ -4,7 +4,8 @@ ghost use Rattle.ffs_volume.specs.{Disk.{Outcome.outcome, Numbers.u32_at as u32_
 ghost use Rattle.ffs_volume.specs.declared.{Order.TheVariants.Big, constants.TheConstants.FS_MAGIC};
 ghost use Rattle.ffs_volume.specs.Find.Copies.{copies_lines, copy_lines_of, copy_text, order_word, role_text};
 ghost use Rattle.ffs_report.specs.{Known.IsContents, Sink.Prints};
-ghost use Rattle.ffs_finding.specs.{Outcome.{Finds, moment}, Copies.{CanLookAt, IsSectorsEnd, LooksAt}};
+ghost use Rattle.ffs_check.specs.Moment.{moment};
+ghost use Rattle.ffs_finding.specs.{Outcome.Finds, Copies.{CanLookAt, IsSectorsEnd, LooksAt}};
 ghost use Rattle.ffs_finding.specs.Copies.{LooksForMagic, ReadsCopies, ReadsWindow};
 ghost use Rattle.ffs_walk.specs.Windows.{WindowHolds};
 

@@ -3,7 +3,8 @@ ghost use Rattle.std.specs.Prelude.{◌≡◌, ◌+◌, ◌*◌, ◌≤◌, ℕ,
 ghost use Rattle.ffs_volume.specs.{Messages.Texts.text_of};
 ghost use Rattle.ffs_report.specs.{Lines.message_of, Sink.Prints};
 ghost use Rattle.ffs_layout.specs.Super.{superblock_in};
-ghost use Rattle.ffs_finding.specs.{Outcome.moment, Whole.{EndsBy, FindsCommand, Looks, Searches, TakesForSearch}};
+ghost use Rattle.ffs_check.specs.Moment.{moment};
+ghost use Rattle.ffs_finding.specs.Whole.{EndsBy, FindsCommand, Looks, Searches, TakesForSearch};
 ghost use Rattle.ffs_finding.specs.declared.find.FindFault.TheVariants.{Run, NoMemory};
 ghost use Rattle.ffs_finding.specs.declared.request.Search.TheVariants.{Lost, Owner};
 ghost use Rattle.ffs_finding.specs.declared.request.Command.TheVariants.{Copies, InVolume};

@@ -5,7 +5,8 @@ ghost use Rattle.ffs_volume.specs.{Blocks.Inodes.{type_of, inode_from_bytes}, Fi
 ghost use Rattle.ffs_volume.specs.Find.InodeText.{numbers_text, address_text, link_text, addresses_text, bytes_text};
 ghost use Rattle.ffs_volume.specs.Find.InodeText.{inode_listing, class_word, fifteen_text};
 ghost use Rattle.ffs_report.specs.{Known.IsContents, Sink.Prints};
-ghost use Rattle.ffs_finding.specs.Outcome.{Finds, moment};
+ghost use Rattle.ffs_check.specs.Moment.{moment};
+ghost use Rattle.ffs_finding.specs.Outcome.{Finds};
 
 use ffs_image::Image;
 use ffs_layout::{Geometry, decode_inode};

@@ -8,8 +8,9 @@ ghost use Rattle.ffs_report.specs.{Known.IsContents, Sink.Prints};
 ghost use Rattle.ffs_walk.specs.{Keepings.replay_in, Windows.{CanWalk, KeepsBlocks}};
 ghost use Rattle.ffs_workspace.specs.{Found.WithPhase1, Ready.{IsReady, StaysReady}};
 ghost use Rattle.ffs_volume.specs.Encodings.Notes.{cut_in};
+ghost use Rattle.ffs_check.specs.Moment.{moment};
 ghost use Rattle.ffs_claims.specs.Rescan.{ReplaysStep};
-ghost use Rattle.ffs_finding.specs.{Outcome.{Finds, moment}, Keepers.{CanLookAtInode, CanPrintMap, CanPrintStep, CanReadMap}};
+ghost use Rattle.ffs_finding.specs.{Outcome.Finds, Keepers.{CanLookAtInode, CanPrintMap, CanPrintStep, CanReadMap}};
 ghost use Rattle.ffs_finding.specs.Keepers.{LooksAtInode, LooksAtAll, WalksKept, is_in_run};
 ghost use Rattle.ffs_finding.specs.Keepers.{map_lines, run_text, sought_in, step_text};
 

@@ -1,4 +1,4 @@
-use Rattle.std.proofs.Common.{arith, inl, inr, rules, false}
+use Rattle.std.proofs.Common.{arith, inl, inr, refl}
 use Rattle.ffs_layout.specs.Super.{superblock_in}
 use Rattle.ffs_check.proofs.{AnyReading.unstarted_reads, Endings.ran_known, Taken.not_for_memory}
 use Rattle.ffs_check.proofs.check.check_accepted.Goals as goal
@@ -10,32 +10,43 @@ run_to_end-requires g c = record {
     volume = c.requires.volume;
     windows = c.in-Ok.ensures.new.windows _;
   };
+  opened = c.requires.opened;
 }
 
 pub returns-in-Ok : goal.returns-in-Ok
 returns-in-Ok g c =
-    let phases = c.run_to_end.ensures in
+    let phases = c.run_to_end.ensures.ends in
     record {
-      followed = inr (ran_known false _ _ (superblock_in c.args.superblock.now) _ _ _ _ _
-          (λ bytes t. (t, c.in-Ok.ensures.new.fresh)) phases.ran);
-      memory = record {
-        asked = inl c.in-Ok.ensures.asks;
-        refused = λ e. absurd (not_for_memory _ _ _ _ _ _ _ phases.ran e);
+      follows = record {
+        followed = inr (ran_known _ _ (superblock_in c.args.superblock.now) _ _ _
+            (λ bytes t. (t, c.in-Ok.ensures.new.fresh)) phases.ran);
+        memory = record {
+          asked = inl c.in-Ok.ensures.asks;
+          refused = λ e. absurd (not_for_memory _ _ _ _ _ phases.ran e);
+        };
+        reads = record {
+          known = λ bytes t. phases.reads.known bytes (t, c.in-Ok.ensures.new.fresh);
+          any = phases.reads.any;
+        };
       };
-      reads = record {
-        known = λ bytes t. phases.reads.known bytes (t, c.in-Ok.ensures.new.fresh);
-        any = phases.reads.any;
-      };
+      same_reference = c.run_to_end.ensures.same_reference;
     }
 
 pub returns-in-Err : goal.returns-in-Err
 returns-in-Err g c =
     let asks = c.in-Err.ensures.asks in
     record {
-      followed = search rules;
-      memory = record { asked = inr asks; refused = λ e. asks.rose };
-      reads = record {
-        known = λ bytes t. omega arith;
-        any = unstarted_reads c.args.superblock.now.geometry.layout _ _ _ _ c.say_refusal.ensures;
+      follows = record {
+        followed = inl (refl, c.say_refusal.ensures);
+        memory = record { asked = inr asks; refused = λ e. asks.rose };
+        reads = record {
+          known = λ bytes t. omega arith;
+          any = unstarted_reads c.args.superblock.now.geometry.layout _ _ _ _ _ c.requires.opened.working
+              c.say_refusal.ensures;
+        };
       };
+      same_reference = elim c.say_refusal.ensures [
+        | inl said ↦ said.0.output
+        | inr stopped ↦ stopped.0.output
+      ];
     }

@@ -1,18 +1,31 @@
+use Rattle.ffs_volume.specs.Report.Whole.{phase_lines}
 use Rattle.ffs_layout.specs.Super.{superblock_in}
-use Rattle.ffs_check.proofs.{AnyReading.ended_reads, Answering.answers_end, Endings.ran}
+use Rattle.ffs_report.specs.Progress.{progress}
+use Rattle.ffs_check.specs.Moment.{report_moment}
+use Rattle.ffs_check.proofs.{AnyReading.ended_reads, Answering.answers_end, Endings.{ran, same_output}}
 use Rattle.ffs_check.proofs.check.run_to_end.Goals as goal
 
 pub returns : goal.returns
 returns g c =
     let s = superblock_in c.args.superblock.now in
+    let old = report_moment g.I.Image g.W.Output c.args.image.now c.args.report.now in
+    let new = report_moment g.I.Image g.W.Output c.run_phases-answer.new.image c.end_run.new.report in
+    let said = progress g.W.Output.sink c.run_phases-answer.new.report in
     let phases = c.run_phases-answer.ensures in
+    let answer = c.run_phases-answer.result in
+    let ended = c.end_run.ensures in
     record {
-      ran = ran c.args.had_defect _ s _ _ (λ bytes k. k.0) _ _ _ _ c.run_phases-answer.result phases.ran.text
-          phases.ran.image phases.ran.goes c.end_run.ensures;
-      reads = record {
-        known = phases.reads.known;
-        any = ended_reads s.layout _ _ _ _ _ _ _ _ phases.reads.paid c.end_run.ensures;
+      ends = record {
+        ran = ran c.args.had_defect _ s old new said (λ bytes k. k.0) c.requires.opened _ answer phases.ran.text
+            phases.ran.image phases.ran.goes ended;
+        reads = record {
+          known = phases.reads.known;
+          any = ended_reads s.layout c.args.had_defect old new said answer _ c.requires.opened.working
+              phases.reads.paid ended;
+        };
+        answers = answers_end c.args.had_defect _ _ answer _ ended phases.leaves.answers;
+        made = phases.leaves.ready.made;
       };
-      answers = answers_end c.args.had_defect _ _ c.run_phases-answer.result _ c.end_run.ensures phases.leaves.answers;
-      made = phases.leaves.ready.made;
+      same_reference = same_output _ (λ bytes. phase_lines bytes s) c.args.had_defect old.report said new.report answer _
+          phases.ran.text ended;
     }

@@ -1,30 +1,41 @@
 use Rattle.std.proofs.Common.{arith, rules}
-use Rattle.ffs_check.proofs.Openings.{at_head, accepted, at_super, refused, at_fault}
+use Rattle.ffs_check.proofs.Openings.{at_head, accepted, at_super, opened, refused, at_fault}
 use Rattle.ffs_check.proofs.opening.say_opening.Goals as goal
 
-pub returns-in-Err : goal.returns-in-Err
-returns-in-Err g c = record { answers = search (rules, arith); opened = at_head _ _ _ _ _ c.in-Err.ensures }
-
-pub returns-in-Ok-say_super : goal.returns-in-Ok-say_super
-returns-in-Ok-say_super g c = record {
+pub returns-in-Err-clause-opens : goal.returns-in-Err-clause-opens
+returns-in-Err-clause-opens g c = record {
   answers = search (rules, arith);
-  opened = accepted _ _ _ _ _ _ _ c.in_default.ensures c.in-Ok.superblock c.in-Ok.ensures.answer
+  opened = at_head _ _ _ _ _ _ c.requires.fresh _ c.in-Err.ensures;
+}
+
+pub returns-in-Ok-say_super-clause-opens : goal.returns-in-Ok-say_super-clause-opens
+returns-in-Ok-say_super-clause-opens g c = record {
+  answers = search (rules, arith);
+  opened = accepted _ _ _ _ _ _ c.requires.fresh _ _ _ c.in_default.ensures c.in-Ok.superblock c.in-Ok.ensures.answer
       c.in-Ok-say_super.ensures;
 }
 
-pub returns-in-Err-say_super : goal.returns-in-Err-say_super
-returns-in-Err-say_super g c = record {
+pub returns-in-Ok-say_super-clause-said : goal.returns-in-Ok-say_super-clause-said
+returns-in-Ok-say_super-clause-said g c =
+    opened _ _ _ _ _ _ c.requires.fresh c.in_default.ensures c.in-Ok-say_super.ensures
+
+pub returns-in-Err-say_super-clause-opens : goal.returns-in-Err-say_super-clause-opens
+returns-in-Err-say_super-clause-opens g c = record {
   answers = search (rules, arith);
-  opened = at_super _ _ _ _ _ _ _ c.in_default.ensures c.in-Ok.superblock c.in-Ok.ensures.answer
+  opened = at_super _ _ _ _ _ _ c.requires.fresh _ _ _ c.in_default.ensures c.in-Ok.superblock c.in-Ok.ensures.answer
       c.in-Err-say_super.ensures;
 }
 
-pub returns-in-Ok-say : goal.returns-in-Ok-say
-returns-in-Ok-say g c = record {
+pub returns-in-Ok-say-clause-opens : goal.returns-in-Ok-say-clause-opens
+returns-in-Ok-say-clause-opens g c = record {
   answers = search (rules, arith);
-  opened = refused _ _ _ _ _ _ _ c.in_default.ensures c.in-Err-read_super.fault c.in-Err-read_super.ensures.answer
-      (rw c.fault_line.ensures at c.in-Ok-say.ensures.said);
+  opened = refused _ _ _ _ _ _ c.requires.fresh _ _ _ c.in_default.ensures c.in-Err-read_super.fault
+      c.in-Err-read_super.ensures.answer (rw c.fault_line.ensures at c.in-Ok-say.ensures.said);
 }
 
-pub returns-in-Err-say : goal.returns-in-Err-say
-returns-in-Err-say g c = record { answers = search (rules, arith); opened = grind (arith, at_fault) }
+pub returns-in-Err-say-clause-opens : goal.returns-in-Err-say-clause-opens
+returns-in-Err-say-clause-opens g c = record {
+  answers = search (rules, arith);
+  opened = at_fault _ _ _ _ _ _ c.requires.fresh _ _ _ c.in_default.ensures c.in-Err-read_super.fault
+      c.in-Err-read_super.ensures.answer (rw c.fault_line.ensures at c.in-Err-say.ensures.said);
+}

@@ -2,10 +2,12 @@ use Rattle.std.proofs.Common.{inl, refl}
 use Rattle.ffs_check.proofs.run.run_program_over.Goals as goal
 
 pub returns-in-Ok-clause-ends : goal.returns-in-Ok-clause-ends
-returns-in-Ok-clause-ends g c = inl (record {
-  name = c.in-Ok.asked.name.now;
-  request = c.in-Ok.asked.request;
-  asked = c.in-Ok.ensures;
-  looked = c.look_at_named.ensures.looks;
-  quiet = refl;
-})
+returns-in-Ok-clause-ends g c = inl (
+  refl,
+  inl (record {
+    name = c.in-Ok.asked.name.now;
+    request = c.in-Ok.asked.request;
+    asked = c.in-Ok.ensures;
+    looked = c.look_at_named.ensures.looks;
+  }),
+)

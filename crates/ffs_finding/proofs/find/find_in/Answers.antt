@@ -1,4 +1,5 @@
-use Rattle.ffs_finding.{specs.Outcome.moment, proofs.Ending.ends}
+use Rattle.ffs_check.specs.Moment.{moment}
+use Rattle.ffs_finding.proofs.Ending.{ends}
 use Rattle.ffs_finding.proofs.find.find_in.Goals as goal
 
 pub returns : goal.returns

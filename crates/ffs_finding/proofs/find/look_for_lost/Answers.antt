@@ -1,6 +1,7 @@
 use Rattle.std.proofs.{Common.{Bool, Ok, arith}, lemmas.Result.err_from_is_err_and}
 use Rattle.ffs_layout.specs.Super.{superblock_in}
-use Rattle.ffs_finding.{specs.{declared.request.Search.TheVariants.Lost, Outcome.moment}, proofs.ClaimSearches.lines_answer}
+use Rattle.ffs_check.specs.Moment.{moment}
+use Rattle.ffs_finding.{specs.declared.request.Search.TheVariants.Lost, proofs.ClaimSearches.lines_answer}
 use Rattle.ffs_finding.proofs.ClaimSearches.{fault_answer, refused_answer, refused_memory}
 use Rattle.ffs_finding.proofs.find.look_for_lost.Goals as goal
 

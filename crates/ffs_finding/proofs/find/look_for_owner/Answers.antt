@@ -1,6 +1,7 @@
 use Rattle.std.proofs.{Common.{Ok, arith, refl}, lemmas.Result.err_from_is_err_and}
 use Rattle.ffs_layout.specs.Super.{superblock_in}
-use Rattle.ffs_finding.{specs.{declared.request.Search.TheVariants.Owner, Outcome.moment}, proofs.ClaimSearches.lines_answer}
+use Rattle.ffs_check.specs.Moment.{moment}
+use Rattle.ffs_finding.{specs.declared.request.Search.TheVariants.Owner, proofs.ClaimSearches.lines_answer}
 use Rattle.ffs_finding.proofs.ClaimSearches.{fault_answer, refused_answer, refused_memory}
 use Rattle.ffs_finding.proofs.find.look_for_owner.Goals as goal
 

@@ -1,6 +1,6 @@
 use Rattle.std.proofs.Common.{refl, sym}
 use Rattle.ffs_layout.specs.Super.{superblock_in}
-use Rattle.ffs_finding.specs.Outcome.{moment}
+use Rattle.ffs_check.specs.Moment.{moment}
 use Rattle.ffs_finding.proofs.{CopySteps.same_super, Searching.looked}
 use Rattle.ffs_finding.proofs.find.look_in_volume.Goals as goal
 
