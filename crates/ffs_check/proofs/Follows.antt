@@ -1,19 +1,26 @@
 -- The headline, of a check after an accepted superblock.
-use Rattle.std.proofs.Common.{arith, ◌≡◌, inl, inr, refl, ◌∙◌, sym, ap, subst, ℕ, Bool, false, List, ◌++◌}
+use Rattle.std.proofs.Common.{arith, ◌≡◌, inl, inr, refl, ◌∙◌, sym, ap, subst, ℕ, Bool, true, false, List, ◌++◌, tt}
 use Rattle.std.proofs.Common.{append_assoc, Option, Ok}
 use Rattle.ffs_image.{specs.Device.{Device, ForContents}, proofs.Devices.faulted_there}
 use Rattle.ffs_volume.specs.declared.{SuperFault.SuperFault, End.{End, TheVariants.{Refused, ReadFault, NoMemory}}}
-use Rattle.ffs_volume.specs.{Disk.{Superblock.Superblock, Outcome.outcome}, Report.Opening.{opening_lines, super_lines}}
+use Rattle.ffs_volume.specs.{Disk.{Superblock.Superblock, Outcome.outcome}, Report.Opening.{head_lines, opening_lines, super_lines}}
 use Rattle.ffs_volume.specs.Messages.{Kinds.{Message, cannot_read, cannot_alloc, has_defect}, Texts.texts_of}
 use Rattle.ffs_volume.specs.Report.Whole.{phase_lines, end_by, report_of, report_end}
 use Rattle.ffs_report.specs.{Sink.Took, Known.IsContents, Progress.Progress}
 use Rattle.ffs_layout.specs.{declared.superblock.Super.Super, Super.{ReadsSuper, superblock_in}}
-use Rattle.ffs_check.specs.{Ends.Cut, Headline.{can_end_report, Headline, IsCutShort, IsEndOfReport}}
+use Rattle.ffs_check.specs.{Ends.Cut, Headline.{EndAgrees, Headline, IsCutShort, IsEndOfReport, can_end_report}}
 use Rattle.ffs_check.specs.{Moment.{Moment, ReportMoment, at_output}, Opening.OpeningOf}
 use Rattle.ffs_check.specs.PhaseEnds.{IsCutByRead, IsEndByRoot, SaysRefusal, SaysRest}
-use Rattle.ffs_check.proofs.{Openings.{found_of, unfailed_of}, Endings.{at_contents, at_known}}
+use Rattle.ffs_check.proofs.{Openings.{found_of, no_defect_head, unfailed_of}, Endings.{at_contents, at_known}}
 use Rattle.ffs_check.proofs.{EndLaws.{cut_after, ends_after, line_after}, Headlines.{whole_there, defect_there}}
 use Rattle.ffs_check.proofs.Headlines.{end_of_there, end_there, can_end_by, certifies}
+
+-- the end that the root and a text's defects make agrees with that text
+agrees_by : (name : List ℕ) (sector : Option ℕ) (text : List Message) (continued defect : Bool) →
+    has_defect text ≡ defect → EndAgrees name sector text (end_by continued defect)
+agrees_by name sector text true true e = e
+agrees_by name sector text true false e = e
+agrees_by name sector text false defect e = tt
 
 module _ (name : List ℕ) (sector : Option ℕ) (old : Moment) (s : Superblock)
     (accepted : ForContents old.image.contents (λ bytes. Ok s ≡ outcome bytes sector)) (between : ℕ)
@@ -46,9 +53,14 @@ module _ (name : List ℕ) (sector : Option ℕ) (old : Moment) (s : Superblock)
         (λ bytes. opening_lines name sector (Ok s) ++ text ≡ report_of bytes name sector)
     is_whole bytes t = whole_there bytes name sector s text (accepted bytes t) (right bytes t)
 
+    -- a defect of the whole text is one after the image's name
+    defect_whole : (xs : List Message) → has_defect (opening_lines name sector (Ok s) ++ xs) ≡ has_defect (super_lines s ++ xs)
+    defect_whole xs = ap has_defect (append_assoc (head_lines name sector) (super_lines s) xs)
+        ∙ no_defect_head name sector (super_lines s ++ xs)
+
     -- the end of the phases is that of the whole report
     whole : IsEndByRoot (IsContents old.image.contents) s (has_defect (super_lines s ++ text)) end →
-        IsEndOfReport old.image sector (opening_lines name sector (Ok s) ++ text) end
+        IsEndOfReport name sector old.image (opening_lines name sector (Ok s) ++ text) end
     whole e =
         let defect = has_defect (super_lines s ++ text) in
         let last : ForContents old.image.contents (λ bytes. end ≡ report_end bytes sector) = λ bytes t.
@@ -56,6 +68,8 @@ module _ (name : List ℕ) (sector : Option ℕ) (old : Moment) (s : Superblock)
         ∙ end_there bytes sector (Ok s) (accepted bytes t) in
         record {
           can_end = ap can_end_report e.end_is ∙ can_end_by e.continued defect;
+          agrees = subst (EndAgrees name sector (opening_lines name sector (Ok s) ++ text)) (sym e.end_is)
+              (agrees_by name sector _ e.continued defect (defect_whole text));
           value = last;
           certifies = λ bytes t. certifies bytes name sector (opening_lines name sector (Ok s) ++ text) end
               (is_whole bytes t) (last bytes t);

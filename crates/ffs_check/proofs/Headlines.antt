@@ -132,6 +132,7 @@ module _ (name : List ℕ) (sector : Option ℕ) (old new : Moment) where
             said,
             record {
               can_end = refl;
+              agrees = refl;
               value = last;
               certifies = λ bytes t. certifies bytes name sector text (Refused fault) (report bytes t) (last bytes t);
             },

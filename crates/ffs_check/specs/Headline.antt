@@ -1,5 +1,5 @@
 -- The headline: what a check of an image prints, and how it ends.
-use Rattle.std.specs.Prelude.{◌≡◌, ◌⊎◌, ◌↔◌, ◌<◌, ℕ, Bool, true, false, List, ◌++◌, length, Option, Ok}
+use Rattle.std.specs.Prelude.{◌≡◌, ◌⊎◌, ◌↔◌, ◌<◌, ℕ, Bool, true, false, List, ◌++◌, length, Option, Ok, Err, ⊤}
 use Rattle.ffs_image.specs.Device.{Device, Faulted, ForContents}
 use Rattle.ffs_volume.specs.declared.{SuperFault.TheVariants.CannotRead, End.{End, TheVariants.{Consistent, Defects}}}
 use Rattle.ffs_volume.specs.declared.End.TheVariants.{Refused, RootStop, ReadFault, WriteFault, NoMemory}
@@ -24,9 +24,21 @@ pub record Certifies (bytes : List ℕ) (s : Superblock) (text : List Message) (
   pub end_says : (end ≡ Consistent) ↔ IsConsistent bytes s
   pub text_says : (has_defect text ≡ false) ↔ IsConsistent bytes s
 
--- the end of a whole report; on an accepted superblock it certifies
-pub record IsEndOfReport (image : Device) (asked_sector : Option ℕ) (text : List Message) (end : End) : Type 0 where
+-- what an end says of the text that was printed, of any image. Only these three say something
+abbrev pub EndAgrees : List ℕ → Option ℕ → List Message → End → Type 0
+EndAgrees name asked_sector text Consistent = has_defect text ≡ false
+EndAgrees name asked_sector text Defects = has_defect text ≡ true
+EndAgrees name asked_sector text (Refused fault) = text ≡ opening_lines name asked_sector (Err fault)
+EndAgrees name asked_sector text RootStop = ⊤
+EndAgrees name asked_sector text (ReadFault sector) = ⊤
+EndAgrees name asked_sector text WriteFault = ⊤
+EndAgrees name asked_sector text NoMemory = ⊤
+
+-- the end of a whole report: it agrees with the text; on an accepted superblock it certifies
+pub record IsEndOfReport (name : List ℕ) (asked_sector : Option ℕ) (image : Device) (text : List Message) (end : End) :
+    Type 0 where
   pub can_end : can_end_report end ≡ true
+  pub agrees : EndAgrees name asked_sector text end
   pub value : ForContents image.contents (λ bytes. end ≡ report_end bytes asked_sector)
   pub certifies : ForContents image.contents (λ bytes. (s : Superblock) → outcome bytes asked_sector ≡ Ok s
       → Certifies bytes s text end)
@@ -77,5 +89,5 @@ IsCutShort name asked_sector image image' text cut =
 pub record Headline (name : List ℕ) (asked_sector : Option ℕ) (old new : Moment) (end : End) : Type 0 where
   pub text : List Message
   pub is_report : ForContents old.image.contents (λ bytes. text ≡ report_of bytes name asked_sector)
-  pub ends : Ends old new text (IsEndOfReport old.image asked_sector text)
+  pub ends : Ends old new text (IsEndOfReport name asked_sector old.image text)
       (IsCutShort name asked_sector old.image new.image text) end
