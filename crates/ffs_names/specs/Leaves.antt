@@ -1,7 +1,8 @@
 -- What calls do and leave that read a directory, and how often they read the image.
 use Rattle.std.specs.Prelude.{◌≡◌, ℕ, ◌+◌, ◌<◌, ◌≤◌, Bool, ◌||◌, List, None, Ok, Result, OnOk, vec_len}
 use Rattle.std.specs.Prelude.{IfOk, IfSome, MatchOption, MatchResult, Option}
-use Rattle.ffs_image.specs.{Device.{Device, ForContents}, Reads.ReadAfter, declared.image.{Image.Ghosts, ImageFault.ImageFault}}
+use Rattle.ffs_image.specs.{Device.{Device, ForContents}, Reads.ReadAfter, declared.image.Image.Ghosts}
+use Rattle.ffs_image.specs.declared.image.ImageFault.{ImageFault}
 use Rattle.ffs_walk.specs.declared.{blocks.Blocks.Blocks, walk.Walk.Walk, window.Window.Window}
 use Rattle.ffs_walk.specs.{Rests.IsOver, Windows.WindowHolds}
 use Rattle.ffs_survey.specs.{Costs.TakesReads, declared.entry_head.EntryHead.EntryHead}

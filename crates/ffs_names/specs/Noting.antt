@@ -13,7 +13,7 @@ use Rattle.ffs_workspace.specs.Places.{entries_in_part, is_due, name_in, place_i
 use Rattle.ffs_workspace.specs.{Places.IsNoted, Holds.HoldsSurvey, Ready.IsReady}
 use Rattle.ffs_volume.specs.Blocks.Inodes.{inodes_of}
 use Rattle.ffs_workspace.specs.declared.workspace.{Windows.Windows, Workspace.Workspace}
-use Rattle.ffs_names.specs.{Costs.{to_read, HoldsReading}, Sweeps.Sweep, Windows.CanReadChunks}
+use Rattle.ffs_names.specs.{Costs.{to_read, HoldsReading}, Sweeps.DirSweep, Windows.CanReadChunks}
 use Rattle.ffs_volume.specs.Report.DirectoryReads.{noted_cost}
 use Rattle.ffs_names.specs.declared.chunks.Chunks.{Chunks}
 
@@ -92,7 +92,7 @@ pub record NotesChildren (parents old new : List ℕ) (p : ℕ) : Type 0 where
 
 -- the places of the entries of the directory p are noted, where no read failed, and the image was read at
 -- most as often as the directory asks for
-pub record NotesDirectory {T : Type 0} (v : Layout) (b : List ℕ) (p : ℕ) (old new : Sweep)
+pub record NotesDirectory {T : Type 0} (v : Layout) (b : List ℕ) (p : ℕ) (old new : DirSweep)
     (result : Result T ImageFault) : Type 0 where
   pub noted : OnOk result (NotesEntries v b (is_child old.workspace.parents.items p) (roled_entries (volume_of v b) p)
       old.workspace.queue.items new.workspace.queue.items)
@@ -136,7 +136,7 @@ pub record LeavesNoted {T : Type 0} (parents : Vec ℕ Global) (p : ℕ) (old ne
 
 -- what a call leaves that notes places of children of p in `queue`: only the windows change beside it,
 -- the workspace is ready, and the image was only read
-pub record LeavesChildren {T : Type 0} (v : Layout) (p : ℕ) (old new : Sweep) (result : Result T ImageFault)
+pub record LeavesChildren {T : Type 0} (v : Layout) (p : ℕ) (old new : DirSweep) (result : Result T ImageFault)
     : Type 0 where
   pub lists : new.workspace ≡ record old.workspace { windows = new.workspace.windows; queue = new.workspace.queue }
   pub ready : IsReady v new.image new.workspace
@@ -145,7 +145,7 @@ pub record LeavesChildren {T : Type 0} (v : Layout) (p : ℕ) (old new : Sweep) 
 
 -- what a call leaves that notes all places: only the windows and `queue` change, the workspace is ready,
 -- the image was only read, and no word is due where no read failed
-pub record LeavesPlaces {T : Type 0} (v : Layout) (old new : Sweep) (result : Result T ImageFault) : Type 0 where
+pub record LeavesPlaces {T : Type 0} (v : Layout) (old new : DirSweep) (result : Result T ImageFault) : Type 0 where
   pub lists : new.workspace ≡ record old.workspace { windows = new.workspace.windows; queue = new.workspace.queue }
   pub ready : IsReady v new.image new.workspace
   pub read : ReadAfter old.image new.image result

@@ -7,7 +7,7 @@ use Rattle.ffs_volume.specs.{Directories.Calm.is_right_directory, Encodings.List
 use Rattle.ffs_workspace.specs.{declared.workspace.Workspace.Workspace, Leaves.LeavesBlockCheck, Ready.IsReady}
 use Rattle.ffs_workspace.specs.Holds.{HoldsClaims, HoldsReferences, HoldsSurvey}
 use Rattle.ffs_volume.specs.Report.DirectoryReads.{noted_costs}
-use Rattle.ffs_names.specs.{CalmDirs.FlagsEachCalm, Sweeps.Sweep}
+use Rattle.ffs_names.specs.{CalmDirs.FlagsEachCalm, Sweeps.DirSweep}
 
 -- what a survey leaves: the workspace is ready for the next call, `queue` is zero, so that it notes no
 -- place of a parent entry, and the image was only read
@@ -40,8 +40,8 @@ pub record IsSurveyed (v : Layout) (b : List ℕ) (w : Workspace) : Type 0 where
 
 -- a survey reads all directories: where no read failed, what it finds is held, and each calm directory has a
 -- flag. The image was read at most as often as the directories ask for
-pub record SurveysAll {T : Type 0} (v : Layout) (b : List ℕ) (old new : Sweep) (result : Result T ImageFault) : Type 0
-  where
-    pub found : OnOk result (IsSurveyed v b new.workspace)
-    pub flags : OnOk result (FlagsEachCalm v b new.workspace)
-    pub counted : new.reads ≤ old.reads + noted_costs v b
+pub record SurveysAll {T : Type 0} (v : Layout) (b : List ℕ) (old new : DirSweep) (result : Result T ImageFault)
+    : Type 0 where
+  pub found : OnOk result (IsSurveyed v b new.workspace)
+  pub flags : OnOk result (FlagsEachCalm v b new.workspace)
+  pub counted : new.reads ≤ old.reads + noted_costs v b

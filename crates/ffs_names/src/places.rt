@@ -11,7 +11,7 @@ ghost use Rattle.ffs_volume.specs.Encodings.Notes.{note_at};
 ghost use Rattle.ffs_workspace.specs.Tables.{CanReadInode, TableAfter};
 ghost use Rattle.ffs_names.specs.Noting.{chunk_noting, is_child, BeginsNotes, CanNote, CanNoteChunks, CanNoteDirectory};
 ghost use Rattle.ffs_names.specs.Noting.{HoldsPlaces, LeavesChildren, LeavesNoted, LeavesPlaces, NotesDirectory};
-ghost use Rattle.ffs_names.specs.{Noting.{NotesEntries, NotesInWords}, Costs.BeginsChunks, Sweeps.sweep};
+ghost use Rattle.ffs_names.specs.{Noting.{NotesEntries, NotesInWords}, Costs.BeginsChunks, Sweeps.dir_sweep};
 ghost use Rattle.ffs_volume.specs.Report.DirectoryReads.{noted_cost, noted_costs};
 ghost use Rattle.ffs_names.specs.{Costs.{BeginsReads, SweepsOnce}, Readings.rest};
 
@@ -166,10 +166,11 @@ fn note_directory<I: Image>(
     ensures notes { ForContents (I.device image.old).contents
         (λ b. HoldsClaims geometry.now.layout b workspace.old
         → is_dir (volume_of geometry.now.layout b) dir ≡ true
-        → NotesDirectory geometry.now.layout b dir (sweep I.Image image.old workspace.old)
-        (sweep I.Image image.new workspace.new) result) }
-    ensures leaves { LeavesChildren geometry.now.layout dir (sweep I.Image image.old workspace.old)
-        (sweep I.Image image.new workspace.new) result }
+        → NotesDirectory geometry.now.layout b dir (dir_sweep I.Image image.old workspace.old)
+        (dir_sweep I.Image image.new workspace.new) result) }
+    ensures leaves { LeavesChildren geometry.now.layout dir
+        (dir_sweep I.Image image.old workspace.old) (dir_sweep I.Image image.new workspace.new)
+        result }
 {
     let note = workspace.notes[dir as usize];
     let table = &mut workspace.windows.table;
@@ -220,8 +221,8 @@ fn note_all<I: Image>(
         (λ b. HoldsClaims geometry.now.layout b workspace.old
         → HoldsSurvey geometry.now.layout b workspace.old
         → I.reads image.new ≤ I.reads image.old + noted_costs geometry.now.layout b) }
-    ensures leaves { LeavesPlaces geometry.now.layout (sweep I.Image image.old workspace.old)
-        (sweep I.Image image.new workspace.new) result }
+    ensures leaves { LeavesPlaces geometry.now.layout (dir_sweep I.Image image.old workspace.old)
+        (dir_sweep I.Image image.new workspace.new) result }
 {
     flag_parents(&workspace.reached, &workspace.parents, &mut workspace.queue);
     for dir in ROOTINO..geometry.layout.ncg * geometry.layout.ipg {
@@ -256,8 +257,8 @@ pub fn note_places<I: Image>(
     ensures reads { SweepsOnce geometry.now.layout (I.device image.old).contents
         (λ b. HoldsClaims geometry.now.layout b workspace.old
         × HoldsSurvey geometry.now.layout b workspace.old) (I.reads image.old) (I.reads image.new) }
-    ensures leaves { LeavesPlaces geometry.now.layout (sweep I.Image image.old workspace.old)
-        (sweep I.Image image.new workspace.new) result }
+    ensures leaves { LeavesPlaces geometry.now.layout (dir_sweep I.Image image.old workspace.old)
+        (dir_sweep I.Image image.new workspace.new) result }
 {
     let mut limited = LimitedImage::new(image, sweep_reads(geometry));
     let noted = note_all(geometry, &mut limited, workspace);

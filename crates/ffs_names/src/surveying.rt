@@ -3,7 +3,7 @@
 ghost use Rattle.std.specs.Prelude.{◌≡◌, false, true, OnOk};
 ghost use Rattle.ffs_image.specs.Device.{ForContents};
 ghost use Rattle.ffs_workspace.specs.{Ready.IsReady, Holds.HoldsClaims};
-ghost use Rattle.ffs_names.specs.{Costs.SweepsOnce, Sweeps.sweep};
+ghost use Rattle.ffs_names.specs.{Costs.SweepsOnce, Sweeps.dir_sweep};
 ghost use Rattle.ffs_names.specs.Surveys.{IsSurveyed, LeavesClaims, SurveysAll, SurveysNoMore};
 ghost use Rattle.ffs_names.specs.CalmDirs.{FlagsEachCalm};
 
@@ -27,8 +27,8 @@ fn survey_all<I: Image>(
     requires first { workspace.old.surveyed ≡ false }
     ensures survey { ForContents (I.device image.old).contents
         (λ b. HoldsClaims geometry.now.layout b workspace.old
-        → SurveysAll geometry.now.layout b (sweep I.Image image.old workspace.old)
-        (sweep I.Image image.new workspace.new) result) }
+        → SurveysAll geometry.now.layout b (dir_sweep I.Image image.old workspace.old)
+        (dir_sweep I.Image image.new workspace.new) result) }
     ensures leaves { LeavesClaims geometry.now.layout (I.device image.old) (I.device image.new)
         workspace.old workspace.new result }
 {

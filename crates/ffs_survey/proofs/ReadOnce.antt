@@ -174,7 +174,8 @@ all_places P low xs each i d l =
 pub record IsReadTo (kinds : List ℕ) (m r : List Bool) (p : List ℕ) (entries : ℕ → List RoledEntry)
     (right_shape : ℕ → Bool) (f : List Bool) (level : List ℕ) (low at : ℕ) : Type 0 where
   pub done : (i : ℕ) → low ≤ i → i < at →
-      IsReadOnce (dir_by kinds m p (number_at level i)) r p (entries (number_at level i)) (right_shape (number_at level i)) f
+      IsReadOnce (dir_by kinds m p (number_at level i)) r p (entries (number_at level i))
+      (right_shape (number_at level i)) f
   pub unread : (i : ℕ) → at ≤ i → i < length level → IsUnread r p (number_at level i)
 
 pub level_read : {kinds : List ℕ} {m r r' : List Bool} {p p' : List ℕ} {f : List Bool} (entries : ℕ → List RoledEntry)
@@ -211,7 +212,8 @@ read_next {r = r} {r' = r'} {p = p} {p' = p'} kinds m f f' entries right_shape l
         | inl before ↦ read_once_stays (same_result_stays c) grow (read.done i l before)
         | inr after ↦
             let here : at ≡ i = omega arith in
-            subst (λ z. IsReadOnce (dir_by kinds m p' (number_at level z)) r' p' (entries (number_at level z)) (right_shape (number_at level z)) f') here
+            subst (λ z. IsReadOnce (dir_by kinds m p' (number_at level z)) r' p' (entries (number_at level z))
+            (right_shape (number_at level z)) f') here
             (read_once m d (entries d) f f' c h flags long (read.unread at (omega arith) inside))
       ];
       unread = λ i l b. unread_next kinds (entries d) c (others i (omega arith) b)
@@ -223,9 +225,11 @@ read_next {r = r} {r' = r'} {p = p} {p' = p'} kinds m f f' entries right_shape l
 pub read_on_queue : {kinds : List ℕ} {m r r' : List Bool} {p p' : List ℕ} {f f' : List Bool}
     (entries : ℕ → List RoledEntry) (right_shape : ℕ → Bool) (low high : ℕ) (q q' : List ℕ) → low ≤ high → high ≤ length q →
     take high q' ≡ take high q → Stays r p r' p' → ((x : ℕ) → bool_at f x ≡ true → bool_at f' x ≡ true) →
-    ((i : ℕ) → i < low → IsReadOnce (dir_by kinds m p (number_at q i)) r p (entries (number_at q i)) (right_shape (number_at q i)) f) →
+    ((i : ℕ) → i < low → IsReadOnce (dir_by kinds m p (number_at q i)) r p (entries (number_at q i))
+    (right_shape (number_at q i)) f) →
     All (λ d. IsReadOnce (dir_by kinds m p' d) r' p' (entries d) (right_shape d) f') (drop low (take high q)) →
-    (i : ℕ) → i < high → IsReadOnce (dir_by kinds m p' (number_at q' i)) r' p' (entries (number_at q' i)) (right_shape (number_at q' i)) f'
+    (i : ℕ) → i < high → IsReadOnce (dir_by kinds m p' (number_at q' i)) r' p' (entries (number_at q' i))
+    (right_shape (number_at q' i)) f'
 read_on_queue {kinds = kinds} {m = m} {r' = r'} {p' = p'} {f' = f'} entries right_shape low high q q' ordered inside kept
     stays more before now i l =
     let level_is : number_at (take high q) i ≡ number_at q' i =
@@ -242,7 +246,9 @@ read_on_queue {kinds = kinds} {m = m} {r' = r'} {p' = p'} {f' = f'} entries righ
 pub read_each : {kinds : List ℕ} {m r : List Bool} {p : List ℕ} {f : List Bool} (entries : ℕ → List RoledEntry)
     (right_shape : ℕ → Bool) (high : ℕ) (q : List ℕ) →
     ((x : ℕ) → occurrences x (take high q) ≡ bit (bool_at r x)) →
-    ((i : ℕ) → i < high → IsReadOnce (dir_by kinds m p (number_at q i)) r p (entries (number_at q i)) (right_shape (number_at q i)) f) → (d : ℕ) → bool_at r d ≡ true → IsReadOnce (dir_by kinds m p d) r p (entries d) (right_shape d) f
+    ((i : ℕ) → i < high → IsReadOnce (dir_by kinds m p (number_at q i)) r p (entries (number_at q i))
+    (right_shape (number_at q i)) f) → (d : ℕ) → bool_at r d ≡ true →
+    IsReadOnce (dir_by kinds m p d) r p (entries d) (right_shape d) f
 read_each {kinds = kinds} {m = m} {r = r} {p = p} {f = f} entries right_shape high q queued read d reached =
     let some : 1 ≤ occurrences d (take high q) = omega (arith, queued d, ap bit reached) in
     let at = occurrences-index d (take high q) some in

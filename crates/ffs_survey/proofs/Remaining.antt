@@ -2,7 +2,8 @@
 -- add is the same before and after.
 use Rattle.std.proofs.Common.{◌≡◌, ℕ, ◌+◌, ◌<◌, Bool, false, not, cond, ◌&&◌, ◌||◌, List, Option, None, is_some}
 use Rattle.std.proofs.Common.{unwrap_or, arith}
-use Rattle.ffs_survey.specs.{Discover.{AreCounted, AreDiscovered, Found, bit, occurrences}, Survey.{bool_at, number_at}}
+use Rattle.ffs_survey.specs.{Discover.{AreCountedOn, AreDiscovered, Found}, Survey.{bool_at, number_at}}
+use Rattle.ffs_survey.specs.Discover.{bit, occurrences}
 
 -- nothing is to come
 abbrev pub nothing : ℕ → Option ℕ
@@ -48,7 +49,7 @@ discovered_same is = record {
   queued = λ x. let now = is.queued x in grind arith;
 }
 
-pub counted_same : {n : ℕ} {count : ℕ → ℕ} {name : ℕ → Bool} {old new : Found} → AreCounted n count name old new →
+pub counted_same : {n : ℕ} {count : ℕ → ℕ} {name : ℕ → Bool} {old new : Found} → AreCountedOn n count name old new →
     Counts n count name old.references old.named none never new.references new.named
 counted_same is = record {
   counts = λ x l. let now = is.counts x l in omega (arith, now);

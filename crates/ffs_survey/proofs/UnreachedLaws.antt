@@ -8,7 +8,7 @@ use Rattle.ffs_volume.proofs.{LevelLaws.{reached-edge, reached-root}, SearchLaws
 use Rattle.ffs_volume.{proofs.SearchLaws.first_below-is_none, specs.Directories.Graph.{Graph, is_naming_dir, edge}}
 use Rattle.ffs_volume.specs.{Directories.Graph.{reached, parent}, Disk.Search.{first_below, earliest, some_below}}
 use Rattle.ffs_volume.{proofs.{Graphs.IsSane, Unreached.parent-unreached}, specs.Directories.Roles.RoledEntry}
-use Rattle.ffs_survey.specs.Discover.{Found, AreCounted, count_in, any_in, counted_by, IsReachedPart, IsRead}
+use Rattle.ffs_survey.specs.Discover.{Found, AreCountedOn, count_in, any_in, counted_by, IsReachedPart, IsRead}
 use Rattle.ffs_survey.specs.{Discover.{is_unreached_dir, is_unreached_edge}, Survey.{bool_at, number_at}}
 use Rattle.ffs_volume.specs.Encodings.Kinds.{dir_at}
 use Rattle.ffs_survey.{specs.Survey.{graph_with, counted_in, start_in, IsSurvey}, proofs.Discovered.dir_below}
@@ -36,7 +36,7 @@ first_step p s o q q' a z k e h w = grind (arith, first_below-some)
 pub read_on : {old mid new : Found} (kinds : List ℕ) (entries : ℕ → List RoledEntry) (r : List Bool) (s : ℕ) →
     is_unreached_dir kinds r s ≡ true → ((x : ℕ) → is_unreached_dir kinds r x ≡ true → number_at old.parents x ≡ 0) →
     IsRead (graph_with kinds entries) kinds r s old mid →
-    AreCounted (length kinds) (count_in (entries s)) (any_in (entries s)) mid new →
+    AreCountedOn (length kinds) (count_in (entries s)) (any_in (entries s)) mid new →
     ((x : ℕ) → x < length kinds → number_at new.parents x
     ≡ cond ((number_at mid.parents x == 0) && (is_unreached_dir kinds r x && any_in (entries s) x)) s
     (number_at mid.parents x)) →

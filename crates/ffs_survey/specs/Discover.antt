@@ -71,7 +71,7 @@ pub record IsCounted (n : ℕ) (e : RoledEntry) (references : List ℕ) (named :
   pub names : (x : ℕ) → x < n → bool_at named' x ≡ (bool_at named x || is_naming_entry x e)
 
 -- what was read is counted: it refers `count` times to a number below n, and names it where `name` says so
-pub record AreCounted (n : ℕ) (count : ℕ → ℕ) (name : ℕ → Bool) (old new : Found) : Type 0 where
+pub record AreCountedOn (n : ℕ) (count : ℕ → ℕ) (name : ℕ → Bool) (old new : Found) : Type 0 where
   pub counts : (x : ℕ) → x < n → number_at new.references x ≡ number_at old.references x + count x
   pub names : (x : ℕ) → x < n → bool_at new.named x ≡ (bool_at old.named x || name x)
 

@@ -4,13 +4,13 @@ use Rattle.ffs_volume.specs.Directories.Roles.{RoledEntry}
 use Rattle.ffs_survey.specs.{Survey.{bool_at, number_at, graph_with, IsSurvey}, Calm.{dir_by, AreCalm, IsFlagged}}
 use Rattle.ffs_volume.specs.Directories.Calm.{are_calm}
 use Rattle.ffs_survey.specs.Calm.{AreUnread, EachCalmIsFlagged, IsReadOnce}
-use Rattle.ffs_survey.specs.Discover.{Found, AreCounted, AreDiscovered, from_entries, from_dirs, count_in}
+use Rattle.ffs_survey.specs.Discover.{Found, AreCountedOn, AreDiscovered, from_entries, from_dirs, count_in}
 use Rattle.ffs_survey.specs.{Discover.{any_in, count_of, any_of, is_unreached_dir, unset}, Lists.GrowsBy}
 
 -- the reached directory d with these entries is read
 pub record ReadsReached (d : ℕ) (entries : List RoledEntry) (right_shape : Bool) (old new : Found) : Type 0 where
   pub discovered : AreDiscovered (from_entries old.kinds d entries) old new
-  pub counted : AreCounted (length old.kinds) (count_in entries) (any_in entries) old new
+  pub counted : AreCountedOn (length old.kinds) (count_in entries) (any_in entries) old new
   pub calm : IsFlagged d (are_calm (dir_by old.kinds old.marked old.parents d) (bool_at old.reached) 0 entries)
       right_shape old.calm new.calm
 
@@ -28,7 +28,7 @@ pub record Discovers (most top end : ℕ) (reads : Found → Found → Type 0) (
 pub record ReadsDirs (dirs : List ℕ) (entries : ℕ → List RoledEntry) (right_shape : ℕ → Bool) (old new : Found)
     : Type 0 where
   pub discovered : AreDiscovered (from_dirs (graph_with old.kinds entries) dirs) old new
-  pub counted : AreCounted (length old.kinds) (count_of (graph_with old.kinds entries) dirs)
+  pub counted : AreCountedOn (length old.kinds) (count_of (graph_with old.kinds entries) dirs)
       (any_of (graph_with old.kinds entries) dirs) old new
   pub calm : AreCalm old.kinds old.marked old.reached old.parents entries right_shape old.calm
       → AreCalm old.kinds old.marked new.reached new.parents entries right_shape new.calm
@@ -47,7 +47,7 @@ pub record FindsSurvey (kinds : List ℕ) (marked : List Bool) (entries : ℕ �
 
 -- the directory d with these entries, which isn't reached, is read
 pub record ReadsUnreached (kinds : List ℕ) (d : ℕ) (entries : List RoledEntry) (old new : Found) : Type 0 where
-  pub counted : AreCounted (length kinds) (count_in entries) (any_in entries) old new
+  pub counted : AreCountedOn (length kinds) (count_in entries) (any_in entries) old new
   pub parents : (x : ℕ) → x < length kinds → number_at new.parents x
       ≡ cond ((number_at old.parents x == 0) && (is_unreached_dir kinds old.reached x && any_in entries x)) d
       (number_at old.parents x)

@@ -1,6 +1,6 @@
 use Rattle.std.proofs.Common.{ℕ, ◌+◌, ◌<◌, ◌≤◌, ◌-◌, List, length, take, sum_by}
-use Rattle.ffs_survey.{specs.{Discover.IsCount, Calm.{dir_by, AreCalm, IsReadOnce}}, proofs.NextLevel.{HasRoomForLevel, AtSomeLevel}}
-use Rattle.ffs_survey.{specs.Survey.{graph_with, number_at}, proofs.Lending.StillLent}
+use Rattle.ffs_survey.specs.{Discover.IsCount, Calm.{dir_by, AreCalm, IsReadOnce}, Survey.{graph_with, number_at}}
+use Rattle.ffs_survey.proofs.{NextLevel.{HasRoomForLevel, AtSomeLevel}, Lending.StillLent}
 use Rattle.ffs_survey.proofs.levels.survey_reached.Given as goal
 
 abbrev pub invariant-loop-low : goal.invariant-loop-low
@@ -23,7 +23,9 @@ invariant-loop-low g l =
           l.lists.calm.now;
       read : (b : List ℕ) → knows b → (i : ℕ) → i < l.low →
           let d = number_at l.lists.queue.now.items i in
-          IsReadOnce (dir_by old.kinds.now old.marked.now l.lists.parents.now.items d) l.lists.reached.now l.lists.parents.now.items (g.D.Directories.entries over b d) (g.D.Directories.right_shape over b d) l.lists.calm.now;
+          IsReadOnce (dir_by old.kinds.now old.marked.now l.lists.parents.now.items d) l.lists.reached.now
+          l.lists.parents.now.items (g.D.Directories.entries over b d) (g.D.Directories.right_shape over b d)
+          l.lists.calm.now;
     }
 
 abbrev pub decreases-loop-low : goal.decreases-loop-low
