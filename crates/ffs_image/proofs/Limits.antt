@@ -1,7 +1,7 @@
 -- What a part that read through a limited image leaves of the image below it.
 use Rattle.std.{specs.Borrow.GName, proofs.Common.{◌≡◌, ◌≤◌, ◌+◌, ℕ, Bool, true, false, Result, Ok, Err, arith}}
 use Rattle.ffs_image.specs.{declared.image.ImageFault.ImageFault, Device.Device, Reads.ReadAfter}
-use Rattle.ffs_image.specs.Limited.{GivesBack, GivesBackLent, LentAt, lent_at, limited_device}
+use Rattle.ffs_image.specs.Limited.{GivesBack, GivesBackLent, lent_at, limited_device}
 
 -- an image that was only read is over the same images, and gives the same bytes
 pub record StaysOver (old new : Device) : Type 0 where
@@ -12,19 +12,6 @@ pub record StaysOver (old new : Device) : Type 0 where
 pub read_over : {T : Type 0} (old new : Device) (r : Result T ImageFault) → ReadAfter old new r → StaysOver old new
 read_over old new (Ok x) h = grind arith
 read_over old new (Err fault) h = record { lent = h.lent; contents = h.contents; size = h.size }
-
-module _ {old new : LentAt} {asked : ℕ} {spent : Bool} {above : Device} (g : GivesBack old new asked spent above) where
-  -- the image below was read no more often than the limit
-  pub limit_kept : new.reads ≤ old.reads + old.left
-  limit_kept = grind arith
-
-  -- nor more often than the limited image was asked
-  pub asked_kept : new.reads ≤ old.reads + asked
-  asked_kept = grind arith
-
-  -- no read is refused where no more are asked for than the limit
-  pub never_refused : asked ≤ old.left → spent ≡ false
-  never_refused few = grind arith
 
 -- what a part that read a limited image leaves of the image below: its reads, and its answer's
 -- meaning, where none was refused

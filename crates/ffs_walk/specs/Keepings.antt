@@ -17,8 +17,8 @@ run_taken v cut r start len =
     else (if r.bad == MAXBAD then 0 else taken_of cut r.kept len)
 
 -- a step is replayed: whether it is kept, and the replay after it
-pub record Replays (v : Layout) (step : Step) (is_kept : Bool) (old new : Keeping) : Type 0 where
-  pub kept : is_kept ≡ is_replayed v old.cut (replay_in old) step
+pub record Replays (v : Layout) (step : Step) (keeps : Bool) (old new : Keeping) : Type 0 where
+  pub kept : keeps ≡ is_replayed v old.cut (replay_in old) step
   pub after : replay_in new ≡ replay_step_by_cut v old.cut (replay_in old) step
 
 -- the replay of an inode with this cut, before its first step
