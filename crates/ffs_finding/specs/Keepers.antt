@@ -65,7 +65,7 @@ abbrev pub step_text : Layout → Sought → (earlier : ℕ) → Keeping → Ste
 step_text v s earlier k step = concat (step_lines_again v s.fragment s.number earlier k.cut (replay_in k) step)
 
 -- the replay continues after a step
-pub record Continues (v : Layout) (step : Step) (k k' : Keeping) : Type 0 where
+pub record ReplayContinues (v : Layout) (step : Step) (k k' : Keeping) : Type 0 where
   pub next : replay_in k' ≡ replay_step_by_cut v k.cut (replay_in k) step
   pub cut : k'.cut ≡ k.cut
 

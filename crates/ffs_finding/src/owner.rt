@@ -9,7 +9,7 @@ ghost use Rattle.ffs_walk.specs.{Keepings.replay_in, Windows.{CanWalk, KeepsBloc
 ghost use Rattle.ffs_workspace.specs.{Found.WithPhase1, Ready.{IsReady, StaysReady}};
 ghost use Rattle.ffs_volume.specs.Encodings.Notes.{cut_in};
 ghost use Rattle.ffs_finding.specs.{Outcome.{Finds, moment}, Keepers.{CanLookAtInode, CanPrintMap, CanPrintStep, CanReadMap}};
-ghost use Rattle.ffs_finding.specs.Keepers.{Continues, LooksAtInode, LooksAtAll, WalksKept, is_in_run};
+ghost use Rattle.ffs_finding.specs.Keepers.{LooksAtInode, LooksAtAll, ReplayContinues, WalksKept, is_in_run};
 ghost use Rattle.ffs_finding.specs.Keepers.{map_lines, run_text, sought_in, step_text};
 
 use crate::group_map::{is_marked_free, map_place};
@@ -192,7 +192,7 @@ fn print_step<W: Output>(
     requires { CanPrintStep keeping.old earlier }
     ensures prints { Prints (W.sink out.old) (W.sink out.new)
         (step_text geometry.now.layout sought earlier keeping.old step) result }
-    ensures continues { Continues geometry.now.layout step keeping.old keeping.new }
+    ensures continues { ReplayContinues geometry.now.layout step keeping.old keeping.new }
 {
     match step {
         Step::Run { start, len, block } => {
