@@ -1,5 +1,5 @@
 -- The headline, of a check after an accepted superblock.
-use Rattle.std.proofs.Common.{arith, ◌≡◌, inl, inr, refl, ◌∙◌, sym, ap, subst, ℕ, Bool, true, false, List, ◌++◌, tt}
+use Rattle.std.proofs.Common.{arith, ◌≡◌, inl, inr, refl, ◌∙◌, sym, ap, subst, ℕ, Bool, true, false, List, ◌++◌}
 use Rattle.std.proofs.Common.{append_assoc, Option, Ok}
 use Rattle.ffs_image.{specs.Device.{Device, ForContents}, proofs.Devices.faulted_there}
 use Rattle.ffs_volume.specs.declared.{SuperFault.SuperFault, End.{End, TheVariants.{Refused, ReadFault, NoMemory}}}
@@ -69,7 +69,7 @@ module _ (name : List ℕ) (sector : Option ℕ) (old : Moment) (s : Superblock)
         record {
           can_end = ap can_end_report e.end_is ∙ can_end_by e.continued defect;
           agrees = subst (EndAgrees name sector (opening_lines name sector (Ok s) ++ text)) (sym e.end_is)
-              (agrees_by name sector _ e.continued defect (defect_whole text));
+              (agrees_by name sector (opening_lines name sector (Ok s) ++ text) e.continued defect (defect_whole text));
           value = last;
           certifies = λ bytes t. certifies bytes name sector (opening_lines name sector (Ok s) ++ text) end
               (is_whole bytes t) (last bytes t);

@@ -1,5 +1,5 @@
 -- A search in a workspace that holds what phase 1 leaves: what its faults, and its lines, say of the command.
-use Rattle.std.proofs.Common.{ℕ, Option, Result, Err, refl}
+use Rattle.std.proofs.Common.{◌≡◌, ◌&&◌, ℕ, Bool, [], Option, Result, Err, refl}
 use Rattle.ffs_image.specs.Device.{Device}
 use Rattle.ffs_memory.specs.Account.{Account}
 use Rattle.ffs_volume.specs.{declared.Layout.Layout, Disk.Superblock.Superblock}
@@ -10,8 +10,9 @@ use Rattle.ffs_workspace.specs.Lengths.{held_of}
 use Rattle.ffs_finding.specs.declared.find.FindFault.{FindFault, TheVariants.{Refused, Run, NoMemory}}
 use Rattle.ffs_check.specs.Moment.{Moment}
 use Rattle.ffs_finding.specs.{declared.request.Search.Search, Claims.TakesClaims, Fields.WithSuper}
-use Rattle.ffs_finding.{specs.{Outcome.PrintsLines, Whole.{IsGranted, SearchAnswers, search_lines}}, proofs.Printing.knowing}
-use Rattle.ffs_finding.proofs.Printing.{reads_first}
+use Rattle.ffs_finding.specs.Outcome.{PrintedTo, PrintsLines, any_line}
+use Rattle.ffs_finding.specs.Whole.{IsGranted, PrintedAll, SearchAnswers, finds_defects, search_lines}
+use Rattle.ffs_finding.proofs.Printing.{knowing, reads_first}
 
 -- what was taken, where no workspace was made
 pub refused_memory : (v : Layout) (d d' : Device) (held held' : Account) (fault : FindFault) →
@@ -34,10 +35,20 @@ module _ (search : Search) (sector : Option ℕ) (s : Superblock) (m : Moment) w
   module _ (m' : Moment) (w : Workspace)
       (holds : ForBytes (IsContents m.image.contents) (λ b. HoldsPhase1 s.layout b w)) where
     -- what was printed, where more is known
-    pub lines_answer : (T : Type 0) (r : Result T RunFault) →
+    lines_answer : (T : Type 0) (r : Result T RunFault) →
         PrintsLines (WithPhase1 s.layout m.image w) (λ b. search_lines search sector b s) m.out m'.out r →
         PrintsLines (WithSuper m.image sector s) (λ b. search_lines search sector b s) m.out m'.out r
     lines_answer T r p = knowing T _ _ _ m.out m'.out r (λ b k. (k.0, holds b k.0)) p
+
+    -- all lines were printed
+    pub all_answer : (defect : Bool) →
+        (p : PrintedTo (WithPhase1 s.layout m.image w) (λ b. []) (λ b. search_lines search sector b s) m.out m'.out) →
+        defect ≡ (finds_defects search && any_line p.lines) → PrintedAll (finds_defects search)
+        (WithSuper m.image sector s) (λ b. search_lines search sector b s) m.out m'.out defect
+    all_answer defect p is = record {
+      printed = record { lines = p.lines; right = λ b k. p.right b (k.0, holds b k.0); took = p.took };
+      defect_is = is;
+    }
 
     -- a fault came among the lines
     pub fault_answer : (T : Type 0) (fault : RunFault) → ImageAfter {T = T} m.image m'.image (Err fault) →

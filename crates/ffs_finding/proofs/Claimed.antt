@@ -14,7 +14,15 @@ use Rattle.ffs_volume.specs.declared.{Layout.Layout, Step.{Step, TheVariants.{Ru
 use Rattle.ffs_volume.specs.Find.Owner.{indirect_in, keeper_lines, keeper_text, keeps_in_step, keeper_lines_of_inode}
 use Rattle.ffs_volume.specs.Find.Owner.{keeper_lines_of_step, keeper_lines_of_steps}
 use Rattle.ffs_workspace.specs.Holds.{all_claims}
-use Rattle.ffs_finding.{specs.Outcome.any_line, proofs.WrongFields.any_more}
+
+-- there is a line
+abbrev pub has_line : List (List ℕ) → Bool
+has_line [] = false
+has_line (x ∷ xs) = true
+
+more_lines : (xs ys : List (List ℕ)) → has_line (xs ++ ys) ≡ (has_line xs || has_line ys)
+more_lines [] ys = refl
+more_lines (x ∷ xs) ys = refl
 
 -- some offer is of the fragment f
 abbrev any_of : ℕ → List Offer → Bool
@@ -81,7 +89,7 @@ run_uses v f i s start len ok long =
     ]
 
 step_uses : (v : Layout) (f i earlier : ℕ) (s : Claims) (step : Step) → is_fragment_in_range v f ≡ true →
-    length s.used ≡ v.size → Uses f s (after_step v s step) (any_line (keeper_lines_of_step v f i earlier s step))
+    length s.used ≡ v.size → Uses f s (after_step v s step) (has_line (keeper_lines_of_step v f i earlier s step))
 step_uses v f i earlier s Gap ok long = uses_none f s s refl
 step_uses v f i earlier s Tail ok long = elim (cases_Bool (is_open s)) [
   | inl q ↦ rw q (uses_none f s (record s { tail = true }) refl)
@@ -94,22 +102,22 @@ step_uses v f i earlier s (Run start len block) ok long =
       | inr q ↦ rw line (rw q (uses_none f s s refl))
     ]
   where
-    line_there : (b : Bool) (line : List ℕ) → any_line (if b then line ∷ [] else []) ≡ b
+    line_there : (b : Bool) (line : List ℕ) → has_line (if b then line ∷ [] else []) ≡ b
     line_there true line = refl
     line_there false line = refl
 
 steps_use : (v : Layout) (f i earlier : ℕ) (s : Claims) (steps : List Step) → is_fragment_in_range v f ≡ true →
-    length s.used ≡ v.size → Uses f s (after_steps v s steps) (any_line (keeper_lines_of_steps v f i earlier s steps))
+    length s.used ≡ v.size → Uses f s (after_steps v s steps) (has_line (keeper_lines_of_steps v f i earlier s steps))
 steps_use v f i earlier s [] ok long = uses_none f s s refl
 steps_use v f i earlier s (step ∷ steps) ok long =
     let one = step_uses v f i earlier s step ok long in
     let more = steps_use v f i (earlier + indirect_in step) (after_step v s step) steps ok (one.long ∙ long) in
-    rw (any_more (keeper_lines_of_step v f i earlier s step)
+    rw (more_lines (keeper_lines_of_step v f i earlier s step)
     (keeper_lines_of_steps v f i (earlier + indirect_in step) (after_step v s step) steps)) (uses_then one more)
 
 -- an inode, and inodes one after another
 inode_uses : (v : Layout) (b : List ℕ) (f x : ℕ) → IsAcceptedLayout v → is_fragment_in_range v f ≡ true → 2 ≤ x →
-    Uses f (claims_before v b x) (claims_before v b (x + 1)) (any_line (keeper_lines_of_inode v b f x))
+    Uses f (claims_before v b x) (claims_before v b (x + 1)) (has_line (keeper_lines_of_inode v b f x))
 unfolding owner_of keeper_lines_of_inode
 inode_uses v b f x g ok low =
     let s = claims_before v b x in
@@ -118,7 +126,7 @@ inode_uses v b f x g ok low =
 
 inodes_use : (v : Layout) (b : List ℕ) (f x k : ℕ) → IsAcceptedLayout v → is_fragment_in_range v f ≡ true → 2 ≤ x →
     Uses f (claims_before v b x) (claims_before v b (x + k))
-    (any_line (flat_map (keeper_lines_of_inode v b f) (range_with_len x k)))
+    (has_line (flat_map (keeper_lines_of_inode v b f) (range_with_len x k)))
 inodes_use v b f x zero g ok low =
     let same : x + 0 ≡ x = omega arith in rw same (uses_none f (claims_before v b x) (claims_before v b x) refl)
 inodes_use v b f x (suc k) g ok low =
@@ -127,7 +135,7 @@ inodes_use v b f x (suc k) g ok low =
     let place : x + suc k ≡ x + 1 + k = omega arith in
     rw (
       place,
-      any_more (keeper_lines_of_inode v b f x)
+      more_lines (keeper_lines_of_inode v b f x)
           (flat_map (keeper_lines_of_inode v b f) (range_with_len (x + 1) k)),
     )
     (uses_then one more)
@@ -143,9 +151,9 @@ in_range_is v f low e = grind (arith, nat_tests)
 -- the claims of all inodes, which begin with the reserved fragments
 all_are : (v : Layout) (b : List ℕ) (f : ℕ) → is_set (claims_before v b (2 + (v.ncg * v.ipg - 2))).used f
     ≡ (is_set (claims_before v b 2).used f
-    || any_line (flat_map (keeper_lines_of_inode v b f) (range_with_len 2 (v.ncg * v.ipg - 2)))) →
+    || has_line (flat_map (keeper_lines_of_inode v b f) (range_with_len 2 (v.ncg * v.ipg - 2)))) →
     is_set (reserved_map v) f ≡ false →
-    is_set (all_claims v b).used f ≡ any_line (keeper_lines v b f)
+    is_set (all_claims v b).used f ≡ has_line (keeper_lines v b f)
 unfolding all_claims owners_of claims_before no_claims keeper_lines
 all_are v b f all first =
     let n : 2 + (v.ncg * v.ipg - 2) - 2 ≡ v.ncg * v.ipg - 2 = omega arith in
@@ -153,7 +161,7 @@ all_are v b f all first =
 
 -- a fragment that isn't reserved is claimed where an inode has a line
 pub claimed_is : (v : Layout) (b : List ℕ) (f : ℕ) → IsAcceptedLayout v → f < v.size → is_reserved v f ≡ false →
-    is_set (all_claims v b).used f ≡ any_line (keeper_lines v b f)
+    is_set (all_claims v b).used f ≡ has_line (keeper_lines v b f)
 claimed_is v b f g low e =
     let ok = in_range_is v f low e in
     let all = (inodes_use v b f 2 (v.ncg * v.ipg - 2) g ok (omega arith)).is in

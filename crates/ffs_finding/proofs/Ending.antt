@@ -1,49 +1,38 @@
 -- How a command ends, by its answer and the line of its fault.
-use Rattle.std.proofs.Common.{◌≡◌, ◌∙◌, ℕ, [], ◌∷◌, Option, Result, Ok, Err, sym, ap, subst, inl, inr, Bool}
+use Rattle.std.proofs.Common.{◌≡◌, ◌∙◌, ℕ, Option, Result, Ok, Err, sym, ap, subst, inl, inr, Bool}
 use Rattle.ffs_volume.specs.{declared.SuperFault.SuperFault, Messages.{Kinds.cannot_alloc, Texts.text_of}}
-use Rattle.ffs_volume.specs.{Report.Opening.fault_line, Disk.Outcome.outcome}
-use Rattle.ffs_report.specs.{Known.{ForBytes, IsContents}, Sink.Sink, declared.fault.RunFault.TheVariants.{Read, Out}}
+use Rattle.ffs_volume.specs.Report.Opening.{fault_line}
+use Rattle.ffs_report.specs.{Known.IsContents, Sink.Sink, declared.fault.RunFault.TheVariants.{Read, Out}}
 use Rattle.ffs_memory.specs.Account.{Account}
 use Rattle.ffs_layout.specs.Super.{ReadsSuper}
 use Rattle.ffs_finding.specs.declared.request.{Search.Search, Command.{Command, TheVariants.{Copies, InVolume}}}
 use Rattle.ffs_finding.specs.declared.find.FindFault.{FindFault, TheVariants.{Refused, Run, NoMemory}}
-use Rattle.ffs_finding.specs.{Outcome.{PrintedTo, StoppedIn}, Whole.{Answers, EndsBy, EndsByLine, FindEnds, IsRefusal}}
-use Rattle.ffs_finding.{specs.Whole.{command_lines, lines_by, search_lines, status_by}, proofs.Printing.one}
-use Rattle.ffs_finding.proofs.Printing.{one_broken, prints_all, stops_all, reads_first}
+use Rattle.ffs_finding.specs.{Outcome.StoppedIn, Whole.{Answers, EndsBy, EndsByLine, FindEnds, IsRefusal}}
+use Rattle.ffs_finding.specs.Whole.{PrintedAll, command_finds_defects, command_lines, status_of_answer}
+use Rattle.ffs_finding.proofs.Printing.{reads_first}
 use Rattle.ffs_check.specs.{Moment.Moment, Run.IsPrintedOrBrokeOff}
 
 module _ (sector : Option ℕ) (search : Search) (m m' : Moment) (held held' : Account) (fault : SuperFault) (status : ℕ)
   where
-    -- the line of the superblock's fault is the only line
-    one_line : ForBytes (IsContents m.image.contents) (λ b. Err fault ≡ outcome b sector) →
-        ForBytes (IsContents m.image.contents)
-        (λ b. command_lines (InVolume sector search) b ≡ text_of (fault_line fault) ∷ [])
-    one_line is b k = ap (lines_by (search_lines search sector b)) (sym (is b k))
-
     ends_refused : ReadsSuper m.image m'.image sector (Err fault) →
         EndsByLine m.out m'.out (text_of (fault_line fault)) status →
         FindEnds (InVolume sector search) m m' held held' status
     ends_refused p e = elim p [
-      | inl failed ↦ inr (inl (record {
+      | inl failed ↦ inr (inr (inl (record {
         sector = m'.image.failed_sector;
         faulted = failed.0.1;
         between = m.out;
         printed = reads_first;
         line = rw (failed.0.0) at e.0;
         status_is = e.1;
+      })))
+      | inr found ↦ inr (inl (record {
+        fault = fault;
+        no_read_failed = found.0;
+        refused = λ b k. sym (found.1 b k);
+        line = e.0;
+        status_is = e.1;
       }))
-      | inr found ↦ elim e.0 [
-        | inl took ↦ inl (record {
-          no_read_failed = found.0;
-          printed = prints_all (one_line found.1) (one took);
-          status_is = λ b k. e.1 ∙ ap (status_by search (search_lines search sector b)) (found.1 b k);
-        })
-        | inr broke ↦ inr (inr (inl (record {
-          no_read_failed = found.0;
-          stopped = stops_all (one_line found.1) (one_broken broke);
-          status_is = e.1;
-        })))
-      ]
     ]
 
 ends_by_refusal : (command : Command) (m m' : Moment) (held held' : Account) (fault : SuperFault) (status : ℕ) →
@@ -57,30 +46,34 @@ ends_by_refusal (InVolume sector search) m m' held held' fault status p e =
 pub ends : (command : Command) (m m' : Moment) (b : Sink) (held held' : Account) (answer : Result Bool FindFault)
     (status : ℕ) → Answers command m (record m' { out = b }) held held' answer → EndsBy b m'.out answer status →
     FindEnds command m m' held held' status
-ends command m m' b held held' (Ok defect) status p e = inl (record {
-  no_read_failed = p.0;
-  printed = subst (PrintedTo (IsContents m.image.contents) (λ bytes. []) (command_lines command) m.out) (sym e.0) p.1;
-  status_is = λ bytes k. e.1 ∙ p.2 bytes k;
-})
+ends command m m' b held held' (Ok defect) status p e =
+    let all = subst (λ (s : Sink). PrintedAll (command_finds_defects command) (IsContents m.image.contents)
+    (command_lines command) m.out s defect) (sym e.0) p.2 in
+    inl (record {
+      no_read_failed = p.0;
+      accepted = p.1;
+      printed = all.printed;
+      status_is = e.1 ∙ ap status_of_answer all.defect_is;
+    })
 ends command m m' b held held' (Err (Refused fault)) status p e =
     ends_by_refusal command m m' held held' fault status p.1
     (subst (λ (s : Sink). EndsByLine s m'.out (text_of (fault_line fault)) status) p.0 e)
-ends command m m' b held held' (Err (Run (Read fault))) status p e = inr (inl (record {
+ends command m m' b held held' (Err (Run (Read fault))) status p e = inr (inr (inl (record {
   sector = fault.sector;
   faulted = p.0;
   between = b;
   printed = p.1;
   line = e.0;
   status_is = e.1;
-}))
-ends command m m' b held held' (Err (Run (Out fault))) status p e = inr (inr (inl (record {
+})))
+ends command m m' b held held' (Err (Run (Out fault))) status p e = inr (inr (inr (inl (record {
   no_read_failed = p.0;
   stopped = subst (StoppedIn (IsContents m.image.contents) (command_lines command) m.out) (sym e.0) p.1;
   status_is = e.1;
-})))
-ends command m m' b held held' (Err NoMemory) status p e = inr (inr (inr (record {
+}))))
+ends command m m' b held held' (Err NoMemory) status p e = inr (inr (inr (inr (record {
   no_read_failed = p.0;
   refused = p.2;
   line = subst (λ (s : Sink). IsPrintedOrBrokeOff s m'.out (text_of cannot_alloc)) p.1 e.0;
   status_is = e.1;
-})))
+}))))

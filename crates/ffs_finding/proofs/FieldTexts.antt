@@ -1,14 +1,13 @@
 -- The lines of the wrong fields of a superblock, in two parts: those that follow from the layout, and
 -- the totals.
-use Rattle.std.proofs.Common.{◌≡◌, ◌∙◌, ℕ, ◌+◌, ◌*◌, ◌<◌, ◌||◌, List, ◌++◌, map, Option, Some, Ok, sym, ap, arith, refl}
+use Rattle.std.proofs.Common.{◌≡◌, ◌∙◌, ℕ, ◌+◌, ◌*◌, ◌<◌, List, ◌++◌, map, Option, Some, Ok, sym, ap, arith, refl}
 use Rattle.std.{specs.List.flat_map, proofs.lemmas.List.{Concat.flat_map-append, Folds.flat_map-map}}
 use Rattle.ffs_image.specs.Device.{Device, IsSized}
 use Rattle.ffs_volume.specs.Disk.{Outcome.{outcome, super_bytes, super_sector}, Superblock.Superblock}
 use Rattle.ffs_volume.{proofs.OutcomeLaws.outcome_past_end, specs.Find.Fields.{field_lines, layout_fields}}
 use Rattle.ffs_volume.specs.Find.Fields.{total_fields, wrong_fields}
 use Rattle.ffs_volume.specs.Find.Fields as book
-use Rattle.ffs_finding.specs.{Outcome.any_line, Fields.{field_of, wrong_lines}, declared.fields.Field.Field}
-use Rattle.ffs_finding.proofs.{CopySteps.sized_at, WrongFields.any_more}
+use Rattle.ffs_finding.{specs.{Fields.{field_of, wrong_lines}, declared.fields.Field.Field}, proofs.CopySteps.sized_at}
 
 -- no superblock is accepted that ends after the image
 pub too_short : (d : Device) (b : List ℕ) (sector : Option ℕ) (s : Superblock) (start : ℕ) → IsSized d →
@@ -44,7 +43,3 @@ module _ (s : Superblock) (sector : Option ℕ) (start : ℕ) (at : start ≡ su
       pub both : wrong_lines (start * 512) xs ++ wrong_lines (start * 512) ys ≡ wrong_fields s b sector
       both = ap (λ (ls : List (List ℕ)). wrong_lines (start * 512) xs ++ ls)
           (lines_of ys (total_fields s bytes) totals) ∙ first
-
-      pub any : (any_line (wrong_lines (start * 512) xs) || any_line (wrong_lines (start * 512) ys))
-          ≡ any_line (wrong_fields s b sector)
-      any = sym (any_more _ _) ∙ ap any_line both

@@ -1,6 +1,6 @@
 -- What the maps of groups say wrongly: of one group by what the program has of its map, and of all groups.
 use Rattle.std.proofs.Common.{◌≡◌, ◌∙◌, ℕ, ◌+◌, ◌-◌, ◌<◌, ◌≤◌, Bool, true, false, List, [], ◌++◌, arith, refl, ap, sym}
-use Rattle.std.{proofs.Common.subst, specs.{List.{flat_map, range_with_len}, Prelude.◌||◌}}
+use Rattle.std.{proofs.Common.subst, specs.List.{flat_map, range_with_len}}
 use Rattle.ffs_image.specs.Device.{Device}
 use Rattle.ffs_volume.specs.{declared.Layout.Layout, Disk.Areas.cgbase, Groups.Records.{bit_at, fragment_map_place}}
 use Rattle.ffs_volume.{specs.Groups.Records.{group_block, group_size, has_bits, same_bit}, proofs.Below.all_below-at}
@@ -9,9 +9,9 @@ use Rattle.ffs_groups.specs.Free.{free_in}
 use Rattle.ffs_maps.specs.Bits.{bits_of}
 use Rattle.ffs_report.specs.Known.{ForBytes}
 use Rattle.ffs_workspace.specs.{declared.workspace.Workspace.Workspace, Found.WithPhase1, Holds.all_claims}
-use Rattle.ffs_finding.specs.{Outcome.any_line, LostMaps.{is_wrong_by, lines_of_group, lines_of_groups, no_map_lines}}
+use Rattle.ffs_finding.specs.LostMaps.{is_wrong_by, lines_of_group, lines_of_groups, no_map_lines}
 use Rattle.ffs_finding.specs.{LostMaps.word_of, declared.lost.Wrong.{Wrong, TheVariants.{Lost, MarkedFree}}}
-use Rattle.ffs_finding.proofs.{Ranges.{from_zero, next, none}, WrongFields.any_more}
+use Rattle.ffs_finding.proofs.Ranges.{next, none}
 
 pub without_map : (wrong : Wrong) (v : Layout) (free : ℕ → Bool) (c : ℕ) (block : List ℕ) → has_map v block ≡ false →
     lines_of_group wrong v free c block ≡ no_map_lines wrong c
@@ -61,12 +61,9 @@ abbrev pub group_lines : Wrong → (v : Layout) (free : ℕ → Bool) (image : L
 group_lines wrong v free image c = lines_of_group wrong v free c (group_block v image c)
 
 module _ (wrong : Wrong) (v : Layout) (free : ℕ → Bool) where
-  -- the lines of the groups from c on, and of those before it
+  -- the lines of the groups from c on
   abbrev pub from_group : (c : ℕ) (image : List ℕ) → List (List ℕ)
   from_group c image = flat_map (group_lines wrong v free image) (range_with_len c (v.ncg - c))
-
-  abbrev pub before_group : (c : ℕ) (image : List ℕ) → List (List ℕ)
-  before_group c image = flat_map (group_lines wrong v free image) (range_with_len 0 c)
 
   pub groups_begin : (image : List ℕ) → from_group 0 image ≡ lines_of_groups wrong v free image
   groups_begin image = let all : v.ncg - 0 ≡ v.ncg = omega arith in rw all refl
@@ -80,25 +77,6 @@ module _ (wrong : Wrong) (v : Layout) (free : ℕ → Bool) where
 
   pub groups_end : (image : List ℕ) (c : ℕ) → v.ncg ≤ c → from_group c image ≡ []
   groups_end image c past = let none : v.ncg - c ≡ 0 = omega arith in rw none refl
-
-  -- whether there is a line of one group more
-  pub any_next : (image block : List ℕ) (c : ℕ) (any found : Bool) → block ≡ group_block v image c →
-      any ≡ any_line (before_group c image) → found ≡ any_line (lines_of_group wrong v free c block) →
-      (any || found) ≡ any_line (before_group (c + 1) image)
-  any_next image block c any found is before here =
-      rw (
-        from_zero (group_lines wrong v free image) c,
-        any_more (before_group c image)
-            (group_lines wrong v free image c),
-        before,
-        here,
-        is,
-      ) refl
-
-  pub any_all : (image : List ℕ) (c : ℕ) (any : Bool) → c ≤ v.ncg → v.ncg ≤ c → any ≡ any_line (before_group c image) →
-      any ≡ any_line (lines_of_groups wrong v free image)
-  any_all image c any low high is =
-      let all : c ≡ v.ncg = omega arith in is ∙ ap (λ (n : ℕ). any_line (before_group n image)) all
 
 -- the lines of an image are those of lost fragments, and then those of fragments that are marked as free
 pub both : (v : Layout) (d : Device) (w : Workspace) → ForBytes (WithPhase1 v d w)

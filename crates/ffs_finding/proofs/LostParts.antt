@@ -1,14 +1,15 @@
 -- The lines of lost fragments and of those that are marked as free, one list after the other.
-use Rattle.std.{proofs.Common.{◌≡◌, ℕ, Bool, List, [], ◌++◌, append-nil, Ok, Err, refl, sym}, specs.Prelude.◌||◌}
+use Rattle.std.proofs.Common.{◌≡◌, ℕ, Bool, List, [], ◌++◌, append_assoc, append-nil, arith, Ok, Err, refl, sym}
+use Rattle.std.specs.{List.concat, Prelude.◌||◌}
 use Rattle.ffs_image.specs.Device.{Device}
 use Rattle.ffs_volume.specs.{declared.Layout.Layout, Find.Lost.lost_lines}
 use Rattle.ffs_groups.specs.Free.{free_in}
 use Rattle.ffs_maps.specs.Bits.{bits_of}
-use Rattle.ffs_report.specs.{Known.{ForBytes, IsContents}, Sink.Sink, declared.fault.RunFault.RunFault}
+use Rattle.ffs_report.{specs.{Known.{ForBytes, IsContents}, Sink.Sink, declared.fault.RunFault.RunFault}, proofs.Sinks.took_then}
 use Rattle.ffs_workspace.specs.{declared.workspace.Workspace.Workspace, Found.WithPhase1}
 use Rattle.ffs_finding.specs.{Outcome.{PrintedTo, PrintsLines, any_line}, LostMaps.lines_of_groups}
 use Rattle.ffs_finding.{specs.declared.lost.Wrong.TheVariants.{Lost, MarkedFree}, proofs.LostGroups.both}
-use Rattle.ffs_finding.proofs.{Printing.{begins, knowing, part, part_fault}, WrongFields.any_more}
+use Rattle.ffs_finding.proofs.Printing.{PrintedWhether, any_more, begins, concat-append, knowing, part, part_fault}
 
 module _ (v : Layout) (d : Device) (w : Workspace) where
   abbrev first : (image : List ℕ) → List (List ℕ)
@@ -44,15 +45,14 @@ module _ (v : Layout) (d : Device) (w : Workspace) where
       (knowing Bool _ (WithPhase1 v d w) second b c (Err fault) (λ b k. k.0) q)
 
   -- both lists were printed
-  pub printed_both : (a b c : Sink) (x y z : Bool) →
-      PrintsLines {T = Bool} (IsContents d.contents) first a b (Ok x) →
-      PrintsLines {T = Bool} (IsContents d.contents) second b c (Ok y) →
-      PrintsLines {T = Bool} (WithPhase1 v d w) (λ b. lost_lines v b) a c (Ok z)
-  printed_both a b c x y z p q = part (WithPhase1 v d w) second second (λ b. []) (λ b. lost_lines v b) a b c
-      (one a b x p) second_all (knowing Bool _ (WithPhase1 v d w) second b c (Ok y) (λ b k. k.0) q)
-
-  pub any_of_both : (x y : Bool) → ForBytes (IsContents d.contents) (λ b. x ≡ any_line (first b)) →
-      ForBytes (IsContents d.contents) (λ b. y ≡ any_line (second b)) →
-      ForBytes (WithPhase1 v d w) (λ b. (x || y) ≡ any_line (lost_lines v b))
-  any_of_both x y p q b k =
-      rw (both v d w b k, any_more (first b) (second b), p b k.0, q b k.0) refl
+  pub printed_both : (a b c : Sink) (x y : Bool) → (p : PrintedTo (IsContents d.contents) (λ b. []) first a b) →
+      x ≡ any_line p.lines → (q : PrintedTo (IsContents d.contents) (λ b. []) second b c) → y ≡ any_line q.lines →
+      PrintedWhether (WithPhase1 v d w) (λ b. []) (λ b. lost_lines v b) (x || y) a c
+  printed_both a b c x y p some q more = record {
+    printed = record {
+      lines = p.lines ++ q.lines;
+      right = λ b k. grind (arith, append_assoc, append-nil, p.right b k.0, q.right b k.0, both v d w b k);
+      took = rw (concat-append p.lines q.lines) (took_then a b c (concat p.lines) (concat q.lines) p.took q.took);
+    };
+    any_is = rw (any_more p.lines q.lines, some, more) refl;
+  }

@@ -1,10 +1,10 @@
 -- How lines are printed, one after another.
 use Rattle.std.proofs.Common.{◌≡◌, refl, ◌∙◌, sym, ℕ, List, [], ◌∷◌, ◌++◌, append_assoc, append-nil, Result, Ok, Err}
-use Rattle.std.{proofs.Common.arith, specs.List.concat}
+use Rattle.std.{proofs.Common.{arith, Bool, true}, specs.{List.concat, Prelude.◌||◌}}
 use Rattle.ffs_report.specs.{Known.ForBytes, Sink.{Sink, Took, BrokeOff}, declared.fault.RunFault.RunFault}
 use Rattle.ffs_report.{specs.declared.fault.RunFault.TheVariants.{Read, Out}, proofs.Sinks.{took_nil, took_then}}
 use Rattle.ffs_report.proofs.Sinks.{broke_off_after}
-use Rattle.ffs_finding.specs.Outcome.{PrintedTo, PrintedSome, StoppedIn, PrintsLines}
+use Rattle.ffs_finding.specs.Outcome.{PrintedTo, PrintedSome, StoppedIn, PrintsLines, any_line}
 
 -- the bytes of lines and of others after them
 pub concat-append : (xs ys : List (List ℕ)) → concat (xs ++ ys) ≡ concat xs ++ concat ys
@@ -101,6 +101,40 @@ part_fault T E knows rest this rest' all a b c (Out fault) p e q = record {
   right = part_right knows rest this rest' all q.rest p.lines q.lines p.right e q.right;
   broke_off = rw (concat-append p.lines q.lines)
       (broke_off_after a b c (concat p.lines) (concat q.lines) p.took q.broke_off);
+}
+
+-- ---- whether there was a line
+pub any_more : (xs ys : List (List ℕ)) → any_line (xs ++ ys) ≡ (any_line xs || any_line ys)
+any_more [] ys = refl
+any_more ([] ∷ xs) ys = any_more xs ys
+any_more ((b ∷ x) ∷ xs) ys = refl
+
+-- a line that ends with a text, or begins with one
+pub text_at_end : (xs ys : List ℕ) → any_line (ys ∷ []) ≡ true → any_line ((xs ++ ys) ∷ []) ≡ true
+text_at_end [] ys some = some
+text_at_end (x ∷ xs) ys some = refl
+
+pub text_at_begin : (xs ys : List ℕ) → any_line (xs ∷ []) ≡ true → any_line ((xs ++ ys) ∷ []) ≡ true
+text_at_begin [] ys some = absurd (cc)
+text_at_begin (x ∷ xs) ys some = refl
+
+-- whole lines were printed, and `any` says whether there was one
+pub record PrintedWhether (knows : List ℕ → Type 0) (rest all : List ℕ → List (List ℕ)) (any : Bool) (old new : Sink) :
+    Type 0 where
+  pub printed : PrintedTo knows rest all old new
+  pub any_is : any ≡ any_line printed.lines
+
+pub prints_whether : (knows : List ℕ → Type 0) (rest rest' all : List ℕ → List (List ℕ)) (ms : List (List ℕ))
+    (any found : Bool) (a b c : Sink) → PrintedWhether knows rest all any a b →
+    ForBytes knows (λ bytes. rest bytes ≡ ms ++ rest' bytes) → Took b c (concat ms) → found ≡ any_line ms →
+    PrintedWhether knows rest' all (any || found) a c
+prints_whether knows rest rest' all ms any found a b c p e q here = record {
+  printed = record {
+    lines = p.printed.lines ++ ms;
+    right = λ bytes k. grind (arith, append_assoc, e bytes k, p.printed.right bytes k);
+    took = rw (concat-append p.printed.lines ms) (took_then a b c (concat p.printed.lines) (concat ms) p.printed.took q);
+  };
+  any_is = rw (any_more p.printed.lines ms, p.any_is, here) refl;
 }
 
 -- nothing is to come

@@ -1,6 +1,6 @@
 -- A search in a volume, as the command that asks for it.
 use Rattle.std.proofs.Common.{◌≡◌, ◌∙◌, ◌*◌, ◌+◌, ◌≤◌, ℕ, Bool, List, [], Option, Result, Ok, Err, sym, ap, arith, inl, inr}
-use Rattle.std.proofs.Common.{refl}
+use Rattle.std.proofs.Common.{refl, is_ok}
 use Rattle.ffs_check.specs.{Moment.Moment, Taken.AsksMemory}
 use Rattle.ffs_image.specs.Device.{Device, ForContents}
 use Rattle.ffs_memory.specs.Account.{Account, RefusedOneMore}
@@ -12,7 +12,7 @@ use Rattle.ffs_finding.specs.declared.find.FindFault.{FindFault, TheVariants.{Re
 use Rattle.ffs_finding.specs.declared.request.Search.{Search, TheVariants.{Inode, Fields, Lost, Owner}}
 use Rattle.ffs_finding.specs.{declared.request.Command.TheVariants.InVolume, Fields.WithSuper, Outcome.PrintedTo}
 use Rattle.ffs_finding.specs.Whole.{Answers, IsGranted, Looks, SearchAnswers, Searches, TakesForSearch, TakesMemory}
-use Rattle.ffs_finding.specs.Whole.{command_lines, lines_by, search_lines, status_by, status_of_answer}
+use Rattle.ffs_finding.specs.Whole.{command_lines, lines_by, search_lines}
 
 -- memory was refused, where the answer says so
 refused : (search : Search) (v : Layout) (held held' : Account) → TakesForSearch search v held held' (Err NoMemory) →
@@ -44,9 +44,15 @@ module _ (search : Search) (sector : Option ℕ) (s : Superblock) (d : Device)
       Answers (InVolume sector search) (record { image = d; reads = before; out = a }) m held held' r
   answers between before a m held held' (Ok defect) p t = (
     p.0,
-    printed (λ bytes. []) a m.out p.1,
-    λ bytes k. ap status_of_answer (p.2 bytes (k, accepted bytes k))
-        ∙ sym (ap (status_by search (search_lines search sector bytes)) (accepted bytes k)),
+    λ bytes k. ap is_ok (accepted bytes k),
+    record {
+      printed = record {
+        lines = p.1.printed.lines;
+        right = λ bytes k. p.1.printed.right bytes (k, accepted bytes k) ∙ lines_are bytes k;
+        took = p.1.printed.took;
+      };
+      defect_is = p.1.defect_is;
+    },
   )
   answers between before a m held held' (Err (Refused fault)) p t = absurd p
   answers between before a m held held' (Err (Run (Read fault))) p t =

@@ -1,15 +1,27 @@
 -- The lines of stretches of numbers that pass, one after another.
 use Rattle.std.proofs.Common.{◌≡◌, ◌∙◌, ℕ, zero, suc, ◌+◌, ◌-◌, ◌<◌, ◌≤◌, Bool, true, false, List, [], ◌∷◌, ◌++◌}
 use Rattle.std.proofs.{Common.{append-nil, arith, refl, ap, sym, subst, inl, inr}, lemmas.Bool.cases_lt}
-use Rattle.std.specs.{List.{concat, flat_map, prefix_len, range_with_len}, Prelude.◌||◌}
+use Rattle.std.specs.{List.{concat, flat_map, prefix_len, range_with_len}, Prelude.{◌||◌, ◌==◌, codes, decimal}}
+use Rattle.std.specs.Prelude.{if◌then◌else◌}
 use Rattle.ffs_report.{specs.Sink.{Sink, Took, BrokeOff}, proofs.Sinks.{took_nil, took_then, broke_off_after}}
 use Rattle.ffs_report.proofs.Sinks.{broke_off_more}
-use Rattle.ffs_finding.{specs.{Outcome.any_line, LostMaps.IsNext}, proofs.{Printing.concat-append, Ranges.{none, split}}}
-use Rattle.ffs_finding.proofs.{Ranges.next, WrongFields.any_more}
+use Rattle.ffs_finding.specs.{Outcome.any_line, LostMaps.IsNext}
+use Rattle.ffs_finding.proofs.{Printing.{any_more, concat-append, text_at_begin, text_at_end}, Ranges.{next, none, split}}
 use Rattle.ffs_volume.specs.Find.Lost.{range_text, stretch_at, stretch_length, stretch_lines}
 
 or_true : (b : Bool) → (b || true) ≡ true
 or_true b = grind arith
+
+-- the line of a range has a text, whichever form it has
+either_text : (b : Bool) (xs ys : List ℕ) → any_line (xs ∷ []) ≡ true → any_line (ys ∷ []) ≡ true →
+    any_line ((if b then xs else ys) ∷ []) ≡ true
+either_text true xs ys p q = p
+either_text false xs ys p q = q
+
+range_is_text : (word : List ℕ) (first last : ℕ) → any_line (range_text word first last ∷ []) ≡ true
+range_is_text word first last = either_text (first == last) _ _
+    (text_at_end word _ (text_at_end (decimal first) _ refl))
+    (text_at_end word _ (text_at_begin (decimal first ++ codes " to ") _ (text_at_end (decimal first) _ refl)))
 
 -- so many pass from the front on
 prefix_is : (p : ℕ → Bool) (f n j : ℕ) → j ≤ n → ((k : ℕ) → f ≤ k → k < f + j → p k ≡ true) →
@@ -157,7 +169,8 @@ module _ (word : List ℕ) (p : ℕ → Bool) (base end : ℕ) where
         here = found.at;
         begins = λ less low. begins_at f g h stops found less;
         took = rw text (took_then a b c _ _ at.took took);
-        any_is = sym (ap any_line (same ∙ line) ∙ any_more (before f) _ ∙ or_true (any_line (before f)));
+        any_is = sym (ap any_line (same ∙ line) ∙ any_more (before f) _
+            ∙ ap (λ (t : Bool). any_line (before f) || t) (range_is_text word f (g - 1)) ∙ or_true (any_line (before f)));
       }
 
   -- the output failed in the line of a stretch

@@ -3,31 +3,32 @@ use Rattle.std.specs.Prelude.{◌≡◌, ℕ, ◌+◌, ◌-◌, ◌*◌, ◌/◌
 use Rattle.std.specs.{Prelude.{vec_len, count_by, if◌then◌else◌}, Int.div_ceil}
 use Rattle.ffs_image.specs.{Device.{Device, ForContents}, Reads.ReadAfter, declared.image.ImageFault.ImageFault}
 use Rattle.ffs_volume.specs.{Disk.{Superblock.order_of, Outcome.{outcome, super_bytes}}, Find.Copies.asked_sectors}
-use Rattle.ffs_volume.specs.Find.Copies.{copy_lines_of, sector_count}
+use Rattle.ffs_volume.specs.{declared.constants.TheConstants.{DEV_BSIZE, SUPERBLOCK_BYTES}, Find.Copies.copy_lines_of}
+use Rattle.ffs_volume.specs.Find.Copies.{sector_count}
 use Rattle.ffs_report.specs.{Known.IsContents, declared.fault.RunFault.RunFault}
 use Rattle.ffs_check.specs.Moment.{Moment}
 use Rattle.ffs_finding.specs.Outcome.{Finds}
+use Rattle.ffs_finding.specs.declared.copies.TheConstants.{SECTORS_BEFORE_MAGIC, SECTOR_END, WINDOW_BYTES}
 use Rattle.ffs_walk.specs.{Windows.WindowHolds, declared.window.Window.Window}
 
 -- a superblock with a magic number, in one of the two orders of bytes, begins at a sector
 abbrev pub has_magic : (image : List ℕ) (sector : ℕ) → Bool
 has_magic image sector = is_some (order_of (super_bytes image (Some sector)))
 
--- where the window begins in which the magic number of a superblock at a sector lies, in bytes: the
--- magic number is two sectors further on
+-- where the window begins in which the magic number of a superblock at a sector lies, in bytes
 abbrev pub window_place : ℕ → ℕ
-window_place sector = (sector + 2) / 128 * 65536
+window_place sector = (sector + SECTORS_BEFORE_MAGIC) * DEV_BSIZE / WINDOW_BYTES * WINDOW_BYTES
 
 -- how many bytes of an image are in the window from a place on
 abbrev pub window_length : (size place : ℕ) → ℕ
-window_length size place = min 65536 (size - place)
+window_length size place = min WINDOW_BYTES (size - place)
 
 -- a superblock at a sector lies in the image, `-b` takes the sector, and the window has its room and
 -- holds what the image gives
 pub record CanLookAt (d : Device) (sector : ℕ) (w : Window) : Type 0 where
-  pub sector_fits : sector < 4194304
-  pub inside : sector * 512 + 1376 ≤ d.size
-  pub room : vec_len w.buffer ≡ 65536
+  pub sector_fits : sector < SECTOR_END
+  pub inside : sector * DEV_BSIZE + SUPERBLOCK_BYTES ≤ d.size
+  pub room : vec_len w.buffer ≡ WINDOW_BYTES
   pub holds : WindowHolds d.contents w
 
 -- the window is the one of this sector
@@ -38,7 +39,7 @@ pub record IsWindowOf (d : Device) (sector : ℕ) (w : Window) : Type 0 where
 -- the window is that of a sector now, unless a read failed; it has its room and holds what the image gives
 pub record WindowAfter {T E : Type 0} (d d' : Device) (sector : ℕ) (after : Window) (result : Result T E) : Type 0 where
   pub at : OnOk result (IsWindowOf d sector after)
-  pub room : vec_len after.buffer ≡ 65536
+  pub room : vec_len after.buffer ≡ WINDOW_BYTES
   pub holds : WindowHolds d'.contents after
 
 -- the answer is whether a magic number is there
@@ -70,13 +71,13 @@ pub record LooksAt (sector : ℕ) (before after : Window) (old new : Moment) (re
 -- image, also one that gives other bytes each time, at most three times for each sector
 pub record ReadsCopies (d : Device) (reads reads' : ℕ) : Type 0 where
   pub known : ForContents d.contents
-      (λ b. reads' ≤ reads + div_ceil d.size 65536 + 2 * count_by (has_magic b) asked_sectors)
+      (λ b. reads' ≤ reads + div_ceil d.size WINDOW_BYTES + 2 * count_by (has_magic b) asked_sectors)
   pub any : reads' ≤ reads + 3 * sector_count
 
 -- superblocks at the sectors from 1 on and below this one, and at no others that `-b` takes, lie in an
 -- image of this size
 pub record IsSectorsEnd (size end : ℕ) : Type 0 where
   pub some : 1 ≤ end
-  pub below : end ≤ 4194304
-  pub inside : (sector : ℕ) → 1 ≤ sector → sector < end → sector * 512 + 1376 ≤ size
-  pub outside : (sector : ℕ) → end ≤ sector → sector < 4194304 → size < sector * 512 + 1376
+  pub below : end ≤ SECTOR_END
+  pub inside : (sector : ℕ) → 1 ≤ sector → sector < end → sector * DEV_BSIZE + SUPERBLOCK_BYTES ≤ size
+  pub outside : (sector : ℕ) → end ≤ sector → sector < SECTOR_END → size < sector * DEV_BSIZE + SUPERBLOCK_BYTES

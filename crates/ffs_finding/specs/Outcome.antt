@@ -1,6 +1,6 @@
 -- What a command leaves of its image and of its output, by its answer. `all` are the lines that it
 -- prints of an image's bytes, and `knows` says which bytes these are.
-use Rattle.std.specs.{Prelude.{◌≡◌, ℕ, Bool, true, false, List, [], ◌∷◌, ◌++◌, Result, Ok, Err, IfOk}, List.concat}
+use Rattle.std.specs.{Prelude.{◌≡◌, ℕ, Bool, true, false, List, [], ◌∷◌, ◌++◌, Result, Ok, Err, ⊤}, List.concat}
 use Rattle.ffs_report.specs.{Known.ForBytes, Sink.{Sink, Took, BrokeOff}, PhaseOutcome.ImageAfter}
 use Rattle.ffs_report.specs.declared.fault.RunFault.{RunFault, TheVariants.{Read, Out}}
 use Rattle.ffs_check.specs.Moment.{Moment}
@@ -30,10 +30,11 @@ PrintsLines knows all old new (Ok x) = PrintedTo knows (λ bytes. []) all old ne
 PrintsLines knows all old new (Err (Read fault)) = PrintedSome knows all old new
 PrintsLines knows all old new (Err (Out fault)) = StoppedIn knows all old new
 
--- there is a line
+-- there is a line that isn't empty
 abbrev pub any_line : List (List ℕ) → Bool
 any_line [] = false
-any_line (line ∷ lines) = true
+any_line ([] ∷ lines) = any_line lines
+any_line ((byte ∷ line) ∷ lines) = true
 
 -- what a command leaves of its image, and what it prints
 pub record Finds {T : Type 0} (knows : List ℕ → Type 0) (all : List ℕ → List (List ℕ)) (old new : Moment)
@@ -41,8 +42,14 @@ pub record Finds {T : Type 0} (knows : List ℕ → Type 0) (all : List ℕ → 
   pub image : ImageAfter old.image new.image result
   pub text : PrintsLines knows all old.out new.out result
 
--- the same, and the answer is whether there is a line
+-- the answer is whether a line was printed
+abbrev pub SaysWhether : (knows : List ℕ → Type 0) → (all : List ℕ → List (List ℕ)) → (old new : Sink)
+    → (result : Result Bool RunFault) → PrintsLines knows all old new result → Type 0
+SaysWhether knows all old new (Ok any) printed = any ≡ any_line printed.lines
+SaysWhether knows all old new (Err fault) printed = ⊤
+
+-- what a command leaves of its image, and what it prints; the answer is whether there is a line
 pub record FindsAny (knows : List ℕ → Type 0) (all : List ℕ → List (List ℕ)) (old new : Moment)
     (result : Result Bool RunFault) : Type 0 where
   pub found : Finds knows all old new result
-  pub any : IfOk result (λ any. ForBytes knows (λ bytes. any ≡ any_line (all bytes)))
+  pub any : SaysWhether knows all old.out new.out result found.text

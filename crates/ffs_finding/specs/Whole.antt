@@ -1,13 +1,13 @@
 -- What the program prints of an image, and its status, by what it is asked for.
 use Rattle.std.specs.Prelude.{◌≡◌, ◌⊎◌, ◌≤◌, ◌+◌, ◌*◌, ℕ, Bool, true, false, ◌&&◌, List, [], ◌∷◌, if◌then◌else◌, Option}
-use Rattle.std.specs.Prelude.{Result, Ok, Err}
+use Rattle.std.specs.Prelude.{Result, Ok, Err, IsOk, ⊤}
 use Rattle.ffs_image.specs.Device.{Device, Faulted, ForContents}
 use Rattle.ffs_volume.specs.{declared.{Layout.Layout, SuperFault.SuperFault}, Laws.Geometry.IsAcceptedLayout}
 use Rattle.ffs_volume.specs.{Disk.{Superblock.Superblock, Outcome.outcome}, Messages.Kinds.{cannot_read, cannot_alloc}}
 use Rattle.ffs_volume.specs.{Messages.Texts.text_of, Report.{Opening.fault_line, Reads.{opening_reads, scan_reads}}}
 use Rattle.ffs_volume.specs.{Report.Reads.sweep_reads, Find.{Copies.copies_lines, InodeText.inode_listing}}
 use Rattle.ffs_volume.specs.Find.{Fields.wrong_fields, Lost.lost_lines, Owner.lines_of_fragment}
-use Rattle.ffs_report.specs.{Known.{ForBytes, IsContents}, Sink.Sink, declared.fault.RunFault.TheVariants.{Read, Out}}
+use Rattle.ffs_report.specs.{Known.IsContents, Sink.Sink, declared.fault.RunFault.TheVariants.{Read, Out}}
 use Rattle.ffs_memory.specs.Account.{Account, Granted, GaveUp, RefusedOneMore}
 use Rattle.ffs_check.specs.{Moment.Moment, Run.IsPrintedOrBrokeOff, Taken.{AsksMemory, Takes}}
 use Rattle.ffs_workspace.specs.Lengths.{held_of}
@@ -16,7 +16,7 @@ use Rattle.ffs_finding.specs.declared.request.Search.{Search, TheVariants.{Inode
 use Rattle.ffs_finding.specs.declared.request.Command.{Command, TheVariants.{Copies, InVolume}}
 use Rattle.ffs_finding.specs.declared.find.FindFault.{FindFault, TheVariants.{Refused, Run, NoMemory}}
 use Rattle.ffs_finding.specs.{Outcome.{PrintedTo, PrintedSome, StoppedIn, any_line}, Fields.WithSuper}
-use Rattle.ffs_finding.specs.Copies.{ReadsCopies}
+use Rattle.ffs_finding.specs.{Copies.ReadsCopies, declared.copies.TheConstants.WINDOW_BYTES}
 
 -- what a search prints of an image with this accepted superblock
 abbrev pub search_lines : Search → (sector : Option ℕ) → (image : List ℕ) → Superblock → List (List ℕ)
@@ -32,12 +32,27 @@ finds_defects Fields = true
 finds_defects Lost = true
 finds_defects (Owner fragment) = false
 
--- the lines by an outcome: those of a search, or the one of the superblock's fault
+-- a line of the command is a defect
+abbrev pub command_finds_defects : Command → Bool
+command_finds_defects Copies = false
+command_finds_defects (InVolume sector search) = finds_defects search
+
+-- the superblock of the command's volume is accepted in these bytes; `copies` asks for no volume
+abbrev pub IsAcceptedIn : Command → (image : List ℕ) → Type 0
+IsAcceptedIn Copies image = ⊤
+IsAcceptedIn (InVolume sector search) image = IsOk (outcome image sector)
+
+-- the superblock of the command's volume is refused by this fault, in the bytes that the image gives
+abbrev pub IsRefusedBy : Command → SuperFault → Device → Type 0
+IsRefusedBy Copies fault d = ⊥
+IsRefusedBy (InVolume sector search) fault d = ForContents d.contents (λ b. outcome b sector ≡ Err fault)
+
+-- the lines by an outcome: those of a search, and none where the superblock is refused
 abbrev pub lines_by : (Superblock → List (List ℕ)) → Result Superblock SuperFault → List (List ℕ)
 lines_by lines (Ok s) = lines s
-lines_by lines (Err fault) = text_of (fault_line fault) ∷ []
+lines_by lines (Err fault) = []
 
--- all lines of a command, of an image
+-- all lines that a command finds in an image
 abbrev pub command_lines : Command → (image : List ℕ) → List (List ℕ)
 command_lines Copies image = copies_lines image
 command_lines (InVolume sector search) image = lines_by (search_lines search sector image) (outcome image sector)
@@ -46,24 +61,17 @@ command_lines (InVolume sector search) image = lines_by (search_lines search sec
 abbrev pub status_of_answer : Bool → ℕ
 status_of_answer defect = if defect then 1 else 0
 
--- the status by an outcome: 8 where the superblock is refused
-abbrev pub status_by : Search → (Superblock → List (List ℕ)) → Result Superblock SuperFault → ℕ
-status_by search lines (Ok s) = status_of_answer (finds_defects search && any_line (lines s))
-status_by search lines (Err fault) = 8
-
--- the status of a command, on an image
-abbrev pub command_status : Command → (image : List ℕ) → ℕ
-command_status Copies image = 0
-command_status (InVolume sector search) image =
-    status_by search (search_lines search sector image) (outcome image sector)
+-- all lines were printed, and the answer is whether one of them is a defect
+pub record PrintedAll (are_defects : Bool) (knows : List ℕ → Type 0) (all : List ℕ → List (List ℕ)) (old new : Sink)
+    (defect : Bool) : Type 0 where
+  pub printed : PrintedTo knows (λ b. []) all old new
+  pub defect_is : defect ≡ (are_defects && any_line printed.lines)
 
 -- a search printed its lines, and the answer is whether a defect was found
 abbrev pub SearchAnswers : Search → Option ℕ → Superblock → Moment → Moment → Result Bool FindFault → Type 0
 SearchAnswers search sector s old new (Ok defect) =
-    (new.image ≡ old.image)
-    × PrintedTo (WithSuper old.image sector s) (λ b. []) (λ b. search_lines search sector b s) old.out new.out
-    × ForBytes (WithSuper old.image sector s)
-    (λ b. defect ≡ (finds_defects search && any_line (search_lines search sector b s)))
+    (new.image ≡ old.image) × PrintedAll (finds_defects search) (WithSuper old.image sector s)
+    (λ b. search_lines search sector b s) old.out new.out defect
 SearchAnswers search sector s old new (Err (Refused fault)) = ⊥
 SearchAnswers search sector s old new (Err (Run (Read fault))) =
     Faulted old.image new.image fault.sector
@@ -130,9 +138,9 @@ IsRefusal (InVolume sector search) d d' fault = ReadsSuper d d' sector (Err faul
 -- what a command answers, before the line of a fault
 abbrev pub Answers : Command → Moment → Moment → Account → Account → Result Bool FindFault → Type 0
 Answers command old new held held' (Ok defect) =
-    (new.image ≡ old.image)
-    × PrintedTo (IsContents old.image.contents) (λ b. []) (command_lines command) old.out new.out
-    × ForBytes (IsContents old.image.contents) (λ b. status_of_answer defect ≡ command_status command b)
+    (new.image ≡ old.image) × ForContents old.image.contents (IsAcceptedIn command)
+    × PrintedAll (command_finds_defects command) (IsContents old.image.contents) (command_lines command) old.out
+    new.out defect
 Answers command old new held held' (Err (Refused fault)) =
     (new.out ≡ old.out) × IsRefusal command old.image new.image fault
 Answers command old new held held' (Err (Run (Read fault))) =
@@ -143,12 +151,20 @@ Answers command old new held held' (Err (Run (Out fault))) =
 Answers command old new held held' (Err NoMemory) =
     (new.image ≡ old.image) × (new.out ≡ old.out) × RefusedOneMore held held'
 
--- all lines were printed, which may be the one line of a refused superblock, and the status is that of
--- the command
+-- all lines were printed: the status is 1 where one of them is a defect, and else 0, of any image
 pub record AllFound (command : Command) (old new : Moment) (status : ℕ) : Type 0 where
   pub no_read_failed : new.image ≡ old.image
+  pub accepted : ForContents old.image.contents (IsAcceptedIn command)
   pub printed : PrintedTo (IsContents old.image.contents) (λ b. []) (command_lines command) old.out new.out
-  pub status_is : ForBytes (IsContents old.image.contents) (λ b. status ≡ command_status command b)
+  pub status_is : status ≡ status_of_answer (command_finds_defects command && any_line printed.lines)
+
+-- the superblock is refused, and nothing but the line that says so was printed, perhaps a part of it
+pub record SuperRefused (command : Command) (old new : Moment) (status : ℕ) : Type 0 where
+  pub fault : SuperFault
+  pub no_read_failed : new.image ≡ old.image
+  pub refused : IsRefusedBy command fault old.image
+  pub line : IsPrintedOrBrokeOff old.out new.out (text_of (fault_line fault))
+  pub status_is : status ≡ 8
 
 -- a read failed: whole lines were printed, and then the line that says so, perhaps a part of that
 pub record CutByRead (command : Command) (old new : Moment) (status : ℕ) : Type 0 where
@@ -176,12 +192,12 @@ pub record MemoryLacked (old new : Moment) (held held' : Account) (status : ℕ)
 -- how a command ends on an image
 abbrev pub FindEnds : Command → Moment → Moment → Account → Account → ℕ → Type 0
 FindEnds command old new held held' status =
-    AllFound command old new status ⊎ (CutByRead command old new status
-    ⊎ (BrokeOffAmong command old new status ⊎ MemoryLacked old new held held' status))
+    AllFound command old new status ⊎ (SuperRefused command old new status ⊎ (CutByRead command old new status
+    ⊎ (BrokeOffAmong command old new status ⊎ MemoryLacked old new held held' status)))
 
 -- what a command takes of the memory: `copies` a window, `lost` and `owner` the workspace of a check
 abbrev pub TakesMemory : Command → Device → Account → Account → Type 0
-TakesMemory Copies d held held' = AsksMemory held held' 65536
+TakesMemory Copies d held held' = AsksMemory held held' WINDOW_BYTES
 TakesMemory (InVolume sector (Inode number)) d held held' = held' ≡ held
 TakesMemory (InVolume sector Fields) d held held' = held' ≡ held
 TakesMemory (InVolume sector Lost) d held held' = Takes d sector held held'

@@ -3,7 +3,8 @@ use Rattle.std.specs.Prelude.{ℕ, List}
 use Rattle.clap.specs.declared.error.kind.ErrorKind.{ErrorKind}
 use Rattle.clap.specs.declared.error.kind.ErrorKind.TheVariants as kind
 use Rattle.ffs_check.specs.Refusals.{second_text, text_of_both}
-use Rattle.ffs_finding.specs.declared.wrong_words.TheConstants.{HELP, NAME, NEEDED, NO_COMMAND, SECTOR_RANGE, USAGE}
+use Rattle.ffs_finding.specs.declared.wrong_words.TheConstants.{HELP, NAME, NEEDED, NO_COMMAND, NO_SECTOR}
+use Rattle.ffs_finding.specs.declared.wrong_words.TheConstants.{SECTOR_RANGE, TWO_SECTORS, USAGE}
 
 -- what the text begins with: the help, the name of the program, or what is wrong with the words
 abbrev pub find_first_text : ErrorKind → List ℕ
@@ -11,6 +12,8 @@ find_first_text kind.DisplayHelp = HELP.now
 find_first_text kind.DisplayVersion = NAME.now
 find_first_text kind.MissingRequiredArgument = NEEDED.now
 find_first_text kind.ValueValidation = SECTOR_RANGE.now
+find_first_text kind.InvalidValue = NO_SECTOR.now
+find_first_text kind.ArgumentConflict = TWO_SECTORS.now
 find_first_text _ = NO_COMMAND.now
 
 -- the text of status 2

@@ -7,6 +7,7 @@ ghost use Rattle.ffs_report.specs.{Known.IsContents, Sink.Prints};
 ghost use Rattle.ffs_check.specs.Moment.{moment};
 ghost use Rattle.ffs_finding.specs.{Outcome.Finds, Copies.{CanLookAt, IsSectorsEnd, LooksAt}};
 ghost use Rattle.ffs_finding.specs.Copies.{LooksForMagic, ReadsCopies, ReadsWindow};
+ghost use Rattle.ffs_finding.specs.declared.copies.TheConstants.{WINDOW_BYTES};
 ghost use Rattle.ffs_walk.specs.Windows.{WindowHolds};
 
 use ffs_image::{Image, ImageFault};
@@ -155,7 +156,7 @@ pub fn find_copies<I: Image, W: Output>(
     window: &mut Window,
     out: &mut W,
 ) -> Result<(), RunFault>
-    requires room { vec_len window.old.buffer ≡ 65536 }
+    requires room { vec_len window.old.buffer ≡ WINDOW_BYTES }
     requires holds { WindowHolds (I.device image.old).contents window.old }
     ensures prints { Finds (IsContents (I.device image.old).contents) copies_lines
         (moment I.Image W.Output image.old out.old) (moment I.Image W.Output image.new out.new)

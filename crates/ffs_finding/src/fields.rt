@@ -144,7 +144,7 @@ fn print_field<W: Output>(out: &mut W, start: u64, field: &Field) -> Result<(), 
 }
 
 /// Prints the line of a field, where it is wrong, and returns whether it is.
-#[tactic(auto, using(crate::proofs::Printing::one, crate::proofs::Printing::one_broken))]
+#[tactic(auto, using(crate::proofs::Printing::one, crate::proofs::Printing::one_broken, crate::proofs::WrongFields::field_is_text))]
 fn print_wrong_field<W: Output>(out: &mut W, start: u64, field: &Field) -> Result<bool, OutFault>
     requires { start < 2 ^ 63 }
     ensures { PrintsWhether (field_lines start (field_of field.now)) (W.sink out.old)

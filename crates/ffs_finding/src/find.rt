@@ -112,15 +112,15 @@ fn look_in_volume<M: Memory, I: Image, W: Output>(
     memory: &mut M,
     image: &mut I,
     sector: Option<u32>,
-    what: Search,
+    search: Search,
     out: &mut W,
 ) -> Result<bool, FindFault>
-    ensures { Looks (InVolume sector what) (moment I.Image W.Output image.old out.old)
+    ensures { Looks (InVolume sector search) (moment I.Image W.Output image.old out.old)
         (moment I.Image W.Output image.new out.new) (M.account memory.old) (M.account memory.new)
         result }
 {
     match read_super(image, sector) {
-        Ok(superblock) => search(memory, image, sector, what, &superblock, out),
+        Ok(superblock) => search_volume(memory, image, sector, search, &superblock, out),
         Err(fault) => Err(FindFault::Refused(fault)),
     }
 }
@@ -130,7 +130,7 @@ fn look_in_volume<M: Memory, I: Image, W: Output>(
 ///
 /// # Errors
 /// A read of the image or a write failed, or the memory was refused.
-fn search<M: Memory, I: Image, W: Output>(
+fn search_volume<M: Memory, I: Image, W: Output>(
     memory: &mut M,
     image: &mut I,
     sector: Option<u32>,

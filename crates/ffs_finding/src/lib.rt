@@ -2,10 +2,11 @@
 //! the superblock, inodes, lost fragments, owners of a fragment, and fields that a kernel computes
 //! with. It is the program `ffs_find`, as a library.
 //!
-//! `find_in` prints the lines of a command, and returns its status. Which lines these are is in the
-//! book (`Find` of `ffs_volume`); `FindsCommand` says that they
-//! were printed, or what is left of them where a read or a write failed or memory was refused, what
-//! memory was taken, and how often the image was read.
+//! `find_in` prints the lines of a command, and returns its status. Of an image that gives its bytes
+//! `ffs_find` prints the lines of its command, as defined (`FindsCommand`); which lines these are is
+//! in the book (`Find` of `ffs_volume`). Of any image `FindsCommand` says which status follows from
+//! what was printed, what is left where the superblock is refused, a read or a write failed, or
+//! memory was refused, what memory was taken, and how often the image was read.
 //!
 //! ```text
 //! let search = Search::Inode { number: 2 };

@@ -50,6 +50,10 @@ const NEEDED: &[u8] = b"error: a command and an image are needed";
 
 const SECTOR_RANGE: &[u8] = b"error: a sector is 1 to 4194303";
 
+const NO_SECTOR: &[u8] = b"error: -b needs a sector";
+
+const TWO_SECTORS: &[u8] = b"error: -b can be given once";
+
 const NO_COMMAND: &[u8] = b"error: no command has these words";
 
 /// What the text for these words begins with: the help, the program's name before its version, or
@@ -62,6 +66,8 @@ fn first_text(kind: ErrorKind) -> &'static [u8]
         ErrorKind::DisplayVersion => NAME,
         ErrorKind::MissingRequiredArgument => NEEDED,
         ErrorKind::ValueValidation => SECTOR_RANGE,
+        ErrorKind::InvalidValue => NO_SECTOR,
+        ErrorKind::ArgumentConflict => TWO_SECTORS,
         _ => NO_COMMAND,
     }
 }

@@ -1,12 +1,12 @@
-use Rattle.std.proofs.Common.{◌≡◌, ◌∙◌, ◌*◌, ◌++◌, ◌||◌, ℕ, Bool, List, [], arith, rules, refl, ap}
+use Rattle.std.proofs.Common.{◌≡◌, ◌∙◌, ◌*◌, ◌++◌, ℕ, List, [], arith, rules, refl, ap}
 use Rattle.std.proofs.{Common.{append-nil, length, take, drop, Option}, lemmas.Result.err_from_is_err_and}
 use Rattle.std.specs.List.{concat, flat_map}
 use Rattle.ffs_volume.specs.{Disk.{Numbers.piece, Outcome.{super_bytes, super_sector}}, Find.Fields.field_lines}
 use Rattle.ffs_volume.specs.Find.Fields.{total_fields}
 use Rattle.ffs_layout.{specs.Super.superblock_in, proofs.{Copying.default_sector, Answering.taken}}
 use Rattle.ffs_report.proofs.Sinks.{took_nil, took_then, broke_off_after}
-use Rattle.ffs_finding.{specs.Fields.wrong_lines, proofs.FieldTexts.{too_short, first, both, any}}
-use Rattle.ffs_finding.proofs.Printing.{concat-append, reads_first}
+use Rattle.ffs_finding.{specs.Fields.wrong_lines, proofs.FieldTexts.{too_short, first, both}}
+use Rattle.ffs_finding.proofs.Printing.{any_more, concat-append, reads_first}
 use Rattle.ffs_finding.proofs.fields.find_wrong_fields.Goals as goal
 
 -- the bytes that were read are those of the superblock
@@ -14,10 +14,6 @@ super_read : (start : ℕ) (sector : Option ℕ) (b bytes : List ℕ) → start 
     bytes ≡ take (length bytes) (drop (start * 512) b) → bytes ≡ super_bytes b sector
 super_read start sector b bytes at long read =
     taken (start * 512) 1376 b bytes long read ∙ ap (λ (n : ℕ). piece (n * 512) 1376 b) at
-
--- whether there is a line in one of the two parts
-either : (x a y b whole : Bool) → x ≡ a → y ≡ b → (a || b) ≡ whole → (x || y) ≡ whole
-either x a y b whole is other e = rw (is, other) e
 
 pub returns-then-size-start-clause-prints : goal.returns-then-size-start-clause-prints
 returns-then-size-start-clause-prints g c =
@@ -34,8 +30,7 @@ returns-then-size-start-clause-prints g c =
           took = took_nil _;
         };
       };
-      any = λ b k. absurd (too_short d b c.args.sector (superblock_in c.args.superblock.now) _
-          (g.met.I.Image.sized c.args.image.now) k.0 at (omega (arith, c.size.ensures)) k.1);
+      any = refl;
     }
 
 pub returns-in_err-read_at-clause-prints : goal.returns-in_err-read_at-clause-prints
@@ -111,10 +106,5 @@ returns-clause-prints g c =
               c.in_ok-of_totals.ensures.text);
         };
       };
-      any = λ b k.
-          let e = any (superblock_in c.args.superblock.now) c.args.sector c.from-start.result at b c.read_at.new.buf
-          (super_read c.from-start.result c.args.sector b c.read_at.new.buf at (search rules)
-          (c.in_ok-read_at.ensures.bytes.bytes b k.0)) c.layout_fields.result c.layout_fields.ensures
-          c.total_fields.result c.total_fields.ensures in
-          either _ _ _ _ _ c.in_ok-of_layout.ensures.any c.in_ok-of_totals.ensures.any e;
+      any = rw (any_more xs ys, c.in_ok-of_layout.ensures.any, c.in_ok-of_totals.ensures.any) refl;
     }

@@ -1,7 +1,7 @@
-use Rattle.std.proofs.{Common.{Bool, Ok, arith}, lemmas.Result.err_from_is_err_and}
+use Rattle.std.proofs.{Common.{Bool, arith}, lemmas.Result.err_from_is_err_and}
 use Rattle.ffs_layout.specs.Super.{superblock_in}
 use Rattle.ffs_check.specs.Moment.{moment}
-use Rattle.ffs_finding.{specs.declared.request.Search.TheVariants.Lost, proofs.ClaimSearches.lines_answer}
+use Rattle.ffs_finding.{specs.declared.request.Search.TheVariants.Lost, proofs.ClaimSearches.all_answer}
 use Rattle.ffs_finding.proofs.ClaimSearches.{fault_answer, refused_answer, refused_memory}
 use Rattle.ffs_finding.proofs.find.look_for_lost.Goals as goal
 
@@ -47,11 +47,10 @@ returns-clause-answer g c = λ sector.
     record {
       answer = (
         found.found.image,
-        lines_answer Lost sector (superblock_in c.args.superblock.now)
+        all_answer Lost sector (superblock_in c.args.superblock.now)
             (moment g.I.Image g.W.Output c.args.image.now c.args.out.now)
             (moment g.I.Image g.W.Output c.find_lost.new.image c.find_lost.new.out) c.in_ok-workspace.workspace
-            made.takes.3 Bool (Ok c.in_ok-find_lost.field-0) found.found.text,
-        λ b k. found.any b (k.0, made.takes.3 b k.0),
+            made.takes.3 _ found.found.text found.any,
       );
       reads = omega (arith, made.reads, c.find_lost.ensures.reads);
     }

@@ -1,7 +1,7 @@
-use Rattle.std.proofs.{Common.{Ok, arith, refl}, lemmas.Result.err_from_is_err_and}
+use Rattle.std.proofs.{Common.{arith, refl}, lemmas.Result.err_from_is_err_and}
 use Rattle.ffs_layout.specs.Super.{superblock_in}
 use Rattle.ffs_check.specs.Moment.{moment}
-use Rattle.ffs_finding.{specs.declared.request.Search.TheVariants.Owner, proofs.ClaimSearches.lines_answer}
+use Rattle.ffs_finding.{specs.declared.request.Search.TheVariants.Owner, proofs.ClaimSearches.all_answer}
 use Rattle.ffs_finding.proofs.ClaimSearches.{fault_answer, refused_answer, refused_memory}
 use Rattle.ffs_finding.proofs.find.look_for_owner.Goals as goal
 
@@ -47,11 +47,10 @@ returns-clause-answer g c = λ sector.
     record {
       answer = (
         found.image,
-        lines_answer (Owner c.args.fragment) sector (superblock_in c.args.superblock.now)
+        all_answer (Owner c.args.fragment) sector (superblock_in c.args.superblock.now)
             (moment g.I.Image g.W.Output c.args.image.now c.args.out.now)
             (moment g.I.Image g.W.Output c.find_owner.new.image c.find_owner.new.out) c.in_ok-workspace.workspace
-            made.takes.3 (Unit {0}) (Ok tt) found.text,
-        λ b k. refl,
+            made.takes.3 _ found.text refl,
       );
       reads = omega (arith, made.reads, c.find_owner.ensures.reads);
     }

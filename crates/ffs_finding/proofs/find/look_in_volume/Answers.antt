@@ -10,7 +10,7 @@ returns-in-Ok g c =
     let super = c.in-Ok.superblock in
     let opened = c.in-Ok.ensures in
     let read = same_super d d _ c.args.sector (superblock_in super) refl opened.answer in
-    looked c.args.what c.args.sector (superblock_in super) d _ _ _
-    (moment g.I.Image g.W.Output c.search.new.image c.search.new.out) _ _ _ (λ b k. sym (read.1 b k))
-    super.geometry.sound opened.inside_or_unreadable opened.reads (rw (read.0) at c.search.ensures.answer)
-    c.search.ensures.memory
+    looked c.args.search c.args.sector (superblock_in super) d _ _ _
+    (moment g.I.Image g.W.Output c.search_volume.new.image c.search_volume.new.out) _ _ _ (λ b k. sym (read.1 b k))
+    super.geometry.sound opened.inside_or_unreadable opened.reads (rw (read.0) at c.search_volume.ensures.answer)
+    c.search_volume.ensures.memory

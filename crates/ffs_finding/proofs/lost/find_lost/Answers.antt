@@ -1,5 +1,5 @@
 use Rattle.std.proofs.lemmas.Result.{err_from_is_err_and}
-use Rattle.ffs_finding.proofs.LostParts.{any_of_both, fault_in_first, fault_in_second, printed_both}
+use Rattle.ffs_finding.proofs.LostParts.{fault_in_first, fault_in_second, printed_both}
 use Rattle.ffs_finding.proofs.lost.find_lost.Goals as goal
 
 pub returns-in_err-lost-clause-prints : goal.returns-in_err-lost-clause-prints
@@ -34,11 +34,6 @@ returns-clause-prints g c =
     let d = g.I.Image.device c.args.image.now in
     let one = c.in_ok-lost.ensures.prints.lines in
     let two = rw (one.found.image) at c.in_ok-free.ensures.prints.lines in
-    record {
-      found = record {
-        image = two.found.image;
-        text = printed_both c.args.geometry.now.layout d c.args.workspace.now _ _ _ c.in_ok-lost.lost c.in_ok-free.free
-            c.in_ok-free.free one.found.text two.found.text;
-      };
-      any = any_of_both c.args.geometry.now.layout d c.args.workspace.now _ _ one.any two.any;
-    }
+    let all = printed_both c.args.geometry.now.layout d c.args.workspace.now _ _ _ c.in_ok-lost.lost c.in_ok-free.free
+    one.found.text one.any two.found.text two.any in
+    record { found = record { image = two.found.image; text = all.printed }; any = all.any_is }

@@ -1,4 +1,4 @@
-use Rattle.std.proofs.{Common.{◌∙◌, ◌≡◌, ◌+◌, ℕ, List, [], Option, ap, arith, refl}, lemmas.Result.err_from_is_err_and}
+use Rattle.std.proofs.{Common.{◌∙◌, ◌≡◌, ◌+◌, ℕ, List, [], ◌++◌, Option, ap, arith, refl, sym}, lemmas.Result.err_from_is_err_and}
 use Rattle.ffs_image.specs.Device.{ForContents}
 use Rattle.ffs_volume.specs.{declared.Layout.Layout, Disk.{Areas.group_place, Numbers.piece}}
 use Rattle.ffs_volume.specs.Groups.Records.{group_block}
@@ -7,8 +7,8 @@ use Rattle.ffs_maps.specs.Bits.{bits_of}
 use Rattle.ffs_groups.specs.Free.{free_in}
 use Rattle.ffs_report.{specs.Known.{ForBytes, IsContents}, proofs.Sinks.took_nil}
 use Rattle.ffs_counts.proofs.RecordPlaces.{block_inside}
-use Rattle.ffs_finding.proofs.{Printing.{printed_all, prints, stops}, LostGroups.{any_all, any_next, from_group}}
-use Rattle.ffs_finding.proofs.LostGroups.{groups_begin, groups_end, groups_next}
+use Rattle.ffs_finding.proofs.{Printing.{prints_whether, stops}, LostGroups.{from_group, groups_begin, groups_end}}
+use Rattle.ffs_finding.proofs.LostGroups.{groups_next}
 use Rattle.ffs_finding.proofs.lost.find_wrong.Goals as goal
 
 -- the window holds the block of a group
@@ -24,11 +24,13 @@ loop-group-init g c =
       device = refl;
       window = c.requires.window;
       reads = omega arith;
-      any_is = λ b k. refl;
       printed = record {
-        lines = [];
-        right = λ b k. groups_begin c.args.wrong v (free_in (bits_of c.args.used.now) v.size) b;
-        took = took_nil _;
+        printed = record {
+          lines = [];
+          right = λ b k. groups_begin c.args.wrong v (free_in (bits_of c.args.used.now) v.size) b;
+          took = took_nil _;
+        };
+        any_is = refl;
       };
     }
 
@@ -55,7 +57,7 @@ returns-in_err-found-clause-prints g c =
       lines = record {
         found = record {
           image = fill.read;
-          text = stops _ _ (from_group c.args.wrong v free (n + 1)) _ _ _ _ _ inv.printed
+          text = stops _ _ (from_group c.args.wrong v free (n + 1)) _ _ _ _ _ inv.printed.printed
               (λ b k. groups_next c.args.wrong v free b _ n c.loop-group-test.true
               (held v _ c.fill.new.self _ _ n c.bytes.ensures fill.bytes c.group_place-place.ensures b k))
               c.in_err-found.ensures.text;
@@ -76,13 +78,10 @@ loop-group-preserved g c =
       device = fill.read;
       window = record { room = fill.room ∙ inv.window.room; holds = rw (fill.read) at fill.holds };
       reads = omega (arith, inv.reads, fill.counted);
-      any_is = λ b k. any_next c.args.wrong v free b _ n _ _
-          (held v _ c.fill.new.self _ _ n c.bytes.ensures fill.bytes c.group_place-place.ensures b k)
-          (inv.any_is b k) c.in_ok-found.ensures.any;
-      printed = prints _ _ (from_group c.args.wrong v free (n + 1)) _ _ _ _ _ inv.printed
+      printed = prints_whether _ _ (from_group c.args.wrong v free (n + 1)) _ _ _ _ _ _ _ inv.printed
           (λ b k. groups_next c.args.wrong v free b _ n c.loop-group-test.true
           (held v _ c.fill.new.self _ _ n c.bytes.ensures fill.bytes c.group_place-place.ensures b k))
-          c.in_ok-found.ensures.text;
+          c.in_ok-found.ensures.text c.in_ok-found.ensures.any;
     }
 
 pub returns-clause-prints : goal.returns-clause-prints
@@ -95,10 +94,14 @@ returns-clause-prints g c =
       lines = record {
         found = record {
           image = inv.device;
-          text = printed_all _ _ _ _ _ inv.printed (λ b k. groups_end c.args.wrong v free b n c.loop-group-test.false);
+          text = record {
+            lines = inv.printed.printed.lines;
+            right = λ b k. sym (ap (λ (ls : List (List ℕ)). inv.printed.printed.lines ++ ls)
+                (groups_end c.args.wrong v free b n c.loop-group-test.false)) ∙ inv.printed.printed.right b k;
+            took = inv.printed.printed.took;
+          };
         };
-        any = λ b k. any_all c.args.wrong v free b n _ c.loop-group.auto.group-end c.loop-group-test.false
-            (inv.any_is b k);
+        any = inv.printed.any_is;
       };
       reads = omega (arith, inv.reads, c.loop-group.auto.group-end);
     }

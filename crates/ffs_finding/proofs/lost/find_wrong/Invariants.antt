@@ -1,9 +1,8 @@
 use Rattle.std.proofs.Common.{◌≡◌, ◌≤◌, ◌+◌}
 use Rattle.ffs_maps.specs.Bits.{bits_of}
 use Rattle.ffs_groups.specs.Free.{free_in}
-use Rattle.ffs_report.specs.Known.{ForBytes, IsContents}
-use Rattle.ffs_finding.specs.{LostMaps.{IsBlockWindow, lines_of_groups}, Outcome.{PrintedTo, any_line}}
-use Rattle.ffs_finding.proofs.LostGroups.{before_group, from_group}
+use Rattle.ffs_report.specs.Known.{IsContents}
+use Rattle.ffs_finding.{specs.LostMaps.{IsBlockWindow, lines_of_groups}, proofs.{LostGroups.from_group, Printing.PrintedWhether}}
 use Rattle.ffs_finding.proofs.lost.find_wrong.Given as goal
 
 abbrev pub invariant-loop-group : goal.invariant-loop-group
@@ -15,7 +14,6 @@ invariant-loop-group g l =
       device : g.I.Image.device l.image ≡ d;
       window : IsBlockWindow v d l.window;
       reads : g.I.Image.reads l.image ≤ g.I.Image.reads l.fn.image + l.group;
-      any_is : ForBytes (IsContents d.contents) (λ b. l.any ≡ any_line (before_group l.wrong v free l.group b));
-      printed : PrintedTo (IsContents d.contents) (from_group l.wrong v free l.group) (lines_of_groups l.wrong v free)
-          (g.W.Output.sink l.fn.out) (g.W.Output.sink l.out);
+      printed : PrintedWhether (IsContents d.contents) (from_group l.wrong v free l.group)
+          (lines_of_groups l.wrong v free) l.any (g.W.Output.sink l.fn.out) (g.W.Output.sink l.out);
     }

@@ -7,7 +7,7 @@ use Rattle.ffs_volume.specs.Find.Owner.{reserved_text}
 use Rattle.ffs_maps.specs.Bits.{bits_of}
 use Rattle.ffs_report.specs.Known.{ForBytes}
 use Rattle.ffs_workspace.specs.{Found.WithPhase1, declared.workspace.Workspace.Workspace}
-use Rattle.ffs_finding.{specs.{Outcome.any_line, Keepers.map_lines}, proofs.{Claimed.claimed_is, Keepers.same_lines}}
+use Rattle.ffs_finding.{specs.Keepers.map_lines, proofs.{Claimed.{claimed_is, has_line}, Keepers.same_lines}}
 use Rattle.ffs_finding.proofs.Printing.{knowing, one, one_broken, prints_all, prints_none, stops_all}
 use Rattle.ffs_finding.proofs.owner.find_owner.Goals as goal
 
@@ -25,18 +25,18 @@ others : (v : Layout) (b : List ℕ) (f : ℕ) → f < v.size → is_reserved v 
 unfolding lines_of_fragment
 others v b f h r = let e : nat_lt f v.size ≡ true = grind (arith, nat_tests) in rw (e, r) refl
 
-first_ones : (xs ys : List (List ℕ)) → any_line xs ≡ true → or_lines xs ys ≡ xs
+first_ones : (xs ys : List (List ℕ)) → has_line xs ≡ true → or_lines xs ys ≡ xs
 first_ones [] ys e = cc
 first_ones (x ∷ xs) ys e = refl
 
-second_ones : (xs ys : List (List ℕ)) → any_line xs ≡ false → or_lines xs ys ≡ ys
+second_ones : (xs ys : List (List ℕ)) → has_line xs ≡ false → or_lines xs ys ≡ ys
 second_ones [] ys e = refl
 second_ones (x ∷ xs) ys e = cc
 
 -- whether the fragment is claimed says which lines there are
 claimed_lines : (v : Layout) (d : Device) (w : Workspace) (f : ℕ) (claimed : Bool) → IsAcceptedLayout v → f < v.size →
     is_reserved v f ≡ false → claimed ≡ is_set (bits_of w.used) f →
-    ForBytes (WithPhase1 v d w) (λ b. claimed ≡ any_line (keeper_lines v b f))
+    ForBytes (WithPhase1 v d w) (λ b. claimed ≡ has_line (keeper_lines v b f))
 claimed_lines v d w f claimed g h r e b k = e ∙ (ap (λ bits. is_set bits f) k.1.used ∙ claimed_is v b f g h r)
 
 pub returns-then-fragment-geometry-clause-prints : goal.returns-then-fragment-geometry-clause-prints
