@@ -1,14 +1,16 @@
 -- What the words of an indirect block claim with nothing to report, one after the other.
-use Rattle.std.proofs.Common.{◌≡◌, ◌≢◌, ℕ, ◌+◌, ◌<◌, ◌≤◌, ◌^◌, true, false, nat_eq, nat_lt, List, ◌∷◌, arith, refl, sym, ◌∙◌}
-use Rattle.std.proofs.{Common.{Option, subst}, lemmas.Bool.{and_parts, Decides.nat_tests}}
+use Rattle.std.proofs.Common.{◌≡◌, ◌≢◌, ℕ, ◌+◌, ◌<◌, ◌≤◌, ◌^◌, true, false, nat_eq, nat_lt, List, ◌∷◌, arith}
+use Rattle.std.proofs.{Common.{Option, refl, subst, sym, ◌∙◌}, lemmas.Bool.{and_parts, Decides.nat_tests}}
 use Rattle.ffs_volume.{proofs.Potentials.{cond_holds, moves_then, stays}, specs.Blocks.Claims.{after_step, is_open}}
-use Rattle.ffs_volume.specs.{Disk.Areas.is_run_in_range, Laws.{Geometry.IsAcceptedLayout, RunLengths.HasLength}, declared.Layout.Layout}
+use Rattle.ffs_volume.specs.{Disk.Areas.is_run_in_range, Laws.{Geometry.IsAcceptedLayout, RunLengths.HasLength}}
+use Rattle.ffs_volume.specs.declared.Layout.{Layout}
 use Rattle.ffs_image.specs.Device.{ForContents}
 use Rattle.ffs_maps.specs.Bits.{bits_of, AreClear, set_run}
 use Rattle.ffs_walk.specs.{Counts.EntersOnly, HeldWords.word_step, Rests.SameFileBlocks}
 use Rattle.ffs_walk.specs.{Rests.{most_steps_left, steps_left}, Windows.BlocksHold, declared.walk.Walk.Walk}
 use Rattle.ffs_workspace.specs.{Holds.claims_of, Lengths.IsFor, declared.workspace.Workspace.Workspace}
-use Rattle.ffs_claims.proofs.{Frames.only_then, IndirectReads.{step_on, word_unseen}, Inodes.{kept_room, moves_on, seen_bound}, UnclaimedRuns.whole_is}
+use Rattle.ffs_claims.proofs.{Frames.only_then, IndirectReads.{step_on, word_unseen}, UnclaimedRuns.whole_is}
+use Rattle.ffs_claims.proofs.Inodes.{kept_room, moves_on, seen_bound}
 use Rattle.ffs_claims.specs.SilentWords.{ClaimsAddress, ClaimsSilently, ClaimsWords}
 use Rattle.ffs_claims.specs.{Claiming.CanSeeNext, declared.area.DataArea.DataArea}
 
@@ -33,8 +35,8 @@ pub address_once : {v : Layout} {a b : Workspace} {x y : Walk} {address len : �
     ForContents contents (λ bytes. steps_left bytes x ≡ word_step len address block ∷ steps_left bytes y)) →
     ClaimsAddress v address len a b → most_steps_left y < most_steps_left x → SameFileBlocks x y → EntersOnly x y 0 →
     ClaimsWords v a b x y
-address_once {v = v} {a = a} {b = b} {x = x} {y = y} {address = address} {len = len} block some short small made next did
-    falls same counted =
+address_once {v = v} {a = a} {b = b} {x = x} {y = y} {address = address} {len = len} block some short small made next
+    did falls same counted =
     let step = word_step len address block in
     let silently = did.claims block in
     let now : claims_of b ≡ after_step v (claims_of a) step = silently.claims in

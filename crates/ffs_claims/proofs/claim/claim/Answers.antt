@@ -34,7 +34,8 @@ returns-then-not-has_steps g c =
 pub claim_direct-requires-clause-can : goal.claim_direct-requires-clause-can
 claim_direct-requires-clause-can g c =
     let none = claiming_none c.requires.claim in
-    let uncut : is_open (claims_of c.args.workspace.now) ≡ true = rw (c.requires.begun.bad, c.requires.begun.dups) refl in
+    let uncut : is_open (claims_of c.args.workspace.now) ≡ true =
+    rw (c.requires.begun.bad, c.requires.begun.dups) refl in
     sees_for (sym (ap (λ k. k.layout) (c.restart.ensures.geometry ∙ c.requires.walk)))
     (sees_next c.args.geometry.now.sound c.requires.begun none.claim.ready.made none.claim.all_in_range uncut
     none.claim_bound)

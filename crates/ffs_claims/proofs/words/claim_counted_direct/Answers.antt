@@ -14,11 +14,12 @@ loop-walk-preserved c =
     let sound = c.args.walk.now.geometry.sound in
     let next = c.next_direct-address.ensures in
     let passes = c.pass_direct.ensures in
-    let did = c.claim_address.ensures.claimed c.if-not-claim_address.false v (sees_still sound c.requires.can words) in
+    let sees = sees_still sound c.requires.can words in
+    let did = c.claim_address.ensures.claimed c.if-not-claim_address.false v sees in
     record {
-      words = words_then words (address_once c.loop-walk.walk.next next.within.0 (rw words.same.geometry at next.within.1)
-          sound.sizes.frag_high words.only.made
-          (λ contents holds bytes e. rw (next.address_is, next.length) (passes.steps bytes)) did passes.falls passes.same
-          passes.counted);
+      words = words_then words (address_once c.loop-walk.walk.next next.within.0
+          (rw words.same.geometry at next.within.1) sound.sizes.frag_high words.only.made
+          (λ contents holds bytes e. rw (next.address_is, next.length) (passes.steps bytes)) did
+          passes.falls passes.same passes.counted);
       top = passes.top;
     }

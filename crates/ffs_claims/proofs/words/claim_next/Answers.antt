@@ -15,9 +15,9 @@ returns-clause-claimed c = λ t.
     let passes = c.pass_word.ensures.word a.windows.blocks can.held in
     let did = c.claim_address.ensures.claimed c.if-not-claim_address.false w.geometry.layout can.next in
     record {
-      words = address_once {a = a} (w.single.first + w.single.next) sizes.frag_low (omega arith) sizes.frag_high can.next.made
-          (rw c.next_address_in-address.ensures passes.steps) did c.pass_word.ensures.falls c.pass_word.ensures.same
-          c.pass_word.ensures.counted;
+      words = address_once {a = a} (w.single.first + w.single.next) sizes.frag_low (omega arith) sizes.frag_high
+          can.next.made (rw c.next_address_in-address.ensures passes.steps) did
+          c.pass_word.ensures.falls c.pass_word.ensures.same c.pass_word.ensures.counted;
       held = rw did.only.windows passes.held;
       falls = c.pass_word.ensures.falls;
     }
