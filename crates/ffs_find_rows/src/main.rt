@@ -6,7 +6,7 @@ use ffs_finding::run::run;
 use std::{fs, io};
 
 /// Whether a row has the text and the status that are expected. A line has the name of the text,
-/// the status, and the words.
+/// the status, and the words. What goes to standard error follows what goes to standard output.
 ///
 /// # Errors
 /// A text that can't be read, and memory that was refused.
@@ -32,6 +32,7 @@ fn is_right(rt: &HostRuntime, line: &str) -> io::Result<bool> {
         &mut text,
         &mut errors,
     );
+    text.extend_from_slice(errors.as_slice())?;
     Ok(ended == status && text == expected)
 }
 
