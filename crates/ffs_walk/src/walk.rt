@@ -192,7 +192,7 @@ impl Walk {
         }
         let index = self.next;
         let address = self.addresses[index as usize];
-        self.next += 1;
+        self.next = index + 1;
         let block = u64::from(index);
         if block < NDADDR {
             return Some(self.data(address, block));
@@ -374,7 +374,7 @@ impl Walk {
     /// Whether the next of the inode's own addresses is used, and that of a direct block.
     #[inline(always)]
     pub fn has_direct(&self) -> bool
-        ensures { IsTrue result → HasDirect self.now }
+        ensures { IsTrue result ↔ HasDirect self.now }
     {
         u64::from(self.next) < NDADDR && self.next < self.used
     }
