@@ -7,6 +7,9 @@ import re
 from .sources import HOME
 
 NAME = re.compile(r"^(?:(?:pub|abbrev|unfoldable|record|data|ruleset) )*(\S+) :", re.M)
+# What rattle tries at a goal that has no answer, and where its words are.
+CALLS = ("search rules", "grind (arith, common_steps)")
+CITED = {("Rattle.std.proofs.Common", "rules"), ("Rattle.std.proofs.Common", "arith"), ("Rattle.std.proofs.lemmas.Grind", "common_steps")}
 TACTIC = re.compile(r"^ *#\[tactic\((?P<words>[^\]]*)\)\]\n", re.M)
 
 
@@ -58,10 +61,22 @@ def answer_alone(text, goal):
     return "\n\n".join([*imports, *(text for name, text in items.items() if name in kept)]) + "\n"
 
 
-def answers_left_out(text):
-    """A file of answers with a hole in place of each."""
-    imports = [it for it in "\n".join(items_of(text)[0]).split("\n") if it.endswith(".Goals as goal")]
-    return "\n\n".join([*imports, *(f"pub {it} : goal.{it}\n{it} = ?" for it in sorted(goals_in(text)))]) + "\n"
+def listed(tactic, word, crate):
+    """What a function's `#[tactic(..)]` lists under a word, each as its module and its name."""
+    found = re.search(rf"\b{word}\(([^)]*)\)", tactic)
+    paths = [it.strip().split("::") for it in found[1].split(",")] if found else []
+    return [(".".join(["Rattle", crate if path[0] == "crate" else path[0], *path[1:-1]]), path[-1]) for path in paths]
+
+
+def answers_by_search(goals, tactic, crate, path):
+    """A file that answers goals of the function at this path by what rattle itself tries, where `tactic` has the words of its `#[tactic(..)]`."""
+    using, opened = listed(tactic, "using", crate), listed(tactic, "unfolding", crate)
+    calls = [*CALLS, *([f"grind ({', '.join(['arith', *(name for _, name in using)])})"] if using else [])]
+    opening = f"unfolding {' '.join(name for _, name in opened)}\n" if opened else ""
+    imports = [f"use {module}.{{{name}}}" for module, name in sorted({*CITED, *using, *opened})]
+    imports.append(f"use Rattle.{crate}.proofs.{'.'.join(path)}.Goals as goal")
+    items = [f"pub {it} : goal.{it}\n{opening}{it} = first_of ({', '.join(calls)})" for it in goals]
+    return "\n\n".join(["\n".join(imports), *items]) + "\n"
 
 
 def lines_of(text):

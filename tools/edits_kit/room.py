@@ -122,13 +122,13 @@ class Room:
 
     def copy_proof(self, edit):
         """Copies the proof of a function for the copy of it, or what of it is tried at the edit's goal. Returns the new folder."""
-        inside = [*edit.folder[:-1], edit.copied]
+        there, inside = edit.function if edit.at_goal else edit.folder, edit.proof_path()
         here = f"{self.folder}/proofs/{'/'.join(inside)}"
         os.makedirs(here)
         # What a proof names of its own function: its goals, and what they are given.
-        own = re.compile(rf"\.proofs\.{re.escape('.'.join(edit.folder))}\.(?=(?:Goals|Given|Invariants|Answers)\b)")
+        own = re.compile(rf"\.proofs\.{re.escape('.'.join(there))}\.(?=(?:Goals|Given|Invariants|Answers)\b)")
         for file in PROOF_FILES:
-            text = read(f"{self.home}/proofs/{'/'.join(edit.folder)}/{file}")
+            text = read(f"{self.home}/proofs/{'/'.join(there)}/{file}")
             text = own.sub(f".proofs.{'.'.join(inside)}.", unpacked(text, self.crate))
             if file == "Answers.antt":
                 text = edit.answer = edit.answers(text) if edit.at_goal else text
@@ -142,10 +142,10 @@ class Room:
         edited = set().union(*(it.names for it in edits if not it.copied))
         closed = self.closed & edited
         self.open(closed)
-        folders = [self.copy_proof(it) for it in edits if it.copied and it.folder]
+        folders = [self.copy_proof(it) for it in edits if it.copied and (it.folder or it.at_goal)]
         files = self.write(edits, unchanged)
         changed = sorted(name.partition("::")[2] for it in edits for name in it.names)
-        said = self.run(*(["--allow-holes"] if self.closed or any(it.at_goal for it in edits) else []), *(word for name in dict.fromkeys(changed) for word in ("--only", name)))
+        said = self.run(*(["--allow-holes"] if self.closed else []), *(word for name in dict.fromkeys(changed) for word in ("--only", name)))
         self.restore(files)
         for folder in folders:
             shutil.rmtree(folder)

@@ -50,7 +50,7 @@ def judge(edit, said, told):
 
 def errors_of(edit, said):
     """The errors in the proof of an edit's copy."""
-    path = "/".join([*edit.folder[:-1], edit.copied])
+    path = "/".join(edit.proof_path())
     return [it for it in said.split("\n") if (found := ERROR.match(it)) and found["path"] == path]
 
 
@@ -59,26 +59,31 @@ def rest_of(edit, told):
     return next((rest for name, rest in told.items() if name.endswith(f"::{edit.copied}")), "")
 
 
+def lines_refused(edit, said):
+    """At which lines of its answers the copy of an edit is refused; None where something else of its proof is."""
+    found = [ERROR.match(it) for it in errors_of(edit, said)]
+    answered = {line for it in lines_of(edit.answer).values() for line in it}
+    lines = [int(it["line"]) for it in found]
+    is_answer = all(it["file"] == "Answers.antt" for it in found) and answered.issuperset(lines)
+    return lines if is_answer else None
+
+
 def refused_at_goal(edit, said, told):
-    """Why the goal that an edit names isn't proved; None where it is, where nothing is said of it, or where its answer names what isn't there."""
-    rest, errors = rest_of(edit, told), errors_of(edit, said)
-    if not edit.is_answered:
-        return rest[:150] if rest.startswith("no proof") and f"`{edit.goal}`" in rest.partition("did not prove")[2] else None
-    lines = {line for it in lines_of(edit.answer).values() for line in it}
-    is_answer = errors and all((found := ERROR.match(it))["file"] == "Answers.antt" and int(found["line"]) in lines for it in errors)
-    if not is_answer or not rest.startswith("not proved") or any(map(NAMED_AWAY.match, errors)):
-        return None
-    return errors[0][:140]
+    """Why the answer of the goal that an edit names is refused; None where it isn't, or where it names what isn't there."""
+    errors = errors_of(edit, said)
+    is_refused = lines_refused(edit, said) and rest_of(edit, told).startswith("not proved")
+    return errors[0][:140] if is_refused and not any(map(NAMED_AWAY.match, errors)) else None
 
 
-def is_proved_at_goal(edit, said, told):
-    """Whether the goal that an edit names is proved of its copy."""
-    rest = rest_of(edit, told)
-    if not edit.is_answered:
-        return rest.startswith("depends on a hole")
+def proved_goals(edit, said, told):
+    """Which of the goals that a copy is tried at are proved of it."""
+    rest, lines = rest_of(edit, told), lines_refused(edit, said)
     left = LEFT.search(rest)
-    is_left = left is not None and f"`{edit.goal}`" in left[1]
-    return not errors_of(edit, said) and not is_left and (left is not None or rest.startswith(("proved", "no holes")))
+    if lines is None or not (lines or left or rest.startswith(("proved", "no holes"))):
+        return set()
+    places = lines_of(edit.answer)
+    others = re.findall(r"`([^`]+)`", left[1]) if left else []
+    return {it for it in edit.goals if it not in others and not set(places[it]) & set(lines)}
 
 
 def goal_of(edit, said, told):
