@@ -7,9 +7,6 @@ import re
 from .sources import HOME
 
 NAME = re.compile(r"^(?:(?:pub|abbrev|unfoldable|record|data|ruleset) )*(\S+) :", re.M)
-# What rattle tries at a goal that has no answer, and where its words are.
-CALLS = ("search rules", "grind (arith, common_steps)")
-CITED = {("Rattle.std.proofs.Common", "rules"), ("Rattle.std.proofs.Common", "arith"), ("Rattle.std.proofs.lemmas.Grind", "common_steps")}
 TACTIC = re.compile(r"^ *#\[tactic\((?P<words>[^\]]*)\)\]\n", re.M)
 
 
@@ -59,24 +56,6 @@ def answer_alone(text, goal):
         cites = lambda name: re.search(rf"(?<![\w-]){re.escape(name)}(?![\w-])", items[one])
         left |= {name for name in items if name not in kept and cites(name)}
     return "\n\n".join([*imports, *(text for name, text in items.items() if name in kept)]) + "\n"
-
-
-def listed(tactic, word, crate):
-    """What a function's `#[tactic(..)]` lists under a word, each as its module and its name."""
-    found = re.search(rf"\b{word}\(([^)]*)\)", tactic)
-    paths = [it.strip().split("::") for it in found[1].split(",")] if found else []
-    return [(".".join(["Rattle", crate if path[0] == "crate" else path[0], *path[1:-1]]), path[-1]) for path in paths]
-
-
-def answers_by_search(goals, tactic, crate, path):
-    """A file that answers goals of the function at this path by what rattle itself tries, where `tactic` has the words of its `#[tactic(..)]`."""
-    using, opened = listed(tactic, "using", crate), listed(tactic, "unfolding", crate)
-    calls = [*CALLS, *([f"grind ({', '.join(['arith', *(name for _, name in using)])})"] if using else [])]
-    opening = f"unfolding {' '.join(name for _, name in opened)}\n" if opened else ""
-    imports = [f"use {module}.{{{name}}}" for module, name in sorted({*CITED, *using, *opened})]
-    imports.append(f"use Rattle.{crate}.proofs.{'.'.join(path)}.Goals as goal")
-    items = [f"pub {it} : goal.{it}\n{opening}{it} = first_of ({', '.join(calls)})" for it in goals]
-    return "\n\n".join(["\n".join(imports), *items]) + "\n"
 
 
 def lines_of(text):

@@ -1,9 +1,8 @@
 """An edit: the wrong body that a file of `edits/` makes."""
-import copy
 import os
 import re
 
-from .answers import TACTIC, answer_alone, answers_by_search, goals_in, read
+from .answers import TACTIC, answer_alone, goals_in, read, unpacked
 from .sources import HOME, constant_at, end_of, function_at, is_function, is_method, item_at, one_place, replaced, start_of, users_of
 
 
@@ -34,9 +33,8 @@ class Edit:
         self.crate, self.path = crate, path
         self.label = f"{crate}/{os.path.basename(path)}"
         self.masked, self.names, self.copied, self.folder = False, set(), None, None
-        # Whether it is tried at its goal alone, and whether that goal has an answer: else a search is tried there.
-        self.at_goal = self.is_answered = False
-        self.answer = ""
+        # Whether it is tried at its goal alone.
+        self.at_goal = False
         with open(path, encoding="utf-8") as it:
             self.file, pairs, self.goal = parts_of(it.read())
         with open(f"{HOME}/crates/{crate}/{self.file}", encoding="utf-8") as it:
@@ -70,34 +68,31 @@ class Edit:
         is_method = kind is not None and not of_trait
         return is_inside and (is_method or not item["pad"]) and "#[cycle" not in self.text[self.start : item.start()]
 
-    def copy_as(self, name, proofs, known):
-        """Has it tried by a copy with this name. The proofs are the places of the crate's proofs below its folder of them, and known are the
-        names of its functions."""
+    def copy_as(self, name, proofs):
+        """Has it tried by a copy with this name. The proofs are the places of the crate's proofs below its folder of them."""
         self.copied, self.names = name, {f"{self.crate}::{name}"}
         (function,) = self.functions
         named = {it: "::".join([self.crate, *it]) for it in proofs}
         found = [it for it in named if is_function(named[it], function)] or [it for it in named if is_method(named[it], function)]
         self.folder = found[0] if found else None
-        if not found:
-            found = [it for it in known if is_function(it, function)] or [it for it in known if is_method(it, function)]
-            found = [tuple(it.split("::")[1:]) for it in found]
-        if self.goal and len(found) == 1:
-            self.try_at_goal(found[0])
-
-    def try_at_goal(self, function):
-        """Has it tried at its goal alone, where the function of this name has goals."""
-        proof = f"{HOME}/crates/{self.crate}/proofs/{'/'.join(function)}"
+        # It is tried at its goal alone, where its function has an answer of that goal.
         has_marks = "#[tactic" in self.text[self.item.end() : self.end]
-        self.at_goal = not has_marks and not os.path.isfile(f"{proof}/Proof.antt")
-        self.function, self.goals = function, [self.goal]
-        self.is_answered = self.goal in goals_in(read(f"{proof}/Answers.antt"))
+        self.at_goal = bool(self.goal and found and not has_marks and self.goal in goals_in(self.proof("Answers.antt")))
 
-    def as_it_stands(self, number, goals):
-        """A copy of the function as it stands, tried at these goals by a search."""
-        made = copy.copy(self)
-        made.places, made.goals, made.copied = [], goals, f"{self.function[-1]}_stands{number}"
-        made.names = {f"{self.crate}::{made.copied}"}
-        return made
+    def proof(self, file):
+        """A file of the proof of its function."""
+        return read(f"{HOME}/crates/{self.crate}/proofs/{'/'.join(self.folder)}/{file}")
+
+    def proof_of_copy(self, file):
+        """A file of the proof of its copy: of the answers that of its goal alone, where it is tried there."""
+        # What a proof names of its own function: its goals, and what they are given.
+        own = re.compile(rf"\.proofs\.{re.escape('.'.join(self.folder))}\.(?=(?:Goals|Given|Invariants|Answers)\b)")
+        text = own.sub(f".proofs.{'.'.join(self.place())}.", unpacked(self.proof(file), self.crate))
+        return answer_alone(text, self.goal) if self.at_goal and file == "Answers.antt" else text
+
+    def place(self):
+        """Where the proof of its copy is, below the crate's folder of proofs."""
+        return (*self.folder[:-1], self.copied)
 
     def copied_text(self, unchanged):
         """The function under the copy's name, with the edit in it unless it is to be unchanged. Where it is tried at its goal alone, rattle
@@ -109,19 +104,8 @@ class Edit:
         places += [(tactic.start(), tactic[0], "")] if tactic else []
         return f"{self.item['pad']}#[tactic(none)]\n" + replaced(self.text, places, self.start, self.end)
 
-    def answers(self, text):
-        """The answers that it is tried with at its goal alone, of those of its function."""
-        if self.is_answered:
-            return answer_alone(text, self.goal)
-        tactic = TACTIC.search(self.text, self.start, self.item.start())
-        return answers_by_search(self.goals, tactic["words"] if tactic else "", self.crate, self.proof_path())
-
-    def proof_path(self):
-        """Where the proof of its copy is, below the crate's folder of proofs."""
-        return (*(self.function if self.at_goal else self.folder)[:-1], self.copied)
-
     def record(self, goal):
-        """Writes into its file at which goal it is refused; nothing where that isn't known."""
+        """Writes into its file at which goal it is refused; no goal where there is None."""
         with open(self.path, encoding="utf-8") as it:
             lines = [line for line in it.read().rstrip("\n").split("\n") if not line.startswith("goal:")]
         with open(self.path, "w", encoding="utf-8") as it:

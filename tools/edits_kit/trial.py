@@ -8,7 +8,7 @@ from .edit import BadEdit, Edit
 from .library import functions_of, is_built, proofs_of, without_second_names, written_functions
 from .room import Clock, OutOfTime, Room
 from .sources import HOME
-from .verdicts import VERDICT, alone, goal_of, judge, proved_goals, refused_at_goal, rest_of
+from .verdicts import VERDICT, alone, goal_of, is_proved_at_goal, judge, refused_at_goal, rest_of
 
 
 def pick(pending):
@@ -25,15 +25,6 @@ def pick(pending):
         if edit.is_of_constants:
             break
     return chosen
-
-
-def standing(edits):
-    """Copies of functions as they stand, for the edits that are tried at a goal by a search: it must prove that goal of the function itself."""
-    groups = {}
-    for edit in edits:
-        if edit.at_goal and not edit.is_answered:
-            groups.setdefault(edit.function, []).append(edit)
-    return [of[0].as_it_stands(number, sorted({it.goal for it in of})) for number, of in enumerate(groups.values(), 1)]
 
 
 class Trial:
@@ -72,7 +63,7 @@ class Trial:
             proofs = proofs_of(self.crate)
             for number, edit in enumerate(self.edits, 1):
                 if edit.can_be_copied():
-                    edit.copy_as(f"{edit.item['name']}_edit{number}", proofs, known)
+                    edit.copy_as(f"{edit.item['name']}_edit{number}", proofs)
             if self.words.unchanged:
                 self.try_unchanged()
             else:
@@ -99,7 +90,7 @@ class Trial:
             rest = rest_of(edit, told) or f"nothing is said of it: {said[-300:]}"
             is_proved = rest.startswith(("proved", "no holes", "depends on a hole"))
             if edit.at_goal:
-                is_proved = edit.goal in proved_goals(edit, said, told)
+                is_proved = is_proved_at_goal(edit, said, told)
             self.done.append((is_proved, f"{edit.label}: unchanged, {edit.copied}{f', at {edit.goal}' * edit.at_goal}: {rest[:150]}"))
 
     def try_rounds(self, pending):
@@ -107,28 +98,24 @@ class Trial:
         halves, self.single = [], [it for it in self.edits if it not in pending]
         while pending:
             chosen = halves.pop() if halves else pick(pending)
-            stands = standing(chosen)
-            said = self.room.round(chosen + stands)
+            said = self.room.round(chosen)
             told = dict(VERDICT.findall(said))
             # Where an edit doesn't compile nothing is said of any.
             if not told and len(chosen) > 1:
                 halves += [chosen[: len(chosen) // 2], chosen[len(chosen) // 2 :]]
                 continue
-            proved = {(it.function, goal) for it in stands for goal in proved_goals(it, said, told)}
             for edit in chosen:
-                if self.settle(edit, chosen, said, told, proved):
+                if self.settle(edit, chosen, said, told):
                     pending.remove(edit)
         for edit in self.single:
             self.done.append(alone(edit, self.room.whole(edit)))
 
-    def settle(self, edit, chosen, said, told, proved):
-        """Takes what a round says of an edit, where `proved` are the goals that a search proves of functions as they stand. Whether that settles
-        the edit, but for a try alone."""
+    def settle(self, edit, chosen, said, told):
+        """Takes what a round says of an edit. Whether that settles it, but for a try alone."""
         if edit.copied:
             edit.names = {it for it in told if it.endswith(f"::{edit.copied}")} or edit.names
         if edit.at_goal:
-            is_sound = edit.is_answered or (edit.function, edit.goal) in proved
-            why = is_sound and refused_at_goal(edit, said, told)
+            why = refused_at_goal(edit, said, told)
             self.done += [(True, f"{edit.label}: refused at {edit.goal}: {why}")] if why else []
             # Where that goal doesn't refuse it, all are tried.
             edit.at_goal = False
@@ -141,7 +128,7 @@ class Trial:
         if refused:
             self.done.append((True, line))
             if self.words.record and edit.copied:
-                edit.record(goal_of(edit, said, told))
+                edit.record(goal_of(edit, said))
         else:
             self.single.append(edit)
         return True

@@ -50,7 +50,7 @@ def judge(edit, said, told):
 
 def errors_of(edit, said):
     """The errors in the proof of an edit's copy."""
-    path = "/".join(edit.proof_path())
+    path = "/".join(edit.place())
     return [it for it in said.split("\n") if (found := ERROR.match(it)) and found["path"] == path]
 
 
@@ -59,37 +59,25 @@ def rest_of(edit, told):
     return next((rest for name, rest in told.items() if name.endswith(f"::{edit.copied}")), "")
 
 
-def lines_refused(edit, said):
-    """At which lines of its answers the copy of an edit is refused; None where something else of its proof is."""
-    found = [ERROR.match(it) for it in errors_of(edit, said)]
-    answered = {line for it in lines_of(edit.answer).values() for line in it}
-    lines = [int(it["line"]) for it in found]
-    is_answer = all(it["file"] == "Answers.antt" for it in found) and answered.issuperset(lines)
-    return lines if is_answer else None
-
-
 def refused_at_goal(edit, said, told):
     """Why the answer of the goal that an edit names is refused; None where it isn't, or where it names what isn't there."""
     errors = errors_of(edit, said)
-    is_refused = lines_refused(edit, said) and rest_of(edit, told).startswith("not proved")
-    return errors[0][:140] if is_refused and not any(map(NAMED_AWAY.match, errors)) else None
+    answered = {line for it in lines_of(edit.proof_of_copy("Answers.antt")).values() for line in it}
+    is_answer = all((found := ERROR.match(it))["file"] == "Answers.antt" and int(found["line"]) in answered for it in errors)
+    is_refused = errors and is_answer and rest_of(edit, told).startswith("not proved") and not any(map(NAMED_AWAY.match, errors))
+    return errors[0][:140] if is_refused else None
 
 
-def proved_goals(edit, said, told):
-    """Which of the goals that a copy is tried at are proved of it."""
-    rest, lines = rest_of(edit, told), lines_refused(edit, said)
-    left = LEFT.search(rest)
-    if lines is None or not (lines or left or rest.startswith(("proved", "no holes"))):
-        return set()
-    places = lines_of(edit.answer)
-    others = re.findall(r"`([^`]+)`", left[1]) if left else []
-    return {it for it in edit.goals if it not in others and not set(places[it]) & set(lines)}
+def is_proved_at_goal(edit, said, told):
+    """Whether the goal that an edit names is proved of its copy."""
+    left, rest = LEFT.search(rest_of(edit, told)), rest_of(edit, told)
+    is_left = left is not None and f"`{edit.goal}`" in left[1]
+    return not errors_of(edit, said) and not is_left and (left is not None or rest.startswith(("proved", "no holes")))
 
 
-def goal_of(edit, said, told):
-    """At which goal an edit is refused, of its copy with all answers: one that has an answer, where one of those is refused."""
+def goal_of(edit, said):
+    """The goal with an answer at which an edit is refused, of its copy with all answers; None where there is none."""
     errors = errors_of(edit, said) if edit.folder else []
     refused = [goal for it in errors for goal in re.findall(r"error: `([^`]+)`", it)[:1]]
     refused += [goal for it in errors if (found := NOT_CHECKED.search(it)) for goal in re.findall(r"[^\s,`]+", found[1])]
-    left = re.findall(r"`([^`]+)`", rest_of(edit, told).partition("did not prove")[2])
-    return next((it for it in refused if it in goals_in(edit.answer)), next(iter(left), None))
+    return next((it for it in refused if it in goals_in(edit.proof("Answers.antt"))), None)
