@@ -33,7 +33,7 @@ class Edit:
         self.crate, self.path = crate, path
         self.label = f"{crate}/{os.path.basename(path)}"
         self.masked, self.names, self.copied, self.folder = False, set(), None, None
-        # Whether it is tried at its goal alone.
+        # Whether it is tried by the answer of its goal alone, or where it has none by its function's answers alone.
         self.at_goal = False
         with open(path, encoding="utf-8") as it:
             self.file, pairs, self.goal = parts_of(it.read())
@@ -84,11 +84,11 @@ class Edit:
         return read(f"{HOME}/crates/{self.crate}/proofs/{'/'.join(self.folder)}/{file}")
 
     def proof_of_copy(self, file):
-        """A file of the proof of its copy: of the answers that of its goal alone, where it is tried there."""
+        """A file of the proof of its copy: of the answers that of its goal alone, where it is tried there and names one."""
         # What a proof names of its own function: its goals, and what they are given.
         own = re.compile(rf"\.proofs\.{re.escape('.'.join(self.folder))}\.(?=(?:Goals|Given|Invariants|Answers)\b)")
         text = own.sub(f".proofs.{'.'.join(self.place())}.", unpacked(self.proof(file), self.crate))
-        return answer_alone(text, self.goal) if self.at_goal and file == "Answers.antt" else text
+        return answer_alone(text, self.goal) if self.at_goal and self.goal and file == "Answers.antt" else text
 
     def place(self):
         """Where the proof of its copy is, below the crate's folder of proofs."""
