@@ -67,7 +67,11 @@ class Trial:
             if self.words.unchanged:
                 self.try_unchanged()
             elif self.words.record:
-                self.record([it for it in self.edits if it.copied and it.folder])
+                tried = [it for it in self.edits if it.copied and it.folder]
+                self.record(tried)
+                for edit in self.edits:
+                    if edit.goal and edit not in tried:
+                        edit.record(None)
             else:
                 self.try_rounds([it for it in self.edits if it.copied or it.find(known)])
             return self.room.checks
@@ -99,7 +103,7 @@ class Trial:
         """Writes into these edits at which goals with answers they are refused: with all answers and no search."""
         for edit in edits:
             edit.goal, edit.at_goal = None, True
-        said = self.room.round(edits)
+        said = self.room.round(edits) if edits else ""
         # Where an edit doesn't compile nothing is said of any.
         if len(edits) > 1 and not VERDICT.search(said):
             self.record(edits[: len(edits) // 2])
