@@ -23,7 +23,7 @@ pub struct Windows {
     pub blocks: Blocks,
     /// A data block of the current directory. In phase 5 a group block.
     pub current: Window,
-    /// A data block of another directory, or a name in it: paths are read here, so that the current
+    /// A data block of another directory, or its chunk with a parent entry: paths are read here, so that the current
     /// directory stays in `current`.
     pub other: Window,
 }
@@ -49,10 +49,10 @@ pub struct Workspace {
     pub reached: FixedList<bool>,
     /// Flags that are used one after another:
     ///
-    /// - The survey flags the calm directories.
+    /// - The survey flags the calm directories (the list is lent as `calm`).
     /// - Phase 2 clears the flag of each suspect inode (a marked one, or a directory of size 0),
     ///   and then flags those of them that a plain entry has named. Other flags stay.
-    /// - Phase 3 flags the least directory of each cycle of parents.
+    /// - Phase 3 flags the least directory of each cycle of parents (lent as `leaders`).
     pub flags: FixedList<bool>,
     /// How many entries refer to each inode, counted on from `links_start`.
     pub references: FilledList<u64>,
