@@ -23,8 +23,8 @@ pub struct Windows {
     pub blocks: Blocks,
     /// A data block of the current directory. In phase 5 a group block.
     pub current: Window,
-    /// A data block of another directory, or its chunk with a parent entry: paths are read here, so that the current
-    /// directory stays in `current`.
+    /// A data block of another directory, or its chunk with a parent entry: paths are read here, so
+    /// that the current directory stays in `current`.
     pub other: Window,
 }
 
