@@ -2,11 +2,10 @@
 
 ghost use Rattle.std.specs.Prelude.{MatchResult, ℕ, ◌^◌, IsTrue, nat_le, ◌==◌, ◌≡◌, ◌+◌, ◌*◌, ◌<◌, ◌≤◌};
 ghost use Rattle.std.specs.List.{list_all};
-ghost use Rattle.ffs_volume.specs.{Disk.Numbers.u32_at, Report.Reads.opening_reads};
-ghost use Rattle.ffs_volume.specs.Disk.Superblock.{layout_of, order_of, superblock_of};
-ghost use Rattle.ffs_volume.specs.declared.constants.TheConstants.{SUPERBLOCK_BYTES};
-ghost use Rattle.ffs_layout.specs.{Accepted.IsAccepted, Copies.{ComparesCopy, ReadsSuperblockBytes}};
-ghost use Rattle.ffs_layout.specs.Super.{ReadsSuper, IsUnreadable, found_of, superblock_in};
+ghost use Rattle.ffs_volume.specs.{Disk.{Numbers.u32_at, Superblock.{layout_of, order_of}}, Report.Reads.opening_reads};
+ghost use Rattle.ffs_volume.specs.{Disk.Superblock.superblock_of, declared.constants.TheConstants.SUPERBLOCK_BYTES};
+ghost use Rattle.ffs_layout.specs.{Accepted.IsAccepted, Copies.{ComparesCopy, ReadsSuperblockBytes}, Super.ReadsSuper};
+ghost use Rattle.ffs_layout.specs.Super.{IsUnreadable, found_of, superblock_in};
 
 use crate::geometry::Geometry;
 use crate::layout::decode;
