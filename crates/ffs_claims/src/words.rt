@@ -10,11 +10,10 @@
 
 ghost use Rattle.std.specs.Prelude.{◌≡◌, ◌≢◌, ◌^◌, ◌<◌, false, IsTrue};
 ghost use Rattle.ffs_volume.specs.declared.Layout.{Layout};
-ghost use Rattle.ffs_walk.specs.{HeldWords.{CanSeeWord, IsInHeldBlock, next_address}, Windows.HasRoom};
-ghost use Rattle.ffs_walk.specs.Rests.{IsAtTop};
-ghost use Rattle.ffs_claims.specs.{Claiming.CanSeeNext, SilentWords.{CanClaimWords, ClaimsAddress}};
-ghost use Rattle.ffs_claims.specs.SilentWords.{CanClaimAddress, ClaimsWords, with_run_counts};
-ghost use Rattle.ffs_claims.specs.Series.{CanClaimNext, ClaimsNext, HasNext, PassesSeries};
+ghost use Rattle.ffs_walk.specs.{HeldWords.{CanSeeWord, IsInHeldBlock, next_address}, Windows.HasRoom, Rests.IsAtTop};
+ghost use Rattle.ffs_claims.specs.{Claiming.CanSeeNext, SilentWords.{CanClaimWords, ClaimsAddress, CanClaimAddress}};
+ghost use Rattle.ffs_claims.specs.{SilentWords.{ClaimsWords, with_run_counts}, Series.{CanClaimNext, ClaimsNext}};
+ghost use Rattle.ffs_claims.specs.Series.{HasNext, PassesSeries};
 
 use crate::area::DataArea;
 use ffs_layout::u32_at;

@@ -2,10 +2,9 @@
 use Rattle.std.specs.Prelude.{ℕ, ◌==◌, ◌&&◌, Bool, not, slice_index, List, [], ◌∷◌, Option, Some, None, if◌then◌else◌}
 use Rattle.std.specs.Prelude.{ℤ}
 use Rattle.ffs_volume.specs.declared.{constants.TheConstants.LINKS_MET, Attr.Attr, Label.Label}
-use Rattle.ffs_volume.specs.{Disk.Numbers.equals_natural, Messages.Kinds.{TreeMessage, reported}}
+use Rattle.ffs_volume.specs.{Disk.Numbers.equals_natural, Messages.Kinds.{TreeMessage, reported, of_reference}}
 use Rattle.ffs_volume.specs.declared.tree_lines.ReferenceLine.{ReferenceLine, TheVariants.{DeadMarked, DeadZero}}
 use Rattle.ffs_volume.specs.declared.tree_lines.ReferenceLine.TheVariants.{LinkCount, Unref, UnrefZero}
-use Rattle.ffs_volume.specs.Messages.Kinds.{of_reference}
 use Rattle.ffs_survey.specs.Survey.{dead_at}
 use Rattle.ffs_workspace.specs.declared.workspace.Workspace.{Workspace}
 

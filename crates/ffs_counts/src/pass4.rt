@@ -2,12 +2,11 @@
 
 ghost use Rattle.std.specs.Prelude.{◌≡◌, ◌<◌, ◌∷◌, false, map, length};
 ghost use Rattle.ffs_volume.specs.Messages.Kinds.{of_tree, phase4 as phase4_heading};
-ghost use Rattle.ffs_volume.specs.Directories.ReferenceCheck.{reference_lines, reference_lines_at};
-ghost use Rattle.ffs_volume.specs.Directories.Volumes.{volume_of};
+ghost use Rattle.ffs_volume.specs.Directories.{ReferenceCheck.{reference_lines, reference_lines_at}, Volumes.volume_of};
 ghost use Rattle.ffs_report.specs.{Progress.progress, PhaseOutcome.PhaseOutcome, ReadsFor.ReadsFor};
 ghost use Rattle.ffs_workspace.specs.{Found.WithFindings, Ready.{IsReady, StaysReady}};
-ghost use Rattle.ffs_counts.specs.Ready.{CanCheckAllocated, HasElements, AreFree, AreFreeFrom};
-ghost use Rattle.ffs_counts.specs.References.{is_dead_by, is_right_by};
+ghost use Rattle.ffs_counts.specs.{Ready.{CanCheckAllocated, HasElements, AreFree, AreFreeFrom}, References.is_dead_by};
+ghost use Rattle.ffs_counts.specs.References.{is_right_by};
 
 use crate::reference::{line_for, references_by, say_line};
 use ffs_image::Image;

@@ -6,6 +6,7 @@ ghost use Rattle.ffs_layout.specs.Entry.{entry_value};
 ghost use Rattle.ffs_paths.specs.{Climbing.{FindsFirstName, FindsName, FindsNoted, IsNameIn}, NameTexts.name_bytes};
 ghost use Rattle.ffs_paths.specs.Reads.{ForTree, IsReadyFor, OnlyReads, path_moment, ReadsName, ReadsPlace};
 ghost use Rattle.ffs_workspace.specs.Places.{entries_in_chunks};
+ghost use Rattle.ffs_volume.specs.declared.constants.TheConstants.{DIRBLKSIZ};
 
 use crate::name_text::NameText;
 use ffs_image::{Image, ImageFault};
@@ -52,7 +53,7 @@ fn find_in_chunk(order: Order, chunk: &[u8; DIRBLKSIZ], number: u32, name: &mut 
 /// Finds the name of an inode in chunks that follow one another, by the first plain entry in them.
 /// Returns whether there is one.
 fn find_in_chunks(order: Order, bytes: &[u8], number: u32, name: &mut NameText) -> bool
-    ensures { FindsFirstName number (entries_in_chunks order (length bytes.now / 512) bytes.now)
+    ensures { FindsFirstName number (entries_in_chunks order (length bytes.now / DIRBLKSIZ) bytes.now)
         (name_bytes name.new) result }
 {
     let (chunks, _) = bytes.as_chunks::<DIRBLKSIZ>();

@@ -1,18 +1,17 @@
-use Rattle.std.proofs.{Common.{◌≡◌, ◌+◌, rules, arith, refl, sym, ◌-◌, ◌≤◌, ◌<◌, ap, ◌∙◌, Err}, lemmas.Result.err_from_is_err_and}
+use Rattle.std.proofs.Common.{◌≡◌, ◌+◌, rules, arith, refl, sym, ◌-◌, ◌≤◌, ◌<◌, ap, ◌∙◌, Err, inl, inr, ◌*◌}
+use Rattle.std.proofs.lemmas.{Result.err_from_is_err_and, Bool.cases_lt}
 use Rattle.ffs_volume.{proofs.OwnerLaws.before_next, specs.Blocks.{BlockCheck.phase1_lines, Claims.after_owner}}
 use Rattle.ffs_volume.specs.{Blocks.{KeptSteps.claims_before, Owners.{owner_of, owners_of}}, Report.Whole.run_count}
+use Rattle.ffs_volume.{specs.{Blocks.Inodes.inodes_of, Laws.ClaimBounds.used_bits}, proofs.Sizes.some_inodes}
 use Rattle.ffs_report.proofs.Reporting.{of_part, of_fault, of_same, reports_knowing, says_heading, stops_heading}
 use Rattle.ffs_report.{proofs.Reporting.said_knows, specs.Known.ForBytes}
 use Rattle.ffs_workspace.specs.{Found.WithFresh, Holds.{claims_of, all_claims}}
-use Rattle.ffs_volume.specs.Blocks.Inodes.{inodes_of}
-use Rattle.ffs_claims.proofs.{Duplicates.{any_set, rescan_is}, Frames.{image_from, ready_begun, ready_still}, Inodes.used_below}
-use Rattle.ffs_claims.proofs.Numbers.{found_begins, found_next, found_all, numbers_most, before_first, before_end}
-use Rattle.ffs_claims.proofs.{Numbers.lines_next, TableReads.{blocks_all, blocks_failed, blocks_later, blocks_next, blocks_none}}
-use Rattle.ffs_volume.proofs.Sizes.{some_inodes}
-use Rattle.ffs_claims.proofs.IndirectReads.{VolumeRead, read_all, read_begins, read_failed, read_later, read_next}
-use Rattle.ffs_claims.proofs.ZeroInodes.{AreFree, StandsAt, free_where_zero, has_inodes, lines_later, stands_later}
-use Rattle.std.proofs.{Common.{inl, inr, ◌*◌}, lemmas.Bool.cases_lt}
-use Rattle.ffs_volume.specs.Laws.ClaimBounds.{used_bits}
+use Rattle.ffs_claims.proofs.{Duplicates.{any_set, rescan_is}, Frames.{image_from, ready_begun, ready_still}}
+use Rattle.ffs_claims.proofs.{Inodes.used_below, Numbers.{found_begins, found_next, found_all, numbers_most}}
+use Rattle.ffs_claims.proofs.{Numbers.{before_first, before_end, lines_next}, TableReads.{blocks_all, blocks_failed}}
+use Rattle.ffs_claims.proofs.{TableReads.{blocks_later, blocks_next, blocks_none}, IndirectReads.{VolumeRead, read_all}}
+use Rattle.ffs_claims.proofs.{IndirectReads.{read_begins, read_failed, read_later, read_next}, ZeroInodes.AreFree}
+use Rattle.ffs_claims.proofs.ZeroInodes.{StandsAt, free_where_zero, has_inodes, lines_later, stands_later}
 use Rattle.ffs_claims.proofs.pass1.phase1.Goals as goal
 
 pub returns-in_err-say-clause-prints : goal.returns-in_err-say-clause-prints

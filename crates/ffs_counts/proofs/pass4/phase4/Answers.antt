@@ -1,11 +1,10 @@
 use Rattle.std.proofs.{Common.{◌≡◌, ◌∙◌, ◌+◌, arith, ap, Err, refl, rules}, lemmas.Result.err_from_is_err_and}
 use Rattle.ffs_volume.specs.Directories.{ReferenceCheck.reference_lines_at, Volumes.volume_of}
-use Rattle.ffs_volume.proofs.Numbered.{as_many, count_next, from_next, from_end}
+use Rattle.ffs_volume.{proofs.Numbered.{as_many, count_next, from_next, from_end}, specs.Blocks.Inodes.inodes_of}
 use Rattle.ffs_report.{specs.Known.ForBytes, proofs.Paying.{paid_answer, paid_fault, paid_says, paid_stops, paid_then}}
 use Rattle.ffs_report.proofs.Reporting.{of_fault, of_part, of_same, reports_knowing, said_knows, says_heading}
 use Rattle.ffs_report.proofs.Reporting.{stops_heading}
 use Rattle.ffs_workspace.specs.{declared.workspace.Workspace.Workspace, Found.WithFindings}
-use Rattle.ffs_volume.specs.Blocks.Inodes.{inodes_of}
 use Rattle.ffs_workspace.proofs.Leaving.{findings_held}
 use Rattle.ffs_counts.proofs.Holding.{free_lines, held_on, lines_after, lines_begin}
 use Rattle.ffs_counts.proofs.pass4.phase4.Goals.{After-free_from-free, At-loop-number}

@@ -7,12 +7,11 @@ use Rattle.ffs_report.specs.declared.fault.RunFault.{RunFault, TheVariants.{Read
 use Rattle.ffs_volume.{specs.{Messages.Kinds.phase2, declared.Layout.Layout}, proofs.RunBounds.runs_bounded}
 use Rattle.ffs_pathnames.specs.{declared.pass2.Root.Root, Before.IsBefore, Phase2.Phase2Ends, RootAnswers.AnswersRoot}
 use Rattle.ffs_pathnames.proofs.{Carrying.{before_first, references_on}, SilentLaws.calm_silent}
-use Rattle.ffs_pathnames.proofs.pass2.phase2.{Given.Over, Goals.After-check_tree}
+use Rattle.ffs_pathnames.proofs.{pass2.phase2.{Given.Over, Goals.After-check_tree}, ChecksNeededLaws.looked_at_first}
 use Rattle.ffs_names.proofs.{DirCosts.noted_all_within, RunSums.costs_bounded}
-use Rattle.ffs_pathnames.proofs.ChecksNeededLaws.{looked_at_first}
 use Rattle.ffs_workspace.specs.{declared.workspace.Workspace.Workspace, Found.WithClaims, Holds.HoldsClaims}
-use Rattle.ffs_workspace.specs.Holds.{HoldsReferences, HoldsSurvey}
-use Rattle.ffs_workspace.proofs.Leaving.{block_check_kept, block_check_left, block_check_more}
+use Rattle.ffs_workspace.{specs.Holds.{HoldsReferences, HoldsSurvey}, proofs.Leaving.block_check_kept}
+use Rattle.ffs_workspace.proofs.Leaving.{block_check_left, block_check_more}
 use Rattle.ffs_pathnames.proofs.pass2.phase2.Goals as goal
 
 -- what is known before the first directory
