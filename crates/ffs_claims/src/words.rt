@@ -305,7 +305,7 @@ fn claim_counted_direct(
 /// Claims what the inode's direct addresses that come next offer, as long as nothing is to be
 /// reported of them and each Run is claimed at once, as `claim_words` does. The walk is in no
 /// indirect block.
-#[inline(never)]
+#[inline(always)]
 pub fn claim_direct(workspace: &mut Workspace, area: &DataArea, walk: &mut Walk)
     requires can { CanClaimWords workspace.old area.now walk.old }
     requires top { IsAtTop walk.old }
