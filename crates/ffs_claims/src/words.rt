@@ -289,8 +289,9 @@ fn claim_counted_direct(
 )
     requires can { CanClaimWords (with_run_counts workspace.old counts.old) area.now walk.old }
     requires top { IsAtTop walk.old }
-    ensures { ClaimsWords walk.old.geometry.layout (with_run_counts workspace.old counts.old)
+    ensures claims { ClaimsWords walk.old.geometry.layout (with_run_counts workspace.old counts.old)
         (with_run_counts workspace.new counts.new) walk.old walk.new }
+    ensures top { IsAtTop walk.new }
 {
     while walk.has_direct() {
         let (address, len) = walk.next_direct();
@@ -304,11 +305,13 @@ fn claim_counted_direct(
 /// Claims what the inode's direct addresses that come next offer, as long as nothing is to be
 /// reported of them and each Run is claimed at once, as `claim_words` does. The walk is in no
 /// indirect block.
-#[inline(never)]
+#[inline(always)]
 pub fn claim_direct(workspace: &mut Workspace, area: &DataArea, walk: &mut Walk)
     requires can { CanClaimWords workspace.old area.now walk.old }
     requires top { IsAtTop walk.old }
-    ensures { ClaimsWords walk.old.geometry.layout workspace.old workspace.new walk.old walk.new }
+    ensures claims { ClaimsWords walk.old.geometry.layout workspace.old workspace.new walk.old
+        walk.new }
+    ensures top { IsAtTop walk.new }
 {
     let area = *area;
     let mut counts = Counts::of(workspace);
