@@ -53,8 +53,9 @@ fn find_in_chunk(order: Order, chunk: &[u8; DIRBLKSIZ], number: u32, name: &mut 
 /// Finds the name of an inode in chunks that follow one another, by the first plain entry in them.
 /// Returns whether there is one.
 fn find_in_chunks(order: Order, bytes: &[u8], number: u32, name: &mut NameText) -> bool
-    ensures { FindsFirstName number (entries_in_chunks order (length bytes.now / DIRBLKSIZ) bytes.now)
-        (name_bytes name.new) result }
+    ensures { FindsFirstName number
+        (entries_in_chunks order (length bytes.now / DIRBLKSIZ) bytes.now) (name_bytes name.new)
+        result }
 {
     let (chunks, _) = bytes.as_chunks::<DIRBLKSIZ>();
     for chunk in chunks {
