@@ -6,8 +6,8 @@ use Rattle.ffs_maps.proofs.Bits.{bits_long}
 use Rattle.ffs_workspace.specs.Holds.{claims_of}
 use Rattle.ffs_claims.proofs.{Frames.{ready_begun, ready_stored}, Inodes.{begun, begun_runs, stored_runs}}
 use Rattle.ffs_claims.proofs.Inodes.{steps_reported, class_said, class_stopped, free_steps, used_below}
-use Rattle.ffs_claims.{proofs.claim.claim_owner.Goals.{in-Free, in_default}}
-use Rattle.ffs_claims.proofs.claim.claim_owner.Goals as goal
+use Rattle.ffs_claims.{proofs.claim.claim_read_inode.Goals.{in-Free, in_default}}
+use Rattle.ffs_claims.proofs.claim.claim_read_inode.Goals as goal
 
 pub say_count-requires : goal.say_count-requires
 say_count-requires g c =
