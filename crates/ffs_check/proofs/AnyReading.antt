@@ -10,7 +10,7 @@ use Rattle.ffs_report.specs.declared.fault.RunFault.{RunFault, TheVariants.{Read
 use Rattle.ffs_report.proofs.Reports.{said_then, stopped_after}
 use Rattle.ffs_pathnames.specs.declared.pass2.Root.{Root}
 use Rattle.ffs_check.specs.{Moment.{Moment, ReportMoment, at_output}, Reads.{ReadsByMessages, ReadsOfVolume}}
-use Rattle.ffs_check.{specs.PhaseEnds.{EndsAs, SaysRefusal}, proofs.EndLaws.{broke_after, broke_off, took_messages}}
+use Rattle.ffs_check.{specs.PhaseEnds.{EndsAs, SaysNoMemory}, proofs.EndLaws.{broke_after, broke_off, took_messages}}
 
 -- the price of each message, beside what the phases read for none
 priced : (v : Layout) (n m before after : ℕ) → after ≤ before + phase_reads v 0 + (line_reads + 1) * n → n ≤ m →
@@ -51,7 +51,7 @@ ended_reads v had_defect old new b (Err (Out fault)) end working p e = record {
 
 -- the memory was refused, which was said, and nothing was read
 pub unstarted_reads : (v : Layout) (image : Device) (reads : ℕ) (a b : Progress) (end : End) → a.failed ≡ false →
-    SaysRefusal a b end → ReadsByMessages (phase_reads v) (record { image = image; reads = reads; out = a.sink })
+    SaysNoMemory a b end → ReadsByMessages (phase_reads v) (record { image = image; reads = reads; out = a.sink })
     (record { image = image; reads = reads; out = b.sink })
 unstarted_reads v image reads a b end working e = record {
   messages = cannot_alloc ∷ [];

@@ -10,7 +10,7 @@ use Rattle.ffs_report.specs.{Sink.Took, Known.IsContents, Progress.Progress}
 use Rattle.ffs_layout.specs.{declared.superblock.Super.Super, Super.{ReadsSuper, superblock_in}}
 use Rattle.ffs_check.specs.{Ends.Cut, Headline.{EndAgrees, Headline, IsCutShort, IsEndOfReport, can_end_report}}
 use Rattle.ffs_check.specs.{Moment.{Moment, ReportMoment, at_output}, Opening.OpeningOf}
-use Rattle.ffs_check.specs.PhaseEnds.{IsCutByRead, IsEndByRoot, SaysRefusal, SaysRest}
+use Rattle.ffs_check.specs.PhaseEnds.{IsCutByRead, IsEndByRoot, SaysNoMemory, SaysRest}
 use Rattle.ffs_check.proofs.{Openings.{found_of, no_defect_head, unfailed_of}, Endings.{at_contents, at_known}}
 use Rattle.ffs_check.proofs.{EndLaws.{cut_after, ends_after, line_after}, Headlines.{whole_there, defect_there}}
 use Rattle.ffs_check.proofs.Headlines.{end_of_there, end_there, can_end_by, certifies}
@@ -27,8 +27,8 @@ module _ (name : List ℕ) (sector : Option ℕ) (old : Moment) (s : Superblock)
     (report : Progress) (opened : Took old.out report.sink (texts_of (opening_lines name sector (Ok s))))
     (working : report.failed ≡ false) (new : ReportMoment) (end : End) where
   -- the memory was refused
-  unstarted : new.image ≡ old.image → SaysRefusal report new.report end → Headline name sector old (at_output new) end
-  unstarted none_failed refusal =
+  unstarted : new.image ≡ old.image → SaysNoMemory report new.report end → Headline name sector old (at_output new) end
+  unstarted none_failed no_memory =
       let head = opening_lines name sector (Ok s) in
       record {
         text = head ++ at_contents old.image.contents (λ bytes. phase_lines bytes s);
@@ -44,7 +44,7 @@ module _ (name : List ℕ) (sector : Option ℕ) (old : Moment) (s : Superblock)
             line_is = refl;
             end_is = refl;
           }));
-          ends = line_after old.out report new.report head cannot_alloc NoMemory end opened working refusal;
+          ends = line_after old.out report new.report head cannot_alloc NoMemory end opened working no_memory;
         });
       }
 
@@ -95,7 +95,7 @@ module _ (name : List ℕ) (sector : Option ℕ) (old : Moment) (s : Superblock)
 
   pub follows : SaysRest s (record { image = old.image; reads = between; report = report }) new end →
       Headline name sector old (at_output new) end
-  follows (inl refusal) = unstarted refusal.0 refusal.1
+  follows (inl no_memory) = unstarted no_memory.0 no_memory.1
   follows (inr ran) = record {
     text = opening_lines name sector (Ok s) ++ ran.text;
     is_report = is_whole ran.text ran.right;

@@ -1,15 +1,14 @@
 -- How the phases of a check end, how often they read, and what they leave. `knows` is what is known of the
 -- image's bytes, and `s` the superblock: with it the bytes determine the text, and whether the check
 -- continues after the root.
-use Rattle.std.specs.Prelude.{◌≡◌, ◌⊎◌, ◌<◌, ◌≤◌, ℕ, Bool, false, true, ◌||◌, List, [], ◌∷◌, ◌++◌, length, Result, Ok}
+use Rattle.std.specs.Prelude.{◌≡◌, ◌⊎◌, ◌<◌, ◌≤◌, ℕ, Bool, true, ◌||◌, List, [], ◌∷◌, ◌++◌, length, Result, Ok}
 use Rattle.std.specs.Prelude.{Err, IfOk, is_ok}
 use Rattle.ffs_image.specs.Device.{Device, Faulted}
 use Rattle.ffs_volume.specs.declared.End.{End, TheVariants.{ReadFault, WriteFault, NoMemory}}
 use Rattle.ffs_volume.specs.{Disk.Superblock.Superblock, Directories.PathnameCheck.continues_after_root}
 use Rattle.ffs_volume.specs.{Directories.Volumes.volume_of, Report.Whole.{end_by, phase_lines}, Messages.Kinds.Message}
 use Rattle.ffs_volume.specs.{Messages.Kinds.{cannot_alloc, cannot_read, has_defect}, Report.Memory.runs_limit}
-use Rattle.ffs_volume.specs.Report.Opening.{super_lines}
-use Rattle.ffs_volume.specs.declared.Layout.{Layout}
+use Rattle.ffs_volume.specs.{Report.Opening.super_lines, declared.Layout.Layout}
 use Rattle.ffs_report.specs.{Known.{ForBytes, IsContents}, PhaseOutcome.{ImageAfter, SaidOf, StoppedOf}}
 use Rattle.ffs_report.specs.{Progress.{Progress, Said, Stopped}, declared.fault.RunFault.{RunFault, TheVariants.Read}}
 use Rattle.ffs_report.specs.declared.fault.RunFault.TheVariants.{Out}
@@ -17,8 +16,8 @@ use Rattle.ffs_pathnames.specs.{declared.pass2.Root.Root, RootAnswers.is_go}
 use Rattle.ffs_memory.specs.Account.{Account}
 use Rattle.ffs_workspace.specs.{declared.workspace.Workspace.Workspace, Found.WithFresh, Lengths.{IsFor, held_of}}
 use Rattle.ffs_workspace.specs.Ready.{IsReady}
-use Rattle.ffs_check.specs.{Ends.{Cut, Ends}, Headline.can_end_report, Reads.PhasesRead, Rest.HasAnswers}
-use Rattle.ffs_check.specs.{Moment.{Moment, ReportMoment, at_output}, Taken.TakesBytes}
+use Rattle.ffs_check.specs.{Ends.{Cut, Ends}, Headline.can_end_report, Reads.PhasesRead, Rest.HasAnswers, Moment.Moment}
+use Rattle.ffs_check.specs.{Moment.{ReportMoment, at_output}, Taken.TakesBytes}
 
 -- a read failed before the text was complete: whole messages were said, and others were to come
 pub record SaidNotAll (knows : List ℕ → Type 0) (all : List ℕ → List Message) (old new : Progress) : Type 0 where
@@ -65,8 +64,8 @@ abbrev pub SaysReadFault : Progress → Progress → ℕ → End → Type 0
 SaysReadFault old new sector end = LineEnds old new (cannot_read sector) (ReadFault sector) end
 
 -- the line of a refused memory was said, or the output failed in it
-abbrev pub SaysRefusal : Progress → Progress → End → Type 0
-SaysRefusal old new end = LineEnds old new cannot_alloc NoMemory end
+abbrev pub SaysNoMemory : Progress → Progress → End → Type 0
+SaysNoMemory old new end = LineEnds old new cannot_alloc NoMemory end
 
 -- the end that an answer of the phases makes, by the defects of this report, and by whether an
 -- opening that another report said had one (`had_defect`); a failed read is said
@@ -112,7 +111,7 @@ pub record RunsToEnd (s : Superblock) (w w' : Workspace) (old new : Moment) (end
 -- its phases have run
 abbrev pub SaysRest : Superblock → ReportMoment → ReportMoment → End → Type 0
 SaysRest s old new end =
-    ((new.image ≡ old.image) × SaysRefusal old.report new.report end)
+    ((new.image ≡ old.image) × SaysNoMemory old.report new.report end)
     ⊎ PhasesEnd (IsContents old.image.contents) s (at_output old) (at_output new) end
 
 -- what an accepted superblock leads to: what is said, what is taken of the memory, and how often the

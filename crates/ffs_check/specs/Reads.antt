@@ -2,11 +2,10 @@
 -- other bytes each time, by the messages that went out, whole or in part.
 use Rattle.std.specs.Prelude.{◌≡◌, ◌⊎◌, ◌≤◌, ◌+◌, ◌*◌, ℕ, List, length, Option, Result, Ok, Err}
 use Rattle.ffs_image.specs.Device.{Device, ForContents}
-use Rattle.ffs_volume.specs.declared.{Layout.Layout, SuperFault.SuperFault}
-use Rattle.ffs_volume.specs.{Disk.{Outcome.outcome, Superblock.Superblock}, Laws.Geometry.IsAcceptedLayout}
-use Rattle.ffs_volume.specs.{Messages.{Kinds.Message, Texts.texts_of}, Report.VolumeReads.volume_phase_reads}
-use Rattle.ffs_volume.specs.Report.{Reads.{line_reads, opening_reads, phase_reads, reads_limit}, Whole.phase_lines}
-use Rattle.ffs_volume.specs.Report.Whole.{report_of}
+use Rattle.ffs_volume.specs.{declared.{Layout.Layout, SuperFault.SuperFault}, Disk.Outcome.outcome}
+use Rattle.ffs_volume.specs.{Disk.Superblock.Superblock, Laws.Geometry.IsAcceptedLayout, Messages.Kinds.Message}
+use Rattle.ffs_volume.specs.{Messages.Texts.texts_of, Report.{VolumeReads.volume_phase_reads, Reads.line_reads}}
+use Rattle.ffs_volume.specs.Report.{Reads.{opening_reads, phase_reads, reads_limit}, Whole.{phase_lines, report_of}}
 use Rattle.ffs_report.specs.{Known.ForBytes, Paid.Paid, Sink.{BrokeOff, Took}, declared.fault.RunFault.RunFault}
 use Rattle.ffs_check.specs.Moment.{Moment, ReportMoment}
 

@@ -1,4 +1,4 @@
-use Rattle.std.proofs.Common.{arith, rules, ◌≡◌, inl, inr, refl, ap, ℕ, List, Option}
+use Rattle.std.proofs.Common.{rules, ◌≡◌, inl, inr, refl, ap, ℕ, List, Option}
 use Rattle.ffs_image.specs.Device.{Device}
 use Rattle.ffs_volume.specs.{declared.End.End, Report.Opening.opening_lines}
 use Rattle.ffs_report.specs.{Progress.Progress, Sink.Sink}
