@@ -1,9 +1,9 @@
 //! Phase 4: how often inodes are referred to.
 
-ghost use Rattle.std.specs.Prelude.{◌≡◌, ◌<◌, ◌∷◌, false, map, length};
+ghost use Rattle.std.specs.Prelude.{◌≡◌, ◌<◌, ◌≤◌, ◌+◌, ◌∷◌, false, map, length};
 ghost use Rattle.ffs_volume.specs.Messages.Kinds.{of_tree, phase4 as phase4_heading};
 ghost use Rattle.ffs_volume.specs.Directories.{ReferenceCheck.{reference_lines, reference_lines_at}, Volumes.volume_of};
-ghost use Rattle.ffs_report.specs.{Progress.progress, PhaseOutcome.PhaseOutcome, ReadsFor.ReadsFor};
+ghost use Rattle.ffs_report.specs.{Known.ForBytes, Paid.Paid, PhaseOutcome.{ImageAfter, PhaseReports}, Progress.progress};
 ghost use Rattle.ffs_workspace.specs.{Found.WithFindings, Ready.{IsReady, StaysReady}};
 ghost use Rattle.ffs_counts.specs.{Ready.{CanCheckAllocated, HasElements, AreFree, AreFreeFrom}, References.is_dead_by};
 ghost use Rattle.ffs_counts.specs.References.{is_right_by};
@@ -83,15 +83,16 @@ fn check_inode<I: Image, W: Output>(
     report: &mut Report<'_, W>,
 ) -> Result<(), RunFault>
     requires { CanCheckAllocated geometry.now.layout (I.device image.old) workspace.old number }
-    ensures prints { PhaseOutcome
+    ensures faults { ImageAfter (I.device image.old) (I.device image.new) result }
+    ensures text { PhaseReports
         (WithFindings geometry.now.layout (I.device image.old) workspace.old)
         (λ bytes. map of_tree (reference_lines_at (volume_of geometry.now.layout bytes) number))
-        (I.device image.old) (I.device image.new) (progress W.sink report.old)
-        (progress W.sink report.new) result }
-    ensures reads { ReadsFor (WithFindings geometry.now.layout (I.device image.old) workspace.old)
-        (λ bytes. length (reference_lines_at (volume_of geometry.now.layout bytes) number))
-        (progress W.sink report.old) (progress W.sink report.new) (I.reads image.old)
-        (I.reads image.new) result }
+        (progress W.sink report.old) (progress W.sink report.new) result }
+    ensures reads { ForBytes (WithFindings geometry.now.layout (I.device image.old) workspace.old)
+        (λ bytes. I.reads image.new ≤ I.reads image.old + length
+        (reference_lines_at (volume_of geometry.now.layout bytes) number)) }
+    ensures paid { Paid 1 (progress W.sink report.old) (progress W.sink report.new)
+        (I.reads image.old) (I.reads image.new) result }
     ensures stays { StaysReady geometry.now.layout (I.device image.new) workspace.old
         workspace.new }
 {
@@ -125,16 +126,19 @@ pub fn phase4<I: Image, W: Output>(
     report: &mut Report<'_, W>,
 ) -> Result<(), RunFault>
     requires ready { IsReady geometry.now.layout (I.device image.old) workspace.old }
-    ensures prints { PhaseOutcome
+    ensures faults { ImageAfter (I.device image.old) (I.device image.new) result }
+    ensures text { PhaseReports
         (WithFindings geometry.now.layout (I.device image.old) workspace.old)
         (λ bytes. phase4_heading ∷ map of_tree
-        (reference_lines (volume_of geometry.now.layout bytes)))
-        (I.device image.old) (I.device image.new) (progress W.sink report.old)
+        (reference_lines (volume_of geometry.now.layout bytes))) (progress W.sink report.old)
         (progress W.sink report.new) result }
-    ensures reads { ReadsFor (WithFindings geometry.now.layout (I.device image.old) workspace.old)
-        (λ bytes. length (reference_lines (volume_of geometry.now.layout bytes)))
-        (progress W.sink report.old) (progress W.sink report.new) (I.reads image.old)
-        (I.reads image.new) result }
+    // Known bytes are read at most once for each of their lines, and any image once for each message
+    // that was begun.
+    ensures reads { ForBytes (WithFindings geometry.now.layout (I.device image.old) workspace.old)
+        (λ bytes. I.reads image.new ≤ I.reads image.old + length
+        (reference_lines (volume_of geometry.now.layout bytes))) }
+    ensures paid { Paid 1 (progress W.sink report.old) (progress W.sink report.new)
+        (I.reads image.old) (I.reads image.new) result }
     ensures stays { StaysReady geometry.now.layout (I.device image.new) workspace.old
         workspace.new }
 {

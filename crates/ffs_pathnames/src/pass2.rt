@@ -1,6 +1,6 @@
 //! Phase 2: pathnames (fsck(8)).
 ghost use Rattle.std.specs.Prelude.{◌≡◌, ◌+◌, ◌*◌, ◌∷◌, length, map, ◌&&◌, not, ℕ};
-ghost use Rattle.ffs_report.specs.{Paid.Paid, PhaseOutcome.PhaseOutcome, Progress.progress};
+ghost use Rattle.ffs_report.specs.{Paid.Paid, PhaseOutcome.{ImageAfter, PhaseReports}, Progress.progress};
 ghost use Rattle.ffs_volume.specs.Directories.{PathnameCheck.pathname_lines, Volumes.volume_of};
 ghost use Rattle.ffs_volume.specs.{Encodings.Kinds.is_dir_kind, Messages.Kinds.of_tree, Report.Reads.{line_reads, sweep_reads}};
 ghost use Rattle.ffs_workspace.specs.{Found.WithClaims, Holds.bool_at, Leaves.LeavesBlockCheck, Ready.IsReady};
@@ -51,11 +51,11 @@ pub fn phase2<I: Image, W: Output>(
     report: &mut Report<'_, W>,
 ) -> Result<Root, RunFault>
     requires ready { IsReady geometry.now.layout (I.device image.old) workspace.old }
-    ensures prints { PhaseOutcome
+    ensures faults { ImageAfter (I.device image.old) (I.device image.new) result }
+    ensures text { PhaseReports
         (WithClaims geometry.now.layout (I.device image.old) workspace.old)
         (λ b. messages.phase2 ∷ map of_tree (pathname_lines (volume_of geometry.now.layout b)))
-        (I.device image.old) (I.device image.new) (progress W.sink report.old)
-        (progress W.sink report.new) result }
+        (progress W.sink report.old) (progress W.sink report.new) result }
     ensures leaves { Phase2Ends geometry.now.layout (I.device image.old) workspace.old
         workspace.new (progress W.sink report.old) (progress W.sink report.new) result }
     ensures reads { Phase2Reads geometry.now.layout (I.device image.old) workspace.old

@@ -1,4 +1,4 @@
-use Rattle.std.proofs.Common.{◌≡◌, ◌+◌, rules, arith, refl, sym, ◌-◌, ◌≤◌, ◌<◌, ap, ◌∙◌, Err, inl, inr, ◌*◌}
+use Rattle.std.proofs.Common.{◌≡◌, ◌+◌, arith, refl, sym, ◌-◌, ◌≤◌, ◌<◌, ap, ◌∙◌, Err, inl, inr, ◌*◌}
 use Rattle.std.proofs.lemmas.{Result.err_from_is_err_and, Bool.cases_lt}
 use Rattle.ffs_volume.{proofs.OwnerLaws.before_next, specs.Blocks.{BlockCheck.phase1_lines, Claims.after_owner}}
 use Rattle.ffs_volume.specs.{Blocks.{KeptSteps.claims_before, Owners.{owner_of, owners_of}}, Report.Whole.run_count}
@@ -14,10 +14,10 @@ use Rattle.ffs_claims.proofs.{IndirectReads.{read_begins, read_failed, read_late
 use Rattle.ffs_claims.proofs.ZeroInodes.{StandsAt, free_where_zero, has_inodes, lines_later, stands_later}
 use Rattle.ffs_claims.proofs.pass1.phase1.Goals as goal
 
-pub returns-in_err-say-clause-prints : goal.returns-in_err-say-clause-prints
-returns-in_err-say-clause-prints g c =
+pub returns-in_err-say-clause-text : goal.returns-in_err-say-clause-text
+returns-in_err-say-clause-text g c =
     let p = err_from_is_err_and c.from_residual.result c.from_residual.ensures.1 in
-    rw (p.1, p.2) (record { image = search rules; text = stops_heading c.in_err-say.ensures.said })
+    rw (p.1, p.2) (stops_heading c.in_err-say.ensures.said)
 
 pub loop-number-init : goal.loop-number-init
 unfolding phase1_lines owners_of
@@ -49,22 +49,25 @@ claim_inode-requires g c =
     let used = used_below inv.ready.ready.made in
     grind arith
 
-pub returns-in_err-claim_inode-clause-prints : goal.returns-in_err-claim_inode-clause-prints
-returns-in_err-claim_inode-clause-prints g c =
+pub returns-in_err-claim_inode-clause-faults : goal.returns-in_err-claim_inode-clause-faults
+returns-in_err-claim_inode-clause-faults g c =
+    let p = err_from_is_err_and c.from_residual-in_err-claim_inode.result
+    c.from_residual-in_err-claim_inode.ensures.1 in
+    rw (p.1, p.2) (image_from {T = Unit {0}} (g.I.Image.device c.claim_inode.new.image)
+    (Err c.in_err-claim_inode.field-0.0) c.loop-number.invariant.device c.in_err-claim_inode.ensures.claims.left.image)
+
+pub returns-in_err-claim_inode-clause-text : goal.returns-in_err-claim_inode-clause-text
+returns-in_err-claim_inode-clause-text g c =
     let p = err_from_is_err_and c.from_residual-in_err-claim_inode.result
     c.from_residual-in_err-claim_inode.ensures.1 in
     let v = c.args.geometry.now.layout in
     let inv = c.loop-number.invariant in
     let s = claims_of c.loop-number.workspace in
     let n = c.loop-number.number in
-    rw (p.1, p.2) (record {
-      image = image_from {T = Unit {0}} (g.I.Image.device c.claim_inode.new.image)
-          (Err c.in_err-claim_inode.field-0.0) inv.device c.in_err-claim_inode.ensures.claims.left.image;
-      text = of_fault (Unit {0}) (Unit {0}) _ _ _ _ _ _ _ _ c.in_err-claim_inode.field-0.0
-          inv.said (λ bytes t. lines_next v bytes s (after_owner v s (owner_of v bytes n)) n (omega arith) refl)
-          (reports_knowing (Unit {0}) _ _ _ _ _ (Err c.in_err-claim_inode.field-0.0)
-          (λ bytes k. ap (λ d. d.contents) inv.device ∙ k.0) c.in_err-claim_inode.ensures.claims.text);
-    })
+    rw (p.1, p.2) (of_fault (Unit {0}) (Unit {0}) _ _ _ _ _ _ _ _ c.in_err-claim_inode.field-0.0
+    inv.said (λ bytes t. lines_next v bytes s (after_owner v s (owner_of v bytes n)) n (omega arith) refl)
+    (reports_knowing (Unit {0}) _ _ _ _ _ (Err c.in_err-claim_inode.field-0.0)
+    (λ bytes k. ap (λ d. d.contents) inv.device ∙ k.0) c.in_err-claim_inode.ensures.claims.text))
 
 pub loop-number-preserved : goal.loop-number-preserved
 loop-number-preserved g c =
@@ -152,11 +155,11 @@ pass_zero_inodes-number-requires g c =
       before = omega (arith, ready.made.kinds);
     }
 
-pub returns-clause-prints : goal.returns-clause-prints
-returns-clause-prints g c =
+pub returns-clause-text : goal.returns-clause-text
+returns-clause-text g c =
     let inv = c.loop-number.invariant in
     let none : inodes_of c.args.geometry.now.layout - c.loop-number.number ≡ 0 = omega arith in
-    record { image = inv.device; text = of_same _ _ _ _ _ _ inv.said (λ bytes k. rw none refl) }
+    of_same _ _ _ _ _ _ inv.said (λ bytes k. rw none refl)
 
 pub returns-clause-leaves : goal.returns-clause-leaves
 unfolding run_count all_claims

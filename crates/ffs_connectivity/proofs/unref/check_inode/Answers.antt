@@ -31,8 +31,10 @@ pub returns-then-not-unref : goal.returns-then-not-unref
 returns-then-not-unref g c =
     let test = tested g (goal.at.returns-then-not-unref g c).After-is_unref-unref in
     record {
-      prints = record { image = refl; text = says_none (λ bytes k. silent _ _ (test bytes k ∙ c.if-not-unref.true)) };
-      reads = record { known = λ bytes k. omega arith; paid = paid_none (omega arith) };
+      faults = refl;
+      text = says_none (λ bytes k. silent _ _ (test bytes k ∙ c.if-not-unref.true));
+      reads = λ bytes k. omega arith;
+      paid = paid_none (omega arith);
       stays = search rules;
     }
 
@@ -45,10 +47,9 @@ returns-in_err-say g c =
 
 pub returns : goal.returns
 returns g c = record {
-  prints = grind (arith, says_all, heard_of, tested);
-  reads = record {
-    known = grind (arith, tested, one_line);
-    paid = paid_says _ c.in_ok-say.ensures.said (omega arith) c.in_ok-inode.ensures.counted;
-  };
+  faults = search rules;
+  text = grind (arith, says_all, heard_of, tested);
+  reads = grind (arith, tested, one_line);
+  paid = paid_says _ c.in_ok-say.ensures.said (omega arith) c.in_ok-inode.ensures.counted;
   stays = search rules;
 }

@@ -1,4 +1,4 @@
-use Rattle.std.proofs.{Common.{◌≡◌, ◌∙◌, ◌+◌, arith, ap, Err, refl, rules}, lemmas.Result.err_from_is_err_and}
+use Rattle.std.proofs.{Common.{◌≡◌, ◌∙◌, ◌+◌, arith, ap, Err, refl}, lemmas.Result.err_from_is_err_and}
 use Rattle.ffs_volume.specs.Directories.{ReferenceCheck.reference_lines_at, Volumes.volume_of}
 use Rattle.ffs_volume.{proofs.Numbered.{as_many, count_next, from_next, from_end}, specs.Blocks.Inodes.inodes_of}
 use Rattle.ffs_report.{specs.Known.ForBytes, proofs.Paying.{paid_answer, paid_fault, paid_says, paid_stops, paid_then}}
@@ -29,10 +29,10 @@ passed g c bytes k =
     (c.deref.ensures.value ∙ ap (λ (w : Workspace). w.kinds.items) inv.held) c.free_from-free.ensures.free
     (omega (arith, c.free_from-free.ensures.within, c.deref.ensures.len, inv.ready.made.kinds))
 
-pub returns-in_err-say-clause-prints : goal.returns-in_err-say-clause-prints
-returns-in_err-say-clause-prints g c =
+pub returns-in_err-say-clause-text : goal.returns-in_err-say-clause-text
+returns-in_err-say-clause-text g c =
     let p = err_from_is_err_and c.from_residual.result c.from_residual.ensures.1 in
-    rw (p.1, p.2) (record { image = search rules; text = stops_heading c.in_err-say.ensures.said })
+    rw (p.1, p.2) (stops_heading c.in_err-say.ensures.said)
 
 pub loop-number-init : goal.loop-number-init
 loop-number-init g c =
@@ -47,22 +47,19 @@ loop-number-init g c =
       paid = paid_says _ c.in_ok-say.ensures.said (omega arith) (omega arith);
     }
 
-pub returns-in_err-check_inode-clause-prints : goal.returns-in_err-check_inode-clause-prints
-returns-in_err-check_inode-clause-prints g c =
+pub returns-in_err-check_inode-clause-text : goal.returns-in_err-check_inode-clause-text
+returns-in_err-check_inode-clause-text g c =
     let p = err_from_is_err_and c.from_residual-in_err-check_inode.result
     c.from_residual-in_err-check_inode.ensures.1 in
     let v = c.args.geometry.now.layout in
     let n = c.loop-number.number in
     let fault = c.in_err-check_inode.field-0.0 in
-    rw (p.1, p.2) (record {
-      image = search rules;
-      text = of_fault (Unit {0}) (Unit {0}) _ _ _ (lines_after v (n + 1)) _ _ _ _ fault c.loop-number.invariant.said
-          (λ bytes k. from_next (reference_lines_at (volume_of v bytes)) n (inodes_of v)
-          (omega (arith, c.loop-number-test.true)))
-          (reports_knowing (Unit {0}) _ _ _ _ _ (Err fault)
-          (known g (goal.at.returns-in_err-check_inode-clause-prints g c).At-loop-number)
-          c.in_err-check_inode.ensures.prints.text);
-    })
+    rw (p.1, p.2) (of_fault (Unit {0}) (Unit {0}) _ _ _ (lines_after v (n + 1)) _ _ _ _ fault c.loop-number.invariant.said
+    (λ bytes k. from_next (reference_lines_at (volume_of v bytes)) n (inodes_of v)
+    (omega (arith, c.loop-number-test.true)))
+    (reports_knowing (Unit {0}) _ _ _ _ _ (Err fault)
+    (known g (goal.at.returns-in_err-check_inode-clause-text g c).At-loop-number)
+    c.in_err-check_inode.ensures.text))
 
 pub loop-number-preserved-then-free-eq0 : goal.loop-number-preserved-then-free-eq0
 loop-number-preserved-then-free-eq0 g c =
@@ -74,28 +71,30 @@ loop-number-preserved-then-free-eq0 g c =
     record {
       within = omega (arith, c.loop-number-test.true);
       ready = ok.stays.ready;
-      device = ok.prints.image ∙ inv.device;
+      device = ok.faults ∙ inv.device;
       held = held_on c.args.workspace.now c.loop-number.workspace c.check_inode.new.workspace inv.held ok.stays.held;
       reads = grind (arith, count_next);
       said = of_part _ _ _ _ _ _ _ _ inv.said
           (λ bytes k. from_next (reference_lines_at (volume_of v bytes)) n (inodes_of v)
           (omega (arith, c.loop-number-test.true)))
-          (said_knows _ _ _ _ _ _ more ok.prints.text);
-      paid = paid_then inv.paid (paid_answer ok.reads.paid);
+          (said_knows _ _ _ _ _ _ more ok.text);
+      paid = paid_then inv.paid (paid_answer ok.paid);
     }
 
 pub loop-number-preserved : goal.loop-number-preserved
 loop-number-preserved g c = grind (arith, passed, as_many, of_same)
 
-pub returns-clause-prints : goal.returns-clause-prints
-returns-clause-prints g c = grind (arith, of_same, from_end)
+pub returns-clause-text : goal.returns-clause-text
+returns-clause-text g c = grind (arith, of_same, from_end)
 
-pub returns-in_err-say-clause-reads : goal.returns-in_err-say-clause-reads
-returns-in_err-say-clause-reads g c = grind (arith, err_from_is_err_and, paid_stops)
+pub returns-in_err-say-clause-paid : goal.returns-in_err-say-clause-paid
+returns-in_err-say-clause-paid g c = grind (arith, err_from_is_err_and, paid_stops)
 
 pub returns-in_err-check_inode-clause-reads : goal.returns-in_err-check_inode-clause-reads
-returns-in_err-check_inode-clause-reads g c =
-    grind (arith, count_next, known, err_from_is_err_and, paid_then, paid_fault)
+returns-in_err-check_inode-clause-reads g c = grind (arith, count_next, known)
 
-pub returns-clause-reads : goal.returns-clause-reads
-returns-clause-reads g c = grind (arith, paid_answer)
+pub returns-in_err-check_inode-clause-paid : goal.returns-in_err-check_inode-clause-paid
+returns-in_err-check_inode-clause-paid g c = grind (arith, err_from_is_err_and, paid_then, paid_fault)
+
+pub returns-clause-paid : goal.returns-clause-paid
+returns-clause-paid g c = grind (arith, paid_answer)

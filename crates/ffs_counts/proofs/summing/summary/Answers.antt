@@ -33,10 +33,10 @@ pub returns-in_err-say : goal.returns-in_err-say
 returns-in_err-say g c =
     let p = err_from_is_err_and c.from_residual.result c.from_residual.ensures.1 in
     let line = line_is g (goal.at.returns-in_err-say g c).After-summary_line in
-    λ device. rw (p.1, p.2) (record { image = refl; text = stops_all line c.in_err-say.ensures.said })
+    rw (p.1, p.2) (record { faults = λ device. refl; text = stops_all line c.in_err-say.ensures.said })
 
 pub returns : goal.returns
-returns g c = λ device. record {
-  image = refl;
+returns g c = record {
+  faults = λ device. refl;
   text = says_all (line_is g (goal.at.returns g c).After-summary_line) c.in_ok-say.ensures.said;
 }

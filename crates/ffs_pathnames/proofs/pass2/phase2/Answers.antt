@@ -38,10 +38,10 @@ ends_by v d d' old w new before after (Ok root) more references answer holds = g
 ends_by v d d' old w new before after (Err (Read fault)) more references answer holds = inr (λ b k. answer b (more b k))
 ends_by v d d' old w new before after (Err (Out fault)) more references answer holds = tt
 
-pub returns-in_err-say-clause-prints : goal.returns-in_err-say-clause-prints
-returns-in_err-say-clause-prints g c =
+pub returns-in_err-say-clause-text : goal.returns-in_err-say-clause-text
+returns-in_err-say-clause-text g c =
     let p = err_from_is_err_and c.from_residual.result c.from_residual.ensures.1 in
-    rw (p.1, p.2) (record { image = search rules; text = stops_heading c.in_err-say.ensures.said })
+    rw (p.1, p.2) (stops_heading c.in_err-say.ensures.said)
 
 pub returns-in_err-say-clause-leaves : goal.returns-in_err-say-clause-leaves
 returns-in_err-say-clause-leaves g c = grind arith
@@ -49,21 +49,15 @@ returns-in_err-say-clause-leaves g c = grind arith
 pub returns-in_err-survey-clause-leaves : goal.returns-in_err-survey-clause-leaves
 returns-in_err-survey-clause-leaves g c = grind arith
 
-pub returns-in_err-survey-clause-prints : goal.returns-in_err-survey-clause-prints
-returns-in_err-survey-clause-prints g c =
+pub returns-in_err-survey-clause-text : goal.returns-in_err-survey-clause-text
+returns-in_err-survey-clause-text g c =
     let p = err_from_is_err_and c.from_residual-in_err-survey.result c.from_residual-in_err-survey.ensures.1 in
-    rw (p.1, p.2) (record {
-      image = search rules;
-      text = of_reads _ _ _ _ _ (says_heading (λ b k. refl) c.in_ok-say.ensures.said);
-    })
+    rw (p.1, p.2) (of_reads _ _ _ _ _ (says_heading (λ b k. refl) c.in_ok-say.ensures.said))
 
-pub returns-clause-prints : goal.returns-clause-prints
-returns-clause-prints g c = record {
-  image = search rules;
-  text = of_last Root _ _ _ _ _ _ _ c.check_tree.result (says_heading (λ b k. refl) c.in_ok-say.ensures.said)
-      (λ b k. refl) (reports_knowing Root _ _ _ _ _ c.check_tree.result
-      (λ b k. before_tree g (goal.at.returns-clause-prints g c).After-check_tree b k.0 k.1) c.check_tree.ensures.tree.text);
-}
+pub returns-clause-text : goal.returns-clause-text
+returns-clause-text g c =
+    of_last Root _ _ _ _ _ _ _ c.check_tree.result (says_heading (λ b k. refl) c.in_ok-say.ensures.said) (λ b k. refl) (reports_knowing Root _ _ _ _ _ c.check_tree.result
+    (λ b k. before_tree g (goal.at.returns-clause-text g c).After-check_tree b k.0 k.1) c.check_tree.ensures.tree.text)
 
 pub returns-clause-leaves : goal.returns-clause-leaves
 returns-clause-leaves g c =
@@ -100,7 +94,7 @@ returns-in_err-say-clause-reads g c = record {
 }
 
 pub returns-in_err-say-clause-paid : goal.returns-in_err-say-clause-paid
-returns-in_err-say-clause-paid g c = paid_text _ _ _ (returns-in_err-say-clause-prints g c).text (omega arith)
+returns-in_err-say-clause-paid g c = paid_text _ _ _ (returns-in_err-say-clause-text g c) (omega arith)
 
 pub returns-in_err-survey-clause-reads : goal.returns-in_err-survey-clause-reads
 returns-in_err-survey-clause-reads g c = record {
@@ -113,7 +107,7 @@ returns-in_err-survey-clause-reads g c = record {
 
 pub returns-in_err-survey-clause-paid : goal.returns-in_err-survey-clause-paid
 returns-in_err-survey-clause-paid g c =
-    paid_text _ _ _ (returns-in_err-survey-clause-prints g c).text (omega (arith, c.survey.ensures.reads.most))
+    paid_text _ _ _ (returns-in_err-survey-clause-text g c) (omega (arith, c.survey.ensures.reads.most))
 
 pub returns-clause-reads : goal.returns-clause-reads
 returns-clause-reads g c = record {
