@@ -8,7 +8,7 @@ ghost use Rattle.ffs_connectivity.specs.Unreached.{AreAllReached, AreReachedBelo
 ghost use Rattle.ffs_workspace.specs.{Found.WithSurvey, Leaves.LeavesSurvey, Ready.IsReady};
 ghost use Rattle.ffs_volume.specs.Messages.Kinds as messages;
 
-use crate::unref::check_inode;
+use crate::unref::report_lost;
 use ffs_image::Image;
 use ffs_layout::Geometry;
 use ffs_report::{Heading, Line, Output, Report, RunFault};
@@ -108,7 +108,7 @@ pub fn phase3<I: Image, W: Output>(
     // `queue` was lent to the walks over parents: no place of a parent entry is noted now.
     workspace.queue.fill(0);
     for number in first..geometry.layout.ncg * geometry.layout.ipg {
-        check_inode(geometry, image, workspace, number, report)?;
+        report_lost(geometry, image, workspace, number, report)?;
     }
     Ok(())
 }

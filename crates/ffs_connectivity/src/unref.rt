@@ -18,7 +18,7 @@ use ffs_workspace::Workspace;
 ///
 /// # Errors
 /// A read of the image that failed, and a write of the report that failed.
-pub fn check_inode<I: Image, W: Output>(
+pub fn report_lost<I: Image, W: Output>(
     geometry: &Geometry,
     image: &mut I,
     workspace: &mut Workspace,

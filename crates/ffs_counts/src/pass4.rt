@@ -75,7 +75,7 @@ fn free_from(kinds: &[u8], first: usize) -> usize
 }
 
 /// Reports what is wrong with an allocated inode. It is read only where it has a line.
-fn check_inode<I: Image, W: Output>(
+fn report_references<I: Image, W: Output>(
     geometry: &Geometry,
     image: &mut I,
     workspace: &mut Workspace,
@@ -148,7 +148,7 @@ pub fn phase4<I: Image, W: Output>(
     while number < inodes {
         let free = free_from(&workspace.kinds, number as usize);
         if free == 0 {
-            check_inode(geometry, image, workspace, number, report)?;
+            report_references(geometry, image, workspace, number, report)?;
             number += 1;
         } else {
             number += free as u32;

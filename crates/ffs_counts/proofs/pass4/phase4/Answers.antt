@@ -47,32 +47,32 @@ loop-number-init g c =
       paid = paid_says _ c.in_ok-say.ensures.said (omega arith) (omega arith);
     }
 
-pub returns-in_err-check_inode-clause-text : goal.returns-in_err-check_inode-clause-text
-returns-in_err-check_inode-clause-text g c =
-    let p = err_from_is_err_and c.from_residual-in_err-check_inode.result
-    c.from_residual-in_err-check_inode.ensures.1 in
+pub returns-in_err-report_references-clause-text : goal.returns-in_err-report_references-clause-text
+returns-in_err-report_references-clause-text g c =
+    let p = err_from_is_err_and c.from_residual-in_err-report_references.result
+    c.from_residual-in_err-report_references.ensures.1 in
     let v = c.args.geometry.now.layout in
     let n = c.loop-number.number in
-    let fault = c.in_err-check_inode.field-0.0 in
+    let fault = c.in_err-report_references.field-0.0 in
     rw (p.1, p.2) (of_fault (Unit {0}) (Unit {0}) _ _ _ (lines_after v (n + 1)) _ _ _ _ fault c.loop-number.invariant.said
     (λ bytes k. from_next (reference_lines_at (volume_of v bytes)) n (inodes_of v)
     (omega (arith, c.loop-number-test.true)))
     (reports_knowing (Unit {0}) _ _ _ _ _ (Err fault)
-    (known g (goal.at.returns-in_err-check_inode-clause-text g c).At-loop-number)
-    c.in_err-check_inode.ensures.text))
+    (known g (goal.at.returns-in_err-report_references-clause-text g c).At-loop-number)
+    c.in_err-report_references.ensures.text))
 
 pub loop-number-preserved-then-free-eq0 : goal.loop-number-preserved-then-free-eq0
 loop-number-preserved-then-free-eq0 g c =
     let v = c.args.geometry.now.layout in
     let inv = c.loop-number.invariant in
     let n = c.loop-number.number in
-    let ok = c.in_ok-check_inode.ensures in
+    let ok = c.in_ok-report_references.ensures in
     let more = known g (goal.at.loop-number-preserved-then-free-eq0 g c).At-loop-number in
     record {
       within = omega (arith, c.loop-number-test.true);
       ready = ok.stays.ready;
       device = ok.faults ∙ inv.device;
-      held = held_on c.args.workspace.now c.loop-number.workspace c.check_inode.new.workspace inv.held ok.stays.held;
+      held = held_on c.args.workspace.now c.loop-number.workspace c.report_references.new.workspace inv.held ok.stays.held;
       reads = grind (arith, count_next);
       said = of_part _ _ _ _ _ _ _ _ inv.said
           (λ bytes k. from_next (reference_lines_at (volume_of v bytes)) n (inodes_of v)
@@ -90,11 +90,11 @@ returns-clause-text g c = grind (arith, of_same, from_end)
 pub returns-in_err-say-clause-paid : goal.returns-in_err-say-clause-paid
 returns-in_err-say-clause-paid g c = grind (arith, err_from_is_err_and, paid_stops)
 
-pub returns-in_err-check_inode-clause-reads : goal.returns-in_err-check_inode-clause-reads
-returns-in_err-check_inode-clause-reads g c = grind (arith, count_next, known)
+pub returns-in_err-report_references-clause-reads : goal.returns-in_err-report_references-clause-reads
+returns-in_err-report_references-clause-reads g c = grind (arith, count_next, known)
 
-pub returns-in_err-check_inode-clause-paid : goal.returns-in_err-check_inode-clause-paid
-returns-in_err-check_inode-clause-paid g c = grind (arith, err_from_is_err_and, paid_then, paid_fault)
+pub returns-in_err-report_references-clause-paid : goal.returns-in_err-report_references-clause-paid
+returns-in_err-report_references-clause-paid g c = grind (arith, err_from_is_err_and, paid_then, paid_fault)
 
 pub returns-clause-paid : goal.returns-clause-paid
 returns-clause-paid g c = grind (arith, paid_answer)

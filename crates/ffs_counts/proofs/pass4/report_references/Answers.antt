@@ -6,10 +6,10 @@ use Rattle.ffs_report.{specs.Known.ForBytes, proofs.Paying.{paid_none, paid_read
 use Rattle.ffs_report.proofs.Reporting.{reads_first, says_all, says_none, stops_all}
 use Rattle.ffs_workspace.{specs.{Found.WithFindings, Ready.StaysReady}, proofs.Readiness.ready_table}
 use Rattle.ffs_counts.{specs.References.lines_as, proofs.Holding.{inode_lines_are, item_at, met_lines, same_reported}}
-use Rattle.ffs_counts.proofs.{Holding.{some_lines, unmet_line, unmet_reported}, pass4.check_inode.Goals.After-inode}
-use Rattle.ffs_counts.proofs.pass4.check_inode.Goals.{After-line_for-line, In_ok-inode}
-use Rattle.ffs_counts.proofs.pass4.check_inode.Given as given
-use Rattle.ffs_counts.proofs.pass4.check_inode.Goals as goal
+use Rattle.ffs_counts.proofs.{Holding.{some_lines, unmet_line, unmet_reported}, pass4.report_references.Goals.After-inode}
+use Rattle.ffs_counts.proofs.pass4.report_references.Goals.{After-line_for-line, In_ok-inode}
+use Rattle.ffs_counts.proofs.pass4.report_references.Given as given
+use Rattle.ffs_counts.proofs.pass4.report_references.Goals as goal
 
 -- an inode that isn't right has one line
 one : (g : given.Over) (c : After-inode g) →
