@@ -101,9 +101,9 @@ fn any_to_check(workspace: &Workspace, count: u32) -> bool
     any
 }
 
-/// Whether an inode is a directory that isn't of size 0 and isn't known to be calm. That a marked
-/// one is flagged doesn't mean that it is calm, but that an entry has named it. A directory of size
-/// 0 has a kind of its own (`Kind`).
+/// Whether an inode is a directory that isn't of size 0 and isn't known to be calm. One of size 0
+/// has another kind (`EMPTY_DIR_KIND`). That a marked one is flagged doesn't mean that it is calm,
+/// but that an entry has named it.
 fn needs_check(workspace: &Workspace, number: u32) -> bool
     requires { ListsInode workspace.now number }
     ensures { result ≡ needs_check workspace.now number }
