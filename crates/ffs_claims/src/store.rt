@@ -41,8 +41,9 @@ fn is_marked(workspace: &Workspace, class: Class) -> bool
 {
     match class {
         Class::Unknown => true,
-        Class::Free | Class::Partial | Class::File | Class::Dir => workspace.bad != 0
-            || workspace.dups != 0,
+        // Both are asked at once, with no branch between them.
+        Class::Free | Class::Partial | Class::File | Class::Dir => (workspace.bad != 0)
+            | (workspace.dups != 0),
     }
 }
 
