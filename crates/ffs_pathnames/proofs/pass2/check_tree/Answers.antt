@@ -18,6 +18,10 @@ use Rattle.ffs_pathnames.{specs.{DirectoryLines.ReportsTree, Moments.PathMoment,
 use Rattle.ffs_pathnames.specs.declared.pass2.Root.{Root}
 use Rattle.ffs_pathnames.specs.ChecksNeeded.{ChecksLookedAt}
 use Rattle.ffs_volume.specs.Report.DirectoryReads.{looks_cost, places_cost}
+use Rattle.std.proofs.{Common.{inl, inr, ◌∷◌, ◌==◌}, lemmas.Bool.cases_Bool}
+use Rattle.ffs_volume.specs.Messages.Kinds.{Message, of_directory}
+use Rattle.ffs_volume.specs.declared.tree_lines.DirectoryLine.TheVariants.{RootNone, RootNotDir}
+use Rattle.ffs_pathnames.specs.RootAnswers.{stops_check}
 use Rattle.ffs_pathnames.proofs.pass2.check_tree.Goals as goal
 
 -- what the kind of the root that was read says
@@ -153,4 +157,28 @@ returns-in_ok-check_inodes-in-Go-clause-tree g c =
       references = tree.references;
       block_check = tree.block_check;
       ready = tree.ready;
+    }
+
+-- the root's message, where the check stops after it
+record StopLine (kind : ℕ) (marked : Bool) : Type 0 where
+  pub line : Message
+  pub stops : stops_check line ≡ true
+  pub alone : map of_tree (root_reported kind marked) ≡ line ∷ []
+
+stop_line : (kind : ℕ) (marked : Bool) → false ≡ is_dir_kind kind → StopLine kind marked
+unfolding root_reported
+stop_line kind marked other = elim (cases_Bool (kind == 0)) [
+  | inl e ↦ record { line = of_tree (of_directory RootNone); stops = refl; alone = rw e refl }
+  | inr e ↦ record { line = of_tree (of_directory RootNotDir); stops = refl; alone = rw (e, sym other) refl }
+]
+
+pub returns-in-Stop-clause-stop : goal.returns-in-Stop-clause-stop
+returns-in-Stop-clause-stop g c = λ _.
+    let at = (goal.at.returns-in-Stop-clause-stop g c).After-report_root in
+    let one = stop_line c.index-kind.result.now c.index-marked.result.now c.in-Stop.ensures in
+    record {
+      last = one.line;
+      stops = one.stops;
+      right = λ b k. sym one.alone ∙ sym (append-nil _) ∙ sym (lines_are g at b false k.claims c.in-Stop.ensures);
+      said = rw one.alone at c.in_ok-report_root.ensures;
     }
