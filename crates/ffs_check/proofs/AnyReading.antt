@@ -4,12 +4,11 @@ use Rattle.std.proofs.{Common.{length-append, Ok, Err, subst, Result}, Math.Nat.
 use Rattle.ffs_image.specs.Device.{Device}
 use Rattle.ffs_volume.specs.{declared.{Layout.Layout, End.End}, Messages.{Kinds.{Message, cannot_alloc, cannot_read}}}
 use Rattle.ffs_volume.specs.{Messages.Texts.texts_of, Report.Reads.{line_reads, opening_reads, phase_reads, reads_limit}}
-use Rattle.ffs_layout.specs.declared.superblock.Super.{Super}
 use Rattle.ffs_report.specs.{Sink.Took, Paid.Paid, Progress.{Progress, Stopped}}
 use Rattle.ffs_report.specs.declared.fault.RunFault.{RunFault, TheVariants.{Read, Out}}
 use Rattle.ffs_report.proofs.Reports.{said_then, stopped_after}
 use Rattle.ffs_pathnames.specs.declared.pass2.Root.{Root}
-use Rattle.ffs_check.specs.{Moment.{Moment, ReportMoment, at_output}, Reads.{ReadsByMessages, ReadsOfVolume}}
+use Rattle.ffs_check.specs.{Moment.{Moment, ReportMoment, at_output}, Reads.ReadsByMessages}
 use Rattle.ffs_check.{specs.PhaseEnds.{EndsAs, SaysNoMemory}, proofs.EndLaws.{broke_after, broke_off, took_messages}}
 
 -- the price of each message, beside what the phases read for none
@@ -63,7 +62,7 @@ unstarted_reads v image reads a b end working e = record {
 }
 
 -- the opening was said, and then the phases
-opened_reads : (v : Layout) (a b c : Moment) (lines : List Message) → Took a.out b.out (texts_of lines) →
+pub opened_reads : (v : Layout) (a b c : Moment) (lines : List Message) → Took a.out b.out (texts_of lines) →
     b.reads ≤ a.reads + opening_reads → ReadsByMessages (phase_reads v) b c → ReadsByMessages (reads_limit v) a c
 opened_reads v a b c lines went opened p =
     let long = length-append lines p.messages in
@@ -75,14 +74,3 @@ opened_reads v a b c lines went opened p =
       ];
       most = omega (arith, long, opened, p.most);
     }
-
--- a superblock was accepted and its opening was said, and then the phases
-pub whole_reads : (found : Super) (a b c : Moment) (lines : List Message) →
-    found.geometry.layout.size * found.geometry.layout.fsize ≤ a.image.size → Took a.out b.out (texts_of lines) →
-    b.reads ≤ a.reads + opening_reads → ReadsByMessages (phase_reads found.geometry.layout) b c → ReadsOfVolume a c
-whole_reads found a b c lines inside went opened phases = record {
-  layout = found.geometry.layout;
-  accepted = found.geometry.sound;
-  inside = inside;
-  reads = opened_reads found.geometry.layout a b c lines went opened phases;
-}

@@ -2,7 +2,7 @@
 -- runs over an image ends.
 use Rattle.std.specs.Prelude.{◌≡◌, ℕ, List, Option}
 use Rattle.ffs_volume.specs.{declared.End.End, Report.Whole.status_of}
-use Rattle.ffs_check.specs.{Failures.HaveFailed, Headline.Headline, Moment.Moment, Program.Meaning, Reads.CheckReads, Taken.TakesOfSystem}
+use Rattle.ffs_check.specs.{Costs.CostsOfSystem, Failures.HaveFailed, Headline.Headline, Moment.Moment, Program.Meaning, Reads.ReadsWithin}
 use Rattle.ffs_check.specs.{CommandWords.{AskFor, LacksMemory, fsck_program}, Refusals.{IsTextFor, refusal_text}}
 
 -- an image was checked under a name, its superblock at a sector, and the status is that of the check's end
@@ -10,8 +10,8 @@ pub record IsChecked (name : List ℕ) (sector : Option ℕ) (old new : Moment) 
   pub end : End
   pub headline : Headline name sector old new end
   pub failures : HaveFailed sector old new end
-  pub memory : TakesOfSystem old.image sector end
-  pub reads_within : CheckReads name sector old new
+  pub costs : CostsOfSystem sector old new end
+  pub reads_within : ReadsWithin old.image name sector old.reads new.reads
   pub status_is : status ≡ status_of end
 
 -- a check of an image, asked for by its sector

@@ -1,23 +1,25 @@
 -- How the phases of a check end, how often they read, and what they leave. `knows` is what is known of the
 -- image's bytes, and `s` the superblock: with it the bytes determine the text, and whether the check
 -- continues after the root.
-use Rattle.std.specs.Prelude.{◌≡◌, ◌⊎◌, ◌<◌, ◌≤◌, ℕ, Bool, true, ◌||◌, List, [], ◌∷◌, ◌++◌, length, Result, Ok}
+use Rattle.std.specs.Prelude.{◌≡◌, ◌⊎◌, ◌<◌, ◌≤◌, ℕ, Bool, false, true, not, ◌||◌, List, [], ◌∷◌, ◌++◌, length, Result, Ok}
 use Rattle.std.specs.Prelude.{Err, IfOk, is_ok}
 use Rattle.ffs_image.specs.Device.{Device, Faulted}
-use Rattle.ffs_volume.specs.declared.End.{End, TheVariants.{ReadFault, WriteFault, NoMemory}}
+use Rattle.ffs_volume.specs.declared.End.{End, TheVariants.{Consistent, Defects, Refused, RootStop, ReadFault, WriteFault}}
+use Rattle.ffs_volume.specs.declared.End.TheVariants.{NoMemory}
 use Rattle.ffs_volume.specs.{Disk.Superblock.Superblock, Directories.PathnameCheck.continues_after_root}
 use Rattle.ffs_volume.specs.{Directories.Volumes.volume_of, Report.Whole.{end_by, phase_lines}, Messages.Kinds.Message}
 use Rattle.ffs_volume.specs.{Messages.Kinds.{cannot_alloc, cannot_read, has_defect}, Report.Memory.runs_limit}
-use Rattle.ffs_volume.specs.{Report.Opening.super_lines, declared.Layout.Layout}
+use Rattle.ffs_volume.specs.Report.Opening.{super_lines}
+use Rattle.ffs_volume.specs.declared.Layout.{Layout}
 use Rattle.ffs_report.specs.{Known.{ForBytes, IsContents}, PhaseOutcome.{ImageAfter, SaidOf, StoppedOf}}
 use Rattle.ffs_report.specs.{Progress.{Progress, Said, Stopped}, declared.fault.RunFault.{RunFault, TheVariants.Read}}
 use Rattle.ffs_report.specs.declared.fault.RunFault.TheVariants.{Out}
-use Rattle.ffs_pathnames.specs.{declared.pass2.Root.Root, RootAnswers.is_go}
+use Rattle.ffs_pathnames.specs.{declared.pass2.Root.Root, RootAnswers.{is_go, stops_check}}
 use Rattle.ffs_memory.specs.Account.{Account}
 use Rattle.ffs_workspace.specs.{declared.workspace.Workspace.Workspace, Found.WithFresh, Lengths.{IsFor, held_of}}
 use Rattle.ffs_workspace.specs.Ready.{IsReady}
-use Rattle.ffs_check.specs.{Ends.{Cut, Ends}, Headline.can_end_report, Reads.PhasesRead, Rest.HasAnswers, Moment.Moment}
-use Rattle.ffs_check.specs.{Moment.{ReportMoment, at_output}, Taken.TakesBytes}
+use Rattle.ffs_check.specs.{Ends.{Cut, Ends}, Reads.PhasesRead, Rest.HasAnswers}
+use Rattle.ffs_check.specs.{Moment.{Moment, ReportMoment, at_output}, Taken.TakesBytes}
 
 -- a read failed before the text was complete: whole messages were said, and others were to come
 pub record SaidNotAll (knows : List ℕ → Type 0) (all : List ℕ → List Message) (old new : Progress) : Type 0 where
@@ -25,11 +27,24 @@ pub record SaidNotAll (knows : List ℕ → Type 0) (all : List ℕ → List Mes
   pub prefix : SaidOf knows rest all old new
   pub more : ForBytes knows (λ bytes. 0 < length (rest bytes))
 
+-- the last message of a text, and whether the check stops after it
+pub record LastStops (stops : Bool) (text : List Message) : Type 0 where
+  pub before : List Message
+  pub last : Message
+  pub text_is : text ≡ before ++ (last ∷ [])
+  pub stops_is : stops_check last ≡ stops
+
+-- all messages were said, and the last of them says whether the check stopped after the root
+pub record SaidWhole (stops : Bool) (knows : List ℕ → Type 0) (all : List ℕ → List Message) (old new : Progress) :
+    Type 0 where
+  pub said : SaidOf knows (λ bytes. []) all old new
+  pub last : LastStops stops said.messages
+
 -- all messages at Ok, whole ones but not all at a read's fault, a prefix of their bytes at a fault
 -- of the output
-abbrev pub ReportsOrStopsEarly : {T : Type 0} → (List ℕ → Type 0) → (List ℕ → List Message) → Progress → Progress →
-    Result T RunFault → Type 0
-ReportsOrStopsEarly knows all old new (Ok x) = SaidOf knows (λ bytes. []) all old new
+abbrev pub ReportsOrStopsEarly : (List ℕ → Type 0) → (List ℕ → List Message) → Progress → Progress →
+    Result Root RunFault → Type 0
+ReportsOrStopsEarly knows all old new (Ok root) = SaidWhole (not (is_go root)) knows all old new
 ReportsOrStopsEarly knows all old new (Err (Read fault)) = SaidNotAll knows all old new
 ReportsOrStopsEarly knows all old new (Err (Out fault)) = StoppedOf knows all old new
 
@@ -74,11 +89,13 @@ EndsAs had_defect old new (Ok root) end = (new ≡ old) × (end ≡ end_by (is_g
 EndsAs had_defect old new (Err (Read fault)) end = SaysReadFault old new fault.sector end
 EndsAs had_defect old new (Err (Out fault)) end = (new ≡ old) × (end ≡ WriteFault)
 
--- the end is by whether the check continued after the root, and by whether a defect was reported
-pub record IsEndByRoot (knows : List ℕ → Type 0) (s : Superblock) (defect : Bool) (end : End) : Type 0 where
+-- the end is by whether the check continued after the root, as the last message says, and by whether a defect
+-- was reported
+pub record IsEndByRoot (knows : List ℕ → Type 0) (s : Superblock) (text : List Message) (end : End) : Type 0 where
   pub continued : Bool
   pub by_root : ForBytes knows (λ bytes. continued ≡ continues_after_root (volume_of s.layout bytes))
-  pub end_is : end ≡ end_by continued defect
+  pub last : LastStops (not continued) text
+  pub end_is : end ≡ end_by continued (has_defect (super_lines s ++ text))
 
 -- a read failed before the text was complete: whole messages of it were said, and others were to come
 pub record IsCutByRead (knows : List ℕ → Type 0) (text : List Message) (image image' : Device) (cut : Cut) : Type 0
@@ -96,8 +113,17 @@ pub record IsCutByRead (knows : List ℕ → Type 0) (text : List Message) (imag
 pub record PhasesEnd (knows : List ℕ → Type 0) (s : Superblock) (old new : Moment) (end : End) : Type 0 where
   pub text : List Message
   pub right : ForBytes knows (λ bytes. text ≡ phase_lines bytes s)
-  pub ends : Ends old new text (IsEndByRoot knows s (has_defect (super_lines s ++ text)))
-      (IsCutByRead knows text old.image new.image) end
+  pub ends : Ends old new text (IsEndByRoot knows s text) (IsCutByRead knows text old.image new.image) end
+
+-- an end that a whole report can have: also `Refused`, and `RootStop` (inode 2 is no directory)
+abbrev pub can_end_report : End → Bool
+can_end_report Consistent = true
+can_end_report Defects = true
+can_end_report (Refused fault) = true
+can_end_report RootStop = true
+can_end_report (ReadFault sector) = false
+can_end_report WriteFault = false
+can_end_report NoMemory = false
 
 -- the phases have run to an end: what went out, how often they read an image that gives its bytes,
 -- and any image, what the workspace answers then, and its lists keep their lengths

@@ -1,11 +1,12 @@
 -- How often a check reads its image at most: one that gives its bytes, and any image, also one that gives
 -- other bytes each time, by the messages that went out, whole or in part.
-use Rattle.std.specs.Prelude.{◌≡◌, ◌⊎◌, ◌≤◌, ◌+◌, ◌*◌, ℕ, List, length, Option, Result, Ok, Err}
+use Rattle.std.specs.Prelude.{◌≡◌, ◌⊎◌, ◌≤◌, ◌+◌, ℕ, List, length, Option, Result, Ok, Err}
 use Rattle.ffs_image.specs.Device.{Device, ForContents}
-use Rattle.ffs_volume.specs.{declared.{Layout.Layout, SuperFault.SuperFault}, Disk.Outcome.outcome}
-use Rattle.ffs_volume.specs.{Disk.Superblock.Superblock, Laws.Geometry.IsAcceptedLayout, Messages.Kinds.Message}
-use Rattle.ffs_volume.specs.{Messages.Texts.texts_of, Report.{VolumeReads.volume_phase_reads, Reads.line_reads}}
-use Rattle.ffs_volume.specs.Report.{Reads.{opening_reads, phase_reads, reads_limit}, Whole.{phase_lines, report_of}}
+use Rattle.ffs_volume.specs.declared.{SuperFault.SuperFault}
+use Rattle.ffs_volume.specs.{Disk.{Outcome.outcome, Superblock.Superblock}}
+use Rattle.ffs_volume.specs.{Messages.{Kinds.Message, Texts.texts_of}, Report.VolumeReads.volume_phase_reads}
+use Rattle.ffs_volume.specs.Report.{Reads.{line_reads, opening_reads, phase_reads, reads_limit}, Whole.phase_lines}
+use Rattle.ffs_volume.specs.Report.Whole.{report_of}
 use Rattle.ffs_report.specs.{Known.ForBytes, Paid.Paid, Sink.{BrokeOff, Took}, declared.fault.RunFault.RunFault}
 use Rattle.ffs_check.specs.Moment.{Moment, ReportMoment}
 
@@ -43,17 +44,3 @@ pub record PhasesPay {T : Type 0} (knows : List ℕ → Type 0) (s : Superblock)
     (result : Result T RunFault) : Type 0 where
   pub known : ForBytes knows (λ bytes. PhasesReadWithin s bytes old.reads new.reads)
   pub paid : Paid (line_reads + 1) old.report new.report (old.reads + phase_reads s.layout 0) new.reads result
-
--- for some accepted layout, of a volume that fits the image, the whole check read within the limit of that
--- layout for what it printed
-pub record ReadsOfVolume (old new : Moment) : Type 0 where
-  pub layout : Layout
-  pub accepted : IsAcceptedLayout layout
-  pub inside : layout.size * layout.fsize ≤ old.image.size
-  pub reads : ReadsByMessages (reads_limit layout) old new
-
--- how often the whole check reads an image that gives its bytes, and any image, also one that gives
--- other bytes each time: at most twice, or within the limit of the volume
-pub record CheckReads (name : List ℕ) (asked_sector : Option ℕ) (old new : Moment) : Type 0 where
-  pub reads : ReadsWithin old.image name asked_sector old.reads new.reads
-  pub any : (new.reads ≤ old.reads + opening_reads) ⊎ ReadsOfVolume old new

@@ -1,11 +1,11 @@
 //! Phase 2: pathnames (fsck(8)).
-ghost use Rattle.std.specs.Prelude.{◌≡◌, ◌+◌, ◌*◌, ◌∷◌, length, map, ◌&&◌, not, ℕ};
+ghost use Rattle.std.specs.Prelude.{◌≡◌, ◌+◌, ◌*◌, ◌∷◌, [], false, length, map, ◌&&◌, not, ℕ, IfOk};
 ghost use Rattle.ffs_report.specs.{Paid.Paid, PhaseOutcome.{ImageAfter, PhaseReports}, Progress.progress};
 ghost use Rattle.ffs_volume.specs.Directories.{PathnameCheck.pathname_lines, Volumes.volume_of};
 ghost use Rattle.ffs_volume.specs.{Encodings.Kinds.is_dir_kind, Messages.Kinds.of_tree, Report.Reads.{line_reads, sweep_reads}};
 ghost use Rattle.ffs_workspace.specs.{Found.WithClaims, Holds.bool_at, Leaves.LeavesBlockCheck, Ready.IsReady};
-ghost use Rattle.ffs_pathnames.specs.{Before.{root_reported, IsNonePassed}, Gathers.AreAsLong};
-ghost use Rattle.ffs_pathnames.specs.{Phase2.{Phase2Ends, Phase2Reads}, RootAnswers.{AnswersRoot, is_go}};
+ghost use Rattle.ffs_pathnames.specs.{Before.{root_reported, IsBefore, IsNonePassed}, Gathers.AreAsLong};
+ghost use Rattle.ffs_pathnames.specs.{Phase2.{Phase2Ends, Phase2Reads}, RootAnswers.{AnswersRoot, SaidStop, is_go}};
 ghost use Rattle.ffs_pathnames.specs.{DirectoryLines.ReportsTree, Moments.lines_moment, SaysTreeMessages.SaysTreeMessages};
 ghost use Rattle.ffs_survey.specs.Survey.{suspect_at};
 ghost use Rattle.ffs_volume.specs.Messages.Kinds as messages;
@@ -119,6 +119,12 @@ fn check_tree<I: Image, W: Output>(
         (lines_moment I.Image W.Output image.old workspace.old report.old tt)
         (lines_moment I.Image W.Output image.new workspace.new report.new tt) result }
     ensures root { AnswersRoot geometry.now.layout (I.device image.old) workspace.old result }
+
+    // Where the check stops after the root, its message was said, and nothing else.
+    ensures stop { IfOk result (λ root. is_go root ≡ false → SaidStop
+        (IsBefore geometry.now.layout (I.device image.old).contents workspace.old 2) []
+        (λ b. map of_tree (pathname_lines (volume_of geometry.now.layout b)))
+        (progress W.sink report.old) (progress W.sink report.new)) }
 {
     let kind = workspace.kinds[ROOTINO as usize];
     let marked = workspace.marked[ROOTINO as usize];

@@ -3,9 +3,8 @@
 //! (`Directories`), and holds no entry. `ffs_names::survey` calls it, over the directories of an
 //! image, and is the one that phase 2 calls.
 //!
-//! `survey` leaves what is reached, parents and references as the definitions have them. That of
-//! `ffs_names`, which phase 2 calls, calls it over the directories of an image. `flag_leaders`
-//! flags one directory of each cycle of parents.
+//! `survey` leaves what is reached, parents and references as the definitions have them;
+//! `flag_leaders` flags one directory of each cycle of parents.
 //!
 //! It rests on `ffs_volume`, `ffs_image` and `ffs_memory`.
 #![tactic(auto)]
