@@ -1,0 +1,83 @@
+"""The proof of a copy that is tried at one goal: the answer of that goal alone."""
+import importlib.machinery
+import importlib.util
+import os
+import re
+
+from .sources import HOME
+
+NAME = re.compile(r"^(?:(?:pub|abbrev|unfoldable|record|data|ruleset) )*(\S+) :", re.M)
+TACTIC = re.compile(r"^ *#\[tactic\((?P<words>[^\]]*)\)\]\n", re.M)
+
+
+def packing():
+    """The part of `pack_imports` that knows how a line of imports is read."""
+    loader = importlib.machinery.SourceFileLoader("pack_imports", f"{HOME}/tools/pack_imports")
+    made = importlib.util.module_from_spec(importlib.util.spec_from_loader("pack_imports", loader))
+    loader.exec_module(made)
+    return made
+
+
+def unpacked(text, crate):
+    """A proof in which each line that imports from its crate names one thing, so that its module stands there whole."""
+    lines = []
+    for line in text.split("\n"):
+        if line.startswith(f"use Rattle.{crate}.") and line.endswith("}"):
+            lines += [f"use {'.'.join(path)}.{{{name}}}" for path, name in packing().leaves(line[len("use "):])]
+        else:
+            lines.append(line)
+    return "\n".join(lines)
+
+
+def items_of(text):
+    """What a file of answers declares, each by its name, and before that the file's lines of imports."""
+    blocks = [it for it in re.split(r"\n\n+", text.strip("\n")) if it]
+    items = {NAME.search(it)[1]: it for it in blocks if not it.startswith("use ") and NAME.search(it)}
+    return [it for it in blocks if it.startswith("use ")], items
+
+
+def is_goal(name, item):
+    """Whether a declaration of a file of answers is the answer of a goal."""
+    return f"pub {name} : goal.{name}" in item.split("\n")
+
+
+def goals_in(text):
+    """The goals that a file of answers answers."""
+    return {name for name, item in items_of(text)[1].items() if is_goal(name, item)}
+
+
+def answer_alone(text, goal):
+    """A file of answers with that of one goal alone, and what it cites there."""
+    imports, items = items_of(text)
+    kept, left = set(), {goal}
+    while left:
+        one = left.pop()
+        kept.add(one)
+        cites = lambda name: re.search(rf"(?<![\w-]){re.escape(name)}(?![\w-])", items[one])
+        left |= {name for name in items if name not in kept and cites(name)}
+    return "\n\n".join([*imports, *(text for name, text in items.items() if name in kept)]) + "\n"
+
+
+def answers_left_out(text):
+    """A file of answers with a hole in place of each."""
+    imports = [it for it in "\n".join(items_of(text)[0]).split("\n") if it.endswith(".Goals as goal")]
+    return "\n\n".join([*imports, *(f"pub {it} : goal.{it}\n{it} = ?" for it in sorted(goals_in(text)))]) + "\n"
+
+
+def lines_of(text):
+    """At which lines each declaration of a file of answers stands."""
+    found, at = {}, 1
+    for block in re.split(r"(\n\n+)", text):
+        name = NAME.search(block)
+        if name and not block.startswith("use "):
+            found[name[1]] = range(at, at + block.count("\n") + 1)
+        at += block.count("\n")
+    return found
+
+
+def read(file):
+    """The text of a file; nothing where it isn't there."""
+    if not os.path.isfile(file):
+        return ""
+    with open(file, encoding="utf-8") as it:
+        return it.read()

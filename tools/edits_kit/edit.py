@@ -1,0 +1,116 @@
+"""An edit: the wrong body that a file of `edits/` makes."""
+import os
+import re
+
+from .answers import TACTIC, answer_alone, answers_left_out, goals_in, read
+from .sources import HOME, constant_at, end_of, function_at, is_function, is_method, item_at, one_place, replaced, start_of, users_of
+
+
+class BadEdit(Exception):
+    """An edit that doesn't apply to its file."""
+
+
+def parts_of(text):
+    """What a text of an edit says: its file, the pairs of texts, and the goal that it names, if it names one."""
+    words = [line.partition(":")[::2] for line in text.split("\n") if line.strip()]
+    if not words:
+        raise BadEdit("it is empty")
+    file = words[0][1].strip()
+    if words[0][0] != "file" or any(key == "file" and text.strip() != file for key, text in words):
+        raise BadEdit("it begins with no line file:, or changes two files")
+    goal = words.pop()[1].strip() if words[-1][0] == "goal" else None
+    words = [(key, text.removeprefix(" ")) for key, text in words if key != "file"]
+    pairs = list(zip(words[0::2], words[1::2], strict=True))
+    if any((old[0], new[0]) != ("old", "new") for old, new in pairs):
+        raise BadEdit("it has other lines than file:, old: and new:, and goal: at its end")
+    return file, [(old[1], new[1]) for old, new in pairs], goal
+
+
+class Edit:
+    """A wrong body: in which file, and which texts it replaces, as places of that file."""
+
+    def __init__(self, crate, path):
+        self.crate, self.path = crate, path
+        self.label = f"{crate}/{os.path.basename(path)}"
+        self.masked, self.names, self.copied, self.folder = False, set(), None, None
+        # Whether it is tried at its goal alone, and whether that goal has an answer: else rattle searches for its proof.
+        self.at_goal = self.is_answered = False
+        self.answer = ""
+        with open(path, encoding="utf-8") as it:
+            self.file, pairs, self.goal = parts_of(it.read())
+        with open(f"{HOME}/crates/{crate}/{self.file}", encoding="utf-8") as it:
+            self.text = it.read()
+        self.after = self.text
+        for old, new in pairs:
+            if self.after.count(old) != 1:
+                raise BadEdit(f"`{old}` doesn't stand once in {self.file}")
+            self.after = self.after.replace(old, new)
+        # Places in the text as it stands, so that several edits can be made in it at once.
+        if all(self.text.count(old) == 1 for old, _ in pairs):
+            self.places = [(self.text.index(old), old, new) for old, new in pairs]
+        else:
+            self.places = [one_place(self.text, self.after)]
+        inside = self.file.removeprefix("src/").removesuffix(".rt")
+        self.stem = () if inside in ("lib", "main") else tuple(inside.split("/"))
+        self.functions = {(self.stem, *it) for it in (function_at(self.text, at) for at, _, _ in self.places) if it}
+        # An edit of constants alone: any of the functions that name one of them may refuse it.
+        self.is_of_constants = not self.functions
+        if self.is_of_constants:
+            self.functions = users_of(crate, {it for it in (constant_at(self.text, at) for at, _, _ in self.places) if it})
+
+    def can_be_copied(self):
+        """Whether it changes one function alone, and that one is free or a method of a type, and doesn't call itself."""
+        item = item_at(self.text, self.places[0][0])
+        if self.is_of_constants or len(self.functions) > 1 or item is None:
+            return False
+        (_, kind, of_trait, _, _), = self.functions
+        self.start, self.item, self.end = start_of(self.text, item), item, end_of(self.text, item)
+        is_inside = all(self.start <= at and at + len(old) <= self.end for at, old, _ in self.places)
+        is_method = kind is not None and not of_trait
+        return is_inside and (is_method or not item["pad"]) and "#[cycle" not in self.text[self.start : item.start()]
+
+    def copy_as(self, name, proofs):
+        """Has it tried by a copy with this name. The proofs are the places of the crate's proofs below its folder of them."""
+        self.copied, self.names = name, {f"{self.crate}::{name}"}
+        (function,) = self.functions
+        named = {it: "::".join([self.crate, *it]) for it in proofs}
+        found = [it for it in named if is_function(named[it], function)] or [it for it in named if is_method(named[it], function)]
+        self.folder = found[0] if found else None
+        answers = goals_in(read(f"{HOME}/crates/{self.crate}/proofs/{'/'.join(self.folder)}/Answers.antt")) if found else set()
+        # It is tried at its goal alone, where it names one, and leaves answers of others out.
+        self.is_answered = self.goal in answers
+        self.at_goal = bool(self.goal and answers)
+
+    def copied_text(self, unchanged):
+        """The function under the copy's name, with the edit in it unless it is to be unchanged. Where the answer of its goal is all that is tried,
+        rattle tries no tactics."""
+        places = [*([] if unchanged else self.places), (self.item.start("name"), self.item["name"], self.copied)]
+        if not (self.at_goal and self.is_answered):
+            return replaced(self.text, places, self.start, self.end)
+        tactic = TACTIC.search(self.text, self.start, self.item.start())
+        places += [(tactic.start(), tactic[0], "")] if tactic else []
+        return f"{self.item['pad']}#[tactic(none)]\n" + replaced(self.text, places, self.start, self.end)
+
+    def answers(self, text):
+        """The answers that it is tried with at its goal alone, of those of its function."""
+        return answer_alone(text, self.goal) if self.is_answered else answers_left_out(text)
+
+    def record(self, goal):
+        """Writes into its file at which goal it is refused; nothing where that isn't known."""
+        with open(self.path, encoding="utf-8") as it:
+            lines = [line for line in it.read().rstrip("\n").split("\n") if not line.startswith("goal:")]
+        with open(self.path, "w", encoding="utf-8") as it:
+            it.write("\n".join([*lines, *([f"goal: {goal}"] if goal else []), ""]))
+
+    def find(self, known):
+        """Sets which functions it changes, of those that the crate has."""
+        self.names = {name for name in known if any(is_function(name, it) for it in self.functions)}
+        if not self.names:
+            self.names = {name for name in known if any(is_method(name, it) for it in self.functions)}
+        if not self.names:
+            # A library that holds its statements alone lists no function that only its own crate can name.
+            self.names = {"::".join([self.crate, *it[0], *([it[1] + it[4]] if it[1] else []), it[3]]) for it in self.functions}
+        # Of the impls of one trait with parameters, as From, those that the text names, where it does.
+        exact = {name for name in self.names if name.split("::")[-2].lower() in {(it[1] + it[4]).lower() for it in self.functions if it[4]}}
+        self.names = exact or self.names
+        return bool(self.names) and (self.is_of_constants or len(self.names) >= len(self.functions))

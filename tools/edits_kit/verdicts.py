@@ -1,0 +1,90 @@
+"""What a check says of an edit."""
+import re
+
+from .answers import goals_in, lines_of
+
+VERDICT = re.compile(r"^fn (\S+): (.*)$", re.M)
+CALLS = re.compile(r"it calls `([^`]+)`, which is not proved")
+PLACE = re.compile(r"(note: )?(\./)?(src|proofs)/\S+:\d+:\d+:")
+NAMED_AWAY = re.compile(r"^(\./)?proofs/.*(has no field|is not in scope|has no `)")
+ERROR = re.compile(r"^(?:\./)?proofs/(?P<path>\S+)/(?P<file>[^/\s]*):(?P<line>\d+):\d+: error")
+LEFT = re.compile(r"`#\[tactic\(none\)\]` leaves (.*)")
+NOT_CHECKED = re.compile(r"rejected, were not checked: (.*)")
+
+
+def alone(edit, said):
+    """What a check with this edit alone says: whether it is refused, and the line."""
+    if re.search(r"^logic=not-proved", said, re.M):
+        first = next((it for it in said.split("\n") if PLACE.match(it)), "")
+        if NAMED_AWAY.match(first):
+            return True, f"{edit.label}: refused alone, only by a proof that names what it took away: {first[:120]}"
+        return True, f"{edit.label}: refused alone: {first[:120]}"
+    if re.search(r"^logic=proved", said, re.M):
+        return False, f"{edit.label}: NOT REFUSED: the crate is still proved with it"
+    last = " | ".join(said.rstrip().split("\n")[-6:])
+    return False, f"{edit.label}: BAD EDIT: it doesn't reach the prover: {last[:300]}"
+
+
+def refusal(name, said, told):
+    """Why a function's own goals are refused; None where they are not, or where nothing is said of them."""
+    rest = told.get(name, "")
+    if not rest.startswith(("not proved", "no proof")):
+        return None
+    path = name.split("::")[1:]
+    errors = [it for it in said.split("\n") if ": error" in it and re.match(rf"(\./)?proofs/{re.escape('/'.join(path))}/[^/]*:\d", it)]
+    if errors:
+        little = all(map(NAMED_AWAY.match, errors)) and "did not prove" not in rest
+        return ("only by a proof that names what it took away: " if little else "") + errors[0][:140]
+    return rest[:150] if "did not prove" in rest else None
+
+
+def judge(edit, said, told):
+    """What a round says of an edit: True and the line where it is refused, None where it is masked, else False."""
+    why = {name: refusal(name, said, told) for name in edit.names}
+    refused = {name: it for name, it in why.items() if it}
+    if refused and (edit.is_of_constants or len(refused) == len(why)):
+        name = sorted(refused)[0]
+        return True, f"{edit.label}: refused: {name}: {refused[name]}"
+    return (None if any(CALLS.search(told.get(name, "")) for name in edit.names) else False), ""
+
+
+def errors_of(edit, said):
+    """The errors in the proof of an edit's copy."""
+    path = "/".join([*edit.folder[:-1], edit.copied])
+    return [it for it in said.split("\n") if (found := ERROR.match(it)) and found["path"] == path]
+
+
+def rest_of(edit, told):
+    """What a check says of an edit's copy."""
+    return next((rest for name, rest in told.items() if name.endswith(f"::{edit.copied}")), "")
+
+
+def refused_at_goal(edit, said, told):
+    """Why the goal that an edit names isn't proved; None where it is, where nothing is said of it, or where its answer names what isn't there."""
+    rest, errors = rest_of(edit, told), errors_of(edit, said)
+    if not edit.is_answered:
+        return rest[:150] if rest.startswith("no proof") and f"`{edit.goal}`" in rest.partition("did not prove")[2] else None
+    lines = {line for it in lines_of(edit.answer).values() for line in it}
+    is_answer = errors and all((found := ERROR.match(it))["file"] == "Answers.antt" and int(found["line"]) in lines for it in errors)
+    if not is_answer or not rest.startswith("not proved") or any(map(NAMED_AWAY.match, errors)):
+        return None
+    return errors[0][:140]
+
+
+def is_proved_at_goal(edit, said, told):
+    """Whether the goal that an edit names is proved of its copy."""
+    rest = rest_of(edit, told)
+    if not edit.is_answered:
+        return rest.startswith("depends on a hole")
+    left = LEFT.search(rest)
+    is_left = left is not None and f"`{edit.goal}`" in left[1]
+    return not errors_of(edit, said) and not is_left and (left is not None or rest.startswith(("proved", "no holes")))
+
+
+def goal_of(edit, said, told):
+    """At which goal an edit is refused, of its copy with all answers: one that has an answer, where one of those is refused."""
+    errors = errors_of(edit, said) if edit.folder else []
+    refused = [goal for it in errors for goal in re.findall(r"error: `([^`]+)`", it)[:1]]
+    refused += [goal for it in errors if (found := NOT_CHECKED.search(it)) for goal in re.findall(r"[^\s,`]+", found[1])]
+    left = re.findall(r"`([^`]+)`", rest_of(edit, told).partition("did not prove")[2])
+    return next((it for it in refused if it in goals_in(edit.answer)), next(iter(left), None))
