@@ -1,16 +1,14 @@
 -- How the phases of a check end, how often they read, and what they leave. `knows` is what is known of the
 -- image's bytes, and `s` the superblock: with it the bytes determine the text, and whether the check
 -- continues after the root.
-use Rattle.std.specs.Prelude.{◌≡◌, ◌⊎◌, ◌<◌, ◌≤◌, ℕ, Bool, false, true, not, ◌||◌, List, [], ◌∷◌, ◌++◌, length, Result, Ok}
-use Rattle.std.specs.Prelude.{Err, IfOk, is_ok}
+use Rattle.std.specs.Prelude.{◌≡◌, ◌⊎◌, ◌<◌, ◌≤◌, ℕ, Bool, false, true, not, ◌||◌, List, [], ◌∷◌, ◌++◌, length, Result}
+use Rattle.std.specs.Prelude.{Ok, Err, IfOk, is_ok}
 use Rattle.ffs_image.specs.Device.{Device, Faulted}
-use Rattle.ffs_volume.specs.declared.End.{End, TheVariants.{Consistent, Defects, Refused, RootStop, ReadFault, WriteFault}}
-use Rattle.ffs_volume.specs.declared.End.TheVariants.{NoMemory}
-use Rattle.ffs_volume.specs.{Disk.Superblock.Superblock, Directories.PathnameCheck.continues_after_root}
-use Rattle.ffs_volume.specs.{Directories.Volumes.volume_of, Report.Whole.{end_by, phase_lines}, Messages.Kinds.Message}
-use Rattle.ffs_volume.specs.{Messages.Kinds.{cannot_alloc, cannot_read, has_defect}, Report.Memory.runs_limit}
-use Rattle.ffs_volume.specs.Report.Opening.{super_lines}
-use Rattle.ffs_volume.specs.declared.Layout.{Layout}
+use Rattle.ffs_volume.specs.declared.End.{End, TheVariants.{Consistent, Defects, Refused, RootStop, ReadFault}}
+use Rattle.ffs_volume.specs.{declared.End.TheVariants.{WriteFault, NoMemory}, Disk.Superblock.Superblock}
+use Rattle.ffs_volume.specs.{Directories.{PathnameCheck.continues_after_root, Volumes.volume_of}, Report.Whole.end_by}
+use Rattle.ffs_volume.specs.{Report.Whole.phase_lines, Messages.Kinds.{Message, cannot_alloc, cannot_read, has_defect}}
+use Rattle.ffs_volume.specs.{Report.{Memory.runs_limit, Opening.super_lines}, declared.Layout.Layout}
 use Rattle.ffs_report.specs.{Known.{ForBytes, IsContents}, PhaseOutcome.{ImageAfter, SaidOf, StoppedOf}}
 use Rattle.ffs_report.specs.{Progress.{Progress, Said, Stopped}, declared.fault.RunFault.{RunFault, TheVariants.Read}}
 use Rattle.ffs_report.specs.declared.fault.RunFault.TheVariants.{Out}
@@ -18,8 +16,8 @@ use Rattle.ffs_pathnames.specs.{declared.pass2.Root.Root, RootAnswers.{is_go, st
 use Rattle.ffs_memory.specs.Account.{Account}
 use Rattle.ffs_workspace.specs.{declared.workspace.Workspace.Workspace, Found.WithFresh, Lengths.{IsFor, held_of}}
 use Rattle.ffs_workspace.specs.Ready.{IsReady}
-use Rattle.ffs_check.specs.{Ends.{Cut, Ends}, Reads.PhasesRead, Rest.HasAnswers}
-use Rattle.ffs_check.specs.{Moment.{Moment, ReportMoment, at_output}, Taken.TakesBytes}
+use Rattle.ffs_check.specs.{Ends.{Cut, Ends}, Reads.PhasesRead, Rest.HasAnswers, Moment.{Moment, ReportMoment}}
+use Rattle.ffs_check.specs.{Moment.at_output, Taken.TakesBytes}
 
 -- a read failed before the text was complete: whole messages were said, and others were to come
 pub record SaidNotAll (knows : List ℕ → Type 0) (all : List ℕ → List Message) (old new : Progress) : Type 0 where

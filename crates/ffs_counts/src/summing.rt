@@ -3,16 +3,14 @@
 ghost use Rattle.std.specs.Prelude.{◌≡◌, ◌∷◌, [], ◌-◌, ◌<◌, ◌^◌, length, count_by, pos, ◌+ℤ◌, ◌*ℤ◌, int_div};
 ghost use Rattle.std.specs.List.{range_with_len};
 ghost use Rattle.ffs_volume.specs.{Disk.Areas.{cgbase, is_reserved}, Groups.Records.group_size};
-ghost use Rattle.ffs_volume.specs.Report.Whole.{summary_of, file_count as files_of};
-ghost use Rattle.ffs_volume.specs.Report.Whole.{claimed_count as claimed_of};
+ghost use Rattle.ffs_volume.specs.Report.Whole.{summary_of, file_count as files_of, claimed_count as claimed_of};
 ghost use Rattle.ffs_layout.specs.Super.{superblock_in};
 ghost use Rattle.ffs_maps.specs.Bits.{bits_of};
 ghost use Rattle.ffs_report.specs.{Lines.message_of, Progress.progress, PhaseOutcome.ImageAfter};
 ghost use Rattle.ffs_image.specs.Device.{Device};
 ghost use Rattle.ffs_groups.specs.Inodes.{AreFew};
-ghost use Rattle.ffs_counts.specs.{Summary.SaysSummary, Summing.files_among};
+ghost use Rattle.ffs_counts.specs.{Summary.SaysSummary, Summing.files_among, Reserved.{HasReserved, claimed_in}};
 ghost use Rattle.ffs_workspace.specs.{Holds.HoldsClaims, Lengths.IsFor};
-ghost use Rattle.ffs_counts.specs.Reserved.{HasReserved, claimed_in};
 
 use ffs_layout::{Geometry, Super};
 use ffs_maps::FragmentMap;

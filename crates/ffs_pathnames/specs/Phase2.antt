@@ -1,15 +1,13 @@
 -- What phase 2 leaves at its answer, and how often it reads the image.
 use Rattle.std.specs.Prelude.{◌≡◌, ◌⊎◌, ◌≤◌, ◌+◌, ◌*◌, ℕ, true, false, List, [], ◌∷◌, length, map, Result, Ok, Err, ⊤}
 use Rattle.ffs_image.specs.Device.{Device}
-use Rattle.ffs_volume.specs.declared.Layout.{Layout}
-use Rattle.ffs_volume.specs.Directories.{PathnameCheck.{continues_after_root, pathname_lines}, Volumes.volume_of}
-use Rattle.ffs_volume.specs.{Messages.Kinds.{of_tree, phase2}, Report.Reads.{line_reads, pathname_reads}}
+use Rattle.ffs_volume.specs.{declared.Layout.Layout, Directories.PathnameCheck.{continues_after_root, pathname_lines}}
+use Rattle.ffs_volume.specs.{Directories.Volumes.volume_of, Messages.Kinds.{of_tree, phase2}, Report.Reads.line_reads}
+use Rattle.ffs_volume.specs.Report.{Reads.pathname_reads, DirectoryReads.{directories_cost, phase2_cost}}
 use Rattle.ffs_report.specs.{Known.ForBytes, Progress.{Progress, Said}, declared.fault.RunFault.RunFault}
 use Rattle.ffs_report.specs.declared.fault.RunFault.TheVariants.{Read, Out}
-use Rattle.ffs_workspace.specs.{declared.workspace.Workspace.Workspace, Found.WithClaims}
-use Rattle.ffs_workspace.specs.Holds.{HoldsClaims, HoldsReferences, HoldsSurvey}
-use Rattle.ffs_volume.specs.Report.DirectoryReads.{directories_cost}
-use Rattle.ffs_volume.specs.Report.DirectoryReads.{phase2_cost}
+use Rattle.ffs_workspace.specs.{declared.workspace.Workspace.Workspace, Found.WithClaims, Holds.HoldsClaims}
+use Rattle.ffs_workspace.specs.Holds.{HoldsReferences, HoldsSurvey}
 use Rattle.ffs_pathnames.specs.{RootAnswers.{SaidStop, is_go}, declared.pass2.Root.Root}
 
 -- the check continues after the root as the image's bytes say, and the workspace holds what the block

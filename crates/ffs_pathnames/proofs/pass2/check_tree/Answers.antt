@@ -1,27 +1,23 @@
 use Rattle.std.proofs.Common.{◌≡◌, ◌≤◌, ◌++◌, ◌+◌, ◌*◌, Bool, slice_index, [], List, ℕ, map, refl, sym, ◌∙◌, append-nil}
-use Rattle.std.proofs.{Common.{true, false, arith, length, Result, Err}, lemmas.Result.err_from_is_err_and}
-use Rattle.ffs_workspace.specs.Holds.{HoldsClaims}
-use Rattle.ffs_pathnames.{specs.Before.{IsBefore, root_reported}, proofs.LineCounts.lines_long}
-use Rattle.ffs_volume.specs.Report.DirectoryReads.{directories_cost}
-use Rattle.ffs_pathnames.proofs.Carrying.{goes_is, root_kind_is, root_marked_is, tree_is, tree_lines}
+use Rattle.std.proofs.Common.{true, false, arith, length, Result, Err, inl, inr, ◌∷◌, ◌==◌}
+use Rattle.std.proofs.lemmas.{Result.err_from_is_err_and, Bool.cases_Bool}
+use Rattle.ffs_workspace.specs.{Holds.HoldsClaims, Ready.IsReady, declared.workspace.Workspace.Workspace}
+use Rattle.ffs_workspace.proofs.Leaving.{block_check_kept}
+use Rattle.ffs_pathnames.{specs.Before.{IsBefore, root_reported}, proofs.{LineCounts.lines_long, Carrying.goes_is}}
+use Rattle.ffs_pathnames.proofs.Carrying.{root_kind_is, root_marked_is, tree_is, tree_lines}
 use Rattle.ffs_pathnames.proofs.pass2.check_tree.{Given.Over, Goals.{After-report_root, After-check_inodes}}
-use Rattle.ffs_volume.specs.{Encodings.Kinds.is_dir_kind, Directories.{Roles.Volume, Volumes.volume_of}, Messages.Kinds.of_tree}
+use Rattle.ffs_pathnames.specs.{DirectoryLines.ReportsTree, Moments.PathMoment, RootAnswers.{AnswersRoot, stops_check}}
+use Rattle.ffs_pathnames.{proofs.Begun.image_same, specs.{declared.pass2.Root.Root, ChecksNeeded.ChecksLookedAt}}
+use Rattle.ffs_volume.specs.Report.DirectoryReads.{directories_cost, looks_cost, places_cost}
+use Rattle.ffs_volume.specs.{Encodings.Kinds.is_dir_kind, Directories.{Roles.Volume, Volumes.volume_of}}
+use Rattle.ffs_volume.specs.Messages.Kinds.{of_tree, TreeMessage, Message, of_directory}
 use Rattle.ffs_volume.specs.{Directories.PathnameCheck.{continues_after_root, pathname_lines}, Report.Reads.line_reads}
+use Rattle.ffs_volume.specs.declared.{Layout.Layout, tree_lines.DirectoryLine.TheVariants.{RootNone, RootNotDir}}
 use Rattle.ffs_report.proofs.{Reporting.{of_begins, of_says, of_stops, of_part, of_fault}, Paying.paid_said}
-use Rattle.ffs_report.proofs.Paying.{paid_answer, paid_fault, paid_text, paid_then}
-use Rattle.ffs_volume.specs.{declared.Layout.Layout, Messages.Kinds.TreeMessage}
-use Rattle.ffs_image.specs.Device.{Device}
-use Rattle.ffs_report.specs.{Known.ForBytes, PhaseOutcome.{ImageAfter, PhaseReports}, Progress.Progress}
+use Rattle.ffs_report.{proofs.Paying.{paid_answer, paid_fault, paid_text, paid_then}, specs.Known.ForBytes}
+use Rattle.ffs_report.specs.{PhaseOutcome.{ImageAfter, PhaseReports}, Progress.Progress}
 use Rattle.ffs_report.specs.declared.fault.RunFault.{RunFault, TheVariants.{Read, Out}}
-use Rattle.ffs_workspace.{specs.{Ready.IsReady, declared.workspace.Workspace.Workspace}, proofs.Leaving.block_check_kept}
-use Rattle.ffs_pathnames.{specs.{DirectoryLines.ReportsTree, Moments.PathMoment, RootAnswers.AnswersRoot}, proofs.Begun.image_same}
-use Rattle.ffs_pathnames.specs.declared.pass2.Root.{Root}
-use Rattle.ffs_pathnames.specs.ChecksNeeded.{ChecksLookedAt}
-use Rattle.ffs_volume.specs.Report.DirectoryReads.{looks_cost, places_cost}
-use Rattle.std.proofs.{Common.{inl, inr, ◌∷◌, ◌==◌}, lemmas.Bool.cases_Bool}
-use Rattle.ffs_volume.specs.Messages.Kinds.{Message, of_directory}
-use Rattle.ffs_volume.specs.declared.tree_lines.DirectoryLine.TheVariants.{RootNone, RootNotDir}
-use Rattle.ffs_pathnames.specs.RootAnswers.{stops_check}
+use Rattle.ffs_image.specs.Device.{Device}
 use Rattle.ffs_pathnames.proofs.pass2.check_tree.Goals as goal
 
 -- what the kind of the root that was read says

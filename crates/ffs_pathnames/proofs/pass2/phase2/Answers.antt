@@ -1,22 +1,21 @@
-use Rattle.std.proofs.Common.{[], ◌∷◌, List, ℕ, refl, ap, ◌∙◌, inr, arith, ◌≡◌, ◌*◌, Some, OnOk, Result, Ok, Err}
-use Rattle.std.proofs.lemmas.Result.{err_from_is_err_and}
+use Rattle.std.proofs.Common.{[], ◌∷◌, List, ℕ, refl, ap, ◌∙◌, inr, arith, ◌≡◌, ◌*◌, Some, OnOk, Result, Ok, Err, IfOk}
+use Rattle.std.proofs.{Common.{map, false}, lemmas.Result.err_from_is_err_and}
 use Rattle.ffs_image.specs.Device.{Device}
 use Rattle.ffs_report.proofs.Reporting.{of_reads, of_last, reports_knowing, says_heading, stops_heading}
 use Rattle.ffs_report.{proofs.Paying.{paid_said, paid_text, paid_then}, specs.{Known.ForBytes, Progress.Progress}}
-use Rattle.ffs_report.specs.declared.fault.RunFault.{RunFault, TheVariants.{Read, Out}}
-use Rattle.ffs_volume.{specs.{Messages.Kinds.phase2, declared.Layout.Layout}, proofs.RunBounds.runs_bounded}
+use Rattle.ffs_report.specs.{Progress.Said, declared.fault.RunFault.{RunFault, TheVariants.{Read, Out}}}
+use Rattle.ffs_report.proofs.Reports.{said_then}
+use Rattle.ffs_volume.specs.{Messages.Kinds.{phase2, Message, of_tree}, declared.Layout.Layout}
+use Rattle.ffs_volume.{proofs.RunBounds.runs_bounded, specs.Directories.PathnameCheck.pathname_lines}
+use Rattle.ffs_volume.specs.Directories.Volumes.{volume_of}
 use Rattle.ffs_pathnames.specs.{declared.pass2.Root.Root, Before.IsBefore, Phase2.Phase2Ends, RootAnswers.AnswersRoot}
-use Rattle.ffs_pathnames.proofs.{Carrying.{before_first, references_on}, SilentLaws.calm_silent}
-use Rattle.ffs_pathnames.proofs.pass2.phase2.{Given.Over, Goals.After-check_tree}
-use Rattle.ffs_names.proofs.{DirCosts.noted_all_within, RunSums.costs_bounded}
+use Rattle.ffs_pathnames.{specs.RootAnswers.{SaidStop, is_go}, proofs.Carrying.{before_first, references_on}}
+use Rattle.ffs_pathnames.proofs.{SilentLaws.calm_silent, pass2.phase2.{Given.Over, Goals.After-check_tree}}
 use Rattle.ffs_pathnames.proofs.ChecksNeededLaws.{looked_at_first}
+use Rattle.ffs_names.proofs.{DirCosts.noted_all_within, RunSums.costs_bounded}
 use Rattle.ffs_workspace.specs.{declared.workspace.Workspace.Workspace, Found.WithClaims, Holds.HoldsClaims}
-use Rattle.ffs_workspace.specs.Holds.{HoldsReferences, HoldsSurvey}
-use Rattle.ffs_workspace.proofs.Leaving.{block_check_kept, block_check_left, block_check_more}
-use Rattle.std.proofs.Common.{IfOk, map, false}
-use Rattle.ffs_report.{specs.Progress.Said, proofs.Reports.said_then}
-use Rattle.ffs_volume.specs.{Messages.Kinds.{Message, of_tree}, Directories.{PathnameCheck.pathname_lines, Volumes.volume_of}}
-use Rattle.ffs_pathnames.specs.RootAnswers.{SaidStop, is_go}
+use Rattle.ffs_workspace.{specs.Holds.{HoldsReferences, HoldsSurvey}, proofs.Leaving.block_check_kept}
+use Rattle.ffs_workspace.proofs.Leaving.{block_check_left, block_check_more}
 use Rattle.ffs_pathnames.proofs.pass2.phase2.Goals as goal
 
 -- what is known before the first directory
