@@ -85,7 +85,8 @@ fn total_64(order: Order, bytes: &[u8], name: &'static [u8], place: u32, wants: 
 
 /// The least multiple of the fragment's size that a superblock fits.
 fn whole_size(layout: &Layout) -> u32
-    requires { (layout.now.sbsize ≤ SBSIZE) × (DEV_BSIZE ≤ layout.now.fsize) × (layout.now.fsize ≤ 65536) }
+    requires { (layout.now.sbsize ≤ SBSIZE) × (DEV_BSIZE ≤ layout.now.fsize)
+        × (layout.now.fsize ≤ 65536) }
     ensures { result ≡ div_ceil layout.now.sbsize layout.now.fsize * layout.now.fsize }
 {
     layout.sbsize.div_ceil(layout.fsize) * layout.fsize
