@@ -16,13 +16,13 @@ use Rattle.ffs_volume.specs.Directories.Graph.{is_naming_dir, is_naming_entry, l
 use Rattle.ffs_volume.specs.Directories.{Graph.reached, Climb.is_value, Parents.graph_of, Roles.{RoledEntry, is_dir}}
 use Rattle.ffs_volume.specs.Directories.{Roles.{role_of, roled_chunk, roled_entries, roled_from}, Volumes.volume_of}
 use Rattle.ffs_volume.specs.{Directories.Volumes.volume_with, Blocks.Inodes.inodes_of}
+use Rattle.ffs_volume.specs.Encodings.Places.{entries_in_chunk, entries_in_part, is_due as is_to_be_read, name_in}
+use Rattle.ffs_volume.specs.Encodings.Places.{part_size, place_in, ArePlaces, AreNoted, IsNoted}
 use Rattle.ffs_walk.specs.declared.{blocks.Blocks.Blocks, window.Window.Window}
 use Rattle.ffs_workspace.proofs.{Leaving.counts_same, PlaceLaws.{any_naming-roled, name_in-after, name_in-among}}
 use Rattle.ffs_workspace.{proofs.PlaceLaws.name_in-roled, specs.{Holds.{HoldsClaims, HoldsSurvey}, Ready.IsReady}}
-use Rattle.ffs_workspace.specs.Places.{entries_in_chunk, entries_in_part, is_due as is_to_be_read, name_in, part_size}
-use Rattle.ffs_workspace.specs.{Places.{place_in, ArePlaces, AreNoted, IsNoted}, Tables.KeepsTable}
-use Rattle.ffs_workspace.{proofs.PartLaws.{begins_part, lies_in_part, BeginsPart}, specs.declared.table.Table.Table}
-use Rattle.ffs_workspace.specs.declared.workspace.Workspace.{Workspace}
+use Rattle.ffs_workspace.{specs.Tables.KeepsTable, proofs.PartLaws.{begins_part, lies_in_part, BeginsPart}}
+use Rattle.ffs_workspace.specs.declared.{table.Table.Table, workspace.Workspace.Workspace}
 use Rattle.ffs_names.{proofs.InParts.named_in_part, specs.{Fits.CursorFits, RunCursors.{last_place, StepsOn}}}
 use Rattle.ffs_names.specs.{declared.run_cursor.RunCursor.RunCursor, Noting.{is_child, is_found, BeginsNotes, IsParent}}
 use Rattle.ffs_names.specs.{Noting.{KeepsToRead, NotesChildren, NotesChunk, NotesEntries}, Windows.CanReadChunks}

@@ -1,4 +1,4 @@
--- What chunks of a directory p note of the places of parent entries. Words are as in `Places` of
+-- What chunks of a directory p note of the places of parent entries. Words are as in `Encodings/Places` of
 -- ffs_workspace, but the bit that says later that the parent entry of a directory is due (`is_due`)
 -- says here that the directory is a parent whose chunks are to be read (`is_to_be_read`).
 use Rattle.std.specs.Prelude.{◌≡◌, ◌⊎◌, ℕ, suc, ◌<◌, ◌≤◌, ◌^◌, ◌==◌, Bool, true, false, not, ◌&&◌, if◌then◌else◌, List}
@@ -9,7 +9,8 @@ use Rattle.ffs_image.specs.declared.image.Image.{Ghosts}
 use Rattle.ffs_volume.specs.declared.{constants.TheConstants.ROOTINO, Layout.Layout}
 use Rattle.ffs_volume.specs.Directories.{Graph.is_naming_entry, Roles.{RoledEntry, roled_entries}, Volumes.volume_of}
 use Rattle.ffs_volume.specs.{Encodings.Lists.bool_at, Blocks.Inodes.inodes_of, Report.DirectoryReads.noted_cost}
-use Rattle.ffs_workspace.specs.Places.{entries_in_part, is_due as is_to_be_read, name_in, place_in, AreNoted, IsNoted}
+use Rattle.ffs_volume.specs.Encodings.Places.{entries_in_part, is_due as is_to_be_read, name_in, place_in, AreNoted}
+use Rattle.ffs_volume.specs.Encodings.Places.{IsNoted}
 use Rattle.ffs_workspace.specs.{Holds.HoldsSurvey, Ready.IsReady, declared.workspace.Windows.Windows}
 use Rattle.ffs_workspace.specs.declared.workspace.Workspace.{Workspace}
 use Rattle.ffs_names.specs.{Costs.{to_read, HoldsReading}, Sweeps.DirSweep, Windows.CanReadChunks}

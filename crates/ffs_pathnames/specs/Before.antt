@@ -6,7 +6,8 @@ use Rattle.ffs_volume.specs.{declared.{constants.TheConstants.DT_DIR, Layout.Lay
 use Rattle.ffs_volume.specs.{Messages.Kinds.{reported, of_directory}, Directories.Volumes.volume_of}
 use Rattle.ffs_volume.specs.Encodings.Kinds.{is_dir_kind, is_empty_dir_kind}
 use Rattle.ffs_volume.specs.declared.tree_lines.DirectoryLine.TheVariants.{RootNone, RootNotDir, RootSuspect}
-use Rattle.ffs_workspace.specs.{declared.workspace.Workspace.Workspace, Leaves.LeavesSurvey, Places.AreNoted}
+use Rattle.ffs_workspace.specs.{declared.workspace.Workspace.Workspace, Leaves.LeavesSurvey}
+use Rattle.ffs_volume.specs.Encodings.Places.{AreNoted}
 use Rattle.ffs_workspace.specs.{Holds.{bool_at, HoldsClaims, HoldsSurvey}, Ready.IsReady}
 use Rattle.ffs_pathnames.specs.{Gathers.{AreAsLong, passed_of}, PassedRight.AreRightBefore}
 use Rattle.ffs_survey.specs.Survey.{suspect_at}

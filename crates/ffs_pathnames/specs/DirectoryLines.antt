@@ -6,10 +6,9 @@ use Rattle.ffs_volume.specs.{declared.Layout.Layout, Directories.{PathnameCheck.
 use Rattle.ffs_volume.specs.{Directories.{Roles.Volume, Volumes.volume_of}, Report.Reads.{line_reads, path_reads}}
 use Rattle.ffs_volume.specs.{Report.Reads.sweep_reads, Messages.Kinds.{TreeMessage, of_tree}}
 use Rattle.ffs_volume.specs.Report.DirectoryReads.{directories_cost, directory_cost, directory_runs, looks_cost}
-use Rattle.ffs_volume.specs.Report.DirectoryReads.{places_cost}
+use Rattle.ffs_volume.specs.{Report.DirectoryReads.places_cost, Encodings.Places.AreNoted}
 use Rattle.ffs_paths.specs.declared.kept_parent.KeptParent.{KeptParent}
-use Rattle.ffs_workspace.specs.{Places.AreNoted, Holds.{HoldsClaims, HoldsSurvey}, Leaves.LeavesBlockCheck}
-use Rattle.ffs_workspace.specs.Ready.{IsReady}
+use Rattle.ffs_workspace.specs.{Holds.{HoldsClaims, HoldsSurvey}, Leaves.LeavesBlockCheck, Ready.IsReady}
 use Rattle.ffs_pathnames.specs.{ChecksNeeded.ChecksLookedAt, Before.IsBefore, Gathers.passed_of, LineReads.again_reads}
 use Rattle.ffs_pathnames.specs.{LineReads.ReadsByLines, DirectoryContext.KnowsHeader, HeaderValues.facts_lines}
 use Rattle.ffs_pathnames.specs.{Moments.LinesMoment, PassedNames.{are_quiet, directory_reported}, Ready.LinesLeave}

@@ -2,8 +2,7 @@
 use Rattle.std.specs.Prelude.{◌≡◌, ℕ, IsTrue, List, OnOk, Result, length, map}
 use Rattle.ffs_report.specs.{Paid.Paid, PhaseOutcome.PhaseReports, declared.fault.RunFault.RunFault, Known.ForBytes}
 use Rattle.ffs_volume.specs.{declared.Layout.Layout, Directories.{Roles.{RoledEntry, Volume}, Volumes.volume_of}}
-use Rattle.ffs_volume.specs.{Messages.Kinds.{TreeMessage, of_tree}, Report.Reads.line_reads}
-use Rattle.ffs_workspace.specs.Places.{AreNoted}
+use Rattle.ffs_volume.specs.{Messages.Kinds.{TreeMessage, of_tree}, Report.Reads.line_reads, Encodings.Places.AreNoted}
 use Rattle.ffs_pathnames.specs.{DirectoryContext.{DirectoryContext, KeepsPath, KnowsPath}, LineReads.ReadsByLines}
 use Rattle.ffs_pathnames.specs.{LineReads.ReadsPathOnce, declared.one_entry.EntryTexts.EntryTexts, Gathers.passed_of}
 use Rattle.ffs_pathnames.specs.{Moments.LinesMoment, PassedNames.{after_entries, entries_reported}, Ready.LinesLeave}

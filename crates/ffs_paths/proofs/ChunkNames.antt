@@ -7,7 +7,8 @@ use Rattle.ffs_volume.specs.{declared.{Order.Order, Role.Role}, Disk.Numbers.{pi
 use Rattle.ffs_volume.specs.Directories.Entries.{entry_at, entry_read, is_live, is_well_formed, name_at}
 use Rattle.ffs_volume.specs.Directories.{Roles.{RoledEntry, is_plain, role_of}, Graph.is_naming_entry}
 use Rattle.ffs_walk.proofs.Ranges.{range_step}
-use Rattle.ffs_workspace.{proofs.PlaceLaws.{name_in-after, name_in-among}, specs.Places.entries_in_chunk}
+use Rattle.ffs_workspace.proofs.PlaceLaws.{name_in-after, name_in-among}
+use Rattle.ffs_volume.specs.Encodings.Places.{entries_in_chunk}
 use Rattle.ffs_layout.specs.{Entry.entry_value, declared.entry.Entry.Entry as CodeEntry}
 use Rattle.ffs_names.{proofs.Stepping.{roled_end, roled_on}, specs.EntriesToCome.{roled_to_come, GivesWithIndex}}
 use Rattle.ffs_names.specs.declared.chunk_entries.ChunkEntries.{ChunkEntries}

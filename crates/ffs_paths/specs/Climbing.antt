@@ -4,9 +4,10 @@ use Rattle.std.specs.{Prelude.{vec_len, slice_index}, List.list_any}
 use Rattle.ffs_image.specs.Device.{Device, ForContents}
 use Rattle.ffs_volume.specs.Directories.{Graph.{Graph, is_naming_entry, parent}, Paths.{dir_path, entry_path}}
 use Rattle.ffs_volume.specs.{declared.{Layout.Layout, constants.TheConstants.MAXPATHLEN}, Directories.Roles.RoledEntry}
-use Rattle.ffs_workspace.specs.{declared.workspace.Workspace.Workspace, Holds.bool_at, Places.IsNoted}
+use Rattle.ffs_workspace.specs.{declared.workspace.Workspace.Workspace, Holds.bool_at}
+use Rattle.ffs_volume.specs.Encodings.Places.{IsNoted}
 use Rattle.ffs_paths.specs.Reads.{ForTree}
-pub use Rattle.ffs_workspace.specs.Places.{name_in}
+pub use Rattle.ffs_volume.specs.Encodings.Places.{name_in}
 
 -- it is the name of the directory d in its parent p: that of the first plain entry there that names
 -- it, if there is one

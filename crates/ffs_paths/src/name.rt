@@ -2,11 +2,10 @@
 
 ghost use Rattle.std.specs.Prelude.{◌≡◌, ◌==◌, ◌&&◌, ◌/◌, false, max, IfOk, OnOk, length};
 ghost use Rattle.ffs_volume.specs.Directories.{Entries.entries_of, Roles.{is_plain, role_of, roled_from}};
+ghost use Rattle.ffs_volume.specs.{Encodings.Places.entries_in_chunks, declared.constants.TheConstants.DIRBLKSIZ};
 ghost use Rattle.ffs_layout.specs.Entry.{entry_value};
 ghost use Rattle.ffs_paths.specs.{Climbing.{FindsFirstName, FindsName, FindsNoted, IsNameIn}, NameTexts.name_bytes};
 ghost use Rattle.ffs_paths.specs.Reads.{ForTree, IsReadyFor, OnlyReads, path_moment, ReadsName, ReadsPlace};
-ghost use Rattle.ffs_workspace.specs.Places.{entries_in_chunks};
-ghost use Rattle.ffs_volume.specs.declared.constants.TheConstants.{DIRBLKSIZ};
 
 use crate::name_text::NameText;
 use ffs_image::{Image, ImageFault};

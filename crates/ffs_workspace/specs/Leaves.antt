@@ -1,7 +1,7 @@
 -- What the phases after the block check, and after the survey of directories, leave of a workspace.
 use Rattle.std.specs.Prelude.{◌≡◌, ℕ, List}
-use Rattle.ffs_volume.specs.declared.Layout.{Layout}
-use Rattle.ffs_workspace.specs.{Places.ArePlaces, declared.workspace.Workspace.Workspace}
+use Rattle.ffs_volume.specs.{declared.Layout.Layout, Encodings.Places.ArePlaces}
+use Rattle.ffs_workspace.specs.declared.workspace.Workspace.{Workspace}
 
 -- what the block check left is as it was: claims, duplicates, kinds, marks and notes, and what
 -- `has_dups` and `runs` answer

@@ -1,6 +1,5 @@
 use Rattle.std.proofs.Common.{◌≡◌, ◌<◌, ◌≤◌, ℕ, true, false, length, slice_index, vec_len}
-use Rattle.ffs_volume.specs.Encodings.Lists.{bool_at}
-use Rattle.ffs_workspace.specs.Places.{is_due as is_to_be_read, place_in}
+use Rattle.ffs_volume.specs.Encodings.{Lists.bool_at, Places.{is_due as is_to_be_read, place_in}}
 use Rattle.ffs_names.specs.Noting.{IsParent}
 use Rattle.ffs_names.proofs.places.flag_parents.Given as goal
 

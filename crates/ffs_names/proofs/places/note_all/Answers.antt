@@ -2,7 +2,8 @@ use Rattle.std.proofs.Common.{◌≡◌, ◌≢◌, ◌<◌, ◌*◌, ◌+◌, �
 use Rattle.std.proofs.{Common.{rules, slice_index, slice_set, sym}, lemmas.Grind.{common_steps, get_or_default_zero}}
 use Rattle.std.proofs.lemmas.Result.{err_from_is_err_and}
 use Rattle.ffs_volume.{proofs.Sizes.some_inodes, specs.{Blocks.Inodes.inodes_of, Report.DirectoryReads.noted_cost}}
-use Rattle.ffs_workspace.specs.{Places.{is_due as is_to_be_read, place_in}, declared.workspace.Workspace.Workspace}
+use Rattle.ffs_workspace.specs.declared.workspace.Workspace.{Workspace}
+use Rattle.ffs_volume.specs.Encodings.Places.{is_due as is_to_be_read, place_in}
 use Rattle.ffs_survey.proofs.Costs.{cost_take, costs_rise}
 use Rattle.ffs_names.{specs.Noting.{BeginsNotes, KeepsToRead}, proofs.PlacesNoted.{claims_noted, coming_end}}
 use Rattle.ffs_names.proofs.PlacesNoted.{coming_first, coming_noted, none_to_be_read, only_fewer, parent_is_dir}

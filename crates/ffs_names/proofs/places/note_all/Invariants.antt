@@ -1,8 +1,8 @@
 use Rattle.std.proofs.Common.{◌≡◌, ◌<◌, ◌≤◌, ◌+◌, ℕ, false, slice_index}
 use Rattle.ffs_image.specs.Device.{ForContents}
-use Rattle.ffs_workspace.specs.{Holds.{HoldsClaims, HoldsSurvey}, Ready.IsReady, Places.is_due as is_to_be_read}
-use Rattle.ffs_workspace.specs.Places.{ArePlaces}
-use Rattle.ffs_volume.specs.Report.DirectoryReads.{costs_all, noted_cost}
+use Rattle.ffs_workspace.specs.{Holds.{HoldsClaims, HoldsSurvey}, Ready.IsReady}
+use Rattle.ffs_volume.specs.{Encodings.Places.{is_due as is_to_be_read, ArePlaces}, Report.DirectoryReads.costs_all}
+use Rattle.ffs_volume.specs.Report.DirectoryReads.{noted_cost}
 use Rattle.ffs_names.proofs.PlacesNoted.{AreComing, OnlyParents}
 use Rattle.ffs_names.proofs.places.note_all.Given as goal
 

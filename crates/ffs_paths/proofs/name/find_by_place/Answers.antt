@@ -3,7 +3,7 @@ use Rattle.std.{proofs.{Common.length-take, lemmas.List.get_or_default}, specs.L
 use Rattle.std.proofs.lemmas.Result.{err_from_is_err_and}
 use Rattle.ffs_volume.specs.{Disk.Numbers.piece, Directories.Graph.is_naming_entry}
 use Rattle.ffs_paths.{specs.Climbing.name_in, proofs.Keeping.name_read}
-use Rattle.ffs_workspace.specs.Places.{entries_in_chunks, entries_in_part, part_size, place_in}
+use Rattle.ffs_volume.specs.Encodings.Places.{entries_in_chunks, entries_in_part, part_size, place_in}
 use Rattle.ffs_paths.proofs.name.find_by_place.Given as given
 use Rattle.ffs_paths.proofs.name.find_by_place.Goals as goal
 
