@@ -1,6 +1,6 @@
--- What chunks of a directory p note of the places of parent entries. Words are as in `Encodings/Places` of
--- ffs_workspace, but the bit that says later that the parent entry of a directory is due (`is_due`)
--- says here that the directory is a parent whose chunks are to be read (`is_to_be_read`).
+-- What chunks of a directory p note of the places of parent entries. Words are as in the book's
+-- `Encodings/Places`, but the bit that says later that the parent entry of a directory is due
+-- (`is_due`) says here that the directory is a parent whose chunks are to be read (`is_to_be_read`).
 use Rattle.std.specs.Prelude.{◌≡◌, ◌⊎◌, ℕ, suc, ◌<◌, ◌≤◌, ◌^◌, ◌==◌, Bool, true, false, not, ◌&&◌, if◌then◌else◌, List}
 use Rattle.std.specs.{Prelude.{◌+◌, slice_index, length, vec_len, OnOk, Result}, List.list_any}
 use Rattle.std.specs.declared.{alloc.Global.Global, vec.Vec.Vec}
