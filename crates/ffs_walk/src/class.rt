@@ -1,9 +1,8 @@
 //! What an inode is, and which of its addresses it uses.
 
-ghost use Rattle.std.specs.Prelude.{◌≡◌, ◌==◌, ◌&&◌, ◌*◌, ◌+◌, ◌<◌, ◌≤◌, ◌^◌, ◌||◌, IsTrue, drop, not, if◌then◌else◌};
+ghost use Rattle.std.specs.Prelude.{◌≡◌, ◌==◌, ◌&&◌, ◌*◌, ◌+◌, ◌<◌, ◌≤◌, ◌^◌, drop, not, if◌then◌else◌};
 ghost use Rattle.ffs_volume.specs.Blocks.Inodes as inodes;
 ghost use Rattle.ffs_volume.specs.Blocks.Steps as steps;
-ghost use Rattle.ffs_volume.specs.declared.constants.TheConstants.{DT_REG, DT_DIR};
 ghost use Rattle.ffs_walk.specs.Lengths.{AreWalkedBlocks, IsLastLength};
 
 use crate::pieces::{after_pieces, pieces_of};
@@ -186,26 +185,6 @@ fn addresses_allowed(geometry: &Geometry, inode: &Inode) -> usize
     addresses_needed(u64::from(geometry.layout.nindir), counted) as usize
 }
 
-/// Whether this is the type of a regular file or of a directory.
-#[inline(always)]
-fn is_regular_or_dir(kind: u8) -> bool
-    ensures { result ≡ (kind == DT_REG || kind == DT_DIR) }
-{
-    matches!(kind, DT_REG | DT_DIR)
-}
-
-/// How many of its fifteen addresses a regular file or a directory may use. Most inodes are one of
-/// these: no other type is asked for.
-#[inline(always)]
-fn addresses_of_blocks(geometry: &Geometry, inode: &Inode) -> usize
-    requires { IsTrue (inodes.type_of inode.now.mode == DT_REG
-        || inodes.type_of inode.now.mode == DT_DIR) }
-    ensures { result ≡ inodes.addresses_allowed geometry.now.layout inode.now }
-{
-    let blocks = logical_blocks_of(geometry, inode);
-    addresses_needed(u64::from(geometry.layout.nindir), blocks) as usize
-}
-
 /// Whether this is one of the seven types of fs(5).
 fn is_known_type(kind: u8) -> bool
     ensures { result ≡ inodes.is_known_type kind }
@@ -230,16 +209,13 @@ pub fn class_of(geometry: &Geometry, inode: &Inode) -> Class
             Class::Partial
         };
     }
-    let used = if is_regular_or_dir(kind) {
-        addresses_of_blocks(geometry, inode)
-    } else if is_known_type(kind) {
-        addresses_allowed(geometry, inode)
-    } else {
+    if !is_known_type(kind) {
         return Class::Unknown;
-    };
+    }
     if is_too_large(geometry, kind, inode.size) {
         return Class::Unknown;
     }
+    let used = addresses_allowed(geometry, inode);
     if any_address_from(&inode.addresses, used) {
         return Class::Unknown;
     }
