@@ -1,12 +1,12 @@
 //! The words of an indirect block, and the direct addresses of an inode, that are claimed with nothing
 //! to report.
 //!
-//! From the last function up: `claim_words` asks whether the block is held; `claim_held_words` takes
+//! From `claim_words` up: it asks whether the block is held; `claim_held_words` takes
 //! the counts out of the workspace, and `claim_counted_words` asks for the byte order, both once;
 //! `claim_words_in` goes from word to word. `claim_next` claims one word by `claim_address`, or, where
 //! the next one names the fragments after its Run, all such words together by `claim_series`, which
 //! `pass_series` counts. Where a word isn't claimed, nothing has changed, and the caller takes it as a
-//! step. `claim_direct` does the same for direct addresses, one by one.
+//! step. Below it `claim_direct` does the same for direct addresses, one by one.
 
 ghost use Rattle.std.specs.Prelude.{◌≡◌, ◌≢◌, ◌^◌, ◌<◌, false, IsTrue};
 ghost use Rattle.ffs_volume.specs.declared.Layout.{Layout};

@@ -5,7 +5,7 @@ ghost use Rattle.ffs_volume.specs.Messages.Kinds.{of_tree, phase4 as phase4_head
 ghost use Rattle.ffs_volume.specs.Directories.{ReferenceCheck.{reference_lines, reference_lines_at}, Volumes.volume_of};
 ghost use Rattle.ffs_report.specs.{Known.ForBytes, Paid.Paid, PhaseOutcome.{ImageAfter, PhaseReports}, Progress.progress};
 ghost use Rattle.ffs_workspace.specs.{Found.WithFindings, Ready.{IsReady, StaysReady}};
-ghost use Rattle.ffs_counts.specs.{Ready.{CanCheckAllocated, HasElements, AreFree, AreFreeFrom}, References.is_dead_by};
+ghost use Rattle.ffs_counts.specs.{Ready.{CanCheckAllocated, HasElements, AreUnallocated, AreUnallocatedFrom}, References.is_dead_by};
 ghost use Rattle.ffs_counts.specs.References.{is_right_by};
 
 use crate::reference::{line_for, references_by, say_line};
@@ -29,8 +29,8 @@ fn is_dead(workspace: &Workspace, number: u32) -> bool
     )
 }
 
-/// Whether nothing is reported of an inode that is allocated: it isn't dead, and has as many
-/// references as links, at least one.
+/// Whether nothing is reported of an inode that is allocated: it isn't dead, and its count of
+/// references is `LINKS_MET`, which it is where there are as many as links, at least one.
 fn is_right(workspace: &Workspace, number: u32) -> bool
     requires { HasElements workspace.now number }
     ensures { result ≡ is_right_by workspace.now number }
@@ -38,14 +38,14 @@ fn is_right(workspace: &Workspace, number: u32) -> bool
     workspace.references[number as usize] == LINKS_MET && !is_dead(workspace, number)
 }
 
-/// How many free inodes are passed over at once.
-const FREE_AT_ONCE: usize = 64;
+/// How many inodes that aren't allocated are passed over at once.
+const UNALLOCATED_AT_ONCE: usize = 64;
 
 /// Whether one of the inodes of some kinds is allocated. No inode ends the loop: the machine looks
 /// at many at once.
 #[inline(always)]
 fn any_allocated(kinds: &[u8]) -> bool
-    ensures { result ≡ false → AreFree kinds.now }
+    ensures { result ≡ false → AreUnallocated kinds.now }
 {
     let mut any = false;
     for kind in kinds {
@@ -54,23 +54,23 @@ fn any_allocated(kinds: &[u8]) -> bool
     any
 }
 
-/// How many inodes from `first` on are passed over, since they are free: `FREE_AT_ONCE`, or only
-/// that one, or none.
+/// How many inodes from `first` on are passed over, since they aren't allocated (Free or Partial):
+/// `UNALLOCATED_AT_ONCE`, or only that one, or none.
 #[inline(always)]
-fn free_from(kinds: &[u8], first: usize) -> usize
+fn unallocated_from(kinds: &[u8], first: usize) -> usize
     requires { first < length kinds.now }
-    ensures { AreFreeFrom kinds.now first result }
+    ensures { AreUnallocatedFrom kinds.now first result }
 {
     if kinds[first] != 0 {
         return 0;
     }
-    if kinds.len() - first < FREE_AT_ONCE {
+    if kinds.len() - first < UNALLOCATED_AT_ONCE {
         return 1;
     }
-    if any_allocated(&kinds[first..first + FREE_AT_ONCE]) {
+    if any_allocated(&kinds[first..first + UNALLOCATED_AT_ONCE]) {
         1
     } else {
-        FREE_AT_ONCE
+        UNALLOCATED_AT_ONCE
     }
 }
 
@@ -146,12 +146,12 @@ pub fn phase4<I: Image, W: Output>(
     let inodes = geometry.layout.ncg * geometry.layout.ipg;
     let mut number = 0;
     while number < inodes {
-        let free = free_from(&workspace.kinds, number as usize);
-        if free == 0 {
+        let passed = unallocated_from(&workspace.kinds, number as usize);
+        if passed == 0 {
             report_references(geometry, image, workspace, number, report)?;
             number += 1;
         } else {
-            number += free as u32;
+            number += passed as u32;
         }
     }
     Ok(())

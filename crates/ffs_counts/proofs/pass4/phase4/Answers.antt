@@ -7,7 +7,7 @@ use Rattle.ffs_report.proofs.Reporting.{stops_heading}
 use Rattle.ffs_workspace.specs.{declared.workspace.Workspace.Workspace, Found.WithFindings}
 use Rattle.ffs_workspace.proofs.Leaving.{findings_held}
 use Rattle.ffs_counts.proofs.Holding.{free_lines, held_on, lines_after, lines_begin}
-use Rattle.ffs_counts.proofs.pass4.phase4.Goals.{After-free_from-free, At-loop-number}
+use Rattle.ffs_counts.proofs.pass4.phase4.Goals.{After-unallocated_from-passed, At-loop-number}
 use Rattle.ffs_counts.proofs.pass4.phase4.Given as given
 use Rattle.ffs_counts.proofs.pass4.phase4.Goals as goal
 
@@ -17,17 +17,17 @@ known : (g : given.Over) (c : At-loop-number g) →
     (WithFindings c.args.geometry.now.layout (g.I.Image.device c.loop-number.image) c.loop-number.workspace)
 known g c bytes k = grind (arith, findings_held)
 
--- the free inodes that are passed over have no lines
-passed : (g : given.Over) (c : After-free_from-free g) →
+-- the inodes that are passed over have no lines
+passed : (g : given.Over) (c : After-unallocated_from-passed g) →
     ForBytes (WithFindings c.args.geometry.now.layout (g.I.Image.device c.args.image.now) c.args.workspace.now)
     (λ bytes. lines_after c.args.geometry.now.layout c.loop-number.number bytes
-    ≡ lines_after c.args.geometry.now.layout (c.loop-number.number + c.free_from-free.result) bytes)
+    ≡ lines_after c.args.geometry.now.layout (c.loop-number.number + c.unallocated_from-passed.result) bytes)
 passed g c bytes k =
     let inv = c.loop-number.invariant in
     free_lines c.args.geometry.now.layout bytes c.args.workspace.now c.deref.result.now c.loop-number.number
-    c.free_from-free.result (inodes_of c.args.geometry.now.layout) k.1.claims
-    (c.deref.ensures.value ∙ ap (λ (w : Workspace). w.kinds.items) inv.held) c.free_from-free.ensures.free
-    (omega (arith, c.free_from-free.ensures.within, c.deref.ensures.len, inv.ready.made.kinds))
+    c.unallocated_from-passed.result (inodes_of c.args.geometry.now.layout) k.1.claims
+    (c.deref.ensures.value ∙ ap (λ (w : Workspace). w.kinds.items) inv.held) c.unallocated_from-passed.ensures.unallocated
+    (omega (arith, c.unallocated_from-passed.ensures.within, c.deref.ensures.len, inv.ready.made.kinds))
 
 pub returns-in_err-say-clause-text : goal.returns-in_err-say-clause-text
 returns-in_err-say-clause-text g c =
@@ -61,13 +61,13 @@ returns-in_err-report_references-clause-text g c =
     (known g (goal.at.returns-in_err-report_references-clause-text g c).At-loop-number)
     c.in_err-report_references.ensures.text))
 
-pub loop-number-preserved-then-free-eq0 : goal.loop-number-preserved-then-free-eq0
-loop-number-preserved-then-free-eq0 g c =
+pub loop-number-preserved-then-passed-eq0 : goal.loop-number-preserved-then-passed-eq0
+loop-number-preserved-then-passed-eq0 g c =
     let v = c.args.geometry.now.layout in
     let inv = c.loop-number.invariant in
     let n = c.loop-number.number in
     let ok = c.in_ok-report_references.ensures in
-    let more = known g (goal.at.loop-number-preserved-then-free-eq0 g c).At-loop-number in
+    let more = known g (goal.at.loop-number-preserved-then-passed-eq0 g c).At-loop-number in
     record {
       within = omega (arith, c.loop-number-test.true);
       ready = ok.stays.ready;
