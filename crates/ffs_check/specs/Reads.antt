@@ -6,8 +6,8 @@ use Rattle.ffs_volume.specs.{declared.SuperFault.SuperFault, Disk.{Outcome.outco
 use Rattle.ffs_volume.specs.{Messages.{Kinds.Message, Texts.texts_of}, Report.VolumeReads.volume_phase_reads}
 use Rattle.ffs_volume.specs.Report.{Reads.{line_reads, opening_reads, phase_reads, reads_limit}, Whole.phase_lines}
 use Rattle.ffs_volume.specs.Report.Whole.{report_of}
-use Rattle.ffs_report.specs.{Known.ForBytes, Paid.Paid, Sink.{BrokeOff, Took}, declared.fault.RunFault.RunFault}
-use Rattle.ffs_check.specs.Moment.{Moment, ReportMoment}
+use Rattle.ffs_report.specs.{Known.ForBytes, Paid.Paid, Sink.Took, declared.fault.RunFault.RunFault}
+use Rattle.ffs_check.specs.{Ends.BrokeOffInLast, Moment.{Moment, ReportMoment}}
 
 -- the phases read the image at most as often as the layout allows, and as what the volume holds does
 pub record PhasesReadWithin (s : Superblock) (bytes : List ℕ) (reads reads' : ℕ) : Type 0 where
@@ -24,11 +24,11 @@ pub record ReadsWithin (image : Device) (name : List ℕ) (asked_sector : Option
   pub volume : ForContents image.contents (λ bytes. (s : Superblock) → outcome bytes asked_sector ≡ Ok s
       → reads' ≤ reads + (opening_reads + volume_phase_reads s.layout bytes))
 
--- messages went out, or the output failed among them, and there were no more reads than the limit
--- for so many messages
+-- messages went out, or the output failed within the last of them, and there were no more reads than the
+-- limit for so many messages
 pub record ReadsByMessages (limit : ℕ → ℕ) (old new : Moment) : Type 0 where
   pub messages : List Message
-  pub went_out : Took old.out new.out (texts_of messages) ⊎ BrokeOff old.out new.out (texts_of messages)
+  pub went_out : Took old.out new.out (texts_of messages) ⊎ BrokeOffInLast old.out new.out messages
   pub most : new.reads ≤ old.reads + limit (length messages)
 
 -- how often the phases read an image whose bytes are known, and any image, for the messages that
