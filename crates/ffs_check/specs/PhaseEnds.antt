@@ -57,7 +57,7 @@ pub record HaveRun (s : Superblock) (w : Workspace) (old new : ReportMoment) (re
         (λ bytes. is_go root ≡ continues_after_root (volume_of s.layout bytes)))
 
 -- what a check leaves of the counts of Runs and of what `has_dups` answers: where it came to its end
--- (`whole`), what the bytes determine; and never more Runs than a volume can have
+-- (`whole`), what the bytes determine; and phase 1 looked at no more Runs than a volume can have
 pub record LeavesAnswers (whole : Bool) (knows : List ℕ → Type 0) (v : Layout) (w w' : Workspace) : Type 0 where
   pub known : whole ≡ true → ForBytes knows (λ bytes. HasAnswers v bytes w w')
   pub most : w'.runs_seen ≤ runs_limit v

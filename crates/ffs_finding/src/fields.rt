@@ -176,7 +176,7 @@ fn print_wrong_fields<W: Output>(
 }
 
 /// Prints which fields of an accepted superblock, at a sector or at the usual place, aren't what its
-/// layout gives (fs(5)), and returns whether there is one. One read.
+/// layout gives (fs(5)), and returns whether there is one. At most one read.
 ///
 /// # Errors
 /// A read of the image that failed, and a write that failed.

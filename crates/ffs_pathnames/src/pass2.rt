@@ -40,7 +40,7 @@ pub enum Root {
 /// The image is read at most `pathname_reads` times, also where a read failed. An image that gives
 /// other bytes each time is read no more than four sweeps, and `line_reads` for each message that
 /// was begun. Where no survey was made before, a directory of which nothing can be reported isn't
-/// read for the messages (`phase2_cost`, and `looked_at` of `Phase2Reads`).
+/// read for the messages, unless it is marked (`phase2_cost`, and `looked_at` of `Phase2Reads`).
 ///
 /// # Errors
 /// A read of the image that failed, and a write of the report that failed.
