@@ -58,12 +58,6 @@ def answer_alone(text, goal):
     return "\n\n".join([*imports, *(text for name, text in items.items() if name in kept)]) + "\n"
 
 
-def answers_left_out(text):
-    """A file of answers with a hole in place of each."""
-    imports = [it for it in "\n".join(items_of(text)[0]).split("\n") if it.endswith(".Goals as goal")]
-    return "\n\n".join([*imports, *(f"pub {it} : goal.{it}\n{it} = ?" for it in sorted(goals_in(text)))]) + "\n"
-
-
 def lines_of(text):
     """At which lines each declaration of a file of answers stands."""
     found, at = {}, 1

@@ -2,7 +2,7 @@
 import os
 import re
 
-from .answers import TACTIC, answer_alone, answers_left_out, goals_in, read
+from .answers import TACTIC, answer_alone, goals_in, read, unpacked
 from .sources import HOME, constant_at, end_of, function_at, is_function, is_method, item_at, one_place, replaced, start_of, users_of
 
 
@@ -33,9 +33,8 @@ class Edit:
         self.crate, self.path = crate, path
         self.label = f"{crate}/{os.path.basename(path)}"
         self.masked, self.names, self.copied, self.folder = False, set(), None, None
-        # Whether it is tried at its goal alone, and whether that goal has an answer: else rattle searches for its proof.
-        self.at_goal = self.is_answered = False
-        self.answer = ""
+        # Whether it is tried by the answer of its goal alone, or where it has none by its function's answers alone.
+        self.at_goal = False
         with open(path, encoding="utf-8") as it:
             self.file, pairs, self.goal = parts_of(it.read())
         with open(f"{HOME}/crates/{crate}/{self.file}", encoding="utf-8") as it:
@@ -76,27 +75,37 @@ class Edit:
         named = {it: "::".join([self.crate, *it]) for it in proofs}
         found = [it for it in named if is_function(named[it], function)] or [it for it in named if is_method(named[it], function)]
         self.folder = found[0] if found else None
-        answers = goals_in(read(f"{HOME}/crates/{self.crate}/proofs/{'/'.join(self.folder)}/Answers.antt")) if found else set()
-        # It is tried at its goal alone, where it names one, and leaves answers of others out.
-        self.is_answered = self.goal in answers
-        self.at_goal = bool(self.goal and answers)
+        # It is tried at its goal alone, where its function has an answer of that goal.
+        has_marks = "#[tactic" in self.text[self.item.end() : self.end]
+        self.at_goal = bool(self.goal and found and not has_marks and self.goal in goals_in(self.proof("Answers.antt")))
+
+    def proof(self, file):
+        """A file of the proof of its function."""
+        return read(f"{HOME}/crates/{self.crate}/proofs/{'/'.join(self.folder)}/{file}")
+
+    def proof_of_copy(self, file):
+        """A file of the proof of its copy: of the answers that of its goal alone, where it is tried there and names one."""
+        # What a proof names of its own function: its goals, and what they are given.
+        own = re.compile(rf"\.proofs\.{re.escape('.'.join(self.folder))}\.(?=(?:Goals|Given|Invariants|Answers)\b)")
+        text = own.sub(f".proofs.{'.'.join(self.place())}.", unpacked(self.proof(file), self.crate))
+        return answer_alone(text, self.goal) if self.at_goal and self.goal and file == "Answers.antt" else text
+
+    def place(self):
+        """Where the proof of its copy is, below the crate's folder of proofs."""
+        return (*self.folder[:-1], self.copied)
 
     def copied_text(self, unchanged):
-        """The function under the copy's name, with the edit in it unless it is to be unchanged. Where the answer of its goal is all that is tried,
-        rattle tries no tactics."""
+        """The function under the copy's name, with the edit in it unless it is to be unchanged. Where it is tried at its goal alone, rattle
+        tries no tactics at the others."""
         places = [*([] if unchanged else self.places), (self.item.start("name"), self.item["name"], self.copied)]
-        if not (self.at_goal and self.is_answered):
+        if not self.at_goal:
             return replaced(self.text, places, self.start, self.end)
         tactic = TACTIC.search(self.text, self.start, self.item.start())
         places += [(tactic.start(), tactic[0], "")] if tactic else []
         return f"{self.item['pad']}#[tactic(none)]\n" + replaced(self.text, places, self.start, self.end)
 
-    def answers(self, text):
-        """The answers that it is tried with at its goal alone, of those of its function."""
-        return answer_alone(text, self.goal) if self.is_answered else answers_left_out(text)
-
     def record(self, goal):
-        """Writes into its file at which goal it is refused; nothing where that isn't known."""
+        """Writes into its file at which goal it is refused; no goal where there is None."""
         with open(self.path, encoding="utf-8") as it:
             lines = [line for line in it.read().rstrip("\n").split("\n") if not line.startswith("goal:")]
         with open(self.path, "w", encoding="utf-8") as it:

@@ -5,7 +5,6 @@ import shutil
 import subprocess
 import time
 
-from .answers import read, unpacked
 from .sources import replaced
 
 # What the check of a crate reads.
@@ -121,17 +120,11 @@ class Room:
         self.closed = self.closed - names
 
     def copy_proof(self, edit):
-        """Copies the proof of a function for the copy of it, or what of it is tried at the edit's goal. Returns the new folder."""
-        inside = [*edit.folder[:-1], edit.copied]
-        here = f"{self.folder}/proofs/{'/'.join(inside)}"
+        """Copies the proof of a function for the copy of it. Returns the new folder."""
+        here = f"{self.folder}/proofs/{'/'.join(edit.place())}"
         os.makedirs(here)
-        # What a proof names of its own function: its goals, and what they are given.
-        own = re.compile(rf"\.proofs\.{re.escape('.'.join(edit.folder))}\.(?=(?:Goals|Given|Invariants|Answers)\b)")
         for file in PROOF_FILES:
-            text = read(f"{self.home}/proofs/{'/'.join(edit.folder)}/{file}")
-            text = own.sub(f".proofs.{'.'.join(inside)}.", unpacked(text, self.crate))
-            if file == "Answers.antt":
-                text = edit.answer = edit.answers(text) if edit.at_goal else text
+            text = edit.proof_of_copy(file)
             if text:
                 with open(f"{here}/{file}", "w", encoding="utf-8") as it:
                     it.write(text)
@@ -145,7 +138,7 @@ class Room:
         folders = [self.copy_proof(it) for it in edits if it.copied and it.folder]
         files = self.write(edits, unchanged)
         changed = sorted(name.partition("::")[2] for it in edits for name in it.names)
-        said = self.run(*(["--allow-holes"] if self.closed or any(it.at_goal for it in edits) else []), *(word for name in dict.fromkeys(changed) for word in ("--only", name)))
+        said = self.run(*(["--allow-holes"] if self.closed else []), *(word for name in dict.fromkeys(changed) for word in ("--only", name)))
         self.restore(files)
         for folder in folders:
             shutil.rmtree(folder)

@@ -66,6 +66,8 @@ class Trial:
                     edit.copy_as(f"{edit.item['name']}_edit{number}", proofs)
             if self.words.unchanged:
                 self.try_unchanged()
+            elif self.words.record:
+                self.record([it for it in self.edits if it.copied and it.folder])
             else:
                 self.try_rounds([it for it in self.edits if it.copied or it.find(known)])
             return self.room.checks
@@ -92,6 +94,21 @@ class Trial:
             if edit.at_goal:
                 is_proved = is_proved_at_goal(edit, said, told)
             self.done.append((is_proved, f"{edit.label}: unchanged, {edit.copied}{f', at {edit.goal}' * edit.at_goal}: {rest[:150]}"))
+
+    def record(self, edits):
+        """Writes into these edits at which goals with answers they are refused: with all answers and no search."""
+        for edit in edits:
+            edit.goal, edit.at_goal = None, True
+        said = self.room.round(edits)
+        # Where an edit doesn't compile nothing is said of any.
+        if len(edits) > 1 and not VERDICT.search(said):
+            self.record(edits[: len(edits) // 2])
+            self.record(edits[len(edits) // 2 :])
+            return
+        for edit in edits:
+            goal = goal_of(edit, said)
+            edit.record(goal)
+            self.done.append((bool(goal), f"{edit.label}: {goal or 'no goal with an answer refuses it'}"))
 
     def try_rounds(self, pending):
         """Tries edits until each is refused, or is to be tried alone."""
@@ -127,8 +144,6 @@ class Trial:
             return False
         if refused:
             self.done.append((True, line))
-            if self.words.record and edit.copied:
-                edit.record(goal_of(edit, said, told))
         else:
             self.single.append(edit)
         return True

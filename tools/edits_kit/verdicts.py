@@ -50,7 +50,7 @@ def judge(edit, said, told):
 
 def errors_of(edit, said):
     """The errors in the proof of an edit's copy."""
-    path = "/".join([*edit.folder[:-1], edit.copied])
+    path = "/".join(edit.place())
     return [it for it in said.split("\n") if (found := ERROR.match(it)) and found["path"] == path]
 
 
@@ -60,31 +60,24 @@ def rest_of(edit, told):
 
 
 def refused_at_goal(edit, said, told):
-    """Why the goal that an edit names isn't proved; None where it is, where nothing is said of it, or where its answer names what isn't there."""
-    rest, errors = rest_of(edit, told), errors_of(edit, said)
-    if not edit.is_answered:
-        return rest[:150] if rest.startswith("no proof") and f"`{edit.goal}`" in rest.partition("did not prove")[2] else None
-    lines = {line for it in lines_of(edit.answer).values() for line in it}
-    is_answer = errors and all((found := ERROR.match(it))["file"] == "Answers.antt" and int(found["line"]) in lines for it in errors)
-    if not is_answer or not rest.startswith("not proved") or any(map(NAMED_AWAY.match, errors)):
-        return None
-    return errors[0][:140]
+    """Why the answer of the goal that an edit names is refused; None where it isn't, or where it names what isn't there."""
+    errors = errors_of(edit, said)
+    answered = {line for it in lines_of(edit.proof_of_copy("Answers.antt")).values() for line in it}
+    is_answer = all((found := ERROR.match(it))["file"] == "Answers.antt" and int(found["line"]) in answered for it in errors)
+    is_refused = errors and is_answer and rest_of(edit, told).startswith("not proved") and not any(map(NAMED_AWAY.match, errors))
+    return errors[0][:140] if is_refused else None
 
 
 def is_proved_at_goal(edit, said, told):
     """Whether the goal that an edit names is proved of its copy."""
-    rest = rest_of(edit, told)
-    if not edit.is_answered:
-        return rest.startswith("depends on a hole")
-    left = LEFT.search(rest)
+    left, rest = LEFT.search(rest_of(edit, told)), rest_of(edit, told)
     is_left = left is not None and f"`{edit.goal}`" in left[1]
     return not errors_of(edit, said) and not is_left and (left is not None or rest.startswith(("proved", "no holes")))
 
 
-def goal_of(edit, said, told):
-    """At which goal an edit is refused, of its copy with all answers: one that has an answer, where one of those is refused."""
+def goal_of(edit, said):
+    """The goal with an answer at which an edit is refused, of its copy with all answers; None where there is none."""
     errors = errors_of(edit, said) if edit.folder else []
     refused = [goal for it in errors for goal in re.findall(r"error: `([^`]+)`", it)[:1]]
     refused += [goal for it in errors if (found := NOT_CHECKED.search(it)) for goal in re.findall(r"[^\s,`]+", found[1])]
-    left = re.findall(r"`([^`]+)`", rest_of(edit, told).partition("did not prove")[2])
-    return next((it for it in refused if it in goals_in(edit.answer)), next(iter(left), None))
+    return next((it for it in refused if it in goals_in(edit.proof("Answers.antt"))), None)
