@@ -49,7 +49,8 @@ pub fn stop_is_reported()
 {}
 
 /// Each of the seven conditions of a consistent volume holds exactly where none of the messages
-/// that speak for it is reported.
+/// that speak for it is reported, where the conditions on classes and Runs hold, and for links that
+/// on directories.
 pub fn conditions_are_reported()
     ensures { ConditionsAreReported }
 {}

@@ -5,7 +5,7 @@ use Rattle.ffs_volume.specs.Report.Memory.{runs_limit}
 use Rattle.ffs_report.specs.{Progress.Progress, declared.fault.RunFault.{RunFault, TheVariants.{Read, Out}}}
 use Rattle.ffs_pathnames.specs.declared.pass2.Root.{Root}
 use Rattle.ffs_workspace.specs.{declared.workspace.Workspace.Workspace, Leaves.LeavesBlockCheck}
-use Rattle.ffs_check.specs.{Headline.can_end_report, PhaseEnds.{EndsAs, LeavesAnswers}}
+use Rattle.ffs_check.specs.PhaseEnds.{EndsAs, LeavesAnswers, can_end_report}
 
 -- where a phase failed nothing is said of them but the bound
 pub unanswered : {knows : List ℕ → Type 0} {v : Layout} {w w' : Workspace} → w'.runs_seen ≤ runs_limit v →

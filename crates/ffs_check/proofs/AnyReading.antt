@@ -1,16 +1,15 @@
 -- How often a check reads any image, from the phases to the whole.
-use Rattle.std.proofs.Common.{◌≡◌, ◌≤◌, ◌+◌, ◌*◌, ℕ, Bool, false, inl, inr, sym, arith, List, [], ◌∷◌, ◌++◌}
-use Rattle.std.proofs.{Common.{length-append, Ok, Err, subst, Result}, Math.Nat.mul-le-mul_left}
+use Rattle.std.proofs.Common.{◌≡◌, ◌≤◌, ◌+◌, ◌*◌, ◌∙◌, ℕ, Bool, false, inl, inr, refl, sym, ap, arith, List, [], ◌∷◌, ◌++◌}
+use Rattle.std.proofs.{Common.{append_assoc, length-append, Ok, Err, subst, Result}, Math.Nat.mul-le-mul_left}
 use Rattle.ffs_image.specs.Device.{Device}
 use Rattle.ffs_volume.specs.{declared.{Layout.Layout, End.End}, Messages.{Kinds.{Message, cannot_alloc, cannot_read}}}
 use Rattle.ffs_volume.specs.{Messages.Texts.texts_of, Report.Reads.{line_reads, opening_reads, phase_reads, reads_limit}}
-use Rattle.ffs_layout.specs.declared.superblock.Super.{Super}
 use Rattle.ffs_report.specs.{Sink.Took, Paid.Paid, Progress.{Progress, Stopped}}
 use Rattle.ffs_report.specs.declared.fault.RunFault.{RunFault, TheVariants.{Read, Out}}
-use Rattle.ffs_report.proofs.Reports.{said_then, stopped_after}
+use Rattle.ffs_report.proofs.{Reports.said_then, Sinks.took_nil}
 use Rattle.ffs_pathnames.specs.declared.pass2.Root.{Root}
-use Rattle.ffs_check.specs.{Moment.{Moment, ReportMoment, at_output}, Reads.{ReadsByMessages, ReadsOfVolume}}
-use Rattle.ffs_check.{specs.PhaseEnds.{EndsAs, SaysRefusal}, proofs.EndLaws.{broke_after, broke_off, took_messages}}
+use Rattle.ffs_check.specs.{Moment.{Moment, ReportMoment, at_output}, Reads.ReadsByMessages}
+use Rattle.ffs_check.{specs.PhaseEnds.{EndsAs, SaysNoMemory}, proofs.EndLaws.{broke_off, took_messages}}
 
 -- the price of each message, beside what the phases read for none
 priced : (v : Layout) (n m before after : ℕ) → after ≤ before + phase_reads v 0 + (line_reads + 1) * n → n ≤ m →
@@ -37,33 +36,59 @@ ended_reads v had_defect old new b (Err (Read fault)) end working p e =
       messages = begun.messages ++ (line ∷ []);
       went_out = elim e [
         | inl said ↦ inl (said_then a b new.report begun.messages (line ∷ []) begun.said said.0).took
-        | inr stopped ↦ inr (broke_off a new.report (begun.messages ++ (line ∷ [])) working
-            (stopped_after a b new.report begun.messages (line ∷ []) begun.said stopped.0))
+        | inr stopped ↦ inr (record {
+          said = begun.messages;
+          last = line ∷ [];
+          are_all = refl;
+          few = omega arith;
+          between = b.sink;
+          went_out = begun.said.took;
+          broke_off = broke_off b new.report (line ∷ []) (begun.said.failed ∙ working) stopped.0;
+        })
       ];
       most = priced v p.messages _ old.reads new.reads p.most (omega (arith, begun.many, long));
     }
-ended_reads v had_defect old new b (Err (Out fault)) end working p e = record {
-  messages = p.begun.messages;
-  went_out = inr (broke_off old.report new.report p.begun.messages working
-      (subst (λ to. Stopped old.report to p.begun.messages) (sym e.0) p.begun.stopped));
-  most = priced v p.messages _ old.reads new.reads p.most (omega (arith, p.begun.many));
-}
+ended_reads v had_defect old new b (Err (Out fault)) end working p e =
+    let begun = p.begun in
+    let long = length-append begun.messages begun.last in
+    record {
+      messages = begun.messages ++ begun.last;
+      went_out = inr (record {
+        said = begun.messages;
+        last = begun.last;
+        are_all = refl;
+        few = begun.few;
+        between = begun.between.sink;
+        went_out = begun.said.took;
+        broke_off = broke_off begun.between new.report begun.last (begun.said.failed ∙ working)
+            (subst (λ to. Stopped begun.between to begun.last) (sym e.0) begun.stopped);
+      });
+      most = priced v p.messages _ old.reads new.reads p.most (omega (arith, begun.many, long));
+    }
 
 -- the memory was refused, which was said, and nothing was read
 pub unstarted_reads : (v : Layout) (image : Device) (reads : ℕ) (a b : Progress) (end : End) → a.failed ≡ false →
-    SaysRefusal a b end → ReadsByMessages (phase_reads v) (record { image = image; reads = reads; out = a.sink })
+    SaysNoMemory a b end → ReadsByMessages (phase_reads v) (record { image = image; reads = reads; out = a.sink })
     (record { image = image; reads = reads; out = b.sink })
 unstarted_reads v image reads a b end working e = record {
   messages = cannot_alloc ∷ [];
   went_out = elim e [
     | inl said ↦ inl said.0.took
-    | inr stopped ↦ inr (broke_off a b (cannot_alloc ∷ []) working stopped.0)
+    | inr stopped ↦ inr (record {
+      said = [];
+      last = cannot_alloc ∷ [];
+      are_all = refl;
+      few = omega arith;
+      between = a.sink;
+      went_out = took_nil a.sink;
+      broke_off = broke_off a b (cannot_alloc ∷ []) working stopped.0;
+    })
   ];
   most = omega arith;
 }
 
 -- the opening was said, and then the phases
-opened_reads : (v : Layout) (a b c : Moment) (lines : List Message) → Took a.out b.out (texts_of lines) →
+pub opened_reads : (v : Layout) (a b c : Moment) (lines : List Message) → Took a.out b.out (texts_of lines) →
     b.reads ≤ a.reads + opening_reads → ReadsByMessages (phase_reads v) b c → ReadsByMessages (reads_limit v) a c
 opened_reads v a b c lines went opened p =
     let long = length-append lines p.messages in
@@ -71,18 +96,15 @@ opened_reads v a b c lines went opened p =
       messages = lines ++ p.messages;
       went_out = elim p.went_out [
         | inl whole ↦ inl (took_messages a.out b.out c.out lines p.messages went whole)
-        | inr part ↦ inr (broke_after a.out b.out c.out lines p.messages went part)
+        | inr part ↦ inr (record {
+          said = lines ++ part.said;
+          last = part.last;
+          are_all = ap (λ ms. lines ++ ms) part.are_all ∙ sym (append_assoc lines part.said part.last);
+          few = part.few;
+          between = part.between;
+          went_out = took_messages a.out b.out part.between lines part.said went part.went_out;
+          broke_off = part.broke_off;
+        })
       ];
       most = omega (arith, long, opened, p.most);
     }
-
--- a superblock was accepted and its opening was said, and then the phases
-pub whole_reads : (found : Super) (a b c : Moment) (lines : List Message) →
-    found.geometry.layout.size * found.geometry.layout.fsize ≤ a.image.size → Took a.out b.out (texts_of lines) →
-    b.reads ≤ a.reads + opening_reads → ReadsByMessages (phase_reads found.geometry.layout) b c → ReadsOfVolume a c
-whole_reads found a b c lines inside went opened phases = record {
-  layout = found.geometry.layout;
-  accepted = found.geometry.sound;
-  inside = inside;
-  reads = opened_reads found.geometry.layout a b c lines went opened phases;
-}

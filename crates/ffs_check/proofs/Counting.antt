@@ -3,7 +3,7 @@ use Rattle.std.proofs.Common.{arith, ◌≡◌, inl, inr, ap, ℕ, true, List, O
 use Rattle.ffs_image.specs.Device.{Device}
 use Rattle.ffs_volume.specs.{declared.End.{End, TheVariants.{Refused, ReadFault, WriteFault}}, Messages.Kinds.Message}
 use Rattle.ffs_check.specs.{Ends.Cut, Failures.{ReadsFailed, WritesFailed}, Moment.Moment}
-use Rattle.ffs_check.specs.Headline.{can_end_report, IsCutShort, Headline}
+use Rattle.ffs_check.{specs.{Headline.{IsCutShort, Headline}, PhaseEnds.can_end_report}, proofs.Headlines.can_end_of}
 
 reads_none : (end : End) (old new : ℕ) → can_end_report end ≡ true → new ≡ old → ReadsFailed end old new
 reads_none (Refused fault) old new c e = inl e
@@ -35,7 +35,7 @@ module _ (name : List ℕ) (sector : Option ℕ) (old new : Moment) (end : End) 
     | inl read ↦
         let same = ap (λ (d : Device). d.failures) read.no_read_failed in
         elim read.ends [
-          | inl whole ↦ reads_none end old.image.failures new.image.failures whole.1.can_end same
+          | inl whole ↦ reads_none end old.image.failures new.image.failures (can_end_of name sector h.text end whole.1.agrees) same
           | inr part ↦ rw part.1 (inl same)
         ]
     | inr short ↦
@@ -46,7 +46,7 @@ module _ (name : List ℕ) (sector : Option ℕ) (old new : Moment) (end : End) 
   pub writes_failed : WritesFailed end old.out.failures new.out.failures
   writes_failed = elim h.ends [
     | inl read ↦ elim read.ends [
-      | inl whole ↦ writes_none end old.out.failures new.out.failures whole.1.can_end whole.0.failures
+      | inl whole ↦ writes_none end old.out.failures new.out.failures (can_end_of name sector h.text end whole.1.agrees) whole.0.failures
       | inr part ↦ rw part.1 part.0.rose
     ]
     | inr short ↦ elim short.ends [

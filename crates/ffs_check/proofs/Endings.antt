@@ -48,16 +48,17 @@ module _ (had_defect : Bool) (knows : List ℕ → Type 0) (s : Superblock) (old
       ForBytes knows (λ bytes. is_go root ≡ continues_after_root (volume_of s.layout bytes)) →
       EndsAs had_defect b new.report (Ok root) end → PhasesEnd knows s (at_output old) (at_output new) end
   whole root p none_failed by_root e = record {
-    text = p.messages;
-    right = λ bytes k. sym (append-nil p.messages) ∙ p.right bytes k;
+    text = p.said.messages;
+    right = λ bytes k. sym (append-nil p.said.messages) ∙ p.said.right bytes k;
     ends = inl (record {
       no_read_failed = none_failed;
       ends = inl (
-        subst (λ (to : Progress). Took old.report.sink to.sink (texts_of p.messages)) (sym e.0) p.said.took,
+        subst (λ (to : Progress). Took old.report.sink to.sink (texts_of p.said.messages)) (sym e.0) p.said.said.took,
         record {
           continued = is_go root;
           by_root = by_root;
-          end_is = e.1 ∙ ap (end_by (is_go root)) (defect_so p.messages p.said);
+          last = p.last;
+          end_is = e.1 ∙ ap (end_by (is_go root)) (defect_so p.said.messages p.said.said);
         },
       );
     });
@@ -120,7 +121,7 @@ module _ (had_defect : Bool) (knows : List ℕ → Type 0) (s : Superblock) (old
 pub same_output : (knows : List ℕ → Type 0) (all : List ℕ → List Message) (had_defect : Bool) (a b c : Progress)
     (r : Result Root RunFault) (end : End) → ReportsOrStopsEarly knows all a b r → EndsAs had_defect b c r end →
     c.output ≡ a.output
-same_output knows all had_defect a b c (Ok root) end p e = ap (λ (x : Progress). x.output) e.0 ∙ p.said.output
+same_output knows all had_defect a b c (Ok root) end p e = ap (λ (x : Progress). x.output) e.0 ∙ p.said.said.output
 same_output knows all had_defect a b c (Err (Read fault)) end p e = elim e [
   | inl said ↦ said.0.output ∙ p.prefix.said.output
   | inr stopped ↦ stopped.0.output ∙ p.prefix.said.output
@@ -135,7 +136,12 @@ ran_known knows known s old new end more ran = record {
   text = ran.text;
   right = λ bytes k. ran.right bytes (more bytes k);
   ends = ends_known
-      (λ e. record { continued = e.continued; by_root = λ bytes k. e.by_root bytes (more bytes k); end_is = e.end_is })
+      (λ e. record {
+        continued = e.continued;
+        by_root = λ bytes k. e.by_root bytes (more bytes k);
+        last = e.last;
+        end_is = e.end_is;
+      })
       (λ cut c. record {
         sector = c.sector;
         faulted = c.faulted;

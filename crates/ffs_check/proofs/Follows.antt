@@ -1,5 +1,5 @@
 -- The headline, of a check after an accepted superblock.
-use Rattle.std.proofs.Common.{arith, ◌≡◌, inl, inr, refl, ◌∙◌, sym, ap, subst, ℕ, Bool, true, false, List, ◌++◌}
+use Rattle.std.proofs.Common.{arith, ◌≡◌, inl, inr, refl, ◌∙◌, sym, ap, subst, ℕ, Bool, true, false, not, List, [], ◌∷◌, ◌++◌}
 use Rattle.std.proofs.Common.{append_assoc, Option, Ok}
 use Rattle.ffs_image.{specs.Device.{Device, ForContents}, proofs.Devices.faulted_there}
 use Rattle.ffs_volume.specs.declared.{SuperFault.SuperFault, End.{End, TheVariants.{Refused, ReadFault, NoMemory}}}
@@ -8,26 +8,26 @@ use Rattle.ffs_volume.specs.Messages.{Kinds.{Message, cannot_read, cannot_alloc,
 use Rattle.ffs_volume.specs.Report.Whole.{phase_lines, end_by, report_of, report_end}
 use Rattle.ffs_report.specs.{Sink.Took, Known.IsContents, Progress.Progress}
 use Rattle.ffs_layout.specs.{declared.superblock.Super.Super, Super.{ReadsSuper, superblock_in}}
-use Rattle.ffs_check.specs.{Ends.Cut, Headline.{EndAgrees, Headline, IsCutShort, IsEndOfReport, can_end_report}}
+use Rattle.ffs_check.specs.{Ends.Cut, Headline.{EndAgrees, Headline, IsCutShort, IsEndOfReport, stops_at_last}}
 use Rattle.ffs_check.specs.{Moment.{Moment, ReportMoment, at_output}, Opening.OpeningOf}
-use Rattle.ffs_check.specs.PhaseEnds.{IsCutByRead, IsEndByRoot, SaysRefusal, SaysRest}
+use Rattle.ffs_check.specs.PhaseEnds.{IsCutByRead, IsEndByRoot, LastStops, SaysNoMemory, SaysRest}
 use Rattle.ffs_check.proofs.{Openings.{found_of, no_defect_head, unfailed_of}, Endings.{at_contents, at_known}}
 use Rattle.ffs_check.proofs.{EndLaws.{cut_after, ends_after, line_after}, Headlines.{whole_there, defect_there}}
-use Rattle.ffs_check.proofs.Headlines.{end_of_there, end_there, can_end_by, certifies}
+use Rattle.ffs_check.proofs.Headlines.{end_of_there, end_there, certifies, last_says}
 
 -- the end that the root and a text's defects make agrees with that text
 agrees_by : (name : List ℕ) (sector : Option ℕ) (text : List Message) (continued defect : Bool) →
-    has_defect text ≡ defect → EndAgrees name sector text (end_by continued defect)
-agrees_by name sector text true true e = e
-agrees_by name sector text true false e = e
-agrees_by name sector text false defect e = tt
+    has_defect text ≡ defect → stops_at_last text ≡ not continued → EndAgrees name sector text (end_by continued defect)
+agrees_by name sector text true true e f = rw (e, f) refl
+agrees_by name sector text true false e f = rw (e, f) refl
+agrees_by name sector text false defect e f = rw f refl
 
 module _ (name : List ℕ) (sector : Option ℕ) (old : Moment) (s : Superblock)
     (accepted : ForContents old.image.contents (λ bytes. Ok s ≡ outcome bytes sector)) (between : ℕ)
     (report : Progress) (opened : Took old.out report.sink (texts_of (opening_lines name sector (Ok s))))
     (working : report.failed ≡ false) (new : ReportMoment) (end : End) where
   -- the memory was refused
-  unstarted : new.image ≡ old.image → SaysRefusal report new.report end → Headline name sector old (at_output new) end
+  unstarted : new.image ≡ old.image → SaysNoMemory report new.report end → Headline name sector old (at_output new) end
   unstarted none_failed refusal =
       let head = opening_lines name sector (Ok s) in
       record {
@@ -58,8 +58,15 @@ module _ (name : List ℕ) (sector : Option ℕ) (old : Moment) (s : Superblock)
     defect_whole xs = ap has_defect (append_assoc (head_lines name sector) (super_lines s) xs)
         ∙ no_defect_head name sector (super_lines s ++ xs)
 
+    -- its last message is that of the phases
+    stops_whole : {stops : Bool} → LastStops stops text → stops_at_last (opening_lines name sector (Ok s) ++ text) ≡ stops
+    stops_whole l =
+        let head = opening_lines name sector (Ok s) in
+        ap (λ (xs : List Message). stops_at_last (head ++ xs)) l.text_is
+        ∙ ap stops_at_last (sym (append_assoc head l.before (l.last ∷ []))) ∙ last_says (head ++ l.before) l.last ∙ l.stops_is
+
     -- the end of the phases is that of the whole report
-    whole : IsEndByRoot (IsContents old.image.contents) s (has_defect (super_lines s ++ text)) end →
+    whole : IsEndByRoot (IsContents old.image.contents) s text end →
         IsEndOfReport name sector old.image (opening_lines name sector (Ok s) ++ text) end
     whole e =
         let defect = has_defect (super_lines s ++ text) in
@@ -67,9 +74,9 @@ module _ (name : List ℕ) (sector : Option ℕ) (old : Moment) (s : Superblock)
         e.end_is ∙ end_of_there bytes s e.continued defect (e.by_root bytes t) (defect_there bytes s text (right bytes t))
         ∙ end_there bytes sector (Ok s) (accepted bytes t) in
         record {
-          can_end = ap can_end_report e.end_is ∙ can_end_by e.continued defect;
           agrees = subst (EndAgrees name sector (opening_lines name sector (Ok s) ++ text)) (sym e.end_is)
-              (agrees_by name sector (opening_lines name sector (Ok s) ++ text) e.continued defect (defect_whole text));
+              (agrees_by name sector (opening_lines name sector (Ok s) ++ text) e.continued defect (defect_whole text)
+              (stops_whole e.last));
           value = last;
           certifies = λ bytes t. certifies bytes name sector (opening_lines name sector (Ok s) ++ text) end
               (is_whole bytes t) (last bytes t);

@@ -3,7 +3,8 @@ use Rattle.std.proofs.Common.{arith, ◌≡◌, ◌⊎◌, inl, inr, refl, ◌�
 use Rattle.std.proofs.Common.{append_assoc, append-nil, Option, Result, Ok, Err}
 use Rattle.ffs_image.specs.Device.{Device, Faulted, ForContents}
 use Rattle.ffs_volume.specs.declared.{SuperFault.{SuperFault, TheVariants.CannotRead}, End.{End, TheVariants.Refused}}
-use Rattle.ffs_volume.specs.{declared.End.TheVariants.WriteFault, Disk.{Superblock.Superblock, Outcome.outcome}}
+use Rattle.ffs_volume.specs.declared.End.TheVariants.{WriteFault, Consistent, Defects, RootStop, ReadFault, NoMemory}
+use Rattle.ffs_volume.specs.Disk.{Superblock.Superblock, Outcome.outcome}
 use Rattle.ffs_volume.specs.Directories.{PathnameCheck.continues_after_root, Volumes.volume_of}
 use Rattle.ffs_volume.specs.{Messages.Kinds.{Message, has_defect}, Report.Opening.{head_lines, super_lines, fault_line}}
 use Rattle.ffs_volume.specs.Report.{Opening.opening_lines, Whole.{phase_lines, report_lines, end_by, end_of}}
@@ -12,9 +13,10 @@ use Rattle.ffs_volume.specs.Messages.Texts.{texts_of}
 use Rattle.ffs_report.specs.Sink.{BrokeOff, Took}
 use Rattle.ffs_layout.specs.Super.{IsSuperSector, ReadsSuper}
 use Rattle.ffs_certificate.proofs.ReportLaws.{certified}
-use Rattle.ffs_check.specs.{Ends.BrokeOffInLine, Headline.{Certifies, Headline, can_end_report}, Moment.Moment}
-use Rattle.ffs_check.{specs.Opening.OpeningOf, proofs.EndLaws.{broke_after, broke_more}}
-use Rattle.ffs_check.proofs.{Endings.{at_contents, at_known}, Openings.no_defect_head}
+use Rattle.ffs_check.specs.{Ends.BrokeOffInLine, Headline.{Certifies, EndAgrees, Headline, stops_at_last}}
+use Rattle.ffs_check.{specs.{Moment.Moment, PhaseEnds.can_end_report, Opening.OpeningOf}, proofs.EndLaws.broke_after}
+use Rattle.ffs_check.proofs.{EndLaws.broke_more, Endings.{at_contents, at_known}, Openings.no_defect_head}
+use Rattle.ffs_pathnames.specs.RootAnswers.{stops_check}
 
 -- ---- the report, in its parts
 report_there : (bytes name : List ℕ) (sector : Option ℕ) (found : Result Superblock SuperFault) →
@@ -59,6 +61,22 @@ end_of_there bytes s on defect e d = grind arith
 
 pub can_end_by : (on defect : Bool) → can_end_report (end_by on defect) ≡ true
 can_end_by on defect = grind arith
+
+pub can_end_of : (name : List ℕ) (sector : Option ℕ) (text : List Message) (end : End) → EndAgrees name sector text end →
+    can_end_report end ≡ true
+can_end_of name sector text Consistent e = refl
+can_end_of name sector text Defects e = refl
+can_end_of name sector text (Refused fault) e = refl
+can_end_of name sector text RootStop e = refl
+can_end_of name sector text (ReadFault at) e = ap can_end_report e ∙ can_end_by _ _
+can_end_of name sector text WriteFault e = ap can_end_report e ∙ can_end_by _ _
+can_end_of name sector text NoMemory e = ap can_end_report e ∙ can_end_by _ _
+
+-- what the last message of a text says
+pub last_says : (xs : List Message) (x : Message) → stops_at_last (xs ++ (x ∷ [])) ≡ stops_check x
+last_says [] x = refl
+last_says (y ∷ []) x = refl
+last_says (y ∷ z ∷ xs) x = last_says (z ∷ xs) x
 
 -- ---- the certificate
 report_defect : (bytes name : List ℕ) (sector : Option ℕ) (s : Superblock) → outcome bytes sector ≡ Ok s →
@@ -131,7 +149,6 @@ module _ (name : List ℕ) (sector : Option ℕ) (old new : Moment) where
           ends = inl (
             said,
             record {
-              can_end = refl;
               agrees = refl;
               value = last;
               certifies = λ bytes t. certifies bytes name sector text (Refused fault) (report bytes t) (last bytes t);

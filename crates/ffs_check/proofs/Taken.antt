@@ -1,5 +1,5 @@
 -- What a check takes of its memory, after an accepted superblock.
-use Rattle.std.proofs.Common.{◌≡◌, ◌*◌, ◌≤◌, arith, inl, inr, sym, subst, ℕ, Bool, true, false, List, Option, Ok, Err}
+use Rattle.std.proofs.Common.{◌≡◌, ◌*◌, ◌+◌, ◌≤◌, arith, inl, inr, sym, subst, ℕ, Bool, true, false, List, Option, Ok, Err}
 use Rattle.ffs_image.specs.Device.{Device, ForContents}
 use Rattle.ffs_memory.specs.{Account.{Account, unused}, System.account_of, declared.system.SystemMemory.SystemMemory}
 use Rattle.ffs_volume.specs.declared.End.{End, TheVariants.{Consistent, Defects, RootStop, WriteFault, NoMemory}}
@@ -7,25 +7,32 @@ use Rattle.ffs_volume.specs.{Disk.{Outcome.outcome, Superblock.Superblock}, Repo
 use Rattle.ffs_layout.specs.{declared.superblock.Super.Super, Super.{ReadsSuper, superblock_in}}
 use Rattle.ffs_workspace.specs.Lengths.{held_of}
 use Rattle.ffs_check.specs.{Moment.Moment, Opening.OpeningOf, PhaseEnds.PhasesEnd}
-use Rattle.ffs_check.specs.Taken.{AsksMemory, TakesOfMemory, TakesOfSystem, TakesWorkspace}
+use Rattle.ffs_check.specs.{Costs.{Costs, CostsOfSystem, CostsOfVolume}, Reads.ReadsByMessages, Taken.AsksMemory}
+use Rattle.ffs_check.proofs.AnyReading.{opened_reads}
+use Rattle.ffs_volume.specs.Report.{Opening.opening_lines, Reads.{opening_reads, phase_reads}}
 
 accepted_by : (image image' : Device) (sector : Option ℕ) (s : Superblock) → ReadsSuper image image' sector (Ok s) →
     ForContents image.contents (λ bytes. outcome bytes sector ≡ Ok s)
 accepted_by image image' sector s (inl failed) = absurd failed.0.0
 accepted_by image image' sector s (inr read) = λ bytes t. sym (read.1 bytes t)
 
-pub takes : (name : List ℕ) (sector : Option ℕ) (old on : Moment) (found : Super) (held held' : Account) →
+-- what a check costs after an accepted superblock, whose opening was said
+pub costs_of : (name : List ℕ) (sector : Option ℕ) (old on new : Moment) (found : Super) (held held' : Account) →
     OpeningOf name sector old on (Ok found) →
     found.geometry.layout.size * found.geometry.layout.fsize ≤ old.image.size →
-    AsksMemory held held' (held_of found.geometry.layout) → TakesWorkspace old.image sector held held'
-takes name sector old on found held held' o inside a = record {
-  found = superblock_in found;
-  accepted = accepted_by old.image on.image sector (superblock_in found)
-      (subst (ReadsSuper old.image on.image sector) o.ends.1 o.super_is_read);
-  sound = found.geometry.sound;
-  inside = inside;
-  asked = a;
-  within = omega arith;
+    AsksMemory held held' (held_of found.geometry.layout) → on.reads ≤ old.reads + opening_reads →
+    ReadsByMessages (phase_reads found.geometry.layout) on new → CostsOfVolume sector old new held held'
+costs_of name sector old on new found held held' o inside a opened phases = record {
+  memory = record {
+    found = superblock_in found;
+    accepted = accepted_by old.image on.image sector (superblock_in found)
+        (subst (ReadsSuper old.image on.image sector) o.ends.1 o.super_is_read);
+    sound = found.geometry.sound;
+    inside = inside;
+    asked = a;
+    within = omega arith;
+  };
+  reads = opened_reads found.geometry.layout old on new (opening_lines name sector o.found) o.ends.0 opened phases;
 }
 
 not_by : (on defect : Bool) → end_by on defect ≡ NoMemory → ⊥
@@ -47,8 +54,8 @@ pub opened_for_memory : (name : List ℕ) (sector : Option ℕ) (old new : Momen
 opened_for_memory name sector old new end o e = grind (arith, not_broken)
 
 -- a check over the memory of the system, which was new
-pub of_system : (image : Device) (sector : Option ℕ) (end : End) (memory memory' : SystemMemory) →
-    account_of memory ≡ unused → TakesOfMemory image sector (account_of memory) (account_of memory') end →
-    TakesOfSystem image sector end
-of_system image sector end memory memory' begun taken =
-    record { memory = memory; memory' = memory'; begun = begun; taken = taken }
+pub of_system : (sector : Option ℕ) (old new : Moment) (end : End) (memory memory' : SystemMemory) →
+    account_of memory ≡ unused → Costs sector old new (account_of memory) (account_of memory') end →
+    CostsOfSystem sector old new end
+of_system sector old new end memory memory' begun costs =
+    record { memory = memory; memory' = memory'; begun = begun; costs = costs }

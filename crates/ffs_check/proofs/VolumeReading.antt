@@ -8,19 +8,16 @@ use Rattle.ffs_volume.specs.Blocks.Claims.{after_step, after_steps, at_next_inod
 use Rattle.ffs_volume.specs.{Laws.Geometry.IsAcceptedLayout, Report.{Memory.runs_limit, Reads.phase_reads}}
 use Rattle.ffs_volume.specs.Report.{Reads.{sweep_reads, group_reads}, Whole.{run_count, later_phase_lines, phase_lines}}
 use Rattle.ffs_volume.specs.Report.VolumeReads.{indirect_count, indirect_in_owners, indirect_in_steps, seen_indirect}
-use Rattle.ffs_volume.specs.declared.{Layout.Layout, Step.{Step, TheVariants.{Gap, Run, Tail}}}
-use Rattle.ffs_volume.specs.{Disk.{Search.some_below, Superblock.Superblock}, Messages.Kinds.of_tree}
+use Rattle.ffs_volume.specs.{Report.VolumeReads.{later_reads, rescan_reads, volume_phase_reads}, declared.Layout.Layout}
+use Rattle.ffs_volume.specs.{declared.Step.{Step, TheVariants.{Gap, Run, Tail}}, Disk.Search.some_below}
+use Rattle.ffs_volume.specs.{Disk.Superblock.Superblock, Messages.Kinds.of_tree}
 use Rattle.ffs_volume.specs.Directories.{Connectivity.connectivity_lines, ReferenceCheck.reference_lines}
 use Rattle.ffs_volume.specs.Directories.{PathnameCheck.{continues_after_root, pathname_lines}, Volumes.volume_of}
+use Rattle.ffs_volume.specs.Report.DirectoryReads.{directory_cost, noted_costs, is_looked_at, phase2_cost}
 use Rattle.ffs_survey.proofs.Costs.{costs_part}
 use Rattle.ffs_names.proofs.Limits.{costs_within, noted_within}
-use Rattle.ffs_volume.specs.Report.DirectoryReads.{directory_cost}
-use Rattle.ffs_volume.specs.Report.DirectoryReads.{noted_costs}
-use Rattle.ffs_volume.specs.Report.DirectoryReads.{is_looked_at, phase2_cost}
-use Rattle.ffs_check.specs.Rest.{after_phase2}
-use Rattle.ffs_volume.specs.Report.VolumeReads.{later_reads, rescan_reads, volume_phase_reads}
-use Rattle.ffs_check.specs.Rest.{from_phase1b, from_phase2, from_phase4, from_phase5, phase1_part, phase1b_part}
-use Rattle.ffs_check.specs.Rest.{phase2_part, phase3_part, phase4_part}
+use Rattle.ffs_check.specs.Rest.{after_phase2, from_phase1b, from_phase2, from_phase4, from_phase5, phase1_part}
+use Rattle.ffs_check.specs.Rest.{phase1b_part, phase2_part, phase3_part, phase4_part}
 
 -- each Run that is seen is counted
 run_rises : (v : Layout) (s : Claims) (start len : ℕ) → s.runs + 1 ≤ (after_run v s start len).runs

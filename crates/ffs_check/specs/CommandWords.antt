@@ -20,7 +20,7 @@ no_write_rule = record (new_rule (codes "no")) {
 abbrev pub read_only_rule : Rule
 read_only_rule = record no_write_rule { required = true }
 
--- `-b sector` (the letter 98), once: a sector of 512 bytes
+-- `-b sector` (the letter 98), once: a sector of 512 bytes, from 1 on and below `SECTOR_END`
 abbrev pub sector_rule : Rule
 sector_rule = record (new_rule (codes "sector")) {
   short = Some 98;

@@ -28,7 +28,7 @@ WritesFailed (ReadFault sector) old new = new ≡ old
 WritesFailed WriteFault old new = Rose old new
 
 -- what an end says of the failed reads of an image and the failed writes of an output. A superblock
--- that can't be read is a failed read, or lies past the image's end
+-- that can't be read is a failed read, or the image ends before it does
 pub record HaveFailed (asked_sector : Option ℕ) (old new : Moment) (end : End) : Type 0 where
   pub reads : ReadsFailed end old.image.failures new.image.failures
   pub writes : WritesFailed end old.out.failures new.out.failures

@@ -2,15 +2,16 @@
 -- runs over an image ends.
 use Rattle.std.specs.Prelude.{◌≡◌, ℕ, List, Option}
 use Rattle.ffs_volume.specs.{declared.End.End, Report.Whole.status_of}
-use Rattle.ffs_check.specs.{Headline.Headline, Moment.Moment, Program.Meaning, Reads.CheckReads, Taken.TakesOfSystem}
+use Rattle.ffs_check.specs.{Costs.CostsOfSystem, Failures.HaveFailed, Headline.Headline, Moment.Moment, Program.Meaning, Reads.ReadsWithin}
 use Rattle.ffs_check.specs.{CommandWords.{AskFor, LacksMemory, fsck_program}, Refusals.{IsTextFor, refusal_text}}
 
 -- an image was checked under a name, its superblock at a sector, and the status is that of the check's end
 pub record IsChecked (name : List ℕ) (sector : Option ℕ) (old new : Moment) (status : ℕ) : Type 0 where
   pub end : End
   pub headline : Headline name sector old new end
-  pub memory : TakesOfSystem old.image sector end
-  pub reads_within : CheckReads name sector old new
+  pub failures : HaveFailed sector old new end
+  pub costs : CostsOfSystem sector old new end
+  pub reads_within : ReadsWithin old.image name sector old.reads new.reads
   pub status_is : status ≡ status_of end
 
 -- a check of an image, asked for by its sector

@@ -1,4 +1,5 @@
 pub mod CommandWords
+pub mod Costs
 pub mod Ends
 pub mod Failures
 pub mod Fsck

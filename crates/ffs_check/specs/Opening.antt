@@ -1,6 +1,6 @@
 -- What the opening of a check prints, and its answer.
 use Rattle.std.specs.Prelude.{◌≡◌, ◌⊎◌, ◌≤◌, ◌+◌, ◌*◌, ◌||◌, ℕ, Bool, false, List, Option, Result, Ok, Err, MatchResult}
-use Rattle.ffs_image.specs.Device.{Device, ForContents}
+use Rattle.ffs_image.specs.Device.{ForContents}
 use Rattle.ffs_volume.specs.declared.SuperFault.{SuperFault, TheVariants.CannotRead}
 use Rattle.ffs_volume.specs.{declared.End.{End, TheVariants.{Refused, WriteFault}}, Report.Reads.opening_reads}
 use Rattle.ffs_volume.specs.{Disk.{Superblock.Superblock, Outcome.outcome}, Messages.{Kinds.{Message, has_defect}}}
@@ -50,7 +50,7 @@ pub record OpeningOf (name : List ℕ) (asked_sector : Option ℕ) (old new : Mo
   pub ends : OpeningEnds name asked_sector old new found result
 
 -- an accepted volume lies within the image, and a superblock that can't be read is a failed read, or
--- lies past the image's end. Two reads are made at most: of the superblock, and of its last copy
+-- the image ends before it does. Two reads are made at most: of the superblock, and of its last copy
 pub record AnswersOpening (asked_sector : Option ℕ) (old new : Moment) (result : Result Super End) : Type 0 where
   pub inside_or_unreadable : MatchResult result
       (λ super. super.geometry.layout.size * super.geometry.layout.fsize ≤ old.image.size)

@@ -1,24 +1,23 @@
 -- How the phases of a check end, how often they read, and what they leave. `knows` is what is known of the
 -- image's bytes, and `s` the superblock: with it the bytes determine the text, and whether the check
 -- continues after the root.
-use Rattle.std.specs.Prelude.{◌≡◌, ◌⊎◌, ◌<◌, ◌≤◌, ℕ, Bool, false, true, ◌||◌, List, [], ◌∷◌, ◌++◌, length, Result, Ok}
-use Rattle.std.specs.Prelude.{Err, IfOk, is_ok}
+use Rattle.std.specs.Prelude.{◌≡◌, ◌⊎◌, ◌<◌, ◌≤◌, ℕ, Bool, false, true, not, ◌||◌, List, [], ◌∷◌, ◌++◌, length, Result}
+use Rattle.std.specs.Prelude.{Ok, Err, IfOk, is_ok}
 use Rattle.ffs_image.specs.Device.{Device, Faulted}
-use Rattle.ffs_volume.specs.declared.End.{End, TheVariants.{ReadFault, WriteFault, NoMemory}}
-use Rattle.ffs_volume.specs.{Disk.Superblock.Superblock, Directories.PathnameCheck.continues_after_root}
-use Rattle.ffs_volume.specs.{Directories.Volumes.volume_of, Report.Whole.{end_by, phase_lines}, Messages.Kinds.Message}
-use Rattle.ffs_volume.specs.{Messages.Kinds.{cannot_alloc, cannot_read, has_defect}, Report.Memory.runs_limit}
-use Rattle.ffs_volume.specs.Report.Opening.{super_lines}
-use Rattle.ffs_volume.specs.declared.Layout.{Layout}
+use Rattle.ffs_volume.specs.declared.End.{End, TheVariants.{Consistent, Defects, Refused, RootStop, ReadFault}}
+use Rattle.ffs_volume.specs.{declared.End.TheVariants.{WriteFault, NoMemory}, Disk.Superblock.Superblock}
+use Rattle.ffs_volume.specs.{Directories.{PathnameCheck.continues_after_root, Volumes.volume_of}, Report.Whole.end_by}
+use Rattle.ffs_volume.specs.{Report.Whole.phase_lines, Messages.Kinds.{Message, cannot_alloc, cannot_read, has_defect}}
+use Rattle.ffs_volume.specs.{Report.{Memory.runs_limit, Opening.super_lines}, declared.Layout.Layout}
 use Rattle.ffs_report.specs.{Known.{ForBytes, IsContents}, PhaseOutcome.{ImageAfter, SaidOf, StoppedOf}}
 use Rattle.ffs_report.specs.{Progress.{Progress, Said, Stopped}, declared.fault.RunFault.{RunFault, TheVariants.Read}}
 use Rattle.ffs_report.specs.declared.fault.RunFault.TheVariants.{Out}
-use Rattle.ffs_pathnames.specs.{declared.pass2.Root.Root, RootAnswers.is_go}
+use Rattle.ffs_pathnames.specs.{declared.pass2.Root.Root, RootAnswers.{is_go, stops_check}}
 use Rattle.ffs_memory.specs.Account.{Account}
 use Rattle.ffs_workspace.specs.{declared.workspace.Workspace.Workspace, Found.WithFresh, Lengths.{IsFor, held_of}}
 use Rattle.ffs_workspace.specs.Ready.{IsReady}
-use Rattle.ffs_check.specs.{Ends.{Cut, Ends}, Headline.can_end_report, Reads.PhasesRead, Rest.HasAnswers}
-use Rattle.ffs_check.specs.{Moment.{Moment, ReportMoment, at_output}, Taken.TakesBytes}
+use Rattle.ffs_check.specs.{Ends.{Cut, Ends}, Reads.PhasesRead, Rest.HasAnswers, Moment.{Moment, ReportMoment}}
+use Rattle.ffs_check.specs.{Moment.at_output, Taken.TakesBytes}
 
 -- a read failed before the text was complete: whole messages were said, and others were to come
 pub record SaidNotAll (knows : List ℕ → Type 0) (all : List ℕ → List Message) (old new : Progress) : Type 0 where
@@ -26,11 +25,24 @@ pub record SaidNotAll (knows : List ℕ → Type 0) (all : List ℕ → List Mes
   pub prefix : SaidOf knows rest all old new
   pub more : ForBytes knows (λ bytes. 0 < length (rest bytes))
 
+-- the last message of a text, and whether the check stops after it
+pub record LastStops (stops : Bool) (text : List Message) : Type 0 where
+  pub before : List Message
+  pub last : Message
+  pub text_is : text ≡ before ++ (last ∷ [])
+  pub stops_is : stops_check last ≡ stops
+
+-- all messages were said, and the last of them says whether the check stopped after the root
+pub record SaidWhole (stops : Bool) (knows : List ℕ → Type 0) (all : List ℕ → List Message) (old new : Progress) :
+    Type 0 where
+  pub said : SaidOf knows (λ bytes. []) all old new
+  pub last : LastStops stops said.messages
+
 -- all messages at Ok, whole ones but not all at a read's fault, a prefix of their bytes at a fault
 -- of the output
-abbrev pub ReportsOrStopsEarly : {T : Type 0} → (List ℕ → Type 0) → (List ℕ → List Message) → Progress → Progress →
-    Result T RunFault → Type 0
-ReportsOrStopsEarly knows all old new (Ok x) = SaidOf knows (λ bytes. []) all old new
+abbrev pub ReportsOrStopsEarly : (List ℕ → Type 0) → (List ℕ → List Message) → Progress → Progress →
+    Result Root RunFault → Type 0
+ReportsOrStopsEarly knows all old new (Ok root) = SaidWhole (not (is_go root)) knows all old new
 ReportsOrStopsEarly knows all old new (Err (Read fault)) = SaidNotAll knows all old new
 ReportsOrStopsEarly knows all old new (Err (Out fault)) = StoppedOf knows all old new
 
@@ -45,7 +57,7 @@ pub record HaveRun (s : Superblock) (w : Workspace) (old new : ReportMoment) (re
         (λ bytes. is_go root ≡ continues_after_root (volume_of s.layout bytes)))
 
 -- what a check leaves of the counts of Runs and of what `has_dups` answers: where it came to its end
--- (`whole`), what the bytes determine; and never more Runs than a volume can have
+-- (`whole`), what the bytes determine; and phase 1 looked at no more Runs than a volume can have
 pub record LeavesAnswers (whole : Bool) (knows : List ℕ → Type 0) (v : Layout) (w w' : Workspace) : Type 0 where
   pub known : whole ≡ true → ForBytes knows (λ bytes. HasAnswers v bytes w w')
   pub most : w'.runs_seen ≤ runs_limit v
@@ -65,8 +77,8 @@ abbrev pub SaysReadFault : Progress → Progress → ℕ → End → Type 0
 SaysReadFault old new sector end = LineEnds old new (cannot_read sector) (ReadFault sector) end
 
 -- the line of a refused memory was said, or the output failed in it
-abbrev pub SaysRefusal : Progress → Progress → End → Type 0
-SaysRefusal old new end = LineEnds old new cannot_alloc NoMemory end
+abbrev pub SaysNoMemory : Progress → Progress → End → Type 0
+SaysNoMemory old new end = LineEnds old new cannot_alloc NoMemory end
 
 -- the end that an answer of the phases makes, by the defects of this report, and by whether an
 -- opening that another report said had one (`had_defect`); a failed read is said
@@ -75,11 +87,13 @@ EndsAs had_defect old new (Ok root) end = (new ≡ old) × (end ≡ end_by (is_g
 EndsAs had_defect old new (Err (Read fault)) end = SaysReadFault old new fault.sector end
 EndsAs had_defect old new (Err (Out fault)) end = (new ≡ old) × (end ≡ WriteFault)
 
--- the end is by whether the check continued after the root, and by whether a defect was reported
-pub record IsEndByRoot (knows : List ℕ → Type 0) (s : Superblock) (defect : Bool) (end : End) : Type 0 where
+-- the end is by whether the check continued after the root, as the last message says, and by whether a defect
+-- was reported
+pub record IsEndByRoot (knows : List ℕ → Type 0) (s : Superblock) (text : List Message) (end : End) : Type 0 where
   pub continued : Bool
   pub by_root : ForBytes knows (λ bytes. continued ≡ continues_after_root (volume_of s.layout bytes))
-  pub end_is : end ≡ end_by continued defect
+  pub last : LastStops (not continued) text
+  pub end_is : end ≡ end_by continued (has_defect (super_lines s ++ text))
 
 -- a read failed before the text was complete: whole messages of it were said, and others were to come
 pub record IsCutByRead (knows : List ℕ → Type 0) (text : List Message) (image image' : Device) (cut : Cut) : Type 0
@@ -97,8 +111,17 @@ pub record IsCutByRead (knows : List ℕ → Type 0) (text : List Message) (imag
 pub record PhasesEnd (knows : List ℕ → Type 0) (s : Superblock) (old new : Moment) (end : End) : Type 0 where
   pub text : List Message
   pub right : ForBytes knows (λ bytes. text ≡ phase_lines bytes s)
-  pub ends : Ends old new text (IsEndByRoot knows s (has_defect (super_lines s ++ text)))
-      (IsCutByRead knows text old.image new.image) end
+  pub ends : Ends old new text (IsEndByRoot knows s text) (IsCutByRead knows text old.image new.image) end
+
+-- an end that a whole report can have: also `Refused`, and `RootStop` (inode 2 is no directory)
+abbrev pub can_end_report : End → Bool
+can_end_report Consistent = true
+can_end_report Defects = true
+can_end_report (Refused fault) = true
+can_end_report RootStop = true
+can_end_report (ReadFault sector) = false
+can_end_report WriteFault = false
+can_end_report NoMemory = false
 
 -- the phases have run to an end: what went out, how often they read an image that gives its bytes,
 -- and any image, what the workspace answers then, and its lists keep their lengths
@@ -112,7 +135,7 @@ pub record RunsToEnd (s : Superblock) (w w' : Workspace) (old new : Moment) (end
 -- its phases have run
 abbrev pub SaysRest : Superblock → ReportMoment → ReportMoment → End → Type 0
 SaysRest s old new end =
-    ((new.image ≡ old.image) × SaysRefusal old.report new.report end)
+    ((new.image ≡ old.image) × SaysNoMemory old.report new.report end)
     ⊎ PhasesEnd (IsContents old.image.contents) s (at_output old) (at_output new) end
 
 -- what an accepted superblock leads to: what is said, what is taken of the memory, and how often the

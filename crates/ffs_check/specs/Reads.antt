@@ -1,14 +1,13 @@
 -- How often a check reads its image at most: one that gives its bytes, and any image, also one that gives
 -- other bytes each time, by the messages that went out, whole or in part.
-use Rattle.std.specs.Prelude.{◌≡◌, ◌⊎◌, ◌≤◌, ◌+◌, ◌*◌, ℕ, List, length, Option, Result, Ok, Err}
+use Rattle.std.specs.Prelude.{◌≡◌, ◌⊎◌, ◌≤◌, ◌+◌, ℕ, List, length, Option, Result, Ok, Err}
 use Rattle.ffs_image.specs.Device.{Device, ForContents}
-use Rattle.ffs_volume.specs.declared.{Layout.Layout, SuperFault.SuperFault}
-use Rattle.ffs_volume.specs.{Disk.{Outcome.outcome, Superblock.Superblock}, Laws.Geometry.IsAcceptedLayout}
+use Rattle.ffs_volume.specs.{declared.SuperFault.SuperFault, Disk.{Outcome.outcome, Superblock.Superblock}}
 use Rattle.ffs_volume.specs.{Messages.{Kinds.Message, Texts.texts_of}, Report.VolumeReads.volume_phase_reads}
 use Rattle.ffs_volume.specs.Report.{Reads.{line_reads, opening_reads, phase_reads, reads_limit}, Whole.phase_lines}
 use Rattle.ffs_volume.specs.Report.Whole.{report_of}
-use Rattle.ffs_report.specs.{Known.ForBytes, Paid.Paid, Sink.{BrokeOff, Took}, declared.fault.RunFault.RunFault}
-use Rattle.ffs_check.specs.Moment.{Moment, ReportMoment}
+use Rattle.ffs_report.specs.{Known.ForBytes, Paid.Paid, Sink.Took, declared.fault.RunFault.RunFault}
+use Rattle.ffs_check.specs.{Ends.BrokeOffInLast, Moment.{Moment, ReportMoment}}
 
 -- the phases read the image at most as often as the layout allows, and as what the volume holds does
 pub record PhasesReadWithin (s : Superblock) (bytes : List ℕ) (reads reads' : ℕ) : Type 0 where
@@ -25,11 +24,11 @@ pub record ReadsWithin (image : Device) (name : List ℕ) (asked_sector : Option
   pub volume : ForContents image.contents (λ bytes. (s : Superblock) → outcome bytes asked_sector ≡ Ok s
       → reads' ≤ reads + (opening_reads + volume_phase_reads s.layout bytes))
 
--- messages went out, or the output failed among them, and there were no more reads than the limit
--- for so many messages
+-- messages went out, or the output failed within the last of them, and there were no more reads than the
+-- limit for so many messages
 pub record ReadsByMessages (limit : ℕ → ℕ) (old new : Moment) : Type 0 where
   pub messages : List Message
-  pub went_out : Took old.out new.out (texts_of messages) ⊎ BrokeOff old.out new.out (texts_of messages)
+  pub went_out : Took old.out new.out (texts_of messages) ⊎ BrokeOffInLast old.out new.out messages
   pub most : new.reads ≤ old.reads + limit (length messages)
 
 -- how often the phases read an image whose bytes are known, and any image, for the messages that
@@ -44,17 +43,3 @@ pub record PhasesPay {T : Type 0} (knows : List ℕ → Type 0) (s : Superblock)
     (result : Result T RunFault) : Type 0 where
   pub known : ForBytes knows (λ bytes. PhasesReadWithin s bytes old.reads new.reads)
   pub paid : Paid (line_reads + 1) old.report new.report (old.reads + phase_reads s.layout 0) new.reads result
-
--- for some accepted layout, of a volume that fits the image, the whole check read within the limit of that
--- layout for what it printed
-pub record ReadsOfVolume (old new : Moment) : Type 0 where
-  pub layout : Layout
-  pub accepted : IsAcceptedLayout layout
-  pub inside : layout.size * layout.fsize ≤ old.image.size
-  pub reads : ReadsByMessages (reads_limit layout) old new
-
--- how often the whole check reads an image that gives its bytes, and any image, also one that gives
--- other bytes each time: at most twice, or within the limit of the volume
-pub record CheckReads (name : List ℕ) (asked_sector : Option ℕ) (old new : Moment) : Type 0 where
-  pub reads : ReadsWithin old.image name asked_sector old.reads new.reads
-  pub any : (new.reads ≤ old.reads + opening_reads) ⊎ ReadsOfVolume old new

@@ -6,14 +6,13 @@ use Rattle.ffs_report.specs.{Known.{ForBytes, IsContents}, declared.fault.RunFau
 use Rattle.ffs_volume.specs.{declared.Layout.Layout, Disk.Superblock.Superblock, Blocks.Owners.owners_of}
 use Rattle.ffs_volume.specs.Directories.{Volumes.volume_of, Connectivity.connectivity_lines}
 use Rattle.ffs_volume.specs.{Directories.ReferenceCheck.reference_lines, Messages.Kinds.{Message, phase1, phase2}}
-use Rattle.ffs_volume.specs.Messages.Kinds.{phase3, phase4, phase5, of_blocks, of_tree}
-use Rattle.ffs_volume.specs.{Blocks.BlockCheck.{has_rescan, phase1_lines}, Directories.PathnameCheck.pathname_lines}
+use Rattle.ffs_volume.specs.{Messages.Kinds.{phase3, phase4, phase5, of_blocks, of_tree}, Blocks.BlockCheck.has_rescan}
+use Rattle.ffs_volume.specs.{Blocks.BlockCheck.phase1_lines, Directories.PathnameCheck.pathname_lines}
 use Rattle.ffs_volume.specs.{Directories.PathnameCheck.continues_after_root, Report.Reads.sweep_reads}
 use Rattle.ffs_volume.specs.Report.Whole.{rescan_lines, group_check_lines, summary_of, file_count, claimed_count}
-use Rattle.ffs_volume.specs.Report.Whole.{run_count}
+use Rattle.ffs_volume.specs.Report.{Whole.run_count, VolumeReads.rescan_reads}
 use Rattle.ffs_workspace.specs.{declared.workspace.Workspace.Workspace, Holds.HoldsClaims, Ready.IsReady}
 use Rattle.ffs_claims.specs.{Phases.IsLeftByPhase1, RescanRuns.rescan_runs}
-use Rattle.ffs_volume.specs.Report.VolumeReads.{rescan_reads}
 
 -- what each phase reports, with its heading
 abbrev pub phase1_part : List ℕ → Superblock → List Message

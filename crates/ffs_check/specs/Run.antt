@@ -76,8 +76,8 @@ pub record RunsAsAsked {R O : Type 0} (program : Meaning R) (images : Images O) 
   pub asked : program.asks words name request
   pub looked : LooksAtImageOf images name (program.looks name request) old new status
 
--- the words are wrong, or ask for the help or the version, and the text for that was written, once.
--- Nothing is printed to the output, and no image is opened
+-- the words are wrong, or ask for the help or the version, and the text for that was written, or a prefix of
+-- it where a write failed. Nothing is printed to the output, and no image is opened
 pub record IsRefused {R O : Type 0} (program : Meaning R) (was_written : List ℕ → Type 0) (words : List (List ℕ))
     (old new : RunMoment O) (status : ℕ) : Type 0 where
   pub text : List ℕ

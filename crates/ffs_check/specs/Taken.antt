@@ -1,8 +1,7 @@
 -- What a check takes of its memory.
 use Rattle.std.specs.Prelude.{◌≡◌, ◌≤◌, ◌*◌, ◌⊎◌, ℕ, Option, Ok}
 use Rattle.ffs_image.specs.Device.{Device, ForContents}
-use Rattle.ffs_memory.specs.{System.account_of, Account.{Account, Granted, GaveUp, RefusedOneMore, unused}}
-use Rattle.ffs_memory.specs.declared.system.SystemMemory.{SystemMemory}
+use Rattle.ffs_memory.specs.{Account.{Account, Granted, GaveUp, RefusedOneMore}}
 use Rattle.ffs_volume.specs.{declared.End.{End, TheVariants.NoMemory}, Report.Memory.held_limit, Disk.Outcome.outcome}
 use Rattle.ffs_volume.specs.{Disk.Superblock.Superblock, Laws.Geometry.IsAcceptedLayout}
 use Rattle.ffs_workspace.specs.Lengths.{held_of}
@@ -29,16 +28,3 @@ pub record TakesWorkspace (image : Device) (asked_sector : Option ℕ) (old new 
 -- nothing was taken, or the workspace of an accepted volume
 abbrev pub Takes : Device → Option ℕ → Account → Account → Type 0
 Takes image asked_sector old new = (new ≡ old) ⊎ TakesWorkspace image asked_sector old new
-
--- what a check takes of a memory. It ends as `NoMemory` only where a request was refused
-pub record TakesOfMemory (image : Device) (asked_sector : Option ℕ) (old new : Account) (end : End) : Type 0 where
-  pub takes : Takes image asked_sector old new
-  pub refused : end ≡ NoMemory → RefusedOneMore old new
-
--- a check took of the memory of the system, of which nothing was granted before, what it takes of
--- any memory
-pub record TakesOfSystem (image : Device) (asked_sector : Option ℕ) (end : End) : Type 0 where
-  pub memory : SystemMemory
-  pub memory' : SystemMemory
-  pub begun : account_of memory ≡ unused
-  pub taken : TakesOfMemory image asked_sector (account_of memory) (account_of memory') end

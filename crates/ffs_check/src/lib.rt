@@ -9,7 +9,7 @@
 //!
 //! ```text
 //! let end = check(alloc, &mut image, &args, &mut out);
-//! std::process::exit(end.status());
+//! ExitCode::from(end.status())
 //! ```
 //!
 //! Its modules:

@@ -11,18 +11,17 @@ use Rattle.ffs_volume.specs.Blocks.BlockCheck.{is_dup_line, has_rescan, blames, 
 use Rattle.ffs_volume.specs.Blocks.Claims.{Claims, no_claims, at_next_inode, is_open, is_set, after_owner, after_owners}
 use Rattle.ffs_volume.specs.Blocks.Claims.{lines_of_steps, after_offer, after_offers, after_run, after_step}
 use Rattle.ffs_volume.specs.Blocks.Claims.{after_steps, offer_lines, lines_of_offers, run_lines, step_lines}
-use Rattle.ffs_volume.specs.Blocks.{Inodes.{is_file_or_dir, inode_of, class_of, is_unknown}, KeptOffers.Offer}
-use Rattle.ffs_volume.specs.Blocks.{KeptSteps.claims_before, Owners.{Owner, owners_of, owner_of}}
+use Rattle.ffs_volume.specs.Blocks.Inodes.{is_file_or_dir, inode_of, class_of, is_unknown, inodes_of}
+use Rattle.ffs_volume.specs.Blocks.{KeptOffers.Offer, KeptSteps.claims_before, Owners.{Owner, owners_of, owner_of}}
 use Rattle.ffs_volume.specs.{Directories.Volumes.{is_inode_number, marked_at}, Disk.Areas.is_fragment_in_range}
 use Rattle.ffs_volume.specs.{Disk.Areas.is_run_in_range, declared.BlockMessage.{BlockMessage, TheVariants.Bad}}
 use Rattle.ffs_volume.specs.declared.BlockMessage.TheVariants.{ManyBad, PartTrunc, Dup, ManyDup, PartAlloc, UnknownType}
 use Rattle.ffs_volume.specs.declared.{BlockMessage.TheVariants.BlockCount, Class.{Class, TheVariants.Partial}}
 use Rattle.ffs_volume.specs.declared.{Class.TheVariants.Unknown, Layout.Layout, Step.{Step, TheVariants.{Run, Tail}}}
 use Rattle.ffs_volume.specs.declared.Step.TheVariants.{Gap}
-use Rattle.ffs_workspace.proofs.Leaving.{counts_unsurveyed}
-use Rattle.ffs_workspace.specs.Holds.{marked_by_phase1_at, all_claims, HoldsPhase1, HoldsClaims, has_blame}
-use Rattle.ffs_workspace.specs.{Lengths.set_count, declared.workspace.Workspace.Workspace}
-use Rattle.ffs_volume.specs.Blocks.Inodes.{inodes_of}
+use Rattle.ffs_workspace.{proofs.Leaving.counts_unsurveyed, specs.Holds.{marked_by_phase1_at, all_claims, HoldsPhase1}}
+use Rattle.ffs_workspace.specs.{Holds.{HoldsClaims, has_blame}, Lengths.set_count}
+use Rattle.ffs_workspace.specs.declared.workspace.Workspace.{Workspace}
 use Rattle.ffs_claims.proofs.Numbers.{before_first}
 
 -- a fact of two choices by one test, and where one of them takes a second test too

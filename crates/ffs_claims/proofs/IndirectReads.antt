@@ -3,14 +3,13 @@
 use Rattle.std.proofs.Common.{◌≡◌, ℕ, zero, suc, ◌+◌, ◌-◌, ◌<◌, ◌≤◌, true, List, ◌∷◌, ◌++◌, replicate, Some, None}
 use Rattle.std.proofs.{Common.{arith, refl, ap, ◌∙◌, sym, inl, inr, nat_eq}, lemmas.Bool.cases_Bool}
 use Rattle.ffs_volume.specs.Blocks.Claims.{Claims, after_owner, after_step, at_next_inode, is_open, no_claims}
-use Rattle.ffs_volume.specs.Blocks.{Inodes.{class_of, inode_of}, Owners.{owner_of, owners_of}}
+use Rattle.ffs_volume.specs.Blocks.{Inodes.{class_of, inode_of, inodes_of}, Owners.{owner_of, owners_of}}
 use Rattle.ffs_volume.specs.Report.VolumeReads.{indirect_count, indirect_in_owners, indirect_in_steps, seen_indirect}
 use Rattle.ffs_volume.specs.{Report.VolumeReads.volume_scan_reads, Laws.Geometry.IsAcceptedLayout}
 use Rattle.ffs_volume.specs.declared.{Class.TheVariants.Free, Layout.Layout, Step.{Step, TheVariants.{Gap, Run, Tail}}}
 use Rattle.ffs_report.specs.Known.{ForBytes}
 use Rattle.ffs_walk.specs.{Counts.entered, HeldWords.word_step, Rests.steps_left, declared.walk.Walk.Walk}
 use Rattle.ffs_workspace.specs.{Tables.{HoldsInode, HoldsPiece}, declared.table.Table.Table}
-use Rattle.ffs_volume.specs.Blocks.Inodes.{inodes_of}
 use Rattle.ffs_claims.proofs.{Inodes.free_steps, StepsContinue.range_more, ZeroInodes.{AreFree, free_claims}}
 use Rattle.ffs_claims.proofs.TableReads.{BlocksRead, blocks_all, blocks_failed, blocks_later, blocks_next, blocks_none}
 use Rattle.ffs_claims.specs.{Claiming.ReadsIndirect, Lines.owners_from}

@@ -4,7 +4,7 @@ use Rattle.std.proofs.{Common.{List, arith, refl, sym, Result, Ok, Err, inl, inr
 use Rattle.ffs_volume.specs.{Messages.Kinds.Message}
 use Rattle.ffs_image.{specs.Device.Device, proofs.Limits.StaysOver}
 use Rattle.ffs_image.specs.Limited.{GivesBack, GivesBackLent, LentAt, lent_at, limited_device, shown_above}
-use Rattle.ffs_report.specs.{Known.ForBytes, Progress.Progress, PhaseOutcome.{ImageAfter, PhaseOutcome, PhaseReports}}
+use Rattle.ffs_report.specs.{Known.ForBytes, Progress.Progress, PhaseOutcome.{ImageAfter, PhaseReports}}
 use Rattle.ffs_report.specs.declared.fault.RunFault.{RunFault, TheVariants.{Read, Out}}
 
 -- ---- the image
@@ -47,29 +47,29 @@ pub record PhaseServed {T : Type 0} (knows : List ℕ → Type 0) (all : List �
   pub size : below.size ≡ above.size
   pub few : asked ≤ limit → spent ≡ false
   pub refused : (x : T) → spent ≡ true → ForBytes knows (λ bytes. spent ≡ false) →
-      PhaseOutcome knows all lent below old new (Ok x)
-  pub answered : spent ≡ false → PhaseOutcome knows all lent below old new r
+      ImageAfter lent below (Ok x) × PhaseReports knows all old new (Ok x)
+  pub answered : spent ≡ false → ImageAfter lent below r × PhaseReports knows all old new r
 
 -- the contract of the phase, with the clause of the limited image on what is below
 pub phase_served : {T : Type 0} {knows : List ℕ → Type 0} {all : List ℕ → List Message} {lent below : Device}
-    {name_lent name : GName} {reads reads' limit left asked : ℕ} {s : Bool} {above : Device} {old new : Progress}
-    {r : Result T RunFault} →
-    PhaseOutcome knows all (limited_device lent name_lent reads limit) above old new r →
+    {name_lent name : GName} {reads' limit left asked : ℕ} {s : Bool} {above : Device} {old new : Progress}
+    {r : Result T RunFault} (reads : ℕ) →
+    ImageAfter (limited_device lent name_lent reads limit) above r → PhaseReports knows all old new r →
     GivesBackLent (lent_at below name reads' left) asked s above →
     PhaseServed knows all lent below above name_lent name limit asked s old new r
-phase_served {lent = lent} {below = below} {name_lent = name_lent} {reads = reads} {limit = limit} {s = s} {r = r} p
-    back =
-    let over = image_over (limited_device lent name_lent reads limit) _ r p.image in
+phase_served {lent = lent} {below = below} {name_lent = name_lent} {limit = limit} {s = s} {r = r} reads
+    image text back =
+    let over = image_over (limited_device lent name_lent reads limit) _ r image in
     let g = back (lent_at lent name_lent reads limit) over.lent over.contents over.size in
     let stays : StaysOver lent below = elim (cases_Bool s) [
       | inl e ↦ same_over (g.refused e)
-      | inr e ↦ image_over lent below r (image_through g r e p.image)
+      | inr e ↦ image_over lent below r (image_through g r e image)
     ] in
     record {
       same_image = sym g.same_image;
       contents = stays.contents ∙ sym over.contents;
       size = stays.size ∙ sym over.size;
       few = λ e. grind arith;
-      refused = λ x e none. record { image = g.refused e; text = refused_text g r x e none p.image p.text };
-      answered = λ e. record { image = image_through g r e p.image; text = p.text };
+      refused = λ x e none. (g.refused e, refused_text g r x e none image text);
+      answered = λ e. (image_through g r e image, text);
     }

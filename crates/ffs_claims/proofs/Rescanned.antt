@@ -6,17 +6,16 @@ use Rattle.std.specs.List.{range_with_len, list_any, list_all}
 use Rattle.ffs_volume.proofs.{CutLaws.cut_is, OwnerLaws.before_next, Potentials.cond_holds, ReplayLaws.replay_is_runs}
 use Rattle.ffs_volume.specs.Blocks.{BlockCheck.{blames, first_offer_lines, phase1b_lines}, Claims.{Claims, no_claims}}
 use Rattle.ffs_volume.specs.Blocks.Claims.{at_next_inode, after_offer, after_step, after_steps, after_owner}
-use Rattle.ffs_volume.specs.Blocks.{Claims.after_owners, Inodes.inode_of, KeptOffers.{Offer, kept_in_offers}}
-use Rattle.ffs_volume.specs.Blocks.{KeptOffers.{kept_in_step, kept_in_steps, kept_in_owners}, KeptSteps.claims_before}
-use Rattle.ffs_volume.specs.{Blocks.{Owners.{owner_of, owners_of}, Steps.steps_of}, Directories.Volumes.is_inode_number}
-use Rattle.ffs_volume.specs.Encodings.{Replay.{fresh_replay, cut_of, cut_at}, ReplayCounts.replayed_runs}
-use Rattle.ffs_volume.specs.{Laws.Geometry.IsAcceptedLayout, Report.Whole.run_count, declared.Layout.Layout}
-use Rattle.ffs_volume.specs.declared.Step.{Step, TheVariants.Run}
+use Rattle.ffs_volume.specs.Blocks.{Claims.after_owners, Inodes.{inode_of, inodes_of}, KeptOffers.Offer}
+use Rattle.ffs_volume.specs.Blocks.KeptOffers.{kept_in_offers, kept_in_step, kept_in_steps, kept_in_owners}
+use Rattle.ffs_volume.specs.Blocks.{KeptSteps.claims_before, Owners.{owner_of, owners_of}, Steps.steps_of}
+use Rattle.ffs_volume.specs.{Directories.Volumes.is_inode_number, Encodings.Replay.{fresh_replay, cut_of, cut_at}}
+use Rattle.ffs_volume.specs.{Encodings.ReplayCounts.replayed_runs, Laws.Geometry.IsAcceptedLayout}
+use Rattle.ffs_volume.specs.{Report.Whole.run_count, declared.{Layout.Layout, Step.{Step, TheVariants.Run}}}
+use Rattle.ffs_volume.specs.Encodings.Notes.{cut_in}
 use Rattle.ffs_maps.specs.Bits.{bits_of}
-use Rattle.ffs_workspace.proofs.{Leaving.counts_unsurveyed, NoteLaws.cut_is_noted}
-use Rattle.ffs_workspace.specs.Holds.{all_claims, HoldsPhase1, HoldsStarts, HoldsClaims}
-use Rattle.ffs_workspace.specs.declared.workspace.Workspace.{Workspace}
-use Rattle.ffs_volume.specs.{Blocks.Inodes.inodes_of, Encodings.Notes.cut_in}
+use Rattle.ffs_workspace.{proofs.{Leaving.counts_unsurveyed, NoteLaws.cut_is_noted}, specs.Holds.all_claims}
+use Rattle.ffs_workspace.specs.{Holds.{HoldsPhase1, HoldsStarts, HoldsClaims}, declared.workspace.Workspace.Workspace}
 use Rattle.ffs_claims.proofs.{Duplicates.marked_total, Numbers.{before_end, is_inside}, RescanCounts.looked_both}
 use Rattle.ffs_claims.proofs.{RescanCounts.{runs_leave, inode_again}, StepsContinue.range_more}
 use Rattle.ffs_claims.specs.{Lines.owners_from, Reporting.{after_first, OffersReported, RescanKeeps}}

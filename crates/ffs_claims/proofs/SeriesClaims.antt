@@ -2,17 +2,16 @@
 use Rattle.std.proofs.Common.{◌≡◌, ◌≢◌, ℕ, ◌+◌, ◌<◌, ◌≤◌, false, nat_eq, nat_lt, get_or, List, [], ◌∷◌, ap, arith, inr}
 use Rattle.std.proofs.{Common.{Option, refl, sym, ◌∙◌, ◌/◌}, lemmas.Bool.{and_parts, Decides.nat_tests}}
 use Rattle.std.proofs.Math.Nat.{add-div_right, zero-div}
-use Rattle.ffs_volume.proofs.Potentials.{cond_holds, moves_then, stays, step_moves}
-use Rattle.ffs_volume.specs.{Blocks.Claims.{Claims, after_step, is_open, step_lines}, declared.Step.Step}
+use Rattle.ffs_volume.{proofs.Potentials.{cond_holds, moves_then, stays, step_moves}, specs.Blocks.Claims.Claims}
+use Rattle.ffs_volume.specs.{Blocks.Claims.{after_step, is_open, step_lines}, declared.Step.Step}
 use Rattle.ffs_volume.specs.{Laws.RunLengths.HasLength, declared.Layout.Layout}
 use Rattle.ffs_image.specs.Device.{ForContents}
 use Rattle.ffs_maps.{proofs.{Bits.run_join, Masks.run_outside}, specs.Bits.set_run}
 use Rattle.ffs_walk.specs.{HeldWords.{PassesNextWord, next_address, word_step}, Rests.steps_left, Windows.BlocksHold}
 use Rattle.ffs_walk.specs.declared.{blocks.Blocks.Blocks, walk.Walk.Walk}
 use Rattle.ffs_workspace.specs.{Holds.claims_of, declared.workspace.Workspace.Workspace}
-use Rattle.ffs_claims.proofs.{IndirectReads.{step_on, word_unseen}, UnclaimedRuns.whole_is}
-use Rattle.ffs_claims.specs.{Leaves.ClaimsOnly, SilentWords.ClaimsWords}
-use Rattle.ffs_claims.specs.Series.{CanClaimSeries, MeansSame, PassesSeries, with_series}
+use Rattle.ffs_claims.{proofs.{IndirectReads.{step_on, word_unseen}, UnclaimedRuns.whole_is}, specs.Leaves.ClaimsOnly}
+use Rattle.ffs_claims.specs.{SilentWords.ClaimsWords, Series.{CanClaimSeries, MeansSame, PassesSeries, with_series}}
 
 -- a step claims a Run, and nothing is reported of it
 record ClaimsRunOf (v : Layout) (s : Claims) (step : Step) (start : ℕ) : Type 0 where

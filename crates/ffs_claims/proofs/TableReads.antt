@@ -2,10 +2,9 @@
 use Rattle.std.proofs.Common.{◌≡◌, ℕ, suc, ◌+◌, ◌-◌, ◌*◌, ◌/◌, ◌%◌, ◌<◌, ◌≤◌, ◌⊎◌, inl, inr, ◌∙◌, ap, arith, OnOk}
 use Rattle.std.proofs.{Common.{Result, Ok, Err}, lemmas.{Bool.cases_lt, Nat.{div-mul-add, mod_below}}}
 use Rattle.std.proofs.Math.Nat.{div-add-mod', le-div_iff_mul-le, mul-le-mul_right, mul_assoc, mul_comm, mul-mod_right}
-use Rattle.ffs_volume.{specs.{Laws.Geometry.IsAcceptedLayout, Report.Reads.table_blocks}}
-use Rattle.ffs_volume.specs.declared.Layout.{Layout}
-use Rattle.ffs_workspace.specs.{Tables.{HoldsInode, HoldsPiece}, declared.table.Table.Table}
+use Rattle.ffs_volume.specs.{Laws.Geometry.IsAcceptedLayout, Report.Reads.table_blocks, declared.Layout.Layout}
 use Rattle.ffs_volume.specs.Blocks.Inodes.{inodes_of}
+use Rattle.ffs_workspace.specs.{Tables.{HoldsInode, HoldsPiece}, declared.table.Table.Table}
 
 -- a fact of every answer
 pub on_any : {T E P : Type 0} (r : Result T E) → P → OnOk r P

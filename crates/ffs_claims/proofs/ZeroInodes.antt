@@ -1,23 +1,21 @@
 -- An inode of zero bytes is free.
-use Rattle.std.proofs.Common.{◌≡◌, ◌*◌, ◌+◌, ◌-◌, ◌<◌, ◌≤◌, ◌++◌, ℕ, zero, suc, false, List, [], ◌∷◌, length, replicate, Option, arith}
-use Rattle.std.proofs.{Common.{refl, ap, ◌∙◌, sym, subst, drop, take, vec_len}, Math.Seq.take-add}
-use Rattle.std.proofs.lemmas.{Bool.Decides.nat_tests, List.{drop-drop, length-drop, length-take-le, Folds.list_any-append}}
-use Rattle.std.specs.List.{slice_range}
+use Rattle.std.proofs.Common.{◌≡◌, ◌*◌, ◌+◌, ◌-◌, ◌<◌, ◌≤◌, ◌++◌, ℕ, zero, suc, false, List, [], ◌∷◌, length, replicate}
+use Rattle.std.proofs.{Common.{Option, arith, refl, ap, ◌∙◌, sym, subst, drop, take, vec_len}, Math.Seq.take-add}
+use Rattle.std.proofs.lemmas.{Bool.Decides.nat_tests, List.{drop-drop, length-drop, length-take-le}}
+use Rattle.std.{proofs.lemmas.List.Folds.list_any-append, specs.List.slice_range}
 use Rattle.ffs_image.specs.Device.{ForContents}
-use Rattle.ffs_volume.specs.{Blocks.Inodes.{any_nonzero, class_of, inode_from_bytes, inode_of}, Disk.Numbers.piece}
-use Rattle.ffs_volume.specs.Blocks.{BlockCheck.owner_lines, Claims.{Claims, after_owner, after_steps, at_next_inode}}
-use Rattle.ffs_volume.specs.Blocks.Owners.{owner_of}
+use Rattle.ffs_volume.specs.Blocks.Inodes.{any_nonzero, class_of, inode_from_bytes, inode_of, inodes_of}
+use Rattle.ffs_volume.specs.Disk.Numbers.{piece, i16_at, i32_at, number, u16_at, u32_at, u64_at}
+use Rattle.ffs_volume.specs.Blocks.{BlockCheck.{owner_lines, lines_of_owners}, Claims.{Claims, after_owner}}
+use Rattle.ffs_volume.specs.Blocks.{Claims.{after_steps, at_next_inode}, Owners.owner_of}
 use Rattle.ffs_volume.specs.declared.{Class.TheVariants.Free, Layout.Layout, Order.{Order, TheVariants.{Little, Big}}}
-use Rattle.ffs_volume.specs.Disk.{Areas.inode_place, Numbers.{i16_at, i32_at, number, u16_at, u32_at, u64_at}}
+use Rattle.ffs_volume.{specs.{Disk.Areas.inode_place, Blocks.KeptSteps.claims_before}, proofs.OwnerLaws.before_next}
 use Rattle.ffs_walk.specs.{Windows.{WindowHolds, held_bytes}, declared.window.Window.Window}
-use Rattle.ffs_workspace.specs.{Tables.{IsTableOf}, declared.table.Table.Table}
-use Rattle.ffs_workspace.proofs.TablePlaces.{held_there}
-use Rattle.ffs_volume.{proofs.OwnerLaws.before_next, specs.Blocks.{BlockCheck.lines_of_owners, KeptSteps.claims_before}}
+use Rattle.ffs_workspace.{specs.{Tables.IsTableOf, declared.table.Table.Table}, proofs.TablePlaces.held_there}
 use Rattle.ffs_workspace.specs.{Holds.claims_of, Lengths.IsFor, declared.workspace.Workspace.Workspace}
-use Rattle.ffs_volume.specs.Blocks.Inodes.{inodes_of}
 use Rattle.ffs_claims.proofs.{Inodes.free_steps, Numbers.{FoundTo, found_next, lines_next, stored_free}}
-use Rattle.ffs_claims.specs.Lines.{of_lines, owners_from}
-use Rattle.ffs_claims.specs.ZeroInodes.{AreZeroInodes, HasTableInodes, HoldsInodes, IsZeroInode}
+use Rattle.ffs_claims.specs.{Lines.{of_lines, owners_from}, ZeroInodes.{AreZeroInodes, HasTableInodes, HoldsInodes}}
+use Rattle.ffs_claims.specs.ZeroInodes.{IsZeroInode}
 
 -- the bytes of a range, and those after it
 range_split : (xs : List ℕ) (a b c : ℕ) → a ≤ b → b ≤ c → slice_range xs a c ≡ slice_range xs a b ++ slice_range xs b c

@@ -1,23 +1,21 @@
 -- What inodes ask for before they claim, and what they leave.
-use Rattle.std.specs.{List.range_with_len, Prelude.{◌≡◌, ℕ, ◌+◌, ◌<◌, ◌≤◌, ◌^◌, Bool, true, List}}
-use Rattle.std.specs.Prelude.{Result, OnOk, IfOk}
+use Rattle.std.specs.{List.range_with_len, Prelude.{◌≡◌, ℕ, ◌+◌, ◌<◌, ◌≤◌, ◌^◌, Bool, true, List, Result, OnOk, IfOk}}
 use Rattle.ffs_volume.specs.Blocks.{BlockCheck.owner_lines, Inodes.{class_of, inodes_of}, Owners.{Owner, owner_of}}
 use Rattle.ffs_volume.specs.Blocks.Claims.{Claims, after_offer, after_offers, after_owner, after_step, after_steps}
 use Rattle.ffs_volume.specs.Blocks.Claims.{at_next_inode, is_open, lines_of_offers, lines_of_steps, no_claims}
 use Rattle.ffs_volume.specs.{Blocks.Claims.step_lines, Disk.Areas.is_run_in_range, Report.VolumeReads.indirect_in_steps}
-use Rattle.ffs_volume.specs.Laws.{ClaimBounds.{used_bits, ClaimBound}, RunLengths.HasLength}
-use Rattle.ffs_volume.specs.declared.{Class.Class, Inode.Inode, Layout.Layout, Step.Step}
+use Rattle.ffs_volume.specs.{Laws.{ClaimBounds.{used_bits, ClaimBound}, RunLengths.HasLength}, declared.Class.Class}
+use Rattle.ffs_volume.specs.declared.{Inode.Inode, Layout.Layout, Step.Step}
 use Rattle.ffs_image.specs.Device.{Device}
 use Rattle.ffs_report.specs.{Known.{ForBytes, IsContents}, PhaseOutcome.{ImageAfter, PhaseReports}, Progress.Says}
 use Rattle.ffs_report.specs.declared.fault.RunFault.{RunFault}
 use Rattle.ffs_layout.specs.declared.geometry.Geometry.{Geometry}
 use Rattle.ffs_walk.specs.Counts.{entered}
-use Rattle.ffs_workspace.specs.{Holds.{IsFresh, claims_of}, Lengths.IsFor, Ready.IsReady}
-use Rattle.ffs_workspace.specs.Tables.{HoldsInode, HoldsPiece}
-use Rattle.ffs_workspace.specs.declared.workspace.Workspace.{Workspace}
+use Rattle.ffs_workspace.specs.{Holds.{IsFresh, claims_of}, Lengths.IsFor, Ready.IsReady, Tables.HoldsInode}
+use Rattle.ffs_workspace.specs.{Tables.HoldsPiece, declared.workspace.Workspace.Workspace}
 use Rattle.ffs_claims.specs.{Area.IsDataArea, Leaves.{CanOffer, ClaimsOnly, HasBegun, OffersOnly, SameFound}}
-use Rattle.ffs_claims.specs.{Lines.of_lines, Moments.{ClaimMoment, SweepMoment}}
-use Rattle.ffs_claims.specs.declared.{area.{DataArea.DataArea, Run.Run}, claim.Sweep.Sweep}
+use Rattle.ffs_claims.specs.{Lines.of_lines, Moments.{ClaimMoment, SweepMoment}, declared.area.DataArea.DataArea}
+use Rattle.ffs_claims.specs.declared.{area.Run.Run, claim.Sweep.Sweep}
 
 -- the reserved fragments are marked: where the workspace was as it was made, they alone are used then. No Run
 -- is counted yet, and all else is as claiming leaves it (`ClaimsOnly`)
@@ -120,13 +118,13 @@ pub record InodeLeaves {T : Type 0} (g : Geometry) (old new : SweepMoment) (swee
   pub again : new.workspace.runs_again ≡ old.workspace.runs_again
   pub counted : new.reads + old.workspace.runs_seen ≤ old.reads + new.workspace.runs_seen
 
--- an offer is taken: the claims are those after it, and the rest is as offers leave it
+-- an offer is taken: the claims are those after it, and all else is as offers leave it
 pub record TakesOffer (v : Layout) (fragment : ℕ) (old new : Workspace) : Type 0 where
   pub claims : claims_of new ≡ after_offer v (claims_of old) fragment
   pub only : OffersOnly v old new
 
 -- the offers of a Run are taken, one after another: their lines are said, the claims are those after
--- them, and the rest is as offers leave it
+-- them, and all else is as offers leave it
 pub record TakesOffers {T E : Type 0} (v : Layout) (number : ℕ) (run : Run) (old new : ClaimMoment)
     (result : Result T E) : Type 0 where
   pub said : Says old.report new.report

@@ -1,12 +1,10 @@
 -- The lines of the block check, as messages of a report.
-use Rattle.std.specs.{List.range_with_len, Prelude.{ℕ, ◌+◌, ◌-◌, Bool, ◌&&◌, nat_lt, if◌then◌else◌}}
-use Rattle.std.specs.Prelude.{List, [], ◌∷◌, map}
-use Rattle.ffs_volume.specs.Blocks.{Claims.{Claims, is_set}, Inodes.class_of, Owners.{Owner, owner_of}}
-use Rattle.ffs_volume.specs.Blocks.Steps.{steps_of}
-use Rattle.ffs_volume.specs.{Disk.Areas.is_fragment_in_range, Messages.Kinds.{Message, of_blocks}}
-use Rattle.ffs_volume.specs.declared.BlockMessage.{BlockMessage, TheVariants.{Bad, Dup, ManyBad, ManyDup}}
-use Rattle.ffs_volume.specs.declared.{Class.Class, Inode.Inode, Layout.Layout, constants.TheConstants.MAXDUP}
-use Rattle.ffs_volume.specs.Blocks.Inodes.{inodes_of}
+use Rattle.std.specs.{List.range_with_len, Prelude.{ℕ, ◌+◌, ◌-◌, Bool, ◌&&◌, nat_lt, if◌then◌else◌, List, [], ◌∷◌, map}}
+use Rattle.ffs_volume.specs.Blocks.{Claims.{Claims, is_set}, Inodes.{class_of, inodes_of}, Owners.{Owner, owner_of}}
+use Rattle.ffs_volume.specs.{Blocks.Steps.steps_of, Disk.Areas.is_fragment_in_range, Messages.Kinds.Message}
+use Rattle.ffs_volume.specs.{Messages.Kinds.of_blocks, declared.BlockMessage.{BlockMessage, TheVariants.{Bad, Dup}}}
+use Rattle.ffs_volume.specs.declared.{BlockMessage.TheVariants.{ManyBad, ManyDup}, Class.Class, Inode.Inode}
+use Rattle.ffs_volume.specs.declared.{Layout.Layout, constants.TheConstants.MAXDUP}
 
 -- the messages of the block check's lines
 abbrev pub of_lines : List BlockMessage → List Message

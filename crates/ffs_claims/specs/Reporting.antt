@@ -1,14 +1,12 @@
 -- What phase 1b has reported, and what it leaves to report.
-use Rattle.std.specs.{List.list_any, Prelude.{◌≡◌, ◌≢◌, ◌<◌, ℕ, Bool, Result, OnOk, false, ◌||◌}}
-use Rattle.std.specs.Prelude.{if◌then◌else◌, List, [], ◌∷◌, slice_set}
-use Rattle.ffs_volume.specs.Blocks.{BlockCheck.{blames, first_offer_lines}, Claims.is_set}
-use Rattle.ffs_volume.specs.Blocks.KeptOffers.{Offer}
-use Rattle.ffs_volume.specs.declared.Layout.{Layout}
+use Rattle.std.specs.{List.list_any, Prelude.{◌≡◌, ◌≢◌, ◌<◌, ℕ, Bool, Result, OnOk, false, ◌||◌, if◌then◌else◌, List}}
+use Rattle.std.specs.Prelude.{[], ◌∷◌, slice_set}
+use Rattle.ffs_volume.specs.Blocks.{BlockCheck.{blames, first_offer_lines}, Claims.is_set, KeptOffers.Offer}
+use Rattle.ffs_volume.specs.{declared.Layout.Layout, Blocks.Inodes.inodes_of}
 use Rattle.ffs_image.specs.Device.{Device}
 use Rattle.ffs_report.specs.{PhaseOutcome.ImageAfter, Progress.Says, declared.fault.RunFault.RunFault}
 use Rattle.ffs_maps.specs.Bits.{bits_of}
 use Rattle.ffs_workspace.specs.{Holds.bool_at, Lengths.{IsFor, set_count}, Ready.IsReady}
-use Rattle.ffs_volume.specs.Blocks.Inodes.{inodes_of}
 use Rattle.ffs_workspace.specs.declared.workspace.Workspace.{Workspace}
 use Rattle.ffs_claims.specs.{Lines.of_lines, Moments.ClaimMoment}
 
@@ -47,13 +45,13 @@ pub record OffersReportedOnly (v : Layout) (old new : Workspace) : Type 0 where
   pub reporting : ReportsOnly v old new
   pub runs : new.runs_again ≡ old.runs_again
 
--- a kept offer is gone over: it is reported, if it is to be, and the rest is as offers leave it
+-- a kept offer is gone over: it is reported, if it is to be, and all else is as offers leave it
 pub record ReportsOffer (v : Layout) (offer : Offer) (old new : Workspace) : Type 0 where
   pub reported : OffersReported (offer ∷ []) old new
   pub only : OffersReportedOnly v old new
 
 -- kept offers are gone over: those are reported that are the first of a fragment with a DUP line, and
--- the rest is as reporting leaves it
+-- all else is as reporting leaves it
 pub record ReportsOffers {T E : Type 0} (v : Layout) (offers : List Offer) (old new : ClaimMoment)
     (result : Result T E) : Type 0 where
   pub said : Says old.report new.report

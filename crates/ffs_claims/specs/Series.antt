@@ -1,16 +1,14 @@
 -- Runs that the words of an indirect block name in turn, and that are claimed together.
 use Rattle.std.specs.Prelude.{◌≡◌, ℕ, ◌+◌, ◌/◌, ◌%◌, ◌<◌, ◌≤◌, ◌^◌, true, length, List, Option}
 use Rattle.ffs_volume.specs.{Blocks.Claims.{Claims, after_steps, is_open, lines_of_steps}, Disk.Areas.is_run_in_range}
-use Rattle.ffs_volume.specs.{Laws.ClaimBounds.ClaimBound, declared.Layout.Layout}
-use Rattle.ffs_volume.specs.Report.VolumeReads.{indirect_in_steps}
+use Rattle.ffs_volume.specs.{Laws.ClaimBounds.ClaimBound, declared.Layout.Layout, Report.VolumeReads.indirect_in_steps}
 use Rattle.ffs_image.specs.Device.{ForContents}
 use Rattle.ffs_maps.specs.Bits.{AreClear, set_run}
 use Rattle.ffs_walk.specs.{Counts.EntersOnly, HeldWords.{IsInHeldBlock, next_address}, Windows.BlocksHold}
-use Rattle.ffs_walk.specs.Rests.{SameFileBlocks, most_steps_left, steps_left}
-use Rattle.ffs_walk.specs.declared.{blocks.Blocks.Blocks, walk.Walk.Walk}
-use Rattle.ffs_workspace.specs.{declared.workspace.Workspace.Workspace}
-use Rattle.ffs_claims.specs.{Claiming.CanSeeNext, SilentWords.ClaimsWords}
-use Rattle.ffs_claims.specs.declared.area.DataArea.{DataArea}
+use Rattle.ffs_walk.specs.{Rests.{SameFileBlocks, most_steps_left, steps_left}, declared.blocks.Blocks.Blocks}
+use Rattle.ffs_walk.specs.declared.walk.Walk.{Walk}
+use Rattle.ffs_workspace.specs.declared.workspace.Workspace.{Workspace}
+use Rattle.ffs_claims.specs.{Claiming.CanSeeNext, SilentWords.ClaimsWords, declared.area.DataArea.DataArea}
 
 -- a word is left of the single indirect block that a walk is in, and this is the address there
 pub record HasNext (blocks : Blocks) (w : Walk) (address : ℕ) : Type 0 where

@@ -1,15 +1,14 @@
 -- What the words of an indirect block, and the direct addresses of an inode, claim with nothing to report.
 use Rattle.std.specs.Prelude.{◌≡◌, ℕ, ◌≤◌, ◌^◌, true, List, [], Option}
 use Rattle.ffs_volume.specs.Blocks.Claims.{after_step, after_steps, is_open, lines_of_steps, step_lines}
-use Rattle.ffs_volume.specs.{Laws.ClaimBounds.ClaimBound, Report.VolumeReads.indirect_in_steps}
-use Rattle.ffs_volume.specs.declared.{Layout.Layout, Step.Step}
+use Rattle.ffs_volume.specs.{Laws.ClaimBounds.ClaimBound, Report.VolumeReads.indirect_in_steps, declared.Layout.Layout}
+use Rattle.ffs_volume.specs.declared.Step.{Step}
 use Rattle.ffs_image.specs.Device.{ForContents}
-use Rattle.ffs_walk.specs.{Counts.EntersOnly, HeldWords.word_step}
-use Rattle.ffs_walk.specs.Rests.{SameFileBlocks, most_steps_left, steps_left}
+use Rattle.ffs_walk.specs.{Counts.EntersOnly, HeldWords.word_step, Rests.{SameFileBlocks, most_steps_left, steps_left}}
 use Rattle.ffs_walk.specs.{Windows.BlocksHold, declared.walk.Walk.Walk}
 use Rattle.ffs_workspace.specs.{Holds.claims_of, declared.workspace.Workspace.Workspace}
-use Rattle.ffs_claims.specs.{Claiming.CanSeeNext, Leaves.ClaimsOnly}
-use Rattle.ffs_claims.specs.declared.{area.DataArea.DataArea, words.Counts.Counts}
+use Rattle.ffs_claims.specs.{Claiming.CanSeeNext, Leaves.ClaimsOnly, declared.area.DataArea.DataArea}
+use Rattle.ffs_claims.specs.declared.words.Counts.{Counts}
 
 -- a workspace with these counts of Runs that are looked at, and of offers that are kept
 abbrev pub with_run_counts : Workspace → Counts → Workspace

@@ -1,6 +1,5 @@
 -- Inodes of which the window on the inode table has no byte that isn't zero.
-use Rattle.std.specs.Prelude.{◌≡◌, ◌*◌, ◌+◌, ◌-◌, ◌<◌, ◌≤◌, ℕ, false, vec_len}
-use Rattle.std.specs.List.{slice_range}
+use Rattle.std.specs.{Prelude.{◌≡◌, ◌*◌, ◌+◌, ◌-◌, ◌<◌, ◌≤◌, ℕ, false, vec_len}, List.slice_range}
 use Rattle.ffs_volume.specs.{Blocks.Inodes.any_nonzero, declared.constants.TheConstants.DINODE_SIZE}
 use Rattle.ffs_walk.specs.Windows.{held_bytes}
 use Rattle.ffs_workspace.specs.{Tables.HoldsInode, declared.{table.Table.Table, workspace.Workspace.Workspace}}

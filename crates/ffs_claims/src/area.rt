@@ -65,10 +65,11 @@ impl DataArea {
         self.start <= start && u64::from(start) + u64::from(len) <= u64::from(self.end)
     }
 
-    /// Whether a Run is in range. If so, it lies in the area from then on.
+    /// Moves the area to a Run, if that is in range: it lies in the area from then on. Returns
+    /// whether it is.
     #[inline(always)]
     #[tactic(auto, using(crate::proofs::UnclaimedRuns::run_below))]
-    pub fn in_range(&mut self, geometry: &Geometry, start: u32, len: u32) -> bool
+    pub fn move_to(&mut self, geometry: &Geometry, start: u32, len: u32) -> bool
         requires some { 0 < len }
         requires area { IsDataArea geometry.now.layout self.old }
         ensures { FindsRun geometry.now.layout self.new start len result }

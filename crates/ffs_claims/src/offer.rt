@@ -117,7 +117,7 @@ fn offers<W: Output>(
 
 /// Takes a Run in range of the current inode: it is claimed at once where its fragments are all
 /// unused and lie in one word of the map. Returns whether the next step is seen.
-fn run_in_range<W: Output>(
+fn take_run_in_range<W: Output>(
     workspace: &mut Workspace,
     geometry: &Geometry,
     number: u32,
@@ -176,8 +176,8 @@ fn take_run<W: Output>(
     ensures left { ClaimsInArea geometry.now.layout workspace.old workspace.new area.new }
 {
     workspace.runs_seen += 1;
-    if area.in_range(geometry, run.start, run.len) {
-        return run_in_range(workspace, geometry, number, run, report);
+    if area.move_to(geometry, run.start, run.len) {
+        return take_run_in_range(workspace, geometry, number, run, report);
     }
     let is_eleventh = workspace.bad == MAXBAD;
     workspace.bad += 1;

@@ -2,7 +2,7 @@
 
 ghost use Rattle.std.specs.Prelude.{◌∷◌, OnOk};
 ghost use Rattle.ffs_volume.specs.Blocks.{BlockCheck.phase1b_lines, Inodes.inode_of, Owners.owners_of};
-ghost use Rattle.ffs_report.specs.{Known.ForBytes, PhaseOutcome.PhaseOutcome, Progress.progress};
+ghost use Rattle.ffs_report.specs.{Known.ForBytes, PhaseOutcome.{ImageAfter, PhaseReports}, Progress.progress};
 ghost use Rattle.ffs_workspace.specs.{Found.WithPhase1, Ready.IsReady};
 ghost use Rattle.ffs_walk.specs.Keepings.{replay_in};
 ghost use Rattle.ffs_claims.specs.{Lines.of_lines, Moments.{after_one_read, claim_moment, sweep_moment}};
@@ -108,12 +108,12 @@ fn rescan_inodes<I: Image, W: Output>(
     report: &mut Report<'_, W>,
 ) -> Result<(), RunFault>
     requires ready { IsReady geometry.now.layout (I.device image.old) workspace.old }
-    ensures prints { PhaseOutcome
+    ensures faults { ImageAfter (I.device image.old) (I.device image.new) result }
+    ensures text { PhaseReports
         (WithPhase1 geometry.now.layout (I.device image.old) workspace.old)
         (λ bytes. messages.phase1b ∷ of_lines
         (phase1b_lines geometry.now.layout (owners_of geometry.now.layout bytes)))
-        (I.device image.old) (I.device image.new) (progress W.sink report.old)
-        (progress W.sink report.new) result }
+        (progress W.sink report.old) (progress W.sink report.new) result }
     ensures leaves { OnOk result (ForBytes
         (WithPhase1 geometry.now.layout (I.device image.old) workspace.old)
         (λ bytes. IsLeftByPhase1b geometry.now.layout bytes workspace.new)) }
@@ -148,12 +148,12 @@ pub fn phase1b<I: Image, W: Output>(
     report: &mut Report<'_, W>,
 ) -> Result<(), RunFault>
     requires ready { IsReady geometry.now.layout (I.device image.old) workspace.old }
-    ensures prints { PhaseOutcome
+    ensures faults { ImageAfter (I.device image.old) (I.device image.new) result }
+    ensures text { PhaseReports
         (WithPhase1 geometry.now.layout (I.device image.old) workspace.old)
         (λ bytes. messages.phase1b ∷ of_lines
         (phase1b_lines geometry.now.layout (owners_of geometry.now.layout bytes)))
-        (I.device image.old) (I.device image.new) (progress W.sink report.old)
-        (progress W.sink report.new) result }
+        (progress W.sink report.old) (progress W.sink report.new) result }
     ensures leaves { OnOk result (ForBytes
         (WithPhase1 geometry.now.layout (I.device image.old) workspace.old)
         (λ bytes. IsLeftByPhase1b geometry.now.layout bytes workspace.new)) }

@@ -41,21 +41,22 @@ fn is_marked(workspace: &Workspace, class: Class) -> bool
 {
     match class {
         Class::Unknown => true,
-        Class::Free | Class::Partial | Class::File | Class::Dir => workspace.bad != 0
-            || workspace.dups != 0,
+        // Both are asked at once, with no branch between them.
+        Class::Free | Class::Partial | Class::File | Class::Dir => (workspace.bad != 0)
+            | (workspace.dups != 0),
     }
 }
 
 /// How many offers the current inode keeps, at most 2^32 - 1, if its eleventh dup offer cut it;
 /// else 0.
 #[inline(always)]
-fn cut_of(workspace: &Workspace) -> u32
+fn stored_cut(workspace: &Workspace) -> u32
     ensures { result ≡ min (cut_of (claims_of workspace.now)) 4294967295 }
 {
     if workspace.dups <= MAXDUP {
         return 0;
     }
-    workspace.kept.min(4294967295) as u32
+    workspace.kept.min(u64::from(u32::MAX)) as u32
 }
 
 /// Sets what is noted of an inode, if that isn't what the list holds already: so its memory is
@@ -92,7 +93,7 @@ fn store_start(list: &mut FilledList<u64>, number: usize, class: Class, inode: &
 pub fn store(workspace: &mut Workspace, number: u32, class: Class, inode: &Inode)
     requires number { HasInode number workspace.old }
     ensures stored { Stored number class inode.now workspace.old workspace.new }
-    ensures rest { workspace.new ≡ record workspace.old {
+    ensures same { workspace.new ≡ record workspace.old {
       kinds = workspace.new.kinds;
       marked = workspace.new.marked;
       notes = workspace.new.notes;
@@ -101,7 +102,7 @@ pub fn store(workspace: &mut Workspace, number: u32, class: Class, inode: &Inode
 {
     let kind = kind_of(class, inode);
     let marked = is_marked(workspace, class);
-    let note = note_of(class, inode, cut_of(workspace));
+    let note = note_of(class, inode, stored_cut(workspace));
     workspace.kinds[number as usize] = kind;
     workspace.marked[number as usize] = marked;
     store_note(&mut workspace.notes, number as usize, note);

@@ -1,20 +1,19 @@
 //! The words of an indirect block, and the direct addresses of an inode, that are claimed with nothing
 //! to report.
 //!
-//! From the last function up: `claim_words` asks whether the block is held; `claim_held_words` takes
+//! From `claim_words` up: it asks whether the block is held; `claim_held_words` takes
 //! the counts out of the workspace, and `claim_counted_words` asks for the byte order, both once;
 //! `claim_words_in` goes from word to word. `claim_next` claims one word by `claim_address`, or, where
 //! the next one names the fragments after its Run, all such words together by `claim_series`, which
 //! `pass_series` counts. Where a word isn't claimed, nothing has changed, and the caller takes it as a
-//! step. `claim_direct` does the same for direct addresses, one by one.
+//! step. Below it `claim_direct` does the same for direct addresses, one by one.
 
 ghost use Rattle.std.specs.Prelude.{◌≡◌, ◌≢◌, ◌^◌, ◌<◌, false, IsTrue};
 ghost use Rattle.ffs_volume.specs.declared.Layout.{Layout};
-ghost use Rattle.ffs_walk.specs.{HeldWords.{CanSeeWord, IsInHeldBlock, next_address}, Windows.HasRoom};
-ghost use Rattle.ffs_walk.specs.Rests.{IsAtTop};
-ghost use Rattle.ffs_claims.specs.{Claiming.CanSeeNext, SilentWords.{CanClaimWords, ClaimsAddress}};
-ghost use Rattle.ffs_claims.specs.SilentWords.{CanClaimAddress, ClaimsWords, with_run_counts};
-ghost use Rattle.ffs_claims.specs.Series.{CanClaimNext, ClaimsNext, HasNext, PassesSeries};
+ghost use Rattle.ffs_walk.specs.{HeldWords.{CanSeeWord, IsInHeldBlock, next_address}, Windows.HasRoom, Rests.IsAtTop};
+ghost use Rattle.ffs_claims.specs.{Claiming.CanSeeNext, SilentWords.{CanClaimWords, ClaimsAddress, CanClaimAddress}};
+ghost use Rattle.ffs_claims.specs.{SilentWords.{ClaimsWords, with_run_counts}, Series.{CanClaimNext, ClaimsNext}};
+ghost use Rattle.ffs_claims.specs.Series.{HasNext, PassesSeries};
 
 use crate::area::DataArea;
 use ffs_layout::u32_at;
@@ -290,8 +289,9 @@ fn claim_counted_direct(
 )
     requires can { CanClaimWords (with_run_counts workspace.old counts.old) area.now walk.old }
     requires top { IsAtTop walk.old }
-    ensures { ClaimsWords walk.old.geometry.layout (with_run_counts workspace.old counts.old)
+    ensures claims { ClaimsWords walk.old.geometry.layout (with_run_counts workspace.old counts.old)
         (with_run_counts workspace.new counts.new) walk.old walk.new }
+    ensures top { IsAtTop walk.new }
 {
     while walk.has_direct() {
         let (address, len) = walk.next_direct();
@@ -305,11 +305,13 @@ fn claim_counted_direct(
 /// Claims what the inode's direct addresses that come next offer, as long as nothing is to be
 /// reported of them and each Run is claimed at once, as `claim_words` does. The walk is in no
 /// indirect block.
-#[inline(never)]
+#[inline(always)]
 pub fn claim_direct(workspace: &mut Workspace, area: &DataArea, walk: &mut Walk)
     requires can { CanClaimWords workspace.old area.now walk.old }
     requires top { IsAtTop walk.old }
-    ensures { ClaimsWords walk.old.geometry.layout workspace.old workspace.new walk.old walk.new }
+    ensures claims { ClaimsWords walk.old.geometry.layout workspace.old workspace.new walk.old
+        walk.new }
+    ensures top { IsAtTop walk.new }
 {
     let area = *area;
     let mut counts = Counts::of(workspace);

@@ -1,14 +1,14 @@
 //! Phase 3: connectivity (fsck(8)).
 
-ghost use Rattle.std.specs.Prelude.{◌≡◌, ◌<◌, ◌^◌, ◌∷◌, false, length, map};
-ghost use Rattle.ffs_report.specs.{Progress.progress, PhaseOutcome.PhaseOutcome, ReadsFor.ReadsFor};
+ghost use Rattle.std.specs.Prelude.{◌≡◌, ◌<◌, ◌≤◌, ◌+◌, ◌^◌, ◌∷◌, false, length, map};
+ghost use Rattle.ffs_report.specs.{Known.ForBytes, Paid.Paid, PhaseOutcome.{ImageAfter, PhaseReports}, Progress.progress};
 ghost use Rattle.ffs_volume.specs.{Directories.Connectivity.connectivity_lines, Messages.Kinds.of_tree};
 ghost use Rattle.ffs_volume.specs.Directories.Volumes.{volume_of};
 ghost use Rattle.ffs_connectivity.specs.Unreached.{AreAllReached, AreReachedBelow, IsFirstUnreached};
 ghost use Rattle.ffs_workspace.specs.{Found.WithSurvey, Leaves.LeavesSurvey, Ready.IsReady};
 ghost use Rattle.ffs_volume.specs.Messages.Kinds as messages;
 
-use crate::unref::check_inode;
+use crate::unref::report_lost;
 use ffs_image::Image;
 use ffs_layout::Geometry;
 use ffs_report::{Heading, Line, Output, Report, RunFault};
@@ -79,16 +79,19 @@ pub fn phase3<I: Image, W: Output>(
     report: &mut Report<'_, W>,
 ) -> Result<(), RunFault>
     requires ready { IsReady geometry.now.layout (I.device image.old) workspace.old }
-    ensures prints { PhaseOutcome
+    ensures faults { ImageAfter (I.device image.old) (I.device image.new) result }
+    ensures text { PhaseReports
         (WithSurvey geometry.now.layout (I.device image.old) workspace.old)
         (λ bytes. messages.phase3 ∷ map of_tree
-        (connectivity_lines (volume_of geometry.now.layout bytes)))
-        (I.device image.old) (I.device image.new) (progress W.sink report.old)
+        (connectivity_lines (volume_of geometry.now.layout bytes))) (progress W.sink report.old)
         (progress W.sink report.new) result }
-    ensures reads { ReadsFor (WithSurvey geometry.now.layout (I.device image.old) workspace.old)
-        (λ bytes. length (connectivity_lines (volume_of geometry.now.layout bytes)))
-        (progress W.sink report.old) (progress W.sink report.new) (I.reads image.old)
-        (I.reads image.new) result }
+    // Known bytes are read at most once for each of their lines, and any image once for each message
+    // that was begun.
+    ensures reads { ForBytes (WithSurvey geometry.now.layout (I.device image.old) workspace.old)
+        (λ bytes. I.reads image.new ≤ I.reads image.old + length
+        (connectivity_lines (volume_of geometry.now.layout bytes))) }
+    ensures paid { Paid 1 (progress W.sink report.old) (progress W.sink report.new)
+        (I.reads image.old) (I.reads image.new) result }
     ensures leaves { LeavesSurvey workspace.old workspace.new }
     ensures ready { IsReady geometry.now.layout (I.device image.new) workspace.new }
 {
@@ -105,7 +108,7 @@ pub fn phase3<I: Image, W: Output>(
     // `queue` was lent to the walks over parents: no place of a parent entry is noted now.
     workspace.queue.fill(0);
     for number in first..geometry.layout.ncg * geometry.layout.ipg {
-        check_inode(geometry, image, workspace, number, report)?;
+        report_lost(geometry, image, workspace, number, report)?;
     }
     Ok(())
 }

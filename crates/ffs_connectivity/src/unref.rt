@@ -1,7 +1,7 @@
 //! The line on a lost directory.
 
-ghost use Rattle.std.specs.Prelude.{length, map};
-ghost use Rattle.ffs_report.specs.{Progress.progress, PhaseOutcome.PhaseOutcome, ReadsFor.ReadsFor};
+ghost use Rattle.std.specs.Prelude.{◌≤◌, ◌+◌, length, map};
+ghost use Rattle.ffs_report.specs.{Known.ForBytes, Paid.Paid, PhaseOutcome.{ImageAfter, PhaseReports}, Progress.progress};
 ghost use Rattle.ffs_volume.specs.{Directories.Volumes.volume_of, Messages.Kinds.of_tree};
 ghost use Rattle.ffs_workspace.specs.{Found.WithSurvey, Ready.StaysReady};
 ghost use Rattle.ffs_connectivity.specs.{Lines.unref_dir_lines, Phase3.CanReportLost};
@@ -18,7 +18,7 @@ use ffs_workspace::Workspace;
 ///
 /// # Errors
 /// A read of the image that failed, and a write of the report that failed.
-pub fn check_inode<I: Image, W: Output>(
+pub fn report_lost<I: Image, W: Output>(
     geometry: &Geometry,
     image: &mut I,
     workspace: &mut Workspace,
@@ -26,15 +26,16 @@ pub fn check_inode<I: Image, W: Output>(
     report: &mut Report<'_, W>,
 ) -> Result<(), RunFault>
     requires { CanReportLost geometry.now.layout (I.device image.old) workspace.old number }
-    ensures prints { PhaseOutcome
+    ensures faults { ImageAfter (I.device image.old) (I.device image.new) result }
+    ensures text { PhaseReports
         (WithSurvey geometry.now.layout (I.device image.old) workspace.old)
         (λ bytes. map of_tree (unref_dir_lines (volume_of geometry.now.layout bytes) number))
-        (I.device image.old) (I.device image.new) (progress W.sink report.old)
-        (progress W.sink report.new) result }
-    ensures reads { ReadsFor (WithSurvey geometry.now.layout (I.device image.old) workspace.old)
-        (λ bytes. length (unref_dir_lines (volume_of geometry.now.layout bytes) number))
-        (progress W.sink report.old) (progress W.sink report.new) (I.reads image.old)
-        (I.reads image.new) result }
+        (progress W.sink report.old) (progress W.sink report.new) result }
+    ensures reads { ForBytes (WithSurvey geometry.now.layout (I.device image.old) workspace.old)
+        (λ bytes. I.reads image.new ≤ I.reads image.old + length
+        (unref_dir_lines (volume_of geometry.now.layout bytes) number)) }
+    ensures paid { Paid 1 (progress W.sink report.old) (progress W.sink report.new)
+        (I.reads image.old) (I.reads image.new) result }
     ensures stays { StaysReady geometry.now.layout (I.device image.new) workspace.old
         workspace.new }
 {

@@ -7,7 +7,7 @@ use Rattle.std.proofs.lemmas.{Int.to_z_pos, List.get_or_read, Bool.{and_parts, c
 use Rattle.ffs_volume.specs.declared.{Attr.Attr, Inode.Inode, Label.Label, Layout.Layout}
 use Rattle.ffs_volume.specs.declared.{constants.TheConstants.LINKS_MET, Class.TheVariants.{Free, Unknown, File, Dir}}
 use Rattle.ffs_volume.specs.{Directories.Connectivity.is_dead, Encodings.Links.{links_start, start_at}}
-use Rattle.ffs_volume.specs.Blocks.Inodes.{inode_of, inode_from_bytes, is_allocated}
+use Rattle.ffs_volume.specs.Blocks.Inodes.{inode_of, inode_from_bytes, is_allocated, inodes_of}
 use Rattle.ffs_volume.specs.Directories.PathnameCheck.{attributes, attributes_of, label_of}
 use Rattle.ffs_volume.specs.Directories.ReferenceCheck.{inode_lines, reference_lines, reference_lines_at}
 use Rattle.ffs_volume.specs.Directories.{Roles.{is_allocated_inode, is_inode, references}, Volumes.class_at}
@@ -15,9 +15,8 @@ use Rattle.ffs_volume.specs.{Directories.Volumes.{marked_at, volume_of, volume_w
 use Rattle.ffs_volume.specs.{Disk.Numbers.i16_at, Encodings.Kinds.{kind_at, class_of_kind, is_empty_dir_kind}}
 use Rattle.ffs_volume.{specs.Messages.Kinds.{Message, TreeMessage, of_tree, lines_from}, proofs.LinkLaws.AreMet}
 use Rattle.ffs_volume.proofs.{LinkLaws.links_met, Numbered.all_from}
-use Rattle.ffs_workspace.specs.{declared.workspace.Workspace.Workspace, Holds.HoldsClaims}
-use Rattle.ffs_volume.specs.Blocks.Inodes.{inodes_of}
-use Rattle.ffs_workspace.{specs.Holds.{HoldsFindings, bool_at}, proofs.KindLaws.{suspect_is, some_is}}
+use Rattle.ffs_workspace.specs.{declared.workspace.Workspace.Workspace, Holds.{HoldsClaims, HoldsFindings, bool_at}}
+use Rattle.ffs_workspace.proofs.KindLaws.{suspect_is, some_is}
 use Rattle.ffs_counts.{specs.References.{reference_reported, is_dead_by, is_right_by}, proofs.Classes.same_test}
 
 pub held_on : (old mid new : Workspace) → mid ≡ record old { windows = mid.windows } →

@@ -19,12 +19,12 @@ pub record CanCheckAllocated (v : Layout) (d : Device) (w : Workspace) (x : ℕ)
   pub number : x < inodes_of v
   pub allocated : is_allocated (class_of_kind (slice_index w.kinds.items x)) ≡ true
 
--- all of these inodes are free
-abbrev pub AreFree : List ℕ → Type 0
-AreFree kinds = (k : ℕ) → k < length kinds → is_allocated (class_in kinds k) ≡ false
+-- none of these inodes is allocated: each is Free or Partial
+abbrev pub AreUnallocated : List ℕ → Type 0
+AreUnallocated kinds = (k : ℕ) → k < length kinds → is_allocated (class_in kinds k) ≡ false
 
--- so many inodes from `first` on are free, and there are none only where that one is allocated
-pub record AreFreeFrom (kinds : List ℕ) (first n : ℕ) : Type 0 where
+-- so many inodes from `first` on aren't allocated, and there are none only where that one is
+pub record AreUnallocatedFrom (kinds : List ℕ) (first n : ℕ) : Type 0 where
   pub within : first + n ≤ length kinds
-  pub free : (k : ℕ) → k < n → is_allocated (class_in kinds (first + k)) ≡ false
+  pub unallocated : (k : ℕ) → k < n → is_allocated (class_in kinds (first + k)) ≡ false
   pub allocated : n ≡ 0 → is_allocated (class_in kinds first) ≡ true

@@ -2,10 +2,9 @@
 use Rattle.std.specs.Prelude.{ℕ, ◌==◌, ◌&&◌, Bool, not, slice_index, List, [], ◌∷◌, Option, Some, None, if◌then◌else◌}
 use Rattle.std.specs.Prelude.{ℤ}
 use Rattle.ffs_volume.specs.declared.{constants.TheConstants.LINKS_MET, Attr.Attr, Label.Label}
-use Rattle.ffs_volume.specs.{Disk.Numbers.equals_natural, Messages.Kinds.{TreeMessage, reported}}
+use Rattle.ffs_volume.specs.{Disk.Numbers.equals_natural, Messages.Kinds.{TreeMessage, reported, of_reference}}
 use Rattle.ffs_volume.specs.declared.tree_lines.ReferenceLine.{ReferenceLine, TheVariants.{DeadMarked, DeadZero}}
 use Rattle.ffs_volume.specs.declared.tree_lines.ReferenceLine.TheVariants.{LinkCount, Unref, UnrefZero}
-use Rattle.ffs_volume.specs.Messages.Kinds.{of_reference}
 use Rattle.ffs_survey.specs.Survey.{dead_at}
 use Rattle.ffs_workspace.specs.declared.workspace.Workspace.{Workspace}
 
@@ -27,6 +26,7 @@ lines_as (Some line) = of_reference line ∷ []
 abbrev pub is_dead_by : Workspace → ℕ → Bool
 is_dead_by w i = dead_at w.kinds.items w.marked.items w.named.items i
 
--- whether it isn't dead, and has as many references as links, at least one
+-- whether it isn't dead, and its count of references is `LINKS_MET`: as many references as links, at
+-- least one (`links_met` of `ffs_volume`)
 abbrev pub is_right_by : Workspace → ℕ → Bool
 is_right_by w i = (slice_index w.references.items i == LINKS_MET) && not (is_dead_by w i)

@@ -1,13 +1,12 @@
 //! Phase 4: how often inodes are referred to.
 
-ghost use Rattle.std.specs.Prelude.{◌≡◌, ◌<◌, ◌∷◌, false, map, length};
+ghost use Rattle.std.specs.Prelude.{◌≡◌, ◌<◌, ◌≤◌, ◌+◌, ◌∷◌, false, map, length};
 ghost use Rattle.ffs_volume.specs.Messages.Kinds.{of_tree, phase4 as phase4_heading};
-ghost use Rattle.ffs_volume.specs.Directories.ReferenceCheck.{reference_lines, reference_lines_at};
-ghost use Rattle.ffs_volume.specs.Directories.Volumes.{volume_of};
-ghost use Rattle.ffs_report.specs.{Progress.progress, PhaseOutcome.PhaseOutcome, ReadsFor.ReadsFor};
+ghost use Rattle.ffs_volume.specs.Directories.{ReferenceCheck.{reference_lines, reference_lines_at}, Volumes.volume_of};
+ghost use Rattle.ffs_report.specs.{Known.ForBytes, Paid.Paid, PhaseOutcome.{ImageAfter, PhaseReports}, Progress.progress};
 ghost use Rattle.ffs_workspace.specs.{Found.WithFindings, Ready.{IsReady, StaysReady}};
-ghost use Rattle.ffs_counts.specs.Ready.{CanCheckAllocated, HasElements, AreFree, AreFreeFrom};
-ghost use Rattle.ffs_counts.specs.References.{is_dead_by, is_right_by};
+ghost use Rattle.ffs_counts.specs.{Ready.{CanCheckAllocated, HasElements, AreUnallocated, AreUnallocatedFrom}, References.is_dead_by};
+ghost use Rattle.ffs_counts.specs.References.{is_right_by};
 
 use crate::reference::{line_for, references_by, say_line};
 use ffs_image::Image;
@@ -30,8 +29,8 @@ fn is_dead(workspace: &Workspace, number: u32) -> bool
     )
 }
 
-/// Whether nothing is reported of an inode that is allocated: it isn't dead, and has as many
-/// references as links, at least one.
+/// Whether nothing is reported of an inode that is allocated: it isn't dead, and its count of
+/// references is `LINKS_MET`, which it is where there are as many as links, at least one.
 fn is_right(workspace: &Workspace, number: u32) -> bool
     requires { HasElements workspace.now number }
     ensures { result ≡ is_right_by workspace.now number }
@@ -39,14 +38,14 @@ fn is_right(workspace: &Workspace, number: u32) -> bool
     workspace.references[number as usize] == LINKS_MET && !is_dead(workspace, number)
 }
 
-/// How many free inodes are passed over at once.
-const FREE_AT_ONCE: usize = 64;
+/// How many inodes that aren't allocated are passed over at once.
+const UNALLOCATED_AT_ONCE: usize = 64;
 
 /// Whether one of the inodes of some kinds is allocated. No inode ends the loop: the machine looks
 /// at many at once.
 #[inline(always)]
 fn any_allocated(kinds: &[u8]) -> bool
-    ensures { result ≡ false → AreFree kinds.now }
+    ensures { result ≡ false → AreUnallocated kinds.now }
 {
     let mut any = false;
     for kind in kinds {
@@ -55,28 +54,28 @@ fn any_allocated(kinds: &[u8]) -> bool
     any
 }
 
-/// How many inodes from `first` on are passed over, since they are free: `FREE_AT_ONCE`, or only
-/// that one, or none.
+/// How many inodes from `first` on are passed over, since they aren't allocated (Free or Partial):
+/// `UNALLOCATED_AT_ONCE`, or only that one, or none.
 #[inline(always)]
-fn free_from(kinds: &[u8], first: usize) -> usize
+fn unallocated_from(kinds: &[u8], first: usize) -> usize
     requires { first < length kinds.now }
-    ensures { AreFreeFrom kinds.now first result }
+    ensures { AreUnallocatedFrom kinds.now first result }
 {
     if kinds[first] != 0 {
         return 0;
     }
-    if kinds.len() - first < FREE_AT_ONCE {
+    if kinds.len() - first < UNALLOCATED_AT_ONCE {
         return 1;
     }
-    if any_allocated(&kinds[first..first + FREE_AT_ONCE]) {
+    if any_allocated(&kinds[first..first + UNALLOCATED_AT_ONCE]) {
         1
     } else {
-        FREE_AT_ONCE
+        UNALLOCATED_AT_ONCE
     }
 }
 
 /// Reports what is wrong with an allocated inode. It is read only where it has a line.
-fn check_inode<I: Image, W: Output>(
+fn report_references<I: Image, W: Output>(
     geometry: &Geometry,
     image: &mut I,
     workspace: &mut Workspace,
@@ -84,15 +83,16 @@ fn check_inode<I: Image, W: Output>(
     report: &mut Report<'_, W>,
 ) -> Result<(), RunFault>
     requires { CanCheckAllocated geometry.now.layout (I.device image.old) workspace.old number }
-    ensures prints { PhaseOutcome
+    ensures faults { ImageAfter (I.device image.old) (I.device image.new) result }
+    ensures text { PhaseReports
         (WithFindings geometry.now.layout (I.device image.old) workspace.old)
         (λ bytes. map of_tree (reference_lines_at (volume_of geometry.now.layout bytes) number))
-        (I.device image.old) (I.device image.new) (progress W.sink report.old)
-        (progress W.sink report.new) result }
-    ensures reads { ReadsFor (WithFindings geometry.now.layout (I.device image.old) workspace.old)
-        (λ bytes. length (reference_lines_at (volume_of geometry.now.layout bytes) number))
-        (progress W.sink report.old) (progress W.sink report.new) (I.reads image.old)
-        (I.reads image.new) result }
+        (progress W.sink report.old) (progress W.sink report.new) result }
+    ensures reads { ForBytes (WithFindings geometry.now.layout (I.device image.old) workspace.old)
+        (λ bytes. I.reads image.new ≤ I.reads image.old + length
+        (reference_lines_at (volume_of geometry.now.layout bytes) number)) }
+    ensures paid { Paid 1 (progress W.sink report.old) (progress W.sink report.new)
+        (I.reads image.old) (I.reads image.new) result }
     ensures stays { StaysReady geometry.now.layout (I.device image.new) workspace.old
         workspace.new }
 {
@@ -126,16 +126,19 @@ pub fn phase4<I: Image, W: Output>(
     report: &mut Report<'_, W>,
 ) -> Result<(), RunFault>
     requires ready { IsReady geometry.now.layout (I.device image.old) workspace.old }
-    ensures prints { PhaseOutcome
+    ensures faults { ImageAfter (I.device image.old) (I.device image.new) result }
+    ensures text { PhaseReports
         (WithFindings geometry.now.layout (I.device image.old) workspace.old)
         (λ bytes. phase4_heading ∷ map of_tree
-        (reference_lines (volume_of geometry.now.layout bytes)))
-        (I.device image.old) (I.device image.new) (progress W.sink report.old)
+        (reference_lines (volume_of geometry.now.layout bytes))) (progress W.sink report.old)
         (progress W.sink report.new) result }
-    ensures reads { ReadsFor (WithFindings geometry.now.layout (I.device image.old) workspace.old)
-        (λ bytes. length (reference_lines (volume_of geometry.now.layout bytes)))
-        (progress W.sink report.old) (progress W.sink report.new) (I.reads image.old)
-        (I.reads image.new) result }
+    // Known bytes are read at most once for each of their lines, and any image once for each message
+    // that was begun.
+    ensures reads { ForBytes (WithFindings geometry.now.layout (I.device image.old) workspace.old)
+        (λ bytes. I.reads image.new ≤ I.reads image.old + length
+        (reference_lines (volume_of geometry.now.layout bytes))) }
+    ensures paid { Paid 1 (progress W.sink report.old) (progress W.sink report.new)
+        (I.reads image.old) (I.reads image.new) result }
     ensures stays { StaysReady geometry.now.layout (I.device image.new) workspace.old
         workspace.new }
 {
@@ -143,12 +146,12 @@ pub fn phase4<I: Image, W: Output>(
     let inodes = geometry.layout.ncg * geometry.layout.ipg;
     let mut number = 0;
     while number < inodes {
-        let free = free_from(&workspace.kinds, number as usize);
-        if free == 0 {
-            check_inode(geometry, image, workspace, number, report)?;
+        let passed = unallocated_from(&workspace.kinds, number as usize);
+        if passed == 0 {
+            report_references(geometry, image, workspace, number, report)?;
             number += 1;
         } else {
-            number += free as u32;
+            number += passed as u32;
         }
     }
     Ok(())

@@ -4,7 +4,7 @@ ghost use Rattle.std.specs.Prelude.{◌+◌, ◌≤◌, ◌∷◌};
 ghost use Rattle.ffs_volume.specs.{Messages.Kinds.phase5 as phase5_heading, Report.Reads.group_reads};
 ghost use Rattle.ffs_volume.specs.Report.Whole.{group_check_lines};
 ghost use Rattle.ffs_layout.specs.Super.{superblock_in};
-ghost use Rattle.ffs_report.specs.{Progress.progress, PhaseOutcome.PhaseOutcome};
+ghost use Rattle.ffs_report.specs.{Progress.progress, PhaseOutcome.{ImageAfter, PhaseReports}};
 ghost use Rattle.ffs_workspace.specs.{Found.WithClaims, Ready.{IsReady, StaysReady}};
 
 use crate::groups::read_group;
@@ -29,11 +29,11 @@ pub fn phase5<I: Image, W: Output>(
     report: &mut Report<'_, W>,
 ) -> Result<(), RunFault>
     requires ready { IsReady superblock.now.geometry.layout (I.device image.old) workspace.old }
-    ensures prints { PhaseOutcome
+    ensures faults { ImageAfter (I.device image.old) (I.device image.new) result }
+    ensures text { PhaseReports
         (WithClaims superblock.now.geometry.layout (I.device image.old) workspace.old)
         (λ bytes. phase5_heading ∷ group_check_lines bytes (superblock_in superblock.now))
-        (I.device image.old) (I.device image.new) (progress W.sink report.old)
-        (progress W.sink report.new) result }
+        (progress W.sink report.old) (progress W.sink report.new) result }
     ensures reads { I.reads image.new
         ≤ I.reads image.old + group_reads superblock.now.geometry.layout }
     ensures stays { StaysReady superblock.now.geometry.layout (I.device image.new) workspace.old

@@ -1,9 +1,8 @@
 //! What is reported of an inode by the entries that refer to it.
 
 ghost use Rattle.std.specs.Prelude.{◌≡◌, ◌-◌, map};
-ghost use Rattle.ffs_volume.specs.Messages.Kinds.{of_tree};
-ghost use Rattle.ffs_volume.specs.{Directories.PathnameCheck.{attributes_of, label_of}, Encodings.Kinds.class_of_kind};
-ghost use Rattle.ffs_volume.specs.Encodings.Links.{links_start};
+ghost use Rattle.ffs_volume.specs.{Messages.Kinds.of_tree, Directories.PathnameCheck.{attributes_of, label_of}};
+ghost use Rattle.ffs_volume.specs.Encodings.{Kinds.class_of_kind, Links.links_start};
 ghost use Rattle.ffs_report.specs.Progress.{progress, Says};
 ghost use Rattle.ffs_counts.specs.References.{lines_as, reference_reported};
 

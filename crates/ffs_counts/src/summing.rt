@@ -3,16 +3,14 @@
 ghost use Rattle.std.specs.Prelude.{◌≡◌, ◌∷◌, [], ◌-◌, ◌<◌, ◌^◌, length, count_by, pos, ◌+ℤ◌, ◌*ℤ◌, int_div};
 ghost use Rattle.std.specs.List.{range_with_len};
 ghost use Rattle.ffs_volume.specs.{Disk.Areas.{cgbase, is_reserved}, Groups.Records.group_size};
-ghost use Rattle.ffs_volume.specs.Report.Whole.{summary_of, file_count as files_of};
-ghost use Rattle.ffs_volume.specs.Report.Whole.{claimed_count as claimed_of};
+ghost use Rattle.ffs_volume.specs.Report.Whole.{summary_of, file_count as files_of, claimed_count as claimed_of};
 ghost use Rattle.ffs_layout.specs.Super.{superblock_in};
 ghost use Rattle.ffs_maps.specs.Bits.{bits_of};
-ghost use Rattle.ffs_report.specs.{Lines.message_of, Progress.progress, PhaseOutcome.PhaseOutcome};
+ghost use Rattle.ffs_report.specs.{Lines.message_of, Progress.progress, PhaseOutcome.ImageAfter};
 ghost use Rattle.ffs_image.specs.Device.{Device};
 ghost use Rattle.ffs_groups.specs.Inodes.{AreFew};
-ghost use Rattle.ffs_counts.specs.Summing.{files_among};
+ghost use Rattle.ffs_counts.specs.{Summary.SaysSummary, Summing.files_among, Reserved.{HasReserved, claimed_in}};
 ghost use Rattle.ffs_workspace.specs.{Holds.HoldsClaims, Lengths.IsFor};
-ghost use Rattle.ffs_counts.specs.Reserved.{HasReserved, claimed_in};
 
 use ffs_layout::{Geometry, Super};
 use ffs_maps::FragmentMap;
@@ -135,12 +133,9 @@ pub fn summary<W: Output>(
 ) -> Result<(), RunFault>
     requires { IsFor superblock.now.geometry.layout workspace.now }
     // No image is read: this holds of any image, left as it was. No read's fault is returned.
-    ensures { (device : Device) → PhaseOutcome
-        (λ bytes. HoldsClaims superblock.now.geometry.layout bytes workspace.now)
-        (λ bytes. summary_of (superblock_in superblock.now)
-        (files_of superblock.now.geometry.layout bytes)
-        (claimed_of superblock.now.geometry.layout bytes) ∷ [])
-        device device (progress W.sink report.old) (progress W.sink report.new) result }
+    ensures faults { (device : Device) → ImageAfter device device result }
+    ensures text { SaysSummary (superblock_in superblock.now) workspace.now
+        (progress W.sink report.old) (progress W.sink report.new) result }
 {
     let files = file_count(&workspace.kinds);
     let claimed = claimed_count(&superblock.geometry, &workspace.used);

@@ -8,11 +8,10 @@ use Rattle.ffs_report.specs.declared.fault.RunFault.TheVariants.{Read, Out}
 use Rattle.ffs_workspace.specs.{declared.workspace.Workspace.Workspace, Found.WithPhase1, Holds.HoldsPhase1}
 use Rattle.ffs_workspace.specs.Lengths.{held_of}
 use Rattle.ffs_finding.specs.declared.find.FindFault.{FindFault, TheVariants.{Refused, Run, NoMemory}}
+use Rattle.ffs_finding.specs.{declared.request.Search.Search, Claims.TakesClaims, Fields.WithSuper, Outcome.PrintedTo}
+use Rattle.ffs_finding.specs.{Outcome.{PrintsLines, any_line}, Whole.{IsGranted, PrintedAll, SearchAnswers}}
+use Rattle.ffs_finding.{specs.Whole.{finds_defects, search_lines}, proofs.Printing.{knowing, reads_first}}
 use Rattle.ffs_check.specs.Moment.{Moment}
-use Rattle.ffs_finding.specs.{declared.request.Search.Search, Claims.TakesClaims, Fields.WithSuper}
-use Rattle.ffs_finding.specs.Outcome.{PrintedTo, PrintsLines, any_line}
-use Rattle.ffs_finding.specs.Whole.{IsGranted, PrintedAll, SearchAnswers, finds_defects, search_lines}
-use Rattle.ffs_finding.proofs.Printing.{knowing, reads_first}
 
 -- what was taken, where no workspace was made
 pub refused_memory : (v : Layout) (d d' : Device) (held held' : Account) (fault : FindFault) →

@@ -1,6 +1,5 @@
 -- What phase 1 leaves over an output that never fails.
-use Rattle.std.proofs.Common.{◌≡◌, ℕ, List, Err, arith, true, false, inl, inr, ap}
-use Rattle.std.specs.Borrow.{GName}
+use Rattle.std.{proofs.Common.{◌≡◌, ℕ, List, Err, arith, true, false, inl, inr, ap}, specs.Borrow.GName}
 use Rattle.ffs_image.specs.Device.{Device}
 use Rattle.ffs_memory.specs.Account.{Account, Granted}
 use Rattle.ffs_volume.specs.{declared.Layout.Layout, Messages.Kinds.Message}

@@ -1,5 +1,5 @@
 -- How a command ends, by its answer and the line of its fault.
-use Rattle.std.proofs.Common.{◌≡◌, ◌∙◌, ℕ, Option, Result, Ok, Err, sym, ap, subst, inl, inr, Bool}
+use Rattle.std.proofs.Common.{◌∙◌, ℕ, Option, Result, Ok, Err, sym, ap, subst, inl, inr, Bool}
 use Rattle.ffs_volume.specs.{declared.SuperFault.SuperFault, Messages.{Kinds.cannot_alloc, Texts.text_of}}
 use Rattle.ffs_volume.specs.Report.Opening.{fault_line}
 use Rattle.ffs_report.specs.{Known.IsContents, Sink.Sink, declared.fault.RunFault.TheVariants.{Read, Out}}
@@ -7,7 +7,7 @@ use Rattle.ffs_memory.specs.Account.{Account}
 use Rattle.ffs_layout.specs.Super.{ReadsSuper}
 use Rattle.ffs_finding.specs.declared.request.{Search.Search, Command.{Command, TheVariants.{Copies, InVolume}}}
 use Rattle.ffs_finding.specs.declared.find.FindFault.{FindFault, TheVariants.{Refused, Run, NoMemory}}
-use Rattle.ffs_finding.specs.{Outcome.StoppedIn, Whole.{Answers, EndsBy, EndsByLine, FindEnds, IsRefusal}}
+use Rattle.ffs_finding.specs.{Outcome.StoppedIn, Whole.{Answers, EndsBy, EndsByLine, FindEnds, RefusesSuperblock}}
 use Rattle.ffs_finding.specs.Whole.{PrintedAll, command_finds_defects, command_lines, status_of_answer}
 use Rattle.ffs_finding.proofs.Printing.{reads_first}
 use Rattle.ffs_check.specs.{Moment.Moment, Run.IsPrintedOrBrokeOff}
@@ -35,11 +35,11 @@ module _ (sector : Option ℕ) (search : Search) (m m' : Moment) (held held' : A
       }))
     ]
 
-ends_by_refusal : (command : Command) (m m' : Moment) (held held' : Account) (fault : SuperFault) (status : ℕ) →
-    IsRefusal command m.image m'.image fault → EndsByLine m.out m'.out (text_of (fault_line fault)) status →
+ends_by_superblock : (command : Command) (m m' : Moment) (held held' : Account) (fault : SuperFault) (status : ℕ) →
+    RefusesSuperblock command m.image m'.image fault → EndsByLine m.out m'.out (text_of (fault_line fault)) status →
     FindEnds command m m' held held' status
-ends_by_refusal Copies m m' held held' fault status p e = absurd p
-ends_by_refusal (InVolume sector search) m m' held held' fault status p e =
+ends_by_superblock Copies m m' held held' fault status p e = absurd p
+ends_by_superblock (InVolume sector search) m m' held held' fault status p e =
     ends_refused sector search m m' held held' fault status p e
 
 -- `b` is the output before the line of the fault
@@ -56,7 +56,7 @@ ends command m m' b held held' (Ok defect) status p e =
       status_is = e.1 ∙ ap status_of_answer all.defect_is;
     })
 ends command m m' b held held' (Err (Refused fault)) status p e =
-    ends_by_refusal command m m' held held' fault status p.1
+    ends_by_superblock command m m' held held' fault status p.1
     (subst (λ (s : Sink). EndsByLine s m'.out (text_of (fault_line fault)) status) p.0 e)
 ends command m m' b held held' (Err (Run (Read fault))) status p e = inr (inr (inl (record {
   sector = fault.sector;

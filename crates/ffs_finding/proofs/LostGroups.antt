@@ -1,5 +1,5 @@
 -- What the maps of groups say wrongly: of one group by what the program has of its map, and of all groups.
-use Rattle.std.proofs.Common.{◌≡◌, ◌∙◌, ℕ, ◌+◌, ◌-◌, ◌<◌, ◌≤◌, Bool, true, false, List, [], ◌++◌, arith, refl, ap, sym}
+use Rattle.std.proofs.Common.{◌≡◌, ◌∙◌, ℕ, ◌+◌, ◌-◌, ◌<◌, ◌≤◌, Bool, true, false, List, [], ◌++◌, arith, refl, sym}
 use Rattle.std.{proofs.Common.subst, specs.List.{flat_map, range_with_len}}
 use Rattle.ffs_image.specs.Device.{Device}
 use Rattle.ffs_volume.specs.{declared.Layout.Layout, Disk.Areas.cgbase, Groups.Records.{bit_at, fragment_map_place}}
@@ -9,9 +9,8 @@ use Rattle.ffs_groups.specs.Free.{free_in}
 use Rattle.ffs_maps.specs.Bits.{bits_of}
 use Rattle.ffs_report.specs.Known.{ForBytes}
 use Rattle.ffs_workspace.specs.{declared.workspace.Workspace.Workspace, Found.WithPhase1, Holds.all_claims}
-use Rattle.ffs_finding.specs.LostMaps.{is_wrong_by, lines_of_group, lines_of_groups, no_map_lines}
-use Rattle.ffs_finding.specs.{LostMaps.word_of, declared.lost.Wrong.{Wrong, TheVariants.{Lost, MarkedFree}}}
-use Rattle.ffs_finding.proofs.Ranges.{next, none}
+use Rattle.ffs_finding.specs.LostMaps.{is_wrong_by, lines_of_group, lines_of_groups, no_map_lines, word_of}
+use Rattle.ffs_finding.{specs.declared.lost.Wrong.{Wrong, TheVariants.{Lost, MarkedFree}}, proofs.Ranges.{next, none}}
 
 pub without_map : (wrong : Wrong) (v : Layout) (free : ℕ → Bool) (c : ℕ) (block : List ℕ) → has_map v block ≡ false →
     lines_of_group wrong v free c block ≡ no_map_lines wrong c

@@ -3,15 +3,14 @@ use Rattle.std.proofs.Common.{◌≡◌, ◌∙◌, ℕ, ◌+◌, ◌-◌, ◌<�
 use Rattle.std.{proofs.lemmas.Bool.Decides.nat_tests, specs.List.{flat_map, range_with_len}}
 use Rattle.ffs_volume.proofs.{CutLaws.cut_is, OwnerLaws.before_next, ReplayLaws.replay_is_runs}
 use Rattle.ffs_volume.specs.Blocks.{Claims.{at_next_inode, after_steps}, KeptSteps.claims_before, Inodes.inode_of}
-use Rattle.ffs_volume.specs.{Blocks.Inodes.{class_of, is_allocated, is_file_or_dir}, Directories.Volumes.class_at}
-use Rattle.ffs_volume.specs.{Directories.Volumes.is_inode_number, Encodings.Kinds.kind_at, declared.Class.Class}
-use Rattle.ffs_volume.specs.{declared.Class.TheVariants.{Free, Partial, Unknown, File, Dir}, Blocks.Owners.owner_of}
-use Rattle.ffs_volume.specs.{Blocks.Steps.steps_of, Encodings.Replay.{cut_of, fresh_replay}}
+use Rattle.ffs_volume.specs.Blocks.Inodes.{class_of, is_allocated, is_file_or_dir, inodes_of}
+use Rattle.ffs_volume.specs.{Directories.Volumes.{class_at, is_inode_number}, Encodings.Kinds.kind_at}
+use Rattle.ffs_volume.specs.declared.Class.{Class, TheVariants.{Free, Partial, Unknown, File, Dir}}
+use Rattle.ffs_volume.specs.{Blocks.{Owners.owner_of, Steps.steps_of}, Encodings.Replay.{cut_of, fresh_replay}}
 use Rattle.ffs_volume.specs.{Encodings.ReplayCounts.replayed_runs, Laws.Geometry.IsAcceptedLayout}
 use Rattle.ffs_volume.specs.{declared.Layout.Layout, Find.Owner.{keeper_lines, keeper_lines_of_inode}}
+use Rattle.ffs_volume.specs.Encodings.Notes.{cut_in, note_at}
 use Rattle.ffs_workspace.proofs.{KindLaws.reports_at, NoteLaws.cut_is_noted}
-use Rattle.ffs_volume.specs.{Blocks.Inodes.inodes_of, Encodings.Notes.cut_in}
-use Rattle.ffs_volume.specs.Encodings.Notes.{note_at}
 use Rattle.ffs_finding.{specs.Keepers.lines_again, proofs.{Ranges.next, Replayed.inode_replay}}
 
 -- the lines of the inodes from n on

@@ -3,12 +3,11 @@ use Rattle.std.specs.Prelude.{◌≡◌, ℕ, ◌+◌, ◌-◌, ◌*◌, ◌/◌
 use Rattle.std.specs.{Prelude.{vec_len, count_by, if◌then◌else◌}, Int.div_ceil}
 use Rattle.ffs_image.specs.{Device.{Device, ForContents}, Reads.ReadAfter, declared.image.ImageFault.ImageFault}
 use Rattle.ffs_volume.specs.{Disk.{Superblock.order_of, Outcome.{outcome, super_bytes}}, Find.Copies.asked_sectors}
-use Rattle.ffs_volume.specs.{declared.constants.TheConstants.{DEV_BSIZE, SUPERBLOCK_BYTES}, Find.Copies.copy_lines_of}
-use Rattle.ffs_volume.specs.Find.Copies.{sector_count}
+use Rattle.ffs_volume.specs.{Find.Copies.{copy_lines_of, sector_count}, declared.constants.TheConstants.DEV_BSIZE}
+use Rattle.ffs_volume.specs.declared.constants.TheConstants.{SUPERBLOCK_BYTES}
 use Rattle.ffs_report.specs.{Known.IsContents, declared.fault.RunFault.RunFault}
-use Rattle.ffs_check.specs.Moment.{Moment}
-use Rattle.ffs_finding.specs.Outcome.{Finds}
-use Rattle.ffs_finding.specs.declared.copies.TheConstants.{SECTORS_BEFORE_MAGIC, SECTOR_END, WINDOW_BYTES}
+use Rattle.ffs_check.specs.{Moment.Moment, declared.words.TheConstants.SECTOR_END}
+use Rattle.ffs_finding.specs.{Outcome.Finds, declared.copies.TheConstants.{SECTORS_BEFORE_MAGIC, WINDOW_BYTES}}
 use Rattle.ffs_walk.specs.{Windows.WindowHolds, declared.window.Window.Window}
 
 -- a superblock with a magic number, in one of the two orders of bytes, begins at a sector

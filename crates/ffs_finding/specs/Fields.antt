@@ -1,11 +1,10 @@
 -- A field of the superblock as the program has it, and what its lines leave.
-use Rattle.std.specs.Prelude.{◌≡◌, ℕ, Bool, List, Option, Ok, Result, IfOk}
-use Rattle.std.specs.List.{concat, flat_map}
+use Rattle.std.specs.{Prelude.{◌≡◌, ℕ, Bool, List, Option, Ok, Result, IfOk}, List.{concat, flat_map}}
 use Rattle.ffs_image.specs.Device.{Device}
 use Rattle.ffs_volume.specs.Disk.{Superblock.Superblock, Outcome.outcome}
 use Rattle.ffs_report.specs.{Known.IsContents, Sink.{Sink, Prints}}
-use Rattle.ffs_volume.specs.Find.Fields as book
 use Rattle.ffs_finding.specs.{Outcome.any_line, declared.fields.Field.Field}
+use Rattle.ffs_volume.specs.Find.Fields as book
 
 -- a field of the program as one of the definitions
 abbrev pub field_of : Field → book.Field

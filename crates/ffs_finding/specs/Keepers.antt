@@ -2,17 +2,16 @@
 use Rattle.std.specs.Prelude.{◌≡◌, ◌+◌, ◌*◌, ◌<◌, ◌≤◌, ◌^◌, ℕ, Bool, true, ◌&&◌, List, [], ◌∷◌, ◌++◌, length, Option}
 use Rattle.std.specs.{Prelude.{if◌then◌else◌, nat_le, nat_lt, slice_index, vec_len, Result}, List.concat}
 use Rattle.ffs_volume.specs.declared.{Inode.Inode, Layout.Layout, Step.{Step, TheVariants.{Run, Tail, Gap}}}
-use Rattle.ffs_volume.specs.{Blocks.{Inodes.inode_of, Steps.steps_of}, Encodings.Replay.{Replay, fresh_replay}}
-use Rattle.ffs_volume.specs.Encodings.{Replay.is_replay_open, ReplayCounts.{replay_step_by_cut, replayed_runs}}
-use Rattle.ffs_volume.specs.{Report.Whole.run_count, Groups.Records.group_block, Find.Owner.group_of_fragment}
-use Rattle.ffs_volume.specs.Find.Owner.{indirect_in, keeper_lines, keeper_text, map_text}
+use Rattle.ffs_volume.specs.{Blocks.{Inodes.{inode_of, inodes_of}, Steps.steps_of}, Encodings.Replay.Replay}
+use Rattle.ffs_volume.specs.Encodings.{Replay.{fresh_replay, is_replay_open}, ReplayCounts.replay_step_by_cut}
+use Rattle.ffs_volume.specs.{Encodings.ReplayCounts.replayed_runs, Report.Whole.run_count, Groups.Records.group_block}
+use Rattle.ffs_volume.specs.Find.Owner.{group_of_fragment, indirect_in, keeper_lines, keeper_text, map_text}
+use Rattle.ffs_volume.specs.Encodings.Notes.{cut_in}
 use Rattle.ffs_image.specs.Device.{Device}
 use Rattle.ffs_report.specs.{Known.{ForBytes, IsContents}, declared.fault.RunFault.RunFault}
-use Rattle.ffs_walk.specs.{Keepings.{replay_in, run_taken}, Windows.WindowHolds}
-use Rattle.ffs_walk.specs.declared.{keeping.Keeping.Keeping, window.Window.Window}
-use Rattle.ffs_workspace.specs.{Found.WithPhase1, Ready.IsReady}
-use Rattle.ffs_volume.specs.{Blocks.Inodes.inodes_of, Encodings.Notes.cut_in}
-use Rattle.ffs_workspace.specs.declared.workspace.Workspace.{Workspace}
+use Rattle.ffs_walk.specs.{Keepings.{replay_in, run_taken}, Windows.WindowHolds, declared.keeping.Keeping.Keeping}
+use Rattle.ffs_walk.specs.declared.window.Window.{Window}
+use Rattle.ffs_workspace.specs.{Found.WithPhase1, Ready.IsReady, declared.workspace.Workspace.Workspace}
 use Rattle.ffs_check.specs.Moment.{Moment}
 use Rattle.ffs_finding.specs.{Outcome.Finds, declared.owner.Sought.Sought}
 

@@ -1,5 +1,5 @@
 -- What the program prints of an image, and its status, by what it is asked for.
-use Rattle.std.specs.Prelude.{◌≡◌, ◌⊎◌, ◌≤◌, ◌+◌, ◌*◌, ℕ, Bool, true, false, ◌&&◌, List, [], ◌∷◌, if◌then◌else◌, Option}
+use Rattle.std.specs.Prelude.{◌≡◌, ◌⊎◌, ◌≤◌, ◌+◌, ◌*◌, ℕ, Bool, true, false, ◌&&◌, List, [], if◌then◌else◌, Option}
 use Rattle.std.specs.Prelude.{Result, Ok, Err, IsOk, ⊤}
 use Rattle.ffs_image.specs.Device.{Device, Faulted, ForContents}
 use Rattle.ffs_volume.specs.{declared.{Layout.Layout, SuperFault.SuperFault}, Laws.Geometry.IsAcceptedLayout}
@@ -131,9 +131,9 @@ EndsBy old new (Err (Run (Out fault))) status = EndsSilent old new 8 status
 EndsBy old new (Err NoMemory) status = EndsByLine old new (text_of cannot_alloc) status
 
 -- the superblock is refused: a read of it failed, or this is its fault in the image's bytes
-abbrev pub IsRefusal : Command → Device → Device → SuperFault → Type 0
-IsRefusal Copies d d' fault = ⊥
-IsRefusal (InVolume sector search) d d' fault = ReadsSuper d d' sector (Err fault)
+abbrev pub RefusesSuperblock : Command → Device → Device → SuperFault → Type 0
+RefusesSuperblock Copies d d' fault = ⊥
+RefusesSuperblock (InVolume sector search) d d' fault = ReadsSuper d d' sector (Err fault)
 
 -- what a command answers, before the line of a fault
 abbrev pub Answers : Command → Moment → Moment → Account → Account → Result Bool FindFault → Type 0
@@ -142,7 +142,7 @@ Answers command old new held held' (Ok defect) =
     × PrintedAll (command_finds_defects command) (IsContents old.image.contents) (command_lines command) old.out
     new.out defect
 Answers command old new held held' (Err (Refused fault)) =
-    (new.out ≡ old.out) × IsRefusal command old.image new.image fault
+    (new.out ≡ old.out) × RefusesSuperblock command old.image new.image fault
 Answers command old new held held' (Err (Run (Read fault))) =
     Faulted old.image new.image fault.sector
     × PrintedSome (IsContents old.image.contents) (command_lines command) old.out new.out

@@ -5,11 +5,11 @@ ghost use Rattle.ffs_volume.specs.declared.{Order.TheVariants.Big, constants.The
 ghost use Rattle.ffs_volume.specs.Find.Copies.{copies_lines, copy_lines_of, copy_text, order_word, role_text};
 ghost use Rattle.ffs_report.specs.{Known.IsContents, Sink.Prints};
 ghost use Rattle.ffs_check.specs.Moment.{moment};
-ghost use Rattle.ffs_finding.specs.{Outcome.Finds, Copies.{CanLookAt, IsSectorsEnd, LooksAt}};
-ghost use Rattle.ffs_finding.specs.Copies.{LooksForMagic, ReadsCopies, ReadsWindow};
-ghost use Rattle.ffs_finding.specs.declared.copies.TheConstants.{WINDOW_BYTES};
+ghost use Rattle.ffs_finding.specs.{Outcome.Finds, Copies.{CanLookAt, IsSectorsEnd, LooksAt, LooksForMagic}};
+ghost use Rattle.ffs_finding.specs.{Copies.{ReadsCopies, ReadsWindow}, declared.copies.TheConstants.WINDOW_BYTES};
 ghost use Rattle.ffs_walk.specs.Windows.{WindowHolds};
 
+use ffs_check::words::SECTOR_END;
 use ffs_image::{Image, ImageFault};
 use ffs_layout::{Geometry, Order, read_super, u32_at};
 use ffs_report::print::{print, print_number, print_pieces};
@@ -20,9 +20,6 @@ use ffs_walk::Window;
 
 /// The bytes that are read at a time.
 pub const WINDOW_BYTES: u64 = 65536;
-
-/// The first sector that `-b` doesn't take.
-const SECTOR_END: u64 = 4194304;
 
 /// How many whole sectors of a superblock are before its magic number.
 const SECTORS_BEFORE_MAGIC: u64 = 2;
@@ -142,7 +139,7 @@ fn sectors_end(size: u64) -> u32
         return 1;
     }
     let end = (size - SUPERBLOCK_BYTES as u64) / DEV_BSIZE + 1;
-    SECTOR_END.min(end) as u32
+    u64::from(SECTOR_END).min(end) as u32
 }
 
 /// Prints the sectors at which `-b` is accepted, in ascending order, each with its order of bytes,

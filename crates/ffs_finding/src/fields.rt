@@ -1,10 +1,9 @@
 //! `fields`: fields of the superblock that a kernel computes with, and that a check doesn't look at.
-ghost use Rattle.std.specs.{Prelude.{◌≡◌, ◌+◌, ◌*◌, ◌^◌, ◌≤◌, ◌<◌, length, map}, Int.{cast_signed, div_ceil}};
-ghost use Rattle.std.specs.Int.{w64};
+ghost use Rattle.std.specs.{Prelude.{◌≡◌, ◌+◌, ◌*◌, ◌^◌, ◌≤◌, ◌<◌, length, map}, Int.{cast_signed, div_ceil, w64}};
 ghost use Rattle.ffs_volume.specs.Disk.{Numbers.u64_at as u64_in, Outcome.super_sector};
-ghost use Rattle.ffs_volume.specs.{declared.constants.TheConstants.DEV_BSIZE, Find.Fields.{exponent_of, field_32}};
-ghost use Rattle.ffs_volume.specs.Find.Fields.{field_lines, field_text, layout_fields, mask_of, total_64, total_fields};
-ghost use Rattle.ffs_volume.specs.Find.Fields.{wrong_fields};
+ghost use Rattle.ffs_volume.specs.{declared.constants.TheConstants.{DEV_BSIZE, SBSIZE}, Find.Fields.exponent_of};
+ghost use Rattle.ffs_volume.specs.Find.Fields.{field_32, field_lines, field_text, layout_fields, mask_of, total_64};
+ghost use Rattle.ffs_volume.specs.Find.Fields.{total_fields, wrong_fields};
 ghost use Rattle.ffs_layout.specs.Super.{superblock_in};
 ghost use Rattle.ffs_report.specs.Sink.{Prints};
 ghost use Rattle.ffs_check.specs.Moment.{moment};
@@ -86,7 +85,8 @@ fn total_64(order: Order, bytes: &[u8], name: &'static [u8], place: u32, wants: 
 
 /// The least multiple of the fragment's size that a superblock fits.
 fn whole_size(layout: &Layout) -> u32
-    requires { (layout.now.sbsize ≤ 8192) × (512 ≤ layout.now.fsize) × (layout.now.fsize ≤ 65536) }
+    requires { (layout.now.sbsize ≤ SBSIZE) × (DEV_BSIZE ≤ layout.now.fsize)
+        × (layout.now.fsize ≤ 65536) }
     ensures { result ≡ div_ceil layout.now.sbsize layout.now.fsize * layout.now.fsize }
 {
     layout.sbsize.div_ceil(layout.fsize) * layout.fsize
@@ -176,7 +176,7 @@ fn print_wrong_fields<W: Output>(
 }
 
 /// Prints which fields of an accepted superblock, at a sector or at the usual place, aren't what its
-/// layout gives (fs(5)), and returns whether there is one. One read.
+/// layout gives (fs(5)), and returns whether there is one. At most one read.
 ///
 /// # Errors
 /// A read of the image that failed, and a write that failed.

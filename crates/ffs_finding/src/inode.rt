@@ -177,7 +177,8 @@ fn print_bytes<W: Output>(
 
 /// Prints where an inode lies in the image, and what its 128 bytes say (fs(5)): its class, mode,
 /// links, size in bytes, blocks in sectors, owner, time of modification, and its addresses, or what
-/// is in their place. Nothing is printed for a number that the volume doesn't have. One read.
+/// is in their place. Nothing is printed for a number that the volume doesn't have. At most one
+/// read.
 ///
 /// # Errors
 /// A read of the image that failed, and a write that failed.

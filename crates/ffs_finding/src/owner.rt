@@ -3,16 +3,15 @@ ghost use Rattle.std.specs.Prelude.{◌≡◌, ◌+◌, ◌*◌, ◌/◌, ◌≤
 ghost use Rattle.ffs_volume.specs.{Disk.Areas.is_reserved, Blocks.Inodes.inode_of, Encodings.Kinds.is_allocated_kind};
 ghost use Rattle.ffs_volume.specs.{Encodings.Replay.is_replay_open, Report.Reads.sweep_reads, Groups.Records.bit_at};
 ghost use Rattle.ffs_volume.specs.Find.Owner.{indirect_in, keeper_text, keeper_lines, map_text, lines_of_fragment};
-ghost use Rattle.ffs_volume.specs.Find.Owner.{part_text, reserved_text, table_text};
+ghost use Rattle.ffs_volume.specs.{Find.Owner.{part_text, reserved_text, table_text}, Encodings.Notes.cut_in};
 ghost use Rattle.ffs_report.specs.{Known.IsContents, Sink.Prints};
 ghost use Rattle.ffs_walk.specs.{Keepings.replay_in, Windows.{CanWalk, KeepsBlocks}};
 ghost use Rattle.ffs_workspace.specs.{Found.WithPhase1, Ready.{IsReady, StaysReady}};
-ghost use Rattle.ffs_volume.specs.Encodings.Notes.{cut_in};
 ghost use Rattle.ffs_check.specs.Moment.{moment};
 ghost use Rattle.ffs_claims.specs.Rescan.{ReplaysStep};
 ghost use Rattle.ffs_finding.specs.{Outcome.Finds, Keepers.{CanLookAtInode, CanPrintMap, CanPrintStep, CanReadMap}};
-ghost use Rattle.ffs_finding.specs.Keepers.{LooksAtInode, LooksAtAll, WalksKept, is_in_run};
-ghost use Rattle.ffs_finding.specs.Keepers.{map_lines, run_text, sought_in, step_text};
+ghost use Rattle.ffs_finding.specs.Keepers.{LooksAtInode, LooksAtAll, WalksKept, is_in_run, map_lines, run_text};
+ghost use Rattle.ffs_finding.specs.Keepers.{sought_in, step_text};
 
 use crate::group_map::{is_marked_free, map_place};
 use ffs_image::{Image, LimitedImage};
@@ -216,6 +215,7 @@ fn indirect_in(step: Step) -> u64
 }
 
 /// Walks over the blocks of an inode, and prints a line for each offer of the fragment that it keeps.
+#[tactic(auto, using(crate::proofs::Walking::blocks_then))]
 fn print_kept<I: Image, W: Output>(
     image: &mut I,
     geometry: &Geometry,

@@ -1,14 +1,12 @@
 -- Stretches of free fragments, from one to the next.
-use Rattle.std.proofs.Common.{◌≡◌, ℕ, zero, suc, ◌+◌, ◌-◌, ◌<◌, ◌≤◌, ◌/◌, ◌^◌, true, false, arith, inl, inr, ◌⊎◌}
-use Rattle.std.proofs.Common.{refl, ◌∙◌, sym, count_by, nat_eq, ◌==◌, min}
-use Rattle.std.specs.Int.{bit_at, trailing_zeros, trailing_ones}
+use Rattle.std.proofs.Common.{◌≡◌, ℕ, zero, suc, ◌+◌, ◌-◌, ◌<◌, ◌≤◌, ◌/◌, ◌^◌, true, false, arith, inl, inr, ◌⊎◌, refl}
+use Rattle.std.{proofs.Common.{◌∙◌, sym, count_by, nat_eq, ◌==◌, min}, specs.Int.{bit_at, trailing_zeros}}
+use Rattle.std.{specs.Int.trailing_ones, proofs.lemmas.Nat.Bits.{bit_at-trailing_zeros, bit_at-trailing_ones}}
+use Rattle.std.proofs.{lemmas.{Nat.Bits.{bit_at-zero, bit_at_ones}, Bool.cases_lt}, Math.Nat.div-le_self}
 use mir.Syntax.{w64}
-use Rattle.std.proofs.lemmas.Nat.Bits.{bit_at-trailing_zeros, bit_at-trailing_ones, bit_at-zero, bit_at_ones}
 use Rattle.ffs_volume.specs.Groups.Records.{free_stretches, stretch_of}
-use Rattle.ffs_groups.specs.Free.{word_bits}
-use Rattle.std.proofs.{lemmas.Bool.{cases_lt}, Math.Nat.{div-le_self}}
+use Rattle.ffs_groups.{specs.Free.word_bits, proofs.Adding.{free_next, used_next, stretch_grows, stretch_ends}}
 use Rattle.ffs_maps.proofs.WordShifts.{bit_shr}
-use Rattle.ffs_groups.proofs.Adding.{free_next, used_next, stretch_grows, stretch_ends}
 
 -- z used fragments add nothing
 pub skipped : (word k z n : ℕ) → ((i : ℕ) → i < z → bit_at word (k + i) ≡ 0) → z ≤ n →

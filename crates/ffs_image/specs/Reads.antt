@@ -1,6 +1,6 @@
 -- What a read gives of an image, and what a call leaves of it, by its answer.
 use Rattle.std.specs.Prelude.{◌≡◌, ℕ, ◌/◌, List, Result, Ok, Err, OnOk, IfErr}
-use Rattle.ffs_image.specs.{Device.{Device, Faulted, IsAt}, declared.image.ImageFault.ImageFault}
+use Rattle.ffs_image.specs.{Device.{Device, Faulted, IsAt}, declared.image.{ImageFault.ImageFault, TheConstants.DEV_BSIZE}}
 
 -- a failed read is counted, with its sector, and no other answer touches the image
 abbrev pub ReadAfter : {T : Type 0} → Device → Device → Result T ImageFault → Type 0
@@ -14,4 +14,4 @@ pub record ReadsBytes {T : Type 0} (old new : Device) (at : ℕ) (xs : List ℕ)
   pub bytes : OnOk result (IsAt old at xs)
   pub ok : OnOk result (new ≡ old)
   pub err : IfErr result (λ fault. Faulted old new fault.sector)
-  pub sector : IfErr result (λ fault. fault.sector ≡ at / 512)
+  pub sector : IfErr result (λ fault. fault.sector ≡ at / DEV_BSIZE)

@@ -1,7 +1,6 @@
 -- What a source of an image's bytes gives, and what a read does to it.
-use Rattle.std.specs.Prelude.{◌≡◌, ◌+◌, ◌-◌, ◌<◌, ◌≤◌, ℕ, zero, suc, List, length, drop, take}
-use Rattle.std.specs.Prelude.{Option, Result, Ok, Err, OnOk, IfOk, IfSome, MatchResult}
-use Rattle.std.specs.{Io.ReadsAtMost, declared.io.Error.Error}
+use Rattle.std.specs.Prelude.{◌≡◌, ◌+◌, ◌-◌, ◌<◌, ◌≤◌, ℕ, zero, suc, List, length, drop, take, Option, Result, Ok, Err}
+use Rattle.std.specs.{Prelude.{OnOk, IfOk, IfSome, MatchResult}, Io.ReadsAtMost, declared.io.Error.Error}
 use Rattle.ffs_image.specs.Device.{ForContents, Rose}
 
 -- what contracts know of a source, as `Device` of an image, but for the last sector: its bytes

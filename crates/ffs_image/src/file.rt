@@ -2,7 +2,7 @@
 ghost use Rattle.std.specs.Prelude.{◌≡◌, ◌+◌, ◌≤◌, length, IfOk, MatchResult};
 ghost use Rattle.ffs_image.specs.{Reads.ReadsBytes, Source.ReadsThrough, System.{IsOpened, OpenFails}};
 
-use crate::image::{Image, ImageFault};
+use crate::image::{DEV_BSIZE, Image, ImageFault};
 use crate::opened::OpenedFile;
 use crate::source::{Source, fill};
 use crate::system::{RawFile, System};
@@ -93,8 +93,9 @@ impl<S: Source> Image for SourceImage<S> {
         match fill(&mut self.source, at, buf) {
             Ok(()) => Ok(()),
             Err(_) => {
-                self.failed_sector = at / 512;
-                Err(ImageFault { sector: at / 512 })
+                let sector = at / DEV_BSIZE;
+                self.failed_sector = sector;
+                Err(ImageFault { sector })
             }
         }
     }

@@ -2,7 +2,7 @@
 ghost use Rattle.std.specs.Prelude.{◌≡◌, ◌+◌, ◌≤◌, ◌||◌, true, false};
 ghost use Rattle.ffs_image.specs.Limited.{GivesBackLent, after_reads, lent_at, limited_device, reads_asked};
 
-use crate::image::{Image, ImageFault};
+use crate::image::{DEV_BSIZE, Image, ImageFault};
 use std::snapshot::Snapshot;
 
 /// An image over another one that is lent to it, which it reads no more often than its limit. Each
@@ -117,7 +117,7 @@ impl<'a, I: Image> Image for LimitedImage<'a, I> {
                 }
             }
         }
-        let sector = at / 512;
+        let sector = at / DEV_BSIZE;
         self.failures = self.failures.saturating_add(1);
         self.failed_sector = sector;
         Err(ImageFault { sector })

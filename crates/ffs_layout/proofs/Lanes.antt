@@ -1,8 +1,7 @@
 -- Bytes that are looked at together, and where the first is that passes a test.
-use Rattle.std.proofs.Common.{zero, suc, ◌≡◌, ◌||◌, ◌∷◌, ◌≤◌, ◌∙◌, ◌%◌, ◌^◌, [], ap, refl, inl, inr, ℕ, List, cond, eqb, arith}
-use Rattle.std.proofs.Common.{take, length, map, true, false, Bool, not}
-use Rattle.std.specs.{Prelude.{nat_lt, bit_or}, List.{list_any, prefix_len}}
-use Rattle.std.proofs.lemmas.{Bool.cases_eq, List.length-map}
+use Rattle.std.proofs.Common.{zero, suc, ◌≡◌, ◌||◌, ◌∷◌, ◌≤◌, ◌∙◌, ◌%◌, ◌^◌, [], ap, refl, inl, inr, ℕ, List, cond, eqb}
+use Rattle.std.{proofs.Common.{arith, take, length, map, true, false, Bool, not}, specs.Prelude.{nat_lt, bit_or}}
+use Rattle.std.{specs.List.{list_any, prefix_len}, proofs.lemmas.{Bool.cases_eq, List.length-map}}
 use Rattle.std.proofs.lemmas.Simd.{leading_from_mask_l, trailing_mask_l, map-map, mask_l-mod}
 use lib.Count.{count_trailing_zeros}
 use lib.Lanes.{mask_l, top}

@@ -2,6 +2,7 @@
 use Rattle.std.specs.Prelude.{◌≡◌, ℕ, ◌+◌, ◌≤◌, List, length, Bool, ◌==◌, ◌||◌, Option, Some, IfSome, option_map}
 use Rattle.std.specs.List.{list_any}
 use Rattle.ffs_volume.specs.{Disk.Numbers.piece, Directories.Entries.{Entry as EntryIn, entry_at}, declared.Order.Order}
+use Rattle.ffs_volume.specs.declared.constants.TheConstants.{DIRBLKSIZ, DIRENT_HEADER}
 use Rattle.ffs_layout.specs.declared.entry.Entry.{Entry}
 
 -- an entry in memory as an entry of the definitions
@@ -17,6 +18,6 @@ any_nul_or_slash bytes = list_any (λ b. b == 0) bytes || list_any (λ b. b == 4
 pub record IsEntryAt (order : Order) (chunk : List ℕ) (place : ℕ) (result : Option Entry) : Type 0 where
   pub value : option_map entry_value result ≡ entry_at order chunk place
   pub some : IfSome result (λ e. entry_at order chunk place ≡ Some (entry_value e))
-  pub room : IfSome result (λ e. (8 ≤ e.length) × (place + e.length ≤ 512))
-  pub name : IfSome result (λ e. (e.name.now ≡ piece (place + 8) (length e.name.now) chunk)
-      × (place + 8 + length e.name.now ≤ 512))
+  pub room : IfSome result (λ e. (DIRENT_HEADER ≤ e.length) × (place + e.length ≤ DIRBLKSIZ))
+  pub name : IfSome result (λ e. (e.name.now ≡ piece (place + DIRENT_HEADER) (length e.name.now) chunk)
+      × (place + DIRENT_HEADER + length e.name.now ≤ DIRBLKSIZ))

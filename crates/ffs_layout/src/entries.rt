@@ -3,7 +3,8 @@
 ghost use Rattle.std.specs.Prelude.{IsTrue, ◌≡◌, ◌+◌, ◌≤◌, length, take};
 ghost use Rattle.ffs_volume.specs.Directories.Entries.{has_valid_type_and_name, is_valid_record_length};
 ghost use Rattle.ffs_volume.specs.Disk.Numbers.{piece, u16_at as u16_in, u32_at as u32_in};
-ghost use Rattle.ffs_layout.specs.Entry.{IsEntryAt, any_nul_or_slash};
+ghost use Rattle.ffs_volume.specs.declared.constants.TheConstants.{DIRBLKSIZ, DIRENT_HEADER};
+ghost use Rattle.ffs_layout.specs.{Entry.{IsEntryAt, any_nul_or_slash}, declared.entries.TheConstants.SHORT};
 
 use crate::entry::Entry;
 use crate::numbers::{u16_at, u32_at};
@@ -16,7 +17,7 @@ const SHORT: usize = 16;
 
 /// Whether a record of this length may be at the place.
 fn is_valid_record_length(place: usize, len: u16) -> bool
-    requires { place ≤ 512 }
+    requires { place ≤ DIRBLKSIZ }
     ensures { result ≡ is_valid_record_length place len }
 {
     len % 4 == 0 && 8 <= len && place + usize::from(len) <= DIRBLKSIZ
@@ -39,7 +40,7 @@ fn has_nul_or_slash_in_part<const N: usize>(part: &[u8; N]) -> bool
 /// the first such byte is: no branch depends on how many count.
 #[inline(always)]
 fn has_nul_or_slash_in_first(bytes: &[u8], len: usize) -> bool
-    requires { (len ≤ 16) × (16 ≤ length bytes.now) }
+    requires { (len ≤ SHORT) × (SHORT ≤ length bytes.now) }
     ensures { result ≡ any_nul_or_slash (take len bytes.now) }
 {
     let lanes = u8x16::from_slice(bytes);
@@ -82,7 +83,7 @@ fn has_nul_or_slash_in_many(bytes: &[u8]) -> bool
 /// bytes are looked at where the chunk has them and the name is no longer.
 #[inline(always)]
 fn has_nul_or_slash(chunk: &[u8; DIRBLKSIZ], start: usize, len: usize) -> bool
-    requires { start + len ≤ 512 }
+    requires { start + len ≤ DIRBLKSIZ }
     ensures { result ≡ any_nul_or_slash (piece start len chunk.now) }
 {
     if len <= SHORT && start + SHORT <= DIRBLKSIZ {
@@ -112,7 +113,7 @@ fn has_valid_type_and_name(chunk: &[u8; DIRBLKSIZ], place: usize, len: u16) -> b
 /// The inode number and the length of the record at a place of a chunk.
 #[inline(always)]
 fn number_and_length(order: Order, chunk: &[u8; DIRBLKSIZ], place: usize) -> (u32, u16)
-    requires { place + 8 ≤ 512 }
+    requires { place + DIRENT_HEADER ≤ DIRBLKSIZ }
     ensures { result ≡ (u32_in order place chunk.now, u16_in order (place + 4) chunk.now) }
 {
     // The order is asked for once, and not for each number.
@@ -136,7 +137,7 @@ fn number_and_length(order: Order, chunk: &[u8; DIRBLKSIZ], place: usize) -> (u3
 #[inline(always)]
 #[tactic(auto, unfolding(ffs_volume::specs::Directories::Entries::entry_at, ffs_volume::specs::Directories::Entries::is_well_formed, ffs_volume::specs::Directories::Entries::entry_read))]
 pub fn entry_at(order: Order, chunk: &[u8; DIRBLKSIZ], place: usize) -> Option<Entry<'_>>
-    requires { place ≤ 512 }
+    requires { place ≤ DIRBLKSIZ }
     ensures { IsEntryAt order chunk.now place result }
 {
     if place > DIRBLKSIZ - DIRENT_HEADER {

@@ -2,10 +2,10 @@
 
 ghost use Rattle.std.specs.Prelude.{MatchResult, ℕ, ◌^◌, IsTrue, nat_le, ◌==◌, ◌≡◌, ◌+◌, ◌*◌, ◌<◌, ◌≤◌};
 ghost use Rattle.std.specs.List.{list_all};
-ghost use Rattle.ffs_volume.specs.{Disk.Numbers.u32_at, Report.Reads.opening_reads};
-ghost use Rattle.ffs_volume.specs.Disk.Superblock.{layout_of, order_of, superblock_of};
-ghost use Rattle.ffs_layout.specs.{Accepted.IsAccepted, Copies.{ComparesCopy, ReadsSuperblockBytes}};
-ghost use Rattle.ffs_layout.specs.Super.{ReadsSuper, IsUnreadable, found_of, superblock_in};
+ghost use Rattle.ffs_volume.specs.{Disk.{Numbers.u32_at, Superblock.{layout_of, order_of}}, Report.Reads.opening_reads};
+ghost use Rattle.ffs_volume.specs.{Disk.Superblock.superblock_of, declared.constants.TheConstants.SUPERBLOCK_BYTES};
+ghost use Rattle.ffs_layout.specs.{Accepted.IsAccepted, Copies.{ComparesCopy, ReadsSuperblockBytes}, Super.ReadsSuper};
+ghost use Rattle.ffs_layout.specs.Super.{IsUnreadable, found_of, superblock_in};
 
 use crate::geometry::Geometry;
 use crate::layout::decode;
@@ -14,14 +14,17 @@ use ffs_image::Image;
 use ffs_volume::constants::{DEV_BSIZE, FS_MAGIC, MAXMNTLEN, SUPERBLOCK_BYTES, SUPERBLOCK_SECTOR};
 use ffs_volume::{LAYOUT_PLACES, Order, SuperFault};
 
-/// The byte order in which the magic number, at byte 1,372, reads as `FS_MAGIC`, if one does.
+/// Where the magic number begins in a superblock, in bytes (fs(5)).
+const MAGIC_PLACE: usize = 1372;
+
+/// The byte order in which the magic number reads as `FS_MAGIC`, if one does.
 #[tactic(auto, unfolding(ffs_volume::specs::Disk::Superblock::order_of))]
 fn order_of_magic(bytes: &[u8; SUPERBLOCK_BYTES]) -> Option<Order>
     ensures { result ≡ order_of bytes.now }
 {
-    if u32_at(Order::Little, 1372, bytes) == FS_MAGIC {
+    if u32_at(Order::Little, MAGIC_PLACE, bytes) == FS_MAGIC {
         Some(Order::Little)
-    } else if u32_at(Order::Big, 1372, bytes) == FS_MAGIC {
+    } else if u32_at(Order::Big, MAGIC_PLACE, bytes) == FS_MAGIC {
         Some(Order::Big)
     } else {
         None
@@ -36,7 +39,7 @@ fn agree_at(
     bytes: &[u8; SUPERBLOCK_BYTES],
     copy: &[u8; SUPERBLOCK_BYTES],
 ) -> bool
-    requires { IsTrue (list_all (λ place. nat_le (place + 4) 1376) places.now) }
+    requires { IsTrue (list_all (λ place. nat_le (place + 4) SUPERBLOCK_BYTES) places.now) }
     ensures { result ≡ list_all (λ place. u32_at order place bytes.now == u32_at order place
         copy.now) places.now }
 {

@@ -1,4 +1,4 @@
--- Lists of which some elements are touched, and one value is in the rest of their memory.
+-- Lists of which some elements are touched, and all others have one value.
 use Rattle.std.proofs.Common.{◌≡◌, ◌<◌, ◌+◌, ◌-◌, ◌++◌, ◌∷◌, ◌∙◌, [], ℕ, zero, suc, List, ap, arith, get_or, inl, inr, length, min}
 use Rattle.std.proofs.Common.{refl, replicate, slice_set, sym, vec_len}
 use Rattle.std.proofs.lemmas.List.{append_assoc, get_or-append_right, length-append, length-replicate}
@@ -33,12 +33,12 @@ module _ {A : Type 0} where
       ∙ ap (λ k. slice_set (touched.items ++ replicate k x) (length touched.items) y) (sym more)
 
 -- one number again and again, limited
-limit_rest : (n x most k : ℕ) → get_or (replicate n (min x most)) k 0 ≡ min (get_or (replicate n x) k 0) most
-limit_rest zero x most k = omega arith
-limit_rest (suc n) x most zero = refl
-limit_rest (suc n) x most (suc k) = limit_rest n x most k
+limit_untouched : (n x most k : ℕ) → get_or (replicate n (min x most)) k 0 ≡ min (get_or (replicate n x) k 0) most
+limit_untouched zero x most k = omega arith
+limit_untouched (suc n) x most zero = refl
+limit_untouched (suc n) x most (suc k) = limit_untouched n x most k
 
--- the touched numbers are limited, and the one in the rest of the memory
+-- the touched numbers are limited, and the value of the others
 pub limit_filled : (old new : List ℕ) (n x most : ℕ) → LimitsItems old new most →
     LimitsItems (old ++ replicate n x) (new ++ replicate n (min x most)) most
 limit_filled old new n x most limits = record {
@@ -47,7 +47,7 @@ limit_filled old new n x most limits = record {
     | inl low ↦ get_or-append new (replicate n (min x most)) 0 k (omega (arith, limits.same_length))
         ∙ limits.items k ∙ ap (λ y. min y most) (sym (get_or-append old (replicate n x) 0 k low))
     | inr high ↦ get_or-append_right new (replicate n (min x most)) (length old) k 0 limits.same_length high
-        ∙ limit_rest n x most (k - length old)
+        ∙ limit_untouched n x most (k - length old)
         ∙ ap (λ y. min y most) (sym (get_or-append_right old (replicate n x) (length old) k 0 refl high))
   ];
 }

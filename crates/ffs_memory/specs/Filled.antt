@@ -19,7 +19,7 @@ module _ {A : Type 0} where
       ∙ ap (λ n. n + spare) (sym touched.ok.0)
       ∙ add-sub_of_le touched.ok.1)
 
-  -- the elements that are touched, and x in the rest of their memory
+  -- the elements that are touched, and x for each other one that their memory has room for
   abbrev pub filled : Vec A Global → A → Vec A Global
   filled touched x = record {
     ptr = touched.ptr;

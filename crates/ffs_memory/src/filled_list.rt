@@ -12,8 +12,8 @@ use std::ops::Index;
 pub struct FilledList<T> {
     /// The elements that are touched, from index 0 on. Its capacity is the length of the list.
     touched: Vec<T>,
-    /// The value of each later element.
-    rest: T,
+    /// The value of each element that isn't.
+    untouched: T,
 }
 
 /// It is seen as a `Vec` of all its elements.
@@ -24,7 +24,7 @@ impl<T> Model for FilledList<T> {
 
     ghost Value = { Vec T Global };
 
-    ghost view = { λ list. filled list.touched list.rest };
+    ghost view = { λ list. filled list.touched list.untouched };
 }
 
 impl<T: Copy> FilledList<T> {
@@ -34,7 +34,7 @@ impl<T: Copy> FilledList<T> {
     {
         FilledList {
             touched: room,
-            rest: value,
+            untouched: value,
         }
     }
 
@@ -58,7 +58,7 @@ impl<T: Copy> FilledList<T> {
         if self.touched.len() == index {
             self.touched.push_reserved(value);
         } else {
-            touch(&mut self.touched, index, self.rest);
+            touch(&mut self.touched, index, self.untouched);
             self.touched[index] = value;
         }
     }
@@ -68,7 +68,7 @@ impl<T: Copy> FilledList<T> {
         ensures { SetsAll self.old self.new value }
     {
         self.touched.clear();
-        self.rest = value;
+        self.untouched = value;
     }
 }
 
@@ -89,7 +89,7 @@ impl FilledList<u64> {
         ensures { Limits self.old self.new most }
     {
         limit_items(&mut self.touched, most);
-        self.rest = self.rest.min(most);
+        self.untouched = self.untouched.min(most);
     }
 }
 
@@ -103,7 +103,7 @@ impl FilledList<u32> {
         if from == to {
             return;
         }
-        touch(&mut self.touched, to - 1, self.rest);
+        touch(&mut self.touched, to - 1, self.untouched);
         self.touched[from..to].sort_unstable();
     }
 }
@@ -120,7 +120,7 @@ impl<T: Copy> Index<usize> for FilledList<T> {
         if index < self.touched.len() {
             &self.touched[index]
         } else {
-            &self.rest
+            &self.untouched
         }
     }
 }

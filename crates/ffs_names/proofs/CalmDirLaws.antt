@@ -1,18 +1,15 @@
 -- A survey flags each directory of which nothing can be reported, by the bytes of the image.
-use Rattle.std.proofs.Common.{◌≡◌, ◌∙◌, ℕ, ◌+◌, ◌<◌, Bool, true, false, ◌&&◌, List, ap, arith, length, map, refl}
-use Rattle.std.proofs.{Common.{get_or, slice_index, subst, sym}, lemmas.Bool.and_parts}
-use Rattle.std.{proofs.lemmas.List.{ext_get_or, FromFn.{get_or-map-range_with_len, length-map-range_with_len}}}
+use Rattle.std.proofs.Common.{◌≡◌, ◌∙◌, ℕ, Bool, true, false, List, arith, length, map, refl, get_or, slice_index}
+use Rattle.std.proofs.{Common.{subst, sym}, lemmas.{Bool.and_parts, List.ext_get_or}}
+use Rattle.std.proofs.lemmas.List.FromFn.{get_or-map-range_with_len, length-map-range_with_len}
 use Rattle.std.specs.List.{range_with_len}
 use mathlib.Core.Path.{fun_ext}
-use Rattle.ffs_volume.specs.{declared.Layout.Layout, Encodings.{Kinds.kind_at, Lists.{bool_at, number_at}}}
-use Rattle.ffs_volume.specs.Directories.{Graph.reached, Parents.graph_of, Roles.{is_dir, roled_entries}}
-use Rattle.ffs_volume.specs.Directories.Volumes.{marked_at, volume_of}
-use Rattle.ffs_volume.specs.Blocks.Inodes.{inodes_of}
-use Rattle.ffs_survey.specs.{Calm.EachCalmIsFlagged, Survey.IsSurvey}
-use Rattle.ffs_volume.specs.Directories.Calm.{is_calm_by_parents}
+use Rattle.ffs_volume.specs.{Encodings.{Kinds.kind_at, Lists.{bool_at, number_at}}, Directories.Graph.reached}
+use Rattle.ffs_volume.specs.Directories.{Parents.graph_of, Roles.{is_dir, roled_entries}, Volumes.marked_at}
+use Rattle.ffs_volume.specs.{Directories.{Volumes.volume_of, Calm.is_calm_by_parents}, Blocks.Inodes.inodes_of}
 use Rattle.ffs_volume.specs.Directories.Calm.{is_calm_directory, kinds_in, marks_in, parent_number, is_right_shape}
-use Rattle.ffs_names.specs.Readers.{Base, dir_entries, dir_right_shape}
-use Rattle.ffs_names.proofs.DirLaws.{kind_dirs}
+use Rattle.ffs_survey.specs.{Calm.EachCalmIsFlagged, Survey.IsSurvey}
+use Rattle.ffs_names.{specs.Readers.{Base, dir_entries, dir_right_shape}, proofs.DirLaws.kind_dirs}
 
 -- a list with a value for each number
 listed : {X : Type 0} (e : X) (f : ℕ → X) (xs : List X) (n : ℕ) → length xs ≡ n →

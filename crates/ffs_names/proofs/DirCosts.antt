@@ -1,12 +1,10 @@
 -- Laws of the reads that directories take.
 use Rattle.std.proofs.Common.{◌≡◌, ◌+◌, ◌<◌, ◌≤◌, ℕ, zero, suc, true, false, List, refl, arith}
-use Rattle.std.proofs.lemmas.Bool.{Decides.nat_tests}
+use Rattle.std.proofs.lemmas.Bool.Decides.{nat_tests}
 use Rattle.ffs_volume.specs.{declared.{Inode.Inode, Layout.Layout}, Blocks.{Inodes.inode_of, Steps.steps_of}}
 use Rattle.ffs_volume.specs.{Directories.{Roles.is_dir, Volumes.volume_of}, Encodings.Replay.{cut_at, fresh_replay}}
-use Rattle.ffs_volume.specs.Encodings.ReplayCounts.{replayed_runs}
-use Rattle.ffs_volume.specs.Encodings.Notes.{first_noted, note_at}
-use Rattle.ffs_volume.specs.Report.DirectoryReads.{costs_all}
-use Rattle.ffs_volume.specs.Report.DirectoryReads.{directory_cost, directory_runs, inode_reads, noted_cost}
+use Rattle.ffs_volume.specs.Encodings.{ReplayCounts.replayed_runs, Notes.{first_noted, note_at}}
+use Rattle.ffs_volume.specs.Report.DirectoryReads.{costs_all, directory_cost, directory_runs, inode_reads, noted_cost}
 
 -- a directory takes its inode and its Runs
 pub cost_is : (v : Layout) (b : List ℕ) (d : ℕ) → is_dir (volume_of v b) d ≡ true →

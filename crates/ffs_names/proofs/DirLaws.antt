@@ -7,12 +7,10 @@ use Rattle.ffs_volume.specs.Blocks.{Inodes.{inode_of, is_directory, type_of}, St
 use Rattle.ffs_volume.specs.Directories.{Entries.{bytes_read, chunks_of, has_gap}, PathnameCheck.are_sound}
 use Rattle.ffs_volume.specs.Directories.{Roles.{is_dir, roled_chunk, roled_entries}, Volumes.chunk_source_of}
 use Rattle.ffs_volume.specs.{Directories.Volumes.{is_inode_number, volume_of, volume_with}, Disk.Areas.is_run_in_range}
-use Rattle.ffs_volume.specs.{Encodings.{Kinds.kind_at, Replay.{cut_at, fresh_replay}}, Laws.Geometry.IsAcceptedLayout}
-use Rattle.ffs_volume.specs.Encodings.Replay.{replayed_steps}
+use Rattle.ffs_volume.specs.Encodings.{Kinds.{kind_at, dir_at}, Replay.{cut_at, fresh_replay, replayed_steps}}
+use Rattle.ffs_volume.specs.{Laws.Geometry.IsAcceptedLayout, Directories.Calm.{is_right_shape, is_right_size}}
 use Rattle.ffs_survey.specs.SurveyLaws.{dirs_of_kinds}
-use Rattle.ffs_volume.specs.Encodings.Kinds.{dir_at}
 use Rattle.ffs_names.specs.RunCursors.{reading_by}
-use Rattle.ffs_volume.specs.Directories.Calm.{is_right_shape, is_right_size}
 
 class_by : Bool → Bool → Bool → Bool → Class
 class_by none free bad four = if none then (if free then Free else Partial)

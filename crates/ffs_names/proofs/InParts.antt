@@ -5,7 +5,7 @@ use Rattle.std.proofs.{lemmas.List.{drop-drop, drop-take, take-take}}
 use Rattle.std.specs.List.{list_any, range_with_len}
 use Rattle.ffs_volume.specs.{declared.Layout.Layout, Disk.Numbers.piece, Laws.Geometry.IsAcceptedLayout}
 use Rattle.ffs_volume.specs.Directories.{Graph.is_naming_entry, Roles.RoledEntry}
-use Rattle.ffs_workspace.specs.Places.{entries_in_chunk, entries_in_part, name_in, part_size}
+use Rattle.ffs_volume.specs.Encodings.Places.{entries_in_chunk, entries_in_part, name_in, part_size}
 use Rattle.ffs_workspace.proofs.{PartLaws.{begins_part, has_parts, lies_in_part}, PlaceLaws.{name_in-after, name_in-among}}
 
 -- a piece of a piece

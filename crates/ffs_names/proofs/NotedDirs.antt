@@ -5,17 +5,14 @@ use Rattle.ffs_volume.specs.{declared.{Class.TheVariants.Dir, Inode.Inode, Layou
 use Rattle.ffs_volume.specs.{Blocks.{Inodes.inode_of, Steps.steps_of}, Directories.Entries.has_gap}
 use Rattle.ffs_volume.specs.Directories.{PathnameCheck.are_sound, Roles.{is_dir, roled_chunk, roled_entries}}
 use Rattle.ffs_volume.specs.{Directories.Volumes.volume_of, Encodings.Replay.{fresh_replay, replayed_steps}}
-use Rattle.ffs_volume.specs.{Encodings.ReplayCounts.replayed_runs, Laws.Geometry.IsAcceptedLayout}
-use Rattle.ffs_workspace.proofs.NoteLaws.{below_is_cut, cut_is_noted, address_is_noted, address_is_whole, IsOneChunkAt}
-use Rattle.ffs_workspace.specs.{Tables.KeepsTable, declared.table.Table.Table}
-use Rattle.ffs_volume.specs.Encodings.Notes.{cut_in, first_noted, note_at}
-use Rattle.ffs_workspace.specs.declared.workspace.Windows.{Windows}
-use Rattle.ffs_names.specs.{OneChunk.one_chunk_at, Readers.IsReaderReady, Readings.chunks_in}
-use Rattle.ffs_volume.specs.Report.DirectoryReads.{directory_runs}
-use Rattle.ffs_names.proofs.{DirCosts.runs_are, DirLaws.dir_is}
+use Rattle.ffs_volume.specs.{Encodings.{ReplayCounts.replayed_runs, Notes.cut_in}, Laws.Geometry.IsAcceptedLayout}
+use Rattle.ffs_volume.specs.{Encodings.Notes.{first_noted, note_at}, Report.DirectoryReads.directory_runs}
 use Rattle.ffs_volume.specs.Directories.Calm.{is_right_shape, is_right_size}
-use Rattle.ffs_names.proofs.{DirLaws.{dir_size, dir_seen, shape_seen}, OneChunks.{entries_by, one_chunk_class}}
-use Rattle.ffs_names.proofs.OneChunks.{one_chunk_is, shape_by}
+use Rattle.ffs_workspace.proofs.NoteLaws.{below_is_cut, cut_is_noted, address_is_noted, address_is_whole, IsOneChunkAt}
+use Rattle.ffs_workspace.specs.{Tables.KeepsTable, declared.{table.Table.Table, workspace.Windows.Windows}}
+use Rattle.ffs_names.specs.{OneChunk.one_chunk_at, Readers.IsReaderReady, Readings.chunks_in}
+use Rattle.ffs_names.proofs.{DirCosts.runs_are, DirLaws.{dir_is, dir_size, dir_seen, shape_seen}, OneChunks.entries_by}
+use Rattle.ffs_names.proofs.OneChunks.{one_chunk_class, one_chunk_is, shape_by}
 
 -- a reading of this inode with this cut gives what the volume has of the directory d
 pub record IsReadAs (v : Layout) (b : List ℕ) (d : ℕ) (i : Inode) (cut : ℕ) : Type 0 where

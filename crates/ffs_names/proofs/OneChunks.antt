@@ -8,15 +8,14 @@ use Rattle.ffs_volume.specs.Blocks.{Inodes.class_of, Steps.{data_step, steps_at,
 use Rattle.ffs_volume.specs.Directories.{Entries.{bytes_read, chunks_of, has_gap, run_chunks}, PathnameCheck.are_sound}
 use Rattle.ffs_volume.specs.{Directories.Roles.{RoledEntry, roled_chunk}, Disk.Areas.is_run_in_range}
 use Rattle.ffs_volume.specs.{Laws.Geometry.IsAcceptedLayout, Encodings.Replay.{fresh_replay, replayed_steps}}
-use Rattle.ffs_volume.specs.Encodings.ReplayCounts.{replayed_runs}
+use Rattle.ffs_volume.specs.{Encodings.ReplayCounts.replayed_runs, Directories.Calm.is_right_size}
 use Rattle.ffs_layout.specs.declared.geometry.Geometry.{Geometry}
 use Rattle.ffs_walk.{proofs.Counted.{top_held, top_unread}, specs.{Rests.{IsAtTop, IsOver}, Keepings.replay_in}}
 use Rattle.ffs_workspace.proofs.NoteLaws.{IsOneChunkAt}
 use Rattle.ffs_names.specs.{Costs.BeginsAtChunk, OneChunk.one_chunk_at, Readings.{chunks_in, gap_after}}
-use Rattle.ffs_names.specs.RunCursors.{cursor_chunks, reading_by}
-use Rattle.ffs_volume.specs.Directories.Calm.{is_right_size}
-use Rattle.ffs_names.{specs.declared.chunks.Chunks.Chunks, proofs.{Advances.{over_rest, over_runs}, Begins.all_taken}}
-use Rattle.ffs_names.proofs.{DirLaws.dir_parts, ReadCounts.{first_held, run_at_most}}
+use Rattle.ffs_names.specs.{RunCursors.{cursor_chunks, reading_by}, declared.chunks.Chunks.Chunks}
+use Rattle.ffs_names.proofs.{Advances.{over_rest, over_runs}, Begins.all_taken, DirLaws.dir_parts}
+use Rattle.ffs_names.proofs.ReadCounts.{first_held, run_at_most}
 
 one : (q b : ℕ) → 512 ≤ q * b → q * b < 512 + b → 512 ≤ b → q ≡ 1
 one zero b low high big = absurd (omega arith)

@@ -1,11 +1,11 @@
 -- What is noted of places, entry by entry, chunk by chunk and directory by directory.
-use Rattle.std.proofs.Common.{◌≡◌, ◌≢◌, ℕ, zero, suc, ◌+◌, ◌*◌, ◌/◌, ◌<◌, ◌≤◌, ◌==◌, Bool, true, false, not, ◌&&◌}
-use Rattle.std.proofs.Common.{◌||◌, ◌⊎◌, List, [], ◌∷◌, length, Option, Some, None, refl, sym, ap, ◌∙◌, arith, inl, inr}
+use Rattle.std.proofs.Common.{◌≡◌, ◌≢◌, ℕ, zero, suc, ◌+◌, ◌*◌, ◌/◌, ◌<◌, ◌≤◌, ◌==◌, Bool, true, false, not, ◌&&◌, ◌||◌}
+use Rattle.std.proofs.Common.{◌⊎◌, List, [], ◌∷◌, length, Option, Some, None, refl, sym, ap, ◌∙◌, arith, inl, inr}
 use Rattle.std.proofs.Common.{flat_map, if◌then◌else◌, is_some, slice_index, slice_set, unwrap_or, vec_len}
 use Rattle.std.{specs.List.list_any, proofs.{Math.Bool.and-false, lemmas.Bool.{Decides.nat_tests, and_from, and_parts}}}
-use Rattle.std.proofs.lemmas.Bool.{both_ways, cases_eq, cond-false, eq-eqb, eqb-false, eqb-true, leb-true}
-use Rattle.std.proofs.lemmas.{Bool.{ltb-true, ne_eqb, not_from_false, not-true}, List.Folds.list_any-append}
-use Rattle.std.{proofs.lemmas.List.{get_or_past, get_or-set_other, get_or-set_same}, specs.declared.vec.Vec.Vec}
+use Rattle.std.proofs.lemmas.Bool.{both_ways, cases_eq, cond-false, eq-eqb, eqb-false, eqb-true, leb-true, ltb-true}
+use Rattle.std.proofs.lemmas.{Bool.{ne_eqb, not_from_false, not-true}, List.{Folds.list_any-append, get_or_past}}
+use Rattle.std.{proofs.lemmas.List.{get_or-set_other, get_or-set_same}, specs.declared.vec.Vec.Vec}
 use Rattle.std.specs.declared.alloc.Global.{Global}
 use Rattle.ffs_image.specs.Device.{Device}
 use Rattle.ffs_volume.proofs.{LevelLaws.{level-before, level-is, level-some, within-zero}, SearchLaws.first_below-none}
@@ -15,20 +15,17 @@ use Rattle.ffs_volume.specs.Directories.{Entries.{Chunk, Entry, chunk_of, entrie
 use Rattle.ffs_volume.specs.Directories.Graph.{is_naming_dir, is_naming_entry, level, level_edge, parent, parent_by}
 use Rattle.ffs_volume.specs.Directories.{Graph.reached, Climb.is_value, Parents.graph_of, Roles.{RoledEntry, is_dir}}
 use Rattle.ffs_volume.specs.Directories.{Roles.{role_of, roled_chunk, roled_entries, roled_from}, Volumes.volume_of}
-use Rattle.ffs_volume.specs.Directories.Volumes.{volume_with}
+use Rattle.ffs_volume.specs.{Directories.Volumes.volume_with, Blocks.Inodes.inodes_of}
+use Rattle.ffs_volume.specs.Encodings.Places.{entries_in_chunk, entries_in_part, is_due as is_to_be_read, name_in}
+use Rattle.ffs_volume.specs.Encodings.Places.{part_size, place_in, ArePlaces, AreNoted, IsNoted}
 use Rattle.ffs_walk.specs.declared.{blocks.Blocks.Blocks, window.Window.Window}
-use Rattle.ffs_workspace.proofs.Leaving.{counts_same}
-use Rattle.ffs_workspace.proofs.PlaceLaws.{any_naming-roled, name_in-after, name_in-among, name_in-roled}
-use Rattle.ffs_workspace.specs.{Holds.{HoldsClaims, HoldsSurvey}, Ready.IsReady}
-use Rattle.ffs_volume.specs.Blocks.Inodes.{inodes_of}
-use Rattle.ffs_workspace.specs.Places.{entries_in_chunk, entries_in_part, is_due, name_in, part_size, place_in, ArePlaces}
-use Rattle.ffs_workspace.specs.{Places.{AreNoted, IsNoted}, Tables.KeepsTable}
-use Rattle.ffs_workspace.proofs.PartLaws.{begins_part, lies_in_part, BeginsPart}
-use Rattle.ffs_names.{proofs.InParts.named_in_part, specs.{Fits.CursorFits, RunCursors.{last_place, StepsOn}}}
-use Rattle.ffs_names.specs.declared.run_cursor.RunCursor.{RunCursor}
+use Rattle.ffs_workspace.proofs.{Leaving.counts_same, PlaceLaws.{any_naming-roled, name_in-after, name_in-among}}
+use Rattle.ffs_workspace.{proofs.PlaceLaws.name_in-roled, specs.{Holds.{HoldsClaims, HoldsSurvey}, Ready.IsReady}}
+use Rattle.ffs_workspace.{specs.Tables.KeepsTable, proofs.PartLaws.{begins_part, lies_in_part, BeginsPart}}
 use Rattle.ffs_workspace.specs.declared.{table.Table.Table, workspace.Workspace.Workspace}
-use Rattle.ffs_names.specs.Noting.{is_child, is_found, BeginsNotes, IsParent, KeepsToRead, NotesChildren, NotesChunk}
-use Rattle.ffs_names.specs.{Noting.NotesEntries, Windows.CanReadChunks}
+use Rattle.ffs_names.{proofs.InParts.named_in_part, specs.{Fits.CursorFits, RunCursors.{last_place, StepsOn}}}
+use Rattle.ffs_names.specs.{declared.run_cursor.RunCursor.RunCursor, Noting.{is_child, is_found, BeginsNotes, IsParent}}
+use Rattle.ffs_names.specs.{Noting.{KeepsToRead, NotesChildren, NotesChunk, NotesEntries}, Windows.CanReadChunks}
 
 -- ---- entries of a chunk
 -- where no entry is left
@@ -288,7 +285,7 @@ places_after {v = v} {b = b} {w = w} {p = p} survey noted children right x q k t
           | inr named ↦ named ∙ ap (λ (n : ℕ). name_in x (roled_entries (volume_of v b) n)) (sym up)
         ]
 
--- a word is passed: no place changes
+-- a directory was read: no place changes
 pub places_same : (v : Layout) (b old new : List ℕ) →
     ((x : ℕ) → place_in (slice_index new x) ≡ place_in (slice_index old x)) → ArePlaces v b old → ArePlaces v b new
 places_same v b old new same right x p k there is = right x p k (sym (same x) ∙ there) is
@@ -332,19 +329,19 @@ pub ready_noted : {v : Layout} {d d'' : Device} {w : Workspace} {table : Table} 
     (record w { queue = queue; windows = record w.windows { table = table; blocks = blocks; current = chunk } })
 ready_noted d' first kept second can long r = grind arith
 
--- what is passed, where the directory of the next word isn't to be read any more
-pub passed_next : (old new : List ℕ) (i word : ℕ) → i < length old → is_due word ≡ false →
-    KeepsToRead (slice_set old i word) new → ((x : ℕ) → x < i → is_due (slice_index old x) ≡ false) → (x : ℕ) →
-    x < i + 1 → is_due (slice_index new x) ≡ false
-passed_next old new i word low passed keeps before x l = keeps x ∙ elim (cases_eq x i) [
-  | inl e ↦ rw (e, get_or-set_same old i word 0 low) passed
-  | inr o ↦ set_other is_due old i word x o ∙ before x (omega arith)
+-- what was read, where the directory of the next word isn't to be read any more
+pub read_next : (old new : List ℕ) (i word : ℕ) → i < length old → is_to_be_read word ≡ false →
+    KeepsToRead (slice_set old i word) new → ((x : ℕ) → x < i → is_to_be_read (slice_index old x) ≡ false) → (x : ℕ) →
+    x < i + 1 → is_to_be_read (slice_index new x) ≡ false
+read_next old new i word low was_read keeps before x l = keeps x ∙ elim (cases_eq x i) [
+  | inl e ↦ rw (e, get_or-set_same old i word 0 low) was_read
+  | inr o ↦ set_other is_to_be_read old i word x o ∙ before x (omega arith)
 ]
 
--- no word is due where none of those that there are is
-pub none_due : (ws : List ℕ) (n : ℕ) → length ws ≤ n → ((x : ℕ) → x < n → is_due (slice_index ws x) ≡ false) → (x : ℕ) →
-    is_due (slice_index ws x) ≡ false
-none_due ws n long passed x = grind (arith, get_or_past)
+-- no directory is to be read where none of those that there are is
+pub none_to_be_read : (ws : List ℕ) (n : ℕ) → length ws ≤ n → ((x : ℕ) → x < n → is_to_be_read (slice_index ws x) ≡ false) → (x : ℕ) →
+    is_to_be_read (slice_index ws x) ≡ false
+none_to_be_read ws n long was_read x = grind (arith, get_or_past)
 
 -- ---- directories that are reached
 -- p is the parent of x, a directory that is reached and isn't the root
@@ -388,7 +385,7 @@ level_under g x k h = go (first_below (level_edge g k x) g.count) refl
 -- a place is noted of each directory that is reached and isn't the root, or its parent is to be read
 abbrev pub AreComing : Layout → List ℕ → (words : List ℕ) → Type 0
 AreComing v b words = (x p : ℕ) → IsUnder (graph_of (volume_of v b)) x p →
-    IsNoted v b words x ⊎ ((place_in (slice_index words x) ≡ 0) × (is_due (slice_index words p) ≡ true))
+    IsNoted v b words x ⊎ ((place_in (slice_index words x) ≡ 0) × (is_to_be_read (slice_index words p) ≡ true))
 
 -- the number of a directory
 dir_number : (v : Layout) (b : List ℕ) (x : ℕ) → is_dir (volume_of v b) x ≡ true → (2 ≤ x) × (x < inodes_of v)
@@ -403,20 +400,20 @@ coming_first {v = v} {b = b} {w = w} {words = words} long begins survey x p unde
 -- after the directory d, which was to be read, is noted
 pub coming_noted : {v : Layout} {b : List ℕ} {w : Workspace} {mid new : List ℕ} {d : ℕ} (old : List ℕ) → HoldsSurvey v b
     w → ((x : ℕ) → place_in (slice_index mid x) ≡ place_in (slice_index old x)) → ((x : ℕ) → x ≢ d
-    → is_due (slice_index mid x) ≡ is_due (slice_index old x)) → (is_dir (volume_of v b) d ≡ true → NotesEntries v b
+    → is_to_be_read (slice_index mid x) ≡ is_to_be_read (slice_index old x)) → (is_dir (volume_of v b) d ≡ true → NotesEntries v b
     (is_child w.parents.items d) (roled_entries (volume_of v b) d) mid new) → NotesChildren w.parents.items mid new d →
     AreComing v b old → AreComing v b new
-coming_noted {v = v} {b = b} {w = w} {mid = mid} {new = new} {d = d} old survey same due noted children coming
+coming_noted {v = v} {b = b} {w = w} {mid = mid} {new = new} {d = d} old survey same others noted children coming
     x p under = go (cases_eq p d)
   where
     up : slice_index w.parents.items x ≡ p
     up = survey.tree.parents x ∙ ap (λ (o : Option ℕ). unwrap_or o 0) under.up
 
-    before : IsNoted v b mid x ⊎ ((place_in (slice_index mid x) ≡ 0) × (is_due (slice_index old p) ≡ true))
+    before : IsNoted v b mid x ⊎ ((place_in (slice_index mid x) ≡ 0) × (is_to_be_read (slice_index old p) ≡ true))
     before = elim (coming x p under) [ inl is ↦ inl (noted_still (same x) is) | inr w ↦ inr (same x ∙ w.0, w.1) ]
 
     go : (p ≡ d) ⊎ (p ≢ d) →
-        IsNoted v b new x ⊎ ((place_in (slice_index new x) ≡ 0) × (is_due (slice_index new p) ≡ true))
+        IsNoted v b new x ⊎ ((place_in (slice_index new x) ≡ 0) × (is_to_be_read (slice_index new p) ≡ true))
     go (inl e) =
         let link = and_parts (is_dir (volume_of v b) p) (list_any (is_naming_entry x) (roled_entries (volume_of v b) p))
         (and_parts (is_dir (volume_of v b) x) (is_naming_dir (graph_of (volume_of v b)) p x) under.link).1 in
@@ -430,32 +427,32 @@ coming_noted {v = v} {b = b} {w = w} {mid = mid} {new = new} {d = d} old survey 
         ap (λ (m : Bool). m && not (x == 2)) (ne_eqb (slice_index w.parents.items x) d (λ e. o (sym up ∙ e))) in
         elim before [
           | inl is ↦ inl (noted_still (children.others x child) is)
-          | inr w ↦ inr (children.others x child ∙ w.0, children.to_read p ∙ (due p o ∙ w.1))
+          | inr w ↦ inr (children.others x child ∙ w.0, children.to_read p ∙ (others p o ∙ w.1))
         ]
 
 -- where nothing is to be read any more, all are noted
-pub coming_end : (v : Layout) (b words : List ℕ) → ((x : ℕ) → x < inodes_of v → is_due (slice_index words x) ≡ false) →
+pub coming_end : (v : Layout) (b words : List ℕ) → ((x : ℕ) → x < inodes_of v → is_to_be_read (slice_index words x) ≡ false) →
     AreComing v b words → AreNoted v b words
 coming_end v b words none coming x k h = grind (arith, level_under, both_ways, dir_number, edge-parts)
 
 -- ---- what is to be read
 -- only parents are to be read: one more of them is, and one isn't any more
 abbrev pub OnlyParents : (parents ws : List ℕ) → Type 0
-OnlyParents parents ws = (p : ℕ) → is_due (slice_index ws p) ≡ true → IsParent parents p
+OnlyParents parents ws = (p : ℕ) → is_to_be_read (slice_index ws p) ≡ true → IsParent parents p
 
 pub only_more : (parents ws : List ℕ) (child i word : ℕ) → 2 < child → slice_index parents child ≡ i → 2 ≤ i →
     OnlyParents parents ws → OnlyParents parents (slice_set ws i word)
 only_more parents ws child i word above up low only p h = elim (cases_eq p i) [
   | inl e ↦ record { child = child; after_root = above; parent_is = up ∙ sym e; from_root = rw e low }
-  | inr o ↦ only p (sym (set_other is_due ws i word p o) ∙ h)
+  | inr o ↦ only p (sym (set_other is_to_be_read ws i word p o) ∙ h)
 ]
 
-pub only_fewer : (parents old new : List ℕ) (i word : ℕ) → i < length old → is_due word ≡ false →
+pub only_fewer : (parents old new : List ℕ) (i word : ℕ) → i < length old → is_to_be_read word ≡ false →
     KeepsToRead (slice_set old i word) new → OnlyParents parents old → OnlyParents parents new
-only_fewer parents old new i word low passed keeps only p h = elim (cases_eq p i) [
-  | inl e ↦ absurd (both_ways (is_due word) passed
-      (sym (ap is_due (get_or-set_same old i word 0 low)) ∙ (sym (keeps i) ∙ (rw e at h))))
-  | inr o ↦ only p (sym (set_other is_due old i word p o) ∙ (sym (keeps p) ∙ h))
+only_fewer parents old new i word low was_read keeps only p h = elim (cases_eq p i) [
+  | inl e ↦ absurd (both_ways (is_to_be_read word) was_read
+      (sym (ap is_to_be_read (get_or-set_same old i word 0 low)) ∙ (sym (keeps i) ∙ (rw e at h))))
+  | inr o ↦ only p (sym (set_other is_to_be_read old i word p o) ∙ (sym (keeps p) ∙ h))
 ]
 
 -- a parent that the survey found is a directory

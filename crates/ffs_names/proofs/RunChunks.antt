@@ -1,10 +1,8 @@
 -- The chunks of one Run, and how the chunks of the current Run are given one after the other.
-use Rattle.std.proofs.Common.{◌≡◌, ℕ, zero, suc, ◌+◌, ◌-◌, ◌*◌, ◌<◌, ◌≤◌, map, take, List, [], ◌∷◌, ◌++◌}
-use Rattle.std.{proofs.Common.{IsTrue, arith, refl, mul-le-mul_left, mul-le-mul_right}, specs.List.range_with_len}
-use Rattle.ffs_volume.{specs.Directories.Entries.{Chunk, ChunkSource, chunk_of}}
-use Rattle.ffs_volume.specs.{Directories.Entries.run_chunks, Disk.{Areas.is_run_in_range, Numbers.piece}}
-use Rattle.ffs_volume.specs.{Laws.Geometry.IsAcceptedLayout}
-use Rattle.ffs_volume.specs.declared.Layout.{Layout}
+use Rattle.std.proofs.Common.{◌≡◌, ℕ, zero, suc, ◌+◌, ◌-◌, ◌*◌, ◌<◌, ◌≤◌, map, take, List, [], ◌∷◌, ◌++◌, IsTrue, arith}
+use Rattle.std.{proofs.Common.{refl, mul-le-mul_left, mul-le-mul_right}, specs.List.range_with_len}
+use Rattle.ffs_volume.specs.{Directories.Entries.{Chunk, ChunkSource, chunk_of, run_chunks}, Disk.Areas.is_run_in_range}
+use Rattle.ffs_volume.specs.{Disk.Numbers.piece, Laws.Geometry.IsAcceptedLayout, declared.Layout.Layout}
 use Rattle.ffs_walk.proofs.{Areas.in_range-below, Ranges.range_step}
 use Rattle.ffs_names.specs.{RunCursors.cursor_chunks, declared.run_cursor.RunCursor.RunCursor}
 

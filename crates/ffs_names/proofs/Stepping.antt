@@ -4,8 +4,7 @@ use Rattle.ffs_volume.{proofs.Reading.{entries_end, entries_next}, specs.declare
 use Rattle.ffs_volume.specs.Directories.{Entries.entry_at, Roles.{role_of, roled_from}}
 use Rattle.ffs_layout.specs.{Entry.entry_value, declared.entry.Entry.Entry as CodeEntry}
 use Rattle.ffs_names.{proofs.Shaped.{fills_from, fills_next}, specs.EntriesToCome.{entries_to_come, roled_to_come}}
-use Rattle.ffs_names.specs.EntriesToCome.{GivesWithIndex}
-use Rattle.ffs_names.specs.declared.chunk_entries.ChunkEntries.{ChunkEntries}
+use Rattle.ffs_names.specs.{EntriesToCome.GivesWithIndex, declared.chunk_entries.ChunkEntries.ChunkEntries}
 
 pub left_on : {old new : ChunkEntries} {given : ℕ × CodeEntry} → GivesWithIndex old given new →
     entries_to_come old ≡ entry_value given.1 ∷ entries_to_come new

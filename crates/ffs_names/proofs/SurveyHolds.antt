@@ -1,21 +1,18 @@
 -- A survey fills a workspace.
-use Rattle.std.proofs.Common.{◌≡◌, ◌∙◌, ◌+◌, ◌≤◌, ℕ, Bool, true, List, Option, Some, None, IfNone, ap, arith, length, min}
-use Rattle.std.proofs.{Common.{slice_index, sym, refl}, lemmas.Bool.and_parts}
-use Rattle.std.specs.Result.{is_ok}
+use Rattle.std.proofs.Common.{◌≡◌, ◌∙◌, ◌+◌, ◌≤◌, ℕ, Bool, true, List, Option, Some, None, IfNone, ap, arith, length}
+use Rattle.std.{proofs.{Common.{min, slice_index, sym, refl}, lemmas.Bool.and_parts}, specs.Result.is_ok}
 use Rattle.std.specs.Prelude.{Result, Ok, Err, OnOk}
 use Rattle.ffs_image.specs.Device.{ForContents}
 use Rattle.ffs_volume.specs.{declared.Layout.Layout, Encodings.Kinds.kind_at, Directories.Parents.graph_of}
 use Rattle.ffs_volume.specs.Directories.{Roles.roled_entries, Volumes.{volume_of, volume_with}}
-use Rattle.ffs_volume.specs.Encodings.Links.{start_at}
-use Rattle.ffs_workspace.specs.Holds.{HoldsClaims, HoldsReferences, HoldsStarts}
-use Rattle.ffs_volume.specs.Blocks.Inodes.{inodes_of}
-use Rattle.ffs_workspace.{proofs.Leaving.counts_surveyed, specs.{Holds.HoldsTree, Leaves.LeavesBlockCheck}}
+use Rattle.ffs_volume.specs.{Encodings.Links.start_at, Blocks.Inodes.inodes_of, Directories.Calm.is_right_directory}
+use Rattle.ffs_workspace.specs.Holds.{HoldsClaims, HoldsReferences, HoldsStarts, HoldsTree}
+use Rattle.ffs_workspace.{proofs.Leaving.counts_surveyed, specs.Leaves.LeavesBlockCheck}
 use Rattle.ffs_workspace.specs.declared.workspace.Workspace.{Workspace}
 use Rattle.ffs_survey.specs.{Calm.AreCalm, SurveyLaws.references_is, Survey.{graph_with, most_start, references_to}}
 use Rattle.ffs_survey.specs.Survey.{IsSurvey}
-use Rattle.ffs_names.specs.{Readers.{Base, dir_entries, dir_right_shape}, Surveys.FlagsCalm}
-use Rattle.ffs_names.proofs.{DirLaws.kind_dirs, SameGraphs.survey_same}
-use Rattle.ffs_volume.specs.Directories.Calm.{is_right_directory}
+use Rattle.ffs_names.{specs.{Readers.{Base, dir_entries, dir_right_shape}, Surveys.FlagsCalm}, proofs.DirLaws.kind_dirs}
+use Rattle.ffs_names.proofs.SameGraphs.{survey_same}
 
 pub none_ended : {T A : Type 0} {K : A → Type 0} (o : Option T) (P : A → Type 0) → ((b : A) → K b → IfNone o (P b))
     → IfNone o ((b : A) → K b → P b)

@@ -1,8 +1,7 @@
 -- Directories of which nothing can be reported, by the bytes of an image, and that a survey flags them.
 use Rattle.std.specs.Prelude.{◌≡◌, ℕ, true, List}
-use Rattle.ffs_volume.specs.{declared.Layout.Layout, Encodings.Lists.bool_at}
+use Rattle.ffs_volume.specs.{declared.Layout.Layout, Encodings.Lists.bool_at, Directories.Calm.is_calm_directory}
 use Rattle.ffs_workspace.specs.declared.workspace.Workspace.{Workspace}
-use Rattle.ffs_volume.specs.Directories.Calm.{is_calm_directory}
 
 -- each of them has a flag
 pub record FlagsEachCalm (v : Layout) (b : List ℕ) (w : Workspace) : Type 0 where

@@ -1,19 +1,17 @@
 -- How many reads of the image a reading of a directory still takes, and how many a directory takes in all.
-use Rattle.std.specs.Prelude.{◌≡◌, ℕ, ◌+◌, ◌<◌, ◌≤◌, ◌==◌, Bool, true, false, ◌&&◌, ◌||◌, nat_lt, if◌then◌else◌}
-use Rattle.std.specs.{Prelude.{List, ◌∷◌, Option}, List.flat_map}
+use Rattle.std.specs.Prelude.{◌≡◌, ℕ, ◌+◌, ◌<◌, ◌≤◌, ◌==◌, Bool, true, false, ◌&&◌, ◌||◌, nat_lt, if◌then◌else◌, List}
+use Rattle.std.specs.{Prelude.{◌∷◌, Option}, List.flat_map}
 use Rattle.ffs_image.specs.Device.{ForContents}
 use Rattle.ffs_volume.specs.declared.{Class.Class, Inode.Inode, Layout.Layout, Step.{Step, TheVariants.Run}}
-use Rattle.ffs_volume.specs.{Blocks.{Inodes.class_of, Steps.steps_of}, Directories.Entries.has_gap}
-use Rattle.ffs_volume.specs.Directories.{Roles.{roled_chunk, roled_entries}, Volumes.volume_of}
-use Rattle.ffs_volume.specs.Encodings.{Replay.{fresh_replay, replayed_steps}, ReplayCounts.replayed_runs}
-use Rattle.ffs_volume.specs.Report.Reads.{sweep_reads}
+use Rattle.ffs_volume.specs.{Blocks.{Inodes.class_of, Steps.steps_of}, Directories.{Entries.has_gap, Roles.roled_chunk}}
+use Rattle.ffs_volume.specs.{Directories.{Roles.roled_entries, Volumes.volume_of}, Encodings.Replay.fresh_replay}
+use Rattle.ffs_volume.specs.{Encodings.{Replay.replayed_steps, ReplayCounts.replayed_runs}, Report.Reads.sweep_reads}
+use Rattle.ffs_volume.specs.Report.DirectoryReads.{noted_cost, noted_costs}
 use Rattle.ffs_layout.specs.declared.geometry.Geometry.{Geometry}
 use Rattle.ffs_walk.specs.{Counts.{AreHeld, entered, unread}, declared.{blocks.Blocks.Blocks, window.Window.Window}}
 use Rattle.ffs_names.specs.{OneChunk.one_chunk_at, Readings.{chunks_in, gap_left, rest, runs_after, runs_left}}
-use Rattle.ffs_names.specs.{Readings.{BeginsAt, Continues}, RunCursors.IsWhole}
-use Rattle.ffs_names.specs.declared.{chunks.Chunks.Chunks, entries.Entries.Entries}
-use Rattle.ffs_names.specs.declared.run_cursor.RunCursor.{RunCursor}
-use Rattle.ffs_volume.specs.Report.DirectoryReads.{noted_cost, noted_costs}
+use Rattle.ffs_names.specs.{Readings.{BeginsAt, Continues}, RunCursors.IsWhole, declared.chunks.Chunks.Chunks}
+use Rattle.ffs_names.specs.declared.{entries.Entries.Entries, run_cursor.RunCursor.RunCursor}
 
 -- 1 where the current Run has chunks and is still to be read: none of them was given yet
 abbrev pub unread_run : RunCursor → ℕ

@@ -2,7 +2,7 @@
 use Rattle.std.specs.{Prelude.{ℕ, List, ◌≡◌, ◌<◌, ◌≤◌, ◌++◌, ◌+◌, ◌-◌, ◌*◌, ◌/◌, Option}, List.flat_map}
 use Rattle.ffs_image.specs.Device.{ForContents}
 use Rattle.ffs_volume.specs.{Disk.Numbers.piece, Directories.{Entries.entries_from, Roles.{RoledEntry, roled_from}}}
-use Rattle.ffs_volume.specs.Directories.Roles.{roled_chunk}
+use Rattle.ffs_volume.specs.{Directories.Roles.roled_chunk, declared.constants.TheConstants.{DIRBLKSIZ, DIRENT_HEADER}}
 use Rattle.ffs_names.specs.{Readings.rest, RunCursors.last_place, declared.entries.Entries.Entries}
 
 -- the entries to come of the current chunk
@@ -16,7 +16,7 @@ to_come b r = here r ++ flat_map roled_chunk (rest b r.chunks)
 
 -- at most how many entries are to come, whatever the image holds: 64 of 8 bytes for each chunk
 abbrev pub left : Entries → ℕ
-left r = 64 * r.chunks.budget + (512 - r.place) / 8
+left r = 64 * r.chunks.budget + (DIRBLKSIZ - r.place) / DIRENT_HEADER
 
 -- the name of the entry that it gave last
 abbrev pub last_name : Entries → List ℕ
@@ -24,19 +24,19 @@ last_name r = piece r.name_place r.name_len r.chunk
 
 -- the current chunk is what an image of these bytes has at its place
 abbrev pub IsHeld : List ℕ → Entries → Type 0
-IsHeld b r = r.chunk ≡ piece (last_place r.chunks.run_cursor) 512 b
+IsHeld b r = r.chunk ≡ piece (last_place r.chunks.run_cursor) DIRBLKSIZ b
 
 -- the current chunk is held so, if an entry of it may still come
 abbrev pub IsHeldIfLeft : List ℕ → Entries → Type 0
-IsHeldIfLeft b r = r.place < 512 → IsHeld b r
+IsHeldIfLeft b r = r.place < DIRBLKSIZ → IsHeld b r
 
 -- the current chunk is in the volume
 abbrev pub IsInside : Entries → Type 0
 IsInside r =
-    last_place r.chunks.run_cursor + 512 ≤ r.chunks.walk.geometry.layout.size * r.chunks.walk.geometry.layout.fsize
+    last_place r.chunks.run_cursor + DIRBLKSIZ ≤ r.chunks.walk.geometry.layout.size * r.chunks.walk.geometry.layout.fsize
 
 -- an entry was given. Its chunk lies in the volume, and is what an image of these contents has there;
 -- the same is supposed of the chunk before, if an entry of it might still come
 pub record GivesFromChunk (contents : Option (List ℕ)) (old new : Entries) : Type 0 where
   pub held : ForContents contents (λ b. IsHeldIfLeft b old → IsHeld b new)
-  pub inside : (old.place < 512 → IsInside old) → IsInside new
+  pub inside : (old.place < DIRBLKSIZ → IsInside old) → IsInside new

@@ -1,7 +1,6 @@
 -- The entries of a chunk that are still to come.
 use Rattle.std.specs.Prelude.{ℕ, ◌≡◌, ◌+◌, Bool, List, Option, None, Some}
-use Rattle.ffs_volume.specs.Directories.Entries.{Entry, entries_from, entry_at}
-use Rattle.ffs_volume.specs.Directories.Roles.{RoledEntry, roled_from}
+use Rattle.ffs_volume.specs.Directories.{Entries.{Entry, entries_from, entry_at}, Roles.{RoledEntry, roled_from}}
 use Rattle.ffs_layout.specs.{Entry.IsEntryAt, declared.entry.Entry.Entry as CodeEntry}
 use Rattle.ffs_names.specs.declared.chunk_entries.ChunkEntries.{ChunkEntries}
 

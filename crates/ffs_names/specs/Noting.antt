@@ -1,20 +1,19 @@
--- What chunks of a directory p note of the places of parent entries. Words are as in `Places` of
--- ffs_workspace, but the bit that says in phase 2 that the parent entry of a directory is due
--- (`is_due`) says here that the directory is a parent whose chunks are still to be read.
+-- What chunks of a directory p note of the places of parent entries. Words are as in the book's
+-- `Encodings/Places`, but the bit that says later that the parent entry of a directory is due
+-- (`is_due`) says here that the directory is a parent whose chunks are to be read (`is_to_be_read`).
 use Rattle.std.specs.Prelude.{◌≡◌, ◌⊎◌, ℕ, suc, ◌<◌, ◌≤◌, ◌^◌, ◌==◌, Bool, true, false, not, ◌&&◌, if◌then◌else◌, List}
 use Rattle.std.specs.{Prelude.{◌+◌, slice_index, length, vec_len, OnOk, Result}, List.list_any}
 use Rattle.std.specs.declared.{alloc.Global.Global, vec.Vec.Vec}
 use Rattle.ffs_image.specs.{Device.{Device, ForContents}, Reads.ReadAfter, declared.image.ImageFault.ImageFault}
 use Rattle.ffs_image.specs.declared.image.Image.{Ghosts}
 use Rattle.ffs_volume.specs.declared.{constants.TheConstants.ROOTINO, Layout.Layout}
-use Rattle.ffs_volume.specs.{Directories.{Graph.is_naming_entry, Roles.{RoledEntry, roled_entries}, Volumes.volume_of}}
-use Rattle.ffs_volume.specs.Encodings.Lists.{bool_at}
-use Rattle.ffs_workspace.specs.Places.{entries_in_part, is_due, name_in, place_in, AreNoted}
-use Rattle.ffs_workspace.specs.{Places.IsNoted, Holds.HoldsSurvey, Ready.IsReady}
-use Rattle.ffs_volume.specs.Blocks.Inodes.{inodes_of}
-use Rattle.ffs_workspace.specs.declared.workspace.{Windows.Windows, Workspace.Workspace}
+use Rattle.ffs_volume.specs.Directories.{Graph.is_naming_entry, Roles.{RoledEntry, roled_entries}, Volumes.volume_of}
+use Rattle.ffs_volume.specs.{Encodings.Lists.bool_at, Blocks.Inodes.inodes_of, Report.DirectoryReads.noted_cost}
+use Rattle.ffs_volume.specs.Encodings.Places.{entries_in_part, is_due as is_to_be_read, name_in, place_in, AreNoted}
+use Rattle.ffs_volume.specs.Encodings.Places.{IsNoted}
+use Rattle.ffs_workspace.specs.{Holds.HoldsSurvey, Ready.IsReady, declared.workspace.Windows.Windows}
+use Rattle.ffs_workspace.specs.declared.workspace.Workspace.{Workspace}
 use Rattle.ffs_names.specs.{Costs.{to_read, HoldsReading}, Sweeps.DirSweep, Windows.CanReadChunks}
-use Rattle.ffs_volume.specs.Report.DirectoryReads.{noted_cost}
 use Rattle.ffs_names.specs.declared.chunks.Chunks.{Chunks}
 
 -- a place that isn't 0 and has 31 bits can be noted for children of p, which isn't 0, by lists of one
@@ -62,7 +61,7 @@ is_found parents words p es x =
 
 -- what is to be read stays so
 abbrev pub KeepsToRead : (old new : List ℕ) → Type 0
-KeepsToRead old new = (x : ℕ) → is_due (slice_index new x) ≡ is_due (slice_index old x)
+KeepsToRead old new = (x : ℕ) → is_to_be_read (slice_index new x) ≡ is_to_be_read (slice_index old x)
 
 -- the place of a chunk of p with these entries is noted of each inode that is found in it, and of no other
 pub record NotesChunk (parents old new : List ℕ) (p place : ℕ) (es : List RoledEntry) : Type 0 where
@@ -110,10 +109,10 @@ pub record IsParent (parents : List ℕ) (p : ℕ) : Type 0 where
 pub record BeginsNotes (reached : List Bool) (parents : List ℕ) (words : Vec ℕ Global) : Type 0 where
   pub long : vec_len words ≡ length reached
   pub none : (x : ℕ) → place_in (slice_index words.items x) ≡ 0
-  pub low : (x : ℕ) → x < ROOTINO → is_due (slice_index words.items x) ≡ false
+  pub low : (x : ℕ) → x < ROOTINO → is_to_be_read (slice_index words.items x) ≡ false
   pub to_read : (x : ℕ) → ROOTINO < x → x < length reached → bool_at reached x ≡ true → ROOTINO ≤ slice_index parents x
-      → slice_index parents x < length reached → is_due (slice_index words.items (slice_index parents x)) ≡ true
-  pub only : (p : ℕ) → is_due (slice_index words.items p) ≡ true → IsParent parents p
+      → slice_index parents x < length reached → is_to_be_read (slice_index words.items (slice_index parents x)) ≡ true
+  pub only : (p : ℕ) → is_to_be_read (slice_index words.items p) ≡ true → IsParent parents p
 
 -- what the survey found is held with the places, and a place is noted of each directory that is
 -- reached and isn't the root
@@ -144,9 +143,9 @@ pub record LeavesChildren {T : Type 0} (v : Layout) (p : ℕ) (old new : DirSwee
   pub children : NotesChildren old.workspace.parents.items old.workspace.queue.items new.workspace.queue.items p
 
 -- what a call leaves that notes all places: only the windows and `queue` change, the workspace is ready,
--- the image was only read, and no word is due where no read failed
+-- the image was only read, and where no read failed nothing is to be read any more: no parent entry is due
 pub record LeavesPlaces {T : Type 0} (v : Layout) (old new : DirSweep) (result : Result T ImageFault) : Type 0 where
   pub lists : new.workspace ≡ record old.workspace { windows = new.workspace.windows; queue = new.workspace.queue }
   pub ready : IsReady v new.image new.workspace
   pub read : ReadAfter old.image new.image result
-  pub none_due : OnOk result ((x : ℕ) → is_due (slice_index new.workspace.queue.items x) ≡ false)
+  pub none_due : OnOk result ((x : ℕ) → is_to_be_read (slice_index new.workspace.queue.items x) ≡ false)

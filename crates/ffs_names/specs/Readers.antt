@@ -3,11 +3,10 @@ use Rattle.std.specs.Prelude.{◌≡◌, ◌*◌, ◌≤◌, ℕ, List, [], Opti
 use Rattle.std.specs.{Prelude.length, Borrow.GName}
 use Rattle.ffs_image.specs.Device.{Device}
 use Rattle.ffs_volume.specs.{declared.Layout.Layout, Directories.Roles.{RoledEntry, is_dir, roled_entries}}
-use Rattle.ffs_volume.specs.{Directories.Volumes.volume_of, Encodings.Kinds.kind_at}
+use Rattle.ffs_volume.specs.{Directories.Volumes.volume_of, Encodings.{Kinds.kind_at, Notes.note_at}}
+use Rattle.ffs_volume.specs.{Blocks.Inodes.inodes_of, Directories.Calm.is_right_directory}
 use Rattle.ffs_workspace.specs.{Tables.IsTableOf, declared.workspace.Windows.Windows}
-use Rattle.ffs_volume.specs.{Encodings.Notes.note_at, Blocks.Inodes.inodes_of}
 use Rattle.ffs_walk.specs.Windows.{BlocksHold, WindowHolds}
-use Rattle.ffs_volume.specs.Directories.Calm.{is_right_directory}
 
 -- what a reader of directories is over: a layout, the image's bytes where it gives them, the kinds
 -- of inodes and what is noted of them, and what it was lent

@@ -2,12 +2,12 @@
 use Rattle.std.specs.{Prelude.{◌≡◌, ◌⊎◌, ℕ, ◌+◌, ◌-◌, ◌*◌, ◌≤◌, List, [], map, Option}, List.range_with_len}
 use Rattle.ffs_image.specs.Device.{ForContents}
 use Rattle.ffs_volume.specs.{declared.Layout.Layout, Disk.Numbers.piece, Directories.Entries.{Chunk, ChunkSource}}
-use Rattle.ffs_volume.specs.Directories.Entries.{chunk_of, run_chunks}
+use Rattle.ffs_volume.specs.{Directories.Entries.{chunk_of, run_chunks}, declared.constants.TheConstants.DIRBLKSIZ}
 use Rattle.ffs_names.specs.{declared.run_cursor.RunCursor.RunCursor, Fits.CursorFits}
 
 -- the chunks of the current Run, in an image of these bytes
 abbrev pub cursor_chunks : Layout → List ℕ → RunCursor → List Chunk
-cursor_chunks v b cursor = map (λ k. chunk_of v.order (cursor.offset + 512 * k) (piece (cursor.place + 512 * k) 512 b))
+cursor_chunks v b cursor = map (λ k. chunk_of v.order (cursor.offset + DIRBLKSIZ * k) (piece (cursor.place + DIRBLKSIZ * k) DIRBLKSIZ b))
     (range_with_len cursor.next (cursor.count - cursor.next))
 
 -- how a directory is read in an image of these bytes, where this many bytes of it are
@@ -31,12 +31,12 @@ pub record BeginsRun (v : Layout) (bytes_to_read start len block : ℕ) (cursor 
 
 -- where in the image the chunk is that was given last, in bytes
 abbrev pub last_place : RunCursor → ℕ
-last_place cursor = cursor.place + 512 * (cursor.next - 1)
+last_place cursor = cursor.place + DIRBLKSIZ * (cursor.next - 1)
 
 -- a chunk is what an image of these contents has at that place, in the volume
 pub record IsGivenChunk (v : Layout) (contents : Option (List ℕ)) (cursor : RunCursor) (chunk : List ℕ) : Type 0 where
-  pub bytes : ForContents contents (λ b. chunk ≡ piece (last_place cursor) 512 b)
-  pub inside : last_place cursor + 512 ≤ v.size * v.fsize
+  pub bytes : ForContents contents (λ b. chunk ≡ piece (last_place cursor) DIRBLKSIZ b)
+  pub inside : last_place cursor + DIRBLKSIZ ≤ v.size * v.fsize
 
 -- none of the chunks of the current Run was given yet, or all were
 abbrev pub IsWhole : RunCursor → Type 0

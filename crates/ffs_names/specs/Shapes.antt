@@ -1,18 +1,16 @@
 -- What a reading of a directory shows of its shape.
 use Rattle.std.specs.Prelude.{◌≡◌, ◌<◌, ◌≤◌, ◌^◌, ℕ, ◌+◌, ◌==◌, Bool, true, false, not, ◌&&◌, ◌||◌, List, [], ◌∷◌}
 use Rattle.std.specs.{Prelude.{sum_by, Option, is_some, MatchOption, IfNone}, List.flat_map}
-use Rattle.ffs_volume.specs.{declared.{Class.Class, Layout.Layout, Inode.Inode}, Blocks.{Inodes.class_of, Steps.steps_of}}
-use Rattle.ffs_volume.specs.declared.constants.TheConstants.{DIRBLKSIZ}
-use Rattle.ffs_volume.specs.Directories.Entries.{entries_from, entry_at, has_gap}
-use Rattle.ffs_volume.specs.{Directories.{Roles.roled_chunk, PathnameCheck.are_sound}, Encodings.Replay.fresh_replay}
-use Rattle.ffs_volume.specs.Encodings.{Replay.replayed_steps, ReplayCounts.replayed_runs}
+use Rattle.ffs_volume.specs.{declared.{Class.Class, Layout.Layout, Inode.Inode}, Blocks.Inodes.class_of}
+use Rattle.ffs_volume.specs.{Blocks.Steps.steps_of, declared.constants.TheConstants.DIRBLKSIZ}
+use Rattle.ffs_volume.specs.Directories.{Entries.{entries_from, entry_at, has_gap}, Roles.roled_chunk}
+use Rattle.ffs_volume.specs.{Directories.PathnameCheck.are_sound, Encodings.Replay.{fresh_replay, replayed_steps}}
+use Rattle.ffs_volume.specs.{Encodings.ReplayCounts.replayed_runs, Directories.Calm.is_right_size}
 use Rattle.ffs_layout.specs.declared.geometry.Geometry.{Geometry}
 use Rattle.ffs_walk.specs.declared.{blocks.Blocks.Blocks, window.Window.Window}
 use Rattle.ffs_survey.specs.{declared.entry_head.EntryHead.EntryHead, Reading.roled_of}
-use Rattle.ffs_names.specs.{Readings.{rest, gap_left, chunks_in}, Entering.to_come}
-use Rattle.ffs_volume.specs.Directories.Calm.{is_right_size}
-use Rattle.ffs_names.specs.{Entering.{last_name, left}, Costs.{reads_for_entries, HoldsEntries}}
-use Rattle.ffs_names.specs.declared.entries.Entries.{Entries}
+use Rattle.ffs_names.specs.{Readings.{rest, gap_left, chunks_in}, Entering.{to_come, last_name, left}}
+use Rattle.ffs_names.specs.{Costs.{reads_for_entries, HoldsEntries}, declared.entries.Entries.Entries}
 
 -- the entries of the current chunk fill it
 abbrev pub fills : Entries → Bool
@@ -35,7 +33,7 @@ pub record BeginsDirectory (v : Layout) (inode : Inode) (cut : ℕ) (r : Entries
   pub shape : (b : List ℕ) → inode.size < 2 ^ 31 → has_right_shape b r
       ≡ (is_right_size inode.size && (are_sound (chunks_in v b inode cut)
       && not (has_gap (replayed_steps v cut fresh_replay (steps_of v inode b)))))
-  pub place : r.place ≡ 512
+  pub place : r.place ≡ DIRBLKSIZ
   pub to_read : (b : List ℕ) → reads_for_entries b r ≤ replayed_runs v cut fresh_replay (steps_of v inode b)
   pub held : (blocks : Blocks) (w : Window) → HoldsEntries blocks w r
 
@@ -75,7 +73,7 @@ pub record IsChunkOver (old new : Entries) : Type 0 where
 pub record TakesEntry (old new : Entries) (head : EntryHead) : Type 0 where
   pub entries : (b : List ℕ) → to_come b old ≡ roled_of head (last_name new) ∷ to_come b new
   pub left : left new < left old
-  pub place : old.place < 512
+  pub place : old.place < DIRBLKSIZ
 
 -- what taking an entry of the current chunk leaves as it was
 pub record IsSameChunk (old new : Entries) : Type 0 where
@@ -84,7 +82,7 @@ pub record IsSameChunk (old new : Entries) : Type 0 where
   pub right_so_far : new.right_so_far ≡ old.right_so_far
   pub fills : fills new ≡ fills old
 
--- the next entry of the current chunk was taken, if one is left, and the rest of the reading is as it was
+-- the next entry of the current chunk was taken, if one is left, and all else of the reading is as it was
 pub record TakesFromChunk (old new : Entries) (answer : Option EntryHead) : Type 0 where
   pub taken : MatchOption answer (IsChunkOver old new) (TakesEntry old new)
   pub same : IsSameChunk old new

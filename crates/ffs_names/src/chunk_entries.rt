@@ -1,6 +1,7 @@
 //! The entries of a chunk, one after another.
 
 ghost use Rattle.std.specs.Prelude.{◌≡◌, ◌≤◌};
+ghost use Rattle.ffs_volume.specs.declared.constants.TheConstants.{DIRBLKSIZ};
 
 use ffs_layout::{Entry, entry_at};
 use ffs_volume::Order;
@@ -17,7 +18,7 @@ pub struct ChunkEntries<'a> {
     pub place: usize,
     /// How many entries are before `place`.
     pub index: usize,
-    ghost in_chunk: { place ≤ 512 },
+    ghost in_chunk: { place ≤ DIRBLKSIZ },
     ghost counted: { index ≤ place },
 }
 

@@ -2,9 +2,9 @@
 
 ghost use Rattle.std.specs.Prelude.{◌≡◌, ◌+◌, ◌-◌, ◌*◌, ◌/◌, ◌≤◌, ◌^◌, IfOk};
 ghost use Rattle.ffs_image.specs.Device.{ForContents};
-ghost use Rattle.ffs_names.specs.{OneChunk.one_chunk_at as one_chunk, Windows.CanWalkDir};
-ghost use Rattle.ffs_volume.specs.Directories.Calm.{is_right_size};
-ghost use Rattle.ffs_names.specs.Windows.{CanReadChunks};
+ghost use Rattle.ffs_names.specs.{OneChunk.one_chunk_at as one_chunk, Windows.{CanWalkDir, CanReadChunks}};
+ghost use Rattle.ffs_volume.specs.{Directories.Calm.is_right_size, declared.constants.TheConstants.DIRBLKSIZ};
+ghost use Rattle.ffs_volume.specs.declared.constants.TheConstants.{DIRENT_HEADER};
 ghost use Rattle.ffs_survey.specs.Costs.{TakesReads};
 ghost use Rattle.ffs_walk.specs.declared.window.Window.{Window};
 
@@ -40,10 +40,10 @@ pub struct Entries {
     pub name_place: usize,
     /// How many bytes that name has.
     pub name_len: usize,
-    ghost in_chunk: { place ≤ 512 },
+    ghost in_chunk: { place ≤ DIRBLKSIZ },
     ghost counted: { index ≤ place },
-    ghost few: { 64 * chunks.budget + (512 - place) / 8 ≤ 2 ^ 28 },
-    ghost name_in_chunk: { name_place + name_len ≤ 512 },
+    ghost few: { 64 * chunks.budget + (DIRBLKSIZ - place) / DIRENT_HEADER ≤ 2 ^ 28 },
+    ghost name_in_chunk: { name_place + name_len ≤ DIRBLKSIZ },
     ghost same_order: { order ≡ chunks.walk.geometry.layout.order },
 }
 

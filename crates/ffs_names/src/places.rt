@@ -5,15 +5,14 @@ ghost use Rattle.std.specs.{Prelude.vec_len, List.flat_map};
 ghost use Rattle.ffs_image.specs.Device.{ForContents};
 ghost use Rattle.ffs_layout.specs.Entry.{entry_value};
 ghost use Rattle.ffs_volume.specs.Directories.{Entries.entries_of, Roles.{is_dir, role_of as role_in, roled_chunk}};
-ghost use Rattle.ffs_volume.specs.Directories.{Roles.roled_from, Volumes.volume_of};
-ghost use Rattle.ffs_workspace.specs.{Holds.{HoldsClaims, HoldsSurvey}, Ready.IsReady};
-ghost use Rattle.ffs_volume.specs.Encodings.Notes.{note_at};
-ghost use Rattle.ffs_workspace.specs.Tables.{CanReadInode, TableAfter};
+ghost use Rattle.ffs_volume.specs.{Directories.{Roles.roled_from, Volumes.volume_of}, Encodings.Notes.note_at};
+ghost use Rattle.ffs_volume.specs.Report.DirectoryReads.{noted_cost, noted_costs};
+ghost use Rattle.ffs_workspace.specs.{Holds.{HoldsClaims, HoldsSurvey}, Ready.IsReady, Tables.CanReadInode};
+ghost use Rattle.ffs_workspace.specs.Tables.{TableAfter};
 ghost use Rattle.ffs_names.specs.Noting.{chunk_noting, is_child, BeginsNotes, CanNote, CanNoteChunks, CanNoteDirectory};
 ghost use Rattle.ffs_names.specs.Noting.{HoldsPlaces, LeavesChildren, LeavesNoted, LeavesPlaces, NotesDirectory};
-ghost use Rattle.ffs_names.specs.{Noting.{NotesEntries, NotesInWords}, Costs.BeginsChunks, Sweeps.dir_sweep};
-ghost use Rattle.ffs_volume.specs.Report.DirectoryReads.{noted_cost, noted_costs};
-ghost use Rattle.ffs_names.specs.{Costs.{BeginsReads, SweepsOnce}, Readings.rest};
+ghost use Rattle.ffs_names.specs.{Noting.{NotesEntries, NotesInWords}, Costs.{BeginsChunks, BeginsReads, SweepsOnce}};
+ghost use Rattle.ffs_names.specs.{Sweeps.dir_sweep, Readings.rest};
 
 use crate::chunk_entries::ChunkEntries;
 use crate::chunks::Chunks;
@@ -25,7 +24,8 @@ use ffs_memory::FilledList;
 use ffs_volume::constants::{DIRBLKSIZ, ROOTINO};
 use ffs_volume::{Class, Order, Role};
 use ffs_workspace::{
-    Table, Windows, Workspace, address_in, due, is_due, noted_part, passed, place_of, sweep_reads,
+    Table, Windows, Workspace, address_in, due as to_be_read, is_due as is_to_be_read, noted_part,
+    passed as was_read, place_of, sweep_reads,
 };
 
 /// Whether a directory is the parent of an inode other than the root, which has no parent entry.
@@ -186,7 +186,8 @@ fn note_directory<I: Image>(
 }
 
 /// Sets the top bit of the word of each directory that is the parent of a reached one: its chunks
-/// are still to be read. (Later in phase 2 the same bit says *due*.) No place is noted.
+/// are to be read. (Once the places are noted the same bit says that its parent entry is due.) No
+/// place is noted yet.
 fn flag_parents(reached: &[bool], parents: &FilledList<u32>, words: &mut FilledList<u32>)
     requires lengths { (vec_len parents.now ≡ length reached.now)
         × (vec_len words.old ≡ length reached.now) × (length reached.now < 2 ^ 31) }
@@ -198,7 +199,7 @@ fn flag_parents(reached: &[bool], parents: &FilledList<u32>, words: &mut FilledL
         let parent = parents[number as usize];
         if reached[number as usize] && (ROOTINO..count).contains(&parent) {
             let index = parent as usize;
-            words.set(index, due(words[index]));
+            words.set(index, to_be_read(words[index]));
         }
     }
 }
@@ -227,10 +228,8 @@ fn note_all<I: Image>(
     flag_parents(&workspace.reached, &workspace.parents, &mut workspace.queue);
     for dir in ROOTINO..geometry.layout.ncg * geometry.layout.ipg {
         let word = workspace.queue[dir as usize];
-        // Here a word is due where its directory is a parent whose chunks are still to be read
-        // (`flag_parents`); later in phase 2, where a directory's parent entry is still to come.
-        if is_due(word) {
-            workspace.queue.set(dir as usize, passed(word));
+        if is_to_be_read(word) {
+            workspace.queue.set(dir as usize, was_read(word));
             note_directory(geometry, image, workspace, dir)?;
         }
     }
@@ -239,7 +238,7 @@ fn note_all<I: Image>(
 
 /// Notes in `queue`, of each directory that is reached from the root, where its parent entry is in
 /// the image (`ffs_workspace::place_of`): then a path takes one read for each of its directories.
-/// Each of their parents is read once. No word is due afterwards. The windows change too.
+/// Each of their parents is read once. Afterwards no parent entry is due. The windows change too.
 ///
 /// # Errors
 /// A read of the image that failed.
@@ -263,8 +262,8 @@ pub fn note_places<I: Image>(
     let mut limited = LimitedImage::new(image, sweep_reads(geometry));
     let noted = note_all(geometry, &mut limited, workspace);
     if limited.is_spent() {
-        // Only an image that gives other bytes each time asks for more reads. Some words may still
-        // be due.
+        // Only an image that gives other bytes each time asks for more reads. By their words some
+        // directories may still be to be read.
         workspace.queue.fill(0);
         return Ok(());
     }

@@ -2,7 +2,7 @@
 
 ghost use Rattle.std.specs.Prelude.{◌≡◌, ◌+◌, ◌*◌, ◌≤◌, ◌^◌, OnOk};
 ghost use Rattle.ffs_image.specs.Device.{ForContents};
-ghost use Rattle.ffs_volume.specs.Disk.Numbers.{piece};
+ghost use Rattle.ffs_volume.specs.{Disk.Numbers.piece, declared.constants.TheConstants.DIRBLKSIZ};
 
 use ffs_image::{Image, ImageFault};
 use ffs_layout::Geometry;
@@ -23,8 +23,8 @@ pub struct RunCursor {
     /// How many chunks of the Run lie before the end of what is read of the directory.
     pub count: u32,
     ghost in_order: { next ≤ count },
-    ghost whole: { length ≡ 512 * count },
-    ghost in_file: { offset + 512 * count ≤ 2 ^ 31 },
+    ghost whole: { length ≡ DIRBLKSIZ * count },
+    ghost in_file: { offset + DIRBLKSIZ * count ≤ 2 ^ 31 },
 }
 
 impl RunCursor {
@@ -93,7 +93,7 @@ impl RunCursor {
     ) -> Result<(), ImageFault>
         requires { CanReadRun self.now (I.device image.old) window.old }
         ensures chunk { OnOk result (ForContents (I.device image.old).contents
-            (λ b. chunk.new ≡ piece (self.now.place + 512 * self.now.next) 512 b)) }
+            (λ b. chunk.new ≡ piece (self.now.place + DIRBLKSIZ * self.now.next) DIRBLKSIZ b)) }
         ensures leaves { LeavesRun self.now (run_reading I.Image image.old window.old)
             (run_reading I.Image image.new window.new) result }
     {

@@ -3,9 +3,8 @@
 ghost use Rattle.std.specs.Prelude.{◌≡◌, false, true, OnOk};
 ghost use Rattle.ffs_image.specs.Device.{ForContents};
 ghost use Rattle.ffs_workspace.specs.{Ready.IsReady, Holds.HoldsClaims};
-ghost use Rattle.ffs_names.specs.{Costs.SweepsOnce, Sweeps.dir_sweep};
-ghost use Rattle.ffs_names.specs.Surveys.{IsSurveyed, LeavesClaims, SurveysAll, SurveysNoMore};
-ghost use Rattle.ffs_names.specs.CalmDirs.{FlagsEachCalm};
+ghost use Rattle.ffs_names.specs.{Costs.SweepsOnce, Sweeps.dir_sweep, Surveys.{IsSurveyed, LeavesClaims, SurveysAll}};
+ghost use Rattle.ffs_names.specs.{Surveys.SurveysNoMore, CalmDirs.FlagsEachCalm};
 
 use crate::entries::Entries;
 use crate::reader::DirectoryReader;

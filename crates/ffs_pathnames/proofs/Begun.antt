@@ -1,21 +1,20 @@
 -- A directory that is begun, and how its lines continue.
 use Rattle.std.proofs.Common.{length, arith, ◌≡◌, ◌≤◌, suc, refl, sym, subst, ◌∙◌, ℕ, true, List, [], ◌++◌, map, Option}
 use Rattle.std.proofs.{Common.{Err, append-nil, ltb-true}, lemmas.{List.map-append, Bool.and_parts}}
-use Rattle.ffs_pathnames.proofs.{LineCounts.lines_long, LookLaws.quiet_silent, PassedLaws.size_of}
-use Rattle.ffs_pathnames.proofs.{PassedLaws.{IsDirectory, right_reported}, BetweenLaws.{unstamped, looked}}
-use Rattle.ffs_pathnames.proofs.BetweenLaws.{looked_right, quiet_next, reported_next}
-use Rattle.ffs_pathnames.specs.{declared.look.Examination.Examination, Examines.{IsExamined, LeavesAllButDue, StampsOwn}}
-use Rattle.ffs_pathnames.specs.{Begins.{AreFirstTwo, IsDirectoryBegun}, PassedRight.AreRightBefore}
-use Rattle.ffs_pathnames.specs.PassedNames.{PassedNames, are_quiet, entries_reported, after_entries}
+use Rattle.ffs_pathnames.proofs.{LineCounts.lines_long, LookLaws.quiet_silent, PassedLaws.{size_of, IsDirectory}}
+use Rattle.ffs_pathnames.proofs.{PassedLaws.right_reported, BetweenLaws.{unstamped, looked, looked_right, quiet_next}}
+use Rattle.ffs_pathnames.{proofs.BetweenLaws.reported_next, specs.declared.look.Examination.Examination}
+use Rattle.ffs_pathnames.specs.{Examines.{IsExamined, LeavesAllButDue, StampsOwn}, Begins.AreFirstTwo}
+use Rattle.ffs_pathnames.specs.{Begins.IsDirectoryBegun, PassedRight.AreRightBefore, PassedNames.PassedNames}
+use Rattle.ffs_pathnames.specs.PassedNames.{are_quiet, entries_reported, after_entries}
 use Rattle.ffs_volume.specs.{declared.Layout.Layout, Blocks.Inodes.inode_of, Directories.{Entries.Entry, Graph.parent}}
 use Rattle.ffs_volume.specs.Directories.{Parents.graph_of, Paths.dir_path, PathnameCheck.{attributes, sized_dir_lines}}
-use Rattle.ffs_volume.specs.Directories.{PathnameCheck.lines_of_entries, Roles.{Volume, is_dir, roled_entries}}
-use Rattle.ffs_volume.specs.Directories.PathnameCheck.{dir_header_lines, header_defects, header_lines}
-use Rattle.ffs_volume.specs.{Directories.{Roles.start_entry, Volumes.{volume_of, volume_with}}, Messages.Kinds.Message}
-use Rattle.ffs_volume.specs.Messages.Kinds.{TreeMessage, of_tree}
-use Rattle.ffs_report.{proofs.Reporting.{reports_knowing, reports_same}, specs.Known.ForBytes}
-use Rattle.ffs_report.specs.{Progress.Progress, PhaseOutcome.{ImageAfter, SaidOf, PhaseReports}}
-use Rattle.ffs_report.specs.declared.fault.RunFault.{RunFault, TheVariants.{Read, Out}}
+use Rattle.ffs_volume.specs.Directories.PathnameCheck.{lines_of_entries, dir_header_lines, header_defects, header_lines}
+use Rattle.ffs_volume.specs.Directories.{Roles.{Volume, is_dir, roled_entries, start_entry}, Volumes.volume_of}
+use Rattle.ffs_volume.specs.{Directories.Volumes.volume_with, Messages.Kinds.{Message, TreeMessage, of_tree}}
+use Rattle.ffs_report.{proofs.Reporting.{reports_knowing, reports_same}, specs.{Known.ForBytes, Progress.Progress}}
+use Rattle.ffs_report.specs.{PhaseOutcome.{ImageAfter, SaidOf, PhaseReports}, declared.fault.RunFault.RunFault}
+use Rattle.ffs_report.specs.declared.fault.RunFault.TheVariants.{Read, Out}
 use Rattle.ffs_image.specs.Device.{Device, Faulted}
 use Rattle.ffs_workspace.specs.declared.workspace.Workspace.{Workspace}
 

@@ -3,12 +3,11 @@ use Rattle.std.proofs.Common.{◌≡◌, ◌≢◌, ℕ, suc, ◌≤◌, true, f
 use Rattle.std.{proofs.Common.{slice_set, arith, sym, ◌∙◌, append_assoc, append-nil}, specs.List.list_any}
 use Rattle.std.proofs.lemmas.{List.{get_or-set_other, get_or-set_same, set_past}, Bool.Decides.nat_tests}
 use Rattle.std.proofs.{Math.Bool.or-false, lemmas.Bool.{and_parts, both_ways}}
-use Rattle.ffs_pathnames.{proofs.{FirstTwo.parent_edge, PassedLaws.IsDirectory}, specs.Silent.IsSilentDirectory}
-use Rattle.ffs_pathnames.proofs.{PassedLaws.{calm_roled, right_after}, LookLaws.{AreStamped, stamped_all}}
-use Rattle.ffs_pathnames.{proofs.LookLaws.{looks_all_long, suspects_flagged}, specs.PassedNames.{PassedNames, is_flagged_calm}}
-use Rattle.ffs_pathnames.specs.PassedNames.{is_flagged}
-use Rattle.ffs_pathnames.specs.PassedNames.{after_roled, after_entries, belongs, after_look, after_looks, are_quiet}
-use Rattle.ffs_pathnames.specs.PassedRight.{AreRight, AreRightBefore}
+use Rattle.ffs_pathnames.proofs.{FirstTwo.parent_edge, PassedLaws.{IsDirectory, calm_roled, right_after}}
+use Rattle.ffs_pathnames.{specs.Silent.IsSilentDirectory, proofs.LookLaws.{AreStamped, stamped_all, looks_all_long}}
+use Rattle.ffs_pathnames.{proofs.LookLaws.suspects_flagged, specs.PassedNames.{PassedNames, is_flagged_calm}}
+use Rattle.ffs_pathnames.specs.PassedNames.{is_flagged, after_roled, after_entries, belongs, after_look, after_looks}
+use Rattle.ffs_pathnames.specs.{PassedNames.are_quiet, PassedRight.{AreRight, AreRightBefore}}
 use Rattle.ffs_volume.specs.Directories.Roles.{Volume, RoledEntry, is_dir, is_suspect, roled_entries}
 use Rattle.ffs_volume.specs.Directories.{Parents.graph_of, Graph.{is_naming_entry, is_naming_dir, parent}}
 use Rattle.ffs_volume.proofs.{ClimbLaws.is_value-true, SearchLaws.some_below-suc}

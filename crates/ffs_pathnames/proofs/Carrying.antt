@@ -1,20 +1,18 @@
 -- What is known between two directories, carried from one to the next.
-use Rattle.std.proofs.Common.{◌≡◌, ◌-◌, ◌==◌, refl, sym, ap, ◌∙◌, ℕ, suc, Bool, true, false, ◌||◌}
-use Rattle.std.proofs.Common.{if◌then◌else◌, List, [], ◌++◌, map, get_or, Option, Some, arith, slice_index, Result, Ok}
-use Rattle.std.proofs.{Common.{Err, IfOk, inl, inr, ◌≤◌}, lemmas.Bool.{Decides.nat_tests, cases_Bool}}
-use Rattle.std.proofs.lemmas.List.{get_or_default, map-append}
+use Rattle.std.proofs.Common.{◌≡◌, ◌-◌, ◌==◌, refl, sym, ap, ◌∙◌, ℕ, suc, Bool, true, false, ◌||◌, if◌then◌else◌, List}
+use Rattle.std.proofs.Common.{[], ◌++◌, map, get_or, Option, Some, arith, slice_index, Result, Ok, Err, IfOk, inl, inr}
+use Rattle.std.proofs.{Common.◌≤◌, lemmas.{Bool.{Decides.nat_tests, cases_Bool}, List.{get_or_default, map-append}}}
 use Rattle.ffs_volume.specs.{declared.{Layout.Layout, Class.{Class, TheVariants.Dir}}, Laws.Geometry.IsAcceptedLayout}
-use Rattle.ffs_volume.specs.Directories.{Roles.{Volume, is_suspect}}
-use Rattle.ffs_volume.specs.Directories.PathnameCheck.{sized_dir_lines, continues_after_root, directory_lines}
-use Rattle.ffs_volume.specs.Directories.{PathnameCheck.{pathname_lines, root_lines, root_lines_of}, Volumes.volume_of}
-use Rattle.ffs_volume.specs.{Directories.Volumes.volume_with, Messages.Kinds.{TreeMessage, of_tree, lines_below}}
-use Rattle.ffs_volume.specs.{Messages.Kinds.lines_from, Blocks.Inodes.{is_directory, is_allocated}}
-use Rattle.ffs_volume.specs.Encodings.Kinds.{is_dir_kind, is_empty_dir_kind, is_allocated_kind}
-use Rattle.ffs_volume.proofs.{SearchLaws.some_below-none, Numbered.all_from_root, Sizes.some_inodes}
-use Rattle.ffs_workspace.specs.{declared.workspace.Workspace.Workspace, Lengths.IsFor, Holds.bool_at}
-use Rattle.ffs_volume.specs.Blocks.Inodes.{inodes_of}
-use Rattle.ffs_workspace.specs.{Holds.{HoldsClaims, HoldsReferences, HoldsSurvey}, Leaves.{LeavesSurvey}}
-use Rattle.ffs_workspace.proofs.{KindLaws.{reports_at, suspect_is}, Leaving.{claims_left, survey_left, leaves_all}}
+use Rattle.ffs_volume.specs.Directories.{Roles.{Volume, is_suspect}, PathnameCheck.sized_dir_lines}
+use Rattle.ffs_volume.specs.Directories.PathnameCheck.{continues_after_root, directory_lines, pathname_lines}
+use Rattle.ffs_volume.specs.Directories.{PathnameCheck.{root_lines, root_lines_of}, Volumes.{volume_of, volume_with}}
+use Rattle.ffs_volume.specs.{Messages.Kinds.{TreeMessage, of_tree, lines_below, lines_from}, Blocks.Inodes.is_directory}
+use Rattle.ffs_volume.specs.{Blocks.Inodes.{is_allocated, inodes_of}, Encodings.Kinds.{is_dir_kind, is_empty_dir_kind}}
+use Rattle.ffs_volume.{specs.Encodings.Kinds.is_allocated_kind, proofs.SearchLaws.some_below-none}
+use Rattle.ffs_volume.proofs.{Numbered.all_from_root, Sizes.some_inodes}
+use Rattle.ffs_workspace.specs.{declared.workspace.Workspace.Workspace, Lengths.IsFor, Holds.{bool_at, HoldsClaims}}
+use Rattle.ffs_workspace.{specs.{Holds.{HoldsReferences, HoldsSurvey}, Leaves.LeavesSurvey}, proofs.KindLaws.reports_at}
+use Rattle.ffs_workspace.proofs.{KindLaws.suspect_is, Leaving.{claims_left, survey_left, leaves_all}}
 use Rattle.ffs_pathnames.specs.{Gathers.passed_of, DirectoryContext.DirectoryContext, Before.{IsNonePassed, IsBefore}}
 use Rattle.ffs_pathnames.specs.{Before.{IsBeforeNoted, needs_check, root_reported}, Silent.IsSilentDirectory}
 use Rattle.ffs_pathnames.{specs.{PassedRight.AreRightBefore, Stamps.KeepPlaces}, proofs.Begun.directory_is}

@@ -1,20 +1,17 @@
 -- Which directories need a check in phase 2, by the bytes of the image.
-use Rattle.std.proofs.Common.{◌≡◌, ℕ, ◌+◌, ◌<◌, ◌≤◌, ◌*◌, ◌==◌, Bool, true, false, not, ◌&&◌, ◌||◌}
-use Rattle.std.proofs.Common.{List, [], ◌∷◌, ap, arith, inl, inr, refl, slice_index, length, get_or-set_same}
-use Rattle.std.proofs.{Common.{get_or-set_other, set}, lemmas.Bool.{both_ways, cases_Bool, Decides.nat_tests, true_from_ne_false}, lemmas.List.get_or_past}
-use Rattle.ffs_volume.specs.{declared.Layout.Layout, Encodings.Lists.bool_at}
-use Rattle.ffs_volume.specs.Directories.{PathnameCheck.is_sized_dir, Roles.{RoledEntry, Volume}, Volumes.{volume_of}}
-use Rattle.ffs_volume.proofs.SearchLaws.{some_below-from}
+use Rattle.std.proofs.Common.{◌≡◌, ℕ, ◌+◌, ◌<◌, ◌≤◌, ◌*◌, ◌==◌, Bool, true, false, not, ◌&&◌, ◌||◌, List, [], ◌∷◌, ap}
+use Rattle.std.proofs.Common.{arith, inl, inr, refl, slice_index, length, get_or-set_same, get_or-set_other, set}
+use Rattle.std.proofs.lemmas.{Bool.{both_ways, cases_Bool, true_from_ne_false, Decides.nat_tests}, List.get_or_past}
+use Rattle.ffs_volume.specs.{declared.Layout.Layout, Encodings.Lists.bool_at, Directories.PathnameCheck.is_sized_dir}
+use Rattle.ffs_volume.specs.Directories.{Roles.{RoledEntry, Volume}, Volumes.volume_of}
+use Rattle.ffs_volume.{proofs.SearchLaws.some_below-from, specs.Directories.Calm.is_calm_directory}
+use Rattle.ffs_volume.specs.Report.DirectoryReads.{directory_cost, noted_costs, is_looked_at, places_cost, costs_below}
 use Rattle.ffs_workspace.specs.{declared.workspace.Workspace.Workspace, Holds.HoldsClaims, Leaves.LeavesBlockCheck}
 use Rattle.ffs_names.specs.CalmDirs.{FlagsEachCalm}
-use Rattle.ffs_volume.specs.{Directories.Calm.is_calm_directory, Report.DirectoryReads.{directory_cost, noted_costs}}
 use Rattle.ffs_pathnames.specs.{Before.{IsNonePassed, needs_check}, ChecksNeeded.{ChecksLookedAt, KeepsFlags}}
-use Rattle.ffs_volume.specs.Report.DirectoryReads.{is_looked_at}
-use Rattle.ffs_volume.specs.Report.DirectoryReads.{places_cost}
 use Rattle.ffs_pathnames.specs.PassedNames.{PassedNames, after_entries, after_name, after_roled, is_flagged}
 use Rattle.ffs_pathnames.proofs.EmptyLaws.{looked_is}
 use Rattle.ffs_survey.proofs.Costs.{cost_skip, cost_take}
-use Rattle.ffs_volume.specs.Report.DirectoryReads.{costs_below}
 
 -- by a directory's kind, its mark and its flag
 not_needed : (k : ℕ) (sized marked calm flag old : Bool) → sized ≡ (k == 4) → (calm ≡ true → old ≡ true) →

@@ -3,17 +3,16 @@ use Rattle.std.proofs.Common.{◌≡◌, ◌≤◌, ap, append-nil, ℕ, IsTrue,
 use Rattle.ffs_image.specs.{Device.Device, declared.image.ImageFault.ImageFault}
 use Rattle.ffs_volume.specs.{declared.Layout.Layout, Directories.{Roles.{RoledEntry, Volume}, Volumes.volume_of}}
 use Rattle.ffs_volume.specs.{Messages.Kinds.{TreeMessage, of_tree}, Report.Reads.line_reads}
-use Rattle.ffs_report.specs.{Known.ForBytes, Progress.{Progress, Said, Stopped}}
-use Rattle.ffs_report.proofs.{Paying.{paid_reads, paid_says, paid_stops}, Reporting.{reads_first, says_all, stops_all}}
+use Rattle.ffs_report.{specs.{Known.ForBytes, Progress.{Progress, Said, Stopped}}, proofs.Paying.paid_reads}
+use Rattle.ffs_report.proofs.{Paying.{paid_says, paid_stops}, Reporting.{reads_first, says_all, stops_all}}
 use Rattle.ffs_report.specs.declared.fault.RunFault.{RunFault, TheVariants.{Read, Out}}
 use Rattle.ffs_workspace.specs.declared.workspace.Workspace.{Workspace}
-use Rattle.ffs_paths.specs.declared.kept_parent.KeptParent.{KeptParent}
+use Rattle.ffs_paths.specs.{declared.kept_parent.KeptParent.KeptParent, Reads.KnowsPlaces}
 use Rattle.ffs_pathnames.specs.{DirectoryContext.{DirectoryContext, KeepsPath, KnowsPath}, Ready.LimitedPathLeaves}
-use Rattle.ffs_pathnames.specs.{EntryLines.ReportsEntries, Moments.LinesMoment, declared.one_entry.EntryTexts.EntryTexts}
-use Rattle.ffs_pathnames.specs.PassedNames.{PassedNames, entries_reported, roled_reported}
-use Rattle.ffs_pathnames.{specs.LineReads.ReadsPathOnce, proofs.PathOnce.by_once}
+use Rattle.ffs_pathnames.specs.{EntryLines.ReportsEntries, Moments.LinesMoment}
+use Rattle.ffs_pathnames.specs.{declared.one_entry.EntryTexts.EntryTexts, PassedNames.{PassedNames, entries_reported}}
+use Rattle.ffs_pathnames.{specs.{PassedNames.roled_reported, LineReads.ReadsPathOnce}, proofs.PathOnce.by_once}
 use Rattle.ffs_pathnames.proofs.LineCounts.{by_line, knows_places, some_said}
-use Rattle.ffs_paths.specs.Reads.{KnowsPlaces}
 
 -- the moment at which an image, how often it was read, a workspace, a report and the texts are these
 abbrev pub entries_at : Device → ℕ → Workspace → Progress → EntryTexts → LinesMoment EntryTexts

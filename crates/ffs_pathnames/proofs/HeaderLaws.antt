@@ -1,9 +1,8 @@
 -- What is wrong with a directory before its entries, in the program and in the definitions.
-use Rattle.std.proofs.Common.{◌≡◌, refl, List, ℕ}
-use Rattle.std.specs.Borrow.{Bor}
-use Rattle.ffs_volume.specs.declared.verdict.{HeaderDefects.HeaderDefects, DotDefects.DotDefects}
-use Rattle.ffs_volume.specs.declared.verdict.DotDefects.TheVariants.{Missing, Other, Found}
-use Rattle.ffs_volume.specs.Directories.PathnameCheck.{is_none, is_right}
+use Rattle.std.{proofs.Common.{◌≡◌, refl, List, ℕ}, specs.Borrow.Bor}
+use Rattle.ffs_volume.specs.declared.verdict.{HeaderDefects.HeaderDefects, DotDefects.{DotDefects, TheVariants.Missing}}
+use Rattle.ffs_volume.specs.{declared.verdict.DotDefects.TheVariants.{Other, Found}, Directories.PathnameCheck.is_none}
+use Rattle.ffs_volume.specs.Directories.PathnameCheck.{is_right}
 use Rattle.ffs_pathnames.specs.HeaderValues.{dot_value, defects_value}
 
 right_value : (n : DotDefects (Bor (List ℕ))) → is_right (dot_value n) ≡ is_right n

@@ -1,11 +1,10 @@
 -- What a look at a directory leaves of the image that it was limited on, and of the reads that are left.
-use Rattle.std.{specs.Borrow.GName, proofs.Common.{◌≡◌, ◌≤◌, ◌+◌, ℕ, arith, Bool, Option, Some, None, IfSome}}
-use Rattle.std.proofs.{Common.{Result, Ok, Err, IfOk, MatchOption, MatchResult}}
+use Rattle.std.{specs.Borrow.GName, proofs.Common.{◌≡◌, ◌≤◌, ◌+◌, ℕ, arith, Bool, Option, Some, None, IfSome, Result}}
+use Rattle.std.proofs.Common.{Ok, Err, IfOk, MatchOption, MatchResult}
 use Rattle.ffs_survey.specs.Costs.{TakesReads}
 use Rattle.ffs_pathnames.specs.ReadsLeft.{TakesLeft}
-use Rattle.ffs_image.specs.{declared.image.ImageFault.ImageFault, Device.Device}
-use Rattle.ffs_image.specs.Limited.{GivesBackLent, lent_at, limited_device}
-use Rattle.ffs_image.{specs.Reads.ReadAfter, proofs.Limits.{ServedBy, read_over, served}}
+use Rattle.ffs_image.specs.{declared.image.ImageFault.ImageFault, Device.Device, Limited.{GivesBackLent, lent_at}}
+use Rattle.ffs_image.{specs.{Limited.limited_device, Reads.ReadAfter}, proofs.Limits.{ServedBy, read_over, served}}
 use Rattle.ffs_names.specs.Windows.{CanReadChunks}
 use Rattle.ffs_volume.specs.declared.Layout.{Layout}
 use Rattle.ffs_walk.specs.declared.{blocks.Blocks.Blocks, window.Window.Window}

@@ -1,12 +1,12 @@
 -- How many lines there are, and how many reads they make.
 use Rattle.std.proofs.Common.{◌≡◌, ◌≤◌, ◌+◌, ◌*◌, ℕ, refl, ap, subst, ◌∙◌, arith, List, [], ◌∷◌, ◌++◌, length}
-use Rattle.std.proofs.{Common.{append-nil, length-append, Ok, Option, map}, lemmas.{Bool.Decides.nat_tests, List.length-map}}
+use Rattle.std.proofs.{Common.{append-nil, length-append, Ok, Option, map}, lemmas.Bool.Decides.nat_tests}
+use Rattle.std.proofs.lemmas.List.{length-map}
 use Rattle.ffs_image.specs.Device.{Device}
 use Rattle.ffs_volume.specs.{declared.{Attr.Attr, Layout.Layout}, Report.Reads.line_reads, Directories.Entries.Entry}
 use Rattle.ffs_volume.specs.Directories.{PathnameCheck.extra_lines, Roles.{RoledEntry, Volume}}
-use Rattle.ffs_volume.specs.Messages.Kinds.{TreeMessage, of_tree}
-use Rattle.ffs_workspace.{specs.{Places.AreNoted, declared.workspace.Workspace.Workspace}, proofs.Leaving.claims_held}
-use Rattle.ffs_workspace.proofs.Leaving.{survey_held}
+use Rattle.ffs_volume.specs.{Messages.Kinds.{TreeMessage, of_tree}, Encodings.Places.AreNoted}
+use Rattle.ffs_workspace.{specs.declared.workspace.Workspace.Workspace, proofs.Leaving.{claims_held, survey_held}}
 use Rattle.ffs_paths.{specs.Reads.{KnowsPlaces, OnlyReads, ReadsFew}, proofs.Climbed.few_more}
 use Rattle.ffs_pathnames.specs.{DirectoryContext.DirectoryContext, PassedNames.{PassedNames, after_roled}}
 use Rattle.ffs_pathnames.specs.PassedNames.{entries_reported, roled_reported}

@@ -1,11 +1,9 @@
 -- A look at the entries of a chunk, and at the chunks of a directory, one after another.
-use Rattle.std.proofs.Common.{refl, ◌++◌, ◌≡◌, sym, ◌∙◌, ℕ, arith, Bool, ◌&&◌, List, []}
-use Rattle.std.proofs.{Common.{◌∷◌}, Math.Bool.{and-true, and_assoc}}
-use Rattle.std.{specs.List.flat_map}
+use Rattle.std.proofs.{Common.{refl, ◌++◌, ◌≡◌, sym, ◌∙◌, ℕ, arith, Bool, ◌&&◌, List, [], ◌∷◌}, Math.Bool.and-true}
+use Rattle.std.{proofs.Math.Bool.and_assoc, specs.List.flat_map}
 use Rattle.ffs_pathnames.specs.PassedNames.{is_quiet, are_quiet, after_look, after_looks}
-use Rattle.ffs_volume.{specs.Directories.Entries.{Chunk}}
-use Rattle.ffs_volume.specs.{Directories.{PathnameCheck.are_sound}}
-use Rattle.ffs_volume.specs.{Directories.Roles.{roled_chunk, Volume, RoledEntry}}
+use Rattle.ffs_volume.specs.Directories.{Entries.Chunk, PathnameCheck.are_sound, Roles.{roled_chunk, Volume}}
+use Rattle.ffs_volume.specs.Directories.Roles.{RoledEntry}
 
 -- ---- the entries of a chunk
 pub quiet_on : (v : Volume) (s : ℕ) (flags : List Bool) (stamps : List ℕ) {stamps' : List ℕ} {seen : RoledEntry} {es es' : List RoledEntry}

@@ -2,16 +2,14 @@
 use Rattle.std.proofs.Common.{◌≡◌, ◌≤◌, refl, sym, ap, ◌∙◌, ℕ, true, false, ◌==◌, List, length, Option, Some, None}
 use Rattle.std.{proofs.Common.{arith, ne_eqb, slice_index}, specs.{Option.unwrap_or, List.flat_map}}
 use Rattle.ffs_volume.specs.declared.{Layout.Layout, Class.{Class, TheVariants.{Partial, File, Dir}}, Inode.Inode}
-use Rattle.ffs_volume.specs.Blocks.{Inodes.{is_file_or_dir, is_allocated, is_unknown, inode_of}, Steps.steps_of}
-use Rattle.ffs_volume.{specs.{Laws.Geometry.IsAcceptedLayout, Directories.Climb.is_value}, proofs.CutLaws.replay_at}
-use Rattle.ffs_volume.specs.Directories.{Entries.{Chunk, has_gap}, Roles.{roled_chunk, roled_entries}}
-use Rattle.ffs_volume.specs.Directories.Volumes.{volume_of, volume_with, is_inode_number, chunk_source_of}
-use Rattle.ffs_volume.specs.Encodings.Replay.{cut_at, fresh_replay, replayed_steps}
-use Rattle.ffs_workspace.specs.{declared.workspace.Workspace.Workspace, Holds.HoldsClaims}
-use Rattle.ffs_volume.specs.Blocks.Inodes.{inodes_of}
-use Rattle.ffs_workspace.{specs.Holds.HoldsSurvey, proofs.KindLaws.{reports_at, dir_is, suspect_is, type_is, class_is}}
-use Rattle.ffs_workspace.proofs.NoteLaws.{cut_is_noted}
-use Rattle.ffs_volume.specs.Encodings.Notes.{cut_in}
+use Rattle.ffs_volume.specs.Blocks.Inodes.{is_file_or_dir, is_allocated, is_unknown, inode_of, inodes_of}
+use Rattle.ffs_volume.specs.{Blocks.Steps.steps_of, Laws.Geometry.IsAcceptedLayout, Directories.Climb.is_value}
+use Rattle.ffs_volume.{proofs.CutLaws.replay_at, specs.Directories.{Entries.{Chunk, has_gap}, Roles.roled_chunk}}
+use Rattle.ffs_volume.specs.Directories.{Roles.roled_entries, Volumes.{volume_of, volume_with, is_inode_number}}
+use Rattle.ffs_volume.specs.{Directories.Volumes.chunk_source_of, Encodings.Replay.{cut_at, fresh_replay}}
+use Rattle.ffs_volume.specs.Encodings.{Replay.replayed_steps, Notes.cut_in}
+use Rattle.ffs_workspace.specs.{declared.workspace.Workspace.Workspace, Holds.{HoldsClaims, HoldsSurvey}}
+use Rattle.ffs_workspace.proofs.{KindLaws.{reports_at, dir_is, suspect_is, type_is, class_is}, NoteLaws.cut_is_noted}
 use Rattle.ffs_names.specs.Readings.{chunks_in}
 use Rattle.ffs_pathnames.specs.{declared.inodes.Inodes.Inodes, Sees.Sees}
 

@@ -13,22 +13,19 @@ use Rattle.ffs_volume.specs.Directories.Entries.{Entry, Chunk, ChunkSource, chun
 use Rattle.ffs_volume.specs.Directories.Entries.{step_chunks, entries_of, is_sound, is_live, bytes_read}
 use Rattle.ffs_volume.specs.Directories.{Volumes.{volume_of, volume_with}, PathnameCheck.is_bad_whiteout}
 use Rattle.ffs_volume.specs.Directories.PathnameCheck.{dir_header_lines, dot_defects, dotdot_defects, header_defects}
-use Rattle.ffs_volume.specs.Directories.PathnameCheck.{header_of, is_none, is_right, is_role_silent, is_short, is_silent}
-use Rattle.ffs_volume.specs.Directories.PathnameCheck.{has_partial_chunk}
+use Rattle.ffs_volume.specs.Directories.PathnameCheck.{header_of, is_none, is_right, is_role_silent, is_short}
+use Rattle.ffs_volume.specs.Directories.PathnameCheck.{is_silent, has_partial_chunk, are_sound}
 use Rattle.ffs_volume.{specs.declared.verdict.DotDefects.DotDefects, proofs.VerdictLaws.{none_lines, silent_of}}
-use Rattle.ffs_volume.specs.Directories.{PathnameCheck.are_sound, Roles.{nth_entry, start_entry, Volume, RoledEntry}}
-use Rattle.ffs_volume.specs.Directories.Roles.{is_dir, is_suspect, is_plain, is_two_dots, role_of, roled_from}
-use Rattle.ffs_volume.specs.{Directories.Roles.{roled_chunk, roled_entries}, Encodings.Kinds.is_empty_dir_kind}
-use Rattle.ffs_volume.specs.Encodings.{Kinds.{is_allocated_kind, is_unknown_kind, type_of_kind}, Replay.cut_at}
-use Rattle.ffs_volume.specs.Encodings.Replay.{fresh_replay, replayed_steps}
+use Rattle.ffs_volume.specs.Directories.Roles.{nth_entry, start_entry, Volume, RoledEntry, is_dir, is_suspect, is_plain}
+use Rattle.ffs_volume.specs.Directories.Roles.{is_two_dots, role_of, roled_from, roled_chunk, roled_entries}
+use Rattle.ffs_volume.specs.Encodings.Kinds.{is_empty_dir_kind, is_allocated_kind, is_unknown_kind, type_of_kind}
+use Rattle.ffs_volume.specs.Encodings.{Kinds.dir_at, Replay.{cut_at, fresh_replay, replayed_steps}}
+use Rattle.ffs_volume.specs.Directories.Calm.{is_right_size, is_right_shape, are_calm, CurrentDir, is_calm_kind}
+use Rattle.ffs_volume.specs.Directories.Calm.{is_calm_plain, is_calm_role, is_calm_entry, reached_after}
 use Rattle.ffs_names.{specs.{RunCursors.reading_by, Surveys.FlagsCalm}, proofs.DirLaws.kind_dirs}
-use Rattle.ffs_volume.specs.Directories.Calm.{is_right_size, is_right_shape}
 use Rattle.ffs_workspace.specs.{declared.workspace.Workspace.Workspace, Lengths.IsFor, Holds.{bool_at, HoldsClaims}}
 use Rattle.ffs_workspace.{specs.Holds.HoldsSurvey, proofs.KindLaws.{reports_at, suspect_is, type_is}}
-use Rattle.ffs_survey.specs.{Survey.number_at, Calm.{dir_by, IsCalm}}
-use Rattle.ffs_volume.specs.{Encodings.Kinds.dir_at, Directories.Calm.{are_calm, CurrentDir, is_calm_kind}}
-use Rattle.ffs_volume.specs.Directories.Calm.{is_calm_plain, is_calm_role, is_calm_entry, reached_after}
-use Rattle.ffs_survey.proofs.CalmLaws.{calm_names_new, calm_new}
+use Rattle.ffs_survey.{specs.{Survey.number_at, Calm.{dir_by, IsCalm}}, proofs.CalmLaws.{calm_names_new, calm_new}}
 use Rattle.ffs_pathnames.{specs.Silent.IsSilentDirectory, proofs.SeesLaws.{chunks_are, chunks_read, settled}}
 use Rattle.ffs_pathnames.specs.PassedNames.{after_look, are_quiet, belongs, first_verdict, is_quiet}
 use Rattle.ffs_names.proofs.DirLaws as dirs

@@ -3,8 +3,8 @@ use Rattle.std.proofs.Common.{◌≡◌, ◌<◌, ◌≤◌, ◌-◌, ◌+◌, r
 use Rattle.std.proofs.Common.{slice_index}
 use Rattle.ffs_volume.specs.{declared.Layout.Layout, Laws.Geometry.IsAcceptedLayout, Directories.Volumes.volume_with}
 use Rattle.ffs_volume.specs.{Directories.{Volumes.volume_of, PathnameCheck.directory_lines}, Messages.Kinds.of_tree}
-use Rattle.ffs_volume.{specs.Messages.Kinds.lines_from, proofs.Numbered.from_next}
-use Rattle.ffs_workspace.specs.{declared.workspace.Workspace.Workspace, Lengths.IsFor, Places.is_due, Holds.{HoldsCounts, HoldsSurvey}}
+use Rattle.ffs_volume.{specs.{Messages.Kinds.lines_from, Encodings.Places.is_due}, proofs.Numbered.from_next}
+use Rattle.ffs_workspace.specs.{declared.workspace.Workspace.Workspace, Lengths.IsFor, Holds.{HoldsCounts, HoldsSurvey}}
 use Rattle.ffs_workspace.proofs.Leaving.{counts_same}
 use Rattle.ffs_pathnames.{specs.Before.{IsBefore, needs_check}, proofs.Carrying.{before_skipped, lines_skipped}}
 use Rattle.ffs_pathnames.proofs.StampLaws.{none_stamped, stamps_length}

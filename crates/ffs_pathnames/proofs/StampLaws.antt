@@ -1,14 +1,14 @@
 -- Stamps, where one word changes.
 use Rattle.std.proofs.Common.{arith, ◌≡◌, ℕ, zero, suc, Bool, true, false, if◌then◌else◌, refl, List, [], ◌∷◌, length}
-use Rattle.std.proofs.Common.{slice_index, slice_set, replicate, not, ◌&&◌, ◌==◌, ◌<◌, ◌≤◌, ◌∙◌, ap}
-use Rattle.std.proofs.{Common.eqb-true, Common.eq-eqb, Common.lt-ltb, lemmas.Bool.and_from, lemmas.Bool.and_parts}
-use Rattle.ffs_workspace.specs.{Leaves.LeavesSurvey, declared.workspace.Workspace.Workspace, Places.is_due}
-use Rattle.ffs_workspace.{specs.Places.place_in, specs.Places.AreNoted, proofs.PlaceLaws.zero_index}
-use Rattle.ffs_volume.specs.{declared.Layout.Layout, declared.Role.Role, Encodings.Kinds.is_dir_kind}
-use Rattle.ffs_volume.specs.Directories.{Entries.Entry, Roles.Volume, Roles.is_plain}
-use Rattle.ffs_pathnames.specs.{Examines.LeavesAllButDue, declared.inodes.Inodes.Inodes, Sees.Sees, Sees.passed_in}
+use Rattle.std.proofs.Common.{slice_index, slice_set, replicate, not, ◌&&◌, ◌==◌, ◌<◌, ◌≤◌, ◌∙◌, ap, eqb-true, eq-eqb}
+use Rattle.std.{proofs.{Common.lt-ltb, lemmas.Bool.{and_from, and_parts}}, specs.declared.alloc.Global.Global}
+use Rattle.std.specs.declared.vec.Vec.{Vec}
+use Rattle.ffs_workspace.specs.{Leaves.LeavesSurvey, declared.workspace.Workspace.Workspace}
+use Rattle.ffs_workspace.proofs.PlaceLaws.{zero_index}
+use Rattle.ffs_volume.specs.{Encodings.Places.{is_due, place_in, AreNoted}, declared.{Layout.Layout, Role.Role}}
+use Rattle.ffs_volume.specs.{Encodings.Kinds.is_dir_kind, Directories.{Entries.Entry, Roles.{Volume, is_plain}}}
+use Rattle.ffs_pathnames.specs.{Examines.LeavesAllButDue, declared.inodes.Inodes.Inodes, Sees.{Sees, passed_in}}
 use Rattle.ffs_pathnames.specs.{Sees.stamps_in, Stamps.{stamp_of, stamps_of, KeepPlaces, KeepsWords}}
-use Rattle.std.specs.declared.{alloc.Global.Global, vec.Vec.Vec}
 use Rattle.ffs_pathnames.specs.PassedNames.{after_look, after_roled}
 use Rattle.ffs_survey.specs.Survey.{suspect_at}
 

@@ -3,14 +3,14 @@ use Rattle.std.specs.Prelude.{◌≡◌, ◌<◌, ◌≤◌, ℕ, Bool, true, fa
 use Rattle.std.specs.Prelude.{Option, Some, slice_index, vec_len}
 use Rattle.ffs_image.specs.Device.{Device}
 use Rattle.ffs_volume.specs.{declared.{constants.TheConstants.DT_DIR, Layout.Layout}, Messages.Kinds.TreeMessage}
-use Rattle.ffs_volume.specs.Messages.Kinds.{reported}
-use Rattle.ffs_volume.specs.{Directories.Volumes.volume_of, Encodings.Kinds.{is_dir_kind, is_empty_dir_kind}}
+use Rattle.ffs_volume.specs.{Messages.Kinds.{reported, of_directory}, Directories.Volumes.volume_of}
+use Rattle.ffs_volume.specs.Encodings.Kinds.{is_dir_kind, is_empty_dir_kind}
+use Rattle.ffs_volume.specs.declared.tree_lines.DirectoryLine.TheVariants.{RootNone, RootNotDir, RootSuspect}
 use Rattle.ffs_workspace.specs.{declared.workspace.Workspace.Workspace, Leaves.LeavesSurvey}
-use Rattle.ffs_workspace.specs.{Places.AreNoted, Holds.{bool_at, HoldsClaims, HoldsSurvey}, Ready.IsReady}
+use Rattle.ffs_volume.specs.Encodings.Places.{AreNoted}
+use Rattle.ffs_workspace.specs.{Holds.{bool_at, HoldsClaims, HoldsSurvey}, Ready.IsReady}
 use Rattle.ffs_pathnames.specs.{Gathers.{AreAsLong, passed_of}, PassedRight.AreRightBefore}
 use Rattle.ffs_survey.specs.Survey.{suspect_at}
-use Rattle.ffs_volume.specs.declared.tree_lines.DirectoryLine.TheVariants.{RootNone, RootNotDir, RootSuspect}
-use Rattle.ffs_volume.specs.Messages.Kinds.{of_directory}
 
 -- what was found stays; the flags of suspect inodes are taken away, and no others; nothing is
 -- stamped; and a workspace that was ready still is

@@ -1,10 +1,9 @@
 -- Which directories need a check in phase 2, by the bytes of the image, and that a call takes away none of the
 -- flags by which others need none.
 use Rattle.std.specs.Prelude.{◌≡◌, ℕ, true, false, List}
-use Rattle.ffs_volume.specs.{declared.Layout.Layout, Encodings.Lists.bool_at}
+use Rattle.ffs_volume.specs.{declared.Layout.Layout, Encodings.Lists.bool_at, Report.DirectoryReads.is_looked_at}
 use Rattle.ffs_workspace.specs.declared.workspace.Workspace.{Workspace}
 use Rattle.ffs_pathnames.specs.Before.{needs_check}
-use Rattle.ffs_volume.specs.Report.DirectoryReads.{is_looked_at}
 
 -- only directories that are looked at need a check
 abbrev pub ChecksLookedAt : Layout → List ℕ → Workspace → Type 0

@@ -2,10 +2,9 @@
 use Rattle.std.specs.Prelude.{◌≡◌, ℕ, true, IsTrue, List, Option, Some}
 use Rattle.ffs_image.specs.Device.{Device}
 use Rattle.ffs_report.specs.Known.{ForBytes}
-use Rattle.ffs_volume.specs.{declared.Layout.Layout, Blocks.Inodes.inode_of}
-use Rattle.ffs_volume.specs.Directories.{Graph.Graph, Parents.graph_of, Roles.is_dir, Volumes.volume_of}
-use Rattle.ffs_workspace.specs.{declared.workspace.Workspace.Workspace, Holds.HoldsClaims, Holds.HoldsSurvey}
-use Rattle.ffs_workspace.specs.Places.{AreNoted}
+use Rattle.ffs_volume.specs.{declared.Layout.Layout, Blocks.Inodes.inode_of, Directories.Graph.Graph}
+use Rattle.ffs_volume.specs.{Directories.{Parents.graph_of, Roles.is_dir, Volumes.volume_of}, Encodings.Places.AreNoted}
+use Rattle.ffs_workspace.specs.{declared.workspace.Workspace.Workspace, Holds.{HoldsClaims, HoldsSurvey}}
 use Rattle.ffs_paths.specs.DirectoryPaths.{IsPathOf}
 use Rattle.ffs_pathnames.specs.declared.{look.Directory.Directory, header.HeaderFacts.HeaderFacts}
 use Rattle.ffs_pathnames.specs.declared.one_entry.EntryTexts.{EntryTexts}

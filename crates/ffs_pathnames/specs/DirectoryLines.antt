@@ -3,19 +3,16 @@ use Rattle.std.specs.Prelude.{◌≡◌, ℕ, ◌+◌, ◌*◌, ◌≤◌, true,
 use Rattle.ffs_report.specs.{Known.ForBytes, Paid.Paid, PhaseOutcome.{ImageAfter, PhaseReports}}
 use Rattle.ffs_report.specs.declared.fault.RunFault.{RunFault}
 use Rattle.ffs_volume.specs.{declared.Layout.Layout, Directories.{PathnameCheck.dir_header_lines, Roles.roled_entries}}
-use Rattle.ffs_volume.specs.Directories.{Roles.Volume, Volumes.volume_of}
-use Rattle.ffs_volume.specs.Report.Reads.{line_reads, path_reads, sweep_reads}
-use Rattle.ffs_volume.specs.Messages.Kinds.{TreeMessage, of_tree}
-use Rattle.ffs_volume.specs.Report.DirectoryReads.{directories_cost, directory_cost, directory_runs}
+use Rattle.ffs_volume.specs.{Directories.{Roles.Volume, Volumes.volume_of}, Report.Reads.{line_reads, path_reads}}
+use Rattle.ffs_volume.specs.{Report.Reads.sweep_reads, Messages.Kinds.{TreeMessage, of_tree}}
+use Rattle.ffs_volume.specs.Report.DirectoryReads.{directories_cost, directory_cost, directory_runs, looks_cost}
+use Rattle.ffs_volume.specs.{Report.DirectoryReads.places_cost, Encodings.Places.AreNoted}
 use Rattle.ffs_paths.specs.declared.kept_parent.KeptParent.{KeptParent}
-use Rattle.ffs_workspace.specs.Places.{AreNoted}
 use Rattle.ffs_workspace.specs.{Holds.{HoldsClaims, HoldsSurvey}, Leaves.LeavesBlockCheck, Ready.IsReady}
-use Rattle.ffs_pathnames.specs.ChecksNeeded.{ChecksLookedAt}
-use Rattle.ffs_volume.specs.Report.DirectoryReads.{looks_cost, places_cost}
-use Rattle.ffs_pathnames.specs.{Before.IsBefore, Gathers.passed_of, LineReads.{again_reads, ReadsByLines}}
-use Rattle.ffs_pathnames.specs.{DirectoryContext.KnowsHeader, HeaderValues.facts_lines, Moments.LinesMoment}
-use Rattle.ffs_pathnames.specs.{PassedNames.{are_quiet, directory_reported}, Ready.{LinesLeave, PhaseLeaves}}
-use Rattle.ffs_pathnames.specs.declared.{header.HeaderFacts.HeaderFacts, tree.Checking.Checking}
+use Rattle.ffs_pathnames.specs.{ChecksNeeded.ChecksLookedAt, Before.IsBefore, Gathers.passed_of, LineReads.again_reads}
+use Rattle.ffs_pathnames.specs.{LineReads.ReadsByLines, DirectoryContext.KnowsHeader, HeaderValues.facts_lines}
+use Rattle.ffs_pathnames.specs.{Moments.LinesMoment, PassedNames.{are_quiet, directory_reported}, Ready.LinesLeave}
+use Rattle.ffs_pathnames.specs.{Ready.PhaseLeaves, declared.{header.HeaderFacts.HeaderFacts, tree.Checking.Checking}}
 
 -- the lines on what was found of a directory before its entries are said, and the image is read for no more
 -- than these; any image for no more than the messages that were begun. All of the workspace but its windows

@@ -1,14 +1,12 @@
 -- What is reported of entries of a directory.
 use Rattle.std.specs.Prelude.{◌≡◌, ℕ, IsTrue, List, OnOk, Result, length, map}
-use Rattle.ffs_report.specs.{Paid.Paid, PhaseOutcome.PhaseReports, declared.fault.RunFault.RunFault}
-use Rattle.ffs_report.specs.Known.{ForBytes}
+use Rattle.ffs_report.specs.{Paid.Paid, PhaseOutcome.PhaseReports, declared.fault.RunFault.RunFault, Known.ForBytes}
 use Rattle.ffs_volume.specs.{declared.Layout.Layout, Directories.{Roles.{RoledEntry, Volume}, Volumes.volume_of}}
-use Rattle.ffs_volume.specs.{Messages.Kinds.{TreeMessage, of_tree}, Report.Reads.line_reads}
-use Rattle.ffs_workspace.specs.Places.{AreNoted}
-use Rattle.ffs_pathnames.specs.DirectoryContext.{DirectoryContext, KeepsPath, KnowsPath}
-use Rattle.ffs_pathnames.specs.{LineReads.{ReadsByLines, ReadsPathOnce}, declared.one_entry.EntryTexts.EntryTexts, Gathers.passed_of}
-use Rattle.ffs_pathnames.specs.{Moments.LinesMoment, PassedNames.{after_entries, entries_reported}}
-use Rattle.ffs_pathnames.specs.Ready.{LinesLeave, PhaseLeaves}
+use Rattle.ffs_volume.specs.{Messages.Kinds.{TreeMessage, of_tree}, Report.Reads.line_reads, Encodings.Places.AreNoted}
+use Rattle.ffs_pathnames.specs.{DirectoryContext.{DirectoryContext, KeepsPath, KnowsPath}, LineReads.ReadsByLines}
+use Rattle.ffs_pathnames.specs.{LineReads.ReadsPathOnce, declared.one_entry.EntryTexts.EntryTexts, Gathers.passed_of}
+use Rattle.ffs_pathnames.specs.{Moments.LinesMoment, PassedNames.{after_entries, entries_reported}, Ready.LinesLeave}
+use Rattle.ffs_pathnames.specs.Ready.{PhaseLeaves}
 
 -- lines of entries of the directory x are said, those of the volume; the path that is begun, if
 -- any, is still that of x, and made once; and the image is read for no more than these lines, any image

@@ -1,10 +1,9 @@
 -- What is wrong with a directory before its entries, by the values of the program.
 use Rattle.std.specs.{Prelude.{List, ℕ, option_map}, Borrow.Bor}
-use Rattle.ffs_volume.specs.declared.{verdict.{HeaderDefects.HeaderDefects, DotDefects.DotDefects}}
-use Rattle.ffs_volume.specs.declared.verdict.DotDefects.TheVariants.{Missing, Other, Found}
-use Rattle.ffs_volume.specs.Directories.PathnameCheck.{attributes, header_defects, header_lines}
-use Rattle.ffs_volume.specs.Directories.{Parents.graph_of, Paths.dir_path, Roles.Volume}
-use Rattle.ffs_volume.specs.Messages.Kinds.{TreeMessage}
+use Rattle.ffs_volume.specs.declared.verdict.{HeaderDefects.HeaderDefects, DotDefects.{DotDefects, TheVariants.Missing}}
+use Rattle.ffs_volume.specs.declared.verdict.DotDefects.TheVariants.{Other, Found}
+use Rattle.ffs_volume.specs.Directories.{PathnameCheck.{attributes, header_defects, header_lines}, Parents.graph_of}
+use Rattle.ffs_volume.specs.{Directories.{Paths.dir_path, Roles.Volume}, Messages.Kinds.TreeMessage}
 use Rattle.ffs_layout.specs.Entry.{entry_value}
 use Rattle.ffs_pathnames.specs.declared.header.HeaderFacts.{HeaderFacts}
 

@@ -5,7 +5,7 @@
 -- and what is reported by that, `Silent` of which directories nothing is reported, `PassedRight` that what is
 -- remembered is right, `Sees` what the lists of the workspace show of a volume.
 --
--- What calls rest on, and leave: `Moments` has the values that calls change, `DirectoryContext` what is known of
+-- What calls need, and leave: `Moments` has the values that calls change, `DirectoryContext` what is known of
 -- the bytes at a directory, `Ready` when paths can be made, `LineReads` how many reads lines take, `Gathers`
 -- what messages show, `Before` what is known between two directories, `ReadsLeft` how many reads are left for
 -- looks at them.

@@ -1,8 +1,7 @@
 -- How often lines read the image.
 use Rattle.std.specs.Prelude.{ℕ, ◌+◌, ◌*◌, ◌≤◌, if◌then◌else◌, List, length}
-use Rattle.ffs_volume.specs.{Messages.Kinds.TreeMessage, declared.Layout.Layout}
-use Rattle.ffs_volume.specs.Report.Reads.{line_reads, path_reads}
-use Rattle.ffs_workspace.specs.{Places.AreNoted}
+use Rattle.ffs_volume.specs.{Messages.Kinds.TreeMessage, declared.Layout.Layout, Report.Reads.{line_reads, path_reads}}
+use Rattle.ffs_volume.specs.Encodings.Places.{AreNoted}
 use Rattle.ffs_paths.specs.Reads.{ReadsFew}
 use Rattle.ffs_pathnames.specs.{Moments.PathMoment, declared.one_entry.EntryTexts.EntryTexts}
 

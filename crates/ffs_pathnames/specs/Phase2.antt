@@ -1,16 +1,14 @@
 -- What phase 2 leaves at its answer, and how often it reads the image.
-use Rattle.std.specs.Prelude.{◌≡◌, ◌⊎◌, ◌≤◌, ◌+◌, ◌*◌, ℕ, true, false, List, [], ◌∷◌, length, Result, Ok, Err, ⊤}
+use Rattle.std.specs.Prelude.{◌≡◌, ◌⊎◌, ◌≤◌, ◌+◌, ◌*◌, ℕ, true, false, List, [], ◌∷◌, length, map, Result, Ok, Err, ⊤}
 use Rattle.ffs_image.specs.Device.{Device}
-use Rattle.ffs_volume.specs.declared.Layout.{Layout}
-use Rattle.ffs_volume.specs.Directories.{PathnameCheck.{continues_after_root, pathname_lines}, Volumes.volume_of}
-use Rattle.ffs_volume.specs.{Messages.Kinds.phase2, Report.Reads.{line_reads, pathname_reads}}
+use Rattle.ffs_volume.specs.{declared.Layout.Layout, Directories.PathnameCheck.{continues_after_root, pathname_lines}}
+use Rattle.ffs_volume.specs.{Directories.Volumes.volume_of, Messages.Kinds.{of_tree, phase2}, Report.Reads.line_reads}
+use Rattle.ffs_volume.specs.Report.{Reads.pathname_reads, DirectoryReads.{directories_cost, phase2_cost}}
 use Rattle.ffs_report.specs.{Known.ForBytes, Progress.{Progress, Said}, declared.fault.RunFault.RunFault}
 use Rattle.ffs_report.specs.declared.fault.RunFault.TheVariants.{Read, Out}
-use Rattle.ffs_workspace.specs.{declared.workspace.Workspace.Workspace, Found.WithClaims}
-use Rattle.ffs_workspace.specs.Holds.{HoldsClaims, HoldsReferences, HoldsSurvey}
-use Rattle.ffs_volume.specs.Report.DirectoryReads.{directories_cost}
-use Rattle.ffs_volume.specs.Report.DirectoryReads.{phase2_cost}
-use Rattle.ffs_pathnames.specs.{RootAnswers.is_go, declared.pass2.Root.Root}
+use Rattle.ffs_workspace.specs.{declared.workspace.Workspace.Workspace, Found.WithClaims, Holds.HoldsClaims}
+use Rattle.ffs_workspace.specs.Holds.{HoldsReferences, HoldsSurvey}
+use Rattle.ffs_pathnames.specs.{RootAnswers.{SaidStop, is_go}, declared.pass2.Root.Root}
 
 -- the check continues after the root as the image's bytes say, and the workspace holds what the block
 -- check and the survey found, with the counts of references
@@ -20,20 +18,22 @@ pub record IsLeftByPhase2 (v : Layout) (bytes : List ℕ) (root : Root) (w : Wor
   pub survey : HoldsSurvey v bytes w
   pub references : HoldsReferences v bytes w
 
--- what phase 2 leaves at Ok; where a read failed, that the heading alone was said, or that the check
--- continues after the root
+-- what phase 2 leaves at Ok, and where the check stops after the root, that the heading and the root's message
+-- were said; where a read failed, that the heading alone was said, or that the check continues after the root
 abbrev pub Phase2Ends : Layout → Device → (w w' : Workspace) → (old new : Progress) → Result Root RunFault →
     Type 0
 Phase2Ends v d w w' old new (Ok root) =
     ForBytes (WithClaims v d w) (λ bytes. IsLeftByPhase2 v bytes root w')
+    × (is_go root ≡ false → SaidStop (WithClaims v d w) (phase2 ∷ [])
+    (λ bytes. phase2 ∷ map of_tree (pathname_lines (volume_of v bytes))) old new)
 Phase2Ends v d w w' old new (Err (Read fault)) = Said old new (phase2 ∷ [])
     ⊎ ForBytes (WithClaims v d w) (λ bytes. continues_after_root (volume_of v bytes) ≡ true)
 Phase2Ends v d w w' old new (Err (Out fault)) = ⊤
 
 -- An image that gives its bytes is read at most `pathname_reads` times. What a volume holds counts, too: its
 -- directories are read for the survey, for the places of parent entries, and twice for the messages. Where the
--- survey is the first, those of which nothing can be reported are not read for the messages; and where there are
--- no others, no places are noted either, so that each is read for the survey alone
+-- survey is the first, those of which nothing can be reported, and that aren't marked, are not read for the
+-- messages; and where there are no others, no places are noted either: each is read for the survey alone
 pub record Phase2Reads (v : Layout) (d : Device) (w : Workspace) (before after : ℕ) : Type 0 where
   pub known : ForBytes (WithClaims v d w) (λ bytes.
       after ≤ before + pathname_reads v (length (pathname_lines (volume_of v bytes))))

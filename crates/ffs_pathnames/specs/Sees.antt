@@ -1,13 +1,12 @@
 -- What the lists of a workspace show of a volume.
 use Rattle.std.specs.Prelude.{◌≡◌, ℕ, Bool, List, ◌<◌, ◌≤◌, ◌/◌, ◌==◌, true, false, length, slice_index}
-use Rattle.ffs_volume.specs.{Blocks.Inodes.is_allocated, Blocks.Inodes.is_unknown, Encodings.Kinds.class_of_kind}
-use Rattle.ffs_volume.specs.Directories.Roles.{Volume, is_dir, is_suspect}
-use Rattle.ffs_volume.specs.Directories.{Climb.is_value, Graph.parent, Parents.graph_of}
-use Rattle.ffs_volume.specs.Encodings.Kinds.{is_dir_kind, is_allocated_kind, is_unknown_kind, type_of_kind}
+use Rattle.ffs_volume.specs.{Blocks.Inodes.{is_allocated, is_unknown}, Encodings.Kinds.{class_of_kind, is_dir_kind}}
+use Rattle.ffs_volume.specs.Encodings.Kinds.{is_allocated_kind, is_unknown_kind, type_of_kind}
+use Rattle.ffs_volume.specs.Directories.{Roles.{Volume, is_dir, is_suspect}, Climb.is_value, Graph.parent}
+use Rattle.ffs_volume.specs.Directories.Parents.{graph_of}
 use Rattle.ffs_workspace.specs.Holds.{bool_at}
 use Rattle.ffs_survey.specs.Survey.{suspect_at}
-use Rattle.ffs_pathnames.specs.{declared.inodes.Inodes.Inodes, PassedNames.PassedNames}
-use Rattle.ffs_pathnames.specs.Stamps.{stamps_of}
+use Rattle.ffs_pathnames.specs.{declared.inodes.Inodes.Inodes, PassedNames.PassedNames, Stamps.stamps_of}
 
 -- of each inode its kind, whether it is marked, and its parent
 pub record Sees (vol : Volume) (i : Inodes) : Type 0 where

@@ -1,7 +1,6 @@
 -- Directories of which nothing is reported, whatever is reported of others.
 use Rattle.std.specs.Prelude.{◌≡◌, ℕ, ◌<◌, ◌==◌, Bool, true, false, List, [], slice_index}
-use Rattle.ffs_volume.specs.Directories.Roles.{Volume, roled_entries}
-use Rattle.ffs_volume.specs.Directories.PathnameCheck.{dir_header_lines}
+use Rattle.ffs_volume.specs.Directories.{Roles.{Volume, roled_entries}, PathnameCheck.dir_header_lines}
 use Rattle.ffs_pathnames.specs.PassedNames.{are_quiet}
 
 -- nothing is reported before the entries of x, and nothing of these, whatever is flagged, where no inode

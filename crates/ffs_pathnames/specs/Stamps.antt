@@ -1,7 +1,7 @@
 -- Stamps, by the parents of inodes and by the words that say which parent entries are due.
 use Rattle.std.specs.{Prelude.{◌≡◌, ℕ, if◌then◌else◌, List, [], ◌∷◌, slice_index, vec_len}, declared.alloc.Global.Global}
 use Rattle.std.specs.declared.vec.Vec.{Vec}
-use Rattle.ffs_workspace.specs.Places.{is_due, place_in}
+use Rattle.ffs_volume.specs.Encodings.Places.{is_due, place_in}
 
 -- the parent of an inode, where its entry there is due, else 0
 abbrev pub stamp_of : (parent word : ℕ) → ℕ

@@ -1,13 +1,12 @@
 //! A first look at a directory: whether it is sure that nothing is reported of its entries.
 ghost use Rattle.std.specs.Prelude.{◌≡◌, ◌+◌, ◌≤◌, true, false, List, [], ◌∷◌};
-ghost use Rattle.ffs_volume.specs.Report.DirectoryReads.{directory_cost, directory_runs};
+ghost use Rattle.ffs_volume.specs.{Report.DirectoryReads.{directory_cost, directory_runs}, declared.Order.Order};
+ghost use Rattle.ffs_volume.specs.{declared.Role.Role, Directories.{Entries.{Chunk, chunk_of, is_sound}, Roles.Volume}};
 ghost use Rattle.ffs_report.specs.Known.{ForBytes};
-ghost use Rattle.ffs_pathnames.specs.{DirectoryContext.{DirectoryContext, KnowsDirectory}, Moments.path_moment, ReadsLeft.LeftForLook};
-ghost use Rattle.ffs_pathnames.specs.{Examines.{Examines, IsExamined, IsLookedAt, StampsOwn, TakesLook}, StartChunks.start_chunk};
-ghost use Rattle.ffs_pathnames.specs.{Looks.{StampsEntries, roled_in}, Ready.{ReadyToLook, ReadyToRead}};
-ghost use Rattle.ffs_pathnames.specs.Sees.{CanLook, CanStamp, Sees, stamps_in};
-ghost use Rattle.ffs_volume.specs.{declared.{Order.Order, Role.Role}, Directories.Entries.{Chunk, chunk_of, is_sound}};
-ghost use Rattle.ffs_volume.specs.Directories.Roles.{Volume};
+ghost use Rattle.ffs_pathnames.specs.{DirectoryContext.{DirectoryContext, KnowsDirectory}, Moments.path_moment};
+ghost use Rattle.ffs_pathnames.specs.{ReadsLeft.LeftForLook, Examines.{Examines, IsExamined, IsLookedAt, StampsOwn}};
+ghost use Rattle.ffs_pathnames.specs.{Examines.TakesLook, StartChunks.start_chunk, Looks.{StampsEntries, roled_in}};
+ghost use Rattle.ffs_pathnames.specs.{Ready.{ReadyToLook, ReadyToRead}, Sees.{CanLook, CanStamp, Sees, stamps_in}};
 ghost use Rattle.ffs_layout.specs.Entry.{entry_value};
 ghost use Rattle.ffs_pathnames.specs.PassedNames as names;
 

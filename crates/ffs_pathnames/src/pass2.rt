@@ -1,11 +1,11 @@
 //! Phase 2: pathnames (fsck(8)).
-ghost use Rattle.std.specs.Prelude.{◌≡◌, ◌+◌, ◌*◌, ◌∷◌, length, map, ◌&&◌, not, ℕ};
-ghost use Rattle.ffs_report.specs.{Paid.Paid, PhaseOutcome.PhaseOutcome, Progress.progress};
+ghost use Rattle.std.specs.Prelude.{◌≡◌, ◌+◌, ◌*◌, ◌∷◌, [], false, length, map, ◌&&◌, not, ℕ, IfOk};
+ghost use Rattle.ffs_report.specs.{Paid.Paid, PhaseOutcome.{ImageAfter, PhaseReports}, Progress.progress};
 ghost use Rattle.ffs_volume.specs.Directories.{PathnameCheck.pathname_lines, Volumes.volume_of};
 ghost use Rattle.ffs_volume.specs.{Encodings.Kinds.is_dir_kind, Messages.Kinds.of_tree, Report.Reads.{line_reads, sweep_reads}};
 ghost use Rattle.ffs_workspace.specs.{Found.WithClaims, Holds.bool_at, Leaves.LeavesBlockCheck, Ready.IsReady};
-ghost use Rattle.ffs_pathnames.specs.{Before.{root_reported, IsNonePassed}, Gathers.AreAsLong};
-ghost use Rattle.ffs_pathnames.specs.{Phase2.{Phase2Ends, Phase2Reads}, RootAnswers.{AnswersRoot, is_go}};
+ghost use Rattle.ffs_pathnames.specs.{Before.{root_reported, IsBefore, IsNonePassed}, Gathers.AreAsLong};
+ghost use Rattle.ffs_pathnames.specs.{Phase2.{Phase2Ends, Phase2Reads}, RootAnswers.{AnswersRoot, SaidStop, is_go}};
 ghost use Rattle.ffs_pathnames.specs.{DirectoryLines.ReportsTree, Moments.lines_moment, SaysTreeMessages.SaysTreeMessages};
 ghost use Rattle.ffs_survey.specs.Survey.{suspect_at};
 ghost use Rattle.ffs_volume.specs.Messages.Kinds as messages;
@@ -40,7 +40,7 @@ pub enum Root {
 /// The image is read at most `pathname_reads` times, also where a read failed. An image that gives
 /// other bytes each time is read no more than four sweeps, and `line_reads` for each message that
 /// was begun. Where no survey was made before, a directory of which nothing can be reported isn't
-/// read for the messages (`phase2_cost`, and `looked_at` of `Phase2Reads`).
+/// read for the messages, unless it is marked (`phase2_cost`, and `looked_at` of `Phase2Reads`).
 ///
 /// # Errors
 /// A read of the image that failed, and a write of the report that failed.
@@ -51,11 +51,11 @@ pub fn phase2<I: Image, W: Output>(
     report: &mut Report<'_, W>,
 ) -> Result<Root, RunFault>
     requires ready { IsReady geometry.now.layout (I.device image.old) workspace.old }
-    ensures prints { PhaseOutcome
+    ensures faults { ImageAfter (I.device image.old) (I.device image.new) result }
+    ensures text { PhaseReports
         (WithClaims geometry.now.layout (I.device image.old) workspace.old)
         (λ b. messages.phase2 ∷ map of_tree (pathname_lines (volume_of geometry.now.layout b)))
-        (I.device image.old) (I.device image.new) (progress W.sink report.old)
-        (progress W.sink report.new) result }
+        (progress W.sink report.old) (progress W.sink report.new) result }
     ensures leaves { Phase2Ends geometry.now.layout (I.device image.old) workspace.old
         workspace.new (progress W.sink report.old) (progress W.sink report.new) result }
     ensures reads { Phase2Reads geometry.now.layout (I.device image.old) workspace.old
@@ -119,6 +119,12 @@ fn check_tree<I: Image, W: Output>(
         (lines_moment I.Image W.Output image.old workspace.old report.old tt)
         (lines_moment I.Image W.Output image.new workspace.new report.new tt) result }
     ensures root { AnswersRoot geometry.now.layout (I.device image.old) workspace.old result }
+
+    // Where the check stops after the root, its message was said, and nothing else.
+    ensures stop { IfOk result (λ root. is_go root ≡ false → SaidStop
+        (IsBefore geometry.now.layout (I.device image.old).contents workspace.old 2) []
+        (λ b. map of_tree (pathname_lines (volume_of geometry.now.layout b)))
+        (progress W.sink report.old) (progress W.sink report.new)) }
 {
     let kind = workspace.kinds[ROOTINO as usize];
     let marked = workspace.marked[ROOTINO as usize];

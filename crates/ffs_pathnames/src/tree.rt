@@ -1,17 +1,15 @@
 //! The check of directories, one after another, by number.
 ghost use Rattle.std.specs.Prelude.{suc, ◌≡◌, ◌-◌, ◌*◌, ◌<◌, ◌≤◌, ℕ, true, false, vec_len, List, option_map};
-ghost use Rattle.ffs_volume.specs.{declared.Layout.Layout, Messages.Kinds.lines_from};
-ghost use Rattle.ffs_volume.specs.Directories.{Parents.graph_of, Graph.parent, Volumes.volume_of};
-ghost use Rattle.ffs_volume.specs.Directories.PathnameCheck.{dir_header_lines, directory_lines, sized_dir_lines};
-ghost use Rattle.ffs_volume.specs.Report.DirectoryReads.{directory_cost};
+ghost use Rattle.ffs_volume.specs.{declared.Layout.Layout, Messages.Kinds.lines_from, Directories.Parents.graph_of};
+ghost use Rattle.ffs_volume.specs.Directories.{Graph.parent, Volumes.volume_of, PathnameCheck.dir_header_lines};
+ghost use Rattle.ffs_volume.specs.Directories.PathnameCheck.{directory_lines, sized_dir_lines};
+ghost use Rattle.ffs_volume.specs.{Report.DirectoryReads.directory_cost, Blocks.Inodes.inodes_of};
 ghost use Rattle.ffs_pathnames.specs.{ReadsLeft.{LeftForNext, LeftForBoth, LeftForLook}, PassedRight.AreRightBefore};
 ghost use Rattle.ffs_pathnames.specs.Before.{ListsInode, ListsInodes, IsBeforeNoted, IsFirstToCheck, needs_check};
 ghost use Rattle.ffs_pathnames.specs.{Gathers.passed_of, ChecksNeeded.KeepsFlags, Ready.{ReadyToCheck, ReadyToPath}};
-ghost use Rattle.ffs_pathnames.specs.Begins.{AreFirstTwo, IsDirectoryBegun};
-ghost use Rattle.ffs_pathnames.specs.Moments.{lines_moment};
+ghost use Rattle.ffs_pathnames.specs.{Begins.{AreFirstTwo, IsDirectoryBegun}, Moments.lines_moment};
 ghost use Rattle.ffs_pathnames.specs.DirectoryLines.{ReadsQuietOnce, ReportsDirectory, ReportsHeader, ReportsTree};
 ghost use Rattle.ffs_workspace.specs.{Holds.HoldsSurvey, Ready.IsReady};
-ghost use Rattle.ffs_volume.specs.Blocks.Inodes.{inodes_of};
 ghost use Rattle.ffs_layout.specs.Entry.{entry_value};
 
 use crate::entries::report_directory;
@@ -103,8 +101,9 @@ fn any_to_check(workspace: &Workspace, count: u32) -> bool
     any
 }
 
-/// Whether an inode is a directory that isn't of size 0 and isn't known to be calm. That a marked
-/// one is flagged doesn't mean that it is calm, but that an entry has named it.
+/// Whether an inode is a directory that isn't of size 0 and isn't known to be calm. One of size 0
+/// has another kind (`EMPTY_DIR_KIND`). That a marked one is flagged doesn't mean that it is calm,
+/// but that an entry has named it.
 fn needs_check(workspace: &Workspace, number: u32) -> bool
     requires { ListsInode workspace.now number }
     ensures { result ≡ needs_check workspace.now number }

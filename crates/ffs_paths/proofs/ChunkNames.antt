@@ -1,14 +1,14 @@
 -- The name of an inode in a chunk, by its entries one after another.
-use Rattle.std.proofs.Common.{◌≡◌, ℕ, zero, suc, ◌+◌, ◌-◌, ◌*◌, ◌<◌, ◌≤◌, ◌==◌, ◌&&◌, ◌||◌, ◌∙◌, ◌++◌, Bool, true, false}
-use Rattle.std.proofs.Common.{List, [], length, Some, None, ap, arith, drop, flat_map, get_or, refl, sym, take}
-use Rattle.std.{proofs.{Common.{length-drop, length-take}}, specs.{List.{list_any, range_with_len}, Simd.first_chunks}}
+use Rattle.std.proofs.Common.{◌≡◌, ℕ, zero, suc, ◌+◌, ◌-◌, ◌*◌, ◌<◌, ◌≤◌, ◌==◌, ◌&&◌, ◌||◌, ◌∙◌, ◌++◌, Bool, true}
+use Rattle.std.proofs.Common.{false, List, [], length, Some, None, ap, arith, drop, flat_map, get_or, refl, sym, take}
+use Rattle.std.{proofs.Common.{length-drop, length-take}, specs.{List.{list_any, range_with_len}, Simd.first_chunks}}
 use Rattle.std.proofs.lemmas.{Bool.{Decides.nat_tests, false≢true}, List.{append-nil, drop-drop, Folds.list_any-append}}
 use Rattle.ffs_volume.specs.{declared.{Order.Order, Role.Role}, Disk.Numbers.{piece, u32_at}, Directories.Entries.Entry}
-use Rattle.ffs_volume.specs.Directories.Roles.{RoledEntry}
-use Rattle.ffs_walk.proofs.Ranges.{range_step}
-use Rattle.ffs_workspace.{proofs.PlaceLaws.{name_in-after, name_in-among}, specs.Places.entries_in_chunk}
 use Rattle.ffs_volume.specs.Directories.Entries.{entry_at, entry_read, is_live, is_well_formed, name_at}
-use Rattle.ffs_volume.specs.Directories.{Graph.is_naming_entry, Roles.{is_plain, role_of}}
+use Rattle.ffs_volume.specs.Directories.{Roles.{RoledEntry, is_plain, role_of}, Graph.is_naming_entry}
+use Rattle.ffs_walk.proofs.Ranges.{range_step}
+use Rattle.ffs_workspace.proofs.PlaceLaws.{name_in-after, name_in-among}
+use Rattle.ffs_volume.specs.Encodings.Places.{entries_in_chunk}
 use Rattle.ffs_layout.specs.{Entry.entry_value, declared.entry.Entry.Entry as CodeEntry}
 use Rattle.ffs_names.{proofs.Stepping.{roled_end, roled_on}, specs.EntriesToCome.{roled_to_come, GivesWithIndex}}
 use Rattle.ffs_names.specs.declared.chunk_entries.ChunkEntries.{ChunkEntries}

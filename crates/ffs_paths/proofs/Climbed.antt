@@ -3,12 +3,12 @@ use Rattle.std.proofs.Common.{◌≡◌, ◌≢◌, ℕ, zero, suc, ◌+◌, ◌
 use Rattle.std.proofs.Common.{arith, Option, Result, sym, ◌∙◌, true}
 use Rattle.ffs_image.specs.declared.image.ImageFault.{ImageFault}
 use Rattle.ffs_volume.specs.Directories.{Graph.{Graph, level}, Paths.joined, Parents.graph_of, Volumes.volume_of}
-use Rattle.ffs_volume.{specs.declared.Layout.Layout, proofs.LevelLaws.reached-level}
+use Rattle.ffs_volume.{specs.{declared.Layout.Layout, Encodings.Places.IsNoted}, proofs.LevelLaws.reached-level}
 use Rattle.ffs_survey.specs.ParentLaws.{root_level}
-use Rattle.ffs_workspace.specs.{Holds.{bool_at, HoldsSurvey}, Places.IsNoted, declared.workspace.Workspace.Workspace}
-use Rattle.ffs_paths.specs.{Buffers.HoldsNames, Climbing.IsParentOf}
-use Rattle.ffs_paths.specs.Reads.{ForTree, KnowsPlaces, names_to, OnlyReads, PathMoment, ReadsFew, ReadsNames}
-use Rattle.ffs_paths.{proofs.{LongestEnds.joined-length, WaysUp.{IsOnWay, parent_is}}, specs.declared.buffer.PathBuffer.PathBuffer}
+use Rattle.ffs_workspace.specs.{Holds.{bool_at, HoldsSurvey}, declared.workspace.Workspace.Workspace}
+use Rattle.ffs_paths.specs.{Buffers.HoldsNames, Climbing.IsParentOf, Reads.{ForTree, KnowsPlaces, names_to, OnlyReads}}
+use Rattle.ffs_paths.{specs.Reads.{PathMoment, ReadsFew, ReadsNames}, proofs.LongestEnds.joined-length}
+use Rattle.ffs_paths.{proofs.WaysUp.{IsOnWay, parent_is}, specs.declared.buffer.PathBuffer.PathBuffer}
 
 -- so many steps were climbed, with a read for each at most, and with a name for each that takes two
 -- bytes at least

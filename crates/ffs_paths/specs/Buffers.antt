@@ -1,6 +1,6 @@
 -- What a buffer of a path holds.
 use Rattle.std.specs.Prelude.{ℕ, ◌≡◌, ◌+◌, ◌<◌, Bool, false, nat_lt, List, ◌∷◌, ◌++◌, length, drop}
-use Rattle.ffs_volume.specs.Directories.Paths.{joined, longest_end}
+use Rattle.ffs_volume.specs.{Directories.Paths.{joined, longest_end}, declared.constants.TheConstants.MAXPATHLEN}
 use Rattle.ffs_paths.specs.{Slashes.from_slash, declared.buffer.PathBuffer.PathBuffer}
 
 -- what is from `from` on, a `/` and a name are at the end of a buffer, cut or not; its short end is
@@ -17,4 +17,4 @@ pub record IsLonger (old : PathBuffer) (from : ℕ) (name : List ℕ) (cut : Boo
 pub record HoldsNames (p : PathBuffer) (names : List (List ℕ)) : Type 0 where
   pub whole : p.cut ≡ false → drop p.start p.bytes ≡ joined names
   pub short : drop p.short p.bytes ≡ joined (longest_end 1023 names)
-  pub cut : p.cut ≡ nat_lt 1024 (length (joined names))
+  pub cut : p.cut ≡ nat_lt MAXPATHLEN (length (joined names))

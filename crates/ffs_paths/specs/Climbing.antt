@@ -1,12 +1,13 @@
 -- What a climb to the root reads, and the path that it gives.
-use Rattle.std.specs.Prelude.{◌≡◌, ◌<◌, ℕ, nat_lt, true, if◌then◌else◌, List, [], ◌∷◌, length, Option, Some, None}
-use Rattle.std.specs.{Prelude.{Bool, vec_len, slice_index}, List.list_any}
+use Rattle.std.specs.Prelude.{◌≡◌, ◌<◌, ℕ, nat_lt, true, if◌then◌else◌, List, [], ◌∷◌, length, Option, Some, None, Bool}
+use Rattle.std.specs.{Prelude.{vec_len, slice_index}, List.list_any}
 use Rattle.ffs_image.specs.Device.{Device, ForContents}
 use Rattle.ffs_volume.specs.Directories.{Graph.{Graph, is_naming_entry, parent}, Paths.{dir_path, entry_path}}
-use Rattle.ffs_volume.specs.{declared.Layout.Layout, Directories.Roles.RoledEntry}
-use Rattle.ffs_workspace.specs.{declared.workspace.Workspace.Workspace, Holds.bool_at, Places.IsNoted}
+use Rattle.ffs_volume.specs.{declared.{Layout.Layout, constants.TheConstants.MAXPATHLEN}, Directories.Roles.RoledEntry}
+use Rattle.ffs_workspace.specs.{declared.workspace.Workspace.Workspace, Holds.bool_at}
+use Rattle.ffs_volume.specs.Encodings.Places.{IsNoted}
 use Rattle.ffs_paths.specs.Reads.{ForTree}
-pub use Rattle.ffs_workspace.specs.Places.{name_in}
+pub use Rattle.ffs_volume.specs.Encodings.Places.{name_in}
 
 -- it is the name of the directory d in its parent p: that of the first plain entry there that names
 -- it, if there is one
@@ -41,7 +42,7 @@ pub record IsParentOf (w : Workspace) (dir parent : ℕ) : Type 0 where
 -- a path of more than 1,024 bytes becomes `?`. Only `?/NAME` can be so long: an entry of an unreached
 -- directory whose name has more than 1,022 bytes (none in a real chunk; the contract takes any name).
 abbrev pub in_room : List ℕ → List ℕ
-in_room path = if nat_lt 1024 (length path) then 63 ∷ [] else path
+in_room path = if nat_lt MAXPATHLEN (length path) then 63 ∷ [] else path
 
 -- the path of a directory, or of an entry of it
 abbrev pub path_in : Graph → ℕ → Option (List ℕ) → List ℕ

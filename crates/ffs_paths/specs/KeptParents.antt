@@ -1,14 +1,13 @@
 -- What is kept for the path of the next directory.
-use Rattle.std.specs.Prelude.{◌≡◌, ◌⊎◌, ◌+◌, ◌*◌, ◌<◌, ◌≤◌, ℕ, List, [], ◌∷◌, ◌++◌, Option, Some, Result, OnOk, slice_index}
+use Rattle.std.specs.Prelude.{◌≡◌, ◌⊎◌, ◌+◌, ◌*◌, ◌<◌, ◌≤◌, ℕ, List, [], ◌∷◌, ◌++◌, Option, Some, Result, OnOk}
+use Rattle.std.specs.Prelude.{slice_index}
 use Rattle.ffs_image.specs.{Device.Device, declared.image.{Image.Ghosts, ImageFault.ImageFault}}
 use Rattle.ffs_volume.specs.{declared.Layout.Layout, Directories.{Graph.Graph, Parents.graph_of, Paths.path_names}}
-use Rattle.ffs_volume.specs.{Directories.Volumes.volume_of, Report.Reads.path_reads}
-use Rattle.ffs_workspace.specs.{declared.workspace.Workspace.Workspace, Ready.IsReady, Places.place_in}
-use Rattle.ffs_workspace.specs.Holds.{HoldsClaims, HoldsSurvey}
-use Rattle.ffs_paths.specs.{Climbing.IsParentOf, DirectoryPaths.IsPathOf}
-use Rattle.ffs_paths.specs.Reads.{HoldsPlaceOf, KnowsPlaces, names_to, OnlyReads, PathMoment, path_moment, ReadsAtMost}
-use Rattle.ffs_paths.specs.Reads.{ReadsNames}
-use Rattle.ffs_paths.specs.{Slashes.HaveNoSlash, NameTexts.name_bytes, declared.kept_parent.KeptParent.KeptParent}
+use Rattle.ffs_volume.specs.{Directories.Volumes.volume_of, Report.Reads.path_reads, Encodings.Places.place_in}
+use Rattle.ffs_workspace.specs.{declared.workspace.Workspace.Workspace, Ready.IsReady, Holds.{HoldsClaims, HoldsSurvey}}
+use Rattle.ffs_paths.specs.{Climbing.IsParentOf, DirectoryPaths.IsPathOf, Reads.{HoldsPlaceOf, KnowsPlaces, names_to}}
+use Rattle.ffs_paths.specs.{Reads.{OnlyReads, PathMoment, path_moment, ReadsAtMost, ReadsNames}, Slashes.HaveNoSlash}
+use Rattle.ffs_paths.specs.{NameTexts.name_bytes, declared.kept_parent.KeptParent.KeptParent}
 
 -- the names down to d are those down to s, and one more
 pub record LeadsTo (g : Graph) (s d : ℕ) (name : List ℕ) : Type 0 where

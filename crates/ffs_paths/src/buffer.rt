@@ -3,6 +3,7 @@
 ghost use Rattle.std.specs.Prelude.{◌≡◌, ◌+◌, ◌<◌, ◌≤◌, ℕ, not, ◌&&◌, nat_lt, List, [], ◌∷◌, ◌++◌, length, drop, Some};
 ghost use Rattle.ffs_volume.specs.Directories.Paths.{dir_path_of_names, path_bytes};
 ghost use Rattle.ffs_paths.specs.Slashes.{HaveNoSlash, FitsBefore, IsFirstSlash, PutsBefore};
+ghost use Rattle.ffs_volume.specs.declared.constants.TheConstants.{DIRBLKSIZ, MAXPATHLEN};
 
 use arrayvec::ArrayVec;
 use ffs_volume::constants::MAXPATHLEN;
@@ -28,9 +29,9 @@ pub struct PathBuffer {
     /// Whether they take more than 1,024 bytes.
     pub cut: bool,
     ghost ordered: { start ≤ short },
-    ghost in_buffer: { short ≤ 1024 },
+    ghost in_buffer: { short ≤ MAXPATHLEN },
     ghost has_room: { 0 < short },
-    ghost long: { length bytes ≡ 1024 },
+    ghost long: { length bytes ≡ MAXPATHLEN },
 }
 
 /// Puts `/` and a name before what is from `end` on. Returns where they begin.
@@ -60,7 +61,7 @@ fn slash_from(bytes: &[u8; MAXPATHLEN], place: usize) -> usize
 /// What is from `start` on.
 #[inline]
 fn bytes_from(bytes: &[u8; MAXPATHLEN], start: usize) -> &[u8]
-    requires { start ≤ 1024 }
+    requires { start ≤ MAXPATHLEN }
     ensures { result.now ≡ drop start bytes.now }
 {
     &bytes[start..]
@@ -68,7 +69,7 @@ fn bytes_from(bytes: &[u8; MAXPATHLEN], start: usize) -> &[u8]
 
 /// Writes these names, `/` and a name.
 fn put_from(names: &[u8], name: &[u8], text: &mut PathText)
-    requires { length text.old.items + length names.now + 1 + length name.now ≤ 1024 }
+    requires { length text.old.items + length names.now + 1 + length name.now ≤ MAXPATHLEN }
     ensures { text.new.items ≡ text.old.items ++ names.now ++ 47 ∷ name.now }
 {
     text.try_extend_from_slice(names).unwrap();
@@ -187,7 +188,7 @@ impl PathBuffer {
 
     /// These names and one more after them, which has at most 512 bytes.
     pub fn with_last(&self, name: &[u8]) -> PathBuffer
-        requires { length name.now ≤ 512 }
+        requires { length name.now ≤ DIRBLKSIZ }
         ensures { (names : List (List ℕ)) → HoldsNames self.now names
             → HaveNoSlash (names ++ name.now ∷ []) → HoldsNames result (names ++ name.now ∷ []) }
     {

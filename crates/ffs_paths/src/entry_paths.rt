@@ -3,6 +3,7 @@
 ghost use Rattle.std.specs.Prelude.{◌≡◌, ◌<◌, ◌≤◌, ℕ, length as length_of};
 ghost use Rattle.ffs_volume.specs.Directories.{Graph.Graph, Paths.entry_path};
 ghost use Rattle.ffs_paths.specs.{Climbing.in_room, DirectoryPaths.IsPathOf, EntryPaths.BeginsWith};
+ghost use Rattle.ffs_volume.specs.declared.constants.TheConstants.{MAXPATHLEN};
 
 use crate::buffer::PathText;
 use crate::path::DirectoryPath;
@@ -26,8 +27,8 @@ pub struct EntryPaths {
     pub length: usize,
     /// The path of the last entry, where that leaves names out.
     pub text: PathText,
-    ghost long: { length_of bytes ≡ 1024 },
-    ghost in_bytes: { length ≤ 1024 },
+    ghost long: { length_of bytes ≡ MAXPATHLEN },
+    ghost in_bytes: { length ≤ MAXPATHLEN },
     ghost prefix: { 0 < begins → BeginsWith directory begins bytes },
 }
 

@@ -3,8 +3,7 @@
 ghost use Rattle.std.specs.Prelude.{◌≡◌, ◌↔◌, ◌<◌, ℕ, List, Option, Some, IfOk, OnOk, min, vec_len};
 ghost use Rattle.ffs_volume.specs.{declared.Layout.Layout, Directories.Paths.dir_path};
 ghost use Rattle.ffs_workspace.specs.declared.workspace.Workspace.{Workspace as WorkspaceIn};
-ghost use Rattle.ffs_paths.specs.{Climbing.IsParentOf, DirectoryPaths.IsPathOf};
-ghost use Rattle.ffs_paths.specs.Reads.{ForTree, path_moment};
+ghost use Rattle.ffs_paths.specs.{Climbing.IsParentOf, DirectoryPaths.IsPathOf, Reads.{ForTree, path_moment}};
 ghost use Rattle.ffs_paths.specs.KeptParents.{CanKeepChild, HasPathOf, KeepsParent, KeepsPathOf, kept_moment};
 ghost use Rattle.ffs_paths.specs.KeptParents.{PathCosts, ReadyToPath};
 

@@ -2,10 +2,10 @@
 
 ghost use Rattle.std.specs.Prelude.{◌≡◌, ◌==◌, ◌&&◌, ◌/◌, false, max, IfOk, OnOk, length};
 ghost use Rattle.ffs_volume.specs.Directories.{Entries.entries_of, Roles.{is_plain, role_of, roled_from}};
+ghost use Rattle.ffs_volume.specs.{Encodings.Places.entries_in_chunks, declared.constants.TheConstants.DIRBLKSIZ};
 ghost use Rattle.ffs_layout.specs.Entry.{entry_value};
 ghost use Rattle.ffs_paths.specs.{Climbing.{FindsFirstName, FindsName, FindsNoted, IsNameIn}, NameTexts.name_bytes};
 ghost use Rattle.ffs_paths.specs.Reads.{ForTree, IsReadyFor, OnlyReads, path_moment, ReadsName, ReadsPlace};
-ghost use Rattle.ffs_workspace.specs.Places.{entries_in_chunks};
 
 use crate::name_text::NameText;
 use ffs_image::{Image, ImageFault};
@@ -52,8 +52,9 @@ fn find_in_chunk(order: Order, chunk: &[u8; DIRBLKSIZ], number: u32, name: &mut 
 /// Finds the name of an inode in chunks that follow one another, by the first plain entry in them.
 /// Returns whether there is one.
 fn find_in_chunks(order: Order, bytes: &[u8], number: u32, name: &mut NameText) -> bool
-    ensures { FindsFirstName number (entries_in_chunks order (length bytes.now / 512) bytes.now)
-        (name_bytes name.new) result }
+    ensures { FindsFirstName number
+        (entries_in_chunks order (length bytes.now / DIRBLKSIZ) bytes.now) (name_bytes name.new)
+        result }
 {
     let (chunks, _) = bytes.as_chunks::<DIRBLKSIZ>();
     for chunk in chunks {

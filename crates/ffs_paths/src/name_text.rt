@@ -1,6 +1,7 @@
 //! The text of a name.
 
 ghost use Rattle.std.specs.Prelude.{◌≡◌, ◌≤◌, [], length as length_of};
+ghost use Rattle.ffs_volume.specs.declared.constants.TheConstants.{DIRBLKSIZ};
 
 use ffs_memory::copy_short;
 use ffs_volume::constants::DIRBLKSIZ;
@@ -15,8 +16,8 @@ pub struct NameText {
     pub bytes: [u8; DIRBLKSIZ],
     /// How many bytes the name has.
     pub length: usize,
-    ghost long: { length_of bytes ≡ 512 },
-    ghost inside: { length ≤ 512 },
+    ghost long: { length_of bytes ≡ DIRBLKSIZ },
+    ghost inside: { length ≤ DIRBLKSIZ },
 }
 
 impl NameText {
@@ -41,7 +42,7 @@ impl NameText {
 
     /// Puts a name in place of this one.
     pub fn set(&mut self, name: &[u8])
-        requires { length_of name.now ≤ 512 }
+        requires { length_of name.now ≤ DIRBLKSIZ }
         ensures { name_bytes self.new ≡ name.now }
     {
         let end = name.len();

@@ -5,6 +5,7 @@ ghost use Rattle.ffs_volume.specs.Directories.{Graph.{Graph, level}, Paths.{dir_
 ghost use Rattle.ffs_workspace.specs.Holds.{bool_at};
 ghost use Rattle.ffs_paths.specs.{Buffers.HoldsNames, Climbing.{in_room, path_in}, DirectoryPaths.{HoldsPath, IsPathOf}};
 ghost use Rattle.ffs_paths.specs.{Reads.{CanClimb, ForTree, IsReadyFor, path_moment, ReadsNames}, Slashes.HaveNoSlash};
+ghost use Rattle.ffs_volume.specs.declared.constants.TheConstants.{DIRBLKSIZ};
 
 use crate::buffer::{LONGEST_NAME, PathBuffer, PathText};
 use crate::name::find_name;
@@ -39,7 +40,7 @@ impl DirectoryPath {
 
     /// The path of a directory in it, of this name.
     pub fn child(&self, name: &[u8]) -> DirectoryPath
-        requires { length name.now ≤ 512 }
+        requires { length name.now ≤ DIRBLKSIZ }
         ensures { (names : List (List ℕ)) → HoldsPath self.now (Some names)
             → HaveNoSlash (names ++ name.now ∷ [])
             → HoldsPath result (Some (names ++ name.now ∷ [])) }

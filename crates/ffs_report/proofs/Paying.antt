@@ -3,7 +3,7 @@ use Rattle.std.proofs.Common.{◌≤◌, ◌+◌, ◌*◌, ℕ, refl, sym, arith
 use Rattle.std.proofs.Math.Nat.{mul-le-mul_left, mul-le-mul_right}
 use Rattle.ffs_volume.specs.Messages.Kinds.{Message}
 use Rattle.ffs_report.specs.{Progress.{Progress, Said, Stopped}, Paid.{AreBegun, Paid}, PhaseOutcome.PhaseReports}
-use Rattle.ffs_report.{proofs.Reports.{said_none, said_then, stopped_after}, specs.declared.fault.RunFault.RunFault}
+use Rattle.ffs_report.{proofs.{Broken.stopped_where, Reports.{said_none, said_then}}, specs.declared.fault.RunFault.RunFault}
 use Rattle.ffs_report.specs.declared.fault.RunFault.TheVariants.{Read, Out}
 
 -- nothing was said
@@ -46,11 +46,13 @@ paid_says {price = price} {before = before} {after = after} ms said some few = r
 -- the output failed among messages, at least one
 pub paid_stops : {T : Type 0} {price : ℕ} {a b : Progress} {before after : ℕ} {fault : _} (ms : List Message) →
     Stopped a b ms → 1 ≤ length ms → after ≤ before + price → Paid {T = T} price a b before after (Err (Out fault))
-paid_stops {price = price} {before = before} {after = after} ms stopped some few = record {
-  messages = length ms;
-  begun = record { messages = ms; stopped = stopped; many = refl };
-  most = pays_one price before after (length ms) some few;
-}
+paid_stops {price = price} {a = a} {b = b} {before = before} {after = after} ms stopped some few =
+    let found = stopped_where a b ms stopped in
+    record {
+      messages = found.begun;
+      begun = found.stopped;
+      most = pays_one price before after found.begun (found.some some) few;
+    }
 
 -- more was left before, or after
 pub paid_within : {T : Type 0} {price : ℕ} {a b : Progress} {before after before' after' : ℕ} {r : Result T RunFault} →
@@ -86,8 +88,12 @@ begun_then n m a b c x (Err (Read f)) p q = record {
 }
 begun_then n m a b c x (Err (Out f)) p q = record {
   messages = p.messages ++ q.messages;
-  stopped = stopped_after a b c p.messages q.messages p.said q.stopped;
-  many = rw (p.many, q.many) (sym (length-append p.messages q.messages));
+  last = q.last;
+  between = q.between;
+  said = said_then a b q.between p.messages q.messages p.said q.said;
+  stopped = q.stopped;
+  few = q.few;
+  many = rw (length-append p.messages q.messages) (omega (arith, p.many, q.many));
 }
 
 pub paid_then : {T U : Type 0} {price : ℕ} {a b c : Progress} {before between after : ℕ} {x : T}
@@ -114,8 +120,6 @@ paid_text knows all (Ok x) p few = record {
   most = omega (arith, few);
 }
 paid_text knows all (Err (Read fault)) p few = grind arith
-paid_text knows all (Err (Out fault)) p few = record {
-  messages = length p.messages;
-  begun = record { messages = p.messages; stopped = p.stopped; many = refl };
-  most = omega (arith, few);
-}
+paid_text knows all {a} {b} (Err (Out fault)) p few =
+    let found = stopped_where a b p.messages p.stopped in
+    record { messages = found.begun; begun = found.stopped; most = omega (arith, few) }

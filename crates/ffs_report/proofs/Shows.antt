@@ -1,8 +1,8 @@
 -- How bytes are shown, part by part.
-use Rattle.std.proofs.Common.{◌≡◌, ◌∙◌, ◌+◌, ◌-◌, ◌<◌, ◌≤◌, ◌||◌, ℕ, List, [], ◌∷◌, ◌++◌, length, take, drop, get_or}
-use Rattle.std.proofs.Common.{map, refl, sym, ap, subst, arith, append_assoc, true, false, Bool, if◌then◌else◌, Result}
+use Rattle.std.proofs.Common.{◌≡◌, ◌∙◌, ◌+◌, ◌-◌, ◌≤◌, ◌||◌, ℕ, List, [], ◌∷◌, ◌++◌, length, take, drop}
+use Rattle.std.proofs.Common.{map, refl, sym, ap, subst, arith, false, Bool, if◌then◌else◌}
 use Rattle.std.{specs.List.list_any, proofs.lemmas.{Bool.or_parts, List.{Folds.list_any-append, take-append-drop}}}
-use Rattle.std.proofs.{lemmas.List.{take_all, length-drop, map-append, map_more}, Math.Seq.take-add}
+use Rattle.std.proofs.{lemmas.List.{take_all, length-drop, map-append}, Math.Seq.take-add}
 use Rattle.ffs_volume.specs.Messages.Shown.{is_control, shown}
 use Rattle.ffs_report.{specs.Sink.{Sink, Took, BrokeOff}, proofs.Sinks.{broke_off_after, broke_off_more, took_then}}
 

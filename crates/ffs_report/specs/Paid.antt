@@ -17,18 +17,22 @@ pub record SaidButOne (n : ℕ) (old new : Progress) : Type 0 where
   pub said : Said old new messages
   pub many : n ≤ suc (length messages)
 
--- the output failed among n messages
-pub record StoppedAmong (n : ℕ) (old new : Progress) : Type 0 where
+-- of n messages all but the last, if there is one, were said, and the output failed within that
+pub record StoppedInLast (n : ℕ) (old new : Progress) : Type 0 where
   pub messages : List Message
-  pub stopped : Stopped old new messages
-  pub many : n ≡ length messages
+  pub last : List Message
+  pub between : Progress
+  pub said : Said old between messages
+  pub stopped : Stopped between new last
+  pub few : length last ≤ 1
+  pub many : n ≡ length messages + length last
 
 -- n messages were begun: all were said at Ok, perhaps all but the last at a read's fault, and the
--- output failed among them at its own fault
+-- output failed within the last at its own fault
 abbrev pub AreBegun : {T : Type 0} → ℕ → Progress → Progress → Result T RunFault → Type 0
 AreBegun n old new (Ok x) = SaidMany n old new
 AreBegun n old new (Err (Read fault)) = SaidButOne n old new
-AreBegun n old new (Err (Out fault)) = StoppedAmong n old new
+AreBegun n old new (Err (Out fault)) = StoppedInLast n old new
 
 -- some messages were begun, and `after` is at most `before` and the price of each of them
 pub record Paid {T : Type 0} (price : ℕ) (old new : Progress) (before after : ℕ) (result : Result T RunFault) :

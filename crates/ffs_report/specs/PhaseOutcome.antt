@@ -43,9 +43,3 @@ abbrev pub PhaseReports : {T : Type 0} → (List ℕ → Type 0) → (List ℕ �
 PhaseReports knows all old new (Ok x) = SaidOf knows (λ bytes. []) all old new
 PhaseReports knows all old new (Err (Read fault)) = SaidPrefixOf knows all old new
 PhaseReports knows all old new (Err (Out fault)) = StoppedOf knows all old new
-
--- what a phase leaves of its image, and what it reports
-pub record PhaseOutcome {T : Type 0} (knows : List ℕ → Type 0) (all : List ℕ → List Message) (device device' : Device)
-    (old new : Progress) (result : Result T RunFault) : Type 0 where
-  pub image : ImageAfter device device' result
-  pub text : PhaseReports knows all old new result

@@ -12,8 +12,8 @@
 //!
 //! What each phase owes is said here too: `PhaseReports` says in one clause what was printed at Ok
 //! (all lines of the phase), at a failed read (a prefix of them, in whole lines) and at a failed
-//! write (a prefix of their bytes); `ImageAfter` says what became of the image, and `PhaseOutcome`
-//! says both. `RunFault` is the error of every phase.
+//! write (a prefix of their bytes); `ImageAfter` says what became of the image. `RunFault` is the
+//! error of every phase.
 //!
 //! ```text
 //! let mut report = Report::new(&mut out);

@@ -1,7 +1,6 @@
 //! The bytes of one line, gathered before they go out.
 ghost use Rattle.std.specs.Prelude.{◌≡◌, ◌+◌, ◌<◌, ◌≤◌, ◌*◌, length, take};
-ghost use Rattle.ffs_report.specs.Sink.{Puts};
-ghost use Rattle.ffs_report.specs.declared.line_buffer.TheConstants.{LINE_ROOM};
+ghost use Rattle.ffs_report.specs.{Sink.Puts, declared.line_buffer.TheConstants.LINE_ROOM};
 
 use crate::output::{OutFault, Output};
 use ffs_memory::copy_short;

@@ -1,6 +1,7 @@
 //! A survey of directories: which inodes are reached from inode 2, the parent of each directory,
 //! and how many entries refer to each inode. It works over any reader of directories
-//! (`Directories`), and holds no entry.
+//! (`Directories`), and holds no entry. `ffs_names::survey` calls it, over the directories of an
+//! image, and is the one that phase 2 calls.
 //!
 //! `survey` leaves what is reached, parents and references as the definitions have them;
 //! `flag_leaders` flags one directory of each cycle of parents.

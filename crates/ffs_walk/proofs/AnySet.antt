@@ -1,9 +1,8 @@
 -- Whether an address isn't zero: of all, and of those from an index on, by a bit for each.
-use mir.Val.{bool_byte}
-use Rattle.std.proofs.Common.{zero, suc, Bool, true, false, inl, inr, ◌≡◌, ◌==◌, ◌||◌, ◌+◌, ◌-◌, ◌*◌, ◌/◌, ◌%◌, ◌^◌}
-use Rattle.std.proofs.Common.{◌<◌, ◌≤◌, ◌∙◌, refl, ℕ, List, length, get_or, take, drop, not, bit_or, arith, length-drop}
-use Rattle.std.proofs.lemmas.{Bool.{cases_lt, Decides.nat_tests}, List.{Folds.list_any_more, get_or-drop}, Nat.le_or_l}
-use Rattle.std.{proofs.{lemmas.Nat.{le-div, or_lt, pow_pos, shl_below}, Math.Pow.pow_mono}, specs.Int.Bits.or_shifted_r}
+use Rattle.std.proofs.Common.{zero, suc, Bool, true, false, ◌≡◌, ◌==◌, ◌||◌, ◌+◌, ◌*◌, ◌/◌, ◌^◌}
+use Rattle.std.proofs.Common.{◌<◌, ◌∙◌, refl, ap, sym, map, eqb, cond, ℕ, List, [], ◌∷◌, ◌++◌, length, get_or, take, drop, not, bit_or, arith}
+use Rattle.std.proofs.lemmas.{List.{Folds.list_any_more}, Nat.{le_or_l, pow_pos, shr-shr}}
+use lib.Lanes.{mask_l}
 use Rattle.ffs_volume.specs.Blocks.Inodes.{any_nonzero}
 
 -- two numbers have a bit that is set where one of them isn't zero
@@ -16,51 +15,33 @@ pub any_more : (xs : List ℕ) (i : ℕ) → i < length xs →
     any_nonzero (take (i + 1) xs) ≡ (any_nonzero (take i xs) || not (get_or xs i 0 == 0))
 any_more xs i below = list_any_more (λ a. not (a == 0)) xs i 0 below
 
--- the addresses from `from` on and below one more index
-set_more : (xs : List ℕ) (from i : ℕ) → from ≤ i → i < length xs →
-    any_nonzero (take (i + 1 - from) (drop from xs))
-    ≡ (any_nonzero (take (i - from) (drop from xs)) || not (get_or xs i 0 == 0))
-set_more xs from i low below = grind (arith, get_or-drop, any_more, length-drop)
+none_left : (from : ℕ) → any_nonzero (drop from []) ≡ false
+none_left zero = refl
+none_left (suc from) = refl
 
--- a bit from `from` on is set where one was, or where the next one, that of i, is
-bit_more : (bits b i from : ℕ) → bits < 2 ^ i → from ≤ i →
-    not (bit_or bits (b * 2 ^ i) / 2 ^ from == 0) ≡ (not (bits / 2 ^ from == 0) || not (b == 0))
-bit_more bits zero i from h low = let e = or_shifted_r zero i bits h in grind (arith, e)
-bit_more bits (suc b) i from h low =
-    let e = or_shifted_r (suc b) i bits h in
-    let above : 2 ^ from ≤ 2 ^ i = pow_mono low in
-    let some : 1 ≤ (suc b * 2 ^ i + bits) / 2 ^ from =
-    le-div 1 (suc b * 2 ^ i + bits) (2 ^ from) (pow_pos from) (omega (arith, above)) in
-    grind (arith, nat_tests, e, some)
+halved : (b n k : ℕ) → b < 2 → (b + 2 * n) / 2 ^ suc k ≡ n / 2 ^ k
+halved b n k small =
+    let next : suc k ≡ 1 + k = omega arith in
+    let half : (b + 2 * n) / 2 ^ 1 ≡ n = omega (arith, small) in
+    ap (λ j. (b + 2 * n) / 2 ^ j) next ∙ sym (shr-shr (b + 2 * n) 1 k) ∙ ap (λ m. m / 2 ^ k) half
 
--- bits below `from`
-none_above : (bits i from : ℕ) → bits < 2 ^ i → i ≤ from → bits / 2 ^ from ≡ 0
-none_above bits i from h high = grind (arith, pow_mono)
-
--- the bits of the first i addresses, and that of one more: one from `from` on is set where such an
--- address isn't zero
-pub bits_more : (xs : List ℕ) (from i bits b : ℕ) → i < length xs → i < 32 →
-    b ≡ bool_byte (not (get_or xs i 0 == 0)) →
-    (bits < 2 ^ i) × (any_nonzero (take (i - from) (drop from xs)) ≡ not (bits / 2 ^ from == 0)) →
-    (bit_or bits (b * 2 ^ i % 2 ^ 32) < 2 ^ (i + 1))
-    × (any_nonzero (take (i + 1 - from) (drop from xs)) ≡ not (bit_or bits (b * 2 ^ i % 2 ^ 32) / 2 ^ from == 0))
-bits_more xs from i bits b h fits is (k, e) =
-    let (one, set) = bit_of (not (get_or xs i 0 == 0)) b is in
-    let double : 2 ^ i ≤ 2 ^ (i + 1) = pow_mono (omega arith) in
-    let room : 2 ^ (i + 1) ≤ 2 ^ 32 = pow_mono {j = 32} (omega (arith, fits)) in
-    let shifted : b * 2 ^ i < 2 ^ (i + 1) = grind (arith, shl_below b 1 i one) in
-    let whole : b * 2 ^ i % 2 ^ 32 ≡ b * 2 ^ i = omega (arith, shifted, room) in
-    let small = or_lt (i + 1) bits (b * 2 ^ i) (omega (arith, k, double)) shifted in
-    let answer : any_nonzero (take (i + 1 - from) (drop from xs)) ≡ not (bit_or bits (b * 2 ^ i) / 2 ^ from == 0) =
-    elim (cases_lt i from) [
-      | inl before ↦
-          let empty : i + 1 - from ≡ 0 = omega (arith, before) in
-          let none = none_above (bit_or bits (b * 2 ^ i)) (i + 1) from small (omega (arith, before)) in
-          grind (arith, empty, none)
-      | inr low ↦ set_more xs from i low h ∙ grind (arith, bit_more bits b i from k low, set, e)
-    ] in
-    grind (arith, whole, small, answer)
+-- a bit for each number, that is set where it isn't zero: one from an index on
+pub mask_from : (xs : List ℕ) (from : ℕ) →
+    not (mask_l (map (λ x. not (eqb x 0)) xs) / 2 ^ from == 0) ≡ any_nonzero (drop from xs)
+mask_from [] from = grind (arith, none_left from, pow_pos from)
+mask_from (zero ∷ xs) zero = grind (arith, mask_from xs zero)
+mask_from (suc x ∷ xs) zero = grind arith
+mask_from (x ∷ xs) (suc from) =
+    let half = halved (cond (not (eqb x 0)) 1 0) (mask_l (map (λ x. not (eqb x 0)) xs)) from (bit_small (not (eqb x 0))) in
+    ap (λ b. not (b == 0)) half ∙ mask_from xs from
   where
-    bit_of : (t : Bool) (b : ℕ) → b ≡ bool_byte t → (b < 2) × (not (b == 0) ≡ t)
-    bit_of true b e = grind (arith, e)
-    bit_of false b e = grind (arith, e)
+    bit_small : (b : Bool) → cond b 1 0 < 2
+    bit_small true = omega arith
+    bit_small false = omega arith
+
+-- one more number, which is zero
+pub zero_after : (xs : List ℕ) (from : ℕ) → any_nonzero (drop from (xs ++ 0 ∷ [])) ≡ any_nonzero (drop from xs)
+zero_after [] zero = refl
+zero_after [] (suc from) = none_left from
+zero_after (x ∷ xs) zero = ap (λ b. not (x == 0) || b) (zero_after xs zero)
+zero_after (x ∷ xs) (suc from) = zero_after xs from

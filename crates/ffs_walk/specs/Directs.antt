@@ -4,7 +4,7 @@ use Rattle.ffs_volume.specs.Blocks.Steps.{data_length}
 use Rattle.ffs_walk.specs.{Counts.EntersOnly, HeldWords.word_step, declared.walk.Walk.Walk}
 use Rattle.ffs_walk.specs.Rests.{IsAtTop, SameFileBlocks, file_blocks_of, most_steps_left, steps_left}
 
--- the next of the inode's own addresses is used, and that of a direct block
+-- the next of the inode's own addresses is used, and that of a direct block: one of the first 12 (NDADDR)
 pub record HasDirect (w : Walk) : Type 0 where
   pub direct : w.next < 12
   pub used : w.next < w.used

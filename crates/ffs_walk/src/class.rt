@@ -9,6 +9,7 @@ use crate::pieces::{after_pieces, pieces_of};
 use ffs_layout::Geometry;
 use ffs_volume::constants::{DT_BLK, DT_CHR, DT_DIR, DT_FIFO, DT_LNK, DT_REG, DT_SOCK, NDADDR};
 use ffs_volume::{Class, Inode};
+use std::simd::prelude::*;
 
 /// How many of the fifteen addresses a file of `blocks` logical blocks uses, where an indirect
 /// block has `words` addresses.
@@ -78,18 +79,19 @@ fn any_nonzero(addresses: &[u32; 15]) -> bool
 }
 
 /// Whether an address from an index on isn't zero, by a bit for each address. All fifteen are
-/// looked at, with no branch that depends on the index: sizes of files are mixed, and no processor
-/// foresees such a branch.
+/// looked at together, with no branch that depends on the index: sizes of files are mixed, and no
+/// processor foresees such a branch.
 #[inline(always)]
 fn any_address_from(addresses: &[u32; 15], from: usize) -> bool
     requires { from ≤ 15 }
     ensures { result ≡ inodes.any_nonzero (drop from addresses.now) }
 {
-    let mut bits = 0u32;
-    for index in 0..15 {
-        bits |= u32::from(addresses[index] != 0) << index;
-    }
-    bits >> from != 0
+    let a = addresses;
+    let lanes = u32x16::from_array([
+        a[0], a[1], a[2], a[3], a[4], a[5], a[6], a[7], a[8], a[9], a[10], a[11], a[12], a[13],
+        a[14], 0,
+    ]);
+    lanes.simd_ne(u32x16::splat(0)).to_bitmask() >> from != 0
 }
 
 /// Whether the addresses of an inode of the class are walked.

@@ -371,6 +371,14 @@ impl Walk {
         self.single.next += 1;
     }
 
+    /// Whether one of the inode's own addresses that are used is left.
+    #[inline(always)]
+    pub fn has_address(&self) -> bool
+        ensures { IsTrue result ↔ (self.now.next < self.now.used) }
+    {
+        self.next < self.used
+    }
+
     /// Whether the next of the inode's own addresses is used, and that of a direct block.
     #[inline(always)]
     pub fn has_direct(&self) -> bool

@@ -6,7 +6,7 @@ use Rattle.std.proofs.Math.Nat.{mul-le-mul_right, mul-mod_right}
 use Rattle.std.proofs.lemmas.{Bool.{Decides.nat_tests, leb-true}, Nat.Gcd.{dvd_of_mod-eq-zero, dvd_trans, mod-eq-zero_of_dvd}}
 use Rattle.ffs_volume.{proofs.GeometryLaws.shape_holds, specs.Laws.Geometry.IsAcceptedLayout}
 use Rattle.ffs_volume.specs.{Disk.Outcome.{has_valid_sizes, is_fragment_size}, declared.Layout.Layout}
-use Rattle.ffs_workspace.specs.Places.{part_size}
+use Rattle.ffs_volume.specs.Encodings.Places.{part_size}
 
 -- a fragment is whole chunks
 fragment_whole : (n : ℕ) → is_fragment_size n ≡ true → n % 512 ≡ 0

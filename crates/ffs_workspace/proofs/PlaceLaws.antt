@@ -5,7 +5,7 @@ use Rattle.std.specs.{Prelude.slice_index, List.list_any, Int.Bits.{bit_and, or_
 use Rattle.std.proofs.lemmas.Nat.Bits.{and_pow}
 use Rattle.ffs_volume.specs.{declared.Layout.Layout, Directories.{Entries.Entry, Graph.is_naming_entry}}
 use Rattle.ffs_volume.specs.Directories.Roles.{RoledEntry, is_plain, role_of, roled_from}
-use Rattle.ffs_workspace.specs.Places.{ArePlaces, name_in}
+use Rattle.ffs_volume.specs.Encodings.Places.{ArePlaces, name_in}
 
 -- one entry: its name, or that of the first one after it
 pub name_in-cons : (x : ℕ) (e : RoledEntry) (es : List RoledEntry) →

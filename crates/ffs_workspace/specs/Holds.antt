@@ -1,14 +1,13 @@
 -- What a workspace holds between the phases.
-use Rattle.std.specs.Prelude.{◌≡◌, ◌<◌, ◌+◌, ℕ, Bool, false, true, not, ◌&&◌, ◌||◌, ◌==◌, List, if◌then◌else◌, replicate}
-use Rattle.std.specs.{Prelude.slice_index, Option.unwrap_or}
-use Rattle.ffs_volume.specs.{declared.Layout.Layout, Blocks.{Inodes.{inode_of, class_of, is_unknown}, Owners.owner_of}}
-use Rattle.ffs_volume.specs.Blocks.{Owners.owners_of, Claims.{Claims, no_claims, after_owner, after_owners}}
+use Rattle.std.specs.Prelude.{◌≡◌, ◌<◌, ◌+◌, ℕ, Bool, false, true, not, ◌&&◌, ◌||◌, ◌==◌, List, if◌then◌else◌}
+use Rattle.std.specs.{Prelude.{replicate, slice_index}, Option.unwrap_or}
+use Rattle.ffs_volume.specs.{declared.Layout.Layout, Blocks.Inodes.{inode_of, class_of, is_unknown, inodes_of}}
+use Rattle.ffs_volume.specs.Blocks.{Owners.{owner_of, owners_of}, Claims.{Claims, no_claims, after_owner, after_owners}}
 use Rattle.ffs_volume.specs.{Blocks.KeptSteps.claims_before, Directories.Graph.{is_named, reached, parent}}
 use Rattle.ffs_volume.specs.Directories.{Roles.references, Parents.graph_of, Volumes.{is_inode_number, marked_at}}
-use Rattle.ffs_volume.specs.{Directories.Volumes.volume_of, Encodings.{Kinds.kind_at, Links.start_at}}
-use Rattle.ffs_workspace.specs.{Places.ArePlaces, declared.workspace.Workspace.Workspace}
+use Rattle.ffs_volume.specs.{Directories.Volumes.volume_of, Encodings.{Kinds.kind_at, Links.start_at, Places.ArePlaces}}
 use Rattle.ffs_volume.specs.Encodings.Notes.{note_at}
-use Rattle.ffs_volume.specs.Blocks.Inodes.{inodes_of}
+use Rattle.ffs_workspace.specs.declared.workspace.Workspace.{Workspace}
 use Rattle.ffs_maps.specs.Bits.{bits_of}
 pub use Rattle.ffs_volume.specs.Encodings.Lists.{bool_at}
 

@@ -1,7 +1,7 @@
 -- What the phases after the block check, and after the survey of directories, leave of a workspace.
 use Rattle.std.specs.Prelude.{◌≡◌, ℕ, List}
-use Rattle.ffs_volume.specs.declared.Layout.{Layout}
-use Rattle.ffs_workspace.specs.{Places.ArePlaces, declared.workspace.Workspace.Workspace}
+use Rattle.ffs_volume.specs.{declared.Layout.Layout, Encodings.Places.ArePlaces}
+use Rattle.ffs_workspace.specs.declared.workspace.Workspace.{Workspace}
 
 -- what the block check left is as it was: claims, duplicates, kinds, marks and notes, and what
 -- `has_dups` and `runs` answer
@@ -15,8 +15,8 @@ pub record LeavesBlockCheck (old new : Workspace) : Type 0 where
   pub runs_seen : new.runs_seen ≡ old.runs_seen
   pub runs_again : new.runs_again ≡ old.runs_again
 
--- what the block check and the survey of directories left is as it was, and each place that is
--- noted is right where each one was
+-- what the block check and the survey of directories left is as it was, but for `flags`, and each place
+-- that is noted is right where each one was
 pub record LeavesSurvey (old new : Workspace) : Type 0 where
   pub used : new.used ≡ old.used
   pub duplicates : new.duplicates ≡ old.duplicates

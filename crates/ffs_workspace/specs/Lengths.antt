@@ -1,10 +1,9 @@
 -- The lengths of the lists of a workspace, and its windows.
 use Rattle.std.specs.{Prelude.{◌≡◌, ◌+◌, ◌*◌, ◌==◌, ℕ, Bool, not, List, Option, vec_len, count_by}, Int.div_ceil}
-use Rattle.ffs_volume.specs.declared.Layout.{Layout}
+use Rattle.ffs_volume.specs.{declared.Layout.Layout, Blocks.Inodes.inodes_of}
 use Rattle.ffs_maps.specs.Bits.{bits_of}
 use Rattle.ffs_walk.specs.Windows.{WindowHolds, BlocksHold}
 use Rattle.ffs_workspace.specs.{declared.workspace.Workspace.Workspace, Tables.IsTableOf}
-use Rattle.ffs_volume.specs.Blocks.Inodes.{inodes_of}
 
 -- how many bits of a map are set
 abbrev pub set_count : List Bool → ℕ

@@ -1,7 +1,6 @@
 -- What the window on the inode table holds.
-use Rattle.std.specs.Prelude.{◌≡◌, ◌*◌, ◌+◌, ◌-◌, ◌/◌, ◌%◌, ◌<◌, ◌≤◌, ℕ, Bool, ◌&&◌, nat_le, nat_lt, List, Option, Result}
-use Rattle.std.specs.Prelude.{IfOk, OnOk, if◌then◌else◌, vec_len}
-use Rattle.std.specs.List.{slice_range}
+use Rattle.std.specs.Prelude.{◌≡◌, ◌*◌, ◌+◌, ◌-◌, ◌/◌, ◌%◌, ◌<◌, ◌≤◌, ℕ, Bool, ◌&&◌, nat_le, nat_lt, List, Option}
+use Rattle.std.specs.{Prelude.{Result, IfOk, OnOk, if◌then◌else◌, vec_len}, List.slice_range}
 use Rattle.ffs_image.specs.{Device.{Device, ForContents}, Reads.ReadAfter, declared.image.ImageFault.ImageFault}
 use Rattle.ffs_memory.specs.declared.fixed_list.FixedList.{FixedList}
 use Rattle.ffs_volume.specs.declared.{constants.TheConstants.DINODE_SIZE, Inode.Inode, Layout.Layout}

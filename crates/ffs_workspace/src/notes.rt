@@ -30,7 +30,7 @@ fn has_one_chunk(class: Class, inode: &Inode) -> bool
 pub fn note_of(class: Class, inode: &Inode, cut: u32) -> u32
     ensures { result ≡ note_of class inode.now cut }
 {
-    if cut == 0 && has_one_chunk(class, inode) {
+    if has_one_chunk(class, inode) && cut == 0 {
         FIRST_NOTED + inode.addresses[0]
     } else {
         cut

@@ -1,7 +1,7 @@
 //! Where the parent entry of a directory is in the image, in 32 bits.
 
 ghost use Rattle.std.specs.Prelude.{◌≡◌, ◌≤◌, ◌+◌, ◌*◌, ◌/◌, ◌^◌, ◌<◌, suc, false, true, MatchOption};
-ghost use Rattle.ffs_workspace.specs.Places.{place_in, is_due, part_size, KeepsPlace};
+ghost use Rattle.ffs_volume.specs.Encodings.Places.{place_in, is_due, part_size, KeepsPlace};
 ghost use Rattle.ffs_volume.specs.declared.constants.TheConstants.{DIRBLKSIZ};
 
 use ffs_layout::Geometry;
@@ -51,7 +51,7 @@ pub fn passed(word: u32) -> u32
 /// How many bytes a part of the image has. It is a chunk where 31 bits have room for the number of
 /// each chunk of the volume: where it has less than 2^40 bytes. Else it is a fragment, which is read
 /// at once too, but holds more entries to search.
-#[tactic(auto, unfolding(crate::specs::Places::part_size))]
+#[tactic(auto, unfolding(ffs_volume::specs::Encodings::Places::part_size))]
 pub fn part_size(geometry: &Geometry) -> usize
     ensures { result ≡ part_size geometry.now.layout }
 {

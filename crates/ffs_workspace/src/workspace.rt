@@ -23,8 +23,8 @@ pub struct Windows {
     pub blocks: Blocks,
     /// A data block of the current directory. In phase 5 a group block.
     pub current: Window,
-    /// A data block of another directory, or a name in it: paths are read here, so that the current
-    /// directory stays in `current`.
+    /// A data block of another directory, or its chunk with a parent entry: paths are read here, so
+    /// that the current directory stays in `current`.
     pub other: Window,
 }
 
@@ -49,10 +49,10 @@ pub struct Workspace {
     pub reached: FixedList<bool>,
     /// Flags that are used one after another:
     ///
-    /// - The survey flags the calm directories.
+    /// - The survey flags the calm directories. There the list is lent as `calm`.
     /// - Phase 2 clears the flag of each suspect inode (a marked one, or a directory of size 0),
     ///   and then flags those of them that a plain entry has named. Other flags stay.
-    /// - Phase 3 flags the least directory of each cycle of parents.
+    /// - Phase 3 flags the least directory of each cycle of parents. There it is lent as `leaders`.
     pub flags: FixedList<bool>,
     /// How many entries refer to each inode, counted on from `links_start`.
     pub references: FilledList<u64>,
@@ -66,8 +66,9 @@ pub struct Workspace {
     /// Numbers of 32 bits that are used one after another:
     ///
     /// - The survey's queue: the reached directories, level after level.
-    /// - In phase 2 a word of each directory: where its parent entry is (`noted_part`), and
-    ///   whether that is due. There the list is lent as `words`.
+    /// - In phase 2 a word of each directory: where its parent entry is (`noted_part`), and whether
+    ///   that is due. While the places are noted, the bit for the latter says whether the
+    ///   directory's chunks are to be read. There the list is lent as `words`.
     /// - In phase 3 which walk over parents met each directory. There it is lent as `walk_of`.
     pub queue: FilledList<u32>,
     /// How many Runs phase 1 has looked at.

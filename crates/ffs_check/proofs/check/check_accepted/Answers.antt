@@ -37,15 +37,15 @@ returns-in-Err g c =
     let asks = c.in-Err.ensures.asks in
     record {
       follows = record {
-        followed = inl (refl, c.say_refusal.ensures);
+        followed = inl (refl, c.say_no_memory.ensures);
         memory = record { asked = inr asks; refused = λ e. asks.rose };
         reads = record {
           known = λ bytes t. omega arith;
           any = unstarted_reads c.args.superblock.now.geometry.layout _ _ _ _ _ c.requires.opened.working
-              c.say_refusal.ensures;
+              c.say_no_memory.ensures;
         };
       };
-      same_reference = elim c.say_refusal.ensures [
+      same_reference = elim c.say_no_memory.ensures [
         | inl said ↦ said.0.output
         | inr stopped ↦ stopped.0.output
       ];

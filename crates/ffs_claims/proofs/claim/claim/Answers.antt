@@ -4,7 +4,7 @@ use Rattle.ffs_volume.{proofs.Potentials.moves_then, specs.Blocks.Claims.{after_
 use Rattle.ffs_volume.specs.{declared.Step.TheVariants.Gap, Report.VolumeReads.indirect_in_steps}
 use Rattle.ffs_report.{proofs.Reporting.{of_begins, of_stops, of_reads, of_same, says_none}, specs.Known.ForBytes}
 use Rattle.ffs_report.specs.Known.{IsContents}
-use Rattle.ffs_walk.{proofs.Counted.{top_held, top_unread}, specs.Rests.steps_left}
+use Rattle.ffs_walk.{proofs.{Counted.{top_held, top_unread}, WalkSteps.top_ends}, specs.Rests.steps_left}
 use Rattle.ffs_workspace.specs.Holds.{claims_of}
 use Rattle.ffs_claims.proofs.{Frames.{can_walk, ready_still, ready_read, only_then}, Inodes.{sees_next, moves_on}}
 use Rattle.ffs_claims.proofs.{Inodes.{seen_bound, claiming_none, claiming_walked, claiming_on}, StepsContinue.cut_over}
@@ -47,7 +47,7 @@ loop-next-init g c =
     let walk = rw c.requires.walk at c.restart.ensures.walk c.requires.class_is in
     let top = c.restart.ensures.top in
     let begins = c.restart.ensures.geometry ∙ c.requires.walk in
-    let words = words_for (ap (λ k. k.layout) begins) c.claim_direct.ensures in
+    let words = words_for (ap (λ k. k.layout) begins) c.claim_direct.ensures.claims in
     let none = claiming_none c.requires.claim in
     let image = (g.I.Image.device c.args.image.now).contents in
     let blocks = none.claim.ready.windows.blocks in
@@ -71,6 +71,37 @@ loop-next-init g c =
       said = of_same _ _ _ _ _ _ (of_begins _ _ _)
           (λ bytes t. ap of_lines (sym (words.lines image blocks bytes t c.args.claimant.now.number
           ∙ ap (lines_of_steps v c.args.claimant.now.number s) (walk.steps bytes))));
+    }
+
+pub returns-then-not-has_address : goal.returns-then-not-has_address
+returns-then-not-has_address g c =
+    let v = c.args.geometry.now.layout in
+    let s = claims_of c.args.workspace.now in
+    let n = c.args.claimant.now.number in
+    let walk = rw c.requires.walk at c.restart.ensures.walk c.requires.class_is in
+    let top = c.restart.ensures.top in
+    let begins = c.restart.ensures.geometry ∙ c.requires.walk in
+    let words = words_for (ap (λ k. k.layout) begins) c.claim_direct.ensures.claims in
+    let none = claiming_none c.requires.claim in
+    let image = (g.I.Image.device c.args.image.now).contents in
+    let blocks = none.claim.ready.windows.blocks in
+    let w = c.claim_direct.new.walk in
+    let s' = claims_of c.claim_direct.new.workspace in
+    let end = c.claim_direct.ensures.top in
+    let over = λ (bytes : List ℕ). top_ends bytes w (grind arith) end.single end.double end.triple in
+    record {
+      text = of_same _ _ _ _ _ _ (of_begins _ _ _)
+          (λ bytes t. ap of_lines (sym (words.lines image blocks bytes t n ∙ ap (lines_of_steps v n s) (walk.steps bytes))
+          ∙ ap (lines_of_steps v n s') (over bytes)));
+      claims = λ bytes t. sym (ap (after_steps v s') (over bytes)) ∙ words.claims image blocks bytes t
+          ∙ ap (after_steps v s) (walk.steps bytes);
+      image = refl;
+      left = claiming_on (record { only = words.only; all_in_range = none.claim.all_in_range })
+          (omega (arith, seen_bound c.args.workspace.now words.only.made words.uncut words.claim_bound))
+          words.claim_bound none;
+      walk = words.same.geometry ∙ begins;
+      counted = omega (arith, words.rises);
+      known = λ bytes t. omega arith;
     }
 
 pub next-requires : goal.next-requires

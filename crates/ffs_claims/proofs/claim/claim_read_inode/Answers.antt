@@ -88,17 +88,17 @@ pub returns-clause-claims : goal.returns-clause-claims
 returns-clause-claims g c =
     let v = c.args.geometry.now.layout in
     let b = begun_runs c.args.workspace.now c.begin.ensures in
-    let s = stored_runs c.claim.new.workspace c.store-2.ensures.rest in
+    let s = stored_runs c.claim.new.workspace c.store-2.ensures.same in
     let zero = begun c.args.workspace.now c.begin.ensures c.requires.can.runs in
     let left = c.claim.ensures.left in
-    let ready = ready_stored c.store-2.ensures.stored c.store-2.ensures.rest left.claim.ready in
+    let ready = ready_stored c.store-2.ensures.stored c.store-2.ensures.same left.claim.ready in
     let m = c.in_ok-claim.ensures.left.claim_bound in
     record {
       text = of_says _ _ (λ bytes. []) _ _ _ _ _ (steps_reported v _ _ (claims_of c.args.workspace.now)
           (ap claims_of c.begin.ensures) c.requires.class_is c.in_ok-say_class.ensures
           c.in_ok-claim.ensures.text c.in_ok-claim.ensures.claims) (λ bytes t. refl)
           c.in_ok-say_count.ensures;
-      claims = λ bytes t. ap claims_of c.store-2.ensures.rest ∙ c.in_ok-claim.ensures.claims bytes t
+      claims = λ bytes t. ap claims_of c.store-2.ensures.same ∙ c.in_ok-claim.ensures.claims bytes t
           ∙ ap (λ s. after_steps v s (steps_of v c.args.claimant.now.inode.now bytes)) (ap claims_of c.begin.ensures);
       left = grind arith;
       known = λ bytes t. omega (
@@ -118,13 +118,13 @@ returns-then-matches-clause-claims g c =
     ] in
     let free = sym c.requires.class_is ∙ is_free in
     let begun = ready_begun c.begin.ensures c.requires.can.claim.ready in
-    let ready = ready_stored c.store.ensures.stored c.store.ensures.rest begun in
+    let ready = ready_stored c.store.ensures.stored c.store.ensures.same begun in
     let few = used_below begun.made in
     let b = begun_runs c.args.workspace.now c.begin.ensures in
-    let s = stored_runs c.begin.new.workspace c.store.ensures.rest in
+    let s = stored_runs c.begin.new.workspace c.store.ensures.same in
     record {
       text = says_none (λ bytes t. rw (free, free_steps v _ bytes free) refl);
-      claims = λ bytes t. ap claims_of c.store.ensures.rest ∙ ap claims_of c.begin.ensures
+      claims = λ bytes t. ap claims_of c.store.ensures.same ∙ ap claims_of c.begin.ensures
           ∙ sym (ap (after_steps v (at_next_inode old)) (free_steps v _ bytes free));
       left = grind arith;
       known = λ bytes t. omega arith;

@@ -11,10 +11,10 @@ counts : {old new : ℕ} (start len : ℕ) (block : Option ℕ) → old < new �
 counts start len None more = omega (arith, more)
 counts start len (Some b) more = omega (arith, more)
 
-pub returns-then-in_range-clause-claims : goal.returns-then-in_range-clause-claims
-returns-then-in_range-clause-claims g c =
-    let did = c.run_in_range.ensures in
-    let fits = sym c.in_range.ensures.value ∙ c.if-in_range.true in
+pub returns-then-move_to-clause-claims : goal.returns-then-move_to-clause-claims
+returns-then-move_to-clause-claims g c =
+    let did = c.take_run_in_range.ensures in
+    let fits = sym c.move_to.ensures.value ∙ c.if-move_to.true in
     λ block. record {
       said = rw (c.requires.uncut, fits) did.taken.said;
       claims = rw (c.requires.uncut, fits) did.taken.claims;
@@ -27,7 +27,7 @@ pub returns-in_err-say_bad-clause-claims : goal.returns-in_err-say_bad-clause-cl
 returns-in_err-say_bad-clause-claims g c =
     rw ((err_from_is_err_and c.from_residual.result c.from_residual.ensures.1).1) (λ block. record {
       said = rw c.requires.uncut (run_stops _ _ (claims_of c.args.workspace.now) c.args.run.start c.args.run.len
-          (sym c.in_range.ensures.value ∙ c.if-in_range.false) c.in_err-say_bad.ensures);
+          (sym c.move_to.ensures.value ∙ c.if-move_to.false) c.in_err-say_bad.ensures);
       claims = tt;
       seen = tt;
       counted = counts c.args.run.start c.args.run.len block (omega arith);
@@ -43,7 +43,7 @@ returns-in_err-offers_of_bad_run-clause-claims g c =
     let did = c.in_err-offers_of_bad_run.ensures in
     rw ((err_from_is_err_and from.result from.ensures.1).1) (λ block. record {
       said = rw c.requires.uncut (run_stops_later _ _ (claims_of c.args.workspace.now) c.args.run.start c.args.run.len
-          (sym c.in_range.ensures.value ∙ c.if-in_range.false) (grind (arith, nat_tests)) c.in_ok-say_bad.ensures
+          (sym c.move_to.ensures.value ∙ c.if-move_to.false) (grind (arith, nat_tests)) c.in_ok-say_bad.ensures
           did.said);
       claims = tt;
       seen = tt;
@@ -56,7 +56,7 @@ returns-clause-claims g c =
     let did = c.in_ok-offers_of_bad_run.ensures in
     λ block. record {
       said = rw c.requires.uncut (run_said _ _ (claims_of c.args.workspace.now) c.args.run.start c.args.run.len
-          (sym c.in_range.ensures.value ∙ c.if-in_range.false) (grind (arith, nat_tests)) c.in_ok-say_bad.ensures
+          (sym c.move_to.ensures.value ∙ c.if-move_to.false) (grind (arith, nat_tests)) c.in_ok-say_bad.ensures
           did.said);
       claims = rw c.requires.uncut (search rules);
       seen = c.is_open.ensures;

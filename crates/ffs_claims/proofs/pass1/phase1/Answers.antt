@@ -1,24 +1,23 @@
-use Rattle.std.proofs.{Common.{◌≡◌, ◌+◌, rules, arith, refl, sym, ◌-◌, ◌≤◌, ◌<◌, ap, ◌∙◌, Err}, lemmas.Result.err_from_is_err_and}
+use Rattle.std.proofs.Common.{◌≡◌, ◌+◌, arith, refl, sym, ◌-◌, ◌≤◌, ◌<◌, ap, ◌∙◌, Err, inl, inr, ◌*◌}
+use Rattle.std.proofs.lemmas.{Result.err_from_is_err_and, Bool.cases_lt}
 use Rattle.ffs_volume.{proofs.OwnerLaws.before_next, specs.Blocks.{BlockCheck.phase1_lines, Claims.after_owner}}
 use Rattle.ffs_volume.specs.{Blocks.{KeptSteps.claims_before, Owners.{owner_of, owners_of}}, Report.Whole.run_count}
+use Rattle.ffs_volume.{specs.{Blocks.Inodes.inodes_of, Laws.ClaimBounds.used_bits}, proofs.Sizes.some_inodes}
 use Rattle.ffs_report.proofs.Reporting.{of_part, of_fault, of_same, reports_knowing, says_heading, stops_heading}
 use Rattle.ffs_report.{proofs.Reporting.said_knows, specs.Known.ForBytes}
 use Rattle.ffs_workspace.specs.{Found.WithFresh, Holds.{claims_of, all_claims}}
-use Rattle.ffs_volume.specs.Blocks.Inodes.{inodes_of}
-use Rattle.ffs_claims.proofs.{Duplicates.{any_set, rescan_is}, Frames.{image_from, ready_begun, ready_still}, Inodes.used_below}
-use Rattle.ffs_claims.proofs.Numbers.{found_begins, found_next, found_all, numbers_most, before_first, before_end}
-use Rattle.ffs_claims.proofs.{Numbers.lines_next, TableReads.{blocks_all, blocks_failed, blocks_later, blocks_next, blocks_none}}
-use Rattle.ffs_volume.proofs.Sizes.{some_inodes}
-use Rattle.ffs_claims.proofs.IndirectReads.{VolumeRead, read_all, read_begins, read_failed, read_later, read_next}
-use Rattle.ffs_claims.proofs.ZeroInodes.{AreFree, StandsAt, free_where_zero, has_inodes, lines_later, stands_later}
-use Rattle.std.proofs.{Common.{inl, inr, ◌*◌}, lemmas.Bool.cases_lt}
-use Rattle.ffs_volume.specs.Laws.ClaimBounds.{used_bits}
+use Rattle.ffs_claims.proofs.{Duplicates.{any_set, rescan_is}, Frames.{image_from, ready_begun, ready_still}}
+use Rattle.ffs_claims.proofs.{Inodes.used_below, Numbers.{found_begins, found_next, found_all, numbers_most}}
+use Rattle.ffs_claims.proofs.{Numbers.{before_first, before_end, lines_next}, TableReads.{blocks_all, blocks_failed}}
+use Rattle.ffs_claims.proofs.{TableReads.{blocks_later, blocks_next, blocks_none}, IndirectReads.{VolumeRead, read_all}}
+use Rattle.ffs_claims.proofs.{IndirectReads.{read_begins, read_failed, read_later, read_next}, ZeroInodes.AreFree}
+use Rattle.ffs_claims.proofs.ZeroInodes.{StandsAt, free_where_zero, has_inodes, lines_later, stands_later}
 use Rattle.ffs_claims.proofs.pass1.phase1.Goals as goal
 
-pub returns-in_err-say-clause-prints : goal.returns-in_err-say-clause-prints
-returns-in_err-say-clause-prints g c =
+pub returns-in_err-say-clause-text : goal.returns-in_err-say-clause-text
+returns-in_err-say-clause-text g c =
     let p = err_from_is_err_and c.from_residual.result c.from_residual.ensures.1 in
-    rw (p.1, p.2) (record { image = search rules; text = stops_heading c.in_err-say.ensures.said })
+    rw (p.1, p.2) (stops_heading c.in_err-say.ensures.said)
 
 pub loop-number-init : goal.loop-number-init
 unfolding phase1_lines owners_of
@@ -50,22 +49,25 @@ claim_inode-requires g c =
     let used = used_below inv.ready.ready.made in
     grind arith
 
-pub returns-in_err-claim_inode-clause-prints : goal.returns-in_err-claim_inode-clause-prints
-returns-in_err-claim_inode-clause-prints g c =
+pub returns-in_err-claim_inode-clause-faults : goal.returns-in_err-claim_inode-clause-faults
+returns-in_err-claim_inode-clause-faults g c =
+    let p = err_from_is_err_and c.from_residual-in_err-claim_inode.result
+    c.from_residual-in_err-claim_inode.ensures.1 in
+    rw (p.1, p.2) (image_from {T = Unit {0}} (g.I.Image.device c.claim_inode.new.image)
+    (Err c.in_err-claim_inode.field-0.0) c.loop-number.invariant.device c.in_err-claim_inode.ensures.claims.left.image)
+
+pub returns-in_err-claim_inode-clause-text : goal.returns-in_err-claim_inode-clause-text
+returns-in_err-claim_inode-clause-text g c =
     let p = err_from_is_err_and c.from_residual-in_err-claim_inode.result
     c.from_residual-in_err-claim_inode.ensures.1 in
     let v = c.args.geometry.now.layout in
     let inv = c.loop-number.invariant in
     let s = claims_of c.loop-number.workspace in
     let n = c.loop-number.number in
-    rw (p.1, p.2) (record {
-      image = image_from {T = Unit {0}} (g.I.Image.device c.claim_inode.new.image)
-          (Err c.in_err-claim_inode.field-0.0) inv.device c.in_err-claim_inode.ensures.claims.left.image;
-      text = of_fault (Unit {0}) (Unit {0}) _ _ _ _ _ _ _ _ c.in_err-claim_inode.field-0.0
-          inv.said (λ bytes t. lines_next v bytes s (after_owner v s (owner_of v bytes n)) n (omega arith) refl)
-          (reports_knowing (Unit {0}) _ _ _ _ _ (Err c.in_err-claim_inode.field-0.0)
-          (λ bytes k. ap (λ d. d.contents) inv.device ∙ k.0) c.in_err-claim_inode.ensures.claims.text);
-    })
+    rw (p.1, p.2) (of_fault (Unit {0}) (Unit {0}) _ _ _ _ _ _ _ _ c.in_err-claim_inode.field-0.0
+    inv.said (λ bytes t. lines_next v bytes s (after_owner v s (owner_of v bytes n)) n (omega arith) refl)
+    (reports_knowing (Unit {0}) _ _ _ _ _ (Err c.in_err-claim_inode.field-0.0)
+    (λ bytes k. ap (λ d. d.contents) inv.device ∙ k.0) c.in_err-claim_inode.ensures.claims.text))
 
 pub loop-number-preserved : goal.loop-number-preserved
 loop-number-preserved g c =
@@ -153,11 +155,11 @@ pass_zero_inodes-number-requires g c =
       before = omega (arith, ready.made.kinds);
     }
 
-pub returns-clause-prints : goal.returns-clause-prints
-returns-clause-prints g c =
+pub returns-clause-text : goal.returns-clause-text
+returns-clause-text g c =
     let inv = c.loop-number.invariant in
     let none : inodes_of c.args.geometry.now.layout - c.loop-number.number ≡ 0 = omega arith in
-    record { image = inv.device; text = of_same _ _ _ _ _ _ inv.said (λ bytes k. rw none refl) }
+    of_same _ _ _ _ _ _ inv.said (λ bytes k. rw none refl)
 
 pub returns-clause-leaves : goal.returns-clause-leaves
 unfolding run_count all_claims

@@ -20,20 +20,28 @@ fits : (g : given.Over) (c : After-is_spent g) →
     (λ bytes. c.is_spent.result ≡ false)
 fits g c bytes k =
     let scanned = c.rescan_inodes-scanned.ensures in
-    let back = phase_served (rw c.new-limited.ensures.device at scanned.prints) c.is_spent.ensures.below in
+    let back = phase_served _ (rw c.new-limited.ensures.device at scanned.faults)
+    (rw c.new-limited.ensures.device at scanned.text) c.is_spent.ensures.below in
     let sound = c.args.geometry.now.sound in
     let runs = scanned.reads.runs bytes (known g c bytes k) in
     let bounded = runs_bounded c.args.geometry.now.layout bytes sound in
     let reads = scanned.reads.reads (omega (arith, sound.numbers.inodes_below, sound.numbers.size_below)) in
     back.few (omega (arith, c.new-limited.ensures.asked, c.sweep_reads.ensures))
 
-pub returns-then-is_spent-clause-prints : goal.returns-then-is_spent-clause-prints
-returns-then-is_spent-clause-prints g c =
-    let at = (goal.at.returns-then-is_spent-clause-prints g c).After-is_spent in
-    let back = phase_served (rw c.new-limited.ensures.device at c.rescan_inodes-scanned.ensures.prints)
-    c.is_spent.ensures.below in
+pub returns-then-is_spent-clause-faults : goal.returns-then-is_spent-clause-faults
+returns-then-is_spent-clause-faults g c =
+    let at = (goal.at.returns-then-is_spent-clause-faults g c).After-is_spent in
+    let back = phase_served _ (rw c.new-limited.ensures.device at c.rescan_inodes-scanned.ensures.faults)
+    (rw c.new-limited.ensures.device at c.rescan_inodes-scanned.ensures.text) c.is_spent.ensures.below in
     let image = c.image-1.given.1 back.same_image ∙ c.drop-limited.ensures.below in
-    rw image (back.refused tt c.if-is_spent.true (fits g at))
+    rw image ((back.refused tt c.if-is_spent.true (fits g at)).0)
+
+pub returns-then-is_spent-clause-text : goal.returns-then-is_spent-clause-text
+returns-then-is_spent-clause-text g c =
+    let at = (goal.at.returns-then-is_spent-clause-text g c).After-is_spent in
+    let back = phase_served _ (rw c.new-limited.ensures.device at c.rescan_inodes-scanned.ensures.faults)
+    (rw c.new-limited.ensures.device at c.rescan_inodes-scanned.ensures.text) c.is_spent.ensures.below in
+    (back.refused tt c.if-is_spent.true (fits g at)).1
 
 pub returns-then-is_spent-clause-leaves : goal.returns-then-is_spent-clause-leaves
 returns-then-is_spent-clause-leaves g c = λ bytes k.
@@ -47,17 +55,23 @@ returns-then-is_spent-clause-reads g c =
 
 pub returns-then-is_spent-clause-ready : goal.returns-then-is_spent-clause-ready
 returns-then-is_spent-clause-ready g c =
-    let back = phase_served (rw c.new-limited.ensures.device at c.rescan_inodes-scanned.ensures.prints)
-    c.is_spent.ensures.below in
+    let back = phase_served _ (rw c.new-limited.ensures.device at c.rescan_inodes-scanned.ensures.faults)
+    (rw c.new-limited.ensures.device at c.rescan_inodes-scanned.ensures.text) c.is_spent.ensures.below in
     let image = c.image-1.given.1 back.same_image ∙ c.drop-limited.ensures.below in
     rw image (ready_same c.args.geometry.now.layout _ _ c.rescan_inodes-scanned.new.workspace back.contents back.size
     c.rescan_inodes-scanned.ensures.ready)
 
-pub returns-clause-prints : goal.returns-clause-prints
-returns-clause-prints g c =
-    let back = phase_served (rw c.new-limited.ensures.device at c.rescan_inodes-scanned.ensures.prints)
-    c.is_spent.ensures.below in
-    rw (c.image-2-1.given.1 back.same_image ∙ c.drop-limited-2.ensures.below) (back.answered c.if-is_spent.false)
+pub returns-clause-faults : goal.returns-clause-faults
+returns-clause-faults g c =
+    let back = phase_served _ (rw c.new-limited.ensures.device at c.rescan_inodes-scanned.ensures.faults)
+    (rw c.new-limited.ensures.device at c.rescan_inodes-scanned.ensures.text) c.is_spent.ensures.below in
+    rw (c.image-2-1.given.1 back.same_image ∙ c.drop-limited-2.ensures.below) ((back.answered c.if-is_spent.false).0)
+
+pub returns-clause-text : goal.returns-clause-text
+returns-clause-text g c =
+    let back = phase_served _ (rw c.new-limited.ensures.device at c.rescan_inodes-scanned.ensures.faults)
+    (rw c.new-limited.ensures.device at c.rescan_inodes-scanned.ensures.text) c.is_spent.ensures.below in
+    (back.answered c.if-is_spent.false).1
 
 pub returns-clause-leaves : goal.returns-clause-leaves
 returns-clause-leaves g c =
@@ -72,8 +86,8 @@ returns-clause-reads g c =
 
 pub returns-clause-ready : goal.returns-clause-ready
 returns-clause-ready g c =
-    let back = phase_served (rw c.new-limited.ensures.device at c.rescan_inodes-scanned.ensures.prints)
-    c.is_spent.ensures.below in
+    let back = phase_served _ (rw c.new-limited.ensures.device at c.rescan_inodes-scanned.ensures.faults)
+    (rw c.new-limited.ensures.device at c.rescan_inodes-scanned.ensures.text) c.is_spent.ensures.below in
     let image = c.image-2-1.given.1 back.same_image ∙ c.drop-limited-2.ensures.below in
     rw image (ready_same c.args.geometry.now.layout _ _ c.rescan_inodes-scanned.new.workspace back.contents back.size
     c.rescan_inodes-scanned.ensures.ready)

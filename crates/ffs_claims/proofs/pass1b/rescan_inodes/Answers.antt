@@ -1,4 +1,4 @@
-use Rattle.std.proofs.Common.{Result, rules, ◌≡◌, ◌≤◌, ◌+◌, ◌-◌, ◌^◌, ◌<◌, ◌∷◌, [], arith, refl, ap, ◌∙◌, Err}
+use Rattle.std.proofs.Common.{Result, ◌≡◌, ◌≤◌, ◌+◌, ◌-◌, ◌^◌, ◌<◌, ◌∷◌, [], arith, refl, ap, ◌∙◌, Err}
 use Rattle.std.proofs.lemmas.Result.{err_from_is_err_and}
 use Rattle.ffs_volume.{proofs.RunBounds.runs_bounded, specs.Blocks.BlockCheck.{first_offer_lines, phase1b_lines}}
 use Rattle.ffs_volume.specs.{Blocks.{KeptSteps.claims_before, Owners.owners_of}, Messages.Kinds.phase1b}
@@ -16,17 +16,14 @@ use Rattle.ffs_claims.proofs.{Rescanned.{claims_hold, starts_hold}, Rewalks.{run
 use Rattle.ffs_claims.specs.{Lines.of_lines, Reporting.after_first, RescanRuns.{runs_until_reported, rescan_runs}}
 use Rattle.ffs_claims.proofs.pass1b.rescan_inodes.Goals as goal
 
-pub returns-in_err-say-clause-prints : goal.returns-in_err-say-clause-prints
-returns-in_err-say-clause-prints g c =
+pub returns-in_err-say-clause-text : goal.returns-in_err-say-clause-text
+returns-in_err-say-clause-text g c =
     let p = err_from_is_err_and c.from_residual.result c.from_residual.ensures.1 in
     let v = c.args.geometry.now.layout in
-    rw (p.1, p.2) (record {
-      image = search rules;
-      text = of_stops _ (λ bytes. phase1b ∷ of_lines (phase1b_lines v (owners_of v bytes)))
-          (λ bytes. of_lines (phase1b_lines v (owners_of v bytes))) _ (phase1b ∷ []) _ _ _
-          (of_begins _ (λ bytes. phase1b ∷ of_lines (phase1b_lines v (owners_of v bytes))) _) (λ bytes t. refl)
-          c.in_err-say.ensures.said;
-    })
+    rw (p.1, p.2) (of_stops _ (λ bytes. phase1b ∷ of_lines (phase1b_lines v (owners_of v bytes)))
+    (λ bytes. of_lines (phase1b_lines v (owners_of v bytes))) _ (phase1b ∷ []) _ _ _
+    (of_begins _ (λ bytes. phase1b ∷ of_lines (phase1b_lines v (owners_of v bytes))) _) (λ bytes t. refl)
+    c.in_err-say.ensures.said)
 
 pub loop-number-init : goal.loop-number-init
 unfolding phase1b_lines owners_of all_claims rescan_runs
@@ -58,8 +55,15 @@ loop-number-init g c =
           (λ bytes k. rw (before_first v bytes, k.1.dup) refl) c.in_ok-say.ensures.said;
     }
 
-pub returns-in_err-rewalk_inode-clause-prints : goal.returns-in_err-rewalk_inode-clause-prints
-returns-in_err-rewalk_inode-clause-prints g c =
+pub returns-in_err-rewalk_inode-clause-faults : goal.returns-in_err-rewalk_inode-clause-faults
+returns-in_err-rewalk_inode-clause-faults g c =
+    let p = err_from_is_err_and c.from_residual-in_err-rewalk_inode.result
+    c.from_residual-in_err-rewalk_inode.ensures.1 in
+    rw (p.1, p.2) (image_from {T = Unit {0}} (g.I.Image.device c.rewalk_inode.new.image)
+    (Err c.in_err-rewalk_inode.field-0.0) c.loop-number.invariant.device c.in_err-rewalk_inode.ensures.left.image)
+
+pub returns-in_err-rewalk_inode-clause-text : goal.returns-in_err-rewalk_inode-clause-text
+returns-in_err-rewalk_inode-clause-text g c =
     let p = err_from_is_err_and c.from_residual-in_err-rewalk_inode.result
     c.from_residual-in_err-rewalk_inode.ensures.1 in
     let v = c.args.geometry.now.layout in
@@ -68,18 +72,14 @@ returns-in_err-rewalk_inode-clause-prints g c =
     let d = bits_of c.loop-number.workspace.duplicates in
     let notes = c.loop-number.workspace.notes.items in
     let fault : Result (Unit {0}) RunFault = Err c.in_err-rewalk_inode.field-0.0 in
-    rw (p.1, p.2) (record {
-      image = image_from (g.I.Image.device c.rewalk_inode.new.image) fault inv.device
-          c.in_err-rewalk_inode.ensures.left.image;
-      text = of_fault (Unit {0}) (Unit {0}) _ (λ bytes. of_lines (first_offer_lines d (kept_from v bytes n)))
-          (λ bytes. of_lines (first_offer_lines d (offers_at v bytes notes n)))
-          (λ bytes. of_lines (first_offer_lines (after_first d (offers_at v bytes notes n))
-          (kept_from v bytes (n + 1))))
-          _ _ _ _ c.in_err-rewalk_inode.field-0.0 inv.said (λ bytes k. lines_split d _ _ _ _ (kept_next v bytes notes n
-          (is_noted c.args.geometry.now.sound inv.low (omega arith) inv.claims k.1)) refl)
-          (reports_knowing (Unit {0}) _ _ _ _ _ fault (λ bytes k. ap (λ d. d.contents) inv.device ∙ k.0)
-          c.in_err-rewalk_inode.ensures.text);
-    })
+    rw (p.1, p.2) (of_fault (Unit {0}) (Unit {0}) _ (λ bytes. of_lines (first_offer_lines d (kept_from v bytes n)))
+    (λ bytes. of_lines (first_offer_lines d (offers_at v bytes notes n)))
+    (λ bytes. of_lines (first_offer_lines (after_first d (offers_at v bytes notes n))
+    (kept_from v bytes (n + 1))))
+    _ _ _ _ c.in_err-rewalk_inode.field-0.0 inv.said (λ bytes k. lines_split d _ _ _ _ (kept_next v bytes notes n
+    (is_noted c.args.geometry.now.sound inv.low (omega arith) inv.claims k.1)) refl)
+    (reports_knowing (Unit {0}) _ _ _ _ _ fault (λ bytes k. ap (λ d. d.contents) inv.device ∙ k.0)
+    c.in_err-rewalk_inode.ensures.text))
 
 pub returns-in_err-rewalk_inode-clause-reads : goal.returns-in_err-rewalk_inode-clause-reads
 returns-in_err-rewalk_inode-clause-reads g c =
@@ -150,11 +150,9 @@ returns-then-not-has_unreported_dups g c =
     let d = bits_of c.loop-number.workspace.duplicates in
     let none = none_left (set_count d) _ c.has_unreported_dups.ensures c.if-not-has_unreported_dups.true in
     record {
-      prints = record {
-        image = inv.device;
-        text = of_same _ _ (λ bytes. []) _ _ _ inv.said
-            (λ bytes k. ap of_lines (none_first d (kept_from v bytes n) none));
-      };
+      faults = inv.device;
+      text = of_same _ _ (λ bytes. []) _ _ _ inv.said
+          (λ bytes k. ap of_lines (none_first d (kept_from v bytes n) none));
       leaves = λ bytes k. record {
         claims = claims_hold v bytes c.args.workspace.now _ k.1 inv.claims (reporting_over none (inv.reported bytes k));
         starts = starts_hold v bytes c.args.workspace.now _ k.1 inv.claims;
@@ -178,11 +176,9 @@ returns-after-loop-number g c =
     let d = bits_of c.loop-number.workspace.duplicates in
     let past : inodes_of v ≤ n = omega arith in
     record {
-      prints = record {
-        image = inv.device;
-        text = of_same _ _ (λ bytes. []) _ _ _ inv.said (λ bytes k. ap (λ os. of_lines (first_offer_lines d os))
-            (kept_end v bytes (claims_before v bytes n) n past));
-      };
+      faults = inv.device;
+      text = of_same _ _ (λ bytes. []) _ _ _ inv.said (λ bytes k. ap (λ os. of_lines (first_offer_lines d os))
+          (kept_end v bytes (claims_before v bytes n) n past));
       leaves = λ bytes k. record {
         claims = claims_hold v bytes c.args.workspace.now _ k.1 inv.claims
             (reporting_ends (inv.reported bytes k) (kept_end v bytes (claims_before v bytes n) n past));

@@ -1,12 +1,11 @@
 use Rattle.std.proofs.Common.{ℕ, ◌≡◌, ◌++◌, replicate, [], arith, refl, ap, ◌∙◌, sym, true, List, slice_index}
 use Rattle.std.proofs.lemmas.{Bool.Decides.nat_tests, Result.err_from_is_err_and}
 use Rattle.ffs_volume.specs.{Blocks.BlockCheck.first_offer_lines, Encodings.Replay.{fresh_replay, is_replay_open}}
-use Rattle.ffs_volume.specs.{Encodings.ReplayCounts.replay_step_by_cut, declared.Step.TheVariants.Gap}
+use Rattle.ffs_volume.specs.{Encodings.{ReplayCounts.replay_step_by_cut, Notes.cut_in}, declared.Step.TheVariants.Gap}
 use Rattle.ffs_report.{proofs.Reporting.{of_begins, of_stops, of_reads, of_same}, specs.Known.{ForBytes, IsContents}}
 use Rattle.ffs_maps.specs.Bits.{bits_of}
 use Rattle.ffs_walk.{proofs.Counted.{top_held, top_unread}, specs.{Keepings.replay_in, Rests.steps_left}}
 use Rattle.ffs_workspace.specs.Lengths.{set_count}
-use Rattle.ffs_volume.specs.Encodings.Notes.{cut_in}
 use Rattle.ffs_claims.proofs.{Duplicates.{none_first, none_left, some_left}, Frames.{can_walk, claims_none, ready_read}}
 use Rattle.ffs_claims.proofs.{Frames.ready_walked, RescanCounts.{again_gaps, again_stopped}, Rewalks.offers_none}
 use Rattle.ffs_claims.proofs.Rewalks.{lines_step, runs_next, rewalk_begins, rewalk_on, rewalk_gaps, rewalk_ends}

@@ -1,7 +1,6 @@
 use Rattle.std.proofs.Common.{◌<◌, arith, refl, rules, ◌∙◌}
 use Rattle.ffs_maps.proofs.Bits.{bits_long}
-use Rattle.ffs_claims.specs.{SilentWords.with_run_counts}
-use Rattle.ffs_claims.proofs.{SeriesClaims.series_words, UnclaimedRuns.run_below}
+use Rattle.ffs_claims.{specs.SilentWords.with_run_counts, proofs.{SeriesClaims.series_words, UnclaimedRuns.run_below}}
 use Rattle.ffs_claims.proofs.words.claim_series.Goals as goal
 
 pub claim-requires : goal.claim-requires

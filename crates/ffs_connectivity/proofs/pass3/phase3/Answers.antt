@@ -18,21 +18,17 @@ known : (g : given.Over) (c : At-loop-number g) →
     (WithSurvey c.args.geometry.now.layout (g.I.Image.device c.loop-number.image) c.loop-number.workspace)
 known g c bytes k = grind (arith, claims_left, survey_left)
 
-pub returns-in_err-say-clause-prints : goal.returns-in_err-say-clause-prints
-returns-in_err-say-clause-prints g c =
+pub returns-in_err-say-clause-text : goal.returns-in_err-say-clause-text
+returns-in_err-say-clause-text g c =
     let p = err_from_is_err_and c.from_residual.result c.from_residual.ensures.1 in
-    rw (p.1, p.2) (record { image = search rules; text = stops_heading c.in_err-say.ensures.said })
+    rw (p.1, p.2) (stops_heading c.in_err-say.ensures.said)
 
-pub returns-then-first-len-clause-prints : goal.returns-then-first-len-clause-prints
-returns-then-first-len-clause-prints g c =
+pub returns-then-first-len-clause-text : goal.returns-then-first-len-clause-text
+returns-then-first-len-clause-text g c =
     let v = c.args.geometry.now.layout in
-    record {
-      image = search rules;
-      text = says_heading
-          (λ bytes k. lines_begin v bytes c.args.workspace.now _ _ c.deref.ensures.value c.deref-2.ensures.value k.1 k.2
-          c.first_unreached-first.result (omega arith) c.first_unreached-first.ensures.before
-          ∙ from_end (unref_dir_lines (volume_of v bytes)) _ (inodes_of v) (omega arith)) c.in_ok-say.ensures.said;
-    }
+    says_heading (λ bytes k. lines_begin v bytes c.args.workspace.now _ _ c.deref.ensures.value c.deref-2.ensures.value k.1 k.2
+    c.first_unreached-first.result (omega arith) c.first_unreached-first.ensures.before
+    ∙ from_end (unref_dir_lines (volume_of v bytes)) _ (inodes_of v) (omega arith)) c.in_ok-say.ensures.said
 
 pub loop-number-init : goal.loop-number-init
 loop-number-init g c =
@@ -54,55 +50,53 @@ loop-number-init g c =
       paid = paid_says _ c.in_ok-say.ensures.said (omega arith) (omega arith);
     }
 
-pub returns-in_err-check_inode-clause-prints : goal.returns-in_err-check_inode-clause-prints
-returns-in_err-check_inode-clause-prints g c =
-    let p = err_from_is_err_and c.from_residual-in_err-check_inode.result
-    c.from_residual-in_err-check_inode.ensures.1 in
+pub returns-in_err-report_lost-clause-text : goal.returns-in_err-report_lost-clause-text
+returns-in_err-report_lost-clause-text g c =
+    let p = err_from_is_err_and c.from_residual-in_err-report_lost.result
+    c.from_residual-in_err-report_lost.ensures.1 in
     let v = c.args.geometry.now.layout in
     let n = c.loop-number.number in
-    let fault = c.in_err-check_inode.field-0.0 in
-    rw (p.1, p.2) (record {
-      image = search rules;
-      text = of_fault (Unit {0}) (Unit {0}) _ _ _ (lines_after v (n + 1)) _ _ _ _ fault c.loop-number.invariant.said
-          (λ bytes k. from_next (unref_dir_lines (volume_of v bytes)) n (inodes_of v) (omega arith))
-          (reports_knowing (Unit {0}) _ _ _ _ _ (Err fault)
-          (known g (goal.at.returns-in_err-check_inode-clause-prints g c).At-loop-number)
-          c.in_err-check_inode.ensures.prints.text);
-    })
+    let fault = c.in_err-report_lost.field-0.0 in
+    rw (p.1, p.2) (of_fault (Unit {0}) (Unit {0}) _ _ _ (lines_after v (n + 1)) _ _ _ _ fault c.loop-number.invariant.said
+    (λ bytes k. from_next (unref_dir_lines (volume_of v bytes)) n (inodes_of v) (omega arith))
+    (reports_knowing (Unit {0}) _ _ _ _ _ (Err fault)
+    (known g (goal.at.returns-in_err-report_lost-clause-text g c).At-loop-number)
+    c.in_err-report_lost.ensures.text))
 
 pub loop-number-preserved : goal.loop-number-preserved
 loop-number-preserved g c =
     let v = c.args.geometry.now.layout in
     let inv = c.loop-number.invariant in
     let n = c.loop-number.number in
-    let ok = c.in_ok-check_inode.ensures in
+    let ok = c.in_ok-report_lost.ensures in
     let more = known g (goal.at.loop-number-preserved g c).At-loop-number in
     record {
       ready = ok.stays.ready;
-      device = ok.prints.image ∙ inv.device;
+      device = ok.faults ∙ inv.device;
       low = omega arith;
       survey = leaves_more _ _ _ inv.survey (windows_leave _ _ ok.stays.held);
       leaders = leaders_held _ _ ok.stays.held inv.leaders;
       reads = grind (arith, count_next);
       said = of_part _ _ _ _ _ _ _ _ inv.said
           (λ bytes k. from_next (unref_dir_lines (volume_of v bytes)) n (inodes_of v) (omega arith))
-          (said_knows _ _ _ _ _ _ more ok.prints.text);
-      paid = paid_then inv.paid (paid_answer ok.reads.paid);
+          (said_knows _ _ _ _ _ _ more ok.text);
+      paid = paid_then inv.paid (paid_answer ok.paid);
     }
 
-pub returns-clause-prints : goal.returns-clause-prints
-returns-clause-prints g c = grind (arith, of_same, from_end)
+pub returns-clause-text : goal.returns-clause-text
+returns-clause-text g c = grind (arith, of_same, from_end)
 
-pub returns-in_err-say-clause-reads : goal.returns-in_err-say-clause-reads
-returns-in_err-say-clause-reads g c = grind (arith, err_from_is_err_and, paid_stops)
+pub returns-in_err-say-clause-paid : goal.returns-in_err-say-clause-paid
+returns-in_err-say-clause-paid g c = grind (arith, err_from_is_err_and, paid_stops)
 
-pub returns-then-first-len-clause-reads : goal.returns-then-first-len-clause-reads
-returns-then-first-len-clause-reads g c =
-    record { known = λ b k. omega arith; paid = paid_says _ c.in_ok-say.ensures.said (omega arith) (omega arith) }
+pub returns-then-first-len-clause-paid : goal.returns-then-first-len-clause-paid
+returns-then-first-len-clause-paid g c = paid_says _ c.in_ok-say.ensures.said (omega arith) (omega arith)
 
-pub returns-in_err-check_inode-clause-reads : goal.returns-in_err-check_inode-clause-reads
-returns-in_err-check_inode-clause-reads g c =
-    grind (arith, count_next, known, err_from_is_err_and, paid_then, paid_fault)
+pub returns-in_err-report_lost-clause-reads : goal.returns-in_err-report_lost-clause-reads
+returns-in_err-report_lost-clause-reads g c = grind (arith, count_next, known)
 
-pub returns-clause-reads : goal.returns-clause-reads
-returns-clause-reads g c = grind (arith, paid_answer)
+pub returns-in_err-report_lost-clause-paid : goal.returns-in_err-report_lost-clause-paid
+returns-in_err-report_lost-clause-paid g c = grind (arith, err_from_is_err_and, paid_then, paid_fault)
+
+pub returns-clause-paid : goal.returns-clause-paid
+returns-clause-paid g c = grind (arith, paid_answer)

@@ -1,9 +1,8 @@
 use Rattle.std.proofs.Common.{◌≡◌, ◌+◌, ◌-◌, ◌≤◌, ◌∷◌, length, map, Ok}
 use Rattle.ffs_report.specs.{Known.ForBytes, Paid.Paid, PhaseOutcome.SaidOf, Progress.progress}
 use Rattle.ffs_volume.specs.{Directories.{Connectivity.connectivity_lines, Volumes.volume_of}, Messages.Kinds.of_tree}
-use Rattle.ffs_volume.specs.Messages.Kinds.{phase3, lines_from}
+use Rattle.ffs_volume.specs.{Messages.Kinds.{phase3, lines_from}, Blocks.Inodes.inodes_of}
 use Rattle.ffs_workspace.specs.{Found.WithSurvey, Leaves.LeavesSurvey, Ready.IsReady}
-use Rattle.ffs_volume.specs.Blocks.Inodes.{inodes_of}
 use Rattle.ffs_connectivity.{specs.{Leaders.HasLeaders, Lines.unref_dir_lines}, proofs.UnrefLines.lines_after}
 use Rattle.ffs_connectivity.proofs.pass3.phase3.Given as goal
 

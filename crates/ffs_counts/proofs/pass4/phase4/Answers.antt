@@ -1,14 +1,13 @@
-use Rattle.std.proofs.{Common.{◌≡◌, ◌∙◌, ◌+◌, arith, ap, Err, refl, rules}, lemmas.Result.err_from_is_err_and}
+use Rattle.std.proofs.{Common.{◌≡◌, ◌∙◌, ◌+◌, arith, ap, Err, refl}, lemmas.Result.err_from_is_err_and}
 use Rattle.ffs_volume.specs.Directories.{ReferenceCheck.reference_lines_at, Volumes.volume_of}
-use Rattle.ffs_volume.proofs.Numbered.{as_many, count_next, from_next, from_end}
+use Rattle.ffs_volume.{proofs.Numbered.{as_many, count_next, from_next, from_end}, specs.Blocks.Inodes.inodes_of}
 use Rattle.ffs_report.{specs.Known.ForBytes, proofs.Paying.{paid_answer, paid_fault, paid_says, paid_stops, paid_then}}
 use Rattle.ffs_report.proofs.Reporting.{of_fault, of_part, of_same, reports_knowing, said_knows, says_heading}
 use Rattle.ffs_report.proofs.Reporting.{stops_heading}
 use Rattle.ffs_workspace.specs.{declared.workspace.Workspace.Workspace, Found.WithFindings}
-use Rattle.ffs_volume.specs.Blocks.Inodes.{inodes_of}
 use Rattle.ffs_workspace.proofs.Leaving.{findings_held}
 use Rattle.ffs_counts.proofs.Holding.{free_lines, held_on, lines_after, lines_begin}
-use Rattle.ffs_counts.proofs.pass4.phase4.Goals.{After-free_from-free, At-loop-number}
+use Rattle.ffs_counts.proofs.pass4.phase4.Goals.{After-unallocated_from-passed, At-loop-number}
 use Rattle.ffs_counts.proofs.pass4.phase4.Given as given
 use Rattle.ffs_counts.proofs.pass4.phase4.Goals as goal
 
@@ -18,22 +17,22 @@ known : (g : given.Over) (c : At-loop-number g) →
     (WithFindings c.args.geometry.now.layout (g.I.Image.device c.loop-number.image) c.loop-number.workspace)
 known g c bytes k = grind (arith, findings_held)
 
--- the free inodes that are passed over have no lines
-passed : (g : given.Over) (c : After-free_from-free g) →
+-- the inodes that are passed over have no lines
+passed : (g : given.Over) (c : After-unallocated_from-passed g) →
     ForBytes (WithFindings c.args.geometry.now.layout (g.I.Image.device c.args.image.now) c.args.workspace.now)
     (λ bytes. lines_after c.args.geometry.now.layout c.loop-number.number bytes
-    ≡ lines_after c.args.geometry.now.layout (c.loop-number.number + c.free_from-free.result) bytes)
+    ≡ lines_after c.args.geometry.now.layout (c.loop-number.number + c.unallocated_from-passed.result) bytes)
 passed g c bytes k =
     let inv = c.loop-number.invariant in
     free_lines c.args.geometry.now.layout bytes c.args.workspace.now c.deref.result.now c.loop-number.number
-    c.free_from-free.result (inodes_of c.args.geometry.now.layout) k.1.claims
-    (c.deref.ensures.value ∙ ap (λ (w : Workspace). w.kinds.items) inv.held) c.free_from-free.ensures.free
-    (omega (arith, c.free_from-free.ensures.within, c.deref.ensures.len, inv.ready.made.kinds))
+    c.unallocated_from-passed.result (inodes_of c.args.geometry.now.layout) k.1.claims
+    (c.deref.ensures.value ∙ ap (λ (w : Workspace). w.kinds.items) inv.held) c.unallocated_from-passed.ensures.unallocated
+    (omega (arith, c.unallocated_from-passed.ensures.within, c.deref.ensures.len, inv.ready.made.kinds))
 
-pub returns-in_err-say-clause-prints : goal.returns-in_err-say-clause-prints
-returns-in_err-say-clause-prints g c =
+pub returns-in_err-say-clause-text : goal.returns-in_err-say-clause-text
+returns-in_err-say-clause-text g c =
     let p = err_from_is_err_and c.from_residual.result c.from_residual.ensures.1 in
-    rw (p.1, p.2) (record { image = search rules; text = stops_heading c.in_err-say.ensures.said })
+    rw (p.1, p.2) (stops_heading c.in_err-say.ensures.said)
 
 pub loop-number-init : goal.loop-number-init
 loop-number-init g c =
@@ -48,55 +47,54 @@ loop-number-init g c =
       paid = paid_says _ c.in_ok-say.ensures.said (omega arith) (omega arith);
     }
 
-pub returns-in_err-check_inode-clause-prints : goal.returns-in_err-check_inode-clause-prints
-returns-in_err-check_inode-clause-prints g c =
-    let p = err_from_is_err_and c.from_residual-in_err-check_inode.result
-    c.from_residual-in_err-check_inode.ensures.1 in
+pub returns-in_err-report_references-clause-text : goal.returns-in_err-report_references-clause-text
+returns-in_err-report_references-clause-text g c =
+    let p = err_from_is_err_and c.from_residual-in_err-report_references.result
+    c.from_residual-in_err-report_references.ensures.1 in
     let v = c.args.geometry.now.layout in
     let n = c.loop-number.number in
-    let fault = c.in_err-check_inode.field-0.0 in
-    rw (p.1, p.2) (record {
-      image = search rules;
-      text = of_fault (Unit {0}) (Unit {0}) _ _ _ (lines_after v (n + 1)) _ _ _ _ fault c.loop-number.invariant.said
-          (λ bytes k. from_next (reference_lines_at (volume_of v bytes)) n (inodes_of v)
-          (omega (arith, c.loop-number-test.true)))
-          (reports_knowing (Unit {0}) _ _ _ _ _ (Err fault)
-          (known g (goal.at.returns-in_err-check_inode-clause-prints g c).At-loop-number)
-          c.in_err-check_inode.ensures.prints.text);
-    })
+    let fault = c.in_err-report_references.field-0.0 in
+    rw (p.1, p.2) (of_fault (Unit {0}) (Unit {0}) _ _ _ (lines_after v (n + 1)) _ _ _ _ fault c.loop-number.invariant.said
+    (λ bytes k. from_next (reference_lines_at (volume_of v bytes)) n (inodes_of v)
+    (omega (arith, c.loop-number-test.true)))
+    (reports_knowing (Unit {0}) _ _ _ _ _ (Err fault)
+    (known g (goal.at.returns-in_err-report_references-clause-text g c).At-loop-number)
+    c.in_err-report_references.ensures.text))
 
-pub loop-number-preserved-then-free-eq0 : goal.loop-number-preserved-then-free-eq0
-loop-number-preserved-then-free-eq0 g c =
+pub loop-number-preserved-then-passed-eq0 : goal.loop-number-preserved-then-passed-eq0
+loop-number-preserved-then-passed-eq0 g c =
     let v = c.args.geometry.now.layout in
     let inv = c.loop-number.invariant in
     let n = c.loop-number.number in
-    let ok = c.in_ok-check_inode.ensures in
-    let more = known g (goal.at.loop-number-preserved-then-free-eq0 g c).At-loop-number in
+    let ok = c.in_ok-report_references.ensures in
+    let more = known g (goal.at.loop-number-preserved-then-passed-eq0 g c).At-loop-number in
     record {
       within = omega (arith, c.loop-number-test.true);
       ready = ok.stays.ready;
-      device = ok.prints.image ∙ inv.device;
-      held = held_on c.args.workspace.now c.loop-number.workspace c.check_inode.new.workspace inv.held ok.stays.held;
+      device = ok.faults ∙ inv.device;
+      held = held_on c.args.workspace.now c.loop-number.workspace c.report_references.new.workspace inv.held ok.stays.held;
       reads = grind (arith, count_next);
       said = of_part _ _ _ _ _ _ _ _ inv.said
           (λ bytes k. from_next (reference_lines_at (volume_of v bytes)) n (inodes_of v)
           (omega (arith, c.loop-number-test.true)))
-          (said_knows _ _ _ _ _ _ more ok.prints.text);
-      paid = paid_then inv.paid (paid_answer ok.reads.paid);
+          (said_knows _ _ _ _ _ _ more ok.text);
+      paid = paid_then inv.paid (paid_answer ok.paid);
     }
 
 pub loop-number-preserved : goal.loop-number-preserved
 loop-number-preserved g c = grind (arith, passed, as_many, of_same)
 
-pub returns-clause-prints : goal.returns-clause-prints
-returns-clause-prints g c = grind (arith, of_same, from_end)
+pub returns-clause-text : goal.returns-clause-text
+returns-clause-text g c = grind (arith, of_same, from_end)
 
-pub returns-in_err-say-clause-reads : goal.returns-in_err-say-clause-reads
-returns-in_err-say-clause-reads g c = grind (arith, err_from_is_err_and, paid_stops)
+pub returns-in_err-say-clause-paid : goal.returns-in_err-say-clause-paid
+returns-in_err-say-clause-paid g c = grind (arith, err_from_is_err_and, paid_stops)
 
-pub returns-in_err-check_inode-clause-reads : goal.returns-in_err-check_inode-clause-reads
-returns-in_err-check_inode-clause-reads g c =
-    grind (arith, count_next, known, err_from_is_err_and, paid_then, paid_fault)
+pub returns-in_err-report_references-clause-reads : goal.returns-in_err-report_references-clause-reads
+returns-in_err-report_references-clause-reads g c = grind (arith, count_next, known)
 
-pub returns-clause-reads : goal.returns-clause-reads
-returns-clause-reads g c = grind (arith, paid_answer)
+pub returns-in_err-report_references-clause-paid : goal.returns-in_err-report_references-clause-paid
+returns-in_err-report_references-clause-paid g c = grind (arith, err_from_is_err_and, paid_then, paid_fault)
+
+pub returns-clause-paid : goal.returns-clause-paid
+returns-clause-paid g c = grind (arith, paid_answer)

@@ -1,9 +1,8 @@
 use Rattle.std.proofs.Common.{◌≡◌, ◌+◌, ◌-◌, ◌≤◌, ◌∷◌, length, map, Ok}
 use Rattle.ffs_report.specs.{Known.ForBytes, Paid.Paid, PhaseOutcome.SaidOf, Progress.progress}
 use Rattle.ffs_volume.specs.Directories.{ReferenceCheck.{reference_lines_at, reference_lines}, Volumes.volume_of}
-use Rattle.ffs_volume.specs.Messages.Kinds.{of_tree, phase4, lines_from}
+use Rattle.ffs_volume.specs.{Messages.Kinds.{of_tree, phase4, lines_from}, Blocks.Inodes.inodes_of}
 use Rattle.ffs_workspace.specs.{Found.WithFindings, Ready.IsReady}
-use Rattle.ffs_volume.specs.Blocks.Inodes.{inodes_of}
 use Rattle.ffs_counts.proofs.Holding.{lines_after}
 use Rattle.ffs_counts.proofs.pass4.phase4.Given as goal
 

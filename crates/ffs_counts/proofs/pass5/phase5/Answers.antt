@@ -1,4 +1,4 @@
-use Rattle.std.proofs.{Common.{◌≡◌, ◌∙◌, ◌+◌, ◌++◌, [], ap, arith, map, refl, rules}, lemmas.Result.err_from_is_err_and}
+use Rattle.std.proofs.{Common.{◌≡◌, ◌∙◌, ◌+◌, ◌++◌, [], ap, arith, map, refl}, lemmas.Result.err_from_is_err_and}
 use Rattle.ffs_volume.specs.{declared.BlockMessage.TheVariants.FreeCounts, Groups.GroupCheck.AlreadyReported}
 use Rattle.ffs_volume.specs.{Groups.GroupCheck.{reported_once, unless}, Messages.Kinds.of_blocks}
 use Rattle.ffs_groups.specs.{Check.lines_of, Inodes.class_in}
@@ -36,27 +36,25 @@ ended : (g : given.Over) (c : After-are-right g) →
     ≡ map of_blocks (reported_once (reported_of c.loop-group.once) (unless c.are-right.result FreeCounts)) ++ [])
 ended g c bytes k = grind (arith, groups_end, totals_right)
 
-pub returns-in_err-say-clause-prints : goal.returns-in_err-say-clause-prints
-returns-in_err-say-clause-prints g c =
+pub returns-in_err-say-clause-text : goal.returns-in_err-say-clause-text
+returns-in_err-say-clause-text g c =
     let p = err_from_is_err_and c.from_residual.result c.from_residual.ensures.1 in
-    rw (p.1, p.2) (record { image = search rules; text = stops_heading c.in_err-say.ensures.said })
+    rw (p.1, p.2) (stops_heading c.in_err-say.ensures.said)
 
 pub loop-group-init : goal.loop-group-init
 loop-group-init g c = grind (arith, says_heading, groups_begin)
 
-pub returns-in_err-found-clause-prints : goal.returns-in_err-found-clause-prints
-returns-in_err-found-clause-prints g c =
+pub returns-in_err-found-clause-text : goal.returns-in_err-found-clause-text
+returns-in_err-found-clause-text g c =
     let p = err_from_is_err_and c.from_residual-in_err-found.result c.from_residual-in_err-found.ensures.1 in
-    rw (p.1, p.2) (record { image = search rules; text = of_reads _ _ _ _ _ c.loop-group.invariant.said })
+    rw (p.1, p.2) (of_reads _ _ _ _ _ c.loop-group.invariant.said)
 
-pub returns-in_err-say_group-clause-prints : goal.returns-in_err-say_group-clause-prints
-returns-in_err-say_group-clause-prints g c =
+pub returns-in_err-say_group-clause-text : goal.returns-in_err-say_group-clause-text
+returns-in_err-say_group-clause-text g c =
     let p = err_from_is_err_and c.from_residual-in_err-say_group.result c.from_residual-in_err-say_group.ensures.1 in
-    let at = (goal.at.returns-in_err-say_group-clause-prints g c).In_ok-found in
-    rw (p.1, p.2) (record {
-      image = search rules;
-      text = of_stops _ _ _ _ _ _ _ _ c.loop-group.invariant.said (gone_on g at _ refl) c.in_err-say_group.ensures.said;
-    })
+    let at = (goal.at.returns-in_err-say_group-clause-text g c).In_ok-found in
+    rw (p.1, p.2)
+    (of_stops _ _ _ _ _ _ _ _ c.loop-group.invariant.said (gone_on g at _ refl) c.in_err-say_group.ensures.said)
 
 pub loop-group-preserved : goal.loop-group-preserved
 loop-group-preserved g c =
@@ -84,22 +82,16 @@ loop-group-preserved g c =
           c.in_ok-say_group.ensures.said;
     }
 
-pub returns-in_err-say_unless-clause-prints : goal.returns-in_err-say_unless-clause-prints
-returns-in_err-say_unless-clause-prints g c =
+pub returns-in_err-say_unless-clause-text : goal.returns-in_err-say_unless-clause-text
+returns-in_err-say_unless-clause-text g c =
     let p = err_from_is_err_and c.from_residual-in_err-say_unless.result c.from_residual-in_err-say_unless.ensures.1 in
-    let at = (goal.at.returns-in_err-say_unless-clause-prints g c).After-are-right in
-    rw (p.1, p.2) (record {
-      image = search rules;
-      text = of_stops _ _ (λ bytes. []) _ _ _ _ _ c.loop-group.invariant.said (ended g at)
-          c.in_err-say_unless.ensures.said;
-    })
+    let at = (goal.at.returns-in_err-say_unless-clause-text g c).After-are-right in
+    rw (p.1, p.2) (of_stops _ _ (λ bytes. []) _ _ _ _ _ c.loop-group.invariant.said (ended g at)
+    c.in_err-say_unless.ensures.said)
 
-pub returns-clause-prints : goal.returns-clause-prints
-returns-clause-prints g c = record {
-  image = search rules;
-  text = of_says _ _ _ _ _ _ _ _ c.loop-group.invariant.said
-      (ended g (goal.at.returns-clause-prints g c).After-are-right) c.in_ok-say_unless.ensures.said;
-}
+pub returns-clause-text : goal.returns-clause-text
+returns-clause-text g c = of_says _ _ _ _ _ _ _ _ c.loop-group.invariant.said
+    (ended g (goal.at.returns-clause-text g c).After-are-right) c.in_ok-say_unless.ensures.said
 
 pub returns-in_err-found-clause-reads : goal.returns-in_err-found-clause-reads
 returns-in_err-found-clause-reads g c =

@@ -14,9 +14,9 @@ phase1-requires g c = record {
 pub returns-in_err-phase1-clause-takes : goal.returns-in_err-phase1-clause-takes
 returns-in_err-phase1-clause-takes g c =
     let p = err_from_is_err_and c.from_residual-in_err-phase1.result c.from_residual-in_err-phase1.ensures.1 in
-    let did = c.in_err-phase1.ensures.prints in
+    let did = c.in_err-phase1.ensures in
     rw (p.1, p.2) (failed _ _ _ _ _ c.args.geometry.now.layout _ _ _ _ c.in_err-phase1.field-0.0
-    c.new.ensures refl did.text did.image c.in_ok-workspace.ensures.asks)
+    c.new.ensures refl did.text did.faults c.in_ok-workspace.ensures.asks)
 
 pub returns-in_err-phase1-clause-reads : goal.returns-in_err-phase1-clause-reads
 returns-in_err-phase1-clause-reads g c = let p = c.phase1.ensures.reads in omega (arith, p.reads, p.runs)
@@ -25,7 +25,7 @@ pub returns-clause-takes : goal.returns-clause-takes
 returns-clause-takes g c =
     let new = c.in_ok-workspace.ensures in
     let did = c.in_ok-phase1.ensures in
-    (did.prints.image, new.asks, did.ready, λ b k. (did.leaves b (k, new.new.fresh)).holds)
+    (did.faults, new.asks, did.ready, λ b k. (did.leaves b (k, new.new.fresh)).holds)
 
 pub returns-clause-reads : goal.returns-clause-reads
 returns-clause-reads g c = let p = c.phase1.ensures.reads in omega (arith, p.reads, p.runs)

@@ -1,12 +1,11 @@
-use Rattle.std.proofs.Common.{◌≡◌, ◌∙◌, ◌*◌, ◌++◌, ℕ, List, [], arith, rules, refl, ap}
-use Rattle.std.proofs.{Common.{append-nil, length, take, drop, Option}, lemmas.Result.err_from_is_err_and}
-use Rattle.std.specs.List.{concat, flat_map}
+use Rattle.std.proofs.Common.{◌≡◌, ◌∙◌, ◌*◌, ◌++◌, ℕ, List, [], arith, rules, refl, ap, append-nil, length, take, drop}
+use Rattle.std.{proofs.{Common.Option, lemmas.Result.err_from_is_err_and}, specs.List.{concat, flat_map}}
 use Rattle.ffs_volume.specs.{Disk.{Numbers.piece, Outcome.{super_bytes, super_sector}}, Find.Fields.field_lines}
 use Rattle.ffs_volume.specs.Find.Fields.{total_fields}
 use Rattle.ffs_layout.{specs.Super.superblock_in, proofs.{Copying.default_sector, Answering.taken}}
 use Rattle.ffs_report.proofs.Sinks.{took_nil, took_then, broke_off_after}
-use Rattle.ffs_finding.{specs.Fields.wrong_lines, proofs.FieldTexts.{too_short, first, both}}
-use Rattle.ffs_finding.proofs.Printing.{any_more, concat-append, reads_first}
+use Rattle.ffs_finding.{specs.Fields.wrong_lines, proofs.{FieldTexts.{too_short, first, both}, Printing.any_more}}
+use Rattle.ffs_finding.proofs.Printing.{concat-append, reads_first}
 use Rattle.ffs_finding.proofs.fields.find_wrong_fields.Goals as goal
 
 -- the bytes that were read are those of the superblock

@@ -1,5 +1,4 @@
-use Rattle.std.proofs.Common.{◌≡◌, take}
-use Rattle.std.specs.List.{concat}
+use Rattle.std.{proofs.Common.{◌≡◌, take}, specs.List.concat}
 use Rattle.ffs_report.specs.Sink.{Took}
 use Rattle.ffs_finding.specs.{Outcome.any_line, Fields.wrong_lines}
 use Rattle.ffs_finding.proofs.fields.print_wrong_fields.Given as goal

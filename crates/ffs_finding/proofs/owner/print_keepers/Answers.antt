@@ -1,11 +1,9 @@
 use Rattle.std.proofs.Common.{◌≡◌, ◌∙◌, ◌+◌, ◌++◌, ◌<◌, ◌≤◌, ℕ, Bool, false, List, [], Result, Err, slice_index, arith}
 use Rattle.std.proofs.{Common.{refl, sym, ap}, lemmas.{Bool.Decides.nat_tests, Result.err_from_is_err_and}}
 use Rattle.ffs_volume.specs.{declared.Layout.Layout, Encodings.Kinds.{is_allocated_kind, kind_at}}
-use Rattle.ffs_volume.specs.Find.Owner.{keeper_lines_of_inode}
+use Rattle.ffs_volume.specs.{Find.Owner.keeper_lines_of_inode, Blocks.Inodes.inodes_of, Encodings.Notes.note_at}
 use Rattle.ffs_report.{proofs.Sinks.took_nil, specs.{Known.ForBytes, declared.fault.RunFault.RunFault}}
-use Rattle.ffs_workspace.specs.Found.{WithPhase1}
-use Rattle.ffs_volume.specs.{Blocks.Inodes.inodes_of, Encodings.Notes.note_at}
-use Rattle.ffs_workspace.specs.declared.workspace.Workspace.{Workspace}
+use Rattle.ffs_workspace.specs.{Found.WithPhase1, declared.workspace.Workspace.Workspace}
 use Rattle.ffs_claims.proofs.{Numbers.numbers_most, Rescanned.runs_most, Frames.image_from}
 use Rattle.ffs_finding.proofs.{Keepers.{found_lines, found_reads, stays_then}, Owners.{inode_runs, keepers_begin}}
 use Rattle.ffs_finding.proofs.{Owners.{keepers_end, keepers_from, keepers_next, no_lines}, Printing.{part, part_fault}}

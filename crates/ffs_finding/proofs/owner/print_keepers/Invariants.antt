@@ -1,8 +1,7 @@
 use Rattle.std.proofs.Common.{◌≡◌, ◌+◌, ◌-◌, ◌<◌, ◌≤◌}
-use Rattle.ffs_volume.specs.{Blocks.KeptSteps.claims_before, Find.Owner.keeper_lines}
+use Rattle.ffs_volume.specs.{Blocks.{KeptSteps.claims_before, Inodes.inodes_of}, Find.Owner.keeper_lines}
 use Rattle.ffs_report.specs.Known.{ForBytes}
 use Rattle.ffs_workspace.specs.{Found.WithPhase1, Ready.StaysReady}
-use Rattle.ffs_volume.specs.Blocks.Inodes.{inodes_of}
 use Rattle.ffs_finding.{specs.Outcome.PrintedTo, proofs.Owners.keepers_from}
 use Rattle.ffs_finding.proofs.owner.print_keepers.Given as goal
 

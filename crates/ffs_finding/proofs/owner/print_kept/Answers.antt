@@ -8,7 +8,7 @@ use Rattle.ffs_walk.{proofs.Counted.{top_held, top_unread}, specs.{Keepings.repl
 use Rattle.ffs_claims.proofs.Rewalks.{runs_next}
 use Rattle.ffs_finding.{specs.Keepers.{lines_again, step_lines_again}, proofs.Printing.{printed_all, prints, stops}}
 use Rattle.ffs_finding.proofs.{Replayed.{lines_gaps, lines_next, lines_none, lines_stopped}, Walking.blocks_on}
-use Rattle.ffs_finding.proofs.Walking.{blocks_then, most_small, one_indirect, seen_pays, walk_on}
+use Rattle.ffs_finding.proofs.Walking.{most_small, one_indirect, seen_pays, walk_on}
 use Rattle.ffs_finding.proofs.owner.print_kept.Goals as goal
 
 pub loop-step-init : goal.loop-step-init
@@ -214,19 +214,3 @@ returns-in_default-clause-walks g c =
       };
       reads = λ b k. omega (arith, inv.paid b k, reads.most);
     }
-
-pub returns-in_err-step-clause-blocks : goal.returns-in_err-step-clause-blocks
-returns-in_err-step-clause-blocks g c =
-    let inv = c.loop-step.invariant in blocks_then inv.geometry inv.blocks c.next.ensures.leaves.kept
-
-pub returns-in_err-print_step-clause-blocks : goal.returns-in_err-print_step-clause-blocks
-returns-in_err-print_step-clause-blocks g c =
-    let inv = c.loop-step.invariant in blocks_then inv.geometry inv.blocks c.next.ensures.leaves.kept
-
-pub returns-then-not-is_replay_open-clause-blocks : goal.returns-then-not-is_replay_open-clause-blocks
-returns-then-not-is_replay_open-clause-blocks g c =
-    let inv = c.loop-step.invariant in blocks_then inv.geometry inv.blocks c.next.ensures.leaves.kept
-
-pub returns-in_default-clause-blocks : goal.returns-in_default-clause-blocks
-returns-in_default-clause-blocks g c =
-    let inv = c.loop-step.invariant in blocks_then inv.geometry inv.blocks c.next.ensures.leaves.kept

@@ -1,7 +1,6 @@
-use Rattle.std.proofs.Common.{◌∙◌, ap, take, arith}
-use Rattle.std.proofs.lemmas.{List.take-take, Simd.{zip2_of_maps, zip2_splat, length-chunk}}
-use Rattle.ffs_layout.specs.Entry.{any_nul_or_slash}
-use Rattle.ffs_layout.proofs.Lanes.{lanes_tell}
+use Rattle.std.proofs.{Common.{◌∙◌, ap, take, arith}, lemmas.{List.take-take, Simd.{zip2_of_maps, zip2_splat}}}
+use Rattle.std.proofs.lemmas.Simd.{length-chunk}
+use Rattle.ffs_layout.{specs.Entry.any_nul_or_slash, proofs.Lanes.lanes_tell}
 use Rattle.ffs_layout.proofs.entries.has_nul_or_slash_in_first.Goals as goal
 
 pub returns : goal.returns

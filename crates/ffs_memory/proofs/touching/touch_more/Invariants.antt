@@ -7,7 +7,7 @@ invariant-loop-len g l = record {
   len : l.len ≡ vec_len l.list;
   within : vec_len l.fn.touched ≤ vec_len l.list;
   past : vec_len l.list ≤ max (vec_len l.fn.touched) (l.index + 1);
-  items : l.list.items ≡ l.fn.touched.items ++ replicate (vec_len l.list - vec_len l.fn.touched) l.rest;
+  items : l.list.items ≡ l.fn.touched.items ++ replicate (vec_len l.list - vec_len l.fn.touched) l.value;
   address : vec_ptr l.list ≡ vec_ptr l.fn.touched;
   room : vec_capacity l.list ≡ vec_capacity l.fn.touched;
 }

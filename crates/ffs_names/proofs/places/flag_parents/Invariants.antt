@@ -1,6 +1,5 @@
 use Rattle.std.proofs.Common.{◌≡◌, ◌<◌, ◌≤◌, ℕ, true, false, length, slice_index, vec_len}
-use Rattle.ffs_volume.specs.Encodings.Lists.{bool_at}
-use Rattle.ffs_workspace.specs.Places.{is_due, place_in}
+use Rattle.ffs_volume.specs.Encodings.{Lists.bool_at, Places.{is_due as is_to_be_read, place_in}}
 use Rattle.ffs_names.specs.Noting.{IsParent}
 use Rattle.ffs_names.proofs.places.flag_parents.Given as goal
 
@@ -9,9 +8,9 @@ invariant-loop-number l = record {
   count : l.count ≡ length l.reached;
   long : vec_len l.words ≡ length l.reached;
   none : (x : ℕ) → place_in (slice_index l.words.items x) ≡ 0;
-  low : (x : ℕ) → x < 2 → is_due (slice_index l.words.items x) ≡ false;
-  only : (p : ℕ) → is_due (slice_index l.words.items p) ≡ true → IsParent l.parents.items p;
+  low : (x : ℕ) → x < 2 → is_to_be_read (slice_index l.words.items x) ≡ false;
+  only : (p : ℕ) → is_to_be_read (slice_index l.words.items p) ≡ true → IsParent l.parents.items p;
   to_read : (x : ℕ) → 2 < x → x < l.number → bool_at l.reached x ≡ true → 2 ≤ slice_index l.parents.items x →
       slice_index l.parents.items x < length l.reached →
-      is_due (slice_index l.words.items (slice_index l.parents.items x)) ≡ true;
+      is_to_be_read (slice_index l.words.items (slice_index l.parents.items x)) ≡ true;
 }

@@ -1,14 +1,13 @@
 use Rattle.std.proofs.Common.{◌≡◌, ◌≢◌, ◌<◌, ◌*◌, ◌+◌, ◌∙◌, false, true, suc, ℕ, ap, arith, below_more, length, refl}
 use Rattle.std.proofs.{Common.{rules, slice_index, slice_set, sym}, lemmas.Grind.{common_steps, get_or_default_zero}}
 use Rattle.std.proofs.lemmas.Result.{err_from_is_err_and}
-use Rattle.ffs_volume.proofs.Sizes.{some_inodes}
-use Rattle.ffs_workspace.specs.{Places.{is_due, place_in}, declared.workspace.Workspace.Workspace}
-use Rattle.ffs_volume.specs.Blocks.Inodes.{inodes_of}
+use Rattle.ffs_volume.{proofs.Sizes.some_inodes, specs.{Blocks.Inodes.inodes_of, Report.DirectoryReads.noted_cost}}
+use Rattle.ffs_workspace.specs.declared.workspace.Workspace.{Workspace}
+use Rattle.ffs_volume.specs.Encodings.Places.{is_due as is_to_be_read, place_in}
 use Rattle.ffs_survey.proofs.Costs.{cost_take, costs_rise}
-use Rattle.ffs_names.{specs.Noting.{BeginsNotes, KeepsToRead}, proofs.PlacesNoted.claims_noted}
-use Rattle.ffs_volume.specs.Report.DirectoryReads.{noted_cost}
-use Rattle.ffs_names.proofs.PlacesNoted.{coming_end, coming_first, coming_noted, none_due, only_fewer, parent_is_dir}
-use Rattle.ffs_names.proofs.PlacesNoted.{passed_next, places_after, places_same, set_other, set_same, survey_noted}
+use Rattle.ffs_names.{specs.Noting.{BeginsNotes, KeepsToRead}, proofs.PlacesNoted.{claims_noted, coming_end}}
+use Rattle.ffs_names.proofs.PlacesNoted.{coming_first, coming_noted, none_to_be_read, only_fewer, parent_is_dir}
+use Rattle.ffs_names.proofs.PlacesNoted.{read_next, places_after, places_same, set_other, set_same, survey_noted}
 use Rattle.ffs_names.proofs.places.note_all.Goals.{then-is_due+in_ok-note_directory, else-is_due}
 use Rattle.ffs_names.proofs.places.note_all.Goals as goal
 
@@ -24,7 +23,7 @@ loop-dir-init g c =
       lists = refl;
       ready = search rules;
       low = omega arith;
-      passed = begins.low;
+      were_read = begins.low;
       only = begins.only;
       reads = λ b t claims survey. omega arith;
       places = λ b t claims survey x p k there is.
@@ -51,12 +50,12 @@ loop-dir-preserved g c =
           let set : mid.queue.items ≡ slice_set old dir w.passed.result = w.set.ensures.items in
           let same : (x : ℕ) → place_in (slice_index mid.queue.items x) ≡ place_in (slice_index old x) =
           λ x. rw set (set_same place_in old dir w.passed.result inside (w.passed.ensures.place ∙ ap place_in word) x) in
-          let set_due : KeepsToRead (slice_set old dir w.passed.result) new.queue.items =
+          let set_was_read : KeepsToRead (slice_set old dir w.passed.result) new.queue.items =
           rw set at noted.leaves.children.to_read in
-          let due : is_due (slice_index old dir) ≡ true =
-          ap is_due (sym word) ∙ (sym c.is_due.ensures ∙ w.if-is_due.true) in
-          let other : (x : ℕ) → x ≢ dir → is_due (slice_index mid.queue.items x) ≡ is_due (slice_index old x) =
-          λ x o. rw set (set_other is_due old dir w.passed.result x o) in
+          let unread : is_to_be_read (slice_index old dir) ≡ true =
+          ap is_to_be_read (sym word) ∙ (sym c.is_due.ensures ∙ w.if-is_due.true) in
+          let other : (x : ℕ) → x ≢ dir → is_to_be_read (slice_index mid.queue.items x) ≡ is_to_be_read (slice_index old x) =
+          λ x o. rw set (set_other is_to_be_read old dir w.passed.result x o) in
           let lists : mid ≡ record first { windows = mid.windows; queue = mid.queue } =
           ap (λ (x : Workspace). record x { queue = w.set.new.self }) inv.lists in
           rw (w.image-is, w.workspace-is) (record {
@@ -65,12 +64,12 @@ loop-dir-preserved g c =
                 ∙ ap (λ (x : Workspace). record x { windows = new.windows; queue = new.queue }) inv.lists;
             ready = noted.leaves.ready;
             low = omega arith;
-            passed = passed_next old new.queue.items dir w.passed.result inside w.passed.ensures.due set_due
-                inv.passed;
+            were_read = read_next old new.queue.items dir w.passed.result inside w.passed.ensures.due set_was_read
+                inv.were_read;
             only = only_fewer first.parents.items old new.queue.items dir w.passed.result inside
-                w.passed.ensures.due set_due inv.only;
+                w.passed.ensures.due set_was_read inv.only;
             reads = λ b t claims survey.
-                let is = parent_is_dir survey (inv.only dir due) in
+                let is = parent_is_dir survey (inv.only dir unread) in
                 let took = noted.notes b (ap (λ d. d.contents) inv.same ∙ t) (claims_noted lists claims) is in
                 let more = cost_take (λ s. true) (noted_cost v b) dir refl in
                 omega (arith, took.counted, more, inv.reads b t claims survey);
@@ -91,8 +90,8 @@ loop-dir-preserved g c =
             lists = inv.lists;
             ready = inv.ready;
             low = omega arith;
-            passed = below_more (λ x. is_due (slice_index old x) ≡ false) dir inv.passed
-                (ap is_due (sym word) ∙ (sym c.is_due.ensures ∙ w.if-is_due.false));
+            were_read = below_more (λ x. is_to_be_read (slice_index old x) ≡ false) dir inv.were_read
+                (ap is_to_be_read (sym word) ∙ (sym c.is_due.ensures ∙ w.if-is_due.false));
             only = inv.only;
             reads = λ b t claims survey.
                 let more = cost_take (λ s. true) (noted_cost v b) dir refl in
@@ -108,12 +107,12 @@ returns-clause-places g c = λ b t claims survey.
     record {
       survey = survey_noted inv.lists survey (inv.places b t claims survey);
       noted = coming_end c.args.geometry.now.layout b c.loop-dir.workspace.queue.items
-          (λ x l. inv.passed x (omega arith)) (inv.noted b t claims survey);
+          (λ x l. inv.were_read x (omega arith)) (inv.noted b t claims survey);
     }
 
 -- what is left
 pub returns-clause-leaves : goal.returns-clause-leaves
-returns-clause-leaves g c = grind (arith, common_steps, none_due)
+returns-clause-leaves g c = grind (arith, common_steps, none_to_be_read)
 
 pub returns-in_err-note_directory-clause-leaves : goal.returns-in_err-note_directory-clause-leaves
 returns-in_err-note_directory-clause-leaves g c = grind (arith, err_from_is_err_and)
@@ -132,12 +131,12 @@ returns-in_err-note_directory-clause-reads g c = λ b t claims survey.
     let inside : dir < length old = grind (arith, common_steps) in
     let word : c.index-word.result.now ≡ slice_index old dir =
     c.index-word.ensures ∙ get_or_default_zero old dir c.index-word.result.now inside in
-    let due : is_due (slice_index old dir) ≡ true = ap is_due (sym word) ∙ (sym c.is_due.ensures ∙ c.if-is_due.true) in
+    let unread : is_to_be_read (slice_index old dir) ≡ true = ap is_to_be_read (sym word) ∙ (sym c.is_due.ensures ∙ c.if-is_due.true) in
     let mid : Workspace = record c.loop-dir.workspace { queue = c.set.new.self } in
     let lists : mid ≡ record first { windows = mid.windows; queue = mid.queue } =
     ap (λ (x : Workspace). record x { queue = c.set.new.self }) inv.lists in
     let took = (c.in_err-note_directory.ensures.notes b (ap (λ d. d.contents) inv.same ∙ t) (claims_noted lists claims)
-    (parent_is_dir survey (inv.only dir due))).counted in
+    (parent_is_dir survey (inv.only dir unread))).counted in
     let more = cost_take (λ s. true) (noted_cost v b) dir refl in
     let all = costs_rise (λ s. true) (noted_cost v b) (dir + 1) (v.ncg * v.ipg) (omega arith) in
     omega (arith, took, more, all, inv.reads b t claims survey)

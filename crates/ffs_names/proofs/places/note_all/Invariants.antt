@@ -1,10 +1,9 @@
 use Rattle.std.proofs.Common.{◌≡◌, ◌<◌, ◌≤◌, ◌+◌, ℕ, false, slice_index}
 use Rattle.ffs_image.specs.Device.{ForContents}
-use Rattle.ffs_workspace.specs.{Holds.{HoldsClaims, HoldsSurvey}, Ready.IsReady, Places.is_due}
-use Rattle.ffs_workspace.specs.Places.{ArePlaces}
-use Rattle.ffs_volume.specs.Report.DirectoryReads.{costs_all}
-use Rattle.ffs_names.proofs.PlacesNoted.{AreComing, OnlyParents}
+use Rattle.ffs_workspace.specs.{Holds.{HoldsClaims, HoldsSurvey}, Ready.IsReady}
+use Rattle.ffs_volume.specs.{Encodings.Places.{is_due as is_to_be_read, ArePlaces}, Report.DirectoryReads.costs_all}
 use Rattle.ffs_volume.specs.Report.DirectoryReads.{noted_cost}
+use Rattle.ffs_names.proofs.PlacesNoted.{AreComing, OnlyParents}
 use Rattle.ffs_names.proofs.places.note_all.Given as goal
 
 abbrev pub invariant-loop-dir : goal.invariant-loop-dir
@@ -13,7 +12,7 @@ invariant-loop-dir g l = let device = g.I.Image.device in record {
   lists : l.workspace ≡ record l.fn.workspace { windows = l.workspace.windows; queue = l.workspace.queue };
   ready : IsReady l.geometry.layout (device l.image) l.workspace;
   low : 2 ≤ l.dir;
-  passed : (x : ℕ) → x < l.dir → is_due (slice_index l.workspace.queue.items x) ≡ false;
+  were_read : (x : ℕ) → x < l.dir → is_to_be_read (slice_index l.workspace.queue.items x) ≡ false;
   only : OnlyParents l.fn.workspace.parents.items l.workspace.queue.items;
   reads : ForContents (device l.fn.image).contents (λ b. HoldsClaims l.geometry.layout b l.fn.workspace →
       HoldsSurvey l.geometry.layout b l.fn.workspace →

@@ -1,11 +1,10 @@
-use Rattle.std.proofs.Common.{◌≡◌, ◌∙◌, ℕ, List, ap, arith, slice_index}
-use Rattle.std.proofs.lemmas.Grind.{common_steps, get_or_default_zero}
-use Rattle.ffs_volume.proofs.Results.{on_ok}
-use Rattle.ffs_volume.specs.Encodings.Notes.{note_at}
+use Rattle.std.proofs.{Common.{◌≡◌, ◌∙◌, ℕ, List, ap, arith, slice_index}, lemmas.Grind.common_steps}
+use Rattle.std.proofs.lemmas.Grind.{get_or_default_zero}
+use Rattle.ffs_volume.{proofs.Results.on_ok, specs.Encodings.Notes.note_at}
 use Rattle.ffs_names.proofs.{Continuing.contents_kept, PlacesNoted.ready_noted}
+use Rattle.ffs_names.proofs.places.note_directory.Goals.{After-chunks_of}
 use Rattle.ffs_names.proofs.places.note_directory.Given as given
 use Rattle.ffs_names.proofs.places.note_directory.Goals as goal
-use Rattle.ffs_names.proofs.places.note_directory.Goals.{After-chunks_of}
 
 -- the note is that of the directory
 note_is : (g : given.Over) (c : After-chunks_of g) (b : List ℕ) →

@@ -1,13 +1,12 @@
 use Rattle.std.proofs.Common.{◌∙◌, ◌≡◌, ◌*◌, ℕ, List, Some, length, ap, subst, sym, rules, arith, slice_index}
 use Rattle.std.proofs.lemmas.List.{with_items_is}
-use Rattle.ffs_volume.{proofs.Sizes.some_inodes, specs.Encodings.Kinds.kind_at}
-use Rattle.ffs_workspace.proofs.Leaving.{counts_begin}
-use Rattle.ffs_workspace.{proofs.PlaceLaws.{filled_noted, zero_index}, specs.{Holds.HoldsClaims, Tables.IsTableOf}}
-use Rattle.ffs_names.{specs.Readers.{Base, KnowsReader}, proofs.SurveyHolds.{volume_survey, holds_claims, holds_tree, volume_calm}}
-use Rattle.ffs_names.proofs.{SurveyHolds.{holds_calm, holds_references, on_ok_is}, surveying.survey_all.Goals.After-survey-surveyed}
-use Rattle.ffs_names.proofs.CalmDirLaws.{flags_each_calm}
-use Rattle.ffs_volume.specs.{Directories.Volumes.marked_at, Encodings.Lists.bool_at}
-use Rattle.ffs_volume.specs.Blocks.Inodes.{inodes_of}
+use Rattle.ffs_volume.{proofs.Sizes.some_inodes, specs.{Encodings.Kinds.kind_at, Directories.Volumes.marked_at}}
+use Rattle.ffs_volume.specs.{Encodings.Lists.bool_at, Blocks.Inodes.inodes_of}
+use Rattle.ffs_workspace.{proofs.{Leaving.counts_begin, PlaceLaws.{filled_noted, zero_index}}, specs.Holds.HoldsClaims}
+use Rattle.ffs_workspace.specs.Tables.{IsTableOf}
+use Rattle.ffs_names.{specs.Readers.{Base, KnowsReader}, proofs.SurveyHolds.{volume_survey, holds_claims, holds_tree}}
+use Rattle.ffs_names.proofs.SurveyHolds.{volume_calm, holds_calm, holds_references, on_ok_is}
+use Rattle.ffs_names.proofs.{surveying.survey_all.Goals.After-survey-surveyed, CalmDirLaws.flags_each_calm}
 use Rattle.ffs_names.proofs.surveying.survey_all.Given as given
 use Rattle.ffs_names.proofs.surveying.survey_all.Goals as goal
 

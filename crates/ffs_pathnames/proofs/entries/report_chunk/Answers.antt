@@ -7,9 +7,8 @@ use Rattle.ffs_report.proofs.Paying.{paid_none, paid_then}
 use Rattle.ffs_pathnames.specs.{Gathers.passed_of, PassedNames.{after_entries, entries_reported}}
 use Rattle.ffs_pathnames.{specs.DirectoryContext.{DirectoryContext, KnowsPath}, proofs.Begun.image_same}
 use Rattle.ffs_pathnames.proofs.{StampLaws.{keep_more, noted_kept}, Passing.{knows_on, entry_reported, entry_passed}}
-use Rattle.ffs_pathnames.proofs.LineCounts.{entry_counted, has_begun}
-use Rattle.ffs_pathnames.proofs.{LineCounts.{read_all, read_more}, entries.report_chunk.Given.Over}
-use Rattle.ffs_pathnames.proofs.entries.report_chunk.Goals.{After-role_of}
+use Rattle.ffs_pathnames.proofs.LineCounts.{entry_counted, has_begun, read_all, read_more}
+use Rattle.ffs_pathnames.proofs.entries.report_chunk.{Given.Over, Goals.After-role_of}
 use Rattle.ffs_workspace.proofs.Leaving.{leaves_all, leaves_more}
 use Rattle.ffs_names.{proofs.Stepping.{roled_end, roled_on}, specs.EntriesToCome.roled_to_come}
 use Rattle.ffs_pathnames.proofs.entries.report_chunk.Goals as goal

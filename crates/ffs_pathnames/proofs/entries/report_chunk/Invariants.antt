@@ -1,12 +1,12 @@
 use Rattle.std.proofs.Common.{◌≡◌, ◌+◌, ◌-◌, ◌*◌, ◌≤◌, ℕ, IsTrue, List, length, map, Ok}
 use Rattle.ffs_volume.specs.Directories.{Entries.entries_of, Parents.graph_of, Roles.roled_from, Volumes.volume_of}
-use Rattle.ffs_volume.specs.{Messages.Kinds.of_tree, Report.Reads.line_reads}
+use Rattle.ffs_volume.specs.{Messages.Kinds.of_tree, Report.Reads.line_reads, Encodings.Places.AreNoted}
 use Rattle.ffs_report.specs.{Known.ForBytes, Paid.Paid, PhaseOutcome.SaidOf, Progress.progress}
-use Rattle.ffs_workspace.specs.{Leaves.LeavesSurvey, Places.AreNoted}
+use Rattle.ffs_workspace.specs.Leaves.{LeavesSurvey}
 use Rattle.ffs_names.specs.EntriesToCome.{roled_to_come}
 use Rattle.ffs_pathnames.specs.{Ready.ReadyWith, Gathers.passed_of, Stamps.KeepPlaces, PassedNames.after_entries}
-use Rattle.ffs_pathnames.{specs.{LineReads.{again_reads, path_owed}, PassedNames.entries_reported}, proofs.LineCounts.HasRead}
-use Rattle.ffs_pathnames.specs.DirectoryContext.{BeginsPathOf, DirectoryContext, KnowsPath}
+use Rattle.ffs_pathnames.specs.{PassedNames.entries_reported, LineReads.{again_reads, path_owed}}
+use Rattle.ffs_pathnames.{proofs.LineCounts.HasRead, specs.DirectoryContext.{BeginsPathOf, DirectoryContext, KnowsPath}}
 use Rattle.ffs_pathnames.proofs.entries.report_chunk.Given as goal
 
 abbrev pub invariant-entries : goal.invariant-entries

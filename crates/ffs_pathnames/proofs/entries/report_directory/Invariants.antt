@@ -1,13 +1,13 @@
 use Rattle.std.{proofs.Common.{◌≡◌, ℕ, List, map, ◌+◌, ◌*◌, ◌≤◌, length, Ok}, specs.List.flat_map}
-use Rattle.ffs_volume.specs.{Messages.Kinds.of_tree, Report.Reads.{line_reads, path_reads}, Directories.Parents.graph_of}
-use Rattle.ffs_pathnames.specs.LineReads.{again_reads, path_owed}
-use Rattle.ffs_volume.specs.Directories.{Roles.{roled_chunk, roled_entries}, Volumes.volume_of}
+use Rattle.ffs_volume.specs.{Messages.Kinds.of_tree, Report.Reads.{line_reads, path_reads}}
+use Rattle.ffs_volume.specs.Directories.{Parents.graph_of, Roles.{roled_chunk, roled_entries}, Volumes.volume_of}
+use Rattle.ffs_volume.specs.{Report.DirectoryReads.directory_runs, Encodings.Places.AreNoted}
+use Rattle.ffs_pathnames.specs.{LineReads.{again_reads, path_owed}, Ready.ReadyWith, Gathers.passed_of}
+use Rattle.ffs_pathnames.specs.{Stamps.KeepPlaces, DirectoryContext.BeginsPathOf, ReadsLeft.LeftForRuns}
+use Rattle.ffs_pathnames.specs.PassedNames.{after_entries, entries_reported}
 use Rattle.ffs_report.specs.{Known.ForBytes, Paid.Paid, PhaseOutcome.SaidOf, Progress.progress}
 use Rattle.ffs_names.specs.{Readings.rest, Costs.{to_read, HoldsReading}}
-use Rattle.ffs_volume.specs.Report.DirectoryReads.{directory_runs}
-use Rattle.ffs_workspace.specs.{Leaves.LeavesSurvey, Places.AreNoted}
-use Rattle.ffs_pathnames.specs.{Ready.ReadyWith, Gathers.passed_of, Stamps.KeepPlaces, DirectoryContext.BeginsPathOf}
-use Rattle.ffs_pathnames.specs.{ReadsLeft.LeftForRuns, PassedNames.{after_entries, entries_reported}}
+use Rattle.ffs_workspace.specs.Leaves.{LeavesSurvey}
 use Rattle.ffs_pathnames.proofs.entries.report_directory.Given as goal
 
 abbrev pub invariant-chunks : goal.invariant-chunks

@@ -1,5 +1,4 @@
-use Rattle.std.proofs.Common.{arith}
-use Rattle.std.proofs.{Common.{◌≡◌, ◌≤◌, List, ℕ, length}, lemmas.Result.err_from_is_err_and}
+use Rattle.std.proofs.{Common.{arith, ◌≡◌, ◌≤◌, List, ℕ, length}, lemmas.Result.err_from_is_err_and}
 use Rattle.ffs_volume.specs.Directories.{PathnameCheck.extra_lines, Volumes.volume_of}
 use Rattle.ffs_layout.specs.Entry.{entry_value}
 use Rattle.ffs_pathnames.proofs.{EntryReports.{entry_unread, entry_said, entry_stopped}, LineCounts.extra_some}

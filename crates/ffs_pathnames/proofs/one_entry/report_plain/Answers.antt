@@ -1,13 +1,10 @@
-use Rattle.std.proofs.Common.{arith, sym, ap, ◌∙◌, ℕ, List, map, ◌≡◌, ◌≤◌, length}
-use Rattle.std.proofs.lemmas.Result.{err_from_is_err_and}
-use Rattle.ffs_volume.specs.{Messages.Kinds.of_tree, Directories.Volumes.volume_of}
+use Rattle.std.proofs.{Common.{arith, sym, ap, ◌∙◌, ℕ, List, map, ◌≡◌, ◌≤◌, length}, lemmas.Result.err_from_is_err_and}
+use Rattle.ffs_volume.specs.{Messages.Kinds.of_tree, Directories.{Volumes.volume_of, PathnameCheck.plain_lines}}
+use Rattle.ffs_volume.{specs.Directories.PathnameCheck.verdict_lines, proofs.VerdictLaws.{silent_lines, some_lines}}
 use Rattle.ffs_layout.specs.Entry.{entry_value}
 use Rattle.ffs_report.proofs.{Paying.paid_none, Reporting.says_none}
-use Rattle.ffs_volume.specs.Directories.PathnameCheck.{plain_lines, verdict_lines}
-use Rattle.ffs_pathnames.specs.{Gathers.plain_lines_by, DirectoryContext.DirectoryContext}
-use Rattle.ffs_pathnames.{specs.DirectoryContext.KnowsPath, proofs.LineCounts.few_none}
-use Rattle.ffs_pathnames.proofs.EntryReports.{entry_unread, entry_said, entry_stopped}
-use Rattle.ffs_volume.proofs.VerdictLaws.{silent_lines, some_lines}
+use Rattle.ffs_pathnames.specs.{Gathers.plain_lines_by, DirectoryContext.{DirectoryContext, KnowsPath}}
+use Rattle.ffs_pathnames.proofs.{LineCounts.few_none, EntryReports.{entry_unread, entry_said, entry_stopped}}
 use Rattle.ffs_pathnames.proofs.one_entry.report_plain.{Given.Over, Goals.{After-gather_entry, After-say_verdict}}
 use Rattle.ffs_pathnames.proofs.one_entry.report_plain.Goals as goal
 

@@ -1,23 +1,23 @@
 use Rattle.std.proofs.Common.{◌≡◌, ◌≤◌, ◌++◌, ◌+◌, ◌*◌, Bool, slice_index, [], List, ℕ, map, refl, sym, ◌∙◌, append-nil}
-use Rattle.std.proofs.{Common.{true, false, arith, length, Result, Err}, lemmas.Result.err_from_is_err_and}
-use Rattle.ffs_workspace.specs.Holds.{HoldsClaims}
-use Rattle.ffs_pathnames.{specs.Before.{IsBefore, root_reported}, proofs.LineCounts.lines_long}
-use Rattle.ffs_volume.specs.Report.DirectoryReads.{directories_cost}
-use Rattle.ffs_pathnames.proofs.Carrying.{goes_is, root_kind_is, root_marked_is, tree_is, tree_lines}
+use Rattle.std.proofs.Common.{true, false, arith, length, Result, Err, inl, inr, ◌∷◌, ◌==◌}
+use Rattle.std.proofs.lemmas.{Result.err_from_is_err_and, Bool.cases_Bool}
+use Rattle.ffs_workspace.specs.{Holds.HoldsClaims, Ready.IsReady, declared.workspace.Workspace.Workspace}
+use Rattle.ffs_workspace.proofs.Leaving.{block_check_kept}
+use Rattle.ffs_pathnames.{specs.Before.{IsBefore, root_reported}, proofs.{LineCounts.lines_long, Carrying.goes_is}}
+use Rattle.ffs_pathnames.proofs.Carrying.{root_kind_is, root_marked_is, tree_is, tree_lines}
 use Rattle.ffs_pathnames.proofs.pass2.check_tree.{Given.Over, Goals.{After-report_root, After-check_inodes}}
-use Rattle.ffs_volume.specs.{Encodings.Kinds.is_dir_kind, Directories.{Roles.Volume, Volumes.volume_of}, Messages.Kinds.of_tree}
+use Rattle.ffs_pathnames.specs.{DirectoryLines.ReportsTree, Moments.PathMoment, RootAnswers.{AnswersRoot, stops_check}}
+use Rattle.ffs_pathnames.{proofs.Begun.image_same, specs.{declared.pass2.Root.Root, ChecksNeeded.ChecksLookedAt}}
+use Rattle.ffs_volume.specs.Report.DirectoryReads.{directories_cost, looks_cost, places_cost}
+use Rattle.ffs_volume.specs.{Encodings.Kinds.is_dir_kind, Directories.{Roles.Volume, Volumes.volume_of}}
+use Rattle.ffs_volume.specs.Messages.Kinds.{of_tree, TreeMessage, Message, of_directory}
 use Rattle.ffs_volume.specs.{Directories.PathnameCheck.{continues_after_root, pathname_lines}, Report.Reads.line_reads}
+use Rattle.ffs_volume.specs.declared.{Layout.Layout, tree_lines.DirectoryLine.TheVariants.{RootNone, RootNotDir}}
 use Rattle.ffs_report.proofs.{Reporting.{of_begins, of_says, of_stops, of_part, of_fault}, Paying.paid_said}
-use Rattle.ffs_report.proofs.Paying.{paid_answer, paid_fault, paid_text, paid_then}
-use Rattle.ffs_volume.specs.{declared.Layout.Layout, Messages.Kinds.TreeMessage}
-use Rattle.ffs_image.specs.Device.{Device}
-use Rattle.ffs_report.specs.{Known.ForBytes, PhaseOutcome.{ImageAfter, PhaseReports}, Progress.Progress}
+use Rattle.ffs_report.{proofs.Paying.{paid_answer, paid_fault, paid_text, paid_then}, specs.Known.ForBytes}
+use Rattle.ffs_report.specs.{PhaseOutcome.{ImageAfter, PhaseReports}, Progress.Progress}
 use Rattle.ffs_report.specs.declared.fault.RunFault.{RunFault, TheVariants.{Read, Out}}
-use Rattle.ffs_workspace.{specs.{Ready.IsReady, declared.workspace.Workspace.Workspace}, proofs.Leaving.block_check_kept}
-use Rattle.ffs_pathnames.{specs.{DirectoryLines.ReportsTree, Moments.PathMoment, RootAnswers.AnswersRoot}, proofs.Begun.image_same}
-use Rattle.ffs_pathnames.specs.declared.pass2.Root.{Root}
-use Rattle.ffs_pathnames.specs.ChecksNeeded.{ChecksLookedAt}
-use Rattle.ffs_volume.specs.Report.DirectoryReads.{looks_cost, places_cost}
+use Rattle.ffs_image.specs.Device.{Device}
 use Rattle.ffs_pathnames.proofs.pass2.check_tree.Goals as goal
 
 -- what the kind of the root that was read says
@@ -153,4 +153,28 @@ returns-in_ok-check_inodes-in-Go-clause-tree g c =
       references = tree.references;
       block_check = tree.block_check;
       ready = tree.ready;
+    }
+
+-- the root's message, where the check stops after it
+record StopLine (kind : ℕ) (marked : Bool) : Type 0 where
+  pub line : Message
+  pub stops : stops_check line ≡ true
+  pub alone : map of_tree (root_reported kind marked) ≡ line ∷ []
+
+stop_line : (kind : ℕ) (marked : Bool) → false ≡ is_dir_kind kind → StopLine kind marked
+unfolding root_reported
+stop_line kind marked other = elim (cases_Bool (kind == 0)) [
+  | inl e ↦ record { line = of_tree (of_directory RootNone); stops = refl; alone = rw e refl }
+  | inr e ↦ record { line = of_tree (of_directory RootNotDir); stops = refl; alone = rw (e, sym other) refl }
+]
+
+pub returns-in-Stop-clause-stop : goal.returns-in-Stop-clause-stop
+returns-in-Stop-clause-stop g c = λ _.
+    let at = (goal.at.returns-in-Stop-clause-stop g c).After-report_root in
+    let one = stop_line c.index-kind.result.now c.index-marked.result.now c.in-Stop.ensures in
+    record {
+      last = one.line;
+      stops = one.stops;
+      right = λ b k. sym one.alone ∙ sym (append-nil _) ∙ sym (lines_are g at b false k.claims c.in-Stop.ensures);
+      said = rw one.alone at c.in_ok-report_root.ensures;
     }

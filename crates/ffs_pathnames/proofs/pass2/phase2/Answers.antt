@@ -1,18 +1,21 @@
-use Rattle.std.proofs.Common.{[], ◌∷◌, List, ℕ, refl, ap, ◌∙◌, inr, arith, ◌≡◌, ◌*◌, Some, OnOk, Result, Ok, Err, rules}
-use Rattle.std.proofs.lemmas.Result.{err_from_is_err_and}
+use Rattle.std.proofs.Common.{[], ◌∷◌, List, ℕ, refl, ap, ◌∙◌, inr, arith, ◌≡◌, ◌*◌, Some, OnOk, Result, Ok, Err, IfOk}
+use Rattle.std.proofs.{Common.{map, false}, lemmas.Result.err_from_is_err_and}
 use Rattle.ffs_image.specs.Device.{Device}
 use Rattle.ffs_report.proofs.Reporting.{of_reads, of_last, reports_knowing, says_heading, stops_heading}
 use Rattle.ffs_report.{proofs.Paying.{paid_said, paid_text, paid_then}, specs.{Known.ForBytes, Progress.Progress}}
-use Rattle.ffs_report.specs.declared.fault.RunFault.{RunFault, TheVariants.{Read, Out}}
-use Rattle.ffs_volume.{specs.{Messages.Kinds.phase2, declared.Layout.Layout}, proofs.RunBounds.runs_bounded}
+use Rattle.ffs_report.specs.{Progress.Said, declared.fault.RunFault.{RunFault, TheVariants.{Read, Out}}}
+use Rattle.ffs_report.proofs.Reports.{said_then}
+use Rattle.ffs_volume.specs.{Messages.Kinds.{phase2, Message, of_tree}, declared.Layout.Layout}
+use Rattle.ffs_volume.{proofs.RunBounds.runs_bounded, specs.Directories.PathnameCheck.pathname_lines}
+use Rattle.ffs_volume.specs.Directories.Volumes.{volume_of}
 use Rattle.ffs_pathnames.specs.{declared.pass2.Root.Root, Before.IsBefore, Phase2.Phase2Ends, RootAnswers.AnswersRoot}
-use Rattle.ffs_pathnames.proofs.{Carrying.{before_first, references_on}, SilentLaws.calm_silent}
-use Rattle.ffs_pathnames.proofs.pass2.phase2.{Given.Over, Goals.After-check_tree}
-use Rattle.ffs_names.proofs.{DirCosts.noted_all_within, RunSums.costs_bounded}
+use Rattle.ffs_pathnames.{specs.RootAnswers.{SaidStop, is_go}, proofs.Carrying.{before_first, references_on}}
+use Rattle.ffs_pathnames.proofs.{SilentLaws.calm_silent, pass2.phase2.{Given.Over, Goals.After-check_tree}}
 use Rattle.ffs_pathnames.proofs.ChecksNeededLaws.{looked_at_first}
+use Rattle.ffs_names.proofs.{DirCosts.noted_all_within, RunSums.costs_bounded}
 use Rattle.ffs_workspace.specs.{declared.workspace.Workspace.Workspace, Found.WithClaims, Holds.HoldsClaims}
-use Rattle.ffs_workspace.specs.Holds.{HoldsReferences, HoldsSurvey}
-use Rattle.ffs_workspace.proofs.Leaving.{block_check_kept, block_check_left, block_check_more}
+use Rattle.ffs_workspace.{specs.Holds.{HoldsReferences, HoldsSurvey}, proofs.Leaving.block_check_kept}
+use Rattle.ffs_workspace.proofs.Leaving.{block_check_left, block_check_more}
 use Rattle.ffs_pathnames.proofs.pass2.phase2.Goals as goal
 
 -- what is known before the first directory
@@ -34,15 +37,39 @@ ends_by : (v : Layout) (d d' : Device) (old w new : Workspace) (before after : P
     ForBytes (WithClaims v d old) (IsBefore v d'.contents w 2) →
     ForBytes (WithClaims v d old) (λ b. HoldsReferences v b new) → AnswersRoot v d' w r →
     OnOk r (ForBytes (IsBefore v d'.contents w 2) (λ b. HoldsClaims v b new × HoldsSurvey v b new)) →
-    Phase2Ends v d old new before after r
-ends_by v d d' old w new before after (Ok root) more references answer holds = grind arith
-ends_by v d d' old w new before after (Err (Read fault)) more references answer holds = inr (λ b k. answer b (more b k))
-ends_by v d d' old w new before after (Err (Out fault)) more references answer holds = tt
+    IfOk r (λ root. is_go root ≡ false → SaidStop (WithClaims v d old) (phase2 ∷ [])
+    (λ b. phase2 ∷ map of_tree (pathname_lines (volume_of v b))) before after) → Phase2Ends v d old new before after r
+ends_by v d d' old w new before after (Ok root) more references answer holds stop = (
+  λ b k.
+      let left = holds b (more b k) in
+      record { goes = answer b (more b k); claims = left.0; survey = left.1; references = references b k },
+  stop,
+)
+ends_by v d d' old w new before after (Err (Read fault)) more references answer holds stop =
+    inr (λ b k. answer b (more b k))
+ends_by v d d' old w new before after (Err (Out fault)) more references answer holds stop = tt
 
-pub returns-in_err-say-clause-prints : goal.returns-in_err-say-clause-prints
-returns-in_err-say-clause-prints g c =
+-- after the heading the root's message is said
+stop_after : (v : Layout) (d d' : Device) (old w : Workspace) (a b c : Progress) (r : Result Root RunFault) →
+    ForBytes (WithClaims v d old) (IsBefore v d'.contents w 2) → Said a b (phase2 ∷ []) →
+    IfOk r (λ root. is_go root ≡ false → SaidStop (IsBefore v d'.contents w 2) []
+    (λ b. map of_tree (pathname_lines (volume_of v b))) b c) →
+    IfOk r (λ root. is_go root ≡ false → SaidStop (WithClaims v d old) (phase2 ∷ [])
+    (λ b. phase2 ∷ map of_tree (pathname_lines (volume_of v b))) a c)
+stop_after v d d' old w a b c (Ok root) more heading stop = λ ends.
+    let one = stop ends in
+    record {
+      last = one.last;
+      stops = one.stops;
+      right = λ bytes k. ap (λ (ms : List Message). phase2 ∷ ms) (one.right bytes (more bytes k));
+      said = said_then a b c (phase2 ∷ []) (one.last ∷ []) heading one.said;
+    }
+stop_after v d d' old w a b c (Err fault) more heading stop = tt
+
+pub returns-in_err-say-clause-text : goal.returns-in_err-say-clause-text
+returns-in_err-say-clause-text g c =
     let p = err_from_is_err_and c.from_residual.result c.from_residual.ensures.1 in
-    rw (p.1, p.2) (record { image = search rules; text = stops_heading c.in_err-say.ensures.said })
+    rw (p.1, p.2) (stops_heading c.in_err-say.ensures.said)
 
 pub returns-in_err-say-clause-leaves : goal.returns-in_err-say-clause-leaves
 returns-in_err-say-clause-leaves g c = grind arith
@@ -50,21 +77,15 @@ returns-in_err-say-clause-leaves g c = grind arith
 pub returns-in_err-survey-clause-leaves : goal.returns-in_err-survey-clause-leaves
 returns-in_err-survey-clause-leaves g c = grind arith
 
-pub returns-in_err-survey-clause-prints : goal.returns-in_err-survey-clause-prints
-returns-in_err-survey-clause-prints g c =
+pub returns-in_err-survey-clause-text : goal.returns-in_err-survey-clause-text
+returns-in_err-survey-clause-text g c =
     let p = err_from_is_err_and c.from_residual-in_err-survey.result c.from_residual-in_err-survey.ensures.1 in
-    rw (p.1, p.2) (record {
-      image = search rules;
-      text = of_reads _ _ _ _ _ (says_heading (λ b k. refl) c.in_ok-say.ensures.said);
-    })
+    rw (p.1, p.2) (of_reads _ _ _ _ _ (says_heading (λ b k. refl) c.in_ok-say.ensures.said))
 
-pub returns-clause-prints : goal.returns-clause-prints
-returns-clause-prints g c = record {
-  image = search rules;
-  text = of_last Root _ _ _ _ _ _ _ c.check_tree.result (says_heading (λ b k. refl) c.in_ok-say.ensures.said)
-      (λ b k. refl) (reports_knowing Root _ _ _ _ _ c.check_tree.result
-      (λ b k. before_tree g (goal.at.returns-clause-prints g c).After-check_tree b k.0 k.1) c.check_tree.ensures.tree.text);
-}
+pub returns-clause-text : goal.returns-clause-text
+returns-clause-text g c =
+    of_last Root _ _ _ _ _ _ _ c.check_tree.result (says_heading (λ b k. refl) c.in_ok-say.ensures.said) (λ b k. refl) (reports_knowing Root _ _ _ _ _ c.check_tree.result
+    (λ b k. before_tree g (goal.at.returns-clause-text g c).After-check_tree b k.0 k.1) c.check_tree.ensures.tree.text)
 
 pub returns-clause-leaves : goal.returns-clause-leaves
 returns-clause-leaves g c =
@@ -75,6 +96,9 @@ returns-clause-leaves g c =
     (λ b k. before_tree g (goal.at.returns-clause-leaves g c).After-check_tree b k.0 k.1)
     (λ b k. references_on v b _ _ (tree.references ∙ c.clear_passed.ensures.survey.references)
     (c.in_ok-survey.ensures.survey b k.0 k.1).references) c.check_tree.ensures.root tree.holds
+    (stop_after v (g.I.Image.device c.args.image.now) (g.I.Image.device c.survey.new.image) _ c.clear_passed.new.workspace
+    _ _ _ c.check_tree.result (λ b k. before_tree g (goal.at.returns-clause-leaves g c).After-check_tree b k.0 k.1)
+    c.in_ok-say.ensures.said c.check_tree.ensures.stop)
 
 pub check_tree-requires : goal.check_tree-requires
 check_tree-requires g c = c.clear_passed.ensures.ready _ _ c.in_ok-survey.ensures.leaves.ready
@@ -101,7 +125,7 @@ returns-in_err-say-clause-reads g c = record {
 }
 
 pub returns-in_err-say-clause-paid : goal.returns-in_err-say-clause-paid
-returns-in_err-say-clause-paid g c = paid_text _ _ _ (returns-in_err-say-clause-prints g c).text (omega arith)
+returns-in_err-say-clause-paid g c = paid_text _ _ _ (returns-in_err-say-clause-text g c) (omega arith)
 
 pub returns-in_err-survey-clause-reads : goal.returns-in_err-survey-clause-reads
 returns-in_err-survey-clause-reads g c = record {
@@ -114,7 +138,7 @@ returns-in_err-survey-clause-reads g c = record {
 
 pub returns-in_err-survey-clause-paid : goal.returns-in_err-survey-clause-paid
 returns-in_err-survey-clause-paid g c =
-    paid_text _ _ _ (returns-in_err-survey-clause-prints g c).text (omega (arith, c.survey.ensures.reads.most))
+    paid_text _ _ _ (returns-in_err-survey-clause-text g c) (omega (arith, c.survey.ensures.reads.most))
 
 pub returns-clause-reads : goal.returns-clause-reads
 returns-clause-reads g c = record {

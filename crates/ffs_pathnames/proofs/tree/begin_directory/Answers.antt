@@ -1,18 +1,17 @@
 use Rattle.std.proofs.Common.{◌∙◌, ap, map, arith, length, ◌≡◌, ◌≤◌, ◌+◌, ◌*◌, ℕ, List, option_map}
 use Rattle.std.proofs.lemmas.Result.{err_from_is_err_and}
 use Rattle.ffs_volume.specs.{Messages.Kinds.of_tree, Blocks.Inodes.inode_of, Directories.Volumes.volume_of}
-use Rattle.ffs_volume.specs.Directories.{Parents.graph_of, PathnameCheck.attributes, Paths.dir_path}
-use Rattle.ffs_volume.specs.Report.Reads.{line_reads}
+use Rattle.ffs_volume.specs.Directories.{Parents.graph_of, PathnameCheck.{attributes, dir_header_lines, header_defects}}
+use Rattle.ffs_volume.specs.{Directories.{PathnameCheck.header_lines, Paths.dir_path}, Report.Reads.line_reads}
+use Rattle.ffs_volume.specs.{Report.DirectoryReads.directory_cost, Encodings.Places.AreNoted}
 use Rattle.ffs_report.proofs.{Reporting.{of_begins, of_reads}, Paying.{paid_answer, paid_failed, paid_beside}}
 use Rattle.ffs_report.proofs.Paying.{paid_fault, paid_none, paid_then}
-use Rattle.ffs_volume.specs.Directories.PathnameCheck.{dir_header_lines, header_defects, header_lines}
 use Rattle.ffs_pathnames.specs.{ReadsLeft.LeftForLook, declared.look.Examination.Examination}
-use Rattle.ffs_pathnames.{specs.DirectoryContext.DirectoryContext, proofs.Passing.knows_on}
-use Rattle.ffs_pathnames.proofs.Begun.{said_same, fault_same, image_same, starts_are, begun_is}
-use Rattle.ffs_pathnames.proofs.{StampLaws.{windows_keep, keep_more, noted_kept}, tree.begin_directory.Given.Over}
+use Rattle.ffs_pathnames.{specs.DirectoryContext.DirectoryContext, proofs.{Passing.knows_on, Begun.said_same}}
+use Rattle.ffs_pathnames.proofs.{Begun.{fault_same, image_same, starts_are, begun_is}, StampLaws.windows_keep}
+use Rattle.ffs_pathnames.proofs.{StampLaws.{keep_more, noted_kept}, tree.begin_directory.Given.Over}
 use Rattle.ffs_pathnames.proofs.tree.begin_directory.Goals.{After-report_header}
-use Rattle.ffs_volume.specs.Report.DirectoryReads.{directory_cost}
-use Rattle.ffs_workspace.{proofs.Leaving.{leaves_more, survey_left, windows_leave}, specs.Places.AreNoted}
+use Rattle.ffs_workspace.proofs.Leaving.{leaves_more, survey_left, windows_leave}
 use Rattle.ffs_paths.proofs.Keeping.{kept_parent_on}
 use Rattle.ffs_layout.specs.Entry.{entry_value}
 use Rattle.ffs_pathnames.proofs.tree.begin_directory.Goals as goal

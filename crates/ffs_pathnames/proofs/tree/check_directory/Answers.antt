@@ -2,20 +2,19 @@ use Rattle.std.proofs.Common.{◌≡◌, true, refl, sym, ap, subst, ◌∙◌, 
 use Rattle.std.proofs.{lemmas.{Bool.both_ways, Result.err_from_is_err_and}, Math.Nat.mul-le-mul_left}
 use Rattle.ffs_image.specs.Device.{Device}
 use Rattle.ffs_volume.specs.{declared.Layout.Layout, Report.Reads.line_reads, Directories.PathnameCheck.sized_dir_lines}
-use Rattle.ffs_volume.specs.Directories.{Roles.roled_entries, Volumes.volume_of}
+use Rattle.ffs_volume.specs.Directories.{PathnameCheck.dir_header_lines, Roles.roled_entries, Volumes.volume_of}
+use Rattle.ffs_volume.specs.Report.DirectoryReads.{directory_cost, directory_runs}
 use Rattle.ffs_report.{specs.PhaseOutcome.ImageAfter, proofs.Reporting.{of_begins, of_part, of_fault, of_last}}
 use Rattle.ffs_report.proofs.{Reporting.{said_knows, reports_knowing}, Paying.{paid_answer, paid_fault, paid_then}}
 use Rattle.ffs_workspace.{specs.declared.workspace.Workspace.Workspace, proofs.Leaving.leaves_more}
-use Rattle.ffs_volume.specs.Directories.PathnameCheck.{dir_header_lines}
-use Rattle.ffs_pathnames.specs.{declared.look.Examination.Examination, Gathers.passed_of}
-use Rattle.ffs_pathnames.{specs.PassedNames.{PassedNames, entries_reported, is_flagged}, proofs.Begun.{image_same, said_same, directory_is, lines_parts}}
-use Rattle.ffs_pathnames.proofs.Begun.{quiet_parts, reported_parts, quiet_after, reported_after, starts_within}
-use Rattle.ffs_pathnames.proofs.{Passing.knows_on, StampLaws.{keep_more, noted_kept}, LineCounts.checked_twice}
-use Rattle.ffs_pathnames.proofs.{Carrying.if_ok, ChecksNeededLaws.flags_after}
-use Rattle.ffs_pathnames.{proofs.LineCounts.lines_long, specs.ReadsLeft.{LeftForBoth, LeftForLook, LeftForRuns}}
+use Rattle.ffs_pathnames.specs.{declared.look.Examination.Examination, Gathers.passed_of, PassedNames.PassedNames}
+use Rattle.ffs_pathnames.{specs.PassedNames.{entries_reported, is_flagged}, proofs.Begun.{image_same, said_same}}
+use Rattle.ffs_pathnames.proofs.Begun.{directory_is, lines_parts, quiet_parts, reported_parts, quiet_after}
+use Rattle.ffs_pathnames.proofs.{Begun.{reported_after, starts_within}, Passing.knows_on, StampLaws.keep_more}
+use Rattle.ffs_pathnames.proofs.{StampLaws.noted_kept, LineCounts.{checked_twice, lines_long}, Carrying.if_ok}
+use Rattle.ffs_pathnames.{proofs.ChecksNeededLaws.flags_after, specs.ReadsLeft.{LeftForBoth, LeftForLook, LeftForRuns}}
 use Rattle.ffs_pathnames.proofs.tree.check_directory.{Given.Over, Goals.{After-begin_directory, After-report_directory}}
 use Rattle.ffs_names.proofs.DirCosts.{cost_is as cost_of_dir}
-use Rattle.ffs_volume.specs.Report.DirectoryReads.{directory_cost, directory_runs}
 use Rattle.ffs_pathnames.proofs.tree.check_directory.Goals as goal
 
 abbrev Known : (g : Over) → After-begin_directory g → List ℕ → Type 0

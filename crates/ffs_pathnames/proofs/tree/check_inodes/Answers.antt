@@ -1,21 +1,19 @@
-use Rattle.std.proofs.Common.{◌+◌, ◌-◌, ◌*◌, ◌<◌, [], map, refl, sym, ap, subst, ◌≡◌, ◌∙◌, suc, arith, rules, Err, List, ℕ, ◌≤◌}
-use Rattle.std.proofs.{Common.true, lemmas.Result.err_from_is_err_and}
+use Rattle.std.proofs.Common.{◌+◌, ◌-◌, ◌*◌, ◌<◌, [], map, refl, sym, ap, subst, ◌≡◌, ◌∙◌, suc, arith, rules, Err, List}
+use Rattle.std.proofs.{Common.{ℕ, ◌≤◌, true}, lemmas.Result.err_from_is_err_and}
 use Rattle.ffs_volume.proofs.Numbered.{as_many, from_next, from_end, count_next as next_long}
 use Rattle.ffs_volume.specs.{Messages.Kinds.{of_tree, lines_from}, Directories.PathnameCheck.directory_lines}
-use Rattle.ffs_volume.specs.Directories.Volumes.{volume_of}
+use Rattle.ffs_volume.specs.{Directories.Volumes.volume_of, Blocks.Inodes.inodes_of}
+use Rattle.ffs_volume.specs.Report.DirectoryReads.{directory_cost, noted_costs, is_looked_at}
 use Rattle.ffs_report.proofs.Reporting.{of_begins, of_same, of_part, of_fault, of_reads, said_knows, reports_knowing}
 use Rattle.ffs_report.proofs.Paying.{paid_failed, paid_none, paid_then, paid_within}
-use Rattle.ffs_workspace.specs.declared.workspace.Workspace.{Workspace}
-use Rattle.ffs_volume.specs.Blocks.Inodes.{inodes_of}
-use Rattle.ffs_workspace.proofs.Leaving.{block_check_kept, block_check_left, block_check_more, queue_leaves}
+use Rattle.ffs_workspace.{specs.declared.workspace.Workspace.Workspace, proofs.Leaving.block_check_kept}
+use Rattle.ffs_workspace.proofs.Leaving.{block_check_left, block_check_more, queue_leaves}
 use Rattle.ffs_pathnames.{specs.Before.{IsBeforeNoted, IsBefore}, proofs.{Begun.image_same, Carrying.noted_reported}}
 use Rattle.ffs_pathnames.{proofs.Skipping.{noted_before, unseen}, specs.ReadsLeft.LeftForNext}
-use Rattle.ffs_pathnames.proofs.tree.check_inodes.{Given.Over, Goals.After-check_inode}
+use Rattle.ffs_pathnames.proofs.{tree.check_inodes.{Given.Over, Goals.After-check_inode}, ChecksNeededLaws.flags_kept}
+use Rattle.ffs_pathnames.proofs.ChecksNeededLaws.{look_next, looked_at_next, places_noted}
 use Rattle.ffs_survey.proofs.Costs.{cost_take, costs_rise}
 use Rattle.ffs_names.proofs.{DirCosts.noted_all_within, Limits.costs_within}
-use Rattle.ffs_volume.specs.Report.DirectoryReads.{directory_cost, noted_costs}
-use Rattle.ffs_volume.specs.Report.DirectoryReads.{is_looked_at}
-use Rattle.ffs_pathnames.proofs.ChecksNeededLaws.{flags_kept, look_next, looked_at_next, places_noted}
 use Rattle.ffs_pathnames.proofs.tree.check_inodes.Goals as goal
 
 -- what is known before an inode, and what is left suffices for it

@@ -1,14 +1,11 @@
 use Rattle.std.proofs.Common.{◌≡◌, ℕ, List, ◌+◌, ◌*◌, ◌-◌, ◌≤◌, length, map, Ok}
 use Rattle.ffs_report.specs.{Known.ForBytes, Paid.Paid, PhaseOutcome.SaidOf, Progress.progress}
-use Rattle.ffs_volume.specs.{Messages.Kinds.of_tree, Messages.Kinds.lines_from, Report.Reads.line_reads, Report.Reads.sweep_reads}
-use Rattle.ffs_volume.specs.Directories.{PathnameCheck.directory_lines, Volumes.volume_of}
+use Rattle.ffs_volume.specs.{Messages.Kinds.{of_tree, lines_from}, Report.Reads.{line_reads, sweep_reads}}
+use Rattle.ffs_volume.specs.{Directories.{PathnameCheck.directory_lines, Volumes.volume_of}, Blocks.Inodes.inodes_of}
+use Rattle.ffs_volume.specs.Report.DirectoryReads.{is_looked_at, places_cost, costs_all, costs_below, directories_cost}
+use Rattle.ffs_volume.specs.Report.DirectoryReads.{directory_cost}
 use Rattle.ffs_workspace.specs.Leaves.{LeavesBlockCheck}
-use Rattle.ffs_volume.specs.Blocks.Inodes.{inodes_of}
-use Rattle.ffs_pathnames.specs.ChecksNeeded.{ChecksLookedAt}
-use Rattle.ffs_volume.specs.Report.DirectoryReads.{is_looked_at, places_cost}
-use Rattle.ffs_pathnames.specs.{Ready.ReadyWith, Before.IsBefore, Before.IsBeforeNoted}
-use Rattle.ffs_volume.specs.Report.DirectoryReads.{costs_all, costs_below}
-use Rattle.ffs_volume.specs.Report.DirectoryReads.{directories_cost, directory_cost}
+use Rattle.ffs_pathnames.specs.{ChecksNeeded.ChecksLookedAt, Ready.ReadyWith, Before.{IsBefore, IsBeforeNoted}}
 use Rattle.ffs_pathnames.proofs.tree.check_inodes.Given as goal
 
 abbrev pub invariant-loop-number : goal.invariant-loop-number

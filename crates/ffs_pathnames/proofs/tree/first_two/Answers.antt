@@ -1,5 +1,4 @@
-use Rattle.std.proofs.Common.{arith}
-use Rattle.std.proofs.Common.{sym, ap, ◌∙◌, option_map}
+use Rattle.std.proofs.Common.{arith, sym, ap, ◌∙◌, option_map}
 use Rattle.ffs_volume.specs.Directories.Entries.{entry_at}
 use Rattle.ffs_layout.specs.Entry.{entry_value}
 use Rattle.ffs_pathnames.proofs.FirstTwo.{none_found, first_found, second_found}

@@ -1,5 +1,4 @@
-use Rattle.std.proofs.Common.{◌/◌, ◌<◌, ◌∙◌, arith, length, refl, sym}
-use Rattle.std.proofs.lemmas.Bool.{false≢true}
+use Rattle.std.proofs.{Common.{◌/◌, ◌<◌, ◌∙◌, arith, length, refl, sym}, lemmas.Bool.false≢true}
 use Rattle.ffs_paths.proofs.ChunkNames.{after_chunks, in_chunk, past_chunk}
 use Rattle.ffs_paths.proofs.name.find_in_chunks.Goals as goal
 

@@ -1,6 +1,5 @@
 use Rattle.std.{proofs.Common.{◌≡◌, ◌/◌, length}, specs.List.list_any}
-use Rattle.ffs_volume.specs.Directories.Graph.{is_naming_entry}
-use Rattle.ffs_workspace.specs.Places.{entries_in_chunks}
+use Rattle.ffs_volume.specs.{Directories.Graph.is_naming_entry, Encodings.Places.entries_in_chunks}
 use Rattle.ffs_paths.{specs.Climbing.name_in, proofs.ChunkNames.entries_after}
 use Rattle.ffs_paths.proofs.name.find_in_chunks.Given as goal
 

@@ -5,9 +5,8 @@ use Rattle.ffs_names.specs.{Shapes.BeginsDirectory, declared.entries.Entries.Ent
 use Rattle.ffs_survey.specs.Reading.{roled_of}
 use Rattle.ffs_volume.specs.{declared.{Inode.Inode, Layout.Layout}, Blocks.Inodes.inode_of}
 use Rattle.ffs_volume.specs.{Laws.Geometry.IsAcceptedLayout, Directories.Roles.{is_dir, roled_entries}}
-use Rattle.ffs_volume.specs.Directories.Volumes.{volume_of}
+use Rattle.ffs_volume.specs.{Directories.Volumes.volume_of, Encodings.Notes.cut_in}
 use Rattle.ffs_workspace.specs.{Holds.HoldsClaims, declared.workspace.Workspace.Workspace}
-use Rattle.ffs_volume.specs.Encodings.Notes.{cut_in}
 use Rattle.ffs_workspace.proofs.NoteLaws.{cut_is_noted}
 use Rattle.ffs_paths.{specs.Climbing.name_in, proofs.{Keeping.chunk_then, WaysUp.name_in-by}}
 use Rattle.ffs_paths.proofs.name.search_name.Goals as goal

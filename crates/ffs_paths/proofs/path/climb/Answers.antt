@@ -1,13 +1,11 @@
-use Rattle.std.proofs.Common.{◌≡◌, ◌≢◌, ◌<◌, ◌∙◌, ◌∷◌, ap, length, sym, subst, arith, ℕ, zero, suc, Some}
-use Rattle.std.proofs.Common.{slice_index}
-use Rattle.ffs_survey.specs.ParentLaws.{root_level}
+use Rattle.std.proofs.Common.{◌≡◌, ◌≢◌, ◌<◌, ◌∙◌, ◌∷◌, ap, length, sym, subst, arith, ℕ, zero, suc, Some, slice_index}
 use Rattle.std.proofs.lemmas.List.{get_or_default}
+use Rattle.ffs_survey.specs.ParentLaws.{root_level}
 use Rattle.ffs_volume.{proofs.LevelLaws.reached-level, specs.Directories.{Graph.{Graph, level}, Parents.graph_of}}
 use Rattle.ffs_volume.specs.Directories.Volumes.{volume_of}
-use Rattle.ffs_paths.specs.{Climbing.IsNameIn, Buffers.HoldsNames, NameTexts.name_bytes}
-use Rattle.ffs_paths.proofs.Climbed.{climb_leaves, climb_more, few_more, few_then, noted_here, short_way}
-use Rattle.ffs_paths.proofs.Keeping.{reads_then, tree_on}
-use Rattle.ffs_paths.proofs.WaysUp.{parent_is, way_root, way_cut, way_long, way_up, count_is}
+use Rattle.ffs_paths.{specs.{Climbing.IsNameIn, Buffers.HoldsNames, NameTexts.name_bytes}, proofs.Climbed.climb_leaves}
+use Rattle.ffs_paths.proofs.{Climbed.{climb_more, few_more, few_then, noted_here, short_way}, Keeping.reads_then}
+use Rattle.ffs_paths.proofs.{Keeping.tree_on, WaysUp.{parent_is, way_root, way_cut, way_long, way_up, count_is}}
 use Rattle.ffs_paths.proofs.path.climb.Goals as goal
 
 -- a directory that isn't the root has a level above 0, so a read more is within its names

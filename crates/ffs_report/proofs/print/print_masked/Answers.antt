@@ -1,4 +1,4 @@
-use Rattle.std.proofs.{Common.{arith, length, ◌≡◌, ◌∙◌, ap, rules}, lemmas.List.{length-append, length-drop, length-map, length-take}}
+use Rattle.std.proofs.{Common.{arith, rules}, lemmas.List.{length-append, length-drop, length-map, length-take}}
 use Rattle.ffs_report.proofs.Shows.{shown_part}
 use Rattle.ffs_report.proofs.print.print_masked.Goals as goal
 

@@ -13,7 +13,7 @@ returns c =
     let from = c.args.from in
     let k = c.args.to - from in
     let mid = c.sort_unstable.new.self in
-    let R = replicate (vec_capacity touched - vec_len touched) before.rest in
+    let R = replicate (vec_capacity touched - vec_len touched) before.untouched in
     let inside : c.args.to - 1 < vec_capacity before.touched =
     omega (arith, c.requires, ap vec_len c.self.view_is) in
     let to : from + k ≡ c.args.to = omega (arith, c.requires) in

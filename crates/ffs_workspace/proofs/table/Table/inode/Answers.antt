@@ -1,8 +1,7 @@
 use Rattle.std.proofs.Common.{rules}
 use Rattle.ffs_volume.specs.declared.Inode.{Inode}
 use Rattle.ffs_walk.specs.Windows.{held_bytes}
-use Rattle.ffs_workspace.proofs.TablePlaces.{inode_there}
-use Rattle.ffs_workspace.specs.Tables.{TakesPiece}
+use Rattle.ffs_workspace.{proofs.TablePlaces.inode_there, specs.Tables.TakesPiece}
 use Rattle.ffs_workspace.proofs.table.Table.inode.Goals as goal
 
 pub returns : goal.returns

@@ -1,8 +1,7 @@
 use Rattle.std.proofs.{Common.{arith, rules}, lemmas.Grind.common_steps}
-use Rattle.ffs_workspace.proofs.TablePlaces.{held_there}
-use Rattle.ffs_workspace.specs.Tables.{TakesPiece}
-use Rattle.ffs_workspace.proofs.table.Table.load.Goals as goal
+use Rattle.ffs_workspace.{proofs.TablePlaces.held_there, specs.Tables.TakesPiece}
 use Rattle.ffs_workspace.proofs.table.Table.load.Goals.{then-not-has+in_ok-read_piece, else-not-has}
+use Rattle.ffs_workspace.proofs.table.Table.load.Goals as goal
 
 pub returns : goal.returns
 unfolding TakesPiece

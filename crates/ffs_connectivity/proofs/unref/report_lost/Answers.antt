@@ -4,10 +4,10 @@ use Rattle.ffs_report.{specs.Known.ForBytes, proofs.Paying.{paid_none, paid_read
 use Rattle.ffs_report.proofs.Reporting.{reads_first, says_all, says_none, stops_all}
 use Rattle.ffs_workspace.{specs.Found.WithSurvey, proofs.Readiness.ready_table}
 use Rattle.ffs_connectivity.{specs.Lines.unref_dir_lines, proofs.UnrefLines.{attributes_are, unref_dir_is, one_line}}
-use Rattle.ffs_connectivity.proofs.{UnrefLines.{silent, heard}, unref.check_inode.Goals.After-is_unref-unref}
-use Rattle.ffs_connectivity.proofs.unref.check_inode.Goals.{After-of}
-use Rattle.ffs_connectivity.proofs.unref.check_inode.Given as given
-use Rattle.ffs_connectivity.proofs.unref.check_inode.Goals as goal
+use Rattle.ffs_connectivity.proofs.{UnrefLines.{silent, heard}, unref.report_lost.Goals.After-is_unref-unref}
+use Rattle.ffs_connectivity.proofs.unref.report_lost.Goals.{After-of}
+use Rattle.ffs_connectivity.proofs.unref.report_lost.Given as given
+use Rattle.ffs_connectivity.proofs.unref.report_lost.Goals as goal
 use Rattle.ffs_volume.specs.declared.tree_lines.ReferenceLine.TheVariants.{UnrefDir}
 use Rattle.ffs_volume.specs.Messages.Kinds.{of_reference}
 
@@ -31,8 +31,10 @@ pub returns-then-not-unref : goal.returns-then-not-unref
 returns-then-not-unref g c =
     let test = tested g (goal.at.returns-then-not-unref g c).After-is_unref-unref in
     record {
-      prints = record { image = refl; text = says_none (λ bytes k. silent _ _ (test bytes k ∙ c.if-not-unref.true)) };
-      reads = record { known = λ bytes k. omega arith; paid = paid_none (omega arith) };
+      faults = refl;
+      text = says_none (λ bytes k. silent _ _ (test bytes k ∙ c.if-not-unref.true));
+      reads = λ bytes k. omega arith;
+      paid = paid_none (omega arith);
       stays = search rules;
     }
 
@@ -45,10 +47,9 @@ returns-in_err-say g c =
 
 pub returns : goal.returns
 returns g c = record {
-  prints = grind (arith, says_all, heard_of, tested);
-  reads = record {
-    known = grind (arith, tested, one_line);
-    paid = paid_says _ c.in_ok-say.ensures.said (omega arith) c.in_ok-inode.ensures.counted;
-  };
+  faults = search rules;
+  text = grind (arith, says_all, heard_of, tested);
+  reads = grind (arith, tested, one_line);
+  paid = paid_says _ c.in_ok-say.ensures.said (omega arith) c.in_ok-inode.ensures.counted;
   stays = search rules;
 }

@@ -3,7 +3,7 @@ use Rattle.std.proofs.lemmas.{Bool.Decides.nat_tests, Result.err_from_is_err_and
 use Rattle.ffs_report.proofs.Reports.{said_none}
 use Rattle.ffs_workspace.specs.Holds.{claims_of}
 use Rattle.ffs_claims.proofs.{Frames.offers_claimed, UnclaimedRuns.{whole_is, run_below}}
-use Rattle.ffs_claims.proofs.offer.run_in_range.Goals as goal
+use Rattle.ffs_claims.proofs.offer.take_run_in_range.Goals as goal
 
 pub claim-requires : goal.claim-requires
 claim-requires g c =

@@ -6,10 +6,10 @@ use Rattle.ffs_report.{specs.Known.ForBytes, proofs.Paying.{paid_none, paid_read
 use Rattle.ffs_report.proofs.Reporting.{reads_first, says_all, says_none, stops_all}
 use Rattle.ffs_workspace.{specs.{Found.WithFindings, Ready.StaysReady}, proofs.Readiness.ready_table}
 use Rattle.ffs_counts.{specs.References.lines_as, proofs.Holding.{inode_lines_are, item_at, met_lines, same_reported}}
-use Rattle.ffs_counts.proofs.{Holding.{some_lines, unmet_line, unmet_reported}, pass4.check_inode.Goals.After-inode}
-use Rattle.ffs_counts.proofs.pass4.check_inode.Goals.{After-line_for-line, In_ok-inode}
-use Rattle.ffs_counts.proofs.pass4.check_inode.Given as given
-use Rattle.ffs_counts.proofs.pass4.check_inode.Goals as goal
+use Rattle.ffs_counts.proofs.{Holding.{some_lines, unmet_line, unmet_reported}, pass4.report_references.Goals.After-inode}
+use Rattle.ffs_counts.proofs.pass4.report_references.Goals.{After-line_for-line, In_ok-inode}
+use Rattle.ffs_counts.proofs.pass4.report_references.Given as given
+use Rattle.ffs_counts.proofs.pass4.report_references.Goals as goal
 
 -- an inode that isn't right has one line
 one : (g : given.Over) (c : After-inode g) →
@@ -37,25 +37,23 @@ stays g c = grind (arith, ready_table)
 
 pub returns-then-is_right : goal.returns-then-is_right
 returns-then-is_right g c = record {
-  prints = record {
-    image = search rules;
-    text = says_none (λ bytes k. ap (λ (ls : List TreeMessage). map of_tree ls)
-        (met_lines c.args.geometry.now.layout bytes c.args.workspace.now c.args.number c.requires.number k.1
-        c.requires.allocated (sym c.is_right.ensures ∙ c.if-is_right.true)));
-  };
-  reads = record { known = λ bytes k. omega arith; paid = paid_none (omega arith) };
+  faults = search rules;
+  text = says_none (λ bytes k. ap (λ (ls : List TreeMessage). map of_tree ls)
+      (met_lines c.args.geometry.now.layout bytes c.args.workspace.now c.args.number c.requires.number k.1
+      c.requires.allocated (sym c.is_right.ensures ∙ c.if-is_right.true)));
+  reads = λ bytes k. omega arith;
+  paid = paid_none (omega arith);
   stays = search rules;
 }
 
 pub returns-in_err-inode : goal.returns-in_err-inode
 returns-in_err-inode g c = record {
-  prints = grind (arith, err_from_is_err_and, reads_first);
-  reads = record {
-    known = λ bytes k.
-        let line = one g (goal.at.returns-in_err-inode g c).After-inode bytes k in
-        omega (arith, line, c.in_err-inode.ensures.counted);
-    paid = grind (arith, err_from_is_err_and, paid_reads);
-  };
+  faults = grind (arith, err_from_is_err_and);
+  text = grind (arith, err_from_is_err_and, reads_first);
+  reads = λ bytes k.
+      let line = one g (goal.at.returns-in_err-inode g c).After-inode bytes k in
+      omega (arith, line, c.in_err-inode.ensures.counted);
+  paid = grind (arith, err_from_is_err_and, paid_reads);
   stays = grind (arith, ready_table);
 }
 
@@ -64,16 +62,12 @@ returns-in_err-say_line g c =
     let p = err_from_is_err_and c.from_residual-in_err-say_line.result c.from_residual-in_err-say_line.ensures.1 in
     let at = goal.at.returns-in_err-say_line g c in
     rw (p.1, p.2) (record {
-      prints = record {
-        image = search rules;
-        text = stops_all (lines_are g at.After-line_for-line) c.in_err-say_line.ensures;
-      };
-      reads = record {
-        known = λ bytes k.
-            let line = one g at.After-inode bytes k in
-            omega (arith, line, c.in_ok-inode.ensures.counted);
-        paid = paid_stops _ c.in_err-say_line.ensures (some g at.After-line_for-line) c.in_ok-inode.ensures.counted;
-      };
+      faults = search rules;
+      text = stops_all (lines_are g at.After-line_for-line) c.in_err-say_line.ensures;
+      reads = λ bytes k.
+          let line = one g at.After-inode bytes k in
+          omega (arith, line, c.in_ok-inode.ensures.counted);
+      paid = paid_stops _ c.in_err-say_line.ensures (some g at.After-line_for-line) c.in_ok-inode.ensures.counted;
       stays = stays g at.In_ok-inode;
     })
 
@@ -81,15 +75,11 @@ pub returns : goal.returns
 returns g c =
     let at = goal.at.returns g c in
     record {
-      prints = record {
-        image = search rules;
-        text = says_all (lines_are g at.After-line_for-line) c.in_ok-say_line.ensures;
-      };
-      reads = record {
-        known = λ bytes k.
-            let line = one g at.After-inode bytes k in
-            omega (arith, line, c.in_ok-inode.ensures.counted);
-        paid = paid_says _ c.in_ok-say_line.ensures (some g at.After-line_for-line) c.in_ok-inode.ensures.counted;
-      };
+      faults = search rules;
+      text = says_all (lines_are g at.After-line_for-line) c.in_ok-say_line.ensures;
+      reads = λ bytes k.
+          let line = one g at.After-inode bytes k in
+          omega (arith, line, c.in_ok-inode.ensures.counted);
+      paid = paid_says _ c.in_ok-say_line.ensures (some g at.After-line_for-line) c.in_ok-inode.ensures.counted;
       stays = stays g at.In_ok-inode;
     }

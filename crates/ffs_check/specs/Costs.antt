@@ -1,0 +1,27 @@
+-- What a check costs, of any memory and any image, also one that gives other bytes each time: what it takes, and
+-- how often it reads.
+use Rattle.std.specs.Prelude.{◌≡◌, ◌⊎◌, ◌≤◌, ◌+◌, ℕ, Option}
+use Rattle.ffs_memory.specs.{Account.{Account, RefusedOneMore, unused}, System.account_of}
+use Rattle.ffs_memory.specs.declared.system.SystemMemory.{SystemMemory}
+use Rattle.ffs_volume.specs.{declared.End.{End, TheVariants.NoMemory}, Report.Reads.{opening_reads, reads_limit}}
+use Rattle.ffs_check.specs.{Moment.Moment, Reads.ReadsByMessages, Taken.TakesWorkspace}
+
+-- a volume is accepted: its workspace is taken, and the image is read within the limit of the same volume for
+-- what was printed
+pub record CostsOfVolume (asked_sector : Option ℕ) (old new : Moment) (held held' : Account) : Type 0 where
+  pub memory : TakesWorkspace old.image asked_sector held held'
+  pub reads : ReadsByMessages (reads_limit memory.found.layout) old new
+
+-- nothing is taken, and the superblock and a copy alone are read; or a volume is accepted. A check ends as
+-- `NoMemory` only where a request was refused
+pub record Costs (asked_sector : Option ℕ) (old new : Moment) (held held' : Account) (end : End) : Type 0 where
+  pub most : ((held' ≡ held) × (new.reads ≤ old.reads + opening_reads))
+      ⊎ CostsOfVolume asked_sector old new held held'
+  pub refused : end ≡ NoMemory → RefusedOneMore held held'
+
+-- the memory is that of the system, of which nothing was granted before
+pub record CostsOfSystem (asked_sector : Option ℕ) (old new : Moment) (end : End) : Type 0 where
+  pub memory : SystemMemory
+  pub memory' : SystemMemory
+  pub begun : account_of memory ≡ unused
+  pub costs : Costs asked_sector old new (account_of memory) (account_of memory') end

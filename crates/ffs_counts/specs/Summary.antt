@@ -1,0 +1,14 @@
+-- What the summary says.
+use Rattle.std.specs.Prelude.{◌≡◌, ℕ, [], ◌∷◌, Result}
+use Rattle.ffs_report.specs.{Known.ForBytes, Progress.{Progress, Says}}
+use Rattle.ffs_volume.specs.{Disk.Superblock.Superblock, Report.Whole.{summary_of, file_count, claimed_count}}
+use Rattle.ffs_workspace.specs.{declared.workspace.Workspace.Workspace, Holds.HoldsClaims}
+
+-- a summary is said, of any image; its counts are those of the bytes whose claims the workspace holds
+pub record SaysSummary {T E : Type 0} (s : Superblock) (w : Workspace) (old new : Progress) (result : Result T E) :
+    Type 0 where
+  pub files : ℕ
+  pub claimed : ℕ
+  pub files_right : ForBytes (λ bytes. HoldsClaims s.layout bytes w) (λ bytes. files ≡ file_count s.layout bytes)
+  pub claimed_right : ForBytes (λ bytes. HoldsClaims s.layout bytes w) (λ bytes. claimed ≡ claimed_count s.layout bytes)
+  pub said : Says old new (summary_of s files claimed ∷ []) result
