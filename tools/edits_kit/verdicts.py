@@ -76,8 +76,16 @@ def is_proved_at_goal(edit, said, told):
 
 
 def goal_of(edit, said):
-    """The goal with an answer at which an edit is refused, of its copy with all answers; None where there is none."""
-    errors = errors_of(edit, said) if edit.folder else []
-    refused = [goal for it in errors for goal in re.findall(r"error: `([^`]+)`", it)[:1]]
-    refused += [goal for it in errors if (found := NOT_CHECKED.search(it)) for goal in re.findall(r"[^\s,`]+", found[1])]
-    return next((it for it in refused if it in goals_in(edit.proof("Answers.antt"))), None)
+    """The goal with an answer at which an edit is refused, of its copy with all answers; None where there is none, or where each names what isn't
+    there."""
+    errors = errors_of(edit, said)
+    text = edit.proof_of_copy("Answers.antt")
+    places = lines_of(text)
+    items = [next((name for name, lines in places.items() if int(ERROR.match(it)["line"]) in lines), "") for it in errors]
+    away = {item for item, it in zip(items, errors) if NAMED_AWAY.match(it)}
+    refused = [item for item in items if item not in away]
+    for it in errors:
+        cause = re.search(r"that depend on `([^`]+)`", it)
+        if cause and cause[1] not in away:
+            refused += re.findall(r"[^\s,`]+", NOT_CHECKED.search(it)[1] if NOT_CHECKED.search(it) else "")
+    return next((it for it in refused if it in goals_in(text)), None)
