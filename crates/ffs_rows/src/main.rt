@@ -1,9 +1,10 @@
-//! Checks the worked images of `data/`, and prints where a report or a status is not what is
-//! expected.
+//! Checks the worked images of `data/`, runs `ffs_find` over some of them, and prints where a text
+//! or a status is not what is expected.
 #![tactic(auto)]
 
 mod areas;
 mod faults;
+mod find_rows;
 mod lengths;
 mod row;
 mod watched;
@@ -51,5 +52,6 @@ fn main(rt: HostRuntime) -> io::Result<()> {
     }
     faults::compare(&rt, &mut tally)?;
     lengths::compare(&rt, &mut tally)?;
+    find_rows::compare(&rt, &mut tally)?;
     println!(rt; "{} compared, {} failed", tally.compared, tally.failed)
 }

@@ -1,9 +1,22 @@
-//! Runs the rows of `data/rows.txt` as `ffs_find` does, each by its words over an image in a file,
-//! and prints where a text or a status is not what is expected.
-#![tactic(auto)]
+//! Runs of `ffs_find` over worked images.
 
+use crate::Tally;
 use ffs_finding::run::run;
 use std::{fs, io};
+
+/// Runs the rows of `find_rows.txt` as `ffs_find` does, each by its words over an image in a file,
+/// and counts whether its text and its status are those that are expected.
+///
+/// # Errors
+/// A text that can't be read, memory that was refused, and standard output that failed.
+pub fn compare(rt: &HostRuntime, tally: &mut Tally) -> io::Result<()> {
+    let list = fs::read_to_string(rt, "find_rows.txt")?;
+    for line in list.lines() {
+        let agrees = is_right(rt, line)?;
+        tally.count(rt, line, "ffs_find", agrees)?;
+    }
+    Ok(())
+}
 
 /// Whether a row has the text and the status that are expected. A line has the name of the text,
 /// the status, and the words. What goes to standard error follows what goes to standard output.
@@ -34,18 +47,4 @@ fn is_right(rt: &HostRuntime, line: &str) -> io::Result<bool> {
     );
     text.extend_from_slice(errors.as_slice())?;
     Ok(ended == status && text == expected)
-}
-
-fn main(rt: HostRuntime) -> io::Result<()> {
-    let mut compared = 0u64;
-    let mut failed = 0u64;
-    let list = fs::read_to_string(&rt, "rows.txt")?;
-    for line in list.lines() {
-        compared = compared.saturating_add(1);
-        if !is_right(&rt, line)? {
-            failed = failed.saturating_add(1);
-            println!(rt; "{line}")?;
-        }
-    }
-    println!(rt; "{compared} compared, {failed} failed")
 }
