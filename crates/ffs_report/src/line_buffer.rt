@@ -1,22 +1,24 @@
 //! The bytes of one line, gathered before they go out.
 ghost use Rattle.std.specs.Prelude.{◌≡◌, ◌+◌, ◌<◌, ◌≤◌, ◌*◌, length, take};
-ghost use Rattle.ffs_report.specs.{Sink.Puts, declared.line_buffer.TheConstants.LINE_ROOM};
+ghost use Rattle.ffs_report.specs.{Sink.{Puts, Took}, declared.line_buffer.TheConstants.LINE_ROOM};
 
 use crate::output::{OutFault, Output};
 use ffs_memory::copy_short;
 
 /// The room for a line, with its questions, in bytes. A path has at most 1,024: a line that shows
 /// two long ones may be longer, and so may one with the name of an image.
-const LINE_ROOM: usize = 2048;
+pub const LINE_ROOM: usize = 2048;
 
-/// An output in memory that has room for one line. A piece for which no room is left is refused.
+/// An output in memory that has room for one line. Where it is full, a piece is refused.
 #[derive(Drop)]
 pub struct LineBuffer {
     room: [u8; LINE_ROOM],
     /// How many bytes it holds, from the start of its room on.
     used: usize,
+    /// How many pieces it has refused since it held nothing.
     failures: u64,
     ghost in_room: { used ≤ LINE_ROOM },
+    ghost full: { 0 < failures → used ≡ LINE_ROOM },
     ghost long: { length room ≡ LINE_ROOM },
 }
 
@@ -34,9 +36,10 @@ impl LineBuffer {
 
     /// Drops what it holds.
     pub fn clear(&mut self)
-        ensures { (self.new.used ≡ 0) × (self.new.failures ≡ self.old.failures) }
+        ensures { (self.new.used ≡ 0) × (self.new.failures ≡ 0) }
     {
         self.used = 0;
+        self.failures = 0;
     }
 
     /// What it holds.
@@ -44,6 +47,37 @@ impl LineBuffer {
         ensures { result.now ≡ take self.now.used self.now.room }
     {
         &self.room[..self.used]
+    }
+
+    /// Takes a piece for which there is room.
+    #[inline(always)]
+    fn take(&mut self, piece: &[u8])
+        requires { self.old.used + length piece.now ≤ LINE_ROOM }
+        ensures { Took (⟦<LineBuffer as Output>⟧.sink self.old)
+            (⟦<LineBuffer as Output>⟧.sink self.new) piece.now }
+    {
+        let end = self.used + piece.len();
+        copy_short(&mut self.room[self.used..end], piece);
+        self.used = end;
+    }
+
+    /// Takes as much as there is room for of a piece that is too long.
+    ///
+    /// # Errors
+    /// It is full.
+    #[cold]
+    fn fill(&mut self, piece: &[u8]) -> Result<usize, OutFault>
+        requires { LINE_ROOM < self.old.used + length piece.now }
+        ensures { Puts (⟦<LineBuffer as Output>⟧.sink self.old)
+            (⟦<LineBuffer as Output>⟧.sink self.new) piece.now result }
+    {
+        let left = LINE_ROOM - self.used;
+        if left == 0 {
+            self.failures = self.failures.saturating_add(1);
+            return Err(OutFault);
+        }
+        self.take(&piece[..left]);
+        Ok(left)
     }
 }
 
@@ -57,24 +91,21 @@ impl Output for LineBuffer {
     }
 
     /// # Errors
-    /// There is no room for the piece.
+    /// It is full.
     #[inline(always)]
     fn put(&mut self, piece: &[u8]) -> Result<usize, OutFault>
         requires { 0 < length piece.now }
         ensures puts { Puts (⟦<LineBuffer as Output>⟧.sink self.old)
             (⟦<LineBuffer as Output>⟧.sink self.new) piece.now result }
 
-        // A piece that has room is taken.
+        // A piece that has room is taken whole.
         ensures room { self.old.used + length piece.now ≤ LINE_ROOM
             → result ≡ Ok (length piece.now) }
     {
         if piece.len() > LINE_ROOM - self.used {
-            self.failures = self.failures.saturating_add(1);
-            return Err(OutFault);
+            return self.fill(piece);
         }
-        let end = self.used + piece.len();
-        copy_short(&mut self.room[self.used..end], piece);
-        self.used = end;
+        self.take(piece);
         Ok(piece.len())
     }
 }

@@ -1,7 +1,7 @@
 //! Prints a line of a report: the text of each message.
 ghost use Rattle.std.specs.Prelude.{◌≡◌};
 ghost use Rattle.ffs_report.specs.Sink.{GoesGathered, Prints};
-ghost use Rattle.ffs_report.specs.Lines.{message_of};
+ghost use Rattle.ffs_report.specs.{Lines.message_of, declared.line_buffer.TheConstants.LINE_ROOM};
 ghost use Rattle.ffs_volume.specs.Messages.Texts.{text_of, fault_text, opening_text, mounted_text, minfree_text, offer_text, block_count_text, block_message_text, summary_text};
 
 use crate::line::{Heading, Line};
@@ -14,7 +14,7 @@ use ffs_volume::texts::*;
 use ffs_volume::{BlockMessage, SuperFault};
 use itoa::Buffer;
 
-/// Prints a line, with its questions, as one piece, where they have room in the buffer.
+/// Prints a line, with its questions: as one piece, where they don't fill the buffer.
 ///
 /// # Errors
 /// A write to the output that failed.
@@ -26,9 +26,9 @@ pub fn print_gathered<W: Output>(
     ensures prints { Prints (W.sink out.old) (W.sink out.new) (text_of (message_of line.now))
         result }
 
-    // It is one put, unless the buffer, which is empty then, has no room for it.
+    // It is one put, unless it would fill the buffer.
     ensures gathered { GoesGathered W.was_put out.old out.new (text_of (message_of line.now))
-        buffer.old.failures (⟦<LineBuffer as Output>⟧.sink buffer.new) }
+        LINE_ROOM }
 {
     buffer.clear();
     if print_line(buffer, line).is_ok() {
