@@ -1,4 +1,4 @@
--- What reads, claims and reports leave of a workspace that is ready.
+-- What reads, claims and reports leave of a workspace whose windows hold what the image gives.
 use Rattle.std.proofs.Common.{◌≡◌, ℕ, refl, ap, arith, rules, length, length-set, slice_set, subst, false, Result}
 use Rattle.std.{proofs.Common.vec_len, specs.declared.{alloc.Global.Global, vec.Vec.Vec}}
 use Rattle.ffs_volume.specs.declared.{Class.Class, Inode.Inode, Layout.Layout}
@@ -7,7 +7,7 @@ use Rattle.ffs_report.specs.{PhaseOutcome.ImageAfter, declared.fault.RunFault.Ru
 use Rattle.ffs_layout.specs.declared.geometry.Geometry.{Geometry}
 use Rattle.ffs_maps.specs.declared.FragmentMap.{FragmentMap}
 use Rattle.ffs_walk.specs.{Windows.{CanWalk, KeepsBlocks}, declared.blocks.Blocks.Blocks}
-use Rattle.ffs_workspace.specs.{Lengths.IsFor, Ready.IsReady, declared.workspace.{Windows.Windows, Workspace.Workspace}}
+use Rattle.ffs_workspace.specs.{Lengths.IsFor, Ready.CanRead, declared.workspace.{Windows.Windows, Workspace.Workspace}}
 use Rattle.ffs_claims.specs.{Leaves.{SameFound, ClaimsOnly, Stored, OffersOnly}, Reporting.{RescanKeeps, ReportsOnly}}
 use Rattle.ffs_claims.specs.Reporting.{OffersReportedOnly}
 
@@ -53,30 +53,35 @@ pub offers_reported_then : {l : Layout} {u v w : Workspace} → OffersReportedOn
     OffersReportedOnly l u w
 offers_reported_then p q = grind arith
 
--- it stays ready where its windows are as they were
-pub ready_still : {l : Layout} {d : Device} {u w : Workspace} → IsFor l w → w.windows ≡ u.windows → IsReady l d u →
-    IsReady l d w
+-- they hold it still where they are as they were
+pub ready_still : {l : Layout} {d : Device} {u w : Workspace} → IsFor l w → w.windows ≡ u.windows → CanRead l d u →
+    CanRead l d w
 ready_still made e r = grind arith
 
 -- a walk can be gone on with
-pub can_walk : {g k : Geometry} {d : Device} {w : Workspace} → k ≡ g → IsReady g.layout d w →
+pub can_walk : {g k : Geometry} {d : Device} {w : Workspace} → k ≡ g → CanRead g.layout d w →
     CanWalk k.layout d w.windows.blocks
 can_walk same r = grind arith
 
 -- and where a walk read an indirect block, or couldn't
 pub ready_read : {g k : Geometry} {d d' : Device} {w : Workspace} {b : Blocks} → d'.contents ≡ d.contents →
-    d'.size ≡ d.size → k ≡ g → KeepsBlocks k.layout d'.contents w.windows.blocks b → IsReady g.layout d w →
-    IsReady g.layout d' (record w { windows = record w.windows { blocks = b } })
+    d'.size ≡ d.size → k ≡ g → KeepsBlocks k.layout d'.contents w.windows.blocks b → CanRead g.layout d w →
+    CanRead g.layout d' (record w { windows = record w.windows { blocks = b } })
 ready_read e size same kept r = grind arith
 
 pub ready_walked : {g k : Geometry} {d d' : Device} {w : Workspace} {b : Blocks} → d' ≡ d → k ≡ g →
-    KeepsBlocks k.layout d'.contents w.windows.blocks b → IsReady g.layout d w →
-    IsReady g.layout d' (record w { windows = record w.windows { blocks = b } })
+    KeepsBlocks k.layout d'.contents w.windows.blocks b → CanRead g.layout d w →
+    CanRead g.layout d' (record w { windows = record w.windows { blocks = b } })
 ready_walked e same kept r = ready_read (ap (λ x. x.contents) e) (ap (λ x. x.size) e) same kept r
 
--- it stays ready where an inode begins
+-- they hold it where the count of Runs starts again
+pub ready_again : {l : Layout} {d : Device} {u w : Workspace} → w ≡ record u { runs_again = 0 } → CanRead l d u →
+    CanRead l d w
+ready_again e r = grind arith
+
+-- they hold it where an inode begins
 pub ready_begun : {l : Layout} {d : Device} {u w : Workspace} →
-    w ≡ record u { bad = 0; dups = 0; kept = 0; tail = false } → IsReady l d u → IsReady l d w
+    w ≡ record u { bad = 0; dups = 0; kept = 0; tail = false } → CanRead l d u → CanRead l d w
 ready_begun e r = grind arith
 
 stored_length : {T : Type 0} (old new : Vec T Global) (number : ℕ) (x : T) (n : ℕ) → vec_len old ≡ n →
@@ -86,10 +91,10 @@ stored_length old new number x n e s = omega (arith, ap length s, length-set old
 -- or what was found of one is kept
 pub ready_stored : {l : Layout} {d : Device} {number : ℕ} {class : Class} {i : Inode} {u w : Workspace} →
     Stored number class i u w →
-    w ≡ record u { kinds = w.kinds; marked = w.marked; notes = w.notes; references = w.references } → IsReady l d u
-    → IsReady l d w
+    w ≡ record u { kinds = w.kinds; marked = w.marked; notes = w.notes; references = w.references } → CanRead l d u
+    → CanRead l d w
 ready_stored {number = number} {u = u} {w = w} s e r =
-    let m = r.made in
+    let m = r.ready.made in
     let kinds = stored_length u.kinds w.kinds number _ _ m.kinds s.kinds in
     let marked = stored_length u.marked w.marked number _ _ m.marked s.marked in
     let references = stored_length u.references w.references number _ _ m.references s.starts in

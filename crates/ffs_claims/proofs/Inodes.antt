@@ -58,7 +58,7 @@ Claiming v d u w area = StepsLeave {T = Unit {0}} v d u w area (Ok tt)
 -- nothing is claimed yet, a walk took its next step, and something was claimed
 pub claiming_none : {v : Layout} {d : Device} {w : Workspace} {area : DataArea} → CanClaim v d w area →
     Claiming v d w w area
-claiming_none {w = w} can = let few = used_below can.ready.made in let same = found_none w in grind arith
+claiming_none {w = w} can = let few = used_below can.ready.ready.made in let same = found_none w in grind arith
 
 pub claiming_walked : {g k : Geometry} {d d' : Device} {u w : Workspace} {b : Blocks} {area : DataArea} → d' ≡ d →
     k ≡ g → KeepsBlocks k.layout d'.contents w.windows.blocks b → Claiming g.layout d u w area →

@@ -11,7 +11,7 @@ use Rattle.ffs_report.specs.{Known.{ForBytes, IsContents}, PhaseOutcome.{ImageAf
 use Rattle.ffs_report.specs.declared.fault.RunFault.{RunFault}
 use Rattle.ffs_layout.specs.declared.geometry.Geometry.{Geometry}
 use Rattle.ffs_walk.specs.Counts.{entered}
-use Rattle.ffs_workspace.specs.{Holds.{IsFresh, claims_of}, Lengths.IsFor, Ready.IsReady, Tables.HoldsInode}
+use Rattle.ffs_workspace.specs.{Holds.{IsFresh, claims_of}, Lengths.IsFor, Ready.CanRead, Tables.HoldsInode}
 use Rattle.ffs_workspace.specs.{Tables.HoldsPiece, declared.workspace.Workspace.Workspace}
 use Rattle.ffs_claims.specs.{Area.IsDataArea, Leaves.{CanOffer, ClaimsOnly, HasBegun, OffersOnly, SameFound}}
 use Rattle.ffs_claims.specs.{Lines.of_lines, Moments.{ClaimMoment, SweepMoment}, declared.area.DataArea.DataArea}
@@ -24,9 +24,9 @@ pub record Reserves (v : Layout) (old new : Workspace) : Type 0 where
   pub runs : new.runs_seen ≡ 0
   pub only : ClaimsOnly v old new
 
--- an inode can claim fragments: the workspace is ready, and each Run that lies in the data area is in range
+-- an inode can claim fragments: the windows hold what the image gives, and each Run that lies in the data area is in range
 pub record CanClaim (v : Layout) (d : Device) (w : Workspace) (area : DataArea) : Type 0 where
-  pub ready : IsReady v d w
+  pub ready : CanRead v d w
   pub all_in_range : IsDataArea v area
 
 -- an inode can claim in a sweep: its number is one of the volume, the walk is over the volume, and the Runs

@@ -6,7 +6,7 @@ use Rattle.ffs_volume.specs.{declared.Layout.Layout, Blocks.Inodes.inodes_of}
 use Rattle.ffs_image.specs.Device.{Device}
 use Rattle.ffs_report.specs.{PhaseOutcome.ImageAfter, Progress.Says, declared.fault.RunFault.RunFault}
 use Rattle.ffs_maps.specs.Bits.{bits_of}
-use Rattle.ffs_workspace.specs.{Holds.bool_at, Lengths.{IsFor, set_count}, Ready.IsReady}
+use Rattle.ffs_workspace.specs.{Holds.bool_at, Lengths.{IsFor, set_count}, Ready.CanRead}
 use Rattle.ffs_workspace.specs.declared.workspace.Workspace.{Workspace}
 use Rattle.ffs_claims.specs.{Lines.of_lines, Moments.ClaimMoment}
 
@@ -65,17 +65,17 @@ pub record CanReport (v : Layout) (w : Workspace) (number : ℕ) : Type 0 where
   pub made : IsFor v w
   pub number_fits : number < inodes_of v
 
--- an inode can be walked over again: the workspace is ready, the inode's number is one of the volume,
--- and something is to be reported still
+-- an inode can be walked over again: the windows hold what the image gives, the inode's number is one of
+-- the volume, and something is to be reported still
 pub record CanRewalk (v : Layout) (d : Device) (w : Workspace) (number : ℕ) : Type 0 where
-  pub ready : IsReady v d w
+  pub ready : CanRead v d w
   pub number_fits : number < inodes_of v
   pub pending : set_count (bits_of w.duplicates) ≢ 0
 
--- what walking over an inode again leaves: the image, but for a read that failed, and a workspace
--- that is ready, with the claims as they were
+-- what walking over an inode again leaves: the image, but for a read that failed, windows that hold what
+-- it gives, and the claims as they were
 pub record RewalkLeaves {T : Type 0} (v : Layout) (d d' : Device) (old new : Workspace) (result : Result T RunFault)
     : Type 0 where
   pub image : ImageAfter d d' result
-  pub ready : IsReady v d' new
+  pub ready : CanRead v d' new
   pub claims : RescanKeeps old new

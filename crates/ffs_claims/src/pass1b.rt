@@ -121,6 +121,7 @@ fn rescan_inodes<I: Image, W: Output>(
         workspace.new (I.reads image.old) (I.reads image.new) }
     ensures ready { IsReady geometry.now.layout (I.device image.new) workspace.new }
 {
+    workspace.forget_windows();
     workspace.runs_again = 0;
     report.say(&Line::Heading(Heading::Phase1b))?;
     for number in 2..geometry.layout.ncg * geometry.layout.ipg {

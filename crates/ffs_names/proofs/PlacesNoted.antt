@@ -20,7 +20,7 @@ use Rattle.ffs_volume.specs.Encodings.Places.{entries_in_chunk, entries_in_part,
 use Rattle.ffs_volume.specs.Encodings.Places.{part_size, place_in, ArePlaces, AreNoted, IsNoted}
 use Rattle.ffs_walk.specs.declared.{blocks.Blocks.Blocks, window.Window.Window}
 use Rattle.ffs_workspace.proofs.{Leaving.counts_same, PlaceLaws.{any_naming-roled, name_in-after, name_in-among}}
-use Rattle.ffs_workspace.{proofs.PlaceLaws.name_in-roled, specs.{Holds.{HoldsClaims, HoldsSurvey}, Ready.IsReady}}
+use Rattle.ffs_workspace.{proofs.PlaceLaws.name_in-roled, specs.{Holds.{HoldsClaims, HoldsSurvey}, Ready.CanRead}}
 use Rattle.ffs_workspace.{specs.Tables.KeepsTable, proofs.PartLaws.{begins_part, lies_in_part, BeginsPart}}
 use Rattle.ffs_workspace.specs.declared.{table.Table.Table, workspace.Workspace.Workspace}
 use Rattle.ffs_names.{proofs.InParts.named_in_part, specs.{Fits.CursorFits, RunCursors.{last_place, StepsOn}}}
@@ -322,10 +322,10 @@ claims_noted {v = v} {b = b} {old = old} e h = rw e (record {
   counts = counts_same v b old _ refl refl refl refl refl h.counts;
 })
 
--- a workspace is ready after its table, windows of chunks and queue were used
+-- the windows hold what the image gives after the table, windows of chunks and the queue were used
 pub ready_noted : {v : Layout} {d d'' : Device} {w : Workspace} {table : Table} {blocks : Blocks} {chunk : Window}
     {queue : Vec ℕ Global} (d' : Device) → d'.contents ≡ d.contents → KeepsTable v d'.contents table → d''.contents ≡
-    d'.contents → CanReadChunks v d'' blocks chunk → vec_len queue ≡ vec_len w.queue → IsReady v d w → IsReady v d''
+    d'.contents → CanReadChunks v d'' blocks chunk → vec_len queue ≡ vec_len w.queue → CanRead v d w → CanRead v d''
     (record w { queue = queue; windows = record w.windows { table = table; blocks = blocks; current = chunk } })
 ready_noted d' first kept second can long r = grind arith
 

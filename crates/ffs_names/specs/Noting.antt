@@ -11,7 +11,7 @@ use Rattle.ffs_volume.specs.Directories.{Graph.is_naming_entry, Roles.{RoledEntr
 use Rattle.ffs_volume.specs.{Encodings.Lists.bool_at, Blocks.Inodes.inodes_of, Report.DirectoryReads.noted_cost}
 use Rattle.ffs_volume.specs.Encodings.Places.{entries_in_part, is_due as is_to_be_read, name_in, place_in, AreNoted}
 use Rattle.ffs_volume.specs.Encodings.Places.{IsNoted}
-use Rattle.ffs_workspace.specs.{Holds.HoldsSurvey, Ready.IsReady, declared.workspace.Windows.Windows}
+use Rattle.ffs_workspace.specs.{Holds.HoldsSurvey, Ready.CanRead, declared.workspace.Windows.Windows}
 use Rattle.ffs_workspace.specs.declared.workspace.Workspace.{Workspace}
 use Rattle.ffs_names.specs.{Costs.{to_read, HoldsReading}, Sweeps.DirSweep, Windows.CanReadChunks}
 use Rattle.ffs_names.specs.declared.chunks.Chunks.{Chunks}
@@ -48,7 +48,7 @@ pub record CanNoteChunks (parents : Vec ℕ Global) (p : ℕ) (m : ChunkNoting) 
 -- so can those of an inode of the volume
 pub record CanNoteDirectory (v : Layout) (d : Device) (w : Workspace) (p : ℕ) : Type 0 where
   pub dir : (0 < p) × (p < inodes_of v)
-  pub ready : IsReady v d w
+  pub ready : CanRead v d w
 
 -- p is the parent of x. The root has no parent entry
 abbrev pub is_child : (parents : List ℕ) (p x : ℕ) → Bool
@@ -133,19 +133,19 @@ pub record LeavesNoted {T : Type 0} (parents : Vec ℕ Global) (p : ℕ) (old ne
   pub children : NotesChildren parents.items old.words.items new.words.items p
   pub long : vec_len new.words ≡ vec_len old.words
 
--- what a call leaves that notes places of children of p in `queue`: only the windows change beside it,
--- the workspace is ready, and the image was only read
+-- what a call leaves that notes places of children of p in `queue`: only the windows change beside it, and
+-- hold what the image gives, which was only read
 pub record LeavesChildren {T : Type 0} (v : Layout) (p : ℕ) (old new : DirSweep) (result : Result T ImageFault)
     : Type 0 where
   pub lists : new.workspace ≡ record old.workspace { windows = new.workspace.windows; queue = new.workspace.queue }
-  pub ready : IsReady v new.image new.workspace
+  pub ready : CanRead v new.image new.workspace
   pub read : ReadAfter old.image new.image result
   pub children : NotesChildren old.workspace.parents.items old.workspace.queue.items new.workspace.queue.items p
 
--- what a call leaves that notes all places: only the windows and `queue` change, the workspace is ready,
--- the image was only read, and where no read failed nothing is to be read any more: no parent entry is due
+-- what a call leaves that notes all places: only the windows and `queue` change, the windows hold what the
+-- image gives, which was only read, and where no read failed nothing is to be read any more: no parent entry is due
 pub record LeavesPlaces {T : Type 0} (v : Layout) (old new : DirSweep) (result : Result T ImageFault) : Type 0 where
   pub lists : new.workspace ≡ record old.workspace { windows = new.workspace.windows; queue = new.workspace.queue }
-  pub ready : IsReady v new.image new.workspace
+  pub ready : CanRead v new.image new.workspace
   pub read : ReadAfter old.image new.image result
   pub none_due : OnOk result ((x : ℕ) → is_to_be_read (slice_index new.workspace.queue.items x) ≡ false)

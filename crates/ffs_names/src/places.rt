@@ -7,7 +7,7 @@ ghost use Rattle.ffs_layout.specs.Entry.{entry_value};
 ghost use Rattle.ffs_volume.specs.Directories.{Entries.entries_of, Roles.{is_dir, role_of as role_in, roled_chunk}};
 ghost use Rattle.ffs_volume.specs.{Directories.{Roles.roled_from, Volumes.volume_of}, Encodings.Notes.note_at};
 ghost use Rattle.ffs_volume.specs.Report.DirectoryReads.{noted_cost, noted_costs};
-ghost use Rattle.ffs_workspace.specs.{Holds.{HoldsClaims, HoldsSurvey}, Ready.IsReady, Tables.CanReadInode};
+ghost use Rattle.ffs_workspace.specs.{Holds.{HoldsClaims, HoldsSurvey}, Ready.CanRead, Tables.CanReadInode};
 ghost use Rattle.ffs_workspace.specs.Tables.{TableAfter};
 ghost use Rattle.ffs_names.specs.Noting.{chunk_noting, is_child, BeginsNotes, CanNote, CanNoteChunks, CanNoteDirectory};
 ghost use Rattle.ffs_names.specs.Noting.{HoldsPlaces, LeavesChildren, LeavesNoted, LeavesPlaces, NotesDirectory};
@@ -213,7 +213,7 @@ fn note_all<I: Image>(
     image: &mut I,
     workspace: &mut Workspace,
 ) -> Result<(), ImageFault>
-    requires { IsReady geometry.now.layout (I.device image.old) workspace.old }
+    requires { CanRead geometry.now.layout (I.device image.old) workspace.old }
     ensures places { OnOk result (ForContents (I.device image.old).contents
         (λ b. HoldsClaims geometry.now.layout b workspace.old
         → HoldsSurvey geometry.now.layout b workspace.old
@@ -242,13 +242,13 @@ fn note_all<I: Image>(
 ///
 /// # Errors
 /// A read of the image that failed.
-#[tactic(auto, using(ffs_image::proofs::Limits::served, ffs_image::proofs::Limits::read_over, ffs_workspace::proofs::Readiness::ready_same, crate::proofs::Limits::noted_within))]
+#[tactic(auto, using(ffs_image::proofs::Limits::served, ffs_image::proofs::Limits::read_over, ffs_workspace::proofs::Readiness::can_read_same, crate::proofs::Limits::noted_within))]
 pub fn note_places<I: Image>(
     geometry: &Geometry,
     image: &mut I,
     workspace: &mut Workspace,
 ) -> Result<(), ImageFault>
-    requires { IsReady geometry.now.layout (I.device image.old) workspace.old }
+    requires { CanRead geometry.now.layout (I.device image.old) workspace.old }
     ensures places { OnOk result (ForContents (I.device image.old).contents
         (λ b. HoldsClaims geometry.now.layout b workspace.old
         → HoldsSurvey geometry.now.layout b workspace.old

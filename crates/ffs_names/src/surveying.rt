@@ -2,7 +2,7 @@
 
 ghost use Rattle.std.specs.Prelude.{◌≡◌, false, true, OnOk};
 ghost use Rattle.ffs_image.specs.Device.{ForContents};
-ghost use Rattle.ffs_workspace.specs.{Ready.IsReady, Holds.HoldsClaims};
+ghost use Rattle.ffs_workspace.specs.{Ready.{CanRead, IsReady}, Holds.HoldsClaims};
 ghost use Rattle.ffs_names.specs.{Costs.SweepsOnce, Sweeps.dir_sweep, Surveys.{IsSurveyed, LeavesClaims, SurveysAll}};
 ghost use Rattle.ffs_names.specs.{Surveys.SurveysNoMore, CalmDirs.FlagsEachCalm};
 
@@ -22,7 +22,7 @@ fn survey_all<I: Image>(
     image: &mut I,
     workspace: &mut Workspace,
 ) -> Result<(), ImageFault>
-    requires ready { IsReady geometry.now.layout (I.device image.old) workspace.old }
+    requires ready { CanRead geometry.now.layout (I.device image.old) workspace.old }
     requires first { workspace.old.surveyed ≡ false }
     ensures survey { ForContents (I.device image.old).contents
         (λ b. HoldsClaims geometry.now.layout b workspace.old
@@ -74,7 +74,7 @@ fn survey_all<I: Image>(
 ///
 /// # Errors
 /// A read of the image that failed.
-#[tactic(auto, using(ffs_image::proofs::Limits::served, ffs_image::proofs::Limits::read_over, ffs_workspace::proofs::Readiness::ready_same, crate::proofs::Limits::noted_within))]
+#[tactic(auto, using(ffs_image::proofs::Limits::served, ffs_image::proofs::Limits::read_over, ffs_workspace::proofs::Leaving::claims_held, ffs_workspace::proofs::Leaving::windows_leave, crate::proofs::Limits::noted_within))]
 pub fn survey<I: Image>(
     geometry: &Geometry,
     image: &mut I,
@@ -102,6 +102,7 @@ pub fn survey<I: Image>(
         workspace.queue.fill(0);
         return Ok(());
     }
+    workspace.forget_windows();
     let mut limited = LimitedImage::new(image, sweep_reads(geometry));
     let surveyed = survey_all(geometry, &mut limited, workspace);
     if limited.is_spent() {

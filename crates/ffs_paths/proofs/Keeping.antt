@@ -2,7 +2,7 @@
 use Rattle.std.proofs.Common.{arith, ◌≡◌, List, ℕ, refl, ap, Option, Result, Ok, vec_len, Err, OnOk}
 use Rattle.ffs_image.specs.{Device.Device, Reads.ReadAfter, declared.image.ImageFault.ImageFault}
 use Rattle.ffs_volume.specs.{declared.Layout.Layout, Directories.Graph.Graph}
-use Rattle.ffs_workspace.specs.{declared.workspace.Workspace.Workspace, Leaves.LeavesSurvey, Ready.IsReady}
+use Rattle.ffs_workspace.specs.{declared.workspace.Workspace.Workspace, Leaves.LeavesSurvey, Ready.CanRead}
 use Rattle.ffs_workspace.proofs.Leaving.{claims_held, claims_left, survey_held, survey_left, windows_leave}
 use Rattle.ffs_paths.specs.{Reads.{ForTree, OnlyReads, PathMoment, ReadsNames}, declared.kept_parent.KeptParent.KeptParent}
 use Rattle.ffs_paths.specs.KeptParents.{IsKeptParent, KeepsParent, SamePlaces}
@@ -43,11 +43,11 @@ pub reads_as : {S T : Type 0} {v : Layout} {d d' : Device} {w w' : Workspace} {x
 reads_as r = record { lists = r.lists; current = r.current; ready = r.ready; read = r.read }
 
 -- nothing was read yet
-pub no_reads : {T : Type 0} {v : Layout} {d : Device} {w : Workspace} {x : T} → IsReady v d w →
+pub no_reads : {T : Type 0} {v : Layout} {d : Device} {w : Workspace} {x : T} → CanRead v d w →
     OnlyReads v d d w w (Ok x)
 no_reads r = record { lists = refl; current = refl; ready = r; read = refl }
 
-pub names_none : {T : Type 0} {v : Layout} {x : ℕ} {now : PathMoment} {y : T} → IsReady v now.image now.workspace →
+pub names_none : {T : Type 0} {v : Layout} {x : ℕ} {now : PathMoment} {y : T} → CanRead v now.image now.workspace →
     ReadsNames v x now now (Ok y)
 names_none r = record {
   reads = no_reads r;
@@ -81,7 +81,7 @@ same_image d d' (Err e) r = (r.contents, r.size)
 
 -- indirect blocks and a chunk were read
 chunk_read : {T : Type 0} {v : Layout} {d d' : Device} {w : Workspace} {blocks : Blocks} {names : Window}
-    {result : Result T ImageFault} → IsReady v d w → CanReadChunks v d' blocks names → ReadAfter d d' result →
+    {result : Result T ImageFault} → CanRead v d w → CanReadChunks v d' blocks names → ReadAfter d d' result →
     OnlyReads v d d' w (record w { windows = record w.windows { blocks = blocks; other = names } }) result
 chunk_read {d = d} {d' = d'} {result = result} ready can read = grind (arith, same_image)
 
@@ -93,7 +93,7 @@ chunk_then reads can read = reads_then reads (chunk_read reads.ready can read)
 
 -- bytes were read into the window of names
 pub name_read : {T : Type 0} {v : Layout} {d d' : Device} {w : Workspace} {names : Window}
-    {result : Result T ImageFault} → IsReady v d w → vec_len names.buffer ≡ vec_len w.windows.other.buffer
+    {result : Result T ImageFault} → CanRead v d w → vec_len names.buffer ≡ vec_len w.windows.other.buffer
     → WindowHolds d'.contents names → ReadAfter d d' result →
     OnlyReads v d d' w (record w { windows = record w.windows { other = names } }) result
 name_read {d = d} {d' = d'} {result = result} ready long holds read = grind (arith, same_image, chunk_read)

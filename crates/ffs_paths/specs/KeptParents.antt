@@ -4,7 +4,7 @@ use Rattle.std.specs.Prelude.{slice_index}
 use Rattle.ffs_image.specs.{Device.Device, declared.image.{Image.Ghosts, ImageFault.ImageFault}}
 use Rattle.ffs_volume.specs.{declared.Layout.Layout, Directories.{Graph.Graph, Parents.graph_of, Paths.path_names}}
 use Rattle.ffs_volume.specs.{Directories.Volumes.volume_of, Report.Reads.path_reads, Encodings.Places.place_in}
-use Rattle.ffs_workspace.specs.{declared.workspace.Workspace.Workspace, Ready.IsReady, Holds.{HoldsClaims, HoldsSurvey}}
+use Rattle.ffs_workspace.specs.{declared.workspace.Workspace.Workspace, Ready.CanRead, Holds.{HoldsClaims, HoldsSurvey}}
 use Rattle.ffs_paths.specs.{Climbing.IsParentOf, DirectoryPaths.IsPathOf, Reads.{HoldsPlaceOf, KnowsPlaces, names_to}}
 use Rattle.ffs_paths.specs.{Reads.{OnlyReads, PathMoment, path_moment, ReadsAtMost, ReadsNames}, Slashes.HaveNoSlash}
 use Rattle.ffs_paths.specs.{NameTexts.name_bytes, declared.kept_parent.KeptParent.KeptParent}
@@ -33,14 +33,14 @@ abbrev pub SamePlaces : Workspace → Workspace → Type 0
 SamePlaces old new =
     (x : ℕ) → place_in (slice_index new.queue.items x) ≡ place_in (slice_index old.queue.items x)
 
--- paths can be made: the workspace is ready, and what is kept of the parent is right
+-- paths can be made: the windows hold what the image gives, and what is kept of the parent is right
 pub record ReadyWith (v : Layout) (d : Device) (w : Workspace) (s : KeptParent) : Type 0 where
-  pub ready : IsReady v d w
+  pub ready : CanRead v d w
   pub kept_parent : KeepsParent v d.contents w s
 
 -- a path of the inode x can be made
 pub record ReadyToPath (v : Layout) (d : Device) (w : Workspace) (s : KeptParent) (x : ℕ) : Type 0 where
-  pub ready : IsReady v d w
+  pub ready : CanRead v d w
   pub kept_parent : KeepsParent v d.contents w s
   pub number : x < v.ncg * v.ipg
 

@@ -6,7 +6,7 @@ use Rattle.ffs_volume.specs.declared.{constants.TheConstants.MAXPATHLEN, Layout.
 use Rattle.ffs_volume.specs.Directories.{Graph.{Graph, level}, Parents.graph_of, Volumes.volume_of}
 use Rattle.ffs_workspace.specs.declared.workspace.Workspace.{Workspace}
 use Rattle.ffs_volume.specs.Encodings.Places.{AreNoted, IsNoted, part_size, place_in}
-use Rattle.ffs_workspace.specs.{Ready.IsReady}
+use Rattle.ffs_workspace.specs.{Ready.CanRead}
 use Rattle.ffs_workspace.specs.Holds.{bool_at, HoldsClaims, HoldsSurvey}
 
 -- a moment of calls for paths: the image, how often it was read by then, and the workspace
@@ -20,24 +20,24 @@ pub record PathMoment : Type 0 where
 abbrev pub path_moment : {I : Type 0} → Ghosts I → I → Workspace → PathMoment
 path_moment I image w = record { image = I.device image; reads = I.reads image; workspace = w }
 
--- the workspace is ready for reads of the inode x
-pub record IsReadyFor (v : Layout) (d : Device) (w : Workspace) (x : ℕ) : Type 0 where
-  pub ready : IsReady v d w
+-- the inode x can be read: the windows hold what the image gives, and its number is one of the volume
+pub record CanReadFor (v : Layout) (d : Device) (w : Workspace) (x : ℕ) : Type 0 where
+  pub ready : CanRead v d w
   pub number : x < v.ncg * v.ipg
 
 -- the same, and the directory x is reached
 pub record CanClimb (v : Layout) (d : Device) (w : Workspace) (x : ℕ) : Type 0 where
-  pub ready : IsReady v d w
+  pub ready : CanRead v d w
   pub number : x < v.ncg * v.ipg
   pub reached : bool_at w.reached.items x ≡ true
 
 -- all of the workspace but its windows is as it was, and so is the window of the current directory;
--- it is ready for the next read
+-- the windows hold what the image gives
 pub record OnlyReads {T : Type 0} (v : Layout) (old new : Device) (before after : Workspace)
     (result : Result T ImageFault) : Type 0 where
   pub lists : after ≡ record before { windows = after.windows }
   pub current : after.windows.current ≡ before.windows.current
-  pub ready : IsReady v new after
+  pub ready : CanRead v new after
   pub read : ReadAfter old new result
 
 -- P holds of the graph of the volume's directories, where the image gives its bytes, and the

@@ -5,7 +5,7 @@ ghost use Rattle.ffs_volume.specs.Directories.{Entries.entries_of, Roles.{is_pla
 ghost use Rattle.ffs_volume.specs.{Encodings.Places.entries_in_chunks, declared.constants.TheConstants.DIRBLKSIZ};
 ghost use Rattle.ffs_layout.specs.Entry.{entry_value};
 ghost use Rattle.ffs_paths.specs.{Climbing.{FindsFirstName, FindsName, FindsNoted, IsNameIn}, NameTexts.name_bytes};
-ghost use Rattle.ffs_paths.specs.Reads.{ForTree, IsReadyFor, OnlyReads, path_moment, ReadsName, ReadsPlace};
+ghost use Rattle.ffs_paths.specs.Reads.{ForTree, CanReadFor, OnlyReads, path_moment, ReadsName, ReadsPlace};
 
 use crate::name_text::NameText;
 use ffs_image::{Image, ImageFault};
@@ -75,7 +75,7 @@ fn find_by_place<I: Image>(
     dir: u32,
     name: &mut NameText,
 ) -> Result<bool, ImageFault>
-    requires { IsReadyFor geometry.now.layout (I.device image.old) workspace.old dir }
+    requires { CanReadFor geometry.now.layout (I.device image.old) workspace.old dir }
     ensures finds { IfOk result (FindsNoted geometry.now.layout (I.device image.old) workspace.old
         dir (name_bytes name.new)) }
     ensures leaves { ReadsPlace geometry.now.layout dir
@@ -110,7 +110,7 @@ pub fn search_name<I: Image>(
     dir: u32,
     name: &mut NameText,
 ) -> Result<(), ImageFault>
-    requires { IsReadyFor geometry.now.layout (I.device image.old) workspace.old parent }
+    requires { CanReadFor geometry.now.layout (I.device image.old) workspace.old parent }
     ensures name { OnOk result (ForTree geometry.now.layout (I.device image.old) workspace.old
         (λ g. IsNameIn g dir parent (name_bytes name.new))) }
     ensures reads { OnlyReads geometry.now.layout (I.device image.old) (I.device image.new)
@@ -149,7 +149,7 @@ pub fn find_name<I: Image>(
     dir: u32,
     name: &mut NameText,
 ) -> Result<(), ImageFault>
-    requires { IsReadyFor geometry.now.layout (I.device image.old) workspace.old (max dir parent) }
+    requires { CanReadFor geometry.now.layout (I.device image.old) workspace.old (max dir parent) }
     ensures finds { OnOk result (FindsName geometry.now.layout (I.device image.old) workspace.old
         dir parent (name_bytes name.new)) }
     ensures leaves { ReadsName geometry.now.layout dir

@@ -4,7 +4,7 @@ ghost use Rattle.std.specs.Prelude.{◌≡◌, ◌<◌, ◌≤◌, ℕ, List, []
 ghost use Rattle.ffs_volume.specs.Directories.{Graph.{Graph, level}, Paths.{dir_path, entry_path, names_down}};
 ghost use Rattle.ffs_workspace.specs.Holds.{bool_at};
 ghost use Rattle.ffs_paths.specs.{Buffers.HoldsNames, Climbing.{in_room, path_in}, DirectoryPaths.{HoldsPath, IsPathOf}};
-ghost use Rattle.ffs_paths.specs.{Reads.{CanClimb, ForTree, IsReadyFor, path_moment, ReadsNames}, Slashes.HaveNoSlash};
+ghost use Rattle.ffs_paths.specs.{Reads.{CanClimb, ForTree, CanReadFor, path_moment, ReadsNames}, Slashes.HaveNoSlash};
 ghost use Rattle.ffs_volume.specs.declared.constants.TheConstants.{DIRBLKSIZ};
 
 use crate::buffer::{LONGEST_NAME, PathBuffer, PathText};
@@ -133,7 +133,7 @@ pub fn put_directory<I: Image>(
     dir: u32,
     path: &mut DirectoryPath,
 ) -> Result<(), ImageFault>
-    requires { IsReadyFor geometry.now.layout (I.device image.old) workspace.old dir }
+    requires { CanReadFor geometry.now.layout (I.device image.old) workspace.old dir }
     ensures path { OnOk result (ForTree geometry.now.layout (I.device image.old) workspace.old
         (λ g. IsPathOf g dir path.new)) }
     ensures leaves { ReadsNames geometry.now.layout dir
@@ -157,7 +157,7 @@ pub fn directory_path<I: Image>(
     workspace: &mut Workspace,
     dir: u32,
 ) -> Result<DirectoryPath, ImageFault>
-    requires { IsReadyFor geometry.now.layout (I.device image.old) workspace.old dir }
+    requires { CanReadFor geometry.now.layout (I.device image.old) workspace.old dir }
     ensures path { IfOk result (λ path.
         ForTree geometry.now.layout (I.device image.old) workspace.old (λ g. IsPathOf g dir path)) }
     ensures leaves { ReadsNames geometry.now.layout dir
@@ -185,7 +185,7 @@ pub fn path_of<I: Image>(
     name: Option<&[u8]>,
     text: &mut PathText,
 ) -> Result<(), ImageFault>
-    requires { IsReadyFor geometry.now.layout (I.device image.old) workspace.old dir }
+    requires { CanReadFor geometry.now.layout (I.device image.old) workspace.old dir }
     ensures path { OnOk result (ForTree geometry.now.layout (I.device image.old) workspace.old
         (λ g. text.new.items ≡ path_in g dir (option_map (λ n. n.now) name.entry))) }
     ensures leaves { ReadsNames geometry.now.layout dir

@@ -1,8 +1,8 @@
 -- What a workspace holds is held by one with the same findings.
 use Rattle.std.proofs.{Common.{arith, ◌≡◌, ℕ, List, false, true}, lemmas.Bool.both_ways}
 use Rattle.ffs_volume.specs.declared.Layout.{Layout}
-use Rattle.ffs_workspace.specs.{declared.workspace.Workspace.Workspace, Holds.{HoldsClaims, HoldsCounts, HoldsFindings}}
-use Rattle.ffs_workspace.specs.{Holds.{HoldsReferences, HoldsStarts, HoldsSurvey, HoldsTree}}
+use Rattle.ffs_workspace.specs.{declared.workspace.Workspace.Workspace, Holds.{HoldsClaims, HoldsCounts, HoldsFindings, HoldsPhase1}}
+use Rattle.ffs_workspace.specs.Holds.{HoldsReferences, HoldsStarts, HoldsSurvey, HoldsTree, IsFresh}
 use Rattle.ffs_workspace.specs.Leaves.{LeavesBlockCheck, LeavesSurvey}
 
 pub leaves_all : (w : Workspace) → LeavesSurvey w w
@@ -84,6 +84,14 @@ pub references_left : (v : Layout) (b : List ℕ) (old new : Workspace) → Leav
 references_left v b old new s h = grind arith
 
 -- and so where only the windows have changed
+pub fresh_held : (v : Layout) (old new : Workspace) → new ≡ record old { windows = new.windows } → IsFresh v old →
+    IsFresh v new
+fresh_held v old new e h = grind arith
+
+pub phase1_held : (v : Layout) (b : List ℕ) (old new : Workspace) → new ≡ record old { windows = new.windows } →
+    HoldsPhase1 v b old → HoldsPhase1 v b new
+phase1_held v b old new e h = grind arith
+
 pub claims_held : (v : Layout) (b : List ℕ) (old new : Workspace) → new ≡ record old { windows = new.windows } →
     HoldsClaims v b old → HoldsClaims v b new
 claims_held v b old new e h = claims_left v b old new (windows_leave old new e) h

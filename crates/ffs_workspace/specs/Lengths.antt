@@ -1,9 +1,9 @@
--- The lengths of the lists of a workspace, and its windows.
+-- The lengths of the lists of a workspace, and what its windows hold.
 use Rattle.std.specs.{Prelude.{◌≡◌, ◌+◌, ◌*◌, ◌==◌, ℕ, Bool, not, List, Option, vec_len, count_by}, Int.div_ceil}
 use Rattle.ffs_volume.specs.{declared.Layout.Layout, Blocks.Inodes.inodes_of}
 use Rattle.ffs_maps.specs.Bits.{bits_of}
 use Rattle.ffs_walk.specs.Windows.{WindowHolds, BlocksHold}
-use Rattle.ffs_workspace.specs.{declared.workspace.Workspace.Workspace, Tables.IsTableOf}
+use Rattle.ffs_workspace.specs.{declared.workspace.Workspace.Workspace, Tables.KeepsTable}
 
 -- how many bits of a map are set
 abbrev pub set_count : List Bool → ℕ
@@ -13,7 +13,7 @@ set_count bits = count_by (λ b. b) bits
 abbrev pub has_unreported_dups : Workspace → Bool
 has_unreported_dups w = not (set_count (bits_of w.duplicates) == 0)
 
--- the workspace was made for the volume: all its lists have the lengths that it asks for
+-- the workspace was made for the volume: all its lists and windows have the lengths that it asks for
 pub record IsFor (v : Layout) (w : Workspace) : Type 0 where
   pub used : w.used.size ≡ v.size
   pub duplicates : w.duplicates.size ≡ v.size
@@ -26,14 +26,14 @@ pub record IsFor (v : Layout) (w : Workspace) : Type 0 where
   pub notes : vec_len w.notes ≡ inodes_of v
   pub parents : vec_len w.parents ≡ inodes_of v
   pub queue : vec_len w.queue ≡ inodes_of v
-  pub table : IsTableOf v w.windows.table
+  pub table : vec_len w.windows.table.window.buffer ≡ v.bsize
   pub blocks : vec_len w.windows.blocks.buffer ≡ 3 * v.bsize
   pub current : vec_len w.windows.current.buffer ≡ v.bsize
   pub other : vec_len w.windows.other.buffer ≡ v.bsize
 
 -- the windows hold what the image gives
 pub record HoldWindows (v : Layout) (contents : Option (List ℕ)) (w : Workspace) : Type 0 where
-  pub table : WindowHolds contents w.windows.table.window
+  pub table : KeepsTable v contents w.windows.table
   pub blocks : BlocksHold v contents w.windows.blocks
   pub current : WindowHolds contents w.windows.current
   pub other : WindowHolds contents w.windows.other

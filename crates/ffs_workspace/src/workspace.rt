@@ -88,9 +88,10 @@ pub struct Workspace {
 }
 
 impl Workspace {
+    ghost use Rattle.ffs_image.specs.Device.{Device};
     ghost use Rattle.ffs_workspace.specs.Lengths.{IsFor, has_unreported_dups, held_of};
     ghost use Rattle.ffs_volume.specs.Encodings.Notes.{cut_in};
-    ghost use Rattle.ffs_workspace.specs.Ready.{AsksOfSystem, IsNew};
+    ghost use Rattle.ffs_workspace.specs.Ready.{AsksOfSystem, CanRead, IsNew, IsReady};
 
     /// Takes all memory of a check of the volume from an allocator, and holds nothing yet.
     ///
@@ -160,6 +161,19 @@ impl Workspace {
         })
     }
 
+    /// Lets the windows hold nothing, so that whatever is asked of them is read anew: they may hold
+    /// what another image gave. Each phase begins with it.
+    pub fn forget_windows(&mut self)
+        ensures only { self.new ≡ record self.old { windows = self.new.windows } }
+        ensures forgets { (v : Layout) (d : Device) → IsReady v d self.old → CanRead v d self.new }
+    {
+        self.windows.table.forget();
+        self.windows.table.window.length = 0;
+        self.windows.blocks.held = [None; 3];
+        self.windows.current.length = 0;
+        self.windows.other.length = 0;
+    }
+
     /// How many bytes its lists and buffers take.
     pub fn held(&self) -> u64
         requires { (geometry : Geometry) × IsFor geometry.layout self.now }
@@ -214,11 +228,11 @@ impl Workspace {
 }
 
 impl Windows {
-    ghost use Rattle.ffs_workspace.specs.Ready.{AreNewWindows};
+    ghost use Rattle.ffs_workspace.specs.Ready.{HaveRoom};
 
     fn in_memory<M: Memory>(memory: &mut M, geometry: &Geometry) -> Result<Windows, AllocError>
         ensures { MakesInMemory (M.account memory.old) (M.account memory.new)
-            (6 * geometry.now.layout.bsize) result (AreNewWindows geometry.now.layout) }
+            (6 * geometry.now.layout.bsize) result (HaveRoom geometry.now.layout) }
     {
         let size = geometry.layout.bsize as usize;
         let table = Table::over(memory.bytes(size)?);

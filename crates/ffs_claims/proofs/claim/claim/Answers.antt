@@ -37,7 +37,7 @@ claim_direct-requires-clause-can g c =
     let uncut : is_open (claims_of c.args.workspace.now) ≡ true =
     rw (c.requires.begun.bad, c.requires.begun.dups) refl in
     sees_for (sym (ap (λ k. k.layout) (c.restart.ensures.geometry ∙ c.requires.walk)))
-    (sees_next c.args.geometry.now.sound c.requires.begun none.claim.ready.made none.claim.all_in_range uncut
+    (sees_next c.args.geometry.now.sound c.requires.begun none.claim.ready.ready.made none.claim.all_in_range uncut
     none.claim_bound)
 
 pub loop-next-init : goal.loop-next-init
@@ -129,7 +129,7 @@ step-requires g c =
     let inv = c.loop-next.invariant in
     let read = claiming_walked c.in_ok-next.ensures.leaves.read inv.geometry c.next.ensures.leaves.kept inv.left in
     record {
-      next = sees_next c.args.geometry.now.sound c.requires.begun read.claim.ready.made read.claim.all_in_range
+      next = sees_next c.args.geometry.now.sound c.requires.begun read.claim.ready.ready.made read.claim.all_in_range
           inv.open_still read.claim_bound;
       length = (rw (inv.geometry, c.in-Some.is) at c.in_ok-next.ensures.step.fits).length;
     }
@@ -142,7 +142,7 @@ returns-in_err-seen g c =
     let s = claims_of c.loop-next.workspace in
     let read = claiming_walked c.in_ok-next.ensures.leaves.read inv.geometry c.next.ensures.leaves.kept inv.left in
     let next = rw (inv.device, c.in-Some.is) at c.in_ok-next.ensures.step.steps in
-    let few = seen_bound c.args.workspace.now read.claim.ready.made inv.open_still read.claim_bound in
+    let few = seen_bound c.args.workspace.now read.claim.ready.ready.made inv.open_still read.claim_bound in
     let paid = rw c.in-Some.is at (c.in_ok-next.ensures.counted inv.held).paid in
     rw (p.1, p.2) (record {
       text = of_stops _ _ _ _ _ _ _ _ inv.said (lines_on v _ s _ c.loop-next.sweep.walk c.next.new.self
@@ -210,7 +210,7 @@ claim_words-requires g c =
     let now = c.in_ok-seen.ensures.claims in
     sees_for (sym (ap (λ k. k.layout) (c.in_ok-next.ensures.same.geometry ∙ inv.geometry)))
     (sees_next sound c.requires.begun left.only.made left.all_in_range (sym now.seen ∙ c.if-not-seen.false)
-    (moves_on c.in-Some.next inv.left.claim.ready.made sound.sizes.frag_high
+    (moves_on c.in-Some.next inv.left.claim.ready.ready.made sound.sizes.frag_high
     (rw (inv.geometry, c.in-Some.is) at c.in_ok-next.ensures.step.fits).length now.claims inv.left.claim_bound))
 
 pub loop-next-preserved : goal.loop-next-preserved
@@ -229,7 +229,7 @@ loop-next-preserved g c =
     let now = c.in_ok-seen.ensures.claims.claims in
     let claimed = ready_still left.only.made left.only.windows read.claim.ready in
     let moves = moves_then _ (claims_of c.step.new.workspace) _
-    (moves_on c.in-Some.next inv.left.claim.ready.made c.args.geometry.now.sound.sizes.frag_high
+    (moves_on c.in-Some.next inv.left.claim.ready.ready.made c.args.geometry.now.sound.sizes.frag_high
     (rw (inv.geometry, c.in-Some.is) at c.in_ok-next.ensures.step.fits).length now inv.left.claim_bound) words.claim_bound in
     let image = c.in_ok-next.ensures.leaves.read ∙ inv.device in
     let contents = (g.I.Image.device c.next.new.image).contents in
@@ -266,7 +266,7 @@ returns-then-not-seen g c =
     let n = c.args.claimant.now.number in
     let read = claiming_walked c.in_ok-next.ensures.leaves.read inv.geometry c.next.ensures.leaves.kept inv.left in
     let now = c.in_ok-seen.ensures.claims in
-    let few = seen_bound c.args.workspace.now read.claim.ready.made inv.open_still read.claim_bound in
+    let few = seen_bound c.args.workspace.now read.claim.ready.ready.made inv.open_still read.claim_bound in
     let cut : is_open s' ≡ false = sym now.seen ∙ c.if-not-seen.true in
     let next = rw (inv.device, c.in-Some.is) at c.in_ok-next.ensures.step.steps in
     let paid = rw c.in-Some.is at (c.in_ok-next.ensures.counted inv.held).paid in
@@ -278,7 +278,7 @@ returns-then-not-seen g c =
           inv.claims (λ bytes t. (cut_over v n s' (steps_left bytes c.next.new.self) cut).0);
       image = c.in_ok-next.ensures.leaves.read ∙ inv.device;
       left = claiming_on c.step.ensures.left (omega (arith, c.step.ensures.claims.runs))
-          (moves_on c.in-Some.next inv.left.claim.ready.made c.args.geometry.now.sound.sizes.frag_high
+          (moves_on c.in-Some.next inv.left.claim.ready.ready.made c.args.geometry.now.sound.sizes.frag_high
           (rw (inv.geometry, c.in-Some.is) at c.in_ok-next.ensures.step.fits).length now.claims inv.left.claim_bound)
           read;
       walk = c.in_ok-next.ensures.same.geometry ∙ inv.geometry;

@@ -4,7 +4,7 @@ use Rattle.ffs_volume.specs.{Blocks.{Owners.owner_of, Steps.steps_of}, Report.Vo
 use Rattle.ffs_volume.{specs.declared.Inode.Inode, proofs.Results.on_ok as ok_then}
 use Rattle.ffs_report.{proofs.Reporting.{reads_first, reports_same, reports_knowing}, specs.Known.ForBytes}
 use Rattle.ffs_report.specs.Known.{IsContents}
-use Rattle.ffs_workspace.{proofs.Readiness.ready_table, specs.{Holds.claims_of, Tables.TakesPiece}}
+use Rattle.ffs_workspace.{proofs.Readiness.can_read_table, specs.{Holds.claims_of, Tables.TakesPiece}}
 use Rattle.ffs_claims.{proofs.Inodes.{ok_where, used_below}, specs.{Leaves.Stored, Lines.{of_lines, owner_with}}}
 use Rattle.ffs_claims.proofs.TableReads.{on_any}
 use Rattle.ffs_claims.proofs.claim.claim_inode.Goals as goal
@@ -13,7 +13,7 @@ pub claim_read_inode-requires : goal.claim_read_inode-requires
 claim_read_inode-requires g c =
     let class = c.class_of.ensures in
     let ok = c.in_ok-inode.ensures.reads.read in
-    let ready = ready_table c.args.geometry.now.layout (g.I.Image.device c.args.image.now)
+    let ready = can_read_table c.args.geometry.now.layout (g.I.Image.device c.args.image.now)
     (g.I.Image.device c.inode.new.image) c.args.workspace.now c.inode.new.self (ap (λ d. d.contents) ok)
     (ap (λ d. d.size) ok) c.inode.ensures.reads.kept c.requires.claim.ready in
     grind arith
@@ -24,8 +24,8 @@ returns-in_err-inode-clause-claims g c =
     let v = c.args.geometry.now.layout in
     let err = c.in_err-inode.ensures.reads.read in
     let can = c.requires.claim in
-    let few = used_below can.ready.made in
-    let ready = ready_table v (g.I.Image.device c.args.image.now) (g.I.Image.device c.inode.new.image)
+    let few = used_below can.ready.ready.made in
+    let ready = can_read_table v (g.I.Image.device c.args.image.now) (g.I.Image.device c.inode.new.image)
     c.args.workspace.now c.inode.new.self err.contents err.size c.inode.ensures.reads.kept can.ready in
     rw (p.1, p.2) (record {
       text = reads_first;

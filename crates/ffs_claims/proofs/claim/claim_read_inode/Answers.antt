@@ -12,7 +12,7 @@ use Rattle.ffs_claims.proofs.claim.claim_read_inode.Goals as goal
 pub say_count-requires : goal.say_count-requires
 say_count-requires g c =
     let b = begun c.args.workspace.now c.begin.ensures c.requires.can.runs in
-    let made = c.claim.ensures.left.claim.ready.made in
+    let made = c.claim.ensures.left.claim.ready.ready.made in
     omega (
       arith,
       c.args.geometry.now.sound.numbers.size_below,
@@ -35,7 +35,7 @@ pub returns-in_err-say_class-clause-claims : goal.returns-in_err-say_class-claus
 returns-in_err-say_class-clause-claims g c =
     let p = err_from_is_err_and c.from_residual.result c.from_residual.ensures.1 in
     let ready = ready_begun c.begin.ensures c.requires.can.claim.ready in
-    let few = used_below ready.made in
+    let few = used_below ready.ready.made in
     let b = begun_runs c.args.workspace.now c.begin.ensures in
     rw (p.1, p.2) (record {
       text = class_stopped _ _ _ (claims_of c.args.workspace.now) c.requires.class_is c.in_err-say_class.ensures;
@@ -119,7 +119,7 @@ returns-then-matches-clause-claims g c =
     let free = sym c.requires.class_is ∙ is_free in
     let begun = ready_begun c.begin.ensures c.requires.can.claim.ready in
     let ready = ready_stored c.store.ensures.stored c.store.ensures.same begun in
-    let few = used_below begun.made in
+    let few = used_below begun.ready.made in
     let b = begun_runs c.args.workspace.now c.begin.ensures in
     let s = stored_runs c.begin.new.workspace c.store.ensures.same in
     record {

@@ -5,7 +5,7 @@ use Rattle.ffs_volume.specs.{Blocks.{KeptSteps.claims_before, Owners.{owner_of, 
 use Rattle.ffs_volume.{specs.{Blocks.Inodes.inodes_of, Laws.ClaimBounds.used_bits}, proofs.Sizes.some_inodes}
 use Rattle.ffs_report.proofs.Reporting.{of_part, of_fault, of_same, reports_knowing, says_heading, stops_heading}
 use Rattle.ffs_report.{proofs.Reporting.said_knows, specs.Known.ForBytes}
-use Rattle.ffs_workspace.specs.{Found.WithFresh, Holds.{claims_of, all_claims}}
+use Rattle.ffs_workspace.{proofs.Leaving.fresh_held, specs.{Found.WithFresh, Holds.{claims_of, all_claims}}}
 use Rattle.ffs_claims.proofs.{Duplicates.{any_set, rescan_is}, Frames.{image_from, ready_begun, ready_still}}
 use Rattle.ffs_claims.proofs.{Inodes.used_below, Numbers.{found_begins, found_next, found_all, numbers_most}}
 use Rattle.ffs_claims.proofs.{Numbers.{before_first, before_end, lines_next}, TableReads.{blocks_all, blocks_failed}}
@@ -19,14 +19,20 @@ returns-in_err-say-clause-text g c =
     let p = err_from_is_err_and c.from_residual.result c.from_residual.ensures.1 in
     rw (p.1, p.2) (stops_heading c.in_err-say.ensures.said)
 
+pub reserve-requires : goal.reserve-requires
+reserve-requires g c = (c.forget_windows.ensures.forgets c.args.geometry.now.layout _ c.requires.ready).ready.made
+
 pub loop-number-init : goal.loop-number-init
 unfolding phase1_lines owners_of
 loop-number-init g c =
     let v = c.args.geometry.now.layout in
     let found = c.reserve.ensures.only.found in
+    let forgot = c.forget_windows.ensures.only in
+    let fresh = fresh_held v c.args.workspace.now _ forgot in
     record {
       ready = record {
-        ready = ready_still c.reserve.ensures.only.made c.reserve.ensures.only.windows c.requires.ready;
+        ready = ready_still c.reserve.ensures.only.made c.reserve.ensures.only.windows
+            (c.forget_windows.ensures.forgets v _ c.requires.ready);
         all_in_range = c.empty.ensures v;
       };
       walk = c.ended.ensures.geometry;
@@ -35,18 +41,18 @@ loop-number-init g c =
       high = λ h. omega arith;
       runs = omega (arith, c.reserve.ensures.runs);
       reads = blocks_none (omega (arith, c.reserve.ensures.runs));
-      known = λ bytes k. read_begins v bytes (omega arith) (c.reserve.ensures.claims k.1);
-      again = found.again;
-      claims = λ bytes k. c.reserve.ensures.claims k.1 ∙ sym (before_first v bytes);
-      found = λ bytes k. found_begins bytes k.1 found;
-      said = says_heading (λ bytes k. rw (c.reserve.ensures.claims k.1) refl) c.in_ok-say.ensures.said;
+      known = λ bytes k. read_begins v bytes (omega arith) (c.reserve.ensures.claims (fresh k.1));
+      again = found.again ∙ ap (λ w. w.runs_again) forgot;
+      claims = λ bytes k. c.reserve.ensures.claims (fresh k.1) ∙ sym (before_first v bytes);
+      found = λ bytes k. found_begins bytes (fresh k.1) found;
+      said = says_heading (λ bytes k. rw (c.reserve.ensures.claims (fresh k.1)) refl) c.in_ok-say.ensures.said;
     }
 
 pub claim_inode-requires : goal.claim_inode-requires
 claim_inode-requires g c =
     let inv = c.loop-number.invariant in
     let numbers = c.args.geometry.now.sound.numbers in
-    let used = used_below inv.ready.ready.made in
+    let used = used_below inv.ready.ready.ready.made in
     grind arith
 
 pub returns-in_err-claim_inode-clause-faults : goal.returns-in_err-claim_inode-clause-faults
@@ -90,7 +96,7 @@ loop-number-preserved g c =
     let stands : ForBytes (WithFresh v (g.I.Image.device c.args.image.now) c.args.workspace.now)
     (λ bytes. StandsAt v bytes w (n + 1)) = λ bytes k. record {
       claims = after bytes k ∙ sym (before_next v bytes n inv.low);
-      found = found_next inv.low lt inv.ready.ready.made (after bytes k)
+      found = found_next inv.low lt inv.ready.ready.ready.made (after bytes k)
           (c.in_ok-claim_inode.ensures.stored bytes (contents ∙ k.0)) (inv.found bytes k);
     } in
     let said = of_part _ _ _ _ _ _ _ _ inv.said (λ bytes k. lines_next v bytes s s' n lt (now bytes (contents ∙ k.0)))
@@ -109,7 +115,7 @@ loop-number-preserved g c =
       | inl some ↦
           let free : ForBytes (WithFresh v (g.I.Image.device c.args.image.now) c.args.workspace.now)
           (λ bytes. AreFree v bytes (n + 1) next) = λ bytes k x from below.
-          free_where_zero ready.made.table ready.windows.table (passes.ends.zero x from below) bytes (gives ∙ k.0) in
+          free_where_zero ready.windows.table.made ready.windows.table.holds (passes.ends.zero x from below) bytes (gives ∙ k.0) in
           rw (passes.some some) (record {
             ready = record { ready = ready_begun refl ready; all_in_range = c.claim_inode.ensures.claims.left.claim.all_in_range };
             walk = c.claim_inode.ensures.claims.left.walk;
@@ -120,9 +126,9 @@ loop-number-preserved g c =
             reads = blocks_later passes.ends.low reads;
             known = λ bytes k. read_later some passes.ends.high (free bytes k) (known bytes k);
             again = c.claim_inode.ensures.claims.left.again ∙ inv.again;
-            claims = λ bytes k. (stands_later (omega (arith, inv.low)) some passes.ends.high ready.made (free bytes k)
+            claims = λ bytes k. (stands_later (omega (arith, inv.low)) some passes.ends.high ready.ready.made (free bytes k)
                 (stands bytes k)).claims;
-            found = λ bytes k. (stands_later (omega (arith, inv.low)) some passes.ends.high ready.made (free bytes k)
+            found = λ bytes k. (stands_later (omega (arith, inv.low)) some passes.ends.high ready.ready.made (free bytes k)
                 (stands bytes k)).found;
             said = of_same _ _ _ _ _ _ said
                 (λ bytes k. lines_later v bytes s' (n + 1) next some passes.ends.high (free bytes k));
@@ -149,10 +155,10 @@ pub pass_zero_inodes-number-requires : goal.pass_zero_inodes-number-requires
 pass_zero_inodes-number-requires g c =
     let ready = c.claim_inode.ensures.claims.left.claim.ready in
     record {
-      inodes = has_inodes ready.made.table ready.windows.table;
+      inodes = has_inodes ready.windows.table.made ready.windows.table.holds;
       some = omega arith;
       order = omega arith;
-      before = omega (arith, ready.made.kinds);
+      before = omega (arith, ready.ready.made.kinds);
     }
 
 pub returns-clause-text : goal.returns-clause-text
@@ -206,7 +212,7 @@ returns-clause-reads g c =
     let inv = c.loop-number.invariant in
     let most = numbers_most c.loop-number.number _ inv.high in
     record {
-      runs = omega (arith, inv.runs, used_below inv.ready.ready.made, most);
+      runs = omega (arith, inv.runs, used_below inv.ready.ready.ready.made, most);
       reads = blocks_all sound (omega (arith, inv.high, some_inodes v sound)) inv.reads;
       known = λ bytes k. read_all sound (omega (arith, inv.high, some_inodes v sound)) (inv.known bytes k);
       again = inv.again;

@@ -58,7 +58,7 @@ returns-then-is_spent-clause-ready g c =
     let back = phase_served _ (rw c.new-limited.ensures.device at c.rescan_inodes-scanned.ensures.faults)
     (rw c.new-limited.ensures.device at c.rescan_inodes-scanned.ensures.text) c.is_spent.ensures.below in
     let image = c.image-1.given.1 back.same_image ∙ c.drop-limited.ensures.below in
-    rw image (ready_same c.args.geometry.now.layout _ _ c.rescan_inodes-scanned.new.workspace back.contents back.size
+    rw image (ready_same c.args.geometry.now.layout _ _ c.rescan_inodes-scanned.new.workspace back.size
     c.rescan_inodes-scanned.ensures.ready)
 
 pub returns-clause-faults : goal.returns-clause-faults
@@ -89,5 +89,5 @@ returns-clause-ready g c =
     let back = phase_served _ (rw c.new-limited.ensures.device at c.rescan_inodes-scanned.ensures.faults)
     (rw c.new-limited.ensures.device at c.rescan_inodes-scanned.ensures.text) c.is_spent.ensures.below in
     let image = c.image-2-1.given.1 back.same_image ∙ c.drop-limited-2.ensures.below in
-    rw image (ready_same c.args.geometry.now.layout _ _ c.rescan_inodes-scanned.new.workspace back.contents back.size
+    rw image (ready_same c.args.geometry.now.layout _ _ c.rescan_inodes-scanned.new.workspace back.size
     c.rescan_inodes-scanned.ensures.ready)

@@ -5,9 +5,9 @@ use Rattle.ffs_volume.specs.{Blocks.{KeptSteps.claims_before, Owners.owners_of},
 use Rattle.ffs_report.proofs.Reporting.{of_begins, of_says, of_part, of_fault, of_stops, of_same, reports_knowing}
 use Rattle.ffs_report.{proofs.Reporting.said_knows, specs.{Known.ForBytes, declared.fault.RunFault.RunFault}}
 use Rattle.ffs_maps.specs.Bits.{bits_of}
-use Rattle.ffs_workspace.specs.{Found.WithPhase1, Holds.all_claims, Lengths.set_count}
+use Rattle.ffs_workspace.specs.{Found.WithPhase1, Holds.all_claims, Lengths.set_count, declared.workspace.Workspace.Workspace}
 use Rattle.ffs_volume.specs.Blocks.Inodes.{inodes_of}
-use Rattle.ffs_claims.proofs.{Duplicates.{none_first, none_left}, Frames.{claims_then, image_from}}
+use Rattle.ffs_claims.proofs.{Duplicates.{none_first, none_left}, Frames.{claims_none, claims_then, image_from, ready_again}}
 use Rattle.ffs_claims.proofs.{Numbers.{numbers_most, before_first}, Reportings.{reporting_more, reporting_ends}}
 use Rattle.ffs_claims.proofs.{Reportings.{reporting_begins, lines_split, reporting_over}, RescanCounts.look_most}
 use Rattle.ffs_claims.proofs.{RescanCounts.looked_none, Rescanned.{IsNoted, is_noted, offers_at, runs_at, kept_from}}
@@ -25,34 +25,36 @@ returns-in_err-say-clause-text g c =
     (of_begins _ (λ bytes. phase1b ∷ of_lines (phase1b_lines v (owners_of v bytes))) _) (λ bytes t. refl)
     c.in_err-say.ensures.said)
 
+pub returns-in_err-say-clause-ready : goal.returns-in_err-say-clause-ready
+returns-in_err-say-clause-ready g c =
+    (ready_again refl (c.forget_windows.ensures.forgets c.args.geometry.now.layout _ c.requires.ready)).ready
+
 pub loop-number-init : goal.loop-number-init
 unfolding phase1b_lines owners_of all_claims rescan_runs
 loop-number-init g c =
     let v = c.args.geometry.now.layout in
-    let d = bits_of c.args.workspace.now.duplicates in
-    let ready = c.requires.ready in
+    let old = c.args.workspace.now in
+    let new = c.forget_windows.new.self in
+    let forgot = c.forget_windows.ensures.only in
+    let d = bits_of new.duplicates in
+    let same : d ≡ bits_of old.duplicates = ap (λ (w : Workspace). bits_of w.duplicates) forgot in
+    let claims = claims_none old in
+    let can = c.forget_windows.ensures.forgets v _ c.requires.ready in
     record {
-      ready = grind arith;
+      ready = ready_again refl can;
       device = refl;
-      claims = record {
-        used = refl;
-        kinds = refl;
-        notes = refl;
-        references = refl;
-        surveyed = refl;
-        seen = refl;
-        dups = refl;
-      };
+      claims = grind arith;
       low = omega arith;
       high = λ h. omega arith;
       runs = λ bytes k. omega arith;
       reads = record { rises = λ _. omega arith; paid = λ _. omega arith };
-      count = λ bytes k. rw (before_first v bytes, k.1.dup) (omega arith);
-      reported = λ bytes k. reporting_begins c.args.workspace.now _ (rw (before_first v bytes) refl) refl refl;
+      count = λ bytes k. rw (before_first v bytes, same, k.1.dup) (omega arith);
+      reported = λ bytes k. reporting_begins old _ (rw (before_first v bytes) refl)
+          (ap (λ (w : Workspace). w.duplicates) forgot) (ap (λ (w : Workspace). w.marked) forgot);
       said = of_says _ (λ bytes. phase1b ∷ of_lines (phase1b_lines v (owners_of v bytes)))
           (λ bytes. of_lines (first_offer_lines d (kept_from v bytes 2))) _ (phase1b ∷ []) _ _ _
           (of_begins _ (λ bytes. phase1b ∷ of_lines (phase1b_lines v (owners_of v bytes))) _)
-          (λ bytes k. rw (before_first v bytes, k.1.dup) refl) c.in_ok-say.ensures.said;
+          (λ bytes k. rw (before_first v bytes, same, k.1.dup) refl) c.in_ok-say.ensures.said;
     }
 
 pub returns-in_err-rewalk_inode-clause-faults : goal.returns-in_err-rewalk_inode-clause-faults
@@ -165,7 +167,7 @@ returns-then-not-has_unreported_dups g c =
         seen = inv.claims.seen;
         dups = inv.claims.dups;
       };
-      ready = inv.ready;
+      ready = inv.ready.ready;
     }
 
 pub returns-after-loop-number : goal.returns-after-loop-number
@@ -192,5 +194,5 @@ returns-after-loop-number g c =
         seen = inv.claims.seen;
         dups = inv.claims.dups;
       };
-      ready = inv.ready;
+      ready = inv.ready.ready;
     }

@@ -4,7 +4,7 @@ use Rattle.ffs_volume.specs.Blocks.{KeptOffers.kept_in_owners, KeptSteps.claims_
 use Rattle.ffs_volume.specs.{Messages.Kinds.phase1b, Blocks.Inodes.inodes_of}
 use Rattle.ffs_report.specs.{Known.ForBytes, PhaseOutcome.SaidOf, Progress.progress}
 use Rattle.ffs_maps.specs.Bits.{bits_of}
-use Rattle.ffs_workspace.specs.{Found.WithPhase1, Ready.IsReady}
+use Rattle.ffs_workspace.specs.{Found.WithPhase1, Ready.CanRead}
 use Rattle.ffs_claims.{proofs.{Reportings.Reporting, Rescanned.{kept_from, runs_from}}, specs.Lines.of_lines}
 use Rattle.ffs_claims.specs.{Reporting.RescanKeeps, RescanRuns.{RunsPay, runs_until_reported, rescan_runs}}
 use Rattle.ffs_claims.proofs.pass1b.rescan_inodes.Given as goal
@@ -12,7 +12,7 @@ use Rattle.ffs_claims.proofs.pass1b.rescan_inodes.Given as goal
 abbrev pub invariant-loop-number : goal.invariant-loop-number
 invariant-loop-number g l = let v = l.geometry.layout in
     let knows = WithPhase1 v (g.I.Image.device l.fn.image) l.fn.workspace in record {
-      ready : IsReady v (g.I.Image.device l.image) l.workspace;
+      ready : CanRead v (g.I.Image.device l.image) l.workspace;
       device : g.I.Image.device l.image ≡ g.I.Image.device l.fn.image;
       claims : RescanKeeps l.fn.workspace l.workspace;
       low : 2 ≤ l.number;

@@ -17,7 +17,7 @@ loop-dir-init g c =
     let begins : BeginsNotes w.reached.items w.parents.items c.flag_parents.new.words =
     rw c.deref.ensures.value at c.flag_parents.ensures in
     let long : length w.reached.items ≡ inodes_of c.args.geometry.now.layout =
-    sym (ap length c.deref.ensures.value) ∙ (c.deref.ensures.len ∙ c.requires.made.reached) in
+    sym (ap length c.deref.ensures.value) ∙ (c.deref.ensures.len ∙ c.requires.ready.made.reached) in
     record {
       same = refl;
       lists = refl;

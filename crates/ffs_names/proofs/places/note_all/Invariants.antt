@@ -1,6 +1,6 @@
 use Rattle.std.proofs.Common.{◌≡◌, ◌<◌, ◌≤◌, ◌+◌, ℕ, false, slice_index}
 use Rattle.ffs_image.specs.Device.{ForContents}
-use Rattle.ffs_workspace.specs.{Holds.{HoldsClaims, HoldsSurvey}, Ready.IsReady}
+use Rattle.ffs_workspace.specs.{Holds.{HoldsClaims, HoldsSurvey}, Ready.CanRead}
 use Rattle.ffs_volume.specs.{Encodings.Places.{is_due as is_to_be_read, ArePlaces}, Report.DirectoryReads.costs_all}
 use Rattle.ffs_volume.specs.Report.DirectoryReads.{noted_cost}
 use Rattle.ffs_names.proofs.PlacesNoted.{AreComing, OnlyParents}
@@ -10,7 +10,7 @@ abbrev pub invariant-loop-dir : goal.invariant-loop-dir
 invariant-loop-dir g l = let device = g.I.Image.device in record {
   same : device l.image ≡ device l.fn.image;
   lists : l.workspace ≡ record l.fn.workspace { windows = l.workspace.windows; queue = l.workspace.queue };
-  ready : IsReady l.geometry.layout (device l.image) l.workspace;
+  ready : CanRead l.geometry.layout (device l.image) l.workspace;
   low : 2 ≤ l.dir;
   were_read : (x : ℕ) → x < l.dir → is_to_be_read (slice_index l.workspace.queue.items x) ≡ false;
   only : OnlyParents l.fn.workspace.parents.items l.workspace.queue.items;

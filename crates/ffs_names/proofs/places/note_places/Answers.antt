@@ -15,13 +15,12 @@ returns-then-is_spent-clause-leaves g c =
     let same = back.contents ∙ sym over.contents in
     let size = back.size ∙ sym over.size in
     let ready = left.ready in
-    let made = ready.made in
+    let made = ready.ready.made in
     let held = ready.windows in
     rw image (record {
       lists = grind (arith, common_steps);
       ready = record {
-        made = search rules;
-        volume = rw size ready.volume;
+        ready = record { made = search rules; volume = rw size ready.ready.volume };
         windows = record {
           table = rw same held.table;
           blocks = rw same held.blocks;

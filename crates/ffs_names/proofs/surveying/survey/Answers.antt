@@ -1,6 +1,6 @@
 use Rattle.std.proofs.Common.{◌≡◌, ◌∙◌, ℕ, zero, suc, false, refl, replicate, rules, ap, slice_index}
 use Rattle.std.proofs.lemmas.List.{with_items_is}
-use Rattle.ffs_workspace.proofs.{Leaving.{counts_same, counts_stand}, PlaceLaws.{filled_noted, zero_index}, Readiness.ready_same}
+use Rattle.ffs_workspace.proofs.{Leaving.{claims_held, counts_same, counts_stand}, PlaceLaws.{filled_noted, zero_index}, Readiness.{can_read_same, ready_same}}
 use Rattle.ffs_survey.{proofs.CalmLaws.calm_none, specs.Survey.bool_at}
 use Rattle.ffs_names.proofs.SurveyHolds.{on_ok_each}
 use Rattle.ffs_names.proofs.surveying.survey.Goals as goal
@@ -40,11 +40,19 @@ returns-then-workspace-clause-leaves g c = record {
   read = search rules;
 }
 
--- what the first survey found, by the bytes of the image below the limit
+-- what the first survey needs
+pub survey_all-surveyed-requires-clause-ready : goal.survey_all-surveyed-requires-clause-ready
+survey_all-surveyed-requires-clause-ready g c =
+    rw c.new-limited.ensures.device (can_read_same c.args.geometry.now.layout (g.I.Image.device c.args.image.now) _ _
+    refl refl (c.forget_windows.ensures.forgets c.args.geometry.now.layout _ c.requires))
+
+-- what it found, by the bytes of the image below the limit
 pub returns-clause-survey : goal.returns-clause-survey
 returns-clause-survey g c = on_ok_each _ c.survey_all-surveyed.result (λ b t h.
-    (c.survey_all-surveyed.ensures.survey b (ap (λ d. d.contents) c.new-limited.ensures.device ∙ t) h).found)
+    (c.survey_all-surveyed.ensures.survey b (ap (λ d. d.contents) c.new-limited.ensures.device ∙ t)
+    (claims_held _ b c.args.workspace.now _ c.forget_windows.ensures.only h)).found)
 
 pub returns-clause-flags : goal.returns-clause-flags
 returns-clause-flags g c = λ first. on_ok_each _ c.survey_all-surveyed.result (λ b t h.
-    (c.survey_all-surveyed.ensures.survey b (ap (λ d. d.contents) c.new-limited.ensures.device ∙ t) h).flags)
+    (c.survey_all-surveyed.ensures.survey b (ap (λ d. d.contents) c.new-limited.ensures.device ∙ t)
+    (claims_held _ b c.args.workspace.now _ c.forget_windows.ensures.only h)).flags)

@@ -40,14 +40,24 @@ returns-clause-leaves g c =
       same = search rules;
       unnoted = λ x. ap (λ ws. slice_index ws x) c.fill.ensures.items ∙ zero_index _ x;
       ready = record {
-        made = search rules;
-        volume = rw (image, ← same) r.volume;
-        windows = record {
-          table = rw image r.table_holds;
-          blocks = rw (image, ← same) r.blocks_hold;
-          current = rw image r.current_holds;
-          other = rw image r.other_holds;
+        made = record {
+          used = search rules;
+          duplicates = search rules;
+          kinds = search rules;
+          marked = search rules;
+          named = search rules;
+          reached = search rules;
+          flags = search rules;
+          references = search rules;
+          notes = search rules;
+          parents = search rules;
+          queue = search rules;
+          table = table.room;
+          blocks = search rules;
+          current = search rules;
+          other = search rules;
         };
+        volume = rw (image, ← same) r.volume;
       };
       read = grind arith;
     }
@@ -90,7 +100,7 @@ returns-clause-survey g c = λ b t h.
           let marks : (x : ℕ) → bool_at c.deref-3.result.now x ≡ marked_at v b x =
           λ x. ap (λ xs. bool_at xs x) c.deref-3.ensures.value ∙ h.marked x in
           let marked_long : length c.deref-3.result.now ≡ inodes_of v =
-          omega (arith, c.deref-3.ensures.len, c.requires.ready.made.marked) in
+          omega (arith, c.deref-3.ensures.len, c.requires.ready.ready.made.marked) in
           record {
             flagged = λ d calm. ap (λ xs. bool_at xs d) flags
                 ∙ flags_each_calm (base g at) b c.deref-2.result.now _ _ c.deref-3.result.now _ n.reached
@@ -100,7 +110,7 @@ returns-clause-survey g c = λ b t h.
       counted =
           let image = c.image-1.given.1 (sym (ap (λ x. x.image_lent) c.survey-surveyed.ensures.leaves.same)) in
           let all : length c.deref-2.result.now ≡ v.ncg * v.ipg =
-          omega (arith, c.deref-2.ensures.len, c.requires.ready.made.kinds) in
+          omega (arith, c.deref-2.ensures.len, c.requires.ready.ready.made.kinds) in
           rw image (rw all at (c.survey-surveyed.ensures.leaves.counted b knows));
     }
 

@@ -26,16 +26,16 @@ returns-then-parent-count-clause-path g c = λ b t claims survey k l.
     let i = c.up.invariant in
     let way = i.path b t claims survey k l in
     let at = i.at in
-    let long = i.reads.ready.made.parents in
+    let long = i.reads.ready.ready.made.parents in
     let below = (parent_is _ way.left c.up.at c.index-parent.result.now way.level (omega arith)
     (c.index-parent.ensures ∙ (get_or_default c.up.workspace.parents.items c.up.at c.index-parent.result.now 0
     (omega arith) ∙ (ap (λ w. slice_index w.parents.items c.up.at) i.reads.lists ∙ survey.tree.parents c.up.at)))).below in
-    absurd (omega (arith, count_is c.args.geometry.now.layout b, c.if-parent-count.true, c.requires.ready.made.notes))
+    absurd (omega (arith, count_is c.args.geometry.now.layout b, c.if-parent-count.true, c.requires.ready.ready.made.notes))
 
 pub returns-clause-path : goal.returns-clause-path
 returns-clause-path g c = λ b t claims survey k l.
     let below = way_long (c.up.invariant.path b t claims survey k l) l in
-    absurd (omega (arith, count_is c.args.geometry.now.layout b, c.up-test.false, c.requires.ready.made.notes))
+    absurd (omega (arith, count_is c.args.geometry.now.layout b, c.up-test.false, c.requires.ready.ready.made.notes))
 
 pub up-preserved : goal.up-preserved
 up-preserved g c =
@@ -43,11 +43,11 @@ up-preserved g c =
     let found = c.in_ok-find_name.ensures in
     let p : ℕ = c.index-parent.result.now in
     let at = i.at in
-    let long = i.reads.ready.made.parents in
+    let long = i.reads.ready.ready.made.parents in
     let is : p ≡ slice_index c.up.workspace.parents.items c.up.at =
     c.index-parent.ensures ∙ get_or_default c.up.workspace.parents.items c.up.at p 0 (omega arith) in
     record {
-      at = omega (arith, c.requires.ready.made.notes, c.if-parent-count.false);
+      at = omega (arith, c.requires.ready.ready.made.notes, c.if-parent-count.false);
       reads = reads_then i.reads found.leaves.reads;
       path = λ b t claims survey k l.
           let G : Graph = graph_of (volume_of c.args.geometry.now.layout b) in

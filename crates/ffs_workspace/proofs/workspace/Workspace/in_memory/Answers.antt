@@ -6,7 +6,6 @@ use Rattle.ffs_workspace.proofs.workspace.Workspace.in_memory.Goals as goal
 
 pub returns : goal.returns
 returns g c =
-    let new = c.in_ok-windows.ensures.new in
     record {
       new = record {
         made = grind arith;
@@ -14,12 +13,6 @@ returns g c =
         found_dups = refl;
         runs_seen = refl;
         runs_again = refl;
-        windows = λ contents. record {
-          table = new.table_holds contents;
-          blocks = new.blocks_hold contents;
-          current = new.current_holds contents;
-          other = new.other_holds contents;
-        };
       };
       asks = grind (arith, granted_both, both);
     }
