@@ -89,7 +89,8 @@ fn claimed_count(geometry: &Geometry, used: &FragmentMap) -> u32
     used.count_ones().saturating_sub(reserved_count(geometry))
 }
 
-/// Free fragments in all: the loose ones, and those of free blocks.
+/// Free fragments in all: the loose ones, and those of free blocks. `frag`, at most 8, is a byte, so
+/// that 64 bits have room for the sum whatever the counts are.
 fn free_in_all(frags: i32, frag: u8, blocks: i32) -> i64
     ensures { result ≡ frags +ℤ pos frag *ℤ blocks }
 {
