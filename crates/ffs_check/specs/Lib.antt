@@ -27,8 +27,9 @@
 -- The check: `Moment`, `Ends` and `Headline` are the first clause. `Failures` says how many reads and writes failed,
 -- `Taken` what is taken of the memory, `Reads` how often the image is read, and `Costs` the last two of any image.
 --
--- Its parts: `Opening` is about the text before the phases; `Rest` has the texts of the phases, and what each of
--- them leaves to the next one; `PhaseEnds` is about all of them.
+-- Its parts: `Opening` is about the text before the phases; `Rest` has the texts of the phases, what phase 1b leaves
+-- and reads, and what a workspace answers after a check; `PhaseEnds` is about all phases, and about what follows an
+-- accepted superblock (FollowsAccepted of `check_accepted`).
 --
 -- The programs: `Program` is what a program says of itself, `CommandWords` what its words ask for, `Refusals` what is
 -- written where they are wrong, `Run` how a run of any program ends, and `Fsck` what `fsck_ffs` says of itself.

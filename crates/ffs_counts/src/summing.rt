@@ -21,8 +21,8 @@ use ffs_workspace::Workspace;
 /// How many inodes are counted at once by a counter of one byte: fewer than 256, so it doesn't wrap.
 const INODES_AT_ONCE: usize = 192;
 
-/// How many of the inodes from `first` on and below `end` are files or directories. A byte holds it,
-/// so that the machine counts many at once.
+/// How many of the inodes from `first` on and below `end` are files or directories: a loop without
+/// exit, which counts in a byte.
 #[tactic(auto, using(ffs_maps::proofs::Counting::count_within))]
 fn few_files(kinds: &[u8], first: usize, end: usize) -> u8
     requires { AreFew kinds.now first end }

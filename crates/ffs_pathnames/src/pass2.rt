@@ -94,7 +94,7 @@ pub fn clear_passed(workspace: &mut Workspace)
     workspace.queue.fill(0);
 }
 
-/// Clears the flags of suspect inodes, and no others: a loop without exit, and without a branch.
+/// Clears the flags of suspect inodes, and no others: a loop without exit.
 fn clear_suspects(inodes: &Inodes<'_>, flags: &mut [bool])
     requires { length flags.old ≡ length inodes.now.kinds.now }
     ensures { (x : ℕ) → bool_at flags.new x ≡ (bool_at flags.old x
