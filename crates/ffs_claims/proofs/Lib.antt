@@ -1,3 +1,27 @@
+-- What the lemmas on phases 1 and 1b are about, file by file.
+--
+-- For both phases:
+--   Frames         what reads, claims and reports leave of a workspace that is ready
+--   StepsContinue  offers, steps and inodes, one after another
+--   Numbers        the numbers of inodes, one after another
+--   Reserved       the bits of the reserved fragments
+--
+-- Phase 1:
+--   Inodes         how an inode's part continues, and how many Runs it is seen to have
+--   UnclaimedRuns  Runs that claim with nothing to report, and which Runs are in range
+--   WordClaims     words of an indirect block that claim so, one after another
+--   SeriesClaims   a series of Runs that such words name
+--   ZeroInodes     an inode of zero bytes is free
+--   Duplicates     which inodes the lines blame, and whether there is a DUP line
+--   TableReads     how often the inode tables are read
+--   IndirectReads  how many indirect blocks are seen, and how often an image that gives its bytes is read
+--
+-- Phase 1b:
+--   Reportings     offers and their lines, one after another
+--   Rewalks        a second walk over an inode
+--   Rescanned      from inode to inode
+--   RescanCounts   a replay by its cut keeps what was kept, and how many Runs are looked at
+--   Limited        what a phase that read through a limited image leaves of the image below it
 pub mod Frames
 pub mod StepsContinue
 pub mod TableReads

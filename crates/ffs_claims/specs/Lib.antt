@@ -1,12 +1,27 @@
-pub mod Rescan
+-- What the contracts of phases 1 and 1b cite, in the order to read it: each file rests on those before it. Who only
+-- wants to know what the phases promise begins at the end, with `Phases`. `phase1` leaves IsLeftByPhase1 and reads as
+-- Phase1Reads says; `phase1b` leaves IsLeftByPhase1b and reads as Phase1bReads says.
+--
+-- For both phases: `Moments` has the values that calls change, `Lines` the lines as messages of a report, `Leaves`
+-- what calls need of a workspace and leave of it as it was.
+--
+-- Phase 1, what inodes claim: `Area` is about fragments where each Run is in range. `Claiming` leads from an inode to
+-- its steps, a step and its offers: ClaimsOwner (of `claim_inode`), ClaimsSteps, ClaimsStep, TakesOffers, TakesOffer.
+-- What claims with nothing to report is claimed together: `SilentWords` is about the next addresses of a walk, and
+-- `Series` about those of them that name whole blocks in a row. `ZeroInodes` is about inodes that are passed over.
+--
+-- Phase 1b, who had a fragment first: `Rescan` has the offers that an inode keeps, replayed, `Reporting` what is
+-- reported of them (ReportsOffers), `RescanRuns` how many Runs are looked at for that, and both together of an inode
+-- (Rewalks).
+pub mod Moments
 pub mod Lines
 pub mod Leaves
-pub mod Moments
-pub mod Reporting
-pub mod RescanRuns
 pub mod Area
 pub mod Claiming
 pub mod SilentWords
-pub mod ZeroInodes
-pub mod Phases
 pub mod Series
+pub mod ZeroInodes
+pub mod Rescan
+pub mod Reporting
+pub mod RescanRuns
+pub mod Phases

@@ -72,6 +72,7 @@ fn rewalk<I: Image, W: Output>(
         if !workspace.has_unreported_dups() {
             break;
         }
+        // Of the Gap nothing was reported. Now those after it are passed over.
         if matches!(next, Step::Gap) {
             walk.skip_gaps(&workspace.windows.blocks);
         }
@@ -97,7 +98,7 @@ fn rewalk_inode<I: Image, W: Output>(
     rewalk(geometry, image, workspace, number, &inode, report)
 }
 
-/// Phase 1b, with no limit of its own on reads: `phase1b` lends it an image that has one.
+/// As `phase1b`, with no limit on reads.
 ///
 /// # Errors
 /// A read of the image that failed, and a write of the report that failed.
@@ -165,7 +166,7 @@ pub fn phase1b<I: Image, W: Output>(
     let mut limited = LimitedImage::new(image, sweep_reads(geometry));
     let scanned = rescan_inodes(geometry, &mut limited, workspace, report);
     if limited.is_spent() {
-        // Only an image that gives other bytes each time asks for more reads.
+        // See `LimitedImage`: bytes that stay never ask for so many reads.
         return Ok(());
     }
     scanned

@@ -29,6 +29,7 @@ fn report_offer<W: Output>(
     ensures reported { ReportsOffer geometry.now.layout (offer_of number fragment) workspace.old
         workspace.new }
 {
+    // Of a bad Run: nothing there is dup.
     if fragment >= u64::from(geometry.layout.size) {
         return Ok(());
     }

@@ -9,8 +9,7 @@ use crate::store::begin;
 use ffs_volume::constants::DINODE_SIZE;
 use ffs_workspace::{Table, Workspace};
 
-/// Whether one of the bytes isn't zero. All are looked at, with no test of each that ends the loop:
-/// the machine takes many together.
+/// Whether one of the bytes isn't zero: a loop without exit.
 #[inline(always)]
 #[tactic(auto, using(ffs_walk::proofs::AnySet::or_set, std::proofs::lemmas::List::Folds::list_any_more, std::proofs::lemmas::Grind::common_steps))]
 fn any_set(bytes: &[u8]) -> bool
@@ -94,6 +93,7 @@ pub fn pass_zero_inodes(workspace: &mut Workspace, number: u32, end: u32) -> u32
     if next == number {
         return number;
     }
+    // As the last of them, which is free, would leave it.
     begin(workspace);
     next
 }

@@ -1,4 +1,8 @@
+-- What the contracts of phase 3 cite, in the order to read it: each file rests on those before it. The clauses of
+-- `phase3` are those of each phase (PhaseReports of ffs_report, LeavesSurvey of ffs_workspace). `Lines` says what is
+-- reported of an inode, `Unreached` from which one on there is something to look at, `Leaders` which directories
+-- are flagged, and `Phase3` what is needed at an inode (`report_lost`).
 pub mod Lines
-pub mod Leaders
 pub mod Unreached
+pub mod Leaders
 pub mod Phase3

@@ -1,8 +1,19 @@
-pub mod Once
+-- What the contracts of phases 4 and 5 and of the summary cite, in the order to read it. The clauses of `phase4` and
+-- `phase5` are those of each phase (PhaseReports of ffs_report, StaysReady of ffs_workspace); that of `summary` is
+-- SaysSummary (`Summary`). The files are of the functions below them:
+--
+-- Phase 4: `Ready` is what the check of references needs, and which inodes it passes over; `References` is what is
+-- reported of an inode (`line_for`).
+--
+-- Phase 5: `Records` says which summary records are read at a time, and what is found of a group (GroupIsRead of
+-- `read_group`); `Once` is about messages that are said once, `Totals` about the sums of all groups.
+--
+-- The summary: `Reserved` and `Summing` are how many fragments and files it counts, `Summary` what it says.
 pub mod Ready
-pub mod Records
 pub mod References
-pub mod Reserved
-pub mod Summary
-pub mod Summing
+pub mod Records
+pub mod Once
 pub mod Totals
+pub mod Reserved
+pub mod Summing
+pub mod Summary

@@ -41,8 +41,7 @@ fn is_right(workspace: &Workspace, number: u32) -> bool
 /// How many inodes that aren't allocated are passed over at once.
 const UNALLOCATED_AT_ONCE: usize = 64;
 
-/// Whether one of the inodes of some kinds is allocated. No inode ends the loop: the machine looks
-/// at many at once.
+/// Whether one of the inodes of some kinds is allocated: a loop without exit.
 #[inline(always)]
 fn any_allocated(kinds: &[u8]) -> bool
     ensures { result ≡ false → AreUnallocated kinds.now }
@@ -144,6 +143,7 @@ pub fn phase4<I: Image, W: Output>(
 {
     report.say(&Line::Heading(Heading::Phase4))?;
     let inodes = geometry.layout.ncg * geometry.layout.ipg;
+    // From 0, though no inode 0 or 1 is allocated: both are passed over with those after them.
     let mut number = 0;
     while number < inodes {
         let passed = unallocated_from(&workspace.kinds, number as usize);

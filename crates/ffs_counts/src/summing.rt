@@ -21,8 +21,8 @@ use ffs_workspace::Workspace;
 /// How many inodes are counted at once by a counter of one byte: fewer than 256, so it doesn't wrap.
 const INODES_AT_ONCE: usize = 192;
 
-/// How many of the inodes from `first` on and below `end` are files or directories. A byte holds it,
-/// so that the machine counts many at once.
+/// How many of the inodes from `first` on and below `end` are files or directories: a loop without
+/// exit, which counts in a byte.
 #[tactic(auto, using(ffs_maps::proofs::Counting::count_within))]
 fn few_files(kinds: &[u8], first: usize, end: usize) -> u8
     requires { AreFew kinds.now first end }
@@ -89,7 +89,8 @@ fn claimed_count(geometry: &Geometry, used: &FragmentMap) -> u32
     used.count_ones().saturating_sub(reserved_count(geometry))
 }
 
-/// Free fragments in all: the loose ones, and those of free blocks.
+/// Free fragments in all: the loose ones, and those of free blocks. `frag`, at most 8, is a byte, so
+/// that 64 bits have room for the sum whatever the counts are.
 fn free_in_all(frags: i32, frag: u8, blocks: i32) -> i64
     ensures { result ≡ frags +ℤ pos frag *ℤ blocks }
 {

@@ -21,10 +21,10 @@ use ffs_walk::Window;
 /// The bytes that are read at a time.
 pub const WINDOW_BYTES: u64 = 65536;
 
-/// How many whole sectors of a superblock are before its magic number.
+/// How many whole sectors of a superblock are before its magic number, which begins at byte 1,372.
 const SECTORS_BEFORE_MAGIC: u64 = 2;
 
-/// Where the magic number begins in the sector after these, in bytes.
+/// Where the magic number begins in the sector after these, in bytes: 1,372 less 1,024.
 const MAGIC_PLACE: usize = 348;
 
 /// The word of an order of bytes.

@@ -69,8 +69,8 @@ fn is_wrong(map: &GroupMap<'_>, wrong: Wrong, fragment: u32) -> bool
     }
 }
 
-/// The first fragment of the group, from one on, of which the map says this wrongly, or doesn't; the one
-/// after the last where there is none.
+/// The first fragment of the group, from one on, of which `is_wrong` is `is_it`, and the one after the
+/// group's last where there is none.
 fn next(map: &GroupMap<'_>, wrong: Wrong, from: u32, is_it: bool) -> u32
     requires { IsInMapOrEnd map.now from }
     ensures { IsNext (is_wrong_at wrong map.now) is_it from map.now.end result }

@@ -240,6 +240,7 @@ fn print_kept<I: Image, W: Output>(
             break;
         }
         earlier += indirect_in(step);
+        // Of the Gap nothing was printed. Now those after it are passed over.
         if matches!(step, Step::Gap) {
             walk.skip_gaps(blocks);
         }
@@ -283,8 +284,7 @@ fn is_allocated(workspace: &Workspace, number: u32) -> bool
     workspace.kinds[number as usize] != 0
 }
 
-/// Prints a line for each kept offer of the fragment, with no limit of its own on reads:
-/// `find_keepers` lends it an image that has one.
+/// As `find_keepers`, with no limit on reads.
 fn print_keepers<I: Image, W: Output>(
     image: &mut I,
     geometry: &Geometry,

@@ -204,7 +204,7 @@ fn flag_parents(reached: &[bool], parents: &FilledList<u32>, words: &mut FilledL
     }
 }
 
-/// What `note_places` does, with as many reads as the image asks for.
+/// As `note_places`, with no limit on reads.
 ///
 /// # Errors
 /// A read of the image that failed.
@@ -262,7 +262,7 @@ pub fn note_places<I: Image>(
     let mut limited = LimitedImage::new(image, sweep_reads(geometry));
     let noted = note_all(geometry, &mut limited, workspace);
     if limited.is_spent() {
-        // Only an image that gives other bytes each time asks for more reads. By their words some
+        // See `LimitedImage`: bytes that stay never ask for so many reads. By their words some
         // directories may still be to be read.
         workspace.queue.fill(0);
         return Ok(());

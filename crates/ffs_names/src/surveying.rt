@@ -13,7 +13,7 @@ use ffs_layout::Geometry;
 use ffs_survey::{KnownInodes, NumberLists};
 use ffs_workspace::{Workspace, sweep_reads};
 
-/// The first survey of a workspace, with no limit to the reads of the image.
+/// As `survey`, of a workspace that has none yet, with no limit on reads.
 ///
 /// # Errors
 /// A read of the image that failed.
@@ -106,7 +106,7 @@ pub fn survey<I: Image>(
     let mut limited = LimitedImage::new(image, sweep_reads(geometry));
     let surveyed = survey_all(geometry, &mut limited, workspace);
     if limited.is_spent() {
-        // Only an image that gives other bytes each time asks for more reads.
+        // See `LimitedImage`: bytes that stay never ask for so many reads.
         return Ok(());
     }
     surveyed

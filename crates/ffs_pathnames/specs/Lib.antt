@@ -8,7 +8,7 @@
 -- What calls need, and leave: `Moments` has the values that calls change, `DirectoryContext` what is known of
 -- the bytes at a directory, `Ready` when paths can be made, `LineReads` how many reads lines take, `Gathers`
 -- what messages show, `Before` what is known between two directories, `ReadsLeft` how many reads are left for
--- looks at them.
+-- first looks and second readings.
 --
 -- The first look at a directory: `StartChunks` is about its first chunk, `Looks` about the entries of a chunk,
 -- `Examines` about all of it, `HeaderValues` about what is wrong before its entries, `Begins` about what is

@@ -18,8 +18,11 @@ pub record IsLeftByPhase2 (v : Layout) (bytes : List ℕ) (root : Root) (w : Wor
   pub survey : HoldsSurvey v bytes w
   pub references : HoldsReferences v bytes w
 
--- what phase 2 leaves at Ok, and where the check stops after the root, that the heading and the root's message
--- were said; where a read failed, that the heading alone was said, or that the check continues after the root
+-- what phase 2 leaves, by its answer.
+-- At Ok: what `IsLeftByPhase2` says, and where the check stops after the root, the heading and the root's message
+-- were said.
+-- Where a read failed: the heading alone was said, or the check continues after the root.
+-- Where the output failed nothing is promised.
 abbrev pub Phase2Ends : Layout → Device → (w w' : Workspace) → (old new : Progress) → Result Root RunFault →
     Type 0
 Phase2Ends v d w w' old new (Ok root) =

@@ -1,4 +1,4 @@
--- How many reads are left for the looks at directories, and what they suffice for.
+-- How many reads are left for first looks and second readings of directories, and what they suffice for.
 use Rattle.std.specs.Prelude.{ℕ, ◌+◌, ◌*◌, ◌≤◌, List, Result, OnOk}
 use Rattle.ffs_image.specs.{Device.Device, declared.image.ImageFault.ImageFault}
 use Rattle.ffs_volume.specs.{declared.Layout.Layout, Directories.Volumes.volume_of}
@@ -7,22 +7,23 @@ use Rattle.ffs_volume.specs.Report.DirectoryReads.{directory_cost, directory_run
 use Rattle.ffs_pathnames.specs.{declared.look.Directory.Directory, DirectoryContext.{DirectoryContext, KnowsDirectory}}
 use Rattle.ffs_pathnames.specs.{Before.IsBeforeNoted, Gathers.passed_of, PassedRight.AreRightBefore}
 
--- the bytes are those of a directory's context, and the reads that are left suffice for one look at it
+-- the bytes are those of a directory's context, and the reads that are left suffice for a first look at it
 abbrev pub LeftForLook : Layout → Device → Workspace → (d left : ℕ) → List ℕ → Type 0
 LeftForLook v device w d left b = DirectoryContext v device.contents w d b × (directory_cost v b d ≤ left)
 
--- the same of a second look, where its inode was read
+-- the same of a second reading, where its inode was read
 abbrev pub LeftForRuns : Layout → Device → Workspace → Directory → (left : ℕ) → List ℕ → Type 0
 LeftForRuns v device w x left b = KnowsDirectory v device w x b × (directory_runs v b x.number ≤ left)
 
 -- the bytes are those of a directory's context, what is remembered of the names that were passed
--- before it is right, and the reads that are left suffice for both looks at it
+-- before it is right, and the reads that are left suffice for a first look at it and a second reading
 pub record LeftForBoth (v : Layout) (device : Device) (w : Workspace) (d left : ℕ) (b : List ℕ) : Type 0 where
   pub knows : DirectoryContext v device.contents w d b
   pub passed : AreRightBefore (volume_of v b) d (passed_of w)
   pub enough : 2 * directory_cost v b d ≤ left
 
--- what is known between two directories, and the reads that are left suffice for both looks at the next one
+-- what is known between two directories, and the reads that are left suffice for a first look at the next one
+-- and a second reading
 abbrev pub LeftForNext : Layout → Device → Workspace → (d left : ℕ) → List ℕ → Type 0
 LeftForNext v device w d left b = IsBeforeNoted v device.contents w d b × (2 * directory_cost v b d ≤ left)
 

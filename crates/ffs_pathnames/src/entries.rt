@@ -129,6 +129,7 @@ fn report_by_role<I: Image, W: Output>(
         (lines_moment I.Image W.Output image.new workspace.new report.new texts.new) result }
 {
     match entry.role {
+        // Each by itself, as the proof has a goal for each.
         Role::Empty => Ok(()),
         Role::Dot => Ok(()),
         Role::Dotdot => Ok(()),

@@ -29,7 +29,7 @@ pub struct Examination {
     pub look: FirstLook,
 }
 
-/// What `examine` does, where each read is answered.
+/// As `examine`, with no limit on reads.
 fn examine_all<I: Image>(
     geometry: &Geometry,
     image: &mut I,

@@ -77,7 +77,7 @@ fn forget_parent(kept_parent: &mut KeptParent)
     kept_parent.child = 0;
 }
 
-/// What `make_paths` does, as often as the image is read for it.
+/// As `make_paths`, with no limit on reads.
 fn make_paths_freely<I: Image>(
     geometry: &Geometry,
     image: &mut I,
@@ -251,7 +251,7 @@ fn gather_inode<I: Image>(
     ensures { GathersInode I.Image geometry.now.layout image.old image.new workspace.old
         workspace.new (entry_value entry.now) verdict.now paths.old paths.new result }
 {
-    let wants_attr = asks(verdict).0;
+    let (wants_attr, _) = asks(verdict);
     paths.put(entry.name);
     if !wants_attr {
         // No line of this verdict shows attributes, so none are read.
@@ -277,7 +277,7 @@ fn gather<I: Image>(
     ensures { GathersWithPath I.Image geometry.now.layout image.old image.new workspace.old
         workspace.new (entry_value entry.now) verdict.now texts.old texts.new result }
 {
-    let wants_path = asks(verdict).1;
+    let (_, wants_path) = asks(verdict);
     gather_path(geometry, image, workspace, texts, wants_path, entry.number)?;
     gather_inode(geometry, image, workspace, &mut texts.paths, entry, verdict)
 }

@@ -37,10 +37,11 @@ pub enum Root {
 /// The contract gives the text only for a workspace that holds what the block check found. At `Ok`
 /// the workspace holds what the survey found.
 ///
-/// The image is read at most `pathname_reads` times, also where a read failed. An image that gives
-/// other bytes each time is read no more than four sweeps, and `line_reads` for each message that
-/// was begun. Where no survey was made before, a directory of which nothing can be reported isn't
-/// read for the messages, unless it is marked (`phase2_cost`, and `looked_at` of `Phase2Reads`).
+/// An image that gives its bytes is read at most `pathname_reads` times, also where a read failed.
+/// One that gives other bytes each time is read no more than four sweeps, and `line_reads` for each
+/// message that was begun. Where no survey was made before, a directory of which nothing can be
+/// reported isn't read for the messages, unless it is marked (`phase2_cost`, and `looked_at` of
+/// `Phase2Reads`).
 ///
 /// # Errors
 /// A read of the image that failed, and a write of the report that failed.
@@ -93,8 +94,7 @@ pub fn clear_passed(workspace: &mut Workspace)
     workspace.queue.fill(0);
 }
 
-/// Clears the flags of suspect inodes, and no others. The loop asks nothing of an inode by a branch,
-/// so that the machine can take many inodes at once.
+/// Clears the flags of suspect inodes, and no others: a loop without exit.
 fn clear_suspects(inodes: &Inodes<'_>, flags: &mut [bool])
     requires { length flags.old ≡ length inodes.now.kinds.now }
     ensures { (x : ℕ) → bool_at flags.new x ≡ (bool_at flags.old x

@@ -89,7 +89,7 @@ fn first_to_check(workspace: &Workspace, count: u32) -> u32
     count
 }
 
-/// Whether a directory needs a check. No inode ends the loop: the machine looks at many at once.
+/// Whether a directory needs a check: a loop without exit.
 fn any_to_check(workspace: &Workspace, count: u32) -> bool
     requires { ListsInodes workspace.now count }
     ensures { result ≡ false → (x : ℕ) → 2 ≤ x → x < count → needs_check workspace.now x ≡ false }
@@ -123,6 +123,9 @@ fn check_inode<I: Image, W: Output>(
 ) -> Result<(), RunFault>
     requires { ReadyToCheck geometry.now.layout (I.device image.old) workspace.old
         checking.old.texts.kept_parent number }
+
+    // What is asked of it (`DirectoryTask`): what is known of the bytes, how often the directory's
+    // own blocks are read at most, the lines that are said, and what is known after them.
     ensures lines { ReportsDirectory geometry.now.layout (record {
       knows = LeftForNext geometry.now.layout (I.device image.old) workspace.old number
           checking.old.reads_left;

@@ -101,7 +101,7 @@ fn image_with(words: &[Words], alloc: Global) -> Result<MemoryImage, AllocError>
     Ok(MemoryImage::new(bytes))
 }
 
-/// The block check, with its second look where there are duplicates.
+/// The block check, with phase 1b where there are duplicates.
 fn check_blocks<I: Image, W: Output>(
     geometry: &Geometry,
     image: &mut I,
@@ -133,7 +133,7 @@ fn printed<I: Image>(
     Ok(text)
 }
 
-/// What the block check of an image gives, and how many Runs its two looks see.
+/// What the block check of an image gives, and how many Runs its two phases see.
 fn checked<I: Image>(
     geometry: &Geometry,
     image: &mut I,
@@ -161,7 +161,7 @@ fn checked_with(
     Ok((text, runs, image.reads))
 }
 
-/// Words, what is reported of the image that has them, and how many Runs the two looks see.
+/// Words, what is reported of the image that has them, and how many Runs the two phases see.
 static CASES: [(&[Words], &[u8], [u64; 2]); 5] = [
     (
         &SHARED,
@@ -190,8 +190,8 @@ static CASES: [(&[Words], &[u8], [u64; 2]); 5] = [
     ),
 ];
 
-/// What is reported of each image, and how many Runs its two looks see: the second one ends as soon
-/// as the first kept offer of each fragment with a DUP line is reported.
+/// What is reported of each image, and how many Runs the two phases see: phase 1b ends as soon as
+/// the first kept offer of each fragment with a DUP line is reported.
 #[test]
 fn block_checks(rt: HostRuntime) -> Result<(), Fail> {
     let geometry = geometry(Order::Little)?;

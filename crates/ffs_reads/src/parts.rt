@@ -15,7 +15,7 @@ use ffs_workspace::Workspace;
 pub enum Part {
     /// The block check.
     Phase1,
-    /// Its second look.
+    /// Its rescan, for more dups.
     Phase1b,
     /// The pathname check.
     Phase2,

@@ -167,8 +167,8 @@ fn turned(order: Order, alloc: Global) -> Result<(End, u64), AllocError> {
 }
 
 /// A sweep over the volume of 32 inodes and 128 fragments has 32 + 128 + 22 * 32 = 864 reads. The
-/// survey has one, and the looks of phase 2 have two: all are used up, where the root alone would
-/// take 524,288 reads each time. All else takes fewer than 16.
+/// survey has one, and first looks and second readings have two: all are used up, where the root
+/// alone would take 524,288 reads each time. All else takes fewer than 16.
 #[test]
 fn reads_of_a_turning_image(rt: HostRuntime) -> Result<(), Fail> {
     for order in ORDERS {

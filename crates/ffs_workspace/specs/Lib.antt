@@ -1,6 +1,18 @@
+-- What contracts say of a workspace, in the order to read it: each file rests on those before it.
+--
+-- Its form: `Tables` is about the window on the inode table, `Lengths` about the lengths of all lists (IsFor), what
+-- they take (held_of) and what the windows hold.
+--
+-- What it holds: `Holds` has what each phase leaves in it for the next ones: HoldsPhase1, HoldsClaims (phase 1b and all
+-- after it), HoldsSurvey and HoldsReferences (the survey), HoldsFindings (for phase 4).
+--
+-- What calls need and leave: `Ready` has IsReady, which each phase needs and leaves, StaysReady, and IsNew of a
+-- workspace as it is made (`Workspace::new`, `Workspace::in_memory`). `Leaves` says what the phases after the block
+-- check, and after the survey, leave of it as it was. `Found` says of HoldsPhase1 and its like that the image gives
+-- the bytes, too: WithFresh, WithPhase1, WithClaims, WithSurvey and WithFindings are known when a phase begins.
 pub mod Tables
 pub mod Lengths
 pub mod Holds
-pub mod Leaves
 pub mod Ready
+pub mod Leaves
 pub mod Found

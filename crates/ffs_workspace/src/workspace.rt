@@ -29,7 +29,7 @@ pub struct Windows {
 }
 
 /// What a check keeps: two maps with a bit for each fragment, 25 bytes for each inode, and six
-/// blocks.
+/// blocks: one each for `table`, `current` and `other`, and three for `blocks`.
 #[derive(Drop)]
 pub struct Workspace {
     /// The fragments that are used: the reserved ones, and those that kept offers claim.
@@ -131,7 +131,7 @@ impl Workspace {
             flags,
         } = flag_lists(memory, inodes)?;
         let references = memory.long_numbers(inodes)?;
-        let WordLists {
+        let NumberLists {
             notes,
             parents,
             queue,
@@ -276,13 +276,13 @@ fn flag_lists<M: Memory>(memory: &mut M, n: usize) -> Result<FlagLists, AllocErr
 
 /// The lists with a number of 32 bits for each inode.
 #[derive(Drop)]
-struct WordLists {
+struct NumberLists {
     notes: FilledList<u32>,
     parents: FilledList<u32>,
     queue: FilledList<u32>,
 }
 
-fn number_lists<M: Memory>(memory: &mut M, n: usize) -> Result<WordLists, AllocError>
+fn number_lists<M: Memory>(memory: &mut M, n: usize) -> Result<NumberLists, AllocError>
     ensures { MakesInMemory (M.account memory.old) (M.account memory.new) (12 * n) result
         (λ lists. IsFilled n 0 lists.notes × IsFilled n 0 lists.parents
         × IsFilled n 0 lists.queue) }
@@ -290,7 +290,7 @@ fn number_lists<M: Memory>(memory: &mut M, n: usize) -> Result<WordLists, AllocE
     let notes = memory.numbers(n)?;
     let parents = memory.numbers(n)?;
     let queue = memory.numbers(n)?;
-    Ok(WordLists {
+    Ok(NumberLists {
         notes,
         parents,
         queue,
