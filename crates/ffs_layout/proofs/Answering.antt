@@ -38,10 +38,6 @@ module _ (contents : Option (List ℕ)) (count : ℕ) (sector : Option ℕ) (sta
       fault f h b e = outcome_fault b sector bytes (fits b e) (same b e) order order_is f
           (ap (layout_fault (layout_of order bytes)) (long b e) ∙ h)
 
-      pub copy_sector : (v : Layout) → v ≡ layout_of order bytes → (failed : ℕ) → failed ≡ copy_place v / 512 →
-          (b : List ℕ) → contents ≡ Some b → IsCopySector (super_bytes b sector) failed
-      copy_sector v v_is failed h b e = rw (← same b e, order_is) (rw v_is at h)
-
       module _ (good : layout_fault (layout_of order bytes) count ≡ None) where
         pub disagree : ((b : List ℕ) → contents ≡ Some b → copy_agrees b sector order bytes ≡ false) → (b : List ℕ) →
             contents ≡ Some b → outcome b sector ≡ Err Disagree
@@ -52,3 +48,8 @@ module _ (contents : Option (List ℕ)) (count : ℕ) (sector : Option ℕ) (sta
             contents ≡ Some b → outcome b sector ≡ Ok (superblock_of order bytes)
         accepted h b e = outcome_ok b sector bytes (fits b e) (same b e) order order_is
             (ap (layout_fault (layout_of order bytes)) (long b e) ∙ good) (h b e)
+
+        pub copy_sector : (v : Layout) → v ≡ layout_of order bytes → (failed : ℕ) → failed ≡ copy_place v / 512 →
+            (b : List ℕ) → contents ≡ Some b → IsCopySector (super_bytes b sector) (length b) failed
+        copy_sector v v_is failed h b e = rw (← same b e, order_is)
+            (ap (layout_fault (layout_of order bytes)) (long b e) ∙ good, rw v_is at h)

@@ -69,7 +69,7 @@ returns-in_err-check_copy-clause-answer g c =
             inr (
               unread.compared,
               copy_sector _ _ c.args.sector _ long start _ copy.inside copy.bytes _
-                  (sym c.in-Some.ensures) _ refl _ unread.failed.failed_sector b e,
+                  (sym c.in-Some.ensures) good _ refl _ unread.failed.failed_sector b e,
             ),
       )
       | inr differs ↦ inr (
