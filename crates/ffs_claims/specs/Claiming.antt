@@ -105,8 +105,8 @@ pub record ReadsByBlock {T : Type 0} (v : Layout) (number : ℕ) (old new : Swee
       → OnOk result (HoldsPiece v v.inopb number new.workspace.windows.table)
 
 -- what an inode leaves: the image, but for a read that failed, what its steps leave but for `claim_bound`, `found`
--- and `table`, a walk over the volume, and the count of phase 1b's Runs as it was. Each Run that it sees claims a
--- fragment, but for 22, and each read is paid by a Run that is seen
+-- and `table`, a walk over the volume, and the count of phase 1b's Runs and the answer of `has_dups` as they were.
+-- Each Run that it sees claims a fragment, but for 22, and each read is paid by a Run that is seen
 pub record InodeLeaves {T : Type 0} (g : Geometry) (old new : SweepMoment) (sweep : Sweep) (result : Result T RunFault)
     : Type 0 where
   pub image : ImageAfter old.image new.image result
@@ -115,6 +115,7 @@ pub record InodeLeaves {T : Type 0} (g : Geometry) (old new : SweepMoment) (swee
   pub bound : FewRuns g.layout old.workspace new.workspace
   pub runs_claim : OnOk result (new.workspace.runs_seen + used_bits (claims_of old.workspace)
       ≤ old.workspace.runs_seen + used_bits (claims_of new.workspace) + 22)
+  pub told : new.workspace.found_dups ≡ old.workspace.found_dups
   pub again : new.workspace.runs_again ≡ old.workspace.runs_again
   pub counted : new.reads + old.workspace.runs_seen ≤ old.reads + new.workspace.runs_seen
 

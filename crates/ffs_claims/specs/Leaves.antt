@@ -19,12 +19,13 @@ pub record CanOffer (v : Layout) (w : Workspace) (more : ℕ) (in_range are_in_r
   pub room : w.kept + more ≤ 2 ^ 63
   pub known : IsTrue in_range → are_in_range ≡ true
 
--- what was found of inodes is as it was, and the Runs of phase 1b
+-- what was found of inodes is as it was, and what `has_dups` answers, and the Runs of phase 1b
 pub record SameFound (old new : Workspace) : Type 0 where
   pub kinds : new.kinds ≡ old.kinds
   pub marked : new.marked ≡ old.marked
   pub notes : new.notes ≡ old.notes
   pub references : new.references ≡ old.references
+  pub told : new.found_dups ≡ old.found_dups
   pub again : new.runs_again ≡ old.runs_again
 
 -- what claiming leaves: the lists have their lengths, and the windows and what was found are as they were

@@ -1,6 +1,6 @@
 //! The bytes of one line, gathered before they go out.
-ghost use Rattle.std.specs.Prelude.{◌≡◌, ◌+◌, ◌<◌, ◌≤◌, ◌*◌, length, take};
-ghost use Rattle.ffs_report.specs.{Sink.{Puts, Took}, declared.line_buffer.TheConstants.LINE_ROOM};
+ghost use Rattle.std.specs.Prelude.{◌≡◌, ◌+◌, ◌<◌, ◌≤◌, ◌*◌, true, length, take};
+ghost use Rattle.ffs_report.specs.{Sink.{Puts, Took, refused_full}, declared.line_buffer.TheConstants.LINE_ROOM};
 
 use crate::output::{OutFault, Output};
 use ffs_memory::copy_short;
@@ -18,12 +18,13 @@ pub struct LineBuffer {
     /// How many pieces it has refused since it held nothing.
     failures: u64,
     ghost in_room: { used ≤ LINE_ROOM },
-    ghost full: { 0 < failures → used ≡ LINE_ROOM },
+    ghost full: { refused_full failures used LINE_ROOM ≡ true },
     ghost long: { length room ≡ LINE_ROOM },
 }
 
 impl LineBuffer {
     /// A buffer that holds nothing.
+    #[tactic(auto, unfolding(crate::specs::Sink::refused_full))]
     pub fn new() -> LineBuffer
         ensures { result.used ≡ 0 }
     {
@@ -35,6 +36,7 @@ impl LineBuffer {
     }
 
     /// Drops what it holds.
+    #[tactic(auto, unfolding(crate::specs::Sink::refused_full))]
     pub fn clear(&mut self)
         ensures { (self.new.used ≡ 0) × (self.new.failures ≡ 0) }
     {
@@ -51,6 +53,7 @@ impl LineBuffer {
 
     /// Takes a piece for which there is room.
     #[inline(always)]
+    #[tactic(auto, unfolding(crate::specs::Sink::refused_full))]
     fn take(&mut self, piece: &[u8])
         requires { self.old.used + length piece.now ≤ LINE_ROOM }
         ensures { Took (⟦<LineBuffer as Output>⟧.sink self.old)
@@ -66,6 +69,7 @@ impl LineBuffer {
     /// # Errors
     /// It is full.
     #[cold]
+    #[tactic(auto, unfolding(crate::specs::Sink::refused_full))]
     fn fill(&mut self, piece: &[u8]) -> Result<usize, OutFault>
         requires { LINE_ROOM < self.old.used + length piece.now }
         ensures { Puts (⟦<LineBuffer as Output>⟧.sink self.old)

@@ -18,6 +18,7 @@ use itoa::Buffer;
 ///
 /// # Errors
 /// A write to the output that failed.
+#[tactic(auto, unfolding(crate::specs::Sink::refused_full))]
 pub fn print_gathered<W: Output>(
     out: &mut W,
     buffer: &mut LineBuffer,
