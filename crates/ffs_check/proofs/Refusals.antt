@@ -14,6 +14,7 @@ module _ {S : Type 0} (contents : S → Option (List ℕ)) (was_written : S → 
     piece = p.piece;
     answer = p.refused.answer;
     new = p.new.inner.now;
+    some = p.refused.some;
     written = p.refused.written;
     nothing = p.refused.reported;
   }

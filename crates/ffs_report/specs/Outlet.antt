@@ -1,5 +1,5 @@
 -- How a writer below is asked, and what its answers are.
-use Rattle.std.specs.Prelude.{◌≡◌, ◌⊎◌, ◌==◌, ◌&&◌, ℕ, Bool, false, nat_lt, List, length, Option, Result, Ok, Err}
+use Rattle.std.specs.Prelude.{◌≡◌, ◌⊎◌, ◌<◌, ◌==◌, ◌&&◌, ℕ, Bool, false, nat_lt, List, length, Option, Result, Ok, Err}
 use Rattle.std.specs.{Prelude.{MatchResult, IsErrAnd}, Bool.{OnTrue, OnFalse}, declared.io.Error.Error}
 use Rattle.std.specs.{Io.{WritesAtMost, KnownBytes.{Keeps, WriteAppends}}, IoError.error_kind}
 use Rattle.std.specs.declared.io.ErrorKind.TheVariants.{WriteZero}
@@ -26,12 +26,13 @@ abbrev pub IsReported : {E : Type 0} → Result ℕ Error → Result ℕ E → T
 IsReported answer result =
     MatchResult result (λ n. answer ≡ Ok n) (λ _. MatchResult answer (λ n. n ≡ 0) (λ _. Unit {0}))
 
--- some write to a writer failed: it answered an error, or took nothing
+-- some write to a writer failed: it answered an error, or took nothing of a piece that has bytes
 pub record WriteFailed {S : Type 0} (was_written : S → List ℕ → Result ℕ Error → S → Type 0) : Type 0 where
   pub old : S
   pub piece : List ℕ
   pub answer : Result ℕ Error
   pub new : S
+  pub some : 0 < length piece
   pub written : was_written old piece answer new
   pub nothing : MatchResult answer (λ n. n ≡ 0) (λ _. Unit {0})
 

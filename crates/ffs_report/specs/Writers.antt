@@ -16,10 +16,11 @@ abbrev pub counted_sink : {S : Type 0} {I : Ghosts S} → (S → Option (List �
 counted_sink contents c =
     record { taken = contents c.inner.now; failures = c.failures; lent = Some c.inner.ghost_name }
 
--- a put of a piece is one write, whose answer it reports: so much of the piece was taken
+-- a put of a piece that has bytes is one write, whose answer it reports: so much of the piece was taken
 pub record PutsOnce {S E : Type 0} {I : Ghosts S} (contents : S → Option (List ℕ))
     (was_written : S → List ℕ → Result ℕ Error → S → Type 0) (old new : Counted S I) (piece : List ℕ)
     (result : Result ℕ E) : Type 0 where
+  pub some : 0 < length piece
   pub puts : Puts (counted_sink contents old) (counted_sink contents new) piece result
   pub answer : Result ℕ Error
   pub written : was_written old.inner.now piece answer new.inner.now
