@@ -1,7 +1,7 @@
 -- A survey fills a workspace.
-use Rattle.std.proofs.Common.{◌≡◌, ◌∙◌, ◌+◌, ◌≤◌, ℕ, Bool, true, List, Option, Some, None, IfNone, ap, arith, length}
+use Rattle.std.proofs.Common.{◌≡◌, ◌∙◌, ◌+◌, ◌≤◌, ℕ, Bool, true, false, List, Option, Some, None, IfNone, ap, arith, length}
 use Rattle.std.{proofs.{Common.{min, slice_index, sym, refl}, lemmas.Bool.and_parts}, specs.Result.is_ok}
-use Rattle.std.specs.Prelude.{Result, Ok, Err, OnOk}
+use Rattle.std.specs.Prelude.{Result, Ok, Err, OnOk, OnErr}
 use Rattle.ffs_image.specs.Device.{ForContents}
 use Rattle.ffs_volume.specs.{declared.Layout.Layout, Encodings.Kinds.kind_at, Directories.Parents.graph_of}
 use Rattle.ffs_volume.specs.Directories.{Roles.roled_entries, Volumes.{volume_of, volume_with}}
@@ -57,6 +57,11 @@ pub holds_claims : (v : Layout) (b : List ℕ) (old new : Workspace) → LeavesB
     HoldsReferences v b new → HoldsTree v b new → HoldsClaims v b old → HoldsClaims v b new
 holds_claims v b old new same surveyed references tree h =
     let counts = counts_surveyed v b new surveyed references tree in grind (arith, ap)
+
+-- whether an answer is Ok is said of one that is not
+pub on_err_is : {T E : Type 0} (r : Result T E) (b : Bool) → b ≡ is_ok r → OnErr r (b ≡ false)
+on_err_is (Ok x) b e = tt
+on_err_is (Err x) b e = e
 
 -- a fact of an Ok answer, known to be one
 pub on_ok_is : {T E : Type 0} (r : Result T E) (P Q : Type 0) → (is_ok r ≡ true → P → Q) → OnOk r P → OnOk r Q

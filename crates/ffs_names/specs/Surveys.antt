@@ -1,5 +1,5 @@
 -- What a survey finds, which directories it flags, and what it leaves as it was.
-use Rattle.std.specs.Prelude.{◌≡◌, ◌+◌, ◌≤◌, ℕ, false, List, OnOk, Result, slice_index}
+use Rattle.std.specs.Prelude.{◌≡◌, ◌+◌, ◌≤◌, ℕ, false, List, OnErr, OnOk, Result, slice_index}
 use Rattle.ffs_image.specs.{Device.Device, Reads.ReadAfter, declared.image.ImageFault.ImageFault}
 use Rattle.ffs_volume.specs.{declared.Layout.Layout, Directories.{Roles.roled_entries, Volumes.volume_of}}
 use Rattle.ffs_survey.specs.Calm.{AreCalm}
@@ -10,13 +10,14 @@ use Rattle.ffs_volume.specs.Report.DirectoryReads.{noted_costs}
 use Rattle.ffs_names.specs.{CalmDirs.FlagsEachCalm, Sweeps.DirSweep}
 
 -- what a survey leaves: the workspace is ready for the next call, `queue` is zero, so that it notes no
--- place of a parent entry, and the image was only read
+-- place of a parent entry, and the image was only read. After a failed read it counts as not surveyed
 pub record LeavesClaims {T : Type 0} (v : Layout) (d d' : Device) (old new : Workspace) (result : Result T ImageFault) :
     Type 0 where
   pub same : LeavesBlockCheck old new
   pub unnoted : (x : ℕ) → slice_index new.queue.items x ≡ 0
   pub ready : IsReady v d' new
   pub read : ReadAfter d d' result
+  pub unsurveyed : OnErr result (new.surveyed ≡ false)
 
 -- a survey of a workspace that was surveyed before reads nothing, and changes nothing but that no flag is set
 -- and no place is noted

@@ -38,6 +38,7 @@ returns-then-workspace-clause-leaves g c = record {
   unnoted = λ x. ap (λ ws. slice_index ws x) c.fill-then-workspace.ensures.items ∙ zero_index _ x;
   ready = search (rules, ready_same);
   read = search rules;
+  unsurveyed = tt;
 }
 
 -- what the first survey needs

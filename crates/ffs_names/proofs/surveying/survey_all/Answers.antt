@@ -5,7 +5,7 @@ use Rattle.ffs_volume.specs.{Encodings.Lists.bool_at, Blocks.Inodes.inodes_of}
 use Rattle.ffs_workspace.{proofs.{Leaving.counts_begin, PlaceLaws.{filled_noted, zero_index}}, specs.Holds.HoldsClaims}
 use Rattle.ffs_workspace.specs.Tables.{IsTableOf}
 use Rattle.ffs_names.{specs.Readers.{Base, KnowsReader}, proofs.SurveyHolds.{volume_survey, holds_claims, holds_tree}}
-use Rattle.ffs_names.proofs.SurveyHolds.{volume_calm, holds_calm, holds_references, on_ok_is}
+use Rattle.ffs_names.proofs.SurveyHolds.{volume_calm, holds_calm, holds_references, on_ok_is, on_err_is}
 use Rattle.ffs_names.proofs.{surveying.survey_all.Goals.After-survey-surveyed, CalmDirLaws.flags_each_calm}
 use Rattle.ffs_names.proofs.surveying.survey_all.Given as given
 use Rattle.ffs_names.proofs.surveying.survey_all.Goals as goal
@@ -60,6 +60,7 @@ returns-clause-leaves g c =
         volume = rw (image, ← same) r.volume;
       };
       read = grind arith;
+      unsurveyed = on_err_is c.survey-surveyed.result _ c.is_ok-workspace.ensures.value;
     }
 
 pub returns-clause-survey : goal.returns-clause-survey
