@@ -94,6 +94,7 @@ pub fn phase3<I: Image, W: Output>(
     ensures leaves { LeavesSurvey workspace.old workspace.new }
     ensures ready { IsReady geometry.now.layout (I.device image.new) workspace.new }
 {
+    workspace.forget_windows();
     report.say(&Line::Heading(Heading::Phase3))?;
     let first = first_unreached(&workspace.kinds, &workspace.reached);
     if first as usize == workspace.kinds.len() {

@@ -3,7 +3,7 @@
 ghost use Rattle.std.specs.Prelude.{◌≤◌, ◌+◌, length, map};
 ghost use Rattle.ffs_report.specs.{Known.ForBytes, Paid.Paid, PhaseOutcome.{ImageAfter, PhaseReports}, Progress.progress};
 ghost use Rattle.ffs_volume.specs.{Directories.Volumes.volume_of, Messages.Kinds.of_tree};
-ghost use Rattle.ffs_workspace.specs.{Found.WithSurvey, Ready.StaysReady};
+ghost use Rattle.ffs_workspace.specs.{Found.WithSurvey, Ready.KeepsWindows};
 ghost use Rattle.ffs_connectivity.specs.{Lines.unref_dir_lines, Phase3.CanReportLost};
 
 use ffs_image::Image;
@@ -36,7 +36,7 @@ pub fn report_lost<I: Image, W: Output>(
         (unref_dir_lines (volume_of geometry.now.layout bytes) number)) }
     ensures paid { Paid 1 (progress W.sink report.old) (progress W.sink report.new)
         (I.reads image.old) (I.reads image.new) result }
-    ensures stays { StaysReady geometry.now.layout (I.device image.new) workspace.old
+    ensures stays { KeepsWindows geometry.now.layout (I.device image.new) workspace.old
         workspace.new }
 {
     let found = Surveyed {

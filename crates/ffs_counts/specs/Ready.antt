@@ -4,7 +4,7 @@ use Rattle.ffs_image.specs.Device.{Device}
 use Rattle.ffs_volume.specs.{declared.Layout.Layout, Blocks.Inodes.is_allocated, Encodings.Kinds.class_of_kind}
 use Rattle.ffs_groups.specs.Inodes.{class_in}
 use Rattle.ffs_volume.specs.Blocks.Inodes.{inodes_of}
-use Rattle.ffs_workspace.specs.{declared.workspace.Workspace.Workspace, Ready.IsReady}
+use Rattle.ffs_workspace.specs.{declared.workspace.Workspace.Workspace, Ready.CanRead}
 
 -- the lists by which an inode is reported have an element for it
 pub record HasElements (w : Workspace) (number : ℕ) : Type 0 where
@@ -13,9 +13,9 @@ pub record HasElements (w : Workspace) (number : ℕ) : Type 0 where
   pub named : number < vec_len w.named
   pub references : number < vec_len w.references
 
--- the workspace is ready, and x is an allocated inode of the volume
+-- the windows hold what the image gives, and x is an allocated inode of the volume
 pub record CanCheckAllocated (v : Layout) (d : Device) (w : Workspace) (x : ℕ) : Type 0 where
-  pub ready : IsReady v d w
+  pub ready : CanRead v d w
   pub number : x < inodes_of v
   pub allocated : is_allocated (class_of_kind (slice_index w.kinds.items x)) ≡ true
 

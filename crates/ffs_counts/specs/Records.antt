@@ -8,7 +8,7 @@ use Rattle.ffs_maps.specs.Bits.{bits_of}
 use Rattle.ffs_groups.specs.{Check.{AreCounts, lines_of}, Free.free_in, Inodes.class_in}
 use Rattle.ffs_groups.specs.declared.{check.GroupFindings.GroupFindings, counts.Counts.Counts}
 use Rattle.ffs_workspace.specs.{Tables.{CanReadInodes, TableAfter}, declared.table.Table.Table}
-use Rattle.ffs_workspace.specs.{Ready.IsReady, declared.workspace.Workspace.Workspace}
+use Rattle.ffs_workspace.specs.{Ready.CanRead, declared.workspace.Workspace.Workspace}
 
 -- the first of the groups whose records are read with that of group c
 abbrev pub first_read : ℕ → ℕ
@@ -49,7 +49,7 @@ pub record AreReadOnce (v : Layout) (w : Window) (c : ℕ) (before after : ℕ) 
 pub record CanReadGroup (v : Layout) (d : Device) (w : Workspace) (c : ℕ) (right : Counts) : Type 0 where
   pub group : c < v.ncg
   pub counts : AreCounts v (free_in (bits_of w.used) v.size) (class_in w.kinds.items) c right
-  pub ready : IsReady v d w
+  pub ready : CanRead v d w
 
 -- the block of group c and its summary record were read into the windows of a workspace: what is found in
 -- them gives the lines of the group by the image's bytes, and by what the workspace holds

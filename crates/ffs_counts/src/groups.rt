@@ -1,7 +1,7 @@
 //! The records of a cylinder group, read from an image.
 
 ghost use Rattle.std.specs.Prelude.{◌+◌};
-ghost use Rattle.ffs_workspace.specs.Ready.{StaysReady};
+ghost use Rattle.ffs_workspace.specs.Ready.{KeepsWindows};
 ghost use Rattle.ffs_counts.specs.Records.{AreReadOnce, CanReadGroup, CanReadRecord, GroupIsRead, ReadsRecord};
 
 use ffs_groups::{Counts, GroupFindings, Usage, compare_group};
@@ -62,7 +62,7 @@ pub fn read_group<I: Image>(
     // One read for the group's block, and what its summary record takes.
     ensures reads { AreReadOnce geometry.now.layout workspace.old.windows.table.window group
         (I.reads image.old + 1) (I.reads image.new) }
-    ensures stays { StaysReady geometry.now.layout (I.device image.new) workspace.old
+    ensures stays { KeepsWindows geometry.now.layout (I.device image.new) workspace.old
         workspace.new }
 {
     let windows = &mut workspace.windows;

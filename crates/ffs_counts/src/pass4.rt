@@ -4,7 +4,7 @@ ghost use Rattle.std.specs.Prelude.{◌≡◌, ◌<◌, ◌≤◌, ◌+◌, ◌�
 ghost use Rattle.ffs_volume.specs.Messages.Kinds.{of_tree, phase4 as phase4_heading};
 ghost use Rattle.ffs_volume.specs.Directories.{ReferenceCheck.{reference_lines, reference_lines_at}, Volumes.volume_of};
 ghost use Rattle.ffs_report.specs.{Known.ForBytes, Paid.Paid, PhaseOutcome.{ImageAfter, PhaseReports}, Progress.progress};
-ghost use Rattle.ffs_workspace.specs.{Found.WithFindings, Ready.{IsReady, StaysReady}};
+ghost use Rattle.ffs_workspace.specs.{Found.WithFindings, Ready.{IsReady, KeepsWindows, StaysReady}};
 ghost use Rattle.ffs_counts.specs.{Ready.{CanCheckAllocated, HasElements, AreUnallocated, AreUnallocatedFrom}, References.is_dead_by};
 ghost use Rattle.ffs_counts.specs.References.{is_right_by};
 
@@ -92,7 +92,7 @@ fn report_references<I: Image, W: Output>(
         (reference_lines_at (volume_of geometry.now.layout bytes) number)) }
     ensures paid { Paid 1 (progress W.sink report.old) (progress W.sink report.new)
         (I.reads image.old) (I.reads image.new) result }
-    ensures stays { StaysReady geometry.now.layout (I.device image.new) workspace.old
+    ensures stays { KeepsWindows geometry.now.layout (I.device image.new) workspace.old
         workspace.new }
 {
     if is_right(workspace, number) {
@@ -141,6 +141,7 @@ pub fn phase4<I: Image, W: Output>(
     ensures stays { StaysReady geometry.now.layout (I.device image.new) workspace.old
         workspace.new }
 {
+    workspace.forget_windows();
     report.say(&Line::Heading(Heading::Phase4))?;
     let inodes = geometry.layout.ncg * geometry.layout.ipg;
     // From 0, though no inode 0 or 1 is allocated: both are passed over with those after them.

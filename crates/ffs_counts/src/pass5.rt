@@ -39,6 +39,7 @@ pub fn phase5<I: Image, W: Output>(
     ensures stays { StaysReady superblock.now.geometry.layout (I.device image.new) workspace.old
         workspace.new }
 {
+    workspace.forget_windows();
     report.say(&Line::Heading(Heading::Phase5))?;
     let geometry = &superblock.geometry;
     let mut once = AlreadyReported::new();

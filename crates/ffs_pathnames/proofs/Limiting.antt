@@ -4,7 +4,7 @@ use Rattle.std.proofs.{Common.{List, Result, Ok, Err}, lemmas.Bool.both_ways}
 use Rattle.ffs_image.specs.{Device.Device, declared.image.ImageFault.ImageFault, Limited.{GivesBackLent, lent_at}}
 use Rattle.ffs_image.{specs.Limited.limited_device, proofs.Limits.{ServedBy, read_over, served}}
 use Rattle.ffs_volume.specs.declared.Layout.{Layout}
-use Rattle.ffs_workspace.{specs.{declared.workspace.Workspace.Workspace, Ready.IsReady}, proofs.Readiness.ready_same}
+use Rattle.ffs_workspace.{specs.{declared.workspace.Workspace.Workspace, Ready.CanRead}, proofs.Readiness.can_read_same}
 use Rattle.ffs_paths.specs.{Reads.{KnowsPlaces, OnlyReads, PathMoment, ReadsAtMost}, KeptParents.KeepsParent}
 use Rattle.ffs_paths.specs.KeptParents.{KeptMoment, PathLeaves, SparesReads}
 use Rattle.ffs_paths.specs.declared.kept_parent.KeptParent.{KeptParent}
@@ -32,10 +32,10 @@ pub record IsGathered {T : Type 0} (n : ℕ) (v : Layout) (d d' : Device) (name_
 module _ {T : Type 0} {v : Layout} {d d' l' : Device} {w w' : Workspace} {name_lent name : GName}
     {reads reads' limit asked : ℕ} {spent : Bool} {r : Result T ImageFault}
     (back : ServedBy d d' name_lent name reads reads' limit asked spent r) where
-  ready_below : OnlyReads v (limited_device d name_lent reads limit) l' w w' r → IsReady v d' w'
+  ready_below : OnlyReads v (limited_device d name_lent reads limit) l' w w' r → CanRead v d' w'
   ready_below o =
       let above = read_over (limited_device d name_lent reads limit) l' r o.read in
-      ready_same v l' d' w' (back.contents ∙ sym above.contents) (back.size ∙ sym above.size) o.ready
+      can_read_same v l' d' w' (back.contents ∙ sym above.contents) (back.size ∙ sym above.size) o.ready
 
 path_below : {T : Type 0} {n count count' before asked : ℕ} {v : Layout} {d d' l' : Device} {w w' : Workspace}
     {s : KeptParent} {name_lent name : GName} {limit : ℕ} {spent : Bool} (r : Result T ImageFault) →

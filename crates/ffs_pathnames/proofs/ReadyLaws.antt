@@ -1,10 +1,10 @@
--- What is ready stays so where a chunk is read.
+-- The windows hold what the image gives where a chunk is read.
 use Rattle.std.{proofs.Common.{◌≡◌, ◌≤◌, ◌+◌, ℕ, Bool, arith, ap, rules, Result, Ok, Err, vec_len}, specs.declared.alloc.Global.Global}
 use Rattle.std.specs.declared.vec.Vec.{Vec}
 use Rattle.ffs_image.specs.{Device.Device, declared.image.ImageFault.ImageFault}
 use Rattle.ffs_volume.specs.declared.Layout.{Layout}
 use Rattle.ffs_walk.specs.declared.{blocks.Blocks.Blocks, window.Window.Window}
-use Rattle.ffs_workspace.specs.{declared.workspace.{Windows.Windows, Workspace.Workspace}, Ready.IsReady}
+use Rattle.ffs_workspace.specs.{declared.workspace.{Windows.Windows, Workspace.Workspace}, Ready.CanRead}
 use Rattle.ffs_paths.specs.{declared.kept_parent.KeptParent.KeptParent, Reads.{OnlyReadsFew, PathMoment}}
 use Rattle.ffs_paths.proofs.{Climbed.{few_more, few_then}, Keeping.{kept_on, reads_then, kept_parent_held}}
 use Rattle.ffs_names.specs.Windows.{CanReadChunks, CanWalkDir}
@@ -20,8 +20,8 @@ pub others_stay : (w w' : Windows) (blocks : Blocks) (chunk : Window) →
     → record w' { blocks = blocks; current = chunk } ≡ record w { blocks = blocks; current = chunk }
 others_stay w w' blocks chunk same = ap (λ (x : Windows). record x { blocks = blocks; current = chunk }) same
 
-pub ready_read : (v : Layout) (d d' : Device) (w : Workspace) (blocks : Blocks) (chunk : Window) → IsReady v d w
-    → d'.contents ≡ d.contents → CanReadChunks v d' blocks chunk → IsReady v d' (with_chunk w blocks chunk)
+pub ready_read : (v : Layout) (d d' : Device) (w : Workspace) (blocks : Blocks) (chunk : Window) → CanRead v d w
+    → d'.contents ≡ d.contents → CanReadChunks v d' blocks chunk → CanRead v d' (with_chunk w blocks chunk)
 ready_read v d d' w blocks chunk r same can = grind (arith, rules)
 
 -- and so is what is kept of a directory and its children
@@ -30,9 +30,9 @@ pub ready_next : (v : Layout) (d d' : Device) (w : Workspace) (s : KeptParent) (
 ready_next v d d' w s blocks chunk r e can = grind (arith, ready_read, kept_parent_held)
 
 -- the same of windows that are as they were, but for these two
-pub windows_read : (v : Layout) (d d' : Device) (w : Workspace) (windows : Windows) → IsReady v d w
+pub windows_read : (v : Layout) (d d' : Device) (w : Workspace) (windows : Windows) → CanRead v d w
     → d'.contents ≡ d.contents → windows ≡ record w.windows { blocks = windows.blocks; current = windows.current }
-    → CanReadChunks v d' windows.blocks windows.current → IsReady v d' (record w { windows = windows })
+    → CanReadChunks v d' windows.blocks windows.current → CanRead v d' (record w { windows = windows })
 windows_read v d d' w windows r same others can = grind (arith, ready_read)
 
 pub windows_next : (v : Layout) (d d' : Device) (w : Workspace) (s : KeptParent) (windows : Windows)
@@ -41,16 +41,16 @@ pub windows_next : (v : Layout) (d d' : Device) (w : Workspace) (s : KeptParent)
 windows_next v d d' w s windows r e others can = grind (arith, ready_next)
 
 -- and where other stamps are in the queue, too
-pub ready_looked : (v : Layout) (d d' : Device) (w : Workspace) (windows : Windows) (queue : Vec ℕ Global) → IsReady v d w
+pub ready_looked : (v : Layout) (d d' : Device) (w : Workspace) (windows : Windows) (queue : Vec ℕ Global) → CanRead v d w
     → d'.contents ≡ d.contents → windows ≡ record w.windows { blocks = windows.blocks; current = windows.current }
     → CanReadChunks v d' windows.blocks windows.current → vec_len queue ≡ vec_len w.queue
-    → IsReady v d' (record w { windows = windows; queue = queue })
+    → CanRead v d' (record w { windows = windows; queue = queue })
 ready_looked v d d' w windows queue r same others can long = grind arith
 
 -- and where other names were passed
-pub ready_passed : (v : Layout) (d : Device) (w : Workspace) (flags : Vec Bool Global) (queue : Vec ℕ Global) → IsReady v d w
+pub ready_passed : (v : Layout) (d : Device) (w : Workspace) (flags : Vec Bool Global) (queue : Vec ℕ Global) → CanRead v d w
     → vec_len flags ≡ vec_len w.flags → vec_len queue ≡ vec_len w.queue
-    → IsReady v d (record w { flags = flags; queue = queue })
+    → CanRead v d (record w { flags = flags; queue = queue })
 ready_passed v d w flags queue r marked long = grind arith
 
 -- the windows of chunks after reads into that of indirect blocks alone
@@ -60,7 +60,7 @@ pub can_read_more : (v : Layout) (d d' : Device) (blocks blocks' : Blocks) (chun
 can_read_more v d d' blocks blocks' chunk can e walk = grind arith
 
 -- what is ready for reading chunks
-pub can_read_in : (v : Layout) (d : Device) (w : Workspace) → IsReady v d w
+pub can_read_in : (v : Layout) (d : Device) (w : Workspace) → CanRead v d w
     → CanReadChunks v d w.windows.blocks w.windows.current
 can_read_in v d w r = grind arith
 

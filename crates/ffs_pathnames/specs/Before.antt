@@ -8,18 +8,18 @@ use Rattle.ffs_volume.specs.Encodings.Kinds.{is_dir_kind, is_empty_dir_kind}
 use Rattle.ffs_volume.specs.declared.tree_lines.DirectoryLine.TheVariants.{RootNone, RootNotDir, RootSuspect}
 use Rattle.ffs_workspace.specs.{declared.workspace.Workspace.Workspace, Leaves.LeavesSurvey}
 use Rattle.ffs_volume.specs.Encodings.Places.{AreNoted}
-use Rattle.ffs_workspace.specs.{Holds.{bool_at, HoldsClaims, HoldsSurvey}, Ready.IsReady}
+use Rattle.ffs_workspace.specs.{Holds.{bool_at, HoldsClaims, HoldsSurvey}, Ready.{CanRead, IsReady}}
 use Rattle.ffs_pathnames.specs.{Gathers.{AreAsLong, passed_of}, PassedRight.AreRightBefore}
 use Rattle.ffs_survey.specs.Survey.{suspect_at}
 
 -- what was found stays; the flags of suspect inodes are taken away, and no others; nothing is
--- stamped; and a workspace that was ready still is
+-- stamped; and the windows hold what any image gives
 pub record IsNonePassed (old new : Workspace) : Type 0 where
   pub survey : LeavesSurvey old new
   pub flags : (x : ℕ) → bool_at new.flags.items x
       ≡ (bool_at old.flags.items x && not (suspect_at old.kinds.items old.marked.items x))
   pub stamps : (x : ℕ) → slice_index (passed_of new).stamps x ≡ 0
-  pub ready : (v : Layout) (d : Device) → IsReady v d old → IsReady v d new
+  pub ready : (v : Layout) (d : Device) → IsReady v d old → CanRead v d new
 
 -- the image gives the bytes, the workspace holds what the block check and the survey leave, and
 -- what it remembers of the names that were passed before d is right

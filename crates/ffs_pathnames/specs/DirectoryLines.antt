@@ -8,7 +8,7 @@ use Rattle.ffs_volume.specs.{Report.Reads.sweep_reads, Messages.Kinds.{TreeMessa
 use Rattle.ffs_volume.specs.Report.DirectoryReads.{directories_cost, directory_cost, directory_runs, looks_cost}
 use Rattle.ffs_volume.specs.{Report.DirectoryReads.places_cost, Encodings.Places.AreNoted}
 use Rattle.ffs_paths.specs.declared.kept_parent.KeptParent.{KeptParent}
-use Rattle.ffs_workspace.specs.{Holds.{HoldsClaims, HoldsSurvey}, Leaves.LeavesBlockCheck, Ready.IsReady}
+use Rattle.ffs_workspace.specs.{Holds.{HoldsClaims, HoldsSurvey}, Leaves.LeavesBlockCheck, Ready.CanRead}
 use Rattle.ffs_pathnames.specs.{ChecksNeeded.ChecksLookedAt, Before.IsBefore, Gathers.passed_of, LineReads.again_reads}
 use Rattle.ffs_pathnames.specs.{LineReads.ReadsByLines, DirectoryContext.KnowsHeader, HeaderValues.facts_lines}
 use Rattle.ffs_pathnames.specs.{Moments.LinesMoment, PassedNames.{are_quiet, directory_reported}, Ready.LinesLeave}
@@ -69,7 +69,7 @@ pub record ReportsTree {T : Type 0} (v : Layout) (lines : Volume → List TreeMe
       (λ b. HoldsClaims v b new.at.workspace × HoldsSurvey v b new.at.workspace))
   pub references : new.at.workspace.references ≡ old.at.workspace.references
   pub block_check : LeavesBlockCheck old.at.workspace new.at.workspace
-  pub ready : IsReady v new.at.image new.at.workspace
+  pub ready : CanRead v new.at.image new.at.workspace
 
 -- the entries of the directory x are reported: its Runs are read once, its path is made once, and for each
 -- line `again_reads` reads are made at most, where the place of each directory is noted

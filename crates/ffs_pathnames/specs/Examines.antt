@@ -6,7 +6,7 @@ use Rattle.ffs_volume.specs.{declared.Layout.Layout, Blocks.Inodes.inode_of, Dir
 use Rattle.ffs_volume.specs.Directories.{PathnameCheck.are_sound, Volumes.volume_of}
 use Rattle.ffs_pathnames.specs.{declared.look.{Examination.Examination, FirstLook.FirstLook}, Gathers.passed_of}
 use Rattle.ffs_pathnames.specs.{Moments.PathMoment, PassedNames.{are_quiet, after_looks}, StartChunks.start_chunk, Stamps.KeepPlaces}
-use Rattle.ffs_workspace.specs.{declared.workspace.Workspace.Workspace, Leaves.LeavesSurvey, Ready.IsReady}
+use Rattle.ffs_workspace.specs.{declared.workspace.Workspace.Workspace, Leaves.LeavesSurvey, Ready.CanRead}
 
 -- a call leaves what the phases before the pathname check left, the flags, and the places that words note
 pub record LeavesAllButDue (old new : Workspace) : Type 0 where
@@ -19,7 +19,7 @@ pub record LeavesAllButDue (old new : Workspace) : Type 0 where
 pub record ExamineLeaves {T : Type 0} (v : Layout) (old new : PathMoment) (result : Result T ImageFault) :
     Type 0 where
   pub lists : LeavesAllButDue old.workspace new.workspace
-  pub ready : IsReady v new.image new.workspace
+  pub ready : CanRead v new.image new.workspace
   pub read : ReadAfter old.image new.image result
 
 -- what a look at the directory d finds: whether a Gap of it is kept, whether its chunks are sound, the

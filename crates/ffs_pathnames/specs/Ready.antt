@@ -2,9 +2,9 @@
 use Rattle.std.specs.Prelude.{◌≡◌, ◌+◌, ◌*◌, ◌<◌, ◌≤◌, ℕ, Bool, IsTrue, Result, Ok, Err, slice_index}
 use Rattle.ffs_image.specs.{Device.Device, declared.image.ImageFault.ImageFault}
 use Rattle.ffs_volume.specs.{declared.Layout.Layout, Encodings.Notes.cut_in}
-use Rattle.ffs_workspace.specs.{declared.workspace.Workspace.Workspace, Ready.IsReady, Leaves.LeavesSurvey}
+use Rattle.ffs_workspace.specs.{declared.workspace.Workspace.Workspace, Ready.CanRead, Leaves.LeavesSurvey}
 use Rattle.ffs_report.specs.{PhaseOutcome.ImageAfter, declared.fault.RunFault.RunFault}
-use Rattle.ffs_paths.specs.{Reads.{IsReadyFor, PathMoment}, declared.kept_parent.KeptParent.KeptParent}
+use Rattle.ffs_paths.specs.{Reads.{CanReadFor, PathMoment}, declared.kept_parent.KeptParent.KeptParent}
 use Rattle.ffs_pathnames.specs.{declared.look.Directory.Directory, Stamps.KeepPlaces}
 pub use Rattle.ffs_paths.specs.KeptParents.{ReadyWith, ReadyToPath, PathLeaves}
 
@@ -15,7 +15,7 @@ pub record ReadyWhere (wanted : Bool) (v : Layout) (x : ℕ) (is_ready : Type 0)
 
 -- the directory x can be looked at: it is the root or one after it
 pub record ReadyToLook (v : Layout) (d : Device) (w : Workspace) (x : ℕ) : Type 0 where
-  pub ready : IsReadyFor v d w x
+  pub ready : CanReadFor v d w x
   pub low : 2 ≤ x
 
 -- and its chunks can be read, by its cut
@@ -36,7 +36,7 @@ pub record ReadyToReport (v : Layout) (d : Device) (w : Workspace) (s : KeptPare
 -- paths can be made after a call; where it failed, what is kept of a parent may be wrong
 abbrev pub ReadyAfter : {T E : Type 0} → Layout → Device → Workspace → KeptParent → Result T E → Type 0
 ReadyAfter v d w s (Ok x) = ReadyWith v d w s
-ReadyAfter v d w s (Err e) = IsReady v d w
+ReadyAfter v d w s (Err e) = CanRead v d w
 
 -- what a call leaves that makes paths, and reads what messages show. It makes n reads at most, of any image
 pub record LimitedPathLeaves {T : Type 0} (v : Layout) (n : ℕ) (old new : PathMoment) (s : KeptParent)

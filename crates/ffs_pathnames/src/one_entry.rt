@@ -9,8 +9,8 @@ ghost use Rattle.ffs_pathnames.specs.Gathers.{GathersEntry, GathersExtra, Gather
 ghost use Rattle.ffs_layout.specs.Entry.{entry_value};
 ghost use Rattle.ffs_report.specs.Progress.{progress};
 ghost use Rattle.ffs_workspace.specs.{declared.workspace.Workspace.Workspace as WorkspaceIn};
-ghost use Rattle.ffs_workspace.specs.Ready.{IsReady};
-ghost use Rattle.ffs_paths.specs.{KeptParents.KeepsParent, Reads.IsReadyFor};
+ghost use Rattle.ffs_workspace.specs.Ready.{CanRead};
+ghost use Rattle.ffs_paths.specs.{KeptParents.KeepsParent, Reads.CanReadFor};
 
 use crate::inodes::Inodes;
 use crate::verdict::{say_verdict, second_verdict};
@@ -184,7 +184,7 @@ pub fn read_attr<I: Image>(
     workspace: &mut Workspace,
     number: u32,
 ) -> Result<Attr, ImageFault>
-    requires { IsReadyFor geometry.now.layout (I.device image.old) workspace.old number }
+    requires { CanReadFor geometry.now.layout (I.device image.old) workspace.old number }
     ensures { ReadsAttr I.Image geometry.now.layout image.old image.new workspace.old workspace.new
         number result }
 {
@@ -247,7 +247,7 @@ fn gather_inode<I: Image>(
     verdict: &Verdict,
 ) -> Result<Attr, ImageFault>
     requires { ReadyWhere (asks_attr verdict.now) geometry.now.layout entry.now.number
-        (IsReady geometry.now.layout (I.device image.old) workspace.old) }
+        (CanRead geometry.now.layout (I.device image.old) workspace.old) }
     ensures { GathersInode I.Image geometry.now.layout image.old image.new workspace.old
         workspace.new (entry_value entry.now) verdict.now paths.old paths.new result }
 {

@@ -3,7 +3,7 @@ ghost use Rattle.std.specs.Prelude.{◌≡◌, ◌+◌, ◌*◌, ◌∷◌, [], 
 ghost use Rattle.ffs_report.specs.{Paid.Paid, PhaseOutcome.{ImageAfter, PhaseReports}, Progress.progress};
 ghost use Rattle.ffs_volume.specs.Directories.{PathnameCheck.pathname_lines, Volumes.volume_of};
 ghost use Rattle.ffs_volume.specs.{Encodings.Kinds.is_dir_kind, Messages.Kinds.of_tree, Report.Reads.{line_reads, sweep_reads}};
-ghost use Rattle.ffs_workspace.specs.{Found.WithClaims, Holds.bool_at, Leaves.LeavesBlockCheck, Ready.IsReady};
+ghost use Rattle.ffs_workspace.specs.{Found.WithClaims, Holds.bool_at, Leaves.LeavesBlockCheck, Ready.{CanRead, IsReady}};
 ghost use Rattle.ffs_pathnames.specs.{Before.{root_reported, IsBefore, IsNonePassed}, Gathers.AreAsLong};
 ghost use Rattle.ffs_pathnames.specs.{Phase2.{Phase2Ends, Phase2Reads}, RootAnswers.{AnswersRoot, SaidStop, is_go}};
 ghost use Rattle.ffs_pathnames.specs.{DirectoryLines.ReportsTree, Moments.lines_moment, SaysTreeMessages.SaysTreeMessages};
@@ -79,12 +79,12 @@ pub fn phase2<I: Image, W: Output>(
 /// Begins the check of directories with no name passed: the flags of suspect inodes are cleared,
 /// and from now on such a flag says that a plain entry has named the inode. Each word of `queue`
 /// is set to 0: no parent entry's place is noted, and none is due. The survey's flags of other
-/// inodes stay, and say which directories are calm: these are left out.
-#[tactic(auto, using(ffs_workspace::proofs::PlaceLaws::filled_noted, std::proofs::lemmas::List::with_items_is, crate::proofs::StampLaws::none_due, crate::proofs::StampLaws::none_stamped))]
+/// inodes stay, and say which directories are calm: these are left out. The windows hold nothing.
 pub fn clear_passed(workspace: &mut Workspace)
     requires { AreAsLong workspace.old }
     ensures { IsNonePassed workspace.old workspace.new }
 {
+    workspace.forget_windows();
     let inodes = Inodes {
         kinds: workspace.kinds.as_slice(),
         marked: workspace.marked.as_slice(),
@@ -114,7 +114,7 @@ fn check_tree<I: Image, W: Output>(
     workspace: &mut Workspace,
     report: &mut Report<'_, W>,
 ) -> Result<Root, RunFault>
-    requires { IsReady geometry.now.layout (I.device image.old) workspace.old }
+    requires { CanRead geometry.now.layout (I.device image.old) workspace.old }
     ensures tree { ReportsTree geometry.now.layout pathname_lines
         (lines_moment I.Image W.Output image.old workspace.old report.old tt)
         (lines_moment I.Image W.Output image.new workspace.new report.new tt) result }

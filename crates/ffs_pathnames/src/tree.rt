@@ -9,7 +9,7 @@ ghost use Rattle.ffs_pathnames.specs.Before.{ListsInode, ListsInodes, IsBeforeNo
 ghost use Rattle.ffs_pathnames.specs.{Gathers.passed_of, ChecksNeeded.KeepsFlags, Ready.{ReadyToCheck, ReadyToPath}};
 ghost use Rattle.ffs_pathnames.specs.{Begins.{AreFirstTwo, IsDirectoryBegun}, Moments.lines_moment};
 ghost use Rattle.ffs_pathnames.specs.DirectoryLines.{ReadsQuietOnce, ReportsDirectory, ReportsHeader, ReportsTree};
-ghost use Rattle.ffs_workspace.specs.{Holds.HoldsSurvey, Ready.IsReady};
+ghost use Rattle.ffs_workspace.specs.{Holds.HoldsSurvey, Ready.CanRead};
 ghost use Rattle.ffs_layout.specs.Entry.{entry_value};
 
 use crate::entries::report_directory;
@@ -47,7 +47,7 @@ pub fn check_inodes<I: Image, W: Output>(
     workspace: &mut Workspace,
     report: &mut Report<'_, W>,
 ) -> Result<(), RunFault>
-    requires { IsReady geometry.now.layout (I.device image.old) workspace.old }
+    requires { CanRead geometry.now.layout (I.device image.old) workspace.old }
     ensures tree { ReportsTree geometry.now.layout
         (λ vol. lines_from (directory_lines vol) 2 (inodes_of geometry.now.layout - 2))
         (lines_moment I.Image W.Output image.old workspace.old report.old tt)

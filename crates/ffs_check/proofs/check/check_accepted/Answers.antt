@@ -8,7 +8,6 @@ run_to_end-requires g c = record {
   ready = record {
     made = c.in-Ok.ensures.new.made;
     volume = c.requires.volume;
-    windows = c.in-Ok.ensures.new.windows _;
   };
   opened = c.requires.opened;
 }

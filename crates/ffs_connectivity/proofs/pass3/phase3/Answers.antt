@@ -1,10 +1,10 @@
-use Rattle.std.proofs.{Common.{◌+◌, refl, ◌∙◌, arith, rules, Err}, lemmas.List.with_items_is}
+use Rattle.std.proofs.{Common.{◌+◌, ap, refl, ◌∙◌, arith, rules, Err}, lemmas.List.with_items_is}
 use Rattle.std.proofs.lemmas.Result.{err_from_is_err_and}
 use Rattle.ffs_volume.{specs.Directories.Volumes.volume_of, proofs.Numbered.{as_many, count_next, from_next, from_end}}
 use Rattle.ffs_report.{specs.Known.ForBytes, proofs.Paying.{paid_answer, paid_fault, paid_says, paid_stops, paid_then}}
 use Rattle.ffs_report.proofs.Reporting.{of_fault, of_part, of_same, reports_knowing, said_knows, says_heading}
 use Rattle.ffs_report.proofs.Reporting.{stops_heading}
-use Rattle.ffs_workspace.{specs.Found.WithSurvey, proofs.PlaceLaws.filled_noted}
+use Rattle.ffs_workspace.{specs.{Found.WithSurvey, declared.workspace.Workspace.Workspace}, proofs.PlaceLaws.filled_noted}
 use Rattle.ffs_volume.specs.Blocks.Inodes.{inodes_of}
 use Rattle.ffs_workspace.proofs.Leaving.{claims_left, survey_left, leaves_more, windows_leave}
 use Rattle.ffs_connectivity.{specs.Lines.unref_dir_lines, proofs.UnrefLines.{leaders_held, lines_after, lines_begin}}
@@ -23,29 +23,43 @@ returns-in_err-say-clause-text g c =
     let p = err_from_is_err_and c.from_residual.result c.from_residual.ensures.1 in
     rw (p.1, p.2) (stops_heading c.in_err-say.ensures.said)
 
+pub returns-in_err-say-clause-ready : goal.returns-in_err-say-clause-ready
+returns-in_err-say-clause-ready g c =
+    (c.forget_windows.ensures.forgets c.args.geometry.now.layout _ c.requires.ready).ready
+
+pub returns-then-first-len-clause-ready : goal.returns-then-first-len-clause-ready
+returns-then-first-len-clause-ready g c =
+    (c.forget_windows.ensures.forgets c.args.geometry.now.layout _ c.requires.ready).ready
+
 pub returns-then-first-len-clause-text : goal.returns-then-first-len-clause-text
 returns-then-first-len-clause-text g c =
     let v = c.args.geometry.now.layout in
-    says_heading (λ bytes k. lines_begin v bytes c.args.workspace.now _ _ c.deref.ensures.value c.deref-2.ensures.value k.1 k.2
-    c.first_unreached-first.result (omega arith) c.first_unreached-first.ensures.before
-    ∙ from_end (unref_dir_lines (volume_of v bytes)) _ (inodes_of v) (omega arith)) c.in_ok-say.ensures.said
+    let kinds = c.deref.ensures.value ∙ ap (λ (w : Workspace). w.kinds.items) c.forget_windows.ensures.only in
+    let reached = c.deref-2.ensures.value ∙ ap (λ (w : Workspace). w.reached.items) c.forget_windows.ensures.only in
+    let long = (c.forget_windows.ensures.forgets v _ c.requires.ready).ready.made.kinds in
+    says_heading (λ bytes k. lines_begin v bytes c.args.workspace.now _ _ kinds reached k.1 k.2
+    c.first_unreached-first.result (omega (arith, long)) c.first_unreached-first.ensures.before
+    ∙ from_end (unref_dir_lines (volume_of v bytes)) _ (inodes_of v) (omega (arith, long))) c.in_ok-say.ensures.said
 
 pub loop-number-init : goal.loop-number-init
 loop-number-init g c =
     let v = c.args.geometry.now.layout in
+    let forgot = c.forget_windows.ensures.only in
+    let can = c.forget_windows.ensures.forgets v (g.I.Image.device c.args.image.now) c.requires.ready in
+    let kinds = c.deref.ensures.value ∙ ap (λ (w : Workspace). w.kinds.items) forgot in
+    let reached = c.deref-2.ensures.value ∙ ap (λ (w : Workspace). w.reached.items) forgot in
     record {
       ready = search (rules, arith);
       device = refl;
       low = omega arith;
-      survey = grind (arith, filled_noted);
+      survey = leaves_more _ c.forget_windows.new.self _ (windows_leave _ _ forgot) (grind (arith, filled_noted));
       leaders = grind (arith, with_items_is);
       reads = λ bytes k.
-          let all = as_many _ _ (lines_begin v bytes c.args.workspace.now _ _ c.deref.ensures.value
-          c.deref-2.ensures.value k.1 k.2 c.first_unreached-first.result (omega arith)
+          let all = as_many _ _ (lines_begin v bytes c.args.workspace.now _ _ kinds reached k.1 k.2 c.first_unreached-first.result (omega arith)
           c.first_unreached-first.ensures.before) in
           omega (arith, all);
       said = says_heading
-          (λ bytes k. lines_begin v bytes c.args.workspace.now _ _ c.deref.ensures.value c.deref-2.ensures.value k.1 k.2
+          (λ bytes k. lines_begin v bytes c.args.workspace.now _ _ kinds reached k.1 k.2
           c.first_unreached-first.result (omega arith) c.first_unreached-first.ensures.before) c.in_ok-say.ensures.said;
       paid = paid_says _ c.in_ok-say.ensures.said (omega arith) (omega arith);
     }
@@ -71,7 +85,7 @@ loop-number-preserved g c =
     let ok = c.in_ok-report_lost.ensures in
     let more = known g (goal.at.loop-number-preserved g c).At-loop-number in
     record {
-      ready = ok.stays.ready;
+      ready = ok.stays.can_read;
       device = ok.faults ∙ inv.device;
       low = omega arith;
       survey = leaves_more _ _ _ inv.survey (windows_leave _ _ ok.stays.held);
@@ -100,3 +114,7 @@ returns-in_err-report_lost-clause-paid g c = grind (arith, err_from_is_err_and, 
 
 pub returns-clause-paid : goal.returns-clause-paid
 returns-clause-paid g c = grind (arith, paid_answer)
+
+pub returns-in_err-report_lost-clause-leaves : goal.returns-in_err-report_lost-clause-leaves
+returns-in_err-report_lost-clause-leaves g c =
+    leaves_more _ _ _ c.loop-number.invariant.survey (windows_leave _ _ c.in_err-report_lost.ensures.stays.held)

@@ -2,13 +2,13 @@ use Rattle.std.proofs.Common.{◌≡◌, ◌+◌, ◌-◌, ◌≤◌, ◌∷◌,
 use Rattle.ffs_report.specs.{Known.ForBytes, Paid.Paid, PhaseOutcome.SaidOf, Progress.progress}
 use Rattle.ffs_volume.specs.{Directories.{Connectivity.connectivity_lines, Volumes.volume_of}, Messages.Kinds.of_tree}
 use Rattle.ffs_volume.specs.{Messages.Kinds.{phase3, lines_from}, Blocks.Inodes.inodes_of}
-use Rattle.ffs_workspace.specs.{Found.WithSurvey, Leaves.LeavesSurvey, Ready.IsReady}
+use Rattle.ffs_workspace.specs.{Found.WithSurvey, Leaves.LeavesSurvey, Ready.CanRead}
 use Rattle.ffs_connectivity.{specs.{Leaders.HasLeaders, Lines.unref_dir_lines}, proofs.UnrefLines.lines_after}
 use Rattle.ffs_connectivity.proofs.pass3.phase3.Given as goal
 
 abbrev pub invariant-loop-number : goal.invariant-loop-number
 invariant-loop-number g l = let v = l.geometry.layout in record {
-  ready : IsReady v (g.I.Image.device l.image) l.workspace;
+  ready : CanRead v (g.I.Image.device l.image) l.workspace;
   device : g.I.Image.device l.image ≡ g.I.Image.device l.fn.image;
   low : 2 ≤ l.number;
   survey : LeavesSurvey l.fn.workspace l.workspace;

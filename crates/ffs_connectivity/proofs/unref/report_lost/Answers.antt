@@ -2,7 +2,7 @@ use Rattle.std.proofs.{Common.{◌≡◌, ◌∷◌, [], map, refl, sym, ◌∙�
 use Rattle.ffs_volume.specs.{Directories.{Connectivity.is_unref_dir, Volumes.volume_of}, Messages.Kinds.of_tree}
 use Rattle.ffs_report.{specs.Known.ForBytes, proofs.Paying.{paid_none, paid_reads, paid_says, paid_stops}}
 use Rattle.ffs_report.proofs.Reporting.{reads_first, says_all, says_none, stops_all}
-use Rattle.ffs_workspace.{specs.Found.WithSurvey, proofs.Readiness.ready_table}
+use Rattle.ffs_workspace.{specs.Found.WithSurvey, proofs.Readiness.can_read_table}
 use Rattle.ffs_connectivity.{specs.Lines.unref_dir_lines, proofs.UnrefLines.{attributes_are, unref_dir_is, one_line}}
 use Rattle.ffs_connectivity.proofs.{UnrefLines.{silent, heard}, unref.report_lost.Goals.After-is_unref-unref}
 use Rattle.ffs_connectivity.proofs.unref.report_lost.Goals.{After-of}
@@ -43,7 +43,7 @@ returns-in_err-inode g c = grind (arith, err_from_is_err_and, reads_first, teste
 
 pub returns-in_err-say : goal.returns-in_err-say
 returns-in_err-say g c =
-    grind (arith, err_from_is_err_and, stops_all, heard_of, tested, one_line, paid_stops, ready_table)
+    grind (arith, err_from_is_err_and, stops_all, heard_of, tested, one_line, paid_stops, can_read_table)
 
 pub returns : goal.returns
 returns g c = record {

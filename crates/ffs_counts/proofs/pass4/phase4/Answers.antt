@@ -27,21 +27,27 @@ passed g c bytes k =
     free_lines c.args.geometry.now.layout bytes c.args.workspace.now c.deref.result.now c.loop-number.number
     c.unallocated_from-passed.result (inodes_of c.args.geometry.now.layout) k.1.claims
     (c.deref.ensures.value ∙ ap (λ (w : Workspace). w.kinds.items) inv.held) c.unallocated_from-passed.ensures.unallocated
-    (omega (arith, c.unallocated_from-passed.ensures.within, c.deref.ensures.len, inv.ready.made.kinds))
+    (omega (arith, c.unallocated_from-passed.ensures.within, c.deref.ensures.len, inv.ready.ready.made.kinds))
 
 pub returns-in_err-say-clause-text : goal.returns-in_err-say-clause-text
 returns-in_err-say-clause-text g c =
     let p = err_from_is_err_and c.from_residual.result c.from_residual.ensures.1 in
     rw (p.1, p.2) (stops_heading c.in_err-say.ensures.said)
 
+pub returns-in_err-say-clause-stays : goal.returns-in_err-say-clause-stays
+returns-in_err-say-clause-stays g c = record {
+  held = c.forget_windows.ensures.only;
+  ready = (c.forget_windows.ensures.forgets c.args.geometry.now.layout _ c.requires.ready).ready;
+}
+
 pub loop-number-init : goal.loop-number-init
 loop-number-init g c =
     let v = c.args.geometry.now.layout in
     record {
       within = omega arith;
-      ready = c.requires.ready;
+      ready = c.forget_windows.ensures.forgets v _ c.requires.ready;
       device = refl;
-      held = refl;
+      held = c.forget_windows.ensures.only;
       reads = λ bytes k. let all = as_many _ _ (lines_begin v bytes) in omega (arith, all);
       said = says_heading (λ bytes k. lines_begin v bytes) c.in_ok-say.ensures.said;
       paid = paid_says _ c.in_ok-say.ensures.said (omega arith) (omega arith);
@@ -70,7 +76,7 @@ loop-number-preserved-then-passed-eq0 g c =
     let more = known g (goal.at.loop-number-preserved-then-passed-eq0 g c).At-loop-number in
     record {
       within = omega (arith, c.loop-number-test.true);
-      ready = ok.stays.ready;
+      ready = ok.stays.can_read;
       device = ok.faults ∙ inv.device;
       held = held_on c.args.workspace.now c.loop-number.workspace c.report_references.new.workspace inv.held ok.stays.held;
       reads = grind (arith, count_next);

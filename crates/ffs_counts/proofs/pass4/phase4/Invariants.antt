@@ -2,14 +2,14 @@ use Rattle.std.proofs.Common.{◌≡◌, ◌+◌, ◌-◌, ◌≤◌, ◌∷◌,
 use Rattle.ffs_report.specs.{Known.ForBytes, Paid.Paid, PhaseOutcome.SaidOf, Progress.progress}
 use Rattle.ffs_volume.specs.Directories.{ReferenceCheck.{reference_lines_at, reference_lines}, Volumes.volume_of}
 use Rattle.ffs_volume.specs.{Messages.Kinds.{of_tree, phase4, lines_from}, Blocks.Inodes.inodes_of}
-use Rattle.ffs_workspace.specs.{Found.WithFindings, Ready.IsReady}
+use Rattle.ffs_workspace.specs.{Found.WithFindings, Ready.CanRead}
 use Rattle.ffs_counts.proofs.Holding.{lines_after}
 use Rattle.ffs_counts.proofs.pass4.phase4.Given as goal
 
 abbrev pub invariant-loop-number : goal.invariant-loop-number
 invariant-loop-number g l = record {
   within : l.number ≤ l.inodes;
-  ready : IsReady l.geometry.layout (g.I.Image.device l.image) l.workspace;
+  ready : CanRead l.geometry.layout (g.I.Image.device l.image) l.workspace;
   device : g.I.Image.device l.image ≡ g.I.Image.device l.fn.image;
   held : l.workspace ≡ record l.fn.workspace { windows = l.workspace.windows };
   reads : ForBytes (WithFindings l.geometry.layout (g.I.Image.device l.fn.image) l.fn.workspace)

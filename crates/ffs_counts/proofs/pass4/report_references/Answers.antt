@@ -4,7 +4,7 @@ use Rattle.ffs_volume.specs.Directories.{ReferenceCheck.reference_lines_at, Volu
 use Rattle.ffs_volume.specs.Messages.Kinds.{TreeMessage, of_tree}
 use Rattle.ffs_report.{specs.Known.ForBytes, proofs.Paying.{paid_none, paid_reads, paid_says, paid_stops}}
 use Rattle.ffs_report.proofs.Reporting.{reads_first, says_all, says_none, stops_all}
-use Rattle.ffs_workspace.{specs.{Found.WithFindings, Ready.StaysReady}, proofs.Readiness.ready_table}
+use Rattle.ffs_workspace.{specs.{Found.WithFindings, Ready.KeepsWindows}, proofs.Readiness.can_read_table}
 use Rattle.ffs_counts.{specs.References.lines_as, proofs.Holding.{inode_lines_are, item_at, met_lines, same_reported}}
 use Rattle.ffs_counts.proofs.{Holding.{some_lines, unmet_line, unmet_reported}, pass4.report_references.Goals.After-inode}
 use Rattle.ffs_counts.proofs.pass4.report_references.Goals.{After-line_for-line, In_ok-inode}
@@ -29,11 +29,11 @@ some : (g : given.Over) (c : After-line_for-line g) → 1 ≤ length (map of_tre
 some g c = grind (arith, item_at, one, unmet_reported, length-map)
 
 stays : (g : given.Over) (c : In_ok-inode g) →
-    StaysReady c.args.geometry.now.layout (g.I.Image.device c.inode.new.image) c.args.workspace.now
+    KeepsWindows c.args.geometry.now.layout (g.I.Image.device c.inode.new.image) c.args.workspace.now
     (record c.args.workspace.now {
       windows = record c.args.workspace.now.windows { table = c.inode.new.self };
     })
-stays g c = grind (arith, ready_table)
+stays g c = grind (arith, can_read_table)
 
 pub returns-then-is_right : goal.returns-then-is_right
 returns-then-is_right g c = record {
@@ -54,7 +54,7 @@ returns-in_err-inode g c = record {
       let line = one g (goal.at.returns-in_err-inode g c).After-inode bytes k in
       omega (arith, line, c.in_err-inode.ensures.counted);
   paid = grind (arith, err_from_is_err_and, paid_reads);
-  stays = grind (arith, ready_table);
+  stays = grind (arith, can_read_table);
 }
 
 pub returns-in_err-say_line : goal.returns-in_err-say_line

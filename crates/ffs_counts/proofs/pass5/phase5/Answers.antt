@@ -41,8 +41,17 @@ returns-in_err-say-clause-text g c =
     let p = err_from_is_err_and c.from_residual.result c.from_residual.ensures.1 in
     rw (p.1, p.2) (stops_heading c.in_err-say.ensures.said)
 
+pub returns-in_err-say-clause-stays : goal.returns-in_err-say-clause-stays
+returns-in_err-say-clause-stays g c = record {
+  held = c.forget_windows.ensures.only;
+  ready = (c.forget_windows.ensures.forgets c.args.superblock.now.geometry.layout _ c.requires.ready).ready;
+}
+
 pub loop-group-init : goal.loop-group-init
-loop-group-init g c = grind (arith, says_heading, groups_begin)
+loop-group-init g c =
+    let v = c.args.superblock.now.geometry.layout in
+    let can = c.forget_windows.ensures.forgets v (g.I.Image.device c.args.image.now) c.requires.ready in
+    grind (arith, says_heading, groups_begin)
 
 pub returns-in_err-found-clause-text : goal.returns-in_err-found-clause-text
 returns-in_err-found-clause-text g c =
@@ -67,7 +76,7 @@ loop-group-preserved g c =
       device = c.in_ok-found.ensures.found.read ∙ inv.device;
       stays = record {
         held = held_on w c.loop-group.workspace _ inv.stays.held c.in_ok-found.ensures.stays.held;
-        ready = c.in_ok-found.ensures.stays.ready;
+        can_read = c.in_ok-found.ensures.stays.can_read;
       };
       reads = reads_next n _ _ _ inv.reads c.in_ok-found.ensures.reads.counted
           (λ more. c.in_ok-found.ensures.reads.again (inv.records more));

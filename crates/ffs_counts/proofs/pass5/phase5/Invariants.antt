@@ -4,7 +4,7 @@ use Rattle.ffs_volume.specs.Report.Reads.{records_at_once}
 use Rattle.ffs_layout.specs.Super.{superblock_in}
 use Rattle.ffs_report.specs.{PhaseOutcome.SaidOf, Progress.progress}
 use Rattle.ffs_groups.specs.Inodes.{class_in}
-use Rattle.ffs_workspace.specs.{Found.WithClaims, Ready.StaysReady}
+use Rattle.ffs_workspace.specs.{Found.WithClaims, Ready.KeepsWindows}
 use Rattle.ffs_counts.{specs.{Once.reported_of, Totals.{AreUpTo, AreTotals}}, proofs.GroupText.{free_of, lines_after}}
 use Rattle.ffs_counts.{specs.Records.IsAtRecords, proofs.GroupReads.reads_below}
 use Rattle.ffs_counts.proofs.pass5.phase5.Given as goal
@@ -15,7 +15,7 @@ invariant-loop-group g l =
     let w = l.fn.workspace in
     record {
       device : g.I.Image.device l.image ≡ g.I.Image.device l.fn.image;
-      stays : StaysReady v (g.I.Image.device l.image) w l.workspace;
+      stays : KeepsWindows v (g.I.Image.device l.image) w l.workspace;
       reads : g.I.Image.reads l.image ≤ g.I.Image.reads l.fn.image + reads_below l.group;
       records : (l.group % records_at_once ≡ 0 → ⊥) → IsAtRecords v l.workspace.windows.table.window l.group;
       up : AreUpTo l.group l.totals;

@@ -4,5 +4,4 @@ pub print_rest-requires : goal.print_rest-requires
 print_rest-requires g c = record {
   made = c.in-Ok.ensures.new.made;
   volume = c.requires;
-  windows = c.in-Ok.ensures.new.windows _;
 }

@@ -4,5 +4,4 @@ pub print_phases-requires : goal.print_phases-requires
 print_phases-requires g c = record {
   made = c.in-Ok.ensures.new.made;
   volume = c.requires;
-  windows = c.in-Ok.ensures.new.windows _;
 }

@@ -1,6 +1,6 @@
 use Rattle.std.proofs.{Common.{◌∙◌, ◌≡◌, ◌≤◌, ◌+◌, ℕ, List, arith, false, sym}}
 use Rattle.ffs_image.{specs.{Limited.reads_asked}, proofs.Limits.read_over}
-use Rattle.ffs_workspace.proofs.Readiness.{ready_same}
+use Rattle.ffs_workspace.proofs.Readiness.{can_read_same}
 use Rattle.ffs_volume.specs.Report.DirectoryReads.{directory_cost}
 use Rattle.ffs_pathnames.{specs.DirectoryContext.DirectoryContext, proofs.Carrying.if_ok}
 use Rattle.ffs_pathnames.proofs.{LimitedLaws.{LookedBy, looked}, look.examine.{Given.Over, Goals.After-is_spent}}
@@ -54,7 +54,7 @@ returns g c =
             c.examine_all-examined.ensures.examines.found;
         leaves = record {
           lists = left.lists;
-          ready = ready_same c.args.geometry.now.layout _ _ _ (back.served.contents ∙ sym over.contents)
+          ready = can_read_same c.args.geometry.now.layout _ _ _ (back.served.contents ∙ sym over.contents)
               (back.served.size ∙ sym over.size) left.ready;
           read = back.served.read c.if-is_spent.false;
         };

@@ -35,7 +35,7 @@ pub inode_by_part-requires : goal.inode_by_part-requires
 inode_by_part-requires g c = grind arith
 
 pub noted_cut-requires : goal.noted_cut-requires
-noted_cut-requires g c = omega (arith, c.requires.ready.ready.made.notes, c.requires.ready.number)
+noted_cut-requires g c = omega (arith, c.requires.ready.ready.ready.made.notes, c.requires.ready.number)
 
 pub look_directory-requires : goal.look_directory-requires
 look_directory-requires g c = grind arith

@@ -1,7 +1,7 @@
 use Rattle.std.proofs.Common.{◌≡◌, ◌≤◌, ◌++◌, ◌+◌, ◌*◌, Bool, slice_index, [], List, ℕ, map, refl, sym, ◌∙◌, append-nil}
 use Rattle.std.proofs.Common.{true, false, arith, length, Result, Err, inl, inr, ◌∷◌, ◌==◌}
 use Rattle.std.proofs.lemmas.{Result.err_from_is_err_and, Bool.cases_Bool}
-use Rattle.ffs_workspace.specs.{Holds.HoldsClaims, Ready.IsReady, declared.workspace.Workspace.Workspace}
+use Rattle.ffs_workspace.specs.{Holds.HoldsClaims, Ready.CanRead, declared.workspace.Workspace.Workspace}
 use Rattle.ffs_workspace.proofs.Leaving.{block_check_kept}
 use Rattle.ffs_pathnames.{specs.Before.{IsBefore, root_reported}, proofs.{LineCounts.lines_long, Carrying.goes_is}}
 use Rattle.ffs_pathnames.proofs.Carrying.{root_kind_is, root_marked_is, tree_is, tree_lines}
@@ -89,7 +89,7 @@ looks_few g c b is k checks =
 
 -- what is said, what is read for it, and what is left, where nothing is read
 only_said : {T : Type 0} {v : Layout} {d : Device} {w : Workspace} {lines : Volume → List TreeMessage}
-    {said said' : Progress} {count : ℕ} (r : Result T RunFault) → ImageAfter d d r → IsReady v d w →
+    {said said' : Progress} {count : ℕ} (r : Result T RunFault) → ImageAfter d d r → CanRead v d w →
     PhaseReports (IsBefore v d.contents w 2) (λ b. map of_tree (lines (volume_of v b))) said said' r →
     let at : PathMoment = record { image = d; reads = count; workspace = w } in
     ReportsTree v lines (record { at = at; said = said; kept = tt }) (record { at = at; said = said'; kept = tt }) r

@@ -28,7 +28,7 @@ before_tree g c b t h =
     let clear = c.clear_passed.ensures in
     let claims = (found.survey b t h).claims in
     before_first v _ b _ _ (ap (λ d. d.contents) found.leaves.read ∙ t) claims (found.survey b t h).survey
-    (clear.ready v _ found.leaves.ready).made clear
+    (clear.ready v _ found.leaves.ready).ready.made clear
     (calm_silent v b _ c.args.geometry.now.sound found.leaves.ready.made claims (found.survey b t h).survey
     (found.survey b t h).calm)
 

@@ -66,7 +66,7 @@ loop-number-init g c =
           omega (arith, within, c.sweep_reads.ensures);
       paid = paid_none (omega (arith, noted.reads.most, c.sweep_reads.ensures));
       before = λ b k. record {
-        before = noted_before v _ _ _ _ first.result b first.ensures.range.0 refl noted.leaves.lists noted.leaves.ready.made
+        before = noted_before v _ _ _ _ first.result b first.ensures.range.0 refl noted.leaves.lists noted.leaves.ready.ready.made
             (noted.places b k.gives_bytes k.claims k.survey).survey noted.leaves.none_due (skipped b k).0;
         noted = (noted.places b k.gives_bytes k.claims k.survey).noted;
       };

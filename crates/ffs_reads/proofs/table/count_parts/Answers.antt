@@ -4,5 +4,4 @@ pub loop-part-init : goal.loop-part-init
 loop-part-init g c = record {
   made = c.in_ok-workspace.ensures.new.made;
   volume = c.requires.volume;
-  windows = c.in_ok-workspace.ensures.new.windows _;
 }
