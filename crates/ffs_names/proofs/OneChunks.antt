@@ -1,21 +1,23 @@
 -- A directory of one chunk is known by where its only block is.
-use Rattle.std.proofs.Common.{◌≡◌, ℕ, zero, suc, ◌+◌, ◌*◌, ◌%◌, ◌<◌, ◌≤◌, ◌==◌, Bool, true, false, not, ◌&&◌, List, []}
-use Rattle.std.proofs.Common.{◌∷◌, ◌++◌, Some, arith, refl, ap, sym, ◌∙◌, flat_map, if◌then◌else◌, mod-eq_of_lt}
-use Rattle.std.{proofs.Common.{mul-le-mul_right, nat_lt, slice_index, take}, specs.Int.div_ceil}
-use Rattle.std.proofs.lemmas.{Grind.div_ceil_times, Bool.Decides.nat_tests}
+use Rattle.std.proofs.Common.{◌≡◌, ℕ, zero, suc, ◌+◌, ◌*◌, ◌%◌, ◌<◌, ◌≤◌, ◌==◌, Bool, true, false, not, ◌&&◌, ◌||◌, List, []}
+use Rattle.std.proofs.Common.{◌∷◌, ◌++◌, ◌-◌, ◌/◌, min, Some, arith, refl, ap, ◌∙◌, flat_map, if◌then◌else◌, mod-eq_of_lt}
+use Rattle.std.{proofs.Common.{mul-le-mul_right, nat_lt, slice_index}, specs.Int.div_ceil}
+use Rattle.std.proofs.lemmas.{Grind.div_ceil_times, Bool.Decides.nat_tests, Nat.le-div}
+use Rattle.std.proofs.Math.Bool.{and-true}
 use Rattle.ffs_volume.specs.declared.{Class.TheVariants.Dir, Inode.Inode, Layout.Layout, Step.{Step, TheVariants.Run}}
 use Rattle.ffs_volume.specs.Blocks.{Inodes.class_of, Steps.{data_step, steps_at, steps_of}}
-use Rattle.ffs_volume.specs.Directories.{Entries.{bytes_read, chunks_of, has_gap, run_chunks}, PathnameCheck.are_sound}
+use Rattle.ffs_volume.specs.Directories.{Entries.{bytes_read, chunk_of, chunks_of, has_gap, run_chunks}, PathnameCheck.are_sound}
 use Rattle.ffs_volume.specs.{Directories.Roles.{RoledEntry, roled_chunk}, Disk.Areas.is_run_in_range}
 use Rattle.ffs_volume.specs.{Laws.Geometry.IsAcceptedLayout, Encodings.Replay.{fresh_replay, replayed_steps}}
 use Rattle.ffs_volume.specs.{Encodings.ReplayCounts.replayed_runs, Directories.Calm.is_right_size}
-use Rattle.ffs_layout.specs.declared.geometry.Geometry.{Geometry}
-use Rattle.ffs_walk.{proofs.Counted.{top_held, top_unread}, specs.{Rests.{IsAtTop, IsOver}, Keepings.replay_in}}
+use Rattle.ffs_volume.specs.Disk.Numbers.{piece}
+use Rattle.ffs_walk.{proofs.Counted.{top_held, top_unread}, specs.{Rests.{IsAtTop}, Keepings.replay_in}}
 use Rattle.ffs_workspace.proofs.NoteLaws.{IsOneChunkAt}
-use Rattle.ffs_names.specs.{Costs.BeginsAtChunk, OneChunk.one_chunk_at, Readings.{chunks_in, gap_after}}
-use Rattle.ffs_names.specs.{RunCursors.{cursor_chunks, reading_by}, declared.chunks.Chunks.Chunks}
-use Rattle.ffs_names.proofs.{Advances.{over_rest, over_runs}, Begins.all_taken, DirLaws.dir_parts}
-use Rattle.ffs_names.proofs.ReadCounts.{first_held, run_at_most}
+use Rattle.ffs_names.specs.{OneChunk.one_chunk_at, Readings.{IsEnded, chunks_in, gap_left, rest}, declared.chunks.Chunks.Chunks}
+use Rattle.ffs_names.specs.{RunCursors.reading_by, Shapes.GivesDirectory, declared.entries.Entries.Entries}
+use Rattle.ffs_names.proofs.{Advances.{over_rest, over_runs}, DirLaws.dir_parts, EntryCounts.{HoldsBy, at_most, reads_by}}
+use Rattle.ffs_names.proofs.{ReadCounts.{over_held, run_over}, Shaped.fills_begin}
+use Rattle.ffs_walk.specs.declared.{blocks.Blocks.Blocks, window.Window.Window}
 
 one : (q b : ℕ) → 512 ≤ q * b → q * b < 512 + b → 512 ≤ b → q ≡ 1
 one zero b low high big = absurd (omega arith)
@@ -76,7 +78,7 @@ one_run : (v : Layout) (a : ℕ) (b : List ℕ) → IsAcceptedLayout v → (a ==
     → steps_of v (one_chunk_at a) b ≡ Run a 1 (Some 0) ∷ []
 one_run v a b g some = grind (arith, steps_are, one_chunk_class, one_fragment)
 
-runs_of_one : (v : Layout) (a : ℕ) (b : List ℕ) → IsAcceptedLayout v → (a == 0) ≡ false
+pub runs_of_one : (v : Layout) (a : ℕ) (b : List ℕ) → IsAcceptedLayout v → (a == 0) ≡ false
     → replayed_runs v 0 fresh_replay (steps_of v (one_chunk_at a) b) ≡ 1
 runs_of_one v a b g some = ap (replayed_runs v 0 fresh_replay) (one_run v a b g some)
 
@@ -89,30 +91,49 @@ chunks_of_one : (v : Layout) (a : ℕ) (b : List ℕ) → IsAcceptedLayout v →
     → chunks_in v b (one_chunk_at a) 0 ≡ run_chunks (reading_by v b 512) a 1 (0 * v.bsize) ++ []
 chunks_of_one v a b g some inside = rw (one_replayed v a b g some inside, inside) refl
 
--- so a reading of it begins that has the chunks of that Run to give, and whose walk is over
-pub begins_at_chunk : {q : Geometry} {a : ℕ} {c : Chunks} → IsAcceptedLayout q.layout → (a == 0) ≡ false →
-    is_run_in_range q.layout a 1 ≡ true → c.walk.geometry ≡ q → IsOver c.walk → ((b : List ℕ) → cursor_chunks
-    c.walk.geometry.layout b c.run_cursor ≡ run_chunks (reading_by c.walk.geometry.layout b 512) a 1 (0 *
-    c.walk.geometry.layout.bsize)) → c.run_cursor.next ≡ 0 → c.budget ≡ 1 → c.runs ≡ 1 → c.gap ≡ false →
-    BeginsAtChunk q a c
-begins_at_chunk {q = q} {a = a} {c = c} g some inside same over found first budget runs gap =
-    let v = q.layout in
-    let top : IsAtTop c.walk = record { single = over.single; double = over.double; triple = over.triple } in
+-- so it has the chunk at its address alone
+only_chunk_is : (v : Layout) (a : ℕ) (b : List ℕ) → IsAcceptedLayout v → (a == 0) ≡ false → is_run_in_range v a 1 ≡ true
+    → chunks_in v b (one_chunk_at a) 0 ≡ chunk_of v.order 0 (piece (a * v.fsize) 512 b) ∷ []
+only_chunk_is v a b g some inside =
+    let low = g.sizes.fsize_low in
+    let one : min (1 * v.fsize / 512) ((512 - 0 * v.bsize) / 512) ≡ 1 = omega (arith, le-div 1 v.fsize 512) in
+    let place : a * v.fsize + 512 * 0 ≡ a * v.fsize = omega arith in
+    let offset : 0 * v.bsize + 512 * 0 ≡ 0 = omega arith in
+    chunks_of_one v a b g some inside ∙ rw (one, place, offset) refl
+
+-- where nothing of the chunks is left, no read is, and none that was made is needed
+at_top : (c : Chunks) → IsEnded c → IsAtTop c.walk
+at_top c e = record { single = e.walk.single; double = e.walk.double; triple = e.walk.triple }
+
+pub ended_reads : (b : List ℕ) (s : Bool) (c : Chunks) → IsEnded c → reads_by b s c ≡ 0
+ended_reads b s c e = omega (
+  arith,
+  at_most b s c,
+  over_runs b c.walk c.walk.geometry.layout c.keeping.cut (replay_in c.keeping) e.walk,
+  top_unread c.walk (at_top c e),
+  run_over c.run_cursor e.cursor,
+)
+
+pub ended_held : (s : Bool) (c : Chunks) → IsEnded c → (blocks : Blocks) (w : Window) → HoldsBy blocks w s c
+ended_held s c e blocks w =
+    λ may. record { frames = top_held c.walk (at_top c e) blocks; run = over_held c.run_cursor e.cursor w }
+
+-- nor is a chunk or a hole
+pub ended_rest : (b : List ℕ) (c : Chunks) → IsEnded c → rest b c ≡ []
+ended_rest b c e = rw e.budget refl
+
+pub ended_gap : (b : List ℕ) (c : Chunks) → IsEnded c → false ≡ (c.gap || gap_left b c)
+ended_gap b c e = rw (e.gap, over_rest b c.walk e.walk) refl
+
+-- where its only chunk was read, the entries of that are to come
+pub gives_only_chunk : {v : Layout} {a : ℕ} {b : List ℕ} {r : Entries} → IsAcceptedLayout v → (a == 0) ≡ false →
+    is_run_in_range v a 1 ≡ true → IsEnded r.chunks → r.order ≡ v.order → r.chunk ≡ piece (a * v.fsize) 512 b
+    → r.place ≡ 0 → r.index ≡ 0 → r.first ≡ true → r.right_so_far ≡ true → GivesDirectory v b (one_chunk_at a) 0 r
+gives_only_chunk {v = v} {a = a} {b = b} {r = r} g some inside ended order chunk place index first right =
+    let only = only_chunk_is v a b g some inside in
+    let over = over_rest b r.chunks.walk ended.walk in
     record {
-      geometry = same;
-      chunks = λ b. rw (budget, found b, over_rest b c.walk over, same)
-          (ap (take 1) (sym (chunks_of_one v a b g some inside)) ∙ all_taken v (one_chunk_at a) b 0 g);
-      runs = runs;
-      runs_left = λ b. over_runs b c.walk c.walk.geometry.layout c.keeping.cut (replay_in c.keeping) over;
-      gap = gap;
-      gap_left = λ b. ap (gap_after c) (over_rest b c.walk over)
-          ∙ sym (ap has_gap (one_replayed v a b g some inside));
-      to_read = λ b. omega (
-        arith,
-        over_runs b c.walk c.walk.geometry.layout c.keeping.cut (replay_in c.keeping) over,
-        top_unread c.walk top,
-        run_at_most c.run_cursor,
-        runs_of_one v a b g some,
-      );
-      held = λ blocks w. record { frames = top_held c.walk top blocks; run = first_held c.run_cursor first w };
+      entries = rw (only, ended.budget, place, index, first, order, chunk) refl;
+      shape = rw (only, ended.budget, ended.gap, over, right, order, place, chunk, one_replayed v a b g some inside)
+          (grind (arith, fills_begin, and-true));
     }

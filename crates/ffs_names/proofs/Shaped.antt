@@ -8,7 +8,7 @@ use Rattle.ffs_volume.specs.{Directories.{Entries.{has_gap, is_sound}, PathnameC
 use Rattle.ffs_volume.specs.Encodings.{Replay.{fresh_replay, replayed_steps}, ReplayCounts.replayed_runs}
 use Rattle.ffs_volume.specs.Directories.Calm.{is_right_size}
 use Rattle.ffs_walk.specs.declared.{blocks.Blocks.Blocks, window.Window.Window}
-use Rattle.ffs_names.specs.{Costs.{HoldsReading, to_read}, Readings.{chunks_in, gap_left, rest}, Shapes.BeginsDirectory}
+use Rattle.ffs_names.specs.{Costs.{HoldsReading, to_read}, Readings.{chunks_in, gap_left, rest}, Shapes.{BeginsDirectory, HasEnded, has_right_shape}}
 use Rattle.ffs_names.{specs.declared.{chunks.Chunks.Chunks, entries.Entries.Entries}, proofs.Entered.end_of_chunk}
 use Rattle.ffs_names.proofs.{Entered.{end_seen, none_from}, EntryCounts.at_most}
 
@@ -32,7 +32,7 @@ fills_end order chunk place none = grind (arith, entries_end)
 pub fills_whole : (order : Order) (chunk : List ℕ) → fills_from order chunk 512 ≡ true
 fills_whole order chunk = fills_end order chunk 512 (end_of_chunk order chunk)
 
-fills_begin : (order : Order) (chunk : List ℕ) → fills_from order chunk 0 ≡ is_sound order chunk
+pub fills_begin : (order : Order) (chunk : List ℕ) → fills_from order chunk 0 ≡ is_sound order chunk
 fills_begin order chunk = rw zero-add refl
 
 -- a chunk came after one was read to its end
@@ -64,8 +64,7 @@ pub begins_directory : {v : Layout} {i : Inode} {cut : ℕ} {r : Entries} → r.
     to_read b r.chunks ≤ replayed_runs v cut fresh_replay (steps_of v i b)) → ((blocks : Blocks) (w : Window) →
     HoldsReading blocks w r.chunks) → BeginsDirectory v i cut r
 begins_directory {r = r} place right chunks gap left few held = record {
-  entries = λ b small. grind (arith, end_seen);
-  shape = λ b small. grind (arith, shape_begun);
+  gives = λ b small. record { entries = grind (arith, end_seen); shape = grind (arith, shape_begun) };
   place = place;
   to_read = λ b. omega (arith, at_most b r.right_so_far r.chunks, few b);
   held = λ blocks w may. held blocks w;
@@ -75,3 +74,8 @@ begins_directory {r = r} place right chunks gap left few held = record {
 pub shape_same : (b : List ℕ) (s s' f f' : Bool) (c c' : Chunks) → s' ≡ s → f' ≡ f → c' ≡ c → ((s' && f') && (are_sound
     (rest b c') && not (c'.gap || gap_left b c'))) ≡ ((s && f) && (are_sound (rest b c) && not (c.gap || gap_left b c)))
 shape_same b s s' f f' c c' e h q = rw (e, h, q) refl
+
+-- no entry is left: whether a hole was seen, or is still to be, says whether the shape is right
+pub shape_at_end : (b : List ℕ) (r : Entries) (gap : Bool) → r.right_so_far ≡ true → HasEnded b r →
+    gap ≡ (r.chunks.gap || gap_left b r.chunks) → not gap ≡ has_right_shape b r
+shape_at_end b r gap right ended e = rw (right, ended.current, ended.chunks, e) refl

@@ -1,15 +1,15 @@
 -- How many reads of the image a reading of a directory still takes, and how many a directory takes in all.
-use Rattle.std.specs.Prelude.{◌≡◌, ℕ, ◌+◌, ◌<◌, ◌≤◌, ◌==◌, Bool, true, false, ◌&&◌, ◌||◌, nat_lt, if◌then◌else◌, List}
+use Rattle.std.specs.Prelude.{◌≡◌, ℕ, ◌+◌, ◌<◌, ◌≤◌, ◌==◌, Bool, true, ◌&&◌, ◌||◌, nat_lt, if◌then◌else◌, List}
 use Rattle.std.specs.{Prelude.{◌∷◌, Option}, List.flat_map}
 use Rattle.ffs_image.specs.Device.{ForContents}
 use Rattle.ffs_volume.specs.declared.{Class.Class, Inode.Inode, Layout.Layout, Step.{Step, TheVariants.Run}}
-use Rattle.ffs_volume.specs.{Blocks.{Inodes.class_of, Steps.steps_of}, Directories.{Entries.has_gap, Roles.roled_chunk}}
-use Rattle.ffs_volume.specs.{Directories.{Roles.roled_entries, Volumes.volume_of}, Encodings.Replay.fresh_replay}
-use Rattle.ffs_volume.specs.{Encodings.{Replay.replayed_steps, ReplayCounts.replayed_runs}, Report.Reads.sweep_reads}
+use Rattle.ffs_volume.specs.{Blocks.{Inodes.class_of}, Directories.{Roles.roled_chunk}}
+use Rattle.ffs_volume.specs.{Directories.{Roles.roled_entries, Volumes.volume_of}}
+use Rattle.ffs_volume.specs.{Report.Reads.sweep_reads}
 use Rattle.ffs_volume.specs.Report.DirectoryReads.{noted_cost, noted_costs}
 use Rattle.ffs_layout.specs.declared.geometry.Geometry.{Geometry}
 use Rattle.ffs_walk.specs.{Counts.{AreHeld, entered, unread}, declared.{blocks.Blocks.Blocks, window.Window.Window}}
-use Rattle.ffs_names.specs.{OneChunk.one_chunk_at, Readings.{chunks_in, gap_left, rest, runs_after, runs_left}}
+use Rattle.ffs_names.specs.{Readings.{rest, runs_after, runs_left}}
 use Rattle.ffs_names.specs.{Readings.{BeginsAt, Continues}, RunCursors.IsWhole, declared.chunks.Chunks.Chunks}
 use Rattle.ffs_names.specs.declared.{entries.Entries.Entries, run_cursor.RunCursor.RunCursor}
 
@@ -48,20 +48,6 @@ pub record BeginsReading (g : Geometry) (inode : Inode) (cut : ℕ) (c : Chunks)
 pub record BeginsByClass (g : Geometry) (inode : Inode) (class : Class) (cut : ℕ) (c : Chunks) : Type 0 where
   pub begins : class ≡ class_of g.layout inode → BeginsAt g.layout inode cut c
   pub reads : BeginsReads g c
-
--- a reading begins of a directory of one chunk, at an address in a volume of this geometry; its only Run
--- is seen already
-pub record BeginsAtChunk (g : Geometry) (address : ℕ) (c : Chunks) : Type 0 where
-  pub geometry : c.walk.geometry ≡ g
-  pub chunks : (b : List ℕ) → rest b c ≡ chunks_in g.layout b (one_chunk_at address) 0
-  pub runs : c.runs ≡ 1
-  pub runs_left : (b : List ℕ) → runs_left b c ≡ 0
-  pub gap : c.gap ≡ false
-  pub gap_left : (b : List ℕ) → gap_left b c
-      ≡ has_gap (replayed_steps g.layout 0 fresh_replay (steps_of g.layout (one_chunk_at address) b))
-  pub to_read : (b : List ℕ) → to_read b c
-      ≤ replayed_runs g.layout 0 fresh_replay (steps_of g.layout (one_chunk_at address) b)
-  pub held : (blocks : Blocks) (w : Window) → HoldsReading blocks w c
 
 -- a Run is seen: the reading continues with the steps after it. The walk stays, and the Run takes
 -- one read at most: it is an indirect block, or it has chunks

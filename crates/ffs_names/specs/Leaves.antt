@@ -3,8 +3,8 @@ use Rattle.std.specs.Prelude.{◌≡◌, ℕ, ◌+◌, ◌<◌, ◌≤◌, Bool,
 use Rattle.std.specs.Prelude.{IfOk, IfSome, MatchOption, MatchResult, Option}
 use Rattle.ffs_image.specs.{Device.{Device, ForContents}, Reads.ReadAfter, declared.image.Image.Ghosts}
 use Rattle.ffs_image.specs.declared.image.ImageFault.{ImageFault}
-use Rattle.ffs_walk.specs.declared.{blocks.Blocks.Blocks, walk.Walk.Walk, window.Window.Window}
-use Rattle.ffs_walk.specs.{Rests.IsOver, Windows.WindowHolds}
+use Rattle.ffs_walk.specs.declared.{blocks.Blocks.Blocks, window.Window.Window}
+use Rattle.ffs_walk.specs.{Windows.WindowHolds}
 use Rattle.ffs_survey.specs.{Costs.TakesReads, declared.entry_head.EntryHead.EntryHead}
 use Rattle.ffs_names.specs.{Costs.{to_read, unread_run, HoldsReading, HoldsRun}, Entering.{left, GivesFromChunk}}
 use Rattle.ffs_names.specs.Readings.{gap_left, CountsRuns, IsSame}
@@ -76,11 +76,6 @@ pub record LeavesWalk {T : Type 0} (old new : DirWalk) (result : Result T ImageF
 pub record LooksForGap (old new : DirWalk) (result : Result Bool ImageFault) : Type 0 where
   pub gap : IfOk result (λ g. ForContents old.image.contents (λ b. g ≡ (old.chunks.gap || gap_left b old.chunks)))
   pub leaves : LeavesWalk old new result
-
--- a walk has no step left, in the volume that it was over
-pub record EndsWalk (old new : Walk) : Type 0 where
-  pub over : IsOver new
-  pub geometry : new.geometry ≡ old.geometry
 
 -- what a call leaves that reads a chunk
 pub record LeavesChunks {T : Type 0} (old new : DirReading Chunks) (result : Result T ImageFault) : Type 0 where

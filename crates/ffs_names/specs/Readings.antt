@@ -5,7 +5,7 @@ use Rattle.ffs_volume.specs.{declared.{Layout.Layout, Inode.Inode, Step.Step}, D
 use Rattle.ffs_volume.specs.{Blocks.Steps.steps_of, Directories.Entries.{Chunk, chunk_of, chunks_of, has_gap}}
 use Rattle.ffs_volume.specs.{Directories.Entries.bytes_read, Encodings.Replay.{is_replay_open, fresh_replay}}
 use Rattle.ffs_volume.specs.{Encodings.{Replay.replayed_steps, ReplayCounts.replayed_runs}, Laws.RunLengths.HasLength}
-use Rattle.ffs_walk.specs.{Keepings.replay_in, Rests.{most_steps_left, steps_left}}
+use Rattle.ffs_walk.specs.{Keepings.replay_in, Rests.{IsOver, most_steps_left, steps_left}}
 use Rattle.ffs_image.specs.{Device.ForContents, declared.image.ImageFault.ImageFault}
 use Rattle.ffs_names.specs.{RunCursors.{cursor_chunks, reading_by}, declared.chunks.Chunks.Chunks}
 
@@ -41,6 +41,13 @@ gap_left b c = gap_after c (steps_left b c.walk)
 pub record HasSeenAll (b : List ℕ) (c : Chunks) : Type 0 where
   pub chunks : all_chunks b c ≡ []
   pub gap : gap_left b c ≡ false
+
+-- no chunk of a reading is left, no hole was seen, and no step of its walk is left
+pub record IsEnded (c : Chunks) : Type 0 where
+  pub walk : IsOver c.walk
+  pub cursor : c.run_cursor.next ≡ c.run_cursor.count
+  pub budget : c.budget ≡ 0
+  pub gap : c.gap ≡ false
 
 -- at most how many steps a reading has still to see and chunks of the current Run to give, whatever
 -- the image holds

@@ -9,7 +9,7 @@ use Rattle.ffs_volume.specs.{Encodings.ReplayCounts.replayed_runs, Directories.C
 use Rattle.ffs_layout.specs.declared.geometry.Geometry.{Geometry}
 use Rattle.ffs_walk.specs.declared.{blocks.Blocks.Blocks, window.Window.Window}
 use Rattle.ffs_survey.specs.{declared.entry_head.EntryHead.EntryHead, Reading.roled_of}
-use Rattle.ffs_names.specs.{Readings.{rest, gap_left, chunks_in}, Entering.{to_come, last_name, left}}
+use Rattle.ffs_names.specs.{Readings.{IsEnded, rest, gap_left, chunks_in}, Entering.{to_come, last_name, left}}
 use Rattle.ffs_names.specs.{Costs.{reads_for_entries, HoldsEntries}, declared.entries.Entries.Entries}
 
 -- the entries of the current chunk fill it
@@ -26,15 +26,24 @@ pub record HasEnded (b : List ℕ) (r : Entries) : Type 0 where
   pub chunks : rest b r.chunks ≡ []
   pub current : fills r ≡ true
 
+-- a reading gives the entries of the directory with this inode and this cut, and shows its shape, of an
+-- image of these bytes
+pub record GivesDirectory (v : Layout) (b : List ℕ) (inode : Inode) (cut : ℕ) (r : Entries) : Type 0 where
+  pub entries : to_come b r ≡ flat_map roled_chunk (chunks_in v b inode cut)
+  pub shape : has_right_shape b r
+      ≡ (is_right_size inode.size && (are_sound (chunks_in v b inode cut)
+      && not (has_gap (replayed_steps v cut fresh_replay (steps_of v inode b)))))
+
+-- how many Runs of that directory are seen
+abbrev pub runs_of_inode : Layout → List ℕ → Inode → ℕ → ℕ
+runs_of_inode v b inode cut = replayed_runs v cut fresh_replay (steps_of v inode b)
+
 -- a reading of the directory with this inode and this cut begins, before its first chunk. It takes a
 -- read for each Run that is seen, and needs nothing that was read
 pub record BeginsDirectory (v : Layout) (inode : Inode) (cut : ℕ) (r : Entries) : Type 0 where
-  pub entries : (b : List ℕ) → inode.size < 2 ^ 31 → to_come b r ≡ flat_map roled_chunk (chunks_in v b inode cut)
-  pub shape : (b : List ℕ) → inode.size < 2 ^ 31 → has_right_shape b r
-      ≡ (is_right_size inode.size && (are_sound (chunks_in v b inode cut)
-      && not (has_gap (replayed_steps v cut fresh_replay (steps_of v inode b)))))
+  pub gives : (b : List ℕ) → inode.size < 2 ^ 31 → GivesDirectory v b inode cut r
   pub place : r.place ≡ DIRBLKSIZ
-  pub to_read : (b : List ℕ) → reads_for_entries b r ≤ replayed_runs v cut fresh_replay (steps_of v inode b)
+  pub to_read : (b : List ℕ) → reads_for_entries b r ≤ runs_of_inode v b inode cut
   pub held : (blocks : Blocks) (w : Window) → HoldsEntries blocks w r
 
 -- it begins so in a volume of this geometry
@@ -46,6 +55,12 @@ pub record BeginsIn (g : Geometry) (inode : Inode) (cut : ℕ) (r : Entries) : T
 pub record RestartsIn (g : Geometry) (inode : Inode) (class : Class) (cut : ℕ) (r : Entries) : Type 0 where
   pub begins : class ≡ class_of g.layout inode → BeginsDirectory g.layout inode cut r
   pub geometry : r.chunks.walk.geometry ≡ g
+
+-- nothing of the chunks is left to come, in the same volume
+pub record EndsChunks (old new : Entries) : Type 0 where
+  pub ended : IsEnded new.chunks
+  pub only : new.only_chunk ≡ true
+  pub geometry : new.chunks.walk.geometry ≡ old.chunks.walk.geometry
 
 -- no entry comes any more of a reading in a volume of this geometry; it shows no right shape, and
 -- takes no read

@@ -1,14 +1,12 @@
 //! The chunks of a directory.
 
-ghost use Rattle.std.specs.Prelude.{◌≡◌, ◌==◌, ◌&&◌, ◌≤◌, ◌<◌, ◌^◌, true, not, IfOk, IfSome, MatchBool, MatchResult};
+ghost use Rattle.std.specs.Prelude.{◌≡◌, ◌≤◌, ◌<◌, ◌^◌, IfOk, IfSome, MatchResult};
 ghost use Rattle.ffs_image.specs.Device.{ForContents};
-ghost use Rattle.ffs_volume.specs.{Disk.Areas.is_run_in_range, Directories.Entries.bytes_read};
+ghost use Rattle.ffs_volume.specs.Directories.Entries.{bytes_read};
 ghost use Rattle.ffs_volume.specs.declared.Step.TheVariants.{Run};
 ghost use Rattle.ffs_names.specs.{Fits.CursorFits, SeenRuns.RunsAreSeen, Windows.{CanWalkDir, CanReadChunks}};
 ghost use Rattle.ffs_survey.specs.Costs.{TakesReads};
-ghost use Rattle.ffs_walk.specs.Rests.{IsOver};
 
-use crate::gap::end_walk;
 use crate::run_cursor::RunCursor;
 use ffs_image::{Image, ImageFault};
 use ffs_layout::Geometry;
@@ -35,19 +33,15 @@ pub struct Chunks {
     pub runs: u64,
     /// Whether a hole was seen.
     pub gap: bool,
-    /// Whether a chunk that is alone in its Run is read without the window: nothing reads it again.
-    /// Then no step of the walk is left.
-    pub without_window: bool,
     ghost bytes_to_read_small: { bytes_to_read ≤ 2 ^ 31 },
     ghost few: { budget ≤ 2 ^ 22 },
     ghost cursor_fits: { CursorFits walk.geometry.layout run_cursor },
-    ghost no_walk: { without_window ≡ true → IsOver walk },
 }
 
 impl Chunks {
-    ghost use Rattle.ffs_names.specs.Costs.{to_read, BeginsAtChunk, BeginsByClass, BeginsReading, HoldsReading, SeesRun};
+    ghost use Rattle.ffs_names.specs.Costs.{to_read, BeginsByClass, BeginsReading, HoldsReading, SeesRun};
     ghost use Rattle.ffs_names.specs.RunCursors.{last_place, IsGivenChunk, StepsOn};
-    ghost use Rattle.ffs_names.specs.Readings.{all_chunks, rest, CanSee, ContinuesTo, CountsNoMore, FindsNextRun, GivesChunk, IsSame};
+    ghost use Rattle.ffs_names.specs.Readings.{all_chunks, rest, CanSee, ContinuesTo, CountsNoMore, FindsNextRun, GivesChunk, IsEnded, IsSame};
     ghost use Rattle.ffs_names.specs.Leaves.{dir_reading, dir_walk, LeavesChunks, LeavesNext, LeavesWalk};
 
     /// Looks at the Run that comes next in the walk: one of data that is kept whole, and is in
@@ -134,7 +128,7 @@ impl Chunks {
             return Ok(None);
         }
         let run_cursor = self.run_cursor;
-        run_cursor.read_chunk(image, window, self.without_window, chunk)?;
+        run_cursor.read_chunk(image, window, chunk)?;
         self.run_cursor.next += 1;
         Ok(Some(run_cursor.offset + DIRBLKSIZ as u64 * u64::from(run_cursor.next)))
     }
@@ -162,7 +156,6 @@ impl Chunks {
             run_cursor: RunCursor::empty(),
             runs: 0,
             gap: false,
-            without_window: false,
         }
     }
 
@@ -174,7 +167,6 @@ impl Chunks {
     {
         let bytes_to_read = bytes_read(inode.size);
         self.run_cursor = RunCursor::empty();
-        self.without_window = false;
         self.walk.restart(inode, class);
         self.keeping = Keeping::start(cut);
         self.bytes_to_read = bytes_to_read;
@@ -183,27 +175,14 @@ impl Chunks {
         self.gap = false;
     }
 
-    /// Begins a reading of a directory of the same volume that has one chunk, at this address in
-    /// fragments, in place. It needs no walk: the Run of the chunk is the current Run at once. The
-    /// chunk is read without the window. Returns false, and changes nothing, where the address is
-    /// that of a hole or out of range.
-    #[inline(always)]
-    pub fn restart_at(&mut self, address: u32) -> bool
-        ensures begins { MatchBool result
-            (BeginsAtChunk self.old.walk.geometry address self.new) (self.new ≡ self.old) }
-        ensures value { result ≡ (not (address == 0)
-            && is_run_in_range self.old.walk.geometry.layout address 1) }
+    /// Leaves no chunk to come, no step of the walk, and no hole that was seen.
+    pub fn end(&mut self)
+        ensures over { IsEnded self.new }
+        ensures geometry { self.new.walk.geometry ≡ self.old.walk.geometry }
     {
-        if address == 0 || !self.walk.geometry.in_range(address, 1) {
-            return false;
-        }
-        end_walk(&mut self.walk, self.without_window);
-        let bytes = DIRBLKSIZ as u64;
-        self.run_cursor = RunCursor::of_run(&self.walk.geometry, bytes, address, 1, 0);
-        self.bytes_to_read = bytes;
-        (self.budget, self.runs) = (1, 1);
-        (self.gap, self.without_window) = (false, true);
-        true
+        self.walk = Walk::ended(&self.walk.geometry);
+        self.run_cursor = RunCursor::empty();
+        (self.budget, self.gap) = (0, false);
     }
 
     /// Reads the next chunk into `chunk`, and returns its place in the file, in bytes, and None
@@ -278,8 +257,7 @@ fn bytes_read(size: u64) -> u64
 
 /// Does nothing: its contract is the fact that a reading of a directory looks at no more Runs than
 /// the block check sees in it. `Chunks::start` and `Chunks::next` bound its count by the Runs of
-/// the replay, and these are as many. `Chunks::restart_at` counts the only Run of its directory, and
-/// no other is left.
+/// the replay, and these are as many.
 pub fn runs_are_seen()
     ensures { RunsAreSeen }
 {}

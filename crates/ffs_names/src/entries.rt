@@ -1,11 +1,13 @@
 //! The entries of a directory.
 
-ghost use Rattle.std.specs.Prelude.{◌≡◌, ◌+◌, ◌-◌, ◌*◌, ◌/◌, ◌≤◌, ◌^◌, IfOk};
+ghost use Rattle.std.specs.Prelude.{◌≡◌, ◌+◌, ◌-◌, ◌*◌, ◌/◌, ◌≤◌, ◌^◌, true, IfOk, OnOk};
 ghost use Rattle.ffs_image.specs.Device.{ForContents};
 ghost use Rattle.ffs_names.specs.{OneChunk.one_chunk_at as one_chunk, Windows.{CanWalkDir, CanReadChunks}};
 ghost use Rattle.ffs_volume.specs.{Directories.Calm.is_right_size, declared.constants.TheConstants.DIRBLKSIZ};
 ghost use Rattle.ffs_volume.specs.declared.constants.TheConstants.{DIRENT_HEADER};
 ghost use Rattle.ffs_survey.specs.Costs.{TakesReads};
+ghost use Rattle.ffs_names.specs.Readings.{IsEnded};
+ghost use Rattle.ffs_walk.specs.declared.blocks.Blocks.{Blocks};
 ghost use Rattle.ffs_walk.specs.declared.window.Window.{Window};
 
 use crate::chunks::Chunks;
@@ -40,10 +42,14 @@ pub struct Entries {
     pub name_place: usize,
     /// How many bytes that name has.
     pub name_len: usize,
+    /// Whether the directory's only chunk was read when the reading began. `chunks` have nothing
+    /// left then.
+    pub only_chunk: bool,
     ghost in_chunk: { place ≤ DIRBLKSIZ },
     ghost counted: { index ≤ place },
     ghost few: { 64 * chunks.budget + (DIRBLKSIZ - place) / DIRENT_HEADER ≤ 2 ^ 28 },
     ghost name_in_chunk: { name_place + name_len ≤ DIRBLKSIZ },
+    ghost only: { only_chunk ≡ true → IsEnded chunks },
     ghost same_order: { order ≡ chunks.walk.geometry.layout.order },
 }
 
@@ -57,7 +63,8 @@ fn has_right_size(inode: &Inode) -> bool
 impl Entries {
     ghost use Rattle.ffs_names.specs.Costs.{reads_for_entries, HoldsEntries};
     ghost use Rattle.ffs_names.specs.Leaves.{dir_reading, dir_walk, LeavesBlocks, LeavesEntries};
-    ghost use Rattle.ffs_names.specs.Shapes.{has_right_shape, BeginsIn, GivesEntry, HasEnded, HasStopped, RestartsIn, TakesFromChunk};
+    ghost use Rattle.ffs_image.specs.Reads.{ReadAfter};
+    ghost use Rattle.ffs_names.specs.Shapes.{runs_of_inode, has_right_shape, BeginsIn, EndsChunks, GivesDirectory, GivesEntry, HasEnded, HasStopped, RestartsIn, TakesFromChunk};
     ghost use Rattle.ffs_names.specs.Entering.{last_name};
 
     /// A reading of the directory with this inode. `cut` is how many offers it keeps where its
@@ -76,6 +83,7 @@ impl Entries {
             right_so_far: has_right_size(inode),
             name_place: 0,
             name_len: 0,
+            only_chunk: false,
         }
     }
 
@@ -100,21 +108,55 @@ impl Entries {
         self.chunks.restart(inode, class, cut);
         self.first = false;
         self.right_so_far = has_right_size(inode);
+        self.only_chunk = false;
+    }
+
+    /// Leaves nothing of `chunks` to come: the only chunk of a directory is read without them.
+    #[inline(always)]
+    fn end_chunks(&mut self)
+        ensures { EndsChunks self.old self.new }
+    {
+        if !self.only_chunk {
+            self.chunks.end();
+            self.only_chunk = true;
+        }
     }
 
     /// Begins a reading of another directory of the same volume, as `restart` does: of one that has
-    /// one chunk, at this address, and isn't cut.
+    /// one chunk, at this address, and isn't cut. The chunk is read at once, straight to where its
+    /// entries are looked at: the reading needs neither a walk nor a window. A hole, or an address
+    /// out of range, gives no entry.
+    ///
+    /// # Errors
+    /// A read of the image that failed.
     #[inline(always)]
-    pub fn restart_at(&mut self, address: u32)
-        ensures { BeginsIn self.old.chunks.walk.geometry (one_chunk address) 0 self.new }
+    pub fn restart_at<I: Image>(&mut self, image: &mut I, address: u32) -> Result<(), ImageFault>
+        requires { self.old.chunks.walk.geometry.layout.size
+            * self.old.chunks.walk.geometry.layout.fsize ≤ (I.device image.old).size }
+        ensures gives { OnOk result (ForContents (I.device image.old).contents
+            (λ b. GivesDirectory self.old.chunks.walk.geometry.layout b (one_chunk address) 0
+            self.new)) }
+        ensures reads { ForContents (I.device image.old).contents
+            (λ b. TakesReads (I.reads image.old) (I.reads image.new)
+            (runs_of_inode self.old.chunks.walk.geometry.layout b (one_chunk address) 0)
+            (reads_for_entries b self.new)
+            ((blocks : Blocks) (w : Window) → HoldsEntries blocks w self.new) result) }
+        ensures read { ReadAfter (I.device image.old) (I.device image.new) result }
+        ensures geometry { self.new.chunks.walk.geometry ≡ self.old.chunks.walk.geometry }
     {
-        self.place = DIRBLKSIZ;
-        if !self.chunks.restart_at(address) {
+        let geometry = &self.chunks.walk.geometry;
+        if address == 0 || !geometry.in_range(address, 1) {
             self.restart(&one_chunk_at(address), Class::Dir, 0);
-            return;
+            return Ok(());
         }
-        // `index` and `first` are set where the chunk comes.
+        let place = u64::from(address) * u64::from(geometry.layout.fsize);
+        self.end_chunks();
+        image.read_at(place, &mut self.chunk)?;
+        self.place = 0;
+        self.index = 0;
+        self.first = true;
         self.right_so_far = true;
+        Ok(())
     }
 
     /// No entry comes any more.
@@ -179,6 +221,9 @@ impl Entries {
                     self.place = DIRBLKSIZ;
                 }
             }
+            if self.only_chunk {
+                return Ok(None);
+            }
             match self.chunks.next(image, blocks, window, &mut self.chunk)? {
                 None => return Ok(None),
                 Some(offset) => {
@@ -212,6 +257,9 @@ impl Entries {
     {
         if !self.right_so_far {
             return Ok(false);
+        }
+        if self.only_chunk {
+            return Ok(true);
         }
         let gap = gap_of(image, blocks, &mut self.chunks)?;
         Ok(!gap)

@@ -1,7 +1,7 @@
 //! Whether a hole of a directory is kept.
 ghost use Rattle.std.specs.Prelude.{IsTrue};
 ghost use Rattle.ffs_walk.specs.Rests.{IsOver};
-ghost use Rattle.ffs_names.specs.{Windows.CanWalkDir, Leaves.{dir_walk, EndsWalk, LooksForGap}};
+ghost use Rattle.ffs_names.specs.{Windows.CanWalkDir, Leaves.{dir_walk, LooksForGap}};
 
 use crate::chunks::Chunks;
 use ffs_image::{Image, ImageFault};
@@ -16,25 +16,6 @@ fn is_over(walk: &Walk) -> bool
         && !walk.single.is_left()
         && !walk.double.is_left()
         && !walk.triple.is_left()
-}
-
-/// Whether no step is left of the walk of a reading.
-#[inline(always)]
-fn is_walk_over(chunks: &Chunks) -> bool
-    ensures { IsTrue result → IsOver chunks.now.walk }
-{
-    chunks.without_window || is_over(&chunks.walk)
-}
-
-/// Leaves no step of a walk. One that is over already isn't overwritten; `known` says it is over.
-#[inline(always)]
-pub(crate) fn end_walk(walk: &mut Walk, known: bool)
-    requires { IsTrue known → IsOver walk.old }
-    ensures { EndsWalk walk.old walk.new }
-{
-    if !known && !is_over(walk) {
-        *walk = Walk::ended(&walk.geometry);
-    }
 }
 
 /// Walks over the steps that a reading of chunks has left, and returns whether a hole is among all
@@ -70,7 +51,7 @@ pub fn gap_of<I: Image>(
     ensures { LooksForGap (dir_walk I.Image image.old blocks.old chunks.old)
         (dir_walk I.Image image.new blocks.new chunks.new) result }
 {
-    if is_walk_over(chunks) {
+    if is_over(&chunks.walk) {
         return Ok(chunks.gap);
     }
     find_gap(image, blocks, chunks)

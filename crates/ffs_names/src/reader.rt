@@ -104,8 +104,7 @@ impl<I: Image> Directories for DirectoryReader<'_, I> {
         }
         let note = self.notes[dir as usize];
         if let Some(address) = address_in(note) {
-            self.entries.restart_at(address);
-            return Ok(());
+            return self.entries.restart_at(self.image, address);
         }
         let inode = self
             .windows

@@ -78,8 +78,7 @@ impl RunCursor {
     }
 
     /// Reads the next chunk of the Run. The chunks of a Run are read into the window at once,
-    /// unless it holds them. The only chunk of a Run may be read without it (`without_window`), if
-    /// nothing reads the chunk again.
+    /// unless it holds them.
     ///
     /// # Errors
     /// A read of the image that failed.
@@ -88,7 +87,6 @@ impl RunCursor {
         &self,
         image: &mut I,
         window: &mut Window,
-        without_window: bool,
         chunk: &mut [u8; DIRBLKSIZ],
     ) -> Result<(), ImageFault>
         requires { CanReadRun self.now (I.device image.old) window.old }
@@ -97,9 +95,6 @@ impl RunCursor {
         ensures leaves { LeavesRun self.now (run_reading I.Image image.old window.old)
             (run_reading I.Image image.new window.new) result }
     {
-        if without_window && self.count == 1 {
-            return image.read_at(self.place, chunk);
-        }
         window.fill(image, self.place, self.length as usize)?;
         let at = DIRBLKSIZ * self.next as usize;
         chunk.copy_from_slice(&window.bytes()[at..at + DIRBLKSIZ]);

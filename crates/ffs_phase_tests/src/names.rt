@@ -150,35 +150,20 @@ fn same_fragment_twice(rt: HostRuntime) -> Result<(), Fail> {
     Ok(())
 }
 
-/// Whether a reading begins of a directory whose only chunk is at an address, and what it gives
-/// then. Else the reading continues that was begun before: of a directory with the fragment 43.
-fn chunks_at(address: u32, alloc: Global) -> Result<(bool, Vec<(u64, u8, u8)>), Fail> {
+/// The chunks that come of a reading that was begun and then ended.
+fn chunks_ended(alloc: Global) -> Result<Vec<(u64, u8, u8)>, Fail> {
     let geometry = geometry(Order::Little)?;
     let mut image = image_of(Order::Little, &NUMBERS, alloc)?;
     let mut directory = inode(0o40755, 1024);
     directory.addresses[0] = 43;
     let mut chunks = Chunks::start(&geometry, &directory, 0);
-    let begun = chunks.restart_at(address);
-    Ok((begun, chunks_of(&geometry, &mut chunks, &mut image, alloc)?))
+    chunks.end();
+    Ok(chunks_of(&geometry, &mut chunks, &mut image, alloc)?)
 }
 
-/// An address, whether a reading begins there, and the place of each chunk, its first byte and its
-/// last: of a hole, of three fragments, and of one after the end of the volume.
-static ONLY_CHUNKS: [(u32, bool, &[(u64, u8, u8)]); 5] = [
-    (0, false, &[(0, 0, 0), (512, 7, 8)]),
-    (40, true, &[(0, 1, 2)]),
-    (41, true, &[(0, 5, 0)]),
-    (127, true, &[(0, 0, 0)]),
-    (128, false, &[(0, 0, 0), (512, 7, 8)]),
-];
-
 #[test]
-fn only_chunk(rt: HostRuntime) -> Result<(), Fail> {
-    for &(address, begins, chunks) in &ONLY_CHUNKS {
-        let (begun, found) = chunks_at(address, rt.alloc())?;
-        same(&rt, &begun, &begins);
-        same(&rt, &found.as_slice(), &chunks);
-    }
+fn no_chunk_after_end(rt: HostRuntime) -> Result<(), Fail> {
+    same(&rt, &chunks_ended(rt.alloc())?.len(), &0);
     Ok(())
 }
 
@@ -230,7 +215,7 @@ fn entries_at(address: u32, alloc: Global) -> Result<Vec<(u32, u8)>, Fail> {
     let geometry = geometry(Order::Little)?;
     let mut image = image_of(Order::Little, &ENTRY_NUMBERS, alloc)?;
     let mut entries = Entries::none(&geometry);
-    entries.restart_at(address);
+    entries.restart_at(&mut image, address)?;
     Ok(entries_of(&geometry, &mut entries, &mut image, alloc)?)
 }
 

@@ -2,5 +2,5 @@ use Rattle.std.proofs.Common.{arith}
 use Rattle.ffs_names.proofs.Advances.{gap_ended, over_rest}
 use Rattle.ffs_names.proofs.gap.gap_of.Goals as goal
 
-pub returns-then-is_walk_over : goal.returns-then-is_walk_over
-returns-then-is_walk_over g c = grind (arith, gap_ended, over_rest)
+pub returns-then-is_over : goal.returns-then-is_over
+returns-then-is_over g c = grind (arith, gap_ended, over_rest)

@@ -18,7 +18,7 @@ begun : {v : Layout} {b : List ℕ} {w : Workspace} {i : Inode} {cut : ℕ} {r :
     → BeginsDirectory v i cut r → roled_entries (volume_of v b) p ≡ to_come b r
 begun {v = v} {b = b} {i = i} {cut = cut} p sound claims dir inode noted begins =
     let is = dir_is v b p dir in
-    sym (begins.entries b (subst (λ (n : Inode). n.size < 2147483648) (sym inode) (dir_size v (inode_of v b p) is.1))
+    sym ((begins.gives b (subst (λ (n : Inode). n.size < 2147483648) (sym inode) (dir_size v (inode_of v b p) is.1))).entries
     ∙ dir_seen v b p i cut sound is.0 inode (noted ∙ (ap cut_in (claims.notes p) ∙ cut_is_noted v b p sound)))
 
 pub returns-then-names-clause-name : goal.returns-then-names-clause-name

@@ -1,4 +1,4 @@
-use Rattle.std.proofs.Common.{◌≡◌, ◌∙◌, ◌∷◌, ◌++◌, ◌<◌, ℕ, List, Option, Some, None, Result, Ok, inr, replicate, refl, ap, sym}
+use Rattle.std.proofs.Common.{◌≡◌, ◌∙◌, ◌∷◌, ◌++◌, ◌<◌, ℕ, List, Some, inr, replicate, refl, ap, sym}
 use Rattle.std.proofs.{Common.arith, lemmas.{Bool.false≢true, Result.err_from_is_err_and}}
 use Rattle.ffs_volume.specs.declared.Step.{Step, TheVariants.Gap}
 use Rattle.ffs_walk.specs.{Keepings.replay_in, Rests.{most_steps_left, steps_left}}
@@ -8,10 +8,6 @@ use Rattle.ffs_names.proofs.{Advances.{sees_on, walks_on}, Continuing.{can_walk,
 use Rattle.ffs_names.proofs.{Continuing.{no_more, same_here, same_more, walk_on}, ReadCounts.whole_held}
 use Rattle.ffs_names.proofs.chunks.Chunks.advance.Goals as goal
 
--- a walk that is over gives no step, and is over then
-no_step : {T E : Type 0} {r : Result (Option T) E} {o : Option T} {x : T} → r ≡ Ok None → r ≡ Ok o → o ≡ Some x → ⊥
-no_step none was is = grind arith
-
 pub invariant_of-self-in-None : goal.invariant_of-self-in-None
 invariant_of-self-in-None g c = grind arith
 
@@ -20,7 +16,6 @@ invariant_of-self-in-Run-1 g c = let s = c.steps.self in record {
   bytes_to_read_small = s.bytes_to_read_small;
   few = s.few;
   cursor_fits = rw c.next.ensures.same.geometry s.cursor_fits;
-  no_walk = λ on. absurd (no_step (c.next.ensures.over (s.no_walk on)) c.in_ok-next.was c.in-Some-Run.is);
 }
 
 pub invariant_of-self-in-Some-Tail : goal.invariant_of-self-in-Some-Tail
@@ -28,7 +23,6 @@ invariant_of-self-in-Some-Tail g c = let s = c.steps.self in record {
   bytes_to_read_small = s.bytes_to_read_small;
   few = s.few;
   cursor_fits = rw c.next.ensures.same.geometry s.cursor_fits;
-  no_walk = λ on. absurd (no_step (c.next.ensures.over (s.no_walk on)) c.in_ok-next.was c.in-Some-Tail.is);
 }
 
 pub invariant_of-self-in-Some-Gap : goal.invariant_of-self-in-Some-Gap
@@ -36,7 +30,6 @@ invariant_of-self-in-Some-Gap g c = let s = c.steps.self in record {
   bytes_to_read_small = s.bytes_to_read_small;
   few = s.few;
   cursor_fits = rw (c.skip_gaps.ensures.same.geometry ∙ c.next.ensures.same.geometry) s.cursor_fits;
-  no_walk = λ on. absurd (no_step (c.next.ensures.over (s.no_walk on)) c.in_ok-next.was c.in-Some-Gap.is);
 }
 
 pub steps-init : goal.steps-init

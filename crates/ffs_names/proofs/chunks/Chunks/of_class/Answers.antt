@@ -1,4 +1,4 @@
-use Rattle.std.proofs.{Common.{ap, refl, arith}, lemmas.Bool.both_ways}
+use Rattle.std.proofs.Common.{ap, refl, arith}
 use Rattle.ffs_names.proofs.{Begins.begins_at, ReadCounts.begins_reads}
 use Rattle.ffs_names.proofs.chunks.Chunks.of_class.Goals as goal
 
@@ -9,7 +9,6 @@ invariant_of-result c =
       bytes_to_read_small = small;
       few = omega arith;
       cursor_fits = c.empty.ensures.fits c.of_class.result.geometry.layout;
-      no_walk = λ on. absurd (both_ways _ refl on);
     }
 
 pub returns : goal.returns

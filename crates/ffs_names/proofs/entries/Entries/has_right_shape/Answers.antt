@@ -1,5 +1,6 @@
 use Rattle.std.proofs.lemmas.Result.{err_from_is_err_and}
-use Rattle.ffs_names.proofs.EntryCounts.{looks_on}
+use Rattle.std.proofs.Common.{false}
+use Rattle.ffs_names.proofs.{EntryCounts.looks_on, OneChunks.ended_gap, Shaped.shape_at_end}
 use Rattle.ffs_names.proofs.entries.Entries.has_right_shape.Goals as goal
 
 -- a look for holes continues the reads
@@ -15,3 +16,13 @@ returns-clause-reads g c = λ w held b t.
     let took = looks_on b c.args.self.now.right_so_far c.args.self.now.chunks c.gap_of.new.chunks _ _ w w _ _ _
     c.if-not-self.false (λ h. c.in_ok-gap.ensures.leaves.counted w h b t) held in
     record { most = took.most; paid = took.paid; held = took.held }
+
+-- the only chunk was read, and there is no hole
+pub returns-then-self-clause-shape : goal.returns-then-self-clause-shape
+returns-then-self-clause-shape g c = λ b t ended.
+    let r = c.args.self.now in
+    shape_at_end b r false c.if-not-self.false ended (ended_gap b r.chunks (r.only c.if-self.true))
+
+pub returns-clause-shape : goal.returns-clause-shape
+returns-clause-shape g c = λ b t ended.
+    shape_at_end b c.args.self.now _ c.if-not-self.false ended (c.in_ok-gap.ensures.gap b t)

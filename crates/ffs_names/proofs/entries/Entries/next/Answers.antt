@@ -1,4 +1,5 @@
-use Rattle.std.proofs.{Common.{◌≡◌, ◌∙◌, ◌+◌, ◌≤◌, ℕ, List, Some, ap, sym, arith}, lemmas.Bool.and_parts}
+use Rattle.std.proofs.{Common.{◌≡◌, ◌∙◌, ◌+◌, ◌≤◌, ◌==◌, ◌&&◌, ℕ, List, Some, ap, refl, sym, arith}, lemmas.Bool.and_parts}
+use Rattle.ffs_names.proofs.OneChunks.{ended_held, ended_reads, ended_rest}
 use Rattle.std.proofs.lemmas.Result.{err_from_is_err_and}
 use Rattle.ffs_names.specs.{Costs.{HoldsEntries, reads_for_entries}, Entering.to_come, Readings.rest}
 use Rattle.ffs_names.proofs.{Entered.{chunk_came, none_came}, EntryCounts.{HoldsBy, continues_by_chunks, reads_by}}
@@ -21,6 +22,31 @@ returns-in-Some-clause-entry g c = λ b t. let same = c.take.ensures.same in rec
   shape = shape_same b _ _ _ _ _ _ same.right_so_far same.fills same.chunks ∙ c.chunks.invariant.shape b t;
   ended = tt;
 }
+
+-- the only chunk has no further entry
+pub returns-then-self-clause-entry : goal.returns-then-self-clause-entry
+returns-then-self-clause-entry g c = λ b t.
+    let i = c.chunks.invariant in
+    let s = c.take.new.self in
+    let same = c.take.ensures.same in
+    let over = c.in-None.ensures.taken in
+    let none = over.left in
+    let rest = ended_rest b s.chunks (s.only c.if-self.true) in
+    record {
+      entries = sym (i.entries b t) ∙ (sym (ap (to_come b) over.same) ∙ none_came s.first
+          s.index s.order s.chunk s.place _ none rest);
+      shape = shape_ended s.right_so_far s.order s.chunk s.chunk s.place _ _ _ _ none rest rest refl
+          ∙ (shape_same b _ _ _ _ _ _ same.right_so_far same.fills same.chunks ∙ i.shape b t);
+      ended = record { chunks = rest; current = fills_whole s.order s.chunk };
+    }
+
+pub returns-then-self-clause-reads : goal.returns-then-self-clause-reads
+returns-then-self-clause-reads g c = λ held b t.
+    let s = c.take.new.self in
+    let now = taken g (goal.at.returns-then-self-clause-reads g c).After-take held b t in
+    let ended = s.only c.if-self.true in
+    let none = ended_reads b (s.right_so_far && (s.place == 512)) s.chunks ended in
+    record { most = omega (arith, now.0); paid = omega (arith, now.0, none); held = ended_held _ s.chunks ended _ _ }
 
 -- no chunk came
 pub returns-in-None-2-clause-entry : goal.returns-in-None-2-clause-entry

@@ -1,16 +1,8 @@
-use Rattle.std.proofs.Common.{◌≡◌, ◌+◌, ◌-◌, ◌*◌, arith, length}
+use Rattle.std.proofs.Common.{◌≡◌, ◌+◌, ◌-◌, ◌*◌, arith}
 use Rattle.ffs_workspace.proofs.TablePlaces.{piece_of}
 use Rattle.ffs_names.proofs.run_cursor.RunCursor.read_chunk.Goals as goal
 
--- the only chunk of the Run
-pub returns-then-self-eq1-clause-chunk : goal.returns-then-self-eq1-clause-chunk
-returns-then-self-eq1-clause-chunk g c =
-    let h = c.args.self.now in
-    let long : length c.read_at.new.buf ≡ 512 = omega arith in
-    let first : h.place ≡ h.place + 512 * h.next = omega (arith, c.if-self-eq1.true) in
-    rw (long, first) at c.read_at.ensures.bytes.bytes
-
--- or one of those that the window holds
+-- it is one of those that the window holds
 pub returns-clause-chunk : goal.returns-clause-chunk
 returns-clause-chunk g c = λ b t.
     let h = c.args.self.now in
