@@ -6,9 +6,9 @@ use Rattle.ffs_volume.specs.{declared.{Inode.Inode, Layout.Layout}, Find.Owner.k
 use Rattle.ffs_report.specs.{Known.{ForBytes, IsContents}, Sink.Sink, PhaseOutcome.ImageAfter}
 use Rattle.ffs_report.specs.declared.fault.RunFault.{RunFault, TheVariants.{Read, Out}}
 use Rattle.ffs_walk.specs.{Windows.KeepsBlocks, declared.blocks.Blocks.Blocks}
-use Rattle.ffs_workspace.specs.{Found.WithPhase1, Ready.IsReady}
+use Rattle.ffs_workspace.specs.{Found.WithPhase1, Ready.{CanRead, KeepsWindows}}
 use Rattle.ffs_volume.specs.{Blocks.Inodes.inodes_of, Encodings.Notes.{cut_in, note_at}}
-use Rattle.ffs_workspace.specs.{Ready.StaysReady, declared.workspace.{Windows.Windows, Workspace.Workspace}}
+use Rattle.ffs_workspace.specs.declared.workspace.{Windows.Windows, Workspace.Workspace}
 use Rattle.ffs_check.specs.Moment.{Moment}
 use Rattle.ffs_finding.{specs.{Keepers.{LooksAtInode, WalksKept, sought_in}, Outcome.PrintsLines}, proofs.Owners.listed_inode}
 use Rattle.ffs_finding.proofs.{Owners.inode_runs, Printing.knowing}
@@ -41,20 +41,20 @@ image_kept d d' (Ok x) h = (ap (λ z. z.contents) h, ap (λ z. z.size) h)
 image_kept d d' (Err (Read fault)) h = (h.contents, h.size)
 image_kept d d' (Err (Out fault)) h = (ap (λ z. z.contents) h, ap (λ z. z.size) h)
 
--- a workspace is ready after a walk
-ready_after : {v : Layout} {w : Workspace} {b : Blocks} (d d' : Device) → d'.contents ≡ d.contents → d'.size ≡ d.size →
-    KeepsBlocks v d'.contents w.windows.blocks b → IsReady v d w →
-    IsReady v d' (record w { windows = record w.windows { blocks = b } })
-ready_after d d' e size kept r = grind arith
+-- the windows hold what the image gives after a walk
+can_read_after : {v : Layout} {w : Workspace} {b : Blocks} (d d' : Device) → d'.contents ≡ d.contents → d'.size ≡ d.size →
+    KeepsBlocks v d'.contents w.windows.blocks b → CanRead v d w →
+    CanRead v d' (record w { windows = record w.windows { blocks = b } })
+can_read_after d d' e size kept r = grind arith
 
--- a walk leaves a workspace ready
+-- a walk keeps the windows
 pub stays_from : {T : Type 0} {v : Layout} {w : Workspace} {windows : Windows} {b : Blocks} (d d' : Device)
-    (r : Result T RunFault) → ImageAfter d d' r → IsReady v d (record w { windows = windows }) →
+    (r : Result T RunFault) → ImageAfter d d' r → CanRead v d (record w { windows = windows }) →
     KeepsBlocks v d'.contents windows.blocks b →
-    StaysReady v d' w (record w { windows = record windows { blocks = b } })
-stays_from d d' r image ready kept =
+    KeepsWindows v d' w (record w { windows = record windows { blocks = b } })
+stays_from d d' r image can kept =
     let same = image_kept d d' r image in
-    record { held = refl; ready = ready_after d d' same.0 same.1 kept ready }
+    record { held = refl; can_read = can_read_after d d' same.0 same.1 kept can }
 
 -- an inode was read before, as the image gives it
 pub looks_from : {T : Type 0} {v : Layout} {f x cut count now count' : ℕ} {old new : Sink}
@@ -77,7 +77,7 @@ looks_from {old = old} {new = new} {r = r} i w d d1 d' e h few is p =
 
 -- the lines of an inode that was looked at, in a workspace of which only windows have changed
 pub found_lines : {T : Type 0} {v : Layout} {f x : ℕ} {m m' : Moment} {d0 on : Device} {w w0 : Workspace}
-    {r : Result T RunFault} → m.image ≡ d0 → StaysReady v on w0 w → IsAcceptedLayout v → 2 ≤ x →
+    {r : Result T RunFault} → m.image ≡ d0 → KeepsWindows v on w0 w → IsAcceptedLayout v → 2 ≤ x →
     x < inodes_of v → LooksAtInode v (sought_in f x w) m m' r →
     PrintsLines (WithPhase1 v d0 w0) (λ b. keeper_lines_of_inode v b f x) m.out m'.out r
 found_lines {v = v} {f = f} {x = x} {m = m} {m' = m'} {d0 = d0} {w = w} {w0 = w0} {r = r} e stays g low high p =
@@ -90,7 +90,7 @@ found_lines {v = v} {f = f} {x = x} {m = m} {m' = m'} {d0 = d0} {w = w} {w0 = w0
 
 -- and its reads
 pub found_reads : {T : Type 0} {v : Layout} {f x : ℕ} {m m' : Moment} {d0 on : Device} {w w0 : Workspace}
-    {r : Result T RunFault} → m.image ≡ d0 → StaysReady v on w0 w → IsAcceptedLayout v → 2 ≤ x →
+    {r : Result T RunFault} → m.image ≡ d0 → KeepsWindows v on w0 w → IsAcceptedLayout v → 2 ≤ x →
     x < inodes_of v → LooksAtInode v (sought_in f x w) m m' r →
     ForBytes (WithPhase1 v d0 w0) (λ b. m'.reads + (claims_before v b x).runs
     ≤ m.reads + 1 + (claims_before v b (x + 1)).runs)
@@ -100,9 +100,9 @@ found_reads {v = v} {x = x} {w = w} e stays g low high p = λ b k.
     omega (arith, runs, p.reads b (ap (λ (z : Device). z.contents) e ∙ k.0))
 
 -- only windows have changed
-pub stays_then : {v : Layout} {on on' : Device} {u w w' : Workspace} → StaysReady v on u w → StaysReady v on' w w' →
-    StaysReady v on' u w'
+pub stays_then : {v : Layout} {on on' : Device} {u w w' : Workspace} → KeepsWindows v on u w → KeepsWindows v on' w w' →
+    KeepsWindows v on' u w'
 stays_then {w' = w'} p q = record {
   held = q.held ∙ ap (λ (z : Workspace). record z { windows = w'.windows }) p.held;
-  ready = q.ready;
+  can_read = q.can_read;
 }

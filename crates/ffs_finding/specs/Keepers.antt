@@ -11,7 +11,7 @@ use Rattle.ffs_image.specs.Device.{Device}
 use Rattle.ffs_report.specs.{Known.{ForBytes, IsContents}, declared.fault.RunFault.RunFault}
 use Rattle.ffs_walk.specs.{Keepings.{replay_in, run_taken}, Windows.WindowHolds, declared.keeping.Keeping.Keeping}
 use Rattle.ffs_walk.specs.declared.window.Window.{Window}
-use Rattle.ffs_workspace.specs.{Found.WithPhase1, Ready.IsReady, declared.workspace.Workspace.Workspace}
+use Rattle.ffs_workspace.specs.{Found.WithPhase1, Ready.CanRead, declared.workspace.Workspace.Workspace}
 use Rattle.ffs_check.specs.Moment.{Moment}
 use Rattle.ffs_finding.specs.{Outcome.Finds, declared.owner.Sought.Sought}
 
@@ -78,7 +78,7 @@ pub record WalksKept {T : Type 0} (v : Layout) (s : Sought) (inode : Inode) (old
 
 -- the inode x can be looked at
 pub record CanLookAtInode (v : Layout) (d : Device) (w : Workspace) (x : ℕ) : Type 0 where
-  pub ready : IsReady v d w
+  pub ready : CanRead v d w
   pub number : x < inodes_of v
 
 -- the fragment f and the inode x, with its cut as it is noted

@@ -206,6 +206,7 @@ pub fn find_lost<I: Image, W: Output>(
         (moment I.Image W.Output image.new out.new) result }
     ensures reads { I.reads image.new ≤ I.reads image.old + 2 * geometry.now.layout.ncg }
 {
+    workspace.forget_windows();
     let Workspace { used, windows, .. } = workspace;
     let window = &mut windows.current;
     let lost = find_wrong(image, geometry, used, window, Wrong::Lost, out)?;

@@ -6,7 +6,7 @@ ghost use Rattle.ffs_volume.specs.Find.Owner.{indirect_in, keeper_text, keeper_l
 ghost use Rattle.ffs_volume.specs.{Find.Owner.{part_text, reserved_text, table_text}, Encodings.Notes.cut_in};
 ghost use Rattle.ffs_report.specs.{Known.IsContents, Sink.Prints};
 ghost use Rattle.ffs_walk.specs.{Keepings.replay_in, Windows.{CanWalk, KeepsBlocks}};
-ghost use Rattle.ffs_workspace.specs.{Found.WithPhase1, Ready.{IsReady, StaysReady}};
+ghost use Rattle.ffs_workspace.specs.{Found.WithPhase1, Ready.{CanRead, IsReady, KeepsWindows}};
 ghost use Rattle.ffs_check.specs.Moment.{moment};
 ghost use Rattle.ffs_claims.specs.Rescan.{ReplaysStep};
 ghost use Rattle.ffs_finding.specs.{Outcome.Finds, Keepers.{CanLookAtInode, CanPrintMap, CanPrintStep, CanReadMap}};
@@ -261,7 +261,7 @@ fn print_keeper<I: Image, W: Output>(
     ensures looks { LooksAtInode geometry.now.layout (sought_in fragment number workspace.old)
         (moment I.Image W.Output image.old out.old) (moment I.Image W.Output image.new out.new)
         result }
-    ensures stays { StaysReady geometry.now.layout (I.device image.new) workspace.old
+    ensures stays { KeepsWindows geometry.now.layout (I.device image.new) workspace.old
         workspace.new }
 {
     let windows = &mut workspace.windows;
@@ -292,7 +292,7 @@ fn print_keepers<I: Image, W: Output>(
     fragment: u32,
     out: &mut W,
 ) -> Result<(), RunFault>
-    requires { IsReady geometry.now.layout (I.device image.old) workspace.old }
+    requires { CanRead geometry.now.layout (I.device image.old) workspace.old }
     ensures { LooksAtAll geometry.now.layout fragment workspace.old
         (moment I.Image W.Output image.old out.old) (moment I.Image W.Output image.new out.new)
         result }
@@ -315,7 +315,7 @@ fn find_keepers<I: Image, W: Output>(
     fragment: u32,
     out: &mut W,
 ) -> Result<(), RunFault>
-    requires { IsReady geometry.now.layout (I.device image.old) workspace.old }
+    requires { CanRead geometry.now.layout (I.device image.old) workspace.old }
     ensures prints { Finds (WithPhase1 geometry.now.layout (I.device image.old) workspace.old)
         (λ bytes. keeper_lines geometry.now.layout bytes fragment)
         (moment I.Image W.Output image.old out.old) (moment I.Image W.Output image.new out.new)
@@ -361,6 +361,7 @@ pub fn find_owner<I: Image, W: Output>(
         print_reserved(out, geometry, fragment)?;
         return Ok(());
     }
+    workspace.forget_windows();
     if workspace.used.get(fragment) {
         return find_keepers(image, geometry, workspace, fragment, out);
     }

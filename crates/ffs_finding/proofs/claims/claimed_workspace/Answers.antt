@@ -7,7 +7,6 @@ phase1-requires g c = record {
   ready = record {
     made = c.in_ok-workspace.ensures.new.made;
     volume = c.requires;
-    windows = c.in_ok-workspace.ensures.new.windows _;
   };
 }
 

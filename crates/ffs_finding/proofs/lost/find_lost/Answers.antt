@@ -1,11 +1,22 @@
-use Rattle.std.proofs.lemmas.Result.{err_from_is_err_and}
+use Rattle.std.proofs.{Common.ap, lemmas.Result.err_from_is_err_and}
+use Rattle.ffs_workspace.specs.declared.workspace.Workspace.{Workspace}
 use Rattle.ffs_finding.proofs.LostParts.{fault_in_first, fault_in_second, printed_both}
 use Rattle.ffs_finding.proofs.lost.find_lost.Goals as goal
+
+pub find_wrong-requires : goal.find_wrong-requires
+find_wrong-requires g c =
+    let can = c.forget_windows.ensures.forgets c.args.geometry.now.layout _ c.requires.ready in
+    record {
+      volume = c.requires.ready.volume;
+      size = can.ready.made.used;
+      window = record { room = can.ready.made.current; holds = can.windows.current };
+    }
 
 pub returns-in_err-lost-clause-prints : goal.returns-in_err-lost-clause-prints
 returns-in_err-lost-clause-prints g c =
     let p = err_from_is_err_and c.from_residual.result c.from_residual.ensures.1 in
-    let e = c.in_err-lost.ensures.prints.lines.found in
+    let used = ap (λ (w : Workspace). w.used) c.forget_windows.ensures.only in
+    let e = rw used at c.in_err-lost.ensures.prints.lines.found in
     rw (p.1, p.2) (record {
       found = record {
         image = e.image;
@@ -18,8 +29,9 @@ returns-in_err-lost-clause-prints g c =
 pub returns-in_err-free-clause-prints : goal.returns-in_err-free-clause-prints
 returns-in_err-free-clause-prints g c =
     let p = err_from_is_err_and c.from_residual-in_err-free.result c.from_residual-in_err-free.ensures.1 in
-    let one = c.in_ok-lost.ensures.prints.lines.found in
-    let two = rw (one.image) at c.in_err-free.ensures.prints.lines.found in
+    let used = ap (λ (w : Workspace). w.used) c.forget_windows.ensures.only in
+    let one = rw used at c.in_ok-lost.ensures.prints.lines.found in
+    let two = rw (one.image, used) at c.in_err-free.ensures.prints.lines.found in
     rw (p.1, p.2) (record {
       found = record {
         image = two.image;
@@ -32,8 +44,9 @@ returns-in_err-free-clause-prints g c =
 pub returns-clause-prints : goal.returns-clause-prints
 returns-clause-prints g c =
     let d = g.I.Image.device c.args.image.now in
-    let one = c.in_ok-lost.ensures.prints.lines in
-    let two = rw (one.found.image) at c.in_ok-free.ensures.prints.lines in
+    let used = ap (λ (w : Workspace). w.used) c.forget_windows.ensures.only in
+    let one = rw used at c.in_ok-lost.ensures.prints.lines in
+    let two = rw (one.found.image, used) at c.in_ok-free.ensures.prints.lines in
     let all = printed_both c.args.geometry.now.layout d c.args.workspace.now _ _ _ c.in_ok-lost.lost c.in_ok-free.free
     one.found.text one.any two.found.text two.any in
     record { found = record { image = two.found.image; text = all.printed }; any = all.any_is }

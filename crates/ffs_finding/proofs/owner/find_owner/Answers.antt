@@ -1,4 +1,4 @@
-use Rattle.std.proofs.Common.{◌≡◌, ◌∙◌, ℕ, ◌<◌, ◌≤◌, Bool, true, false, List, [], ◌∷◌, nat_lt, arith, refl, sym, ap}
+use Rattle.std.proofs.Common.{◌≡◌, ◌∙◌, ℕ, ◌<◌, ◌≤◌, Bool, true, false, List, [], ◌∷◌, nat_lt, arith, refl, sym, ap, rules}
 use Rattle.std.proofs.lemmas.{Bool.Decides.nat_tests, Result.err_from_is_err_and}
 use Rattle.ffs_image.specs.Device.{Device}
 use Rattle.ffs_volume.specs.{Blocks.Claims.is_set, Disk.Areas.is_reserved, Laws.Geometry.IsAcceptedLayout}
@@ -6,7 +6,7 @@ use Rattle.ffs_volume.specs.{declared.Layout.Layout, Find.Owner.{keeper_lines, o
 use Rattle.ffs_volume.specs.Find.Owner.{reserved_text}
 use Rattle.ffs_maps.specs.Bits.{bits_of}
 use Rattle.ffs_report.specs.Known.{ForBytes}
-use Rattle.ffs_workspace.specs.{Found.WithPhase1, declared.workspace.Workspace.Workspace}
+use Rattle.ffs_workspace.{proofs.Leaving.phase1_held, specs.{Found.WithPhase1, declared.workspace.Workspace.Workspace}}
 use Rattle.ffs_finding.{specs.Keepers.map_lines, proofs.{Claimed.{claimed_is, has_line}, Keepers.same_lines}}
 use Rattle.ffs_finding.proofs.Printing.{knowing, one, one_broken, prints_all, prints_none, stops_all}
 use Rattle.ffs_finding.proofs.owner.find_owner.Goals as goal
@@ -61,21 +61,32 @@ returns-then-reserved-clause-prints g c = record {
       (sym c.reserved.ensures ∙ c.if-reserved.true)) (one c.in_ok-print_reserved.ensures);
 }
 
+pub find_keepers-requires : goal.find_keepers-requires
+find_keepers-requires g c = c.forget_windows.ensures.forgets c.args.geometry.now.layout _ c.requires.ready
+
+pub print_unclaimed-requires : goal.print_unclaimed-requires
+print_unclaimed-requires g c =
+    let can = c.forget_windows.ensures.forgets c.args.geometry.now.layout _ c.requires.ready in
+    search (rules, arith)
+
 pub returns-then-get-clause-prints : goal.returns-then-get-clause-prints
 returns-then-get-clause-prints g c =
     let v = c.args.geometry.now.layout in
     let f = c.args.fragment in
     let d = g.I.Image.device c.args.image.now in
     let free = sym c.reserved.ensures ∙ c.if-reserved.false in
+    let forgot = c.forget_windows.ensures.only in
     let some = claimed_lines v d c.args.workspace.now f c.get.result c.args.geometry.now.sound (omega arith) free
-    c.get.ensures in
+    (c.get.ensures ∙ ap (λ (w : Workspace). is_set (bits_of w.used) f) forgot) in
     let did = c.find_keepers.ensures.prints in
     record {
       image = did.image;
       text = same_lines (WithPhase1 v d c.args.workspace.now) (λ b. keeper_lines v b f)
           (λ b. lines_of_fragment v b f) _ _ _
           (λ b k. sym (others v b f (omega arith) free ∙ first_ones (keeper_lines v b f) (map_lines v b f)
-          (sym (some b k) ∙ c.if-get.true))) did.text;
+          (sym (some b k) ∙ c.if-get.true)))
+          (knowing _ _ (WithPhase1 v d c.args.workspace.now) _ _ _ _
+          (λ b k. (k.0, phase1_held v b c.args.workspace.now _ forgot k.1)) did.text);
     }
 
 pub returns-clause-prints : goal.returns-clause-prints
@@ -84,8 +95,9 @@ returns-clause-prints g c =
     let f = c.args.fragment in
     let d = g.I.Image.device c.args.image.now in
     let free = sym c.reserved.ensures ∙ c.if-reserved.false in
+    let forgot = c.forget_windows.ensures.only in
     let some = claimed_lines v d c.args.workspace.now f c.get.result c.args.geometry.now.sound (omega arith) free
-    c.get.ensures in
+    (c.get.ensures ∙ ap (λ (w : Workspace). is_set (bits_of w.used) f) forgot) in
     let did = c.print_unclaimed.ensures.prints in
     record {
       image = did.image;

@@ -1,5 +1,5 @@
 use Rattle.std.proofs.{Common.{arith, ap, refl}, lemmas.Result.err_from_is_err_and}
-use Rattle.ffs_workspace.proofs.Readiness.{ready_table}
+use Rattle.ffs_workspace.proofs.Readiness.{can_read_table}
 use Rattle.ffs_finding.proofs.{Printing.reads_first, Keepers.{looks_from, stays_from}}
 use Rattle.ffs_finding.proofs.owner.print_keeper.Goals as goal
 
@@ -16,7 +16,7 @@ returns-in_err-inode-clause-stays g c =
     let err = c.in_err-inode.ensures.reads.read in
     record {
       held = refl;
-      ready = ready_table c.args.geometry.now.layout (g.I.Image.device c.args.image.now)
+      can_read = can_read_table c.args.geometry.now.layout (g.I.Image.device c.args.image.now)
           (g.I.Image.device c.inode.new.image) c.args.workspace.now c.inode.new.self err.contents err.size
           c.inode.ensures.reads.kept c.requires.ready;
     }
@@ -30,7 +30,7 @@ returns-clause-looks g c =
 pub returns-clause-stays : goal.returns-clause-stays
 returns-clause-stays g c =
     let ok = c.in_ok-inode.ensures.reads.read in
-    let ready = ready_table c.args.geometry.now.layout (g.I.Image.device c.args.image.now)
+    let ready = can_read_table c.args.geometry.now.layout (g.I.Image.device c.args.image.now)
     (g.I.Image.device c.inode.new.image) c.args.workspace.now c.inode.new.self (ap (λ d. d.contents) ok)
     (ap (λ d. d.size) ok) c.inode.ensures.reads.kept c.requires.ready in
     stays_from (g.I.Image.device c.inode.new.image) (g.I.Image.device c.print_kept.new.image) c.print_kept.result

@@ -13,7 +13,7 @@ use Rattle.ffs_finding.proofs.owner.print_keepers.Goals as goal
 pub loop-number-init : goal.loop-number-init
 loop-number-init g c = record {
   device = refl;
-  stays = record { held = refl; ready = c.requires };
+  stays = record { held = refl; can_read = c.requires };
   low = omega arith;
   high = λ h. omega arith;
   paid = λ b k. omega arith;

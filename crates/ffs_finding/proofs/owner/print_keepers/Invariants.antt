@@ -1,7 +1,7 @@
 use Rattle.std.proofs.Common.{◌≡◌, ◌+◌, ◌-◌, ◌<◌, ◌≤◌}
 use Rattle.ffs_volume.specs.{Blocks.{KeptSteps.claims_before, Inodes.inodes_of}, Find.Owner.keeper_lines}
 use Rattle.ffs_report.specs.Known.{ForBytes}
-use Rattle.ffs_workspace.specs.{Found.WithPhase1, Ready.StaysReady}
+use Rattle.ffs_workspace.specs.{Found.WithPhase1, Ready.KeepsWindows}
 use Rattle.ffs_finding.{specs.Outcome.PrintedTo, proofs.Owners.keepers_from}
 use Rattle.ffs_finding.proofs.owner.print_keepers.Given as goal
 
@@ -12,7 +12,7 @@ invariant-loop-number g l =
     let knows = WithPhase1 v d l.fn.workspace in
     record {
       device : g.I.Image.device l.image ≡ d;
-      stays : StaysReady v (g.I.Image.device l.image) l.fn.workspace l.workspace;
+      stays : KeepsWindows v (g.I.Image.device l.image) l.fn.workspace l.workspace;
       low : 2 ≤ l.number;
       high : 2 < l.number → l.number ≤ inodes_of v;
       paid : ForBytes knows (λ b. g.I.Image.reads l.image
