@@ -66,7 +66,8 @@ pub fn phase2<I: Image, W: Output>(
     ensures paid { Paid line_reads (progress W.sink report.old) (progress W.sink report.new)
         (I.reads image.old + 4 * sweep_reads geometry.now.layout) (I.reads image.new) result }
 
-    // What the block check left stays, also where a read or a write failed.
+    // What the block check left stays, also where a read or a write failed, but for the counts of
+    // references.
     ensures block_check { LeavesBlockCheck workspace.old workspace.new }
     ensures ready { IsReady geometry.now.layout (I.device image.new) workspace.new }
 {
