@@ -132,11 +132,11 @@ impl Workspace {
             flags,
         } = flag_lists(memory, inodes)?;
         let references = memory.long_numbers(inodes)?;
-        let NumberLists {
+        let WordLists {
             notes,
             parents,
             queue,
-        } = number_lists(memory, inodes)?;
+        } = word_lists(memory, inodes)?;
         let windows = Windows::in_memory(memory, geometry)?;
         Ok(Workspace {
             used,
@@ -277,13 +277,13 @@ fn flag_lists<M: Memory>(memory: &mut M, n: usize) -> Result<FlagLists, AllocErr
 
 /// The lists with a number of 32 bits for each inode.
 #[derive(Drop)]
-struct NumberLists {
+struct WordLists {
     notes: FilledList<u32>,
     parents: FilledList<u32>,
     queue: FilledList<u32>,
 }
 
-fn number_lists<M: Memory>(memory: &mut M, n: usize) -> Result<NumberLists, AllocError>
+fn word_lists<M: Memory>(memory: &mut M, n: usize) -> Result<WordLists, AllocError>
     ensures { MakesInMemory (M.account memory.old) (M.account memory.new) (12 * n) result
         (λ lists. IsFilled n 0 lists.notes × IsFilled n 0 lists.parents
         × IsFilled n 0 lists.queue) }
@@ -291,7 +291,7 @@ fn number_lists<M: Memory>(memory: &mut M, n: usize) -> Result<NumberLists, Allo
     let notes = memory.numbers(n)?;
     let parents = memory.numbers(n)?;
     let queue = memory.numbers(n)?;
-    Ok(NumberLists {
+    Ok(WordLists {
         notes,
         parents,
         queue,
