@@ -34,7 +34,8 @@
 //! ```
 //!
 //! `run` is what the program runs. `check_rest`, `path_of`, `Chunks` with `runs`, and the fields of a
-//! `Geometry` by their names exist for callers of the library.
+//! `Geometry` by their names exist for callers of the library. Before `path_of` after the phases,
+//! `workspace.forget_windows()` lets go of what they have read.
 #![tactic(auto)]
 
 // Images: bytes at a place, or a fault with its sector.

@@ -37,6 +37,7 @@ fn run_phases<I: Image, W: Output>(
     summary(superblock, workspace, report)?;
     let mut path = PathText::new();
     if ROOT < geometry.layout.ncg * geometry.layout.ipg {
+        workspace.forget_windows();
         path_of(geometry, image, workspace, ROOT, Some(b"a"), &mut path)?;
     }
     Ok(path)

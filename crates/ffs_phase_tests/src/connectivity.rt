@@ -1,7 +1,7 @@
 //! What is reported of a volume with directories that are cut off.
 
-ghost use Rattle.std.specs.Prelude.{◌≡◌, ℕ, List, Option, IfOk};
-ghost use Rattle.ffs_workspace.specs.{Lengths.{IsFor, HoldWindows}, Ready.IsReady};
+ghost use Rattle.std.specs.Prelude.{◌≡◌, IfOk};
+ghost use Rattle.ffs_workspace.specs.{Lengths.IsFor, Ready.IsReady};
 ghost use Rattle.ffs_volume.specs.Blocks.Inodes.{inodes_of};
 
 use crate::compare::same;
@@ -19,8 +19,6 @@ use std::test::Fail;
 fn surveyed(alloc: Global, geometry: &Geometry) -> Result<Workspace, AllocError>
     requires { inodes_of geometry.now.layout ≡ 32 }
     ensures made { IfOk result (λ w. IsFor geometry.now.layout w) }
-    ensures windows { (contents : Option (List ℕ))
-        → IfOk result (λ w. HoldWindows geometry.now.layout contents w) }
 {
     let mut workspace = Workspace::new(alloc, geometry)?;
     set_first(&mut workspace.kinds, &[0, 0, 4, 4, 5, 4, 4, 4, 4]);

@@ -1,8 +1,8 @@
 //! The reference check, the group check and the summary of small volumes, as a reader would work
 //! them out by hand.
 
-ghost use Rattle.std.specs.Prelude.{◌≡◌, ℕ, List, Option, IfOk, length};
-ghost use Rattle.ffs_workspace.specs.{Lengths.{IsFor, HoldWindows}, Ready.IsReady};
+ghost use Rattle.std.specs.Prelude.{◌≡◌, IfOk, length};
+ghost use Rattle.ffs_workspace.specs.{Lengths.IsFor, Ready.IsReady};
 ghost use Rattle.ffs_volume.specs.Blocks.Inodes.{inodes_of};
 
 use crate::compare::same;
@@ -26,8 +26,6 @@ static REFERENCES: [u64; 8] = [0, 0, 32766 + 2, 32767, 32769, 32767 + 2, 32769, 
 fn referred(alloc: Global, geometry: &Geometry) -> Result<Workspace, AllocError>
     requires { inodes_of geometry.now.layout ≡ 32 }
     ensures made { IfOk result (λ w. IsFor geometry.now.layout w) }
-    ensures windows { (contents : Option (List ℕ))
-        → IfOk result (λ w. HoldWindows geometry.now.layout contents w) }
 {
     let mut workspace = Workspace::new(alloc, geometry)?;
     set_first(&mut workspace.kinds, &[0, 0, 4, 8, 8, 8, 5, 8]);
@@ -61,6 +59,7 @@ fn printed<I: Image>(
     alloc: Global,
 ) -> Result<Vec<u8>, RunFault>
     requires { IsReady geometry.now.layout (I.device image.old) workspace.old }
+    ensures { IsFor geometry.now.layout workspace.new }
 {
     let mut text = Vec::new(alloc);
     let mut out = Counted::new(&mut text);
@@ -87,6 +86,51 @@ fn reference_check(rt: HostRuntime) -> Result<(), Fail> {
         &text.as_slice(),
         &b"** Phase 4 - Check Reference Counts\nUNREF FILE I=3 OWNER=0 MODE=100644\nSIZE=0 MTIME=0\nRECONNECT? no\n\nCLEAR? no\n\nUNREF FILE I=4 OWNER=0 MODE=100644\nSIZE=0 MTIME=0\nCLEAR? no\n\nLINK COUNT FILE I=5 OWNER=0 MODE=100600\nSIZE=0 MTIME=0\nCOUNT=1 SHOULD BE 2\nADJUST? no\n\nZERO LENGTH DIR I=6 OWNER=0 MODE=40700\nSIZE=0 MTIME=0\nCLEAR? no\n\nBAD/DUP FILE I=7 OWNER=0 MODE=100644\nSIZE=0 MTIME=0\nCLEAR? no\n\n".as_slice(),
     );
+    Ok(())
+}
+
+/// Inodes 2 to 7 of another volume of the same layout: each is a file of 512 bytes with a link.
+static OTHERS: [Number; 18] = [
+    (28928, 2, 0o100644),
+    (28930, 2, 1),
+    (28936, 8, 512),
+    (29056, 2, 0o100644),
+    (29058, 2, 1),
+    (29064, 8, 512),
+    (29184, 2, 0o100644),
+    (29186, 2, 1),
+    (29192, 8, 512),
+    (29312, 2, 0o100644),
+    (29314, 2, 1),
+    (29320, 8, 512),
+    (29440, 2, 0o100644),
+    (29442, 2, 1),
+    (29448, 8, 512),
+    (29568, 2, 0o100644),
+    (29570, 2, 1),
+    (29576, 8, 512),
+];
+
+/// What the reference check prints of these inodes, in a workspace by which it has read the others.
+fn reported_after(alloc: Global) -> Result<Vec<u8>, Fail> {
+    let geometry = geometry(Order::Big)?;
+    let mut others = image_of(Order::Big, &OTHERS, alloc)?;
+    let mut image = image_of(Order::Big, &INODES, alloc)?;
+    let mut workspace = referred(alloc, &geometry)?;
+    let before = printed(&geometry, &mut others, &mut workspace, alloc);
+    let text = printed(&geometry, &mut image, &mut workspace, alloc);
+    drop(workspace);
+    before?;
+    Ok(text?)
+}
+
+/// A phase reads the image that it is given: the windows that another image was read into don't
+/// count.
+#[test]
+fn another_image(rt: HostRuntime) -> Result<(), Fail> {
+    let after = reported_after(rt.alloc())?;
+    let alone = reported(rt.alloc())?;
+    same(&rt, &after.as_slice(), &alone.as_slice());
     Ok(())
 }
 

@@ -1,8 +1,8 @@
 //! Where parent entries are in the image: that of a directory in the only chunk of the root, and
 //! that of one in the second chunk of another directory.
 
-ghost use Rattle.std.specs.Prelude.{◌≡◌, ℕ, List, Option, IfOk};
-ghost use Rattle.ffs_workspace.specs.Lengths.{IsFor, HoldWindows};
+ghost use Rattle.std.specs.Prelude.{◌≡◌, IfOk};
+ghost use Rattle.ffs_workspace.specs.Lengths.{IsFor};
 ghost use Rattle.ffs_volume.specs.Blocks.Inodes.{inodes_of};
 
 use crate::compare::same;
@@ -19,8 +19,6 @@ use std::test::Fail;
 fn surveyed(alloc: Global, geometry: &Geometry) -> Result<Workspace, AllocError>
     requires { inodes_of geometry.now.layout ≡ 32 }
     ensures made { IfOk result (λ w. IsFor geometry.now.layout w) }
-    ensures windows { (contents : Option (List ℕ))
-        → IfOk result (λ w. HoldWindows geometry.now.layout contents w) }
 {
     let mut workspace = Workspace::new(alloc, geometry)?;
     let mut root = inode(0o40755, 512);
@@ -77,6 +75,7 @@ fn noted(alloc: Global) -> Result<([Option<u32>; 4], bool), Fail> {
     let geometry = geometry(Order::Little)?;
     let mut image = image_of(Order::Little, &NUMBERS, alloc)?;
     let mut workspace = surveyed(alloc, &geometry)?;
+    workspace.forget_windows();
     let read = note_places(&geometry, &mut image, &mut workspace);
     let found = noted_in(&workspace.queue);
     drop(workspace);

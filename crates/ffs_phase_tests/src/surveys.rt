@@ -67,6 +67,7 @@ fn check_twice<I: Image, W: Output>(
     if geometry.layout.ncg * geometry.layout.ipg <= 3 {
         return Ok(());
     }
+    workspace.forget_windows();
     path_of(geometry, image, workspace, 3, None, path)?;
     phase4(geometry, image, workspace, report)?;
     survey(geometry, image, workspace)?;

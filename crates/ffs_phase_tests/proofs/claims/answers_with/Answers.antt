@@ -5,5 +5,4 @@ pub answers_of_phases-requires : goal.answers_of_phases-requires
 answers_of_phases-requires c = record {
   made = c.in_ok-workspace.ensures.new.made;
   volume = search (rules, arith);
-  windows = c.in_ok-workspace.ensures.new.windows _;
 }

@@ -4,5 +4,4 @@ pub printed-text-requires : goal.printed-text-requires
 printed-text-requires g c = record {
   made = c.in_ok-workspace.ensures.new.made;
   volume = c.requires;
-  windows = c.in_ok-workspace.ensures.new.windows _;
 }

@@ -5,5 +5,4 @@ pub printed-found-requires : goal.printed-found-requires
 printed-found-requires c = record {
   made = c.in_ok-workspace.ensures.made;
   volume = search (rules, arith);
-  windows = c.in_ok-workspace.ensures.windows _;
 }

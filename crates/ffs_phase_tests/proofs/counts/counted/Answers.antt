@@ -5,5 +5,4 @@ pub groups_printed-text-requires : goal.groups_printed-text-requires
 groups_printed-text-requires c = record {
   made = c.in_ok-workspace.ensures.new.made;
   volume = search (rules, arith);
-  windows = c.in_ok-workspace.ensures.new.windows _;
 }

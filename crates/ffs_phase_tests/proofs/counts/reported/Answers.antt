@@ -5,5 +5,4 @@ pub printed-text-requires : goal.printed-text-requires
 printed-text-requires c = record {
   made = c.in_ok-workspace.ensures.made;
   volume = search (rules, arith);
-  windows = c.in_ok-workspace.ensures.windows _;
 }
