@@ -2,15 +2,15 @@
 //! root alone.
 
 ghost use Rattle.std.specs.Prelude.{◌≡◌, ◌*◌, ◌≤◌, ℕ, List, Option, IfOk};
-ghost use Rattle.ffs_walk.specs.Windows.{BlocksHold, HasRoom};
+ghost use Rattle.ffs_walk.specs.Windows.{BlocksHold, CanWalk, HasRoom};
 
 use crate::check::{REPORT, volume, volume_bytes};
 use crate::compare::same;
 use ffs::{
     Blocks, Chunks, Class, Counted, FixedList, FuseWriter, Geometry, Group, GroupSummary, Image,
-    Inode, Line, Memory, MemoryImage, MutedWriter, OpenFault, Opener, Order, Report, Role, Step,
-    SystemMemory, Walk, Window, Workspace, class_of, decode_inode, entry_at, read_super, role_of,
-    run_over,
+    ImageFault, Inode, Line, Memory, MemoryImage, MutedWriter, OpenFault, Opener, Order, Report,
+    Role, Step, SystemMemory, Walk, Window, Workspace, class_of, decode_inode, entry_at,
+    read_super, role_of, run_over,
 };
 use ffs_samples::{ORDERS, Stop, geometry, image_of, inode};
 use std::alloc::{AllocError, Global};
@@ -169,14 +169,13 @@ fn steps_of<I: Image>(
     geometry: &Geometry,
     inode: &Inode,
     image: &mut I,
-    alloc: Global,
-) -> Result<[Option<Step>; 2], Stop>
-    requires { geometry.now.layout.size * geometry.now.layout.fsize ≤ (I.device image.old).size }
+    blocks: &mut Blocks,
+) -> Result<[Option<Step>; 2], ImageFault>
+    requires { CanWalk geometry.now.layout (I.device image.old) blocks.old }
 {
-    let mut blocks = empty_blocks(geometry, alloc)?;
     let mut walk = Walk::start(geometry, inode);
-    let first = walk.next(image, &mut blocks)?;
-    let second = walk.next(image, &mut blocks)?;
+    let first = walk.next(image, blocks)?;
+    let second = walk.next(image, blocks)?;
     Ok([first, second])
 }
 
@@ -212,7 +211,10 @@ fn root() -> Inode {
 fn root_steps(order: Order, alloc: Global) -> Result<[Option<Step>; 2], Fail> {
     let geometry = geometry(order)?;
     let mut image = image_of(order, &[], alloc)?;
-    Ok(steps_of(&geometry, &root(), &mut image, alloc)?)
+    let mut blocks = empty_blocks(&geometry, alloc)?;
+    let found = steps_of(&geometry, &root(), &mut image, &mut blocks);
+    drop(blocks);
+    Ok(found?)
 }
 
 /// The root's first chunk, whose first byte is 7.
