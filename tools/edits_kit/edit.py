@@ -82,9 +82,17 @@ class Edit:
         self.goals = goals.get(self.folder, [])
         # It is tried at its goal alone, by the answer that its function has of that goal, or else by the search.
         has_marks = "#[tactic" in self.text[self.item.end() : self.end]
-        answered = self.goal in self.answered()
-        self.at_goal = bool(self.goal and answered and not has_marks)
-        self.at_search = bool(self.goal and not answered and {self.goal, self.goal.partition("-clause-")[0]} & {*self.goals})
+        self.at_goal = bool(self.goal in self.answered() and not has_marks)
+        self.at_search = bool(self.goal and self.can_search(self.goal))
+
+    def can_search(self, goal):
+        """Whether its function has this goal, or goals that the edit may rename to it, and the search proves it there."""
+        answered = self.answered()
+        return bool(self.goals) and goal not in answered and (not answered or self.has_goal(goal))
+
+    def has_goal(self, goal):
+        """Whether its function has this goal, or it is a clause of one."""
+        return bool({goal, goal.partition("-clause-")[0]} & {*self.goals})
 
     def answered(self):
         """The goals that its function's proof answers."""

@@ -93,6 +93,9 @@ class Trial:
     def try_unchanged(self):
         """Tries each copy with its edit left out of it: it must be proved, or its goal."""
         edits = [it for it in self.edits if it.copied]
+        for edit in edits:
+            # A goal that only its edit makes isn't there.
+            edit.at_search = edit.at_search and edit.has_goal(edit.goal)
         said = self.room.round(edits, unchanged=True)
         told = dict(VERDICT.findall(said))
         for edit in edits:
@@ -113,8 +116,7 @@ class Trial:
             self.record(edits[len(edits) // 2 :], by_answers)
             return
         for edit in edits:
-            is_known = lambda it: it not in edit.answered() and {it, it.partition("-clause-")[0]} & {*edit.goals}
-            edit.goal = goal_of(edit, said) if by_answers else next(filter(is_known, left_open(edit, said)), None)
+            edit.goal = goal_of(edit, said) if by_answers else next(filter(edit.can_search, left_open(edit, said)), None)
 
     def try_rounds(self, pending):
         """Tries edits until each is refused, or is to be tried alone."""
