@@ -139,9 +139,10 @@ class Room:
         edited = set().union(*(it.names for it in edits if not it.copied))
         closed = self.closed & edited
         self.open(closed)
-        # Where each is a copy nothing is masked, so none has to say more than which goals are open.
+        # Where each is a copy nothing is masked, so none has to say more than which goals are open. Nor has one that is tried at a goal.
+        are_copies = all(it.copied for it in edits)
         for edit in edits:
-            edit.stops = bool(edit.goals) and not edit.at_goal and not unchanged and all(it.copied for it in edits)
+            edit.stops = bool(edit.goals) and not edit.at_goal and not unchanged and (edit.at_search or are_copies)
         folders = [self.copy_proof(it) for it in edits if it.copied and it.folder]
         files = self.write(edits, unchanged)
         changed = sorted(name.partition("::")[2] for it in edits for name in it.names)
