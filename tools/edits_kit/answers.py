@@ -1,4 +1,4 @@
-"""The proof of a copy that is tried at one goal: the answer of that goal alone."""
+"""The proof of a copy that is tried at one goal: the answer of that goal alone, or the search alone that proves it."""
 import importlib.machinery
 import importlib.util
 import os
@@ -7,6 +7,8 @@ import re
 from .sources import HOME
 
 NAME = re.compile(r"^(?:(?:pub|abbrev|unfoldable|record|data|ruleset) )*(\S+) :", re.M)
+# An answer that antt refuses. Rattle then doesn't print what to write for the goals that are open, which takes as long as a proof.
+STOP = "\nends_here : Unit\nends_here = ends_here.refused\n"
 TACTIC = re.compile(r"^ *#\[tactic\((?P<words>[^\]]*)\)\]\n", re.M)
 
 
@@ -56,6 +58,14 @@ def answer_alone(text, goal):
         cites = lambda name: re.search(rf"(?<![\w-]){re.escape(name)}(?![\w-])", items[one])
         left |= {name for name in items if name not in kept and cites(name)}
     return "\n\n".join([*imports, *(text for name, text in items.items() if name in kept)]) + "\n"
+
+
+def search_alone(goals, goal, answered):
+    """A file of answers with a hole for each other goal than this one, which is left to the search. Where one of a goal's clauses has an answer of
+    its own, each of them is a goal, and none of the whole."""
+    whole = {name.partition("-clause-")[0] for name in {goal, *answered} if "-clause-" in name}
+    holes = [name for name in dict.fromkeys([*goals, *sorted(answered)]) if name != goal and name not in whole]
+    return "".join(f"\npub {name} : goal.{name}\n{name} = ?\n" for name in holes)
 
 
 def lines_of(text):

@@ -2,7 +2,7 @@
 import os
 import re
 
-from .answers import TACTIC, answer_alone, goals_in, read, unpacked
+from .answers import STOP, TACTIC, answer_alone, goals_in, read, search_alone, unpacked
 from .sources import HOME, constant_at, end_of, function_at, is_function, is_method, item_at, one_place, replaced, start_of, users_of
 
 
@@ -33,8 +33,11 @@ class Edit:
         self.crate, self.path = crate, path
         self.label = f"{crate}/{os.path.basename(path)}"
         self.masked, self.names, self.copied, self.folder = False, set(), None, None
-        # Whether it is tried by the answer of its goal alone, or where it has none by its function's answers alone.
-        self.at_goal = False
+        # Whether it is tried by the answer of its goal alone, or where it has none by its function's answers alone; and whether by the search of
+        # its goal alone.
+        self.at_goal = self.at_search = False
+        # The goals of its function; whether one of its answers is refused in any case; and at which lines of its file the copy stands.
+        self.goals, self.stops, self.lines = [], False, range(0)
         with open(path, encoding="utf-8") as it:
             self.file, pairs, self.goal = parts_of(it.read())
         with open(f"{HOME}/crates/{crate}/{self.file}", encoding="utf-8") as it:
@@ -68,16 +71,32 @@ class Edit:
         is_method = kind is not None and not of_trait
         return is_inside and (is_method or not item["pad"]) and "#[cycle" not in self.text[self.start : item.start()]
 
-    def copy_as(self, name, proofs):
-        """Has it tried by a copy with this name. The proofs are the places of the crate's proofs below its folder of them."""
+    def copy_as(self, name, proofs, goals):
+        """Has it tried by a copy with this name. The proofs are the places of the crate's proofs below its folder of them, and the goals those of
+        each function by such a place."""
         self.copied, self.names = name, {f"{self.crate}::{name}"}
         (function,) = self.functions
-        named = {it: "::".join([self.crate, *it]) for it in proofs}
+        named = {it: "::".join([self.crate, *it]) for it in [*proofs, *goals]}
         found = [it for it in named if is_function(named[it], function)] or [it for it in named if is_method(named[it], function)]
         self.folder = found[0] if found else None
-        # It is tried at its goal alone, where its function has an answer of that goal.
+        self.goals = goals.get(self.folder, [])
+        # It is tried at its goal alone, by the answer that its function has of that goal, or else by the search.
         has_marks = "#[tactic" in self.text[self.item.end() : self.end]
-        self.at_goal = bool(self.goal and found and not has_marks and self.goal in goals_in(self.proof("Answers.antt")))
+        self.at_goal = bool(self.goal in self.answered() and not has_marks)
+        self.at_search = bool(self.goal and self.can_search(self.goal))
+
+    def can_search(self, goal):
+        """Whether its function has this goal, or goals that the edit may rename to it, and the search proves it there."""
+        answered = self.answered()
+        return bool(self.goals) and goal not in answered and (not answered or self.has_goal(goal))
+
+    def has_goal(self, goal):
+        """Whether its function has this goal, or it is a clause of one."""
+        return bool({goal, goal.partition("-clause-")[0]} & {*self.goals})
+
+    def answered(self):
+        """The goals that its function's proof answers."""
+        return goals_in(self.proof("Answers.antt")) if self.folder else set()
 
     def proof(self, file):
         """A file of the proof of its function."""
@@ -88,7 +107,14 @@ class Edit:
         # What a proof names of its own function: its goals, and what they are given.
         own = re.compile(rf"\.proofs\.{re.escape('.'.join(self.folder))}\.(?=(?:Goals|Given|Invariants|Answers)\b)")
         text = own.sub(f".proofs.{'.'.join(self.place())}.", unpacked(self.proof(file), self.crate))
-        return answer_alone(text, self.goal) if self.at_goal and self.goal and file == "Answers.antt" else text
+        if file != "Answers.antt":
+            return text
+        if self.at_search:
+            text = f"use Rattle.{self.crate}.proofs.{'.'.join(self.place())}.Goals as goal\n"
+            text += search_alone(self.goals, self.goal, self.answered())
+        if self.at_goal:
+            return answer_alone(text, self.goal) if self.goal else text
+        return text + STOP if self.stops else text
 
     def place(self):
         """Where the proof of its copy is, below the crate's folder of proofs."""

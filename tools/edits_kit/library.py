@@ -1,4 +1,5 @@
 """What a built crate's library and sources say of its functions."""
+import json
 import os
 import re
 
@@ -23,6 +24,24 @@ def proofs_of(crate):
     """The places of the functions' proofs below the crate's folder of them."""
     top = f"{crate.folder}/proofs"
     return [tuple(os.path.relpath(at, top).split("/")) for at, _, names in sorted(os.walk(top)) if {*PROOF_FILES} & {*names}]
+
+
+def goals_of(crate):
+    """The goals of each function by the place of its proof, as the crate's library lists what its proofs are made of; none where it doesn't."""
+    found = {}
+    try:
+        with open(f"{crate.rlib}/lang/antt/made.json", encoding="utf-8") as it:
+            lines = it.read().split("\n")
+        # A name stands above what is said of it.
+        for name, made in zip(lines, lines[1:]):
+            place = re.fullmatch(r'"proofs/(\S+)/Proof"', name)
+            if place and made.startswith('{"MadeProof"'):
+                form = json.loads(made)["MadeProof"]["form"]
+                needs = form["Tied"]["needs"] if "Tied" in form else []
+                found[tuple(place[1].split("/"))] = [it["named"] for it in needs if it["named"] and not it.get("asks_nothing")]
+    except (OSError, ValueError, KeyError, TypeError):
+        return {}
+    return found
 
 
 def written_functions(crate):

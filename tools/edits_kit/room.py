@@ -75,8 +75,12 @@ class Room:
             here = [it for it in edits if it.file == file]
             copies = [(it.end, "", f"\n\n{it.copied_text(unchanged)}") for it in here if it.copied]
             places = [place for it in here if not it.copied for place in it.places]
+            text = replaced(text, copies + places)
+            for edit, copy in zip([it for it in here if it.copied], copies):
+                first = text.count("\n", 0, text.index(copy[2])) + 3
+                edit.lines = range(first, first + copy[2].count("\n") - 1)
             with open(f"{self.folder}/{file}", "w", encoding="utf-8") as it:
-                it.write(replaced(text, copies + places))
+                it.write(text)
         return {*files}
 
     def restore(self, files):
@@ -135,10 +139,15 @@ class Room:
         edited = set().union(*(it.names for it in edits if not it.copied))
         closed = self.closed & edited
         self.open(closed)
+        # Where each is a copy nothing is masked, so none has to say more than which goals are open. Nor has one that is tried at a goal.
+        are_copies = all(it.copied for it in edits)
+        for edit in edits:
+            edit.stops = bool(edit.goals) and not edit.at_goal and not unchanged and (edit.at_search or are_copies)
         folders = [self.copy_proof(it) for it in edits if it.copied and it.folder]
         files = self.write(edits, unchanged)
         changed = sorted(name.partition("::")[2] for it in edits for name in it.names)
-        said = self.run(*(["--allow-holes"] if self.closed else []), *(word for name in dict.fromkeys(changed) for word in ("--only", name)))
+        holes = ["--allow-holes"] if self.closed or any(it.at_search for it in edits) else []
+        said = self.run(*holes, *(word for name in dict.fromkeys(changed) for word in ("--only", name)))
         self.restore(files)
         for folder in folders:
             shutil.rmtree(folder)

@@ -5,10 +5,10 @@ import tempfile
 import time
 
 from .edit import BadEdit, Edit
-from .library import functions_of, is_built, proofs_of, without_second_names, written_functions
+from .library import functions_of, goals_of, is_built, proofs_of, without_second_names, written_functions
 from .room import Clock, OutOfTime, Room
 from .sources import HOME
-from .verdicts import VERDICT, alone, goal_of, is_proved_at_goal, judge, refused_at_goal, rest_of
+from .verdicts import VERDICT, alone, goal_of, is_proved_at_goal, judge, left_open, refused_at_goal, refused_at_search, rest_of
 
 
 def pick(pending):
@@ -60,18 +60,21 @@ class Trial:
             if known is None:
                 self.done += [(False, f"{it.label}: not tried, since the crate isn't proved") for it in self.edits]
                 return self.room.checks
-            proofs = proofs_of(self.crate)
+            proofs, goals = proofs_of(self.crate), goals_of(self.crate)
             for number, edit in enumerate(self.edits, 1):
                 if edit.can_be_copied():
-                    edit.copy_as(f"{edit.item['name']}_edit{number}", proofs)
+                    edit.copy_as(f"{edit.item['name']}_edit{number}", proofs, goals)
             if self.words.unchanged:
                 self.try_unchanged()
             elif self.words.record:
                 tried = [it for it in self.edits if it.copied and it.folder]
-                self.record(tried)
                 for edit in self.edits:
-                    if edit.goal and edit not in tried:
-                        edit.record(None)
+                    edit.goal = None
+                self.record([it for it in tried if it.answered()], True)
+                self.record([it for it in tried if not it.goal], False)
+                for edit in self.edits:
+                    edit.record(edit.goal)
+                    self.done.append((bool(edit.goal), f"{edit.label}: {edit.goal or 'no goal to name'}"))
             else:
                 self.try_rounds([it for it in self.edits if it.copied or it.find(known)])
             return self.room.checks
@@ -90,6 +93,9 @@ class Trial:
     def try_unchanged(self):
         """Tries each copy with its edit left out of it: it must be proved, or its goal."""
         edits = [it for it in self.edits if it.copied]
+        for edit in edits:
+            # A goal that only its edit makes isn't there.
+            edit.at_search = edit.at_search and edit.has_goal(edit.goal)
         said = self.room.round(edits, unchanged=True)
         told = dict(VERDICT.findall(said))
         for edit in edits:
@@ -97,22 +103,20 @@ class Trial:
             is_proved = rest.startswith(("proved", "no holes", "depends on a hole"))
             if edit.at_goal:
                 is_proved = is_proved_at_goal(edit, said, told)
-            self.done.append((is_proved, f"{edit.label}: unchanged, {edit.copied}{f', at {edit.goal}' * edit.at_goal}: {rest[:150]}"))
+            self.done.append((is_proved, f"{edit.label}: unchanged, {edit.copied}{f', at {edit.goal}' * (edit.at_goal or edit.at_search)}: {rest[:150]}"))
 
-    def record(self, edits):
-        """Writes into these edits at which goals with answers they are refused: with all answers and no search."""
+    def record(self, edits, by_answers):
+        """Finds at which goals these edits are refused: with all answers and no search, or by a search that their functions need too."""
         for edit in edits:
-            edit.goal, edit.at_goal = None, True
+            edit.at_goal, edit.at_search = by_answers, False
         said = self.room.round(edits) if edits else ""
         # Where an edit doesn't compile nothing is said of any.
         if len(edits) > 1 and not VERDICT.search(said):
-            self.record(edits[: len(edits) // 2])
-            self.record(edits[len(edits) // 2 :])
+            self.record(edits[: len(edits) // 2], by_answers)
+            self.record(edits[len(edits) // 2 :], by_answers)
             return
         for edit in edits:
-            goal = goal_of(edit, said)
-            edit.record(goal)
-            self.done.append((bool(goal), f"{edit.label}: {goal or 'no goal with an answer refuses it'}"))
+            edit.goal = goal_of(edit, said) if by_answers else next(filter(edit.can_search, left_open(edit, said)), None)
 
     def try_rounds(self, pending):
         """Tries edits until each is refused, or is to be tried alone."""
@@ -135,11 +139,11 @@ class Trial:
         """Takes what a round says of an edit. Whether that settles it, but for a try alone."""
         if edit.copied:
             edit.names = {it for it in told if it.endswith(f"::{edit.copied}")} or edit.names
-        if edit.at_goal:
-            why = refused_at_goal(edit, said, told)
+        if edit.at_goal or edit.at_search:
+            why = (refused_at_goal if edit.at_goal else refused_at_search)(edit, said, told)
             self.done += [(True, f"{edit.label}: refused at {edit.goal}: {why}")] if why else []
             # Where that goal doesn't refuse it, all are tried.
-            edit.at_goal = False
+            edit.at_goal = edit.at_search = False
             return bool(why)
         refused, line = judge(edit, said, told)
         if refused is None and not edit.masked and len(chosen) > 1:

@@ -7,6 +7,8 @@ VERDICT = re.compile(r"^fn (\S+): (.*)$", re.M)
 CALLS = re.compile(r"it calls `([^`]+)`, which is not proved")
 PLACE = re.compile(r"(note: )?(\./)?(src|proofs)/\S+:\d+:\d+:")
 NAMED_AWAY = re.compile(r"^(\./)?proofs/.*(has no field|is not in scope|has no `)")
+STOPPED = re.compile(r".*: error: `ends_here`: ")
+OPEN = re.compile(r"^note: (?:\./)?(?P<file>src/\S+?):(?P<line>\d+):\d+: it is not proved .*\(`(?P<goal>[^`]+)`\)")
 ERROR = re.compile(r"^(?:\./)?proofs/(?P<path>\S+)/(?P<file>[^/\s]*):(?P<line>\d+):\d+: error")
 LEFT = re.compile(r"`#\[tactic\(none\)\]` leaves (.*)")
 NOT_CHECKED = re.compile(r"rejected, were not checked: (.*)")
@@ -25,13 +27,22 @@ def alone(edit, said):
     return False, f"{edit.label}: BAD EDIT: it doesn't reach the prover: {last[:300]}"
 
 
-def refusal(name, said, told):
+def left_open(edit, said):
+    """The goals of an edit's copy that the search leaves open."""
+    notes = [found for it in said.split("\n") if (found := OPEN.match(it))]
+    return [it["goal"] for it in notes if it["file"] == edit.file and int(it["line"]) in edit.lines]
+
+
+def refusal(edit, name, said, told):
     """Why a function's own goals are refused; None where they are not, or where nothing is said of them."""
     rest = told.get(name, "")
     if not rest.startswith(("not proved", "no proof")):
         return None
     path = name.split("::")[1:]
+    if edit.stops and left_open(edit, said):
+        rest = f"`search` did not prove `{'`, `'.join(left_open(edit, said))}`"
     errors = [it for it in said.split("\n") if ": error" in it and re.match(rf"(\./)?proofs/{re.escape('/'.join(path))}/[^/]*:\d", it)]
+    errors = [it for it in errors if not (edit.stops and STOPPED.match(it))]
     if errors:
         little = all(map(NAMED_AWAY.match, errors)) and "did not prove" not in rest
         return ("only by a proof that names what it took away: " if little else "") + errors[0][:140]
@@ -40,7 +51,7 @@ def refusal(name, said, told):
 
 def judge(edit, said, told):
     """What a round says of an edit: True and the line where it is refused, None where it is masked, else False."""
-    why = {name: refusal(name, said, told) for name in edit.names}
+    why = {name: refusal(edit, name, said, told) for name in edit.names}
     refused = {name: it for name, it in why.items() if it}
     if refused and (edit.is_of_constants or len(refused) == len(why)):
         name = sorted(refused)[0]
@@ -66,6 +77,12 @@ def refused_at_goal(edit, said, told):
     is_answer = all((found := ERROR.match(it))["file"] == "Answers.antt" and int(found["line"]) in answered for it in errors)
     is_refused = errors and is_answer and rest_of(edit, told).startswith("not proved") and not any(map(NAMED_AWAY.match, errors))
     return errors[0][:140] if is_refused else None
+
+
+def refused_at_search(edit, said, told):
+    """Why the goal that an edit names is refused, which has no answer; None where it isn't, or where it isn't there."""
+    is_refused = edit.goal in left_open(edit, said) and rest_of(edit, told).startswith(("not proved", "no proof"))
+    return f"`search` did not prove `{edit.goal}`" if is_refused else None
 
 
 def is_proved_at_goal(edit, said, told):
