@@ -103,7 +103,8 @@ class Trial:
             is_proved = rest.startswith(("proved", "no holes", "depends on a hole"))
             if edit.at_goal:
                 is_proved = is_proved_at_goal(edit, said, told)
-            self.done.append((is_proved, f"{edit.label}: unchanged, {edit.copied}{f', at {edit.goal}' * (edit.at_goal or edit.at_search)}: {rest[:150]}"))
+            at = f", at {edit.goal}" if edit.at_goal or edit.at_search else ""
+            self.done.append((is_proved, f"{edit.label}: unchanged, {edit.copied}{at}: {rest[:150]}"))
 
     def record(self, edits, by_answers):
         """Finds at which goals these edits are refused: with all answers and no search, or by a search that their functions need too."""
