@@ -175,6 +175,9 @@ pub fn directory_path<I: Image>(
 /// Writes the path of a directory, or of the entry `name` of it: the names from the root down, and
 /// `?` in place of what is not reached or has no room in 1,024 bytes.
 ///
+/// The windows hold what this image gives: after a phase, `Workspace::forget_windows` is called
+/// first.
+///
 /// # Errors
 /// A read of the image that failed.
 pub fn path_of<I: Image>(
