@@ -12,7 +12,7 @@ use Rattle.ffs_claims.specs.{Leaves.{SameFound, ClaimsOnly, Stored, OffersOnly},
 use Rattle.ffs_claims.specs.Reporting.{OffersReportedOnly}
 
 pub found_none : (w : Workspace) → SameFound w w
-found_none w = record { kinds = refl; marked = refl; notes = refl; references = refl; told = refl; again = refl }
+found_none w = record { kinds = refl; marked = refl; notes = refl; references = refl; dups = refl; again = refl }
 
 pub found_then : {u v w : Workspace} → SameFound u v → SameFound v w → SameFound u w
 found_then p q = grind arith

@@ -25,7 +25,7 @@ pub record SameFound (old new : Workspace) : Type 0 where
   pub marked : new.marked ≡ old.marked
   pub notes : new.notes ≡ old.notes
   pub references : new.references ≡ old.references
-  pub told : new.found_dups ≡ old.found_dups
+  pub dups : new.found_dups ≡ old.found_dups
   pub again : new.runs_again ≡ old.runs_again
 
 -- what claiming leaves: the lists have their lengths, and the windows and what was found are as they were

@@ -60,7 +60,7 @@ returns-clause-claims g c =
         walk = did.left.walk;
         bound = did.left.bound;
         runs_claim = did.left.runs_claim;
-        told = did.left.told;
+        dups = did.left.dups;
         again = did.left.again;
         counted = omega (arith, did.left.counted, c.in_ok-inode.ensures.counted);
       };
