@@ -84,6 +84,8 @@ pub fn phase3<I: Image, W: Output>(
         (λ bytes. messages.phase3 ∷ map of_tree
         (connectivity_lines (volume_of geometry.now.layout bytes))) (progress W.sink report.old)
         (progress W.sink report.new) result }
+    ensures leaves { LeavesSurvey workspace.old workspace.new }
+
     // Known bytes are read at most once for each of their lines, and any image once for each message
     // that was begun.
     ensures reads { ForBytes (WithSurvey geometry.now.layout (I.device image.old) workspace.old)
@@ -91,7 +93,6 @@ pub fn phase3<I: Image, W: Output>(
         (connectivity_lines (volume_of geometry.now.layout bytes))) }
     ensures paid { Paid 1 (progress W.sink report.old) (progress W.sink report.new)
         (I.reads image.old) (I.reads image.new) result }
-    ensures leaves { LeavesSurvey workspace.old workspace.new }
     ensures ready { IsReady geometry.now.layout (I.device image.new) workspace.new }
 {
     workspace.forget_windows();

@@ -1,5 +1,5 @@
 -- What the contracts of phases 4 and 5 and of the summary cite, in the order to read it. The clauses of `phase4` and
--- `phase5` are those of each phase (PhaseReports of ffs_report, StaysReady of ffs_workspace); that of `summary` is
+-- `phase5` are those of each phase (PhaseReports of ffs_report, IsReady of ffs_workspace); that of `summary` is
 -- SaysSummary (`Summary`). The files are of the functions below them:
 --
 -- Phase 4: `Ready` is what the check of references needs, and which inodes it passes over; `References` is what is

@@ -1,14 +1,15 @@
 //! Phase 4: how often inodes are referred to.
 
 ghost use Rattle.std.specs.Prelude.{◌≡◌, ◌<◌, ◌≤◌, ◌+◌, ◌∷◌, false, map, length};
-ghost use Rattle.ffs_volume.specs.Messages.Kinds.{of_tree, phase4 as phase4_heading};
+ghost use Rattle.ffs_volume.specs.Messages.Kinds.{of_tree};
 ghost use Rattle.ffs_volume.specs.Directories.{ReferenceCheck.{reference_lines, reference_lines_at}, Volumes.volume_of};
 ghost use Rattle.ffs_report.specs.{Known.ForBytes, Paid.Paid, PhaseOutcome.{ImageAfter, PhaseReports}, Progress.progress};
-ghost use Rattle.ffs_workspace.specs.{Found.WithFindings, Ready.{IsReady, KeepsWindows, StaysReady}};
+ghost use Rattle.ffs_workspace.specs.{Found.WithFindings, Ready.{IsReady, KeepsWindows}};
 ghost use Rattle.ffs_counts.specs.{Ready.{CanCheckAllocated, HasElements, AreUnallocated, AreUnallocatedFrom}, References.is_dead_by};
 ghost use Rattle.ffs_counts.specs.References.{is_right_by};
+ghost use Rattle.ffs_volume.specs.Messages.Kinds as messages;
 
-use crate::reference::{line_for, references_by, say_line};
+use crate::reference::{line_for, references_by, say_if_any};
 use ffs_image::Image;
 use ffs_layout::Geometry;
 use ffs_report::{Heading, Line, Output, Report, RunFault};
@@ -102,11 +103,11 @@ fn report_references<I: Image, W: Output>(
     let dead = is_dead(workspace, number);
     let marked = workspace.marked[index];
     let kind = workspace.kinds[index];
-    let count = workspace.references[index];
+    let counted = workspace.references[index];
     let inode = workspace.windows.table.inode(geometry, number, image)?;
-    let references = references_by(count, &inode);
+    let references = references_by(counted, &inode);
     let line = line_for(dead, marked, kind, references, number, &inode);
-    say_line(report, line)?;
+    say_if_any(report, line)?;
     Ok(())
 }
 
@@ -128,9 +129,11 @@ pub fn phase4<I: Image, W: Output>(
     ensures faults { ImageAfter (I.device image.old) (I.device image.new) result }
     ensures text { PhaseReports
         (WithFindings geometry.now.layout (I.device image.old) workspace.old)
-        (λ bytes. phase4_heading ∷ map of_tree
+        (λ bytes. messages.phase4 ∷ map of_tree
         (reference_lines (volume_of geometry.now.layout bytes))) (progress W.sink report.old)
         (progress W.sink report.new) result }
+    ensures leaves { workspace.new ≡ record workspace.old { windows = workspace.new.windows } }
+
     // Known bytes are read at most once for each of their lines, and any image once for each message
     // that was begun.
     ensures reads { ForBytes (WithFindings geometry.now.layout (I.device image.old) workspace.old)
@@ -138,8 +141,7 @@ pub fn phase4<I: Image, W: Output>(
         (reference_lines (volume_of geometry.now.layout bytes))) }
     ensures paid { Paid 1 (progress W.sink report.old) (progress W.sink report.new)
         (I.reads image.old) (I.reads image.new) result }
-    ensures stays { StaysReady geometry.now.layout (I.device image.new) workspace.old
-        workspace.new }
+    ensures ready { IsReady geometry.now.layout (I.device image.new) workspace.new }
 {
     workspace.forget_windows();
     report.say(&Line::Heading(Heading::Phase4))?;

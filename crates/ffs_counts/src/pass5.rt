@@ -1,11 +1,12 @@
 //! Phase 5: the records of the cylinder groups.
 
-ghost use Rattle.std.specs.Prelude.{◌+◌, ◌≤◌, ◌∷◌};
-ghost use Rattle.ffs_volume.specs.{Messages.Kinds.phase5 as phase5_heading, Report.Reads.group_reads};
+ghost use Rattle.std.specs.Prelude.{◌≡◌, ◌+◌, ◌≤◌, ◌∷◌};
+ghost use Rattle.ffs_volume.specs.Report.Reads.{group_reads};
 ghost use Rattle.ffs_volume.specs.Report.Whole.{group_check_lines};
 ghost use Rattle.ffs_layout.specs.Super.{superblock_in};
 ghost use Rattle.ffs_report.specs.{Progress.progress, PhaseOutcome.{ImageAfter, PhaseReports}};
-ghost use Rattle.ffs_workspace.specs.{Found.WithClaims, Ready.{IsReady, StaysReady}};
+ghost use Rattle.ffs_workspace.specs.{Found.WithClaims, Ready.IsReady};
+ghost use Rattle.ffs_volume.specs.Messages.Kinds as messages;
 
 use crate::groups::read_group;
 use crate::once::{AlreadyReported, say_group, say_unless};
@@ -32,12 +33,12 @@ pub fn phase5<I: Image, W: Output>(
     ensures faults { ImageAfter (I.device image.old) (I.device image.new) result }
     ensures text { PhaseReports
         (WithClaims superblock.now.geometry.layout (I.device image.old) workspace.old)
-        (λ bytes. phase5_heading ∷ group_check_lines bytes (superblock_in superblock.now))
+        (λ bytes. messages.phase5 ∷ group_check_lines bytes (superblock_in superblock.now))
         (progress W.sink report.old) (progress W.sink report.new) result }
+    ensures leaves { workspace.new ≡ record workspace.old { windows = workspace.new.windows } }
     ensures reads { I.reads image.new
         ≤ I.reads image.old + group_reads superblock.now.geometry.layout }
-    ensures stays { StaysReady superblock.now.geometry.layout (I.device image.new) workspace.old
-        workspace.new }
+    ensures ready { IsReady superblock.now.geometry.layout (I.device image.new) workspace.new }
 {
     workspace.forget_windows();
     report.say(&Line::Heading(Heading::Phase5))?;

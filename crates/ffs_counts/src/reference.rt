@@ -14,10 +14,10 @@ use ffs_workspace::links_start;
 
 /// How many entries refer to an inode, by its element of the workspace's `references`, which
 /// started at `links_start` and grew by 1 for each of them.
-pub fn references_by(count: u64, inode: &Inode) -> u64
-    ensures { result ≡ count - links_start inode.now.nlink }
+pub fn references_by(counted: u64, inode: &Inode) -> u64
+    ensures { result ≡ counted - links_start inode.now.nlink }
 {
-    count.saturating_sub(links_start(inode.nlink))
+    counted.saturating_sub(links_start(inode.nlink))
 }
 
 /// The line of an inode that is allocated, if it has one.
@@ -62,7 +62,7 @@ pub fn line_for(
 ///
 /// # Errors
 /// A write of the report that failed.
-pub fn say_line<W: Output>(
+pub fn say_if_any<W: Output>(
     report: &mut Report<'_, W>,
     line: Option<ReferenceLine>,
 ) -> Result<(), OutFault>

@@ -7,11 +7,11 @@
 -- after it), HoldsSurvey and HoldsReferences (the survey), HoldsFindings (for phase 4).
 --
 -- What calls need and leave: `Ready` has IsReady, which each phase needs and leaves, and CanRead, which calls within
--- a phase need and `forget_windows` makes of it: that the windows hold what this image gives. StaysReady and
--- KeepsWindows say that only the windows have changed, and that IsReady or CanRead holds. IsNew is of a workspace
--- as it is made (`Workspace::new`, `Workspace::in_memory`). `Leaves` says what the phases after the block check, and
--- after the survey, leave of it as it was. `Found` says of HoldsPhase1 and its like that the image gives the bytes,
--- too: WithFresh, WithPhase1, WithClaims, WithSurvey and WithFindings are known when a phase begins.
+-- a phase need and `forget_windows` makes of it: that the windows hold what this image gives. KeepsWindows says that
+-- only the windows have changed, and that CanRead holds. IsNew is of a workspace as it is made (`Workspace::new`,
+-- `Workspace::in_memory`). `Leaves` says what the phases after the block check, and after the survey, leave of it as
+-- it was. `Found` says of HoldsPhase1 and its like that the image gives the bytes, too: WithFresh, WithPhase1,
+-- WithClaims, WithSurvey and WithFindings are known when a phase begins.
 pub mod Tables
 pub mod Lengths
 pub mod Holds

@@ -18,11 +18,6 @@ pub record CanRead (v : Layout) (d : Device) (w : Workspace) : Type 0 where
   pub ready : IsReady v d w
   pub windows : HoldWindows v d.contents w
 
--- only its windows have changed, and it is ready for the image as it is now
-pub record StaysReady (v : Layout) (d : Device) (old new : Workspace) : Type 0 where
-  pub held : new ≡ record old { windows = new.windows }
-  pub ready : IsReady v d new
-
 -- only its windows have changed, and they hold what the image gives now
 pub record KeepsWindows (v : Layout) (d : Device) (old new : Workspace) : Type 0 where
   pub held : new ≡ record old { windows = new.windows }

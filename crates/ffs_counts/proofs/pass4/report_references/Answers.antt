@@ -57,17 +57,17 @@ returns-in_err-inode g c = record {
   stays = grind (arith, can_read_table);
 }
 
-pub returns-in_err-say_line : goal.returns-in_err-say_line
-returns-in_err-say_line g c =
-    let p = err_from_is_err_and c.from_residual-in_err-say_line.result c.from_residual-in_err-say_line.ensures.1 in
-    let at = goal.at.returns-in_err-say_line g c in
+pub returns-in_err-say_if_any : goal.returns-in_err-say_if_any
+returns-in_err-say_if_any g c =
+    let p = err_from_is_err_and c.from_residual-in_err-say_if_any.result c.from_residual-in_err-say_if_any.ensures.1 in
+    let at = goal.at.returns-in_err-say_if_any g c in
     rw (p.1, p.2) (record {
       faults = search rules;
-      text = stops_all (lines_are g at.After-line_for-line) c.in_err-say_line.ensures;
+      text = stops_all (lines_are g at.After-line_for-line) c.in_err-say_if_any.ensures;
       reads = λ bytes k.
           let line = one g at.After-inode bytes k in
           omega (arith, line, c.in_ok-inode.ensures.counted);
-      paid = paid_stops _ c.in_err-say_line.ensures (some g at.After-line_for-line) c.in_ok-inode.ensures.counted;
+      paid = paid_stops _ c.in_err-say_if_any.ensures (some g at.After-line_for-line) c.in_ok-inode.ensures.counted;
       stays = stays g at.In_ok-inode;
     })
 
@@ -76,10 +76,10 @@ returns g c =
     let at = goal.at.returns g c in
     record {
       faults = search rules;
-      text = says_all (lines_are g at.After-line_for-line) c.in_ok-say_line.ensures;
+      text = says_all (lines_are g at.After-line_for-line) c.in_ok-say_if_any.ensures;
       reads = λ bytes k.
           let line = one g at.After-inode bytes k in
           omega (arith, line, c.in_ok-inode.ensures.counted);
-      paid = paid_says _ c.in_ok-say_line.ensures (some g at.After-line_for-line) c.in_ok-inode.ensures.counted;
+      paid = paid_says _ c.in_ok-say_if_any.ensures (some g at.After-line_for-line) c.in_ok-inode.ensures.counted;
       stays = stays g at.In_ok-inode;
     }

@@ -41,11 +41,12 @@ returns-in_err-say-clause-text g c =
     let p = err_from_is_err_and c.from_residual.result c.from_residual.ensures.1 in
     rw (p.1, p.2) (stops_heading c.in_err-say.ensures.said)
 
-pub returns-in_err-say-clause-stays : goal.returns-in_err-say-clause-stays
-returns-in_err-say-clause-stays g c = record {
-  held = c.forget_windows.ensures.only;
-  ready = (c.forget_windows.ensures.forgets c.args.superblock.now.geometry.layout _ c.requires.ready).ready;
-}
+pub returns-in_err-say-clause-leaves : goal.returns-in_err-say-clause-leaves
+returns-in_err-say-clause-leaves g c = c.forget_windows.ensures.only
+
+pub returns-in_err-say-clause-ready : goal.returns-in_err-say-clause-ready
+returns-in_err-say-clause-ready g c =
+    (c.forget_windows.ensures.forgets c.args.superblock.now.geometry.layout _ c.requires.ready).ready
 
 pub loop-group-init : goal.loop-group-init
 loop-group-init g c =
