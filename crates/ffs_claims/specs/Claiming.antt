@@ -24,7 +24,8 @@ pub record Reserves (v : Layout) (old new : Workspace) : Type 0 where
   pub runs : new.runs_seen ≡ 0
   pub only : ClaimsOnly v old new
 
--- an inode can claim fragments: the windows hold what the image gives, and each Run that lies in the data area is in range
+-- an inode can claim fragments: the windows hold what the image gives, and each Run that lies in the data area
+-- is in range
 pub record CanClaim (v : Layout) (d : Device) (w : Workspace) (area : DataArea) : Type 0 where
   pub ready : CanRead v d w
   pub all_in_range : IsDataArea v area

@@ -102,7 +102,7 @@ fn rewalk_inode<I: Image, W: Output>(
 ///
 /// # Errors
 /// A read of the image that failed, and a write of the report that failed.
-fn rescan_inodes<I: Image, W: Output>(
+fn phase1b_unlimited<I: Image, W: Output>(
     geometry: &Geometry,
     image: &mut I,
     workspace: &mut Workspace,
@@ -164,7 +164,7 @@ pub fn phase1b<I: Image, W: Output>(
     ensures ready { IsReady geometry.now.layout (I.device image.new) workspace.new }
 {
     let mut limited = LimitedImage::new(image, sweep_reads(geometry));
-    let scanned = rescan_inodes(geometry, &mut limited, workspace, report);
+    let scanned = phase1b_unlimited(geometry, &mut limited, workspace, report);
     if limited.is_spent() {
         // See `LimitedImage`: bytes that stay never ask for so many reads.
         return Ok(());

@@ -19,7 +19,7 @@ fits : (g : given.Over) (c : After-is_spent g) →
     ForBytes (WithPhase1 c.args.geometry.now.layout (g.I.Image.device c.args.image.now) c.args.workspace.now)
     (λ bytes. c.is_spent.result ≡ false)
 fits g c bytes k =
-    let scanned = c.rescan_inodes-scanned.ensures in
+    let scanned = c.phase1b_unlimited-scanned.ensures in
     let back = phase_served _ (rw c.new-limited.ensures.device at scanned.faults)
     (rw c.new-limited.ensures.device at scanned.text) c.is_spent.ensures.below in
     let sound = c.args.geometry.now.sound in
@@ -31,16 +31,16 @@ fits g c bytes k =
 pub returns-then-is_spent-clause-faults : goal.returns-then-is_spent-clause-faults
 returns-then-is_spent-clause-faults g c =
     let at = (goal.at.returns-then-is_spent-clause-faults g c).After-is_spent in
-    let back = phase_served _ (rw c.new-limited.ensures.device at c.rescan_inodes-scanned.ensures.faults)
-    (rw c.new-limited.ensures.device at c.rescan_inodes-scanned.ensures.text) c.is_spent.ensures.below in
+    let back = phase_served _ (rw c.new-limited.ensures.device at c.phase1b_unlimited-scanned.ensures.faults)
+    (rw c.new-limited.ensures.device at c.phase1b_unlimited-scanned.ensures.text) c.is_spent.ensures.below in
     let image = c.image-1.given.1 back.same_image ∙ c.drop-limited.ensures.below in
     rw image ((back.refused tt c.if-is_spent.true (fits g at)).0)
 
 pub returns-then-is_spent-clause-text : goal.returns-then-is_spent-clause-text
 returns-then-is_spent-clause-text g c =
     let at = (goal.at.returns-then-is_spent-clause-text g c).After-is_spent in
-    let back = phase_served _ (rw c.new-limited.ensures.device at c.rescan_inodes-scanned.ensures.faults)
-    (rw c.new-limited.ensures.device at c.rescan_inodes-scanned.ensures.text) c.is_spent.ensures.below in
+    let back = phase_served _ (rw c.new-limited.ensures.device at c.phase1b_unlimited-scanned.ensures.faults)
+    (rw c.new-limited.ensures.device at c.phase1b_unlimited-scanned.ensures.text) c.is_spent.ensures.below in
     (back.refused tt c.if-is_spent.true (fits g at)).1
 
 pub returns-then-is_spent-clause-leaves : goal.returns-then-is_spent-clause-leaves
@@ -51,43 +51,43 @@ returns-then-is_spent-clause-leaves g c = λ bytes k.
 pub returns-then-is_spent-clause-reads : goal.returns-then-is_spent-clause-reads
 returns-then-is_spent-clause-reads g c =
     let at = (goal.at.returns-then-is_spent-clause-reads g c).After-is_spent in
-    grind (arith, known g at, c.rescan_inodes-scanned.ensures.reads.runs)
+    grind (arith, known g at, c.phase1b_unlimited-scanned.ensures.reads.runs)
 
 pub returns-then-is_spent-clause-ready : goal.returns-then-is_spent-clause-ready
 returns-then-is_spent-clause-ready g c =
-    let back = phase_served _ (rw c.new-limited.ensures.device at c.rescan_inodes-scanned.ensures.faults)
-    (rw c.new-limited.ensures.device at c.rescan_inodes-scanned.ensures.text) c.is_spent.ensures.below in
+    let back = phase_served _ (rw c.new-limited.ensures.device at c.phase1b_unlimited-scanned.ensures.faults)
+    (rw c.new-limited.ensures.device at c.phase1b_unlimited-scanned.ensures.text) c.is_spent.ensures.below in
     let image = c.image-1.given.1 back.same_image ∙ c.drop-limited.ensures.below in
-    rw image (ready_same c.args.geometry.now.layout _ _ c.rescan_inodes-scanned.new.workspace back.size
-    c.rescan_inodes-scanned.ensures.ready)
+    rw image (ready_same c.args.geometry.now.layout _ _ c.phase1b_unlimited-scanned.new.workspace back.size
+    c.phase1b_unlimited-scanned.ensures.ready)
 
 pub returns-clause-faults : goal.returns-clause-faults
 returns-clause-faults g c =
-    let back = phase_served _ (rw c.new-limited.ensures.device at c.rescan_inodes-scanned.ensures.faults)
-    (rw c.new-limited.ensures.device at c.rescan_inodes-scanned.ensures.text) c.is_spent.ensures.below in
+    let back = phase_served _ (rw c.new-limited.ensures.device at c.phase1b_unlimited-scanned.ensures.faults)
+    (rw c.new-limited.ensures.device at c.phase1b_unlimited-scanned.ensures.text) c.is_spent.ensures.below in
     rw (c.image-2-1.given.1 back.same_image ∙ c.drop-limited-2.ensures.below) ((back.answered c.if-is_spent.false).0)
 
 pub returns-clause-text : goal.returns-clause-text
 returns-clause-text g c =
-    let back = phase_served _ (rw c.new-limited.ensures.device at c.rescan_inodes-scanned.ensures.faults)
-    (rw c.new-limited.ensures.device at c.rescan_inodes-scanned.ensures.text) c.is_spent.ensures.below in
+    let back = phase_served _ (rw c.new-limited.ensures.device at c.phase1b_unlimited-scanned.ensures.faults)
+    (rw c.new-limited.ensures.device at c.phase1b_unlimited-scanned.ensures.text) c.is_spent.ensures.below in
     (back.answered c.if-is_spent.false).1
 
 pub returns-clause-leaves : goal.returns-clause-leaves
 returns-clause-leaves g c =
     let at = (goal.at.returns-clause-leaves g c).After-is_spent in
-    ok_then c.rescan_inodes-scanned.result _ _ (λ h bytes k. h bytes (known g at bytes k))
-    c.rescan_inodes-scanned.ensures.leaves
+    ok_then c.phase1b_unlimited-scanned.result _ _ (λ h bytes k. h bytes (known g at bytes k))
+    c.phase1b_unlimited-scanned.ensures.leaves
 
 pub returns-clause-reads : goal.returns-clause-reads
 returns-clause-reads g c =
     let at = (goal.at.returns-clause-reads g c).After-is_spent in
-    grind (arith, known g at, c.rescan_inodes-scanned.ensures.reads.runs)
+    grind (arith, known g at, c.phase1b_unlimited-scanned.ensures.reads.runs)
 
 pub returns-clause-ready : goal.returns-clause-ready
 returns-clause-ready g c =
-    let back = phase_served _ (rw c.new-limited.ensures.device at c.rescan_inodes-scanned.ensures.faults)
-    (rw c.new-limited.ensures.device at c.rescan_inodes-scanned.ensures.text) c.is_spent.ensures.below in
+    let back = phase_served _ (rw c.new-limited.ensures.device at c.phase1b_unlimited-scanned.ensures.faults)
+    (rw c.new-limited.ensures.device at c.phase1b_unlimited-scanned.ensures.text) c.is_spent.ensures.below in
     let image = c.image-2-1.given.1 back.same_image ∙ c.drop-limited-2.ensures.below in
-    rw image (ready_same c.args.geometry.now.layout _ _ c.rescan_inodes-scanned.new.workspace back.size
-    c.rescan_inodes-scanned.ensures.ready)
+    rw image (ready_same c.args.geometry.now.layout _ _ c.phase1b_unlimited-scanned.new.workspace back.size
+    c.phase1b_unlimited-scanned.ensures.ready)

@@ -14,7 +14,7 @@ use Rattle.ffs_claims.proofs.{RescanCounts.looked_none, Rescanned.{IsNoted, is_n
 use Rattle.ffs_claims.proofs.Rescanned.{runs_from, looked_on, looked_end, kept_next, kept_end, runs_on, runs_most}
 use Rattle.ffs_claims.proofs.{Rescanned.{claims_hold, starts_hold}, Rewalks.{runs_pay_all, runs_pay_then}}
 use Rattle.ffs_claims.specs.{Lines.of_lines, Reporting.after_first, RescanRuns.{runs_until_reported, rescan_runs}}
-use Rattle.ffs_claims.proofs.pass1b.rescan_inodes.Goals as goal
+use Rattle.ffs_claims.proofs.pass1b.phase1b_unlimited.Goals as goal
 
 pub returns-in_err-say-clause-text : goal.returns-in_err-say-clause-text
 returns-in_err-say-clause-text g c =

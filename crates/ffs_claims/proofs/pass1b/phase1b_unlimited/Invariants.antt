@@ -7,7 +7,7 @@ use Rattle.ffs_maps.specs.Bits.{bits_of}
 use Rattle.ffs_workspace.specs.{Found.WithPhase1, Ready.CanRead}
 use Rattle.ffs_claims.{proofs.{Reportings.Reporting, Rescanned.{kept_from, runs_from}}, specs.Lines.of_lines}
 use Rattle.ffs_claims.specs.{Reporting.RescanKeeps, RescanRuns.{RunsPay, runs_until_reported, rescan_runs}}
-use Rattle.ffs_claims.proofs.pass1b.rescan_inodes.Given as goal
+use Rattle.ffs_claims.proofs.pass1b.phase1b_unlimited.Given as goal
 
 abbrev pub invariant-loop-number : goal.invariant-loop-number
 invariant-loop-number g l = let v = l.geometry.layout in
