@@ -208,7 +208,7 @@ fn flag_parents(reached: &[bool], parents: &FilledList<u32>, words: &mut FilledL
 ///
 /// # Errors
 /// A read of the image that failed.
-fn note_all<I: Image>(
+fn note_places_unlimited<I: Image>(
     geometry: &Geometry,
     image: &mut I,
     workspace: &mut Workspace,
@@ -260,7 +260,7 @@ pub fn note_places<I: Image>(
         (dir_sweep I.Image image.new workspace.new) result }
 {
     let mut limited = LimitedImage::new(image, sweep_reads(geometry));
-    let noted = note_all(geometry, &mut limited, workspace);
+    let noted = note_places_unlimited(geometry, &mut limited, workspace);
     if limited.is_spent() {
         // See `LimitedImage`: bytes that stay never ask for so many reads. By their words some
         // directories may still be to be read.

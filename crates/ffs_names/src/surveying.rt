@@ -17,7 +17,7 @@ use ffs_workspace::{Workspace, sweep_reads};
 ///
 /// # Errors
 /// A read of the image that failed.
-fn survey_all<I: Image>(
+fn survey_unlimited<I: Image>(
     geometry: &Geometry,
     image: &mut I,
     workspace: &mut Workspace,
@@ -104,7 +104,7 @@ pub fn survey<I: Image>(
     }
     workspace.forget_windows();
     let mut limited = LimitedImage::new(image, sweep_reads(geometry));
-    let surveyed = survey_all(geometry, &mut limited, workspace);
+    let surveyed = survey_unlimited(geometry, &mut limited, workspace);
     if limited.is_spent() {
         // See `LimitedImage`: bytes that stay never ask for so many reads.
         return Ok(());

@@ -4,14 +4,14 @@ use Rattle.ffs_names.proofs.places.note_places.Goals as goal
 
 pub returns-clause-places : goal.returns-clause-places
 returns-clause-places g c =
-    rw (ap (λ (d : Device). d.contents) c.new-limited.ensures.device) at c.note_all-noted.ensures.places
+    rw (ap (λ (d : Device). d.contents) c.new-limited.ensures.device) at c.note_places_unlimited-noted.ensures.places
 
 pub returns-then-is_spent-clause-leaves : goal.returns-then-is_spent-clause-leaves
 returns-then-is_spent-clause-leaves g c =
-    let left = c.note_all-noted.ensures.leaves in
+    let left = c.note_places_unlimited-noted.ensures.leaves in
     let back = served (rw c.new-limited.ensures.device at left.read) c.is_spent.ensures.below in
     let image = c.image-1.given.1 back.same_image ∙ c.drop-limited.ensures.below in
-    let over = read_over _ _ c.note_all-noted.result (rw c.new-limited.ensures.device at left.read) in
+    let over = read_over _ _ c.note_places_unlimited-noted.result (rw c.new-limited.ensures.device at left.read) in
     let same = back.contents ∙ sym over.contents in
     let size = back.size ∙ sym over.size in
     let ready = left.ready in

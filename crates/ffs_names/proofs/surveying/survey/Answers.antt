@@ -42,18 +42,18 @@ returns-then-workspace-clause-leaves g c = record {
 }
 
 -- what the first survey needs
-pub survey_all-surveyed-requires-clause-ready : goal.survey_all-surveyed-requires-clause-ready
-survey_all-surveyed-requires-clause-ready g c =
+pub survey_unlimited-surveyed-requires-clause-ready : goal.survey_unlimited-surveyed-requires-clause-ready
+survey_unlimited-surveyed-requires-clause-ready g c =
     rw c.new-limited.ensures.device (can_read_same c.args.geometry.now.layout (g.I.Image.device c.args.image.now) _ _
     refl refl (c.forget_windows.ensures.forgets c.args.geometry.now.layout _ c.requires))
 
 -- what it found, by the bytes of the image below the limit
 pub returns-clause-survey : goal.returns-clause-survey
-returns-clause-survey g c = on_ok_each _ c.survey_all-surveyed.result (λ b t h.
-    (c.survey_all-surveyed.ensures.survey b (ap (λ d. d.contents) c.new-limited.ensures.device ∙ t)
+returns-clause-survey g c = on_ok_each _ c.survey_unlimited-surveyed.result (λ b t h.
+    (c.survey_unlimited-surveyed.ensures.survey b (ap (λ d. d.contents) c.new-limited.ensures.device ∙ t)
     (claims_held _ b c.args.workspace.now _ c.forget_windows.ensures.only h)).found)
 
 pub returns-clause-flags : goal.returns-clause-flags
-returns-clause-flags g c = λ first. on_ok_each _ c.survey_all-surveyed.result (λ b t h.
-    (c.survey_all-surveyed.ensures.survey b (ap (λ d. d.contents) c.new-limited.ensures.device ∙ t)
+returns-clause-flags g c = λ first. on_ok_each _ c.survey_unlimited-surveyed.result (λ b t h.
+    (c.survey_unlimited-surveyed.ensures.survey b (ap (λ d. d.contents) c.new-limited.ensures.device ∙ t)
     (claims_held _ b c.args.workspace.now _ c.forget_windows.ensures.only h)).flags)

@@ -8,8 +8,8 @@ use Rattle.ffs_survey.proofs.Costs.{cost_take, costs_rise}
 use Rattle.ffs_names.{specs.Noting.{BeginsNotes, KeepsToRead}, proofs.PlacesNoted.{claims_noted, coming_end}}
 use Rattle.ffs_names.proofs.PlacesNoted.{coming_first, coming_noted, none_to_be_read, only_fewer, parent_is_dir}
 use Rattle.ffs_names.proofs.PlacesNoted.{read_next, places_after, places_same, set_other, set_same, survey_noted}
-use Rattle.ffs_names.proofs.places.note_all.Goals.{then-is_due+in_ok-note_directory, else-is_due}
-use Rattle.ffs_names.proofs.places.note_all.Goals as goal
+use Rattle.ffs_names.proofs.places.note_places_unlimited.Goals.{then-is_due+in_ok-note_directory, else-is_due}
+use Rattle.ffs_names.proofs.places.note_places_unlimited.Goals as goal
 
 pub loop-dir-init : goal.loop-dir-init
 loop-dir-init g c =

@@ -4,7 +4,7 @@ use Rattle.ffs_workspace.specs.{Holds.{HoldsClaims, HoldsSurvey}, Ready.CanRead}
 use Rattle.ffs_volume.specs.{Encodings.Places.{is_due as is_to_be_read, ArePlaces}, Report.DirectoryReads.costs_all}
 use Rattle.ffs_volume.specs.Report.DirectoryReads.{noted_cost}
 use Rattle.ffs_names.proofs.PlacesNoted.{AreComing, OnlyParents}
-use Rattle.ffs_names.proofs.places.note_all.Given as goal
+use Rattle.ffs_names.proofs.places.note_places_unlimited.Given as goal
 
 abbrev pub invariant-loop-dir : goal.invariant-loop-dir
 invariant-loop-dir g l = let device = g.I.Image.device in record {

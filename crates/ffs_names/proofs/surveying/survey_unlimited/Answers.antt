@@ -6,9 +6,9 @@ use Rattle.ffs_workspace.{proofs.{Leaving.counts_begin, PlaceLaws.{filled_noted,
 use Rattle.ffs_workspace.specs.Tables.{IsTableOf}
 use Rattle.ffs_names.{specs.Readers.{Base, KnowsReader}, proofs.SurveyHolds.{volume_survey, holds_claims, holds_tree}}
 use Rattle.ffs_names.proofs.SurveyHolds.{volume_calm, holds_calm, holds_references, on_ok_is, on_err_is}
-use Rattle.ffs_names.proofs.{surveying.survey_all.Goals.After-survey-surveyed, CalmDirLaws.flags_each_calm}
-use Rattle.ffs_names.proofs.surveying.survey_all.Given as given
-use Rattle.ffs_names.proofs.surveying.survey_all.Goals as goal
+use Rattle.ffs_names.proofs.{surveying.survey_unlimited.Goals.After-survey-surveyed, CalmDirLaws.flags_each_calm}
+use Rattle.ffs_names.proofs.surveying.survey_unlimited.Given as given
+use Rattle.ffs_names.proofs.surveying.survey_unlimited.Goals as goal
 
 -- what the reader is over, and that its lists are those of the claims
 abbrev base : (g : given.Over) → After-survey-surveyed g → Base
