@@ -49,11 +49,11 @@ pub record ReportsDirectory {T : Type 0} (v : Layout) (task : DirectoryTask T) (
   pub leaves : PhaseLeaves v old.at new.at new.kept.texts.kept_parent result
 
 -- these lines of all directories are said, by what is known of the bytes. Each directory's own blocks are
--- read thrice at most, for the places of its children, for a first look and for a second reading, and the rest is
--- read for the lines; where only directories that are looked at need a check, their own blocks alone are read. Any image is
--- read for no more than the messages that were begun. Left are the image, but for a read
--- that failed, a workspace that is ready, what the block check left, and how often inodes are referred to;
--- where nothing failed, also what the survey found, by what is known of the bytes
+-- read thrice at most, for the places of its children, for a first look and for a second reading, and the
+-- rest is read for the lines; where only directories that are looked at need a check, their own blocks alone
+-- are read. Any image is read for no more than the messages that were begun. Left are the image, but for a
+-- read that failed, a workspace that is ready, what the block check left, and how often inodes are referred
+-- to; where nothing failed, also what the survey found, by what is known of the bytes
 pub record ReportsTree {T : Type 0} (v : Layout) (lines : Volume → List TreeMessage) (old new : LinesMoment (Unit {0}))
     (result : Result T RunFault) : Type 0 where
   pub text : PhaseReports (IsBefore v old.at.image.contents old.at.workspace 2)

@@ -52,7 +52,7 @@ pub record Examines {T : Type 0} (v : Layout) (knows : List ℕ → Type 0) (fin
 
 -- a look takes its reads of those that are left: `cost` at most, by what is known of the bytes, and no more
 -- than are left, of any image
-pub record TakesLook (knows : List ℕ → Type 0) (cost : List ℕ → ℕ) (count count' left left' : ℕ) : Type 0 where
-  pub reads : ForBytes knows (λ b. count' ≤ count + cost b)
+pub record TakesLook (knows : List ℕ → Type 0) (cost : List ℕ → ℕ) (before after left left' : ℕ) : Type 0 where
+  pub reads : ForBytes knows (λ b. after ≤ before + cost b)
   pub kept : ForBytes knows (λ b. left ≤ left' + cost b)
-  pub most : count' + left' ≤ count + left
+  pub most : after + left' ≤ before + left

@@ -124,7 +124,7 @@ fn report_by_role<I: Image, W: Output>(
     requires { ReadyToPath geometry.now.layout (I.device image.old) workspace.old
         texts.old.kept_parent entry.now.dir }
     ensures { ReportsOneEntry geometry.now.layout entry.now.dir
-        (λ v. roled_lines_by v workspace.old entry.now)
+        (λ vol. roled_lines_by vol workspace.old entry.now)
         (lines_moment I.Image W.Output image.old workspace.old report.old texts.old)
         (lines_moment I.Image W.Output image.new workspace.new report.new texts.new) result }
 {

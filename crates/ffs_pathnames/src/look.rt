@@ -30,7 +30,7 @@ pub struct Examination {
 }
 
 /// As `examine`, with no limit on reads.
-fn examine_all<I: Image>(
+fn examine_unlimited<I: Image>(
     geometry: &Geometry,
     image: &mut I,
     workspace: &mut Workspace,
@@ -115,7 +115,7 @@ pub fn examine<I: Image>(
         (I.reads image.old) (I.reads image.new) reads_left.old reads_left.new }
 {
     let mut limited = LimitedImage::new(image, *reads_left);
-    let examined = examine_all(geometry, &mut limited, workspace, dir, start);
+    let examined = examine_unlimited(geometry, &mut limited, workspace, dir, start);
     *reads_left = limited.left();
     if limited.is_spent() {
         return Ok(unexamined());

@@ -78,7 +78,7 @@ fn forget_parent(kept_parent: &mut KeptParent)
 }
 
 /// As `make_paths`, with no limit on reads.
-fn make_paths_freely<I: Image>(
+fn make_paths_unlimited<I: Image>(
     geometry: &Geometry,
     image: &mut I,
     workspace: &mut Workspace,
@@ -119,7 +119,7 @@ fn make_paths<I: Image>(
         workspace.new dir texts.old.kept_parent texts.new.kept_parent result }
 {
     let mut limited = LimitedImage::new(image, PATH_READS);
-    let result = make_paths_freely(geometry, &mut limited, workspace, texts, dir);
+    let result = make_paths_unlimited(geometry, &mut limited, workspace, texts, dir);
     if limited.is_spent() {
         forget_parent(&mut texts.kept_parent);
         texts.begun = true;
@@ -145,9 +145,9 @@ fn put_path<I: Image>(
     ensures spares { SparesPath I.Image geometry.now.layout image.old image.new workspace.old
         workspace.new dir kept_parent.old kept_parent.new result }
 {
-    let mut limited_image = LimitedImage::new(image, PATH_READS);
-    let result = kept_parent.put_path(geometry, &mut limited_image, workspace, dir, path);
-    if limited_image.is_spent() {
+    let mut limited = LimitedImage::new(image, PATH_READS);
+    let result = kept_parent.put_path(geometry, &mut limited, workspace, dir, path);
+    if limited.is_spent() {
         forget_parent(kept_parent);
         return Ok(());
     }
@@ -368,7 +368,7 @@ pub fn report_plain<I: Image, W: Output>(
     requires ready { ReadyToPath geometry.now.layout (I.device image.old) workspace.old
         texts.old.kept_parent entry.now.dir }
     ensures lines { ReportsEntries geometry.now.layout entry.now.dir
-        (λ v. plain_lines_by v workspace.old entry.now)
+        (λ vol. plain_lines_by vol workspace.old entry.now)
         (lines_moment I.Image W.Output image.old workspace.old report.old texts.old)
         (lines_moment I.Image W.Output image.new workspace.new report.new texts.new) result }
     ensures leaves { LinesLeave geometry.now.layout (path_moment I.Image image.old workspace.old)
@@ -406,7 +406,7 @@ pub fn report_extra<I: Image, W: Output>(
     requires { ReadyToPath geometry.now.layout (I.device image.old) workspace.old
         texts.old.kept_parent entry.now.dir }
     ensures lines { ReportsEntries geometry.now.layout entry.now.dir
-        (λ v. extra_reported v entry.now)
+        (λ vol. extra_reported vol entry.now)
         (lines_moment I.Image W.Output image.old workspace.old report.old texts.old)
         (lines_moment I.Image W.Output image.new workspace.new report.new texts.new) result }
     ensures leaves { LinesLeave geometry.now.layout (path_moment I.Image image.old workspace.old)

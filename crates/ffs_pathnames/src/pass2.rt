@@ -55,8 +55,9 @@ pub fn phase2<I: Image, W: Output>(
     ensures faults { ImageAfter (I.device image.old) (I.device image.new) result }
     ensures text { PhaseReports
         (WithClaims geometry.now.layout (I.device image.old) workspace.old)
-        (λ b. messages.phase2 ∷ map of_tree (pathname_lines (volume_of geometry.now.layout b)))
-        (progress W.sink report.old) (progress W.sink report.new) result }
+        (λ bytes. messages.phase2 ∷ map of_tree
+        (pathname_lines (volume_of geometry.now.layout bytes))) (progress W.sink report.old)
+        (progress W.sink report.new) result }
     ensures leaves { Phase2Ends geometry.now.layout (I.device image.old) workspace.old
         workspace.new (progress W.sink report.old) (progress W.sink report.new) result }
     ensures reads { Phase2Reads geometry.now.layout (I.device image.old) workspace.old

@@ -217,7 +217,7 @@ fn begin_directory<I: Image, W: Output>(
         dir,
         &mut start,
     )?;
-    let parent = parent_of(workspace, dir);
+    let parent = found_parent(workspace, dir);
     let (first, second) = first_two(geometry.layout.order, examined.look.started, &start);
     let header = HeaderFacts {
         number: dir,
@@ -241,7 +241,7 @@ fn begin_directory<I: Image, W: Output>(
 
 /// The parent of a directory, as the survey found it.
 #[tactic(auto, using(std::proofs::lemmas::List::get_or_read_under, crate::proofs::FirstTwo::none_back))]
-fn parent_of(workspace: &Workspace, dir: u32) -> Option<u32>
+fn found_parent(workspace: &Workspace, dir: u32) -> Option<u32>
     requires { dir < vec_len workspace.now.parents }
     ensures { (v : Layout) (b : List ℕ) → HoldsSurvey v b workspace.now → result
         ≡ parent (graph_of (volume_of v b)) dir }

@@ -17,7 +17,7 @@ use ffs_volume::constants::ROOTINO;
 use ffs_workspace::Workspace;
 
 /// The parent of a directory that is reached and isn't the root, and None of any other inode.
-fn parent_of(workspace: &Workspace, dir: u32) -> Option<u32>
+fn reached_parent(workspace: &Workspace, dir: u32) -> Option<u32>
     requires { dir < min (vec_len workspace.now.reached) (vec_len workspace.now.parents) }
     ensures { (p : ℕ) → (result ≡ Some p) ↔ IsParentOf workspace.now dir p }
 {
@@ -134,7 +134,7 @@ impl KeptParent {
             (kept_moment I.Image image.old workspace.old self.old)
             (kept_moment I.Image image.new workspace.new self.new) result }
     {
-        let Some(parent) = parent_of(workspace, dir) else {
+        let Some(parent) = reached_parent(workspace, dir) else {
             return directory_path(geometry, image, workspace, dir);
         };
         self.keep_child(geometry, image, workspace, parent, dir)?;
@@ -161,7 +161,7 @@ impl KeptParent {
             (kept_moment I.Image image.old workspace.old self.old)
             (kept_moment I.Image image.new workspace.new self.new) result }
     {
-        let Some(parent) = parent_of(workspace, dir) else {
+        let Some(parent) = reached_parent(workspace, dir) else {
             directory_path(geometry, image, workspace, dir)?.put(text);
             return Ok(());
         };

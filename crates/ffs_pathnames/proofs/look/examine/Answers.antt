@@ -8,13 +8,13 @@ use Rattle.ffs_pathnames.proofs.look.examine.Goals as goal
 
 -- what became of the image below, and of the reads that were left
 after : (g : Over) (c : After-is_spent g) →
-    LookedBy (g.I.Image.device c.args.image.now) (g.I.Image.device c.examine_all-examined.new.image.below.now)
-    c.new-arg-1.given c.examine_all-examined.new.image.below.ghost_name (g.I.Image.reads c.args.image.now)
-    (g.I.Image.reads c.examine_all-examined.new.image.below.now) c.args.reads_left.now
-    c.examine_all-examined.new.image.left
-    (reads_asked c.examine_all-examined.new.image.limit c.examine_all-examined.new.image.left
-    c.examine_all-examined.new.image.spent) c.is_spent.result c.examine_all-examined.result
-after g c = looked (rw c.new-limited.ensures.device at c.examine_all-examined.ensures.examines.leaves.read) c.is_spent.ensures.below
+    LookedBy (g.I.Image.device c.args.image.now) (g.I.Image.device c.examine_unlimited-examined.new.image.below.now)
+    c.new-arg-1.given c.examine_unlimited-examined.new.image.below.ghost_name (g.I.Image.reads c.args.image.now)
+    (g.I.Image.reads c.examine_unlimited-examined.new.image.below.now) c.args.reads_left.now
+    c.examine_unlimited-examined.new.image.left
+    (reads_asked c.examine_unlimited-examined.new.image.limit c.examine_unlimited-examined.new.image.left
+    c.examine_unlimited-examined.new.image.spent) c.is_spent.result c.examine_unlimited-examined.result
+after g c = looked (rw c.new-limited.ensures.device at c.examine_unlimited-examined.ensures.examines.leaves.read) c.is_spent.ensures.below
 
 -- what is known of the bytes is known of those of the limited image
 known : (g : Over) (c : After-is_spent g) (b : List ℕ) → DirectoryContext c.args.geometry.now.layout
@@ -32,10 +32,10 @@ answered g c b k enough = grind arith
 -- the reads that it made, and those that are left
 taken : (g : Over) (c : After-is_spent g) (b : List ℕ) → DirectoryContext c.args.geometry.now.layout
     (g.I.Image.device c.args.image.now).contents c.args.workspace.now c.args.dir b →
-    (g.I.Image.reads c.examine_all-examined.new.image.below.now
+    (g.I.Image.reads c.examine_unlimited-examined.new.image.below.now
     ≤ g.I.Image.reads c.args.image.now + directory_cost c.args.geometry.now.layout b c.args.dir)
     × (c.args.reads_left.now
-    ≤ c.examine_all-examined.new.image.left + directory_cost c.args.geometry.now.layout b c.args.dir)
+    ≤ c.examine_unlimited-examined.new.image.left + directory_cost c.args.geometry.now.layout b c.args.dir)
 taken g c b k = grind arith
 
 pub returns-then-is_spent : goal.returns-then-is_spent
@@ -45,13 +45,13 @@ pub returns : goal.returns
 returns g c =
     let at = (goal.at.returns g c).After-is_spent in
     let back = after g at in
-    let left = c.examine_all-examined.ensures.examines.leaves in
+    let left = c.examine_unlimited-examined.ensures.examines.leaves in
     let image = c.image-2-1.given.1 back.served.same_image ∙ c.drop-limited-2.ensures.below in
-    let over = read_over _ _ c.examine_all-examined.result (rw c.new-limited.ensures.device at left.read) in
+    let over = read_over _ _ c.examine_unlimited-examined.result (rw c.new-limited.ensures.device at left.read) in
     rw (image, c.left.ensures.value) (record {
       examines = record {
-        found = if_ok c.examine_all-examined.result _ _ (λ e h b k. h b (known g at b k.0))
-            c.examine_all-examined.ensures.examines.found;
+        found = if_ok c.examine_unlimited-examined.result _ _ (λ e h b k. h b (known g at b k.0))
+            c.examine_unlimited-examined.ensures.examines.found;
         leaves = record {
           lists = left.lists;
           ready = can_read_same c.args.geometry.now.layout _ _ _ (back.served.contents ∙ sym over.contents)

@@ -33,7 +33,7 @@ known g c b k = (
 
 -- the lines are the directory's
 lines_are : (g : Over) (c : After-report_header g) (b : List ℕ) → Known g c b →
-    header_lines (header_defects c.args.dir c.in_ok-examined.examined.inode.size c.parent_of-parent.result
+    header_lines (header_defects c.args.dir c.in_ok-examined.examined.inode.size c.found_parent-parent.result
     c.in_ok-examined.examined.look.gap c.in_ok-examined.examined.look.sound
     (option_map entry_value c.first_two.result.0) (option_map entry_value c.first_two.result.1))
     (attributes (volume_of c.args.geometry.now.layout b) c.args.dir)
@@ -42,7 +42,7 @@ lines_are : (g : Over) (c : After-report_header g) (b : List ℕ) → Known g c 
 lines_are g c b k =
     let v = c.args.geometry.now.layout in
     starts_are v b c.args.dir c.args.workspace.now c.in_ok-examined.examined _ _ _ _
-    (c.in_ok-examined.ensures.examines.found b k).0 (c.parent_of-parent.ensures v b
+    (c.in_ok-examined.ensures.examines.found b k).0 (c.found_parent-parent.ensures v b
     (survey_left v b _ _ c.in_ok-examined.ensures.examines.leaves.lists.survey k.0.survey))
     c.first_two.ensures
 

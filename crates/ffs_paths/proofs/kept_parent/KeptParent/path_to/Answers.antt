@@ -6,7 +6,7 @@ use Rattle.ffs_paths.proofs.kept_parent.KeptParent.path_to.Goals as goal
 
 pub returns-clause-path : goal.returns-clause-path
 returns-clause-path g c = λ b t claims survey.
-    let of = (c.parent_of.ensures c.in-Some.parent).0 c.in-Some.is in
+    let of = (c.reached_parent.ensures c.in-Some.parent).0 c.in-Some.is in
     let kept = c.in_ok-keep_child.ensures in
     let child = (kept.keeps.parent c.in-Some.parent of).1 in
     let s = c.keep_child.new.self in
@@ -20,11 +20,11 @@ returns-clause-costs g c = costs_as c.in_ok-keep_child.ensures
 
 -- a directory without a parent
 pub returns-in_default-clause-costs : goal.returns-in_default-clause-costs
-returns-in_default-clause-costs g c = costs_none c.args.self.now (no_parent c.in_default.is c.parent_of.ensures)
+returns-in_default-clause-costs g c = costs_none c.args.self.now (no_parent c.in_default.is c.reached_parent.ensures)
     c.requires.kept_parent c.directory_path.ensures.leaves
 
 pub keep_child-requires : goal.keep_child-requires
 keep_child-requires g c = record {
   ready = c.requires;
-  parent = (c.parent_of.ensures c.in-Some.parent).0 c.in-Some.is;
+  parent = (c.reached_parent.ensures c.in-Some.parent).0 c.in-Some.is;
 }

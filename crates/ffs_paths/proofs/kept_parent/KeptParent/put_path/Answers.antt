@@ -5,7 +5,7 @@ use Rattle.ffs_paths.proofs.kept_parent.KeptParent.put_path.Goals as goal
 
 pub returns-clause-path : goal.returns-clause-path
 returns-clause-path g c = λ b t claims survey.
-    let of = (c.parent_of.ensures c.in-Some.parent).0 c.in-Some.is in
+    let of = (c.reached_parent.ensures c.in-Some.parent).0 c.in-Some.is in
     let kept = c.in_ok-keep_child.ensures in
     let child = (kept.keeps.parent c.in-Some.parent of).1 in
     let s = c.keep_child.new.self in
@@ -17,16 +17,16 @@ returns-clause-path g c = λ b t claims survey.
 -- a directory without a parent
 pub returns-in_default-clause-costs : goal.returns-in_default-clause-costs
 returns-in_default-clause-costs g c = costs_as (costs_none c.args.self.now
-    (no_parent c.in_default.is c.parent_of.ensures) c.requires.kept_parent c.in_ok-directory_path.ensures.leaves)
+    (no_parent c.in_default.is c.reached_parent.ensures) c.requires.kept_parent c.in_ok-directory_path.ensures.leaves)
 
 pub returns-in_err-directory_path-clause-costs : goal.returns-in_err-directory_path-clause-costs
 returns-in_err-directory_path-clause-costs g c =
     let p = err_from_is_err_and c.from_residual.result c.from_residual.ensures.1 in
-    rw (p.1, p.2) (costs_fault (costs_none c.args.self.now (no_parent c.in_default.is c.parent_of.ensures)
+    rw (p.1, p.2) (costs_fault (costs_none c.args.self.now (no_parent c.in_default.is c.reached_parent.ensures)
     c.requires.kept_parent c.in_err-directory_path.ensures.leaves))
 
 pub keep_child-requires : goal.keep_child-requires
 keep_child-requires g c = record {
   ready = c.requires;
-  parent = (c.parent_of.ensures c.in-Some.parent).0 c.in-Some.is;
+  parent = (c.reached_parent.ensures c.in-Some.parent).0 c.in-Some.is;
 }

@@ -2,8 +2,8 @@ use Rattle.std.proofs.{Common.{◌≤◌, ◌+◌, ◌∙◌, ap, arith, refl, �
 use Rattle.ffs_workspace.proofs.Leaving.{claims_held, survey_held}
 use Rattle.ffs_volume.specs.Report.DirectoryReads.{directory_cost}
 use Rattle.ffs_pathnames.{specs.DirectoryContext.{DirectoryContext, KnowsDirectory}}
-use Rattle.ffs_pathnames.proofs.look.examine_all.{Given.Over, Goals.After-look_directory}
-use Rattle.ffs_pathnames.proofs.look.examine_all.Goals as goal
+use Rattle.ffs_pathnames.proofs.look.examine_unlimited.{Given.Over, Goals.After-look_directory}
+use Rattle.ffs_pathnames.proofs.look.examine_unlimited.Goals as goal
 
 -- what is known of the directory once its inode is read
 known : (g : Over) (c : After-look_directory g) (b : List ℕ) → DirectoryContext c.args.geometry.now.layout
