@@ -1,6 +1,6 @@
 //! The entries of a directory.
 
-ghost use Rattle.std.specs.Prelude.{◌≡◌, ◌+◌, ◌-◌, ◌*◌, ◌/◌, ◌≤◌, ◌^◌, true, IfOk, OnOk};
+ghost use Rattle.std.specs.Prelude.{◌≡◌, ◌+◌, ◌-◌, ◌*◌, ◌/◌, ◌≤◌, ◌^◌, true, IfOk, OnOk, OnErr};
 ghost use Rattle.ffs_image.specs.Device.{ForContents};
 ghost use Rattle.ffs_names.specs.{OneChunk.one_chunk_at as one_chunk, Windows.{CanWalkDir, CanReadChunks}};
 ghost use Rattle.ffs_volume.specs.{Directories.Calm.is_right_size, declared.constants.TheConstants.DIRBLKSIZ};
@@ -65,7 +65,7 @@ impl Entries {
     ghost use Rattle.ffs_names.specs.Leaves.{dir_reading, dir_walk, LeavesBlocks, LeavesEntries};
     ghost use Rattle.ffs_image.specs.Reads.{ReadAfter};
     ghost use Rattle.ffs_names.specs.Shapes.{runs_of_inode, has_right_shape, BeginsIn, EndsChunks, GivesDirectory, GivesEntry, HasEnded, HasStopped, RestartsIn, TakesFromChunk};
-    ghost use Rattle.ffs_names.specs.Entering.{last_name};
+    ghost use Rattle.ffs_names.specs.Entering.{last_name, left};
 
     /// A reading of the directory with this inode. `cut` is how many offers it keeps where its
     /// eleventh dup offer cut it, else 0.
@@ -128,7 +128,7 @@ impl Entries {
     /// out of range, gives no entry.
     ///
     /// # Errors
-    /// A read of the image that failed.
+    /// A read of the image that failed. Then no entry comes.
     #[inline(always)]
     pub fn restart_at<I: Image>(&mut self, image: &mut I, address: u32) -> Result<(), ImageFault>
         requires { self.old.chunks.walk.geometry.layout.size
@@ -142,6 +142,7 @@ impl Entries {
             (reads_for_entries b self.new)
             ((blocks : Blocks) (w : Window) → HoldsEntries blocks w self.new) result) }
         ensures read { ReadAfter (I.device image.old) (I.device image.new) result }
+        ensures over { OnErr result (left self.new ≡ 0) }
         ensures geometry { self.new.chunks.walk.geometry ≡ self.old.chunks.walk.geometry }
     {
         let geometry = &self.chunks.walk.geometry;
@@ -151,6 +152,7 @@ impl Entries {
         }
         let place = u64::from(address) * u64::from(geometry.layout.fsize);
         self.end_chunks();
+        self.place = DIRBLKSIZ;
         image.read_at(place, &mut self.chunk)?;
         self.place = 0;
         self.index = 0;
@@ -193,7 +195,7 @@ impl Entries {
     /// The next entry, if there is one, without its name.
     ///
     /// # Errors
-    /// A read of the image that failed.
+    /// A read of the image that failed. Then no entry comes any more.
     #[inline(always)]
     pub fn next<I: Image>(
         &mut self,
@@ -212,6 +214,7 @@ impl Entries {
         ensures leaves { LeavesEntries
             (dir_reading I.Image image.old blocks.old window.old self.old)
             (dir_reading I.Image image.new blocks.new window.new self.new) result }
+        ensures over { OnErr result (left self.new ≡ 0) }
     {
         'chunks: loop {
             match self.take() {

@@ -30,6 +30,7 @@
 -- All directories:
 --   ReadyLaws         what is ready stays so where a chunk is read
 --   Carrying          what is known between two directories, from one to the next
+--   Findings          what was found before is as it was
 pub mod StampLaws
 pub mod PassedLaws
 pub mod LookLaws
@@ -53,3 +54,4 @@ pub mod LimitedLaws
 pub mod EntryReports
 pub mod PathOnce
 pub mod ChecksNeededLaws
+pub mod Findings

@@ -9,6 +9,7 @@ use Rattle.ffs_volume.specs.Report.DirectoryReads.{directories_cost, directory_c
 use Rattle.ffs_volume.specs.{Report.DirectoryReads.places_cost, Encodings.Places.AreNoted}
 use Rattle.ffs_paths.specs.declared.kept_parent.KeptParent.{KeptParent}
 use Rattle.ffs_workspace.specs.{Holds.{HoldsClaims, HoldsSurvey}, Leaves.LeavesBlockCheck, Ready.CanRead}
+use Rattle.ffs_workspace.specs.declared.workspace.Workspace.{Workspace}
 use Rattle.ffs_pathnames.specs.{ChecksNeeded.ChecksLookedAt, Before.IsBefore, Gathers.passed_of, LineReads.again_reads}
 use Rattle.ffs_pathnames.specs.{LineReads.ReadsByLines, DirectoryContext.KnowsHeader, HeaderValues.facts_lines}
 use Rattle.ffs_pathnames.specs.{Moments.LinesMoment, PassedNames.{are_quiet, directory_reported}, Ready.LinesLeave}
@@ -48,12 +49,23 @@ pub record ReportsDirectory {T : Type 0} (v : Layout) (task : DirectoryTask T) (
   pub holds : IfOk result (λ x. ForBytes task.knows (task.after x))
   pub leaves : PhaseLeaves v old.at new.at new.kept.texts.kept_parent result
 
+-- what the block check and the survey found is as it was, but for places of parent entries, of which some may be
+-- noted, and `flags`
+pub record LeavesFindings (old new : Workspace) : Type 0 where
+  pub block_check : LeavesBlockCheck old new
+  pub references : new.references ≡ old.references
+  pub surveyed : new.surveyed ≡ old.surveyed
+  pub named : new.named ≡ old.named
+  pub reached : new.reached ≡ old.reached
+  pub parents : new.parents ≡ old.parents
+
+-- these lines of all directories are said, by what is known of the bytes. Each directory's own blocks are
 -- these lines of all directories are said, by what is known of the bytes. Each directory's own blocks are
 -- read thrice at most, for the places of its children, for a first look and for a second reading, and the
 -- rest is read for the lines; where only directories that are looked at need a check, their own blocks alone
 -- are read. Any image is read for no more than the messages that were begun. Left are the image, but for a
--- read that failed, a workspace that is ready, what the block check left, and how often inodes are referred
--- to; where nothing failed, also what the survey found, by what is known of the bytes
+-- read that failed, a workspace that is ready, and what the block check and the survey found; where nothing
+-- failed, places that are noted are right, too
 pub record ReportsTree {T : Type 0} (v : Layout) (lines : Volume → List TreeMessage) (old new : LinesMoment (Unit {0}))
     (result : Result T RunFault) : Type 0 where
   pub text : PhaseReports (IsBefore v old.at.image.contents old.at.workspace 2)
@@ -67,8 +79,7 @@ pub record ReportsTree {T : Type 0} (v : Layout) (lines : Volume → List TreeMe
   pub image : ImageAfter old.at.image new.at.image result
   pub holds : OnOk result (ForBytes (IsBefore v old.at.image.contents old.at.workspace 2)
       (λ b. HoldsClaims v b new.at.workspace × HoldsSurvey v b new.at.workspace))
-  pub references : new.at.workspace.references ≡ old.at.workspace.references
-  pub block_check : LeavesBlockCheck old.at.workspace new.at.workspace
+  pub findings : LeavesFindings old.at.workspace new.at.workspace
   pub ready : CanRead v new.at.image new.at.workspace
 
 -- the entries of the directory x are reported: its Runs are read once, its path is made once, and for each

@@ -1,9 +1,9 @@
 //! Phase 2: pathnames (fsck(8)).
-ghost use Rattle.std.specs.Prelude.{◌≡◌, ◌+◌, ◌*◌, ◌∷◌, [], false, length, map, ◌&&◌, not, ℕ, IfOk};
-ghost use Rattle.ffs_report.specs.{Paid.Paid, PhaseOutcome.{ImageAfter, PhaseReports}, Progress.progress};
+ghost use Rattle.std.specs.Prelude.{◌≡◌, ◌+◌, ◌*◌, ◌∷◌, [], false, true, length, map, ◌&&◌, not, ℕ, IfOk, OnErr};
+ghost use Rattle.ffs_report.specs.{Known.ForBytes, Paid.Paid, PhaseOutcome.{ImageAfter, PhaseReports}, Progress.progress};
 ghost use Rattle.ffs_volume.specs.Directories.{PathnameCheck.pathname_lines, Volumes.volume_of};
 ghost use Rattle.ffs_volume.specs.{Encodings.Kinds.is_dir_kind, Messages.Kinds.of_tree, Report.Reads.{line_reads, sweep_reads}};
-ghost use Rattle.ffs_workspace.specs.{Found.WithClaims, Holds.bool_at, Leaves.LeavesBlockCheck, Ready.{CanRead, IsReady}};
+ghost use Rattle.ffs_workspace.specs.{Found.WithClaims, Holds.{HoldsClaims, bool_at}, Leaves.LeavesBlockCheck, Ready.{CanRead, IsReady}};
 ghost use Rattle.ffs_pathnames.specs.{Before.{root_reported, IsBefore, IsNonePassed}, Gathers.AreAsLong};
 ghost use Rattle.ffs_pathnames.specs.{Phase2.{Phase2Ends, Phase2Reads}, RootAnswers.{AnswersRoot, SaidStop, is_go}};
 ghost use Rattle.ffs_pathnames.specs.{DirectoryLines.ReportsTree, Moments.lines_moment, SaysTreeMessages.SaysTreeMessages};
@@ -44,7 +44,8 @@ pub enum Root {
 /// `Phase2Reads`).
 ///
 /// # Errors
-/// A read of the image that failed, and a write of the report that failed.
+/// A read of the image that failed, and a write of the report that failed. Where the workspace says
+/// `surveyed` then, phase 2 can be called again: all that it needs is held still.
 pub fn phase2<I: Image, W: Output>(
     geometry: &Geometry,
     image: &mut I,
@@ -70,6 +71,11 @@ pub fn phase2<I: Image, W: Output>(
     // What the block check left stays, also where a read or a write failed, but for the counts of
     // references.
     ensures block_check { LeavesBlockCheck workspace.old workspace.new }
+
+    // Where a read or a write failed, and the survey is made, what is to be held is held still.
+    ensures again { OnErr result (workspace.new.surveyed ≡ true → ForBytes
+        (WithClaims geometry.now.layout (I.device image.old) workspace.old)
+        (λ b. HoldsClaims geometry.now.layout b workspace.new)) }
     ensures ready { IsReady geometry.now.layout (I.device image.new) workspace.new }
 {
     report.say(&Line::Heading(Heading::Phase2))?;

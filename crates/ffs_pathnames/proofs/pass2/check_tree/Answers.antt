@@ -2,7 +2,7 @@ use Rattle.std.proofs.Common.{◌≡◌, ◌≤◌, ◌++◌, ◌+◌, ◌*◌, 
 use Rattle.std.proofs.Common.{true, false, arith, length, Result, Err, inl, inr, ◌∷◌, ◌==◌}
 use Rattle.std.proofs.lemmas.{Result.err_from_is_err_and, Bool.cases_Bool}
 use Rattle.ffs_workspace.specs.{Holds.HoldsClaims, Ready.CanRead, declared.workspace.Workspace.Workspace}
-use Rattle.ffs_workspace.proofs.Leaving.{block_check_kept}
+use Rattle.ffs_pathnames.proofs.Findings.{findings_kept}
 use Rattle.ffs_pathnames.{specs.Before.{IsBefore, root_reported}, proofs.{LineCounts.lines_long, Carrying.goes_is}}
 use Rattle.ffs_pathnames.proofs.Carrying.{root_kind_is, root_marked_is, tree_is, tree_lines}
 use Rattle.ffs_pathnames.proofs.pass2.check_tree.{Given.Over, Goals.{After-report_root, After-check_inodes}}
@@ -93,7 +93,7 @@ only_said : {T : Type 0} {v : Layout} {d : Device} {w : Workspace} {lines : Volu
     PhaseReports (IsBefore v d.contents w 2) (λ b. map of_tree (lines (volume_of v b))) said said' r →
     let at : PathMoment = record { image = d; reads = count; workspace = w } in
     ReportsTree v lines (record { at = at; said = said; kept = tt }) (record { at = at; said = said'; kept = tt }) r
-only_said {w = w} r image ready text = let kept = block_check_kept w in grind (arith, paid_text)
+only_said {w = w} r image ready text = let kept = findings_kept w in grind (arith, paid_text)
 
 pub returns-in_err-report_root-clause-tree : goal.returns-in_err-report_root-clause-tree
 returns-in_err-report_root-clause-tree g c =
@@ -128,8 +128,7 @@ returns-in_err-check_inodes-in-Go-clause-tree g c =
           (paid_then (paid_said _ c.in_ok-report_root.ensures (omega arith)) tree.paid);
       image = image_same (Unit {0}) Root _ _ _ fault refl tree.image;
       holds = tt;
-      references = tree.references;
-      block_check = tree.block_check;
+      findings = tree.findings;
       ready = tree.ready;
     })
 
@@ -150,8 +149,7 @@ returns-in_ok-check_inodes-in-Go-clause-tree g c =
           (paid_then (paid_said _ c.in_ok-report_root.ensures (omega arith)) tree.paid);
       image = tree.image;
       holds = tree.holds;
-      references = tree.references;
-      block_check = tree.block_check;
+      findings = tree.findings;
       ready = tree.ready;
     }
 

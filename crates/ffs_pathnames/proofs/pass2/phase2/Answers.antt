@@ -1,5 +1,5 @@
 use Rattle.std.proofs.Common.{[], ◌∷◌, List, ℕ, refl, ap, ◌∙◌, inr, arith, ◌≡◌, ◌*◌, Some, OnOk, Result, Ok, Err, IfOk}
-use Rattle.std.proofs.{Common.{map, false}, lemmas.Result.err_from_is_err_and}
+use Rattle.std.proofs.{Common.{map, false}, lemmas.{Bool.both_ways, Result.err_from_is_err_and}}
 use Rattle.ffs_image.specs.Device.{Device}
 use Rattle.ffs_report.proofs.Reporting.{of_reads, of_last, reports_knowing, says_heading, stops_heading}
 use Rattle.ffs_report.{proofs.Paying.{paid_said, paid_text, paid_then}, specs.{Known.ForBytes, Progress.Progress}}
@@ -15,7 +15,8 @@ use Rattle.ffs_pathnames.proofs.ChecksNeededLaws.{looked_at_first}
 use Rattle.ffs_names.proofs.{DirCosts.noted_all_within, RunSums.costs_bounded}
 use Rattle.ffs_workspace.specs.{declared.workspace.Workspace.Workspace, Found.WithClaims, Holds.HoldsClaims}
 use Rattle.ffs_workspace.{specs.Holds.{HoldsReferences, HoldsSurvey}, proofs.Leaving.block_check_kept}
-use Rattle.ffs_workspace.proofs.Leaving.{block_check_left, block_check_more}
+use Rattle.ffs_workspace.proofs.Leaving.{block_check_left, block_check_more, claims_left}
+use Rattle.ffs_pathnames.proofs.Findings.{at_error, findings_claims}
 use Rattle.ffs_pathnames.proofs.pass2.phase2.Goals as goal
 
 -- what is known before the first directory
@@ -94,7 +95,7 @@ returns-clause-leaves g c =
     ends_by v (g.I.Image.device c.args.image.now) (g.I.Image.device c.survey.new.image) _ c.clear_passed.new.workspace _
     _ _ c.check_tree.result
     (λ b k. before_tree g (goal.at.returns-clause-leaves g c).After-check_tree b k.0 k.1)
-    (λ b k. references_on v b _ _ (tree.references ∙ c.clear_passed.ensures.survey.references)
+    (λ b k. references_on v b _ _ (tree.findings.references ∙ c.clear_passed.ensures.survey.references)
     (c.in_ok-survey.ensures.survey b k.0 k.1).references) c.check_tree.ensures.root tree.holds
     (stop_after v (g.I.Image.device c.args.image.now) (g.I.Image.device c.survey.new.image) _ c.clear_passed.new.workspace
     _ _ _ c.check_tree.result (λ b k. before_tree g (goal.at.returns-clause-leaves g c).After-check_tree b k.0 k.1)
@@ -114,7 +115,23 @@ pub returns-clause-block_check : goal.returns-clause-block_check
 returns-clause-block_check g c =
     let surveyed = block_check_more _ _ _ c.in_ok-survey.ensures.leaves.same
     (block_check_left _ _ c.clear_passed.ensures.survey) in
-    block_check_more _ _ _ surveyed c.check_tree.ensures.tree.block_check
+    block_check_more _ _ _ surveyed c.check_tree.ensures.tree.findings.block_check
+
+-- what is held where something failed
+pub returns-in_err-say-clause-again : goal.returns-in_err-say-clause-again
+returns-in_err-say-clause-again g c =
+    rw (err_from_is_err_and c.from_residual.result c.from_residual.ensures.1).1 (λ e b k. k.1)
+
+pub returns-in_err-survey-clause-again : goal.returns-in_err-survey-clause-again
+returns-in_err-survey-clause-again g c =
+    rw (err_from_is_err_and c.from_residual-in_err-survey.result c.from_residual-in_err-survey.ensures.1).1
+    (λ e. absurd (both_ways c.survey.new.workspace.surveyed c.in_err-survey.ensures.leaves.unsurveyed e))
+
+pub returns-clause-again : goal.returns-clause-again
+returns-clause-again g c = at_error c.check_tree.result (λ e b k.
+    let v = c.args.geometry.now.layout in
+    let cleared = claims_left v b _ _ c.clear_passed.ensures.survey (c.in_ok-survey.ensures.survey b k.0 k.1).claims in
+    findings_claims v b _ _ c.check_tree.ensures.tree.findings cleared)
 
 -- how often the image was read
 pub returns-in_err-say-clause-reads : goal.returns-in_err-say-clause-reads

@@ -6,8 +6,8 @@ use Rattle.ffs_volume.specs.{Directories.Volumes.volume_of, Blocks.Inodes.inodes
 use Rattle.ffs_volume.specs.Report.DirectoryReads.{directory_cost, noted_costs, is_looked_at}
 use Rattle.ffs_report.proofs.Reporting.{of_begins, of_same, of_part, of_fault, of_reads, said_knows, reports_knowing}
 use Rattle.ffs_report.proofs.Paying.{paid_failed, paid_none, paid_then, paid_within}
-use Rattle.ffs_workspace.{specs.declared.workspace.Workspace.Workspace, proofs.Leaving.block_check_kept}
-use Rattle.ffs_workspace.proofs.Leaving.{block_check_left, block_check_more, queue_leaves}
+use Rattle.ffs_workspace.proofs.Leaving.{block_check_left, queue_leaves}
+use Rattle.ffs_pathnames.proofs.Findings.{findings_kept, findings_left, findings_more, findings_noted}
 use Rattle.ffs_pathnames.{specs.Before.{IsBeforeNoted, IsBefore}, proofs.{Begun.image_same, Carrying.noted_reported}}
 use Rattle.ffs_pathnames.{proofs.Skipping.{noted_before, unseen}, specs.ReadsLeft.LeftForNext}
 use Rattle.ffs_pathnames.proofs.{tree.check_inodes.{Given.Over, Goals.After-check_inode}, ChecksNeededLaws.flags_kept}
@@ -42,8 +42,7 @@ loop-number-init g c =
       ready = record { ready = noted.leaves.ready; kept_parent = c.none.ensures _ _ _ };
       device = noted.leaves.read;
       low = first.ensures.range.0;
-      references = ap (λ (w : Workspace). w.references) noted.leaves.lists;
-      block_check = queue_leaves _ _ noted.leaves.lists;
+      findings = findings_noted _ _ noted.leaves.lists;
       reads = λ b k.
           let made : g.I.Image.reads c.note_places.new.image ≤ g.I.Image.reads c.args.image.now + noted_costs v b =
           c.note_places.ensures.reads.each b k.gives_bytes (k.claims, k.survey) in
@@ -85,8 +84,7 @@ loop-number-preserved g c =
       ready = ok.leaves.ready;
       device = search rules;
       low = omega arith;
-      references = ok.leaves.survey.references ∙ inv.references;
-      block_check = block_check_more _ _ _ inv.block_check (block_check_left _ _ ok.leaves.survey);
+      findings = findings_more _ _ _ inv.findings (findings_left _ _ ok.leaves.survey);
       reads = λ b k.
           let taken = cost_take (λ s. true) (directory_cost v b) n refl in
           let here = ok.reads b (next g at b k) ((inv.before b k).noted) in
@@ -129,8 +127,7 @@ returns-then-first-count-clause-tree g c =
       paid = paid_none (omega arith);
       image = refl;
       holds = λ b k. (k.claims, k.survey);
-      references = refl;
-      block_check = block_check_kept _;
+      findings = findings_kept _;
       ready = c.requires;
     }
 
@@ -152,8 +149,7 @@ returns-in_err-note_places-clause-tree g c =
       paid = paid_failed (omega (arith, noted.reads.most));
       image = noted.leaves.read;
       holds = tt;
-      references = ap (λ (w : Workspace). w.references) noted.leaves.lists;
-      block_check = queue_leaves _ _ noted.leaves.lists;
+      findings = findings_noted _ _ noted.leaves.lists;
       ready = noted.leaves.ready;
     })
 
@@ -186,8 +182,7 @@ returns-in_err-check_inode-clause-tree g c =
       paid = paid_within (paid_then inv.paid said.paid) (omega arith) (omega arith);
       image = image_same (Unit {0}) (Unit {0}) _ _ _ c.in_err-check_inode.field-0.0 inv.device said.leaves.image;
       holds = tt;
-      references = said.leaves.survey.references ∙ inv.references;
-      block_check = block_check_more _ _ _ inv.block_check (block_check_left _ _ said.leaves.survey);
+      findings = findings_more _ _ _ inv.findings (findings_left _ _ said.leaves.survey);
       ready = said.leaves.ready;
     })
 
@@ -207,7 +202,6 @@ returns-clause-tree g c =
       paid = paid_within inv.paid (omega arith) (omega arith);
       image = inv.device;
       holds = λ b k. let now = (inv.before b k).before in (now.claims, now.survey);
-      references = inv.references;
-      block_check = inv.block_check;
+      findings = inv.findings;
       ready = inv.ready.ready;
     }

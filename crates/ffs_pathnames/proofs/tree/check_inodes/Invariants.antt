@@ -4,8 +4,8 @@ use Rattle.ffs_volume.specs.{Messages.Kinds.{of_tree, lines_from}, Report.Reads.
 use Rattle.ffs_volume.specs.{Directories.{PathnameCheck.directory_lines, Volumes.volume_of}, Blocks.Inodes.inodes_of}
 use Rattle.ffs_volume.specs.Report.DirectoryReads.{is_looked_at, places_cost, costs_all, costs_below, directories_cost}
 use Rattle.ffs_volume.specs.Report.DirectoryReads.{directory_cost}
-use Rattle.ffs_workspace.specs.Leaves.{LeavesBlockCheck}
 use Rattle.ffs_pathnames.specs.{ChecksNeeded.ChecksLookedAt, Ready.ReadyWith, Before.{IsBefore, IsBeforeNoted}}
+use Rattle.ffs_pathnames.specs.DirectoryLines.{LeavesFindings}
 use Rattle.ffs_pathnames.proofs.tree.check_inodes.Given as goal
 
 abbrev pub invariant-loop-number : goal.invariant-loop-number
@@ -18,8 +18,7 @@ invariant-loop-number g l =
       ready : ReadyWith v (g.I.Image.device l.image) l.workspace l.checking.texts.kept_parent;
       device : g.I.Image.device l.image ≡ g.I.Image.device l.fn.image;
       low : 2 ≤ l.number;
-      references : l.workspace.references ≡ l.fn.workspace.references;
-      block_check : LeavesBlockCheck l.fn.workspace l.workspace;
+      findings : LeavesFindings l.fn.workspace l.workspace;
       reads : ForBytes known (λ b. g.I.Image.reads l.image + line_reads * length (to_come b)
           ≤ g.I.Image.reads l.fn.image
           + (directories_cost v b + 2 * costs_all (directory_cost v b) l.number + line_reads * length (all b)));

@@ -38,9 +38,9 @@ read_at-requires g c =
 
 pub invariant_of-self : goal.invariant_of-self
 invariant_of-self g c = let s = c.end_chunks.new.self in record {
-  in_chunk = s.in_chunk;
-  counted = s.counted;
-  few = s.few;
+  in_chunk = omega arith;
+  counted = omega arith;
+  few = omega (arith, c.end_chunks.ensures.ended.budget);
   name_in_chunk = s.name_in_chunk;
   only = s.only;
   same_order = s.same_order;
