@@ -75,7 +75,7 @@ pub fn phase2<I: Image, W: Output>(
     // Where a read or a write failed, and the survey is made, what is to be held is held still.
     ensures again { OnErr result (workspace.new.surveyed ≡ true → ForBytes
         (WithClaims geometry.now.layout (I.device image.old) workspace.old)
-        (λ b. HoldsClaims geometry.now.layout b workspace.new)) }
+        (λ bytes. HoldsClaims geometry.now.layout bytes workspace.new)) }
     ensures ready { IsReady geometry.now.layout (I.device image.new) workspace.new }
 {
     report.say(&Line::Heading(Heading::Phase2))?;
