@@ -23,15 +23,15 @@ pub record IsLeftByPhase2 (v : Layout) (bytes : List ℕ) (root : Root) (w : Wor
 -- were said.
 -- Where a read failed: the heading alone was said, or the check continues after the root.
 -- Where the output failed nothing is promised.
-abbrev pub Phase2Leaves : Layout → Device → (w w' : Workspace) → (old new : Progress) → Result Root RunFault →
+abbrev pub Phase2Ends : Layout → Device → (w w' : Workspace) → (old new : Progress) → Result Root RunFault →
     Type 0
-Phase2Leaves v d w w' old new (Ok root) =
+Phase2Ends v d w w' old new (Ok root) =
     ForBytes (WithClaims v d w) (λ bytes. IsLeftByPhase2 v bytes root w')
     × (is_go root ≡ false → SaidStop (WithClaims v d w) (phase2 ∷ [])
     (λ bytes. phase2 ∷ map of_tree (pathname_lines (volume_of v bytes))) old new)
-Phase2Leaves v d w w' old new (Err (Read fault)) = Said old new (phase2 ∷ [])
+Phase2Ends v d w w' old new (Err (Read fault)) = Said old new (phase2 ∷ [])
     ⊎ ForBytes (WithClaims v d w) (λ bytes. continues_after_root (volume_of v bytes) ≡ true)
-Phase2Leaves v d w w' old new (Err (Out fault)) = ⊤
+Phase2Ends v d w w' old new (Err (Out fault)) = ⊤
 
 -- An image that gives its bytes is read at most `pathname_reads` times. What a volume holds counts, too: its
 -- directories are read for the survey, for the places of parent entries, and twice for the messages. Where the

@@ -5,7 +5,7 @@ ghost use Rattle.ffs_volume.specs.Directories.{PathnameCheck.pathname_lines, Vol
 ghost use Rattle.ffs_volume.specs.{Encodings.Kinds.is_dir_kind, Messages.Kinds.of_tree, Report.Reads.{line_reads, sweep_reads}};
 ghost use Rattle.ffs_workspace.specs.{Found.WithClaims, Holds.bool_at, Leaves.LeavesBlockCheck, Ready.{CanRead, IsReady}};
 ghost use Rattle.ffs_pathnames.specs.{Before.{root_reported, IsBefore, IsNonePassed}, Gathers.AreAsLong};
-ghost use Rattle.ffs_pathnames.specs.{Phase2.{Phase2Leaves, Phase2Reads}, RootAnswers.{AnswersRoot, SaidStop, is_go}};
+ghost use Rattle.ffs_pathnames.specs.{Phase2.{Phase2Ends, Phase2Reads}, RootAnswers.{AnswersRoot, SaidStop, is_go}};
 ghost use Rattle.ffs_pathnames.specs.{DirectoryLines.ReportsTree, Moments.lines_moment, SaysTreeMessages.SaysTreeMessages};
 ghost use Rattle.ffs_survey.specs.Survey.{suspect_at};
 ghost use Rattle.ffs_volume.specs.Messages.Kinds as messages;
@@ -58,7 +58,7 @@ pub fn phase2<I: Image, W: Output>(
         (λ bytes. messages.phase2 ∷ map of_tree
         (pathname_lines (volume_of geometry.now.layout bytes))) (progress W.sink report.old)
         (progress W.sink report.new) result }
-    ensures leaves { Phase2Leaves geometry.now.layout (I.device image.old) workspace.old
+    ensures leaves { Phase2Ends geometry.now.layout (I.device image.old) workspace.old
         workspace.new (progress W.sink report.old) (progress W.sink report.new) result }
     ensures reads { Phase2Reads geometry.now.layout (I.device image.old) workspace.old
         (I.reads image.old) (I.reads image.new) }

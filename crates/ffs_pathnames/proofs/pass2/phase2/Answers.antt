@@ -8,7 +8,7 @@ use Rattle.ffs_report.proofs.Reports.{said_then}
 use Rattle.ffs_volume.specs.{Messages.Kinds.{phase2, Message, of_tree}, declared.Layout.Layout}
 use Rattle.ffs_volume.{proofs.RunBounds.runs_bounded, specs.Directories.PathnameCheck.pathname_lines}
 use Rattle.ffs_volume.specs.Directories.Volumes.{volume_of}
-use Rattle.ffs_pathnames.specs.{declared.pass2.Root.Root, Before.IsBefore, Phase2.Phase2Leaves, RootAnswers.AnswersRoot}
+use Rattle.ffs_pathnames.specs.{declared.pass2.Root.Root, Before.IsBefore, Phase2.Phase2Ends, RootAnswers.AnswersRoot}
 use Rattle.ffs_pathnames.{specs.RootAnswers.{SaidStop, is_go}, proofs.Carrying.{before_first, references_on}}
 use Rattle.ffs_pathnames.proofs.{SilentLaws.calm_silent, pass2.phase2.{Given.Over, Goals.After-check_tree}}
 use Rattle.ffs_pathnames.proofs.ChecksNeededLaws.{looked_at_first}
@@ -38,7 +38,7 @@ ends_by : (v : Layout) (d d' : Device) (old w new : Workspace) (before after : P
     ForBytes (WithClaims v d old) (λ b. HoldsReferences v b new) → AnswersRoot v d' w r →
     OnOk r (ForBytes (IsBefore v d'.contents w 2) (λ b. HoldsClaims v b new × HoldsSurvey v b new)) →
     IfOk r (λ root. is_go root ≡ false → SaidStop (WithClaims v d old) (phase2 ∷ [])
-    (λ b. phase2 ∷ map of_tree (pathname_lines (volume_of v b))) before after) → Phase2Leaves v d old new before after r
+    (λ b. phase2 ∷ map of_tree (pathname_lines (volume_of v b))) before after) → Phase2Ends v d old new before after r
 ends_by v d d' old w new before after (Ok root) more references answer holds stop = (
   λ b k.
       let left = holds b (more b k) in
