@@ -2,10 +2,10 @@
 //!
 //! An image is opened by its name, asked for its end, and read at a place. The functions that do so
 //! are over the two traits here, whose facts are of any system: which name was looked up and then
-//! opened, once; where a file was read, how often it was tried. Of std the following is trusted, by the impls at the end of
-//! this file: its metadata reports which name is that of a FIFO; its open opens the file of the
-//! name as given, for reading alone; its seek to the end gives the number of bytes; its `read_at`
-//! gives bytes of that place, or an error.
+//! opened, once; where a file was read, how often it was tried. Of std the following is trusted, by
+//! the impls at the end of this file: its metadata reports which name is that of a FIFO; its open
+//! opens the file of the name as given, for reading alone; its seek to the end gives the number of
+//! bytes; its `read_at` gives bytes of that place, or an error.
 ghost use Rattle.std.specs.{Prelude.{ℕ, Bool, false, List, length, Option, Result}, declared.io.Error.Error};
 ghost use Rattle.ffs_image.specs.Source.{GivesBytes, GivesEnd};
 

@@ -31,19 +31,19 @@ pub record ReportsHeader {T : Type 0} (v : Layout) (h : HeaderFacts) (old new : 
 -- own blocks at most, the lines that it says, and what holds of its answer then
 pub record DirectoryTask (T : Type 0) : Type 1 where
   pub knows : List ℕ → Type 0
-  pub own : List ℕ → ℕ
+  pub own_reads : List ℕ → ℕ
   pub lines : List ℕ → List TreeMessage
   pub after : T → List ℕ → Type 0
 
 -- the lines of a task are said, by what is known of the bytes, and what it asks of the answer holds. The
--- directory's own blocks are read `own` times at most, which are taken of the reads that are left, and the
+-- directory's own blocks are read `own_reads` times at most, which are taken of the reads that are left, and the
 -- rest is read for the lines; of any image for no more than the messages that were begun
 pub record ReportsDirectory {T : Type 0} (v : Layout) (task : DirectoryTask T) (old new : LinesMoment Checking)
     (result : Result T RunFault) : Type 0 where
   pub text : PhaseReports task.knows (λ b. map of_tree (task.lines b)) old.said new.said result
   pub reads : ForBytes task.knows (λ b. AreNoted v b old.at.workspace.queue.items
-      → new.at.reads ≤ old.at.reads + (task.own b + line_reads * length (task.lines b)))
-  pub kept : ForBytes task.knows (λ b. old.kept.reads_left ≤ new.kept.reads_left + task.own b)
+      → new.at.reads ≤ old.at.reads + (task.own_reads b + line_reads * length (task.lines b)))
+  pub spends : ForBytes task.knows (λ b. old.kept.reads_left ≤ new.kept.reads_left + task.own_reads b)
   pub paid : Paid line_reads old.said new.said (old.at.reads + old.kept.reads_left)
       (new.at.reads + new.kept.reads_left) result
   pub holds : IfOk result (λ x. ForBytes task.knows (task.after x))

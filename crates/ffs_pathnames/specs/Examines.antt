@@ -54,5 +54,5 @@ pub record Examines {T : Type 0} (v : Layout) (knows : List ℕ → Type 0) (fin
 -- than are left, of any image
 pub record TakesLook (knows : List ℕ → Type 0) (cost : List ℕ → ℕ) (before after left left' : ℕ) : Type 0 where
   pub reads : ForBytes knows (λ b. after ≤ before + cost b)
-  pub kept : ForBytes knows (λ b. left ≤ left' + cost b)
+  pub spends : ForBytes knows (λ b. left ≤ left' + cost b)
   pub most : after + left' ≤ before + left

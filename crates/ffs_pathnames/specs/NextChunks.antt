@@ -20,7 +20,7 @@ pub record TakesNext (old new : SecondReading) (result : Result (Option ℕ) Ima
       → ForContents old.image.contents (λ b. to_read b old.chunks ≤ old.left
       → TakesReads old.reads new.reads (to_read b old.chunks) (to_read b new.chunks)
       (HoldsReading new.windows.blocks new.windows.current new.chunks) result)
-  pub kept : HoldsReading old.windows.blocks old.windows.current old.chunks
+  pub spends : HoldsReading old.windows.blocks old.windows.current old.chunks
       → ForContents old.image.contents (λ b. to_read b old.chunks ≤ old.left
       → TakesLeft old.left new.left (to_read b old.chunks) (to_read b new.chunks) result)
   pub most : new.reads + new.left ≤ old.reads + old.left

@@ -71,7 +71,7 @@ pub fn report_directory<I: Image, W: Output>(
     ensures lines { ReportsDirectory geometry.now.layout (record {
       knows = LeftForRuns geometry.now.layout (I.device image.old) workspace.old directory.now
           checking.old.reads_left;
-      own = λ b. directory_runs geometry.now.layout b directory.now.number;
+      own_reads = λ b. directory_runs geometry.now.layout b directory.now.number;
       lines = λ b. names.directory_reported (volume_of geometry.now.layout b)
           directory.now.number (passed_of workspace.old);
       after = λ _ b. names.after_directory (volume_of geometry.now.layout b)

@@ -145,9 +145,9 @@ fn put_path<I: Image>(
     ensures spares { SparesPath I.Image geometry.now.layout image.old image.new workspace.old
         workspace.new dir kept_parent.old kept_parent.new result }
 {
-    let mut limited = LimitedImage::new(image, PATH_READS);
-    let result = kept_parent.put_path(geometry, &mut limited, workspace, dir, path);
-    if limited.is_spent() {
+    let mut limited_image = LimitedImage::new(image, PATH_READS);
+    let result = kept_parent.put_path(geometry, &mut limited_image, workspace, dir, path);
+    if limited_image.is_spent() {
         forget_parent(kept_parent);
         return Ok(());
     }

@@ -129,7 +129,7 @@ fn check_inode<I: Image, W: Output>(
     ensures lines { ReportsDirectory geometry.now.layout (record {
       knows = LeftForNext geometry.now.layout (I.device image.old) workspace.old number
           checking.old.reads_left;
-      own = λ b. 2 * directory_cost geometry.now.layout b number;
+      own_reads = λ b. 2 * directory_cost geometry.now.layout b number;
       lines = λ b. directory_lines (volume_of geometry.now.layout b) number;
       after = λ _ b. IsBeforeNoted geometry.now.layout (I.device image.old).contents
           workspace.new (suc number) b × KeepsFlags workspace.old workspace.new;
@@ -162,7 +162,7 @@ fn check_directory<I: Image, W: Output>(
     ensures lines { ReportsDirectory geometry.now.layout (record {
       knows = LeftForBoth geometry.now.layout (I.device image.old) workspace.old dir
           checking.old.reads_left;
-      own = λ b. 2 * directory_cost geometry.now.layout b dir;
+      own_reads = λ b. 2 * directory_cost geometry.now.layout b dir;
       lines = λ b. sized_dir_lines (volume_of geometry.now.layout b) dir;
       after = λ _ b. AreRightBefore (volume_of geometry.now.layout b) (suc dir)
           (passed_of workspace.new) × KeepsFlags workspace.old workspace.new;
@@ -201,7 +201,7 @@ fn begin_directory<I: Image, W: Output>(
     ensures { ReportsDirectory geometry.now.layout (record {
       knows = LeftForLook geometry.now.layout (I.device image.old) workspace.old dir
           checking.old.reads_left;
-      own = λ b. directory_cost geometry.now.layout b dir;
+      own_reads = λ b. directory_cost geometry.now.layout b dir;
       lines = λ b. dir_header_lines (volume_of geometry.now.layout b) dir;
       after = λ e b. IsDirectoryBegun geometry.now.layout b dir workspace.old e workspace.new;
     })

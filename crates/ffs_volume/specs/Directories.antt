@@ -1,7 +1,9 @@
--- Directories: entries and their roles, levels and parents, paths, the lines of phases 2, 3 and 4, and
--- the directories of which phase 2 can report nothing. Four tests have one meaning: `is_directory` takes a class, `is_dir` a number of a volume,
--- `is_dir_inode`, of `Groups`, a number and the classes, and `is_dir_kind`, of `Encodings`, what
--- the program stores. The `kind` of an entry is its type, DT_DIR and so on.
+-- Directories: entries and their roles, levels and parents, paths, the lines of phases 2, 3 and 4,
+-- and the directories of which phase 2 can report nothing. Four tests have one meaning:
+-- `is_directory` takes a class, `is_dir` a number of a volume, `is_dir_inode`, of `Groups`, a number
+-- and the classes, and `is_dir_kind`, of `Encodings`, what the program stores. The `kind` of an entry
+-- is its type, DT_DIR and so on. `first` says of a chunk that it is at the start of the file, and of
+-- an entry that no plain entry before it names its inode.
 pub mod Entries
 pub mod Roles
 pub mod Climb

@@ -127,14 +127,14 @@ chunk_lines n about path = reported n.gap (of_directory (DirEmpty path))
 abbrev pub dot_lines : DotDefects (List ℕ) → Attr → (path : List ℕ) → List TreeMessage
 dot_lines Missing about path = of_dot (MissingDot about path) ∷ []
 dot_lines (Other name) about path = of_dot (MissingDotFirst about path name) ∷ []
-dot_lines (Found number kind) about path = reported number (of_dot (NumberDot about path))
-    ++ reported kind (of_dot (KindDot about path))
+dot_lines (Found wrong_number wrong_type) about path = reported wrong_number (of_dot (NumberDot about path))
+    ++ reported wrong_type (of_dot (KindDot about path))
 
 abbrev pub dotdot_lines : DotDefects (List ℕ) → Attr → (path : List ℕ) → List TreeMessage
 dotdot_lines Missing about path = of_dot (MissingDotdot about path) ∷ []
 dotdot_lines (Other name) about path = of_dot (MissingDotdotSecond about path name) ∷ []
-dotdot_lines (Found number kind) about path = reported number (of_dot (NumberDotdot about path))
-    ++ reported kind (of_dot (KindDotdot about path))
+dotdot_lines (Found wrong_number wrong_type) about path = reported wrong_number (of_dot (NumberDotdot about path))
+    ++ reported wrong_type (of_dot (KindDotdot about path))
 
 abbrev pub dots_lines : HeaderDefects (List ℕ) → Attr → (path : List ℕ) → List TreeMessage
 dots_lines n about path = dot_lines n.dot about path ++ dotdot_lines n.dotdot about path
@@ -147,7 +147,7 @@ header_lines n about path = size_lines n about path ++ (chunk_lines n about path
 abbrev pub is_right : {P : Type 0} → DotDefects P → Bool
 is_right Missing = false
 is_right (Other name) = false
-is_right (Found number kind) = not (number || kind)
+is_right (Found wrong_number wrong_type) = not (wrong_number || wrong_type)
 
 abbrev pub is_none : {P : Type 0} → HeaderDefects P → Bool
 is_none n = not (n.short || (n.partial_chunk || (n.gap || n.unsound))) && (is_right n.dot && is_right n.dotdot)

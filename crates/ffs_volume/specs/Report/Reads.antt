@@ -20,8 +20,9 @@ abbrev pub sweep_reads : Layout → ℕ
 sweep_reads v = v.ncg * v.ipg + runs_limit v
 
 -- for a path the path of its parent is made first: a part of the image is read for each name that
--- 1,024 bytes have room for, and for one that has no room any more. Then one is read for the directory's own
--- name, also where that path was cut. Each name takes two bytes at least, with its slash
+-- 1,024 bytes have room for, and for one that has no room any more. Then one is read for the
+-- directory's own name, also where that path was cut. Each name takes two bytes at least, with its
+-- slash
 abbrev pub path_reads : ℕ
 path_reads = MAXPATHLEN / 2 + 2
 

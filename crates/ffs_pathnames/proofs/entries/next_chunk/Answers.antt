@@ -38,7 +38,7 @@ returns-then-is_spent g c =
       };
       takes = record {
         reads = λ held b t enough. absurd (answered g at b t held enough spent);
-        kept = λ held b t enough. absurd (answered g at b t held enough spent);
+        spends = λ held b t enough. absurd (answered g at b t held enough spent);
         most = grind (arith, after);
       };
       leaves = record {
@@ -59,7 +59,7 @@ returns g c = record {
       c.next-offset.ensures.chunk (budget_falls c.next-offset.result _ _ c.next-offset.ensures.leaves.budget);
   takes = record {
     reads = λ held b t enough. grind (arith, after, taken_below, bytes);
-    kept = λ held b t enough. grind (arith, taken_left, bytes, after);
+    spends = λ held b t enough. grind (arith, taken_left, bytes, after);
     most = grind (arith, after);
   };
   leaves = grind (arith, after, read_over, can_read_same);

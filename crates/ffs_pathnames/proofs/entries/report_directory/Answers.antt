@@ -135,7 +135,7 @@ chunks-preserved g c =
           (ok.passed b (known b k))) in
           omega (arith, took.paid, here, long, inv.once b k noted);
       spent = λ b k.
-          let took = read.takes.kept (held g at b k) b (now g at b k) (enough g at b k) in
+          let took = read.takes.spends (held g at b k) b (now g at b k) (enough g at b k) in
           omega (arith, took.paid, inv.spent b k);
       paid =
           let looked = paid_within inv.paid (omega arith) read.takes.most in
@@ -154,7 +154,7 @@ left_of : (g : Over) (c : After-next_chunk g) (b : List ℕ) → Known g c b →
     c.args.checking.now.reads_left
     ≤ c.next_chunk.new.reads_left + directory_runs c.args.geometry.now.layout b c.args.directory.now.number
 left_of g c b k =
-    let took = c.next_chunk.ensures.takes.kept (held g c b k) b (now g c b k) (enough g c b k) in
+    let took = c.next_chunk.ensures.takes.spends (held g c b k) b (now g c b k) (enough g c b k) in
     omega (arith, took.most, c.chunks.invariant.spent b k)
 
 -- what is said, what is read for it, and what is left
@@ -169,7 +169,7 @@ returns-in_err-offset-clause-lines g c =
       reads = λ b k noted.
           let most = (read.takes.reads (inv.held b k noted) b (now g at b k) (enough g at b k)).most in
           omega (arith, most, inv.reads b k noted);
-      kept = left_of g at;
+      spends = left_of g at;
       paid = paid_then inv.paid (paid_failed read.takes.most);
       holds = tt;
       leaves = record {
@@ -211,7 +211,7 @@ returns-in_err-report_chunk-clause-lines g c =
           (noted_kept v b c.args.workspace.now.queue.items c.chunks.workspace.queue.items inv.places noted) in
           let long = lines_long _ _ _ (chunk_reported (volume_of v b) x.number m chunk _ _ (next b k) refl) in
           omega (arith, took.paid, few.count, long, inv.reads b k noted);
-      kept = left_of g at;
+      spends = left_of g at;
       paid =
           let looked = paid_within
           {before' = g.I.Image.reads c.args.image.now + c.args.checking.now.reads_left} inv.paid
@@ -243,7 +243,7 @@ returns-clause-lines g c =
       reads = λ b k noted.
           let most = (read.takes.reads (inv.held b k noted) b (now g at b k) (enough g at b k)).most in
           omega (arith, most, inv.reads b k noted);
-      kept = left_of g at;
+      spends = left_of g at;
       paid =
           paid_within inv.paid (omega arith) read.takes.most;
       holds = λ b k. inv.passed b k

@@ -61,7 +61,7 @@ returns g c =
       };
       cost = record {
         reads = λ b k. (taken g at b k).0;
-        kept = λ b k. (taken g at b k).1;
+        spends = λ b k. (taken g at b k).1;
         most = back.most;
       };
     })

@@ -75,7 +75,7 @@ returns-in_err-examined g c =
     rw (p.1, p.2) (record {
       text = of_reads _ _ _ _ _ (of_begins _ _ _);
       reads = λ b k noted. omega (arith, looks.cost.reads b k.0);
-      kept = λ b k. looks.cost.kept b k.0;
+      spends = λ b k. looks.cost.spends b k.0;
       paid = paid_failed looks.cost.most;
       holds = tt;
       leaves = record {
@@ -98,7 +98,7 @@ returns-in_err-report_header g c =
       text = fault_same (Unit {0}) Examination _ _ _ _ _ _ c.in_err-report_header.field-0.0
           (known g at) (λ b k. ap (map of_tree) (lines_are g at b k)) said.text;
       reads = reads_few g at;
-      kept = λ b k. looks.cost.kept b k.0;
+      spends = λ b k. looks.cost.spends b k.0;
       paid = paid_fault c.in_err-report_header.field-0.0
           (paid_then (paid_none {T = Unit {0}} {x = tt} looks.cost.most)
           (paid_beside c.examine.new.reads_left said.paid));
@@ -122,7 +122,7 @@ returns g c =
     record {
       text = said_same _ _ _ _ _ _ (known g at) (λ b k. ap (map of_tree) (lines_are g at b k)) said.text;
       reads = reads_few g at;
-      kept = λ b k. looks.cost.kept b k.0;
+      spends = λ b k. looks.cost.spends b k.0;
       paid = paid_answer (paid_then (paid_none {T = Unit {0}} {x = tt} looks.cost.most)
           (paid_beside c.examine.new.reads_left said.paid));
       holds = λ b k.

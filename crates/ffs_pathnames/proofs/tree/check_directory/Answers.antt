@@ -36,7 +36,7 @@ second : (g : Over) (c : After-report_directory g) (b : List ℕ) →
     c.begin_directory.new.checking.reads_left b
 second g c b k =
     let v = c.args.geometry.now.layout in
-    let kept = c.begin_directory.ensures.kept b (first k) in
+    let kept = c.begin_directory.ensures.spends b (first k) in
     let left = c.in_ok-examined.ensures.leaves in (
       (
         knows_on v _ _ c.args.workspace.now c.begin_directory.new.workspace c.args.dir b
@@ -62,7 +62,7 @@ returns-in_err-examined-clause-lines g c =
       reads = λ b k noted.
           let within = mul-le-mul_left line_reads (starts_within (volume_of c.args.geometry.now.layout b) c.args.dir) in
           omega (arith, begun.reads b (first k) noted, within);
-      kept = λ b k. omega (arith, begun.kept b (first k));
+      spends = λ b k. omega (arith, begun.spends b (first k));
       paid = paid_fault c.in_err-examined.field-0.0 begun.paid;
       holds = tt;
       leaves = record {
@@ -88,7 +88,7 @@ returns-then-examined-clause-lines g c =
       reads = λ b k noted.
           let within = mul-le-mul_left line_reads (starts_within (volume_of v b) c.args.dir) in
           omega (arith, begun.reads b (first k) noted, within);
-      kept = λ b k. omega (arith, begun.kept b (first k));
+      spends = λ b k. omega (arith, begun.spends b (first k));
       paid = paid_answer begun.paid;
       holds = λ b k. (
         quiet_after (volume_of v b) c.args.dir m _ k.passed (quiet b k) (begun.holds b (first k)).passed,
@@ -122,9 +122,9 @@ returns-clause-lines g c =
           (two.reads b (second_of b k) (noted_kept v b c.args.workspace.now.queue.items
           c.begin_directory.new.workspace.queue.items one.leaves.places noted))
           (cost_of_dir v b c.args.dir k.knows.dir) (lines_long _ _ _ (parts b k));
-      kept = λ b k.
+      spends = λ b k.
           let cost = cost_of_dir v b c.args.dir k.knows.dir in
-          omega (arith, one.kept b (first k), two.kept b (second_of b k), cost);
+          omega (arith, one.spends b (first k), two.spends b (second_of b k), cost);
       paid = paid_then one.paid two.paid;
       holds = if_ok c.report_directory.result _ _
           (λ x p b k. (

@@ -22,7 +22,7 @@ returns-then-needs_check-clause-lines g c =
           (λ b k. sym (ap (map of_tree) (lines_looked looked k.0.before)))
           (reports_knowing (Unit {0}) _ _ _ _ _ c.check_directory.result (λ b k. both looked k) checked.text);
       reads = λ b k noted. rw (lines_looked looked k.0.before) (checked.reads b (both looked k) noted);
-      kept = λ b k. checked.kept b (both looked k);
+      spends = λ b k. checked.spends b (both looked k);
       paid = checked.paid;
       holds = if_ok c.check_directory.result _ _
           (λ x h b k. (
@@ -40,7 +40,7 @@ returns-clause-lines g c =
     record {
       text = of_same _ _ (λ b. []) _ _ _ (of_begins _ _ _) (λ b k. lines_skipped c.requires.low other k.0.before);
       reads = λ b k noted. omega arith;
-      kept = λ b k. omega arith;
+      spends = λ b k. omega arith;
       paid = paid_none (omega arith);
       holds = λ b k. (
         record { before = before_skipped c.args.geometry.now.sound other k.0.before; noted = k.0.noted },

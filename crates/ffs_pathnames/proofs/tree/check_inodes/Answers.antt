@@ -100,7 +100,7 @@ loop-number-preserved g c =
           omega (arith, one, long, inv.looks b k checks);
       left = λ b k.
           let taken = cost_take (λ s. true) (directory_cost v b) n refl in
-          let kept = ok.kept b (next g at b k) in
+          let kept = ok.spends b (next g at b k) in
           omega (arith, inv.left b k, taken, kept);
       paid = paid_then inv.paid ok.paid;
       before = λ b k. subst (λ d. IsBeforeNoted v (g.I.Image.device c.args.image.now).contents c.check_inode.new.workspace d
