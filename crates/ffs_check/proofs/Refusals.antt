@@ -1,29 +1,33 @@
 -- What a text leaves of the writer that it was written to.
 use Rattle.std.proofs.Common.{◌≡◌, ℕ, List, [], Option, Result, Ok, Err, append-nil, inl, inr, sym, refl, OnErr}
 use Rattle.std.specs.{declared.io.Error.Error}
-use Rattle.ffs_report.specs.{Outlet.WriteFailed, Sink.{Prints, PutRefused}, Writers.{PutsOnce, counted_sink}}
+use Rattle.ffs_report.specs.{Outlet.LastWriteFailed, Sink.{Prints, PutRefused}, Writers.{PutsOnce, counted_sink}}
 use Rattle.ffs_report.specs.declared.{counted.Counted.Counted, outlet.Outlet.Ghosts, output.OutFault.OutFault}
 use Rattle.ffs_check.specs.Refusals.{IsWritten}
 
 module _ {S : Type 0} (contents : S → Option (List ℕ)) (was_written : S → List ℕ → Result ℕ Error → S → Type 0) where
   -- a put that an output over a writer refused is a write that failed
-  write_failed : {I : Ghosts S} → PutRefused {W = Counted S I} {E = OutFault}
-      (λ old piece result new. PutsOnce contents was_written old new piece result) → WriteFailed was_written
-  write_failed p = record {
-    old = p.old.inner.now;
-    piece = p.piece;
-    answer = p.refused.answer;
-    new = p.new.inner.now;
-    some = p.refused.some;
-    written = p.refused.written;
-    nothing = p.refused.reported;
+  write_failed : {I : Ghosts S} (out : Counted S I) (now : S) → PutRefused {W = Counted S I} {E = OutFault}
+      (λ old piece result new. PutsOnce contents was_written old new piece result) out → out.inner.now ≡ now →
+      LastWriteFailed was_written now
+  write_failed out now p after = record {
+    write = record {
+      old = p.old.inner.now;
+      piece = p.piece;
+      answer = p.refused.answer;
+      new = out.inner.now;
+      some = p.refused.some;
+      written = p.refused.written;
+      nothing = p.refused.reported;
+    };
+    last = sym after;
   }
 
   pub written : {T : Type 0} {I : Ghosts S} (old new : S) (out out' : Counted S I) (text : List ℕ)
       (result : Result T OutFault) →
       Prints (counted_sink contents out) (counted_sink contents out') text result →
       OnErr result (PutRefused {W = Counted S I} {E = OutFault} (λ before piece answer after.
-      PutsOnce contents was_written before after piece answer)) → out.inner.now ≡ old →
+      PutsOnce contents was_written before after piece answer) out') → out.inner.now ≡ old →
       out'.inner.now ≡ new → IsWritten contents was_written old new text
   written old new out out' text (Ok x) prints refused before after = record {
     prefix = text;
@@ -37,11 +41,11 @@ module _ {S : Type 0} (contents : S → Option (List ℕ)) (was_written : S → 
     rest = prints.rest;
     whole = prints.whole;
     written = rw (← before, ← after) prints.taken;
-    failed = inr (write_failed refused);
+    failed = inr (write_failed out' new refused after);
   }
 
 -- a call that hands on the fault of a put that was refused
-pub refused_so : {W T E F : Type 0} (was_put : W → List ℕ → Result ℕ E → W → Type 0) (r : Result T F) →
-    PutRefused was_put → OnErr r (PutRefused was_put)
-refused_so was_put (Ok x) h = tt
-refused_so was_put (Err e) h = h
+pub refused_so : {W T E F : Type 0} (was_put : W → List ℕ → Result ℕ E → W → Type 0) (now : W) (r : Result T F) →
+    PutRefused was_put now → OnErr r (PutRefused was_put now)
+refused_so was_put now (Ok x) h = tt
+refused_so was_put now (Err e) h = h

@@ -2,7 +2,7 @@
 use Rattle.std.specs.{Prelude.{◌≡◌, ◌⊎◌, ◌∷◌, ◌++◌, ℕ, List, [], Option, Result}, Io.KnownBytes.Appends}
 use Rattle.std.specs.declared.io.Error.{Error}
 use Rattle.clap.specs.{declared.error.kind.ErrorKind.ErrorKind, Words.{App, IsAmong, Text}}
-use Rattle.ffs_report.specs.Outlet.{WriteFailed}
+use Rattle.ffs_report.specs.Outlet.{LastWriteFailed}
 use Rattle.ffs_check.specs.{CommandWords.refusals, Program.Meaning, declared.program.NotAsked.NotAsked}
 use Rattle.ffs_check.specs.declared.{program.NotAsked.TheVariants.{Refused, NoMemory}, refusal.Refusal.Refusal}
 use Rattle.ffs_check.specs.declared.{version.TheConstants.VERSION, wrong_words.TheConstants.{HELP, NAME, NEEDED}}
@@ -50,11 +50,11 @@ pub record IsTextFor (app : App) (text_for : ErrorKind → List ℕ) (words : Li
   pub answered : IsAmong kind (refusals app words)
   pub text_is : text ≡ text_for kind
 
--- a text was written to a writer, or a prefix of it, where a write failed
+-- a text was written to a writer, or a prefix of it, where a write failed, after which the writer wasn't asked again
 pub record IsWritten {E : Type 0} (contents : E → Option (List ℕ))
     (was_written : E → List ℕ → Result ℕ Error → E → Type 0) (old new : E) (text : List ℕ) : Type 0 where
   pub prefix : List ℕ
   pub rest : List ℕ
   pub whole : text ≡ prefix ++ rest
   pub written : Appends (contents old) (contents new) prefix
-  pub failed : (rest ≡ []) ⊎ WriteFailed was_written
+  pub failed : (rest ≡ []) ⊎ LastWriteFailed was_written new

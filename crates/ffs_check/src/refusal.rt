@@ -32,7 +32,7 @@ pub fn second_text(kind: ErrorKind, usage: &'static [u8]) -> &'static [u8]
 #[tactic(auto, using(ffs_report::proofs::Sinks::printing, crate::proofs::Refusals::refused_so))]
 fn print_two<W: Output>(out: &mut W, first: &[u8], second: &[u8]) -> Result<(), OutFault>
     ensures prints { Prints (W.sink out.old) (W.sink out.new) (first.now ++ second.now) result }
-    ensures refused { OnErr result (PutRefused W.was_put) }
+    ensures refused { OnErr result (PutRefused W.was_put out.new) }
 {
     print(out, first)?;
     print(out, second)
@@ -42,7 +42,7 @@ fn print_two<W: Output>(out: &mut W, first: &[u8], second: &[u8]) -> Result<(), 
 #[tactic(auto, using(ffs_report::proofs::Sinks::printing, crate::proofs::Refusals::refused_so))]
 fn print_refusal<W: Output>(out: &mut W, refusal: &Refusal) -> Result<(), OutFault>
     ensures prints { Prints (W.sink out.old) (W.sink out.new) (text_refused refusal.now) result }
-    ensures refused { OnErr result (PutRefused W.was_put) }
+    ensures refused { OnErr result (PutRefused W.was_put out.new) }
 {
     print_two(out, refusal.first, refusal.second)?;
     print(out, b"\n")

@@ -8,6 +8,7 @@ use Rattle.ffs_layout.specs.Super.{ReadsSuper}
 use Rattle.ffs_finding.specs.declared.request.{Search.Search, Command.{Command, TheVariants.{Copies, InVolume}}}
 use Rattle.ffs_finding.specs.declared.find.FindFault.{FindFault, TheVariants.{Refused, Run, NoMemory}}
 use Rattle.ffs_finding.specs.{Outcome.StoppedIn, Whole.{Answers, EndsBy, EndsByLine, FindEnds, RefusesSuperblock}}
+use Rattle.ffs_finding.specs.Whole.{IsUnreadableFor}
 use Rattle.ffs_finding.specs.Whole.{PrintedAll, command_finds_defects, command_lines, status_of_answer}
 use Rattle.ffs_finding.proofs.Printing.{reads_first}
 use Rattle.ffs_check.specs.{Moment.Moment, Run.IsPrintedOrBrokeOff}
@@ -15,9 +16,10 @@ use Rattle.ffs_check.specs.{Moment.Moment, Run.IsPrintedOrBrokeOff}
 module _ (sector : Option ℕ) (search : Search) (m m' : Moment) (held held' : Account) (fault : SuperFault) (status : ℕ)
   where
     ends_refused : ReadsSuper m.image m'.image sector (Err fault) →
+        IsUnreadableFor (InVolume sector search) m.image m'.image fault →
         EndsByLine m.out m'.out (text_of (fault_line fault)) status →
         FindEnds (InVolume sector search) m m' held held' status
-    ends_refused p e = elim p [
+    ends_refused p unreadable e = elim p [
       | inl failed ↦ inr (inr (inl (record {
         sector = m'.image.failed_sector;
         faulted = failed.0.1;
@@ -30,17 +32,18 @@ module _ (sector : Option ℕ) (search : Search) (m m' : Moment) (held held' : A
         fault = fault;
         no_read_failed = found.0;
         refused = λ b k. sym (found.1 b k);
+        unreadable = unreadable;
         line = e.0;
         status_is = e.1;
       }))
     ]
 
 ends_by_superblock : (command : Command) (m m' : Moment) (held held' : Account) (fault : SuperFault) (status : ℕ) →
-    RefusesSuperblock command m.image m'.image fault → EndsByLine m.out m'.out (text_of (fault_line fault)) status →
-    FindEnds command m m' held held' status
-ends_by_superblock Copies m m' held held' fault status p e = absurd p
-ends_by_superblock (InVolume sector search) m m' held held' fault status p e =
-    ends_refused sector search m m' held held' fault status p e
+    RefusesSuperblock command m.image m'.image fault → IsUnreadableFor command m.image m'.image fault →
+    EndsByLine m.out m'.out (text_of (fault_line fault)) status → FindEnds command m m' held held' status
+ends_by_superblock Copies m m' held held' fault status p unreadable e = absurd p
+ends_by_superblock (InVolume sector search) m m' held held' fault status p unreadable e =
+    ends_refused sector search m m' held held' fault status p unreadable e
 
 -- `b` is the output before the line of the fault
 pub ends : (command : Command) (m m' : Moment) (b : Sink) (held held' : Account) (answer : Result Bool FindFault)
@@ -56,7 +59,7 @@ ends command m m' b held held' (Ok defect) status p e =
       status_is = e.1 ∙ ap status_of_answer all.defect_is;
     })
 ends command m m' b held held' (Err (Refused fault)) status p e =
-    ends_by_superblock command m m' held held' fault status p.1
+    ends_by_superblock command m m' held held' fault status p.1 p.2
     (subst (λ (s : Sink). EndsByLine s m'.out (text_of (fault_line fault)) status) p.0 e)
 ends command m m' b held held' (Err (Run (Read fault))) status p e = inr (inr (inl (record {
   sector = fault.sector;

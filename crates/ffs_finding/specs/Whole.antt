@@ -4,7 +4,7 @@
 use Rattle.std.specs.Prelude.{◌≡◌, ◌⊎◌, ◌≤◌, ◌+◌, ◌*◌, ℕ, Bool, true, false, ◌&&◌, List, [], if◌then◌else◌, Option}
 use Rattle.std.specs.Prelude.{Result, Ok, Err, IsOk, ⊤}
 use Rattle.ffs_image.specs.Device.{Device, Faulted, ForContents}
-use Rattle.ffs_volume.specs.{declared.{Layout.Layout, SuperFault.SuperFault}, Laws.Geometry.IsAcceptedLayout}
+use Rattle.ffs_volume.specs.{declared.{Layout.Layout, SuperFault.{SuperFault, TheVariants.CannotRead}}, Laws.Geometry.IsAcceptedLayout}
 use Rattle.ffs_volume.specs.{Disk.{Superblock.Superblock, Outcome.outcome}, Messages.Kinds.{cannot_read, cannot_alloc}}
 use Rattle.ffs_volume.specs.{Messages.Texts.text_of, Report.{Opening.fault_line, Reads.{opening_reads, scan_reads}}}
 use Rattle.ffs_volume.specs.{Report.Reads.sweep_reads, Find.{Copies.copies_lines, InodeText.inode_listing}}
@@ -13,7 +13,7 @@ use Rattle.ffs_report.specs.{Known.IsContents, Sink.Sink, declared.fault.RunFaul
 use Rattle.ffs_memory.specs.Account.{Account, Granted, GaveUp, RefusedOneMore}
 use Rattle.ffs_check.specs.{Moment.Moment, Run.IsPrintedOrBrokeOff, Taken.{AsksMemory, Takes}}
 use Rattle.ffs_workspace.specs.Lengths.{held_of}
-use Rattle.ffs_layout.specs.Super.{ReadsSuper}
+use Rattle.ffs_layout.specs.Super.{IsUnreadable, ReadsSuper}
 use Rattle.ffs_finding.specs.declared.request.Search.{Search, TheVariants.{Inode, Fields, Lost, Owner}}
 use Rattle.ffs_finding.specs.declared.request.Command.{Command, TheVariants.{Copies, InVolume}}
 use Rattle.ffs_finding.specs.declared.find.FindFault.{FindFault, TheVariants.{Refused, Run, NoMemory}}
@@ -132,6 +132,13 @@ EndsBy old new (Err (Run (Read fault))) status = EndsByLine old new (text_of (ca
 EndsBy old new (Err (Run (Out fault))) status = EndsSilent old new 8 status
 EndsBy old new (Err NoMemory) status = EndsByLine old new (text_of cannot_alloc) status
 
+-- where a fault says that the superblock of the command's volume can't be read, a read of it failed, or the image
+-- ends before it does
+abbrev pub IsUnreadableFor : Command → Device → Device → SuperFault → Type 0
+IsUnreadableFor Copies d d' fault = ⊥
+IsUnreadableFor (InVolume sector search) d d' fault =
+    (at : ℕ) → fault ≡ CannotRead at → IsUnreadable d d' sector at
+
 -- the superblock is refused: a read of it failed, or this is its fault in the image's bytes
 abbrev pub RefusesSuperblock : Command → Device → Device → SuperFault → Type 0
 RefusesSuperblock Copies d d' fault = ⊥
@@ -145,6 +152,7 @@ Answers command old new held held' (Ok defect) =
     new.out defect
 Answers command old new held held' (Err (Refused fault)) =
     (new.out ≡ old.out) × RefusesSuperblock command old.image new.image fault
+    × IsUnreadableFor command old.image new.image fault
 Answers command old new held held' (Err (Run (Read fault))) =
     Faulted old.image new.image fault.sector
     × PrintedSome (IsContents old.image.contents) (command_lines command) old.out new.out
@@ -165,6 +173,7 @@ pub record SuperRefused (command : Command) (old new : Moment) (status : ℕ) : 
   pub fault : SuperFault
   pub no_read_failed : new.image ≡ old.image
   pub refused : IsRefusedBy command fault old.image
+  pub unreadable : IsUnreadableFor command old.image new.image fault
   pub line : IsPrintedOrBrokeOff old.out new.out (text_of (fault_line fault))
   pub status_is : status ≡ 8
 

@@ -36,6 +36,12 @@ pub record WriteFailed {S : Type 0} (was_written : S → List ℕ → Result ℕ
   pub written : was_written old piece answer new
   pub nothing : MatchResult answer (λ n. n ≡ 0) (λ _. Unit {0})
 
+-- a write to a writer failed, and left it as it is now
+pub record LastWriteFailed {S : Type 0} (was_written : S → List ℕ → Result ℕ Error → S → Type 0) (now : S) : Type 0
+  where
+    pub write : WriteFailed was_written
+    pub last : now ≡ write.new
+
 -- so many puts failed: none, or some write failed
 abbrev pub IsCaused : {S : Type 0} → (S → List ℕ → Result ℕ Error → S → Type 0) → ℕ → Type 0
 IsCaused was_written failures = (failures ≡ 0) ⊎ WriteFailed was_written
