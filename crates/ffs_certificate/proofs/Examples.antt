@@ -29,7 +29,7 @@ use Rattle.ffs_volume.specs.Examples.Images.{base_layout, base_superblock, base_
 use Rattle.ffs_volume.specs.Examples.{Images.{root_inode, root_chunk, base_image}, DirectoryExamples.entry_bytes}
 use Rattle.ffs_volume.{specs.Examples.BlockExamples.blocks_at, proofs.OpeningExamples.superblock_examples}
 use Rattle.ffs_volume.specs.declared.tree_lines.{EntryLine.TheVariants.DupBad, ReferenceLine.TheVariants.UnrefDir}
-use Rattle.ffs_volume.specs.Messages.Kinds.{of_entry, of_reference}
+use Rattle.ffs_volume.specs.{Messages.Kinds.{of_entry, of_reference}, Blocks.Claims.all_claims}
 use Rattle.ffs_certificate.specs.ReportExamples.{ReportExamples, inode_bytes, dir_chunk, two_dirs, named_dir}
 use Rattle.ffs_certificate.specs.ReportExamples.{unnamed_dir, shared_summary, shared_group, shared_image}
 use Rattle.ffs_certificate.specs.ReportExamples.{shared_superblock, about_file, clean_lines}
@@ -48,7 +48,7 @@ unfolding bytes_in word zero_bytes base_layout base_superblock base_super base_s
     header_defects header_lines dir_header_lines plain_verdict entry_lines lines_of_entries sized_dir_lines
     pathname_lines connectivity_lines inode_lines reference_lines right_group_counts right_frsum right_total maps_fit
     has_right_magic has_right_maps has_right_sums has_right_record has_right_totals phase5_lines setting_lines
-    file_count claimed_count later_phase_lines phase_lines report_lines
+    file_count all_claims claimed_count later_phase_lines phase_lines report_lines
 computes = tt
 
 base_lines : report_lines (base_image Little) (base_superblock Little) ≡ clean_lines

@@ -4,7 +4,7 @@ use Rattle.std.proofs.{Common.{append_assoc, length-append, Ok, Err, subst, Resu
 use Rattle.ffs_image.specs.Device.{Device}
 use Rattle.ffs_volume.specs.{declared.{Layout.Layout, End.End}, Messages.{Kinds.{Message, cannot_alloc, cannot_read}}}
 use Rattle.ffs_volume.specs.{Messages.Texts.texts_of, Report.Reads.{line_reads, opening_reads, phase_reads, reads_limit}}
-use Rattle.ffs_report.specs.{Sink.Took, Paid.Paid, Progress.{Progress, Stopped}}
+use Rattle.ffs_report.specs.{Sink.Took, Paid.Paid, Progress.{Progress, Said, Stopped}}
 use Rattle.ffs_report.specs.declared.fault.RunFault.{RunFault, TheVariants.{Read, Out}}
 use Rattle.ffs_report.proofs.{Reports.said_then, Sinks.took_nil}
 use Rattle.ffs_pathnames.specs.declared.pass2.Root.{Root}
@@ -22,48 +22,47 @@ pub ended_reads : (v : Layout) (had_defect : Bool) (old new : ReportMoment) (b :
     Paid (line_reads + 1) old.report b (old.reads + phase_reads v 0) new.reads r → EndsAs had_defect b new.report r end →
     ReadsByMessages (phase_reads v) (at_output old) (at_output new)
 ended_reads v had_defect old new b (Ok root) end working p e = record {
-  messages = p.begun.messages;
-  went_out = inl (subst (λ (to : Progress). Took old.report.sink to.sink (texts_of p.begun.messages)) (sym e.0)
-      p.begun.said.took);
-  most = priced v p.messages _ old.reads new.reads p.most (omega (arith, p.begun.many));
+  messages = p.messages;
+  went_out = inl (subst (λ (to : Progress). Took old.report.sink to.sink (texts_of p.messages))
+      (sym (e.0 ∙ p.begun.1)) p.said.took);
+  most = priced v _ _ old.reads new.reads p.most (rw p.begun.0 (omega arith));
 }
 ended_reads v had_defect old new b (Err (Read fault)) end working p e =
     let a = old.report in
     let line = cannot_read fault.sector in
-    let begun = p.begun in
-    let long = length-append begun.messages (line ∷ []) in
+    let said : Said a b p.messages = subst (λ to. Said a to p.messages) (sym p.begun) p.said in
+    let long = length-append p.messages (line ∷ []) in
     record {
-      messages = begun.messages ++ (line ∷ []);
+      messages = p.messages ++ (line ∷ []);
       went_out = elim e [
-        | inl said ↦ inl (said_then a b new.report begun.messages (line ∷ []) begun.said said.0).took
+        | inl whole ↦ inl (said_then a b new.report p.messages (line ∷ []) said whole.0).took
         | inr stopped ↦ inr (record {
-          said = begun.messages;
+          said = p.messages;
           last = line ∷ [];
           are_all = refl;
           few = omega arith;
           between = b.sink;
-          went_out = begun.said.took;
-          broke_off = broke_off b new.report (line ∷ []) (begun.said.failed ∙ working) stopped.0;
+          went_out = said.took;
+          broke_off = broke_off b new.report (line ∷ []) (said.failed ∙ working) stopped.0;
         })
       ];
-      most = priced v p.messages _ old.reads new.reads p.most (omega (arith, begun.many, long));
+      most = priced v _ _ old.reads new.reads p.most (omega (arith, p.few, long));
     }
 ended_reads v had_defect old new b (Err (Out fault)) end working p e =
-    let begun = p.begun in
-    let long = length-append begun.messages begun.last in
+    let long = length-append p.messages p.last in
     record {
-      messages = begun.messages ++ begun.last;
+      messages = p.messages ++ p.last;
       went_out = inr (record {
-        said = begun.messages;
-        last = begun.last;
+        said = p.messages;
+        last = p.last;
         are_all = refl;
-        few = begun.few;
-        between = begun.between.sink;
-        went_out = begun.said.took;
-        broke_off = broke_off begun.between new.report begun.last (begun.said.failed ∙ working)
-            (subst (λ to. Stopped begun.between to begun.last) (sym e.0) begun.stopped);
+        few = p.few;
+        between = p.between.sink;
+        went_out = p.said.took;
+        broke_off = broke_off p.between new.report p.last (p.said.failed ∙ working)
+            (subst (λ to. Stopped p.between to p.last) (sym e.0) p.begun);
       });
-      most = priced v p.messages _ old.reads new.reads p.most (omega (arith, begun.many, long));
+      most = priced v _ _ old.reads new.reads p.most (omega (arith, long));
     }
 
 -- the memory was refused, which was said, and nothing was read

@@ -5,10 +5,11 @@ use Rattle.ffs_image.{specs.Device.{Device, ForContents}, proofs.Devices.faulted
 use Rattle.ffs_volume.specs.declared.{SuperFault.SuperFault, End.{End, TheVariants.{Refused, ReadFault, NoMemory}}}
 use Rattle.ffs_volume.specs.{Disk.{Superblock.Superblock, Outcome.outcome}, Report.Opening.{head_lines, opening_lines, super_lines}}
 use Rattle.ffs_volume.specs.Messages.{Kinds.{Message, cannot_read, cannot_alloc, has_defect}, Texts.texts_of}
-use Rattle.ffs_volume.specs.Report.Whole.{phase_lines, end_by, report_of, report_end}
+use Rattle.ffs_volume.specs.Report.Whole.{phase_lines, end_by, report_of, report_end, EndAgrees}
+use Rattle.ffs_volume.specs.Messages.Kinds.{stops_at_last}
 use Rattle.ffs_report.specs.{Sink.Took, Known.IsContents, Progress.Progress}
 use Rattle.ffs_layout.specs.{declared.superblock.Super.Super, Super.{ReadsSuper, superblock_in}}
-use Rattle.ffs_check.specs.{Ends.Cut, Headline.{EndAgrees, Headline, IsCutShort, IsEndOfReport, stops_at_last}}
+use Rattle.ffs_check.specs.{Ends.Cut, Headline.{Headline, IsCutShort, IsEndOfReport}}
 use Rattle.ffs_check.specs.{Moment.{Moment, ReportMoment, at_output}, Opening.OpeningOf}
 use Rattle.ffs_check.specs.PhaseEnds.{IsCutByRead, IsEndByRoot, LastStops, SaysNoMemory, SaysRest}
 use Rattle.ffs_check.proofs.{Openings.{found_of, no_defect_head, unfailed_of}, Endings.{at_contents, at_known}}

@@ -4,19 +4,18 @@ use Rattle.std.proofs.Common.{append_assoc, append-nil, Option, Result, Ok, Err}
 use Rattle.ffs_image.specs.Device.{Device, Faulted, ForContents}
 use Rattle.ffs_volume.specs.declared.{SuperFault.{SuperFault, TheVariants.CannotRead}, End.{End, TheVariants.Refused}}
 use Rattle.ffs_volume.specs.declared.End.TheVariants.{WriteFault, Consistent, Defects, RootStop, ReadFault, NoMemory}
-use Rattle.ffs_volume.specs.Disk.{Superblock.Superblock, Outcome.outcome}
+use Rattle.ffs_volume.specs.Disk.{Superblock.Superblock, Outcome.{outcome, IsSuperSector}}
 use Rattle.ffs_volume.specs.Directories.{PathnameCheck.continues_after_root, Volumes.volume_of}
 use Rattle.ffs_volume.specs.{Messages.Kinds.{Message, has_defect}, Report.Opening.{head_lines, super_lines, fault_line}}
-use Rattle.ffs_volume.specs.Report.{Opening.opening_lines, Whole.{phase_lines, report_lines, end_by, end_of}}
+use Rattle.ffs_volume.specs.Report.{Opening.opening_lines, Whole.{phase_lines, report_lines, end_by, end_of, EndAgrees}}
 use Rattle.ffs_volume.specs.Report.Whole.{lines_by_outcome, end_by_outcome, report_of, report_end}
-use Rattle.ffs_volume.specs.Messages.Texts.{texts_of}
+use Rattle.ffs_volume.specs.Messages.{Texts.texts_of, Kinds.{stops_at_last, stops_check}}
 use Rattle.ffs_report.specs.Sink.{BrokeOff, Took}
-use Rattle.ffs_layout.specs.Super.{IsSuperSector, ReadsSuper}
+use Rattle.ffs_layout.specs.Super.{ReadsSuper}
 use Rattle.ffs_certificate.proofs.ReportLaws.{certified}
-use Rattle.ffs_check.specs.{Ends.BrokeOffInLine, Headline.{Certifies, EndAgrees, Headline, stops_at_last}}
+use Rattle.ffs_check.specs.{Ends.BrokeOffInLine, Headline.{Certifies, Headline}}
 use Rattle.ffs_check.{specs.{Moment.Moment, PhaseEnds.can_end_report, Opening.OpeningOf}, proofs.EndLaws.broke_after}
 use Rattle.ffs_check.proofs.{EndLaws.broke_more, Endings.{at_contents, at_known}, Openings.no_defect_head}
-use Rattle.ffs_pathnames.specs.RootAnswers.{stops_check}
 
 -- ---- the report, in its parts
 report_there : (bytes name : List ℕ) (sector : Option ℕ) (found : Result Superblock SuperFault) →

@@ -3,9 +3,8 @@ use Rattle.std.proofs.Common.{◌≡◌, ◌*◌, ◌+◌, ◌≤◌, arith, inl
 use Rattle.ffs_image.specs.Device.{Device, ForContents}
 use Rattle.ffs_memory.specs.{Account.{Account, unused}, System.account_of, declared.system.SystemMemory.SystemMemory}
 use Rattle.ffs_volume.specs.declared.End.{End, TheVariants.{Consistent, Defects, RootStop, WriteFault, NoMemory}}
-use Rattle.ffs_volume.specs.{Disk.{Outcome.outcome, Superblock.Superblock}, Report.Whole.end_by}
+use Rattle.ffs_volume.specs.{Disk.{Outcome.outcome, Superblock.Superblock}, Report.{Whole.end_by, Memory.held_of}}
 use Rattle.ffs_layout.specs.{declared.superblock.Super.Super, Super.{ReadsSuper, superblock_in}}
-use Rattle.ffs_workspace.specs.Lengths.{held_of}
 use Rattle.ffs_check.specs.{Moment.Moment, Opening.OpeningOf, PhaseEnds.PhasesEnd}
 use Rattle.ffs_check.specs.{Costs.{Costs, CostsOfSystem, CostsOfVolume}, Reads.ReadsByMessages, Taken.AsksMemory}
 use Rattle.ffs_check.proofs.AnyReading.{opened_reads}

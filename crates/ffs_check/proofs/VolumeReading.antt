@@ -4,7 +4,7 @@ use Rattle.std.proofs.{Common.{refl, if◌then◌else◌, inl, inr, length}, lem
 use Rattle.std.{proofs.lemmas.List.length-map, specs.List.range_with_len}
 use Rattle.ffs_volume.{proofs.{Potentials.offers_keep, RunBounds.runs_bounded}, specs.Blocks.BlockCheck.has_rescan}
 use Rattle.ffs_volume.specs.Blocks.{Owners.{Owner, owners_of}, Claims.{Claims, after_owner, after_owners, after_run}}
-use Rattle.ffs_volume.specs.Blocks.Claims.{after_step, after_steps, at_next_inode, is_open, no_claims}
+use Rattle.ffs_volume.specs.Blocks.Claims.{after_step, after_steps, at_next_inode, is_open, no_claims, all_claims}
 use Rattle.ffs_volume.specs.{Laws.Geometry.IsAcceptedLayout, Report.{Memory.runs_limit, Reads.phase_reads}}
 use Rattle.ffs_volume.specs.Report.{Reads.{sweep_reads, group_reads}, Whole.{run_count, later_phase_lines, phase_lines}}
 use Rattle.ffs_volume.specs.Report.VolumeReads.{indirect_count, indirect_in_owners, indirect_in_steps, seen_indirect}
@@ -55,7 +55,7 @@ owners_rise v s [] = omega arith
 owners_rise v s (o ∷ os) = omega (arith, steps_rise v (at_next_inode s) o.steps, owners_rise v (after_owner v s o) os)
 
 indirect_few : (v : Layout) (bytes : List ℕ) → IsAcceptedLayout v → indirect_count v bytes ≤ runs_limit v
-unfolding indirect_count run_count
+unfolding indirect_count run_count all_claims
 indirect_few v bytes g = omega (arith, owners_rise v (no_claims v) (owners_of v bytes), runs_bounded v bytes g)
 
 few_of : (b : Bool) (n m most : ℕ) → n ≤ most → m ≤ most → (if b then n else m) ≤ most

@@ -1,32 +1,17 @@
 -- The headline: what a check of an image prints, and how it ends.
-use Rattle.std.specs.Prelude.{◌≡◌, ◌⊎◌, ◌↔◌, ◌<◌, ℕ, Bool, false, not, List, [], ◌∷◌, ◌++◌, length, Option, Ok, Err}
+use Rattle.std.specs.Prelude.{◌≡◌, ◌⊎◌, ◌↔◌, ◌<◌, ℕ, false, List, ◌++◌, length, Option, Ok}
 use Rattle.ffs_image.specs.Device.{Device, Faulted, ForContents}
-use Rattle.ffs_volume.specs.declared.{SuperFault.TheVariants.CannotRead, End.{End, TheVariants.Consistent}}
-use Rattle.ffs_volume.specs.declared.End.TheVariants.{Refused, ReadFault, NoMemory}
-use Rattle.ffs_volume.specs.{Disk.{Superblock.Superblock, Outcome.outcome}, Consistent.Volume.IsConsistent}
-use Rattle.ffs_volume.specs.{Messages.Kinds.{Message, cannot_read, cannot_alloc, has_defect}, Report.Opening.head_lines}
-use Rattle.ffs_volume.specs.Report.{Opening.opening_lines, Whole.{end_by, report_of, report_end}}
-use Rattle.ffs_layout.specs.Super.{IsSuperSector}
-use Rattle.ffs_pathnames.specs.RootAnswers.{stops_check}
+use Rattle.ffs_volume.specs.declared.{SuperFault.TheVariants.CannotRead, End.{End, TheVariants.{Consistent, Refused}}}
+use Rattle.ffs_volume.specs.{declared.End.TheVariants.{ReadFault, NoMemory}, Disk.Outcome.{IsSuperSector, outcome}}
+use Rattle.ffs_volume.specs.{Disk.Superblock.Superblock, Consistent.Volume.IsConsistent, Messages.Kinds.Message}
+use Rattle.ffs_volume.specs.{Messages.Kinds.{cannot_read, cannot_alloc, has_defect}, Report.Opening.head_lines}
+use Rattle.ffs_volume.specs.Report.{Opening.opening_lines, Whole.{report_of, report_end, EndAgrees}}
 use Rattle.ffs_check.specs.{Ends.{Cut, Ends}, Moment.Moment}
-
--- the check stops after the last message: that the root isn't allocated, or isn't a directory
-abbrev pub stops_at_last : List Message → Bool
-stops_at_last [] = false
-stops_at_last (message ∷ []) = stops_check message
-stops_at_last (message ∷ next ∷ more) = stops_at_last (next ∷ more)
 
 -- status 0, and a report with no defect, are each a certificate that the volume is consistent
 pub record Certifies (bytes : List ℕ) (s : Superblock) (text : List Message) (end : End) : Type 0 where
   pub end_says : (end ≡ Consistent) ↔ IsConsistent bytes s
   pub text_says : (has_defect text ≡ false) ↔ IsConsistent bytes s
-
--- the end follows from the text that was printed, of any image: `Refused` has the fault that the opening says.
--- Any other is `RootStop` just where the check stops after the last message, and else says whether there is a
--- defect
-abbrev pub EndAgrees : List ℕ → Option ℕ → List Message → End → Type 0
-EndAgrees name asked_sector text (Refused fault) = text ≡ opening_lines name asked_sector (Err fault)
-EndAgrees name asked_sector text end = end ≡ end_by (not (stops_at_last text)) (has_defect text)
 
 -- the end of a whole report: it agrees with the text; on an accepted superblock it certifies
 pub record IsEndOfReport (name : List ℕ) (asked_sector : Option ℕ) (image : Device) (text : List Message) (end : End) :

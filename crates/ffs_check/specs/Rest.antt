@@ -7,12 +7,12 @@ use Rattle.ffs_volume.specs.{declared.Layout.Layout, Disk.Superblock.Superblock,
 use Rattle.ffs_volume.specs.Directories.{Volumes.volume_of, Connectivity.connectivity_lines}
 use Rattle.ffs_volume.specs.{Directories.ReferenceCheck.reference_lines, Messages.Kinds.{Message, phase1, phase2}}
 use Rattle.ffs_volume.specs.{Messages.Kinds.{phase3, phase4, phase5, of_blocks, of_tree}, Blocks.BlockCheck.has_rescan}
-use Rattle.ffs_volume.specs.{Blocks.BlockCheck.phase1_lines, Directories.PathnameCheck.pathname_lines}
+use Rattle.ffs_volume.specs.{Blocks.BlockCheck.{phase1_lines, rescan_runs}, Directories.PathnameCheck.pathname_lines}
 use Rattle.ffs_volume.specs.{Directories.PathnameCheck.continues_after_root, Report.Reads.sweep_reads}
 use Rattle.ffs_volume.specs.Report.Whole.{rescan_lines, group_check_lines, summary_of, file_count, claimed_count}
 use Rattle.ffs_volume.specs.Report.{Whole.run_count, VolumeReads.rescan_reads}
 use Rattle.ffs_workspace.specs.{declared.workspace.Workspace.Workspace, Holds.HoldsClaims, Ready.IsReady}
-use Rattle.ffs_claims.specs.{Phases.IsLeftByPhase1, RescanRuns.rescan_runs}
+use Rattle.ffs_claims.specs.Phases.{IsLeftByPhase1}
 
 -- what each phase reports, with its heading
 abbrev pub phase1_part : List ℕ → Superblock → List Message

@@ -3,8 +3,7 @@ use Rattle.std.specs.Prelude.{◌≡◌, ◌≤◌, ◌*◌, ◌⊎◌, ℕ, Opt
 use Rattle.ffs_image.specs.Device.{Device, ForContents}
 use Rattle.ffs_memory.specs.{Account.{Account, Granted, GaveUp, RefusedOneMore}}
 use Rattle.ffs_volume.specs.{declared.End.{End, TheVariants.NoMemory}, Report.Memory.held_limit, Disk.Outcome.outcome}
-use Rattle.ffs_volume.specs.{Disk.Superblock.Superblock, Laws.Geometry.IsAcceptedLayout}
-use Rattle.ffs_workspace.specs.Lengths.{held_of}
+use Rattle.ffs_volume.specs.{Disk.Superblock.Superblock, Laws.Geometry.IsAcceptedLayout, Report.Memory.held_of}
 
 -- these bytes were granted, or a request was refused before all of them were
 abbrev pub AsksMemory : Account → Account → ℕ → Type 0

@@ -7,10 +7,10 @@ use Rattle.std.{proofs.lemmas.List.{length-replicate, Folds.list_any-append, Sum
 use Rattle.std.specs.List.{range_with_len}
 use Rattle.ffs_volume.proofs.{OwnerLaws.before_next, Potentials.{cond_holds, in_range_below}}
 use Rattle.ffs_volume.specs.Blocks.BlockCheck.{class_lines, owner_lines, lines_of_owners, phase1_lines, phase1b_lines}
-use Rattle.ffs_volume.specs.Blocks.BlockCheck.{is_dup_line, has_rescan, blames, first_offer_lines, is_marked}
+use Rattle.ffs_volume.specs.Blocks.BlockCheck.{is_dup_line, has_rescan, blames, first_offer_lines, is_marked, set_count}
 use Rattle.ffs_volume.specs.Blocks.Claims.{Claims, no_claims, at_next_inode, is_open, is_set, after_owner, after_owners}
-use Rattle.ffs_volume.specs.Blocks.Claims.{lines_of_steps, after_offer, after_offers, after_run, after_step}
-use Rattle.ffs_volume.specs.Blocks.Claims.{after_steps, offer_lines, lines_of_offers, run_lines, step_lines}
+use Rattle.ffs_volume.specs.Blocks.Claims.{lines_of_steps, after_offer, after_offers, after_run, after_step, all_claims}
+use Rattle.ffs_volume.specs.Blocks.Claims.{after_steps, offer_lines, lines_of_offers, run_lines, step_lines, has_blame}
 use Rattle.ffs_volume.specs.Blocks.Inodes.{is_file_or_dir, inode_of, class_of, is_unknown, inodes_of}
 use Rattle.ffs_volume.specs.Blocks.{KeptOffers.Offer, KeptSteps.claims_before, Owners.{Owner, owners_of, owner_of}}
 use Rattle.ffs_volume.specs.{Directories.Volumes.{is_inode_number, marked_at}, Disk.Areas.is_fragment_in_range}
@@ -18,9 +18,9 @@ use Rattle.ffs_volume.specs.{Disk.Areas.is_run_in_range, declared.BlockMessage.{
 use Rattle.ffs_volume.specs.declared.BlockMessage.TheVariants.{ManyBad, PartTrunc, Dup, ManyDup, PartAlloc, UnknownType}
 use Rattle.ffs_volume.specs.declared.{BlockMessage.TheVariants.BlockCount, Class.{Class, TheVariants.Partial}}
 use Rattle.ffs_volume.specs.declared.{Class.TheVariants.Unknown, Layout.Layout, Step.{Step, TheVariants.{Run, Tail}}}
-use Rattle.ffs_volume.specs.declared.Step.TheVariants.{Gap}
-use Rattle.ffs_workspace.{proofs.Leaving.counts_unsurveyed, specs.Holds.{marked_by_phase1_at, all_claims, HoldsPhase1}}
-use Rattle.ffs_workspace.specs.{Holds.{HoldsClaims, has_blame}, Lengths.set_count}
+use Rattle.ffs_volume.specs.{declared.Step.TheVariants.Gap, Directories.Volumes.marked_by_phase1_at}
+use Rattle.ffs_workspace.{proofs.Leaving.counts_unsurveyed, specs.Holds.HoldsPhase1}
+use Rattle.ffs_workspace.specs.Holds.{HoldsClaims}
 use Rattle.ffs_workspace.specs.declared.workspace.Workspace.{Workspace}
 use Rattle.ffs_claims.proofs.Numbers.{before_first}
 
@@ -244,7 +244,7 @@ no_rescan v image w none h = record {
   used = h.used;
   kinds = h.kinds;
   notes = h.notes;
-  counts = counts_unsurveyed v image w h.unsurveyed (record { starts = h.starts });
+  counts = counts_unsurveyed v image w h.unsurveyed h.starts;
   marked = λ x. h.marked x ∙ sym (or-false (marked_by_phase1_at v image x))
       ∙ ap (λ b. marked_by_phase1_at v image x || b) (sym (silent x)) ∙ sym (marked_total v image x);
 }

@@ -5,11 +5,12 @@ use Rattle.std.proofs.lemmas.{Bool.Decides.nat_tests, List.{get_or-set_same, get
 use Rattle.std.specs.List.{range_with_len}
 use Rattle.ffs_volume.specs.Blocks.{BlockCheck.{owner_lines, lines_of_owners}, Claims.{Claims, no_claims, after_owner}}
 use Rattle.ffs_volume.specs.Blocks.{Claims.after_owners, Inodes.{inode_of, class_of, is_unknown, inodes_of}}
-use Rattle.ffs_volume.specs.Blocks.{KeptSteps.claims_before, Owners.{owner_of, owners_of}}
+use Rattle.ffs_volume.specs.Blocks.{KeptSteps.claims_before, Owners.{owner_of, owners_of}, Claims.has_blame}
 use Rattle.ffs_volume.specs.{Directories.Volumes.is_inode_number, Encodings.{Kinds.kind_at, Links.start_at}}
 use Rattle.ffs_volume.specs.{Encodings.Replay.cut_of, declared.{Class.TheVariants.Free, Inode.Inode, Layout.Layout}}
-use Rattle.ffs_volume.specs.Encodings.Notes.{note_of, note_at}
-use Rattle.ffs_workspace.specs.Holds.{claims_of, IsFresh, HoldsPhase1, has_blame, marked_by_phase1_at, all_claims}
+use Rattle.ffs_volume.specs.{Encodings.Notes.{note_of, note_at}, Directories.Volumes.marked_by_phase1_at}
+use Rattle.ffs_volume.specs.Blocks.Claims.{all_claims}
+use Rattle.ffs_workspace.specs.Holds.{claims_of, IsFresh, HoldsPhase1}
 use Rattle.ffs_workspace.specs.{Lengths.IsFor, declared.workspace.Workspace.Workspace}
 use Rattle.ffs_claims.{proofs.StepsContinue.{range_more, lines_append}, specs.Leaves.{SameFound, Stored}}
 use Rattle.ffs_claims.specs.Lines.{of_lines, owners_from}

@@ -3,10 +3,11 @@ use Rattle.std.proofs.Common.{◌≡◌, append_assoc, append-nil, subst, ℕ, �
 use Rattle.std.proofs.{Common.{List, [], ◌∷◌, ◌++◌, map, slice_set, arith, refl, ap, ◌∙◌, sym}, Math.Bool.or_assoc}
 use Rattle.std.{proofs.{Math.Bool.or-false, lemmas.List.Folds.list_any-append}, specs.List.range_with_len}
 use Rattle.ffs_volume.specs.Blocks.{BlockCheck.first_offer_lines, Claims.is_set, KeptOffers.{Offer, offer_of}}
+use Rattle.ffs_volume.specs.Blocks.BlockCheck.{set_count, after_first}
 use Rattle.ffs_maps.specs.Bits.{bits_of}
-use Rattle.ffs_workspace.specs.{Holds.bool_at, Lengths.set_count, declared.workspace.Workspace.Workspace}
+use Rattle.ffs_workspace.specs.{Holds.bool_at, declared.workspace.Workspace.Workspace}
 use Rattle.ffs_claims.proofs.{Duplicates.{none_clear, none_first}, StepsContinue.{range_next, lines_append}}
-use Rattle.ffs_claims.specs.{Lines.of_lines, Reporting.{after_first, OffersReported}}
+use Rattle.ffs_claims.specs.{Lines.of_lines, Reporting.OffersReported}
 
 -- offers one after the other
 pub first_append : (dup : List Bool) (xs ys : List Offer) → first_offer_lines dup (xs ++ ys) ≡ first_offer_lines dup xs

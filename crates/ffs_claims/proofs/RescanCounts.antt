@@ -11,12 +11,13 @@ use Rattle.ffs_volume.specs.Blocks.KeptOffers.{offer_of, kept_in_run, kept_in_of
 use Rattle.ffs_volume.specs.{Blocks.Owners.{Owner, owners_of}, Encodings.Replay.{Replay, is_replay_open, fresh_replay}}
 use Rattle.ffs_volume.specs.Encodings.{Replay.{cut_of, replay_after_step}, ReplayCounts.{seen_run, replay_step_by_cut}}
 use Rattle.ffs_volume.specs.{Report.Whole.run_count, declared.{Layout.Layout, Step.{Step, TheVariants.{Run, Tail}}}}
-use Rattle.ffs_volume.specs.declared.Step.TheVariants.{Gap}
+use Rattle.ffs_volume.specs.{declared.Step.TheVariants.Gap, Blocks.BlockCheck.{set_count, after_first, step_runs}}
+use Rattle.ffs_volume.specs.Blocks.BlockCheck.{runs_until_reported, steps_runs, owners_runs, rescan_runs}
+use Rattle.ffs_volume.specs.Blocks.Claims.{all_claims}
 use Rattle.ffs_walk.specs.Keepings.{run_taken}
-use Rattle.ffs_workspace.specs.Lengths.{set_count}
-use Rattle.ffs_claims.{proofs.Reportings.{after_append, none_after}, specs.Reporting.after_first}
-use Rattle.ffs_claims.specs.{Rescan.{step_offers_again, offers_again}, RescanRuns.runs_until_reported}
-use Rattle.ffs_claims.specs.RescanRuns.{steps_runs_again, step_runs, steps_runs, owners_runs, rescan_runs}
+use Rattle.ffs_claims.proofs.Reportings.{after_append, none_after}
+use Rattle.ffs_claims.specs.Rescan.{step_offers_again, offers_again}
+use Rattle.ffs_claims.specs.RescanRuns.{steps_runs_again}
 use Rattle.ffs_claims.specs.RescanRuns.{step_runs_again}
 
 -- ---- the offers that are kept are the first ones
@@ -213,7 +214,7 @@ looked_most dup [] = omega arith
 looked_most dup (kept ∷ runs) = let more = looked_most (after_first dup kept) runs in grind arith
 
 pub look_most : (v : Layout) (bytes : List ℕ) → rescan_runs v bytes ≤ run_count v bytes
-unfolding rescan_runs run_count
+unfolding rescan_runs run_count all_claims
 look_most v bytes =
     let runs = owners_runs v (no_claims v) (owners_of v bytes) in
     let most = looked_most (after_owners v (no_claims v) (owners_of v bytes)).dup runs in

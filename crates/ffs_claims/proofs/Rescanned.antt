@@ -5,21 +5,21 @@ use Rattle.std.proofs.lemmas.{Bool.{and_from, and_parts, Decides.nat_tests}, Lis
 use Rattle.std.specs.List.{range_with_len, list_any, list_all}
 use Rattle.ffs_volume.proofs.{CutLaws.cut_is, OwnerLaws.before_next, Potentials.cond_holds, ReplayLaws.replay_is_runs}
 use Rattle.ffs_volume.specs.Blocks.{BlockCheck.{blames, first_offer_lines, phase1b_lines}, Claims.{Claims, no_claims}}
-use Rattle.ffs_volume.specs.Blocks.Claims.{at_next_inode, after_offer, after_step, after_steps, after_owner}
+use Rattle.ffs_volume.specs.Blocks.Claims.{at_next_inode, after_offer, after_step, after_steps, after_owner, all_claims}
 use Rattle.ffs_volume.specs.Blocks.{Claims.after_owners, Inodes.{inode_of, inodes_of}, KeptOffers.Offer}
 use Rattle.ffs_volume.specs.Blocks.KeptOffers.{kept_in_offers, kept_in_step, kept_in_steps, kept_in_owners}
 use Rattle.ffs_volume.specs.Blocks.{KeptSteps.claims_before, Owners.{owner_of, owners_of}, Steps.steps_of}
 use Rattle.ffs_volume.specs.{Directories.Volumes.is_inode_number, Encodings.Replay.{fresh_replay, cut_of, cut_at}}
 use Rattle.ffs_volume.specs.{Encodings.ReplayCounts.replayed_runs, Laws.Geometry.IsAcceptedLayout}
 use Rattle.ffs_volume.specs.{Report.Whole.run_count, declared.{Layout.Layout, Step.{Step, TheVariants.Run}}}
-use Rattle.ffs_volume.specs.Encodings.Notes.{cut_in}
+use Rattle.ffs_volume.specs.{Encodings.Notes.cut_in, Blocks.BlockCheck.{after_first, owners_runs, runs_until_reported}}
 use Rattle.ffs_maps.specs.Bits.{bits_of}
-use Rattle.ffs_workspace.{proofs.{Leaving.counts_unsurveyed, NoteLaws.cut_is_noted}, specs.Holds.all_claims}
-use Rattle.ffs_workspace.specs.{Holds.{HoldsPhase1, HoldsStarts, HoldsClaims}, declared.workspace.Workspace.Workspace}
+use Rattle.ffs_workspace.proofs.{Leaving.counts_unsurveyed, NoteLaws.cut_is_noted}
+use Rattle.ffs_workspace.specs.{Holds.{HoldsPhase1, HoldsClaims}, declared.workspace.Workspace.Workspace}
 use Rattle.ffs_claims.proofs.{Duplicates.marked_total, Numbers.{before_end, is_inside}, RescanCounts.looked_both}
 use Rattle.ffs_claims.proofs.{RescanCounts.{runs_leave, inode_again}, StepsContinue.range_more}
-use Rattle.ffs_claims.specs.{Lines.owners_from, Reporting.{after_first, OffersReported, RescanKeeps}}
-use Rattle.ffs_claims.specs.{Rescan.offers_again, RescanRuns.{owners_runs, runs_until_reported, steps_runs_again}}
+use Rattle.ffs_claims.specs.{Lines.owners_from, Reporting.{OffersReported, RescanKeeps}}
+use Rattle.ffs_claims.specs.{Rescan.offers_again, RescanRuns.steps_runs_again}
 
 -- the offers that the inode n keeps, replayed by its noted cut, and those of each of its Runs
 abbrev pub offers_at : Layout → List ℕ → List ℕ → ℕ → List Offer
@@ -182,14 +182,7 @@ outside v bytes x = known (is_inode_number v x) _ (λ q. blames_none_of x
     past : (v : Layout) (x : ℕ) → is_inode_number v x ≡ false → 2 ≤ x → 2 + (inodes_of v - 2) ≤ x
     past v x q high = grind (arith, nat_tests)
 
--- all offers are gone over: the workspace holds where counts of references start
-pub starts_hold : (v : Layout) (bytes : List ℕ) (old new : Workspace) → HoldsPhase1 v bytes old → RescanKeeps old new →
-    HoldsStarts v bytes new
-starts_hold v bytes old new h same = record {
-  starts = λ x. ap (λ k. slice_index k.items x) same.references ∙ h.starts x;
-}
-
--- and the claims
+-- all offers are gone over: the workspace holds the claims
 pub claims_hold : (v : Layout) (bytes : List ℕ) (old new : Workspace) → HoldsPhase1 v bytes old → RescanKeeps old new →
     OffersReported (kept_in_owners v (no_claims v) (owners_of v bytes)) old new → HoldsClaims v bytes new
 unfolding all_claims phase1b_lines
@@ -198,5 +191,6 @@ claims_hold v bytes old new h same t = record {
   kinds = λ x. ap (λ k. slice_index k.items x) same.kinds ∙ h.kinds x;
   notes = λ x. ap (λ k. slice_index k.items x) same.notes ∙ h.notes x;
   marked = λ x. grind (arith, outside, marked_total);
-  counts = counts_unsurveyed v bytes new (same.surveyed ∙ h.unsurveyed) (starts_hold v bytes old new h same);
+  counts = counts_unsurveyed v bytes new (same.surveyed ∙ h.unsurveyed)
+      (λ x. ap (λ k. slice_index k.items x) same.references ∙ h.starts x);
 }

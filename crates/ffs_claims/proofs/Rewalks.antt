@@ -2,25 +2,26 @@
 use Rattle.std.proofs.Common.{◌≡◌, ◌≢◌, ◌≤◌, ℕ, replicate, ◌+◌, Bool, true, List, [], ◌∷◌, ◌++◌, arith}
 use Rattle.std.proofs.{Common.{refl, ap, ◌∙◌, ◌<◌, ◌-◌, ◌^◌, Result, Ok}}
 use Rattle.ffs_volume.{proofs.ReplayLaws.{counted_same, gaps_seen}, specs.Blocks.BlockCheck.first_offer_lines}
-use Rattle.ffs_volume.specs.{Encodings.Replay.{Replay, fresh_replay, is_replay_open}}
+use Rattle.ffs_volume.specs.{Encodings.Replay.{Replay, fresh_replay, is_replay_open}, Blocks.BlockCheck.set_count}
 use Rattle.ffs_volume.specs.Encodings.ReplayCounts.{seen_run, replayed_runs, replay_step_by_cut}
 use Rattle.ffs_volume.specs.{Messages.Kinds.Message, declared.{BlockMessage.BlockMessage, Inode.Inode, Layout.Layout}}
-use Rattle.ffs_volume.specs.declared.Step.{Step, TheVariants.{Gap}}
+use Rattle.ffs_volume.specs.{declared.Step.{Step, TheVariants.Gap}, Blocks.BlockCheck.after_first}
+use Rattle.ffs_volume.specs.Blocks.BlockCheck.{runs_until_reported}
 use Rattle.ffs_image.specs.Device.{Device}
 use Rattle.ffs_report.{proofs.Reporting.{reports_same, reports_knowing, of_says}, specs.Known.{IsContents, ForBytes}}
 use Rattle.ffs_report.specs.{PhaseOutcome.SaidOf, Progress.{Progress, Said}, declared.fault.RunFault.RunFault}
 use Rattle.ffs_maps.specs.Bits.{bits_of}
 use Rattle.ffs_walk.specs.{Keepings.{replay_in}, Rests.steps_left, Windows.KeepsBlocks}
 use Rattle.ffs_walk.specs.declared.{blocks.Blocks.Blocks, keeping.Keeping.Keeping, walk.Walk.Walk}
-use Rattle.ffs_workspace.specs.{Lengths.set_count, declared.workspace.{Windows.Windows, Workspace.Workspace}}
+use Rattle.ffs_workspace.specs.declared.workspace.{Windows.Windows, Workspace.Workspace}
 use Rattle.ffs_layout.specs.declared.geometry.Geometry.{Geometry}
 use Rattle.ffs_claims.proofs.Frames.{ready_still, ready_walked, image_from, claims_then, claims_still, claims_none}
 use Rattle.ffs_claims.proofs.{Inodes.ok_where, Reportings.{reporting_over, Reporting, reporting_begins, reporting_more}}
 use Rattle.ffs_claims.proofs.Reportings.{reporting_ends, reported_from, reported_to, lines_split}
 use Rattle.ffs_claims.{proofs.RescanCounts.{looked_none, looked_next, again_gaps}, specs.Lines.of_lines}
-use Rattle.ffs_claims.specs.{Moments.SweepMoment, Reporting.{OffersReported, ReportsOnly, RewalkLeaves, after_first}}
+use Rattle.ffs_claims.specs.{Moments.SweepMoment, Reporting.{OffersReported, ReportsOnly, RewalkLeaves}}
 use Rattle.ffs_claims.specs.Rescan.{ReplaysStep, offers_again, step_offers_again}
-use Rattle.ffs_claims.specs.RescanRuns.{Counted, Rewalks, Rewalked, RoseBy, RunsPay, runs_until_reported, steps_runs_again}
+use Rattle.ffs_claims.specs.RescanRuns.{Counted, Rewalks, Rewalked, RoseBy, RunsPay, steps_runs_again}
 
 offers_next : (v : Layout) (i cut : ℕ) (r r' : Replay) (step : Step) (R R' : List Step) → R ≡ step ∷ R' →
     r' ≡ replay_step_by_cut v cut r step →

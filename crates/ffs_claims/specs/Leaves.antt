@@ -2,7 +2,8 @@
 use Rattle.std.specs.Prelude.{◌≡◌, ◌+◌, ◌<◌, ◌≤◌, ◌^◌, ◌||◌, ℕ, Bool, IsTrue, true, min, slice_set, vec_len}
 use Rattle.ffs_volume.specs.{Blocks.Inodes.is_unknown, Encodings.{Kinds.kind_of, Links.start_of, Replay.cut_of}}
 use Rattle.ffs_volume.specs.{declared.{Class.Class, Inode.Inode, Layout.Layout}, Encodings.Notes.note_of}
-use Rattle.ffs_workspace.specs.{Holds.{claims_of, has_blame}, Lengths.IsFor, declared.workspace.Workspace.Workspace}
+use Rattle.ffs_volume.specs.Blocks.Claims.{has_blame}
+use Rattle.ffs_workspace.specs.{Holds.claims_of, Lengths.IsFor, declared.workspace.Workspace.Workspace}
 
 -- the current inode has no bad Run, no dup offer and no kept one yet, and there is room to count
 -- its Runs: any bound far above `runs_limit`, and far below 2^64, serves

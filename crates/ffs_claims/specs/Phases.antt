@@ -1,13 +1,12 @@
 -- What phases 1 and 1b leave of a workspace at their answer, and how often they read the image.
 use Rattle.std.specs.Prelude.{◌≡◌, ◌<◌, ◌≤◌, ◌+◌, ◌-◌, ◌*◌, ◌^◌, ℕ, false, List}
 use Rattle.ffs_image.specs.Device.{Device}
-use Rattle.ffs_volume.specs.{declared.Layout.Layout, Blocks.{BlockCheck.has_rescan, Owners.owners_of}}
+use Rattle.ffs_volume.specs.{declared.Layout.Layout, Blocks.{BlockCheck.{has_rescan, rescan_runs}, Owners.owners_of}}
 use Rattle.ffs_volume.specs.Report.{Memory.runs_limit, Reads.{sweep_reads, table_blocks}}
 use Rattle.ffs_volume.specs.Report.{VolumeReads.volume_scan_reads, Whole.run_count}
 use Rattle.ffs_report.specs.Known.{ForBytes}
 use Rattle.ffs_workspace.specs.{declared.workspace.Workspace.Workspace, Found.{WithFresh, WithPhase1}}
-use Rattle.ffs_workspace.specs.Holds.{HoldsClaims, HoldsPhase1, HoldsStarts}
-use Rattle.ffs_claims.specs.RescanRuns.{rescan_runs}
+use Rattle.ffs_workspace.specs.Holds.{HoldsClaims, HoldsPhase1}
 
 -- phase 1 leaves what it found in the image's bytes, and `has_dups` answers whether one of its lines is
 -- a DUP line, which is just where phase 1b is to run. It has counted each Run that is seen
@@ -25,12 +24,11 @@ pub record Phase1Reads (v : Layout) (d : Device) (old new : Workspace) (before a
   pub known : ForBytes (WithFresh v d old) (λ bytes. after ≤ before + volume_scan_reads v bytes)
   pub again : new.runs_again ≡ old.runs_again
 
--- phase 1b leaves what the block check found in the image's bytes, and where counts of references
--- start. Nothing is surveyed yet. It has looked at Runs up to the one that reports the last fragment with
--- a DUP line
+-- phase 1b leaves what the block check found in the image's bytes. Nothing is surveyed yet, so counts of
+-- references are where they start. It has looked at Runs up to the one that reports the last fragment
+-- with a DUP line
 pub record IsLeftByPhase1b (v : Layout) (bytes : List ℕ) (w : Workspace) : Type 0 where
   pub claims : HoldsClaims v bytes w
-  pub starts : HoldsStarts v bytes w
   pub unsurveyed : w.surveyed ≡ false
   pub count : w.runs_again ≡ rescan_runs v bytes
 

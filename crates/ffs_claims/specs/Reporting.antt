@@ -1,19 +1,12 @@
 -- What phase 1b has reported, and what it leaves to report.
-use Rattle.std.specs.{List.list_any, Prelude.{◌≡◌, ◌≢◌, ◌<◌, ℕ, Bool, Result, OnOk, false, ◌||◌, if◌then◌else◌, List}}
-use Rattle.std.specs.Prelude.{[], ◌∷◌, slice_set}
-use Rattle.ffs_volume.specs.Blocks.{BlockCheck.{blames, first_offer_lines}, Claims.is_set, KeptOffers.Offer}
+use Rattle.std.specs.{List.list_any, Prelude.{◌≡◌, ◌≢◌, ◌<◌, ℕ, Result, OnOk, ◌||◌, List, [], ◌∷◌}}
+use Rattle.ffs_volume.specs.Blocks.{BlockCheck.{blames, first_offer_lines, set_count, after_first}, KeptOffers.Offer}
 use Rattle.ffs_volume.specs.{declared.Layout.Layout, Blocks.Inodes.inodes_of}
 use Rattle.ffs_image.specs.Device.{Device}
 use Rattle.ffs_report.specs.{PhaseOutcome.ImageAfter, Progress.Says, declared.fault.RunFault.RunFault}
 use Rattle.ffs_maps.specs.Bits.{bits_of}
-use Rattle.ffs_workspace.specs.{Holds.bool_at, Lengths.{IsFor, set_count}, Ready.CanRead}
-use Rattle.ffs_workspace.specs.declared.workspace.Workspace.{Workspace}
+use Rattle.ffs_workspace.specs.{Holds.bool_at, Lengths.IsFor, Ready.CanRead, declared.workspace.Workspace.Workspace}
 use Rattle.ffs_claims.specs.{Lines.of_lines, Moments.ClaimMoment}
-
--- the fragments whose first kept offer is still to be reported, after some offers
-abbrev pub after_first : List Bool → List Offer → List Bool
-after_first dup [] = dup
-after_first dup (o ∷ os) = after_first (if is_set dup o.fragment then slice_set dup o.fragment false else dup) os
 
 -- offers were gone over: their fragments are reported, and their inodes marked
 pub record OffersReported (offers : List Offer) (old new : Workspace) : Type 0 where

@@ -1,47 +1,17 @@
--- How many Runs phase 1b looks at: those that are seen, in order, until each fragment with a DUP
--- line has its first kept offer reported.
-use Rattle.std.specs.{List.range_with_len, Prelude.{◌≡◌, ◌<◌, ◌≤◌, ℕ, ◌+◌, ◌-◌, ◌^◌, Bool, List, [], ◌∷◌, ◌++◌, ◌==◌}}
+-- The Runs that phase 1b looks at, replayed, and what walking over an inode again leaves.
+use Rattle.std.specs.{List.range_with_len, Prelude.{◌≡◌, ◌<◌, ◌≤◌, ℕ, ◌+◌, ◌-◌, ◌^◌, List, [], ◌∷◌, ◌++◌}}
 use Rattle.std.specs.Prelude.{if◌then◌else◌, map, Result, OnOk, slice_index, true}
-use Rattle.ffs_volume.specs.Blocks.{BlockCheck.first_offer_lines, Claims.{Claims, no_claims, at_next_inode, is_open}}
-use Rattle.ffs_volume.specs.Blocks.{Claims.{after_step, after_owner, after_owners}, KeptOffers.{Offer, kept_in_run}}
-use Rattle.ffs_volume.specs.Blocks.{KeptOffers.offer_of, Owners.{Owner, owners_of}, Steps.steps_of}
-use Rattle.ffs_volume.specs.Encodings.{Replay.{Replay, is_replay_open, fresh_replay}, ReplayCounts.replayed_runs}
-use Rattle.ffs_volume.specs.Encodings.{Notes.cut_in, ReplayCounts.{replay_step_by_cut, seen_run}}
-use Rattle.ffs_volume.specs.Laws.RunLengths.{HasLength}
-use Rattle.ffs_volume.specs.declared.{Inode.Inode, Layout.Layout, Step.{Step, TheVariants.{Run, Tail, Gap}}}
+use Rattle.ffs_volume.specs.Blocks.{BlockCheck.{first_offer_lines, runs_until_reported}, KeptOffers.{Offer, offer_of}}
+use Rattle.ffs_volume.specs.{Blocks.Steps.steps_of, Encodings.Replay.{Replay, is_replay_open, fresh_replay}}
+use Rattle.ffs_volume.specs.Encodings.{ReplayCounts.{replayed_runs, replay_step_by_cut, seen_run}, Notes.cut_in}
+use Rattle.ffs_volume.specs.{Laws.RunLengths.HasLength, declared.{Inode.Inode, Layout.Layout, Step.Step}}
+use Rattle.ffs_volume.specs.declared.Step.TheVariants.{Run, Tail, Gap}
 use Rattle.ffs_report.specs.{Known.{ForBytes, IsContents}, PhaseOutcome.PhaseReports, declared.fault.RunFault.RunFault}
 use Rattle.ffs_maps.specs.Bits.{bits_of}
 use Rattle.ffs_walk.specs.{Counts.entered, Keepings.{replay_in, run_taken}, declared.keeping.Keeping.Keeping}
-use Rattle.ffs_workspace.specs.{Lengths.set_count, declared.workspace.Workspace.Workspace}
-use Rattle.ffs_claims.specs.{Lines.of_lines, Moments.SweepMoment, Reporting.{after_first, CanReport, OffersReported}}
-use Rattle.ffs_claims.specs.{Reporting.RewalkLeaves, Rescan.offers_again}
-
--- the kept offers of each Run that is seen: of a step, of steps, and of inodes
-abbrev pub step_runs : Layout → ℕ → Claims → Step → List (List Offer)
-step_runs v number s (Run start len block) = if is_open s then kept_in_run v number s start len ∷ [] else []
-step_runs v number s Tail = []
-step_runs v number s Gap = []
-
-abbrev pub steps_runs : Layout → ℕ → Claims → List Step → List (List Offer)
-steps_runs v number s [] = []
-steps_runs v number s (step ∷ steps) = step_runs v number s step ++ steps_runs v number (after_step v s step) steps
-
-unfoldable pub owners_runs : Layout → Claims → List Owner → List (List Offer)
-owners_runs v s [] = []
-owners_runs v s (o ∷ os) = steps_runs v o.number (at_next_inode s) o.steps ++ owners_runs v (after_owner v s o) os
-
--- how many of some Runs are looked at, by their kept offers: all up to the one that reports the
--- last fragment with a DUP line
-unfoldable pub runs_until_reported : List Bool → List (List Offer) → ℕ
-runs_until_reported dup [] = 0
-runs_until_reported dup (kept ∷ runs) = if set_count dup == 0 then 0 else 1 + runs_until_reported
-    (after_first dup kept) runs
-
--- how many Runs of an image the rescan looks at
-unfoldable pub rescan_runs : Layout → List ℕ → ℕ
-rescan_runs v image =
-    runs_until_reported (after_owners v (no_claims v) (owners_of v image)).dup
-    (owners_runs v (no_claims v) (owners_of v image))
+use Rattle.ffs_workspace.specs.declared.workspace.Workspace.{Workspace}
+use Rattle.ffs_claims.specs.{Lines.of_lines, Moments.SweepMoment, Reporting.{CanReport, OffersReported, RewalkLeaves}}
+use Rattle.ffs_claims.specs.Rescan.{offers_again}
 
 -- the kept offers of each Run that is seen, replayed
 abbrev pub step_runs_again : (v : Layout) (number cut : ℕ) (r : Replay) (step : Step) → List (List Offer)

@@ -2,7 +2,8 @@
 
 ghost use Rattle.std.specs.Prelude.{◌≡◌, ◌<◌, ◌||◌, false, min, slice_set, vec_len};
 ghost use Rattle.ffs_volume.specs.{Blocks.Inodes.is_unknown, Encodings.{Kinds.kind_of, Links.start_of, Replay.cut_of}};
-ghost use Rattle.ffs_workspace.specs.Holds.{claims_of, has_blame};
+ghost use Rattle.ffs_volume.specs.Blocks.Claims.{has_blame};
+ghost use Rattle.ffs_workspace.specs.Holds.{claims_of};
 ghost use Rattle.ffs_claims.specs.Leaves.{HasInode, Stored};
 
 use ffs_memory::FilledList;

@@ -7,13 +7,13 @@ use Rattle.ffs_volume.specs.{Blocks.Owners.owners_of, Directories.Volumes.class_
 use Rattle.ffs_volume.specs.Groups.GroupCheck.{group_lines, is_free_of_kept, note_reported, phase5_lines, reported_once}
 use Rattle.ffs_volume.specs.Groups.{GroupCheck.{unreported, unless}, Records.{GroupCounts, right_group_counts}}
 use Rattle.ffs_volume.specs.{Groups.Records.{right_total, has_right_totals, has_totals}, Messages.Kinds.Message}
-use Rattle.ffs_volume.specs.Messages.Kinds.{of_blocks}
+use Rattle.ffs_volume.specs.{Messages.Kinds.of_blocks, Blocks.Claims.all_claims}
 use Rattle.ffs_maps.specs.Bits.{bits_of}
 use Rattle.ffs_groups.specs.{declared.counts.SummaryCounts.SummaryCounts, Check.group_counts_of, Free.free_in}
 use Rattle.ffs_groups.{specs.Inodes.class_in, proofs.Sums.sum_more}
 use Rattle.ffs_report.{specs.Progress.{Progress, Said, Stopped, Says}, proofs.Reports.{says_then, stopped_after}}
 use Rattle.ffs_report.proofs.Reports.{stopped_more}
-use Rattle.ffs_workspace.specs.{declared.workspace.Workspace.Workspace, Holds.{HoldsClaims, all_claims}}
+use Rattle.ffs_workspace.specs.{declared.workspace.Workspace.Workspace, Holds.HoldsClaims}
 use Rattle.ffs_counts.specs.{declared.totals.Totals.Totals, Once.reported_after, Totals.{AreTotals, AreUpTo, total_of}}
 use Rattle.ffs_counts.{specs.Totals.with_counts, proofs.Classes.by_kinds}
 

@@ -10,8 +10,8 @@ use Rattle.ffs_volume.specs.{Groups.Records.group_size, Report.Whole.claimed_cou
 use Rattle.ffs_volume.specs.Blocks.Claims.{no_claims, reserved_map, after_offer, after_offers, after_run, after_step}
 use Rattle.ffs_volume.specs.{Blocks.Claims.{after_steps, after_owner, after_owners}, Disk.Areas.{cgbase, cgstart}}
 use Rattle.ffs_volume.specs.{Disk.Areas.{cgsblock, cgdmin, is_group_metadata, is_reserved}, Blocks.Owners.Owner}
-use Rattle.ffs_volume.{specs.Blocks.Owners.owners_of, proofs.{Potentials.cond_holds, AreaLaws.is_in_metadata_of}}
-use Rattle.ffs_volume.proofs.AreaLaws.{is_metadata_of_group, group_is}
+use Rattle.ffs_volume.proofs.{Potentials.cond_holds, AreaLaws.is_in_metadata_of}
+use Rattle.ffs_volume.{proofs.AreaLaws.{is_metadata_of_group, group_is}, specs.Blocks.Claims.all_claims}
 use Rattle.ffs_maps.proofs.Counting.{count_join_at}
 use Rattle.ffs_groups.proofs.FreeWords.{sum_const}
 use Rattle.ffs_counts.specs.Reserved.{HasReserved, claimed_in}
@@ -236,6 +236,6 @@ has_reserved v os f low reserved = grind (arith, owners_keep, get_or-map-range_w
 -- how many fragments are claimed, by the map that a workspace holds
 pub used_are : (v : Layout) (image : List ℕ) (used : List Bool) (n : ℕ) →
     (HasReserved v used → n ≡ claimed_in v used) →
-    used ≡ (after_owners v (no_claims v) (owners_of v image)).used → n ≡ claimed_count v image
-unfolding claimed_count
+    used ≡ (all_claims v image).used → n ≡ claimed_count v image
+unfolding claimed_count all_claims
 used_are v image used n e same = grind (arith, has_reserved)

@@ -2,11 +2,10 @@
 use Rattle.std.proofs.Common.{◌≡◌, ◌&&◌, ℕ, Bool, [], Option, Result, Err, refl}
 use Rattle.ffs_image.specs.Device.{Device}
 use Rattle.ffs_memory.specs.Account.{Account}
-use Rattle.ffs_volume.specs.{declared.Layout.Layout, Disk.Superblock.Superblock}
+use Rattle.ffs_volume.specs.{declared.Layout.Layout, Disk.Superblock.Superblock, Report.Memory.held_of}
 use Rattle.ffs_report.specs.{Known.{ForBytes, IsContents}, PhaseOutcome.ImageAfter, declared.fault.RunFault.RunFault}
 use Rattle.ffs_report.specs.declared.fault.RunFault.TheVariants.{Read, Out}
 use Rattle.ffs_workspace.specs.{declared.workspace.Workspace.Workspace, Found.WithPhase1, Holds.HoldsPhase1}
-use Rattle.ffs_workspace.specs.Lengths.{held_of}
 use Rattle.ffs_finding.specs.declared.find.FindFault.{FindFault, TheVariants.{Refused, Run, NoMemory}}
 use Rattle.ffs_finding.specs.{declared.request.Search.Search, Claims.TakesClaims, Fields.WithSuper, Outcome.PrintedTo}
 use Rattle.ffs_finding.specs.{Outcome.{PrintsLines, any_line}, Whole.{IsGranted, PrintedAll, SearchAnswers}}

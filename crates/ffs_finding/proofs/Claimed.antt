@@ -12,8 +12,7 @@ use Rattle.ffs_volume.specs.{Blocks.{Owners.{owner_of, owners_of}, Steps.steps_o
 use Rattle.ffs_volume.specs.{Disk.Areas.{is_reserved, is_run_in_range}, Laws.Geometry.IsAcceptedLayout}
 use Rattle.ffs_volume.specs.declared.{Layout.Layout, Step.{Step, TheVariants.{Run, Tail, Gap}}}
 use Rattle.ffs_volume.specs.Find.Owner.{indirect_in, keeper_lines, keeper_text, keeps_in_step, keeper_lines_of_inode}
-use Rattle.ffs_volume.specs.Find.Owner.{keeper_lines_of_step, keeper_lines_of_steps}
-use Rattle.ffs_workspace.specs.Holds.{all_claims}
+use Rattle.ffs_volume.specs.{Find.Owner.{keeper_lines_of_step, keeper_lines_of_steps}, Blocks.Claims.all_claims}
 
 -- there is a line
 abbrev pub has_line : List (List ℕ) → Bool

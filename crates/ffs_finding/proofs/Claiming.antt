@@ -2,10 +2,9 @@
 use Rattle.std.{proofs.Common.{◌≡◌, ℕ, List, Err, arith, true, false, inl, inr, ap}, specs.Borrow.GName}
 use Rattle.ffs_image.specs.Device.{Device}
 use Rattle.ffs_memory.specs.Account.{Account, Granted}
-use Rattle.ffs_volume.specs.{declared.Layout.Layout, Messages.Kinds.Message}
+use Rattle.ffs_volume.specs.{declared.Layout.Layout, Messages.Kinds.Message, Report.Memory.held_of}
 use Rattle.ffs_report.specs.{PhaseOutcome.{ImageAfter, PhaseReports}, Progress.{Progress, starts}, Sink.Sink}
 use Rattle.ffs_report.specs.declared.fault.RunFault.{RunFault, TheVariants.{Read, Out}}
-use Rattle.ffs_workspace.specs.Lengths.{held_of}
 use Rattle.ffs_finding.specs.{declared.find.FindFault.TheVariants.Run, Claims.{TakesClaims, discarding}}
 
 -- where phase 1 failed, a read did

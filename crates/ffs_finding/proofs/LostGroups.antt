@@ -4,11 +4,11 @@ use Rattle.std.{proofs.Common.subst, specs.List.{flat_map, range_with_len}}
 use Rattle.ffs_image.specs.Device.{Device}
 use Rattle.ffs_volume.specs.{declared.Layout.Layout, Disk.Areas.cgbase, Groups.Records.{bit_at, fragment_map_place}}
 use Rattle.ffs_volume.{specs.Groups.Records.{group_block, group_size, has_bits, same_bit}, proofs.Below.all_below-at}
-use Rattle.ffs_volume.specs.Find.Lost.{has_map, lost_lines, stretch_at, stretch_lines}
+use Rattle.ffs_volume.specs.{Find.Lost.{has_map, lost_lines, stretch_at, stretch_lines}, Blocks.Claims.all_claims}
 use Rattle.ffs_groups.specs.Free.{free_in}
 use Rattle.ffs_maps.specs.Bits.{bits_of}
 use Rattle.ffs_report.specs.Known.{ForBytes}
-use Rattle.ffs_workspace.specs.{declared.workspace.Workspace.Workspace, Found.WithPhase1, Holds.all_claims}
+use Rattle.ffs_workspace.specs.{declared.workspace.Workspace.Workspace, Found.WithPhase1}
 use Rattle.ffs_finding.specs.LostMaps.{is_wrong_by, lines_of_group, lines_of_groups, no_map_lines, word_of}
 use Rattle.ffs_finding.{specs.declared.lost.Wrong.{Wrong, TheVariants.{Lost, MarkedFree}}, proofs.Ranges.{next, none}}
 

@@ -4,8 +4,7 @@ use Rattle.std.proofs.Common.{refl, is_ok}
 use Rattle.ffs_check.specs.{Moment.Moment, Taken.AsksMemory}
 use Rattle.ffs_image.specs.Device.{Device, ForContents}
 use Rattle.ffs_memory.specs.Account.{Account, RefusedOneMore}
-use Rattle.ffs_workspace.specs.Lengths.{held_of}
-use Rattle.ffs_volume.specs.{declared.Layout.Layout, Report.Memory.held_limit, Disk.Superblock.Superblock}
+use Rattle.ffs_volume.specs.{declared.Layout.Layout, Report.Memory.{held_limit, held_of}, Disk.Superblock.Superblock}
 use Rattle.ffs_volume.specs.{Disk.Outcome.outcome, Laws.Geometry.IsAcceptedLayout}
 use Rattle.ffs_report.specs.{Known.{ForBytes, IsContents}, Sink.Sink, declared.fault.RunFault.TheVariants.{Read, Out}}
 use Rattle.ffs_finding.specs.declared.find.FindFault.{FindFault, TheVariants.{Refused, Run, NoMemory}}

@@ -1,10 +1,10 @@
 -- What phase 1 leaves where it is run for the fragments that inodes claim.
 use Rattle.std.specs.Prelude.{◌≡◌, None, Result, Ok, Err}
 use Rattle.ffs_image.specs.Device.{Device, Faulted}
-use Rattle.ffs_volume.specs.declared.Layout.{Layout}
+use Rattle.ffs_volume.specs.{declared.Layout.Layout, Report.Memory.held_of}
 use Rattle.ffs_memory.specs.Account.{Account, Granted, GaveUp}
 use Rattle.ffs_report.specs.{Known.{ForBytes, IsContents}, Sink.Sink, declared.fault.RunFault.TheVariants.{Read, Out}}
-use Rattle.ffs_workspace.specs.{declared.workspace.Workspace.Workspace, Holds.HoldsPhase1, Lengths.held_of}
+use Rattle.ffs_workspace.specs.{declared.workspace.Workspace.Workspace, Holds.HoldsPhase1}
 use Rattle.ffs_workspace.specs.Ready.{IsReady}
 use Rattle.ffs_finding.specs.declared.find.FindFault.{FindFault, TheVariants.{Refused, Run, NoMemory}}
 

@@ -9,10 +9,10 @@ use Rattle.ffs_volume.specs.{Disk.{Superblock.Superblock, Outcome.outcome}, Mess
 use Rattle.ffs_volume.specs.{Messages.Texts.text_of, Report.{Opening.fault_line, Reads.{opening_reads, scan_reads}}}
 use Rattle.ffs_volume.specs.{Report.Reads.sweep_reads, Find.{Copies.copies_lines, InodeText.inode_listing}}
 use Rattle.ffs_volume.specs.Find.{Fields.wrong_fields, Lost.lost_lines, Owner.lines_of_fragment}
+use Rattle.ffs_volume.specs.Report.Memory.{held_of}
 use Rattle.ffs_report.specs.{Known.IsContents, Sink.Sink, declared.fault.RunFault.TheVariants.{Read, Out}}
 use Rattle.ffs_memory.specs.Account.{Account, Granted, GaveUp, RefusedOneMore}
 use Rattle.ffs_check.specs.{Moment.Moment, Run.IsPrintedOrBrokeOff, Taken.{AsksMemory, Takes}}
-use Rattle.ffs_workspace.specs.Lengths.{held_of}
 use Rattle.ffs_layout.specs.Super.{IsUnreadable, ReadsSuper}
 use Rattle.ffs_finding.specs.declared.request.Search.{Search, TheVariants.{Inode, Fields, Lost, Owner}}
 use Rattle.ffs_finding.specs.declared.request.Command.{Command, TheVariants.{Copies, InVolume}}

@@ -4,9 +4,8 @@ use Rattle.std.{proofs.Common.{arith, sym, ◌∙◌, ap}, specs.Prelude.{take, 
 use Rattle.ffs_volume.specs.declared.{Order.Order, Layout.Layout, SuperFault.{SuperFault, TheVariants.CannotRead}}
 use Rattle.ffs_volume.specs.{declared.SuperFault.TheVariants.{Magic, Disagree}, Disk.Numbers.piece}
 use Rattle.ffs_volume.specs.Disk.{Superblock.{order_of, layout_of, superblock_of}, Outcome.{super_sector, layout_fault}}
-use Rattle.ffs_volume.specs.Disk.Outcome.{copy_agrees, copy_place, super_bytes, outcome}
+use Rattle.ffs_volume.specs.Disk.Outcome.{copy_agrees, copy_place, super_bytes, outcome, IsCopySector}
 use Rattle.ffs_volume.proofs.OutcomeLaws.{outcome_past_end, outcome_magic, outcome_fault, outcome_disagree, outcome_ok}
-use Rattle.ffs_layout.specs.Super.{IsCopySector}
 
 -- as many bytes as were asked for
 pub taken : (at n : ℕ) (b xs : List ℕ) → length xs ≡ n → xs ≡ take (length xs) (drop at b) → xs ≡ piece at n b

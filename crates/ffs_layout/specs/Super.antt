@@ -1,8 +1,7 @@
 -- The value of a superblock in memory.
-use Rattle.std.specs.Prelude.{◌≡◌, ℕ, ◌+◌, ◌*◌, ◌<◌, ◌/◌, ◌⊎◌, List, length, Option, IsSomeAnd, Some, None, Result, Ok, Err}
+use Rattle.std.specs.Prelude.{◌≡◌, ℕ, ◌+◌, ◌*◌, ◌<◌, ◌⊎◌, List, Option, Some, Result, Ok, Err}
 use Rattle.ffs_volume.specs.declared.{constants.TheConstants.{DEV_BSIZE, SUPERBLOCK_BYTES}, SuperFault.SuperFault}
-use Rattle.ffs_volume.specs.Disk.{Outcome.{super_sector, super_bytes, copy_place, layout_fault, outcome}, Superblock.Superblock}
-use Rattle.ffs_volume.specs.Disk.Superblock.{order_of, layout_of}
+use Rattle.ffs_volume.specs.Disk.{Outcome.{super_sector, outcome, IsSuperSector}, Superblock.Superblock}
 use Rattle.ffs_image.specs.Device.{Device, Faulted}
 use Rattle.ffs_layout.specs.{Reads.ReadFailed, declared.superblock.Super.Super}
 
@@ -20,20 +19,6 @@ superblock_in s = record {
 abbrev pub found_of : Result Super SuperFault → Result Superblock SuperFault
 found_of (Ok super) = Ok (superblock_in super)
 found_of (Err fault) = Err fault
-
--- A read of the last copy fails at this sector, where the superblock has these bytes, and its layout no
--- fault in an image of this size.
-abbrev pub IsCopySector : List ℕ → (image_size failed_sector : ℕ) → Type 0
-IsCopySector bytes image_size failed_sector =
-    IsSomeAnd (order_of bytes) (λ order. (layout_fault (layout_of order bytes) image_size ≡ None)
-    × (failed_sector ≡ copy_place (layout_of order bytes) / DEV_BSIZE))
-
--- A failed read of the superblock may have this sector: the superblock's, and the last copy's where
--- no sector was asked for.
-abbrev pub IsSuperSector : List ℕ → Option ℕ → ℕ → Type 0
-IsSuperSector image sector failed_sector =
-    (failed_sector ≡ super_sector sector)
-    ⊎ ((sector ≡ None) × IsCopySector (super_bytes image sector) (length image) failed_sector)
 
 -- This is found by reading the superblock: the fault of a read that failed, or, where the image
 -- gives its bytes, the outcome of these.

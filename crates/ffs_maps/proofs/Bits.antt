@@ -7,8 +7,12 @@ use Rattle.std.proofs.lemmas.Nat.Bits.{bit_at_set_same, bit_at_set_other, bit_at
 use Rattle.std.{proofs.{lemmas.Nat.Bits.bit_at-zero, Math.{Nat.ℕ_set, Path.subst⁻¹}}, specs.Int.{bit_at, w64, bit_not}}
 use Rattle.std.specs.Int.{div_ceil}
 use Rattle.ffs_memory.specs.Words.{Words}
-use Rattle.ffs_maps.specs.{declared.FragmentMap.FragmentMap, Bits.{bits_of, set_run}, WordBits.{is_bit, bits_of_words}}
+use Rattle.ffs_maps.specs.{declared.FragmentMap.FragmentMap, Bits.{bits_of, set_run}, WordBits.bits_of_words}
 use Rattle.ffs_maps.specs.WordBits.{set_among}
+
+-- the bit of fragment f is set, in words of 64 bits
+abbrev pub is_bit : List ℕ → ℕ → Bool
+is_bit words = λ f. nat_eq (bit_at (get_or words (f / 64) 0) (f % 64)) 1
 
 pub length_bits : (words : List ℕ) (size : ℕ) → length (bits_of_words words size) ≡ size
 unfolding bits_of_words

@@ -5,7 +5,7 @@ use Rattle.std.proofs.{Common.{sym, length-set, min}, lemmas.{List.{get_or-set_o
 use Rattle.std.proofs.lemmas.{Bool.eqb-false, Nat.{pow-add, shl_below, Bits.{bit_at_or, bit_at_and, bit_at-zero}}}
 use Rattle.std.proofs.lemmas.Nat.Bits.{bit_at-lt, bit_at_mask_inside, bit_at_mask_below, bit_at_mask_above, ones_shr}
 use Rattle.std.{proofs.{lemmas.Nat.Bits.same_from_bits, Math.Nat.{one-le-pow, pow-le-pow_right}}, specs.Int.bit_at}
-use Rattle.ffs_maps.{specs.{Bits.{set_run, AreClear}, WordBits.{is_bit, bits_of_words}}, proofs.Bits.length_bits}
+use Rattle.ffs_maps.{specs.{Bits.{set_run, AreClear}, WordBits.bits_of_words}, proofs.Bits.{is_bit, length_bits}}
 use Rattle.ffs_maps.proofs.Bits.{get_bits, bit_in, bits_are}
 
 -- the mask that the code computes

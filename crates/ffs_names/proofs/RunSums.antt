@@ -3,7 +3,7 @@
 use Rattle.std.proofs.Common.{◌≡◌, ◌+◌, ◌*◌, ◌<◌, ◌≤◌, ℕ, zero, suc, Bool, true, false, List, ap, arith, refl}
 use Rattle.std.proofs.lemmas.Bool.{cases_lt, Decides.nat_tests}
 use Rattle.ffs_volume.proofs.{CutLaws.cut_is, OwnerLaws.before_next, ReplayLaws.replay_is_runs}
-use Rattle.ffs_volume.specs.Blocks.{Claims.Claims, KeptSteps.claims_before, Owners.{owner_of, owners_of}}
+use Rattle.ffs_volume.specs.Blocks.{Claims.{Claims, all_claims}, KeptSteps.claims_before, Owners.{owner_of, owners_of}}
 use Rattle.ffs_volume.specs.{Directories.{Roles.is_dir, Volumes.{is_inode_number, volume_of}}, Report.Whole.run_count}
 use Rattle.ffs_volume.specs.{Laws.Geometry.IsAcceptedLayout, declared.Layout.Layout, Report.DirectoryReads.costs_all}
 use Rattle.ffs_volume.specs.Report.DirectoryReads.{directories_cost, directory_cost}
@@ -48,5 +48,5 @@ up_to v b (suc n) g =
     omega (arith, same, up_to v b n g, one_more v b n g)
 
 pub costs_bounded : (v : Layout) (b : List ℕ) → IsAcceptedLayout v → directories_cost v b ≤ v.ncg * v.ipg + run_count v b
-unfolding claims_before run_count owners_of
+unfolding claims_before run_count all_claims owners_of
 costs_bounded v b g = up_to v b (v.ncg * v.ipg) g

@@ -6,7 +6,7 @@ use Rattle.ffs_image.specs.Device.{ForContents}
 use Rattle.ffs_volume.specs.{declared.Layout.Layout, Encodings.Kinds.kind_at, Directories.Parents.graph_of}
 use Rattle.ffs_volume.specs.Directories.{Roles.roled_entries, Volumes.{volume_of, volume_with}}
 use Rattle.ffs_volume.specs.{Encodings.Links.start_at, Blocks.Inodes.inodes_of, Directories.Calm.is_right_directory}
-use Rattle.ffs_workspace.specs.Holds.{HoldsClaims, HoldsReferences, HoldsStarts, HoldsTree}
+use Rattle.ffs_workspace.specs.Holds.{HoldsClaims, HoldsReferences, HoldsTree}
 use Rattle.ffs_workspace.{proofs.Leaving.counts_surveyed, specs.Leaves.LeavesBlockCheck}
 use Rattle.ffs_workspace.specs.declared.workspace.Workspace.{Workspace}
 use Rattle.ffs_survey.specs.{Calm.AreCalm, SurveyLaws.references_is, Survey.{graph_with, most_start, references_to}}
@@ -42,11 +42,12 @@ start_low v b x = grind arith
 -- and counts that continue from where they start
 pub holds_references : (v : Layout) (b : List ℕ) (old new : Workspace) {starts counts : List ℕ} {flags marks : List Bool}
     {parents : List ℕ} → old.references.items ≡ starts → new.references.items ≡ counts
-    → HoldsStarts v b old → IsSurvey (graph_of (volume_of v b)) starts counts flags marks parents → HoldsReferences v b new
+    → ((x : ℕ) → slice_index old.references.items x ≡ start_at v b x)
+    → IsSurvey (graph_of (volume_of v b)) starts counts flags marks parents → HoldsReferences v b new
 unfolding volume_of volume_with
 holds_references v b old new {starts = starts} e c h s = record {
   counts = λ x l.
-      let begun : slice_index starts x ≡ start_at v b x = sym (ap (λ xs. slice_index xs x) e) ∙ h.starts x in
+      let begun : slice_index starts x ≡ start_at v b x = sym (ap (λ xs. slice_index xs x) e) ∙ h x in
       let low : min (slice_index starts x) most_start ≡ start_at v b x = omega (arith, begun, start_low v b x) in
       ap (λ xs. slice_index xs x) c ∙ s.counts x l ∙ ap (λ k. k + references_to (graph_of (volume_of v b)) x) low
       ∙ ap (λ k. start_at v b x + k) (references_is (volume_of v b) x);

@@ -1,32 +1,24 @@
 -- What phase 2 leaves at its answer, and how often it reads the image.
-use Rattle.std.specs.Prelude.{◌≡◌, ◌⊎◌, ◌≤◌, ◌+◌, ◌*◌, ℕ, true, false, List, [], ◌∷◌, length, map, Result, Ok, Err, ⊤}
+use Rattle.std.specs.Prelude.{◌≡◌, ◌⊎◌, ◌≤◌, ◌+◌, ◌*◌, ℕ, true, false, [], ◌∷◌, length, map, Result, Ok, Err, ⊤}
 use Rattle.ffs_image.specs.Device.{Device}
 use Rattle.ffs_volume.specs.{declared.Layout.Layout, Directories.PathnameCheck.{continues_after_root, pathname_lines}}
 use Rattle.ffs_volume.specs.{Directories.Volumes.volume_of, Messages.Kinds.{of_tree, phase2}, Report.Reads.line_reads}
 use Rattle.ffs_volume.specs.Report.{Reads.pathname_reads, DirectoryReads.{directories_cost, phase2_cost}}
 use Rattle.ffs_report.specs.{Known.ForBytes, Progress.{Progress, Said}, declared.fault.RunFault.RunFault}
 use Rattle.ffs_report.specs.declared.fault.RunFault.TheVariants.{Read, Out}
-use Rattle.ffs_workspace.specs.{declared.workspace.Workspace.Workspace, Found.WithClaims, Holds.HoldsClaims}
-use Rattle.ffs_workspace.specs.Holds.{HoldsReferences, HoldsSurvey}
+use Rattle.ffs_workspace.specs.{declared.workspace.Workspace.Workspace, Found.WithClaims, Holds.HoldsFindings}
 use Rattle.ffs_pathnames.specs.{RootAnswers.{SaidStop, is_go}, declared.pass2.Root.Root}
 
--- the check continues after the root as the image's bytes say, and the workspace holds what the block
--- check and the survey found, with the counts of references
-pub record IsLeftByPhase2 (v : Layout) (bytes : List ℕ) (root : Root) (w : Workspace) : Type 0 where
-  pub goes : is_go root ≡ continues_after_root (volume_of v bytes)
-  pub claims : HoldsClaims v bytes w
-  pub survey : HoldsSurvey v bytes w
-  pub references : HoldsReferences v bytes w
-
 -- what phase 2 leaves, by its answer.
--- At Ok: what `IsLeftByPhase2` says, and where the check stops after the root, the heading and the root's message
--- were said.
+-- At Ok: the check continues after the root as the image's bytes say, and the workspace holds what the block check
+-- and the survey found. Where the check stops after the root, the heading and the root's message were said.
 -- Where a read failed: the heading alone was said, or the check continues after the root.
 -- Where the output failed nothing is promised.
 abbrev pub Phase2Ends : Layout → Device → (w w' : Workspace) → (old new : Progress) → Result Root RunFault →
     Type 0
 Phase2Ends v d w w' old new (Ok root) =
-    ForBytes (WithClaims v d w) (λ bytes. IsLeftByPhase2 v bytes root w')
+    ForBytes (WithClaims v d w) (λ bytes.
+    (is_go root ≡ continues_after_root (volume_of v bytes)) × HoldsFindings v bytes w')
     × (is_go root ≡ false → SaidStop (WithClaims v d w) (phase2 ∷ [])
     (λ bytes. phase2 ∷ map of_tree (pathname_lines (volume_of v bytes))) old new)
 Phase2Ends v d w w' old new (Err (Read fault)) = Said old new (phase2 ∷ [])

@@ -4,8 +4,7 @@ use Rattle.ffs_image.specs.Device.{Device}
 use Rattle.ffs_report.specs.{Known.ForBytes, Progress.{Progress, Said}}
 use Rattle.ffs_report.specs.declared.fault.RunFault.{RunFault, TheVariants.{Read, Out}}
 use Rattle.ffs_volume.specs.{declared.Layout.Layout, Directories.PathnameCheck.continues_after_root}
-use Rattle.ffs_volume.specs.{Directories.Volumes.volume_of, Messages.Kinds.{Message, of_directory, of_tree}}
-use Rattle.ffs_volume.specs.declared.tree_lines.DirectoryLine.TheVariants.{RootNone, RootNotDir}
+use Rattle.ffs_volume.specs.{Directories.Volumes.volume_of, Messages.Kinds.{Message, stops_check}}
 use Rattle.ffs_workspace.specs.declared.workspace.Workspace.{Workspace}
 use Rattle.ffs_pathnames.specs.{Before.IsBefore, declared.pass2.Root.{Root, TheVariants.{Go, Stop}}}
 
@@ -13,13 +12,7 @@ abbrev pub is_go : Root → Bool
 is_go Go = true
 is_go Stop = false
 
--- the messages after which the check stops: the root isn't allocated, or isn't a directory
-abbrev pub stops_check : Message → Bool
-stops_check (of_tree (of_directory RootNone)) = true
-stops_check (of_tree (of_directory RootNotDir)) = true
-stops_check _ = false
-
--- messages were said of which the last one is such a message, in any image; and they are `all`
+-- messages were said, of which the last one stops the check, in any image; and they are `all`
 pub record SaidStop (knows : List ℕ → Type 0) (earlier : List Message) (all : List ℕ → List Message)
     (old new : Progress) : Type 0 where
   pub last : Message

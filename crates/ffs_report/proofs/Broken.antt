@@ -5,7 +5,7 @@ use Rattle.std.proofs.Common.{◌++◌, length, append_assoc, append-nil, Option
 use Rattle.std.proofs.{lemmas.{Bool.cases_lt, List.{append_cancel_left, take-append-drop, take-append-le}}, Math.Seq.take-append_seam}
 use Rattle.std.specs.Io.KnownBytes.{Appends, append_known}
 use Rattle.ffs_volume.specs.Messages.{Kinds.{Message, has_defect}, Texts.{text_of, texts_of}}
-use Rattle.ffs_report.specs.{Progress.{Progress, Stopped}, Paid.StoppedInLast}
+use Rattle.ffs_report.specs.Progress.{Progress, Said, Stopped}
 
 -- of two ways to cut a text in two, the shorter first part is the front of the other
 front : (xs ys p r : List ℕ) → xs ++ ys ≡ p ++ r → length p ≤ length xs → xs ≡ p ++ drop (length p) xs
@@ -23,7 +23,6 @@ record Reaches (ms : List Message) (prefix : List ℕ) : Type 0 where
   pub prefix_is : prefix ≡ texts_of whole ++ part
   pub last_is : texts_of last ≡ part ++ rest
   pub few : length last ≤ 1
-  pub fewer : length whole + length last ≤ length ms
   pub some : 1 ≤ length ms → 1 ≤ length whole + length last
 
 reaches : (ms : List Message) (p r : List ℕ) → texts_of ms ≡ p ++ r → Reaches ms p
@@ -35,7 +34,6 @@ reaches [] p r same = record {
   prefix_is = refl;
   last_is = same;
   few = omega arith;
-  fewer = omega arith;
   some = λ some. some;
 }
 reaches (m ∷ ms) p r same = elim (cases_lt (length (text_of m)) (length p)) [
@@ -55,7 +53,6 @@ reaches (m ∷ ms) p r same = elim (cases_lt (length (text_of m)) (length p)) [
             ∙ sym (append_assoc (text_of m) (texts_of more.whole) more.part);
         last_is = more.last_is;
         few = more.few;
-        fewer = omega (arith, more.fewer);
         some = λ _. omega arith;
       }
   | inr within ↦ record {
@@ -66,7 +63,6 @@ reaches (m ∷ ms) p r same = elim (cases_lt (length (text_of m)) (length p)) [
     prefix_is = refl;
     last_is = append-nil (text_of m) ∙ front (text_of m) (texts_of ms) p r same within;
     few = omega arith;
-    fewer = omega arith;
     some = λ _. omega arith;
   }
 ]
@@ -86,42 +82,41 @@ said_after a ms = record a {
   defect = a.defect || has_defect ms;
 }
 
--- the output failed among these messages: of no more than there are, and of some where there are some
+-- the output failed among these messages: within `last`, after the first ones were said; where there are
+-- some, one was begun
 pub record StoppedWhere (a b : Progress) (ms : List Message) : Type 0 where
-  pub begun : ℕ
-  pub stopped : StoppedInLast begun a b
-  pub fewer : begun ≤ length ms
-  pub some : 1 ≤ length ms → 1 ≤ begun
+  pub messages : List Message
+  pub last : List Message
+  pub few : length last ≤ 1
+  pub between : Progress
+  pub said : Said a between messages
+  pub stopped : Stopped between b last
+  pub some : 1 ≤ length ms → 1 ≤ length messages + length last
 
 pub stopped_where : (a b : Progress) (ms : List Message) → Stopped a b ms → StoppedWhere a b ms
 stopped_where a b ms s =
     let reach = reaches ms s.prefix s.rest s.whole in
     record {
-      begun = length reach.whole + length reach.last;
-      stopped = record {
-        messages = reach.whole;
-        last = reach.last;
-        between = said_after a reach.whole;
-        said = record {
-          output = refl;
-          took = record { taken = appends_known a.sink.taken (texts_of reach.whole); failures = refl; lent = refl };
-          failed = refl;
-          defect = refl;
-        };
-        stopped = record {
-          output = s.output;
-          lent = s.lent;
-          prefix = reach.part;
-          rest = reach.rest;
-          whole = reach.last_is;
-          taken = appends_rest a.sink.taken b.sink.taken (texts_of reach.whole) reach.part
-              (subst (Appends a.sink.taken b.sink.taken) reach.prefix_is s.taken);
-          failed = s.failed;
-          cause = s.cause;
-        };
-        few = reach.few;
-        many = refl;
+      messages = reach.whole;
+      last = reach.last;
+      few = reach.few;
+      between = said_after a reach.whole;
+      said = record {
+        output = refl;
+        took = record { taken = appends_known a.sink.taken (texts_of reach.whole); failures = refl; lent = refl };
+        failed = refl;
+        defect = refl;
       };
-      fewer = reach.fewer;
+      stopped = record {
+        output = s.output;
+        lent = s.lent;
+        prefix = reach.part;
+        rest = reach.rest;
+        whole = reach.last_is;
+        taken = appends_rest a.sink.taken b.sink.taken (texts_of reach.whole) reach.part
+            (subst (Appends a.sink.taken b.sink.taken) reach.prefix_is s.taken);
+        failed = s.failed;
+        cause = s.cause;
+      };
       some = reach.some;
     }

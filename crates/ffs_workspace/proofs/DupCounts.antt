@@ -3,7 +3,7 @@ use Rattle.std.proofs.Common.{◌≡◌, ℕ, suc, ◌+◌, Bool, false, List, [
 use Rattle.std.{proofs.Common.{refl, ap, ◌∙◌}, specs.List.{range_with_len, slice_index_or}}
 use Rattle.std.proofs.lemmas.List.Sums.{sum_by-cons}
 use Rattle.ffs_maps.specs.WordBits.{set_among}
-use Rattle.ffs_workspace.specs.Lengths.{set_count}
+use Rattle.ffs_volume.specs.Blocks.BlockCheck.{set_count}
 
 count_from : (p : ℕ → Bool) (bits : List Bool) (a : ℕ) → ((i : ℕ) → p (a + i) ≡ slice_index_or bits i false) →
     count_by p (range_with_len a (length bits)) ≡ set_count bits

@@ -1,8 +1,8 @@
 -- What a workspace holds is held by one with the same findings.
-use Rattle.std.proofs.{Common.{arith, ◌≡◌, ℕ, List, false, true}, lemmas.Bool.both_ways}
-use Rattle.ffs_volume.specs.declared.Layout.{Layout}
+use Rattle.std.{proofs.{Common.{arith, ◌≡◌, ℕ, List, false, true}, lemmas.Bool.both_ways}, specs.Prelude.slice_index}
+use Rattle.ffs_volume.specs.{declared.Layout.Layout, Encodings.Links.start_at}
 use Rattle.ffs_workspace.specs.{declared.workspace.Workspace.Workspace, Holds.{HoldsClaims, HoldsCounts, HoldsFindings, HoldsPhase1}}
-use Rattle.ffs_workspace.specs.Holds.{HoldsReferences, HoldsStarts, HoldsSurvey, HoldsTree, IsFresh}
+use Rattle.ffs_workspace.specs.Holds.{HoldsReferences, HoldsSurvey, HoldsTree, IsFresh}
 use Rattle.ffs_workspace.specs.Leaves.{LeavesBlockCheck, LeavesSurvey}
 
 pub leaves_all : (w : Workspace) → LeavesSurvey w w
@@ -33,11 +33,13 @@ pub windows_leave : (old new : Workspace) → new ≡ record old { windows = new
 windows_leave old new e = grind arith
 
 -- nothing is surveyed: counts of references are where they start
-pub counts_unsurveyed : (v : Layout) (b : List ℕ) (w : Workspace) → w.surveyed ≡ false → HoldsStarts v b w → HoldsCounts v b w
+pub counts_unsurveyed : (v : Layout) (b : List ℕ) (w : Workspace) → w.surveyed ≡ false →
+    ((x : ℕ) → slice_index w.references.items x ≡ start_at v b x) → HoldsCounts v b w
 unfolding HoldsCounts
 counts_unsurveyed v b w e h = (λ _. h, λ t. absurd (both_ways w.surveyed e t))
 
-pub counts_begin : (v : Layout) (b : List ℕ) (w : Workspace) → HoldsCounts v b w → w.surveyed ≡ false → HoldsStarts v b w
+pub counts_begin : (v : Layout) (b : List ℕ) (w : Workspace) → HoldsCounts v b w → w.surveyed ≡ false →
+    (x : ℕ) → slice_index w.references.items x ≡ start_at v b x
 unfolding HoldsCounts
 counts_begin v b w h e = h.0 e
 
@@ -58,7 +60,7 @@ pub counts_same : (v : Layout) (b : List ℕ) (old new : Workspace) → new.refe
     HoldsCounts v b old → HoldsCounts v b new
 unfolding HoldsCounts
 counts_same v b old new references surveyed named reached parents h = (
-  λ e. record { starts = λ x. rw references ((h.0 (rw surveyed at e)).starts x) },
+  λ e x. rw references (h.0 (rw surveyed at e) x),
   λ e. let found = h.1 (rw surveyed at e) in (
     record { counts = λ x l. rw references (found.0.counts x l) },
     record {

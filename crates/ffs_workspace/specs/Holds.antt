@@ -1,12 +1,9 @@
 -- What a workspace holds between the phases.
-use Rattle.std.specs.Prelude.{◌≡◌, ◌<◌, ◌+◌, ℕ, Bool, false, true, not, ◌&&◌, ◌||◌, ◌==◌, List, if◌then◌else◌}
-use Rattle.std.specs.{Prelude.{replicate, slice_index}, Option.unwrap_or}
-use Rattle.ffs_volume.specs.{declared.Layout.Layout, Blocks.Inodes.{inode_of, class_of, is_unknown, inodes_of}}
-use Rattle.ffs_volume.specs.Blocks.{Owners.{owner_of, owners_of}, Claims.{Claims, no_claims, after_owner, after_owners}}
-use Rattle.ffs_volume.specs.{Blocks.KeptSteps.claims_before, Directories.Graph.{is_named, reached, parent}}
-use Rattle.ffs_volume.specs.Directories.{Roles.references, Parents.graph_of, Volumes.{is_inode_number, marked_at}}
-use Rattle.ffs_volume.specs.{Directories.Volumes.volume_of, Encodings.{Kinds.kind_at, Links.start_at, Places.ArePlaces}}
-use Rattle.ffs_volume.specs.Encodings.Notes.{note_at}
+use Rattle.std.specs.{Prelude.{◌≡◌, ◌<◌, ◌+◌, ℕ, false, true, List, replicate, slice_index}, Option.unwrap_or}
+use Rattle.ffs_volume.specs.{declared.Layout.Layout, Blocks.{Inodes.inodes_of, Claims.{Claims, all_claims}}}
+use Rattle.ffs_volume.specs.Directories.{Graph.{is_named, reached, parent}, Roles.references, Parents.graph_of}
+use Rattle.ffs_volume.specs.{Directories.Volumes.{marked_at, marked_by_phase1_at, volume_of}, Encodings.Kinds.kind_at}
+use Rattle.ffs_volume.specs.Encodings.{Links.start_at, Places.ArePlaces, Notes.note_at}
 use Rattle.ffs_workspace.specs.declared.workspace.Workspace.{Workspace}
 use Rattle.ffs_maps.specs.Bits.{bits_of}
 pub use Rattle.ffs_volume.specs.Encodings.Lists.{bool_at}
@@ -32,22 +29,6 @@ pub record IsFresh (v : Layout) (w : Workspace) : Type 0 where
   pub notes : w.notes.items ≡ replicate (inodes_of v) 0
   pub references : w.references.items ≡ replicate (inodes_of v) 0
 
--- the current inode has a bad Run or a dup offer
-abbrev pub has_blame : Claims → Bool
-has_blame s = not (s.bad == 0 && s.dups == 0)
-
--- phase 1 marks the inode x: it is of class Unknown, or has a bad Run or a dup offer
-unfoldable pub marked_by_phase1_at : Layout → List ℕ → ℕ → Bool
-marked_by_phase1_at v image x =
-    if is_inode_number v x
-    then is_unknown (class_of v (inode_of v image x))
-    || has_blame (after_owner v (claims_before v image x) (owner_of v image x))
-    else false
-
--- the claims of all inodes
-unfoldable pub all_claims : Layout → List ℕ → Claims
-all_claims v image = after_owners v (no_claims v) (owners_of v image)
-
 -- what phase 1 leaves: the fragments that are reserved or claimed, those with a DUP line, how many
 -- Runs were seen, and for each inode its kind, whether it is marked so far, what is noted of it,
 -- and where its count of references starts. Nothing is surveyed yet
@@ -60,10 +41,6 @@ pub record HoldsPhase1 (v : Layout) (image : List ℕ) (w : Workspace) : Type 0 
   pub notes : (x : ℕ) → slice_index w.notes.items x ≡ note_at v image x
   pub starts : (x : ℕ) → slice_index w.references.items x ≡ start_at v image x
   pub unsurveyed : w.surveyed ≡ false
-
--- what phases 1 and 1b leave for the survey: where the count of references of each inode starts
-pub record HoldsStarts (v : Layout) (image : List ℕ) (w : Workspace) : Type 0 where
-  pub starts : (x : ℕ) → slice_index w.references.items x ≡ start_at v image x
 
 -- what the survey leaves: how often each inode is referred to, counted on from its start
 pub record HoldsReferences (v : Layout) (image : List ℕ) (w : Workspace) : Type 0 where
@@ -85,7 +62,7 @@ pub record HoldsSurvey (v : Layout) (image : List ℕ) (w : Workspace) : Type 0 
 -- before the survey each count of references is where it starts; what the survey has found stays,
 -- so that a second one needn't count again
 unfoldable pub HoldsCounts : Layout → (image : List ℕ) → Workspace → Type 0
-HoldsCounts v image w = (w.surveyed ≡ false → HoldsStarts v image w)
+HoldsCounts v image w = (w.surveyed ≡ false → (x : ℕ) → slice_index w.references.items x ≡ start_at v image x)
     × (w.surveyed ≡ true → HoldsReferences v image w × HoldsTree v image w)
 
 -- what phases 1 and 1b leave, and all phases after them keep: the fragments that are reserved or
@@ -98,7 +75,7 @@ pub record HoldsClaims (v : Layout) (image : List ℕ) (w : Workspace) : Type 0 
   pub notes : (x : ℕ) → slice_index w.notes.items x ≡ note_at v image x
   pub counts : HoldsCounts v image w
 
--- what the block check and the survey leave for the check of reference counts
+-- what the block check and the survey leave, with the counts of references
 pub record HoldsFindings (v : Layout) (image : List ℕ) (w : Workspace) : Type 0 where
   pub claims : HoldsClaims v image w
   pub survey : HoldsSurvey v image w

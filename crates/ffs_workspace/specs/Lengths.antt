@@ -1,13 +1,9 @@
 -- The lengths of the lists of a workspace, and what its windows hold.
-use Rattle.std.specs.{Prelude.{◌≡◌, ◌+◌, ◌*◌, ◌==◌, ℕ, Bool, not, List, Option, vec_len, count_by}, Int.div_ceil}
-use Rattle.ffs_volume.specs.{declared.Layout.Layout, Blocks.Inodes.inodes_of}
+use Rattle.std.specs.Prelude.{◌≡◌, ◌*◌, ◌==◌, ℕ, Bool, not, List, Option, vec_len}
+use Rattle.ffs_volume.specs.{declared.Layout.Layout, Blocks.{Inodes.inodes_of, BlockCheck.set_count}}
 use Rattle.ffs_maps.specs.Bits.{bits_of}
 use Rattle.ffs_walk.specs.Windows.{WindowHolds, BlocksHold}
 use Rattle.ffs_workspace.specs.{declared.workspace.Workspace.Workspace, Tables.KeepsTable}
-
--- how many bits of a map are set
-abbrev pub set_count : List Bool → ℕ
-set_count bits = count_by (λ b. b) bits
 
 -- some fragment has a DUP line, and its first kept offer isn't reported yet
 abbrev pub has_unreported_dups : Workspace → Bool
@@ -37,7 +33,3 @@ pub record HoldWindows (v : Layout) (contents : Option (List ℕ)) (w : Workspac
   pub blocks : BlocksHold v contents w.windows.blocks
   pub current : WindowHolds contents w.windows.current
   pub other : WindowHolds contents w.windows.other
-
--- how many bytes its lists and buffers take: two maps, 25 bytes an inode, six blocks
-abbrev pub held_of : Layout → ℕ
-held_of v = 2 * (8 * div_ceil v.size 64) + 25 * inodes_of v + 6 * v.bsize

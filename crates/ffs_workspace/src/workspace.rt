@@ -90,8 +90,8 @@ pub struct Workspace {
 
 impl Workspace {
     ghost use Rattle.ffs_image.specs.Device.{Device};
-    ghost use Rattle.ffs_workspace.specs.Lengths.{IsFor, has_unreported_dups, held_of};
-    ghost use Rattle.ffs_volume.specs.Encodings.Notes.{cut_in};
+    ghost use Rattle.ffs_workspace.specs.Lengths.{IsFor, has_unreported_dups};
+    ghost use Rattle.ffs_volume.specs.{Encodings.Notes.cut_in, Report.Memory.held_of};
     ghost use Rattle.ffs_workspace.specs.Ready.{AsksOfSystem, CanRead, IsNew, IsReady};
 
     /// Takes all memory of a check of the volume from an allocator, and holds nothing yet.

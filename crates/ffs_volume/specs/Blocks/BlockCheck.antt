@@ -1,12 +1,13 @@
--- The lines of phases 1 and 1b.
+-- The lines of phases 1 and 1b, and how many Runs phase 1b looks at.
 use Rattle.std.specs.Prelude.{ℕ, Bool, true, false, ◌*◌, ◌/◌, ◌&&◌, ◌||◌, not, List, [], ◌∷◌, ◌++◌, ◌==◌, slice_set}
-use Rattle.std.specs.{Prelude.if◌then◌else◌, List.list_any}
-use Rattle.ffs_volume.specs.declared.{constants.TheConstants.DEV_BSIZE, Layout.Layout, Class.Class}
+use Rattle.std.specs.{Prelude.{if◌then◌else◌, count_by, ◌+◌}, List.list_any}
+use Rattle.ffs_volume.specs.declared.{constants.TheConstants.DEV_BSIZE, Layout.Layout, Class.Class, Step.Step}
 use Rattle.ffs_volume.specs.declared.{Class.TheVariants.{Partial, Unknown}, BlockMessage.BlockMessage}
 use Rattle.ffs_volume.specs.declared.BlockMessage.TheVariants.{PartAlloc, UnknownType, Bad, Dup, BlockCount}
 use Rattle.ffs_volume.specs.Blocks.{Inodes.{is_file_or_dir, inode_of, class_of, is_unknown}, Owners.{Owner, owners_of}}
 use Rattle.ffs_volume.specs.Blocks.Claims.{Claims, no_claims, at_next_inode, is_open, is_set, after_owner, after_owners}
-use Rattle.ffs_volume.specs.Blocks.{Claims.lines_of_steps, KeptOffers.{Offer, kept_in_owners}}
+use Rattle.ffs_volume.specs.Blocks.{Claims.{lines_of_steps, after_step, all_claims}, KeptOffers.{Offer, kept_in_owners}}
+use Rattle.ffs_volume.specs.{Blocks.KeptOffers.kept_in_run, declared.Step.TheVariants.{Run, Tail, Gap}}
 
 -- the line of an inode's class
 abbrev pub class_lines : ℕ → Class → List BlockMessage
@@ -74,3 +75,37 @@ unfoldable pub is_marked : (v : Layout) (image : List ℕ) (x : ℕ) → Bool
 is_marked v image x =
     is_unknown (class_of v (inode_of v image x))
     || list_any (blames x) (phase1_lines v (owners_of v image) ++ phase1b_lines v (owners_of v image))
+
+-- how many of some flags are set
+abbrev pub set_count : List Bool → ℕ
+set_count bits = count_by (λ b. b) bits
+
+-- the fragments whose first kept offer is still to be reported in phase 1b, after some offers
+abbrev pub after_first : List Bool → List Offer → List Bool
+after_first dup [] = dup
+after_first dup (o ∷ os) = after_first (if is_set dup o.fragment then slice_set dup o.fragment false else dup) os
+
+-- the kept offers of each Run that is seen: of a step, of steps, and of inodes
+abbrev pub step_runs : Layout → ℕ → Claims → Step → List (List Offer)
+step_runs v number s (Run start len block) = if is_open s then kept_in_run v number s start len ∷ [] else []
+step_runs v number s Tail = []
+step_runs v number s Gap = []
+
+abbrev pub steps_runs : Layout → ℕ → Claims → List Step → List (List Offer)
+steps_runs v number s [] = []
+steps_runs v number s (step ∷ steps) = step_runs v number s step ++ steps_runs v number (after_step v s step) steps
+
+unfoldable pub owners_runs : Layout → Claims → List Owner → List (List Offer)
+owners_runs v s [] = []
+owners_runs v s (o ∷ os) = steps_runs v o.number (at_next_inode s) o.steps ++ owners_runs v (after_owner v s o) os
+
+-- how many of some Runs are looked at, by their kept offers: all up to the one that reports the
+-- last fragment with a DUP line
+unfoldable pub runs_until_reported : List Bool → List (List Offer) → ℕ
+runs_until_reported dup [] = 0
+runs_until_reported dup (kept ∷ runs) =
+    if set_count dup == 0 then 0 else 1 + runs_until_reported (after_first dup kept) runs
+
+-- how many Runs of an image phase 1b looks at
+unfoldable pub rescan_runs : Layout → List ℕ → ℕ
+rescan_runs v image = runs_until_reported (all_claims v image).dup (owners_runs v (no_claims v) (owners_of v image))

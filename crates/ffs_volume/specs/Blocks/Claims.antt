@@ -8,7 +8,8 @@ use Rattle.std.specs.{Prelude.{if◌then◌else◌, map, replicate}, List.{range
 use Rattle.ffs_volume.specs.declared.{constants.TheConstants.{MAXBAD, MAXDUP}, Layout.Layout, Step.Step}
 use Rattle.ffs_volume.specs.declared.{Step.TheVariants.{Run, Tail, Gap}, BlockMessage.{BlockMessage, TheVariants.Bad}}
 use Rattle.ffs_volume.specs.declared.BlockMessage.TheVariants.{Dup, ManyBad, ManyDup, PartTrunc}
-use Rattle.ffs_volume.specs.{Disk.Areas.{is_fragment_in_range, is_run_in_range, is_reserved}, Blocks.Owners.Owner}
+use Rattle.ffs_volume.specs.{Disk.Areas.{is_fragment_in_range, is_run_in_range, is_reserved}}
+use Rattle.ffs_volume.specs.Blocks.Owners.{Owner, owners_of}
 
 -- the state after some steps: maps of the volume's fragments, how many Runs were seen, and counts
 -- of the current inode
@@ -48,6 +49,10 @@ is_set bits f = slice_index_or bits f false
 -- the inode isn't cut, so its next step is seen: it has at most ten bad Runs and at most ten dup offers
 abbrev pub is_open : Claims → Bool
 is_open s = nat_lt s.bad (MAXBAD + 1) && nat_lt s.dups (MAXDUP + 1)
+
+-- the current inode has a bad Run or a dup offer
+abbrev pub has_blame : Claims → Bool
+has_blame s = not (s.bad == 0 && s.dups == 0)
 
 -- the state after the offer of f, which is kept unless eleven were dup before it. A fragment in
 -- range is claimed, or the offer is dup. One that isn't in range, of a bad Run, is only counted:
@@ -128,3 +133,7 @@ after_owner v s o = after_steps v (at_next_inode s) o.steps
 abbrev pub after_owners : Layout → Claims → List Owner → Claims
 after_owners v s [] = s
 after_owners v s (o ∷ os) = after_owners v (after_owner v s o) os
+
+-- the state after all inodes of an image
+unfoldable pub all_claims : Layout → List ℕ → Claims
+all_claims v image = after_owners v (no_claims v) (owners_of v image)

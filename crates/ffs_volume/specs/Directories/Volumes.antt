@@ -1,10 +1,11 @@
 -- The volume of an image, as the checks of directories see it. The record `Volume` is in `Roles`;
 -- here its fields get their values from the image.
-use Rattle.std.specs.Prelude.{ℕ, ◌*◌, Bool, false, ◌&&◌, nat_le, nat_lt, if◌then◌else◌, List, []}
+use Rattle.std.specs.Prelude.{ℕ, ◌*◌, Bool, false, ◌&&◌, nat_le, nat_lt, if◌then◌else◌, List, [], ◌||◌}
 use Rattle.ffs_volume.specs.declared.{Layout.Layout, Class.{Class, TheVariants.Free}, Step.Step}
-use Rattle.ffs_volume.specs.{Disk.Areas.is_run_in_range, Blocks.{Inodes.{inode_of, class_of}, Steps.steps_of}}
-use Rattle.ffs_volume.specs.{Blocks.{BlockCheck.is_marked, KeptSteps.kept_steps_of}, Directories.Entries.ChunkSource}
-use Rattle.ffs_volume.specs.Directories.{Entries.{chunks_of, has_gap, bytes_read}, Roles.Volume}
+use Rattle.ffs_volume.specs.{Disk.Areas.is_run_in_range, Blocks.Inodes.{inode_of, class_of, is_unknown}}
+use Rattle.ffs_volume.specs.Blocks.{Steps.steps_of, BlockCheck.is_marked, KeptSteps.{kept_steps_of, claims_before}}
+use Rattle.ffs_volume.specs.Directories.{Entries.{ChunkSource, chunks_of, has_gap, bytes_read}, Roles.Volume}
+use Rattle.ffs_volume.specs.Blocks.{Owners.owner_of, Claims.{has_blame, after_owner}}
 
 -- x is the number of an inode: it is at least 2, and some group has it
 abbrev pub is_inode_number : Layout → ℕ → Bool
@@ -17,6 +18,14 @@ class_at v image x = if is_inode_number v x then class_of v (inode_of v image x)
 -- x is the number of a marked inode
 abbrev pub marked_at : (v : Layout) (image : List ℕ) (x : ℕ) → Bool
 marked_at v image x = if is_inode_number v x then is_marked v image x else false
+
+-- phase 1 marks the inode x: it is of class Unknown, or has a bad Run or a dup offer
+unfoldable pub marked_by_phase1_at : (v : Layout) (image : List ℕ) (x : ℕ) → Bool
+marked_by_phase1_at v image x =
+    if is_inode_number v x
+    then is_unknown (class_of v (inode_of v image x))
+    || has_blame (after_owner v (claims_before v image x) (owner_of v image x))
+    else false
 
 -- the steps of an inode; none for a number that isn't an inode's
 abbrev pub steps_of_inode : (v : Layout) (image : List ℕ) (x : ℕ) → List Step

@@ -1,9 +1,9 @@
 -- Which superblocks are accepted, and the first fault of one that isn't: no bytes, no magic, a
--- fault of the layout in the order of `layout_fault`, or a copy that disagrees. `outcome`, at the
--- end, is made of the conditions before it.
+-- fault of the layout in the order of `layout_fault`, or a copy that disagrees. `outcome` is made of
+-- the conditions before it. After it are the sectors at which a read of a superblock may fail.
 use Rattle.std.specs.Prelude.{ℕ, ◌+◌, ◌-◌, ◌*◌, ◌/◌, ◌%◌, ◌^◌, min, Bool, true, false, ◌&&◌, not, nat_lt, nat_le, ◌==◌}
-use Rattle.std.specs.Prelude.{if◌then◌else◌, List, [], ◌∷◌, length, Option, Some, None, Result, Ok, Err}
-use Rattle.std.specs.{List.{list_all, list_any}, Int.div_ceil}
+use Rattle.std.specs.Prelude.{if◌then◌else◌, List, [], ◌∷◌, length, Option, Some, None, Result, Ok, Err, ◌≡◌, ◌⊎◌}
+use Rattle.std.specs.{Prelude.IsSomeAnd, List.{list_all, list_any}, Int.div_ceil}
 use Rattle.ffs_volume.specs.declared.constants.TheConstants.{CG_HEADER, CSUM_SIZE, DEV_BSIZE, DINODE_SIZE, INODE_FORMAT}
 use Rattle.ffs_volume.specs.declared.{constants.TheConstants.{SBSIZE, SUPERBLOCK_BYTES, SUPERBLOCK_SECTOR}, Order.Order}
 use Rattle.ffs_volume.specs.declared.SuperFault.{SuperFault, TheVariants.{CannotRead, Magic, InodeFormat, Ncg, Cpg}}
@@ -146,3 +146,17 @@ outcome image sector =
     if nat_lt (length image) (super_sector sector * DEV_BSIZE + SUPERBLOCK_BYTES)
     then Err (CannotRead (super_sector sector))
     else outcome_of image sector (super_bytes image sector) (order_of (super_bytes image sector))
+
+-- a read of the last copy fails at this sector, where the superblock has these bytes, and its layout no
+-- fault in an image of this size
+abbrev pub IsCopySector : List ℕ → (image_size failed_sector : ℕ) → Type 0
+IsCopySector bytes image_size failed_sector =
+    IsSomeAnd (order_of bytes) (λ order. (layout_fault (layout_of order bytes) image_size ≡ None)
+    × (failed_sector ≡ copy_place (layout_of order bytes) / DEV_BSIZE))
+
+-- a failed read of the superblock may have this sector: the superblock's, and the last copy's where
+-- no sector was asked for
+abbrev pub IsSuperSector : List ℕ → Option ℕ → ℕ → Type 0
+IsSuperSector image sector failed_sector =
+    (failed_sector ≡ super_sector sector)
+    ⊎ ((sector ≡ None) × IsCopySector (super_bytes image sector) (length image) failed_sector)

@@ -1,8 +1,8 @@
 -- The messages of a report, and which of them report a defect.
 use Rattle.std.specs.{Prelude.{ℕ, zero, suc, Bool, true, false, List, [], ◌∷◌, ◌++◌, ℤ}, List.list_any}
 use Rattle.ffs_volume.specs.declared.{BlockMessage.BlockMessage, SuperFault.SuperFault}
-use Rattle.ffs_volume.specs.declared.tree_lines.{DirectoryLine.DirectoryLine, DotLine.DotLine, EntryLine.EntryLine}
-use Rattle.ffs_volume.specs.declared.tree_lines.{ReferenceLine.ReferenceLine}
+use Rattle.ffs_volume.specs.declared.tree_lines.DirectoryLine.{DirectoryLine, TheVariants.{RootNone, RootNotDir}}
+use Rattle.ffs_volume.specs.declared.tree_lines.{DotLine.DotLine, EntryLine.EntryLine, ReferenceLine.ReferenceLine}
 
 -- a message on a directory as a whole, its `.` and `..`, a further entry, or the references to an
 -- inode. The folder Directories has the rules that report them, `Texts` the text of each. Paths and
@@ -58,6 +58,18 @@ is_defect (summary files used free frags blocks tenths) = false
 -- a defect is among them
 abbrev pub has_defect : List Message → Bool
 has_defect messages = list_any is_defect messages
+
+-- the messages after which a check stops: the root isn't allocated, or isn't a directory
+abbrev pub stops_check : Message → Bool
+stops_check (of_tree (of_directory RootNone)) = true
+stops_check (of_tree (of_directory RootNotDir)) = true
+stops_check _ = false
+
+-- a check stops after the last of these messages
+abbrev pub stops_at_last : List Message → Bool
+stops_at_last [] = false
+stops_at_last (message ∷ []) = stops_check message
+stops_at_last (message ∷ next ∷ more) = stops_at_last (next ∷ more)
 
 -- the message, where the test fails
 abbrev pub unless : {M : Type 0} → Bool → M → List M

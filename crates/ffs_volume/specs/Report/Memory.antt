@@ -2,10 +2,13 @@
 use Rattle.std.specs.{Prelude.{ℕ, ◌+◌, ◌*◌}, Int.div_ceil}
 use Rattle.ffs_volume.specs.declared.Layout.{Layout}
 
--- a bound on the bytes that the lists and buffers of a check take. They take two maps of the
--- fragments, 25 bytes an inode and six blocks (`held_of` of ffs_workspace). The bound was stated
--- before the lists were made, for three maps, eight blocks and a page: it stays, since users may
--- rely on it, and leaves room for other lists
+-- how many bytes the lists and buffers of a check take: two maps of the fragments, 25 bytes an inode,
+-- six blocks
+abbrev pub held_of : Layout → ℕ
+held_of v = 2 * (8 * div_ceil v.size 64) + 25 * (v.ncg * v.ipg) + 6 * v.bsize
+
+-- a bound on these bytes. It was stated before the lists were made, for three maps, eight blocks and a
+-- page: it stays, since users may rely on it, and leaves room for other lists
 abbrev pub held_limit : Layout → ℕ
 held_limit v = 3 * (8 * div_ceil v.size 64) + 25 * (v.ncg * v.ipg) + 8 * v.bsize + 4096
 

@@ -1,15 +1,16 @@
 -- The whole report of an image: its text as a list of messages, how the check ends, and its status.
 use Rattle.std.specs.Prelude.{ℕ, ◌*ℤ◌, ◌+ℤ◌, int_div, Bool, true, false, not, ◌&&◌, if◌then◌else◌, List, [], ◌∷◌, ◌++◌}
-use Rattle.std.specs.{Prelude.{map, count_by, ℤ, pos, Option, Result, Ok, Err}, List.{range_with_len, slice_index_or}}
+use Rattle.std.specs.{Prelude.{map, count_by, ℤ, pos, Option, Result, Ok, Err, ◌≡◌}, List.range_with_len}
+use Rattle.std.specs.List.{slice_index_or}
 use Rattle.ffs_volume.specs.declared.{Layout.Layout, SuperFault.SuperFault, End.{End, TheVariants.Consistent}}
 use Rattle.ffs_volume.specs.declared.End.TheVariants.{Defects, Refused, RootStop, ReadFault, WriteFault, NoMemory}
 use Rattle.ffs_volume.specs.Disk.{Areas.is_reserved, Superblock.Superblock, Outcome.outcome}
-use Rattle.ffs_volume.specs.Blocks.{Inodes.is_file_or_dir, Owners.{owners_of, inode_numbers}, Claims.is_set}
-use Rattle.ffs_volume.specs.Blocks.{Claims.{no_claims, after_owners}, BlockCheck.{phase1_lines, phase1b_lines}}
-use Rattle.ffs_volume.specs.{Blocks.BlockCheck.has_rescan, Groups.GroupCheck.{phase5_lines, is_free_of_kept}}
-use Rattle.ffs_volume.specs.Messages.Kinds.{Message, phase1, phase1b, phase2, phase3, phase4, phase5, of_blocks}
-use Rattle.ffs_volume.specs.{Messages.Kinds.{of_tree, summary, has_defect}, Report.Opening.{super_lines, head_lines}}
-use Rattle.ffs_volume.specs.{Report.Opening.fault_line, Directories.PathnameCheck.pathname_lines}
+use Rattle.ffs_volume.specs.Blocks.{Inodes.is_file_or_dir, Owners.{owners_of, inode_numbers}, Claims.all_claims}
+use Rattle.ffs_volume.specs.Blocks.{Claims.is_set, BlockCheck.{phase1_lines, phase1b_lines, has_rescan}}
+use Rattle.ffs_volume.specs.{Groups.GroupCheck.{phase5_lines, is_free_of_kept}, Messages.Kinds.{Message, phase1}}
+use Rattle.ffs_volume.specs.Messages.Kinds.{phase1b, phase2, phase3, phase4, phase5, of_blocks, of_tree, summary}
+use Rattle.ffs_volume.specs.{Messages.Kinds.{has_defect, stops_at_last}, Report.Opening.{super_lines, head_lines}}
+use Rattle.ffs_volume.specs.{Report.Opening.{opening_lines, fault_line}, Directories.PathnameCheck.pathname_lines}
 use Rattle.ffs_volume.specs.Directories.{PathnameCheck.continues_after_root, Connectivity.connectivity_lines}
 use Rattle.ffs_volume.specs.Directories.{ReferenceCheck.reference_lines, Volumes.{class_at, volume_of}}
 
@@ -19,13 +20,12 @@ file_count v image = count_by (λ x. is_file_or_dir (class_at v image x)) (inode
 
 -- how many Runs are seen
 unfoldable pub run_count : Layout → List ℕ → ℕ
-run_count v image = (after_owners v (no_claims v) (owners_of v image)).runs
+run_count v image = (all_claims v image).runs
 
 -- how many fragments are claimed; reserved ones don't count
 unfoldable pub claimed_count : Layout → List ℕ → ℕ
 claimed_count v image =
-    count_by (λ f. is_set (after_owners v (no_claims v) (owners_of v image)).used f && not (is_reserved v f))
-    (range_with_len 0 v.size)
+    count_by (λ f. is_set (all_claims v image).used f && not (is_reserved v f)) (range_with_len 0 v.size)
 
 -- the superblock's own count of loose fragments
 abbrev pub loose_fragments : Superblock → ℤ
@@ -102,6 +102,13 @@ report_of image name sector = head_lines name sector ++ lines_by_outcome image (
 -- how the check of an image ends
 unfoldable pub report_end : (image : List ℕ) (sector : Option ℕ) → End
 report_end image sector = end_by_outcome image (outcome image sector)
+
+-- the end follows from the text that was printed, of any image: `Refused` has the fault that the opening
+-- says. Any other is `RootStop` just where the check stops after the last message, and else says whether
+-- there is a defect
+abbrev pub EndAgrees : (name : List ℕ) (sector : Option ℕ) (text : List Message) → End → Type 0
+EndAgrees name sector text (Refused fault) = text ≡ opening_lines name sector (Err fault)
+EndAgrees name sector text end = end ≡ end_by (not (stops_at_last text)) (has_defect text)
 
 -- the exit status of an end
 abbrev pub status_of : End → ℕ

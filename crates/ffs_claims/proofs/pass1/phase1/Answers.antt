@@ -3,9 +3,10 @@ use Rattle.std.proofs.lemmas.{Result.err_from_is_err_and, Bool.cases_lt}
 use Rattle.ffs_volume.{proofs.OwnerLaws.before_next, specs.Blocks.{BlockCheck.phase1_lines, Claims.after_owner}}
 use Rattle.ffs_volume.specs.{Blocks.{KeptSteps.claims_before, Owners.{owner_of, owners_of}}, Report.Whole.run_count}
 use Rattle.ffs_volume.{specs.{Blocks.Inodes.inodes_of, Laws.ClaimBounds.used_bits}, proofs.Sizes.some_inodes}
+use Rattle.ffs_volume.specs.Blocks.Claims.{all_claims}
 use Rattle.ffs_report.proofs.Reporting.{of_part, of_fault, of_same, reports_knowing, says_heading, stops_heading}
 use Rattle.ffs_report.{proofs.Reporting.said_knows, specs.Known.ForBytes}
-use Rattle.ffs_workspace.{proofs.Leaving.fresh_held, specs.{Found.WithFresh, Holds.{claims_of, all_claims}}}
+use Rattle.ffs_workspace.{proofs.Leaving.fresh_held, specs.{Found.WithFresh, Holds.claims_of}}
 use Rattle.ffs_claims.proofs.{Duplicates.{any_set, rescan_is}, Frames.{image_from, ready_begun, ready_still}}
 use Rattle.ffs_claims.proofs.{Inodes.used_below, Numbers.{found_begins, found_next, found_all, numbers_most}}
 use Rattle.ffs_claims.proofs.{Numbers.{before_first, before_end, lines_next}, TableReads.{blocks_all, blocks_failed}}

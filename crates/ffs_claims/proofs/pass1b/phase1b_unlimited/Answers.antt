@@ -5,15 +5,16 @@ use Rattle.ffs_volume.specs.{Blocks.{KeptSteps.claims_before, Owners.owners_of},
 use Rattle.ffs_report.proofs.Reporting.{of_begins, of_says, of_part, of_fault, of_stops, of_same, reports_knowing}
 use Rattle.ffs_report.{proofs.Reporting.said_knows, specs.{Known.ForBytes, declared.fault.RunFault.RunFault}}
 use Rattle.ffs_maps.specs.Bits.{bits_of}
-use Rattle.ffs_workspace.specs.{Found.WithPhase1, Holds.all_claims, Lengths.set_count, declared.workspace.Workspace.Workspace}
-use Rattle.ffs_volume.specs.Blocks.Inodes.{inodes_of}
+use Rattle.ffs_workspace.specs.{Found.WithPhase1, declared.workspace.Workspace.Workspace}
+use Rattle.ffs_volume.specs.Blocks.{Inodes.inodes_of, Claims.all_claims, BlockCheck.{set_count, after_first}}
+use Rattle.ffs_volume.specs.Blocks.BlockCheck.{runs_until_reported, rescan_runs}
 use Rattle.ffs_claims.proofs.{Duplicates.{none_first, none_left}, Frames.{claims_none, claims_then, image_from, ready_again}}
 use Rattle.ffs_claims.proofs.{Numbers.{numbers_most, before_first}, Reportings.{reporting_more, reporting_ends}}
 use Rattle.ffs_claims.proofs.{Reportings.{reporting_begins, lines_split, reporting_over}, RescanCounts.look_most}
 use Rattle.ffs_claims.proofs.{RescanCounts.looked_none, Rescanned.{IsNoted, is_noted, offers_at, runs_at, kept_from}}
 use Rattle.ffs_claims.proofs.Rescanned.{runs_from, looked_on, looked_end, kept_next, kept_end, runs_on, runs_most}
-use Rattle.ffs_claims.proofs.{Rescanned.{claims_hold, starts_hold}, Rewalks.{runs_pay_all, runs_pay_then}}
-use Rattle.ffs_claims.specs.{Lines.of_lines, Reporting.after_first, RescanRuns.{runs_until_reported, rescan_runs}}
+use Rattle.ffs_claims.proofs.{Rescanned.claims_hold, Rewalks.{runs_pay_all, runs_pay_then}}
+use Rattle.ffs_claims.specs.Lines.{of_lines}
 use Rattle.ffs_claims.proofs.pass1b.phase1b_unlimited.Goals as goal
 
 pub returns-in_err-say-clause-text : goal.returns-in_err-say-clause-text
@@ -157,7 +158,6 @@ returns-then-not-has_unreported_dups g c =
           (λ bytes k. ap of_lines (none_first d (kept_from v bytes n) none));
       leaves = λ bytes k. record {
         claims = claims_hold v bytes c.args.workspace.now _ k.1 inv.claims (reporting_over none (inv.reported bytes k));
-        starts = starts_hold v bytes c.args.workspace.now _ k.1 inv.claims;
         unsurveyed = inv.claims.surveyed ∙ k.1.unsurveyed;
         count = omega (arith, inv.count bytes k, looked_none d (runs_from v bytes n) none);
       };
@@ -184,7 +184,6 @@ returns-after-loop-number g c =
       leaves = λ bytes k. record {
         claims = claims_hold v bytes c.args.workspace.now _ k.1 inv.claims
             (reporting_ends (inv.reported bytes k) (kept_end v bytes (claims_before v bytes n) n past));
-        starts = starts_hold v bytes c.args.workspace.now _ k.1 inv.claims;
         unsurveyed = inv.claims.surveyed ∙ k.1.unsurveyed;
         count = omega (arith, inv.count bytes k, looked_end v bytes d (claims_before v bytes n) n past);
       };

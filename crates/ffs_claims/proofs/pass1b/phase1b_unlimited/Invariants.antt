@@ -1,12 +1,12 @@
 use Rattle.std.proofs.Common.{◌≡◌, ◌+◌, ◌-◌, ◌<◌, ◌≤◌, ◌∷◌}
-use Rattle.ffs_volume.specs.Blocks.{BlockCheck.{first_offer_lines, phase1b_lines}, Claims.no_claims}
+use Rattle.ffs_volume.specs.Blocks.{BlockCheck.{first_offer_lines, phase1b_lines, rescan_runs}, Claims.no_claims}
 use Rattle.ffs_volume.specs.Blocks.{KeptOffers.kept_in_owners, KeptSteps.claims_before, Owners.owners_of}
-use Rattle.ffs_volume.specs.{Messages.Kinds.phase1b, Blocks.Inodes.inodes_of}
+use Rattle.ffs_volume.specs.{Messages.Kinds.phase1b, Blocks.{Inodes.inodes_of, BlockCheck.runs_until_reported}}
 use Rattle.ffs_report.specs.{Known.ForBytes, PhaseOutcome.SaidOf, Progress.progress}
 use Rattle.ffs_maps.specs.Bits.{bits_of}
 use Rattle.ffs_workspace.specs.{Found.WithPhase1, Ready.CanRead}
 use Rattle.ffs_claims.{proofs.{Reportings.Reporting, Rescanned.{kept_from, runs_from}}, specs.Lines.of_lines}
-use Rattle.ffs_claims.specs.{Reporting.RescanKeeps, RescanRuns.{RunsPay, runs_until_reported, rescan_runs}}
+use Rattle.ffs_claims.specs.{Reporting.RescanKeeps, RescanRuns.RunsPay}
 use Rattle.ffs_claims.proofs.pass1b.phase1b_unlimited.Given as goal
 
 abbrev pub invariant-loop-number : goal.invariant-loop-number

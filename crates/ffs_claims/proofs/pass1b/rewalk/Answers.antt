@@ -2,15 +2,15 @@ use Rattle.std.proofs.Common.{ℕ, ◌≡◌, ◌++◌, replicate, [], arith, re
 use Rattle.std.proofs.lemmas.{Bool.Decides.nat_tests, Result.err_from_is_err_and}
 use Rattle.ffs_volume.specs.{Blocks.BlockCheck.first_offer_lines, Encodings.Replay.{fresh_replay, is_replay_open}}
 use Rattle.ffs_volume.specs.{Encodings.{ReplayCounts.replay_step_by_cut, Notes.cut_in}, declared.Step.TheVariants.Gap}
+use Rattle.ffs_volume.specs.Blocks.BlockCheck.{set_count, runs_until_reported}
 use Rattle.ffs_report.{proofs.Reporting.{of_begins, of_stops, of_reads, of_same}, specs.Known.{ForBytes, IsContents}}
 use Rattle.ffs_maps.specs.Bits.{bits_of}
 use Rattle.ffs_walk.{proofs.Counted.{top_held, top_unread}, specs.{Keepings.replay_in, Rests.steps_left}}
-use Rattle.ffs_workspace.specs.Lengths.{set_count}
 use Rattle.ffs_claims.proofs.{Duplicates.{none_first, none_left, some_left}, Frames.{can_walk, claims_none, ready_read}}
 use Rattle.ffs_claims.proofs.{Frames.ready_walked, RescanCounts.{again_gaps, again_stopped}, Rewalks.offers_none}
 use Rattle.ffs_claims.proofs.Rewalks.{lines_step, runs_next, rewalk_begins, rewalk_on, rewalk_gaps, rewalk_ends}
 use Rattle.ffs_claims.proofs.Rewalks.{rewalk_over, rewalk_said, rewalked_to, runs_pay_on, runs_pay_ends, rereads_on}
-use Rattle.ffs_claims.specs.{Lines.of_lines, RescanRuns.{runs_until_reported, steps_runs_again}}
+use Rattle.ffs_claims.specs.{Lines.of_lines, RescanRuns.steps_runs_again}
 use Rattle.ffs_claims.proofs.pass1b.rewalk.Goals as goal
 
 pub loop-next-init : goal.loop-next-init

@@ -43,7 +43,7 @@ ends_by : (v : Layout) (d d' : Device) (old w new : Workspace) (before after : P
 ends_by v d d' old w new before after (Ok root) more references answer holds stop = (
   λ b k.
       let left = holds b (more b k) in
-      record { goes = answer b (more b k); claims = left.0; survey = left.1; references = references b k },
+      (answer b (more b k), record { claims = left.0; survey = left.1; references = references b k }),
   stop,
 )
 ends_by v d d' old w new before after (Err (Read fault)) more references answer holds stop =
