@@ -1,5 +1,5 @@
 -- What is kept of a directory and its children stays right where only other parts of a workspace change.
-use Rattle.std.proofs.Common.{arith, ◌≡◌, List, ℕ, refl, ap, Option, Result, Ok, vec_len, Err, OnOk}
+use Rattle.std.proofs.Common.{arith, ◌≡◌, List, ℕ, refl, ap, Option, Result, Ok, vec_len, Err, OnErr, OnOk}
 use Rattle.ffs_image.specs.{Device.Device, Reads.ReadAfter, declared.image.ImageFault.ImageFault}
 use Rattle.ffs_volume.specs.{declared.Layout.Layout, Directories.Graph.Graph}
 use Rattle.ffs_workspace.specs.{declared.workspace.Workspace.Workspace, Leaves.LeavesSurvey, Ready.CanRead}
@@ -36,6 +36,13 @@ pub kept_so : {T : Type 0} {v : Layout} {d d' : Device} {w w' : Workspace} (resu
     OnOk result (KeepsParent v d'.contents w' s)
 kept_so (Ok x) s r k = kept_on s r k
 kept_so (Err e) s r k = tt
+
+-- and after one that failed
+pub kept_still : {T : Type 0} {v : Layout} {d d' : Device} {w w' : Workspace} (result : Result T ImageFault)
+    (s : KeptParent) → OnlyReads v d d' w w' result → KeepsParent v d.contents w s →
+    OnErr result (KeepsParent v d'.contents w' s)
+kept_still (Ok x) s r k = tt
+kept_still (Err e) s r k = kept_parent_held _ _ _ _ _ s r.read.contents r.lists k
 
 -- what a call leaves that only read, by another answer, which is no fault either
 pub reads_as : {S T : Type 0} {v : Layout} {d d' : Device} {w w' : Workspace} {x : S} {y : T} →

@@ -1,6 +1,6 @@
 //! The path of a directory's parent, kept for the directory that comes next.
 
-ghost use Rattle.std.specs.Prelude.{◌≡◌, ◌↔◌, ◌<◌, ℕ, List, Option, Some, IfOk, OnOk, min, vec_len};
+ghost use Rattle.std.specs.Prelude.{◌≡◌, ◌↔◌, ◌<◌, ℕ, List, Option, Some, IfOk, OnOk, OnErr, min, vec_len};
 ghost use Rattle.ffs_volume.specs.{declared.Layout.Layout, Directories.Paths.dir_path};
 ghost use Rattle.ffs_workspace.specs.declared.workspace.Workspace.{Workspace as WorkspaceIn};
 ghost use Rattle.ffs_paths.specs.{Climbing.IsParentOf, DirectoryPaths.IsPathOf, Reads.{ForTree, path_moment}};
@@ -79,6 +79,8 @@ impl KeptParent {
             (path_moment I.Image image.new workspace.new) self.new result }
         ensures same { HasPathOf self.old dir
             → (image.new ≡ image.old) × (workspace.new ≡ workspace.old) }
+        ensures still { OnErr result (KeepsParent geometry.now.layout
+            (I.device image.new).contents workspace.new self.new) }
     {
         if self.parent == dir {
             return Ok(());
@@ -86,6 +88,9 @@ impl KeptParent {
         if self.child == dir {
             self.path = self.path.child(self.name.as_slice());
         } else {
+            // After a failed read no path is kept.
+            self.parent = 0;
+            self.child = 0;
             put_directory(geometry, image, workspace, dir, &mut self.path)?;
         }
         self.parent = dir;
@@ -104,11 +109,14 @@ impl KeptParent {
     ) -> Result<(), ImageFault>
         requires { CanKeepChild geometry.now.layout (I.device image.old) workspace.old self.old
             parent dir }
-        ensures { PathCosts geometry.now.layout dir
+        ensures costs { PathCosts geometry.now.layout dir
             (kept_moment I.Image image.old workspace.old self.old)
             (kept_moment I.Image image.new workspace.new self.new) result }
+        ensures still { OnErr result (KeepsParent geometry.now.layout
+            (I.device image.new).contents workspace.new self.new) }
     {
         self.keep_path_of(geometry, image, workspace, parent)?;
+        self.child = 0;
         find_name(geometry, image, workspace, parent, dir, &mut self.name)?;
         self.child = dir;
         Ok(())
@@ -117,7 +125,7 @@ impl KeptParent {
     /// The path of a directory, for all lines on it and on its entries.
     ///
     /// # Errors
-    /// A read of the image that failed. The kept path may be wrong then.
+    /// A read of the image that failed. What is kept is right still.
     pub fn path_to<I: Image>(
         &mut self,
         geometry: &Geometry,
@@ -133,6 +141,8 @@ impl KeptParent {
         ensures costs { PathCosts geometry.now.layout dir
             (kept_moment I.Image image.old workspace.old self.old)
             (kept_moment I.Image image.new workspace.new self.new) result }
+        ensures still { OnErr result (KeepsParent geometry.now.layout
+            (I.device image.new).contents workspace.new self.new) }
     {
         let Some(parent) = reached_parent(workspace, dir) else {
             return directory_path(geometry, image, workspace, dir);
@@ -144,7 +154,7 @@ impl KeptParent {
     /// Writes the path of a directory.
     ///
     /// # Errors
-    /// A read of the image that failed. The kept path may be wrong then.
+    /// A read of the image that failed. What is kept is right still.
     pub fn put_path<I: Image>(
         &mut self,
         geometry: &Geometry,
@@ -160,6 +170,8 @@ impl KeptParent {
         ensures costs { PathCosts geometry.now.layout dir
             (kept_moment I.Image image.old workspace.old self.old)
             (kept_moment I.Image image.new workspace.new self.new) result }
+        ensures still { OnErr result (KeepsParent geometry.now.layout
+            (I.device image.new).contents workspace.new self.new) }
     {
         let Some(parent) = reached_parent(workspace, dir) else {
             directory_path(geometry, image, workspace, dir)?.put(text);

@@ -3,11 +3,11 @@ use Rattle.ffs_volume.specs.Directories.{Parents.graph_of, Volumes.volume_of}
 use Rattle.ffs_paths.specs.{Climbing.{IsNameIn, IsParentOf}, Reads.ForTree, KeptParents.IsKeptParent, NameTexts.name_bytes}
 use Rattle.ffs_paths.{specs.declared.kept_parent.KeptParent.KeptParent, proofs.WaysUp.kept_parent_is}
 use Rattle.ffs_paths.proofs.Sparing.{costs_name, keeps_child, spares_name}
-use Rattle.ffs_paths.proofs.{Climbed.few_more, Keeping.{kept_on, reads_then, tree_on}}
+use Rattle.ffs_paths.proofs.{Climbed.few_more, Keeping.{kept_on, kept_parent_held, reads_then, tree_on}}
 use Rattle.ffs_paths.proofs.kept_parent.KeptParent.keep_child.Goals as goal
 
-pub returns : goal.returns
-returns g c =
+pub returns-clause-costs : goal.returns-clause-costs
+returns-clause-costs g c =
     let v = c.args.geometry.now.layout in
     let w = c.args.workspace.now in
     let first = c.keep_path_of.new.self in
@@ -33,16 +33,16 @@ returns g c =
     (keeps_child c.requires.parent (kept.parent, refl))
 
 -- a read of the child's name failed
-pub returns-in_err-find_name : goal.returns-in_err-find_name
-returns-in_err-find_name g c =
+pub returns-in_err-find_name-clause-costs : goal.returns-in_err-find_name-clause-costs
+returns-in_err-find_name-clause-costs g c =
     let kept = c.in_ok-keep_path_of.ensures in
     let p = err_from_is_err_and c.from_residual-in_err-find_name.result c.from_residual-in_err-find_name.ensures.1 in
     rw (p.1, p.2) (costs_name c.requires.parent kept.keeps
     (λ has. let e = kept.same has in (ap g.I.Image.reads e.0, e.1)) c.in_err-find_name.ensures.leaves tt tt)
 
 -- a read for the path of the parent failed
-pub returns-in_err-keep_path_of : goal.returns-in_err-keep_path_of
-returns-in_err-keep_path_of g c =
+pub returns-in_err-keep_path_of-clause-costs : goal.returns-in_err-keep_path_of-clause-costs
+returns-in_err-keep_path_of-clause-costs g c =
     let kept = c.in_err-keep_path_of.ensures.keeps in
     let same = c.in_err-keep_path_of.ensures.same in
     let p = err_from_is_err_and c.from_residual.result c.from_residual.ensures.1 in
@@ -57,3 +57,17 @@ returns-in_err-keep_path_of g c =
       keeps = tt;
       held = tt;
     })
+
+-- what is kept then
+pub returns-in_err-find_name-clause-still : goal.returns-in_err-find_name-clause-still
+returns-in_err-find_name-clause-still g c =
+    let p = err_from_is_err_and c.from_residual-in_err-find_name.result c.from_residual-in_err-find_name.ensures.1 in
+    let kept = c.in_ok-keep_path_of.ensures.keeps.kept_parent in
+    let read = c.in_err-find_name.ensures.leaves.reads in
+    rw p.1 (kept_parent_held _ _ _ _ _ _ read.read.contents read.lists (record {
+      right = λ b t claims survey. record {
+        path = (kept.right b t claims survey).path;
+        parent = λ some. absurd (omega arith);
+        child = λ some. absurd (omega arith);
+      };
+    }))

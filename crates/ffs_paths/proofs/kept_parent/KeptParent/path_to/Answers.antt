@@ -1,13 +1,13 @@
 use Rattle.std.proofs.Common.{arith, subst}
 use Rattle.ffs_volume.specs.Directories.{Parents.graph_of, Volumes.volume_of}
 use Rattle.ffs_paths.specs.DirectoryPaths.{IsPathOf}
-use Rattle.ffs_paths.proofs.{Keeping.kept_before, Sparing.{costs_as, costs_none, no_parent}, WaysUp.child_made}
+use Rattle.ffs_paths.proofs.{Keeping.{kept_before, kept_still}, Sparing.{costs_as, costs_none, no_parent}, WaysUp.child_made}
 use Rattle.ffs_paths.proofs.kept_parent.KeptParent.path_to.Goals as goal
 
 pub returns-clause-path : goal.returns-clause-path
 returns-clause-path g c = λ b t claims survey.
     let of = (c.reached_parent.ensures c.in-Some.parent).0 c.in-Some.is in
-    let kept = c.in_ok-keep_child.ensures in
+    let kept = c.in_ok-keep_child.ensures.costs in
     let child = (kept.keeps.parent c.in-Some.parent of).1 in
     let s = c.keep_child.new.self in
     let G = graph_of (volume_of c.args.geometry.now.layout b) in
@@ -16,7 +16,7 @@ returns-clause-path g c = λ b t claims survey.
     (child_made G s _ holds (omega (arith, of.below, child)) (rw c.as_slice.ensures.value at c.child.ensures))
 
 pub returns-clause-costs : goal.returns-clause-costs
-returns-clause-costs g c = costs_as c.in_ok-keep_child.ensures
+returns-clause-costs g c = costs_as c.in_ok-keep_child.ensures.costs
 
 -- a directory without a parent
 pub returns-in_default-clause-costs : goal.returns-in_default-clause-costs
@@ -28,3 +28,7 @@ keep_child-requires g c = record {
   ready = c.requires;
   parent = (c.reached_parent.ensures c.in-Some.parent).0 c.in-Some.is;
 }
+
+pub returns-in_default-clause-still : goal.returns-in_default-clause-still
+returns-in_default-clause-still g c =
+    kept_still _ _ c.directory_path.ensures.leaves.reads c.requires.kept_parent

@@ -1,12 +1,12 @@
 use Rattle.std.proofs.{Common.{◌≡◌, subst, arith}, lemmas.Result.err_from_is_err_and}
 use Rattle.ffs_volume.specs.Directories.{Parents.graph_of, Paths.dir_path, Volumes.volume_of}
-use Rattle.ffs_paths.proofs.{Keeping.kept_before, Sparing.{costs_as, costs_fault, costs_none, no_parent}, WaysUp.child_put}
+use Rattle.ffs_paths.proofs.{Keeping.{kept_before, kept_parent_held}, Sparing.{costs_as, costs_fault, costs_none, no_parent}, WaysUp.child_put}
 use Rattle.ffs_paths.proofs.kept_parent.KeptParent.put_path.Goals as goal
 
 pub returns-clause-path : goal.returns-clause-path
 returns-clause-path g c = λ b t claims survey.
     let of = (c.reached_parent.ensures c.in-Some.parent).0 c.in-Some.is in
-    let kept = c.in_ok-keep_child.ensures in
+    let kept = c.in_ok-keep_child.ensures.costs in
     let child = (kept.keeps.parent c.in-Some.parent of).1 in
     let s = c.keep_child.new.self in
     let G = graph_of (volume_of c.args.geometry.now.layout b) in
@@ -30,3 +30,9 @@ keep_child-requires g c = record {
   ready = c.requires;
   parent = (c.reached_parent.ensures c.in-Some.parent).0 c.in-Some.is;
 }
+
+pub returns-in_err-directory_path-clause-still : goal.returns-in_err-directory_path-clause-still
+returns-in_err-directory_path-clause-still g c =
+    let p = err_from_is_err_and c.from_residual.result c.from_residual.ensures.1 in
+    let read = c.in_err-directory_path.ensures.leaves.reads in
+    rw p.1 (kept_parent_held _ _ _ _ _ _ read.read.contents read.lists c.requires.kept_parent)
