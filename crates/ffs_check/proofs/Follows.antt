@@ -1,20 +1,19 @@
 -- The headline, of a check after an accepted superblock.
-use Rattle.std.proofs.Common.{arith, ◌≡◌, inl, inr, refl, ◌∙◌, sym, ap, subst, ℕ, Bool, true, false, not, List, [], ◌∷◌, ◌++◌}
-use Rattle.std.proofs.Common.{append_assoc, Option, Ok}
+use Rattle.std.proofs.Common.{arith, ◌≡◌, inl, inr, refl, ◌∙◌, sym, ap, subst, ℕ, Bool, true, false, not, List, [], ◌∷◌}
+use Rattle.std.proofs.Common.{◌++◌, append_assoc, Option, Ok}
 use Rattle.ffs_image.{specs.Device.{Device, ForContents}, proofs.Devices.faulted_there}
 use Rattle.ffs_volume.specs.declared.{SuperFault.SuperFault, End.{End, TheVariants.{Refused, ReadFault, NoMemory}}}
-use Rattle.ffs_volume.specs.{Disk.{Superblock.Superblock, Outcome.outcome}, Report.Opening.{head_lines, opening_lines, super_lines}}
-use Rattle.ffs_volume.specs.Messages.{Kinds.{Message, cannot_read, cannot_alloc, has_defect}, Texts.texts_of}
-use Rattle.ffs_volume.specs.Report.Whole.{phase_lines, end_by, report_of, report_end, EndAgrees}
-use Rattle.ffs_volume.specs.Messages.Kinds.{stops_at_last}
+use Rattle.ffs_volume.specs.{Disk.{Superblock.Superblock, Outcome.outcome}, Report.Opening.{head_lines, opening_lines}}
+use Rattle.ffs_volume.specs.{Report.Opening.super_lines, Messages.Kinds.{Message, cannot_read, cannot_alloc}}
+use Rattle.ffs_volume.specs.{Messages.{Kinds.{has_defect, stops_at_last}, Texts.texts_of}, Report.Whole.phase_lines}
+use Rattle.ffs_volume.specs.Report.Whole.{end_by, report_of, report_end, EndAgrees}
 use Rattle.ffs_report.specs.{Sink.Took, Known.IsContents, Progress.Progress}
 use Rattle.ffs_layout.specs.{declared.superblock.Super.Super, Super.{ReadsSuper, superblock_in}}
-use Rattle.ffs_check.specs.{Ends.Cut, Headline.{Headline, IsCutShort, IsEndOfReport}}
-use Rattle.ffs_check.specs.{Moment.{Moment, ReportMoment, at_output}, Opening.OpeningOf}
-use Rattle.ffs_check.specs.PhaseEnds.{IsCutByRead, IsEndByRoot, LastStops, SaysNoMemory, SaysRest}
-use Rattle.ffs_check.proofs.{Openings.{found_of, no_defect_head, unfailed_of}, Endings.{at_contents, at_known}}
-use Rattle.ffs_check.proofs.{EndLaws.{cut_after, ends_after, line_after}, Headlines.{whole_there, defect_there}}
-use Rattle.ffs_check.proofs.Headlines.{end_of_there, end_there, certifies, last_says}
+use Rattle.ffs_check.specs.{Ends.Cut, Headline.{Headline, IsCutShort, IsEndOfReport}, Moment.{Moment, ReportMoment}}
+use Rattle.ffs_check.specs.{Moment.at_output, Opening.OpeningOf, PhaseEnds.{IsCutByRead, IsEndByRoot, LastStops}}
+use Rattle.ffs_check.{specs.PhaseEnds.{SaysNoMemory, SaysRest}, proofs.Openings.{found_of, no_defect_head, unfailed_of}}
+use Rattle.ffs_check.proofs.{Endings.{at_contents, at_known}, EndLaws.{cut_after, ends_after, line_after}}
+use Rattle.ffs_check.proofs.Headlines.{whole_there, defect_there, end_of_there, end_there, certifies, last_says}
 
 -- the end that the root and a text's defects make agrees with that text
 agrees_by : (name : List ℕ) (sector : Option ℕ) (text : List Message) (continued defect : Bool) →

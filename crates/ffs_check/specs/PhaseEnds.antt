@@ -8,15 +8,14 @@ use Rattle.ffs_volume.specs.declared.End.{End, TheVariants.{Consistent, Defects,
 use Rattle.ffs_volume.specs.{declared.End.TheVariants.{WriteFault, NoMemory}, Disk.Superblock.Superblock}
 use Rattle.ffs_volume.specs.{Directories.{PathnameCheck.continues_after_root, Volumes.volume_of}, Report.Whole.end_by}
 use Rattle.ffs_volume.specs.{Report.Whole.phase_lines, Messages.Kinds.{Message, cannot_alloc, cannot_read, has_defect}}
-use Rattle.ffs_volume.specs.{Report.{Memory.{runs_limit, held_of}, Opening.super_lines}, declared.Layout.Layout}
-use Rattle.ffs_volume.specs.Messages.Kinds.{stops_check}
+use Rattle.ffs_volume.specs.{Messages.Kinds.stops_check, Report.{Memory.{runs_limit, held_of}, Opening.super_lines}}
+use Rattle.ffs_volume.specs.declared.Layout.{Layout}
 use Rattle.ffs_report.specs.{Known.{ForBytes, IsContents}, PhaseOutcome.{ImageAfter, SaidOf, StoppedOf}}
 use Rattle.ffs_report.specs.{Progress.{Progress, Said, Stopped}, declared.fault.RunFault.{RunFault, TheVariants.Read}}
 use Rattle.ffs_report.specs.declared.fault.RunFault.TheVariants.{Out}
 use Rattle.ffs_pathnames.specs.{declared.pass2.Root.Root, RootAnswers.is_go}
 use Rattle.ffs_memory.specs.Account.{Account}
-use Rattle.ffs_workspace.specs.{declared.workspace.Workspace.Workspace, Found.WithFresh, Lengths.IsFor}
-use Rattle.ffs_workspace.specs.Ready.{IsReady}
+use Rattle.ffs_workspace.specs.{declared.workspace.Workspace.Workspace, Found.WithFresh, Lengths.IsFor, Ready.IsReady}
 use Rattle.ffs_check.specs.{Ends.{Cut, Ends}, Reads.PhasesRead, Rest.HasAnswers, Moment.{Moment, ReportMoment}}
 use Rattle.ffs_check.specs.{Moment.at_output, Taken.TakesBytes}
 

@@ -13,14 +13,13 @@ use Rattle.ffs_volume.specs.Blocks.Claims.{lines_of_steps, after_offer, after_of
 use Rattle.ffs_volume.specs.Blocks.Claims.{after_steps, offer_lines, lines_of_offers, run_lines, step_lines, has_blame}
 use Rattle.ffs_volume.specs.Blocks.Inodes.{is_file_or_dir, inode_of, class_of, is_unknown, inodes_of}
 use Rattle.ffs_volume.specs.Blocks.{KeptOffers.Offer, KeptSteps.claims_before, Owners.{Owner, owners_of, owner_of}}
-use Rattle.ffs_volume.specs.{Directories.Volumes.{is_inode_number, marked_at}, Disk.Areas.is_fragment_in_range}
-use Rattle.ffs_volume.specs.{Disk.Areas.is_run_in_range, declared.BlockMessage.{BlockMessage, TheVariants.Bad}}
-use Rattle.ffs_volume.specs.declared.BlockMessage.TheVariants.{ManyBad, PartTrunc, Dup, ManyDup, PartAlloc, UnknownType}
-use Rattle.ffs_volume.specs.declared.{BlockMessage.TheVariants.BlockCount, Class.{Class, TheVariants.Partial}}
-use Rattle.ffs_volume.specs.declared.{Class.TheVariants.Unknown, Layout.Layout, Step.{Step, TheVariants.{Run, Tail}}}
-use Rattle.ffs_volume.specs.{declared.Step.TheVariants.Gap, Directories.Volumes.marked_by_phase1_at}
-use Rattle.ffs_workspace.{proofs.Leaving.counts_unsurveyed, specs.Holds.HoldsPhase1}
-use Rattle.ffs_workspace.specs.Holds.{HoldsClaims}
+use Rattle.ffs_volume.specs.Directories.Volumes.{is_inode_number, marked_at, marked_by_phase1_at}
+use Rattle.ffs_volume.specs.{Disk.Areas.{is_fragment_in_range, is_run_in_range}, declared.BlockMessage.BlockMessage}
+use Rattle.ffs_volume.specs.declared.BlockMessage.TheVariants.{Bad, ManyBad, PartTrunc, Dup, ManyDup, PartAlloc}
+use Rattle.ffs_volume.specs.declared.{BlockMessage.TheVariants.{UnknownType, BlockCount}, Class.Class}
+use Rattle.ffs_volume.specs.declared.{Class.TheVariants.{Partial, Unknown}, Layout.Layout, Step.{Step, TheVariants.Run}}
+use Rattle.ffs_volume.specs.declared.Step.TheVariants.{Tail, Gap}
+use Rattle.ffs_workspace.{proofs.Leaving.counts_unsurveyed, specs.Holds.{HoldsPhase1, HoldsClaims}}
 use Rattle.ffs_workspace.specs.declared.workspace.Workspace.{Workspace}
 use Rattle.ffs_claims.proofs.Numbers.{before_first}
 

@@ -4,14 +4,13 @@ use Rattle.std.proofs.Common.{◌++◌, length, map, get_or, replicate, min, sli
 use Rattle.std.proofs.lemmas.{Bool.Decides.nat_tests, List.{get_or-set_same, get_or-set_other, set-get_or}}
 use Rattle.std.specs.List.{range_with_len}
 use Rattle.ffs_volume.specs.Blocks.{BlockCheck.{owner_lines, lines_of_owners}, Claims.{Claims, no_claims, after_owner}}
-use Rattle.ffs_volume.specs.Blocks.{Claims.after_owners, Inodes.{inode_of, class_of, is_unknown, inodes_of}}
-use Rattle.ffs_volume.specs.Blocks.{KeptSteps.claims_before, Owners.{owner_of, owners_of}, Claims.has_blame}
-use Rattle.ffs_volume.specs.{Directories.Volumes.is_inode_number, Encodings.{Kinds.kind_at, Links.start_at}}
-use Rattle.ffs_volume.specs.{Encodings.Replay.cut_of, declared.{Class.TheVariants.Free, Inode.Inode, Layout.Layout}}
-use Rattle.ffs_volume.specs.{Encodings.Notes.{note_of, note_at}, Directories.Volumes.marked_by_phase1_at}
-use Rattle.ffs_volume.specs.Blocks.Claims.{all_claims}
-use Rattle.ffs_workspace.specs.Holds.{claims_of, IsFresh, HoldsPhase1}
-use Rattle.ffs_workspace.specs.{Lengths.IsFor, declared.workspace.Workspace.Workspace}
+use Rattle.ffs_volume.specs.Blocks.{Claims.{after_owners, has_blame, all_claims}, Inodes.{inode_of, class_of}}
+use Rattle.ffs_volume.specs.Blocks.{Inodes.{is_unknown, inodes_of}, KeptSteps.claims_before, Owners.owner_of}
+use Rattle.ffs_volume.specs.{Blocks.Owners.owners_of, Directories.Volumes.{is_inode_number, marked_by_phase1_at}}
+use Rattle.ffs_volume.specs.{Encodings.{Kinds.kind_at, Links.start_at, Replay.cut_of}, declared.Class.TheVariants.Free}
+use Rattle.ffs_volume.specs.{declared.{Inode.Inode, Layout.Layout}, Encodings.Notes.{note_of, note_at}}
+use Rattle.ffs_workspace.specs.{Holds.{claims_of, IsFresh, HoldsPhase1}, Lengths.IsFor}
+use Rattle.ffs_workspace.specs.declared.workspace.Workspace.{Workspace}
 use Rattle.ffs_claims.{proofs.StepsContinue.{range_more, lines_append}, specs.Leaves.{SameFound, Stored}}
 use Rattle.ffs_claims.specs.Lines.{of_lines, owners_from}
 
@@ -138,7 +137,6 @@ unfolding kind_at marked_by_phase1_at start_at
 found_all {v = v} {bytes = bytes} {n = n} past all found = record {
   used = ap (λ s. s.used) all;
   dup = ap (λ s. s.dup) all;
-  runs = ap (λ s. s.runs) all;
   kinds = filled_end v 0 (kind_at v bytes) _ n past (λ x out. rw out refl) found.kinds;
   marked = filled_end v false (marked_by_phase1_at v bytes) _ n past (λ x out. rw out refl) found.marked;
   notes = filled_end v 0 (note_at v bytes) _ n past (note_out v bytes) found.notes;

@@ -6,19 +6,17 @@ use Rattle.std.{proofs.lemmas.List.length-append, specs.List.range_with_len}
 use Rattle.ffs_volume.proofs.{Potentials.{cond_holds, offers_keep}, PrefixLaws.full_offers, ReplayIsKeeping.replay_of}
 use Rattle.ffs_volume.proofs.{ReplayIsKeeping.{seen_replays, step_replays, step_few}, ReplayLaws.offers_runs}
 use Rattle.ffs_volume.specs.Blocks.Claims.{after_offers, Claims, no_claims, at_next_inode, is_open, after_step}
-use Rattle.ffs_volume.specs.Blocks.{Claims.{after_steps, after_owner, after_owners, after_offer}, KeptOffers.Offer}
-use Rattle.ffs_volume.specs.Blocks.KeptOffers.{offer_of, kept_in_run, kept_in_offers, kept_in_step, kept_in_steps}
-use Rattle.ffs_volume.specs.{Blocks.Owners.{Owner, owners_of}, Encodings.Replay.{Replay, is_replay_open, fresh_replay}}
-use Rattle.ffs_volume.specs.Encodings.{Replay.{cut_of, replay_after_step}, ReplayCounts.{seen_run, replay_step_by_cut}}
-use Rattle.ffs_volume.specs.{Report.Whole.run_count, declared.{Layout.Layout, Step.{Step, TheVariants.{Run, Tail}}}}
-use Rattle.ffs_volume.specs.{declared.Step.TheVariants.Gap, Blocks.BlockCheck.{set_count, after_first, step_runs}}
-use Rattle.ffs_volume.specs.Blocks.BlockCheck.{runs_until_reported, steps_runs, owners_runs, rescan_runs}
-use Rattle.ffs_volume.specs.Blocks.Claims.{all_claims}
+use Rattle.ffs_volume.specs.Blocks.Claims.{after_steps, after_owner, after_owners, after_offer, all_claims}
+use Rattle.ffs_volume.specs.Blocks.KeptOffers.{Offer, offer_of, kept_in_run, kept_in_offers, kept_in_step}
+use Rattle.ffs_volume.specs.{Blocks.{KeptOffers.kept_in_steps, Owners.{Owner, owners_of}}, Encodings.Replay.Replay}
+use Rattle.ffs_volume.specs.Encodings.Replay.{is_replay_open, fresh_replay, cut_of, replay_after_step}
+use Rattle.ffs_volume.specs.{Encodings.ReplayCounts.{seen_run, replay_step_by_cut}, Report.Whole.run_count}
+use Rattle.ffs_volume.specs.declared.{Layout.Layout, Step.{Step, TheVariants.{Run, Tail, Gap}}}
+use Rattle.ffs_volume.specs.Blocks.BlockCheck.{set_count, after_first, step_runs, runs_until_reported, steps_runs}
+use Rattle.ffs_volume.specs.Blocks.BlockCheck.{owners_runs, rescan_runs}
 use Rattle.ffs_walk.specs.Keepings.{run_taken}
-use Rattle.ffs_claims.proofs.Reportings.{after_append, none_after}
-use Rattle.ffs_claims.specs.Rescan.{step_offers_again, offers_again}
-use Rattle.ffs_claims.specs.RescanRuns.{steps_runs_again}
-use Rattle.ffs_claims.specs.RescanRuns.{step_runs_again}
+use Rattle.ffs_claims.{proofs.Reportings.{after_append, none_after}, specs.Rescan.{step_offers_again, offers_again}}
+use Rattle.ffs_claims.specs.RescanRuns.{steps_runs_again, step_runs_again}
 
 -- ---- the offers that are kept are the first ones
 offers_firsts : (v : Layout) (i : ℕ) (s : Claims) (start len k : ℕ) →

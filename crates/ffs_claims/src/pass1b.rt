@@ -1,11 +1,11 @@
 //! Phase 1b: rescan for more dups (fsck(8)).
 
-ghost use Rattle.std.specs.Prelude.{◌∷◌, OnOk};
+ghost use Rattle.std.specs.Prelude.{◌∷◌, OnOk, map};
 ghost use Rattle.ffs_volume.specs.Blocks.{BlockCheck.phase1b_lines, Inodes.inode_of, Owners.owners_of};
 ghost use Rattle.ffs_report.specs.{Known.ForBytes, PhaseOutcome.{ImageAfter, PhaseReports}, Progress.progress};
 ghost use Rattle.ffs_workspace.specs.{Found.WithPhase1, Ready.IsReady};
 ghost use Rattle.ffs_walk.specs.Keepings.{replay_in};
-ghost use Rattle.ffs_claims.specs.{Lines.of_lines, Moments.{after_one_read, claim_moment, sweep_moment}};
+ghost use Rattle.ffs_claims.specs.Moments.{after_one_read, claim_moment, sweep_moment};
 ghost use Rattle.ffs_claims.specs.{Phases.{IsLeftByPhase1b, Phase1bReads, RescanReads}, Reporting.CanRewalk};
 ghost use Rattle.ffs_claims.specs.{Reporting.ReportsOffers, Rescan.{ReplaysStep, step_offers_again}};
 ghost use Rattle.ffs_claims.specs.RescanRuns.{CanReportStep, CountsStep, Rewalks};
@@ -112,7 +112,7 @@ fn phase1b_unlimited<I: Image, W: Output>(
     ensures faults { ImageAfter (I.device image.old) (I.device image.new) result }
     ensures text { PhaseReports
         (WithPhase1 geometry.now.layout (I.device image.old) workspace.old)
-        (λ bytes. messages.phase1b ∷ of_lines
+        (λ bytes. messages.phase1b ∷ map messages.of_blocks
         (phase1b_lines geometry.now.layout (owners_of geometry.now.layout bytes)))
         (progress W.sink report.old) (progress W.sink report.new) result }
     ensures leaves { OnOk result (ForBytes
@@ -153,7 +153,7 @@ pub fn phase1b<I: Image, W: Output>(
     ensures faults { ImageAfter (I.device image.old) (I.device image.new) result }
     ensures text { PhaseReports
         (WithPhase1 geometry.now.layout (I.device image.old) workspace.old)
-        (λ bytes. messages.phase1b ∷ of_lines
+        (λ bytes. messages.phase1b ∷ map messages.of_blocks
         (phase1b_lines geometry.now.layout (owners_of geometry.now.layout bytes)))
         (progress W.sink report.old) (progress W.sink report.new) result }
     ensures leaves { OnOk result (ForBytes

@@ -29,13 +29,12 @@ pub record IsFresh (v : Layout) (w : Workspace) : Type 0 where
   pub notes : w.notes.items ≡ replicate (inodes_of v) 0
   pub references : w.references.items ≡ replicate (inodes_of v) 0
 
--- what phase 1 leaves: the fragments that are reserved or claimed, those with a DUP line, how many
--- Runs were seen, and for each inode its kind, whether it is marked so far, what is noted of it,
--- and where its count of references starts. Nothing is surveyed yet
+-- what phase 1 leaves: the fragments that are reserved or claimed, those with a DUP line, and for each
+-- inode its kind, whether it is marked so far, what is noted of it, and where its count of references
+-- starts. Nothing is surveyed yet
 pub record HoldsPhase1 (v : Layout) (image : List ℕ) (w : Workspace) : Type 0 where
   pub used : bits_of w.used ≡ (all_claims v image).used
   pub dup : bits_of w.duplicates ≡ (all_claims v image).dup
-  pub runs : w.runs_seen ≡ (all_claims v image).runs
   pub kinds : (x : ℕ) → slice_index w.kinds.items x ≡ kind_at v image x
   pub marked : (x : ℕ) → bool_at w.marked.items x ≡ marked_by_phase1_at v image x
   pub notes : (x : ℕ) → slice_index w.notes.items x ≡ note_at v image x

@@ -8,7 +8,7 @@ use Rattle.std.specs.{Prelude.{if◌then◌else◌, map, replicate}, List.{range
 use Rattle.ffs_volume.specs.declared.{constants.TheConstants.{MAXBAD, MAXDUP}, Layout.Layout, Step.Step}
 use Rattle.ffs_volume.specs.declared.{Step.TheVariants.{Run, Tail, Gap}, BlockMessage.{BlockMessage, TheVariants.Bad}}
 use Rattle.ffs_volume.specs.declared.BlockMessage.TheVariants.{Dup, ManyBad, ManyDup, PartTrunc}
-use Rattle.ffs_volume.specs.{Disk.Areas.{is_fragment_in_range, is_run_in_range, is_reserved}}
+use Rattle.ffs_volume.specs.Disk.Areas.{is_fragment_in_range, is_run_in_range, is_reserved}
 use Rattle.ffs_volume.specs.Blocks.Owners.{Owner, owners_of}
 
 -- the state after some steps: maps of the volume's fragments, how many Runs were seen, and counts

@@ -2,8 +2,8 @@ use Rattle.std.proofs.Common.{◌≡◌, ◌+◌, arith, refl, sym, ◌-◌, ◌
 use Rattle.std.proofs.lemmas.{Result.err_from_is_err_and, Bool.cases_lt}
 use Rattle.ffs_volume.{proofs.OwnerLaws.before_next, specs.Blocks.{BlockCheck.phase1_lines, Claims.after_owner}}
 use Rattle.ffs_volume.specs.{Blocks.{KeptSteps.claims_before, Owners.{owner_of, owners_of}}, Report.Whole.run_count}
-use Rattle.ffs_volume.{specs.{Blocks.Inodes.inodes_of, Laws.ClaimBounds.used_bits}, proofs.Sizes.some_inodes}
 use Rattle.ffs_volume.specs.Blocks.Claims.{all_claims}
+use Rattle.ffs_volume.{specs.{Blocks.Inodes.inodes_of, Laws.ClaimBounds.used_bits}, proofs.Sizes.some_inodes}
 use Rattle.ffs_report.proofs.Reporting.{of_part, of_fault, of_same, reports_knowing, says_heading, stops_heading}
 use Rattle.ffs_report.{proofs.Reporting.said_knows, specs.Known.ForBytes}
 use Rattle.ffs_workspace.{proofs.Leaving.fresh_held, specs.{Found.WithFresh, Holds.claims_of}}
@@ -176,13 +176,12 @@ unfolding run_count all_claims
 returns-clause-leaves g c = λ bytes k.
     let inv = c.loop-number.invariant in
     let past : inodes_of c.args.geometry.now.layout ≤ c.loop-number.number = omega arith in
-    let holds = found_all past (inv.claims bytes k ∙ before_end _ bytes _ past inv.high inv.low)
-    (inv.found bytes k) in
+    let all = inv.claims bytes k ∙ before_end _ bytes _ past inv.high inv.low in
+    let holds = found_all past all (inv.found bytes k) in
     record {
       holds = record {
         used = holds.used;
         dup = holds.dup;
-        runs = holds.runs;
         kinds = holds.kinds;
         marked = holds.marked;
         notes = holds.notes;
@@ -190,7 +189,7 @@ returns-clause-leaves g c = λ bytes k.
         unsurveyed = refl;
       };
       dups = c.has_unreported_dups-workspace.ensures ∙ ap any_set holds.dup ∙ rescan_is c.args.geometry.now.layout bytes;
-      count = holds.runs;
+      count = ap (λ s. s.runs) all;
     }
 
 pub returns-in_err-claim_inode-clause-reads : goal.returns-in_err-claim_inode-clause-reads
