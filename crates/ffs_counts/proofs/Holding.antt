@@ -78,7 +78,7 @@ inode_lines_are v b w i inode dead r low f used is e refs =
     ap (λ k. label_of (class_of_kind k)) (h.kinds i) ∙ same_test label_of refl v b i in
     grind (arith, references_are)
 
--- free inodes have no lines: those of the numbers from d on are those of the numbers after them
+-- some numbers have no lines: those of the numbers from d on are those of the numbers after them
 skip_none : (lines : ℕ → List TreeMessage) (k d n : ℕ) → ((j : ℕ) → j < k → lines (d + j) ≡ []) →
     lines_from lines d (k + n) ≡ lines_from lines (d + k) n
 unfolding lines_from
@@ -95,15 +95,6 @@ skip_none lines (suc k) d n none =
 -- the lines of inodes from one on
 abbrev pub lines_after : Layout → ℕ → List ℕ → List Message
 lines_after v n bytes = map of_tree (lines_from (reference_lines_at (volume_of v bytes)) n (inodes_of v - n))
-
-pub free_lines : (v : Layout) (b : List ℕ) (w : Workspace) (kinds : List ℕ) (d k n : ℕ) → HoldsClaims v b w →
-    kinds ≡ w.kinds.items →
-    ((j : ℕ) → j < k → is_allocated (class_of_kind (slice_index kinds (d + j))) ≡ false) → d + k ≤ n →
-    map of_tree (lines_from (reference_lines_at (volume_of v b)) d (n - d))
-    ≡ map of_tree (lines_from (reference_lines_at (volume_of v b)) (d + k) (n - (d + k)))
-free_lines v b w kinds d k n h e none low =
-    let q : n - d ≡ k + (n - (d + k)) = omega (arith, low) in
-    grind (arith, skip_none, no_lines)
 
 pub same_reported : (dead m m' : Bool) (k k' : ℕ) (attr : Attr) (nlink : ℤ) (r r' : ℕ) → m ≡ m' → k ≡ k' → r ≡ r' →
     reference_reported dead m' (label_of (class_of_kind k')) attr nlink r'
@@ -136,6 +127,27 @@ met_lines v b w i low f used met =
     none_reported : (dead m : Bool) (label : Label) (attr : Attr) (nlink : ℤ) (r : ℕ) → dead ≡ false →
         AreMet nlink r → reference_reported dead m label attr nlink r ≡ []
     none_reported dead m label attr nlink r alive links = rw (alive, links.some, links.same) refl
+
+-- an inode that isn't allocated, or is right, has no line
+silent_by : (v : Layout) (b : List ℕ) (w : Workspace) (i : ℕ) (used : Bool) → i < inodes_of v → HoldsFindings v b w →
+    is_allocated (class_of_kind (slice_index w.kinds.items i)) ≡ used →
+    (is_allocated (class_of_kind (slice_index w.kinds.items i)) ≡ true → is_right_by w i ≡ true) →
+    reference_lines_at (volume_of v b) i ≡ []
+silent_by v b w i false low f e right = no_lines v b w i f.claims e
+silent_by v b w i true low f e right = met_lines v b w i low f e (right e)
+
+-- the inodes that are passed over have no lines
+pub passed_lines : (v : Layout) (b : List ℕ) (w : Workspace) (d k n : ℕ) → HoldsFindings v b w →
+    ((j : ℕ) → j < k → is_allocated (class_of_kind (slice_index w.kinds.items (d + j))) ≡ true →
+    is_right_by w (d + j) ≡ true) → d + k ≤ n → n ≡ inodes_of v →
+    map of_tree (lines_from (reference_lines_at (volume_of v b)) d (n - d))
+    ≡ map of_tree (lines_from (reference_lines_at (volume_of v b)) (d + k) (n - (d + k)))
+passed_lines v b w d k n f right low all =
+    let lines = reference_lines_at (volume_of v b) in
+    let q : n - d ≡ k + (n - (d + k)) = omega (arith, low) in
+    let none : (j : ℕ) → j < k → lines (d + j) ≡ [] = λ j h.
+    silent_by v b w (d + j) _ (omega (arith, h, low, all)) f refl (right j h) in
+    ap (map of_tree) (ap (lines_from lines d) q ∙ skip_none lines k d (n - (d + k)) none)
 
 -- ---- an inode that is dead, or has other references than links
 -- a signed number of two bytes is below 2^15

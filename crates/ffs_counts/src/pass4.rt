@@ -1,18 +1,21 @@
 //! Phase 4: how often inodes are referred to.
 
-ghost use Rattle.std.specs.Prelude.{◌≡◌, ◌<◌, ◌≤◌, ◌+◌, ◌∷◌, false, map, length};
+ghost use Rattle.std.specs.Prelude.{◌≡◌, ◌<◌, ◌≤◌, ◌+◌, ◌∷◌, ℕ, false, map, length, slice_index, vec_len};
 ghost use Rattle.ffs_volume.specs.Messages.Kinds.{of_tree};
 ghost use Rattle.ffs_volume.specs.Directories.{ReferenceCheck.{reference_lines, reference_lines_at}, Volumes.volume_of};
 ghost use Rattle.ffs_report.specs.{Known.ForBytes, Paid.Paid, PhaseOutcome.{ImageAfter, PhaseReports}, Progress.progress};
 ghost use Rattle.ffs_workspace.specs.{Found.WithFindings, Ready.{IsReady, KeepsWindows}};
 ghost use Rattle.ffs_counts.specs.{Ready.{CanCheckAllocated, HasElements, AreUnallocated, AreUnallocatedFrom}, References.is_dead_by};
-ghost use Rattle.ffs_counts.specs.References.{is_right_by};
+ghost use Rattle.ffs_counts.specs.{References.{is_right_by}, Passed.{AreRightFrom, ArePassedFrom, CanPass}};
+ghost use Rattle.ffs_survey.specs.Survey.{suspect_at};
 ghost use Rattle.ffs_volume.specs.Messages.Kinds as messages;
+ghost use Rattle.ffs_volume.specs.declared.constants.TheConstants as constants;
 
 use crate::reference::{line_for, references_by, say_if_any};
 use ffs_image::Image;
 use ffs_layout::Geometry;
 use ffs_report::{Heading, Line, Output, Report, RunFault};
+use ffs_survey::is_suspect;
 use ffs_volume::constants::LINKS_MET;
 use ffs_volume::kinds::Kind;
 use ffs_workspace::Workspace;
@@ -71,6 +74,75 @@ fn unallocated_from(kinds: &[u8], first: usize) -> usize
         1
     } else {
         UNALLOCATED_AT_ONCE
+    }
+}
+
+/// How many allocated inodes are passed over at once.
+const RIGHT_AT_ONCE: usize = 64;
+
+/// Whether one of some inodes isn't allocated, or is suspect: a loop without exit.
+#[inline(always)]
+fn any_free_or_suspect(kinds: &[u8], marked: &[bool], first: usize) -> bool
+    requires { (first + 64 ≤ length kinds.now) × (length marked.now ≡ length kinds.now) }
+    ensures { result ≡ false → (x : ℕ) → first ≤ x → x < first + 64
+        → suspect_at kinds.now marked.now x ≡ false }
+{
+    let mut any = false;
+    for number in first..first + RIGHT_AT_ONCE {
+        let kind = Kind {
+            code: kinds[number],
+        };
+        any |= !kind.is_allocated() | is_suspect(kinds, marked, number);
+    }
+    any
+}
+
+/// Whether one of some inodes has other references than links, or no link: a loop without exit.
+#[inline(always)]
+fn any_unmet(workspace: &Workspace, first: usize) -> bool
+    requires { first + 64 ≤ vec_len workspace.now.references }
+    ensures { result ≡ false → (x : ℕ) → first ≤ x → x < first + 64
+        → slice_index workspace.now.references.items x ≡ constants.LINKS_MET }
+{
+    let mut any = false;
+    for number in first..first + RIGHT_AT_ONCE {
+        any |= workspace.references[number] != LINKS_MET;
+    }
+    any
+}
+
+/// How many inodes from `first` on are passed over, since nothing is reported of them:
+/// `RIGHT_AT_ONCE`, or none. This is asked once for each so many inodes: of those among which one
+/// isn't right, each is looked at by itself.
+#[inline(always)]
+fn right_from(workspace: &Workspace, first: usize) -> usize
+    requires { CanPass workspace.now first }
+    ensures { AreRightFrom workspace.now first result }
+{
+    if first % RIGHT_AT_ONCE != 0 || workspace.kinds.len() - first < RIGHT_AT_ONCE {
+        return 0;
+    }
+    if any_free_or_suspect(&workspace.kinds, &workspace.marked, first) {
+        return 0;
+    }
+    if any_unmet(workspace, first) {
+        return 0;
+    }
+    RIGHT_AT_ONCE
+}
+
+/// How many inodes from `first` on are passed over, since nothing is reported of them. There are
+/// none only where that one is allocated.
+#[inline(always)]
+fn passed_from(workspace: &Workspace, first: usize) -> usize
+    requires { CanPass workspace.now first }
+    ensures { ArePassedFrom workspace.now first result }
+{
+    let free = unallocated_from(&workspace.kinds, first);
+    if free == 0 {
+        right_from(workspace, first)
+    } else {
+        free
     }
 }
 
@@ -149,7 +221,7 @@ pub fn phase4<I: Image, W: Output>(
     // From 0, though no inode 0 or 1 is allocated: both are passed over with those after them.
     let mut number = 0;
     while number < inodes {
-        let passed = unallocated_from(&workspace.kinds, number as usize);
+        let passed = passed_from(workspace, number as usize);
         if passed == 0 {
             report_references(geometry, image, workspace, number, report)?;
             number += 1;

@@ -1,13 +1,13 @@
-use Rattle.std.proofs.{Common.{◌≡◌, ◌∙◌, ◌+◌, arith, ap, Err, refl}, lemmas.Result.err_from_is_err_and}
+use Rattle.std.proofs.{Common.{◌≡◌, ◌∙◌, ◌+◌, arith, Err, refl}, lemmas.Result.err_from_is_err_and}
 use Rattle.ffs_volume.specs.Directories.{ReferenceCheck.reference_lines_at, Volumes.volume_of}
 use Rattle.ffs_volume.{proofs.Numbered.{as_many, count_next, from_next, from_end}, specs.Blocks.Inodes.inodes_of}
 use Rattle.ffs_report.{specs.Known.ForBytes, proofs.Paying.{paid_answer, paid_fault, paid_says, paid_stops, paid_then}}
 use Rattle.ffs_report.proofs.Reporting.{of_fault, of_part, of_same, reports_knowing, said_knows, says_heading}
 use Rattle.ffs_report.proofs.Reporting.{stops_heading}
-use Rattle.ffs_workspace.specs.{declared.workspace.Workspace.Workspace, Found.WithFindings}
+use Rattle.ffs_workspace.specs.{Found.WithFindings}
 use Rattle.ffs_workspace.proofs.Leaving.{findings_held}
-use Rattle.ffs_counts.proofs.Holding.{free_lines, held_on, lines_after, lines_begin}
-use Rattle.ffs_counts.proofs.pass4.phase4.Goals.{After-unallocated_from-passed, At-loop-number}
+use Rattle.ffs_counts.proofs.Holding.{held_on, lines_after, lines_begin, passed_lines}
+use Rattle.ffs_counts.proofs.pass4.phase4.Goals.{After-passed_from-passed, At-loop-number}
 use Rattle.ffs_counts.proofs.pass4.phase4.Given as given
 use Rattle.ffs_counts.proofs.pass4.phase4.Goals as goal
 
@@ -18,16 +18,17 @@ known : (g : given.Over) (c : At-loop-number g) →
 known g c bytes k = grind (arith, findings_held)
 
 -- the inodes that are passed over have no lines
-passed : (g : given.Over) (c : After-unallocated_from-passed g) →
+passed : (g : given.Over) (c : After-passed_from-passed g) →
     ForBytes (WithFindings c.args.geometry.now.layout (g.I.Image.device c.args.image.now) c.args.workspace.now)
     (λ bytes. lines_after c.args.geometry.now.layout c.loop-number.number bytes
-    ≡ lines_after c.args.geometry.now.layout (c.loop-number.number + c.unallocated_from-passed.result) bytes)
+    ≡ lines_after c.args.geometry.now.layout (c.loop-number.number + c.passed_from-passed.result) bytes)
 passed g c bytes k =
+    let v = c.args.geometry.now.layout in
     let inv = c.loop-number.invariant in
-    free_lines c.args.geometry.now.layout bytes c.args.workspace.now c.deref.result.now c.loop-number.number
-    c.unallocated_from-passed.result (inodes_of c.args.geometry.now.layout) k.1.claims
-    (c.deref.ensures.value ∙ ap (λ (w : Workspace). w.kinds.items) inv.held) c.unallocated_from-passed.ensures.unallocated
-    (omega (arith, c.unallocated_from-passed.ensures.within, c.deref.ensures.len, inv.ready.ready.made.kinds))
+    let found : WithFindings v (g.I.Image.device c.args.image.now) c.loop-number.workspace bytes =
+    grind (arith, findings_held) in
+    passed_lines v bytes c.loop-number.workspace c.loop-number.number c.passed_from-passed.result (inodes_of v) found.1
+    c.passed_from-passed.ensures.right (omega (arith, c.passed_from-passed.ensures.within, inv.ready.ready.made.kinds)) refl
 
 pub returns-in_err-say-clause-text : goal.returns-in_err-say-clause-text
 returns-in_err-say-clause-text g c =
