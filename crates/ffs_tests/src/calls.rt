@@ -1,18 +1,18 @@
 //! Each public call of the crate `ffs` that its example doesn't make, once, over the volume with a
 //! root alone.
 
-ghost use Rattle.std.specs.Prelude.{◌≡◌, ◌*◌, ◌≤◌, ℕ, List, Option, IfOk};
+ghost use Rattle.std.specs.Prelude.{ℕ, List, Option, IfOk};
 ghost use Rattle.ffs_walk.specs.Windows.{BlocksHold, CanWalk, HasRoom};
 
 use crate::check::{REPORT, volume, volume_bytes};
 use crate::compare::same;
+use crate::names::chunks_of;
 use ffs::{
-    Blocks, Chunks, Class, Counted, FixedList, FuseWriter, Geometry, Group, GroupSummary, Image,
-    ImageFault, Inode, Line, Memory, MemoryImage, MutedWriter, OpenFault, Opener, Order, Report,
-    Role, Step, SystemMemory, Walk, Window, Workspace, class_of, decode_inode, entry_at,
-    read_super, role_of, run_over,
+    Blocks, Chunks, Class, Counted, FuseWriter, Geometry, Group, GroupSummary, Image, ImageFault,
+    Inode, Line, Memory, MemoryImage, MutedWriter, OpenFault, Opener, Order, Report, Role, Step,
+    SystemMemory, Walk, Workspace, class_of, decode_inode, entry_at, read_super, role_of, run_over,
 };
-use ffs_samples::{ORDERS, Stop, geometry, image_of, inode};
+use ffs_samples::{ORDERS, geometry, image_of, inode};
 use std::alloc::{AllocError, Global};
 use std::test::Fail;
 
@@ -33,8 +33,10 @@ fn bytes_from<const N: usize>(
 ) -> Result<[u8; N], AllocError> {
     let bytes = volume_bytes(order, &[], alloc)?;
     let mut part = [0; N];
-    for (to, from) in part.iter_mut().zip(bytes.iter().skip(place)) {
-        *to = *from;
+    for index in 0..N {
+        if place < bytes.len() && index < bytes.len() - place {
+            part[index] = bytes[place + index];
+        }
     }
     Ok(part)
 }
@@ -179,27 +181,6 @@ fn steps_of<I: Image>(
     Ok([first, second])
 }
 
-/// The place of the first chunk that a reading gives, its first byte, and how many Runs it has seen.
-fn first_chunk<I: Image>(
-    geometry: &Geometry,
-    chunks: &mut Chunks,
-    image: &mut I,
-    alloc: Global,
-) -> Result<(Option<u64>, u8, u64), Stop>
-    requires volume { geometry.now.layout.size * geometry.now.layout.fsize
-        ≤ (I.device image.old).size }
-    requires geometry { chunks.old.walk.geometry ≡ geometry.now }
-{
-    let size = geometry.layout.bsize as usize;
-    let buffer = vec![in alloc; 0u8; 3 * size]?;
-    let mut blocks = Blocks::over(FixedList::new(buffer));
-    let buffer = vec![in alloc; 0u8; size]?;
-    let mut window = Window::over(FixedList::new(buffer));
-    let mut chunk = [0u8; 512];
-    let place = chunks.next(image, &mut blocks, &mut window, &mut chunk)?;
-    Ok((place, chunk[0], chunks.runs()))
-}
-
 /// The root, whose chunk is fragment 36.
 fn root() -> Inode {
     let mut root = inode(0o40755, 512);
@@ -217,12 +198,16 @@ fn root_steps(order: Order, alloc: Global) -> Result<[Option<Step>; 2], Fail> {
     Ok(found?)
 }
 
-/// The root's first chunk, whose first byte is 7.
-fn root_chunk(order: Order, alloc: Global) -> Result<(Option<u64>, u8, u64), Fail> {
+/// The place of the root's only chunk, its first byte and its last.
+static ROOT_CHUNKS: [(u64, u8, u8); 1] = [(0, 7, 0)];
+
+/// The chunks of the root, whose first byte is 7, and how many Runs their reading has seen.
+fn root_chunks(order: Order, alloc: Global) -> Result<(Vec<(u64, u8, u8)>, u64), Fail> {
     let geometry = geometry(order)?;
     let mut image = image_of(order, &[(36_864, 1, 7)], alloc)?;
     let mut chunks = Chunks::start(&geometry, &root(), 0);
-    Ok(first_chunk(&geometry, &mut chunks, &mut image, alloc)?)
+    let found = chunks_of(&geometry, &mut chunks, &mut image, alloc)?;
+    Ok((found, chunks.runs()))
 }
 
 #[test]
@@ -234,7 +219,9 @@ fn walks(rt: HostRuntime) -> Result<(), Fail> {
     };
     for order in ORDERS {
         same(&rt, &root_steps(order, rt.alloc())?, &[Some(run), None]);
-        same(&rt, &root_chunk(order, rt.alloc())?, &(Some(0), 7, 1));
+        let (chunks, runs) = root_chunks(order, rt.alloc())?;
+        same(&rt, &chunks.as_slice(), &ROOT_CHUNKS.as_slice());
+        same(&rt, &runs, &1);
     }
     Ok(())
 }

@@ -1,5 +1,6 @@
-//! Tests of the whole check: its end, its reads, its memory. They are here so that no crate is
-//! proved twice for them, and so that the program uses no crate but the check.
+//! Tests of the public calls of the crates of phases, of those that read directories and make paths,
+//! and of the whole check: its end, its reads, its memory. They are here so that no crate is proved
+//! twice for them, and so that the program uses no crate but the check.
 #![tactic(auto)]
 
 #[cfg(test)]
@@ -7,7 +8,13 @@ mod calls;
 #[cfg(test)]
 mod check;
 #[cfg(test)]
+mod claims;
+#[cfg(test)]
 mod compare;
+#[cfg(test)]
+mod connectivity;
+#[cfg(test)]
+mod counts;
 #[cfg(test)]
 mod files;
 #[cfg(test)]
@@ -15,4 +22,14 @@ mod image;
 #[cfg(test)]
 mod memory;
 #[cfg(test)]
+mod names;
+#[cfg(test)]
+mod pathnames;
+#[cfg(test)]
+mod paths;
+#[cfg(test)]
+mod places;
+#[cfg(test)]
 mod reads;
+#[cfg(test)]
+mod surveys;
