@@ -2,7 +2,7 @@
 -- public calls, what their clauses are, and in which files:
 --
 --   Chunks::next                GivesChunk (`Readings`), LeavesNext (`Leaves`)
---   Entries::next               GivesEntry (`Shapes`), LeavesEntries (`Leaves`)
+--   Entries::next               GivesEntry and HasStopped (`Shapes`), LeavesEntries (`Leaves`)
 --   Entries::has_right_shape    has_right_shape (`Shapes`), LeavesBlocks (`Leaves`)
 --   ChunkEntries                GivesNextEntry (`EntriesToCome`), as an iterator
 --   gap_of                      LooksForGap (`Leaves`)

@@ -69,6 +69,7 @@ pub record HasStopped (g : Geometry) (r : Entries) : Type 0 where
   pub shape : (b : List ℕ) → has_right_shape b r ≡ false
   pub reads : (b : List ℕ) → reads_for_entries b r ≡ 0
   pub held : (blocks : Blocks) (w : Window) → HoldsEntries blocks w r
+  pub left : left r ≡ 0
   pub geometry : r.chunks.walk.geometry ≡ g
 
 -- the first of the entries to come in an image of these bytes was read; the answer is None where

@@ -1,6 +1,6 @@
 //! The entries of a directory.
 
-ghost use Rattle.std.specs.Prelude.{◌≡◌, ◌+◌, ◌-◌, ◌*◌, ◌/◌, ◌≤◌, ◌^◌, true, IfOk, OnOk, OnErr};
+ghost use Rattle.std.specs.Prelude.{◌≡◌, ◌+◌, ◌-◌, ◌*◌, ◌/◌, ◌≤◌, ◌^◌, ℕ, List, true, false, IfOk, OnOk, OnErr};
 ghost use Rattle.ffs_image.specs.Device.{ForContents};
 ghost use Rattle.ffs_names.specs.{OneChunk.one_chunk_at as one_chunk, Windows.{CanWalkDir, CanReadChunks}};
 ghost use Rattle.ffs_volume.specs.{Directories.Calm.is_right_size, declared.constants.TheConstants.DIRBLKSIZ};
@@ -65,7 +65,7 @@ impl Entries {
     ghost use Rattle.ffs_names.specs.Leaves.{dir_reading, dir_walk, LeavesBlocks, LeavesEntries};
     ghost use Rattle.ffs_image.specs.Reads.{ReadAfter};
     ghost use Rattle.ffs_names.specs.Shapes.{runs_of_inode, has_right_shape, BeginsIn, EndsChunks, GivesDirectory, GivesEntry, HasEnded, HasStopped, RestartsIn, TakesFromChunk};
-    ghost use Rattle.ffs_names.specs.Entering.{last_name, left};
+    ghost use Rattle.ffs_names.specs.Entering.{last_name};
 
     /// A reading of the directory with this inode. `cut` is how many offers it keeps where its
     /// eleventh dup offer cut it, else 0.
@@ -128,7 +128,7 @@ impl Entries {
     /// out of range, gives no entry.
     ///
     /// # Errors
-    /// A read of the image that failed. Then no entry comes.
+    /// A read of the image that failed. The reading is stopped then, as in `next`.
     #[inline(always)]
     pub fn restart_at<I: Image>(&mut self, image: &mut I, address: u32) -> Result<(), ImageFault>
         requires { self.old.chunks.walk.geometry.layout.size
@@ -142,7 +142,7 @@ impl Entries {
             (reads_for_entries b self.new)
             ((blocks : Blocks) (w : Window) → HoldsEntries blocks w self.new) result) }
         ensures read { ReadAfter (I.device image.old) (I.device image.new) result }
-        ensures over { OnErr result (left self.new ≡ 0) }
+        ensures stopped { OnErr result (HasStopped self.old.chunks.walk.geometry self.new) }
         ensures geometry { self.new.chunks.walk.geometry ≡ self.old.chunks.walk.geometry }
     {
         let geometry = &self.chunks.walk.geometry;
@@ -153,11 +153,12 @@ impl Entries {
         let place = u64::from(address) * u64::from(geometry.layout.fsize);
         self.end_chunks();
         self.place = DIRBLKSIZ;
+        self.right_so_far = false;
         image.read_at(place, &mut self.chunk)?;
         self.place = 0;
         self.index = 0;
-        self.first = true;
         self.right_so_far = true;
+        self.first = true;
         Ok(())
     }
 
@@ -166,8 +167,8 @@ impl Entries {
         ensures { HasStopped self.old.chunks.walk.geometry self.new }
     {
         self.place = DIRBLKSIZ;
-        self.chunks.budget = 0;
         self.right_so_far = false;
+        self.chunks.budget = 0;
     }
 
     /// Takes the entry at `place`, if one is there.
@@ -192,12 +193,9 @@ impl Entries {
         Some(head)
     }
 
-    /// The next entry, if there is one, without its name.
-    ///
-    /// # Errors
-    /// A read of the image that failed. Then no entry comes any more.
+    /// Takes the next entry as `next` does, but doesn't stop the reading where a read fails.
     #[inline(always)]
-    pub fn next<I: Image>(
+    fn advance<I: Image>(
         &mut self,
         image: &mut I,
         blocks: &mut Blocks,
@@ -214,7 +212,6 @@ impl Entries {
         ensures leaves { LeavesEntries
             (dir_reading I.Image image.old blocks.old window.old self.old)
             (dir_reading I.Image image.new blocks.new window.new self.new) result }
-        ensures over { OnErr result (left self.new ≡ 0) }
     {
         'chunks: loop {
             match self.take() {
@@ -238,11 +235,45 @@ impl Entries {
         }
     }
 
+    /// The next entry, if there is one, without its name.
+    ///
+    /// # Errors
+    /// A read of the image that failed. The reading is stopped then: no entry comes any more, and
+    /// the shape isn't right.
+    #[inline(always)]
+    pub fn next<I: Image>(
+        &mut self,
+        image: &mut I,
+        blocks: &mut Blocks,
+        window: &mut Window,
+    ) -> Result<Option<EntryHead>, ImageFault>
+        requires { CanReadChunks self.old.chunks.walk.geometry.layout (I.device image.old)
+            blocks.old window.old }
+        ensures entry { IfOk result (λ head. ForContents (I.device image.old).contents
+            (λ b. GivesEntry b self.old self.new head)) }
+        ensures reads { HoldsEntries blocks.old window.old self.old
+            → ForContents (I.device image.old).contents (λ b. TakesReads (I.reads image.old)
+            (I.reads image.new) (reads_for_entries b self.old) (reads_for_entries b self.new)
+            (HoldsEntries blocks.new window.new self.new) result) }
+        ensures leaves { LeavesEntries
+            (dir_reading I.Image image.old blocks.old window.old self.old)
+            (dir_reading I.Image image.new blocks.new window.new self.new) result }
+        ensures stopped { OnErr result (HasStopped self.old.chunks.walk.geometry self.new) }
+    {
+        match self.advance(image, blocks, window) {
+            Ok(head) => Ok(head),
+            Err(fault) => {
+                self.stop();
+                Err(fault)
+            }
+        }
+    }
+
     /// Whether the directory, of which no entry is left, has a right size, sound chunks and no
     /// hole.
     ///
     /// # Errors
-    /// A read of the image that failed.
+    /// A read of the image that failed. The shape isn't right then, whenever it is asked for.
     pub fn has_right_shape<I: Image>(
         &mut self,
         image: &mut I,
@@ -257,6 +288,7 @@ impl Entries {
             (HoldsEntries blocks.new w self.new) result) }
         ensures leaves { LeavesBlocks (dir_walk I.Image image.old blocks.old self.old.chunks)
             (dir_walk I.Image image.new blocks.new self.new.chunks) result }
+        ensures wrong { OnErr result ((b : List ℕ) → has_right_shape b self.new ≡ false) }
     {
         if !self.right_so_far {
             return Ok(false);
@@ -264,7 +296,9 @@ impl Entries {
         if self.only_chunk {
             return Ok(true);
         }
+        self.right_so_far = false;
         let gap = gap_of(image, blocks, &mut self.chunks)?;
+        self.right_so_far = true;
         Ok(!gap)
     }
 

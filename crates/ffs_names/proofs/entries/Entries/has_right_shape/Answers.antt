@@ -1,6 +1,6 @@
 use Rattle.std.proofs.lemmas.Result.{err_from_is_err_and}
-use Rattle.std.proofs.Common.{false}
-use Rattle.ffs_names.proofs.{EntryCounts.looks_on, OneChunks.ended_gap, Shaped.shape_at_end}
+use Rattle.std.proofs.Common.{◌≡◌, false, arith, refl}
+use Rattle.ffs_names.{specs.Costs.to_read, proofs.{EntryCounts.{looks_on, reads_by}, OneChunks.ended_gap, Shaped.shape_at_end}}
 use Rattle.ffs_names.proofs.entries.Entries.has_right_shape.Goals as goal
 
 -- a look for holes continues the reads
@@ -15,7 +15,13 @@ pub returns-clause-reads : goal.returns-clause-reads
 returns-clause-reads g c = λ w held b t.
     let took = looks_on b c.args.self.now.right_so_far c.args.self.now.chunks c.gap_of.new.chunks _ _ w w _ _ _
     c.if-not-self.false (λ h. c.in_ok-gap.ensures.leaves.counted w h b t) held in
-    record { most = took.most; paid = took.paid; held = took.held }
+    let same : reads_by b c.args.self.now.right_so_far c.gap_of.new.chunks ≡ to_read b c.gap_of.new.chunks =
+    rw c.if-not-self.false refl in
+    record {
+      most = took.most;
+      paid = omega (arith, took.paid, same);
+      held = λ may. took.held (rw c.if-not-self.false refl);
+    }
 
 -- the only chunk was read, and there is no hole
 pub returns-then-self-clause-shape : goal.returns-then-self-clause-shape

@@ -1,8 +1,8 @@
-use Rattle.std.proofs.Common.{◌≡◌, ◌==◌, ◌∙◌, ◌*◌, false, true, length, refl, sym, ap, arith}
-use Rattle.std.proofs.lemmas.{Bool.Decides.nat_tests, Result.err_from_is_err_and}
+use Rattle.std.proofs.Common.{◌≡◌, ◌==◌, ◌∙◌, ◌*◌, false, true, length, [], refl, sym, ap, arith}
+use Rattle.std.proofs.lemmas.{Bool.{Decides.nat_tests, false≢true}, Result.err_from_is_err_and}
 use Rattle.ffs_volume.specs.Disk.Areas.{is_run_in_range}
-use Rattle.ffs_names.proofs.{OneChunks.{ended_held, ended_reads, gives_only_chunk, one_chunk_class, runs_of_one}}
-use Rattle.ffs_names.proofs.RunChunks.{run_in_volume}
+use Rattle.ffs_names.proofs.{OneChunks.{ended_held, ended_reads, ended_rest, gives_only_chunk, one_chunk_class, runs_of_one}}
+use Rattle.ffs_names.proofs.{Entered.end_seen, RunChunks.run_in_volume}
 use Rattle.ffs_names.proofs.entries.Entries.restart_at.Goals.{After-end_chunks}
 use Rattle.ffs_names.proofs.entries.Entries.restart_at.Given as given
 use Rattle.ffs_names.proofs.entries.Entries.restart_at.Goals as goal
@@ -65,6 +65,19 @@ returns-in_err-read_at-clause-reads g c =
       most = omega (arith, c.read_at.ensures.counted, runs_of_one q.layout c.args.address b q.sound some);
       paid = tt;
       held = tt;
+    })
+
+pub returns-in_err-read_at-clause-stopped : goal.returns-in_err-read_at-clause-stopped
+returns-in_err-read_at-clause-stopped g c =
+    let s = c.end_chunks.new.self in
+    let ended = c.end_chunks.ensures.ended in
+    rw (err_from_is_err_and c.from_residual.result c.from_residual.ensures.1).1 (record {
+      entries = λ b. rw (ended_rest b s.chunks ended) (end_seen s.first s.index s.order c.read_at.new.buf []);
+      shape = λ b. refl;
+      reads = λ b. rw ended.budget refl;
+      held = λ blocks w may. absurd (false≢true (rw ended.budget at may));
+      left = omega (arith, ended.budget);
+      geometry = c.end_chunks.ensures.geometry;
     })
 
 -- its entries are to come

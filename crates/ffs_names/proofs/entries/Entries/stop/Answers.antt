@@ -8,5 +8,6 @@ returns c = let s = c.args.self.now in record {
   shape = λ b. refl;
   reads = λ b. refl;
   held = λ blocks w may. absurd (false≢true may);
+  left = refl;
   geometry = refl;
 }

@@ -2,7 +2,7 @@ use Rattle.std.proofs.Common.{◌≡◌, ◌≤◌, ◌<◌, ◌+◌}
 use Rattle.ffs_image.specs.Device.{ForContents}
 use Rattle.ffs_names.specs.{Costs.HoldsEntries, Costs.reads_for_entries, Shapes.has_right_shape, Windows.CanReadChunks}
 use Rattle.ffs_names.specs.Entering.{to_come, left, IsInside, IsHeldIfLeft}
-use Rattle.ffs_names.proofs.entries.Entries.next.Given as goal
+use Rattle.ffs_names.proofs.entries.Entries.advance.Given as goal
 
 abbrev pub invariant-chunks : goal.invariant-chunks
 invariant-chunks g l = record {
