@@ -4,6 +4,7 @@ import re
 
 from .answers import STOP, TACTIC, answer_alone, goals_in, read, search_alone, unpacked
 from .sources import HOME, constant_at, end_of, function_at, is_function, is_method, item_at, one_place, replaced, start_of, users_of
+from .traits import beside
 
 
 class BadEdit(Exception):
@@ -33,6 +34,8 @@ class Edit:
         self.crate, self.path = crate, path
         self.label = f"{crate}/{os.path.basename(path)}"
         self.masked, self.names, self.copied, self.folder = False, set(), None, None
+        # Where its copy stands, if its function is of a trait.
+        self.beside = None
         # Whether it is tried by the answer of its goal alone, or where it has none by its function's answers alone; and whether by the search of
         # its goal alone.
         self.at_goal = self.at_search = False
@@ -61,15 +64,18 @@ class Edit:
             self.functions = users_of(crate, {it for it in (constant_at(self.text, at) for at, _, _ in self.places) if it})
 
     def can_be_copied(self):
-        """Whether it changes one function alone, and that one is free or a method of a type, and doesn't call itself."""
+        """Whether it changes one function alone, and that one is free or a method of a type, or of a trait with a contract that the type can have too,
+        and doesn't call itself."""
         item = item_at(self.text, self.places[0][0])
         if self.is_of_constants or len(self.functions) > 1 or item is None:
             return False
         (_, kind, of_trait, _, _), = self.functions
         self.start, self.item, self.end = start_of(self.text, item), item, end_of(self.text, item)
         is_inside = all(self.start <= at and at + len(old) <= self.end for at, old, _ in self.places)
-        is_method = kind is not None and not of_trait
-        return is_inside and (is_method or not item["pad"]) and "#[cycle" not in self.text[self.start : item.start()]
+        is_single = is_inside and "#[cycle" not in self.text[self.start : item.start()]
+        if is_single and of_trait:
+            self.beside = beside(self.text, item, self.start, self.end)
+        return is_single and bool(self.beside or not of_trait and (kind is not None or not item["pad"]))
 
     def copy_as(self, name, proofs, goals):
         """Has it tried by a copy with this name. The proofs are the places of the crate's proofs below its folder of them, and the goals those of
@@ -118,17 +124,27 @@ class Edit:
 
     def place(self):
         """Where the proof of its copy is, below the crate's folder of proofs."""
+        if self.beside:
+            ((_, kind, _, _, _),) = self.functions
+            return (*self.folder[:-2], kind, self.copied)
         return (*self.folder[:-1], self.copied)
+
+    def after_which(self):
+        """After which place of its file its copy stands."""
+        return self.beside.end if self.beside else self.end
 
     def copied_text(self, unchanged):
         """The function under the copy's name, with the edit in it unless it is to be unchanged. Where it is tried at its goal alone, rattle
         tries no tactics at the others."""
         places = [*([] if unchanged else self.places), (self.item.start("name"), self.item["name"], self.copied)]
-        if not self.at_goal:
-            return replaced(self.text, places, self.start, self.end)
-        tactic = TACTIC.search(self.text, self.start, self.item.start())
-        places += [(tactic.start(), tactic[0], "")] if tactic else []
-        return f"{self.item['pad']}#[tactic(none)]\n" + replaced(self.text, places, self.start, self.end)
+        places += self.beside.places if self.beside else []
+        mark = ""
+        if self.at_goal:
+            tactic = TACTIC.search(self.text, self.start, self.item.start())
+            places += [(tactic.start(), tactic[0], "")] if tactic else []
+            mark = f"{self.item['pad']}#[tactic(none)]\n"
+        copy = mark + replaced(self.text, places, self.start, self.end)
+        return self.beside.around(copy) if self.beside else copy
 
     def record(self, goal):
         """Writes into its file at which goal it is refused; no goal where there is None."""

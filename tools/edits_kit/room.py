@@ -73,7 +73,7 @@ class Room:
         files = {it.file: it.text for it in edits}
         for file, text in files.items():
             here = [it for it in edits if it.file == file]
-            copies = [(it.end, "", f"\n\n{it.copied_text(unchanged)}") for it in here if it.copied]
+            copies = [(it.after_which(), "", f"\n\n{it.copied_text(unchanged)}") for it in here if it.copied]
             places = [place for it in here if not it.copied for place in it.places]
             text = replaced(text, copies + places)
             for edit, copy in zip([it for it in here if it.copied], copies):
