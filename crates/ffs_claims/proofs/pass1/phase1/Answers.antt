@@ -188,7 +188,7 @@ returns-clause-leaves g c = λ bytes k.
         starts = holds.starts;
         unsurveyed = refl;
       };
-      dups = c.has_unreported_dups-workspace.ensures ∙ ap any_set holds.dup ∙ rescan_is c.args.geometry.now.layout bytes;
+      dups = let dup = holds.dup in grind (arith, rescan_is);
       count = ap (λ s. s.runs) all;
     }
 
