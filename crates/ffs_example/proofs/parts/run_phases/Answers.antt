@@ -11,6 +11,6 @@ survey-requires g c = elim c.if-has_dups.branch [
 
 pub path_of-requires : goal.path_of-requires
 path_of-requires g c = record {
-  ready = c.forget_windows.ensures.forgets c.args.superblock.now.geometry.layout _ c.in_ok-phase5.ensures.stays.ready;
+  ready = c.forget_windows.ensures.forgets c.args.superblock.now.geometry.layout _ c.in_ok-phase5.ensures.ready;
   number = omega arith;
 }
