@@ -1,6 +1,6 @@
 //! The path of a directory, for all lines on it and on its entries.
 
-ghost use Rattle.std.specs.Prelude.{◌≡◌, ◌<◌, ◌≤◌, ℕ, List, [], ◌∷◌, ◌++◌, length, vec_len, Some, option_map, IfOk, OnOk};
+ghost use Rattle.std.specs.Prelude.{◌≡◌, ◌<◌, ◌≤◌, ℕ, List, [], ◌∷◌, ◌++◌, length, vec_len, Some, option_map, IfOk, OnErr, OnOk};
 ghost use Rattle.ffs_volume.specs.Directories.{Graph.{Graph, level}, Paths.{dir_path, entry_path, names_down}};
 ghost use Rattle.ffs_workspace.specs.Holds.{bool_at};
 ghost use Rattle.ffs_paths.specs.{Buffers.HoldsNames, Climbing.{in_room, path_in}, DirectoryPaths.{HoldsPath, IsPathOf}};
@@ -179,7 +179,7 @@ pub fn directory_path<I: Image>(
 /// first.
 ///
 /// # Errors
-/// A read of the image that failed.
+/// A read of the image that failed. The text is as it was then.
 pub fn path_of<I: Image>(
     geometry: &Geometry,
     image: &mut I,
@@ -191,6 +191,7 @@ pub fn path_of<I: Image>(
     requires { CanReadFor geometry.now.layout (I.device image.old) workspace.old dir }
     ensures path { OnOk result (ForTree geometry.now.layout (I.device image.old) workspace.old
         (λ g. text.new.items ≡ path_in g dir (option_map (λ n. n.now) name.entry))) }
+    ensures untouched { OnErr result (text.new ≡ text.old) }
     ensures leaves { ReadsNames geometry.now.layout dir
         (path_moment I.Image image.old workspace.old) (path_moment I.Image image.new workspace.new)
         result }
