@@ -1,8 +1,11 @@
 -- What a workspace holds where only its windows have changed, and the lines of an inode by it.
 use Rattle.std.proofs.Common.{◌≡◌, ℕ, ℤ, pos, zero, suc, ◌+◌, ◌-◌, ◌<◌, ◌≤◌, ◌^◌, Bool, true, false, List, [], ◌&&◌}
 use Rattle.std.proofs.Common.{◌||◌, ◌==◌, not, if◌then◌else◌, length, map, refl, ap, ◌∙◌, sym, slice_index, vec_len}
+use Rattle.std.proofs.Common.{drop, take}
 use Rattle.std.{proofs.Common.{arith, SFits}, specs.{List.slice_index_or, Int.{w16, cast_signed}}}
 use Rattle.std.{specs.declared.{alloc.Global.Global, vec.Vec.Vec}, proofs.lemmas.{Bool.Decides.nat_tests, Int.ints}}
+use Rattle.std.proofs.lemmas.List.{get_or-drop, get_or-take, length-drop, length-take-le}
+use Rattle.ffs_survey.specs.Survey.{suspect_at}
 use Rattle.std.proofs.lemmas.{Int.to_z_pos, List.get_or_read, Bool.{and_parts, cases_lt, eq-eqb, eqb-true, not-true}}
 use Rattle.ffs_volume.specs.declared.{Attr.Attr, Inode.Inode, Label.Label, Layout.Layout}
 use Rattle.ffs_volume.specs.declared.{constants.TheConstants.LINKS_MET, Class.TheVariants.{Free, Unknown, File, Dir}}
@@ -127,6 +130,24 @@ met_lines v b w i low f used met =
     none_reported : (dead m : Bool) (label : Label) (attr : Attr) (nlink : ℤ) (r : ℕ) → dead ≡ false →
         AreMet nlink r → reference_reported dead m label attr nlink r ≡ []
     none_reported dead m label attr nlink r alive links = rw (alive, links.some, links.same) refl
+
+-- a number whose element is in a part of a list of which each is `LINKS_MET`
+pub met_in : (counts : List ℕ) (first x : ℕ) → first + 64 ≤ length counts → first ≤ x → x < first + 64 →
+    ((k : ℕ) → k < length (take (first + 64 - first) (drop first counts)) →
+    slice_index (take (first + 64 - first) (drop first counts)) k ≡ LINKS_MET) → slice_index counts x ≡ LINKS_MET
+met_in counts first x long low high met =
+    let n = first + 64 - first in
+    let at : x ≡ first + (x - first) = omega (arith, low) in
+    let left = length-drop first counts in
+    let all = length-take-le n (drop first counts) (omega (arith, left, long)) in
+    ap (slice_index counts) at ∙ sym (get_or-drop first counts (x - first) 0)
+    ∙ sym (get_or-take n (drop first counts) (x - first) 0 (omega (arith, low, high)))
+    ∙ met (x - first) (omega (arith, all, low, high))
+
+-- an inode that isn't suspect is right where its count is `LINKS_MET`
+pub right_met : (w : Workspace) (x : ℕ) → slice_index w.references.items x ≡ LINKS_MET →
+    suspect_at w.kinds.items w.marked.items x ≡ false → is_right_by w x ≡ true
+right_met w x met alive = rw (met, alive) refl
 
 -- an inode that isn't allocated, or is right, has no line
 silent_by : (v : Layout) (b : List ℕ) (w : Workspace) (i : ℕ) (used : Bool) → i < inodes_of v → HoldsFindings v b w →

@@ -1,6 +1,6 @@
 //! Phase 4: how often inodes are referred to.
 
-ghost use Rattle.std.specs.Prelude.{◌≡◌, ◌<◌, ◌≤◌, ◌+◌, ◌∷◌, ℕ, false, map, length, slice_index, vec_len};
+ghost use Rattle.std.specs.Prelude.{◌≡◌, ◌<◌, ◌≤◌, ◌+◌, ◌∷◌, ℕ, false, map, length, slice_index};
 ghost use Rattle.ffs_volume.specs.Messages.Kinds.{of_tree};
 ghost use Rattle.ffs_volume.specs.Directories.{ReferenceCheck.{reference_lines, reference_lines_at}, Volumes.volume_of};
 ghost use Rattle.ffs_report.specs.{Known.ForBytes, Paid.Paid, PhaseOutcome.{ImageAfter, PhaseReports}, Progress.progress};
@@ -97,16 +97,15 @@ fn any_free_or_suspect(kinds: &[u8], marked: &[bool], first: usize) -> bool
     any
 }
 
-/// Whether one of some inodes has other references than links, or no link: a loop without exit.
+/// Whether one of some counts of references isn't `LINKS_MET`: a loop without exit.
 #[inline(always)]
-fn any_unmet(workspace: &Workspace, first: usize) -> bool
-    requires { first + 64 ≤ vec_len workspace.now.references }
-    ensures { result ≡ false → (x : ℕ) → first ≤ x → x < first + 64
-        → slice_index workspace.now.references.items x ≡ constants.LINKS_MET }
+fn any_unmet(counts: &[u64]) -> bool
+    ensures { result ≡ false → (k : ℕ) → k < length counts.now
+        → slice_index counts.now k ≡ constants.LINKS_MET }
 {
     let mut any = false;
-    for number in first..first + RIGHT_AT_ONCE {
-        any |= workspace.references[number] != LINKS_MET;
+    for count in counts {
+        any |= *count != LINKS_MET;
     }
     any
 }
@@ -119,13 +118,14 @@ fn right_from(workspace: &Workspace, first: usize) -> usize
     requires { CanPass workspace.now first }
     ensures { AreRightFrom workspace.now first result }
 {
-    if first % RIGHT_AT_ONCE != 0 || workspace.kinds.len() - first < RIGHT_AT_ONCE {
+    let counts = workspace.references.touched();
+    if first % RIGHT_AT_ONCE != 0 || counts.len().saturating_sub(first) < RIGHT_AT_ONCE {
         return 0;
     }
     if any_free_or_suspect(&workspace.kinds, &workspace.marked, first) {
         return 0;
     }
-    if any_unmet(workspace, first) {
+    if any_unmet(&counts[first..first + RIGHT_AT_ONCE]) {
         return 0;
     }
     RIGHT_AT_ONCE

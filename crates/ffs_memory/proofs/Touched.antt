@@ -18,6 +18,11 @@ module _ {A : Type 0} where
       (filled new x).items ≡ (filled old x).items
   same_filled old new index x inside touches = grind (arith, run_on)
 
+  -- the touched elements come first
+  pub first_filled : (touched : Vec A Global) (n : ℕ) (x d : A) (k : ℕ) → k < length touched.items →
+      get_or (touched.items ++ replicate n x) k d ≡ get_or touched.items k d
+  first_filled touched n x d k low = get_or-append touched.items (replicate n x) d k low
+
   -- the element at a touched index is set
   pub set_filled : (touched : Vec A Global) (index n : ℕ) (x y : A) → index < vec_len touched →
       slice_set touched.items index y ++ replicate n x ≡ slice_set (touched.items ++ replicate n x) index y

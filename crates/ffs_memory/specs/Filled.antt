@@ -1,5 +1,5 @@
 -- What a list shows, and what a call leaves of it; some lists hold one value until another is set.
-use Rattle.std.specs.Prelude.{◌≡◌, ◌+◌, ◌++◌, ◌-◌, ℕ, List, drop, length, min, replicate, slice_set, take, vec_capacity}
+use Rattle.std.specs.Prelude.{◌≡◌, ◌<◌, ◌≤◌, ◌+◌, ◌++◌, ◌-◌, ℕ, List, drop, length, min, replicate, slice_set, take, vec_capacity}
 use Rattle.std.{specs.List.{slice_index_or, Sorted.{IsNonDecreasing, IsPermutation}}, proofs.Common.{ap, sym, ◌∙◌, length-append}}
 use Rattle.std.{proofs.{Math.Nat.{add-sub_of_le, le_refl}, lemmas.List.length-replicate}, specs.Prelude.vec_len}
 use Rattle.std.specs.{Vec.vec_ptr, declared.{vec.Vec.Vec, alloc.Global.Global}}
@@ -30,6 +30,11 @@ module _ {A : Type 0} where
     ok = (length_filled touched x, le_refl touched.cap);
     small = touched.small;
   }
+
+  -- these are the first elements of the list
+  pub record AreFirst (list : Vec A Global) (first : List A) : Type 0 where
+    pub len : length first ≤ vec_len list
+    pub items : (x : A) → (k : ℕ) → k < length first → slice_index_or list.items k x ≡ slice_index_or first k x
 
   -- the element at an index is set, in the same memory
   pub record Sets (old new : Vec A Global) (index : ℕ) (x : A) : Type 0 where

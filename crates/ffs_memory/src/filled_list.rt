@@ -1,6 +1,6 @@
 //! Lists that hold one value until another is set.
 ghost use Rattle.std.specs.Prelude.{◌≡◌, ◌<◌, ◌≤◌, slice_index_or, vec_len};
-ghost use Rattle.ffs_memory.specs.Filled.{filled, Limits, LimitsItems, Sets, SetsAll, SortsPart};
+ghost use Rattle.ffs_memory.specs.Filled.{AreFirst, filled, Limits, LimitsItems, Sets, SetsAll, SortsPart};
 
 use crate::touching::touch;
 use std::marker::Model;
@@ -44,6 +44,15 @@ impl<T: Copy> FilledList<T> {
         ensures { result ≡ vec_len self.now }
     {
         self.touched.capacity()
+    }
+
+    /// The elements up to the last one that was set. There may be more, all of one value.
+    #[inline(always)]
+    #[tactic(auto, using(crate::proofs::Touched::first_filled))]
+    pub fn touched(&self) -> &[T]
+        ensures { AreFirst self.now result.now }
+    {
+        self.touched.as_slice()
     }
 
     /// Sets the element at an index. The elements up to it are touched, in the memory that was
