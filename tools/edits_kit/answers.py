@@ -62,9 +62,12 @@ def answer_alone(text, goal):
 
 def search_alone(goals, goal, answered):
     """A file of answers with a hole for each other goal than this one, which is left to the search. Where one of a goal's clauses has an answer of
-    its own, each of them is a goal, and none of the whole."""
-    whole = {name.partition("-clause-")[0] for name in {goal, *answered} if "-clause-" in name}
-    holes = [name for name in dict.fromkeys([*goals, *sorted(answered)]) if name != goal and name not in whole]
+    its own, each of them is a goal, and none of the whole; else the whole alone is one."""
+    names = dict.fromkeys([*goals, *sorted(answered)])
+    whole_of = lambda name: name.partition("-clause-")[0]
+    split = {whole_of(name) for name in {goal, *answered} if "-clause-" in name}
+    is_goal_there = lambda name: name not in split and (name == whole_of(name) or whole_of(name) in split or whole_of(name) not in names)
+    holes = [name for name in names if name != goal and is_goal_there(name)]
     return "".join(f"\npub {name} : goal.{name}\n{name} = ?\n" for name in holes)
 
 
