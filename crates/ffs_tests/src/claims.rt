@@ -79,28 +79,15 @@ const TREE: [Words; 5] = [
     (40960, 1024, 40),
 ];
 
-/// Writes a word at a place.
-fn put_word(bytes: &mut [u8], place: usize, word: u64)
-    ensures { length bytes.new ≡ length bytes.old }
-{
-    put(Order::Little, bytes, &[(place, 4, word)]);
-}
-
-/// Writes a word so many times, one after the other.
-fn put_same(bytes: &mut [u8], place: usize, count: usize, word: u64)
-    ensures { length bytes.new ≡ length bytes.old }
-{
-    for k in 0..count {
-        put_word(bytes, place.saturating_add(k.saturating_mul(4)), word);
-    }
-}
-
 /// Writes words that are the same one after the other.
 fn put_words(bytes: &mut [u8], words: &[Words])
     ensures { length bytes.new ≡ length bytes.old }
 {
     for &(place, count, word) in words {
-        put_same(bytes, place, count, word);
+        for k in 0..count {
+            let at = place.saturating_add(k.saturating_mul(4));
+            put(Order::Little, bytes, &[(at, 4, word)]);
+        }
     }
 }
 
