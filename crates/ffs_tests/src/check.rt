@@ -98,17 +98,42 @@ fn consistent_volume(rt: HostRuntime) -> Result<(), Fail> {
     Ok(())
 }
 
-/// The root's count of links is 3; inode 2 is no inode.
+/// How many bytes of the report are compared where a line of phase 4 follows: into its heading.
+const BEGINNING: usize = 163;
+
+/// A number that is put into the volume, how its check ends, with how many bytes of the report its
+/// text begins, and with what it ends: the root's count of links is 3; inode 2 is no inode.
+static ENDS: [(Number, End, usize, &[u8]); 2] = [
+    ((28930, 2, 3), End::Defects, BEGINNING, b""),
+    (
+        (28928, 2, 0),
+        End::RootStop,
+        0,
+        b"ROOT INODE UNALLOCATED\nALLOCATE? no\n\n",
+    ),
+];
+
+/// How a check of the volume with a number more ends, and whether its text begins with so many
+/// bytes of the report and ends with these.
+fn ends_with(
+    order: Order,
+    number: Number,
+    begun: usize,
+    last: &[u8],
+    alloc: Global,
+) -> Result<(End, bool), AllocError> {
+    let (end, text) = checked_with(order, number, alloc)?;
+    let has_both = text.starts_with(&REPORT[..begun.min(BEGINNING)]) && text.ends_with(last);
+    Ok((end, has_both))
+}
+
 #[test]
 fn defects_and_a_stop(rt: HostRuntime) -> Result<(), Fail> {
-    let stopped = b"ROOT INODE UNALLOCATED\nALLOCATE? no\n\n".as_slice();
     for order in ORDERS {
-        let (end, text) = checked_with(order, (28930, 2, 3), rt.alloc())?;
-        same(&rt, &end, &End::Defects);
-        same(&rt, &text.starts_with(&REPORT[..163]), &true);
-        let (end, text) = checked_with(order, (28928, 2, 0), rt.alloc())?;
-        same(&rt, &end, &End::RootStop);
-        same(&rt, &text.ends_with(stopped), &true);
+        for &(number, end, begun, last) in &ENDS {
+            let found = ends_with(order, number, begun, last, rt.alloc())?;
+            same(&rt, &found, &(end, true));
+        }
     }
     Ok(())
 }

@@ -79,28 +79,15 @@ const TREE: [Words; 5] = [
     (40960, 1024, 40),
 ];
 
-/// Writes a word at a place.
-fn put_word(bytes: &mut [u8], place: usize, word: u64)
-    ensures { length bytes.new ≡ length bytes.old }
-{
-    put(Order::Little, bytes, &[(place, 4, word)]);
-}
-
-/// Writes a word so many times, one after the other.
-fn put_same(bytes: &mut [u8], place: usize, count: usize, word: u64)
-    ensures { length bytes.new ≡ length bytes.old }
-{
-    for k in 0..count {
-        put_word(bytes, place.saturating_add(k.saturating_mul(4)), word);
-    }
-}
-
 /// Writes words that are the same one after the other.
 fn put_words(bytes: &mut [u8], words: &[Words])
     ensures { length bytes.new ≡ length bytes.old }
 {
     for &(place, count, word) in words {
-        put_same(bytes, place, count, word);
+        for k in 0..count {
+            let at = place.saturating_add(k.saturating_mul(4));
+            put(Order::Little, bytes, &[(at, 4, word)]);
+        }
     }
 }
 
@@ -130,20 +117,20 @@ fn check_blocks<I: Image, W: Output>(
     Ok(())
 }
 
-/// What the block check prints.
+/// What comes of the block check, and what it prints.
 fn printed<I: Image>(
     geometry: &Geometry,
     image: &mut I,
     workspace: &mut Workspace,
     alloc: Global,
-) -> Result<Vec<u8>, RunFault>
+) -> (Result<(), RunFault>, Vec<u8>)
     requires { IsReady geometry.now.layout (I.device image.old) workspace.old }
 {
     let mut text = Vec::new(alloc);
     let mut out = Counted::new(&mut text);
     let mut report = Report::new(&mut out);
-    check_blocks(geometry, image, workspace, &mut report)?;
-    Ok(text)
+    let end = check_blocks(geometry, image, workspace, &mut report);
+    (end, text)
 }
 
 /// What the block check of an image gives, and how many Runs its two phases see.
@@ -155,10 +142,11 @@ fn checked<I: Image>(
     requires { geometry.now.layout.size * geometry.now.layout.fsize ≤ (I.device image.old).size }
 {
     let mut workspace = Workspace::new(alloc, geometry)?;
-    let text = printed(geometry, image, &mut workspace, alloc);
+    let (end, text) = printed(geometry, image, &mut workspace, alloc);
     let runs = workspace.runs();
     drop(workspace);
-    Ok((text?, runs))
+    end?;
+    Ok((text, runs))
 }
 
 /// The same of the image with these words, and how many reads it makes.

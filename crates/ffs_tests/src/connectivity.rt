@@ -35,21 +35,21 @@ static LOST: [Number; 4] = [
     (29168, 4, 7),
 ];
 
-/// What the connectivity check prints, and whether it found a defect.
+/// What comes of the connectivity check, what it prints, and whether it found a defect.
 fn printed<I: Image>(
     geometry: &Geometry,
     image: &mut I,
     workspace: &mut Workspace,
     alloc: Global,
-) -> Result<(Vec<u8>, bool), RunFault>
+) -> (Result<(), RunFault>, Vec<u8>, bool)
     requires { IsReady geometry.now.layout (I.device image.old) workspace.old }
 {
     let mut text = Vec::new(alloc);
     let mut out = Counted::new(&mut text);
     let mut report = Report::new(&mut out);
-    phase3(geometry, image, workspace, &mut report)?;
+    let end = phase3(geometry, image, workspace, &mut report);
     let defect = report.any_defect();
-    Ok((text, defect))
+    (end, text, defect)
 }
 
 /// The same of these directories.
@@ -57,9 +57,10 @@ fn reported(alloc: Global) -> Result<(Vec<u8>, bool), Fail> {
     let geometry = geometry(Order::Little)?;
     let mut image = image_of(Order::Little, &LOST, alloc)?;
     let mut workspace = surveyed(alloc, &geometry)?;
-    let found = printed(&geometry, &mut image, &mut workspace, alloc);
+    let (end, text, defect) = printed(&geometry, &mut image, &mut workspace, alloc);
     drop(workspace);
-    Ok(found?)
+    end?;
+    Ok((text, defect))
 }
 
 #[test]

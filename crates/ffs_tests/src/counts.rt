@@ -51,21 +51,21 @@ static INODES: [Number; 10] = [
     (29570, 2, 1),
 ];
 
-/// What the reference check prints.
+/// What comes of the reference check, and what it prints.
 fn printed<I: Image>(
     geometry: &Geometry,
     image: &mut I,
     workspace: &mut Workspace,
     alloc: Global,
-) -> Result<Vec<u8>, RunFault>
+) -> (Result<(), RunFault>, Vec<u8>)
     requires { IsReady geometry.now.layout (I.device image.old) workspace.old }
     ensures { IsFor geometry.now.layout workspace.new }
 {
     let mut text = Vec::new(alloc);
     let mut out = Counted::new(&mut text);
     let mut report = Report::new(&mut out);
-    phase4(geometry, image, workspace, &mut report)?;
-    Ok(text)
+    let end = phase4(geometry, image, workspace, &mut report);
+    (end, text)
 }
 
 /// The same of these inodes.
@@ -73,9 +73,10 @@ fn reported(alloc: Global) -> Result<Vec<u8>, Fail> {
     let geometry = geometry(Order::Big)?;
     let mut image = image_of(Order::Big, &INODES, alloc)?;
     let mut workspace = referred(alloc, &geometry)?;
-    let text = printed(&geometry, &mut image, &mut workspace, alloc);
+    let (end, text) = printed(&geometry, &mut image, &mut workspace, alloc);
     drop(workspace);
-    Ok(text?)
+    end?;
+    Ok(text)
 }
 
 #[test]
@@ -117,11 +118,12 @@ fn reported_after(alloc: Global) -> Result<Vec<u8>, Fail> {
     let mut others = image_of(Order::Big, &OTHERS, alloc)?;
     let mut image = image_of(Order::Big, &INODES, alloc)?;
     let mut workspace = referred(alloc, &geometry)?;
-    let before = printed(&geometry, &mut others, &mut workspace, alloc);
-    let text = printed(&geometry, &mut image, &mut workspace, alloc);
+    let (before, _) = printed(&geometry, &mut others, &mut workspace, alloc);
+    let (end, text) = printed(&geometry, &mut image, &mut workspace, alloc);
     drop(workspace);
     before?;
-    Ok(text?)
+    end?;
+    Ok(text)
 }
 
 /// A phase reads the image that it is given: the windows that another image was read into don't
@@ -183,20 +185,20 @@ fn check_groups<I: Image, W: Output>(
     summary(superblock, workspace, report)
 }
 
-/// What they print.
+/// What comes of them, and what they print.
 fn groups_printed<I: Image>(
     superblock: &Super,
     image: &mut I,
     workspace: &mut Workspace,
     alloc: Global,
-) -> Result<Vec<u8>, RunFault>
+) -> (Result<(), RunFault>, Vec<u8>)
     requires { IsReady superblock.now.geometry.layout (I.device image.old) workspace.old }
 {
     let mut text = Vec::new(alloc);
     let mut out = Counted::new(&mut text);
     let mut report = Report::new(&mut out);
-    check_groups(superblock, image, workspace, &mut report)?;
-    Ok(text)
+    let end = check_groups(superblock, image, workspace, &mut report);
+    (end, text)
 }
 
 /// What they print of the root's volume with one number more, where the superblock counts this many
@@ -211,9 +213,10 @@ fn counted(fragments: i32, number: Number, alloc: Global) -> Result<Vec<u8>, Fai
     };
     let mut image = volume_with(&ROOT, number, alloc)?;
     let mut workspace = Workspace::new(alloc, &superblock.geometry)?;
-    let text = groups_printed(&superblock, &mut image, &mut workspace, alloc);
+    let (end, text) = groups_printed(&superblock, &mut image, &mut workspace, alloc);
     drop(workspace);
-    Ok(text?)
+    end?;
+    Ok(text)
 }
 
 /// The headings of the two phases, the lines of defects, and the last line.

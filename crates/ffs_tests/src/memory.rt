@@ -41,9 +41,12 @@ fn counted(k: u64, alloc: Global) -> Result<(End, Vec<u8>, [u64; 2]), Fail> {
 fn each_request_refused(rt: HostRuntime) -> Result<(), Fail> {
     for k in 1..=REQUESTS {
         let (end, text, [refused, granted]) = counted(k, rt.alloc())?;
-        same(&rt, &end, &End::NoMemory);
         same(&rt, &text.as_slice(), &UNSTARTED);
-        same(&rt, &(refused, granted < HELD), &(1, true));
+        same(
+            &rt,
+            &(end, refused, granted < HELD),
+            &(End::NoMemory, 1, true),
+        );
     }
     Ok(())
 }

@@ -1,8 +1,11 @@
 //! The verdict on a plain entry, and whether a directory is in order, as a reader would work them out
 //! by hand.
 
+ghost use Rattle.ffs_pathnames.specs.Sees.{HasFlagAndWord};
+
 use crate::compare::same;
 use ffs_layout::Entry;
+use ffs_memory::FilledList;
 use ffs_pathnames::inodes::Inodes;
 use ffs_pathnames::verdict::{EntryDefects, Verdict, pass, second_verdict};
 use ffs_samples::numbers;
@@ -83,7 +86,23 @@ fn entries_of_the_root(rt: HostRuntime) -> Result<(), Fail> {
 }
 
 /// The verdict on a marked file, before two entries of the root are passed; those on a directory
-/// and on the file after it, and then the word of the directory.
+/// and on the file after it.
+fn in_turn(inodes: &Inodes<'_>, passed: &mut [bool], words: &mut FilledList<u32>) -> [Verdict; 3]
+    requires { HasFlagAndWord inodes.now passed.old words.old.items }
+{
+    let directory = entry(4, 4);
+    let file = entry(8, 8);
+    let first = second_verdict(inodes, 2, passed, words, &file);
+    pass(inodes, 2, passed, words, Role::Plain, &directory);
+    pass(inodes, 2, passed, words, Role::Plain, &file);
+    [
+        first,
+        second_verdict(inodes, 2, passed, words, &directory),
+        second_verdict(inodes, 2, passed, words, &file),
+    ]
+}
+
+/// The same of the root, and then the word of the directory.
 fn verdicts_in_turn(alloc: Global) -> Result<([Verdict; 3], u32), AllocError> {
     let parents = numbers(&PARENTS, alloc)?;
     let inodes = Inodes {
@@ -93,14 +112,8 @@ fn verdicts_in_turn(alloc: Global) -> Result<([Verdict; 3], u32), AllocError> {
     };
     let mut passed = [false; 9];
     let mut words = numbers(&[0, 0, 0, 0, due(7), 0, due(0), 0, 0], alloc)?;
-    let directory = entry(4, 4);
-    let file = entry(8, 8);
-    let first = second_verdict(&inodes, 2, &passed, &words, &file);
-    pass(&inodes, 2, &mut passed, &mut words, Role::Plain, &directory);
-    pass(&inodes, 2, &mut passed, &mut words, Role::Plain, &file);
-    let second = second_verdict(&inodes, 2, &passed, &words, &directory);
-    let third = second_verdict(&inodes, 2, &passed, &words, &file);
-    Ok(([first, second, third], words[4]))
+    let verdicts = in_turn(&inodes, &mut passed, &mut words);
+    Ok((verdicts, if words.len() > 4 { words[4] } else { 0 }))
 }
 
 /// The second entry of the root that names a directory is one too many; a marked file is reported

@@ -74,21 +74,21 @@ fn check_twice<I: Image, W: Output>(
     phase4(geometry, image, workspace, report)
 }
 
-/// What they print.
+/// What comes of them, and what they print.
 fn printed<I: Image>(
     geometry: &Geometry,
     image: &mut I,
     workspace: &mut Workspace,
     path: &mut PathText,
     alloc: Global,
-) -> Result<Vec<u8>, RunFault>
+) -> (Result<(), RunFault>, Vec<u8>)
     requires { IsReady geometry.now.layout (I.device image.old) workspace.old }
 {
     let mut text = Vec::new(alloc);
     let mut out = Counted::new(&mut text);
     let mut report = Report::new(&mut out);
-    check_twice(geometry, image, workspace, path, &mut report)?;
-    Ok(text)
+    let end = check_twice(geometry, image, workspace, path, &mut report);
+    (end, text)
 }
 
 /// The same of an image, with the path.
@@ -101,9 +101,10 @@ fn checked<I: Image>(
 {
     let mut path = PathText::new();
     let mut workspace = Workspace::new(alloc, geometry)?;
-    let text = printed(geometry, image, &mut workspace, &mut path, alloc);
+    let (end, text) = printed(geometry, image, &mut workspace, &mut path, alloc);
     drop(workspace);
-    Ok((text?, path))
+    end?;
+    Ok((text, path))
 }
 
 #[test]

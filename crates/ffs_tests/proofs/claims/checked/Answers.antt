@@ -1,7 +1,7 @@
 use Rattle.ffs_tests.proofs.claims.checked.Goals as goal
 
-pub printed-text-requires : goal.printed-text-requires
-printed-text-requires g c = record {
+pub printed-end-requires : goal.printed-end-requires
+printed-end-requires g c = record {
   made = c.in_ok-workspace.ensures.new.made;
   volume = c.requires;
 }
