@@ -195,7 +195,7 @@ impl Entries {
 
     /// Takes the next entry as `next` does, but doesn't stop the reading where a read fails.
     #[inline(always)]
-    fn advance<I: Image>(
+    pub(crate) fn advance<I: Image>(
         &mut self,
         image: &mut I,
         blocks: &mut Blocks,

@@ -122,9 +122,10 @@ impl<I: Image> Directories for DirectoryReader<'_, I> {
             Some(head) => return Ok(Some(head)),
             None => {}
         }
+        // The survey ends where a read fails, so the reading needn't be stopped there.
         let windows = &mut *self.windows;
         self.entries
-            .next(self.image, &mut windows.blocks, &mut windows.current)
+            .advance(self.image, &mut windows.blocks, &mut windows.current)
     }
 
     fn has_right_shape(&mut self) -> Result<bool, ImageFault> {
