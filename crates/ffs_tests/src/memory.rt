@@ -221,6 +221,10 @@ enum NumberCall {
     Fill(u32),
     /// Puts the part from an index up to another one in order.
     Sort(usize, usize),
+    /// How many numbers are touched.
+    Touched,
+    /// A number of those that are touched.
+    GetTouched(usize),
 }
 
 /// The answer of a call: 0 where it has none, and nothing where there is no such number or part.
@@ -241,6 +245,15 @@ fn number_answer(list: &mut FilledList<u32>, call: NumberCall) -> Option<u64> {
             list.sort_part(from, to);
             Some(0)
         }
+        NumberCall::Touched => Some(list.touched().len() as u64),
+        NumberCall::GetTouched(index) => {
+            let touched = list.touched();
+            if index < touched.len() {
+                Some(u64::from(touched[index]))
+            } else {
+                None
+            }
+        }
         _ => None,
     }
 }
@@ -259,10 +272,15 @@ fn number_answers(
     Ok(())
 }
 
-/// The last number of a thousand; those about 700 once it is set; 3 and 700 once 3 is set too.
-const NUMBERS: [(NumberCall, u64); 8] = [
+/// The last number of a thousand, of which none is touched; those about 700 once it is set, and how
+/// many are touched then; 3 and 700 once 3 is set too.
+const NUMBERS: [(NumberCall, u64); 12] = [
     (NumberCall::Get(999), 0),
+    (NumberCall::Touched, 0),
     (NumberCall::Set(700, 7), 0),
+    (NumberCall::Touched, 701),
+    (NumberCall::GetTouched(699), 0),
+    (NumberCall::GetTouched(700), 7),
     (NumberCall::Get(699), 0),
     (NumberCall::Get(700), 7),
     (NumberCall::Get(701), 0),
@@ -272,8 +290,8 @@ const NUMBERS: [(NumberCall, u64); 8] = [
 ];
 
 /// How many numbers a list has that is filled after 3 and 700 were set, and three of them; those
-/// about 1 once it is set.
-const FILLED: [(NumberCall, u64); 11] = [
+/// about 1, and what is touched, once it is set.
+const FILLED: [(NumberCall, u64); 14] = [
     (NumberCall::Set(700, 7), 0),
     (NumberCall::Set(3, 9), 0),
     (NumberCall::Fill(5), 0),
@@ -285,6 +303,9 @@ const FILLED: [(NumberCall, u64); 11] = [
     (NumberCall::Get(0), 5),
     (NumberCall::Get(1), 2),
     (NumberCall::Get(2), 5),
+    (NumberCall::Touched, 2),
+    (NumberCall::GetTouched(0), 5),
+    (NumberCall::GetTouched(1), 2),
 ];
 
 /// Eight numbers, of which the first four are set, after each of three parts was put in order.
