@@ -1,7 +1,7 @@
 -- Lists of which some elements are touched, and all others have one value.
-use Rattle.std.proofs.Common.{◌≡◌, ◌<◌, ◌+◌, ◌-◌, ◌++◌, ◌∷◌, ◌∙◌, [], ℕ, zero, suc, List, ap, arith, get_or, inl, inr, length, min}
+use Rattle.std.proofs.Common.{◌≡◌, ◌<◌, ◌≤◌, ◌+◌, ◌-◌, ◌++◌, ◌∷◌, ◌∙◌, [], ℕ, zero, suc, List, ap, arith, get_or, inl, inr, length, min}
 use Rattle.std.proofs.Common.{refl, replicate, slice_set, sym, vec_len}
-use Rattle.std.proofs.lemmas.List.{append_assoc, get_or-append_right, length-append, length-replicate}
+use Rattle.std.proofs.lemmas.List.{append_assoc, get_or-append_right, get_or-replicate, length-append, length-replicate}
 use Rattle.std.proofs.lemmas.List.{replicate-append-replicate, set-append_left}
 use Rattle.std.proofs.{Math.{ListN.get_or-append, Seq.set-append_seam}, lemmas.Bool.cases_lt}
 use Rattle.std.specs.{Prelude.vec_capacity, declared.{vec.Vec.Vec, alloc.Global.Global}}
@@ -22,6 +22,11 @@ module _ {A : Type 0} where
   pub first_filled : (touched : Vec A Global) (n : ℕ) (x d : A) (k : ℕ) → k < length touched.items →
       get_or (touched.items ++ replicate n x) k d ≡ get_or touched.items k d
   first_filled touched n x d k low = get_or-append touched.items (replicate n x) d k low
+
+  -- all others are alike
+  pub rest_filled : (touched : Vec A Global) (n : ℕ) (x d : A) (k : ℕ) → length touched.items ≤ k →
+      k < length touched.items + n → get_or (touched.items ++ replicate n x) k d ≡ x
+  rest_filled touched n x d k high low = grind (arith, get_or-append_right, get_or-replicate)
 
   -- the element at a touched index is set
   pub set_filled : (touched : Vec A Global) (index n : ℕ) (x y : A) → index < vec_len touched →

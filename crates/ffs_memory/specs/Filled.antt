@@ -1,5 +1,5 @@
 -- What a list shows, and what a call leaves of it; some lists hold one value until another is set.
-use Rattle.std.specs.Prelude.{◌≡◌, ◌<◌, ◌≤◌, ◌+◌, ◌++◌, ◌-◌, ℕ, List, drop, length, min, replicate, slice_set, take, vec_capacity}
+use Rattle.std.specs.Prelude.{◌≡◌, ◌<◌, ◌≤◌, ◌+◌, ◌++◌, ◌-◌, ℕ, Bool, false, true, List, drop, length, min, replicate, slice_set, take, vec_capacity}
 use Rattle.std.{specs.List.{slice_index_or, Sorted.{IsNonDecreasing, IsPermutation}}, proofs.Common.{ap, sym, ◌∙◌, length-append}}
 use Rattle.std.{proofs.{Math.Nat.{add-sub_of_le, le_refl}, lemmas.List.length-replicate}, specs.Prelude.vec_len}
 use Rattle.std.specs.{Vec.vec_ptr, declared.{vec.Vec.Vec, alloc.Global.Global}}
@@ -48,6 +48,11 @@ module _ {A : Type 0} where
     pub items : new.items ≡ replicate (vec_len old) x
     pub len : vec_len new ≡ vec_len old
     pub room : vec_capacity new ≡ vec_capacity old
+
+-- whether a flag from one index to before another is true
+pub record IsAnyTrue (flags : List Bool) (from to : ℕ) (any : Bool) : Type 0 where
+  pub none : any ≡ false → (k : ℕ) → from ≤ k → k < to → slice_index_or flags k false ≡ false
+  pub some : any ≡ true → ((k : ℕ) → from ≤ k → k < to → slice_index_or flags k false ≡ false) → ⊥
 
 -- each number above the most becomes that
 pub record LimitsItems (old new : List ℕ) (most : ℕ) : Type 0 where

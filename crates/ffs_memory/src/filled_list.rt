@@ -1,6 +1,6 @@
 //! Lists that hold one value until another is set.
 ghost use Rattle.std.specs.Prelude.{◌≡◌, ◌<◌, ◌≤◌, slice_index_or, vec_len};
-ghost use Rattle.ffs_memory.specs.Filled.{AreFirst, filled, Limits, LimitsItems, Sets, SetsAll, SortsPart};
+ghost use Rattle.ffs_memory.specs.Filled.{AreFirst, filled, IsAnyTrue, Limits, LimitsItems, Sets, SetsAll, SortsPart};
 
 use crate::touching::touch;
 use std::marker::Model;
@@ -46,7 +46,7 @@ impl<T: Copy> FilledList<T> {
         self.touched.capacity()
     }
 
-    /// The elements up to the last one that was set. There may be more, all of one value.
+    /// The elements up to the last one that was set. The list may have more, all of one value.
     #[inline(always)]
     #[tactic(auto, using(crate::proofs::Touched::first_filled))]
     pub fn touched(&self) -> &[T]
@@ -99,6 +99,24 @@ impl FilledList<u64> {
     {
         limit_items(&mut self.touched, most);
         self.untouched = self.untouched.min(most);
+    }
+}
+
+impl FilledList<bool> {
+    /// Whether an element from one index to before another is true: a loop without exit over those
+    /// that are touched. All others are alike.
+    #[inline(always)]
+    #[tactic(auto, using(crate::proofs::Touched::first_filled, crate::proofs::Touched::rest_filled))]
+    pub fn is_any_true(&self, from: usize, to: usize) -> bool
+        requires { to ≤ vec_len self.now }
+        ensures { IsAnyTrue self.now.items from to result }
+    {
+        let flags = self.touched.as_slice();
+        let mut any = self.untouched && from.max(flags.len()) < to;
+        for index in from..to.min(flags.len()) {
+            any |= flags[index];
+        }
+        any
     }
 }
 

@@ -72,7 +72,7 @@ impl<M: Memory> Memory for FuseMemory<M> {
         self.inner.bytes(n)
     }
 
-    fn flags(&mut self, n: usize) -> Result<FixedList<bool>, AllocError>
+    fn flags(&mut self, n: usize) -> Result<FilledList<bool>, AllocError>
         ensures given { Gives (⟦<FuseMemory<M> as Memory>⟧.account self.old)
             (⟦<FuseMemory<M> as Memory>⟧.account self.new) n n false result }
         ensures fuse { BurnsAtRequest M.account self.old self.new n result }

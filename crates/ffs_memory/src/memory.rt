@@ -28,11 +28,12 @@ pub trait Memory {
     fn bytes(&mut self, n: usize) -> Result<FixedList<u8>, AllocError>
         ensures { Gives (account self.old) (account self.new) n n 0 result };
 
-    /// Grants `n` flags of a byte each, all false.
+    /// Grants `n` flags of a byte each, all false: their memory is taken at once, and none of it is
+    /// written yet.
     ///
     /// # Errors
     /// The memory was refused.
-    fn flags(&mut self, n: usize) -> Result<FixedList<bool>, AllocError>
+    fn flags(&mut self, n: usize) -> Result<FilledList<bool>, AllocError>
         ensures { Gives (account self.old) (account self.new) n n false result };
 
     /// Grants `n` numbers of 32 bits, each 0: their memory is taken at once, and none of it is

@@ -69,8 +69,8 @@ impl Memory for SystemMemory {
         self.written(n, 0)
     }
 
-    fn flags(&mut self, n: usize) -> Result<FixedList<bool>, AllocError> {
-        self.written(n, false)
+    fn flags(&mut self, n: usize) -> Result<FilledList<bool>, AllocError> {
+        self.unwritten(n, false)
     }
 
     fn numbers(&mut self, n: usize) -> Result<FilledList<u32>, AllocError> {
