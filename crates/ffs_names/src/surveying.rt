@@ -10,7 +10,7 @@ use crate::entries::Entries;
 use crate::reader::DirectoryReader;
 use ffs_image::{Image, ImageFault, LimitedImage};
 use ffs_layout::Geometry;
-use ffs_survey::{KnownInodes, NumberLists};
+use ffs_survey::{FoundLists, KnownInodes};
 use ffs_workspace::{Workspace, sweep_reads};
 
 /// As `survey`, of a workspace that has none yet, with no limit on reads.
@@ -43,19 +43,15 @@ fn survey_unlimited<I: Image>(
         kinds: &workspace.kinds,
         marked: &workspace.marked,
     };
-    let mut numbers = NumberLists {
+    let mut found = FoundLists {
         references: &mut workspace.references,
+        named: &mut workspace.named,
+        reached: &mut workspace.reached,
         parents: &mut workspace.parents,
+        calm: &mut workspace.flags,
         queue: &mut workspace.queue,
     };
-    let surveyed = ffs_survey::survey(
-        &mut reader,
-        &inodes,
-        &mut numbers,
-        &mut workspace.named,
-        &mut workspace.reached,
-        &mut workspace.flags,
-    );
+    let surveyed = ffs_survey::survey(&mut reader, &inodes, &mut found);
     // No place of a parent entry is noted yet.
     workspace.queue.fill(0);
     workspace.surveyed = surveyed.is_ok();

@@ -8,7 +8,7 @@ use Rattle.ffs_survey.specs.declared.{lists.Lists.Lists, directories.Directories
 pub same_kinds : {old new : Lists} → SameLists old new → new.kinds.now ≡ old.kinds.now
 same_kinds same = ap (λ l. l.kinds) same.lent
 
-pub same_marks : {old new : Lists} → SameLists old new → new.marked.now ≡ old.marked.now
+pub same_marks : {old new : Lists} → SameLists old new → new.marked.now.items ≡ old.marked.now.items
 same_marks same = ap (λ l. l.marked) same.lent
 
 pub kinds_long : {old new : Lists} → SameLists old new → length new.kinds.now ≡ length old.kinds.now

@@ -29,7 +29,7 @@ pub record AtSomeLevel (g : Graph) (low high : ℕ) (reached : List Bool) (paren
 
 -- the queue has fewer than 2^31 places, so no count is past 2^59
 pub few_counted : (l : Lists) {low high : ℕ} →
-    HasRoomForLevel low high l.references.now.items l.reached.now l.queue.now.items → CountsAtMost (2 ^ 59) l
+    HasRoomForLevel low high l.references.now.items l.reached.now.items l.queue.now.items → CountsAtMost (2 ^ 59) l
 few_counted l r x b =
     let counted = r.counted x (omega (arith, b, l.long.references_long)) in
     omega (arith, r.ordered, r.room, l.long.queue_long, l.long.few, counted)
@@ -44,10 +44,10 @@ level_reached entries root level i d l = record {
 }
 
 pub next_room : {here mid : Lists} {new : Vec ℕ Global} {low high end : ℕ} {reads : Found → Found → Type 0} →
-    SameLists here mid → HasRoomForLevel low high here.references.now.items here.reached.now here.queue.now.items →
+    SameLists here mid → HasRoomForLevel low high here.references.now.items here.reached.now.items here.queue.now.items →
     Discovers ((high - low) * 2 ^ 28) high end reads (found_up_to here high) (found_up_to mid end) →
     SortsPart mid.queue.now new high end →
-    HasRoomForLevel high end mid.references.now.items mid.reached.now new.items
+    HasRoomForLevel high end mid.references.now.items mid.reached.now.items new.items
 next_room {here = here} {mid = mid} {new = new} {high = high} {end = end} same room found sorted =
     grind (arith, kinds_long, queue_long)
 

@@ -76,7 +76,9 @@ pub record CanFlagLeaders (parents walk_of : List ℕ) (leaders : List Bool) : T
   pub walks : length walk_of ≡ length parents
   pub leaders_long : length leaders ≡ length parents
 
--- each number that is the least on a cycle of parents is flagged, and the list of walks keeps its length
-pub record FlagsEachLeader (parents : List ℕ) (walk_of walk_of' : Vec ℕ Global) (leaders : List Bool) : Type 0 where
-  pub leads : (x : ℕ) → bool_at leaders x ≡ is_leader_within (parent_in parents) (length parents) x
+-- each number that is the least on a cycle of parents is flagged, and both lists keep their lengths
+pub record FlagsEachLeader (parents : List ℕ) (walk_of walk_of' : Vec ℕ Global) (leaders leaders' : Vec Bool Global)
+    : Type 0 where
+  pub leads : (x : ℕ) → bool_at leaders'.items x ≡ is_leader_within (parent_in parents) (length parents) x
   pub walks_long : vec_len walk_of' ≡ vec_len walk_of
+  pub leaders_long : vec_len leaders' ≡ vec_len leaders

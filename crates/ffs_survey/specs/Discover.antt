@@ -67,6 +67,7 @@ any_of g ss x = list_any (λ s. is_naming_dir g s x) ss
 pub record IsCounted (n : ℕ) (e : RoledEntry) (references : List ℕ) (named : List Bool) (references' : List ℕ)
     (named' : List Bool) : Type 0 where
   pub long : length references' ≡ length references
+  pub named_long : length named' ≡ length named
   pub counts : (x : ℕ) → x < n → number_at references' x ≡ number_at references x + bit (refers x e)
   pub names : (x : ℕ) → x < n → bool_at named' x ≡ (bool_at named x || is_naming_entry x e)
 

@@ -3,7 +3,7 @@ use Rattle.std.specs.{Prelude.{◌≡◌, ℕ, ◌+◌, ◌^◌, ◌<◌, ◌≤
 use Rattle.std.specs.Prelude.{vec_len, true, false, ◌==◌, ◌&&◌, cond, OnOk, [], ◌∷◌}
 use Rattle.ffs_image.specs.{Reads.ReadAfter, declared.image.ImageFault.ImageFault}
 use Rattle.ffs_volume.specs.Directories.{Graph.is_naming_entry, Roles.RoledEntry}
-use Rattle.ffs_survey.specs.declared.lists.{Lists.Lists, KnownInodes.KnownInodes, NumberLists.NumberLists}
+use Rattle.ffs_survey.specs.declared.lists.{Lists.Lists, FoundLists.FoundLists, KnownInodes.KnownInodes}
 use Rattle.ffs_survey.specs.declared.lists.{CurrentDir.CurrentDir as LentDir}
 use Rattle.ffs_survey.specs.{declared.directories.Directories.Ghosts, Survey.{number_at, bool_at, graph_with}}
 use Rattle.ffs_survey.specs.Survey.{most_start}
@@ -17,12 +17,12 @@ use Rattle.ffs_survey.specs.{Discover.{is_unreached_dir, unset}, Levels.ReadsUnr
 abbrev pub all_found : Lists → Found
 all_found l = record {
   kinds = l.kinds.now;
-  marked = l.marked.now;
+  marked = l.marked.now.items;
   references = l.references.now.items;
-  named = l.named.now;
-  reached = l.reached.now;
+  named = l.named.now.items;
+  reached = l.reached.now.items;
   parents = l.parents.now.items;
-  calm = l.calm.now;
+  calm = l.calm.now.items;
   queue = l.queue.now.items;
 }
 
@@ -30,26 +30,26 @@ all_found l = record {
 abbrev pub found_up_to : Lists → ℕ → Found
 found_up_to l end = record (all_found l) { queue = take end l.queue.now.items }
 
--- what lists hold that are lent one by one
-abbrev pub found_by : KnownInodes → NumberLists → List Bool → List Bool → List Bool → Found
-found_by i n named reached calm = record {
+-- what the lists hold, with what is known of the inodes
+abbrev pub found_by : KnownInodes → FoundLists → Found
+found_by i l = record {
   kinds = i.kinds.now;
-  marked = i.marked.now;
-  references = n.references.now.items;
-  named = named;
-  reached = reached;
-  parents = n.parents.now.items;
-  calm = calm;
-  queue = n.queue.now.items;
+  marked = i.marked.now.items;
+  references = l.references.now.items;
+  named = l.named.now.items;
+  reached = l.reached.now.items;
+  parents = l.parents.now.items;
+  calm = l.calm.now.items;
+  queue = l.queue.now.items;
 }
 
 -- the current directory, by the lists
 abbrev pub current_in : Lists → ℕ → ℕ → CurrentDir
-current_in l dir parent = record { kinds = l.kinds.now; marked = l.marked.now; dir = dir; parent = parent }
+current_in l dir parent = record { kinds = l.kinds.now; marked = l.marked.now.items; dir = dir; parent = parent }
 
 -- the current directory, as a call is lent it
 abbrev pub current_of : LentDir → CurrentDir
-current_of s = record { kinds = s.kinds.now; marked = s.marked.now; dir = s.dir; parent = s.parent }
+current_of s = record { kinds = s.kinds.now; marked = s.marked.now.items; dir = s.dir; parent = s.parent }
 
 -- what is lent: the kinds and the marks, and the lists by their names
 pub record Lent : Type 0 where
@@ -65,7 +65,7 @@ pub record Lent : Type 0 where
 abbrev pub lent_in : Lists → Lent
 lent_in l = record {
   kinds = l.kinds.now;
-  marked = l.marked.now;
+  marked = l.marked.now.items;
   references = l.references.ghost_name;
   named = l.named.ghost_name;
   reached = l.reached.ghost_name;
@@ -82,30 +82,36 @@ pub record SameLists (old new : Lists) : Type 0 where
 pub record KeepsCounts (old new : Lists) : Type 0 where
   pub same : SameLists old new
   pub references : new.references.now.items ≡ old.references.now.items
-  pub named : new.named.now ≡ old.named.now
-  pub calm : new.calm.now ≡ old.calm.now
+  pub named : new.named.now.items ≡ old.named.now.items
+  pub calm : new.calm.now.items ≡ old.calm.now.items
 
 -- reached and calm directories stay as they are
 pub record KeepsReached (old new : Lists) : Type 0 where
-  pub reached : new.reached.now ≡ old.reached.now
-  pub calm : new.calm.now ≡ old.calm.now
+  pub reached : new.reached.now.items ≡ old.reached.now.items
+  pub calm : new.calm.now.items ≡ old.calm.now.items
 
 -- the entry e gives the parent d to a directory that it names, if that isn't reached and has none yet.
 -- Parents and the queue alone may change
 pub record Adopts (d : ℕ) (e : RoledEntry) (old new : Lists) : Type 0 where
   pub parent : (x : ℕ) → x < length old.kinds.now → number_at new.parents.now.items x
-      ≡ cond ((number_at old.parents.now.items x == 0) && (is_unreached_dir old.kinds.now old.reached.now x
+      ≡ cond ((number_at old.parents.now.items x == 0) && (is_unreached_dir old.kinds.now old.reached.now.items x
       && is_naming_entry x e)) d (number_at old.parents.now.items x)
   pub counts : KeepsCounts old new
   pub kept : KeepsReached old new
 
--- a call leaves the lists of numbers that it was lent, and each has the length that it had
-pub record SameNumbers (old new : NumberLists) : Type 0 where
+-- a call leaves the lists that it was lent, and each has the length that it had
+pub record KeepsLists (old new : FoundLists) : Type 0 where
   pub references : new.references.ghost_name ≡ old.references.ghost_name
+  pub named : new.named.ghost_name ≡ old.named.ghost_name
+  pub reached : new.reached.ghost_name ≡ old.reached.ghost_name
   pub parents : new.parents.ghost_name ≡ old.parents.ghost_name
+  pub calm : new.calm.ghost_name ≡ old.calm.ghost_name
   pub queue : new.queue.ghost_name ≡ old.queue.ghost_name
   pub references_long : vec_len new.references.now ≡ vec_len old.references.now
+  pub named_long : vec_len new.named.now ≡ vec_len old.named.now
+  pub reached_long : vec_len new.reached.now ≡ vec_len old.reached.now
   pub parents_long : vec_len new.parents.now ≡ vec_len old.parents.now
+  pub calm_long : vec_len new.calm.now ≡ vec_len old.calm.now
   pub queue_long : vec_len new.queue.now ≡ vec_len old.queue.now
 
 -- no inode has more than `most` references
@@ -114,7 +120,7 @@ CountsAtMost most l = (x : ℕ) → x < length l.kinds.now → number_at l.refer
 
 -- the queue has room after `top` for each inode that isn't reached
 abbrev pub HasRoomAfter : ℕ → Lists → Type 0
-HasRoomAfter top l = top + unset l.reached.now ≤ length l.queue.now.items
+HasRoomAfter top l = top + unset l.reached.now.items ≤ length l.queue.now.items
 
 -- what an entry of this directory names can be discovered: its kinds are those of the lists, and the queue
 -- has room
@@ -125,7 +131,7 @@ pub record CanVisit (current : LentDir) (top : ℕ) (l : Lists) : Type 0 where
 -- what the entry e of the directory d names is discovered: the queue, which ended at `top`, keeps what
 -- it had and ends at `end`, with what is newly reached; nothing is counted
 pub record Visits (d : ℕ) (e : RoledEntry) (top end : ℕ) (old new : Lists) : Type 0 where
-  pub ends : end + unset new.reached.now ≡ top + unset old.reached.now
+  pub ends : end + unset new.reached.now.items ≡ top + unset old.reached.now.items
   pub discovered : AreDiscovered (from_entries old.kinds.now d (e ∷ [])) (found_up_to old top) (found_up_to new end)
   pub extends : Extends top end old.queue.now.items new.queue.now.items
   pub counts : KeepsCounts old new
@@ -138,18 +144,18 @@ module _ {S : Type 0} (D : Ghosts S) where
       (b : List ℕ) → D.knows (D.base reader) b → P (D.entries (D.base reader) b) (D.right_shape (D.base reader) b)
 
   -- the reader is ready, and these lists have an entry for every inode
-  pub record CanSurvey (reader : S) (i : KnownInodes) (n : NumberLists) (named reached calm : List Bool) : Type 0 where
+  pub record CanSurvey (reader : S) (i : KnownInodes) (l : FoundLists) : Type 0 where
     pub ready : D.ready reader
-    pub lists : AreLists (found_by i n named reached calm)
+    pub lists : AreLists (found_by i l)
 
   -- the reader is ready, nothing is found yet, and no count of references is past the greatest start
   pub record CanBegin (reader : S) (l : Lists) : Type 0 where
     pub ready : D.ready reader
     pub starts : (x : ℕ) → number_at l.references.now.items x ≤ most_start
-    pub named : (x : ℕ) → bool_at l.named.now x ≡ false
-    pub reached : (x : ℕ) → bool_at l.reached.now x ≡ false
+    pub named : (x : ℕ) → bool_at l.named.now.items x ≡ false
+    pub reached : (x : ℕ) → bool_at l.reached.now.items x ≡ false
     pub parents : (x : ℕ) → number_at l.parents.now.items x ≡ 0
-    pub calm : (x : ℕ) → bool_at l.calm.now x ≡ false
+    pub calm : (x : ℕ) → bool_at l.calm.now.items x ≡ false
 
   -- the reader is ready, and no inode has more than `most` references
   pub record CanCount (most : ℕ) (reader : S) (l : Lists) : Type 0 where
@@ -168,7 +174,7 @@ module _ {S : Type 0} (D : Ghosts S) where
     pub can : CanReach (2 ^ 59) high reader l
     pub ordered : low ≤ high
     pub reached : (b : List ℕ) → D.knows (D.base reader) b
-        → All (IsReachedDir l.kinds.now l.reached.now) (drop low (take high l.queue.now.items))
+        → All (IsReachedDir l.kinds.now l.reached.now.items) (drop low (take high l.queue.now.items))
 
   -- a call leaves the reader ready over the same base, and only reads the image, at most as often as
   -- `cost` says by what each directory costs
@@ -207,6 +213,7 @@ module _ {S : Type 0} (D : Ghosts S) where
       (result : Result T ImageFault) : Type 0 where
     pub flagged : OnOk result ((b : List ℕ) → D.knows (D.base old) b → D.ended old b
         → IsFlagged d all_calm (D.right_shape_so_far old b) flags flags')
+    pub long : length flags' ≡ length flags
     pub is_ready : D.ready new
     pub same : D.base new ≡ D.base old
     pub read : ReadAfter (D.device old) (D.device new) result
@@ -218,11 +225,11 @@ module _ {S : Type 0} (D : Ghosts S) where
   pub record ReadsEachReached (old new : S) (l l' : Lists) : Type 0 where
     pub counts : CountsAtMost (2 ^ 59) l'
     pub part : ForKnown old (λ entries right_shape. IsReachedPart (graph_with l.kinds.now entries)
-        l.references.now.items l'.references.now.items l'.named.now l'.reached.now l'.parents.now.items)
-    pub calm : ForKnown old (λ entries right_shape. AreCalm l.kinds.now l.marked.now l'.reached.now
-        l'.parents.now.items entries right_shape l'.calm.now)
+        l.references.now.items l'.references.now.items l'.named.now.items l'.reached.now.items l'.parents.now.items)
+    pub calm : ForKnown old (λ entries right_shape. AreCalm l.kinds.now l.marked.now.items l'.reached.now.items
+        l'.parents.now.items entries right_shape l'.calm.now.items)
     pub read : ForKnown old (λ entries right_shape. (d : ℕ) → dir_at l.kinds.now d ≡ true
-        → bool_at l'.reached.now d ≡ true → IsReadOnce (dir_by l.kinds.now l.marked.now l'.parents.now.items d)
-        l'.reached.now l'.parents.now.items (entries d) (right_shape d) l'.calm.now)
+        → bool_at l'.reached.now.items d ≡ true → IsReadOnce (dir_by l.kinds.now l.marked.now.items l'.parents.now.items d)
+        l'.reached.now.items l'.parents.now.items (entries d) (right_shape d) l'.calm.now.items)
     pub once : (b : List ℕ) → D.knows (D.base old) b → D.reads new ≤ D.reads old
-        + costs_below (bool_at l'.reached.now) (D.cost (D.base old) b) (length l.kinds.now)
+        + costs_below (bool_at l'.reached.now.items) (D.cost (D.base old) b) (length l.kinds.now)

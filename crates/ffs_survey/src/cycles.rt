@@ -62,9 +62,13 @@ fn least_on(found: u32, parents: &FilledList<u32>) -> u32
 /// the list, is none. Each number is passed once or twice, so the time is linear in their count.
 /// What `walk_of` and `leaders` held before is forgotten.
 #[tactic(auto, using(crate::proofs::Walks::past_leader))]
-pub fn flag_leaders(parents: &FilledList<u32>, walk_of: &mut FilledList<u32>, leaders: &mut [bool])
-    requires { CanFlagLeaders parents.now.items walk_of.old.items leaders.old }
-    ensures { FlagsEachLeader parents.now.items walk_of.old walk_of.new leaders.new }
+pub fn flag_leaders(
+    parents: &FilledList<u32>,
+    walk_of: &mut FilledList<u32>,
+    leaders: &mut FilledList<bool>,
+)
+    requires { CanFlagLeaders parents.now.items walk_of.old.items leaders.old.items }
+    ensures { FlagsEachLeader parents.now.items walk_of.old walk_of.new leaders.old leaders.new }
 {
     walk_of.fill(0);
     leaders.fill(false);
@@ -75,6 +79,6 @@ pub fn flag_leaders(parents: &FilledList<u32>, walk_of: &mut FilledList<u32>, le
         let Some(found) = walk(start, parents, walk_of) else {
             continue;
         };
-        leaders[least_on(found, parents) as usize] = true;
+        leaders.set(least_on(found, parents) as usize, true);
     }
 }

@@ -20,10 +20,15 @@ use ffs_volume::constants::{DT_DIR, DT_WHT, EMPTY_DIR_KIND, ROOTINO, UNKNOWN_KIN
 
 /// Counts an entry for the inode whose number it carries, and flags that inode as named where the
 /// entry is plain.
-fn count_entry(entry: EntryHead, kinds: &[u8], references: &mut FilledList<u64>, named: &mut [bool])
-    requires { CountLists kinds.now references.old.items named.old entry.number }
-    ensures { IsCounted (length kinds.now) (roled_of entry []) references.old.items named.old
-        references.new.items named.new }
+fn count_entry(
+    entry: EntryHead,
+    kinds: &[u8],
+    references: &mut FilledList<u64>,
+    named: &mut FilledList<bool>,
+)
+    requires { CountLists kinds.now references.old.items named.old.items entry.number }
+    ensures { IsCounted (length kinds.now) (roled_of entry []) references.old.items named.old.items
+        references.new.items named.new.items }
 {
     let number = entry.number as usize;
     if !is_counted(entry.role) || number >= kinds.len() {
@@ -32,7 +37,7 @@ fn count_entry(entry: EntryHead, kinds: &[u8], references: &mut FilledList<u64>,
     let count = references[number];
     references.set(number, count + 1);
     if is_plain(entry.role) {
-        named[number] = true;
+        named.set(number, true);
     }
 }
 
@@ -40,7 +45,7 @@ fn count_entry(entry: EntryHead, kinds: &[u8], references: &mut FilledList<u64>,
 /// `lists`: a loop takes it from there once.
 pub fn is_unreached_dir(kinds: &[u8], lists: &Lists, number: usize) -> bool
     requires { kinds.now ≡ lists.now.kinds.now }
-    ensures { result ≡ is_unreached_dir_at lists.now.kinds.now lists.now.reached.now number }
+    ensures { result ≡ is_unreached_dir_at lists.now.kinds.now lists.now.reached.now.items number }
 {
     is_dir(kinds, number) && !lists.reached[number]
 }
@@ -49,7 +54,7 @@ pub fn is_unreached_dir(kinds: &[u8], lists: &Lists, number: usize) -> bool
 fn is_new(entry: EntryHead, kinds: &[u8], lists: &Lists) -> bool
     requires { kinds.now ≡ lists.now.kinds.now }
     ensures { result ≡ (is_plain_role entry.role
-        && is_unreached_dir_at lists.now.kinds.now lists.now.reached.now entry.number) }
+        && is_unreached_dir_at lists.now.kinds.now lists.now.reached.now.items entry.number) }
 {
     is_plain(entry.role) && is_unreached_dir(kinds, lists, entry.number as usize)
 }
@@ -65,7 +70,7 @@ fn visit(entry: EntryHead, current: &CurrentDir, lists: &mut Lists, top: usize) 
         return top;
     }
     let number = entry.number as usize;
-    lists.reached[number] = true;
+    lists.reached.set(number, true);
     lists.parents.set(number, current.dir);
     lists.queue.set(top, entry.number);
     top + 1
@@ -88,8 +93,8 @@ fn is_calm_kind(kind: u8, reached: bool) -> bool
 /// Whether nothing can be reported of a plain entry: a whiteout, or one that names an inode.
 fn is_calm_plain(entry: EntryHead, current: &CurrentDir, lists: &Lists) -> bool
     requires { current.now.kinds.now ≡ lists.now.kinds.now }
-    ensures { result ≡ is_calm_plain current.now.kinds.now current.now.marked.now
-        (bool_at lists.now.reached.now) entry.number entry.kind }
+    ensures { result ≡ is_calm_plain current.now.kinds.now current.now.marked.now.items
+        (bool_at lists.now.reached.now.items) entry.number entry.kind }
 {
     let number = entry.number as usize;
     if number >= current.kinds.len() {
@@ -106,7 +111,7 @@ fn is_calm_plain(entry: EntryHead, current: &CurrentDir, lists: &Lists) -> bool
 /// Whether nothing can be reported of the entry at an index of the current directory.
 fn is_calm_entry(entry: EntryHead, index: u32, current: &CurrentDir, lists: &Lists) -> bool
     requires { current.now.kinds.now ≡ lists.now.kinds.now }
-    ensures { result ≡ is_calm_entry (current_of current.now) (bool_at lists.now.reached.now) index
+    ensures { result ≡ is_calm_entry (current_of current.now) (bool_at lists.now.reached.now.items) index
         (roled_of entry []) }
 {
     match entry.role {
@@ -125,18 +130,18 @@ fn flag_calm<D: Directories>(
     from: u32,
     calm_so_far: bool,
     count: u32,
-    calm: &mut [bool],
+    calm: &mut FilledList<bool>,
 ) -> Result<(), ImageFault>
     requires { D.ready directories.old }
     ensures { FlagsIfCalm D.Directories from (calm_so_far && nat_le 2 count) directories.old
-        directories.new calm.old calm.new result }
+        directories.new calm.old.items calm.new.items result }
 {
     let number = from as usize;
     if !calm_so_far || count < 2 || number >= calm.len() {
         return Ok(());
     }
     if directories.has_right_shape()? {
-        calm[number] = true;
+        calm.set(number, true);
     }
     Ok(())
 }

@@ -22,6 +22,6 @@ pub use cycles::flag_leaders;
 pub use directories::Directories;
 pub use entry_head::{EntryHead, is_plain};
 pub use levels::survey;
-pub use lists::{KnownInodes, NumberLists, Surveyed};
+pub use lists::{FoundLists, KnownInodes, Surveyed};
 pub use numbers::is_dir;
 pub use unref::{is_dead, is_suspect, is_unref};

@@ -1,5 +1,5 @@
 //! The lists of a survey.
-ghost use Rattle.std.specs.Prelude.{◌≡◌, length};
+ghost use Rattle.std.specs.Prelude.{◌≡◌, length, vec_len};
 ghost use Rattle.ffs_survey.specs.Lists.{AreLists, AreSurveyed};
 
 use ffs_memory::FilledList;
@@ -10,50 +10,55 @@ pub struct KnownInodes<'kinds, 'marked> {
     /// What each inode is: `DT_DIR` for a directory, but `EMPTY_DIR_KIND` for one of size 0.
     pub kinds: &'kinds [u8],
     /// Whether each inode is marked.
-    pub marked: &'marked [bool],
+    pub marked: &'marked FilledList<bool>,
 }
 
-/// The lists of numbers that a survey fills, lent together.
+/// The lists that a survey fills, lent together. Each has an entry for every inode.
 #[derive(Drop)]
-pub struct NumberLists<'a> {
+pub struct FoundLists<'a> {
     /// How many entries refer to each inode, added to the number that the list had at first: the
     /// *start* of the inode.
     pub references: &'a mut FilledList<u64>,
+    /// Whether a plain entry names each inode.
+    pub named: &'a mut FilledList<bool>,
+    /// Whether each inode is reached from inode 2.
+    pub reached: &'a mut FilledList<bool>,
     /// The parent of each directory, 0 for none.
     pub parents: &'a mut FilledList<u32>,
+    /// Whether each inode is a directory of which nothing can be reported.
+    pub calm: &'a mut FilledList<bool>,
     /// The directories that are reached, level after level.
     pub queue: &'a mut FilledList<u32>,
 }
 
-/// The lists of a survey, lent together: it goes by the first two, and fills the others. Each has
-/// an entry for every inode. There are more than two inodes, and fewer than 2^31.
+/// The lists of a survey, lent together: it goes by the first two, and fills the others. There are
+/// more than two inodes, and fewer than 2^31.
 #[derive(Drop)]
-pub struct Lists<'kinds, 'marked, 'named, 'reached, 'calm, 'lists> {
+pub struct Lists<'kinds, 'marked, 'lists> {
     /// What each inode is: `DT_DIR` for a directory, but `EMPTY_DIR_KIND` for one of size 0.
     pub kinds: &'kinds [u8],
     /// Whether each inode is marked.
-    pub marked: &'marked [bool],
-    /// How many entries refer to each inode, added to the number that the list had at first: the
-    /// *start* of the inode.
+    pub marked: &'marked FilledList<bool>,
+    /// As `references` of `FoundLists`.
     pub references: &'lists mut FilledList<u64>,
-    /// Whether a plain entry names each inode.
-    pub named: &'named mut [bool],
-    /// Whether each inode is reached from inode 2.
-    pub reached: &'reached mut [bool],
-    /// The parent of each directory, 0 for none.
+    /// As `named` of `FoundLists`.
+    pub named: &'lists mut FilledList<bool>,
+    /// As `reached` of `FoundLists`.
+    pub reached: &'lists mut FilledList<bool>,
+    /// As `parents` of `FoundLists`.
     pub parents: &'lists mut FilledList<u32>,
-    /// Whether each inode is a directory of which nothing can be reported.
-    pub calm: &'calm mut [bool],
-    /// The directories that are reached, level after level.
+    /// As `calm` of `FoundLists`.
+    pub calm: &'lists mut FilledList<bool>,
+    /// As `queue` of `FoundLists`.
     pub queue: &'lists mut FilledList<u32>,
     ghost long: { AreLists (record {
       kinds = kinds.now;
-      marked = marked.now;
+      marked = marked.now.items;
       references = references.now.items;
-      named = named.now;
-      reached = reached.now;
+      named = named.now.items;
+      reached = reached.now.items;
       parents = parents.now.items;
-      calm = calm.now;
+      calm = calm.now.items;
       queue = queue.now.items;
     }) },
 }
@@ -64,12 +69,12 @@ pub struct CurrentDir<'kinds, 'marked> {
     /// What each inode is: `DT_DIR` for a directory, but `EMPTY_DIR_KIND` for one of size 0.
     pub kinds: &'kinds [u8],
     /// Whether each inode is marked.
-    pub marked: &'marked [bool],
+    pub marked: &'marked FilledList<bool>,
     /// The directory.
     pub dir: u32,
     /// Its parent, 0 for none.
     pub parent: u32,
-    ghost long: { length marked.now ≡ length kinds.now },
+    ghost long: { vec_len marked.now ≡ length kinds.now },
 }
 
 /// What a survey left, and which directories lead a cycle of parents.
@@ -78,14 +83,14 @@ pub struct Surveyed<'a> {
     /// What each inode is: `DT_DIR` for a directory, but `EMPTY_DIR_KIND` for one of size 0.
     pub kinds: &'a [u8],
     /// Whether each inode is marked.
-    pub marked: &'a [bool],
+    pub marked: &'a FilledList<bool>,
     /// Whether a plain entry names each inode.
-    pub named: &'a [bool],
+    pub named: &'a FilledList<bool>,
     /// Whether each inode is reached from inode 2.
-    pub reached: &'a [bool],
+    pub reached: &'a FilledList<bool>,
     /// The parent of each directory, 0 for none.
     pub parents: &'a FilledList<u32>,
     /// Whether each inode is the least on a cycle of parents.
-    pub leaders: &'a [bool],
-    ghost whole: { AreSurveyed kinds.now marked.now named.now reached.now parents.now.items leaders.now },
+    pub leaders: &'a FilledList<bool>,
+    ghost whole: { AreSurveyed kinds.now marked.now.items named.now.items reached.now.items parents.now.items leaders.now.items },
 }

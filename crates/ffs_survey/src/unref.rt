@@ -1,5 +1,5 @@
 //! Which inodes are suspect or dead, and of which directories UNREF DIR is reported.
-ghost use Rattle.std.specs.Prelude.{◌≡◌, ◌≢◌, ◌<◌, length, min, MatchOption};
+ghost use Rattle.std.specs.Prelude.{◌≡◌, ◌≢◌, ◌<◌, length, min, vec_len, MatchOption};
 ghost use Rattle.ffs_volume.specs.Directories.Graph.{Graph, is_unref_dir_in};
 ghost use Rattle.ffs_survey.specs.Survey.{suspect_at, dead_at, IsTree, AreNamed, number_at};
 
@@ -10,9 +10,9 @@ use ffs_volume::constants::ROOTINO;
 use ffs_volume::kinds::Kind;
 
 /// Whether an inode is suspect: marked, or a directory of size 0.
-pub fn is_suspect(kinds: &[u8], marked: &[bool], number: usize) -> bool
-    requires { number < min (length kinds.now) (length marked.now) }
-    ensures { result ≡ suspect_at kinds.now marked.now number }
+pub fn is_suspect(kinds: &[u8], marked: &FilledList<bool>, number: usize) -> bool
+    requires { number < min (length kinds.now) (vec_len marked.now) }
+    ensures { result ≡ suspect_at kinds.now marked.now.items number }
 {
     let kind = Kind {
         code: kinds[number],
@@ -21,9 +21,14 @@ pub fn is_suspect(kinds: &[u8], marked: &[bool], number: usize) -> bool
 }
 
 /// Whether an inode is dead: suspect, not the root, and named by no plain entry.
-pub fn is_dead(kinds: &[u8], marked: &[bool], named: &[bool], number: u32) -> bool
-    requires { number < min (length kinds.now) (min (length marked.now) (length named.now)) }
-    ensures { result ≡ dead_at kinds.now marked.now named.now number }
+pub fn is_dead(
+    kinds: &[u8],
+    marked: &FilledList<bool>,
+    named: &FilledList<bool>,
+    number: u32,
+) -> bool
+    requires { number < min (length kinds.now) (min (vec_len marked.now) (vec_len named.now)) }
+    ensures { result ≡ dead_at kinds.now marked.now.items named.now.items number }
 {
     is_suspect(kinds, marked, number as usize) && number != ROOTINO && !named[number as usize]
 }
@@ -41,9 +46,9 @@ fn parent_of(parents: &FilledList<u32>, dir: u32) -> Option<u32>
 /// with a dead one, or the least number on a cycle of parents.
 pub fn is_unref(dir: u32, found: &Surveyed<'_>) -> bool
     requires { dir < length found.now.kinds.now }
-    ensures { (graph : Graph) → AreNamed graph found.now.kinds.now found.now.named.now
-        → IsTree graph found.now.kinds.now found.now.reached.now found.now.parents.now.items
-        → result ≡ is_unref_dir_in graph (suspect_at found.now.kinds.now found.now.marked.now) dir }
+    ensures { (graph : Graph) → AreNamed graph found.now.kinds.now found.now.named.now.items
+        → IsTree graph found.now.kinds.now found.now.reached.now.items found.now.parents.now.items
+        → result ≡ is_unref_dir_in graph (suspect_at found.now.kinds.now found.now.marked.now.items) dir }
 {
     if !is_dir(found.kinds, dir as usize) {
         return false;

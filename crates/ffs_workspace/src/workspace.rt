@@ -42,18 +42,18 @@ pub struct Workspace {
     /// What each inode is (`Kind`).
     pub kinds: FixedList<u8>,
     /// The inodes that are marked: of class Unknown, or with a BAD or DUP line.
-    pub marked: FixedList<bool>,
+    pub marked: FilledList<bool>,
     /// The inodes that a plain entry names.
-    pub named: FixedList<bool>,
+    pub named: FilledList<bool>,
     /// The directories that are reached from the root.
-    pub reached: FixedList<bool>,
+    pub reached: FilledList<bool>,
     /// Flags that are used one after another:
     ///
     /// - The survey flags the calm directories. There the list is lent as `calm`.
     /// - Phase 2 clears the flag of each suspect inode (a marked one, or a directory of size 0),
     ///   and then flags those of them that a plain entry has named. Other flags stay.
     /// - Phase 3 flags the least directory of each cycle of parents. There it is lent as `leaders`.
-    pub flags: FixedList<bool>,
+    pub flags: FilledList<bool>,
     /// How many entries refer to each inode, counted on from `links_start`.
     pub references: FilledList<u64>,
     /// Whether the survey is made. Until then each count of `references` is where it starts; a survey
@@ -252,10 +252,10 @@ impl Windows {
 /// The lists with a flag for each inode.
 #[derive(Drop)]
 struct FlagLists {
-    marked: FixedList<bool>,
-    named: FixedList<bool>,
-    reached: FixedList<bool>,
-    flags: FixedList<bool>,
+    marked: FilledList<bool>,
+    named: FilledList<bool>,
+    reached: FilledList<bool>,
+    flags: FilledList<bool>,
 }
 
 fn flag_lists<M: Memory>(memory: &mut M, n: usize) -> Result<FlagLists, AllocError>

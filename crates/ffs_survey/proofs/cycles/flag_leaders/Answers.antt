@@ -9,11 +9,12 @@ loop-start-preserved c =
     let least = c.least_on.ensures in
     record {
       long = grind arith;
+      leaders_long = grind arith;
       closed = walk.walked.closed;
       older = older_after walk.walked (omega (arith, walk.long)) inv.older;
       begun = grind arith;
-      marks = marks_found c.loop-start.leaders (omega (arith, least.low, inv.marks.long)) walk.walked
-          (rw c.in-Some.is at walk.cycle) least inv.marks;
+      marks = rw c.set.ensures.items (marks_found c.loop-start.leaders.items (omega (arith, least.low, inv.marks.long))
+          walk.walked (rw c.in-Some.is at walk.cycle) least inv.marks);
     }
 
 pub loop-start-preserved-in_default : goal.loop-start-preserved-in_default
@@ -22,6 +23,7 @@ loop-start-preserved-in_default c =
     let walk = c.in_default.ensures in
     record {
       long = grind arith;
+      leaders_long = grind arith;
       closed = walk.walked.closed;
       older = older_after walk.walked (omega (arith, walk.long)) inv.older;
       begun = grind arith;

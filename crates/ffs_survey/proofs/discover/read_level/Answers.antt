@@ -25,7 +25,7 @@ loop-at-preserved g c =
     let read = rw is at found.read in
     let same = λ (b : List ℕ) (k : g.D.Directories.knows base b). discovered_same (read b k).discovered in
     let still = λ (b : List ℕ) (k : g.D.Directories.knows base b).
-    at_place (IsReachedDir old.kinds.now here.reached.now) c.args.low place level (inv.still b k) inv.from inside in
+    at_place (IsReachedDir old.kinds.now here.reached.now.items) c.args.low place level (inv.still b k) inv.from inside in
     record {
       lent = still_by g.D.Directories (search rules) (search rules) (search rules)
           (done.leaves.lists.lent ∙ inv.lent.same.lent);
@@ -47,17 +47,17 @@ loop-at-preserved g c =
       calm = λ b k before.
           calm_read (entries b) (g.D.Directories.right_shape base b) _ _ _ (same b k) (still b k).is_reached
           (read b k).calm (inv.calm b k before);
-      kept = λ b k x set. flags_grow _ _ (g.D.Directories.right_shape base b (number_at level place)) here.calm.now
-          c.read_reached.new.lists.calm.now (read b k).calm x (inv.kept b k x set);
+      kept = λ b k x set. flags_grow _ _ (g.D.Directories.right_shape base b (number_at level place)) here.calm.now.items
+          c.read_reached.new.lists.calm.now.items (read b k).calm x (inv.kept b k x set);
       once = λ b k unread.
           let s = still b k in
-          let long : number_at level place < length here.calm.now = omega (
+          let long : number_at level place < length here.calm.now.items = omega (
             arith,
             dir_below old.kinds.now (number_at level place) s.dir,
             here.long.calm_long,
             kinds_long inv.lent.same,
           ) in
-          read_next old.kinds.now old.marked.now here.calm.now c.read_reached.new.lists.calm.now (entries b) (g.D.Directories.right_shape base b) level c.args.low place inv.from inside
+          read_next old.kinds.now old.marked.now.items here.calm.now.items c.read_reached.new.lists.calm.now.items (entries b) (g.D.Directories.right_shape base b) level c.args.low place inv.from inside
           (λ i. other_place level c.args.low place i unread inv.from) (same b k) s.is_reached
           (read b k).calm long (inv.once b k unread);
     }

@@ -20,21 +20,21 @@ invariant-loop-at g l =
       extends : Extends l.high l.top old.queue.now.items l.lists.queue.now.items;
       grown : (x : ℕ) → x < length old.kinds.now → number_at l.lists.references.now.items x
           ≤ number_at old.references.now.items x + (l.at - l.low) * 2 ^ 28;
-      top : l.top + unset l.lists.reached.now ≡ l.high + unset old.reached.now;
-      same_result : (b : List ℕ) → knows b → SameResult (from_dirs (graph b) (drop l.low level)) old.reached.now
-          old.parents.now.items level (from_dirs (graph b) (drop l.at level)) l.lists.reached.now
+      top : l.top + unset l.lists.reached.now.items ≡ l.high + unset old.reached.now.items;
+      same_result : (b : List ℕ) → knows b → SameResult (from_dirs (graph b) (drop l.low level)) old.reached.now.items
+          old.parents.now.items level (from_dirs (graph b) (drop l.at level)) l.lists.reached.now.items
           l.lists.parents.now.items (take l.top l.lists.queue.now.items);
       counts : (b : List ℕ) → knows b → Counts (length old.kinds.now) (count_of (graph b) (drop l.low level))
-          (any_of (graph b) (drop l.low level)) old.references.now.items old.named.now
+          (any_of (graph b) (drop l.low level)) old.references.now.items old.named.now.items
           (count_of (graph b) (drop l.at level)) (any_of (graph b) (drop l.at level))
-          l.lists.references.now.items l.lists.named.now;
-      still : (b : List ℕ) → knows b → All (IsReachedDir old.kinds.now l.lists.reached.now) (drop l.low level);
-      calm : (b : List ℕ) → knows b → AreCalm old.kinds.now old.marked.now old.reached.now old.parents.now.items
-          (g.D.Directories.entries over b) (g.D.Directories.right_shape over b) old.calm.now →
-          AreCalm old.kinds.now old.marked.now l.lists.reached.now l.lists.parents.now.items
-          (g.D.Directories.entries over b) (g.D.Directories.right_shape over b) l.lists.calm.now;
-      kept : (b : List ℕ) → knows b → (x : ℕ) → bool_at old.calm.now x ≡ true → bool_at l.lists.calm.now x ≡ true;
-      once : (b : List ℕ) → knows b → AreUnread old.reached.now old.parents.now.items (drop l.low level) →
-          IsReadTo old.kinds.now old.marked.now l.lists.reached.now l.lists.parents.now.items
-          (g.D.Directories.entries over b) (g.D.Directories.right_shape over b) l.lists.calm.now level l.low l.at;
+          l.lists.references.now.items l.lists.named.now.items;
+      still : (b : List ℕ) → knows b → All (IsReachedDir old.kinds.now l.lists.reached.now.items) (drop l.low level);
+      calm : (b : List ℕ) → knows b → AreCalm old.kinds.now old.marked.now.items old.reached.now.items old.parents.now.items
+          (g.D.Directories.entries over b) (g.D.Directories.right_shape over b) old.calm.now.items →
+          AreCalm old.kinds.now old.marked.now.items l.lists.reached.now.items l.lists.parents.now.items
+          (g.D.Directories.entries over b) (g.D.Directories.right_shape over b) l.lists.calm.now.items;
+      kept : (b : List ℕ) → knows b → (x : ℕ) → bool_at old.calm.now.items x ≡ true → bool_at l.lists.calm.now.items x ≡ true;
+      once : (b : List ℕ) → knows b → AreUnread old.reached.now.items old.parents.now.items (drop l.low level) →
+          IsReadTo old.kinds.now old.marked.now.items l.lists.reached.now.items l.lists.parents.now.items
+          (g.D.Directories.entries over b) (g.D.Directories.right_shape over b) l.lists.calm.now.items level l.low l.at;
     }

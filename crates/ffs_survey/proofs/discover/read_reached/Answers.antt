@@ -25,7 +25,7 @@ loop-entry-preserved g c =
     let visited = c.visit-high.ensures in
     let same_result = rw (same_kinds inv.lent.same) at (discovered_same visited.discovered) in
     let right : c.if-calm_so_far.calm_so_far ≡ (c.loop-entry.calm_so_far
-    && is_calm_entry current (bool_at c.loop-entry.lists.reached.now) c.loop-entry.count e)
+    && is_calm_entry current (bool_at c.loop-entry.lists.reached.now.items) c.loop-entry.count e)
     = elim c.if-calm_so_far.branch [
       | then-calm_so_far w ↦ rw w.if-calm_so_far.true (w.calm_so_far-is ∙ w.is_calm_entry-calm_so_far.ensures)
       | else-calm_so_far w ↦ rw w.if-calm_so_far.false (w.calm_so_far-is ∙ w.if-calm_so_far.false)

@@ -19,23 +19,23 @@ invariant-loop-entry g l =
       reads : (b : List ℕ) → knows b → g.D.Directories.reads l.directories + g.D.Directories.to_read l.directories b
           ≤ g.D.Directories.reads l.fn.directories + g.D.Directories.cost over b l.from;
       held : (b : List ℕ) → knows b → g.D.Directories.held l.directories;
-      flags : l.lists.calm.now ≡ old.calm.now;
+      flags : l.lists.calm.now.items ≡ old.calm.now.items;
       room : HasRoomAfter l.high l.lists;
       extends : Extends l.top l.high old.queue.now.items l.lists.queue.now.items;
       left : coming ≤ 2 ^ 28;
       grown : (x : ℕ) → x < length old.kinds.now →
           number_at l.lists.references.now.items x + coming ≤ number_at old.references.now.items x + 2 ^ 28;
       counted : l.count + coming ≤ 2 ^ 28;
-      high : l.high + unset l.lists.reached.now ≡ l.top + unset old.reached.now;
-      same_result : (b : List ℕ) → knows b → SameResult (from_entries old.kinds.now l.from (entries b)) old.reached.now
+      high : l.high + unset l.lists.reached.now.items ≡ l.top + unset old.reached.now.items;
+      same_result : (b : List ℕ) → knows b → SameResult (from_entries old.kinds.now l.from (entries b)) old.reached.now.items
           old.parents.now.items (take l.top old.queue.now.items) (from_entries old.kinds.now l.from (rest b))
-          l.lists.reached.now l.lists.parents.now.items (take l.high l.lists.queue.now.items);
+          l.lists.reached.now.items l.lists.parents.now.items (take l.high l.lists.queue.now.items);
       counts : (b : List ℕ) → knows b → Counts (length old.kinds.now) (count_in (entries b)) (any_in (entries b))
-          old.references.now.items old.named.now (count_in (rest b)) (any_in (rest b))
-          l.lists.references.now.items l.lists.named.now;
+          old.references.now.items old.named.now.items (count_in (rest b)) (any_in (rest b))
+          l.lists.references.now.items l.lists.named.now.items;
       calm_so_far : (b : List ℕ) → knows b →
-          (l.calm_so_far && are_calm current (bool_at l.lists.reached.now) l.count (rest b))
-          ≡ are_calm current (bool_at old.reached.now) 0 (entries b);
+          (l.calm_so_far && are_calm current (bool_at l.lists.reached.now.items) l.count (rest b))
+          ≡ are_calm current (bool_at old.reached.now.items) 0 (entries b);
       right_shape : (b : List ℕ) → knows b →
           g.D.Directories.right_shape_so_far l.directories b ≡ g.D.Directories.right_shape over b l.from;
     }

@@ -21,14 +21,14 @@ invariant-loop-entry g l =
       grown : (x : ℕ) → x < length old.kinds.now →
           number_at l.lists.references.now.items x + coming ≤ number_at old.references.now.items x + 2 ^ 28;
       counts : (b : List ℕ) → knows b → Counts (length old.kinds.now) (count_in (entries b)) (any_in (entries b))
-          old.references.now.items old.named.now (count_in (rest b)) (any_in (rest b))
-          l.lists.references.now.items l.lists.named.now;
+          old.references.now.items old.named.now.items (count_in (rest b)) (any_in (rest b))
+          l.lists.references.now.items l.lists.named.now.items;
       parents : (b : List ℕ) → knows b → (x : ℕ) → x < length old.kinds.now →
           cond (eqb (number_at l.lists.parents.now.items x) 0
-          && (is_unreached_dir old.kinds.now old.reached.now x && any_in (rest b) x)) l.from
+          && (is_unreached_dir old.kinds.now old.reached.now.items x && any_in (rest b) x)) l.from
           (number_at l.lists.parents.now.items x)
           ≡ cond (eqb (number_at old.parents.now.items x) 0
-          && (is_unreached_dir old.kinds.now old.reached.now x && any_in (entries b) x)) l.from
+          && (is_unreached_dir old.kinds.now old.reached.now.items x && any_in (entries b) x)) l.from
           (number_at old.parents.now.items x);
     }
 

@@ -26,10 +26,10 @@ returns-clause-found g c =
           (sane_of inodes.kinds.now entries c.requires.lists.some) reached_long
           (new.long.parents_long ∙ kinds_long second.leaves.lent.lists ∙ ap length kinds) c.limit.ensures.items.items
           part more);
-      calm = rw (second.leaves.kept.reached, second.leaves.kept.calm) (calm_unreached found.calm.now
+      calm = rw (second.leaves.kept.reached, second.leaves.kept.calm) (calm_unreached found.calm.now.items
           (read_stays more reached_long) (first.found.calm b k));
       flagged = rw (second.leaves.kept.reached, second.leaves.kept.calm) (λ d dir reached calm.
-          let stays : Stays found.reached.now found.parents.now.items found.reached.now new.parents.now.items =
+          let stays : Stays found.reached.now.items found.parents.now.items found.reached.now.items new.parents.now.items =
           record { reached = λ x h. h; parents = read_stays more reached_long } in
           flagged_by_parents (read_once_stays stays (λ x h. h) (first.found.read b k d dir reached)) calm);
     })
@@ -43,7 +43,7 @@ returns-clause-leaves g c =
       is_ready = search rules;
       same = search rules;
       read = search rules;
-      counted = λ b k. costs_both c.args.inodes.now.kinds.now c.survey_reached.new.lists.reached.now _ _ _
+      counted = λ b k. costs_both c.args.inodes.now.kinds.now c.survey_reached.new.lists.reached.now.items _ _ _
           (first.found.once b k) (second b k);
     }
 
@@ -56,6 +56,6 @@ returns-in_err-survey_unreached-clause-leaves g c =
       is_ready = search rules;
       same = search rules;
       read = search rules;
-      counted = λ b k. costs_both c.args.inodes.now.kinds.now c.survey_reached.new.lists.reached.now _ _ _
+      counted = λ b k. costs_both c.args.inodes.now.kinds.now c.survey_reached.new.lists.reached.now.items _ _ _
           (first.found.once b k) (second b k);
     }

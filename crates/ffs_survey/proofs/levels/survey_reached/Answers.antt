@@ -1,4 +1,4 @@
-use Rattle.std.proofs.Common.{ℕ, ap, rules, ◌≡◌, ◌+◌, ◌≤◌, length, take, set, arith, refl, sym, ◌∙◌, true, length-set}
+use Rattle.std.proofs.Common.{ℕ, ap, rules, ◌≡◌, ◌+◌, ◌≤◌, length, take, arith, refl, sym, ◌∙◌}
 use Rattle.ffs_survey.proofs.Frontiers.{sane_of, levels_start, frontier_start, queue_start}
 use Rattle.ffs_survey.proofs.Queues.{counted_on, reached_part, alone_part, none_counted, empty_level, is_extended}
 use Rattle.ffs_survey.proofs.{CalmLaws.{calm_none, same_result_stays}, Costs.{level_costs, queue_costs, queue_within}}
@@ -17,22 +17,22 @@ loop-low-init g c =
       reads = λ b k. omega arith;
       room = record {
         ordered = omega arith;
-        room = let one = unset-set old.reached.now 2 (omega arith) (begins.reached 2) in
-            omega (arith, one, unset-le old.reached.now, c.set-2.ensures.len);
+        room = let one = unset-set old.reached.now.items 2 (omega arith) (begins.reached 2) in
+            rw c.set.ensures.items (omega (arith, one, unset-le old.reached.now.items, c.set-3.ensures.len));
         counted = λ x l. omega (arith, begins.starts x);
       };
       levels = λ b k.
           let v = graph_with old.kinds.now (g.D.Directories.entries (g.D.Directories.base c.args.directories.now) b) in
-          let queue = ap (take 1) c.set-2.ensures.items ∙ queue_start old.queue.now.items (omega arith) in
-          let start : AtLevel v 0 0 1 (set old.reached.now 2 true) c.set.new.self.items c.set-2.new.self.items =
+          let queue = ap (take 1) c.set-3.ensures.items ∙ queue_start old.queue.now.items (omega arith) in
+          let start : AtLevel v 0 0 1 c.set.new.self.items c.set-2.new.self.items c.set-3.new.self.items =
           record {
             frontier = rw queue (frontier_start (sane_of old.kinds.now _ old.long.some));
-            levels = rw (queue, c.set.ensures.items) (levels_start v old.reached.now old.parents.now.items (omega arith)
+            levels = rw (queue, c.set.ensures.items, c.set-2.ensures.items) (levels_start v old.reached.now.items old.parents.now.items (omega arith)
                 (omega arith) begins.reached begins.parents);
           } in
           record { depth = 0; at = start };
       counts = λ b k. none_counted begins.named;
-      calm = λ b k. calm_none _ _ old.calm.now begins.calm;
+      calm = λ b k. calm_none _ _ old.calm.now.items begins.calm;
       read = λ b k i none. absurd (omega arith);
     }
 
@@ -125,13 +125,13 @@ returns-then-not-is_dir-clause-found g c =
       counts = λ x l. omega (arith, begins.starts x);
       part = λ b k.
           let es = g.D.Directories.entries (g.D.Directories.base c.args.directories.now) b in
-          alone_part old.kinds.now es (omega (arith, length-set old.reached.now 2 true))
+          alone_part old.kinds.now es (omega (arith, c.set.ensures.len))
           (sane_of old.kinds.now es old.long.some) (sym c.is_dir.ensures ∙ c.if-not-is_dir.true)
-          (rw c.set.ensures.items (levels_start (graph_with old.kinds.now es) old.reached.now
+          (rw (c.set.ensures.items, c.set-2.ensures.items) (levels_start (graph_with old.kinds.now es) old.reached.now.items
           old.parents.now.items (omega arith) (omega arith) begins.reached begins.parents)) begins.named;
-      calm = λ b k. calm_none _ _ old.calm.now begins.calm;
-      read = λ b k d dir reached. absurd (root_alone_reached old.reached.now old.kinds.now d begins.reached
-          (sym c.is_dir.ensures ∙ c.if-not-is_dir.true) dir reached);
+      calm = λ b k. calm_none _ _ old.calm.now.items begins.calm;
+      read = λ b k d dir reached. absurd (root_alone_reached old.reached.now.items old.kinds.now d begins.reached
+          (sym c.is_dir.ensures ∙ c.if-not-is_dir.true) dir (rw c.set.ensures.items at reached));
       once = λ b k. omega arith;
     }
 

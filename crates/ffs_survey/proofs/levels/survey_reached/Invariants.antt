@@ -13,19 +13,19 @@ invariant-loop-low g l =
       lent : StillLent g.D.Directories l.fn.directories l.directories old l.lists;
       reads : (b : List ℕ) → knows b → g.D.Directories.reads l.directories ≤ g.D.Directories.reads l.fn.directories
           + sum_by (g.D.Directories.cost over b) (take l.low l.lists.queue.now.items);
-      room : HasRoomForLevel l.low l.high l.lists.references.now.items l.lists.reached.now l.lists.queue.now.items;
-      levels : (b : List ℕ) → knows b → AtSomeLevel (graph b) l.low l.high l.lists.reached.now
+      room : HasRoomForLevel l.low l.high l.lists.references.now.items l.lists.reached.now.items l.lists.queue.now.items;
+      levels : (b : List ℕ) → knows b → AtSomeLevel (graph b) l.low l.high l.lists.reached.now.items
           l.lists.parents.now.items l.lists.queue.now.items;
       counts : (b : List ℕ) → knows b → IsCount (graph b) (take l.low l.lists.queue.now.items)
-          old.references.now.items l.lists.references.now.items l.lists.named.now;
-      calm : (b : List ℕ) → knows b → AreCalm old.kinds.now old.marked.now l.lists.reached.now
+          old.references.now.items l.lists.references.now.items l.lists.named.now.items;
+      calm : (b : List ℕ) → knows b → AreCalm old.kinds.now old.marked.now.items l.lists.reached.now.items
           l.lists.parents.now.items (g.D.Directories.entries over b) (g.D.Directories.right_shape over b)
-          l.lists.calm.now;
+          l.lists.calm.now.items;
       read : (b : List ℕ) → knows b → (i : ℕ) → i < l.low →
           let d = number_at l.lists.queue.now.items i in
-          IsReadOnce (dir_by old.kinds.now old.marked.now l.lists.parents.now.items d) l.lists.reached.now
+          IsReadOnce (dir_by old.kinds.now old.marked.now.items l.lists.parents.now.items d) l.lists.reached.now.items
           l.lists.parents.now.items (g.D.Directories.entries over b d) (g.D.Directories.right_shape over b d)
-          l.lists.calm.now;
+          l.lists.calm.now.items;
     }
 
 abbrev pub decreases-loop-low : goal.decreases-loop-low

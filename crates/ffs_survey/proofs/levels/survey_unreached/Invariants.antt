@@ -12,11 +12,11 @@ invariant-loop-s g l =
     record {
       lent : StillLent g.D.Directories l.fn.directories l.directories old l.lists;
       reads : (b : List ℕ) → knows b → g.D.Directories.reads l.directories ≤ g.D.Directories.reads l.fn.directories
-          + costs_below (is_unreached_dir old.kinds.now old.reached.now) (g.D.Directories.cost over b) l.s;
+          + costs_below (is_unreached_dir old.kinds.now old.reached.now.items) (g.D.Directories.cost over b) l.s;
       kept : KeepsReached old l.lists;
       grown : (x : ℕ) → x < length old.kinds.now →
           number_at l.lists.references.now.items x ≤ number_at old.references.now.items x + l.s * 2 ^ 28;
-      read : (b : List ℕ) → knows b → IsBlank old.kinds.now old.reached.now old.parents.now.items →
-          IsRead (graph_with old.kinds.now (g.D.Directories.entries over b)) old.kinds.now old.reached.now l.s
+      read : (b : List ℕ) → knows b → IsBlank old.kinds.now old.reached.now.items old.parents.now.items →
+          IsRead (graph_with old.kinds.now (g.D.Directories.entries over b)) old.kinds.now old.reached.now.items l.s
           (all_found old) (all_found l.lists);
     }
