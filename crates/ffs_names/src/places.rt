@@ -188,11 +188,7 @@ fn note_directory<I: Image>(
 /// Sets the top bit of the word of each directory that is the parent of a reached one: its chunks
 /// are to be read. (Once the places are noted the same bit says that its parent entry is due.) No
 /// place is noted yet.
-fn flag_parents(
-    reached: &FilledList<bool>,
-    parents: &FilledList<u32>,
-    words: &mut FilledList<u32>,
-)
+fn flag_parents(reached: &FilledList<bool>, parents: &FilledList<u32>, words: &mut FilledList<u32>)
     requires lengths { (vec_len parents.now ≡ vec_len reached.now)
         × (vec_len words.old ≡ vec_len reached.now) × (vec_len reached.now < 2 ^ 31) }
     ensures { BeginsNotes reached.now.items parents.now.items words.new }

@@ -2,13 +2,13 @@ use Rattle.std.proofs.Common.{◌≡◌, ◌<◌, ◌≤◌, ◌∙◌, arith, l
 use Rattle.std.proofs.lemmas.Grind.{common_steps, get_or_default_zero}
 use Rattle.ffs_names.proofs.PlacesNoted.{only_more}
 use Rattle.ffs_names.proofs.places.flag_parents.Goals as goal
-use Rattle.ffs_names.proofs.places.flag_parents.Goals.{then-reached-number+then-contains, else-reached-number}
+use Rattle.ffs_names.proofs.places.flag_parents.Goals.{then-index+then-contains, else-index}
 
 pub loop-number-preserved : goal.loop-number-preserved
 loop-number-preserved c =
     let inv = c.loop-number.invariant in
-    elim c.if-reached-number.branch [
-      | then-reached-number+then-contains w ↦ rw w.words-is (record {
+    elim c.if-index.branch [
+      | then-index+then-contains w ↦ rw w.words-is (record {
         count = search rules;
         long = search rules;
         none = grind (arith, common_steps);
@@ -24,7 +24,7 @@ loop-number-preserved c =
             (omega arith) up low inv.only);
         to_read = grind (arith, common_steps);
       })
-      | else-reached-number w ↦ rw w.words-is (record {
+      | else-index w ↦ rw w.words-is (record {
         count = search rules;
         long = search rules;
         none = inv.none;

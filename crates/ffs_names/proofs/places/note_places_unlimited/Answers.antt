@@ -14,10 +14,8 @@ use Rattle.ffs_names.proofs.places.note_places_unlimited.Goals as goal
 pub loop-dir-init : goal.loop-dir-init
 loop-dir-init g c =
     let w = c.args.workspace.now in
-    let begins : BeginsNotes w.reached.items w.parents.items c.flag_parents.new.words =
-    rw c.deref.ensures.value at c.flag_parents.ensures in
-    let long : length w.reached.items ≡ inodes_of c.args.geometry.now.layout =
-    sym (ap length c.deref.ensures.value) ∙ (c.deref.ensures.len ∙ c.requires.ready.made.reached) in
+    let begins : BeginsNotes w.reached.items w.parents.items c.flag_parents.new.words = c.flag_parents.ensures in
+    let long : length w.reached.items ≡ inodes_of c.args.geometry.now.layout = search rules in
     record {
       same = refl;
       lists = refl;

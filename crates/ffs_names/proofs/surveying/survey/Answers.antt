@@ -1,5 +1,4 @@
 use Rattle.std.proofs.Common.{◌≡◌, ◌∙◌, ℕ, zero, suc, false, refl, replicate, rules, ap, slice_index}
-use Rattle.std.proofs.lemmas.List.{with_items_is}
 use Rattle.ffs_workspace.proofs.{Leaving.{claims_held, counts_same, counts_stand}, PlaceLaws.{filled_noted, zero_index}, Readiness.{can_read_same, ready_same}}
 use Rattle.ffs_survey.{proofs.CalmLaws.calm_none, specs.Survey.bool_at}
 use Rattle.ffs_names.proofs.SurveyHolds.{on_ok_each}
@@ -15,7 +14,6 @@ pub returns-then-workspace-clause-survey : goal.returns-then-workspace-clause-su
 returns-then-workspace-clause-survey g c = λ b t h.
     let w = c.args.workspace.now in
     let found = counts_stand _ b w h.counts c.if-workspace.true in
-    let flags = with_items_is w.flags c.fill.new.self (search rules) ∙ c.fill.ensures.after (λ y same. same) in
     record {
       survey = record {
         tree = record { named = found.1.named; reached = found.1.reached; parents = found.1.parents };
@@ -29,7 +27,7 @@ returns-then-workspace-clause-survey g c = λ b t h.
         notes = h.notes;
         counts = counts_same _ b w _ refl refl refl refl refl h.counts;
       };
-      calm = record { calm = calm_none _ _ _ (λ x. rw flags (none_set _ x)) };
+      calm = record { calm = calm_none _ _ _ (λ x. rw c.fill.ensures.items (none_set _ x)) };
     }
 
 pub returns-then-workspace-clause-leaves : goal.returns-then-workspace-clause-leaves

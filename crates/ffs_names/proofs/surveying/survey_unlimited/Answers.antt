@@ -1,7 +1,5 @@
 use Rattle.std.proofs.Common.{◌∙◌, ◌≡◌, ◌*◌, ℕ, List, Some, length, ap, subst, sym, rules, arith, slice_index}
-use Rattle.std.proofs.lemmas.List.{with_items_is}
-use Rattle.ffs_volume.{proofs.Sizes.some_inodes, specs.{Encodings.Kinds.kind_at, Directories.Volumes.marked_at}}
-use Rattle.ffs_volume.specs.{Encodings.Lists.bool_at, Blocks.Inodes.inodes_of}
+use Rattle.ffs_volume.{proofs.Sizes.some_inodes, specs.{Encodings.Kinds.kind_at}}
 use Rattle.ffs_workspace.{proofs.{Leaving.counts_begin, PlaceLaws.{filled_noted, zero_index}}, specs.Holds.HoldsClaims}
 use Rattle.ffs_workspace.specs.Tables.{IsTableOf}
 use Rattle.ffs_names.{specs.Readers.{Base, KnowsReader}, proofs.SurveyHolds.{volume_survey, holds_claims, holds_tree}}
@@ -68,49 +66,43 @@ returns-clause-survey g c = λ b t h.
     let at = (goal.at.returns-clause-survey g c).After-survey-surveyed in
     let v = c.args.geometry.now.layout in
     let w = c.args.workspace.now in
-    let n = c.survey-surveyed.new in
-    let parents = n.numbers.parents.now.items in
-    let flags = with_items_is w.flags n.calm (search rules) in
+    let n = c.survey-surveyed.new.found in
+    let kinds_now = c.deref-2.result.now in
+    let marked = w.marked.items in
+    let parents = n.parents.now.items in
+    let reached = n.reached.now.items in
+    let flags = n.calm.now.items in
     let knows = known g at b t h in
     record {
       found = on_ok_is c.survey-surveyed.result _ _ (λ ok s.
-          let counts = n.numbers.references.now.items in
-          let reached = with_items_is w.reached n.reached (search rules) in
+          let counts = n.references.now.items in
+          let named = n.named.now.items in
           let found = s b knows in
-          let survey = volume_survey (base g at) b c.deref-2.result.now {counts = counts} (search rules)
+          let survey = volume_survey (base g at) b kinds_now {counts = counts} (search rules)
           (kinds g at b h) found.survey in
           let begun = counts_begin v b w h.counts c.requires.first in
-          let named = with_items_is w.named n.named (search rules) in
+          let tree = holds_tree v b _ _ counts named reached parents (search rules) (search rules) (search rules) survey in
+          let references = holds_references v b w _ (search rules) (search rules) begun survey in
           record {
-            survey = record {
-              tree = holds_tree v b _ _ counts n.named n.reached parents named reached (search rules) survey;
-              places = filled_noted _ _ _ _ c.fill.ensures.items;
-            };
-            references = holds_references v b w _ (search rules) (search rules) begun survey;
-            claims = holds_claims v b w _ (search rules) (c.is_ok-workspace.ensures.value ∙ ok)
-                (holds_references v b w _ (search rules) (search rules) begun survey)
-                (holds_tree v b _ _ counts n.named n.reached parents named reached (search rules) survey) h;
-            calm = holds_calm v b _ c.deref-2.result.now c.deref-3.result.now n.reached parents n.calm
-                (sym c.deref-2.ensures.value) (sym c.deref-3.ensures.value) reached (search rules) flags
-                (volume_calm (base g at) b c.deref-2.result.now c.deref-3.result.now n.reached parents n.calm found.calm);
+            survey = record { tree = tree; places = filled_noted _ _ _ _ c.fill.ensures.items };
+            references = references;
+            claims = holds_claims v b w _ (search rules) (c.is_ok-workspace.ensures.value ∙ ok) references tree h;
+            calm = holds_calm v b _ kinds_now marked reached parents flags (sym c.deref-2.ensures.value) (search rules)
+                (search rules) (search rules) (search rules)
+                (volume_calm (base g at) b kinds_now marked reached parents flags found.calm);
           })
           c.survey-surveyed.ensures.found;
       flags = on_ok_is c.survey-surveyed.result _ _ (λ ok s.
           let found = s b knows in
-          let survey = volume_survey (base g at) b c.deref-2.result.now (search rules) (kinds g at b h) found.survey in
-          let marks : (x : ℕ) → bool_at c.deref-3.result.now x ≡ marked_at v b x =
-          λ x. ap (λ xs. bool_at xs x) c.deref-3.ensures.value ∙ h.marked x in
-          let marked_long : length c.deref-3.result.now ≡ inodes_of v =
-          omega (arith, c.deref-3.ensures.len, c.requires.ready.ready.made.marked) in
+          let survey = volume_survey (base g at) b kinds_now (search rules) (kinds g at b h) found.survey in
           record {
-            flagged = λ d calm. ap (λ xs. bool_at xs d) flags
-                ∙ flags_each_calm (base g at) b c.deref-2.result.now _ _ c.deref-3.result.now _ n.reached
-                parents n.calm (search rules) (kinds g at b h) marked_long marks survey found.flagged d calm;
+            flagged = λ d calm. flags_each_calm (base g at) b kinds_now _ _ marked _ reached parents flags (search rules)
+                (kinds g at b h) (omega (arith, c.requires.ready.ready.made.marked)) h.marked survey found.flagged d calm;
           })
           c.survey-surveyed.ensures.found;
       counted =
           let image = c.image-1.given.1 (sym (ap (λ x. x.image_lent) c.survey-surveyed.ensures.leaves.same)) in
-          let all : length c.deref-2.result.now ≡ v.ncg * v.ipg =
+          let all : length kinds_now ≡ v.ncg * v.ipg =
           omega (arith, c.deref-2.ensures.len, c.requires.ready.ready.made.kinds) in
           rw image (rw all at (c.survey-surveyed.ensures.leaves.counted b knows));
     }

@@ -8,7 +8,7 @@ set-requires-3 c =
     let lists = c.args.lists.now in
     let n = new_entry lists.kinds.now lists.reached.now.items (roled_of c.args.entry [])
     (sym c.is_new.ensures ∙ c.if-not-is_new.false) in
-    rw c.set.ensures.items (omega (arith, unset-set lists.reached.now.items c.args.entry.number (omega (arith, n.below)) n.unmarked))
+    omega (arith, unset-set lists.reached.now.items c.args.entry.number (omega (arith, n.below)) n.unmarked)
 
 pub returns : goal.returns
 returns c =
