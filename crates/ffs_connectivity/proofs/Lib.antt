@@ -1,2 +1,1 @@
 pub mod UnrefLines
-pub mod ReachedParts

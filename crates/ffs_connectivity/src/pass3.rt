@@ -1,66 +1,38 @@
 //! Phase 3: connectivity (fsck(8)).
 
-ghost use Rattle.std.specs.Prelude.{◌≡◌, ◌<◌, ◌≤◌, ◌+◌, ◌^◌, ◌∷◌, false, length, map};
+ghost use Rattle.std.specs.Prelude.{◌≡◌, ◌<◌, ◌≤◌, ◌+◌, ◌^◌, ◌∷◌, length, map, vec_len};
 ghost use Rattle.ffs_report.specs.{Known.ForBytes, Paid.Paid, PhaseOutcome.{ImageAfter, PhaseReports}, Progress.progress};
 ghost use Rattle.ffs_volume.specs.{Directories.Connectivity.connectivity_lines, Messages.Kinds.of_tree};
 ghost use Rattle.ffs_volume.specs.Directories.Volumes.{volume_of};
-ghost use Rattle.ffs_connectivity.specs.Unreached.{AreAllReached, AreReachedBelow, IsFirstUnreached};
+ghost use Rattle.ffs_connectivity.specs.Unreached.{IsFirstUnreached};
 ghost use Rattle.ffs_workspace.specs.{Found.WithSurvey, Leaves.LeavesSurvey, Ready.IsReady};
 ghost use Rattle.ffs_volume.specs.Messages.Kinds as messages;
 
 use crate::unref::report_lost;
 use ffs_image::Image;
 use ffs_layout::Geometry;
+use ffs_memory::FilledList;
 use ffs_report::{Heading, Line, Output, Report, RunFault};
-use ffs_survey::{flag_leaders, is_dir};
+use ffs_survey::{any_unreached, flag_leaders, is_dir};
 use ffs_volume::constants::ROOTINO;
-use ffs_volume::kinds::Kind;
 use ffs_workspace::Workspace;
-
-/// How many inodes are looked at together.
-const INODES_AT_ONCE: usize = 64;
-
-/// Whether a directory among some inodes from 2 on isn't reached: a loop without exit.
-fn any_unreached(kinds: &[u8], reached: &[bool]) -> bool
-    requires { length reached.now ≡ length kinds.now }
-    ensures { result ≡ false → AreAllReached kinds.now reached.now }
-{
-    let mut any = false;
-    for index in 0..kinds.len() {
-        any |= Kind { code: kinds[index] }.is_dir() & !reached[index];
-    }
-    any
-}
-
-/// The number of an inode, from 2 on, below which each directory is reached. Many inodes are passed
-/// over at a time.
-fn reached_below(kinds: &[u8], reached: &[bool]) -> usize
-    requires { length reached.now ≡ length kinds.now }
-    ensures { AreReachedBelow kinds.now reached.now result }
-{
-    let mut number = ROOTINO as usize;
-    while kinds.len().saturating_sub(number) >= INODES_AT_ONCE {
-        let end = number + INODES_AT_ONCE;
-        if any_unreached(&kinds[number..end], &reached[number..end]) {
-            return number;
-        }
-        number = end;
-    }
-    number
-}
 
 /// The least number of a directory that isn't reached, or how many inodes there are where each one
 /// is.
-fn first_unreached(kinds: &[u8], reached: &[bool]) -> u32
-    requires lists { (length reached.now ≡ length kinds.now) × (length kinds.now < 2 ^ 31) }
-    ensures { IsFirstUnreached kinds.now reached.now result }
+fn first_unreached(kinds: &[u8], reached: &FilledList<bool>) -> u32
+    requires lists { (vec_len reached.now ≡ length kinds.now) × (length kinds.now < 2 ^ 31) }
+    ensures { IsFirstUnreached kinds.now reached.now.items result }
 {
-    for number in reached_below(kinds, reached)..kinds.len() {
-        if is_dir(kinds, number) && !reached[number] {
-            return number as u32;
+    let count = kinds.len() as u32;
+    if !any_unreached(kinds, reached) {
+        return count;
+    }
+    for number in ROOTINO..count {
+        if is_dir(kinds, number as usize) && !reached[number as usize] {
+            return number;
         }
     }
-    kinds.len() as u32
+    count
 }
 
 /// Reports each lost directory (neither reached from inode 2 nor dead) that has no parent, has a

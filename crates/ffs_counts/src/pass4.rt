@@ -1,6 +1,6 @@
 //! Phase 4: how often inodes are referred to.
 
-ghost use Rattle.std.specs.Prelude.{◌≡◌, ◌<◌, ◌≤◌, ◌+◌, ◌∷◌, ℕ, false, map, length, slice_index};
+ghost use Rattle.std.specs.Prelude.{◌≡◌, ◌<◌, ◌≤◌, ◌+◌, ◌∷◌, ℕ, false, map, length, slice_index, vec_len};
 ghost use Rattle.ffs_volume.specs.Messages.Kinds.{of_tree};
 ghost use Rattle.ffs_volume.specs.Directories.{ReferenceCheck.{reference_lines, reference_lines_at}, Volumes.volume_of};
 ghost use Rattle.ffs_report.specs.{Known.ForBytes, Paid.Paid, PhaseOutcome.{ImageAfter, PhaseReports}, Progress.progress};
@@ -14,8 +14,8 @@ ghost use Rattle.ffs_volume.specs.declared.constants.TheConstants as constants;
 use crate::reference::{line_for, references_by, say_if_any};
 use ffs_image::Image;
 use ffs_layout::Geometry;
+use ffs_memory::FilledList;
 use ffs_report::{Heading, Line, Output, Report, RunFault};
-use ffs_survey::is_suspect;
 use ffs_volume::constants::LINKS_MET;
 use ffs_volume::kinds::Kind;
 use ffs_workspace::Workspace;
@@ -80,19 +80,20 @@ fn unallocated_from(kinds: &[u8], first: usize) -> usize
 /// How many allocated inodes are passed over at once.
 const RIGHT_AT_ONCE: usize = 64;
 
-/// Whether one of some inodes isn't allocated, or is suspect: a loop without exit.
+/// Whether one of `RIGHT_AT_ONCE` inodes isn't allocated, or is suspect: a loop without exit.
 #[inline(always)]
-fn any_free_or_suspect(kinds: &[u8], marked: &[bool], first: usize) -> bool
-    requires { (first + 64 ≤ length kinds.now) × (length marked.now ≡ length kinds.now) }
-    ensures { result ≡ false → (x : ℕ) → first ≤ x → x < first + 64
-        → suspect_at kinds.now marked.now x ≡ false }
+fn any_free_or_suspect(kinds: &[u8], marked: &FilledList<bool>, first: usize) -> bool
+    requires { (first + RIGHT_AT_ONCE ≤ length kinds.now) × (vec_len marked.now ≡ length kinds.now) }
+    ensures { result ≡ false → (x : ℕ) → first ≤ x → x < first + RIGHT_AT_ONCE
+        → suspect_at kinds.now marked.now.items x ≡ false }
 {
-    let mut any = false;
-    for number in first..first + RIGHT_AT_ONCE {
+    let end = first + RIGHT_AT_ONCE;
+    let mut any = marked.is_any_true(first, end);
+    for number in first..end {
         let kind = Kind {
             code: kinds[number],
         };
-        any |= !kind.is_allocated() | is_suspect(kinds, marked, number);
+        any |= !kind.is_allocated() | kind.is_empty_dir();
     }
     any
 }

@@ -30,7 +30,7 @@ parent_number (Some p) s h = refl
 -- the lists of a workspace
 pub record Shows (v : Layout) (w : Workspace) (i : Inodes) : Type 0 where
   pub kinds : i.kinds.now ≡ w.kinds.items
-  pub marked : i.marked.now ≡ w.marked.items
+  pub marked : i.marked.now.items ≡ w.marked.items
   pub parents : i.parents.now ≡ w.parents
   pub count : length i.kinds.now ≡ inodes_of v
 

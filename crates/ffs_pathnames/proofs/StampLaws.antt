@@ -88,7 +88,7 @@ after_stamp v i s word ws ws' role e sees two plain mine set due = grind (arith,
 -- an entry that names an inode due in s is passed
 pub after_pass : (v : Volume) (i : Inodes) (s word : ℕ) (suspect : Bool) (flags flags' : List Bool) (ws ws' : List ℕ)
     (role : Role) (e : Entry) → Sees v i → is_plain role ≡ true → e.number < length i.kinds.now
-    → suspect ≡ suspect_at i.kinds.now i.marked.now e.number
+    → suspect ≡ suspect_at i.kinds.now i.marked.now.items e.number
     → flags' ≡ (if suspect then slice_set flags e.number true else flags)
     → slice_index (stamps_in i ws) e.number ≡ s → ws' ≡ slice_set ws e.number word → is_due word ≡ false →
     after_roled v s (passed_in i flags ws) (record { role = role; entry = e }) ≡ passed_in i flags' ws'

@@ -14,8 +14,8 @@ pub record Sees (vol : Volume) (i : Inodes) : Type 0 where
   pub dir : (x : ℕ) → is_dir vol x ≡ is_dir_kind (slice_index i.kinds.now x)
   pub allocated : (x : ℕ) → is_allocated (vol.class x) ≡ is_allocated_kind (slice_index i.kinds.now x)
   pub unknown : (x : ℕ) → is_unknown (vol.class x) ≡ is_unknown_kind (slice_index i.kinds.now x)
-  pub suspect : (x : ℕ) → is_suspect vol x ≡ suspect_at i.kinds.now i.marked.now x
-  pub marked : (x : ℕ) → vol.marked x ≡ bool_at i.marked.now x
+  pub suspect : (x : ℕ) → is_suspect vol x ≡ suspect_at i.kinds.now i.marked.now.items x
+  pub marked : (x : ℕ) → vol.marked x ≡ bool_at i.marked.now.items x
   pub kind : (x : ℕ) → is_allocated (vol.class x) ≡ true → is_unknown (vol.class x) ≡ false
       → type_of_kind (slice_index i.kinds.now x) ≡ (vol.inode x).mode / 4096
   pub class : (x : ℕ) → is_allocated (vol.class x) ≡ true → vol.class x ≡ class_of_kind (slice_index i.kinds.now x)

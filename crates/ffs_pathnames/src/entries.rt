@@ -159,13 +159,13 @@ pub fn report_entry<I: Image, W: Output>(
     report_by_role(geometry, image, workspace, texts, report, entry)?;
     let inodes = Inodes {
         kinds: workspace.kinds.as_slice(),
-        marked: workspace.marked.as_slice(),
+        marked: &workspace.marked,
         parents: &workspace.parents,
     };
     pass(
         &inodes,
         entry.dir,
-        workspace.flags.as_mut_slice(),
+        &mut workspace.flags,
         &mut workspace.queue,
         entry.role,
         &entry.entry,

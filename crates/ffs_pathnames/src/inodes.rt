@@ -13,10 +13,10 @@ pub struct Inodes<'a> {
     /// What it is (`Kind`).
     pub kinds: &'a [u8],
     /// Whether it is marked.
-    pub marked: &'a [bool],
+    pub marked: &'a FilledList<bool>,
     /// Its parent, or 0 for none.
     pub parents: &'a FilledList<u32>,
-    ghost marked_long: { length marked.now ≡ length kinds.now },
+    ghost marked_long: { vec_len marked.now ≡ length kinds.now },
     ghost parents_long: { vec_len parents.now ≡ length kinds.now },
     ghost few: { length kinds.now < 2 ^ 31 },
 }
@@ -55,7 +55,7 @@ impl<'a> Inodes<'a> {
     /// Whether the inode is marked, or a directory of size 0.
     pub fn is_suspect(&self, inode: u32) -> bool
         requires { inode < length self.now.kinds.now }
-        ensures { result ≡ suspect_at self.now.kinds.now self.now.marked.now inode }
+        ensures { result ≡ suspect_at self.now.kinds.now self.now.marked.now.items inode }
     {
         is_suspect(self.kinds, self.marked, inode as usize)
     }

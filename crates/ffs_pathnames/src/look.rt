@@ -191,10 +191,10 @@ pub fn look_directory<I: Image>(
 {
     let inodes = Inodes {
         kinds: workspace.kinds.as_slice(),
-        marked: workspace.marked.as_slice(),
+        marked: &workspace.marked,
         parents: &workspace.parents,
     };
-    let flags = workspace.flags.as_slice();
+    let flags = &workspace.flags;
     let windows = &mut workspace.windows;
     let words = &mut workspace.queue;
     let order = geometry.layout.order;
@@ -233,14 +233,14 @@ pub fn look_directory<I: Image>(
 pub fn is_quiet(
     inodes: &Inodes<'_>,
     dir: u32,
-    flags: &[bool],
+    flags: &FilledList<bool>,
     words: &FilledList<u32>,
     role: Role,
     entry: &Entry<'_>,
 ) -> bool
-    requires { CanLook inodes.now dir flags.now words.now.items }
+    requires { CanLook inodes.now dir flags.now.items words.now.items }
     ensures { (vol : Volume) → Sees vol inodes.now → result
-        ≡ names.is_quiet vol dir flags.now (stamps_in inodes.now words.now.items)
+        ≡ names.is_quiet vol dir flags.now.items (stamps_in inodes.now words.now.items)
         (record { role = role; entry = entry_value entry.now }) }
 {
     match role {
@@ -304,14 +304,14 @@ pub struct DirectoryChunk<'a> {
 pub fn look_chunk(
     inodes: &Inodes<'_>,
     order: Order,
-    flags: &[bool],
+    flags: &FilledList<bool>,
     words: &mut FilledList<u32>,
     chunk: &DirectoryChunk<'_>,
 ) -> ChunkLook
-    requires { CanLook inodes.now chunk.now.dir flags.now words.old.items }
+    requires { CanLook inodes.now chunk.now.dir flags.now.items words.old.items }
     // Whether it is sure that nothing is reported of them.
     ensures quiet { (vol : Volume) → Sees vol inodes.now → result.quiet
-        ≡ names.are_quiet vol chunk.now.dir flags.now (stamps_in inodes.now words.old.items)
+        ≡ names.are_quiet vol chunk.now.dir flags.now.items (stamps_in inodes.now words.old.items)
         (roled_in order chunk.now) }
     // Whether they fill the chunk.
     ensures sound { result.sound ≡ is_sound order chunk.now.bytes.now }

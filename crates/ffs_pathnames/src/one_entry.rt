@@ -341,16 +341,10 @@ fn verdict_of(workspace: &Workspace, dir: u32, entry: &Entry<'_>) -> Verdict
 {
     let inodes = Inodes {
         kinds: workspace.kinds.as_slice(),
-        marked: workspace.marked.as_slice(),
+        marked: &workspace.marked,
         parents: &workspace.parents,
     };
-    second_verdict(
-        &inodes,
-        dir,
-        workspace.flags.as_slice(),
-        &workspace.queue,
-        entry,
-    )
+    second_verdict(&inodes, dir, &workspace.flags, &workspace.queue, entry)
 }
 
 /// Prints the lines of a plain entry of a directory.

@@ -1,5 +1,5 @@
 //! Phase 2: pathnames (fsck(8)).
-ghost use Rattle.std.specs.Prelude.{◌≡◌, ◌+◌, ◌*◌, ◌∷◌, [], false, true, length, map, ◌&&◌, not, ℕ, IfOk, OnErr};
+ghost use Rattle.std.specs.Prelude.{◌≡◌, ◌+◌, ◌*◌, ◌∷◌, [], false, true, length, map, vec_len, ◌&&◌, not, ℕ, IfOk, OnErr};
 ghost use Rattle.ffs_report.specs.{Known.ForBytes, Paid.Paid, PhaseOutcome.{ImageAfter, PhaseReports}, Progress.progress};
 ghost use Rattle.ffs_volume.specs.Directories.{PathnameCheck.pathname_lines, Volumes.volume_of};
 ghost use Rattle.ffs_volume.specs.{Encodings.Kinds.is_dir_kind, Messages.Kinds.of_tree, Report.Reads.{line_reads, sweep_reads}};
@@ -15,6 +15,7 @@ use crate::say::{LineIf, Phase2Line, say_if, say_line};
 use crate::tree::check_inodes;
 use ffs_image::Image;
 use ffs_layout::Geometry;
+use ffs_memory::FilledList;
 use ffs_names::survey;
 use ffs_report::{DirectoryLine, Heading, Line, OutFault, Output, Report, RunFault};
 use ffs_volume::constants::ROOTINO;
@@ -95,21 +96,40 @@ pub fn clear_passed(workspace: &mut Workspace)
     workspace.forget_windows();
     let inodes = Inodes {
         kinds: workspace.kinds.as_slice(),
-        marked: workspace.marked.as_slice(),
+        marked: &workspace.marked,
         parents: &workspace.parents,
     };
-    clear_suspects(&inodes, workspace.flags.as_mut_slice());
+    clear_suspects(&inodes, &mut workspace.flags);
     workspace.queue.fill(0);
 }
 
-/// Clears the flags of suspect inodes, and no others: a loop without exit.
-fn clear_suspects(inodes: &Inodes<'_>, flags: &mut [bool])
-    requires { length flags.old ≡ length inodes.now.kinds.now }
-    ensures { (x : ℕ) → bool_at flags.new x ≡ (bool_at flags.old x
-        && not (suspect_at inodes.now.kinds.now inodes.now.marked.now x)) }
+/// Whether an inode is suspect: a loop without exit, and mostly none is.
+fn any_suspect(inodes: &Inodes<'_>) -> bool
+    ensures { result ≡ false → (x : ℕ)
+        → suspect_at inodes.now.kinds.now inodes.now.marked.now.items x ≡ false }
 {
+    let mut any = inodes.marked.is_any_true(0, inodes.marked.len());
     for number in 0..inodes.count() {
-        flags[number as usize] &= !inodes.is_suspect(number);
+        any |= inodes.kind(number).is_empty_dir();
+    }
+    any
+}
+
+/// Clears the flags of suspect inodes, and no others.
+fn clear_suspects(inodes: &Inodes<'_>, flags: &mut FilledList<bool>)
+    requires { vec_len flags.old ≡ length inodes.now.kinds.now }
+    ensures long { vec_len flags.new ≡ vec_len flags.old }
+    ensures flags { (x : ℕ) → bool_at flags.new.items x ≡ (bool_at flags.old.items x
+        && not (suspect_at inodes.now.kinds.now inodes.now.marked.now.items x)) }
+{
+    if !any_suspect(inodes) {
+        return;
+    }
+    for number in 0..inodes.count() {
+        let index = number as usize;
+        if flags[index] && inodes.is_suspect(number) {
+            flags.set(index, false);
+        }
     }
 }
 

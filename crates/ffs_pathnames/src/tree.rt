@@ -89,14 +89,20 @@ fn first_to_check(workspace: &Workspace, count: u32) -> u32
     count
 }
 
-/// Whether a directory needs a check: a loop without exit.
+/// Whether a directory needs a check: loops without exit. Where an inode is marked, or a directory
+/// comes after the flags that are touched, one may.
 fn any_to_check(workspace: &Workspace, count: u32) -> bool
     requires { ListsInodes workspace.now count }
     ensures { result ≡ false → (x : ℕ) → 2 ≤ x → x < count → needs_check workspace.now x ≡ false }
 {
-    let mut any = false;
-    for number in ROOTINO..count {
-        any |= needs_check(workspace, number);
+    let kinds = workspace.kinds.as_slice();
+    let flags = workspace.flags.touched();
+    let mut any = workspace.marked.is_any_true(0, kinds.len());
+    for number in ROOTINO as usize..flags.len() {
+        any |= (kinds[number] == DT_DIR) & !flags[number];
+    }
+    for number in flags.len().max(ROOTINO as usize)..kinds.len() {
+        any |= kinds[number] == DT_DIR;
     }
     any
 }

@@ -1,5 +1,5 @@
 //! The verdict on a plain entry, and what is reported by it.
-ghost use Rattle.std.specs.{Prelude.{◌≡◌, ◌<◌, Bool, true, false, not, length, IsTrue}, List.slice_index_or};
+ghost use Rattle.std.specs.{Prelude.{◌≡◌, ◌<◌, Bool, true, false, not, length, vec_len, IsTrue}, List.slice_index_or};
 ghost use Rattle.ffs_volume.specs.Messages.Kinds.{reported};
 ghost use Rattle.ffs_volume.specs.Directories.PathnameCheck.{defects_lines, defects_on, is_bad_whiteout, links_lines, suspect_message};
 ghost use Rattle.ffs_volume.specs.{Directories.{PathnameCheck.{is_silent, verdict_lines, verdict_on}, Roles.Volume}, Blocks.Inodes.is_allocated};
@@ -68,9 +68,9 @@ pub fn verdict(inodes: &Inodes<'_>, entry: &Entry<'_>, first: bool, own: bool) -
 }
 
 /// Whether the inode is there, and flagged.
-fn is_flagged(inodes: &Inodes<'_>, flags: &[bool], inode: u32) -> bool
-    requires { length flags.now ≡ length inodes.now.kinds.now }
-    ensures { result ≡ slice_index_or flags.now inode false }
+fn is_flagged(inodes: &Inodes<'_>, flags: &FilledList<bool>, inode: u32) -> bool
+    requires { vec_len flags.now ≡ length inodes.now.kinds.now }
+    ensures { result ≡ slice_index_or flags.now.items inode false }
 {
     inode < inodes.count() && flags[inode as usize]
 }
@@ -80,14 +80,14 @@ fn is_flagged(inodes: &Inodes<'_>, flags: &[bool], inode: u32) -> bool
 pub fn second_verdict(
     inodes: &Inodes<'_>,
     dir: u32,
-    flags: &[bool],
+    flags: &FilledList<bool>,
     words: &FilledList<u32>,
     entry: &Entry<'_>,
 ) -> Verdict
-    requires { HasFlagAndWord inodes.now flags.now words.now.items }
+    requires { HasFlagAndWord inodes.now flags.now.items words.now.items }
     ensures below { IsTrue (asks_attr result) → entry.now.number < length inodes.now.kinds.now }
     ensures is { (vol : Volume) → Sees vol inodes.now → result
-        ≡ second_verdict vol dir (passed_in inodes.now flags.now words.now.items)
+        ≡ second_verdict vol dir (passed_in inodes.now flags.now.items words.now.items)
         (entry_value entry.now) }
 {
     let first = !is_flagged(inodes, flags, entry.number);
@@ -101,13 +101,13 @@ pub fn second_verdict(
 pub fn first_verdict(
     inodes: &Inodes<'_>,
     dir: u32,
-    flags: &[bool],
+    flags: &FilledList<bool>,
     words: &FilledList<u32>,
     entry: &Entry<'_>,
 ) -> Verdict
-    requires { CanLook inodes.now dir flags.now words.now.items }
+    requires { CanLook inodes.now dir flags.now.items words.now.items }
     ensures { (vol : Volume) → Sees vol inodes.now → result
-        ≡ first_verdict vol dir (passed_in inodes.now flags.now words.now.items)
+        ≡ first_verdict vol dir (passed_in inodes.now flags.now.items words.now.items)
         (entry_value entry.now) }
 {
     let first = !is_flagged(inodes, flags, entry.number);
@@ -120,10 +120,10 @@ pub fn first_verdict(
 /// Whether a plain entry is a whiteout; or it has the type of the file that it names, and that file
 /// isn't marked, or an entry has named it already. Nothing is reported of such an entry, in whichever
 /// directory it is. Most entries are so.
-pub fn is_harmless(inodes: &Inodes<'_>, flags: &[bool], entry: &Entry<'_>) -> bool
-    requires { length flags.now ≡ length inodes.now.kinds.now }
+pub fn is_harmless(inodes: &Inodes<'_>, flags: &FilledList<bool>, entry: &Entry<'_>) -> bool
+    requires { vec_len flags.now ≡ length inodes.now.kinds.now }
     ensures { IsTrue result → (vol : Volume) → Sees vol inodes.now → (own : Bool)
-        → is_silent (verdict_on vol (not (slice_index_or flags.now entry.now.number false)) own
+        → is_silent (verdict_on vol (not (slice_index_or flags.now.items entry.now.number false)) own
         (entry_value entry.now)) ≡ true }
 {
     let number = entry.number as usize;
@@ -147,16 +147,17 @@ pub fn is_harmless(inodes: &Inodes<'_>, flags: &[bool], entry: &Entry<'_>) -> bo
 pub fn pass(
     inodes: &Inodes<'_>,
     dir: u32,
-    flags: &mut [bool],
+    flags: &mut FilledList<bool>,
     words: &mut FilledList<u32>,
     role: Role,
     entry: &Entry<'_>,
 )
-    requires { HasFlagAndWord inodes.now flags.old words.old.items }
+    requires { HasFlagAndWord inodes.now flags.old.items words.old.items }
     ensures after { (vol : Volume) → Sees vol inodes.now
-        → after_roled vol dir (passed_in inodes.now flags.old words.old.items)
+        → after_roled vol dir (passed_in inodes.now flags.old.items words.old.items)
         (record { role = role; entry = entry_value entry.now })
-        ≡ passed_in inodes.now flags.new words.new.items }
+        ≡ passed_in inodes.now flags.new.items words.new.items }
+    ensures flags { vec_len flags.new ≡ vec_len flags.old }
     ensures words { KeepsWords words.old words.new }
 {
     if role != Role::Plain {
@@ -167,7 +168,7 @@ pub fn pass(
     }
     let index = entry.number as usize;
     if inodes.is_suspect(entry.number) {
-        flags[index] = true;
+        flags.set(index, true);
     }
     if inodes.stamp_of(words, entry.number) == dir {
         words.set(index, passed(words[index]));

@@ -1,4 +1,4 @@
-use Rattle.std.proofs.{Common.{◌+◌, ap, refl, ◌∙◌, arith, rules, Err}, lemmas.List.with_items_is}
+use Rattle.std.proofs.Common.{◌+◌, ap, refl, ◌∙◌, arith, rules, Err}
 use Rattle.std.proofs.lemmas.Result.{err_from_is_err_and}
 use Rattle.ffs_volume.{specs.Directories.Volumes.volume_of, proofs.Numbered.{as_many, count_next, from_next, from_end}}
 use Rattle.ffs_report.{specs.Known.ForBytes, proofs.Paying.{paid_answer, paid_fault, paid_says, paid_stops, paid_then}}
@@ -35,7 +35,7 @@ pub returns-then-first-len-clause-text : goal.returns-then-first-len-clause-text
 returns-then-first-len-clause-text g c =
     let v = c.args.geometry.now.layout in
     let kinds = c.deref.ensures.value ∙ ap (λ (w : Workspace). w.kinds.items) c.forget_windows.ensures.only in
-    let reached = c.deref-2.ensures.value ∙ ap (λ (w : Workspace). w.reached.items) c.forget_windows.ensures.only in
+    let reached = ap (λ (w : Workspace). w.reached.items) c.forget_windows.ensures.only in
     let long = (c.forget_windows.ensures.forgets v _ c.requires.ready).ready.made.kinds in
     says_heading (λ bytes k. lines_begin v bytes c.args.workspace.now _ _ kinds reached k.1 k.2
     c.first_unreached-first.result (omega (arith, long)) c.first_unreached-first.ensures.before
@@ -47,13 +47,13 @@ loop-number-init g c =
     let forgot = c.forget_windows.ensures.only in
     let can = c.forget_windows.ensures.forgets v (g.I.Image.device c.args.image.now) c.requires.ready in
     let kinds = c.deref.ensures.value ∙ ap (λ (w : Workspace). w.kinds.items) forgot in
-    let reached = c.deref-2.ensures.value ∙ ap (λ (w : Workspace). w.reached.items) forgot in
+    let reached = ap (λ (w : Workspace). w.reached.items) forgot in
     record {
       ready = search (rules, arith);
       device = refl;
       low = omega arith;
       survey = leaves_more _ c.forget_windows.new.self _ (windows_leave _ _ forgot) (grind (arith, filled_noted));
-      leaders = grind (arith, with_items_is);
+      leaders = grind arith;
       reads = λ bytes k.
           let all = as_many _ _ (lines_begin v bytes c.args.workspace.now _ _ kinds reached k.1 k.2 c.first_unreached-first.result (omega arith)
           c.first_unreached-first.ensures.before) in

@@ -16,8 +16,8 @@ tested : (g : given.Over) (c : After-is_unref-unref g) →
     ForBytes (WithSurvey c.args.geometry.now.layout (g.I.Image.device c.args.image.now) c.args.workspace.now)
     (λ bytes. is_unref_dir (volume_of c.args.geometry.now.layout bytes) c.args.number ≡ c.is_unref-unref.result)
 tested g c bytes k = sym (unref_dir_is c.args.geometry.now.layout bytes c.args.workspace.now _ _ _ _ _ c.args.number _
-    c.requires.number.0 c.requires.number.1 (omega arith) c.deref.ensures.value c.deref-2.ensures.value
-    c.deref-3.ensures.value c.deref-4.ensures.value refl c.is_unref-unref.ensures k.1 k.2)
+    c.requires.number.0 c.requires.number.1 (omega arith) c.deref.ensures.value refl
+    refl refl refl c.is_unref-unref.ensures k.1 k.2)
 
 -- the line of one that is read
 heard_of : (g : given.Over) (c : After-of g) →

@@ -14,7 +14,7 @@ returns c =
       right = λ x low high.
           let met = met_in counts c.args.first x long low high (c.any_unmet.ensures c.if-any_unmet.false) in
           let alive : suspect_at w.kinds.items w.marked.items x ≡ false =
-          rw (sym c.deref.ensures.value, sym c.deref-2.ensures.value)
+          rw (sym c.deref.ensures.value)
           (c.any_free_or_suspect.ensures c.if-any_free_or_suspect.false x low high) in
           right_met w x (c.touched-counts.ensures.items 0 x (omega (arith, long, high)) ∙ met) alive;
     }

@@ -52,20 +52,20 @@ returns g c =
           let v = c.args.geometry.now.layout in
           let shows = sees v b here _ (record {
             kinds = c.as_slice.ensures.value;
-            marked = c.as_slice-2.ensures.value;
+            marked = refl;
             parents = refl;
             count = c.as_slice.ensures.len ∙ made.kinds;
           }) (claims_left v b before here kept k.claims) (survey_left v b before here kept k.survey) in
           passes (volume_of v b) c.args.entry.now.dir (roled_value c.args.entry.now)
-          (c.as_mut_slice.ensures.shown.value ∙ ap (λ (w : Workspace). w.flags.items) left.lists)
+          (ap (λ (w : Workspace). w.flags.items) left.lists)
           (ap (λ (w : Workspace). (passed_of w).stamps) left.lists) (passed.after (volume_of v b) shows)
-          (with_items_is here.flags c.pass.new.flags (c.pass.auto.flags ∙ c.as_mut_slice.ensures.shown.len)) refl;
+          refl refl;
       leaves = record {
         image = left.image;
         survey = leaves_more _ _ _ kept surveyed;
         places = keep_more _ _ _ (windows_keep before here left.lists) passed.words.places;
         ready = record {
-          ready = ready_passed _ _ here _ _ left.ready.ready refl passed.words.long;
+          ready = ready_passed _ _ here _ _ left.ready.ready passed.flags passed.words.long;
           kept_parent = kept_parent_on _ _ _ _ _ _ refl surveyed passed.words.places left.ready.kept_parent;
         };
       };

@@ -51,7 +51,7 @@ chunks-preserved g c =
     let look = c.look_chunk-looked.ensures in
     let seen = λ (b : List ℕ) (h : HoldsClaims v b w) (r : HoldsSurvey v b w). sees v b w _ (record {
       kinds = c.as_slice.ensures.value;
-      marked = c.as_slice-2.ensures.value;
+      marked = refl;
       parents = refl;
       count = c.as_slice.ensures.len ∙ made.kinds;
     }) h r in
@@ -70,7 +70,7 @@ chunks-preserved g c =
       others = others_stay c.args.workspace.now.windows c.chunks.windows c.next.new.blocks c.next.new.window inv.others;
       ready = rw inv.geometry at c.in_ok-offset.ensures.leaves.ready;
       quiet = λ b t h r small. chunk_quiet (volume_of v b) x.number w.flags.items old c.chunks.quiet (next b t)
-          (rw c.as_slice-flags.ensures.value at (look.quiet (volume_of v b) (seen b h r))) (look.stamps.after (volume_of v b) (seen b h r))
+          (look.quiet (volume_of v b) (seen b h r)) (look.stamps.after (volume_of v b) (seen b h r))
           (inv.quiet b t h r small);
       stamps = λ b t h r small. chunk_stamps (volume_of v b) x.number old (next b t)
           (look.stamps.after (volume_of v b) (seen b h r)) (inv.stamps b t h r small);

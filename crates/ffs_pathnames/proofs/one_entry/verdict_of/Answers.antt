@@ -7,17 +7,14 @@ use Rattle.ffs_pathnames.proofs.one_entry.verdict_of.Goals as goal
 pub returns : goal.returns
 returns c =
     let w = c.args.workspace.now in
-    let e = entry_value c.args.entry.now in
     record {
       below = λ q. omega (arith, c.second_verdict.ensures.below q, c.as_slice.ensures.len);
       verdict = λ v b made h r.
           let shows = sees v b w _ (record {
             kinds = c.as_slice.ensures.value;
-            marked = c.as_slice-2.ensures.value;
+            marked = refl;
             parents = refl;
             count = c.as_slice.ensures.len ∙ made.kinds;
           }) h r in
-          c.second_verdict.ensures.is (volume_of v b) shows
-          ∙ ap (λ ms. second_verdict (volume_of v b) c.args.dir (record { flags = ms; stamps = (passed_of w).stamps }) e)
-          c.as_slice-3.ensures.value;
+          c.second_verdict.ensures.is (volume_of v b) shows;
     }

@@ -1,6 +1,15 @@
-use Rattle.std.proofs.Common.{◌≡◌, ◌<◌, ◌≤◌, ℕ, false}
+use Rattle.std.proofs.Common.{◌≡◌, ◌<◌, ◌≤◌, ℕ, false, vec_len}
+use Rattle.ffs_workspace.specs.{Holds.bool_at, declared.workspace.Workspace.Workspace}
 use Rattle.ffs_pathnames.specs.Before.{needs_check}
 use Rattle.ffs_pathnames.proofs.tree.any_to_check.Given as goal
 
+-- no inode is marked, and none of those below n needs a check
+abbrev NoneNeedsCheck : Workspace → ℕ → Type 0
+NoneNeedsCheck w n = ((x : ℕ) → x < vec_len w.kinds → bool_at w.marked.items x ≡ false)
+    × ((x : ℕ) → 2 ≤ x → x < n → needs_check w x ≡ false)
+
 abbrev pub invariant-loop-number : goal.invariant-loop-number
-invariant-loop-number l = l.any ≡ false → (x : ℕ) → 2 ≤ x → x < l.number → needs_check l.workspace x ≡ false
+invariant-loop-number l = l.any ≡ false → NoneNeedsCheck l.workspace l.number
+
+abbrev pub invariant-loop-number-2 : goal.invariant-loop-number-2
+invariant-loop-number-2 l = l.any ≡ false → NoneNeedsCheck l.workspace l.number

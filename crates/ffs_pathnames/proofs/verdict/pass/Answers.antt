@@ -10,15 +10,16 @@ returns-then-stamp_of-dir c = record {
   after = λ v s.
       let plain : is_plain c.args.role ≡ true = search rules in
       let x = c.args.entry.now.number in
-      let flags = c.args.flags.now in
+      let flags = c.args.flags.now.items in
       let by = λ (b : Bool). if b then slice_set flags x true else flags in
-      let flagged : c.if-is_suspect.flags ≡ by c.is_suspect.result = elim c.if-is_suspect.branch [
-        | then-is_suspect w ↦ w.flags-is ∙ sym (ap by w.if-is_suspect.true)
-        | else-is_suspect w ↦ w.flags-is ∙ sym (ap by w.if-is_suspect.false)
+      let flagged : c.if-is_suspect.flags.items ≡ by c.is_suspect.result = elim c.if-is_suspect.branch [
+        | then-is_suspect w ↦ rw w.flags-is (w.set.ensures.items ∙ sym (ap by w.if-is_suspect.true))
+        | else-is_suspect w ↦ rw w.flags-is (sym (ap by w.if-is_suspect.false))
       ] in
       after_pass v c.args.inodes.now c.args.dir c.passed.result c.is_suspect.result flags _ c.args.words.now.items _
       c.args.role (entry_value c.args.entry.now) s plain
       (subst (λ n. x < n) c.count.ensures c.if-entry-count.false) c.is_suspect.ensures flagged
-      (sym c.stamp_of.ensures ∙ c.if-stamp_of-dir.true) c.set.ensures.items c.passed.ensures.due;
+      (sym c.stamp_of.ensures ∙ c.if-stamp_of-dir.true) c.set-then-stamp_of-dir.ensures.items c.passed.ensures.due;
+  flags = grind (arith, common_steps);
   words = grind (arith, common_steps);
 }
