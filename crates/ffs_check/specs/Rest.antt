@@ -67,7 +67,7 @@ WithLeftByPhase1 v d w bytes = IsContents d.contents bytes × IsLeftByPhase1 v b
 -- what `has_dups` and `runs` answer after a check of a workspace: whether phase 1 has a DUP line, and how
 -- many Runs phases 1 and 1b looked at. Where phase 1b isn't run its count is as it was before
 pub record HasAnswers (v : Layout) (bytes : List ℕ) (old new : Workspace) : Type 0 where
-  pub dups : new.found_dups ≡ has_rescan v (owners_of v bytes)
+  pub has_dups : new.has_dups ≡ has_rescan v (owners_of v bytes)
   pub seen : new.runs_seen ≡ run_count v bytes
   pub again : new.runs_again ≡ (if has_rescan v (owners_of v bytes) then rescan_runs v bytes else old.runs_again)
 

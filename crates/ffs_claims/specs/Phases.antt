@@ -12,7 +12,7 @@ use Rattle.ffs_workspace.specs.Holds.{HoldsClaims, HoldsPhase1}
 -- a DUP line, which is just where phase 1b is to run. It has counted each Run that is seen
 pub record IsLeftByPhase1 (v : Layout) (bytes : List ℕ) (w : Workspace) : Type 0 where
   pub holds : HoldsPhase1 v bytes w
-  pub dups : w.found_dups ≡ has_rescan v (owners_of v bytes)
+  pub has_dups : w.has_dups ≡ has_rescan v (owners_of v bytes)
   pub count : w.runs_seen ≡ run_count v bytes
 
 -- phase 1 reads the image at most once for each block of the inode tables and once for each Run that
@@ -39,7 +39,7 @@ pub record RescanReads (v : Layout) (d : Device) (old new : Workspace) (before a
   pub runs : ForBytes (WithPhase1 v d old) (λ bytes. new.runs_again ≤ run_count v bytes)
   pub reads : new.runs_again < 2 ^ 64 - 1 → after ≤ before + v.ncg * v.ipg + new.runs_again
   pub seen : new.runs_seen ≡ old.runs_seen
-  pub dups : new.found_dups ≡ old.found_dups
+  pub has_dups : new.has_dups ≡ old.has_dups
 
 -- phase 1b reads as the rescan does, and never more often than a sweep may
 pub record Phase1bReads (v : Layout) (d : Device) (old new : Workspace) (before after : ℕ) : Type 0 where
