@@ -73,7 +73,7 @@ pub record HasAnswers (v : Layout) (bytes : List ℕ) (old new : Workspace) : Ty
 
 -- what a workspace holds and answers after phase 1b, where it ran: the count of phase 1's Runs stays,
 -- nothing is surveyed yet, and it is ready for the next phase
-pub record LeavesRescan (v : Layout) (d d' : Device) (w w' : Workspace) (result : Result (Unit {0}) RunFault) : Type 0
+pub record RescanLeaves (v : Layout) (d d' : Device) (w w' : Workspace) (result : Result (Unit {0}) RunFault) : Type 0
   where
     pub holds : OnOk result (ForBytes (WithLeftByPhase1 v d w) (λ bytes. HoldsClaims v bytes w'))
     pub answers : OnOk result (ForBytes (WithLeftByPhase1 v d w) (λ bytes. HasAnswers v bytes w w'))

@@ -122,7 +122,7 @@ pub record HoldsPlaces (v : Layout) (b : List ℕ) (w : Workspace) : Type 0 wher
 
 -- what a call leaves that notes the chunks of p that are to come: the other windows are as they were, only
 -- children of p are noted, in as many words, and the image is read at most as often as these chunks ask for
-pub record LeavesNoted {T : Type 0} (parents : Vec ℕ Global) (p : ℕ) (old new : ChunkNoting)
+pub record NotingChunksLeaves {T : Type 0} (parents : Vec ℕ Global) (p : ℕ) (old new : ChunkNoting)
     (result : Result T ImageFault) : Type 0 where
   pub geometry : new.chunks.walk.geometry ≡ old.chunks.walk.geometry
   pub ready : CanReadChunks old.chunks.walk.geometry.layout new.image new.windows.blocks new.windows.current
@@ -135,7 +135,7 @@ pub record LeavesNoted {T : Type 0} (parents : Vec ℕ Global) (p : ℕ) (old ne
 
 -- what a call leaves that notes places of children of p in `queue`: only the windows change beside it, and
 -- hold what the image gives, which was only read
-pub record LeavesChildren {T : Type 0} (v : Layout) (p : ℕ) (old new : DirSweep) (result : Result T ImageFault)
+pub record NotingDirectoryLeaves {T : Type 0} (v : Layout) (p : ℕ) (old new : DirSweep) (result : Result T ImageFault)
     : Type 0 where
   pub lists : new.workspace ≡ record old.workspace { windows = new.workspace.windows; queue = new.workspace.queue }
   pub ready : CanRead v new.image new.workspace
@@ -144,7 +144,7 @@ pub record LeavesChildren {T : Type 0} (v : Layout) (p : ℕ) (old new : DirSwee
 
 -- what a call leaves that notes all places: only the windows and `queue` change, the windows hold what the
 -- image gives, which was only read, and where no read failed nothing is to be read any more: no parent entry is due
-pub record LeavesPlaces {T : Type 0} (v : Layout) (old new : DirSweep) (result : Result T ImageFault) : Type 0 where
+pub record NotingLeaves {T : Type 0} (v : Layout) (old new : DirSweep) (result : Result T ImageFault) : Type 0 where
   pub lists : new.workspace ≡ record old.workspace { windows = new.workspace.windows; queue = new.workspace.queue }
   pub ready : CanRead v new.image new.workspace
   pub read : ReadAfter old.image new.image result

@@ -11,7 +11,7 @@ use Rattle.ffs_names.specs.{CalmDirs.FlagsEachCalm, Sweeps.DirSweep}
 
 -- what a survey leaves: the workspace is ready for the next call, `queue` is zero, so that it notes no
 -- place of a parent entry, and the image was only read. After a failed read it counts as not surveyed
-pub record LeavesClaims {T : Type 0} (v : Layout) (d d' : Device) (old new : Workspace) (result : Result T ImageFault) :
+pub record SurveyLeaves {T : Type 0} (v : Layout) (d d' : Device) (old new : Workspace) (result : Result T ImageFault) :
     Type 0 where
   pub same : LeavesBlockCheck old new
   pub unnoted : (x : ℕ) → slice_index new.queue.items x ≡ 0

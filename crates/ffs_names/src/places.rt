@@ -10,7 +10,7 @@ ghost use Rattle.ffs_volume.specs.Report.DirectoryReads.{noted_cost, noted_costs
 ghost use Rattle.ffs_workspace.specs.{Holds.{HoldsClaims, HoldsSurvey}, Ready.CanRead, Tables.CanReadInode};
 ghost use Rattle.ffs_workspace.specs.Tables.{TableAfter};
 ghost use Rattle.ffs_names.specs.Noting.{chunk_noting, is_child, BeginsNotes, CanNote, CanNoteChunks, CanNoteDirectory};
-ghost use Rattle.ffs_names.specs.Noting.{HoldsPlaces, LeavesChildren, LeavesNoted, LeavesPlaces, NotesDirectory};
+ghost use Rattle.ffs_names.specs.Noting.{HoldsPlaces, NotingDirectoryLeaves, NotingChunksLeaves, NotingLeaves, NotesDirectory};
 ghost use Rattle.ffs_names.specs.{Noting.{NotesEntries, NotesInWords}, Costs.{BeginsChunks, BeginsReads, SweepsOnce}};
 ghost use Rattle.ffs_names.specs.{Sweeps.dir_sweep, Readings.rest};
 
@@ -103,7 +103,7 @@ fn note_chunks<I: Image>(
     ensures noted { OnOk result (ForContents (I.device image.old).contents
         (λ b. NotesEntries chunks.old.walk.geometry.layout b (is_child parents.now.items dir)
         (flat_map roled_chunk (rest b chunks.old)) words.old.items words.new.items)) }
-    ensures leaves { LeavesNoted parents.now dir
+    ensures leaves { NotingChunksLeaves parents.now dir
         (chunk_noting I.Image image.old windows.old chunks.old words.old)
         (chunk_noting I.Image image.new windows.new chunks.new words.new) result }
 {
@@ -168,7 +168,7 @@ fn note_directory<I: Image>(
         → is_dir (volume_of geometry.now.layout b) dir ≡ true
         → NotesDirectory geometry.now.layout b dir (dir_sweep I.Image image.old workspace.old)
         (dir_sweep I.Image image.new workspace.new) result) }
-    ensures leaves { LeavesChildren geometry.now.layout dir
+    ensures leaves { NotingDirectoryLeaves geometry.now.layout dir
         (dir_sweep I.Image image.old workspace.old) (dir_sweep I.Image image.new workspace.new)
         result }
 {
@@ -222,7 +222,7 @@ fn note_places_unlimited<I: Image>(
         (λ b. HoldsClaims geometry.now.layout b workspace.old
         → HoldsSurvey geometry.now.layout b workspace.old
         → I.reads image.new ≤ I.reads image.old + noted_costs geometry.now.layout b) }
-    ensures leaves { LeavesPlaces geometry.now.layout (dir_sweep I.Image image.old workspace.old)
+    ensures leaves { NotingLeaves geometry.now.layout (dir_sweep I.Image image.old workspace.old)
         (dir_sweep I.Image image.new workspace.new) result }
 {
     flag_parents(&workspace.reached, &workspace.parents, &mut workspace.queue);
@@ -256,7 +256,7 @@ pub fn note_places<I: Image>(
     ensures reads { SweepsOnce geometry.now.layout (I.device image.old).contents
         (λ b. HoldsClaims geometry.now.layout b workspace.old
         × HoldsSurvey geometry.now.layout b workspace.old) (I.reads image.old) (I.reads image.new) }
-    ensures leaves { LeavesPlaces geometry.now.layout (dir_sweep I.Image image.old workspace.old)
+    ensures leaves { NotingLeaves geometry.now.layout (dir_sweep I.Image image.old workspace.old)
         (dir_sweep I.Image image.new workspace.new) result }
 {
     let mut limited = LimitedImage::new(image, sweep_reads(geometry));
