@@ -12,7 +12,7 @@ ghost use Rattle.ffs_workspace.specs.Tables.{TableAfter};
 ghost use Rattle.ffs_names.specs.Noting.{chunk_noting, is_child, BeginsNotes, CanNote, CanNoteChunks, CanNoteDirectory};
 ghost use Rattle.ffs_names.specs.Noting.{HoldsPlaces, NotingDirectoryLeaves, NotingChunksLeaves, NotingLeaves, NotesDirectory};
 ghost use Rattle.ffs_names.specs.{Noting.{NotesEntries, NotesInWords}, Costs.{BeginsChunks, BeginsReads, SweepsOnce}};
-ghost use Rattle.ffs_names.specs.{Sweeps.dir_sweep, Readings.rest};
+ghost use Rattle.ffs_names.specs.{Sweeps.dir_moment, Readings.rest};
 
 use crate::chunk_entries::ChunkEntries;
 use crate::chunks::Chunks;
@@ -166,10 +166,10 @@ fn note_directory<I: Image>(
     ensures notes { ForContents (I.device image.old).contents
         (λ b. HoldsClaims geometry.now.layout b workspace.old
         → is_dir (volume_of geometry.now.layout b) dir ≡ true
-        → NotesDirectory geometry.now.layout b dir (dir_sweep I.Image image.old workspace.old)
-        (dir_sweep I.Image image.new workspace.new) result) }
+        → NotesDirectory geometry.now.layout b dir (dir_moment I.Image image.old workspace.old)
+        (dir_moment I.Image image.new workspace.new) result) }
     ensures leaves { NotingDirectoryLeaves geometry.now.layout dir
-        (dir_sweep I.Image image.old workspace.old) (dir_sweep I.Image image.new workspace.new)
+        (dir_moment I.Image image.old workspace.old) (dir_moment I.Image image.new workspace.new)
         result }
 {
     let note = workspace.notes[dir as usize];
@@ -222,8 +222,8 @@ fn note_places_unlimited<I: Image>(
         (λ b. HoldsClaims geometry.now.layout b workspace.old
         → HoldsSurvey geometry.now.layout b workspace.old
         → I.reads image.new ≤ I.reads image.old + noted_costs geometry.now.layout b) }
-    ensures leaves { NotingLeaves geometry.now.layout (dir_sweep I.Image image.old workspace.old)
-        (dir_sweep I.Image image.new workspace.new) result }
+    ensures leaves { NotingLeaves geometry.now.layout (dir_moment I.Image image.old workspace.old)
+        (dir_moment I.Image image.new workspace.new) result }
 {
     flag_parents(&workspace.reached, &workspace.parents, &mut workspace.queue);
     for dir in ROOTINO..geometry.layout.ncg * geometry.layout.ipg {
@@ -256,8 +256,8 @@ pub fn note_places<I: Image>(
     ensures reads { SweepsOnce geometry.now.layout (I.device image.old).contents
         (λ b. HoldsClaims geometry.now.layout b workspace.old
         × HoldsSurvey geometry.now.layout b workspace.old) (I.reads image.old) (I.reads image.new) }
-    ensures leaves { NotingLeaves geometry.now.layout (dir_sweep I.Image image.old workspace.old)
-        (dir_sweep I.Image image.new workspace.new) result }
+    ensures leaves { NotingLeaves geometry.now.layout (dir_moment I.Image image.old workspace.old)
+        (dir_moment I.Image image.new workspace.new) result }
 {
     let mut limited = LimitedImage::new(image, sweep_reads(geometry));
     let noted = note_places_unlimited(geometry, &mut limited, workspace);
