@@ -9,7 +9,7 @@ ghost use Rattle.ffs_volume.specs.{Directories.{Roles.roled_from, Volumes.volume
 ghost use Rattle.ffs_volume.specs.Report.DirectoryReads.{noted_cost, noted_costs};
 ghost use Rattle.ffs_workspace.specs.{Holds.{HoldsClaims, HoldsSurvey}, Ready.CanRead, Tables.CanReadInode};
 ghost use Rattle.ffs_workspace.specs.Tables.{TableAfter};
-ghost use Rattle.ffs_names.specs.Noting.{chunk_noting, is_child, BeginsNotes, CanNote, CanNoteChunks, CanNoteDirectory};
+ghost use Rattle.ffs_names.specs.Noting.{chunk_noting, belongs_to, BeginsNotes, CanNote, CanNoteChunks, CanNoteDirectory};
 ghost use Rattle.ffs_names.specs.Noting.{HoldsPlaces, NotingDirectoryLeaves, NotingChunksLeaves, NotingLeaves, NotesDirectory};
 ghost use Rattle.ffs_names.specs.{Noting.{NotesEntries, NotesInWords}, Costs.{BeginsChunks, BeginsReads, SweepsOnce}};
 ghost use Rattle.ffs_names.specs.{Sweeps.dir_moment, Readings.rest};
@@ -24,14 +24,14 @@ use ffs_memory::FilledList;
 use ffs_volume::constants::{DIRBLKSIZ, ROOTINO};
 use ffs_volume::{Class, Order, Role};
 use ffs_workspace::{
-    Table, Windows, Workspace, address_in, due as to_be_read, is_due as is_to_be_read, noted_part,
-    passed as was_read, place_of, sweep_reads,
+    Table, Windows, Workspace, address_in, is_due, noted_part, place_of, sweep_reads, with_due,
+    without_due,
 };
 
 /// Whether a directory is the parent of an inode other than the root, which has no parent entry.
-fn is_child(parents: &FilledList<u32>, dir: u32, number: u32) -> bool
+fn belongs_to(parents: &FilledList<u32>, number: u32, dir: u32) -> bool
     requires { 0 < dir }
-    ensures { result ≡ is_child parents.now.items dir number }
+    ensures { result ≡ belongs_to parents.now.items dir number }
 {
     if number as usize >= parents.len() {
         return false;
@@ -55,7 +55,7 @@ fn note_entry(
 {
     // Whether an entry is plain depends neither on its index nor on its chunk's place in the file:
     // any will do here.
-    if role_of(false, 0, entry) != Role::Plain || !is_child(parents, dir, entry.number) {
+    if role_of(false, 0, entry) != Role::Plain || !belongs_to(parents, entry.number, dir) {
         return;
     }
     let index = entry.number as usize;
@@ -101,7 +101,7 @@ fn note_chunks<I: Image>(
     requires { CanNoteChunks parents.now dir
         (chunk_noting I.Image image.old windows.old chunks.old words.old) }
     ensures noted { OnOk result (ForContents (I.device image.old).contents
-        (λ b. NotesEntries chunks.old.walk.geometry.layout b (is_child parents.now.items dir)
+        (λ b. NotesEntries chunks.old.walk.geometry.layout b (belongs_to parents.now.items dir)
         (flat_map roled_chunk (rest b chunks.old)) words.old.items words.new.items)) }
     ensures leaves { NotingChunksLeaves parents.now dir
         (chunk_noting I.Image image.old windows.old chunks.old words.old)
@@ -185,9 +185,9 @@ fn note_directory<I: Image>(
     )
 }
 
-/// Sets the top bit of the word of each directory that is the parent of a reached one: its chunks
-/// are to be read. (Once the places are noted the same bit says that its parent entry is due.) No
-/// place is noted yet.
+/// Sets the due bit in the word of each directory that is the parent of a reached one: its chunks
+/// are due to be read. (Once the places are noted the same bit says that its parent entry is due.)
+/// No place is noted yet.
 fn flag_parents(reached: &FilledList<bool>, parents: &FilledList<u32>, words: &mut FilledList<u32>)
     requires lengths { (vec_len parents.now ≡ vec_len reached.now)
         × (vec_len words.old ≡ vec_len reached.now) × (vec_len reached.now < 2 ^ 31) }
@@ -199,7 +199,7 @@ fn flag_parents(reached: &FilledList<bool>, parents: &FilledList<u32>, words: &m
         let parent = parents[number as usize];
         if reached[number as usize] && (ROOTINO..count).contains(&parent) {
             let index = parent as usize;
-            words.set(index, to_be_read(words[index]));
+            words.set(index, with_due(words[index]));
         }
     }
 }
@@ -227,9 +227,10 @@ fn note_places_unlimited<I: Image>(
 {
     flag_parents(&workspace.reached, &workspace.parents, &mut workspace.queue);
     for dir in ROOTINO..geometry.layout.ncg * geometry.layout.ipg {
+        // Here the bit says that the directory's chunks are due to be read.
         let word = workspace.queue[dir as usize];
-        if is_to_be_read(word) {
-            workspace.queue.set(dir as usize, was_read(word));
+        if is_due(word) {
+            workspace.queue.set(dir as usize, without_due(word));
             note_directory(geometry, image, workspace, dir)?;
         }
     }
