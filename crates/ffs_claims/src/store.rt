@@ -60,6 +60,18 @@ fn stored_cut(workspace: &Workspace) -> u32
     workspace.kept.min(u64::from(u32::MAX)) as u32
 }
 
+/// Sets whether an inode is marked, if that isn't what the list holds already: so its memory is
+/// touched only up to the last inode that is marked.
+#[inline(always)]
+fn store_mark(list: &mut FilledList<bool>, number: usize, marked: bool)
+    requires { number < vec_len list.old }
+    ensures { list.new.items ≡ slice_set list.old.items number marked }
+{
+    if list[number] != marked {
+        list.set(number, marked);
+    }
+}
+
 /// Sets what is noted of an inode, if that isn't what the list holds already: so its memory is
 /// touched only for inodes of which something is noted.
 #[inline(always)]
@@ -105,7 +117,7 @@ pub fn store(workspace: &mut Workspace, number: u32, class: Class, inode: &Inode
     let marked = is_marked(workspace, class);
     let note = note_of(class, inode, stored_cut(workspace));
     workspace.kinds[number as usize] = kind;
-    workspace.marked[number as usize] = marked;
+    store_mark(&mut workspace.marked, number as usize, marked);
     store_note(&mut workspace.notes, number as usize, note);
     store_start(&mut workspace.references, number as usize, class, inode);
 }
