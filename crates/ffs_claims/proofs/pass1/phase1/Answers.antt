@@ -205,7 +205,6 @@ returns-in_err-claim_inode-clause-reads g c =
       known = λ bytes k. read_failed c.args.geometry.now.sound (omega arith)
           (λ held. c.claim_inode.ensures.table.known held bytes (contents ∙ k.0))
           (c.claim_inode.ensures.claims.known bytes (contents ∙ k.0)) (inv.known bytes k);
-      again = left.again ∙ inv.again;
     }
 
 pub returns-clause-reads : goal.returns-clause-reads
@@ -218,5 +217,4 @@ returns-clause-reads g c =
       runs = omega (arith, inv.runs, used_below inv.ready.ready.ready.made, most);
       reads = blocks_all sound (omega (arith, inv.high, some_inodes v sound)) inv.reads;
       known = λ bytes k. read_all sound (omega (arith, inv.high, some_inodes v sound)) (inv.known bytes k);
-      again = inv.again;
     }

@@ -98,8 +98,6 @@ returns-in_err-rewalk_inode-clause-reads g c =
           omega (arith, inv.runs bytes k, did.runs bytes (ap (λ d. d.contents) inv.device ∙ k.0));
       reads = runs_pay_all _ _ _ (runs_pay_then _ _ _ (n - 1) inv.reads did.counted (omega arith))
           (omega (arith, last, inv.low));
-      seen = did.left.claims.seen ∙ inv.claims.seen;
-      has_dups = did.left.claims.has_dups ∙ inv.claims.has_dups;
     }
 
 pub loop-number-preserved : goal.loop-number-preserved
@@ -164,9 +162,8 @@ returns-then-not-has_unreported_dups g c =
       reads = record {
         runs = λ bytes k. omega (arith, inv.runs bytes k, runs_most v bytes n inv.low inv.high);
         reads = runs_pay_all _ _ _ inv.reads (numbers_most n (inodes_of v) inv.high);
-        seen = inv.claims.seen;
-        has_dups = inv.claims.has_dups;
       };
+      stays = record { seen = inv.claims.seen; has_dups = inv.claims.has_dups };
       ready = inv.ready.ready;
     }
 
@@ -190,8 +187,7 @@ returns-after-loop-number g c =
       reads = record {
         runs = λ bytes k. omega (arith, inv.runs bytes k, runs_most v bytes n inv.low inv.high);
         reads = runs_pay_all _ _ _ inv.reads (numbers_most n (inodes_of v) inv.high);
-        seen = inv.claims.seen;
-        has_dups = inv.claims.has_dups;
       };
+      stays = record { seen = inv.claims.seen; has_dups = inv.claims.has_dups };
       ready = inv.ready.ready;
     }
