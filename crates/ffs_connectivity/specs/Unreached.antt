@@ -3,7 +3,7 @@ use Rattle.std.specs.Prelude.{◌≡◌, ◌<◌, ◌≤◌, ◌&&◌, ℕ, Bool
 use Rattle.ffs_volume.specs.Encodings.Kinds.{is_dir_kind}
 use Rattle.ffs_survey.specs.{Discover.is_unreached_dir, Survey.bool_at}
 
--- each directory among some inodes from 2 on is reached, by their kinds
+-- each directory among some inodes is reached, by their piece of each list
 abbrev pub AreAllReached : List ℕ → List Bool → Type 0
 AreAllReached kinds reached = (k : ℕ) → k < length kinds
     → (is_dir_kind (slice_index kinds k) && not (bool_at reached k)) ≡ false

@@ -20,7 +20,8 @@ use ffs_workspace::Workspace;
 /// How many inodes are looked at together.
 const INODES_AT_ONCE: usize = 64;
 
-/// Whether a directory among some inodes from 2 on isn't reached: a loop without exit.
+/// Whether a directory among some inodes isn't reached, by their piece of each list: a loop without
+/// exit.
 fn any_unreached(kinds: &[u8], reached: &[bool]) -> bool
     requires { length reached.now ≡ length kinds.now }
     ensures { result ≡ false → AreAllReached kinds.now reached.now }

@@ -53,7 +53,8 @@ pub record HoldsTree (v : Layout) (image : List ℕ) (w : Workspace) : Type 0 wh
   pub reached : (x : ℕ) → bool_at w.reached.items x ≡ reached (graph_of (volume_of v image)) x
   pub parents : (x : ℕ) → slice_index w.parents.items x ≡ unwrap_or (parent (graph_of (volume_of v image)) x) 0
 
--- and each place that is noted in `queue` is that of a parent entry
+-- the tree that the survey found, and each place that was noted since in `queue` is that of a parent
+-- entry. How often inodes are referred to is apart (`HoldsReferences`): phase 3 doesn't ask it
 pub record HoldsSurvey (v : Layout) (image : List ℕ) (w : Workspace) : Type 0 where
   pub tree : HoldsTree v image w
   pub places : ArePlaces v image w.queue.items

@@ -37,7 +37,7 @@ pub struct Workspace {
     /// The fragments with a DUP line. Phase 1b clears each of which it has reported the first kept
     /// offer.
     pub duplicates: FragmentMap,
-    /// Whether phase 1 found a fragment with a DUP line. No later phase changes it.
+    /// Whether the last phase 1 that ended with `Ok` printed a DUP line. No later phase changes it.
     pub has_dups: bool,
     /// What each inode is (`Kind`).
     pub kinds: FixedList<u8>,
@@ -163,7 +163,7 @@ impl Workspace {
     }
 
     /// Lets the windows hold nothing, so that whatever is asked of them is read anew: they may hold
-    /// what another image gave. Each phase begins with it.
+    /// what another image gave. Each phase does so before it reads, and phase 2 also after the survey.
     pub fn forget_windows(&mut self)
         ensures only { self.new ≡ record self.old { windows = self.new.windows } }
         ensures forgets { (v : Layout) (d : Device) → IsReady v d self.old → CanRead v d self.new }
@@ -204,7 +204,7 @@ impl Workspace {
     }
 
     /// Whether some fragment has a DUP line and its first kept offer isn't reported yet: this asks
-    /// `duplicates`, not the count `dups`.
+    /// `duplicates`, which phase 1b clears, and not `has_dups`.
     pub fn has_unreported_dups(&self) -> bool
         ensures { result ≡ has_unreported_dups self.now }
     {
