@@ -37,7 +37,7 @@ record Held (v : Layout) (i : ℕ) (used : List Bool) (kept : ℕ) (e : List Off
 -- the fold's state in the midst of a Run, and what was judged
 record OfferTie (v : Layout) (i : ℕ) (s : Claims) (e : List OfferVerdict) : Type 0 where
   held : Held v i s.used s.kept e
-  capped : s.dups ≡ min 11 (dups_of e i)
+  capped : s.dup_offers ≡ min 11 (dups_of e i)
 
 -- an offer that isn't kept
 held_skip : (v : Layout) (i : ℕ) (used : List Bool) (kept : ℕ) (e : List OfferVerdict) (j : OfferVerdict) →
@@ -61,29 +61,29 @@ held_keep v i used used' kept e j k mine len here there t = record {
 -- one offer of a Run after at most ten bad Runs
 offer_tied : (v : Layout) (i b f : ℕ) (s : Claims) (e : List OfferVerdict) → b ≤ 10 → OfferTie v i s e →
     OfferTie v i (after_offer v s f) (offer_verdict v e (counted_offer i b f) ∷ e)
-    × ((offer_verdict v e (counted_offer i b f)).kept ≡ nat_lt s.dups 11)
+    × ((offer_verdict v e (counted_offer i b f)).kept ≡ nat_lt s.dup_offers 11)
 unfolding offer_verdict
-offer_tied v i b f s e few t = go (nat_lt s.dups 11) refl (is_fragment_in_range v f) refl (is_set s.used f) refl
+offer_tied v i b f s e few t = go (nat_lt s.dup_offers 11) refl (is_fragment_in_range v f) refl (is_set s.used f) refl
   where
     j : OfferVerdict
     j = offer_verdict v e (counted_offer i b f)
 
-    kept_is : (a : Bool) → nat_lt s.dups 11 ≡ a → (nat_le b 10 && nat_le (dups_of e i) 10) ≡ a
+    kept_is : (a : Bool) → nat_lt s.dup_offers 11 ≡ a → (nat_le b 10 && nat_le (dups_of e i) 10) ≡ a
     kept_is a q = let low = le-leb b 10 few in let capped = t.capped in grind (arith, nat_tests)
 
-    keep : (used' : List Bool) → nat_lt s.dups 11 ≡ true → length used' ≡ length s.used →
+    keep : (used' : List Bool) → nat_lt s.dup_offers 11 ≡ true → length used' ≡ length s.used →
         (is_fragment_in_range v f ≡ true → is_set used' f ≡ true) →
         ((g : ℕ) → (f ≡ g → ⊥) → is_set used' g ≡ is_set s.used g) →
         Held v i used' (s.kept + 1) (offer_verdict v e (counted_offer i b f) ∷ e)
     keep used' qa len here there = held_keep v i s.used used' s.kept e (offer_verdict v e (counted_offer i b f))
         (kept_is true qa) refl len here there t.held
 
-    go : (a : Bool) → nat_lt s.dups 11 ≡ a → (o : Bool) → is_fragment_in_range v f ≡ o → (u : Bool) → is_set s.used f
+    go : (a : Bool) → nat_lt s.dup_offers 11 ≡ a → (o : Bool) → is_fragment_in_range v f ≡ o → (u : Bool) → is_set s.used f
         ≡ u →
         OfferTie v i (after_offer v s f) (offer_verdict v e (counted_offer i b f) ∷ e)
-        × ((nat_le b 10 && nat_le (dups_of e i) 10) ≡ nat_lt s.dups 11)
+        × ((nat_le b 10 && nat_le (dups_of e i) 10) ≡ nat_lt s.dup_offers 11)
     go false qa o qo u qu =
-        let ge = ltb-false s.dups 11 qa in
+        let ge = ltb-false s.dup_offers 11 qa in
         let stay : after_offer v s f ≡ s = rw qa refl in (
           subst (λ x. OfferTie v i x (offer_verdict v e (counted_offer i b f) ∷ e)) (sym stay) (record {
             held = held_skip v i s.used s.kept e (offer_verdict v e (counted_offer i b f)) (kept_is false qa) t.held;
@@ -96,8 +96,9 @@ offer_tied v i b f s e few t = go (nat_lt s.dups 11) refl (is_fragment_in_range 
         let mine = eq-eqb i i refl in
         let taken = sym (t.held.used_is f qo) ∙ qu in
         let one : bit ((offer_verdict v e (counted_offer i b f)).dup && i == i) ≡ 1 = rw (qo, taken, mine) refl in
-        let low = ltb-true s.dups 11 qa in
-        let stay : after_offer v s f ≡ record s { kept = s.kept + 1; dups = s.dups + 1; dup = slice_set s.dup f true } =
+        let low = ltb-true s.dup_offers 11 qa in
+        let stay : after_offer v s f
+        ≡ record s { kept = s.kept + 1; dup_offers = s.dup_offers + 1; duplicates = slice_set s.duplicates f true } =
         rw (qa, qo, qu) refl in (
           subst (λ x. OfferTie v i x (offer_verdict v e (counted_offer i b f) ∷ e)) (sym stay) (record {
             held = keep s.used qa refl (λ ok. qu) (λ g n. refl);
@@ -169,7 +170,7 @@ skip_offers v i b s e (f ∷ fs) c h =
 record Tie (v : Layout) (i b : ℕ) (s : Claims) (e : List OfferVerdict) : Type 0 where
   held : Held v i s.used s.kept e
   ready : is_open s ≡ (nat_lt b 11 && nat_lt (dups_of e i) 11)
-  same : is_open s ≡ true → (s.bad ≡ b) × (s.dups ≡ dups_of e i)
+  same : is_open s ≡ true → (s.bad ≡ b) × (s.dup_offers ≡ dups_of e i)
 
 closed_test : (i b : ℕ) (e : List OfferVerdict) → Closed i b e → (nat_lt b 11 && nat_lt (dups_of e i) 11) ≡ false
 closed_test i b e h = grind arith

@@ -19,7 +19,7 @@ answers_stay answers stays = record {
   known = λ e bytes k.
       let now = answers.known e bytes k in
       record {
-        dups = stays.found_dups ∙ now.dups;
+        has_dups = stays.has_dups ∙ now.has_dups;
         seen = stays.runs_seen ∙ now.seen;
         again = stays.runs_again ∙ now.again;
       };

@@ -5,7 +5,7 @@
 --                                   ReadsWithin (`Reads`)
 --   check_opening                   Opens (`Opening`)
 --   check_rest                      RunsToEnd (`PhaseEnds`)
---   run_phases                      HaveRun and LeavesPhases (`PhaseEnds`), PhasesPay (`Reads`)
+--   run_phases                      HaveRun and PhasesLeave (`PhaseEnds`), PhasesPay (`Reads`)
 --   run_program_over, run_over      RunEnds (`Run`)
 --   run_program, run                RunEndsFlushed (`Run`), which has a RunEnds in it
 --   parse_args                      AskFor or AreRefusedBy (`CommandWords`)

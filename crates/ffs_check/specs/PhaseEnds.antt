@@ -63,7 +63,7 @@ pub record LeavesAnswers (whole : Bool) (knows : List ℕ → Type 0) (v : Layou
   pub most : w'.runs_seen ≤ runs_limit v
 
 -- after the phases the workspace says how many Runs were looked at, and is ready for the image as it is now
-pub record LeavesPhases (v : Layout) (d d' : Device) (w w' : Workspace) (result : Result Root RunFault) : Type 0 where
+pub record PhasesLeave (v : Layout) (d d' : Device) (w w' : Workspace) (result : Result Root RunFault) : Type 0 where
   pub answers : LeavesAnswers (is_ok result) (WithFresh v d w) v w w'
   pub ready : IsReady v d' w'
 

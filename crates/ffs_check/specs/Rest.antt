@@ -67,13 +67,13 @@ WithLeftByPhase1 v d w bytes = IsContents d.contents bytes × IsLeftByPhase1 v b
 -- what `has_dups` and `runs` answer after a check of a workspace: whether phase 1 has a DUP line, and how
 -- many Runs phases 1 and 1b looked at. Where phase 1b isn't run its count is as it was before
 pub record HasAnswers (v : Layout) (bytes : List ℕ) (old new : Workspace) : Type 0 where
-  pub dups : new.found_dups ≡ has_rescan v (owners_of v bytes)
+  pub has_dups : new.has_dups ≡ has_rescan v (owners_of v bytes)
   pub seen : new.runs_seen ≡ run_count v bytes
   pub again : new.runs_again ≡ (if has_rescan v (owners_of v bytes) then rescan_runs v bytes else old.runs_again)
 
 -- what a workspace holds and answers after phase 1b, where it ran: the count of phase 1's Runs stays,
 -- nothing is surveyed yet, and it is ready for the next phase
-pub record LeavesRescan (v : Layout) (d d' : Device) (w w' : Workspace) (result : Result (Unit {0}) RunFault) : Type 0
+pub record RescanLeaves (v : Layout) (d d' : Device) (w w' : Workspace) (result : Result (Unit {0}) RunFault) : Type 0
   where
     pub holds : OnOk result (ForBytes (WithLeftByPhase1 v d w) (λ bytes. HoldsClaims v bytes w'))
     pub answers : OnOk result (ForBytes (WithLeftByPhase1 v d w) (λ bytes. HasAnswers v bytes w w'))

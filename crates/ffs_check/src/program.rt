@@ -58,5 +58,5 @@ pub trait Program {
         ensures looks { meaning.looks asked.now.name.now asked.now.request
             (moment I.Image W.Output image.old out.old) (moment I.Image W.Output image.new out.new)
             result }
-        ensures lent { (W.sink out.new).lent ≡ (W.sink out.old).lent };
+        ensures holds { (W.sink out.new).holds ≡ (W.sink out.old).holds };
 }

@@ -40,11 +40,11 @@ more_holds R false more x x' y y' first second = second refl
 -- offer, of a bad Run and of a Tail, of the lines of the inode's class and count, and of two parts one
 -- after the other
 record HoldsOfEach (v : Layout) (i : ℕ) (R : Claims → List BlockMessage → Claims → Type 0) : Type 0 where
-  quiet : (s t : Claims) → t.bad ≡ s.bad → t.dups ≡ s.dups → t.dup ≡ s.dup → R s [] t
+  quiet : (s t : Claims) → t.bad ≡ s.bad → t.dup_offers ≡ s.dup_offers → t.duplicates ≡ s.duplicates → R s [] t
   after : (s t u : Claims) (xs ys : List BlockMessage) → R s xs t → R t ys u → R s (xs ++ ys) u
   dup : (s : Claims) (f : ℕ) (many : Bool) → is_fragment_in_range v f ≡ true →
       R s (Dup f i ∷ (if many then ManyDup i ∷ [] else []))
-      (record s { kept = s.kept + 1; dups = s.dups + 1; dup = slice_set s.dup f true })
+      (record s { kept = s.kept + 1; dup_offers = s.dup_offers + 1; duplicates = slice_set s.duplicates f true })
   bad : (s : Claims) (start : ℕ) (many : Bool) →
       R s (Bad start i ∷ (if many then ManyBad i ∷ [] else [])) (record s { runs = s.runs + 1; bad = s.bad + 1 })
   tail : (s : Claims) (first : Bool) → R s (if first then PartTrunc i ∷ [] else []) (record s { tail = true })
@@ -58,9 +58,9 @@ module _ {v : Layout} {i : ℕ} {R : Claims → List BlockMessage → Claims →
 
   offer_holds : (s : Claims) (f : ℕ) → R s (offer_lines v i s f) (after_offer v s f)
   offer_holds s f =
-      more_holds (R s) (nat_lt s.dups 11) _ _ _ _ _
+      more_holds (R s) (nat_lt s.dup_offers 11) _ _ _ _ _
       (λ _. more_holds (R s) (is_fragment_in_range v f) (is_set s.used f) _ _ _ _
-      (λ ok. conds_hold (R s) (is_set s.used f) _ _ _ _ (λ _. p.dup s f (s.dups == 10) ok)
+      (λ ok. conds_hold (R s) (is_set s.used f) _ _ _ _ (λ _. p.dup s f (s.dup_offers == 10) ok)
       (λ _. p.quiet s _ refl refl refl)) (λ _. p.quiet s _ refl refl refl)) (λ _. none s)
 
   offers_hold : (s : Claims) (fs : List ℕ) → R s (lines_of_offers v i s fs) (after_offers v s fs)
@@ -182,14 +182,15 @@ set_any bits f h =
     grind (arith, nat_tests)
 
 abbrev DupsAreReported : Claims → List BlockMessage → Claims → Type 0
-DupsAreReported s lines t = ((list_any is_dup_line lines || any_set s.dup) ≡ any_set t.dup) ×
-    (length t.dup ≡ length s.dup)
+DupsAreReported s lines t = ((list_any is_dup_line lines || any_set s.duplicates) ≡ any_set t.duplicates) ×
+    (length t.duplicates ≡ length s.duplicates)
 
 dups_then : (s t u : Claims) (xs ys : List BlockMessage) → DupsAreReported s xs t → DupsAreReported t ys u →
     DupsAreReported s (xs ++ ys) u
 dups_then s t u xs ys p q = let both = list_any-append is_dup_line xs ys in (grind arith, q.1 ∙ p.1)
 
-dups_hold : (v : Layout) (i : ℕ) → HoldsOfEach v i (λ s lines t. length s.dup ≡ v.size → DupsAreReported s lines t)
+dups_hold : (v : Layout) (i : ℕ) →
+    HoldsOfEach v i (λ s lines t. length s.duplicates ≡ v.size → DupsAreReported s lines t)
 dups_hold v i = record {
   quiet = λ s t bad dups dup h. rw dup (refl, refl);
   after = λ s t u xs ys p q h. dups_then s t u xs ys (p h) (q ((p h).1 ∙ h));
@@ -201,7 +202,7 @@ dups_hold v i = record {
   count = λ s found right h. (refl, refl);
 }
 
-owners_dups : (v : Layout) (s : Claims) (os : List Owner) → length s.dup ≡ v.size →
+owners_dups : (v : Layout) (s : Claims) (os : List Owner) → length s.duplicates ≡ v.size →
     DupsAreReported s (lines_of_owners v s os) (after_owners v s os)
 owners_dups v s [] h = (refl, refl)
 owners_dups v s (o ∷ os) h =
@@ -214,7 +215,8 @@ none_set zero = refl
 none_set (suc n) = none_set n
 
 -- there is a Dup line exactly where a fragment is marked
-pub rescan_is : (v : Layout) (image : List ℕ) → any_set (all_claims v image).dup ≡ has_rescan v (owners_of v image)
+pub rescan_is : (v : Layout) (image : List ℕ) →
+    any_set (all_claims v image).duplicates ≡ has_rescan v (owners_of v image)
 unfolding all_claims phase1_lines no_claims
 rescan_is v image =
     let all = owners_dups v (no_claims v) (owners_of v image) (length-replicate v.size false) in
@@ -249,8 +251,8 @@ no_rescan v image w none h = record {
 }
   where
     lines : phase1b_lines v (owners_of v image) ≡ []
-    lines = none_first (after_owners v (no_claims v) (owners_of v image)).dup _
-        (eqb-true (set_count (all_claims v image).dup) 0 (not-false _ (rescan_is v image ∙ none)))
+    lines = none_first (after_owners v (no_claims v) (owners_of v image)).duplicates _
+        (eqb-true (set_count (all_claims v image).duplicates) 0 (not-false _ (rescan_is v image ∙ none)))
 
     silent : (x : ℕ) → (is_inode_number v x && list_any (blames x) (phase1b_lines v (owners_of v image))) ≡ false
     silent x = ap (λ ls. is_inode_number v x && list_any (blames x) ls) lines

@@ -12,14 +12,14 @@ use Rattle.ffs_claims.specs.{Leaves.{SameFound, ClaimsOnly, Stored, OffersOnly},
 use Rattle.ffs_claims.specs.Reporting.{OffersReportedOnly}
 
 pub found_none : (w : Workspace) → SameFound w w
-found_none w = record { kinds = refl; marked = refl; notes = refl; references = refl; dups = refl; again = refl }
+found_none w = record { kinds = refl; marked = refl; notes = refl; references = refl; has_dups = refl; again = refl }
 
 pub found_then : {u v w : Workspace} → SameFound u v → SameFound v w → SameFound u w
 found_then p q = grind arith
 
 pub claims_none : (w : Workspace) → RescanKeeps w w
 claims_none w =
-    record { used = refl; kinds = refl; notes = refl; references = refl; surveyed = refl; seen = refl; dups = refl }
+    record { used = refl; kinds = refl; notes = refl; references = refl; surveyed = refl; seen = refl; has_dups = refl }
 
 pub claims_then : {u v w : Workspace} → RescanKeeps u v → RescanKeeps v w → RescanKeeps u w
 claims_then p q = grind arith
@@ -81,7 +81,7 @@ ready_again e r = grind arith
 
 -- they hold it where an inode begins
 pub ready_begun : {l : Layout} {d : Device} {u w : Workspace} →
-    w ≡ record u { bad = 0; dups = 0; kept = 0; tail = false } → CanRead l d u → CanRead l d w
+    w ≡ record u { bad = 0; dup_offers = 0; kept = 0; tail = false } → CanRead l d u → CanRead l d w
 ready_begun e r = grind arith
 
 stored_length : {T : Type 0} (old new : Vec T Global) (number : ℕ) (x : T) (n : ℕ) → vec_len old ≡ n →

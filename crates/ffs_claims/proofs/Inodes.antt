@@ -113,21 +113,21 @@ steps_reported v number i s e k q steps h = of_part _ _ _ _ _ _ _ _ (class_said 
 -- the Runs that were seen are as they were, what `has_dups` answers, and how many fragments are used
 pub record SameRuns (u w : Workspace) : Type 0 where
   pub seen : w.runs_seen ≡ u.runs_seen
-  pub dups : w.found_dups ≡ u.found_dups
+  pub has_dups : w.has_dups ≡ u.has_dups
   pub again : w.runs_again ≡ u.runs_again
   pub used : used_bits (claims_of w) ≡ used_bits (claims_of u)
 
-pub begun_runs : (u : Workspace) {w : Workspace} → w ≡ record u { bad = 0; dups = 0; kept = 0; tail = false } →
+pub begun_runs : (u : Workspace) {w : Workspace} → w ≡ record u { bad = 0; dup_offers = 0; kept = 0; tail = false } →
     SameRuns u w
-begun_runs u e = rw e (record { seen = refl; dups = refl; again = refl; used = refl })
+begun_runs u e = rw e (record { seen = refl; has_dups = refl; again = refl; used = refl })
 
 pub stored_runs : (u : Workspace) {w : Workspace} →
     w ≡ record u { kinds = w.kinds; marked = w.marked; notes = w.notes; references = w.references } → SameRuns u w
-stored_runs u e = rw e (record { seen = refl; dups = refl; again = refl; used = refl })
+stored_runs u e = rw e (record { seen = refl; has_dups = refl; again = refl; used = refl })
 
-pub begun : (u : Workspace) {w : Workspace} → w ≡ record u { bad = 0; dups = 0; kept = 0; tail = false } →
+pub begun : (u : Workspace) {w : Workspace} → w ≡ record u { bad = 0; dup_offers = 0; kept = 0; tail = false } →
     u.runs_seen < 2 ^ 40 → HasBegun w
-begun u e few = rw e (record { bad = refl; dups = refl; kept = refl; runs = omega arith })
+begun u e few = rw e (record { bad = refl; dup_offers = refl; kept = refl; runs = omega arith })
 
 -- a fact of an Ok answer, of an image that gives the same
 pub ok_where : {T E : Type 0} (r : Result T E) (contents contents' : Option (List ℕ)) (P Q : List ℕ → Type 0) →

@@ -123,7 +123,7 @@ found_next {v = v} {bytes = bytes} {u = u} {w = w} {n = n} low high m now stored
 
 -- a free inode leaves what is found of it as it begins
 pub stored_free : {v : Layout} {bytes : List ℕ} {u : Workspace} {n : ℕ} (i : Inode) → FoundTo v bytes u n →
-    Stored n Free i u (record u { bad = 0; dups = 0; kept = 0; tail = false })
+    Stored n Free i u (record u { bad = 0; dup_offers = 0; kept = 0; tail = false })
 stored_free {u = u} {n = n} i before = record {
   kinds = filled_still 0 _ u.kinds.items n before.kinds;
   marked = filled_still false _ u.marked.items n before.marked;
@@ -136,7 +136,7 @@ pub found_all : {v : Layout} {bytes : List ℕ} {w : Workspace} {n : ℕ} → in
 unfolding kind_at marked_by_phase1_at start_at
 found_all {v = v} {bytes = bytes} {n = n} past all found = record {
   used = ap (λ s. s.used) all;
-  dup = ap (λ s. s.dup) all;
+  duplicates = ap (λ s. s.duplicates) all;
   kinds = filled_end v 0 (kind_at v bytes) _ n past (λ x out. rw out refl) found.kinds;
   marked = filled_end v false (marked_by_phase1_at v bytes) _ n past (λ x out. rw out refl) found.marked;
   notes = filled_end v 0 (note_at v bytes) _ n past (note_out v bytes) found.notes;

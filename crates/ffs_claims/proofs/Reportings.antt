@@ -31,7 +31,7 @@ lines_split dup dup' os xs ys e d = rw (e, first_append dup xs ys, d)
     (lines_append (first_offer_lines dup xs) (first_offer_lines (after_first dup xs) ys))
 
 pub reported_none : (w : Workspace) → OffersReported [] w w
-reported_none w = record { dup = refl; marked = λ x. sym (or-false (bool_at w.marked.items x)) }
+reported_none w = record { duplicates = refl; marked = λ x. sym (or-false (bool_at w.marked.items x)) }
 
 -- nothing is left to report
 pub none_after : (bits : List Bool) (os : List Offer) → set_count bits ≡ 0 → after_first bits os ≡ bits
@@ -42,11 +42,11 @@ none_after bits (o ∷ os) e = rw (none_clear bits o.fragment e) (none_after bit
 pub reported_from : {offers : List Offer} (u u' w : Workspace) → OffersReported offers u' w →
     u'.duplicates ≡ u.duplicates → u'.marked ≡ u.marked → OffersReported offers u w
 reported_from {offers = offers} u u' w t d m =
-    record { dup = rw (sym d) t.dup; marked = λ x. rw (sym d, sym m) (t.marked x) }
+    record { duplicates = rw (sym d) t.duplicates; marked = λ x. rw (sym d, sym m) (t.marked x) }
 
 pub reported_to : {offers : List Offer} (u w w' : Workspace) → OffersReported offers u w → w'.duplicates ≡ w.duplicates
     → w'.marked ≡ w.marked → OffersReported offers u w'
-reported_to u w w' t d m = record { dup = rw d t.dup; marked = λ x. rw m (t.marked x) }
+reported_to u w w' t d m = record { duplicates = rw d t.duplicates; marked = λ x. rw m (t.marked x) }
 
 pub reported_then : {u v w : Workspace} (xs ys : List Offer) → OffersReported xs u v → OffersReported ys v w →
     OffersReported (xs ++ ys) u w

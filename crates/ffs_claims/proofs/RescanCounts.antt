@@ -23,7 +23,7 @@ offers_firsts : (v : Layout) (i : ℕ) (s : Claims) (start len k : ℕ) →
     s.kept + k ≡ (after_offers v s (range_with_len start len)).kept →
     kept_in_offers v i s (range_with_len start len) ≡ map (offer_of i) (range_with_len start k)
 offers_firsts v i s start zero k e = let none : k ≡ 0 = omega arith in rw none refl
-offers_firsts v i s start (suc len) k e = elim (cases_Bool (nat_lt s.dups 11)) [
+offers_firsts v i s start (suc len) k e = elim (cases_Bool (nat_lt s.dup_offers 11)) [
   | inl few ↦
       let t = after_offer v s start in
       let rest = range_with_len (start + 1) len in
@@ -89,7 +89,7 @@ pub record StepsAgain (v : Layout) (i cut : ℕ) (s : Claims) (r : Replay) (step
   pub offers : kept_in_steps v i s steps ≡ offers_again v i cut r steps
   pub looks : steps_runs v i s steps ≡ steps_runs_again v i cut r steps
 
-steps_again : (v : Layout) (i : ℕ) (s : Claims) (steps : List Step) → s.dups ≤ s.kept →
+steps_again : (v : Layout) (i : ℕ) (s : Claims) (steps : List Step) → s.dup_offers ≤ s.kept →
     StepsAgain v i (cut_of (after_steps v s steps)) s (by_cut (cut_of (after_steps v s steps)) (replay_of s)) steps
 unfolding offers_again steps_runs_again
 steps_again v i s [] few = record { offers = refl; looks = refl }
@@ -215,5 +215,5 @@ pub look_most : (v : Layout) (bytes : List ℕ) → rescan_runs v bytes ≤ run_
 unfolding rescan_runs run_count all_claims
 look_most v bytes =
     let runs = owners_runs v (no_claims v) (owners_of v bytes) in
-    let most = looked_most (after_owners v (no_claims v) (owners_of v bytes)).dup runs in
+    let most = looked_most (after_owners v (no_claims v) (owners_of v bytes)).duplicates runs in
     omega (arith, owners_seen v (no_claims v) (owners_of v bytes))

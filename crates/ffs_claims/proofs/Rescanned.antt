@@ -173,7 +173,8 @@ outside : (v : Layout) (bytes : List ℕ) (x : ℕ) →
     ≡ list_any (blames x) (phase1b_lines v (owners_of v bytes))
 unfolding phase1b_lines owners_of
 outside v bytes x = known (is_inode_number v x) _ (λ q. blames_none_of x
-    (after_owners v (no_claims v) (owners_from v bytes 2)).dup (kept_in_owners v (no_claims v) (owners_from v bytes 2))
+    (after_owners v (no_claims v) (owners_from v bytes 2)).duplicates
+    (kept_in_owners v (no_claims v) (owners_from v bytes 2))
     (owners_none_of v bytes x (no_claims v) 2 (inodes_of v - 2) (past v x q)))
   where
     known : (a b : Bool) → (a ≡ false → b ≡ false) → (a && b) ≡ b

@@ -96,7 +96,7 @@ group_run v b b' group len all ends now before = λ f low.
 
 -- the claims before the first inode
 pub reserved_claims : (v : Layout) (s s1 : Claims) (used : List Bool) → s1 ≡ at_next_inode s →
-    s.dup ≡ replicate v.size false → used ≡ reserved_map v →
+    s.duplicates ≡ replicate v.size false → used ≡ reserved_map v →
     record s1 { used = used; runs = 0 } ≡ no_claims v
 unfolding no_claims
 reserved_claims v s s1 used e d u = rw (e, u, d) refl

@@ -153,7 +153,7 @@ rewalk_said {v = v} {cut = cut} {k = k} {k' = k'} {step = step} {old = old} {new
     p on same out =
     of_says _ _ _ _ _ _ _ _ said (λ bytes t. lines_step v i cut (replay_in k) (replay_in k') step (steps_left bytes x)
     (steps_left bytes y) (bits_of old.duplicates) (bits_of new.duplicates) (next bytes t) (rw cuts at on.next)
-    (rw cuts at p.dup)
+    (rw cuts at p.duplicates)
     ∙ ap (λ xs. of_lines (first_offer_lines (bits_of old.duplicates) (step_offers_again v i cut (replay_in k) step))
     ++ of_lines xs) (same bytes t)) (rw cuts at out)
 

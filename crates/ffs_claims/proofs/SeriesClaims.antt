@@ -23,7 +23,7 @@ record ClaimsRunOf (v : Layout) (s : Claims) (step : Step) (start : ℕ) : Type 
 run_in_series : (v : Layout) (s : Claims) (start block : ℕ) → start ≢ 0 → CanClaimSeries v s start v.frag →
     ClaimsRunOf v s (word_step v.frag start block) start
 run_in_series v s start block some can =
-    let both = and_parts (nat_lt s.bad 11) (nat_lt s.dups 11) can.uncut in
+    let both = and_parts (nat_lt s.bad 11) (nat_lt s.dup_offers 11) can.uncut in
     let fits = can.in_range start (omega arith) (omega arith) in
     let whole = whole_is v (record s { runs = s.runs + 1 }) start v.frag both.1 fits can.clear in
     let is_run : nat_eq start 0 ≡ false = grind (arith, nat_tests) in

@@ -19,7 +19,7 @@ quiet_more : {v : Layout} {s : Claims} (t : Claims) {u : Claims} {start len : �
 quiet_more {v = v} {s = s} t {start = start} {len = len} now silent more = grind arith
 
 -- a Run past the end of the volume: no fragment of it is in range, so they are only counted
-pub only_kept : (v : Layout) (s : Claims) (start len : ℕ) → nat_lt s.dups 11 ≡ true → v.size ≤ start →
+pub only_kept : (v : Layout) (s : Claims) (start len : ℕ) → nat_lt s.dup_offers 11 ≡ true → v.size ≤ start →
     IsQuiet v s start len (record s { kept = s.kept + len })
 unfolding is_fragment_in_range
 only_kept v s start zero few past =
@@ -31,7 +31,7 @@ only_kept v s start (suc len) few past =
     (only_kept v (record s { kept = s.kept + 1 }) (start + 1) len few (omega arith)))
 
 -- a Run in range of which all fragments are unclaimed
-whole_from : (v : Layout) (s : Claims) (start len : ℕ) → nat_lt s.dups 11 ≡ true →
+whole_from : (v : Layout) (s : Claims) (start len : ℕ) → nat_lt s.dup_offers 11 ≡ true →
     ((k : ℕ) → k < len → is_fragment_in_range v (start + k) ≡ true) → AreClear s.used start len →
     IsQuiet v s start len (record s { used = set_run s.used start len; kept = s.kept + len })
 whole_from v s start zero few ok clear =
@@ -48,7 +48,7 @@ whole_from v s start (suc len) few ok clear =
     (λ k low. get_or-set_other s.used start (start + 1 + k) true false (λ e. omega arith)
     ∙ ap (λ n. get_or s.used n false) (omega arith) ∙ clear (k + 1) (omega arith))))
 
-pub whole_is : (v : Layout) (s : Claims) (start len : ℕ) → nat_lt s.dups 11 ≡ true →
+pub whole_is : (v : Layout) (s : Claims) (start len : ℕ) → nat_lt s.dup_offers 11 ≡ true →
     is_run_in_range v start len ≡ true → AreClear s.used start len → IsQuiet v s start len (record s
     { used = set_run s.used start len; kept = s.kept + len })
 whole_is v s start len few fits clear = whole_from v s start len few (λ k low. each_ok v start len k fits low) clear

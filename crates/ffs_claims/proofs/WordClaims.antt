@@ -21,7 +21,7 @@ pub run_claims : {v : Layout} {old new : Workspace} (start len block : ℕ) → 
     { used = set_run (bits_of old.used) start len; runs = old.runs_seen + 1; kept = old.kept + len } →
     ClaimsSilently v (word_step len start block) old new
 run_claims {v = v} {old = old} start len block uncut some fits clear now =
-    let both = and_parts (nat_lt old.bad 11) (nat_lt old.dups 11) uncut in
+    let both = and_parts (nat_lt old.bad 11) (nat_lt old.dup_offers 11) uncut in
     let whole = whole_is v (record (claims_of old) { runs = old.runs_seen + 1 }) start len both.1 fits clear in
     let is_run : nat_eq start 0 ≡ false = grind (arith, nat_tests) in
     record {

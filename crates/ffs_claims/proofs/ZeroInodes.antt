@@ -103,7 +103,7 @@ lines_one v bytes s n low free = lines_next v bytes s (at_next_inode s) n low (s
 
 -- ---- the inodes before a number are looked at
 abbrev pub begun_of : Workspace → Workspace
-begun_of w = record w { bad = 0; dups = 0; kept = 0; tail = false }
+begun_of w = record w { bad = 0; dup_offers = 0; kept = 0; tail = false }
 
 pub record StandsAt (v : Layout) (bytes : List ℕ) (w : Workspace) (n : ℕ) : Type 0 where
   pub claims : claims_of w ≡ claims_before v bytes n

@@ -19,7 +19,7 @@ pub record IsAreaAround (v : Layout) (area : DataArea) (start : ℕ) : Type 0 wh
   pub run : (len : ℕ) → 0 < len → is_run_in_range v start len ≡ true → HasRun area start len
 
 -- the answer is whether a Run is in range, and if so it lies in the area
-pub record FindsRun (v : Layout) (area : DataArea) (start len : ℕ) (result : Bool) : Type 0 where
+pub record MovesToRun (v : Layout) (area : DataArea) (start len : ℕ) (result : Bool) : Type 0 where
   pub value : result ≡ is_run_in_range v start len
   pub all_in_range : IsDataArea v area
   pub run : IsTrue result → HasRun area start len

@@ -116,7 +116,7 @@ pub record InodeLeaves {T : Type 0} (g : Geometry) (old new : SweepMoment) (swee
   pub bound : FewRuns g.layout old.workspace new.workspace
   pub runs_claim : OnOk result (new.workspace.runs_seen + used_bits (claims_of old.workspace)
       ≤ old.workspace.runs_seen + used_bits (claims_of new.workspace) + 22)
-  pub dups : new.workspace.found_dups ≡ old.workspace.found_dups
+  pub has_dups : new.workspace.has_dups ≡ old.workspace.has_dups
   pub again : new.workspace.runs_again ≡ old.workspace.runs_again
   pub counted : new.reads + old.workspace.runs_seen ≤ old.reads + new.workspace.runs_seen
 

@@ -9,7 +9,7 @@ use Rattle.ffs_workspace.specs.{Holds.claims_of, Lengths.IsFor, declared.workspa
 -- its Runs: any bound far above `runs_limit`, and far below 2^64, serves
 pub record HasBegun (w : Workspace) : Type 0 where
   pub bad : w.bad ≡ 0
-  pub dups : w.dups ≡ 0
+  pub dup_offers : w.dup_offers ≡ 0
   pub kept : w.kept ≡ 0
   pub runs : w.runs_seen < 2 ^ 61
 
@@ -26,7 +26,7 @@ pub record SameFound (old new : Workspace) : Type 0 where
   pub marked : new.marked ≡ old.marked
   pub notes : new.notes ≡ old.notes
   pub references : new.references ≡ old.references
-  pub dups : new.found_dups ≡ old.found_dups
+  pub has_dups : new.has_dups ≡ old.has_dups
   pub again : new.runs_again ≡ old.runs_again
 
 -- what claiming leaves: the lists have their lengths, and the windows and what was found are as they were

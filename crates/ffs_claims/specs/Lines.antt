@@ -12,7 +12,7 @@ of_lines lines = map of_blocks lines
 
 -- an offer of f is dup and kept, and so has a DUP line
 abbrev pub has_dup_line : Layout → Claims → ℕ → Bool
-has_dup_line v s f = nat_lt s.dups (MAXDUP + 1) && (is_fragment_in_range v f && is_set s.used f)
+has_dup_line v s f = nat_lt s.dup_offers (MAXDUP + 1) && (is_fragment_in_range v f && is_set s.used f)
 
 -- what is reported of a dup offer and of a bad Run, the eleventh one or not
 abbrev pub dup_lines : ℕ → ℕ → Bool → List BlockMessage

@@ -1,5 +1,5 @@
 -- What phases 1 and 1b leave of a workspace at their answer, and how often they read the image.
-use Rattle.std.specs.Prelude.{◌≡◌, ◌<◌, ◌≤◌, ◌+◌, ◌-◌, ◌*◌, ◌^◌, ℕ, false, List}
+use Rattle.std.specs.Prelude.{◌≡◌, ◌<◌, ◌≤◌, ◌+◌, ◌-◌, ◌*◌, ◌^◌, ℕ, false, List, OnErr, Result}
 use Rattle.ffs_image.specs.Device.{Device}
 use Rattle.ffs_volume.specs.{declared.Layout.Layout, Blocks.{BlockCheck.{has_rescan, rescan_runs}, Owners.owners_of}}
 use Rattle.ffs_volume.specs.Report.{Memory.runs_limit, Reads.{sweep_reads, table_blocks}}
@@ -12,17 +12,21 @@ use Rattle.ffs_workspace.specs.Holds.{HoldsClaims, HoldsPhase1}
 -- a DUP line, which is just where phase 1b is to run. It has counted each Run that is seen
 pub record IsLeftByPhase1 (v : Layout) (bytes : List ℕ) (w : Workspace) : Type 0 where
   pub holds : HoldsPhase1 v bytes w
-  pub dups : w.found_dups ≡ has_rescan v (owners_of v bytes)
+  pub has_dups : w.has_dups ≡ has_rescan v (owners_of v bytes)
   pub count : w.runs_seen ≡ run_count v bytes
 
 -- phase 1 reads the image at most once for each block of the inode tables and once for each Run that
 -- it looks at. The Runs are no more than a volume can have. Where the image gives its bytes, it reads of
--- the Runs none but the indirect blocks that are seen; the count of phase 1b's Runs stays
+-- the Runs none but the indirect blocks that are seen
 pub record Phase1Reads (v : Layout) (d : Device) (old new : Workspace) (before after : ℕ) : Type 0 where
   pub runs : new.runs_seen ≤ runs_limit v
   pub reads : after ≤ before + table_blocks v + new.runs_seen
   pub known : ForBytes (WithFresh v d old) (λ bytes. after ≤ before + volume_scan_reads v bytes)
+
+-- phase 1 keeps the count of phase 1b's Runs, and where a read or a write failed what `has_dups` answers
+pub record Phase1Keeps {T E : Type 0} (old new : Workspace) (result : Result T E) : Type 0 where
   pub again : new.runs_again ≡ old.runs_again
+  pub has_dups : OnErr result (new.has_dups ≡ old.has_dups)
 
 -- phase 1b leaves what the block check found in the image's bytes. Nothing is surveyed yet, so counts of
 -- references are where they start. It has looked at Runs up to the one that reports the last fragment
@@ -34,14 +38,17 @@ pub record IsLeftByPhase1b (v : Layout) (bytes : List ℕ) (w : Workspace) : Typ
 
 -- the rescan reads the image at most once for each inode and once for each Run that it looks at, as
 -- long as the count of Runs has room in a u64. Where the image gives its bytes it looks at no more
--- Runs than phase 1 did. The count of phase 1's Runs stays, and so does what `has_dups` answers
+-- Runs than phase 1 did
 pub record RescanReads (v : Layout) (d : Device) (old new : Workspace) (before after : ℕ) : Type 0 where
   pub runs : ForBytes (WithPhase1 v d old) (λ bytes. new.runs_again ≤ run_count v bytes)
   pub reads : new.runs_again < 2 ^ 64 - 1 → after ≤ before + v.ncg * v.ipg + new.runs_again
-  pub seen : new.runs_seen ≡ old.runs_seen
-  pub dups : new.found_dups ≡ old.found_dups
 
 -- phase 1b reads as the rescan does, and never more often than a sweep may
 pub record Phase1bReads (v : Layout) (d : Device) (old new : Workspace) (before after : ℕ) : Type 0 where
   pub rescan : RescanReads v d old new before after
   pub most : after ≤ before + sweep_reads v
+
+-- phase 1b keeps the count of phase 1's Runs, and what `has_dups` answers
+pub record Phase1bKeeps (old new : Workspace) : Type 0 where
+  pub seen : new.runs_seen ≡ old.runs_seen
+  pub has_dups : new.has_dups ≡ old.has_dups

@@ -10,7 +10,7 @@ use Rattle.ffs_claims.specs.{Lines.of_lines, Moments.ClaimMoment}
 
 -- offers were gone over: their fragments are reported, and their inodes marked
 pub record OffersReported (offers : List Offer) (old new : Workspace) : Type 0 where
-  pub dup : bits_of new.duplicates ≡ after_first (bits_of old.duplicates) offers
+  pub duplicates : bits_of new.duplicates ≡ after_first (bits_of old.duplicates) offers
   pub marked : (x : ℕ) → bool_at new.marked.items x ≡ (bool_at old.marked.items x
       || list_any (blames x) (first_offer_lines (bits_of old.duplicates) offers))
 
@@ -24,7 +24,7 @@ pub record RescanKeeps (old new : Workspace) : Type 0 where
   pub references : new.references ≡ old.references
   pub surveyed : new.surveyed ≡ old.surveyed
   pub seen : new.runs_seen ≡ old.runs_seen
-  pub dups : new.found_dups ≡ old.found_dups
+  pub has_dups : new.has_dups ≡ old.has_dups
 
 -- what reporting leaves: the lists have their lengths, and the windows, the claims and the Runs of
 -- phase 1 are as they were

@@ -41,4 +41,4 @@ pub record CanPassZeroInodes (w : Workspace) (number end : ℕ) : Type 0 where
 pub record PassesZeroInodes (old new : Workspace) (number end next : ℕ) : Type 0 where
   pub ends : EndsZeroInodes old.windows.table number end next
   pub none : next ≡ number → new ≡ old
-  pub some : number < next → new ≡ record old { bad = 0; dups = 0; kept = 0; tail = false }
+  pub some : number < next → new ≡ record old { bad = 0; dup_offers = 0; kept = 0; tail = false }

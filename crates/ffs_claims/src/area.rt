@@ -25,7 +25,7 @@ pub struct DataArea {
 }
 
 impl DataArea {
-    ghost use Rattle.ffs_claims.specs.Area.{IsAreaAround, IsDataArea, FindsRun, HasRun};
+    ghost use Rattle.ffs_claims.specs.Area.{IsAreaAround, IsDataArea, MovesToRun, HasRun};
 
     /// No fragments.
     pub fn empty() -> DataArea
@@ -72,7 +72,7 @@ impl DataArea {
     pub fn move_to(&mut self, geometry: &Geometry, start: u32, len: u32) -> bool
         requires some { 0 < len }
         requires area { IsDataArea geometry.now.layout self.old }
-        ensures { FindsRun geometry.now.layout self.new start len result }
+        ensures { MovesToRun geometry.now.layout self.new start len result }
     {
         if self.contains(start, len) {
             return true;

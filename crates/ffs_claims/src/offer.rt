@@ -22,7 +22,7 @@ use ffs_workspace::Workspace;
 pub fn is_open(workspace: &Workspace) -> bool
     ensures { result ≡ claims.is_open (claims_of workspace.now) }
 {
-    workspace.bad <= MAXBAD && workspace.dups <= MAXDUP
+    workspace.bad <= MAXBAD && workspace.dup_offers <= MAXDUP
 }
 
 /// Whether the fragment of an offer is in range. Where `in_range` says that its Run is, the
@@ -47,7 +47,7 @@ fn take(workspace: &mut Workspace, geometry: &Geometry, fragment: u64, in_range:
     ensures taken { TakesOffer geometry.now.layout fragment workspace.old workspace.new }
     ensures dup { result ≡ has_dup_line geometry.now.layout (claims_of workspace.old) fragment }
 {
-    if workspace.dups > MAXDUP {
+    if workspace.dup_offers > MAXDUP {
         return false;
     }
     workspace.kept += 1;
@@ -58,7 +58,7 @@ fn take(workspace: &mut Workspace, geometry: &Geometry, fragment: u64, in_range:
     if workspace.used.claim(index, 1) {
         return false;
     }
-    workspace.dups += 1;
+    workspace.dup_offers += 1;
     workspace.duplicates.set(index);
     true
 }
@@ -79,7 +79,7 @@ fn offer<W: Output>(
         result }
     ensures taken { TakesOffer geometry.now.layout fragment workspace.old workspace.new }
 {
-    let is_eleventh = workspace.dups == MAXDUP;
+    let is_eleventh = workspace.dup_offers == MAXDUP;
     if !take(workspace, geometry, fragment, in_range) {
         return Ok(());
     }

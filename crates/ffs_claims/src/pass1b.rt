@@ -6,7 +6,8 @@ ghost use Rattle.ffs_report.specs.{Known.ForBytes, PhaseOutcome.{ImageAfter, Pha
 ghost use Rattle.ffs_workspace.specs.{Found.WithPhase1, Ready.IsReady};
 ghost use Rattle.ffs_walk.specs.Keepings.{replay_in};
 ghost use Rattle.ffs_claims.specs.Moments.{after_one_read, claim_moment, sweep_moment};
-ghost use Rattle.ffs_claims.specs.{Phases.{IsLeftByPhase1b, Phase1bReads, RescanReads}, Reporting.CanRewalk};
+ghost use Rattle.ffs_claims.specs.{Phases.{IsLeftByPhase1b, Phase1bKeeps, Phase1bReads}, Reporting.CanRewalk};
+ghost use Rattle.ffs_claims.specs.Phases.{RescanReads};
 ghost use Rattle.ffs_claims.specs.{Reporting.ReportsOffers, Rescan.{ReplaysStep, step_offers_again}};
 ghost use Rattle.ffs_claims.specs.RescanRuns.{CanReportStep, CountsStep, Rewalks};
 ghost use Rattle.ffs_volume.specs.Messages.Kinds as messages;
@@ -120,6 +121,7 @@ fn phase1b_unlimited<I: Image, W: Output>(
         (λ bytes. IsLeftByPhase1b geometry.now.layout bytes workspace.new)) }
     ensures reads { RescanReads geometry.now.layout (I.device image.old) workspace.old
         workspace.new (I.reads image.old) (I.reads image.new) }
+    ensures stays { Phase1bKeeps workspace.old workspace.new }
     ensures ready { IsReady geometry.now.layout (I.device image.new) workspace.new }
 {
     workspace.forget_windows();
@@ -161,6 +163,7 @@ pub fn phase1b<I: Image, W: Output>(
         (λ bytes. IsLeftByPhase1b geometry.now.layout bytes workspace.new)) }
     ensures reads { Phase1bReads geometry.now.layout (I.device image.old) workspace.old
         workspace.new (I.reads image.old) (I.reads image.new) }
+    ensures stays { Phase1bKeeps workspace.old workspace.new }
     ensures ready { IsReady geometry.now.layout (I.device image.new) workspace.new }
 {
     let mut limited = LimitedImage::new(image, sweep_reads(geometry));

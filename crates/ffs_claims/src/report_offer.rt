@@ -38,7 +38,7 @@ fn report_offer<W: Output>(
         return Ok(());
     }
     workspace.duplicates.clear(index);
-    workspace.marked[number as usize] = true;
+    workspace.marked.set(number as usize, true);
     report.say(&Line::Block(BlockMessage::Dup {
         fragment: index,
         inode: number,

@@ -13,10 +13,10 @@ use ffs_workspace::{Workspace, links_start, note_of};
 
 /// The next inode becomes the current one.
 pub fn begin(workspace: &mut Workspace)
-    ensures { workspace.new ≡ record workspace.old { bad = 0; dups = 0; kept = 0; tail = false } }
+    ensures { workspace.new ≡ record workspace.old { bad = 0; dup_offers = 0; kept = 0; tail = false } }
 {
     workspace.bad = 0;
-    workspace.dups = 0;
+    workspace.dup_offers = 0;
     workspace.kept = 0;
     workspace.tail = false;
 }
@@ -44,7 +44,7 @@ fn is_marked(workspace: &Workspace, class: Class) -> bool
         Class::Unknown => true,
         // Both are asked at once, with no branch between them.
         Class::Free | Class::Partial | Class::File | Class::Dir => (workspace.bad != 0)
-            | (workspace.dups != 0),
+            | (workspace.dup_offers != 0),
     }
 }
 
@@ -54,10 +54,22 @@ fn is_marked(workspace: &Workspace, class: Class) -> bool
 fn stored_cut(workspace: &Workspace) -> u32
     ensures { result ≡ min (cut_of (claims_of workspace.now)) 4294967295 }
 {
-    if workspace.dups <= MAXDUP {
+    if workspace.dup_offers <= MAXDUP {
         return 0;
     }
     workspace.kept.min(u64::from(u32::MAX)) as u32
+}
+
+/// Sets whether an inode is marked, if that isn't what the list holds already: so its memory is
+/// touched only up to the last inode that is marked.
+#[inline(always)]
+fn store_mark(list: &mut FilledList<bool>, number: usize, marked: bool)
+    requires { number < vec_len list.old }
+    ensures { list.new.items ≡ slice_set list.old.items number marked }
+{
+    if list[number] != marked {
+        list.set(number, marked);
+    }
 }
 
 /// Sets what is noted of an inode, if that isn't what the list holds already: so its memory is
@@ -105,7 +117,7 @@ pub fn store(workspace: &mut Workspace, number: u32, class: Class, inode: &Inode
     let marked = is_marked(workspace, class);
     let note = note_of(class, inode, stored_cut(workspace));
     workspace.kinds[number as usize] = kind;
-    workspace.marked[number as usize] = marked;
+    store_mark(&mut workspace.marked, number as usize, marked);
     store_note(&mut workspace.notes, number as usize, note);
     store_start(&mut workspace.references, number as usize, class, inode);
 }

@@ -45,8 +45,8 @@ set_other : (used : List Bool) (f h : ℕ) (b : Bool) → f ≢ h → is_set (sl
 set_other used f h b apart = get_or-set_other used h f b false apart
 
 offer_uses : (v : Layout) (f i : ℕ) (s : Claims) (h : ℕ) → is_fragment_in_range v f ≡ true → length s.used ≡ v.size →
-    Uses f s (after_offer v s h) (any_of f (if nat_lt s.dups 11 then offer_of i h ∷ [] else []))
-offer_uses v f i s h ok long = elim (cases_Bool (nat_lt s.dups 11)) [
+    Uses f s (after_offer v s h) (any_of f (if nat_lt s.dup_offers 11 then offer_of i h ∷ [] else []))
+offer_uses v f i s h ok long = elim (cases_Bool (nat_lt s.dup_offers 11)) [
   | inr full ↦ rw full (uses_none f s s refl)
   | inl few ↦ elim (cases_eq h f) [
     | inl same ↦
@@ -65,7 +65,7 @@ offers_use v f i s [] ok long = uses_none f s s refl
 offers_use v f i s (h ∷ fs) ok long =
     let one = offer_uses v f i s h ok long in
     let more = offers_use v f i (after_offer v s h) fs ok (one.long ∙ long) in
-    rw (any_of-append f (if nat_lt s.dups 11 then offer_of i h ∷ [] else [])
+    rw (any_of-append f (if nat_lt s.dup_offers 11 then offer_of i h ∷ [] else [])
     (kept_in_offers v i (after_offer v s h) fs))
     (uses_then one more)
 

@@ -16,5 +16,5 @@ said_prints a b m (Err x) begun p = record {
     | inl failed ↦ let bad : true ≡ false = sym failed ∙ begun in absurd (cc)
     | inr rose ↦ rose
   ];
-  lent = p.said.lent;
+  holds = p.said.holds;
 }

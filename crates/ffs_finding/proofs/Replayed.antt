@@ -19,7 +19,7 @@ offers_firsts : (v : Layout) (i : ℕ) (s : Claims) (start len k : ℕ) →
     s.kept + k ≡ (after_offers v s (range_with_len start len)).kept →
     kept_in_offers v i s (range_with_len start len) ≡ map (offer_of i) (range_with_len start k)
 offers_firsts v i s start zero k e = let none : k ≡ 0 = omega arith in rw none refl
-offers_firsts v i s start (suc len) k e = elim (cases_Bool (nat_lt s.dups 11)) [
+offers_firsts v i s start (suc len) k e = elim (cases_Bool (nat_lt s.dup_offers 11)) [
   | inl few ↦
       let t = after_offer v s start in
       let rest = range_with_len (start + 1) len in
@@ -94,7 +94,7 @@ line_again : (v : Layout) (f x earlier cut : ℕ) (s : Claims) (r : Replay) (ste
 line_again v f x earlier cut s r (Run start len block) e = rw (e, any_again v f x cut r start len block) refl
 line_again v f x earlier cut s r other e = refl
 
-lines_replay : (v : Layout) (f x earlier : ℕ) (s : Claims) (steps : List Step) → s.dups ≤ s.kept →
+lines_replay : (v : Layout) (f x earlier : ℕ) (s : Claims) (steps : List Step) → s.dup_offers ≤ s.kept →
     keeper_lines_of_steps v f x earlier s steps ≡ lines_again v f x earlier (cut_of (after_steps v s steps))
     (by_cut (cut_of (after_steps v s steps)) (replay_of s)) steps
 unfolding lines_again

@@ -9,7 +9,7 @@ use Rattle.ffs_finding.specs.declared.find.FindFault.{FindFault, TheVariants.{Re
 
 -- an output that never fails, and of which nobody knows what it took
 abbrev pub discarding : Sink
-discarding = record { taken = None; failures = 0; lent = None }
+discarding = record { taken = None; failures = 0; holds = None }
 
 -- a workspace that holds what phase 1 leaves was made, a read failed in phase 1, or the memory was refused
 abbrev pub TakesClaims : Layout → Device → Device → Account → Account → Result Workspace FindFault → Type 0

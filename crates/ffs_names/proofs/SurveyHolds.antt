@@ -11,7 +11,7 @@ use Rattle.ffs_workspace.{proofs.Leaving.counts_surveyed, specs.Leaves.LeavesBlo
 use Rattle.ffs_workspace.specs.declared.workspace.Workspace.{Workspace}
 use Rattle.ffs_survey.specs.{Calm.AreCalm, SurveyLaws.references_is, Survey.{graph_with, most_start, references_to}}
 use Rattle.ffs_survey.specs.Survey.{IsSurvey}
-use Rattle.ffs_names.{specs.{Readers.{Base, dir_entries, dir_right_shape}, Surveys.FlagsCalm}, proofs.DirLaws.kind_dirs}
+use Rattle.ffs_names.{specs.{Readers.{Base, dir_entries, dir_right_shape}, Surveys.FlagsOnlyCalm}, proofs.DirLaws.kind_dirs}
 use Rattle.ffs_names.proofs.SameGraphs.{survey_same}
 
 pub none_ended : {T A : Type 0} {K : A → Type 0} (o : Option T) (P : A → Type 0) → ((b : A) → K b → IfNone o (P b))
@@ -85,5 +85,5 @@ volume_calm t b kinds marked marks parents flags h d set = grind (arith, and_par
 pub holds_calm : (v : Layout) (b : List ℕ) (w : Workspace) (kinds : List ℕ) (marked marks : List Bool) (parents : List
     ℕ) (flags : List Bool) → w.kinds.items ≡ kinds → w.marked.items ≡ marked → w.reached.items ≡ marks → w.parents.items
     ≡ parents → w.flags.items ≡ flags → AreCalm kinds marked marks parents (roled_entries (volume_of v b))
-    (is_right_directory (volume_of v b)) flags → FlagsCalm v b w
+    (is_right_directory (volume_of v b)) flags → FlagsOnlyCalm v b w
 holds_calm v b w kinds marked marks parents flags k m r p f h = record { calm = rw (k, m, r, p, f) h }

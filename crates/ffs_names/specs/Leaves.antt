@@ -86,7 +86,7 @@ pub record LeavesChunks {T : Type 0} (old new : DirReading Chunks) (result : Res
 -- what a call leaves that gives the next chunk, if there is one: where that is in the image, how many Runs
 -- were looked at, and how many chunks may still come. These are one fewer after a chunk and none after a
 -- fault, and where none may come nothing is read
-pub record LeavesNext (old new : DirReading Chunks) (chunk : List ℕ) (result : Result (Option ℕ) ImageFault) : Type 0
+pub record NextChunkLeaves (old new : DirReading Chunks) (chunk : List ℕ) (result : Result (Option ℕ) ImageFault) : Type 0
   where
     pub geometry : new.reading.walk.geometry ≡ old.reading.walk.geometry
     pub ready : CanReadChunks old.reading.walk.geometry.layout new.image new.blocks new.window

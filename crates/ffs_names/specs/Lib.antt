@@ -1,14 +1,14 @@
 -- What the contracts of readers of directories cite, in the order to read it: each file rests on those before it. The
 -- public calls, what their clauses are, and in which files:
 --
---   Chunks::next                GivesChunk (`Readings`), LeavesNext (`Leaves`)
+--   Chunks::next                GivesChunk (`Readings`), NextChunkLeaves (`Leaves`)
 --   Entries::next               GivesEntry and HasStopped (`Shapes`), LeavesEntries (`Leaves`)
 --   Entries::has_right_shape    has_right_shape (`Shapes`), LeavesBlocks (`Leaves`)
 --   ChunkEntries                GivesNextEntry (`EntriesToCome`), as an iterator
 --   gap_of                      LooksForGap (`Leaves`)
---   survey                      IsSurveyed and LeavesClaims (`Surveys`), FlagsEachCalm (`CalmDirs`), SweepsOnce
+--   survey                      IsSurveyed and SurveyLeaves (`Surveys`), FlagsEachCalm (`CalmDirs`), SweepsOnce
 --                               (`Costs`)
---   note_places                 HoldsPlaces and LeavesPlaces (`Noting`), SweepsOnce (`Costs`)
+--   note_places                 HoldsPlaces and NotingLeaves (`Noting`), SweepsOnce (`Costs`)
 --
 -- The chunks of a directory: `Windows` says when they can be read, `Fits` where a Run lies. `RunCursors` has the chunks
 -- of the current Run that are still to come, and `Readings` those of the directory. `OneChunk` is about a directory of

@@ -13,7 +13,7 @@ use Rattle.ffs_volume.specs.Encodings.Places.{entries_in_part, is_due as is_to_b
 use Rattle.ffs_volume.specs.Encodings.Places.{IsNoted}
 use Rattle.ffs_workspace.specs.{Holds.HoldsSurvey, Ready.CanRead, declared.workspace.Windows.Windows}
 use Rattle.ffs_workspace.specs.declared.workspace.Workspace.{Workspace}
-use Rattle.ffs_names.specs.{Costs.{to_read, HoldsReading}, Sweeps.DirSweep, Windows.CanReadChunks}
+use Rattle.ffs_names.specs.{Costs.{to_read, HoldsReading}, Sweeps.DirMoment, Windows.CanReadChunks}
 use Rattle.ffs_names.specs.declared.chunks.Chunks.{Chunks}
 
 -- a place that isn't 0 and has 31 bits can be noted for children of p, which isn't 0, by lists of one
@@ -51,13 +51,13 @@ pub record CanNoteDirectory (v : Layout) (d : Device) (w : Workspace) (p : ℕ) 
   pub ready : CanRead v d w
 
 -- p is the parent of x. The root has no parent entry
-abbrev pub is_child : (parents : List ℕ) (p x : ℕ) → Bool
-is_child parents p x = (slice_index parents x == p) && not (x == ROOTINO)
+abbrev pub belongs_to : (parents : List ℕ) (p x : ℕ) → Bool
+belongs_to parents p x = (slice_index parents x == p) && not (x == ROOTINO)
 
 -- p is the parent of x, of which no place is noted yet, and some entries have a plain one that names x
 abbrev pub is_found : (parents words : List ℕ) (p : ℕ) → List RoledEntry → (x : ℕ) → Bool
 is_found parents words p es x =
-    is_child parents p x && ((place_in (slice_index words x) == 0) && list_any (is_naming_entry x) es)
+    belongs_to parents p x && ((place_in (slice_index words x) == 0) && list_any (is_naming_entry x) es)
 
 -- what is to be read stays so
 abbrev pub KeepsToRead : (old new : List ℕ) → Type 0
@@ -86,14 +86,14 @@ pub record NotesEntries (v : Layout) (b : List ℕ) (child : ℕ → Bool) (es :
 
 -- no place of an inode with another parent is noted, and what is to be read stays so
 pub record NotesChildren (parents old new : List ℕ) (p : ℕ) : Type 0 where
-  pub others : (x : ℕ) → is_child parents p x ≡ false → place_in (slice_index new x) ≡ place_in (slice_index old x)
+  pub others : (x : ℕ) → belongs_to parents p x ≡ false → place_in (slice_index new x) ≡ place_in (slice_index old x)
   pub to_read : KeepsToRead old new
 
 -- the places of the entries of the directory p are noted, where no read failed, and the image was read at
 -- most as often as the directory asks for
-pub record NotesDirectory {T : Type 0} (v : Layout) (b : List ℕ) (p : ℕ) (old new : DirSweep)
+pub record NotesDirectory {T : Type 0} (v : Layout) (b : List ℕ) (p : ℕ) (old new : DirMoment)
     (result : Result T ImageFault) : Type 0 where
-  pub noted : OnOk result (NotesEntries v b (is_child old.workspace.parents.items p) (roled_entries (volume_of v b) p)
+  pub noted : OnOk result (NotesEntries v b (belongs_to old.workspace.parents.items p) (roled_entries (volume_of v b) p)
       old.workspace.queue.items new.workspace.queue.items)
   pub counted : new.reads ≤ old.reads + noted_cost v b p
 
@@ -122,7 +122,7 @@ pub record HoldsPlaces (v : Layout) (b : List ℕ) (w : Workspace) : Type 0 wher
 
 -- what a call leaves that notes the chunks of p that are to come: the other windows are as they were, only
 -- children of p are noted, in as many words, and the image is read at most as often as these chunks ask for
-pub record LeavesNoted {T : Type 0} (parents : Vec ℕ Global) (p : ℕ) (old new : ChunkNoting)
+pub record NotingChunksLeaves {T : Type 0} (parents : Vec ℕ Global) (p : ℕ) (old new : ChunkNoting)
     (result : Result T ImageFault) : Type 0 where
   pub geometry : new.chunks.walk.geometry ≡ old.chunks.walk.geometry
   pub ready : CanReadChunks old.chunks.walk.geometry.layout new.image new.windows.blocks new.windows.current
@@ -135,7 +135,7 @@ pub record LeavesNoted {T : Type 0} (parents : Vec ℕ Global) (p : ℕ) (old ne
 
 -- what a call leaves that notes places of children of p in `queue`: only the windows change beside it, and
 -- hold what the image gives, which was only read
-pub record LeavesChildren {T : Type 0} (v : Layout) (p : ℕ) (old new : DirSweep) (result : Result T ImageFault)
+pub record NotingDirectoryLeaves {T : Type 0} (v : Layout) (p : ℕ) (old new : DirMoment) (result : Result T ImageFault)
     : Type 0 where
   pub lists : new.workspace ≡ record old.workspace { windows = new.workspace.windows; queue = new.workspace.queue }
   pub ready : CanRead v new.image new.workspace
@@ -144,7 +144,7 @@ pub record LeavesChildren {T : Type 0} (v : Layout) (p : ℕ) (old new : DirSwee
 
 -- what a call leaves that notes all places: only the windows and `queue` change, the windows hold what the
 -- image gives, which was only read, and where no read failed nothing is to be read any more: no parent entry is due
-pub record LeavesPlaces {T : Type 0} (v : Layout) (old new : DirSweep) (result : Result T ImageFault) : Type 0 where
+pub record NotingLeaves {T : Type 0} (v : Layout) (old new : DirMoment) (result : Result T ImageFault) : Type 0 where
   pub lists : new.workspace ≡ record old.workspace { windows = new.workspace.windows; queue = new.workspace.queue }
   pub ready : CanRead v new.image new.workspace
   pub read : ReadAfter old.image new.image result

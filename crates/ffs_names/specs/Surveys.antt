@@ -7,11 +7,11 @@ use Rattle.ffs_volume.specs.{Directories.Calm.is_right_directory, Encodings.List
 use Rattle.ffs_workspace.specs.{declared.workspace.Workspace.Workspace, Leaves.LeavesBlockCheck, Ready.IsReady}
 use Rattle.ffs_workspace.specs.Holds.{HoldsClaims, HoldsReferences, HoldsSurvey}
 use Rattle.ffs_volume.specs.Report.DirectoryReads.{noted_costs}
-use Rattle.ffs_names.specs.{CalmDirs.FlagsEachCalm, Sweeps.DirSweep}
+use Rattle.ffs_names.specs.{CalmDirs.FlagsEachCalm, Sweeps.DirMoment}
 
 -- what a survey leaves: the workspace is ready for the next call, `queue` is zero, so that it notes no
 -- place of a parent entry, and the image was only read. After a failed read it counts as not surveyed
-pub record LeavesClaims {T : Type 0} (v : Layout) (d d' : Device) (old new : Workspace) (result : Result T ImageFault) :
+pub record SurveyLeaves {T : Type 0} (v : Layout) (d d' : Device) (old new : Workspace) (result : Result T ImageFault) :
     Type 0 where
   pub same : LeavesBlockCheck old new
   pub unnoted : (x : ℕ) → slice_index new.queue.items x ≡ 0
@@ -27,7 +27,7 @@ pub record SurveysNoMore (reads reads' : ℕ) (old new : Workspace) : Type 0 whe
   pub unflagged : (x : ℕ) → bool_at new.flags.items x ≡ false
 
 -- `flags` has only calm directories, by the kinds and marks of the workspace
-pub record FlagsCalm (v : Layout) (b : List ℕ) (w : Workspace) : Type 0 where
+pub record FlagsOnlyCalm (v : Layout) (b : List ℕ) (w : Workspace) : Type 0 where
   pub calm : AreCalm w.kinds.items w.marked.items w.reached.items w.parents.items (roled_entries (volume_of v b))
       (is_right_directory (volume_of v b)) w.flags.items
 
@@ -37,11 +37,11 @@ pub record IsSurveyed (v : Layout) (b : List ℕ) (w : Workspace) : Type 0 where
   pub survey : HoldsSurvey v b w
   pub references : HoldsReferences v b w
   pub claims : HoldsClaims v b w
-  pub calm : FlagsCalm v b w
+  pub calm : FlagsOnlyCalm v b w
 
 -- a survey reads all directories: where no read failed, what it finds is held, and each calm directory has a
 -- flag. The image was read at most as often as the directories ask for
-pub record SurveysAll {T : Type 0} (v : Layout) (b : List ℕ) (old new : DirSweep) (result : Result T ImageFault)
+pub record SurveysAll {T : Type 0} (v : Layout) (b : List ℕ) (old new : DirMoment) (result : Result T ImageFault)
     : Type 0 where
   pub found : OnOk result (IsSurveyed v b new.workspace)
   pub flags : OnOk result (FlagsEachCalm v b new.workspace)

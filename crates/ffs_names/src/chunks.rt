@@ -42,7 +42,7 @@ impl Chunks {
     ghost use Rattle.ffs_names.specs.Costs.{to_read, BeginsByClass, BeginsReading, HoldsReading, SeesRun};
     ghost use Rattle.ffs_names.specs.RunCursors.{last_place, IsGivenChunk, StepsOn};
     ghost use Rattle.ffs_names.specs.Readings.{all_chunks, rest, CanSee, ContinuesTo, CountsNoMore, FindsNextRun, GivesChunk, IsEnded, IsSame};
-    ghost use Rattle.ffs_names.specs.Leaves.{dir_reading, dir_walk, LeavesChunks, LeavesNext, LeavesWalk};
+    ghost use Rattle.ffs_names.specs.Leaves.{dir_reading, dir_walk, LeavesChunks, NextChunkLeaves, LeavesWalk};
 
     /// Looks at the Run that comes next in the walk: one of data that is kept whole, and is in
     /// range, becomes the current Run. Any other has no chunks.
@@ -206,7 +206,7 @@ impl Chunks {
             → ForContents (I.device image.old).contents (λ b. TakesReads (I.reads image.old)
             (I.reads image.new) (to_read b self.old) (to_read b self.new)
             (HoldsReading blocks.new window.new self.new) result) }
-        ensures leaves { LeavesNext (dir_reading I.Image image.old blocks.old window.old self.old)
+        ensures leaves { NextChunkLeaves (dir_reading I.Image image.old blocks.old window.old self.old)
             (dir_reading I.Image image.new blocks.new window.new self.new) chunk.new result }
     {
         if self.budget == 0 {

@@ -9,10 +9,10 @@ ghost use Rattle.ffs_volume.specs.{Directories.{Roles.roled_from, Volumes.volume
 ghost use Rattle.ffs_volume.specs.Report.DirectoryReads.{noted_cost, noted_costs};
 ghost use Rattle.ffs_workspace.specs.{Holds.{HoldsClaims, HoldsSurvey}, Ready.CanRead, Tables.CanReadInode};
 ghost use Rattle.ffs_workspace.specs.Tables.{TableAfter};
-ghost use Rattle.ffs_names.specs.Noting.{chunk_noting, is_child, BeginsNotes, CanNote, CanNoteChunks, CanNoteDirectory};
-ghost use Rattle.ffs_names.specs.Noting.{HoldsPlaces, LeavesChildren, LeavesNoted, LeavesPlaces, NotesDirectory};
+ghost use Rattle.ffs_names.specs.Noting.{chunk_noting, belongs_to, BeginsNotes, CanNote, CanNoteChunks, CanNoteDirectory};
+ghost use Rattle.ffs_names.specs.Noting.{HoldsPlaces, NotingDirectoryLeaves, NotingChunksLeaves, NotingLeaves, NotesDirectory};
 ghost use Rattle.ffs_names.specs.{Noting.{NotesEntries, NotesInWords}, Costs.{BeginsChunks, BeginsReads, SweepsOnce}};
-ghost use Rattle.ffs_names.specs.{Sweeps.dir_sweep, Readings.rest};
+ghost use Rattle.ffs_names.specs.{Sweeps.dir_moment, Readings.rest};
 
 use crate::chunk_entries::ChunkEntries;
 use crate::chunks::Chunks;
@@ -24,14 +24,14 @@ use ffs_memory::FilledList;
 use ffs_volume::constants::{DIRBLKSIZ, ROOTINO};
 use ffs_volume::{Class, Order, Role};
 use ffs_workspace::{
-    Table, Windows, Workspace, address_in, due as to_be_read, is_due as is_to_be_read, noted_part,
-    passed as was_read, place_of, sweep_reads,
+    Table, Windows, Workspace, address_in, is_due, noted_part, place_of, sweep_reads, with_due,
+    without_due,
 };
 
 /// Whether a directory is the parent of an inode other than the root, which has no parent entry.
-fn is_child(parents: &FilledList<u32>, dir: u32, number: u32) -> bool
+fn belongs_to(parents: &FilledList<u32>, number: u32, dir: u32) -> bool
     requires { 0 < dir }
-    ensures { result ≡ is_child parents.now.items dir number }
+    ensures { result ≡ belongs_to parents.now.items dir number }
 {
     if number as usize >= parents.len() {
         return false;
@@ -55,7 +55,7 @@ fn note_entry(
 {
     // Whether an entry is plain depends neither on its index nor on its chunk's place in the file:
     // any will do here.
-    if role_of(false, 0, entry) != Role::Plain || !is_child(parents, dir, entry.number) {
+    if role_of(false, 0, entry) != Role::Plain || !belongs_to(parents, entry.number, dir) {
         return;
     }
     let index = entry.number as usize;
@@ -101,9 +101,9 @@ fn note_chunks<I: Image>(
     requires { CanNoteChunks parents.now dir
         (chunk_noting I.Image image.old windows.old chunks.old words.old) }
     ensures noted { OnOk result (ForContents (I.device image.old).contents
-        (λ b. NotesEntries chunks.old.walk.geometry.layout b (is_child parents.now.items dir)
+        (λ b. NotesEntries chunks.old.walk.geometry.layout b (belongs_to parents.now.items dir)
         (flat_map roled_chunk (rest b chunks.old)) words.old.items words.new.items)) }
-    ensures leaves { LeavesNoted parents.now dir
+    ensures leaves { NotingChunksLeaves parents.now dir
         (chunk_noting I.Image image.old windows.old chunks.old words.old)
         (chunk_noting I.Image image.new windows.new chunks.new words.new) result }
 {
@@ -166,10 +166,10 @@ fn note_directory<I: Image>(
     ensures notes { ForContents (I.device image.old).contents
         (λ b. HoldsClaims geometry.now.layout b workspace.old
         → is_dir (volume_of geometry.now.layout b) dir ≡ true
-        → NotesDirectory geometry.now.layout b dir (dir_sweep I.Image image.old workspace.old)
-        (dir_sweep I.Image image.new workspace.new) result) }
-    ensures leaves { LeavesChildren geometry.now.layout dir
-        (dir_sweep I.Image image.old workspace.old) (dir_sweep I.Image image.new workspace.new)
+        → NotesDirectory geometry.now.layout b dir (dir_moment I.Image image.old workspace.old)
+        (dir_moment I.Image image.new workspace.new) result) }
+    ensures leaves { NotingDirectoryLeaves geometry.now.layout dir
+        (dir_moment I.Image image.old workspace.old) (dir_moment I.Image image.new workspace.new)
         result }
 {
     let note = workspace.notes[dir as usize];
@@ -185,9 +185,9 @@ fn note_directory<I: Image>(
     )
 }
 
-/// Sets the top bit of the word of each directory that is the parent of a reached one: its chunks
-/// are to be read. (Once the places are noted the same bit says that its parent entry is due.) No
-/// place is noted yet.
+/// Sets the due bit in the word of each directory that is the parent of a reached one: its chunks
+/// are due to be read. (Once the places are noted the same bit says that its parent entry is due.)
+/// No place is noted yet.
 fn flag_parents(reached: &FilledList<bool>, parents: &FilledList<u32>, words: &mut FilledList<u32>)
     requires lengths { (vec_len parents.now ≡ vec_len reached.now)
         × (vec_len words.old ≡ vec_len reached.now) × (vec_len reached.now < 2 ^ 31) }
@@ -199,7 +199,7 @@ fn flag_parents(reached: &FilledList<bool>, parents: &FilledList<u32>, words: &m
         let parent = parents[number as usize];
         if reached[number as usize] && (ROOTINO..count).contains(&parent) {
             let index = parent as usize;
-            words.set(index, to_be_read(words[index]));
+            words.set(index, with_due(words[index]));
         }
     }
 }
@@ -222,14 +222,15 @@ fn note_places_unlimited<I: Image>(
         (λ b. HoldsClaims geometry.now.layout b workspace.old
         → HoldsSurvey geometry.now.layout b workspace.old
         → I.reads image.new ≤ I.reads image.old + noted_costs geometry.now.layout b) }
-    ensures leaves { LeavesPlaces geometry.now.layout (dir_sweep I.Image image.old workspace.old)
-        (dir_sweep I.Image image.new workspace.new) result }
+    ensures leaves { NotingLeaves geometry.now.layout (dir_moment I.Image image.old workspace.old)
+        (dir_moment I.Image image.new workspace.new) result }
 {
     flag_parents(&workspace.reached, &workspace.parents, &mut workspace.queue);
     for dir in ROOTINO..geometry.layout.ncg * geometry.layout.ipg {
+        // Here the bit says that the directory's chunks are due to be read.
         let word = workspace.queue[dir as usize];
-        if is_to_be_read(word) {
-            workspace.queue.set(dir as usize, was_read(word));
+        if is_due(word) {
+            workspace.queue.set(dir as usize, without_due(word));
             note_directory(geometry, image, workspace, dir)?;
         }
     }
@@ -256,8 +257,8 @@ pub fn note_places<I: Image>(
     ensures reads { SweepsOnce geometry.now.layout (I.device image.old).contents
         (λ b. HoldsClaims geometry.now.layout b workspace.old
         × HoldsSurvey geometry.now.layout b workspace.old) (I.reads image.old) (I.reads image.new) }
-    ensures leaves { LeavesPlaces geometry.now.layout (dir_sweep I.Image image.old workspace.old)
-        (dir_sweep I.Image image.new workspace.new) result }
+    ensures leaves { NotingLeaves geometry.now.layout (dir_moment I.Image image.old workspace.old)
+        (dir_moment I.Image image.new workspace.new) result }
 {
     let mut limited = LimitedImage::new(image, sweep_reads(geometry));
     let noted = note_places_unlimited(geometry, &mut limited, workspace);

@@ -3,7 +3,7 @@
 ghost use Rattle.std.specs.Prelude.{◌≡◌, false, true, OnOk};
 ghost use Rattle.ffs_image.specs.Device.{ForContents};
 ghost use Rattle.ffs_workspace.specs.{Ready.{CanRead, IsReady}, Holds.HoldsClaims};
-ghost use Rattle.ffs_names.specs.{Costs.SweepsOnce, Sweeps.dir_sweep, Surveys.{IsSurveyed, LeavesClaims, SurveysAll}};
+ghost use Rattle.ffs_names.specs.{Costs.SweepsOnce, Sweeps.dir_moment, Surveys.{IsSurveyed, SurveyLeaves, SurveysAll}};
 ghost use Rattle.ffs_names.specs.{Surveys.SurveysNoMore, CalmDirs.FlagsEachCalm};
 
 use crate::entries::Entries;
@@ -26,9 +26,9 @@ fn survey_unlimited<I: Image>(
     requires first { workspace.old.surveyed ≡ false }
     ensures survey { ForContents (I.device image.old).contents
         (λ b. HoldsClaims geometry.now.layout b workspace.old
-        → SurveysAll geometry.now.layout b (dir_sweep I.Image image.old workspace.old)
-        (dir_sweep I.Image image.new workspace.new) result) }
-    ensures leaves { LeavesClaims geometry.now.layout (I.device image.old) (I.device image.new)
+        → SurveysAll geometry.now.layout b (dir_moment I.Image image.old workspace.old)
+        (dir_moment I.Image image.new workspace.new) result) }
+    ensures leaves { SurveyLeaves geometry.now.layout (I.device image.old) (I.device image.new)
         workspace.old workspace.new result }
 {
     let mut reader = DirectoryReader {
@@ -89,7 +89,7 @@ pub fn survey<I: Image>(
         (I.reads image.new) }
     ensures again { workspace.old.surveyed ≡ true → SurveysNoMore (I.reads image.old)
         (I.reads image.new) workspace.old workspace.new }
-    ensures leaves { LeavesClaims geometry.now.layout (I.device image.old) (I.device image.new)
+    ensures leaves { SurveyLeaves geometry.now.layout (I.device image.old) (I.device image.new)
         workspace.old workspace.new result }
 {
     if workspace.surveyed {

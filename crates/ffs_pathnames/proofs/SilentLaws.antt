@@ -22,7 +22,7 @@ use Rattle.ffs_volume.specs.Encodings.Kinds.{is_empty_dir_kind, is_allocated_kin
 use Rattle.ffs_volume.specs.Encodings.{Kinds.dir_at, Replay.{cut_at, fresh_replay, replayed_steps}}
 use Rattle.ffs_volume.specs.Directories.Calm.{is_right_size, is_right_shape, are_calm, CurrentDir, is_calm_kind}
 use Rattle.ffs_volume.specs.Directories.Calm.{is_calm_plain, is_calm_role, is_calm_entry, reached_after}
-use Rattle.ffs_names.{specs.{RunCursors.reading_by, Surveys.FlagsCalm}, proofs.DirLaws.kind_dirs}
+use Rattle.ffs_names.{specs.{RunCursors.reading_by, Surveys.FlagsOnlyCalm}, proofs.DirLaws.kind_dirs}
 use Rattle.ffs_workspace.specs.{declared.workspace.Workspace.Workspace, Lengths.IsFor, Holds.{bool_at, HoldsClaims}}
 use Rattle.ffs_workspace.{specs.Holds.HoldsSurvey, proofs.KindLaws.{reports_at, suspect_is, type_is}}
 use Rattle.ffs_survey.{specs.{Survey.number_at, Calm.{dir_by, IsCalm}}, proofs.CalmLaws.{calm_names_new, calm_new}}
@@ -294,7 +294,7 @@ unfolding roled_entries
 by_chunks v d s r h = h
 
 pub calm_silent : (v : Layout) (b : List ℕ) (w : Workspace) → IsAcceptedLayout v → IsFor v w → HoldsClaims v b w →
-    HoldsSurvey v b w → FlagsCalm v b w → (d : ℕ) → bool_at w.flags.items d ≡ true → IsSilentDirectory (volume_of v b) d
+    HoldsSurvey v b w → FlagsOnlyCalm v b w → (d : ℕ) → bool_at w.flags.items d ≡ true → IsSilentDirectory (volume_of v b) d
 calm_silent v b w g m h r f d set =
     let sh = shown v b w m h r in
     let c = f.calm d set in

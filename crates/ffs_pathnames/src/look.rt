@@ -18,7 +18,7 @@ use ffs_memory::FilledList;
 use ffs_names::{ChunkEntries, Chunks, gap_of, role_of};
 use ffs_volume::constants::{DIRBLKSIZ, ROOTINO};
 use ffs_volume::{Inode, Order, Role};
-use ffs_workspace::{Workspace, due};
+use ffs_workspace::{Workspace, with_due};
 
 /// What an examination of a directory finds, before anything is reported of it.
 #[derive(Clone, Copy, Debug)]
@@ -276,7 +276,7 @@ pub fn stamp(
     }
     if inodes.belongs(entry.number, dir) {
         let index = entry.number as usize;
-        words.set(index, due(words[index]));
+        words.set(index, with_due(words[index]));
     }
 }
 

@@ -19,7 +19,7 @@ use ffs_volume::constants::{
 };
 pub use ffs_volume::verdict::{EntryDefects, Verdict};
 use ffs_volume::{Attr, Role};
-use ffs_workspace::passed;
+use ffs_workspace::without_due;
 
 /// Whether an entry has the number or the type of a whiteout, and not both.
 fn is_bad_whiteout(entry: &Entry<'_>) -> bool
@@ -171,7 +171,7 @@ pub fn pass(
         flags.set(index, true);
     }
     if inodes.stamp_of(words, entry.number) == dir {
-        words.set(index, passed(words[index]));
+        words.set(index, without_due(words[index]));
     }
 }
 

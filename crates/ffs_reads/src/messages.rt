@@ -31,7 +31,7 @@ impl MessageCounter {
 impl Output for MessageCounter {
     ghost use Rattle.std.specs.Prelude.{None};
 
-    ghost sink = { λ _. record { taken = None; failures = 0; lent = None } };
+    ghost sink = { λ _. record { taken = None; failures = 0; holds = None } };
 
     fn failures(&self) -> u64 {
         0

@@ -103,13 +103,13 @@ stopped_where a b ms s =
       between = said_after a reach.whole;
       said = record {
         output = refl;
-        took = record { taken = appends_known a.sink.taken (texts_of reach.whole); failures = refl; lent = refl };
+        took = record { taken = appends_known a.sink.taken (texts_of reach.whole); failures = refl; holds = refl };
         failed = refl;
         defect = refl;
       };
       stopped = record {
         output = s.output;
-        lent = s.lent;
+        holds = s.holds;
         prefix = reach.part;
         rest = reach.rest;
         whole = reach.last_is;

@@ -18,7 +18,7 @@ said_then a b c xs ys p q = grind (arith, flat_map-append, took_then, has_defect
 pub stopped_after : (a b c : Progress) (xs ys : List Message) → Said a b xs → Stopped b c ys → Stopped a c (xs ++ ys)
 stopped_after a b c xs ys p q = record {
   output = q.output ∙ p.output;
-  lent = q.lent ∙ p.took.lent;
+  holds = q.holds ∙ p.took.holds;
   prefix = texts_of xs ++ q.prefix;
   rest = q.rest;
   whole = grind (arith, flat_map-append, append_assoc);
@@ -30,7 +30,7 @@ stopped_after a b c xs ys p q = record {
 pub stopped_more : (a b : Progress) (xs ys : List Message) → Stopped a b xs → Stopped a b (xs ++ ys)
 stopped_more a b xs ys p = record {
   output = p.output;
-  lent = p.lent;
+  holds = p.holds;
   prefix = p.prefix;
   rest = p.rest ++ texts_of ys;
   whole = grind (arith, flat_map-append, append_assoc);

@@ -45,7 +45,7 @@ pub record Said (old new : Progress) (messages : List Message) : Type 0 where
 -- a prefix of these messages' bytes went out, and then the output failed, or it had failed before
 pub record Stopped (old new : Progress) (messages : List Message) : Type 0 where
   pub output : new.output ≡ old.output
-  pub lent : new.sink.lent ≡ old.sink.lent
+  pub holds : new.sink.holds ≡ old.sink.holds
   pub prefix : List ℕ
   pub rest : List ℕ
   pub whole : texts_of messages ≡ prefix ++ rest

@@ -14,7 +14,7 @@ pub record IsUnfailedOver {S : Type 0} {I : Ghosts S} (name : GName) (writer : S
 -- what contracts know of an output over a writer: it took what the writer holds
 abbrev pub counted_sink : {S : Type 0} {I : Ghosts S} → (S → Option (List ℕ)) → Counted S I → Sink
 counted_sink contents c =
-    record { taken = contents c.inner.now; failures = c.failures; lent = Some c.inner.ghost_name }
+    record { taken = contents c.inner.now; failures = c.failures; holds = Some c.inner.ghost_name }
 
 -- a put of a piece that has bytes is one write, whose answer it reports: so much of the piece was taken
 pub record PutsOnce {S E : Type 0} {I : Ghosts S} (contents : S → Option (List ℕ))

@@ -88,7 +88,7 @@ impl LineBuffer {
 impl Output for LineBuffer {
     ghost use Rattle.std.specs.Prelude.{Some, None};
 
-    ghost sink = { λ b. record { taken = Some (take b.used b.room); failures = b.failures; lent = None } };
+    ghost sink = { λ b. record { taken = Some (take b.used b.room); failures = b.failures; holds = None } };
 
     fn failures(&self) -> u64 {
         self.failures

@@ -11,7 +11,7 @@ use ffs_pathnames::verdict::{EntryDefects, Verdict, pass, second_verdict};
 use ffs_samples::numbers;
 use ffs_volume::verdict::{DotDefects, HeaderDefects};
 use ffs_volume::{Label, Role};
-use ffs_workspace::due;
+use ffs_workspace::with_due;
 use std::alloc::{AllocError, Global};
 use std::test::Fail;
 
@@ -53,7 +53,7 @@ fn verdict_on(number: u32, kind: u8, alloc: Global) -> Result<Verdict, AllocErro
         marked: &MARKED,
         parents: &parents,
     };
-    let words = numbers(&[0, 0, 0, 0, due(0), 0, due(0), 0, 0], alloc)?;
+    let words = numbers(&[0, 0, 0, 0, with_due(0), 0, with_due(0), 0, 0], alloc)?;
     let entry = entry(number, kind);
     Ok(second_verdict(&inodes, 2, &[false; 9], &words, &entry))
 }
@@ -111,7 +111,7 @@ fn verdicts_in_turn(alloc: Global) -> Result<([Verdict; 3], u32), AllocError> {
         parents: &parents,
     };
     let mut passed = [false; 9];
-    let mut words = numbers(&[0, 0, 0, 0, due(7), 0, due(0), 0, 0], alloc)?;
+    let mut words = numbers(&[0, 0, 0, 0, with_due(7), 0, with_due(0), 0, 0], alloc)?;
     let verdicts = in_turn(&inodes, &mut passed, &mut words);
     Ok((verdicts, if words.len() > 4 { words[4] } else { 0 }))
 }

@@ -34,19 +34,19 @@ each_ok v start len k h low = (and_parts (is_fragment_in_range v (start + k)) _ 
 -- what `len` offers leave as it is, how far counts rise, and which of the offers are kept
 pub record Keeps (s s' : Claims) (len : ℕ) : Type 0 where
   pub used_length : length s'.used ≡ length s.used
-  pub dup_length : length s'.dup ≡ length s.dup
+  pub duplicates_length : length s'.duplicates ≡ length s.duplicates
   pub runs_is : s'.runs ≡ s.runs
   pub bad_is : s'.bad ≡ s.bad
-  pub dups_low : s.dups ≤ s'.dups
-  pub dups_cap : s.dups ≤ 11 → s'.dups ≤ 11
+  pub dup_offers_low : s.dup_offers ≤ s'.dup_offers
+  pub dup_offers_cap : s.dup_offers ≤ 11 → s'.dup_offers ≤ 11
   pub kept_low : s.kept ≤ s'.kept
   pub most : s'.kept ≤ s.kept + len
   -- the first one, unless eleven were dup before it
-  pub first : s.dups < 11 → 0 < len → s.kept < s'.kept
+  pub first : s.dup_offers < 11 → 0 < len → s.kept < s'.kept
   -- each dup one
-  pub rise : s'.dups + s.kept ≤ s'.kept + s.dups
+  pub rise : s'.dup_offers + s.kept ≤ s'.kept + s.dup_offers
   -- all, if the eleventh dup offer is none of them
-  pub whole : s'.dups < 11 → s'.kept ≡ s.kept + len
+  pub whole : s'.dup_offers < 11 → s'.kept ≡ s.kept + len
 
 offer_keeps : (v : Layout) (s : Claims) (f : ℕ) → Keeps s (after_offer v s f) 1
 offer_keeps v s f = grind (arith, length-set)
@@ -78,7 +78,7 @@ pub stays : (s : Claims) → ClaimBound s s
 stays s = omega arith
 
 run_moves : (v : Layout) (s : Claims) (start len : ℕ) → length s.used ≡ v.size → 0 < len → len ≤ 8 →
-    nat_lt s.bad 11 ≡ true → nat_lt s.dups 11 ≡ true →
+    nat_lt s.bad 11 ≡ true → nat_lt s.dup_offers 11 ≡ true →
     ClaimBound s (after_run v s start len)
 run_moves v s start len h some small few more_dups =
     let seen : Claims = record s { runs = s.runs + 1 } in
@@ -115,6 +115,6 @@ unfolding owner_of
 owner_moves v image s x g h = grind (arith, steps_move, steps_long)
 
 -- how many offers an inode keeps
-pub kept_bound : (s0 s : Claims) (size : ℕ) → length s.used ≡ size → s0.bad ≤ 11 → s0.dups ≤ 11 → s0.kept ≡ 0 →
+pub kept_bound : (s0 s : Claims) (size : ℕ) → length s.used ≡ size → s0.bad ≤ 11 → s0.dup_offers ≤ 11 → s0.kept ≡ 0 →
     ClaimBound s0 s → s.kept ≤ size + 99
 kept_bound s0 s size h bad dups none m = grind (arith, count_by-le-length)

@@ -9,7 +9,7 @@ use Rattle.ffs_volume.specs.{Disk.Areas.is_run_in_range, Laws.Meanings.KeptPrefi
 use Rattle.ffs_volume.specs.declared.Step.TheVariants.{Run, Tail, Gap}
 
 -- where eleven offers were dup, no offer is kept or claims anything
-pub full_offers : (v : Layout) (i : ℕ) (s : Claims) (fs : List ℕ) → nat_lt s.dups 11 ≡ false →
+pub full_offers : (v : Layout) (i : ℕ) (s : Claims) (fs : List ℕ) → nat_lt s.dup_offers 11 ≡ false →
     (kept_in_offers v i s fs ≡ []) × (after_offers v s fs ≡ s)
 full_offers v i s [] q = (refl, refl)
 full_offers v i s (f ∷ fs) q = rw q (full_offers v i s fs q)
@@ -43,20 +43,22 @@ prefix_then {i = i} {k = k} {k' = k'} {fs = fs} {fs' = fs'} f g shut = elim f.en
 ]
 
 offer_first : (v : Layout) (i : ℕ) (s : Claims) (f : ℕ) →
-    KeptPrefix i (if nat_lt s.dups 11 then offer_of i f ∷ [] else []) (f ∷ []) (not (nat_lt (after_offer v s f).dups 11))
-offer_first v i s f = elim (cases_Bool (nat_lt s.dups 11)) [
+    KeptPrefix i (if nat_lt s.dup_offers 11 then offer_of i f ∷ [] else []) (f ∷ [])
+    (not (nat_lt (after_offer v s f).dup_offers 11))
+offer_first v i s f = elim (cases_Bool (nat_lt s.dup_offers 11)) [
   | inl q ↦ record { rest = []; parts = rw q; end = inl refl }
   | inr q ↦ record { rest = offer_of i f ∷ []; parts = rw q; end = grind arith }
 ]
 
 offers_first : (v : Layout) (i : ℕ) (s : Claims) (fs : List ℕ) →
-    KeptPrefix i (kept_in_offers v i s fs) fs (not (nat_lt (after_offers v s fs).dups 11))
+    KeptPrefix i (kept_in_offers v i s fs) fs (not (nat_lt (after_offers v s fs).dup_offers 11))
 offers_first v i s [] = record { rest = []; parts = refl; end = inl refl }
 offers_first v i s (f ∷ fs) = prefix_then (offer_first v i s f) (offers_first v i (after_offer v s f) fs)
     (λ over. let full = full_offers v i (after_offer v s f) fs (not-true _ over) in (full.0, rw full.1 over))
 
 -- an inode whose eleventh dup offer was seen is cut
-cut_then : {i : ℕ} {kept : List Offer} {fs : List ℕ} (s : Claims) → KeptPrefix i kept fs (not (nat_lt s.dups 11)) →
+cut_then : {i : ℕ} {kept : List Offer} {fs : List ℕ} (s : Claims) →
+    KeptPrefix i kept fs (not (nat_lt s.dup_offers 11)) →
     KeptPrefix i kept fs (not (is_open s))
 cut_then s f = grind arith
 

@@ -28,8 +28,8 @@ replayed_offers v inode cut r (step ∷ steps) =
 -- how the counts of an inode move over steps
 record Grows (s s' : Claims) : Type 0 where
   kept_low : s.kept ≤ s'.kept
-  dups_low : s.dups ≤ s'.dups
-  rise : s'.dups + s.kept ≤ s'.kept + s.dups
+  dup_offers_low : s.dup_offers ≤ s'.dup_offers
+  rise : s'.dup_offers + s.kept ≤ s'.kept + s.dup_offers
 
 step_grows : (v : Layout) (s : Claims) (step : Step) → Grows s (after_step v s step)
 step_grows v s Gap = omega arith
@@ -44,9 +44,10 @@ steps_grow v s [] = omega arith
 steps_grow v s (step ∷ steps) = let one = step_grows v s step in omega (arith, steps_grow v (after_step v s step) steps)
 
 -- where eleven offers were dup, no more are kept
-full_ends : (v : Layout) (s : Claims) (steps : List Step) → nat_lt s.dups 11 ≡ false →
+full_ends : (v : Layout) (s : Claims) (steps : List Step) → nat_lt s.dup_offers 11 ≡ false →
     (after_steps v s steps).kept ≡ s.kept
-full_ends v s steps e = ap (λ x. x.kept) (shut_steps v 0 s steps (and_right (nat_lt s.bad 11) (nat_lt s.dups 11) e)).1
+full_ends v s steps e =
+    ap (λ x. x.kept) (shut_steps v 0 s steps (and_right (nat_lt s.bad 11) (nat_lt s.dup_offers 11) e)).1
 
 -- how many offers of a Run are kept, by the counts of the states before it, after it and at the end
 taken_is : (sk tk td ek ed len : ℕ) → sk ≤ tk → tk ≤ sk + len → (td < 11 → tk ≡ sk + len) → tk ≤ ek →
@@ -55,20 +56,20 @@ taken_is : (sk tk td ek ed len : ℕ) → sk ≤ tk → tk ≤ sk + len → (td 
 taken_is sk tk td ek ed len low high whole on dups rise few full = grind (arith, nat_tests)
 
 -- the same of the states
-offers_replay : (v : Layout) (s t : Claims) (start len : ℕ) (steps : List Step) → t.kept ≡ s.kept → t.dups ≡ s.dups →
-    s.dups ≤ s.kept
+offers_replay : (v : Layout) (s t : Claims) (start len : ℕ) (steps : List Step) → t.kept ≡ s.kept →
+    t.dup_offers ≡ s.dup_offers → s.dup_offers ≤ s.kept
     → s.kept + taken_of (cut_of (after_steps v (after_offers v t (range_with_len start len)) steps)) s.kept len
     ≡ (after_offers v t (range_with_len start len)).kept
 offers_replay v s t start len steps k d few =
     let keep = offers_keep v t (range_with_len start len) in
     grind (arith, length-range_with_len, steps_grow, taken_is, full_ends)
 
-pub seen_replays : (v : Layout) (s : Claims) (steps : List Step) → s.dups ≤ s.kept →
+pub seen_replays : (v : Layout) (s : Claims) (steps : List Step) → s.dup_offers ≤ s.kept →
     is_replay_open (cut_of (after_steps v s steps)) (replay_of s) ≡ is_open s
 seen_replays v s steps few = grind (arith, steps_grow, full_ends)
 
 -- a Run that is seen does in the replay what it did
-run_replays : (v : Layout) (s : Claims) (start len : ℕ) (steps : List Step) → s.dups ≤ s.kept
+run_replays : (v : Layout) (s : Claims) (start len : ℕ) (steps : List Step) → s.dup_offers ≤ s.kept
     → replay_after_run v (cut_of (after_steps v (after_run v s start len) steps)) (replay_of s) start len
     ≡ replay_of (after_run v s start len)
 run_replays v s start len steps few =
@@ -81,7 +82,7 @@ run_replays v s start len steps few =
     grind arith
 
 -- and so does each step
-pub step_replays : (v : Layout) (s : Claims) (step : Step) (steps : List Step) → s.dups ≤ s.kept
+pub step_replays : (v : Layout) (s : Claims) (step : Step) (steps : List Step) → s.dup_offers ≤ s.kept
     → replay_after_step v (cut_of (after_steps v s (step ∷ steps))) (replay_of s) step ≡ replay_of (after_step v s step)
 step_replays v s Gap steps few = refl
 step_replays v s Tail steps few = grind arith
@@ -89,18 +90,18 @@ step_replays v s (Run start len block) steps few =
     rw (seen_replays v s (Run start len block ∷ steps) few) (grind (arith, run_replays))
 
 -- a step keeps its counts in order
-pub step_few : (v : Layout) (s : Claims) (step : Step) → s.dups ≤ s.kept →
-    (after_step v s step).dups ≤ (after_step v s step).kept
+pub step_few : (v : Layout) (s : Claims) (step : Step) → s.dup_offers ≤ s.kept →
+    (after_step v s step).dup_offers ≤ (after_step v s step).kept
 step_few v s step few = let g = step_grows v s step in omega arith
 
-kept_replays : (v : Layout) (s : Claims) (step : Step) (steps : List Step) → s.dups ≤ s.kept
+kept_replays : (v : Layout) (s : Claims) (step : Step) (steps : List Step) → s.dup_offers ≤ s.kept
     → is_replayed v (cut_of (after_steps v s (step ∷ steps))) (replay_of s) step ≡ is_kept_step v s step
 kept_replays v s Gap steps few = seen_replays v s (Gap ∷ steps) few
 kept_replays v s Tail steps few = seen_replays v s (Tail ∷ steps) few
 kept_replays v s (Run start len block) steps few =
     rw (step_replays v s (Run start len block) steps few, seen_replays v s (Run start len block ∷ steps) few)
 
-steps_replay : (v : Layout) (s : Claims) (steps : List Step) → s.dups ≤ s.kept
+steps_replay : (v : Layout) (s : Claims) (steps : List Step) → s.dup_offers ≤ s.kept
     → replayed_steps v (cut_of (after_steps v s steps)) (replay_of s) steps ≡ kept_steps v s steps
 steps_replay v s [] few = refl
 steps_replay v s (step ∷ steps) few =

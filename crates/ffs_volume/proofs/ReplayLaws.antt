@@ -27,14 +27,14 @@ offers_runs v s fs = (offers_keep v s fs).runs_is
 run_runs : (v : Layout) (s : Claims) (start len : ℕ) → (after_run v s start len).runs ≡ s.runs + 1
 run_runs v s start len = grind (arith, offers_runs)
 
-step_runs : (v : Layout) (s : Claims) (step : Step) (steps : List Step) → s.dups ≤ s.kept
+step_runs : (v : Layout) (s : Claims) (step : Step) (steps : List Step) → s.dup_offers ≤ s.kept
     → (after_step v s step).runs ≡ s.runs + seen_run (cut_of (after_steps v s (step ∷ steps))) (replay_of s) step
 step_runs v s Gap steps few = omega arith
 step_runs v s Tail steps few = grind arith
 step_runs v s (Run start len block) steps few =
     let seen = seen_replays v s (Run start len block ∷ steps) few in grind (arith, run_runs)
 
-steps_runs : (v : Layout) (s : Claims) (steps : List Step) → s.dups ≤ s.kept
+steps_runs : (v : Layout) (s : Claims) (steps : List Step) → s.dup_offers ≤ s.kept
     → (after_steps v s steps).runs ≡ s.runs + replayed_runs v (cut_of (after_steps v s steps)) (replay_of s) steps
 steps_runs v s [] few = omega arith
 steps_runs v s (step ∷ steps) few =

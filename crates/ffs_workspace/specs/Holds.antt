@@ -12,10 +12,10 @@ pub use Rattle.ffs_volume.specs.Encodings.Lists.{bool_at}
 abbrev pub claims_of : Workspace → Claims
 claims_of w = record {
   used = bits_of w.used;
-  dup = bits_of w.duplicates;
+  duplicates = bits_of w.duplicates;
   runs = w.runs_seen;
   bad = w.bad;
-  dups = w.dups;
+  dup_offers = w.dup_offers;
   kept = w.kept;
   tail = w.tail;
 }
@@ -34,7 +34,7 @@ pub record IsFresh (v : Layout) (w : Workspace) : Type 0 where
 -- starts. Nothing is surveyed yet
 pub record HoldsPhase1 (v : Layout) (image : List ℕ) (w : Workspace) : Type 0 where
   pub used : bits_of w.used ≡ (all_claims v image).used
-  pub dup : bits_of w.duplicates ≡ (all_claims v image).dup
+  pub duplicates : bits_of w.duplicates ≡ (all_claims v image).duplicates
   pub kinds : (x : ℕ) → slice_index w.kinds.items x ≡ kind_at v image x
   pub marked : (x : ℕ) → bool_at w.marked.items x ≡ marked_by_phase1_at v image x
   pub notes : (x : ℕ) → slice_index w.notes.items x ≡ note_at v image x
@@ -53,7 +53,8 @@ pub record HoldsTree (v : Layout) (image : List ℕ) (w : Workspace) : Type 0 wh
   pub reached : (x : ℕ) → bool_at w.reached.items x ≡ reached (graph_of (volume_of v image)) x
   pub parents : (x : ℕ) → slice_index w.parents.items x ≡ unwrap_or (parent (graph_of (volume_of v image)) x) 0
 
--- and each place that is noted in `queue` is that of a parent entry
+-- the tree that the survey found, and each place that was noted since in `queue` is that of a parent
+-- entry. How often inodes are referred to is apart (`HoldsReferences`): phase 3 doesn't ask it
 pub record HoldsSurvey (v : Layout) (image : List ℕ) (w : Workspace) : Type 0 where
   pub tree : HoldsTree v image w
   pub places : ArePlaces v image w.queue.items

@@ -8,7 +8,7 @@ use Rattle.ffs_workspace.specs.declared.workspace.Workspace.{Workspace}
 pub record LeavesBlockCheck (old new : Workspace) : Type 0 where
   pub used : new.used ≡ old.used
   pub duplicates : new.duplicates ≡ old.duplicates
-  pub found_dups : new.found_dups ≡ old.found_dups
+  pub has_dups : new.has_dups ≡ old.has_dups
   pub kinds : new.kinds ≡ old.kinds
   pub marked : new.marked ≡ old.marked
   pub notes : new.notes ≡ old.notes
@@ -20,7 +20,7 @@ pub record LeavesBlockCheck (old new : Workspace) : Type 0 where
 pub record LeavesSurvey (old new : Workspace) : Type 0 where
   pub used : new.used ≡ old.used
   pub duplicates : new.duplicates ≡ old.duplicates
-  pub found_dups : new.found_dups ≡ old.found_dups
+  pub has_dups : new.has_dups ≡ old.has_dups
   pub kinds : new.kinds ≡ old.kinds
   pub marked : new.marked ≡ old.marked
   pub notes : new.notes ≡ old.notes

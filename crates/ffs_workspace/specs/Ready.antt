@@ -27,7 +27,7 @@ pub record KeepsWindows (v : Layout) (d : Device) (old new : Workspace) : Type 0
 pub record IsNew (v : Layout) (w : Workspace) : Type 0 where
   pub made : IsFor v w
   pub fresh : IsFresh v w
-  pub found_dups : w.found_dups ≡ false
+  pub has_dups : w.has_dups ≡ false
   pub runs_seen : w.runs_seen ≡ 0
   pub runs_again : w.runs_again ≡ 0
 

@@ -22,6 +22,6 @@ mod workspace;
 pub use limits::{LINE_READS, PATH_READS, RUNS_WITHOUT_CLAIM, sweep_reads};
 pub use links::links_start;
 pub use notes::{address_in, cut_in, note_of};
-pub use places::{due, is_due, noted_part, part_size, passed, place_of};
+pub use places::{is_due, noted_part, part_size, place_of, with_due, without_due};
 pub use table::Table;
 pub use workspace::{Windows, Workspace};

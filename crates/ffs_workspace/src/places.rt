@@ -8,7 +8,8 @@ use ffs_layout::Geometry;
 use ffs_volume::constants::DIRBLKSIZ;
 
 /// The bit of a word that says that the parent entry is due. The bits below it are the place: 0
-/// where none is noted, else 1 more than the number of the part of the image.
+/// where none is noted, else 1 more than the number of the part of the image. While places are
+/// noted, the bit says of a parent that its chunks are due to be read.
 const DUE: u32 = 1 << 31;
 
 /// How many chunks have a number that a place can note.
@@ -19,7 +20,7 @@ const NUMBERED_CHUNKS: u64 = (1 << 31) - 1;
 pub fn noted_part(word: u32) -> Option<u32>
     ensures { MatchOption result (place_in word ≡ 0) (λ part. place_in word ≡ suc part) }
 {
-    passed(word).checked_sub(1)
+    without_due(word).checked_sub(1)
 }
 
 /// Whether the parent entry is due: the first look at the parent has met it, and the second reading
@@ -34,15 +35,15 @@ pub fn is_due(word: u32) -> bool
 /// A word with the same place, whose parent entry is due.
 #[inline(always)]
 #[tactic(auto, using(crate::proofs::PlaceLaws::or_due))]
-pub fn due(word: u32) -> u32
+pub fn with_due(word: u32) -> u32
     ensures { KeepsPlace true word result }
 {
     word | DUE
 }
 
-/// A word with the same place, whose parent entry isn't due: it is passed.
+/// A word with the same place, whose parent entry isn't due.
 #[inline(always)]
-pub fn passed(word: u32) -> u32
+pub fn without_due(word: u32) -> u32
     ensures { KeepsPlace false word result }
 {
     word & !DUE

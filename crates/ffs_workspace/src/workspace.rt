@@ -37,8 +37,8 @@ pub struct Workspace {
     /// The fragments with a DUP line. Phase 1b clears each of which it has reported the first kept
     /// offer.
     pub duplicates: FragmentMap,
-    /// Whether phase 1 found a fragment with a DUP line. No later phase changes it.
-    pub found_dups: bool,
+    /// Whether the last phase 1 that ended with `Ok` printed a DUP line. No later phase changes it.
+    pub has_dups: bool,
     /// What each inode is (`Kind`).
     pub kinds: FixedList<u8>,
     /// The inodes that are marked: of class Unknown, or with a BAD or DUP line.
@@ -79,7 +79,7 @@ pub struct Workspace {
     /// How many bad Runs the current inode has so far.
     pub bad: u32,
     /// How many dup offers the current inode keeps so far.
-    pub dups: u32,
+    pub dup_offers: u32,
     /// How many offers the current inode keeps so far, bad and dup ones among them.
     pub kept: u64,
     /// Whether a Tail of the current inode is kept.
@@ -141,7 +141,7 @@ impl Workspace {
         Ok(Workspace {
             used,
             duplicates,
-            found_dups: false,
+            has_dups: false,
             kinds,
             marked,
             named,
@@ -155,7 +155,7 @@ impl Workspace {
             runs_seen: 0,
             runs_again: 0,
             bad: 0,
-            dups: 0,
+            dup_offers: 0,
             kept: 0,
             tail: false,
             windows,
@@ -163,7 +163,7 @@ impl Workspace {
     }
 
     /// Lets the windows hold nothing, so that whatever is asked of them is read anew: they may hold
-    /// what another image gave. Each phase begins with it.
+    /// what another image gave. Each phase does so before it reads, and phase 2 also after the survey.
     pub fn forget_windows(&mut self)
         ensures only { self.new ≡ record self.old { windows = self.new.windows } }
         ensures forgets { (v : Layout) (d : Device) → IsReady v d self.old → CanRead v d self.new }
@@ -198,13 +198,13 @@ impl Workspace {
     /// Whether a phase 1 that ended with `Ok` printed a DUP line: so that phase 1b is to run (fsck(8)). It
     /// is false before that. A phase 1 that failed leaves the answer as it was, and so do the later phases.
     pub fn has_dups(&self) -> bool
-        ensures { result ≡ self.now.found_dups }
+        ensures { result ≡ self.now.has_dups }
     {
-        self.found_dups
+        self.has_dups
     }
 
     /// Whether some fragment has a DUP line and its first kept offer isn't reported yet: this asks
-    /// `duplicates`, not the count `dups`.
+    /// `duplicates`, which phase 1b clears, and not `has_dups`.
     pub fn has_unreported_dups(&self) -> bool
         ensures { result ≡ has_unreported_dups self.now }
     {

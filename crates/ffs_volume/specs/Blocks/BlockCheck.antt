@@ -42,10 +42,10 @@ lines_of_owners v s (o ∷ os) = owner_lines v s o ++ lines_of_owners v (after_o
 -- a DUP for the first kept offer of each fragment that has a DUP in phase 1. Where the fragment is
 -- reserved, phase 1 has reported that same offer already
 abbrev pub first_offer_lines : List Bool → List Offer → List BlockMessage
-first_offer_lines dup [] = []
-first_offer_lines dup (o ∷ os) =
-    if is_set dup o.fragment then Dup o.fragment o.inode ∷ first_offer_lines (slice_set dup o.fragment false) os
-    else first_offer_lines dup os
+first_offer_lines left [] = []
+first_offer_lines left (o ∷ os) =
+    if is_set left o.fragment then Dup o.fragment o.inode ∷ first_offer_lines (slice_set left o.fragment false) os
+    else first_offer_lines left os
 
 -- the lines of phase 1
 unfoldable pub phase1_lines : Layout → List Owner → List BlockMessage
@@ -53,7 +53,7 @@ phase1_lines v os = lines_of_owners v (no_claims v) os
 
 -- the lines of phase 1b
 unfoldable pub phase1b_lines : Layout → List Owner → List BlockMessage
-phase1b_lines v os = first_offer_lines (after_owners v (no_claims v) os).dup (kept_in_owners v (no_claims v) os)
+phase1b_lines v os = first_offer_lines (after_owners v (no_claims v) os).duplicates (kept_in_owners v (no_claims v) os)
 
 -- the line is a DUP
 abbrev pub is_dup_line : BlockMessage → Bool
@@ -82,8 +82,8 @@ set_count bits = count_by (λ b. b) bits
 
 -- the fragments whose first kept offer is still to be reported in phase 1b, after some offers
 abbrev pub after_first : List Bool → List Offer → List Bool
-after_first dup [] = dup
-after_first dup (o ∷ os) = after_first (if is_set dup o.fragment then slice_set dup o.fragment false else dup) os
+after_first left [] = left
+after_first left (o ∷ os) = after_first (if is_set left o.fragment then slice_set left o.fragment false else left) os
 
 -- the kept offers of each Run that is seen: of a step, of steps, and of inodes
 abbrev pub step_runs : Layout → ℕ → Claims → Step → List (List Offer)
@@ -102,10 +102,11 @@ owners_runs v s (o ∷ os) = steps_runs v o.number (at_next_inode s) o.steps ++ 
 -- how many of some Runs are looked at, by their kept offers: all up to the one that reports the
 -- last fragment with a DUP line
 unfoldable pub runs_until_reported : List Bool → List (List Offer) → ℕ
-runs_until_reported dup [] = 0
-runs_until_reported dup (kept ∷ runs) =
-    if set_count dup == 0 then 0 else 1 + runs_until_reported (after_first dup kept) runs
+runs_until_reported left [] = 0
+runs_until_reported left (kept ∷ runs) =
+    if set_count left == 0 then 0 else 1 + runs_until_reported (after_first left kept) runs
 
 -- how many Runs of an image phase 1b looks at
 unfoldable pub rescan_runs : Layout → List ℕ → ℕ
-rescan_runs v image = runs_until_reported (all_claims v image).dup (owners_runs v (no_claims v) (owners_of v image))
+rescan_runs v image =
+    runs_until_reported (all_claims v image).duplicates (owners_runs v (no_claims v) (owners_of v image))

@@ -15,10 +15,10 @@ use Rattle.ffs_volume.specs.Blocks.Owners.{Owner, owners_of}
 -- of the current inode
 pub record Claims : Type 0 where
   pub used : List Bool  -- the fragments that are reserved or claimed
-  pub dup : List Bool  -- the fragments of kept dup offers
+  pub duplicates : List Bool  -- the fragments of kept dup offers
   pub runs : ℕ  -- the Runs that were seen, of all inodes
   pub bad : ℕ  -- the bad Runs of the current inode
-  pub dups : ℕ  -- the kept dup offers of the current inode
+  pub dup_offers : ℕ  -- the kept dup offers of the current inode
   pub kept : ℕ  -- the kept offers of the current inode
   pub tail : Bool  -- a Tail of the current inode was seen
 
@@ -30,17 +30,17 @@ reserved_map v = map (is_reserved v) (range_with_len 0 v.size)
 unfoldable pub no_claims : Layout → Claims
 no_claims v = record {
   used = reserved_map v;
-  dup = replicate v.size false;
+  duplicates = replicate v.size false;
   runs = 0;
   bad = 0;
-  dups = 0;
+  dup_offers = 0;
   kept = 0;
   tail = false;
 }
 
 -- the state where the next inode begins: the counts of the current inode are 0 again
 abbrev pub at_next_inode : Claims → Claims
-at_next_inode s = record s { bad = 0; dups = 0; kept = 0; tail = false }
+at_next_inode s = record s { bad = 0; dup_offers = 0; kept = 0; tail = false }
 
 -- the flag at an index f is set; past the end of the list none is
 abbrev pub is_set : (bits : List Bool) (f : ℕ) → Bool
@@ -48,21 +48,21 @@ is_set bits f = slice_index_or bits f false
 
 -- the inode isn't cut, so its next step is seen: it has at most ten bad Runs and at most ten dup offers
 abbrev pub is_open : Claims → Bool
-is_open s = nat_lt s.bad (MAXBAD + 1) && nat_lt s.dups (MAXDUP + 1)
+is_open s = nat_lt s.bad (MAXBAD + 1) && nat_lt s.dup_offers (MAXDUP + 1)
 
 -- the current inode has a bad Run or a dup offer
 abbrev pub has_blame : Claims → Bool
-has_blame s = not (s.bad == 0 && s.dups == 0)
+has_blame s = not (s.bad == 0 && s.dup_offers == 0)
 
 -- the state after the offer of f, which is kept unless eleven were dup before it. A fragment in
 -- range is claimed, or the offer is dup. One that isn't in range, of a bad Run, is only counted:
 -- nothing is claimed
 abbrev pub after_offer : Layout → Claims → ℕ → Claims
 after_offer v s f =
-    if nat_lt s.dups (MAXDUP + 1)
+    if nat_lt s.dup_offers (MAXDUP + 1)
     then (if is_fragment_in_range v f
     then (if is_set s.used f
-    then record s { kept = s.kept + 1; dups = s.dups + 1; dup = slice_set s.dup f true }
+    then record s { kept = s.kept + 1; dup_offers = s.dup_offers + 1; duplicates = slice_set s.duplicates f true }
     else record s { kept = s.kept + 1; used = slice_set s.used f true })
     else record s { kept = s.kept + 1 })
     else s
@@ -70,8 +70,8 @@ after_offer v s f =
 -- the lines of one offer: a DUP where it is dup and kept, with EXCESSIVE DUP BLKS after the eleventh
 abbrev pub offer_lines : (v : Layout) (inode : ℕ) (s : Claims) (f : ℕ) → List BlockMessage
 offer_lines v inode s f =
-    if nat_lt s.dups (MAXDUP + 1) && (is_fragment_in_range v f && is_set s.used f)
-    then Dup f inode ∷ (if s.dups == MAXDUP then ManyDup inode ∷ [] else [])
+    if nat_lt s.dup_offers (MAXDUP + 1) && (is_fragment_in_range v f && is_set s.used f)
+    then Dup f inode ∷ (if s.dup_offers == MAXDUP then ManyDup inode ∷ [] else [])
     else []
 
 -- the state after offers, one after the other

@@ -20,7 +20,7 @@ offer_of i f = record { inode = i; fragment = f }
 abbrev pub kept_in_offers : (v : Layout) (inode : ℕ) (s : Claims) (fs : List ℕ) → List Offer
 kept_in_offers v inode s [] = []
 kept_in_offers v inode s (f ∷ fs) =
-    (if nat_lt s.dups (MAXDUP + 1) then offer_of inode f ∷ [] else [])
+    (if nat_lt s.dup_offers (MAXDUP + 1) then offer_of inode f ∷ [] else [])
     ++ kept_in_offers v inode (after_offer v s f) fs
 
 abbrev pub kept_in_run : (v : Layout) (inode : ℕ) (s : Claims) (start len : ℕ) → List Offer

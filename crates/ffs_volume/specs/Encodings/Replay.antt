@@ -19,7 +19,7 @@ fresh_replay = record { bad = 0; kept = 0 }
 -- the cut of an inode that ends in this state: the number of its kept offers where its eleventh dup
 -- offer cut it, else 0. No cut is 0, since it is 11 at least
 abbrev pub cut_of : Claims → ℕ
-cut_of end = if nat_lt end.dups (MAXDUP + 1) then 0 else end.kept
+cut_of end = if nat_lt end.dup_offers (MAXDUP + 1) then 0 else end.kept
 
 -- the next step is seen
 abbrev pub is_replay_open : ℕ → Replay → Bool

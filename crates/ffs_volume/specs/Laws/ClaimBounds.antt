@@ -9,11 +9,11 @@ used_bits s = count_by (λ b. b) s.used
 -- the potential: how many fragments are used, and how many bad Runs and dup offers the current
 -- inode has
 abbrev pub potential : Claims → ℕ
-potential s = used_bits s + s.bad + s.dups
+potential s = used_bits s + s.bad + s.dup_offers
 
 -- the potential that bounds kept offers: a Run has at most eight of them, so a bad Run counts eightfold
 abbrev pub offers_potential : Claims → ℕ
-offers_potential s = used_bits s + 8 * s.bad + s.dups
+offers_potential s = used_bits s + 8 * s.bad + s.dup_offers
 
 -- from s to s', Runs and kept offers rise by no more than the potentials, maps keep their lengths,
 -- and bad Runs and dup offers stay at most eleven
@@ -21,6 +21,6 @@ pub record ClaimBound (s s' : Claims) : Type 0 where
   pub few_runs : s'.runs + potential s ≤ s.runs + potential s'
   pub few_kept : s'.kept + offers_potential s ≤ s.kept + offers_potential s'
   pub used_length : length s'.used ≡ length s.used
-  pub dup_length : length s'.dup ≡ length s.dup
+  pub duplicates_length : length s'.duplicates ≡ length s.duplicates
   pub bad_cap : s.bad ≤ MAXBAD + 1 → s'.bad ≤ MAXBAD + 1
-  pub dups_cap : s.dups ≤ MAXDUP + 1 → s'.dups ≤ MAXDUP + 1
+  pub dup_offers_cap : s.dup_offers ≤ MAXDUP + 1 → s'.dup_offers ≤ MAXDUP + 1

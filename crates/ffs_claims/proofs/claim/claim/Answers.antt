@@ -35,7 +35,7 @@ pub claim_direct-requires-clause-can : goal.claim_direct-requires-clause-can
 claim_direct-requires-clause-can g c =
     let none = claiming_none c.requires.claim in
     let uncut : is_open (claims_of c.args.workspace.now) ≡ true =
-    rw (c.requires.begun.bad, c.requires.begun.dups) refl in
+    rw (c.requires.begun.bad, c.requires.begun.dup_offers) refl in
     sees_for (sym (ap (λ k. k.layout) (c.restart.ensures.geometry ∙ c.requires.walk)))
     (sees_next c.args.geometry.now.sound c.requires.begun none.claim.ready.ready.made none.claim.all_in_range uncut
     none.claim_bound)

@@ -60,7 +60,7 @@ returns-clause-claims g c =
         walk = did.left.walk;
         bound = did.left.bound;
         runs_claim = did.left.runs_claim;
-        dups = did.left.dups;
+        has_dups = did.left.has_dups;
         again = did.left.again;
         counted = omega (arith, did.left.counted, c.in_ok-inode.ensures.counted);
       };

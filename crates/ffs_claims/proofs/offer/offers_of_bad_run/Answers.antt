@@ -6,7 +6,7 @@ use Rattle.ffs_claims.proofs.offer.offers_of_bad_run.Goals as goal
 
 pub returns-then-run-geometry : goal.returns-then-run-geometry
 returns-then-run-geometry g c =
-    let few : nat_lt c.args.workspace.now.dups 11 ≡ true = grind (arith, nat_tests) in
+    let few : nat_lt c.args.workspace.now.dup_offers 11 ≡ true = grind (arith, nat_tests) in
     let kept = only_kept c.args.geometry.now.layout (claims_of c.args.workspace.now) c.args.run.start c.args.run.len few
     (omega arith) in
     let more : c.from.result ≡ c.args.run.len = omega arith in

@@ -5,7 +5,7 @@ use Rattle.ffs_claims.proofs.offer.take.Goals as goal
 -- the fragment is claimed
 pub returns-then-claim : goal.returns-then-claim
 returns-then-claim c =
-    let few : nat_lt c.args.workspace.now.dups 11 ≡ true = grind (arith, nat_tests) in
+    let few : nat_lt c.args.workspace.now.dup_offers 11 ≡ true = grind (arith, nat_tests) in
     let ok = sym c.fragment_in_range.ensures ∙ c.if-not-fragment_in_range.false in
     let unset = rw c.if-claim.true at (was_set c.claim.ensures) in
     record {
@@ -19,7 +19,7 @@ returns-then-claim c =
 -- it was claimed before
 pub returns : goal.returns
 returns c =
-    let few : nat_lt c.args.workspace.now.dups 11 ≡ true = grind (arith, nat_tests) in
+    let few : nat_lt c.args.workspace.now.dup_offers 11 ≡ true = grind (arith, nat_tests) in
     let ok = sym c.fragment_in_range.ensures ∙ c.if-not-fragment_in_range.false in
     let set = rw c.if-claim.false at (was_set c.claim.ensures) in
     let kept = c.set.ensures.size ∙ c.requires.made.duplicates in

@@ -13,7 +13,7 @@ claim-requires g c =
 
 pub returns-then-claim : goal.returns-then-claim
 returns-then-claim g c =
-    let few : nat_lt c.args.workspace.now.dups 11 ≡ true = grind (arith, nat_tests) in
+    let few : nat_lt c.args.workspace.now.dup_offers 11 ≡ true = grind (arith, nat_tests) in
     let whole = whole_is c.args.geometry.now.layout (claims_of c.args.workspace.now) c.args.run.start c.args.run.len few
     (c.requires.offer.known refl) (c.claim.ensures.clear c.if-claim.true) in
     let more : c.from.result ≡ c.args.run.len = omega arith in

@@ -43,7 +43,7 @@ loop-number-init g c =
       runs = omega (arith, c.reserve.ensures.runs);
       reads = blocks_none (omega (arith, c.reserve.ensures.runs));
       known = λ bytes k. read_begins v bytes (omega arith) (c.reserve.ensures.claims (fresh k.1));
-      dups = found.dups ∙ ap (λ w. w.found_dups) forgot;
+      has_dups = found.has_dups ∙ ap (λ w. w.has_dups) forgot;
       again = found.again ∙ ap (λ w. w.runs_again) forgot;
       claims = λ bytes k. c.reserve.ensures.claims (fresh k.1) ∙ sym (before_first v bytes);
       found = λ bytes k. found_begins bytes (fresh k.1) found;
@@ -127,7 +127,7 @@ loop-number-preserved g c =
             runs = omega (arith, runs, some);
             reads = blocks_later passes.ends.low reads;
             known = λ bytes k. read_later some passes.ends.high (free bytes k) (known bytes k);
-            dups = c.claim_inode.ensures.claims.left.dups ∙ inv.dups;
+            has_dups = c.claim_inode.ensures.claims.left.has_dups ∙ inv.has_dups;
             again = c.claim_inode.ensures.claims.left.again ∙ inv.again;
             claims = λ bytes k. (stands_later (omega (arith, inv.low)) some passes.ends.high ready.ready.made (free bytes k)
                 (stands bytes k)).claims;
@@ -147,7 +147,7 @@ loop-number-preserved g c =
             runs = runs;
             reads = reads;
             known = known;
-            dups = c.claim_inode.ensures.claims.left.dups ∙ inv.dups;
+            has_dups = c.claim_inode.ensures.claims.left.has_dups ∙ inv.has_dups;
             again = c.claim_inode.ensures.claims.left.again ∙ inv.again;
             claims = λ bytes k. (stands bytes k).claims;
             found = λ bytes k. (stands bytes k).found;
@@ -181,14 +181,14 @@ returns-clause-leaves g c = λ bytes k.
     record {
       holds = record {
         used = holds.used;
-        dup = holds.dup;
+        duplicates = holds.duplicates;
         kinds = holds.kinds;
         marked = holds.marked;
         notes = holds.notes;
         starts = holds.starts;
         unsurveyed = refl;
       };
-      dups = let dup = holds.dup in grind (arith, rescan_is);
+      has_dups = let dup = holds.duplicates in grind (arith, rescan_is);
       count = ap (λ s. s.runs) all;
     }
 
@@ -205,7 +205,6 @@ returns-in_err-claim_inode-clause-reads g c =
       known = λ bytes k. read_failed c.args.geometry.now.sound (omega arith)
           (λ held. c.claim_inode.ensures.table.known held bytes (contents ∙ k.0))
           (c.claim_inode.ensures.claims.known bytes (contents ∙ k.0)) (inv.known bytes k);
-      again = left.again ∙ inv.again;
     }
 
 pub returns-clause-reads : goal.returns-clause-reads
@@ -218,5 +217,4 @@ returns-clause-reads g c =
       runs = omega (arith, inv.runs, used_below inv.ready.ready.ready.made, most);
       reads = blocks_all sound (omega (arith, inv.high, some_inodes v sound)) inv.reads;
       known = λ bytes k. read_all sound (omega (arith, inv.high, some_inodes v sound)) (inv.known bytes k);
-      again = inv.again;
     }

@@ -21,7 +21,7 @@ invariant-loop-number g l = let v = l.geometry.layout in
           l.workspace.windows.table;
       known : ForBytes knows (λ bytes. VolumeRead v bytes (claims_of l.workspace) l.number
           (g.I.Image.reads l.fn.image) (g.I.Image.reads l.image) l.workspace.windows.table);
-      dups : l.workspace.found_dups ≡ l.fn.workspace.found_dups;
+      has_dups : l.workspace.has_dups ≡ l.fn.workspace.has_dups;
       again : l.workspace.runs_again ≡ l.fn.workspace.runs_again;
       claims : ForBytes knows (λ bytes. claims_of l.workspace ≡ claims_before v bytes l.number);
       found : ForBytes knows (λ bytes. FoundTo v bytes l.workspace l.number);

@@ -49,13 +49,13 @@ loop-number-init g c =
       high = λ h. omega arith;
       runs = λ bytes k. omega arith;
       reads = record { rises = λ _. omega arith; paid = λ _. omega arith };
-      count = λ bytes k. rw (before_first v bytes, same, k.1.dup) (omega arith);
+      count = λ bytes k. rw (before_first v bytes, same, k.1.duplicates) (omega arith);
       reported = λ bytes k. reporting_begins old _ (rw (before_first v bytes) refl)
           (ap (λ (w : Workspace). w.duplicates) forgot) (ap (λ (w : Workspace). w.marked) forgot);
       said = of_says _ (λ bytes. phase1b ∷ of_lines (phase1b_lines v (owners_of v bytes)))
           (λ bytes. of_lines (first_offer_lines d (kept_from v bytes 2))) _ (phase1b ∷ []) _ _ _
           (of_begins _ (λ bytes. phase1b ∷ of_lines (phase1b_lines v (owners_of v bytes))) _)
-          (λ bytes k. rw (before_first v bytes, same, k.1.dup) refl) c.in_ok-say.ensures.said;
+          (λ bytes k. rw (before_first v bytes, same, k.1.duplicates) refl) c.in_ok-say.ensures.said;
     }
 
 pub returns-in_err-rewalk_inode-clause-faults : goal.returns-in_err-rewalk_inode-clause-faults
@@ -98,8 +98,6 @@ returns-in_err-rewalk_inode-clause-reads g c =
           omega (arith, inv.runs bytes k, did.runs bytes (ap (λ d. d.contents) inv.device ∙ k.0));
       reads = runs_pay_all _ _ _ (runs_pay_then _ _ _ (n - 1) inv.reads did.counted (omega arith))
           (omega (arith, last, inv.low));
-      seen = did.left.claims.seen ∙ inv.claims.seen;
-      dups = did.left.claims.dups ∙ inv.claims.dups;
     }
 
 pub loop-number-preserved : goal.loop-number-preserved
@@ -118,7 +116,7 @@ loop-number-preserved g c =
     let on : ForBytes (WithPhase1 v (g.I.Image.device c.args.image.now) c.args.workspace.now) (λ bytes.
     runs_until_reported d (runs_from v bytes n)
     ≡ runs_until_reported d (runs_at v bytes notes n) + runs_until_reported d' (runs_from v bytes (n + 1))) = λ bytes k.
-    looked_on v bytes notes n d d' (noted bytes k) (rewalks.rewalked bytes (image ∙ k.0)).reported.dup in
+    looked_on v bytes notes n d d' (noted bytes k) (rewalks.rewalked bytes (image ∙ k.0)).reported.duplicates in
     record {
       ready = rewalks.left.ready;
       device = rewalks.left.image ∙ inv.device;
@@ -141,7 +139,7 @@ loop-number-preserved g c =
           (λ bytes. of_lines (first_offer_lines d (offers_at v bytes notes n)))
           (λ bytes. of_lines (first_offer_lines d' (kept_from v bytes (n + 1)))) _ _ _ _ inv.said
           (λ bytes k. lines_split d d' _ _ _ (kept_next v bytes notes n (noted bytes k))
-          (rewalks.rewalked bytes (image ∙ k.0)).reported.dup)
+          (rewalks.rewalked bytes (image ∙ k.0)).reported.duplicates)
           (said_knows _ _ _ _ _ _ (λ bytes k. image ∙ k.0) rewalks.text);
     }
 
@@ -164,9 +162,8 @@ returns-then-not-has_unreported_dups g c =
       reads = record {
         runs = λ bytes k. omega (arith, inv.runs bytes k, runs_most v bytes n inv.low inv.high);
         reads = runs_pay_all _ _ _ inv.reads (numbers_most n (inodes_of v) inv.high);
-        seen = inv.claims.seen;
-        dups = inv.claims.dups;
       };
+      stays = record { seen = inv.claims.seen; has_dups = inv.claims.has_dups };
       ready = inv.ready.ready;
     }
 
@@ -190,8 +187,7 @@ returns-after-loop-number g c =
       reads = record {
         runs = λ bytes k. omega (arith, inv.runs bytes k, runs_most v bytes n inv.low inv.high);
         reads = runs_pay_all _ _ _ inv.reads (numbers_most n (inodes_of v) inv.high);
-        seen = inv.claims.seen;
-        dups = inv.claims.dups;
       };
+      stays = record { seen = inv.claims.seen; has_dups = inv.claims.has_dups };
       ready = inv.ready.ready;
     }

@@ -13,7 +13,7 @@ returns-then-fragment-from g c =
     record {
       said = rw out (said_none _);
       reported = record {
-        reported = record { dup = sym (rw out refl); marked = λ x. rw out (sym (or-false _)) };
+        reported = record { duplicates = sym (rw out refl); marked = λ x. rw out (sym (or-false _)) };
         only = offers_reported_none c.requires.made;
       };
     }

@@ -36,7 +36,7 @@ loop-index-preserved g c =
       only = offers_reported_then inv.only c.report_offer.ensures.reported.only;
       reported = reporting_more inv.reported next c.report_offer.ensures.reported.reported;
       said = to_says _ _ _ _ _ _ _ inv.said
-          (lines_split _ _ _ (offer_of n f ∷ []) _ next c.report_offer.ensures.reported.reported.dup)
+          (lines_split _ _ _ (offer_of n f ∷ []) _ next c.report_offer.ensures.reported.reported.duplicates)
           c.in_ok-report_offer.ensures.said;
     }
 

@@ -20,7 +20,7 @@ loop-number-preserved c =
             let up : slice_index parents number ≡ c.index.result.now =
             sym (c.index.ensures ∙ get_or_default_zero parents number c.index.result.now inside) in
             let low : 2 ≤ c.index.result.now = grind (arith, common_steps) in
-            rw w.set.ensures.items (only_more parents c.loop-number.words.items number c.index.result.now w.due.result
+            rw w.set.ensures.items (only_more parents c.loop-number.words.items number c.index.result.now w.with_due.result
             (omega arith) up low inv.only);
         to_read = grind (arith, common_steps);
       })

@@ -45,15 +45,15 @@ loop-dir-preserved g c =
           let noted = w.in_ok-note_directory.ensures in
           let mid : Workspace = record here { queue = w.set.new.self } in
           let new = w.note_directory.new.workspace in
-          let set : mid.queue.items ≡ slice_set old dir w.passed.result = w.set.ensures.items in
+          let set : mid.queue.items ≡ slice_set old dir w.without_due.result = w.set.ensures.items in
           let same : (x : ℕ) → place_in (slice_index mid.queue.items x) ≡ place_in (slice_index old x) =
-          λ x. rw set (set_same place_in old dir w.passed.result inside (w.passed.ensures.place ∙ ap place_in word) x) in
-          let set_was_read : KeepsToRead (slice_set old dir w.passed.result) new.queue.items =
+          λ x. rw set (set_same place_in old dir w.without_due.result inside (w.without_due.ensures.place ∙ ap place_in word) x) in
+          let set_was_read : KeepsToRead (slice_set old dir w.without_due.result) new.queue.items =
           rw set at noted.leaves.children.to_read in
           let unread : is_to_be_read (slice_index old dir) ≡ true =
           ap is_to_be_read (sym word) ∙ (sym c.is_due.ensures ∙ w.if-is_due.true) in
           let other : (x : ℕ) → x ≢ dir → is_to_be_read (slice_index mid.queue.items x) ≡ is_to_be_read (slice_index old x) =
-          λ x o. rw set (set_other is_to_be_read old dir w.passed.result x o) in
+          λ x o. rw set (set_other is_to_be_read old dir w.without_due.result x o) in
           let lists : mid ≡ record first { windows = mid.windows; queue = mid.queue } =
           ap (λ (x : Workspace). record x { queue = w.set.new.self }) inv.lists in
           rw (w.image-is, w.workspace-is) (record {
@@ -62,10 +62,10 @@ loop-dir-preserved g c =
                 ∙ ap (λ (x : Workspace). record x { windows = new.windows; queue = new.queue }) inv.lists;
             ready = noted.leaves.ready;
             low = omega arith;
-            were_read = read_next old new.queue.items dir w.passed.result inside w.passed.ensures.due set_was_read
+            were_read = read_next old new.queue.items dir w.without_due.result inside w.without_due.ensures.due set_was_read
                 inv.were_read;
-            only = only_fewer first.parents.items old new.queue.items dir w.passed.result inside
-                w.passed.ensures.due set_was_read inv.only;
+            only = only_fewer first.parents.items old new.queue.items dir w.without_due.result inside
+                w.without_due.ensures.due set_was_read inv.only;
             reads = λ b t claims survey.
                 let is = parent_is_dir survey (inv.only dir unread) in
                 let took = noted.notes b (ap (λ d. d.contents) inv.same ∙ t) (claims_noted lists claims) is in

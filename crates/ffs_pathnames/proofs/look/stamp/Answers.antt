@@ -8,8 +8,8 @@ pub returns-then-belongs : goal.returns-then-belongs
 returns-then-belongs c = record {
   after = λ v s.
       let plain : is_plain c.args.role ≡ true = search rules in
-      after_stamp v c.args.inodes.now c.args.dir c.due.result c.args.words.now.items _ c.args.role
+      after_stamp v c.args.inodes.now c.args.dir c.with_due.result c.args.words.now.items _ c.args.role
       (entry_value c.args.entry.now) s c.requires.dir plain (sym c.belongs.ensures ∙ c.if-belongs.true)
-      c.set.ensures.items c.due.ensures.due;
+      c.set.ensures.items c.with_due.ensures.due;
   words = grind (arith, common_steps);
 }

@@ -16,10 +16,10 @@ returns-then-stamp_of-dir c = record {
         | then-is_suspect w ↦ rw w.flags-is (w.set.ensures.items ∙ sym (ap by w.if-is_suspect.true))
         | else-is_suspect w ↦ rw w.flags-is (sym (ap by w.if-is_suspect.false))
       ] in
-      after_pass v c.args.inodes.now c.args.dir c.passed.result c.is_suspect.result flags _ c.args.words.now.items _
+      after_pass v c.args.inodes.now c.args.dir c.without_due.result c.is_suspect.result flags _ c.args.words.now.items _
       c.args.role (entry_value c.args.entry.now) s plain
       (subst (λ n. x < n) c.count.ensures c.if-entry-count.false) c.is_suspect.ensures flagged
-      (sym c.stamp_of.ensures ∙ c.if-stamp_of-dir.true) c.set-then-stamp_of-dir.ensures.items c.passed.ensures.due;
+      (sym c.stamp_of.ensures ∙ c.if-stamp_of-dir.true) c.set-then-stamp_of-dir.ensures.items c.without_due.ensures.due;
   flags = grind (arith, common_steps);
   words = grind (arith, common_steps);
 }

@@ -10,7 +10,7 @@ returns g c =
       new = record {
         made = grind arith;
         fresh = search rules;
-        found_dups = refl;
+        has_dups = refl;
         runs_seen = refl;
         runs_again = refl;
       };
