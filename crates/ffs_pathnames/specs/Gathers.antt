@@ -21,14 +21,14 @@ use Rattle.ffs_workspace.specs.{declared.workspace.Workspace.Workspace, Holds.{H
 
 -- the messages are the same as with the volume's own attributes and paths
 abbrev pub IsEnough : Volume → Verdict → ℕ → ℕ → List ℕ → Attr → List ℕ → List ℕ → Type 0
-IsEnough vol verdict dir number name about path directory =
-    verdict_lines verdict number about path directory
+IsEnough vol verdict dir number name attr path directory =
+    verdict_lines verdict number attr path directory
     ≡ verdict_lines verdict number (attributes vol number) (entry_path (graph_of vol) dir name)
     (dir_path (graph_of vol) number)
 
 -- these are the attributes and the path of the directory d
-pub record IsShownOf (vol : Volume) (d : ℕ) (about : Attr) (path : List ℕ) : Type 0 where
-  pub attr : about ≡ attributes vol d
+pub record IsShownOf (vol : Volume) (d : ℕ) (attr : Attr) (path : List ℕ) : Type 0 where
+  pub attr_is : attr ≡ attributes vol d
   pub path_is : path ≡ dir_path (graph_of vol) d
 
 -- what a workspace remembers of the names that were passed, during the pathname check

@@ -290,7 +290,7 @@ fn report_header<I: Image, W: Output>(
         (lines_moment I.Image W.Output image.new workspace.new report.new kept_parent.new) result }
 {
     let defects = header_defects(&header);
-    if defects.is_none() {
+    if defects.is_silent() {
         return Ok(());
     }
     let mut path = PathText::new();

@@ -14,7 +14,7 @@ returns g c =
     record {
       shown = if_ok c.read_attr.result _ _
           (λ a h b k. record {
-            attr = h b (ap (λ d. d.contents) path.leaves.path.reads.read ∙ k.gives_bytes);
+            attr_is = h b (ap (λ d. d.contents) path.leaves.path.reads.read ∙ k.gives_bytes);
             path_is = path.path c.args.dir b k;
           })
           c.read_attr.ensures.attr;
