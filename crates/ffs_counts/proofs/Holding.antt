@@ -47,7 +47,8 @@ no_lines v b w i h e = ap (λ t. if t then inode_reference_lines (volume_of v b)
 pub some_lines : (v : Layout) (b : List ℕ) (w : Workspace) (i : ℕ) → HoldsClaims v b w →
     is_allocated (class_of_kind (slice_index w.kinds.items i)) ≡ true →
     inode_reference_lines (volume_of v b) i ≡ reference_lines_at (volume_of v b) i
-some_lines v b w i h e = ap (λ t. if t then inode_reference_lines (volume_of v b) i else []) (sym (allocated_is v b w i h ∙ e))
+some_lines v b w i h e =
+    ap (λ t. if t then inode_reference_lines (volume_of v b) i else []) (sym (allocated_is v b w i h ∙ e))
 
 -- where the count of an allocated inode starts
 start_used : (v : Layout) (b : List ℕ) (w : Workspace) (i : ℕ) → HoldsClaims v b w →
@@ -64,7 +65,8 @@ references_are : (v : Layout) (b : List ℕ) (w : Workspace) (i : ℕ) → i < i
     slice_index w.references.items i ≡ links_start (inode_of v b i).nlink + references (volume_of v b) i
 references_are v b w i low h used = grind (arith, start_used)
 
-pub inode_reference_lines_are : (v : Layout) (b : List ℕ) (w : Workspace) (i : ℕ) (inode : Inode) (dead : Bool) (r : ℕ) →
+pub inode_reference_lines_are : (v : Layout) (b : List ℕ) (w : Workspace) (i : ℕ) (inode : Inode) (dead : Bool)
+    (r : ℕ) →
     i < inodes_of v
     → HoldsFindings v b w → is_allocated (class_of_kind (slice_index w.kinds.items i)) ≡ true →
     inode ≡ inode_of v b i → dead ≡ is_dead_by w i →
@@ -122,7 +124,8 @@ met_lines v b w i low f used met =
     let label = label_of (class_of_kind (slice_index w.kinds.items i)) in
     let attr = attributes_of i (inode_of v b i) in
     sym (some_lines v b w i f.claims used)
-    ∙ inode_reference_lines_are v b w i (inode_of v b i) (is_dead_by w i) (references (volume_of v b) i) low f used refl refl
+    ∙ inode_reference_lines_are v b w i (inode_of v b i) (is_dead_by w i) (references (volume_of v b) i) low f used refl
+    refl
     (omega (arith, counted))
     ∙ none_reported (is_dead_by w i) (bool_at w.marked.items i) label attr nlink (references (volume_of v b) i)
     (not-true (is_dead_by w i) parts.1) links
@@ -205,7 +208,8 @@ unmet_line v b w i low f used unmet =
     let r = references (volume_of v b) i in
     let counted = references_are v b w i low f used in
     ap length (sym (some_lines v b w i f.claims used)
-    ∙ inode_reference_lines_are v b w i (inode_of v b i) (is_dead_by w i) r low f used refl refl (omega (arith, counted)))
+    ∙ inode_reference_lines_are v b w i (inode_of v b i) (is_dead_by w i) r low f used refl refl
+    (omega (arith, counted)))
     ∙ one_reported (is_dead_by w i) (bool_at w.marked.items i) (label_of (class_of_kind (slice_index w.kinds.items i)))
     (attributes_of i (inode_of v b i)) nlink r
     (λ alive some. unequal nlink r (links_small v b i)

@@ -85,7 +85,8 @@ silent_of v first own e q =
     (named.allocated, rw (named.suspect, named.link, named.right_type) refl))
 
 -- ---- on a directory before its entries
-dot_silent : (n : DotDefects (List ℕ)) (attr : Attr) (path : List ℕ) → is_dot_silent n ≡ true → dot_lines n attr path ≡ []
+dot_silent : (n : DotDefects (List ℕ)) (attr : Attr) (path : List ℕ) → is_dot_silent n ≡ true →
+    dot_lines n attr path ≡ []
 dot_silent (Found wrong_number wrong_type) attr path h = grind (arith, nat_tests)
 dot_silent n attr path h = absurd (cc)
 

@@ -150,7 +150,8 @@ is_dot_silent (Other name) = false
 is_dot_silent (Found wrong_number wrong_type) = not (wrong_number || wrong_type)
 
 abbrev pub is_header_silent : {P : Type 0} → HeaderDefects P → Bool
-is_header_silent n = not (n.short || (n.partial_chunk || (n.gap || n.unsound))) && (is_dot_silent n.dot && is_dot_silent n.dotdot)
+is_header_silent n =
+    not (n.short || (n.partial_chunk || (n.gap || n.unsound))) && (is_dot_silent n.dot && is_dot_silent n.dotdot)
 
 -- what is wrong with the directory d of a volume before its entries, and the messages on that
 abbrev pub header_of : Volume → (d : ℕ) → HeaderDefects (List ℕ)
