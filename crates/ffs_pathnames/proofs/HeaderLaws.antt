@@ -1,8 +1,8 @@
 -- What is wrong with a directory before its entries, in the program and in the definitions.
 use Rattle.std.{proofs.Common.{◌≡◌, refl, List, ℕ}, specs.Borrow.Bor}
 use Rattle.ffs_volume.specs.declared.verdict.{HeaderDefects.HeaderDefects, DotDefects.{DotDefects, TheVariants.Missing}}
-use Rattle.ffs_volume.specs.{declared.verdict.DotDefects.TheVariants.{Other, Found}, Directories.PathnameCheck.is_header_silent}
-use Rattle.ffs_volume.specs.Directories.PathnameCheck.{is_dot_silent}
+use Rattle.ffs_volume.specs.declared.verdict.DotDefects.TheVariants.{Other, Found}
+use Rattle.ffs_volume.specs.Directories.PathnameCheck.{is_dot_silent, is_header_silent}
 use Rattle.ffs_pathnames.specs.HeaderValues.{dot_value, defects_value}
 
 dot_value_silent : (n : DotDefects (Bor (List ℕ))) → is_dot_silent (dot_value n) ≡ is_dot_silent n

@@ -13,8 +13,8 @@ use Rattle.ffs_volume.specs.Directories.Entries.{Entry, Chunk, ChunkSource, chun
 use Rattle.ffs_volume.specs.Directories.Entries.{step_chunks, entries_of, is_sound, is_live, bytes_read}
 use Rattle.ffs_volume.specs.Directories.{Volumes.{volume_of, volume_with}, PathnameCheck.is_bad_whiteout}
 use Rattle.ffs_volume.specs.Directories.PathnameCheck.{dir_header_lines, dot_defects, dotdot_defects, header_defects}
-use Rattle.ffs_volume.specs.Directories.PathnameCheck.{header_of, is_header_silent, is_dot_silent, is_role_silent, is_short}
-use Rattle.ffs_volume.specs.Directories.PathnameCheck.{is_silent, has_partial_chunk, are_sound}
+use Rattle.ffs_volume.specs.Directories.PathnameCheck.{header_of, is_header_silent, is_dot_silent, is_role_silent}
+use Rattle.ffs_volume.specs.Directories.PathnameCheck.{is_silent, is_short, has_partial_chunk, are_sound}
 use Rattle.ffs_volume.{specs.declared.verdict.DotDefects.DotDefects, proofs.VerdictLaws.{header_silent, silent_of}}
 use Rattle.ffs_volume.specs.Directories.Roles.{nth_entry, start_entry, Volume, RoledEntry, is_dir, is_suspect, is_plain}
 use Rattle.ffs_volume.specs.Directories.Roles.{is_two_dots, role_of, roled_from, roled_chunk, roled_entries}
@@ -184,7 +184,8 @@ is_dotdot_of parent e = is_live e && (is_two_dots e.name && ((e.number == parent
 
 -- the first calm entry is `.`, and the second is `..`
 calm_first : (s : CurrentDir) (reached : ℕ → Bool) (first : Bool) (e : Entry) →
-    is_calm_role s reached 0 (role_of first 0 e) e.number e.kind ≡ true → (first && is_dot_silent (dot_defects s.dir (Some e))) ≡ true
+    is_calm_role s reached 0 (role_of first 0 e) e.number e.kind ≡ true →
+    (first && is_dot_silent (dot_defects s.dir (Some e))) ≡ true
 unfolding role_of
 calm_first s reached first e h = grind (arith, nat_tests)
 

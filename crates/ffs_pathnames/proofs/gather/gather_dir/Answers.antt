@@ -1,6 +1,6 @@
 use Rattle.std.proofs.Common.{ap, arith, ◌∙◌}
 use Rattle.ffs_pathnames.proofs.{Carrying.if_ok, ReadyLaws.leaves_read}
-use Rattle.ffs_pathnames.proofs.one_entry.gather_dir.Goals as goal
+use Rattle.ffs_pathnames.proofs.gather.gather_dir.Goals as goal
 
 pub put_path-requires : goal.put_path-requires
 put_path-requires g c = c.requires

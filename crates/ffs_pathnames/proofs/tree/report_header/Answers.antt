@@ -42,7 +42,8 @@ returns-then-is_silent g c =
         right = λ b k. sym (ap (map of_tree)
             (ap (λ m. header_lines m (attributes (volume_of v b) s.number) (dir_path (graph_of (volume_of v b)) s.number))
             (sym c.header_defects-defects.ensures)
-            ∙ header_silent (defects_value n) _ _ (header_value_silent n ∙ (sym c.is_silent.ensures ∙ c.if-is_silent.true))));
+            ∙ header_silent (defects_value n) _ _
+            (header_value_silent n ∙ (sym c.is_silent.ensures ∙ c.if-is_silent.true))));
         said = said_none _;
       };
       counted = λ b k noted. few_none;
