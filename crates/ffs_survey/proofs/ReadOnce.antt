@@ -1,13 +1,13 @@
 -- Each reached directory is read once, when no child of it is reached: so those that are calm by the
 -- parents of what they name have a flag.
-use Rattle.std.proofs.Common.{◌≡◌, ◌≢◌, ℕ, zero, suc, ◌+◌, ◌-◌, ◌<◌, ◌≤◌, Bool, true, false}
-use Rattle.std.proofs.Common.{List, [], ◌∷◌, length, take, drop, get_or, All, Some, unwrap_or, arith}
-use Rattle.std.proofs.{Common.{refl, sym, ◌∙◌, ap, subst, inl, inr, length-take, nat_le, set}}
+use Rattle.std.proofs.Common.{◌≡◌, ◌≢◌, ℕ, zero, suc, ◌+◌, ◌-◌, ◌<◌, ◌≤◌, Bool, true, false, List, [], ◌∷◌, length}
+use Rattle.std.proofs.Common.{take, drop, get_or, All, Some, unwrap_or, arith}
+use Rattle.std.proofs.Common.{refl, sym, ◌∙◌, ap, subst, inl, inr, length-take, nat_le, set}
 use Rattle.std.proofs.lemmas.Bool.{and_parts, and_from, eq-eqb, ne_eqb, cases_lt, leb-true, Decides.nat_tests}
 use Rattle.std.proofs.lemmas.List.{get_or-drop, get_or_default, length-drop, get_or-take}
 use Rattle.ffs_volume.specs.declared.{Role.{Role, TheVariants.{Empty, Dot, Dotdot, Extra, Plain}}}
 use Rattle.ffs_volume.specs.Directories.{Climb.is_value, Graph.{level, parent, within}, Roles.RoledEntry}
-use Rattle.ffs_volume.proofs.{ClimbLaws.is_value-true, Graphs.IsSane, LevelLaws.{level-from}}
+use Rattle.ffs_volume.proofs.{ClimbLaws.is_value-true, Graphs.IsSane, LevelLaws.level-from}
 use Rattle.ffs_survey.specs.Calm.{IsFlagged}
 use Rattle.ffs_volume.specs.Directories.Calm.{CurrentDir, is_calm_role, is_calm_entry, reached_after, are_calm}
 use Rattle.ffs_survey.specs.Calm.{dir_by, AreUnread, IsReadOnce, IsUnread}

@@ -1,0 +1,68 @@
+use Rattle.std.proofs.{Common.{ap, arith, if◌then◌else◌, ◌∙◌}, lemmas.Result.err_from_is_err_and}
+use Rattle.ffs_volume.specs.Report.Reads.{path_reads}
+use Rattle.ffs_workspace.proofs.Leaving.{windows_leave}
+use Rattle.ffs_paths.proofs.{Climbed.{few_more, few_then}, Keeping.reads_then, Sparing.on_all}
+use Rattle.ffs_pathnames.proofs.{Carrying.if_ok, LineCounts.places_on, Passing.knows_on, StampLaws.windows_keep}
+use Rattle.ffs_pathnames.proofs.{PathOnce.{begin_most, begin_once, verdict_most}, ReadyLaws.gather_failed}
+use Rattle.ffs_pathnames.proofs.gather.gather_entry.Goals as goal
+
+pub returns-in_err-begin_paths : goal.returns-in_err-begin_paths
+returns-in_err-begin_paths g c =
+    let begun = c.in_err-begin_paths.ensures in
+    let p = err_from_is_err_and c.from_residual.result c.from_residual.ensures.1 in
+    rw (p.1, p.2) (record {
+      enough = tt;
+      path = begun.makes.makes.path;
+      once = record {
+        begun = tt;
+        stays = begun.makes.makes.stays;
+        again = λ before b k. let same = ap g.I.Image.reads (begun.held before).0 in omega (arith, same);
+        once = λ b k. let most = begin_most begun b k in omega (arith, most);
+      };
+      leaves = gather_failed c.in_err-begin_paths.field-0.0
+          (record { path = begun.makes.makes.leaves; most = begun.makes.most }) (omega arith);
+    })
+
+pub gather-requires : goal.gather-requires
+gather-requires g c = grind arith
+
+pub returns : goal.returns
+returns g c =
+    let v = c.args.geometry.now.layout in
+    let begun = c.in_ok-begin_paths.ensures.makes in
+    let read = begun.makes.leaves.reads in
+    let left = c.gather.ensures.leaves in
+    record {
+      enough = if_ok c.gather.result _ _
+          (λ a h b k. h c.args.entry.now.dir b
+          (knows_on v _ _ c.args.workspace.now c.begin_paths.new.workspace c.args.entry.now.dir b
+          (ap (λ d. d.contents) read.read)
+          (windows_leave c.args.workspace.now c.begin_paths.new.workspace read.lists)
+          (windows_keep c.args.workspace.now c.begin_paths.new.workspace read.lists) k.knows) (begun.makes.made b k))
+          c.gather.ensures.enough;
+      path = λ b k q. rw c.gather.ensures.same.1 (begun.makes.made b k);
+      once = record {
+        begun = on_all c.gather.result _ (c.gather.ensures.same.0 ∙ begun.makes.begun);
+        stays = λ before. c.gather.ensures.same.0 ∙ begun.makes.stays before;
+        again = λ before b k.
+            let same = ap g.I.Image.reads (c.in_ok-begin_paths.ensures.held before).0 in
+            let few = (left.path.counted b (places_on b read k)).count in
+            omega (arith, same, few);
+        once = λ b k.
+            let first = begin_once c.in_ok-begin_paths.ensures b k in
+            let few = (left.path.counted b (places_on b read k)).count in
+            let most = verdict_most c.args.verdict.now in
+            let owed = ap (λ q. if q then 0 else path_reads) c.gather.ensures.same.0 in
+            omega (arith, first, few, most, owed);
+      };
+      leaves = record {
+        path = record {
+          reads = reads_then read left.path.reads;
+          counted = λ b k. few_more (few_then (begun.makes.leaves.counted b k)
+              (left.path.counted b (places_on b read k)))
+              (let most = verdict_most c.args.verdict.now in omega (arith, most));
+          kept_parent = left.path.kept_parent;
+        };
+        most = let most = verdict_most c.args.verdict.now in omega (arith, begun.most, left.most, most);
+      };
+    }
