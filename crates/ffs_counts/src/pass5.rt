@@ -21,6 +21,8 @@ use ffs_workspace::Workspace;
 /// Phase 5 (fsck(8)): compares the records of each cylinder group, and the totals of the
 /// superblock, with what they should be by the fragments and inodes in use.
 ///
+/// The contract gives the text only for a workspace that holds what the block check found.
+///
 /// # Errors
 /// A read of the image that failed, and a write of the report that failed.
 pub fn phase5<I: Image, W: Output>(

@@ -125,6 +125,10 @@ fn summary_line(superblock: &Super, files: u32, claimed: u32) -> Line<'static>
 /// The summary (fsck(8)): files, claimed fragments (reserved ones don't count), and what is free by
 /// the superblock's own counts.
 ///
+/// Files are counted by the kinds in the workspace, and claimed fragments by its map, where that has
+/// the reserved ones: so the text is that of an image's bytes where the workspace holds what the
+/// block check found in them.
+///
 /// # Errors
 /// A write of the report that failed.
 pub fn summary<W: Output>(

@@ -143,12 +143,14 @@ pub record GivesStep (contents : Option (List ℕ)) (old new : Walk) (result : R
   pub same : SameFileBlocks old new
 
 -- the next step of a walk is taken, or a read failed, which doesn't end the walk: what is given and
--- what is left. Where the blocks that were read are held, only one that was still to be read is read
+-- what is left. Where the blocks that were read are held, only one that was still to be read is read; in
+-- any case one at most, once
 pub record Advances (before after : ImageWith Blocks) (old new : Walk) (result : Result (Option Step) ImageFault) :
     Type 0 where
   pub gives : GivesStep before.image.contents old new result
   pub leaves : BlocksAfter old.geometry.layout before after result
   pub counted : AreHeld before.cache old → StepReads before after old new result
+  pub any : after.reads ≤ before.reads + 1
 
 -- the step at the next of the inode's own addresses is taken, whatever the image holds; where there
 -- is none, the walk stays as it is
@@ -158,7 +160,8 @@ pub record IsTopStep (old new : Walk) (answer : Option Step) : Type 0 where
   pub counted : EntersOnly old new (entered_by answer)
 
 -- the next step of a walk is taken, and the walk has the others left; it is over after a failed
--- read. Where the blocks that were read are held, only one that was still to be read is read
+-- read. Where the blocks that were read are held, only one that was still to be read is read; in any case,
+-- as where another walk has used the blocks, one at most, once
 pub record TakesStep (before after : ImageWith Blocks) (old new : Walk) (result : Result (Option Step) ImageFault) :
     Type 0 where
   pub step : IfOk result (IsNextStep before.image.contents old new)
@@ -167,3 +170,4 @@ pub record TakesStep (before after : ImageWith Blocks) (old new : Walk) (result 
   pub same : SameFileBlocks old new
   pub leaves : BlocksAfter old.geometry.layout before after result
   pub counted : AreHeld before.cache old → StepReads before after old new result
+  pub any : after.reads ≤ before.reads + 1

@@ -4,9 +4,16 @@ use Rattle.ffs_volume.specs.Report.Whole.{file_count, claimed_count}
 use Rattle.ffs_maps.specs.Bits.{bits_of}
 use Rattle.ffs_report.specs.Known.{ForBytes}
 use Rattle.ffs_workspace.specs.Holds.{HoldsClaims}
+use Rattle.ffs_counts.specs.Summing.{files_among}
 use Rattle.ffs_counts.proofs.{Classes.files_are, ReservedCount.used_are, summing.summary.Goals.After-summary_line}
 use Rattle.ffs_counts.proofs.summing.summary.Given as given
 use Rattle.ffs_counts.proofs.summing.summary.Goals as goal
+
+-- the kinds of the workspace are counted
+files_counted : (g : given.Over) (c : After-summary_line g) →
+    c.file_count-files.result ≡ files_among c.args.workspace.now.kinds.items 2 (length c.args.workspace.now.kinds.items)
+files_counted g c =
+    c.file_count-files.ensures ∙ ap (λ kinds. files_among kinds 2 (length kinds)) c.deref.ensures.value
 
 -- the counts are those of the image
 files_right : (g : given.Over) (c : After-summary_line g) →
@@ -33,6 +40,8 @@ returns-in_err-say g c =
       text = record {
         files = c.file_count-files.result;
         claimed = c.claimed_count-claimed.result;
+        files_counted = files_counted g at;
+        claimed_counted = c.claimed_count-claimed.ensures c.requires.used;
         files_right = files_right g at;
         claimed_right = claimed_right g at;
         said = rw c.summary_line.ensures at c.in_err-say.ensures.said;
@@ -47,6 +56,8 @@ returns g c =
       text = record {
         files = c.file_count-files.result;
         claimed = c.claimed_count-claimed.result;
+        files_counted = files_counted g at;
+        claimed_counted = c.claimed_count-claimed.ensures c.requires.used;
         files_right = files_right g at;
         claimed_right = claimed_right g at;
         said = rw c.summary_line.ensures at c.in_ok-say.ensures.said;

@@ -36,6 +36,7 @@ returns-then-is_left g c =
           first.fits (omega (arith, took.item.falls 1, first.left)) (record { geometry = refl; blocks = refl });
       leaves = record { kept = c.in_ok-item.ensures.leaves.kept; read = c.in_ok-item.ensures.leaves.read };
       counted = grind arith;
+      any = c.in_ok-item.ensures.block.any;
     }
 
 pub returns-then-is_left-2 : goal.returns-then-is_left-2
@@ -55,6 +56,7 @@ returns-then-is_left-2 g c =
           (record { geometry = first.same.geometry; blocks = first.same.blocks });
       leaves = record { kept = c.in_ok-item-2.ensures.leaves.kept; read = c.in_ok-item-2.ensures.leaves.read };
       counted = λ h. double_reads _ _ _ _ _ _ _ h c.in_ok-item-2.ensures.block took.read refl refl first.counted;
+      any = c.in_ok-item-2.ensures.block.any;
     }
 
 pub returns-then-is_left-3 : goal.returns-then-is_left-3
@@ -75,6 +77,7 @@ returns-then-is_left-3 g c =
           (record { geometry = first.same.geometry; blocks = first.same.blocks });
       leaves = record { kept = c.in_ok-item-3.ensures.leaves.kept; read = c.in_ok-item-3.ensures.leaves.read };
       counted = λ h. triple_reads _ _ _ _ _ _ _ h c.in_ok-item-3.ensures.block took.read refl refl first.counted;
+      any = c.in_ok-item-3.ensures.block.any;
     }
 
 pub returns : goal.returns
@@ -82,4 +85,5 @@ returns g c = record {
   gives = c.step_at_top.ensures.gives _;
   leaves = search rules;
   counted = grind arith;
+  any = omega arith;
 }
