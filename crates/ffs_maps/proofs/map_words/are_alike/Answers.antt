@@ -2,7 +2,7 @@ use Rattle.std.proofs.{Common.{◌≡◌, inl, inr, ℕ, arith, ap, refl, bit_or
 use Rattle.std.proofs.lemmas.{List.Elements.{All-from_get_or, All-get_or}, Nat.Bits.{bit_at_or, bit_at_xor, bit_at-lt}}
 use Rattle.std.{proofs.lemmas.Nat.Bits.{bit_at-zero, same_from_bits}, specs.Int.{RustNames.bit_xor, Bits.xor_self}}
 use Rattle.std.specs.Int.{bit_at}
-use Rattle.ffs_maps.proofs.are_alike.Goals as goal
+use Rattle.ffs_maps.proofs.map_words.are_alike.Goals as goal
 
 none_of : (a b : ℕ) → bit_or a b ≡ 0 → (a ≡ 0) × (b ≡ 0)
 none_of a b e = (
