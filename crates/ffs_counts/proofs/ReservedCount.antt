@@ -1,19 +1,17 @@
 -- How many fragments are claimed, by a map that has the reserved ones.
-use Rattle.std.proofs.Common.{◌≡◌, ◌⊎◌, inl, inr, ℕ, zero, suc, ◌+◌, ◌-◌, ◌*◌, ◌<◌, ◌≤◌, Bool, true, false, cond, not}
-use Rattle.std.proofs.Common.{◌&&◌, ◌||◌, nat_lt, nat_le, List, count_by, min, arith, refl, ap, ◌∙◌, sym, [], ◌∷◌}
-use Rattle.std.{proofs.{Common.slice_set, Math.Nat.mul_comm}, specs.{List.{range_with_len, sum_by}, Int.div_ceil}}
-use Rattle.std.proofs.lemmas.{List.{Sums.sum_by-cons, FromFn.get_or-map-range_with_len}, Nat.mul-le, Bool.cases_lt}
-use Rattle.std.proofs.lemmas.Bool.{true≢false, lt-ltb, le-ltb, le-leb, lt-leb, and_from, and_left, and_right, cases_eq}
+use Rattle.std.proofs.Common.{◌≡◌, ℕ, zero, suc, ◌+◌, ◌<◌, Bool, true, false, cond, not}
+use Rattle.std.proofs.Common.{◌&&◌, List, count_by, arith, refl, sym, [], ◌∷◌}
+use Rattle.std.{proofs.{Common.slice_set}, specs.{List.{range_with_len}}}
+use Rattle.std.proofs.lemmas.{List.{Sums.sum_by-cons, FromFn.get_or-map-range_with_len}, Bool.cases_lt}
+use Rattle.std.proofs.lemmas.Bool.{true≢false, cases_eq}
 use Rattle.std.proofs.lemmas.List.{get_or-set_other, get_or-set_same, get_or_past}
-use Rattle.ffs_volume.specs.{declared.{Layout.Layout, Step.Step}, Laws.Geometry.IsAcceptedLayout}
-use Rattle.ffs_volume.specs.{Groups.Records.group_size, Report.Whole.claimed_count, Blocks.Claims.{is_set, Claims}}
+use Rattle.ffs_volume.specs.{declared.{Layout.Layout, Step.Step}}
+use Rattle.ffs_volume.specs.{Report.Whole.claimed_count, Blocks.Claims.{is_set, Claims}}
 use Rattle.ffs_volume.specs.Blocks.Claims.{no_claims, reserved_map, after_offer, after_offers, after_run, after_step}
-use Rattle.ffs_volume.specs.{Blocks.Claims.{after_steps, after_owner, after_owners}, Disk.Areas.{cgbase, cgstart}}
-use Rattle.ffs_volume.specs.{Disk.Areas.{cgsblock, cgdmin, is_group_metadata, is_reserved}, Blocks.Owners.Owner}
-use Rattle.ffs_volume.proofs.{Potentials.cond_holds, AreaLaws.is_in_metadata_of}
-use Rattle.ffs_volume.{proofs.AreaLaws.{is_metadata_of_group, group_is}, specs.Blocks.Claims.all_claims}
-use Rattle.ffs_maps.proofs.Counting.{count_join_at}
-use Rattle.ffs_groups.proofs.FreeWords.{sum_const}
+use Rattle.ffs_volume.specs.{Blocks.Claims.{after_steps, after_owner, after_owners}}
+use Rattle.ffs_volume.specs.{Disk.Areas.{is_reserved}, Blocks.Owners.Owner}
+use Rattle.ffs_volume.proofs.{Potentials.cond_holds}
+use Rattle.ffs_volume.{specs.Blocks.Claims.all_claims}
 use Rattle.ffs_counts.specs.Reserved.{HasReserved, claimed_in}
 
 -- ---- the claimed ones
