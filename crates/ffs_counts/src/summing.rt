@@ -13,7 +13,7 @@ ghost use Rattle.ffs_counts.specs.{Summary.SaysSummary, Summing.files_among, Res
 ghost use Rattle.ffs_workspace.specs.{Holds.HoldsClaims, Lengths.IsFor};
 
 use ffs_layout::{Geometry, Super};
-use ffs_maps::FragmentMap;
+use ffs_maps::{FragmentMap, reserved_count};
 use ffs_report::{Line, Output, Report, RunFault};
 use ffs_volume::kinds::Kind;
 use ffs_workspace::Workspace;
@@ -48,34 +48,6 @@ fn file_count(kinds: &[u8]) -> u32
         inode = next;
     }
     files
-}
-
-/// How many fragments of a group are reserved. They lie together: in the first group all before
-/// the end of the summary area, in another what the group keeps for itself.
-#[tactic(auto, using(crate::proofs::ReservedCount::first_group, crate::proofs::ReservedCount::other_group, crate::proofs::ReservedCount::parts_order))]
-fn reserved_in_group(geometry: &Geometry, group: u32) -> u32
-    requires { group < geometry.now.layout.ncg }
-    ensures { result ≡ count_by (is_reserved geometry.now.layout)
-        (range_with_len (cgbase geometry.now.layout group) (group_size geometry.now.layout group)) }
-{
-    if group == 0 {
-        let summary = geometry.layout.cssize.div_ceil(geometry.layout.fsize);
-        return geometry.layout.csaddr + summary;
-    }
-    geometry.cgdmin(group) - geometry.cgsblock(group)
-}
-
-/// How many fragments are reserved.
-#[tactic(auto, using(crate::proofs::ReservedCount::groups_begin, crate::proofs::ReservedCount::groups_end, crate::proofs::ReservedCount::group_more, ffs_maps::proofs::Counting::count_within))]
-fn reserved_count(geometry: &Geometry) -> u32
-    ensures { result ≡ count_by (is_reserved geometry.now.layout)
-        (range_with_len 0 geometry.now.layout.size) }
-{
-    let mut count = 0;
-    for group in 0..geometry.layout.ncg {
-        count += reserved_in_group(geometry, group);
-    }
-    count
 }
 
 /// How many fragments are claimed; reserved ones don't count. Their bits were all set before any

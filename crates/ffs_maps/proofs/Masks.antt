@@ -1,10 +1,11 @@
 -- A run of bits in one word.
 use Rattle.std.proofs.Common.{◌≡◌, ◌⊎◌, inl, inr, ℕ, zero, suc, ◌+◌, ◌-◌, ◌*◌, ◌/◌, ◌%◌, ◌^◌, ◌<◌, ◌≤◌, Bool, true}
-use Rattle.std.proofs.Common.{false, List, length, get_or, nat_eq, slice_set, bit_or, bit_and, arith, refl, ap, ◌∙◌}
-use Rattle.std.proofs.{Common.{sym, length-set, min}, lemmas.{List.{get_or-set_other, get_or-set_same}, Bool.cases_eq}}
+use Rattle.std.proofs.Common.{cond, false, List, length, get_or, nat_eq, slice_set, bit_or, bit_and, arith, refl, ap, ◌∙◌}
+use Rattle.std.proofs.{Common.{sym, length-set, min}, lemmas.{List.{get_or-set_other, get_or-set_same}, Bool.{cases_eq, cases_lt, Decides.nat_tests}}}
 use Rattle.std.proofs.lemmas.{Bool.eqb-false, Nat.{pow-add, shl_below, Bits.{bit_at_or, bit_at_and, bit_at-zero}}}
 use Rattle.std.proofs.lemmas.Nat.Bits.{bit_at-lt, bit_at_mask_inside, bit_at_mask_below, bit_at_mask_above, ones_shr}
 use Rattle.std.{proofs.{lemmas.Nat.Bits.same_from_bits, Math.Nat.{one-le-pow, pow-le-pow_right}}, specs.Int.bit_at}
+use Rattle.ffs_maps.specs.Reserved.{is_between}
 use Rattle.ffs_maps.{specs.{Bits.{set_run, AreClear}, WordBits.bits_of_words}, proofs.Bits.{is_bit, length_bits}}
 use Rattle.ffs_maps.proofs.Bits.{get_bits, bit_in, bits_are}
 
@@ -94,3 +95,19 @@ pub mark_run : (words : List ℕ) (size start len w : ℕ) → start % 64 + len 
     ≡ set_run (bits_of_words words size) start len
 mark_run words size start len w h below some inside is_w =
     grind (arith, mask_is, put_run, bit_at_or, bit_at_mask_inside, bit_at_mask_below, bit_at_mask_above)
+
+-- the mask of a run in one word, by its places there
+pub between_bits : (start end m k : ℕ) → start < end → end ≤ 64 →
+    m ≡ (2 ^ 64 - 1) / 2 ^ (64 - (end - start)) * 2 ^ start % 2 ^ 64 →
+    bit_at m k ≡ cond (is_between start end k) 1 0
+between_bits start end m k order within is =
+    let low : start % 64 ≡ start = omega (arith, order, within) in
+    let last : start + (end - start) ≡ end = omega (arith, order) in
+    let mask = rw (low, last) at (mask_is start (end - start) (omega (arith, order, within))) in
+    rw (is, mask) (elim (cases_lt k start) [
+      | inl under ↦ grind (arith, bit_at_mask_below, nat_tests)
+      | inr over ↦ elim (cases_lt k end) [
+        | inl inside ↦ grind (arith, bit_at_mask_inside, nat_tests)
+        | inr past ↦ grind (arith, bit_at_mask_above, nat_tests)
+      ]
+    ])

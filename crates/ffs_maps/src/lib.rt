@@ -10,32 +10,27 @@
 //! let claimed_at_once = claimed.claim(start, len);
 //! ```
 //!
-//! It rests on `ffs_memory`.
+//! It rests on `ffs_memory` and `ffs_layout`.
 #![tactic(auto)]
 
 ghost use Rattle.std.specs.Prelude.{ℕ, nat_eq, ◌≡◌, ◌↔◌, ◌+◌, ◌*◌, ◌%◌, ◌<◌, ◌≤◌, ◌-◌, length, IfOk, IsTrue, true};
 ghost use Rattle.std.specs.{Prelude.{false, slice_set, replicate}, List.{slice_index_or, All}, Int.{div_ceil, bit_at}};
 ghost use Rattle.ffs_maps.specs.WordBits.{bits_of_words, set_among};
 
-use ffs_memory::{Memory, SystemMemory, ZeroedWords};
-use std::alloc::{AllocError, Global};
+mod map_words;
+mod reserved;
 
-/// Whether all these words are equal to this one. The loop doesn't stop early, so that the
-/// processor can compare several at once.
-fn are_alike(words: &[u64], word: u64) -> bool
-    ensures { IsTrue result ↔ All (λ w. w ≡ word) words.now }
-{
-    let mut differ = 0;
-    for index in 0..words.len() {
-        differ |= words[index] ^ word;
-    }
-    differ == 0
-}
+use crate::map_words::MapWords;
+use crate::reserved::stretch_from;
+use ffs_layout::Geometry;
+use ffs_memory::{Memory, SystemMemory};
+pub use reserved::reserved_count;
+use std::alloc::{AllocError, Global};
 
 /// A bit for each fragment, in words of 64, and how many of them are set.
 #[derive(Drop)]
 pub struct FragmentMap {
-    words: ZeroedWords,
+    words: MapWords,
     /// How many fragments the map has.
     pub size: u32,
     /// How many bits are set.
@@ -45,6 +40,7 @@ pub struct FragmentMap {
 }
 
 impl FragmentMap {
+    ghost use Rattle.ffs_maps.specs.Reserved.{with_reserved};
     ghost use Rattle.ffs_maps.specs.Bits.{bits_of, set_run, is_clear, ClaimsRun, HasBits, IsInWord, IsPart, IsSomeInWord, IsSomeRun, MakesMap};
 
     /// A map with no bit set, in the memory of an allocator.
@@ -64,9 +60,10 @@ impl FragmentMap {
     pub fn in_memory<M: Memory>(memory: &mut M, size: u32) -> Result<FragmentMap, AllocError>
         ensures { MakesMap (M.account memory.old) (M.account memory.new) size result }
     {
-        let words = memory.zeroed_words(size.div_ceil(64) as usize)?;
+        let count = size.div_ceil(64) as usize;
+        let room = memory.room_for_words(count)?;
         Ok(FragmentMap {
-            words,
+            words: MapWords::over(room, count),
             size,
             ones: 0,
         })
@@ -138,25 +135,6 @@ impl FragmentMap {
         bits.count_ones()
     }
 
-    /// How many bits are set in the words from `first` on and below `last`. Mostly these words are
-    /// alike: then the bits of one are counted.
-    fn count_in_words(&self, first: u32, last: u32) -> u32
-        requires { IsPart (64 * first) (64 * last) self.now.size }
-        ensures { result ≡ set_among (bits_of self.now) (64 * first) (64 * last - 64 * first) }
-    {
-        let words = self.words.touched();
-        let start = first as usize;
-        let end = words.len().min(last as usize);
-        if start < end && are_alike(&words[start..end], words[start]) {
-            return (end - start) as u32 * words[start].count_ones();
-        }
-        let mut count = 0;
-        for index in start..end {
-            count += words[index].count_ones();
-        }
-        count
-    }
-
     /// How many bits are set of the fragments from `start` on and below `end`.
     #[tactic(auto, using(crate::proofs::Counting::count_within))]
     pub fn count(&self, start: u32, end: u32) -> u32
@@ -169,7 +147,7 @@ impl FragmentMap {
             return self.count_in_word(start, end - start);
         }
         let before = self.count_in_word(start, 64 * first - start);
-        let words = self.count_in_words(first, last);
+        let words = self.words.count(first, last);
         before + words + self.count_in_word(64 * last, end - 64 * last)
     }
 
@@ -227,6 +205,36 @@ impl FragmentMap {
             self.set_in_word(index, some);
             index += some;
         }
+    }
+
+    /// Sets the bits of the reserved fragments, one run after the other.
+    fn set_reserved(&mut self, geometry: &Geometry)
+        requires { self.old.size ≡ geometry.now.layout.size }
+        ensures { HasBits self.new self.old.size
+            (with_reserved geometry.now.layout (bits_of self.old)) }
+    {
+        let mut fragment = 0;
+        while fragment < geometry.layout.size {
+            let stretch = stretch_from(geometry, fragment);
+            if stretch.reserved {
+                self.set_run(fragment, stretch.end - fragment);
+            }
+            fragment = stretch.end;
+        }
+    }
+
+    /// Sets the bits of the reserved fragments of the volume that the map is of. In a map that is
+    /// new no word is written for it.
+    pub fn reserve(&mut self, geometry: &Geometry)
+        requires { self.old.size ≡ geometry.now.layout.size }
+        ensures { HasBits self.new self.old.size
+            (with_reserved geometry.now.layout (bits_of self.old)) }
+    {
+        if self.words.lay_reserved(geometry) {
+            self.ones = reserved_count(geometry);
+            return;
+        }
+        self.set_reserved(geometry);
     }
 
     /// Sets the bits of a run that lies in one word, where none of them is set. Returns whether it

@@ -1,4 +1,3 @@
 pub mod Asking
 pub mod SortedParts
 pub mod Touched
-pub mod Words

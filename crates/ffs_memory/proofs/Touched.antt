@@ -5,7 +5,7 @@ use Rattle.std.proofs.lemmas.List.{append_assoc, get_or-append_right, get_or-rep
 use Rattle.std.proofs.lemmas.List.{replicate-append-replicate, set-append_left}
 use Rattle.std.proofs.{Math.{ListN.get_or-append, Seq.set-append_seam}, lemmas.Bool.cases_lt}
 use Rattle.std.specs.{Prelude.vec_capacity, declared.{vec.Vec.Vec, alloc.Global.Global}}
-use Rattle.ffs_memory.specs.{Filled.{filled, LimitsItems}, Words.Touches}
+use Rattle.ffs_memory.specs.{Filled.{filled, LimitsItems}, Touching.Touches}
 
 -- one value after itself
 pub run_on : {A : Type 0} (list : List A) (x : A) (m n k : ℕ) → m + n ≡ k →

@@ -1,7 +1,7 @@
 -- What a memory granted, and how often it refused.
 use Rattle.std.specs.Prelude.{◌≡◌, ◌+◌, ◌-◌, ◌*◌, ◌^◌, ◌≤◌, ℕ, min, [], replicate, vec_capacity, vec_len, Result}
 use Rattle.std.specs.{Prelude.MatchResult, declared.{alloc.Global.Global, vec.Vec.Vec}}
-use Rattle.ffs_memory.specs.{Words.Words, declared.fixed_list.FixedList.FixedList}
+use Rattle.ffs_memory.specs.declared.fixed_list.FixedList.{FixedList}
 
 -- the bytes that it granted so far, and how many requests it refused
 pub record Account : Type 0 where
@@ -46,16 +46,6 @@ pub record Given {A : Type 0} (old new : Account) (n bytes : ℕ) (x : A) (list 
 -- one request for a list of n elements x was answered: it was granted, or the request was refused
 abbrev pub Gives : {A E : Type 0} → Account → Account → ℕ → ℕ → A → Result (FixedList A) E → Type 0
 Gives old new n bytes x result = MatchResult result (Given old new n bytes x) (λ _. RequestRefused old new)
-
--- n words that are 0 until they are set were granted, in memory that has room for no more
-pub record GivenWords (old new : Account) (n : ℕ) (words : Words) : Type 0 where
-  pub zeros : words.list ≡ replicate n 0
-  pub room : words.room ≡ n
-  pub granted : Granted old new (8 * n)
-
--- one request for such words was answered: they were granted, or the request was refused
-abbrev pub GivesWords : {E : Type 0} → Account → Account → ℕ → Result Words E → Type 0
-GivesWords old new n result = MatchResult result (GivenWords old new n) (λ _. RequestRefused old new)
 
 -- the list has no elements yet, and its memory has room for n of them and for no more
 pub record IsRoom {A : Type 0} (n : ℕ) (list : Vec A Global) : Type 0 where

@@ -3,4 +3,4 @@ pub mod Filled
 pub mod Fuse
 pub mod Lending
 pub mod System
-pub mod Words
+pub mod Touching

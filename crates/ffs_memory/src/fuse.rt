@@ -1,11 +1,10 @@
 //! A memory that refuses a request where it is asked to.
 ghost use Rattle.std.specs.Prelude.{◌*◌, false};
-ghost use Rattle.ffs_memory.specs.{Account.{Gives, GivesWords}, Fuse.{BurnsAtRequest, CountsRequest, IsFusedMemory}};
+ghost use Rattle.ffs_memory.specs.{Account.{Gives, MakesRoom}, Fuse.{BurnsAtRequest, CountsRequest, IsFusedMemory}};
 
 use crate::filled_list::FilledList;
 use crate::fixed_list::FixedList;
 use crate::memory::Memory;
-use crate::zeroed_words::ZeroedWords;
 use std::alloc::AllocError;
 
 /// A memory that passes requests on to another one, and refuses one of them: for tests of what a
@@ -105,14 +104,14 @@ impl<M: Memory> Memory for FuseMemory<M> {
         self.inner.long_numbers(n)
     }
 
-    fn zeroed_words(&mut self, n: usize) -> Result<ZeroedWords, AllocError>
-        ensures given { GivesWords (⟦<FuseMemory<M> as Memory>⟧.account self.old)
-            (⟦<FuseMemory<M> as Memory>⟧.account self.new) n result }
+    fn room_for_words(&mut self, n: usize) -> Result<Vec<u64>, AllocError>
+        ensures given { MakesRoom (⟦<FuseMemory<M> as Memory>⟧.account self.old)
+            (⟦<FuseMemory<M> as Memory>⟧.account self.new) n 8 result }
         ensures fuse { BurnsAtRequest M.account self.old self.new (8 * n) result }
     {
         if self.blows() {
             return Err(AllocError);
         }
-        self.inner.zeroed_words(n)
+        self.inner.room_for_words(n)
     }
 }

@@ -1,10 +1,10 @@
 //! The memory of a check: what grants it and counts it, and lists that can't grow.
 //!
-//! A `Memory` grants lists of a fixed length, and counts the bytes granted and the requests
-//! refused. A `FixedList` lends its elements; a `FilledList` and `ZeroedWords` hold one value, or
-//! 0, until an element is set, and their memory is touched only up to the last element that was
-//! set. A `FuseMemory` refuses one request of another memory, for tests. `copy_short` copies bytes,
-//! and is fast where they are few.
+//! A `Memory` grants lists of a fixed length and room for words, and counts the bytes granted and
+//! the requests refused. A `FixedList` lends its elements; a `FilledList` holds one value until an
+//! element is set, and its memory is touched only up to the last element that was set. A
+//! `FuseMemory` refuses one request of another memory, for tests. `copy_short` copies bytes, and is
+//! fast where they are few.
 //!
 //! ```text
 //! let mut memory = SystemMemory::new(alloc);
@@ -23,7 +23,6 @@ mod memory;
 mod short_copy;
 mod system;
 mod touching;
-mod zeroed_words;
 
 pub use filled_list::FilledList;
 pub use fixed_list::FixedList;
@@ -31,4 +30,3 @@ pub use fuse::FuseMemory;
 pub use memory::Memory;
 pub use short_copy::copy_short;
 pub use system::SystemMemory;
-pub use zeroed_words::ZeroedWords;

@@ -1,10 +1,9 @@
 //! What grants memory, and what it grants.
 ghost use Rattle.std.specs.Prelude.{◌≡◌, ◌*◌, false};
-ghost use Rattle.ffs_memory.specs.Account.{Account, Gives, GivesWords};
+ghost use Rattle.ffs_memory.specs.Account.{Account, Gives, MakesRoom};
 
 use crate::filled_list::FilledList;
 use crate::fixed_list::FixedList;
-use crate::zeroed_words::ZeroedWords;
 use std::alloc::AllocError;
 
 /// What grants the memory of a check, and counts what it granted and how often it refused. A
@@ -52,11 +51,11 @@ pub trait Memory {
     fn long_numbers(&mut self, n: usize) -> Result<FilledList<u64>, AllocError>
         ensures { Gives (account self.old) (account self.new) n (8 * n) 0 result };
 
-    /// Grants `n` words of 64 bits, each 0: their memory is taken at once, and none of it is
-    /// written yet.
+    /// Grants room for `n` words of 64 bits: a list that is empty yet, and has room for just as
+    /// many.
     ///
     /// # Errors
     /// The memory was refused.
-    fn zeroed_words(&mut self, n: usize) -> Result<ZeroedWords, AllocError>
-        ensures { GivesWords (account self.old) (account self.new) n result };
+    fn room_for_words(&mut self, n: usize) -> Result<Vec<u64>, AllocError>
+        ensures { MakesRoom (account self.old) (account self.new) n 8 result };
 }

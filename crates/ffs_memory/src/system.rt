@@ -6,7 +6,6 @@ use crate::counted::CountedAllocator;
 use crate::filled_list::FilledList;
 use crate::fixed_list::FixedList;
 use crate::memory::Memory;
-use crate::zeroed_words::ZeroedWords;
 use std::alloc::{AllocError, Global};
 
 /// The memory of an allocator. It takes room for what it grants, and none beside.
@@ -81,8 +80,7 @@ impl Memory for SystemMemory {
         self.unwritten(n, 0)
     }
 
-    fn zeroed_words(&mut self, n: usize) -> Result<ZeroedWords, AllocError> {
-        let room = self.allocator.room_for(n, 0u64)?;
-        Ok(ZeroedWords::over(room, n))
+    fn room_for_words(&mut self, n: usize) -> Result<Vec<u64>, AllocError> {
+        self.allocator.room_for(n, 0u64)
     }
 }

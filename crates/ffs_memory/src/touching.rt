@@ -1,6 +1,6 @@
 //! The elements of a list that are written.
 ghost use Rattle.std.specs.Prelude.{◌<◌, vec_capacity};
-ghost use Rattle.ffs_memory.specs.Words.{Touches};
+ghost use Rattle.ffs_memory.specs.Touching.{Touches};
 
 use std::mem::replace;
 

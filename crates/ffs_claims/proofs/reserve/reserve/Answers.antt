@@ -1,5 +1,5 @@
 use Rattle.std.proofs.Common.{ap, ◌∙◌, rules}
-use Rattle.ffs_maps.specs.Bits.{bits_of}
+use Rattle.ffs_maps.specs.{Bits.bits_of, Reserved.with_reserved}
 use Rattle.ffs_workspace.specs.Holds.{claims_of}
 use Rattle.ffs_claims.proofs.Reserved.{reserved_claims}
 use Rattle.ffs_claims.proofs.reserve.reserve.Goals as goal
@@ -7,8 +7,9 @@ use Rattle.ffs_claims.proofs.reserve.reserve.Goals as goal
 pub returns : goal.returns
 returns c = record {
   claims = λ fresh. reserved_claims c.args.geometry.now.layout (claims_of c.args.workspace.now)
-      (claims_of c.begin.new.workspace) (bits_of c.set_reserved.new.map) (ap claims_of c.begin.ensures) fresh.duplicates
-      (c.set_reserved.ensures.bits (ap (λ w. bits_of w.used) c.begin.ensures ∙ fresh.used));
+      (claims_of c.begin.new.workspace) (bits_of c.reserve.new.self) (ap claims_of c.begin.ensures) fresh.duplicates
+      (c.reserve.ensures.bits ∙ ap (with_reserved c.args.geometry.now.layout)
+      (ap (λ w. bits_of w.used) c.begin.ensures ∙ fresh.used));
   runs = search rules;
   only = search rules;
 }

@@ -1,6 +1,6 @@
 use Rattle.std.proofs.Common.{◌≡◌, ◌<◌, ◌≤◌, ◌+◌, ◌/◌, ◌%◌, ◌∙◌, ℕ, arith, refl, ap, sym, length, length-set}
 use Rattle.std.proofs.Common.{true≢false}
-use Rattle.ffs_memory.specs.Words.{Words, with_bits}
+use Rattle.ffs_maps.specs.Words.{Words, with_bits}
 use Rattle.ffs_maps.specs.{declared.FragmentMap.FragmentMap, Bits.{AreClear, bits_of, set_run}, WordBits.bits_of_words}
 use Rattle.ffs_maps.{specs.WordBits.set_among, proofs.{Masks.{clear_run, mark_run, mask_of, run_clear}, Bits.bits_long}}
 use Rattle.ffs_maps.proofs.{Bits.same_map, Ones.{few_among, none_among, run_raised}}

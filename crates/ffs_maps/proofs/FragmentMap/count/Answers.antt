@@ -11,5 +11,5 @@ returns c =
     (omega (arith, c.div_ceil-first.ensures)) (omega arith)
     (count_join_at is_set c.args.start (64 * first) (64 * last) (64 * last - 64 * first) _ _
     (omega (arith, c.div_ceil-first.ensures)) (omega arith)
-    c.count_in_word-before.ensures c.count_in_words-words.ensures)
+    c.count_in_word-before.ensures (c.count-words.ensures c.args.self.now.size (omega (arith, c.requires.below))))
     c.count_in_word-2.ensures

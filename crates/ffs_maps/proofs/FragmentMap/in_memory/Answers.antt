@@ -4,13 +4,14 @@ use Rattle.ffs_maps.{specs.WordBits.{bits_of_words, set_among}, proofs.{Bits.zer
 use Rattle.ffs_maps.proofs.FragmentMap.in_memory.Goals as goal
 
 pub invariant_of-result : goal.invariant_of-result
-invariant_of-result g c = record {
-  enough = omega (arith, ap length c.in_ok-words.ensures.zeros, c.div_ceil.ensures, length-replicate {A = ℕ});
-  counted = sym (ap (λ xs. set_among (bits_of_words xs c.args.size) 0 c.args.size) c.in_ok-words.ensures.zeros
-      ∙ ap (λ bits. set_among bits 0 c.args.size) (zero_bits _ c.args.size)
-      ∙ none_among (replicate c.args.size false) 0 c.args.size
-      (λ k h. get_or-replicate c.args.size (0 + k) false false (omega (arith, h))));
-}
+invariant_of-result g c =
+    let over_list = ap (λ ws. ws.list) c.over.ensures in record {
+      enough = omega (arith, ap length over_list, c.div_ceil-count.ensures, length-replicate {A = ℕ});
+      counted = sym (ap (λ xs. set_among (bits_of_words xs c.args.size) 0 c.args.size) over_list
+          ∙ ap (λ bits. set_among bits 0 c.args.size) (zero_bits _ c.args.size)
+          ∙ none_among (replicate c.args.size false) 0 c.args.size
+          (λ k h. get_or-replicate c.args.size (0 + k) false false (omega (arith, h))));
+    }
 
 pub returns : goal.returns
 returns g c = record { made = grind (arith, zero_bits); asks = search (arith, rules) }

@@ -1,0 +1,60 @@
+use Rattle.std.proofs.Common.{◌-◌, ◌∙◌, ◌++◌, ◌≡◌, ◌∷◌, [], Bool, ℕ, true, false, not, arith, ap, length, refl, replicate, sym, vec_len}
+use Rattle.std.proofs.lemmas.List.{length-append, length-replicate}
+use Rattle.std.specs.Prelude.{Some}
+use Rattle.ffs_maps.specs.Words.{kept_words}
+use Rattle.ffs_maps.proofs.Words.{kept_more, kept_on, zeros_of_stretch}
+use Rattle.ffs_maps.proofs.map_words.touch_reserved.Goals as goal
+
+not_is : (b : Bool) → not b ≡ true → b ≡ false
+not_is b e = grind arith
+
+pub loop-len-preserved-then-len-next : goal.loop-len-preserved-then-len-next
+loop-len-preserved-then-len-next c =
+    let g = c.args.geometry.now in
+    let inv = c.loop-len.invariant in
+    let first = vec_len c.args.touched.now in
+    let len = c.loop-len.len in
+    let next = c.min-next.result in
+    let s = c.stretch_from-stretch in
+    record {
+      len = omega (
+        arith,
+        ap (length {A = ℕ}) c.touch_zeros.ensures.items,
+        length-append c.loop-len.touched.items (replicate (next - vec_len c.loop-len.touched) 0),
+        length-replicate {A = ℕ} (next - vec_len c.loop-len.touched) 0,
+        c.loop-len.touched.ok.0,
+        c.touch_zeros.new.touched.ok.0,
+        inv.len,
+        c.if-len-next.true,
+      );
+      within = omega (arith, inv.within, c.if-len-next.true);
+      past = omega (arith, c.min-next.ensures);
+      items = c.touch_zeros.ensures.items
+          ∙ ap (λ n. c.loop-len.touched.items ++ replicate (next - n) 0) (sym inv.len)
+          ∙ ap (λ xs. xs ++ replicate (next - len) 0) inv.items
+          ∙ ap (λ ws. (c.args.touched.now.items ++ kept_words (Some g) first (len - first)) ++ ws)
+          (sym (zeros_of_stretch g len next (next - len) refl (λ f low high.
+          s.ensures.alike f low (omega (arith, high, c.min-next.ensures)) ∙ not_is s.result.reserved c.if-not-stretch.true)))
+          ∙ kept_on (Some g) c.args.touched.now.items first (len - first) (next - len) (next - first) len
+          (omega (arith, inv.within, c.if-len-next.true)) (omega (arith, inv.within));
+      address = c.touch_zeros.ensures.address ∙ inv.address;
+      room = c.touch_zeros.ensures.room ∙ inv.room;
+    }
+
+pub loop-len-preserved : goal.loop-len-preserved
+loop-len-preserved c =
+    let g = c.args.geometry.now in
+    let inv = c.loop-len.invariant in
+    let first = vec_len c.args.touched.now in
+    let len = c.loop-len.len in
+    record {
+      len = omega (arith, inv.len, c.push_reserved.ensures.len);
+      within = omega (arith, inv.within);
+      past = omega (arith, c.loop-len-test.true);
+      items = c.push_reserved.ensures.items
+          ∙ ap (λ xs. xs ++ c.reserved_word.result ∷ []) inv.items
+          ∙ kept_more (Some g) c.args.touched.now.items first (len - first) len c.reserved_word.result
+          (omega (arith, inv.within)) c.reserved_word.ensures;
+      address = c.push_reserved.ensures.in_place ∙ inv.address;
+      room = c.push_reserved.ensures.capacity ∙ inv.room;
+    }

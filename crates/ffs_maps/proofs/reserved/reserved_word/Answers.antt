@@ -1,0 +1,71 @@
+use Rattle.std.proofs.Common.{◌≡◌, ◌-◌, ◌+◌, ◌*◌, ◌≤◌, ◌<◌, ◌∙◌, ◌&&◌, ℕ, Bool, arith, cond, bit_or, inl, inr, ap, sym}
+use Rattle.std.proofs.lemmas.{Bool.{cases_lt, Decides.nat_tests}, Nat.Bits.bit_at_or}
+use Rattle.std.specs.{Int.bit_at, Prelude.Some}
+use Rattle.ffs_volume.specs.Disk.Areas.{is_reserved}
+use Rattle.ffs_volume.specs.declared.Layout.{Layout}
+use Rattle.ffs_maps.specs.Reserved.{IsStretch, is_between}
+use Rattle.ffs_maps.specs.declared.reserved.Stretch.{Stretch}
+use Rattle.ffs_maps.proofs.Words.{kept_from_bits}
+use Rattle.ffs_maps.proofs.Runs.{none_past_size}
+use Rattle.ffs_maps.proofs.reserved.reserved_word.Goals as goal
+
+-- the bits of a stretch are added
+more_bits : (v : Layout) (s : Stretch) (start fragment next word bits k : ℕ) → IsStretch v fragment s → start ≤ fragment →
+    fragment < next → next ≤ s.end → k < next - start →
+    ((k : ℕ) → k < fragment - start → bit_at word k ≡ cond (is_reserved v (start + k)) 1 0) →
+    ((k : ℕ) → fragment - start ≤ k → bit_at word k ≡ 0) →
+    ((k : ℕ) → bit_at bits k ≡ cond (s.reserved && is_between (fragment - start) (next - start) k) 1 0) →
+    bit_at (bit_or word bits) k ≡ cond (is_reserved v (start + k)) 1 0
+more_bits v s start fragment next word bits k h from_ some within inside low high more = elim (cases_lt k (fragment - start)) [
+  | inl before_ ↦
+      let none : bit_at bits k ≡ 0 = more k ∙ outside s.reserved before_ in
+      omega (arith, bit_at_or word bits k, low k before_, none)
+  | inr past ↦
+      let one : bit_at bits k ≡ cond s.reserved 1 0 = more k ∙ within_ s.reserved past in
+      let alone : bit_at (bit_or word bits) k ≡ bit_at bits k = omega (arith, bit_at_or word bits k, high k past) in
+      alone ∙ one ∙ ap (λ b. cond b 1 0) (sym (h.alike (start + k) (omega (arith, past, from_)) (omega (arith, inside, within))))
+]
+  where
+    outside : (b : Bool) → k < fragment - start → ◌≡◌ {A = ℕ} (cond (b && is_between (fragment - start) (next - start) k) 1 0) 0
+    outside b before_ = grind (arith, nat_tests)
+
+    within_ : (b : Bool) → fragment - start ≤ k → ◌≡◌ {A = ℕ} (cond (b && is_between (fragment - start) (next - start) k) 1 0) (cond b 1 0)
+    within_ b past = grind (arith, nat_tests)
+
+-- and no others
+none_above : (b : Bool) (start end word bits k : ℕ) → start ≤ end → end ≤ k → bit_at word k ≡ 0 →
+    bit_at bits k ≡ cond (b && is_between start end k) 1 0 → bit_at (bit_or word bits) k ≡ 0
+none_above b start end word bits k order past none is =
+    let out : ◌≡◌ {A = ℕ} (cond (b && is_between start end k) 1 0) 0 = grind (arith, nat_tests) in
+    omega (arith, bit_at_or word bits k, none, is, out)
+
+pub loop-fragment-preserved : goal.loop-fragment-preserved
+loop-fragment-preserved c =
+    let v = c.args.geometry.now.layout in
+    let inv = c.loop-fragment.invariant in
+    let s = c.stretch_from-stretch in
+    let fragment = c.loop-fragment.fragment in
+    let next = c.min-next.result in
+    let on : fragment < next = omega (arith, c.min-next.ensures, s.ensures.some, c.loop-fragment-test.true) in
+    record {
+      low = λ k h. more_bits v s.result (64 * c.args.index) fragment next c.loop-fragment.word _ k s.ensures inv.from on
+          (omega (arith, c.min-next.ensures)) h inv.low inv.high c.bits_between-word.ensures;
+      high = λ k h. none_above s.result.reserved (fragment - 64 * c.args.index) (next - 64 * c.args.index)
+          c.loop-fragment.word c.bits_between-word.result k (omega (arith, on)) h (inv.high k (omega (arith, h, on)))
+          (c.bits_between-word.ensures k);
+      from = omega (arith, on, inv.from);
+      within = omega (arith, c.min-next.ensures);
+    }
+
+pub returns : goal.returns
+returns c =
+    let g = c.args.geometry.now in
+    let inv = c.loop-fragment.invariant in
+    let fragment = c.loop-fragment.fragment in
+    kept_from_bits (Some g) c.args.index c.loop-fragment.word
+    (λ k h. elim (cases_lt k (fragment - 64 * c.args.index)) [
+      | inl low ↦ inv.low k low
+      | inr past ↦ inv.high k past ∙ ap (λ b. cond b 1 0) (sym (none_past_size g.layout (64 * c.args.index + k) g.sound
+          (omega (arith, past, h, c.min-limit.ensures, c.loop-fragment-test.false))))
+    ])
+    (λ k h. inv.high k (omega (arith, h, inv.within, c.min-limit.ensures)))

@@ -1,0 +1,264 @@
+//! The words of a map.
+
+ghost use Rattle.std.specs.Prelude.{ℕ, count_by, ◌≡◌, ◌↔◌, ◌*◌, ◌-◌, ◌^◌, ◌<◌, ◌≤◌, length, replicate, slice_set, vec_capacity, vec_len, IsTrue, Some};
+ghost use Rattle.std.specs.{List.{slice_index_or, range_with_len, All}, Int.div_ceil, Vec.vec_ptr};
+ghost use Rattle.ffs_memory.specs.Account.{IsRoom};
+ghost use Rattle.ffs_maps.specs.Words.{AreTouched, ClaimsBits, HasWordsFor, IsWordFor, LaysReserved, TouchesTo, TouchesWords, is_kept, kept_word, kept_words};
+ghost use Rattle.ffs_maps.specs.WordBits.{bits_of_words, set_among};
+
+use crate::reserved::{reserved_among, reserved_word, stretch_from};
+use ffs_layout::Geometry;
+use std::marker::Model;
+use std::mem::replace;
+
+/// How many words are touched at a time: those of a page of memory.
+const PAGE_WORDS: usize = 512;
+
+/// Whether all these words are equal to this one. The loop doesn't stop early, so that the
+/// processor can compare several at once.
+fn are_alike(words: &[u64], word: u64) -> bool
+    ensures { IsTrue result ↔ All (λ w. w ≡ word) words.now }
+{
+    let mut differ = 0;
+    for index in 0..words.len() {
+        differ |= words[index] ^ word;
+    }
+    differ == 0
+}
+
+/// How many bits of some words are set. Mostly the words are alike: then the bits of one are
+/// counted.
+fn ones_of(words: &[u64]) -> u32
+    requires { 64 * length words.now < 2 ^ 32 }
+    ensures { result ≡ set_among (bits_of_words words.now (64 * length words.now)) 0
+        (64 * length words.now) }
+{
+    if !words.is_empty() && are_alike(words, words[0]) {
+        return words.len() as u32 * words[0].count_ones();
+    }
+    let mut count = 0;
+    for index in 0..words.len() {
+        count += words[index].count_ones();
+    }
+    count
+}
+
+/// How many bits are set in the words from `first` on and below `last`, which aren't touched.
+fn kept_ones(reserved: &Option<Geometry>, first: u32, last: u32) -> u32
+    requires order { first ≤ last }
+    requires fits { 64 * last < 2 ^ 32 }
+    ensures { result ≡ count_by (is_kept reserved.now)
+        (range_with_len (64 * first) (64 * last - 64 * first)) }
+{
+    match reserved {
+        Some(geometry) => reserved_among(geometry, 64 * first, 64 * last),
+        None => 0,
+    }
+}
+
+/// Touches the words below `end`, each as 0. The list is a local value meanwhile, so that all are
+/// written in one go.
+fn touch_zeros(touched: &mut Vec<u64>, end: usize)
+    requires { (vec_len touched.old ≤ end) × (end ≤ vec_capacity touched.old) }
+    ensures { TouchesTo touched.old touched.new (replicate (end - vec_len touched.old) 0) }
+{
+    let empty = Vec::new(*touched.allocator());
+    let mut list = replace(touched, empty);
+    let mut len = list.len();
+    while len < end {
+        list.push_reserved(0);
+        len += 1;
+    }
+    *touched = list;
+}
+
+/// Touches the words below `end`, each with the bits of the reserved fragments. Most have none of
+/// them.
+fn touch_reserved(touched: &mut Vec<u64>, geometry: &Geometry, end: usize)
+    requires room { (vec_len touched.old ≤ end) × (end ≤ vec_capacity touched.old) }
+    requires words { end ≤ div_ceil geometry.now.layout.size 64 }
+    ensures { TouchesTo touched.old touched.new
+        (kept_words (Some geometry.now) (vec_len touched.old) (end - vec_len touched.old)) }
+{
+    let mut len = touched.len();
+    while len < end {
+        let stretch = stretch_from(geometry, 64 * len as u32);
+        let next = end.min(stretch.end as usize / 64);
+        if !stretch.reserved && len < next {
+            touch_zeros(touched, next);
+            len = next;
+        } else {
+            touched.push_reserved(reserved_word(geometry, len as u32));
+            len += 1;
+        }
+    }
+}
+
+/// Touches the word at an index, and all others up to the end of its page. It isn't inlined, since
+/// a word that is asked for is mostly touched already.
+#[inline(never)]
+fn touch_page(touched: &mut Vec<u64>, count: usize, reserved: &Option<Geometry>, index: usize)
+    requires touched { vec_len touched.old ≤ index }
+    requires room { (index < count) × (count ≤ vec_capacity touched.old) }
+    requires words { HasWordsFor reserved.now count }
+    ensures { TouchesWords touched.old touched.new reserved.now count index }
+{
+    let page = index - index % PAGE_WORDS;
+    let end = page + PAGE_WORDS.min(count - page);
+    match reserved {
+        Some(geometry) => touch_reserved(touched, geometry, end),
+        None => touch_zeros(touched, end),
+    }
+}
+
+/// Touches the word at an index, where it isn't touched.
+#[inline(always)]
+fn touch(touched: &mut Vec<u64>, count: usize, reserved: &Option<Geometry>, index: usize)
+    requires touched { vec_len touched.old ≤ count }
+    requires room { (index < count) × (count ≤ vec_capacity touched.old) }
+    requires words { HasWordsFor reserved.now count }
+    ensures { TouchesWords touched.old touched.new reserved.now count index }
+{
+    if index >= touched.len() {
+        touch_page(touched, count, reserved, index);
+    }
+}
+
+/// The word at an index that isn't touched.
+#[inline(never)]
+fn untouched_word(reserved: &Option<Geometry>, index: usize) -> u64
+    requires { IsWordFor reserved.now index }
+    ensures { result ≡ kept_word reserved.now index }
+{
+    match reserved {
+        Some(geometry) => reserved_word(geometry, index as u32),
+        None => 0,
+    }
+}
+
+/// Words of 64 bits, in memory that is taken before. Those that aren't touched yet aren't written:
+/// in them the bits of the reserved fragments are set, where it is known which these are.
+#[derive(Drop)]
+pub(crate) struct MapWords {
+    /// The words that are touched, from index 0 on.
+    touched: Vec<u64>,
+    /// How many words there are in all.
+    count: usize,
+    /// Where the reserved fragments lie.
+    reserved: Option<Geometry>,
+}
+
+/// They are seen as all words, and the memory that they are in.
+impl Model for MapWords {
+    ghost use Rattle.std.specs.Prelude.{◌≤◌, ◌-◌, ◌++◌, vec_capacity, vec_len};
+    ghost use Rattle.std.specs.Vec.{vec_ptr};
+    ghost use Rattle.ffs_maps.specs.Words.{Words, HasWordsFor, kept_words};
+
+    ghost Value = { Words };
+
+    ghost view = { λ w. record {
+      list = w.touched.items ++ kept_words w.reserved (vec_len w.touched) (w.count - vec_len w.touched);
+      address = vec_ptr w.touched;
+      room = vec_capacity w.touched;
+    } };
+
+    ghost invariant = { λ w. (vec_len w.touched ≤ w.count) × (w.count ≤ vec_capacity w.touched)
+        × HasWordsFor w.reserved w.count };
+}
+
+impl MapWords {
+    /// `count` words, each 0, in a list that is empty yet and has room for just as many.
+    #[tactic(auto, using(crate::proofs::Words::zeros_kept))]
+    pub(crate) fn over(room: Vec<u64>, count: usize) -> MapWords
+        requires { IsRoom count room }
+        ensures { result ≡ record {
+          list = replicate count 0;
+          address = vec_ptr room;
+          room = count;
+        } }
+    {
+        MapWords {
+            touched: room,
+            count,
+            reserved: None,
+        }
+    }
+
+    /// How many words there are.
+    #[inline(always)]
+    pub(crate) fn len(&self) -> usize
+        ensures { result ≡ length self.now.list }
+    {
+        self.count
+    }
+
+    /// The word at an index.
+    #[inline(always)]
+    pub(crate) fn get(&self, index: usize) -> u64
+        requires { index < length self.now.list }
+        ensures { result ≡ slice_index_or self.now.list index 0 }
+    {
+        if index >= self.touched.len() {
+            return untouched_word(&self.reserved, index);
+        }
+        self.touched[index]
+    }
+
+    /// Sets the word at an index. The words up to it are touched, in the memory that was taken.
+    #[inline(always)]
+    #[tactic(auto, using(crate::proofs::Words::set_seen, crate::proofs::Words::same_seen, crate::proofs::Words::length_seen))]
+    pub(crate) fn set(&mut self, index: usize, word: u64)
+        requires { index < length self.old.list }
+        ensures { self.new ≡ record self.old { list = slice_set self.old.list index word } }
+    {
+        touch(&mut self.touched, self.count, &self.reserved, index);
+        self.touched[index] = word;
+    }
+
+    /// Sets the bits of a mask in the word at an index, where none of them is set there. Returns
+    /// whether it did.
+    #[inline(always)]
+    pub(crate) fn claim(&mut self, index: usize, mask: u64) -> bool
+        requires { index < length self.old.list }
+        ensures { ClaimsBits self.old self.new index mask result }
+    {
+        touch(&mut self.touched, self.count, &self.reserved, index);
+        let word = self.touched[index];
+        if word & mask != 0 {
+            return false;
+        }
+        self.touched[index] = word | mask;
+        true
+    }
+
+    /// Lets it be known which fragments are reserved, where no word is touched and it isn't known
+    /// yet: so their bits are set, and none is written. Returns whether it was so: if not, nothing
+    /// has changed.
+    pub(crate) fn lay_reserved(&mut self, geometry: &Geometry) -> bool
+        requires { length self.old.list ≡ div_ceil geometry.now.layout.size 64 }
+        ensures { LaysReserved self.old self.new geometry.now result }
+    {
+        if !self.touched.is_empty() || self.reserved.is_some() {
+            return false;
+        }
+        self.reserved = Some(*geometry);
+        true
+    }
+
+    /// How many bits are set in the words from `first` on and below `last`.
+    pub(crate) fn count(&self, first: u32, last: u32) -> u32
+        requires order { first ≤ last }
+        requires words { last ≤ length self.now.list }
+        requires fits { 64 * last < 2 ^ 32 }
+        ensures { (size : ℕ) → 64 * last ≤ size → result
+            ≡ set_among (bits_of_words self.now.list size) (64 * first) (64 * last - 64 * first) }
+    {
+        let words = self.touched.as_slice();
+        let end = words.len().min(last as usize) as u32;
+        if end <= first {
+            return kept_ones(&self.reserved, first, last);
+        }
+        let touched = ones_of(&words[first as usize..end as usize]);
+        touched + kept_ones(&self.reserved, end, last)
+    }
+}
