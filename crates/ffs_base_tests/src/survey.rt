@@ -5,10 +5,10 @@ ghost use Rattle.std.specs.Prelude.{◌≡◌, IfOk, vec_len};
 use crate::compare::same;
 use ffs_image::ImageFault;
 use ffs_memory::{FilledList, Memory, SystemMemory};
-use ffs_samples::{numbers, set_first_filled};
+use ffs_samples::{flags, numbers, set_first_filled};
 use ffs_survey::{
-    Directories, EntryHead, KnownInodes, NumberLists, Surveyed, flag_leaders, is_dead, is_dir,
-    is_suspect, is_unref, survey,
+    Directories, EntryHead, FoundLists, KnownInodes, Surveyed, any_unreached, flag_leaders,
+    is_dead, is_dir, is_suspect, is_unref, survey,
 };
 use ffs_volume::Role;
 use std::alloc::{AllocError, Global};
@@ -150,13 +150,12 @@ struct Left {
     calm: [bool; 8],
 }
 
-/// The first eight of each list, as far as it has them.
-fn firsts_of(references: &FilledList<u64>, parents: &FilledList<u32>) -> ([u64; 8], [u32; 8]) {
-    let mut firsts = ([0; 8], [0; 8]);
+/// The first eight elements of a list, as far as it has them, and `none` for each other one.
+fn firsts_of<T: Copy>(list: &FilledList<T>, none: T) -> [T; 8] {
+    let mut firsts = [none; 8];
     for number in 0..8 {
-        if number < references.len() && number < parents.len() {
-            firsts.0[number] = references[number];
-            firsts.1[number] = parents[number];
+        if number < list.len() {
+            firsts[number] = list[number];
         }
     }
     firsts
@@ -164,40 +163,36 @@ fn firsts_of(references: &FilledList<u64>, parents: &FilledList<u32>) -> ([u64; 
 
 fn left_by_survey(alloc: Global) -> Result<Left, Fail> {
     let mut references = starts(alloc)?;
-    let mut named = [true; 8];
-    let mut reached = [true; 8];
+    let mut named = flags(&[true; 8], alloc)?;
+    let mut reached = flags(&[true; 8], alloc)?;
     let mut parents = numbers(&[7; 8], alloc)?;
-    let mut calm = [true; 8];
+    let mut calm = flags(&[true; 8], alloc)?;
     let mut queue = numbers(&[7; 8], alloc)?;
     let mut listed = Listed {
         entries: &ENTRIES,
         dir: 0,
         place: 0,
     };
+    let marked = flags(&[false; 8], alloc)?;
     let inodes = KnownInodes {
         kinds: &KINDS,
-        marked: &[false; 8],
+        marked: &marked,
     };
-    let mut numbers = NumberLists {
+    let mut found = FoundLists {
         references: &mut references,
+        named: &mut named,
+        reached: &mut reached,
         parents: &mut parents,
+        calm: &mut calm,
         queue: &mut queue,
     };
-    survey(
-        &mut listed,
-        &inodes,
-        &mut numbers,
-        &mut named,
-        &mut reached,
-        &mut calm,
-    )?;
-    let (references, parents) = firsts_of(&references, &parents);
+    survey(&mut listed, &inodes, &mut found)?;
     Ok(Left {
-        references,
-        parents,
-        named,
-        reached,
-        calm,
+        references: firsts_of(&references, 0),
+        parents: firsts_of(&parents, 0),
+        named: firsts_of(&named, false),
+        reached: firsts_of(&reached, false),
+        calm: firsts_of(&calm, false),
     })
 }
 
@@ -229,19 +224,22 @@ fn unref_of(surveyed: &Surveyed<'_>) -> [bool; 4] {
 /// The directories that lead a cycle, and which of four are unreferenced.
 fn leaders(alloc: Global) -> Result<([bool; 8], [bool; 4]), AllocError> {
     let parents = numbers(&PARENTS, alloc)?;
+    let marked = flags(&[false; 8], alloc)?;
+    let named = flags(&NAMED, alloc)?;
+    let reached = flags(&REACHED, alloc)?;
     let mut queue = numbers(&[7; 8], alloc)?;
-    let mut leaders = [true; 8];
+    let mut leaders = flags(&[true; 8], alloc)?;
     flag_leaders(&parents, &mut queue, &mut leaders);
     let surveyed = Surveyed {
         kinds: &KINDS,
-        marked: &[false; 8],
-        named: &NAMED,
-        reached: &REACHED,
+        marked: &marked,
+        named: &named,
+        reached: &reached,
         parents: &parents,
         leaders: &leaders,
     };
     let unref = unref_of(&surveyed);
-    Ok((leaders, unref))
+    Ok((firsts_of(&leaders, false), unref))
 }
 
 /// The least number of each cycle leads it: the root's own, and that of 5 and 6.
@@ -257,16 +255,51 @@ fn leads_a_cycle_by_its_least_number(rt: HostRuntime) -> Result<(), Fail> {
     Ok(())
 }
 
+/// Of the directories of the volume 5 and 6 aren't reached, and of the first five inodes all are.
 #[test]
-fn judges_single_inodes(rt: HostRuntime) {
+fn finds_that_a_directory_is_unreached(rt: HostRuntime) -> Result<(), AllocError> {
+    let reached = flags(&REACHED, rt.alloc())?;
+    let first = flags(&[false, false, true, true, false], rt.alloc())?;
+    same(
+        &rt,
+        &[
+            any_unreached(&KINDS, &reached),
+            any_unreached(&[0, 0, 4, 4, 8], &first),
+        ],
+        &[true, false],
+    );
+    Ok(())
+}
+
+/// A directory after the flags that are touched, and none there.
+#[test]
+fn finds_unreached_where_none_is_touched(rt: HostRuntime) -> Result<(), AllocError> {
+    let none = SystemMemory::new(rt.alloc()).flags(4)?;
+    same(
+        &rt,
+        &[
+            any_unreached(&[0, 0, 8, 4], &none),
+            any_unreached(&[0, 4, 8, 8], &none),
+        ],
+        &[true, false],
+    );
+    Ok(())
+}
+
+#[test]
+fn judges_single_inodes(rt: HostRuntime) -> Result<(), AllocError> {
+    let named = flags(&NAMED, rt.alloc())?;
+    let unmarked = flags(&[false; 8], rt.alloc())?;
+    let marked = flags(&[true; 8], rt.alloc())?;
     same(&rt, &[is_dir(&KINDS, 3), is_dir(&KINDS, 4)], &[true, false]);
     same(
         &rt,
         &[
-            is_dead(&KINDS, &[false; 8], &NAMED, 7),
-            is_dead(&KINDS, &[true; 8], &NAMED, 7),
+            is_dead(&KINDS, &unmarked, &named, 7),
+            is_dead(&KINDS, &marked, &named, 7),
         ],
         &[false, true],
     );
-    same(&rt, &is_suspect(&[0, 0, 5], &[false; 3], 2), &true);
+    same(&rt, &is_suspect(&[0, 0, 5], &unmarked, 2), &true);
+    Ok(())
 }

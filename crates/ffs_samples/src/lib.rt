@@ -186,6 +186,20 @@ pub fn numbers(values: &[u32], alloc: Global) -> Result<FilledList<u32>, AllocEr
     Ok(list)
 }
 
+/// A list of these flags.
+///
+/// # Errors
+/// The memory was refused.
+pub fn flags(values: &[bool], alloc: Global) -> Result<FilledList<bool>, AllocError>
+    ensures { IfOk result (λ list. vec_len list ≡ length values.now) }
+{
+    let mut list = SystemMemory::new(alloc).flags(values.len())?;
+    for index in 0..values.len() {
+        list.set(index, values[index]);
+    }
+    Ok(list)
+}
+
 /// Sets the first elements of a list, as far as there are some.
 pub fn set_first<T: Copy>(list: &mut FixedList<T>, values: &[T])
     ensures { vec_len list.new ≡ vec_len list.old }

@@ -22,7 +22,7 @@ fn surveyed(alloc: Global, geometry: &Geometry) -> Result<Workspace, AllocError>
 {
     let mut workspace = Workspace::new(alloc, geometry)?;
     set_first(&mut workspace.kinds, &[0, 0, 4, 4, 5, 4, 4, 4, 4]);
-    set_first(&mut workspace.reached, &[false, false, true]);
+    set_first_filled(&mut workspace.reached, &[false, false, true]);
     set_first_filled(&mut workspace.parents, &[0, 0, 0, 0, 0, 6, 5, 4, 3]);
     Ok(workspace)
 }

@@ -29,7 +29,7 @@ fn referred(alloc: Global, geometry: &Geometry) -> Result<Workspace, AllocError>
 {
     let mut workspace = Workspace::new(alloc, geometry)?;
     set_first(&mut workspace.kinds, &[0, 0, 4, 8, 8, 8, 5, 8]);
-    set_first(
+    set_first_filled(
         &mut workspace.marked,
         &[false, false, false, false, false, false, false, true],
     );

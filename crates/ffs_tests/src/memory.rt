@@ -308,6 +308,39 @@ const FILLED: [(NumberCall, u64); 14] = [
     (NumberCall::GetTouched(1), 2),
 ];
 
+/// Parts of a thousand flags, of which 700 alone is true, and whether one of each part is.
+const FLAGS: [(usize, usize, bool); 5] = [
+    (0, 700, false),
+    (0, 701, true),
+    (700, 1000, true),
+    (701, 1000, false),
+    (700, 700, false),
+];
+
+/// Then all flags are true.
+#[test]
+fn any_flag_of_a_part(rt: HostRuntime) -> Result<(), AllocError> {
+    let mut list = SystemMemory::new(rt.alloc()).flags(1000)?;
+    list.set(700, true);
+    for (from, to, wanted) in &FLAGS {
+        if *to <= list.len() {
+            let found = list.is_any_true(*from, *to);
+            same(&rt, &(*from, *to, found), &(*from, *to, *wanted));
+        }
+    }
+    list.fill(true);
+    same(
+        &rt,
+        &[
+            list.is_any_true(5, 5),
+            list.is_any_true(5, 6),
+            list.is_any_true(0, 1000),
+        ],
+        &[false, true, true],
+    );
+    Ok(())
+}
+
 /// Eight numbers, of which the first four are set, after each of three parts was put in order.
 const SORTED: [(NumberCall, u64); 31] = [
     (NumberCall::Set(0, 9), 0),

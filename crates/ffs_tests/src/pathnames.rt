@@ -8,7 +8,7 @@ use ffs_layout::Entry;
 use ffs_memory::FilledList;
 use ffs_pathnames::inodes::Inodes;
 use ffs_pathnames::verdict::{EntryDefects, Verdict, pass, second_verdict};
-use ffs_samples::numbers;
+use ffs_samples::{flags, numbers};
 use ffs_volume::verdict::{DotDefects, HeaderDefects};
 use ffs_volume::{Label, Role};
 use ffs_workspace::with_due;
@@ -48,14 +48,16 @@ macro_rules! named {
 /// The verdict on an entry of the root of this number and type, before any is passed.
 fn verdict_on(number: u32, kind: u8, alloc: Global) -> Result<Verdict, AllocError> {
     let parents = numbers(&PARENTS, alloc)?;
+    let marked = flags(&MARKED, alloc)?;
     let inodes = Inodes {
         kinds: &KINDS,
-        marked: &MARKED,
+        marked: &marked,
         parents: &parents,
     };
     let words = numbers(&[0, 0, 0, 0, with_due(0), 0, with_due(0), 0, 0], alloc)?;
     let entry = entry(number, kind);
-    Ok(second_verdict(&inodes, 2, &[false; 9], &words, &entry))
+    let passed = flags(&[false; 9], alloc)?;
+    Ok(second_verdict(&inodes, 2, &passed, &words, &entry))
 }
 
 /// The number and the type of an entry, the verdict on it, and whether that has no message.
@@ -87,8 +89,12 @@ fn entries_of_the_root(rt: HostRuntime) -> Result<(), Fail> {
 
 /// The verdict on a marked file, before two entries of the root are passed; those on a directory
 /// and on the file after it.
-fn in_turn(inodes: &Inodes<'_>, passed: &mut [bool], words: &mut FilledList<u32>) -> [Verdict; 3]
-    requires { HasFlagAndWord inodes.now passed.old words.old.items }
+fn in_turn(
+    inodes: &Inodes<'_>,
+    passed: &mut FilledList<bool>,
+    words: &mut FilledList<u32>,
+) -> [Verdict; 3]
+    requires { HasFlagAndWord inodes.now passed.old.items words.old.items }
 {
     let directory = entry(4, 4);
     let file = entry(8, 8);
@@ -105,12 +111,13 @@ fn in_turn(inodes: &Inodes<'_>, passed: &mut [bool], words: &mut FilledList<u32>
 /// The same of the root, and then the word of the directory.
 fn verdicts_in_turn(alloc: Global) -> Result<([Verdict; 3], u32), AllocError> {
     let parents = numbers(&PARENTS, alloc)?;
+    let marked = flags(&MARKED, alloc)?;
     let inodes = Inodes {
         kinds: &KINDS,
-        marked: &MARKED,
+        marked: &marked,
         parents: &parents,
     };
-    let mut passed = [false; 9];
+    let mut passed = flags(&[false; 9], alloc)?;
     let mut words = numbers(&[0, 0, 0, 0, with_due(7), 0, with_due(0), 0, 0], alloc)?;
     let verdicts = in_turn(&inodes, &mut passed, &mut words);
     Ok((verdicts, if words.len() > 4 { words[4] } else { 0 }))

@@ -9,7 +9,7 @@ use crate::compare::same;
 use ffs_layout::{Geometry, Order};
 use ffs_memory::FilledList;
 use ffs_names::note_places;
-use ffs_samples::{Number, geometry, image_of, inode, set_first, set_first_filled};
+use ffs_samples::{Number, geometry, image_of, inode, set_first_filled};
 use ffs_volume::Class;
 use ffs_workspace::{Workspace, is_due, note_of, noted_part};
 use std::alloc::{AllocError, Global};
@@ -24,7 +24,7 @@ fn surveyed(alloc: Global, geometry: &Geometry) -> Result<Workspace, AllocError>
     let mut root = inode(0o40755, 512);
     root.addresses[0] = 40;
     workspace.notes.set(2, note_of(Class::Dir, &root, 0));
-    set_first(
+    set_first_filled(
         &mut workspace.reached,
         &[false, false, true, true, false, true],
     );
