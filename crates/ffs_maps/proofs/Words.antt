@@ -8,7 +8,8 @@ use Rattle.std.proofs.lemmas.{List.get_or_past, Bool.cases_lt}
 use Rattle.std.{proofs.Math.ListN.get_or-append, specs.Int.bit_at}
 use Rattle.ffs_volume.specs.Disk.Areas.{is_reserved}
 use Rattle.ffs_layout.specs.declared.geometry.Geometry.{Geometry}
-use Rattle.ffs_maps.specs.Words.{Words, is_kept, kept_word, kept_words, HasWordsFor, IsWordFor, LaysReserved, TouchesWords, TouchesTo}
+use Rattle.ffs_maps.specs.Words.{Words, is_kept, kept_word, kept_words, HasWordsFor, IsWordFor, LaysReserved, TouchesWords}
+use Rattle.ffs_memory.specs.Touching.{TouchesTo}
 
 -- the bits of a word that isn't touched
 kept_bits : (reserved : Option Geometry) (index k : ℕ) →

@@ -1,9 +1,10 @@
 -- Words of 64 bits, of which those that aren't touched yet have the bits of the reserved fragments.
-use Rattle.std.specs.Prelude.{◌≡◌, ◌↔◌, ◌++◌, ◌-◌, ◌*◌, ◌<◌, ◌≤◌, ℕ, List, Bool, false, IsTrue, Option, None, Some}
-use Rattle.std.specs.Prelude.{bit_and, bit_or, length, map, replicate, slice_set, vec_capacity, vec_len}
-use Rattle.std.specs.{List.{slice_index_or, range_with_len}, Int.div_ceil, Ptr.Ptr, Vec.vec_ptr, Simd.Lanes.mask_l}
+use Rattle.std.specs.Prelude.{◌≡◌, ◌↔◌, ◌-◌, ◌*◌, ◌<◌, ◌≤◌, ℕ, List, Bool, false, IsTrue, Option, None, Some}
+use Rattle.std.specs.Prelude.{bit_and, bit_or, length, map, replicate, slice_set, vec_len}
+use Rattle.std.specs.{List.{slice_index_or, range_with_len}, Int.div_ceil, Ptr.Ptr, Simd.Lanes.mask_l}
 use Rattle.std.specs.declared.{vec.Vec.Vec, alloc.Global.Global}
 use Rattle.ffs_volume.specs.Disk.Areas.{is_reserved}
+use Rattle.ffs_memory.specs.Touching.{TouchesTo}
 use Rattle.ffs_layout.specs.declared.geometry.Geometry.{Geometry}
 
 -- a list of words, the address of its memory, and for how many words that has room
@@ -53,12 +54,6 @@ pub record ClaimsBits (old new : Words) (index mask : ℕ) (claimed_now : Bool) 
   pub clear : IsTrue claimed_now ↔ (bit_and (slice_index_or old.list index 0) mask ≡ 0)
   pub claimed : IsTrue claimed_now → new ≡ with_bits old index mask
   pub unchanged : claimed_now ≡ false → new ≡ old
-
--- these words are touched besides, and the memory is the same
-pub record TouchesTo (old new : Vec ℕ Global) (more : List ℕ) : Type 0 where
-  pub items : new.items ≡ old.items ++ more
-  pub address : vec_ptr new ≡ vec_ptr old
-  pub room : vec_capacity new ≡ vec_capacity old
 
 -- words are touched up to an index and maybe further, but no more than `count`, with the bits that
 -- they had

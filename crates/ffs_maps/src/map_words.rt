@@ -2,14 +2,14 @@
 
 ghost use Rattle.std.specs.Prelude.{ℕ, count_by, ◌≡◌, ◌↔◌, ◌*◌, ◌-◌, ◌^◌, ◌<◌, ◌≤◌, length, replicate, slice_set, vec_capacity, vec_len, IsTrue, Some};
 ghost use Rattle.std.specs.{List.{slice_index_or, range_with_len, All}, Int.div_ceil, Vec.vec_ptr};
-ghost use Rattle.ffs_memory.specs.Account.{IsRoom};
-ghost use Rattle.ffs_maps.specs.Words.{AreTouched, ClaimsBits, HasWordsFor, IsWordFor, LaysReserved, TouchesTo, TouchesWords, is_kept, kept_word, kept_words};
+ghost use Rattle.ffs_memory.specs.{Account.IsRoom, Touching.TouchesTo};
+ghost use Rattle.ffs_maps.specs.Words.{ClaimsBits, HasWordsFor, IsWordFor, LaysReserved, TouchesWords, is_kept, kept_word, kept_words};
 ghost use Rattle.ffs_maps.specs.WordBits.{bits_of_words, set_among};
 
 use crate::reserved::{reserved_among, reserved_word, stretch_from};
 use ffs_layout::Geometry;
+use ffs_memory::WordRoom;
 use std::marker::Model;
-use std::mem::replace;
 
 /// How many words are touched at a time: those of a page of memory.
 const PAGE_WORDS: usize = 512;
@@ -56,25 +56,9 @@ fn kept_ones(reserved: &Option<Geometry>, first: u32, last: u32) -> u32
     }
 }
 
-/// Touches the words below `end`, each as 0. The list is a local value meanwhile, so that all are
-/// written in one go.
-fn touch_zeros(touched: &mut Vec<u64>, end: usize)
-    requires { (vec_len touched.old ≤ end) × (end ≤ vec_capacity touched.old) }
-    ensures { TouchesTo touched.old touched.new (replicate (end - vec_len touched.old) 0) }
-{
-    let empty = Vec::new(*touched.allocator());
-    let mut list = replace(touched, empty);
-    let mut len = list.len();
-    while len < end {
-        list.push_reserved(0);
-        len += 1;
-    }
-    *touched = list;
-}
-
 /// Touches the words below `end`, each with the bits of the reserved fragments. Most have none of
 /// them.
-fn touch_reserved(touched: &mut Vec<u64>, geometry: &Geometry, end: usize)
+fn touch_reserved(touched: &mut WordRoom, geometry: &Geometry, end: usize)
     requires room { (vec_len touched.old ≤ end) × (end ≤ vec_capacity touched.old) }
     requires words { end ≤ div_ceil geometry.now.layout.size 64 }
     ensures { TouchesTo touched.old touched.new
@@ -85,10 +69,10 @@ fn touch_reserved(touched: &mut Vec<u64>, geometry: &Geometry, end: usize)
         let stretch = stretch_from(geometry, 64 * len as u32);
         let next = end.min(stretch.end as usize / 64);
         if !stretch.reserved && len < next {
-            touch_zeros(touched, next);
+            touched.push_zeros(next);
             len = next;
         } else {
-            touched.push_reserved(reserved_word(geometry, len as u32));
+            touched.push(reserved_word(geometry, len as u32));
             len += 1;
         }
     }
@@ -97,7 +81,7 @@ fn touch_reserved(touched: &mut Vec<u64>, geometry: &Geometry, end: usize)
 /// Touches the word at an index, and all others up to the end of its page. It isn't inlined, since
 /// a word that is asked for is mostly touched already.
 #[inline(never)]
-fn touch_page(touched: &mut Vec<u64>, count: usize, reserved: &Option<Geometry>, index: usize)
+fn touch_page(touched: &mut WordRoom, count: usize, reserved: &Option<Geometry>, index: usize)
     requires touched { vec_len touched.old ≤ index }
     requires room { (index < count) × (count ≤ vec_capacity touched.old) }
     requires words { HasWordsFor reserved.now count }
@@ -107,13 +91,13 @@ fn touch_page(touched: &mut Vec<u64>, count: usize, reserved: &Option<Geometry>,
     let end = page + PAGE_WORDS.min(count - page);
     match reserved {
         Some(geometry) => touch_reserved(touched, geometry, end),
-        None => touch_zeros(touched, end),
+        None => touched.push_zeros(end),
     }
 }
 
 /// Touches the word at an index, where it isn't touched.
 #[inline(always)]
-fn touch(touched: &mut Vec<u64>, count: usize, reserved: &Option<Geometry>, index: usize)
+fn touch(touched: &mut WordRoom, count: usize, reserved: &Option<Geometry>, index: usize)
     requires touched { vec_len touched.old ≤ count }
     requires room { (index < count) × (count ≤ vec_capacity touched.old) }
     requires words { HasWordsFor reserved.now count }
@@ -141,7 +125,7 @@ fn untouched_word(reserved: &Option<Geometry>, index: usize) -> u64
 #[derive(Drop)]
 pub(crate) struct MapWords {
     /// The words that are touched, from index 0 on.
-    touched: Vec<u64>,
+    touched: WordRoom,
     /// How many words there are in all.
     count: usize,
     /// Where the reserved fragments lie.
@@ -169,7 +153,7 @@ impl Model for MapWords {
 impl MapWords {
     /// `count` words, each 0, in a list that is empty yet and has room for just as many.
     #[tactic(auto, using(crate::proofs::Words::zeros_kept))]
-    pub(crate) fn over(room: Vec<u64>, count: usize) -> MapWords
+    pub(crate) fn over(room: WordRoom, count: usize) -> MapWords
         requires { IsRoom count room }
         ensures { result ≡ record {
           list = replicate count 0;
@@ -212,7 +196,7 @@ impl MapWords {
         ensures { self.new ≡ record self.old { list = slice_set self.old.list index word } }
     {
         touch(&mut self.touched, self.count, &self.reserved, index);
-        self.touched[index] = word;
+        self.touched.set(index, word);
     }
 
     /// Sets the bits of a mask in the word at an index, where none of them is set there. Returns
@@ -227,7 +211,7 @@ impl MapWords {
         if word & mask != 0 {
             return false;
         }
-        self.touched[index] = word | mask;
+        self.touched.set(index, word | mask);
         true
     }
 
@@ -238,7 +222,7 @@ impl MapWords {
         requires { length self.old.list ≡ div_ceil geometry.now.layout.size 64 }
         ensures { LaysReserved self.old self.new geometry.now result }
     {
-        if !self.touched.is_empty() || self.reserved.is_some() {
+        if self.touched.len() > 0 || self.reserved.is_some() {
             return false;
         }
         self.reserved = Some(*geometry);

@@ -5,6 +5,7 @@ ghost use Rattle.ffs_memory.specs.{Account.{Gives, MakesRoom}, Fuse.{BurnsAtRequ
 use crate::filled_list::FilledList;
 use crate::fixed_list::FixedList;
 use crate::memory::Memory;
+use crate::word_room::WordRoom;
 use std::alloc::AllocError;
 
 /// A memory that passes requests on to another one, and refuses one of them: for tests of what a
@@ -104,7 +105,7 @@ impl<M: Memory> Memory for FuseMemory<M> {
         self.inner.long_numbers(n)
     }
 
-    fn room_for_words(&mut self, n: usize) -> Result<Vec<u64>, AllocError>
+    fn room_for_words(&mut self, n: usize) -> Result<WordRoom, AllocError>
         ensures given { MakesRoom (⟦<FuseMemory<M> as Memory>⟧.account self.old)
             (⟦<FuseMemory<M> as Memory>⟧.account self.new) n 8 result }
         ensures fuse { BurnsAtRequest M.account self.old self.new (8 * n) result }

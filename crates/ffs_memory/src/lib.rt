@@ -2,9 +2,9 @@
 //!
 //! A `Memory` grants lists of a fixed length and room for words, and counts the bytes granted and
 //! the requests refused. A `FixedList` lends its elements; a `FilledList` holds one value until an
-//! element is set, and its memory is touched only up to the last element that was set. A
-//! `FuseMemory` refuses one request of another memory, for tests. `copy_short` copies bytes, and is
-//! fast where they are few.
+//! element is set, and its memory is touched only up to the last element that was set. A `WordRoom`
+//! has the words that are written so far. A `FuseMemory` refuses one request of another memory, for
+//! tests. `copy_short` copies bytes, and is fast where they are few.
 //!
 //! ```text
 //! let mut memory = SystemMemory::new(alloc);
@@ -23,6 +23,7 @@ mod memory;
 mod short_copy;
 mod system;
 mod touching;
+mod word_room;
 
 pub use filled_list::FilledList;
 pub use fixed_list::FixedList;
@@ -30,3 +31,4 @@ pub use fuse::FuseMemory;
 pub use memory::Memory;
 pub use short_copy::copy_short;
 pub use system::SystemMemory;
+pub use word_room::WordRoom;

@@ -4,6 +4,7 @@ ghost use Rattle.ffs_memory.specs.Account.{Account, Gives, MakesRoom};
 
 use crate::filled_list::FilledList;
 use crate::fixed_list::FixedList;
+use crate::word_room::WordRoom;
 use std::alloc::AllocError;
 
 /// What grants the memory of a check, and counts what it granted and how often it refused. A
@@ -51,11 +52,10 @@ pub trait Memory {
     fn long_numbers(&mut self, n: usize) -> Result<FilledList<u64>, AllocError>
         ensures { Gives (account self.old) (account self.new) n (8 * n) 0 result };
 
-    /// Grants room for `n` words of 64 bits: a list that is empty yet, and has room for just as
-    /// many.
+    /// Grants room for just `n` words of 64 bits, of which none is written yet.
     ///
     /// # Errors
     /// The memory was refused.
-    fn room_for_words(&mut self, n: usize) -> Result<Vec<u64>, AllocError>
+    fn room_for_words(&mut self, n: usize) -> Result<WordRoom, AllocError>
         ensures { MakesRoom (account self.old) (account self.new) n 8 result };
 }

@@ -6,6 +6,7 @@ use crate::counted::CountedAllocator;
 use crate::filled_list::FilledList;
 use crate::fixed_list::FixedList;
 use crate::memory::Memory;
+use crate::word_room::WordRoom;
 use std::alloc::{AllocError, Global};
 
 /// The memory of an allocator. It takes room for what it grants, and none beside.
@@ -80,7 +81,8 @@ impl Memory for SystemMemory {
         self.unwritten(n, 0)
     }
 
-    fn room_for_words(&mut self, n: usize) -> Result<Vec<u64>, AllocError> {
-        self.allocator.room_for(n, 0u64)
+    fn room_for_words(&mut self, n: usize) -> Result<WordRoom, AllocError> {
+        let room = self.allocator.room_for(n, 0u64)?;
+        Ok(WordRoom::over(room))
     }
 }

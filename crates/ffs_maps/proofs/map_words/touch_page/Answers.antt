@@ -15,7 +15,7 @@ pub returns-in-None : goal.returns-in-None
 returns-in-None c =
     let page = c.args.index - c.args.index % 512 in
     let end = page + c.min.result in
-    touched_page c.args.touched.now _ c.args.reserved.now c.args.count c.args.index end _ c.touch_zeros.ensures
+    touched_page c.args.touched.now _ c.args.reserved.now c.args.count c.args.index end _ c.push_zeros.ensures
     (sym (ap (λ r. kept_words r (vec_len c.args.touched.now) (end - vec_len c.args.touched.now)) c.in-None.is
     ∙ zeros_kept (vec_len c.args.touched.now) (end - vec_len c.args.touched.now)))
     c.requires.touched (omega (arith, c.min.ensures, c.requires.room.0)) (omega (arith, c.min.ensures, c.requires.room.0))

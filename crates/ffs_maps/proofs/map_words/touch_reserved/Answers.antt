@@ -19,17 +19,17 @@ loop-len-preserved-then-len-next c =
     record {
       len = omega (
         arith,
-        ap (length {A = ℕ}) c.touch_zeros.ensures.items,
+        ap (length {A = ℕ}) c.push_zeros.ensures.items,
         length-append c.loop-len.touched.items (replicate (next - vec_len c.loop-len.touched) 0),
         length-replicate {A = ℕ} (next - vec_len c.loop-len.touched) 0,
         c.loop-len.touched.ok.0,
-        c.touch_zeros.new.touched.ok.0,
+        c.push_zeros.new.self.ok.0,
         inv.len,
         c.if-len-next.true,
       );
       within = omega (arith, inv.within, c.if-len-next.true);
       past = omega (arith, c.min-next.ensures);
-      items = c.touch_zeros.ensures.items
+      items = c.push_zeros.ensures.items
           ∙ ap (λ n. c.loop-len.touched.items ++ replicate (next - n) 0) (sym inv.len)
           ∙ ap (λ xs. xs ++ replicate (next - len) 0) inv.items
           ∙ ap (λ ws. (c.args.touched.now.items ++ kept_words (Some g) first (len - first)) ++ ws)
@@ -37,8 +37,8 @@ loop-len-preserved-then-len-next c =
           s.ensures.alike f low (omega (arith, high, c.min-next.ensures)) ∙ not_is s.result.reserved c.if-not-stretch.true)))
           ∙ kept_on (Some g) c.args.touched.now.items first (len - first) (next - len) (next - first) len
           (omega (arith, inv.within, c.if-len-next.true)) (omega (arith, inv.within));
-      address = c.touch_zeros.ensures.address ∙ inv.address;
-      room = c.touch_zeros.ensures.room ∙ inv.room;
+      address = c.push_zeros.ensures.address ∙ inv.address;
+      room = c.push_zeros.ensures.room ∙ inv.room;
     }
 
 pub loop-len-preserved : goal.loop-len-preserved
@@ -48,13 +48,20 @@ loop-len-preserved c =
     let first = vec_len c.args.touched.now in
     let len = c.loop-len.len in
     record {
-      len = omega (arith, inv.len, c.push_reserved.ensures.len);
+      len = omega (
+        arith,
+        inv.len,
+        ap (length {A = ℕ}) c.push.ensures.items,
+        length-append c.loop-len.touched.items (c.reserved_word.result ∷ []),
+        c.loop-len.touched.ok.0,
+        c.push.new.self.ok.0,
+      );
       within = omega (arith, inv.within);
       past = omega (arith, c.loop-len-test.true);
-      items = c.push_reserved.ensures.items
+      items = c.push.ensures.items
           ∙ ap (λ xs. xs ++ c.reserved_word.result ∷ []) inv.items
           ∙ kept_more (Some g) c.args.touched.now.items first (len - first) len c.reserved_word.result
           (omega (arith, inv.within)) c.reserved_word.ensures;
-      address = c.push_reserved.ensures.in_place ∙ inv.address;
-      room = c.push_reserved.ensures.capacity ∙ inv.room;
+      address = c.push.ensures.address ∙ inv.address;
+      room = c.push.ensures.room ∙ inv.room;
     }

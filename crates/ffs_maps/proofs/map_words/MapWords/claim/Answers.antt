@@ -35,7 +35,7 @@ returns c =
     record {
       clear = (λ _. ap (λ x. bit_and x c.args.mask) is ∙ c.if-word-mask-ne0.false, λ _. refl);
       claimed = λ _.
-          set_seen c.touch.new.touched w.reserved c.args.index _ w.count old same c.touch.ensures.past
+          rw c.set.ensures (set_seen c.touch.new.touched w.reserved c.args.index _ w.count old same c.touch.ensures.past)
           ∙ ap (λ x. record old { list = slice_set old.list c.args.index (bit_or x c.args.mask) }) (sym is);
       unchanged = λ no. absurd (true≢false no);
     }

@@ -6,4 +6,4 @@ returns c =
     let w = c.self.inside in
     let same = same_seen w.touched c.touch.new.touched w.reserved c.args.index w.count c.args.self.now c.self.view_is
     c.touch.ensures in
-    set_seen c.touch.new.touched w.reserved c.args.index c.args.word w.count c.args.self.now same c.touch.ensures.past
+    rw c.set.ensures (set_seen c.touch.new.touched w.reserved c.args.index c.args.word w.count c.args.self.now same c.touch.ensures.past)
