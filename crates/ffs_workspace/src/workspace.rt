@@ -220,7 +220,8 @@ impl Workspace {
         cut_in(self.notes[number as usize])
     }
 
-    /// How many Runs phases 1 and 1b have looked at.
+    /// How many Runs phases 1 and 1b have looked at. After one of them failed no contract says that its
+    /// count is exact.
     pub fn runs(&self) -> [u64; 2]
         ensures { result ≡ self.now.runs_seen ∷ self.now.runs_again ∷ [] }
     {
