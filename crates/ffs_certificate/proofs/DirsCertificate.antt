@@ -47,7 +47,7 @@ checks_reported v vol un = (
                     record {
                       below = k.below;
                       no_whiteout = k.no_whiteout;
-                      named = λ n. let m = k.named n in record { allocated = m.allocated; kind = m.kind };
+                      named = λ n. let m = k.named n in record { allocated = m.allocated; right_type = m.right_type };
                     };
               };
         },

@@ -15,7 +15,8 @@ use Rattle.ffs_volume.specs.Directories.PathnameCheck.{attributes, root_lines, h
 use Rattle.ffs_volume.specs.Directories.PathnameCheck.{dir_header_lines, plain_verdict, entry_lines, lines_of_entries}
 use Rattle.ffs_volume.specs.Directories.{PathnameCheck.{sized_dir_lines, pathname_lines}, Climb.climb, Graph.within}
 use Rattle.ffs_volume.specs.Directories.{Graph.{level, parent}, Connectivity.connectivity_lines}
-use Rattle.ffs_volume.specs.Directories.{ReferenceCheck.{inode_lines, reference_lines}, Volumes.chunk_source_of}
+use Rattle.ffs_volume.specs.Directories.ReferenceCheck.{inode_reference_lines, reference_lines}
+use Rattle.ffs_volume.specs.Directories.Volumes.{chunk_source_of}
 use Rattle.ffs_volume.specs.{Directories.Volumes.{volume_with, volume_of}, Groups.Records.right_group_counts}
 use Rattle.ffs_volume.specs.Groups.Records.{right_frsum, right_total, maps_fit, has_right_magic, has_right_maps}
 use Rattle.ffs_volume.specs.Groups.Records.{has_right_sums, has_right_record, has_right_totals}
@@ -46,8 +47,8 @@ unfolding bytes_in word zero_bytes base_layout base_superblock base_super base_s
     entry_read entry_at entries_from role_of roled_from roled_entries chunk_source_of volume_with volume_of start_entry
     dot dotdot references_below first_below earliest climb within level parent lines_below attributes root_lines
     header_defects header_lines dir_header_lines plain_verdict entry_lines lines_of_entries sized_dir_lines
-    pathname_lines connectivity_lines inode_lines reference_lines right_group_counts right_frsum right_total maps_fit
-    has_right_magic has_right_maps has_right_sums has_right_record has_right_totals phase5_lines setting_lines
+    pathname_lines connectivity_lines inode_reference_lines reference_lines right_group_counts right_frsum right_total
+    maps_fit has_right_magic has_right_maps has_right_sums has_right_record has_right_totals phase5_lines setting_lines
     file_count all_claims claimed_count later_phase_lines phase_lines report_lines
 computes = tt
 

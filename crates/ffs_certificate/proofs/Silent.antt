@@ -8,15 +8,15 @@ use Rattle.ffs_volume.specs.Directories.{Roles.{dot, dotdot, is_allocated_inode,
 use Rattle.ffs_volume.specs.Directories.{Graph.{test_at, parent}, PathnameCheck.{attributes, entry_lines}}
 use Rattle.ffs_volume.specs.Directories.PathnameCheck.{lines_of_entries, plain_lines, plain_verdict}
 use Rattle.ffs_volume.specs.Directories.PathnameCheck.{root_lines, root_lines_of, is_short, has_partial_chunk}
-use Rattle.ffs_volume.specs.Directories.PathnameCheck.{are_sound, dot_defects, dotdot_defects, is_right}
+use Rattle.ffs_volume.specs.Directories.PathnameCheck.{are_sound, dot_defects, dotdot_defects, is_dot_silent}
 use Rattle.ffs_volume.specs.Directories.PathnameCheck.{is_wrong_parent, header_defects, header_of, dir_header_lines}
 use Rattle.ffs_volume.specs.Directories.PathnameCheck.{sized_dir_lines, directory_lines, pathname_lines}
 use Rattle.ffs_volume.specs.Directories.Parents.{is_first_naming_entry, is_parent_entry}
 use Rattle.ffs_volume.specs.Directories.{Entries.is_live, Roles.{entry_if, start_entry, is_one_dot, is_two_dots}}
 use Rattle.ffs_volume.proofs.VerdictLaws.{IsPlainSilent, silent_parts, silent_of, silent_from, silent_lines}
-use Rattle.ffs_volume.proofs.VerdictLaws.{none_from, none_lines}
+use Rattle.ffs_volume.proofs.VerdictLaws.{header_silent_from, header_silent}
 use Rattle.ffs_volume.specs.Directories.Connectivity.{is_dead, is_unref_dir, connectivity_lines}
-use Rattle.ffs_volume.specs.Directories.ReferenceCheck.{inode_lines, reference_lines_at, reference_lines}
+use Rattle.ffs_volume.specs.Directories.ReferenceCheck.{inode_reference_lines, reference_lines_at, reference_lines}
 use Rattle.ffs_volume.specs.{Directories.Parents.{graph_of, nth_roled}, Messages.Kinds.lines_below}
 use Rattle.ffs_volume.specs.{Disk.Numbers.equals_natural}
 use Rattle.ffs_volume.proofs.Silence.{nil-left, nil-right, nil-both, reported-silent, reported-quiet}
@@ -111,12 +111,12 @@ pub record IsShapeQuiet (v : Volume) (d : ℕ) : Type 0 where
 abbrev pub IsDotQuiet : ℕ → Option Entry → Type 0
 IsDotQuiet d o = IsSomeAnd o (λ e. (e.number ≡ d) × (e.kind ≡ 4))
 
-dot-quiet : (d : ℕ) (first : Option Entry) → is_right (dot_defects d first) ≡ true →
+dot-quiet : (d : ℕ) (first : Option Entry) → is_dot_silent (dot_defects d first) ≡ true →
     IsDotQuiet d (entry_if (λ e. is_live e && is_one_dot e.name) first)
 dot-quiet d first h = grind (arith, nat_tests)
 
 dot-silent : (d : ℕ) (first : Option Entry) → IsDotQuiet d (entry_if (λ e. is_live e && is_one_dot e.name) first) →
-    is_right (dot_defects d first) ≡ true
+    is_dot_silent (dot_defects d first) ≡ true
 dot-silent d first h = grind (arith, nat_tests)
 
 -- `..` is there, with its type, and it is the parent if there is one
@@ -125,13 +125,13 @@ pub record IsDotdotQuiet (v : Volume) (d : ℕ) (o : Option Entry) : Type 0 wher
   pub kind : IsSomeAnd o (λ e. e.kind ≡ 4)
 
 dotdot-quiet : (v : Volume) (d : ℕ) (second : Option Entry) →
-    is_right (dotdot_defects (parent (graph_of v) d) second) ≡ true →
+    is_dot_silent (dotdot_defects (parent (graph_of v) d) second) ≡ true →
     IsDotdotQuiet v d (entry_if (λ e. is_live e && is_two_dots e.name) second)
 dotdot-quiet v d second h = grind (arith, nat_tests)
 
 dotdot-silent : (v : Volume) (d : ℕ) (second : Option Entry) →
     IsDotdotQuiet v d (entry_if (λ e. is_live e && is_two_dots e.name) second) →
-    is_right (dotdot_defects (parent (graph_of v) d) second) ≡ true
+    is_dot_silent (dotdot_defects (parent (graph_of v) d) second) ≡ true
 dotdot-silent v d second q = grind (arith, nat_tests)
 
 -- a directory
@@ -144,7 +144,7 @@ pub record IsDirQuiet (v : Volume) (d : ℕ) : Type 0 where
 dir-quiet : (v : Volume) (d : ℕ) → sized_dir_lines v d ≡ [] → IsDirQuiet v d
 unfolding sized_dir_lines dir_header_lines header_defects dot dotdot
 dir-quiet v d h =
-    let none = none_from (header_of v d) _ _ (nil-left (dir_header_lines v d) _ h) in
+    let none = header_silent_from (header_of v d) _ _ (nil-left (dir_header_lines v d) _ h) in
     record {
       shape = grind (arith, nat_tests);
       dot_there = dot-quiet d (start_entry v d 0) (grind (arith, nat_tests));
@@ -160,7 +160,7 @@ dir-silent v d q =
     (λ j i e x z. let same : j ≡ i = omega arith in rw (← same) (q.entries j e x)) in
     let dot = dot-silent d (start_entry v d 0) q.dot_there in
     let dotdot = dotdot-silent v d (start_entry v d 1) q.dotdot_there in
-    nil-both _ _ (none_lines (header_of v d) _ _ (grind (arith, nat_tests))) entries
+    nil-both _ _ (header_silent (header_of v d) _ _ (grind (arith, nat_tests))) entries
 
 -- PATHNAMES: the root, and each directory that isn't empty
 pub record IsPathnameQuiet (v : Volume) : Type 0 where
@@ -207,12 +207,12 @@ pub record IsCountQuiet (v : Volume) (i : ℕ) : Type 0 where
   pub some : references v i ≢ 0
   pub same : equals_natural (v.inode i).nlink (references v i) ≡ true
 
-count-quiet : (v : Volume) (i : ℕ) → inode_lines v i ≡ [] → IsCountQuiet v i
-unfolding inode_lines
+count-quiet : (v : Volume) (i : ℕ) → inode_reference_lines v i ≡ [] → IsCountQuiet v i
+unfolding inode_reference_lines
 count-quiet v i h = grind arith
 
-count-silent : (v : Volume) (i : ℕ) → IsCountQuiet v i → inode_lines v i ≡ []
-unfolding inode_lines
+count-silent : (v : Volume) (i : ℕ) → IsCountQuiet v i → inode_reference_lines v i ≡ []
+unfolding inode_reference_lines
 count-silent v i q = grind arith
 
 pub reference-quiet : (v : Volume) → reference_lines v ≡ [] → (i : ℕ) → is_allocated_inode v i ≡ true → IsCountQuiet v i

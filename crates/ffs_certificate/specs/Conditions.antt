@@ -28,7 +28,7 @@ is_class_message _ = false
 -- fails. Of an entry that names an inode, neither UNALLOCATED nor BAD TYPE VALUE is reported
 pub record IsNameUnreported (vol : Volume) (e : Entry) : Type 0 where
   pub allocated : is_allocated (vol.class e.number) ≡ true
-  pub kind : has_wrong_type vol e ≡ false
+  pub right_type : has_wrong_type vol e ≡ false
 
 -- of a plain entry, these two aren't reported, and neither I OUT OF RANGE nor BAD WHITEOUT ENTRY
 pub record IsPlainUnreported (vol : Volume) (e : Entry) : Type 0 where

@@ -16,8 +16,8 @@ use Rattle.ffs_volume.specs.Directories.{PathnameCheck.{continues_after_root, pa
 use Rattle.ffs_volume.specs.Report.DirectoryReads.{directory_cost, noted_costs, is_looked_at, phase2_cost}
 use Rattle.ffs_survey.proofs.Costs.{costs_part}
 use Rattle.ffs_names.proofs.Limits.{costs_within, noted_within}
-use Rattle.ffs_check.specs.Rest.{after_phase2, from_phase1b, from_phase2, from_phase4, from_phase5, phase1_part}
-use Rattle.ffs_check.specs.Rest.{phase1b_part, phase2_part, phase3_part, phase4_part}
+use Rattle.ffs_check.specs.Phases.{after_phase2, from_phase1b, from_phase2, from_phase4, from_phase5, phase1_part}
+use Rattle.ffs_check.specs.Phases.{phase1b_part, phase2_part, phase3_part, phase4_part}
 
 -- each Run that is seen is counted
 run_rises : (v : Layout) (s : Claims) (start len : ℕ) → s.runs + 1 ≤ (after_run v s start len).runs

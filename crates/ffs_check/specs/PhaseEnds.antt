@@ -16,7 +16,7 @@ use Rattle.ffs_report.specs.declared.fault.RunFault.TheVariants.{Out}
 use Rattle.ffs_pathnames.specs.{declared.pass2.Root.Root, RootAnswers.is_go}
 use Rattle.ffs_memory.specs.Account.{Account}
 use Rattle.ffs_workspace.specs.{declared.workspace.Workspace.Workspace, Found.WithFresh, Lengths.IsFor, Ready.IsReady}
-use Rattle.ffs_check.specs.{Ends.{Cut, Ends}, Reads.PhasesRead, Rest.HasAnswers, Moment.{Moment, ReportMoment}}
+use Rattle.ffs_check.specs.{Ends.{Cut, Ends}, Reads.PhasesRead, Phases.HasAnswers, Moment.{Moment, ReportMoment}}
 use Rattle.ffs_check.specs.{Moment.at_output, Taken.TakesBytes}
 
 -- a read failed before the text was complete: whole messages were said, and others were to come

@@ -15,7 +15,7 @@
 //! Its modules:
 //!
 //! - `check` is the whole check, and how it ends. `opening` says what comes before the phases, and
-//!   `rest` runs these one after another.
+//!   `phases` runs these one after another.
 //! - `run` goes from the words of a command line to a look at the image that they name, by any
 //!   `program`: `words` are those that programs have in common, `opener` opens the image, and
 //!   `refusal` writes why none is opened. `start` makes the process of a program: its words, its
@@ -33,9 +33,9 @@ pub mod fsck;
 pub mod opener;
 pub mod opening;
 mod parse_args;
+pub mod phases;
 pub mod program;
 pub mod refusal;
-pub mod rest;
 pub mod run;
 pub mod start;
 pub mod version;

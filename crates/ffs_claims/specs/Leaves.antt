@@ -41,7 +41,7 @@ pub record OffersOnly (v : Layout) (old new : Workspace) : Type 0 where
   pub runs : new.runs_seen ≡ old.runs_seen
 
 -- there is a place for what is found of an inode
-pub record HasInode (number : ℕ) (w : Workspace) : Type 0 where
+pub record HasInode (w : Workspace) (number : ℕ) : Type 0 where
   pub kinds : number < vec_len w.kinds
   pub marked : number < vec_len w.marked
   pub notes : number < vec_len w.notes

@@ -19,9 +19,9 @@ use ffs_workspace::Workspace;
 /// # Errors
 /// A write of the report that failed.
 pub fn say_class<W: Output>(
-    report: &mut Report<'_, W>,
     number: u32,
     class: Class,
+    report: &mut Report<'_, W>,
 ) -> Result<(), OutFault>
     ensures { Says (progress W.sink report.old) (progress W.sink report.new)
         (of_lines (class_lines number class)) result }
@@ -39,10 +39,10 @@ pub fn say_class<W: Output>(
 /// # Errors
 /// A write of the report that failed.
 pub fn say_bad<W: Output>(
-    report: &mut Report<'_, W>,
     number: u32,
     fragment: u32,
     is_eleventh: bool,
+    report: &mut Report<'_, W>,
 ) -> Result<(), OutFault>
     ensures { Says (progress W.sink report.old) (progress W.sink report.new)
         (of_lines (bad_lines number fragment is_eleventh)) result }
@@ -62,10 +62,10 @@ pub fn say_bad<W: Output>(
 /// # Errors
 /// A write of the report that failed.
 pub fn say_dup<W: Output>(
-    report: &mut Report<'_, W>,
     number: u32,
     fragment: u32,
     is_eleventh: bool,
+    report: &mut Report<'_, W>,
 ) -> Result<(), OutFault>
     ensures { Says (progress W.sink report.old) (progress W.sink report.new)
         (of_lines (dup_lines number fragment is_eleventh)) result }
@@ -104,8 +104,8 @@ fn is_wrong_count(workspace: &Workspace, class: Class, found: u32, right: u64) -
 /// # Errors
 /// A write of the report that failed.
 pub fn say_count<W: Output>(
-    workspace: &Workspace,
     geometry: &Geometry,
+    workspace: &Workspace,
     number: u32,
     class: Class,
     found: u32,

@@ -41,7 +41,7 @@ fn fragment_in_range(geometry: &Geometry, fragment: u64, in_range: bool) -> bool
 /// its Run is in range.
 #[inline(always)]
 #[tactic(auto, using(ffs_volume::proofs::Potentials::in_range_below))]
-fn take(workspace: &mut Workspace, geometry: &Geometry, fragment: u64, in_range: bool) -> bool
+fn take(geometry: &Geometry, workspace: &mut Workspace, fragment: u64, in_range: bool) -> bool
     requires { CanOffer geometry.now.layout workspace.old 1 in_range
         (is_fragment_in_range geometry.now.layout fragment) }
     ensures taken { TakesOffer geometry.now.layout fragment workspace.old workspace.new }
@@ -65,8 +65,8 @@ fn take(workspace: &mut Workspace, geometry: &Geometry, fragment: u64, in_range:
 
 /// Takes one offer, and reports what is wrong with it.
 fn offer<W: Output>(
-    workspace: &mut Workspace,
     geometry: &Geometry,
+    workspace: &mut Workspace,
     number: u32,
     fragment: u64,
     in_range: bool,
@@ -80,17 +80,17 @@ fn offer<W: Output>(
     ensures taken { TakesOffer geometry.now.layout fragment workspace.old workspace.new }
 {
     let is_eleventh = workspace.dups == MAXDUP;
-    if !take(workspace, geometry, fragment, in_range) {
+    if !take(geometry, workspace, fragment, in_range) {
         return Ok(());
     }
-    say_dup(report, number, fragment as u32, is_eleventh)
+    say_dup(number, fragment as u32, is_eleventh, report)
 }
 
 /// Takes the offers of a Run, one after another, and reports what is wrong with them. `in_range`
 /// says that the Run is in range.
 fn offers<W: Output>(
-    workspace: &mut Workspace,
     geometry: &Geometry,
+    workspace: &mut Workspace,
     number: u32,
     run: Run,
     in_range: bool,
@@ -104,8 +104,8 @@ fn offers<W: Output>(
 {
     for index in 0..run.len {
         offer(
-            workspace,
             geometry,
+            workspace,
             number,
             u64::from(run.start) + u64::from(index),
             in_range,
@@ -118,8 +118,8 @@ fn offers<W: Output>(
 /// Takes a Run in range of the current inode: it is claimed at once where its fragments are all
 /// unused and lie in one word of the map. Returns whether the next step is seen.
 fn take_run_in_range<W: Output>(
-    workspace: &mut Workspace,
     geometry: &Geometry,
+    workspace: &mut Workspace,
     number: u32,
     run: Run,
     report: &mut Report<'_, W>,
@@ -134,15 +134,15 @@ fn take_run_in_range<W: Output>(
         workspace.kept += u64::from(run.len);
         return Ok(true);
     }
-    offers(workspace, geometry, number, run, true, report)?;
+    offers(geometry, workspace, number, run, true, report)?;
     Ok(is_open(workspace))
 }
 
 /// Takes the offers of a bad Run of the current inode, which isn't cut. No fragment past the volume
 /// is in range: so a Run that begins there is kept at once, and nothing of it is claimed or dup.
 fn offers_of_bad_run<W: Output>(
-    workspace: &mut Workspace,
     geometry: &Geometry,
+    workspace: &mut Workspace,
     number: u32,
     run: Run,
     report: &mut Report<'_, W>,
@@ -156,13 +156,13 @@ fn offers_of_bad_run<W: Output>(
         workspace.kept += u64::from(run.len);
         return Ok(());
     }
-    offers(workspace, geometry, number, run, false, report)
+    offers(geometry, workspace, number, run, false, report)
 }
 
 /// Takes a Run of the current inode. Returns whether the next step is seen.
 fn take_run<W: Output>(
-    workspace: &mut Workspace,
     geometry: &Geometry,
+    workspace: &mut Workspace,
     area: &mut DataArea,
     number: u32,
     run: Run,
@@ -177,15 +177,15 @@ fn take_run<W: Output>(
 {
     workspace.runs_seen += 1;
     if area.move_to(geometry, run.start, run.len) {
-        return take_run_in_range(workspace, geometry, number, run, report);
+        return take_run_in_range(geometry, workspace, number, run, report);
     }
     let is_eleventh = workspace.bad == MAXBAD;
     workspace.bad += 1;
-    say_bad(report, number, run.start, is_eleventh)?;
+    say_bad(number, run.start, is_eleventh, report)?;
     if is_eleventh {
         return Ok(false);
     }
-    offers_of_bad_run(workspace, geometry, number, run, report)?;
+    offers_of_bad_run(geometry, workspace, number, run, report)?;
     Ok(is_open(workspace))
 }
 
@@ -194,8 +194,8 @@ fn take_run<W: Output>(
 /// # Errors
 /// A write of the report that failed.
 pub fn step<W: Output>(
-    workspace: &mut Workspace,
     geometry: &Geometry,
+    workspace: &mut Workspace,
     area: &mut DataArea,
     number: u32,
     step: Step,
@@ -210,8 +210,8 @@ pub fn step<W: Output>(
     match step {
         Step::Run { start, len, .. } => {
             take_run(
-                workspace,
                 geometry,
+                workspace,
                 area,
                 number,
                 Run { start, len },

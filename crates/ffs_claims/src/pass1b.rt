@@ -22,8 +22,8 @@ use ffs_workspace::{Workspace, sweep_reads};
 /// Reports, of the offers of a step that the current inode keeps, those that are the first kept
 /// offer of a fragment with a DUP line.
 fn report_step<W: Output>(
-    workspace: &mut Workspace,
     geometry: &Geometry,
+    workspace: &mut Workspace,
     number: u32,
     keeping: &mut Keeping,
     step: Step,
@@ -41,7 +41,7 @@ fn report_step<W: Output>(
         Step::Run { start, len, .. } => {
             workspace.runs_again = workspace.runs_again.saturating_add(1);
             let taken = keeping.take(len, geometry.in_range(start, len));
-            report_run(workspace, geometry, number, start, taken, report)
+            report_run(geometry, workspace, number, start, taken, report)
         }
         Step::Tail | Step::Gap => Ok(()),
     }
@@ -65,7 +65,7 @@ fn rewalk<I: Image, W: Output>(
     let mut keeping = Keeping::start(cut);
     let mut walk = Walk::start(geometry, inode);
     while let Some(next) = walk.next(image, &mut workspace.windows.blocks)? {
-        report_step(workspace, geometry, number, &mut keeping, next, report)?;
+        report_step(geometry, workspace, number, &mut keeping, next, report)?;
         if !keeping.is_replay_open() {
             break;
         }

@@ -15,8 +15,8 @@ use ffs_workspace::Workspace;
 /// Reports a kept offer, and marks its inode, where its fragment has a DUP line whose first kept
 /// offer isn't reported yet: then it is that one.
 fn report_offer<W: Output>(
-    workspace: &mut Workspace,
     geometry: &Geometry,
+    workspace: &mut Workspace,
     number: u32,
     fragment: u64,
     report: &mut Report<'_, W>,
@@ -51,8 +51,8 @@ fn report_offer<W: Output>(
 /// # Errors
 /// A write of the report that failed.
 pub fn report_run<W: Output>(
-    workspace: &mut Workspace,
     geometry: &Geometry,
+    workspace: &mut Workspace,
     number: u32,
     start: u32,
     len: u32,
@@ -67,8 +67,8 @@ pub fn report_run<W: Output>(
 {
     for index in 0..len {
         report_offer(
-            workspace,
             geometry,
+            workspace,
             number,
             u64::from(start) + u64::from(index),
             report,

@@ -92,7 +92,7 @@ fn store_start(list: &mut FilledList<u64>, number: usize, class: Class, inode: &
 /// Stores what later phases want of the current inode.
 #[inline(always)]
 pub fn store(workspace: &mut Workspace, number: u32, class: Class, inode: &Inode)
-    requires number { HasInode number workspace.old }
+    requires number { HasInode workspace.old number }
     ensures stored { Stored number class inode.now workspace.old workspace.new }
     ensures same { workspace.new ≡ record workspace.old {
       kinds = workspace.new.kinds;

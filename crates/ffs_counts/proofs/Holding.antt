@@ -12,7 +12,7 @@ use Rattle.ffs_volume.specs.declared.{constants.TheConstants.LINKS_MET, Class.Th
 use Rattle.ffs_volume.specs.{Directories.Connectivity.is_dead, Encodings.Links.{links_start, start_at}}
 use Rattle.ffs_volume.specs.Blocks.Inodes.{inode_of, inode_from_bytes, is_allocated, inodes_of}
 use Rattle.ffs_volume.specs.Directories.PathnameCheck.{attributes, attributes_of, label_of}
-use Rattle.ffs_volume.specs.Directories.ReferenceCheck.{inode_lines, reference_lines, reference_lines_at}
+use Rattle.ffs_volume.specs.Directories.ReferenceCheck.{inode_reference_lines, reference_lines, reference_lines_at}
 use Rattle.ffs_volume.specs.Directories.{Roles.{is_allocated_inode, is_inode, references}, Volumes.class_at}
 use Rattle.ffs_volume.specs.{Directories.Volumes.{marked_at, volume_of, volume_with}, Disk.Numbers.equals_natural}
 use Rattle.ffs_volume.specs.{Disk.Numbers.i16_at, Encodings.Kinds.{kind_at, class_of_kind, is_empty_dir_kind}}
@@ -42,12 +42,13 @@ allocated_is v b w i h = grind (arith, some_is, kind_tests)
 
 pub no_lines : (v : Layout) (b : List ℕ) (w : Workspace) (i : ℕ) → HoldsClaims v b w →
     is_allocated (class_of_kind (slice_index w.kinds.items i)) ≡ false → reference_lines_at (volume_of v b) i ≡ []
-no_lines v b w i h e = ap (λ t. if t then inode_lines (volume_of v b) i else []) (allocated_is v b w i h ∙ e)
+no_lines v b w i h e = ap (λ t. if t then inode_reference_lines (volume_of v b) i else []) (allocated_is v b w i h ∙ e)
 
 pub some_lines : (v : Layout) (b : List ℕ) (w : Workspace) (i : ℕ) → HoldsClaims v b w →
     is_allocated (class_of_kind (slice_index w.kinds.items i)) ≡ true →
-    inode_lines (volume_of v b) i ≡ reference_lines_at (volume_of v b) i
-some_lines v b w i h e = ap (λ t. if t then inode_lines (volume_of v b) i else []) (sym (allocated_is v b w i h ∙ e))
+    inode_reference_lines (volume_of v b) i ≡ reference_lines_at (volume_of v b) i
+some_lines v b w i h e =
+    ap (λ t. if t then inode_reference_lines (volume_of v b) i else []) (sym (allocated_is v b w i h ∙ e))
 
 -- where the count of an allocated inode starts
 start_used : (v : Layout) (b : List ℕ) (w : Workspace) (i : ℕ) → HoldsClaims v b w →
@@ -64,15 +65,16 @@ references_are : (v : Layout) (b : List ℕ) (w : Workspace) (i : ℕ) → i < i
     slice_index w.references.items i ≡ links_start (inode_of v b i).nlink + references (volume_of v b) i
 references_are v b w i low h used = grind (arith, start_used)
 
-pub inode_lines_are : (v : Layout) (b : List ℕ) (w : Workspace) (i : ℕ) (inode : Inode) (dead : Bool) (r : ℕ) →
+pub inode_reference_lines_are : (v : Layout) (b : List ℕ) (w : Workspace) (i : ℕ) (inode : Inode) (dead : Bool)
+    (r : ℕ) →
     i < inodes_of v
     → HoldsFindings v b w → is_allocated (class_of_kind (slice_index w.kinds.items i)) ≡ true →
     inode ≡ inode_of v b i → dead ≡ is_dead_by w i →
     r ≡ slice_index w.references.items i - links_start inode.nlink →
-    inode_lines (volume_of v b) i ≡ reference_reported dead (bool_at w.marked.items i)
+    inode_reference_lines (volume_of v b) i ≡ reference_reported dead (bool_at w.marked.items i)
     (label_of (class_of_kind (slice_index w.kinds.items i))) (attributes_of i inode) inode.nlink r
-unfolding inode_lines attributes volume_of volume_with
-inode_lines_are v b w i inode dead r low f used is e refs =
+unfolding inode_reference_lines attributes volume_of volume_with
+inode_reference_lines_are v b w i inode dead r low f used is e refs =
     let h = f.claims in
     let suspect : (bool_at w.marked.items i || is_empty_dir_kind (slice_index w.kinds.items i))
     ≡ (marked_at v b i || is_empty_dir_kind (kind_at v b i)) = grind arith in
@@ -122,7 +124,8 @@ met_lines v b w i low f used met =
     let label = label_of (class_of_kind (slice_index w.kinds.items i)) in
     let attr = attributes_of i (inode_of v b i) in
     sym (some_lines v b w i f.claims used)
-    ∙ inode_lines_are v b w i (inode_of v b i) (is_dead_by w i) (references (volume_of v b) i) low f used refl refl
+    ∙ inode_reference_lines_are v b w i (inode_of v b i) (is_dead_by w i) (references (volume_of v b) i) low f used refl
+    refl
     (omega (arith, counted))
     ∙ none_reported (is_dead_by w i) (bool_at w.marked.items i) label attr nlink (references (volume_of v b) i)
     (not-true (is_dead_by w i) parts.1) links
@@ -205,7 +208,8 @@ unmet_line v b w i low f used unmet =
     let r = references (volume_of v b) i in
     let counted = references_are v b w i low f used in
     ap length (sym (some_lines v b w i f.claims used)
-    ∙ inode_lines_are v b w i (inode_of v b i) (is_dead_by w i) r low f used refl refl (omega (arith, counted)))
+    ∙ inode_reference_lines_are v b w i (inode_of v b i) (is_dead_by w i) r low f used refl refl
+    (omega (arith, counted)))
     ∙ one_reported (is_dead_by w i) (bool_at w.marked.items i) (label_of (class_of_kind (slice_index w.kinds.items i)))
     (attributes_of i (inode_of v b i)) nlink r
     (λ alive some. unequal nlink r (links_small v b i)

@@ -51,7 +51,7 @@ pub fn phase5<I: Image, W: Output>(
         let found = read_group(geometry, image, workspace, &counts, group)?;
         say_group(report, &mut once, &found, group)?;
     }
-    let right = totals.are(&superblock.cstotal);
+    let right = totals.agree_with(&superblock.cstotal);
     say_unless(report, &mut once, right, BlockMessage::FreeCounts)?;
     Ok(())
 }

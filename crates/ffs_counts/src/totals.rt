@@ -56,7 +56,7 @@ impl Totals {
 
     /// Whether a superblock has these totals: directories, free blocks, free inodes, free
     /// fragments.
-    pub fn are(&self, found: &[i32; 4]) -> bool
+    pub fn agree_with(&self, found: &[i32; 4]) -> bool
         ensures { result ≡ has_totals found.now (total_of self.now) }
     {
         is_count_of(found[0], self.dirs)

@@ -10,7 +10,7 @@ use Rattle.ffs_workspace.specs.declared.workspace.Workspace.{Workspace}
 use Rattle.ffs_paths.specs.{declared.kept_parent.KeptParent.KeptParent, Reads.KnowsPlaces}
 use Rattle.ffs_pathnames.specs.{DirectoryContext.{DirectoryContext, KeepsPath, KnowsPath}, Ready.LimitedPathLeaves}
 use Rattle.ffs_pathnames.specs.{EntryLines.ReportsEntries, Moments.LinesMoment}
-use Rattle.ffs_pathnames.specs.{declared.one_entry.EntryTexts.EntryTexts, PassedNames.{PassedNames, entries_reported}}
+use Rattle.ffs_pathnames.specs.{declared.entry_texts.EntryTexts.EntryTexts, PassedNames.{PassedNames, entries_reported}}
 use Rattle.ffs_pathnames.{specs.{PassedNames.roled_reported, LineReads.ReadsPathOnce}, proofs.PathOnce.by_once}
 use Rattle.ffs_pathnames.proofs.LineCounts.{by_line, knows_places, some_said}
 

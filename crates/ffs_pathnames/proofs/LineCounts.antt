@@ -52,8 +52,8 @@ pub some_said : (ms : List TreeMessage) → 1 ≤ length ms → 1 ≤ length (ma
 some_said ms some = rw (length-map ms of_tree) some
 
 -- an extra entry has a line
-pub extra_some : (about : Attr) (path : List ℕ) (e : Entry) → 1 ≤ length (extra_lines about path e)
-extra_some about path e = grind (arith, nat_tests)
+pub extra_some : (attr : Attr) (path : List ℕ) (e : Entry) → 1 ≤ length (extra_lines attr path e)
+extra_some attr path e = grind (arith, nat_tests)
 
 -- those of an entry, and those of the entries after it
 pub entry_counted : (v : Volume) (s : ℕ) (m : PassedNames) {m' : PassedNames} (e : RoledEntry)

@@ -81,7 +81,7 @@ module _ {v : Volume} {s : ℕ} {done es : List RoledEntry} {e : RoledEntry} (fl
               link = own_quiet (is_dir v x) (x == 2) (is_value (parent (graph_of v) x) s) (belongs v s x)
                   (slice_index stamps x == s) (list_any (is_naming_entry x) done) _ k.link refl (stamped x below)
                   (from_parent_is i p);
-              kind = k.kind;
+              right_type = k.right_type;
             };
       })
 

@@ -6,7 +6,7 @@ use Rattle.ffs_workspace.specs.declared.workspace.Workspace.{Workspace}
 use Rattle.ffs_paths.specs.Reads.{KnowsPlaces}
 use Rattle.ffs_pathnames.specs.Gathers.{asks_attr, asks_path, BeginsPath, if_wanted, verdict_reads}
 use Rattle.ffs_pathnames.specs.LineReads.{again_reads, path_owed, ReadsPathOnce}
-use Rattle.ffs_pathnames.specs.declared.one_entry.EntryTexts.{EntryTexts}
+use Rattle.ffs_pathnames.specs.declared.entry_texts.EntryTexts.{EntryTexts}
 
 -- what is wanted is no more than that
 pub wanted_most : (wanted : Bool) (n : ℕ) → if_wanted wanted n ≤ n

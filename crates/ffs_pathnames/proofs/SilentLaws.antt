@@ -13,9 +13,9 @@ use Rattle.ffs_volume.specs.Directories.Entries.{Entry, Chunk, ChunkSource, chun
 use Rattle.ffs_volume.specs.Directories.Entries.{step_chunks, entries_of, is_sound, is_live, bytes_read}
 use Rattle.ffs_volume.specs.Directories.{Volumes.{volume_of, volume_with}, PathnameCheck.is_bad_whiteout}
 use Rattle.ffs_volume.specs.Directories.PathnameCheck.{dir_header_lines, dot_defects, dotdot_defects, header_defects}
-use Rattle.ffs_volume.specs.Directories.PathnameCheck.{header_of, is_none, is_right, is_role_silent, is_short}
-use Rattle.ffs_volume.specs.Directories.PathnameCheck.{is_silent, has_partial_chunk, are_sound}
-use Rattle.ffs_volume.{specs.declared.verdict.DotDefects.DotDefects, proofs.VerdictLaws.{none_lines, silent_of}}
+use Rattle.ffs_volume.specs.Directories.PathnameCheck.{header_of, is_header_silent, is_dot_silent, is_role_silent}
+use Rattle.ffs_volume.specs.Directories.PathnameCheck.{is_silent, is_short, has_partial_chunk, are_sound}
+use Rattle.ffs_volume.{specs.declared.verdict.DotDefects.DotDefects, proofs.VerdictLaws.{header_silent, silent_of}}
 use Rattle.ffs_volume.specs.Directories.Roles.{nth_entry, start_entry, Volume, RoledEntry, is_dir, is_suspect, is_plain}
 use Rattle.ffs_volume.specs.Directories.Roles.{is_two_dots, role_of, roled_from, roled_chunk, roled_entries}
 use Rattle.ffs_volume.specs.Encodings.Kinds.{is_empty_dir_kind, is_allocated_kind, is_unknown_kind, type_of_kind}
@@ -91,7 +91,7 @@ plain_silent v s parents flags stamps reached e sh c mine new = silent_of v _ _ 
         allocated = name.allocated;
         suspect = rw name.suspect refl;
         link = own_link (is_dir v e.number) _ _ mine new;
-        kind = calm_kind (is_unknown (v.class e.number)) _ (λ u. eq-eqb e.kind _ (name.type u));
+        right_type = calm_kind (is_unknown (v.class e.number)) _ (λ u. eq-eqb e.kind _ (name.type u));
       };
 })
   where
@@ -184,7 +184,8 @@ is_dotdot_of parent e = is_live e && (is_two_dots e.name && ((e.number == parent
 
 -- the first calm entry is `.`, and the second is `..`
 calm_first : (s : CurrentDir) (reached : ℕ → Bool) (first : Bool) (e : Entry) →
-    is_calm_role s reached 0 (role_of first 0 e) e.number e.kind ≡ true → (first && is_right (dot_defects s.dir (Some e))) ≡ true
+    is_calm_role s reached 0 (role_of first 0 e) e.number e.kind ≡ true →
+    (first && is_dot_silent (dot_defects s.dir (Some e))) ≡ true
 unfolding role_of
 calm_first s reached first e h = grind (arith, nat_tests)
 
@@ -199,7 +200,7 @@ record AreFirst (d parent : ℕ) (cs : List Chunk) : Type 0 where
   second : Entry
   first_is : option_and_then (λ c. nth_entry 0 c.entries) (find (λ c. c.offset == 0) cs) ≡ Some first
   second_is : option_and_then (λ c. nth_entry 1 c.entries) (find (λ c. c.offset == 0) cs) ≡ Some second
-  dot : is_right (dot_defects d (Some first)) ≡ true
+  dot : is_dot_silent (dot_defects d (Some first)) ≡ true
   dotdot : is_dotdot_of parent second ≡ true
 
 -- no chunk begins with `..`
@@ -244,13 +245,13 @@ first_two s reached (c ∷ cs) solid sound h = go c.entries refl h
 
 -- ---- what is before the entries
 dotdot_right : (parent : Option ℕ) (e : Entry) → is_dotdot_of (unwrap_or parent 0) e ≡ true →
-    is_right (dotdot_defects parent (Some e)) ≡ true
+    is_dot_silent (dotdot_defects parent (Some e)) ≡ true
 dotdot_right None e h = grind (arith, nat_tests)
 dotdot_right (Some s) e h = grind (arith, nat_tests)
 
 shape_right : (size : ℕ) (gap sound : Bool) (dot dotdot : DotDefects (List ℕ)) →
-    (is_right_size size && (sound && not gap)) ≡ true → is_right dot ≡ true → is_right dotdot ≡ true →
-    is_none (record {
+    (is_right_size size && (sound && not gap)) ≡ true → is_dot_silent dot ≡ true → is_dot_silent dotdot ≡ true →
+    is_header_silent (record {
       short = is_short size;
       partial_chunk = has_partial_chunk size;
       gap = gap;
@@ -264,7 +265,7 @@ starts_silent : (v : Volume) (d above : ℕ) → AreFirst d above (v.chunks d) �
     above ≡ unwrap_or (parent (graph_of v) d) 0 → is_right_shape v d ≡ true → dir_header_lines v d ≡ []
 unfolding dir_header_lines header_defects start_entry
 starts_silent v d above f up right =
-    none_lines (header_of v d) _ _ (rw (f.first_is, f.second_is)
+    header_silent (header_of v d) _ _ (rw (f.first_is, f.second_is)
     (shape_right (v.inode d).size (v.gap d) (are_sound (v.chunks d)) _ _ right f.dot
     (dotdot_right (parent (graph_of v) d) f.second (rw (← up) f.dotdot))))
 

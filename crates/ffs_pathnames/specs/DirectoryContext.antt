@@ -7,7 +7,7 @@ use Rattle.ffs_volume.specs.{Directories.{Parents.graph_of, Roles.is_dir, Volume
 use Rattle.ffs_workspace.specs.{declared.workspace.Workspace.Workspace, Holds.{HoldsClaims, HoldsSurvey}}
 use Rattle.ffs_paths.specs.DirectoryPaths.{IsPathOf}
 use Rattle.ffs_pathnames.specs.declared.{look.Directory.Directory, header.HeaderFacts.HeaderFacts}
-use Rattle.ffs_pathnames.specs.declared.one_entry.EntryTexts.{EntryTexts}
+use Rattle.ffs_pathnames.specs.declared.entry_texts.EntryTexts.{EntryTexts}
 
 -- the image gives these bytes, the workspace holds what the block check and the survey leave, and the
 -- place of each directory that is reached; and d is a directory

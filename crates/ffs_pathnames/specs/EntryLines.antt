@@ -4,7 +4,7 @@ use Rattle.ffs_report.specs.{Paid.Paid, PhaseOutcome.PhaseReports, declared.faul
 use Rattle.ffs_volume.specs.{declared.Layout.Layout, Directories.{Roles.{RoledEntry, Volume}, Volumes.volume_of}}
 use Rattle.ffs_volume.specs.{Messages.Kinds.{TreeMessage, of_tree}, Report.Reads.line_reads, Encodings.Places.AreNoted}
 use Rattle.ffs_pathnames.specs.{DirectoryContext.{DirectoryContext, KeepsPath, KnowsPath}, LineReads.ReadsByLines}
-use Rattle.ffs_pathnames.specs.{LineReads.ReadsPathOnce, declared.one_entry.EntryTexts.EntryTexts, Gathers.passed_of}
+use Rattle.ffs_pathnames.specs.{LineReads.ReadsPathOnce, declared.entry_texts.EntryTexts.EntryTexts, Gathers.passed_of}
 use Rattle.ffs_pathnames.specs.{Moments.LinesMoment, PassedNames.{after_entries, entries_reported}, Ready.LinesLeave}
 use Rattle.ffs_pathnames.specs.Ready.{PhaseLeaves}
 

@@ -14,21 +14,21 @@ use Rattle.ffs_paths.specs.{DirectoryPaths.IsPathOf, KeptParents.{kept_moment, K
 use Rattle.ffs_paths.specs.{LastPaths.last_path, Reads.{KnowsPlaces, OnlyReadsFew, path_moment}}
 use Rattle.ffs_paths.specs.declared.{entry_paths.EntryPaths.EntryPaths, kept_parent.KeptParent.KeptParent}
 use Rattle.ffs_pathnames.specs.{DirectoryContext.{DirectoryContext, KeepsPath, KnowsPath}, Ready.LimitedPathLeaves}
-use Rattle.ffs_pathnames.specs.declared.one_entry.{DirectoryEntry.DirectoryEntry, EntryTexts.EntryTexts}
+use Rattle.ffs_pathnames.specs.declared.{gather.DirectoryEntry.DirectoryEntry, entry_texts.EntryTexts.EntryTexts}
 use Rattle.ffs_pathnames.specs.{PassedNames.{PassedNames, roled_reported, second_verdict}, Stamps.stamps_of}
 use Rattle.ffs_pathnames.specs.LineReads.{again_reads, ReadsPathOnce}
 use Rattle.ffs_workspace.specs.{declared.workspace.Workspace.Workspace, Holds.{HoldsClaims, HoldsSurvey}, Lengths.IsFor}
 
 -- the messages are the same as with the volume's own attributes and paths
 abbrev pub IsEnough : Volume → Verdict → ℕ → ℕ → List ℕ → Attr → List ℕ → List ℕ → Type 0
-IsEnough vol verdict dir number name about path directory =
-    verdict_lines verdict number about path directory
+IsEnough vol verdict dir number name attr path directory =
+    verdict_lines verdict number attr path directory
     ≡ verdict_lines verdict number (attributes vol number) (entry_path (graph_of vol) dir name)
     (dir_path (graph_of vol) number)
 
 -- these are the attributes and the path of the directory d
-pub record IsShownOf (vol : Volume) (d : ℕ) (about : Attr) (path : List ℕ) : Type 0 where
-  pub attr : about ≡ attributes vol d
+pub record IsShownOf (vol : Volume) (d : ℕ) (attr : Attr) (path : List ℕ) : Type 0 where
+  pub attr_is : attr ≡ attributes vol d
   pub path_is : path ≡ dir_path (graph_of vol) d
 
 -- what a workspace remembers of the names that were passed, during the pathname check

@@ -11,7 +11,7 @@ use Rattle.ffs_pathnames.specs.declared.header.HeaderFacts.{HeaderFacts}
 abbrev pub dot_value : DotDefects (Bor (List ℕ)) → DotDefects (List ℕ)
 dot_value Missing = Missing
 dot_value (Other name) = Other name.now
-dot_value (Found number kind) = Found number kind
+dot_value (Found wrong_number wrong_type) = Found wrong_number wrong_type
 
 abbrev pub defects_value : HeaderDefects (Bor (List ℕ)) → HeaderDefects (List ℕ)
 defects_value n = record {

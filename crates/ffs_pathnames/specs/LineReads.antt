@@ -3,7 +3,7 @@ use Rattle.std.specs.Prelude.{ℕ, ◌+◌, ◌*◌, ◌≤◌, if◌then◌else
 use Rattle.ffs_volume.specs.{Messages.Kinds.TreeMessage, declared.Layout.Layout, Report.Reads.{line_reads, path_reads}}
 use Rattle.ffs_volume.specs.Encodings.Places.{AreNoted}
 use Rattle.ffs_paths.specs.Reads.{ReadsFew}
-use Rattle.ffs_pathnames.specs.{Moments.PathMoment, declared.one_entry.EntryTexts.EntryTexts}
+use Rattle.ffs_pathnames.specs.{Moments.PathMoment, declared.entry_texts.EntryTexts.EntryTexts}
 
 -- `line_reads` reads were made at most for each of these lines, which are those of an image's
 -- bytes, and none into the window of indirect blocks, where the place of each directory is noted

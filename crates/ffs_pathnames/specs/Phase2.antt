@@ -13,7 +13,7 @@ use Rattle.ffs_pathnames.specs.{RootAnswers.{SaidStop, is_go}, declared.pass2.Ro
 -- At Ok: the check continues after the root as the image's bytes say, and the workspace holds what the block check
 -- and the survey found. Where the check stops after the root, the heading and the root's message were said.
 -- Where a read failed: the heading alone was said, or the check continues after the root.
--- Where the output failed nothing is promised.
+-- Where the output failed this definition alone promises nothing: the clause `again` of `phase2` says what is held.
 abbrev pub Phase2Ends : Layout → Device → (w w' : Workspace) → (old new : Progress) → Result Root RunFault →
     Type 0
 Phase2Ends v d w w' old new (Ok root) =

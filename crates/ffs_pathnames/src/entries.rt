@@ -8,9 +8,11 @@ ghost use Rattle.ffs_pathnames.specs.{Ready.{ReadyToPath, ReadyToReport}, ReadsL
 ghost use Rattle.ffs_pathnames.specs.{DirectoryLines.{ReadsForEntries, ReportsDirectory}, EntryLines.{PassesEntries, ReportsOneEntry}};
 ghost use Rattle.ffs_pathnames.specs.PassedNames as names;
 
+use crate::entry_texts::EntryTexts;
+use crate::gather::DirectoryEntry;
 use crate::inodes::Inodes;
 use crate::look::{Directory, DirectoryChunk};
-use crate::one_entry::{DirectoryEntry, EntryTexts, report_extra, report_plain};
+use crate::one_entry::{report_extra, report_plain};
 use crate::tree::Checking;
 use crate::verdict::pass;
 use ffs_image::{Image, ImageFault, LimitedImage};

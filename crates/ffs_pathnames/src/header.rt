@@ -52,8 +52,8 @@ fn dot_defects<'a>(number: u32, first: Option<Entry<'a>>) -> DotDefects<&'a [u8]
             }
             if is_one_dot(entry.name) {
                 return DotDefects::Found {
-                    number: entry.number != number,
-                    kind: entry.kind != DT_DIR,
+                    wrong_number: entry.number != number,
+                    wrong_type: entry.kind != DT_DIR,
                 };
             }
             if is_two_dots(entry.name) {
@@ -86,8 +86,8 @@ fn dotdot_defects<'a>(parent: Option<u32>, second: Option<Entry<'a>>) -> DotDefe
             }
             if is_two_dots(entry.name) {
                 return DotDefects::Found {
-                    number: is_wrong_parent(parent, entry.number),
-                    kind: entry.kind != DT_DIR,
+                    wrong_number: is_wrong_parent(parent, entry.number),
+                    wrong_type: entry.kind != DT_DIR,
                 };
             }
             if is_one_dot(entry.name) {
@@ -176,13 +176,16 @@ fn say_dot<W: Output>(
             report,
             &Phase2Line::Dot(DotLine::MissingDotFirst { attr, path, name }),
         ),
-        DotDefects::Found { number, kind } => {
+        DotDefects::Found {
+            wrong_number,
+            wrong_type,
+        } => {
             let number = LineIf {
-                holds: number,
+                holds: wrong_number,
                 line: Phase2Line::Dot(DotLine::NumberDot { attr, path }),
             };
             let kind = LineIf {
-                holds: kind,
+                holds: wrong_type,
                 line: Phase2Line::Dot(DotLine::KindDot { attr, path }),
             };
             say_two(report, &number, &kind)
@@ -209,13 +212,16 @@ fn say_dotdot<W: Output>(
             report,
             &Phase2Line::Dot(DotLine::MissingDotdotSecond { attr, path, name }),
         ),
-        DotDefects::Found { number, kind } => {
+        DotDefects::Found {
+            wrong_number,
+            wrong_type,
+        } => {
             let number = LineIf {
-                holds: number,
+                holds: wrong_number,
                 line: Phase2Line::Dot(DotLine::NumberDotdot { attr, path }),
             };
             let kind = LineIf {
-                holds: kind,
+                holds: wrong_type,
                 line: Phase2Line::Dot(DotLine::KindDotdot { attr, path }),
             };
             say_two(report, &number, &kind)

@@ -18,13 +18,16 @@
 //!   on each, which rests on what is known of the inodes that they name (`inodes`).
 //! - `header` finds and says what is wrong with its size, its chunks and its first two entries.
 //! - `entries` reads its chunks again where something is to be said of their entries.
-//! - `one_entry` gathers what the lines of an entry show, by its `verdict`, which says them.
+//! - `one_entry` prints the lines of one entry, by the `verdict` on it, which says them. `gather` puts
+//!   together what they show, in `entry_texts`, which makes the paths of directories.
 //! - `say` says a line where it holds.
 //!
 //! It rests on `ffs_paths`, `ffs_names` and `ffs_report`.
 #![tactic(auto)]
 
 mod entries;
+mod entry_texts;
+mod gather;
 mod header;
 pub mod inodes;
 mod look;

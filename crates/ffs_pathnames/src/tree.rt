@@ -13,9 +13,10 @@ ghost use Rattle.ffs_workspace.specs.{Holds.HoldsSurvey, Ready.CanRead};
 ghost use Rattle.ffs_layout.specs.Entry.{entry_value};
 
 use crate::entries::report_directory;
+use crate::entry_texts::EntryTexts;
+use crate::gather::gather_dir;
 use crate::header::{HeaderFacts, header_defects, say_header};
 use crate::look::{Directory, Examination, examine};
-use crate::one_entry::{EntryTexts, gather_dir};
 use ffs_image::Image;
 use ffs_layout::{Entry, Geometry, entry_at};
 use ffs_names::note_places;
@@ -290,7 +291,7 @@ fn report_header<I: Image, W: Output>(
         (lines_moment I.Image W.Output image.new workspace.new report.new kept_parent.new) result }
 {
     let defects = header_defects(&header);
-    if defects.is_none() {
+    if defects.is_silent() {
         return Ok(());
     }
     let mut path = PathText::new();

@@ -40,7 +40,7 @@ fn defects_of(inodes: &Inodes<'_>, entry: &Entry<'_>, first: bool, own: bool) ->
         first_of_suspect: first && number != ROOTINO && inodes.is_suspect(number),
         marked: inodes.marked[number as usize],
         extraneous: !own && inodes.is_dir(number),
-        kind: inodes.has_wrong_type(number, entry.kind),
+        wrong_type: inodes.has_wrong_type(number, entry.kind),
         label: inodes.kind(number).label(),
     }
 }
@@ -222,15 +222,15 @@ fn say_links<W: Output>(
             dir: directory,
         }),
     };
-    let kind = LineIf {
-        holds: defects.kind,
+    let wrong_type = LineIf {
+        holds: defects.wrong_type,
         line: Phase2Line::Entry(EntryLine::KindEntry {
             label: defects.label,
             attr,
             path,
         }),
     };
-    say_two(report, &extraneous, &kind)
+    say_two(report, &extraneous, &wrong_type)
 }
 
 /// Says what is wrong with an entry that names an allocated inode.

@@ -34,12 +34,12 @@ fn entry(number: u32, kind: u8) -> Entry<'static> {
 
 /// What is wrong with an entry that names an inode which isn't marked.
 macro_rules! named {
-    ($label:expr, $first_of_suspect:expr, $extraneous:expr, $kind:expr) => {
+    ($label:expr, $first_of_suspect:expr, $extraneous:expr, $wrong_type:expr) => {
         Verdict::Named(EntryDefects {
             first_of_suspect: $first_of_suspect,
             marked: false,
             extraneous: $extraneous,
-            kind: $kind,
+            wrong_type: $wrong_type,
             label: $label,
         })
     };
@@ -124,7 +124,7 @@ fn second_names(rt: HostRuntime) -> Result<(), Fail> {
         first_of_suspect: true,
         marked: true,
         extraneous: false,
-        kind: false,
+        wrong_type: false,
         label: Label::File,
     };
     let again = EntryDefects {
@@ -159,7 +159,7 @@ static HEADERS: [([bool; 4], bool, bool, bool); 7] = [
 
 #[test]
 fn headers(rt: HostRuntime) -> Result<(), Fail> {
-    for &(shape, number, kind, wanted) in &HEADERS {
+    for &(shape, wrong_number, wrong_type, wanted) in &HEADERS {
         let [short, partial_chunk, gap, unsound] = shape;
         let mut defects: HeaderDefects<&[u8]> = HeaderDefects {
             short,
@@ -167,17 +167,17 @@ fn headers(rt: HostRuntime) -> Result<(), Fail> {
             gap,
             unsound,
             dot: DotDefects::Found {
-                number,
-                kind: false,
+                wrong_number,
+                wrong_type: false,
             },
             dotdot: DotDefects::Found {
-                number: false,
-                kind,
+                wrong_number: false,
+                wrong_type,
             },
         };
-        let found = defects.is_none();
+        let found = defects.is_silent();
         defects.dot = DotDefects::Other { name: b"name" };
-        same(&rt, &(found, defects.is_none()), &(wanted, false));
+        same(&rt, &(found, defects.is_silent()), &(wanted, false));
     }
     Ok(())
 }

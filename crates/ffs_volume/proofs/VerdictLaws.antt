@@ -10,27 +10,27 @@ use Rattle.ffs_volume.specs.Directories.PathnameCheck.{is_first_of_suspect, verd
 use Rattle.ffs_volume.specs.declared.verdict.{HeaderDefects.HeaderDefects, DotDefects.DotDefects}
 use Rattle.ffs_volume.specs.declared.verdict.DotDefects.TheVariants.{Found}
 use Rattle.ffs_volume.specs.Directories.PathnameCheck.{verdict_lines, is_silent, header_lines, dot_lines, dotdot_lines}
-use Rattle.ffs_volume.specs.Directories.PathnameCheck.{is_none, is_right}
+use Rattle.ffs_volume.specs.Directories.PathnameCheck.{is_header_silent, is_dot_silent}
 
 -- ---- on an entry
-pub silent_lines : (verdict : Verdict) (number : ℕ) (about : Attr) (path directory : List ℕ) →
-    is_silent verdict ≡ true → verdict_lines verdict number about path directory ≡ []
-silent_lines Whiteout number about path directory h = refl
-silent_lines (Named n) number about path directory h = grind (arith, nat_tests)
-silent_lines verdict number about path directory h = absurd (cc)
+pub silent_lines : (verdict : Verdict) (number : ℕ) (attr : Attr) (path directory : List ℕ) →
+    is_silent verdict ≡ true → verdict_lines verdict number attr path directory ≡ []
+silent_lines Whiteout number attr path directory h = refl
+silent_lines (Named n) number attr path directory h = grind (arith, nat_tests)
+silent_lines verdict number attr path directory h = absurd (cc)
 
-pub some_lines : (verdict : Verdict) (number : ℕ) (about : Attr) (path directory : List ℕ) →
-    is_silent verdict ≡ false → 1 ≤ length (verdict_lines verdict number about path directory)
-some_lines Whiteout number about path directory h = absurd (cc)
-some_lines (Named n) number about path directory h = grind (arith, nat_tests)
-some_lines verdict number about path directory h = omega arith
+pub some_lines : (verdict : Verdict) (number : ℕ) (attr : Attr) (path directory : List ℕ) →
+    is_silent verdict ≡ false → 1 ≤ length (verdict_lines verdict number attr path directory)
+some_lines Whiteout number attr path directory h = absurd (cc)
+some_lines (Named n) number attr path directory h = grind (arith, nat_tests)
+some_lines verdict number attr path directory h = omega arith
 
-pub silent_from : (verdict : Verdict) (number : ℕ) (about : Attr) (path directory : List ℕ) →
-    verdict_lines verdict number about path directory ≡ [] → is_silent verdict ≡ true
-silent_from verdict number about path directory h = elim (cases_Bool (is_silent verdict)) [
+pub silent_from : (verdict : Verdict) (number : ℕ) (attr : Attr) (path directory : List ℕ) →
+    verdict_lines verdict number attr path directory ≡ [] → is_silent verdict ≡ true
+silent_from verdict number attr path directory h = elim (cases_Bool (is_silent verdict)) [
   | inl e ↦ e
   | inr e ↦
-      let some = some_lines verdict number about path directory e in
+      let some = some_lines verdict number attr path directory e in
       let none = ap length h in absurd (omega (arith, some, none))
 ]
 
@@ -39,7 +39,7 @@ pub record IsNamedSilent (v : Volume) (first own : Bool) (e : Entry) : Type 0 wh
   pub allocated : is_allocated (v.class e.number) ≡ true
   pub suspect : is_first_of_suspect v first e.number ≡ false
   pub link : is_extraneous v own e.number ≡ false
-  pub kind : has_wrong_type v e ≡ false
+  pub right_type : has_wrong_type v e ≡ false
 
 pub record IsPlainSilent (v : Volume) (first own : Bool) (e : Entry) : Type 0 where
   pub below : nat_lt e.number v.count ≡ true
@@ -47,7 +47,7 @@ pub record IsPlainSilent (v : Volume) (first own : Bool) (e : Entry) : Type 0 wh
   pub named : (e.number == 1) ≡ false → IsNamedSilent v first own e
 
 silent_named : (n : EntryDefects) → is_silent (Named n) ≡ true →
-    (n.first_of_suspect ≡ false) × (n.extraneous ≡ false) × (n.kind ≡ false)
+    (n.first_of_suspect ≡ false) × (n.extraneous ≡ false) × (n.wrong_type ≡ false)
 silent_named n h = grind (arith, nat_tests)
 
 silent_if : (a b c d : Bool) (n : EntryDefects) →
@@ -73,7 +73,7 @@ silent_parts v first own e h =
       named = λ n.
           let named = parts.2 n in
           let none = silent_named (defects_on v first own e) named.1 in
-          record { allocated = named.0; suspect = none.0; link = none.1; kind = none.2 };
+          record { allocated = named.0; suspect = none.0; link = none.1; right_type = none.2 };
     }
 
 pub silent_of : (v : Volume) (first own : Bool) (e : Entry) → IsPlainSilent v first own e →
@@ -82,43 +82,44 @@ silent_of v first own e q =
     if_silent (nat_lt e.number v.count) (is_bad_whiteout e) (e.number == 1)
     (is_allocated (v.class e.number)) (defects_on v first own e) q.below q.no_whiteout
     (λ n. let named = q.named n in
-    (named.allocated, rw (named.suspect, named.link, named.kind) refl))
+    (named.allocated, rw (named.suspect, named.link, named.right_type) refl))
 
 -- ---- on a directory before its entries
-dot_right : (n : DotDefects (List ℕ)) (about : Attr) (path : List ℕ) → is_right n ≡ true → dot_lines n about path ≡ []
-dot_right (Found number kind) about path h = grind (arith, nat_tests)
-dot_right n about path h = absurd (cc)
+dot_silent : (n : DotDefects (List ℕ)) (attr : Attr) (path : List ℕ) → is_dot_silent n ≡ true →
+    dot_lines n attr path ≡ []
+dot_silent (Found wrong_number wrong_type) attr path h = grind (arith, nat_tests)
+dot_silent n attr path h = absurd (cc)
 
-dot_some : (n : DotDefects (List ℕ)) (about : Attr) (path : List ℕ) → is_right n ≡ false →
-    1 ≤ length (dot_lines n about path)
-dot_some (Found number kind) about path h = grind (arith, nat_tests)
-dot_some n about path h = omega arith
+dot_some : (n : DotDefects (List ℕ)) (attr : Attr) (path : List ℕ) → is_dot_silent n ≡ false →
+    1 ≤ length (dot_lines n attr path)
+dot_some (Found wrong_number wrong_type) attr path h = grind (arith, nat_tests)
+dot_some n attr path h = omega arith
 
-dotdot_right : (n : DotDefects (List ℕ)) (about : Attr) (path : List ℕ) → is_right n ≡ true →
-    dotdot_lines n about path ≡ []
-dotdot_right (Found number kind) about path h = grind (arith, nat_tests)
-dotdot_right n about path h = absurd (cc)
+dotdot_silent : (n : DotDefects (List ℕ)) (attr : Attr) (path : List ℕ) → is_dot_silent n ≡ true →
+    dotdot_lines n attr path ≡ []
+dotdot_silent (Found wrong_number wrong_type) attr path h = grind (arith, nat_tests)
+dotdot_silent n attr path h = absurd (cc)
 
-dotdot_some : (n : DotDefects (List ℕ)) (about : Attr) (path : List ℕ) → is_right n ≡ false →
-    1 ≤ length (dotdot_lines n about path)
-dotdot_some (Found number kind) about path h = grind (arith, nat_tests)
-dotdot_some n about path h = omega arith
+dotdot_some : (n : DotDefects (List ℕ)) (attr : Attr) (path : List ℕ) → is_dot_silent n ≡ false →
+    1 ≤ length (dotdot_lines n attr path)
+dotdot_some (Found wrong_number wrong_type) attr path h = grind (arith, nat_tests)
+dotdot_some n attr path h = omega arith
 
-pub none_lines : (n : HeaderDefects (List ℕ)) (about : Attr) (path : List ℕ) → is_none n ≡ true →
-    header_lines n about path ≡ []
+pub header_silent : (n : HeaderDefects (List ℕ)) (attr : Attr) (path : List ℕ) → is_header_silent n ≡ true →
+    header_lines n attr path ≡ []
 unfolding header_lines
-none_lines n about path h = grind (arith, nat_tests, dot_right, dotdot_right)
+header_silent n attr path h = grind (arith, nat_tests, dot_silent, dotdot_silent)
 
-pub some_header : (n : HeaderDefects (List ℕ)) (about : Attr) (path : List ℕ) → is_none n ≡ false →
-    1 ≤ length (header_lines n about path)
+pub some_header : (n : HeaderDefects (List ℕ)) (attr : Attr) (path : List ℕ) → is_header_silent n ≡ false →
+    1 ≤ length (header_lines n attr path)
 unfolding header_lines
-some_header n about path h = grind (arith, nat_tests, length-append, dot_some, dotdot_some)
+some_header n attr path h = grind (arith, nat_tests, length-append, dot_some, dotdot_some)
 
-pub none_from : (n : HeaderDefects (List ℕ)) (about : Attr) (path : List ℕ) → header_lines n about path ≡ [] →
-    is_none n ≡ true
-none_from n about path h = elim (cases_Bool (is_none n)) [
+pub header_silent_from : (n : HeaderDefects (List ℕ)) (attr : Attr) (path : List ℕ) → header_lines n attr path ≡ [] →
+    is_header_silent n ≡ true
+header_silent_from n attr path h = elim (cases_Bool (is_header_silent n)) [
   | inl e ↦ e
   | inr e ↦
-      let some = some_header n about path e in
+      let some = some_header n attr path e in
       let none = ap length h in absurd (omega (arith, some, none))
 ]

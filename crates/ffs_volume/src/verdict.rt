@@ -12,7 +12,7 @@ pub struct EntryDefects {
     /// The inode is a directory, and this entry isn't its parent entry.
     pub extraneous: bool,
     /// The entry's type isn't the inode's.
-    pub kind: bool,
+    pub wrong_type: bool,
     /// What messages call the inode.
     pub label: Label,
 }
@@ -44,7 +44,7 @@ impl Verdict {
             Verdict::Whiteout => true,
             Verdict::OutOfRange | Verdict::BadWhiteout | Verdict::Unallocated => false,
             Verdict::Named(defects) => {
-                !(defects.first_of_suspect || defects.extraneous || defects.kind)
+                !(defects.first_of_suspect || defects.extraneous || defects.wrong_type)
             }
         }
     }
@@ -57,9 +57,14 @@ pub enum DotDefects<P> {
     /// It isn't there, and no name in its place is shown.
     Missing,
     /// Another entry is in its place, with this name.
-    Other { name: P },
+    Other {
+        name: P,
+    },
     /// It is there: whether its number is wrong, and whether its type is.
-    Found { number: bool, kind: bool },
+    Found {
+        wrong_number: bool,
+        wrong_type: bool,
+    },
 }
 
 /// What is wrong with a directory before its entries are looked at.
@@ -81,29 +86,32 @@ pub struct HeaderDefects<P> {
 
 impl<P> DotDefects<P> {
     ghost use Rattle.std.specs.Prelude.{◌≡◌};
-    ghost use Rattle.ffs_volume.specs.Directories.PathnameCheck.{is_right};
+    ghost use Rattle.ffs_volume.specs.Directories.PathnameCheck.{is_dot_silent};
 
     /// Whether there is no message by it.
-    pub fn is_right(&self) -> bool
-        ensures { result ≡ is_right self.now }
+    pub fn is_silent(&self) -> bool
+        ensures { result ≡ is_dot_silent self.now }
     {
         match self {
             DotDefects::Missing | DotDefects::Other { .. } => false,
-            DotDefects::Found { number, kind } => !(*number || *kind),
+            DotDefects::Found {
+                wrong_number,
+                wrong_type,
+            } => !(*wrong_number || *wrong_type),
         }
     }
 }
 
 impl<P> HeaderDefects<P> {
     ghost use Rattle.std.specs.Prelude.{◌≡◌};
-    ghost use Rattle.ffs_volume.specs.Directories.PathnameCheck.{is_none};
+    ghost use Rattle.ffs_volume.specs.Directories.PathnameCheck.{is_header_silent};
 
     /// Whether there is no message by it.
-    pub fn is_none(&self) -> bool
-        ensures { result ≡ is_none self.now }
+    pub fn is_silent(&self) -> bool
+        ensures { result ≡ is_header_silent self.now }
     {
         !(self.short || self.partial_chunk || self.gap || self.unsound)
-            && self.dot.is_right()
-            && self.dotdot.is_right()
+            && self.dot.is_silent()
+            && self.dotdot.is_silent()
     }
 }

@@ -117,40 +117,41 @@ header_defects d size parent gap sound first second = record {
 -- the messages on a directory of these attributes and this path: on its size; on its Gaps and chunks;
 -- on `.`, and on `..`
 abbrev pub size_lines : HeaderDefects (List ℕ) → Attr → (path : List ℕ) → List TreeMessage
-size_lines n about path = reported n.short (of_directory (DirShort about path))
-    ++ reported n.partial_chunk (of_directory (DirLength path about.size))
+size_lines n attr path = reported n.short (of_directory (DirShort attr path))
+    ++ reported n.partial_chunk (of_directory (DirLength path attr.size))
 
 abbrev pub chunk_lines : HeaderDefects (List ℕ) → Attr → (path : List ℕ) → List TreeMessage
-chunk_lines n about path = reported n.gap (of_directory (DirEmpty path))
-    ++ reported n.unsound (of_directory (DirCorrupt about path))
+chunk_lines n attr path = reported n.gap (of_directory (DirEmpty path))
+    ++ reported n.unsound (of_directory (DirCorrupt attr path))
 
 abbrev pub dot_lines : DotDefects (List ℕ) → Attr → (path : List ℕ) → List TreeMessage
-dot_lines Missing about path = of_dot (MissingDot about path) ∷ []
-dot_lines (Other name) about path = of_dot (MissingDotFirst about path name) ∷ []
-dot_lines (Found wrong_number wrong_type) about path = reported wrong_number (of_dot (NumberDot about path))
-    ++ reported wrong_type (of_dot (KindDot about path))
+dot_lines Missing attr path = of_dot (MissingDot attr path) ∷ []
+dot_lines (Other name) attr path = of_dot (MissingDotFirst attr path name) ∷ []
+dot_lines (Found wrong_number wrong_type) attr path = reported wrong_number (of_dot (NumberDot attr path))
+    ++ reported wrong_type (of_dot (KindDot attr path))
 
 abbrev pub dotdot_lines : DotDefects (List ℕ) → Attr → (path : List ℕ) → List TreeMessage
-dotdot_lines Missing about path = of_dot (MissingDotdot about path) ∷ []
-dotdot_lines (Other name) about path = of_dot (MissingDotdotSecond about path name) ∷ []
-dotdot_lines (Found wrong_number wrong_type) about path = reported wrong_number (of_dot (NumberDotdot about path))
-    ++ reported wrong_type (of_dot (KindDotdot about path))
+dotdot_lines Missing attr path = of_dot (MissingDotdot attr path) ∷ []
+dotdot_lines (Other name) attr path = of_dot (MissingDotdotSecond attr path name) ∷ []
+dotdot_lines (Found wrong_number wrong_type) attr path = reported wrong_number (of_dot (NumberDotdot attr path))
+    ++ reported wrong_type (of_dot (KindDotdot attr path))
 
 abbrev pub dots_lines : HeaderDefects (List ℕ) → Attr → (path : List ℕ) → List TreeMessage
-dots_lines n about path = dot_lines n.dot about path ++ dotdot_lines n.dotdot about path
+dots_lines n attr path = dot_lines n.dot attr path ++ dotdot_lines n.dotdot attr path
 
 -- all of them, in this order
 unfoldable pub header_lines : HeaderDefects (List ℕ) → Attr → (path : List ℕ) → List TreeMessage
-header_lines n about path = size_lines n about path ++ (chunk_lines n about path ++ dots_lines n about path)
+header_lines n attr path = size_lines n attr path ++ (chunk_lines n attr path ++ dots_lines n attr path)
 
 -- there is no message on it
-abbrev pub is_right : {P : Type 0} → DotDefects P → Bool
-is_right Missing = false
-is_right (Other name) = false
-is_right (Found wrong_number wrong_type) = not (wrong_number || wrong_type)
+abbrev pub is_dot_silent : {P : Type 0} → DotDefects P → Bool
+is_dot_silent Missing = false
+is_dot_silent (Other name) = false
+is_dot_silent (Found wrong_number wrong_type) = not (wrong_number || wrong_type)
 
-abbrev pub is_none : {P : Type 0} → HeaderDefects P → Bool
-is_none n = not (n.short || (n.partial_chunk || (n.gap || n.unsound))) && (is_right n.dot && is_right n.dotdot)
+abbrev pub is_header_silent : {P : Type 0} → HeaderDefects P → Bool
+is_header_silent n =
+    not (n.short || (n.partial_chunk || (n.gap || n.unsound))) && (is_dot_silent n.dot && is_dot_silent n.dotdot)
 
 -- what is wrong with the directory d of a volume before its entries, and the messages on that
 abbrev pub header_of : Volume → (d : ℕ) → HeaderDefects (List ℕ)
@@ -163,8 +164,8 @@ dir_header_lines vol d = header_lines (header_of vol d) (attributes vol d) (dir_
 
 -- ---- an extra entry
 abbrev pub extra_lines : Attr → List ℕ → Entry → List TreeMessage
-extra_lines about path e =
-    if is_one_dot e.name then of_dot (ExtraDot about path) ∷ [] else of_dot (ExtraDotdot about path) ∷ []
+extra_lines attr path e =
+    if is_one_dot e.name then of_dot (ExtraDot attr path) ∷ [] else of_dot (ExtraDotdot attr path) ∷ []
 
 -- ---- a plain entry
 -- the entry has the number of a whiteout, WINO, without its type, DT_WHT, or the type without the
@@ -192,7 +193,7 @@ defects_on vol first own e = record {
   first_of_suspect = is_first_of_suspect vol first e.number;
   marked = vol.marked e.number;
   extraneous = is_extraneous vol own e.number;
-  kind = has_wrong_type vol e;
+  wrong_type = has_wrong_type vol e;
   label = label_of (vol.class e.number);
 }
 
@@ -207,25 +208,25 @@ verdict_on vol first own e =
 
 -- the message on a suspect: DUP/BAD where it is marked, else ZERO LENGTH DIRECTORY
 abbrev pub suspect_message : EntryDefects → Attr → (path : List ℕ) → TreeMessage
-suspect_message n about path =
-    if n.marked then of_entry (DupBad n.label about path) else of_entry (ZeroDir about path)
+suspect_message n attr path =
+    if n.marked then of_entry (DupBad n.label attr path) else of_entry (ZeroDir attr path)
 
--- the messages by a verdict: `number` and `about` are the inode's number and attributes, `path` is
+-- the messages by a verdict: `number` and `attr` are the inode's number and attributes, `path` is
 -- the entry's, and `directory` that of the inode where it is a directory
 abbrev pub links_lines : EntryDefects → Attr → (path directory : List ℕ) → List TreeMessage
-links_lines n about path directory = reported n.extraneous (of_entry (Extraneous path directory))
-    ++ reported n.kind (of_entry (KindEntry n.label about path))
+links_lines n attr path directory = reported n.extraneous (of_entry (Extraneous path directory))
+    ++ reported n.wrong_type (of_entry (KindEntry n.label attr path))
 
 abbrev pub defects_lines : EntryDefects → Attr → (path directory : List ℕ) → List TreeMessage
-defects_lines n about path directory =
-    reported n.first_of_suspect (suspect_message n about path) ++ links_lines n about path directory
+defects_lines n attr path directory =
+    reported n.first_of_suspect (suspect_message n attr path) ++ links_lines n attr path directory
 
 abbrev pub verdict_lines : Verdict → (number : ℕ) → Attr → (path directory : List ℕ) → List TreeMessage
-verdict_lines OutOfRange number about path directory = of_entry (OutOfRangeLine number path) ∷ []
-verdict_lines BadWhiteout number about path directory = of_entry (WhiteoutLine number path) ∷ []
-verdict_lines Whiteout number about path directory = []
-verdict_lines Unallocated number about path directory = of_entry (UnallocatedLine about path) ∷ []
-verdict_lines (Named n) number about path directory = defects_lines n about path directory
+verdict_lines OutOfRange number attr path directory = of_entry (OutOfRangeLine number path) ∷ []
+verdict_lines BadWhiteout number attr path directory = of_entry (WhiteoutLine number path) ∷ []
+verdict_lines Whiteout number attr path directory = []
+verdict_lines Unallocated number attr path directory = of_entry (UnallocatedLine attr path) ∷ []
+verdict_lines (Named n) number attr path directory = defects_lines n attr path directory
 
 -- there is no message by it
 abbrev pub is_silent : Verdict → Bool
@@ -233,7 +234,7 @@ is_silent OutOfRange = false
 is_silent BadWhiteout = false
 is_silent Whiteout = true
 is_silent Unallocated = false
-is_silent (Named n) = not (n.first_of_suspect || (n.extraneous || n.kind))
+is_silent (Named n) = not (n.first_of_suspect || (n.extraneous || n.wrong_type))
 
 -- ---- the entries of a directory
 -- the verdict on an entry at index j of the directory s

@@ -21,8 +21,8 @@ unref_lines vol i =
     else of_reference (Unref (label_of (vol.class i)) (attributes vol i)) ∷ []
 
 -- the message on an allocated inode: it is dead, has no references, or another count of links
-unfoldable pub inode_lines : Volume → ℕ → List TreeMessage
-inode_lines vol i =
+unfoldable pub inode_reference_lines : Volume → ℕ → List TreeMessage
+inode_reference_lines vol i =
     if is_dead vol i then dead_lines vol i
     else (if references vol i == 0 then unref_lines vol i
     else reported (not (equals_natural (vol.inode i).nlink (references vol i)))
@@ -30,7 +30,7 @@ inode_lines vol i =
 
 -- the message on the number i: none where it isn't that of an allocated inode
 abbrev pub reference_lines_at : Volume → ℕ → List TreeMessage
-reference_lines_at vol i = if is_allocated_inode vol i then inode_lines vol i else []
+reference_lines_at vol i = if is_allocated_inode vol i then inode_reference_lines vol i else []
 
 -- the lines of phase 4
 unfoldable pub reference_lines : Volume → List TreeMessage

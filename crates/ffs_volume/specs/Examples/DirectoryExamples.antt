@@ -137,8 +137,8 @@ small n links es = record {
 }
 
 -- what messages show of a directory of `small`
-unfoldable pub about : ℕ → Attr
-about d = record { number = d; uid = 0; mode = 16877; size = 512; mtime = pos 0 }
+unfoldable pub dir_attr : ℕ → Attr
+dir_attr d = record { number = d; uid = 0; mode = 16877; size = 512; mtime = pos 0 }
 
 -- the root alone, with these entries
 unfoldable pub alone : List Entry → Volume
@@ -238,23 +238,23 @@ pub record PathnameExamples : Type 0 where
   -- `.` and `..` that are missing, that have other entries in their places, that are swapped, and
   -- that are wrong
   pub no_dots : pathname_lines (alone [])
-      ≡ of_dot (MissingDot (about 2) (47 ∷ [])) ∷ of_dot (MissingDotdot (about 2) (47 ∷ [])) ∷ []
+      ≡ of_dot (MissingDot (dir_attr 2) (47 ∷ [])) ∷ of_dot (MissingDotdot (dir_attr 2) (47 ∷ [])) ∷ []
   pub others_first : pathname_lines (alone (entry 1 14 (97 ∷ []) ∷ entry 1 14 (98 ∷ []) ∷ []))
-      ≡ of_dot (MissingDotFirst (about 2) (47 ∷ []) (97 ∷ []))
-      ∷ of_dot (MissingDotdotSecond (about 2) (47 ∷ []) (98 ∷ [])) ∷ []
+      ≡ of_dot (MissingDotFirst (dir_attr 2) (47 ∷ []) (97 ∷ []))
+      ∷ of_dot (MissingDotdotSecond (dir_attr 2) (47 ∷ []) (98 ∷ [])) ∷ []
   pub turned : pathname_lines (alone (entry 2 4 two_dots ∷ entry 2 4 one_dot ∷ []))
-      ≡ of_dot (MissingDot (about 2) (47 ∷ [])) ∷ of_dot (MissingDotdot (about 2) (47 ∷ []))
-      ∷ of_dot (ExtraDotdot (about 2) (47 ∷ []))
-      ∷ of_dot (ExtraDot (about 2) (47 ∷ [])) ∷ []
+      ≡ of_dot (MissingDot (dir_attr 2) (47 ∷ [])) ∷ of_dot (MissingDotdot (dir_attr 2) (47 ∷ []))
+      ∷ of_dot (ExtraDotdot (dir_attr 2) (47 ∷ []))
+      ∷ of_dot (ExtraDot (dir_attr 2) (47 ∷ [])) ∷ []
   pub wrong_dots : pathname_lines (sub (entry 2 8 one_dot ∷ entry 3 8 two_dots ∷ []))
-      ≡ of_dot (NumberDot (about 3) (47 ∷ 97 ∷ [])) ∷ of_dot (KindDot (about 3) (47 ∷ 97 ∷ []))
-      ∷ of_dot (NumberDotdot (about 3) (47 ∷ 97 ∷ []))
-      ∷ of_dot (KindDotdot (about 3) (47 ∷ 97 ∷ [])) ∷ []
+      ≡ of_dot (NumberDot (dir_attr 3) (47 ∷ 97 ∷ [])) ∷ of_dot (KindDot (dir_attr 3) (47 ∷ 97 ∷ []))
+      ∷ of_dot (NumberDotdot (dir_attr 3) (47 ∷ 97 ∷ []))
+      ∷ of_dot (KindDotdot (dir_attr 3) (47 ∷ 97 ∷ [])) ∷ []
   -- a whiteout that is right and two that aren't; the root entered, with another type
   pub whiteouts : pathname_lines (alone (dots 2 2 (entry 1 14 (97 ∷ []) ∷ entry 1 8 (98 ∷ []) ∷ entry 2 14 (99 ∷ [])
       ∷ []))) ≡ of_entry (Whiteout 1 (47 ∷ 98 ∷ [])) ∷ of_entry (Whiteout 2 (47 ∷ 99 ∷ [])) ∷ []
   pub root_entered : pathname_lines (alone (dots 2 2 (entry 2 8 (97 ∷ []) ∷ [])))
-      ≡ of_entry (Extraneous (47 ∷ 97 ∷ []) (47 ∷ [])) ∷ of_entry (KindEntry DirLabel (about 2) (47 ∷ 97 ∷ [])) ∷ []
+      ≡ of_entry (Extraneous (47 ∷ 97 ∷ []) (47 ∷ [])) ∷ of_entry (KindEntry DirLabel (dir_attr 2) (47 ∷ 97 ∷ [])) ∷ []
   -- a directory of size 0, reported at its first entry alone
   pub zero_length : pathname_lines (empty_dir (entry 3 4 (97 ∷ []) ∷ entry 3 4 (98 ∷ []) ∷ []))
       ≡ of_entry (ZeroDir about_empty (47 ∷ 97 ∷ [])) ∷ of_entry (Extraneous (47 ∷ 98 ∷ []) (47 ∷ 97 ∷ [])) ∷ []
@@ -264,7 +264,7 @@ pub record PathnameExamples : Type 0 where
   pub root_marked : pathname_lines (record (alone (dots 2 2 [])) { marked = λ i. true }) ≡ of_directory RootSuspect ∷ []
   -- a size below 24, which is reported alone, one that is no multiple of 512, and a hole
   pub too_short : pathname_lines (sized 23)
-      ≡ of_directory (DirShort (record (about 3) { size = 23 }) (47 ∷ 97 ∷ [])) ∷ []
+      ≡ of_directory (DirShort (record (dir_attr 3) { size = 23 }) (47 ∷ 97 ∷ [])) ∷ []
   pub no_multiple : pathname_lines (sized 600) ≡ of_directory (DirLength (47 ∷ 97 ∷ []) 600) ∷ []
   pub hole : pathname_lines (record (sub (dots 3 2 [])) { gap = λ i. i == 3 })
       ≡ of_directory (DirEmpty (47 ∷ 97 ∷ [])) ∷ []
@@ -291,24 +291,24 @@ pub record ReferenceExamples : Type 0 where
   pub parents : (parent (graph_of twice) 2 ≡ Some 2) × (parent (graph_of twice) 3 ≡ Some 2)
       × (parent (graph_of lost_cycle) 3 ≡ Some 4)
   -- one of a cycle is reported, and what hangs below it isn't; below a dead directory, the lost one is
-  pub cycle : connectivity_lines lost_cycle ≡ of_reference (UnrefDir (about 3)) ∷ []
-  pub cycle_below : connectivity_lines (small 6 (λ i. 3) below_entries) ≡ of_reference (UnrefDir (about 3)) ∷ []
-  pub below_dead : connectivity_lines dead_parent ≡ of_reference (UnrefDir (about 4)) ∷ []
+  pub cycle : connectivity_lines lost_cycle ≡ of_reference (UnrefDir (dir_attr 3)) ∷ []
+  pub cycle_below : connectivity_lines (small 6 (λ i. 3) below_entries) ≡ of_reference (UnrefDir (dir_attr 3)) ∷ []
+  pub below_dead : connectivity_lines dead_parent ≡ of_reference (UnrefDir (dir_attr 4)) ∷ []
   pub none_lost : connectivity_lines twice ≡ []
   -- counts of links
   pub references_counted : map (references twice) (2 ∷ 3 ∷ []) ≡ 3 ∷ 3 ∷ []
   pub base : reference_lines (alone (dots 2 2 [])) ≡ []
   pub cycle_counted : reference_lines lost_cycle ≡ []
-  pub second_link : reference_lines twice ≡ of_reference (LinkCount DirLabel (about 3) (pos 2) 3) ∷ []
+  pub second_link : reference_lines twice ≡ of_reference (LinkCount DirLabel (dir_attr 3) (pos 2) 3) ∷ []
   pub extra_uncounted : reference_lines (alone (dots 2 2 (entry 2 4 two_dots ∷ []))) ≡ []
   -- dead inodes: a directory of size 0 that nothing names, and a marked one
   pub dead_empty : reference_lines (empty_dir []) ≡ of_reference (DeadZero about_empty) ∷ []
   pub dead_lines : reference_lines dead_parent
-      ≡ of_reference (LinkCount DirLabel (about 2) (pos 2) 3) ∷ of_reference (DeadMarked DirLabel (about 3)) ∷ []
+      ≡ of_reference (LinkCount DirLabel (dir_attr 2) (pos 2) 3) ∷ of_reference (DeadMarked DirLabel (dir_attr 3)) ∷ []
   -- no reference at all: with and without links
   pub unnamed : reference_lines (record (small 4 (λ i. if i == 2 then 2 else 1)
       (λ i. if i == 2 then dots 2 2 [] else [])) { class = λ i. if i == 2 then Dir else File })
-      ≡ of_reference (Unref FileLabel (about 3)) ∷ []
+      ≡ of_reference (Unref FileLabel (dir_attr 3)) ∷ []
   pub unlinked : reference_lines (record (small 4 (λ i. if i == 2 then 2 else 0)
       (λ i. if i == 2 then dots 2 2 [] else [])) { class = λ i. if i == 2 then Dir else File })
-      ≡ of_reference (UnrefZero FileLabel (about 3)) ∷ []
+      ≡ of_reference (UnrefZero FileLabel (dir_attr 3)) ∷ []

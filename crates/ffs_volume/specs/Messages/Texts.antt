@@ -44,22 +44,22 @@ attr_text a = concat (
     ∷ texts.SIZE.now ∷ decimal a.size ∷ texts.MTIME.now ∷ signed_decimal a.mtime ∷ [])
 
 -- `head`, the attributes of an inode, and `tail`
-abbrev pub inode_text : (head : List ℕ) (about : Attr) (tail : List ℕ) → List ℕ
-inode_text head about tail = head ++ (attr_text about ++ tail)
+abbrev pub inode_text : (head : List ℕ) (attr : Attr) (tail : List ℕ) → List ℕ
+inode_text head attr tail = head ++ (attr_text attr ++ tail)
 
 -- the same, with DIR or FILE before the attributes
-abbrev pub labelled_text : (head : List ℕ) (label : Label) (about : Attr) (tail : List ℕ) → List ℕ
-labelled_text head label about tail = head ++ inode_text (file_label label) about tail
+abbrev pub labelled_text : (head : List ℕ) (label : Label) (attr : Attr) (tail : List ℕ) → List ℕ
+labelled_text head label attr tail = head ++ inode_text (file_label label) attr tail
 
 -- `head`, the attributes of an inode, its path, and `tail`
-abbrev pub path_text : (head : List ℕ) (about : Attr) (label : Label) (path tail : List ℕ) → List ℕ
-path_text head about label path tail = inode_text head about (concat (path_label label ∷ map shown path ∷ tail ∷ []))
+abbrev pub path_text : (head : List ℕ) (attr : Attr) (label : Label) (path tail : List ℕ) → List ℕ
+path_text head attr label path tail = inode_text head attr (concat (path_label label ∷ map shown path ∷ tail ∷ []))
 
 -- `head`, the attributes of a directory, its path, and the name of the entry in the place of `.` or
 -- `..`, after `why`
-abbrev pub name_in_the_way_text : (head : List ℕ) (about : Attr) (path why name : List ℕ) → List ℕ
-name_in_the_way_text head about path why name =
-    inode_text head about (concat (
+abbrev pub name_in_the_way_text : (head : List ℕ) (attr : Attr) (path why name : List ℕ) → List ℕ
+name_in_the_way_text head attr path why name =
+    inode_text head attr (concat (
     texts.PATH_OF_DIR.now ∷ map shown path ∷ why ∷ map shown name ∷ texts.LINE_END.now ∷ []))
 
 -- `head`, a number, and `tail`
@@ -134,51 +134,51 @@ counts_text nlink references = concat (
 
 -- an inode with a wrong count of links, and both counts
 abbrev pub links_text : Label → Attr → ℤ → ℕ → List ℕ
-links_text label about nlink references = labelled_text texts.LINK_COUNT.now label about (counts_text nlink references)
+links_text label attr nlink references = labelled_text texts.LINK_COUNT.now label attr (counts_text nlink references)
 
 -- a message on a directory as a whole
 abbrev pub directory_line_text : DirectoryLine (List ℕ) → List ℕ
 directory_line_text RootNone = texts.ROOT_NONE.now
 directory_line_text RootNotDir = texts.ROOT_NOT_DIR.now
 directory_line_text RootSuspect = texts.ROOT_SUSPECT.now
-directory_line_text (DirShort about path) = path_text texts.DIR_SHORT.now about Dir path texts.FIX.now
+directory_line_text (DirShort attr path) = path_text texts.DIR_SHORT.now attr Dir path texts.FIX.now
 directory_line_text (DirLength path size) = length_text path size
 directory_line_text (DirEmpty path) = empty_blocks_text path
-directory_line_text (DirCorrupt about path) = path_text texts.DIR_CORRUPT.now about Dir path texts.SALVAGE.now
+directory_line_text (DirCorrupt attr path) = path_text texts.DIR_CORRUPT.now attr Dir path texts.SALVAGE.now
 
 -- a message on the entries `.` and `..`
 abbrev pub dot_line_text : DotLine (List ℕ) → List ℕ
-dot_line_text (MissingDot about path) = path_text texts.MISSING_DOT.now about Dir path texts.FIX.now
-dot_line_text (MissingDotFirst about path name) =
-    name_in_the_way_text texts.MISSING_DOT.now about path texts.FIRST_ENTRY.now name
-dot_line_text (NumberDot about path) = path_text texts.NUMBER_DOT.now about Dir path texts.FIX.now
-dot_line_text (KindDot about path) = path_text texts.KIND_DOT.now about Dir path texts.FIX.now
-dot_line_text (MissingDotdot about path) = path_text texts.MISSING_DOTDOT.now about Dir path texts.FIX.now
-dot_line_text (MissingDotdotSecond about path name) =
-    name_in_the_way_text texts.MISSING_DOTDOT.now about path texts.SECOND_ENTRY.now name
-dot_line_text (NumberDotdot about path) = path_text texts.NUMBER_DOTDOT.now about Dir path texts.FIX.now
-dot_line_text (KindDotdot about path) = path_text texts.KIND_DOTDOT.now about Dir path texts.FIX.now
-dot_line_text (ExtraDot about path) = path_text texts.EXTRA_DOT.now about Dir path texts.FIX.now
-dot_line_text (ExtraDotdot about path) = path_text texts.EXTRA_DOTDOT.now about Dir path texts.FIX.now
+dot_line_text (MissingDot attr path) = path_text texts.MISSING_DOT.now attr Dir path texts.FIX.now
+dot_line_text (MissingDotFirst attr path name) =
+    name_in_the_way_text texts.MISSING_DOT.now attr path texts.FIRST_ENTRY.now name
+dot_line_text (NumberDot attr path) = path_text texts.NUMBER_DOT.now attr Dir path texts.FIX.now
+dot_line_text (KindDot attr path) = path_text texts.KIND_DOT.now attr Dir path texts.FIX.now
+dot_line_text (MissingDotdot attr path) = path_text texts.MISSING_DOTDOT.now attr Dir path texts.FIX.now
+dot_line_text (MissingDotdotSecond attr path name) =
+    name_in_the_way_text texts.MISSING_DOTDOT.now attr path texts.SECOND_ENTRY.now name
+dot_line_text (NumberDotdot attr path) = path_text texts.NUMBER_DOTDOT.now attr Dir path texts.FIX.now
+dot_line_text (KindDotdot attr path) = path_text texts.KIND_DOTDOT.now attr Dir path texts.FIX.now
+dot_line_text (ExtraDot attr path) = path_text texts.EXTRA_DOT.now attr Dir path texts.FIX.now
+dot_line_text (ExtraDotdot attr path) = path_text texts.EXTRA_DOTDOT.now attr Dir path texts.FIX.now
 
 -- a message on a further entry
 abbrev pub entry_line_text : EntryLine (List ℕ) → List ℕ
 entry_line_text (OutOfRange number path) = entry_text texts.OUT_OF_RANGE.now number path texts.REMOVE.now
 entry_line_text (Whiteout number path) = entry_text texts.WHITEOUT.now number path texts.FIX.now
-entry_line_text (Unallocated about path) = path_text texts.UNALLOCATED.now about Name path texts.REMOVE.now
-entry_line_text (DupBad label about path) = path_text texts.DUP_BAD.now about label path texts.REMOVE.now
-entry_line_text (ZeroDir about path) = path_text texts.ZERO_DIR.now about Dir path texts.REMOVE.now
+entry_line_text (Unallocated attr path) = path_text texts.UNALLOCATED.now attr Name path texts.REMOVE.now
+entry_line_text (DupBad label attr path) = path_text texts.DUP_BAD.now attr label path texts.REMOVE.now
+entry_line_text (ZeroDir attr path) = path_text texts.ZERO_DIR.now attr Dir path texts.REMOVE.now
 entry_line_text (Extraneous path directory) = extraneous_text path directory
-entry_line_text (KindEntry label about path) = path_text texts.KIND_ENTRY.now about label path texts.FIX.now
+entry_line_text (KindEntry label attr path) = path_text texts.KIND_ENTRY.now attr label path texts.FIX.now
 
 -- a message on an inode by the entries that name it
 abbrev pub reference_line_text : ReferenceLine → List ℕ
-reference_line_text (UnrefDir about) = inode_text texts.UNREF_DIR.now about texts.RECONNECT.now
-reference_line_text (DeadMarked label about) = labelled_text texts.DEAD_MARKED.now label about texts.CLEAR.now
-reference_line_text (DeadZero about) = inode_text texts.DEAD_ZERO.now about texts.CLEAR.now
-reference_line_text (Unref label about) = labelled_text texts.UNREF.now label about texts.RECONNECT_OR_CLEAR.now
-reference_line_text (UnrefZero label about) = labelled_text texts.UNREF.now label about texts.CLEAR.now
-reference_line_text (LinkCount label about nlink references) = links_text label about nlink references
+reference_line_text (UnrefDir attr) = inode_text texts.UNREF_DIR.now attr texts.RECONNECT.now
+reference_line_text (DeadMarked label attr) = labelled_text texts.DEAD_MARKED.now label attr texts.CLEAR.now
+reference_line_text (DeadZero attr) = inode_text texts.DEAD_ZERO.now attr texts.CLEAR.now
+reference_line_text (Unref label attr) = labelled_text texts.UNREF.now label attr texts.RECONNECT_OR_CLEAR.now
+reference_line_text (UnrefZero label attr) = labelled_text texts.UNREF.now label attr texts.CLEAR.now
+reference_line_text (LinkCount label attr nlink references) = links_text label attr nlink references
 
 -- a message on directories, their entries or references
 abbrev pub tree_message_text : TreeMessage → List ℕ
@@ -192,31 +192,31 @@ abbrev pub directory_message : DirectoryLine (Bor (List ℕ)) → DirectoryLine 
 directory_message RootNone = RootNone
 directory_message RootNotDir = RootNotDir
 directory_message RootSuspect = RootSuspect
-directory_message (DirShort about path) = DirShort about path.now
+directory_message (DirShort attr path) = DirShort attr path.now
 directory_message (DirLength path size) = DirLength path.now size
 directory_message (DirEmpty path) = DirEmpty path.now
-directory_message (DirCorrupt about path) = DirCorrupt about path.now
+directory_message (DirCorrupt attr path) = DirCorrupt attr path.now
 
 abbrev pub dot_message : DotLine (Bor (List ℕ)) → DotLine (List ℕ)
-dot_message (MissingDot about path) = MissingDot about path.now
-dot_message (MissingDotFirst about path name) = MissingDotFirst about path.now name.now
-dot_message (NumberDot about path) = NumberDot about path.now
-dot_message (KindDot about path) = KindDot about path.now
-dot_message (MissingDotdot about path) = MissingDotdot about path.now
-dot_message (MissingDotdotSecond about path name) = MissingDotdotSecond about path.now name.now
-dot_message (NumberDotdot about path) = NumberDotdot about path.now
-dot_message (KindDotdot about path) = KindDotdot about path.now
-dot_message (ExtraDot about path) = ExtraDot about path.now
-dot_message (ExtraDotdot about path) = ExtraDotdot about path.now
+dot_message (MissingDot attr path) = MissingDot attr path.now
+dot_message (MissingDotFirst attr path name) = MissingDotFirst attr path.now name.now
+dot_message (NumberDot attr path) = NumberDot attr path.now
+dot_message (KindDot attr path) = KindDot attr path.now
+dot_message (MissingDotdot attr path) = MissingDotdot attr path.now
+dot_message (MissingDotdotSecond attr path name) = MissingDotdotSecond attr path.now name.now
+dot_message (NumberDotdot attr path) = NumberDotdot attr path.now
+dot_message (KindDotdot attr path) = KindDotdot attr path.now
+dot_message (ExtraDot attr path) = ExtraDot attr path.now
+dot_message (ExtraDotdot attr path) = ExtraDotdot attr path.now
 
 abbrev pub entry_message : EntryLine (Bor (List ℕ)) → EntryLine (List ℕ)
 entry_message (OutOfRange number path) = OutOfRange number path.now
 entry_message (Whiteout number path) = Whiteout number path.now
-entry_message (Unallocated about path) = Unallocated about path.now
-entry_message (DupBad label about path) = DupBad label about path.now
-entry_message (ZeroDir about path) = ZeroDir about path.now
+entry_message (Unallocated attr path) = Unallocated attr path.now
+entry_message (DupBad label attr path) = DupBad label attr path.now
+entry_message (ZeroDir attr path) = ZeroDir attr path.now
 entry_message (Extraneous path directory) = Extraneous path.now directory.now
-entry_message (KindEntry label about path) = KindEntry label about path.now
+entry_message (KindEntry label attr path) = KindEntry label attr path.now
 
 -- each number with what is after it; the fragmentation in tenths of a percent, its sign first
 abbrev pub summary_text : (files used : ℕ) (free frags blocks tenths : ℤ) → List ℕ

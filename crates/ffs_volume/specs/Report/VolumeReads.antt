@@ -41,8 +41,8 @@ abbrev pub rescan_reads : Layout → (bytes : List ℕ) → ℕ
 rescan_reads v bytes = if has_rescan v (owners_of v bytes) then sweep_reads v else 0
 
 -- phase 2 reads directories as `phase2_cost` says, and for each of its messages `line_reads` times
-abbrev pub names_reads : Layout → (bytes : List ℕ) → ℕ
-names_reads v bytes = phase2_cost v bytes + line_reads * length (pathname_lines (volume_of v bytes))
+abbrev pub volume_pathname_reads : Layout → (bytes : List ℕ) → ℕ
+volume_pathname_reads v bytes = phase2_cost v bytes + line_reads * length (pathname_lines (volume_of v bytes))
 
 -- where the check continues after the root, phases 3 and 4 read an inode for each of their messages, and
 -- phase 5 reads the groups
@@ -56,5 +56,5 @@ later_reads goes v bytes =
 -- all phases read an image that gives its bytes this often at most: phase 1 its inode tables and the
 -- indirect blocks that are seen, phase 2 its directories, and each phase for its own messages alone
 abbrev pub volume_phase_reads : Layout → (bytes : List ℕ) → ℕ
-volume_phase_reads v bytes = volume_scan_reads v bytes + (rescan_reads v bytes + (names_reads v bytes
+volume_phase_reads v bytes = volume_scan_reads v bytes + (rescan_reads v bytes + (volume_pathname_reads v bytes
     + later_reads (continues_after_root (volume_of v bytes)) v bytes))

@@ -7,7 +7,7 @@ use Rattle.ffs_volume.{specs.{Blocks.Inodes.inodes_of, Laws.ClaimBounds.used_bit
 use Rattle.ffs_report.proofs.Reporting.{of_part, of_fault, of_same, reports_knowing, says_heading, stops_heading}
 use Rattle.ffs_report.{proofs.Reporting.said_knows, specs.Known.ForBytes}
 use Rattle.ffs_workspace.{proofs.Leaving.fresh_held, specs.{Found.WithFresh, Holds.claims_of}}
-use Rattle.ffs_claims.proofs.{Duplicates.{any_set, rescan_is}, Frames.{image_from, ready_begun, ready_still}}
+use Rattle.ffs_claims.proofs.{Duplicates.{rescan_is}, Frames.{image_from, ready_begun, ready_still}}
 use Rattle.ffs_claims.proofs.{Inodes.used_below, Numbers.{found_begins, found_next, found_all, numbers_most}}
 use Rattle.ffs_claims.proofs.{Numbers.{before_first, before_end, lines_next}, TableReads.{blocks_all, blocks_failed}}
 use Rattle.ffs_claims.proofs.{TableReads.{blocks_later, blocks_next, blocks_none}, IndirectReads.{VolumeRead, read_all}}

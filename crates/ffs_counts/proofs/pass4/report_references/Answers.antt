@@ -5,8 +5,9 @@ use Rattle.ffs_volume.specs.Messages.Kinds.{TreeMessage, of_tree}
 use Rattle.ffs_report.{specs.Known.ForBytes, proofs.Paying.{paid_none, paid_reads, paid_says, paid_stops}}
 use Rattle.ffs_report.proofs.Reporting.{reads_first, says_all, says_none, stops_all}
 use Rattle.ffs_workspace.{specs.{Found.WithFindings, Ready.KeepsWindows}, proofs.Readiness.can_read_table}
-use Rattle.ffs_counts.{specs.References.lines_as, proofs.Holding.{inode_lines_are, item_at, met_lines, same_reported}}
-use Rattle.ffs_counts.proofs.{Holding.{some_lines, unmet_line, unmet_reported}, pass4.report_references.Goals.After-inode}
+use Rattle.ffs_counts.{specs.References.lines_as, proofs.Holding.{inode_reference_lines_are, item_at, met_lines}}
+use Rattle.ffs_counts.proofs.Holding.{same_reported, some_lines, unmet_line, unmet_reported}
+use Rattle.ffs_counts.proofs.pass4.report_references.Goals.{After-inode}
 use Rattle.ffs_counts.proofs.pass4.report_references.Goals.{After-line_for-line, In_ok-inode}
 use Rattle.ffs_counts.proofs.pass4.report_references.Given as given
 use Rattle.ffs_counts.proofs.pass4.report_references.Goals as goal
@@ -22,7 +23,7 @@ lines_are : (g : given.Over) (c : After-line_for-line g) →
     ForBytes (WithFindings c.args.geometry.now.layout (g.I.Image.device c.args.image.now) c.args.workspace.now)
     (λ bytes. map of_tree (reference_lines_at (volume_of c.args.geometry.now.layout bytes) c.args.number)
     ≡ map of_tree (lines_as c.line_for-line.result))
-lines_are g c bytes k = grind (arith, item_at, some_lines, inode_lines_are, same_reported)
+lines_are g c bytes k = grind (arith, item_at, some_lines, inode_reference_lines_are, same_reported)
 
 -- it has a line, whatever was read of it
 some : (g : given.Over) (c : After-line_for-line g) → 1 ≤ length (map of_tree (lines_as c.line_for-line.result))

@@ -8,7 +8,7 @@ use Rattle.ffs_workspace.specs.Found.{WithClaims}
 use Rattle.ffs_counts.{specs.Once.{reported_of, reported_after}, proofs.GroupText.{counts_held, free_of, groups_begin}}
 use Rattle.ffs_counts.proofs.GroupText.{groups_go_on, groups_end, lines_after, totals_next, totals_right, up_next}
 use Rattle.ffs_counts.proofs.{GroupReads.{next_within, reads_next, reads_within, records_next}, Holding.held_on}
-use Rattle.ffs_counts.proofs.pass5.phase5.Goals.{After-are-right, In_ok-found}
+use Rattle.ffs_counts.proofs.pass5.phase5.Goals.{After-agree_with-right, In_ok-found}
 use Rattle.ffs_counts.proofs.pass5.phase5.Given as given
 use Rattle.ffs_counts.proofs.pass5.phase5.Goals as goal
 
@@ -29,11 +29,11 @@ gone_on g c once' noted bytes k =
     (c.in_ok-found.ensures.found.lines bytes (ap (λ d. d.contents) inv.device ∙ k.0)) noted
 
 -- the lines after the last group
-ended : (g : given.Over) (c : After-are-right g) →
+ended : (g : given.Over) (c : After-agree_with-right g) →
     ForBytes (WithClaims c.args.superblock.now.geometry.layout (g.I.Image.device c.args.image.now) c.args.workspace.now)
     (λ bytes. lines_after c.args.superblock.now.geometry.layout c.args.superblock.now.cstotal c.args.workspace.now
     (reported_of c.loop-group.once) c.loop-group.group bytes
-    ≡ map of_blocks (reported_once (reported_of c.loop-group.once) (unless c.are-right.result FreeCounts)) ++ [])
+    ≡ map of_blocks (reported_once (reported_of c.loop-group.once) (unless c.agree_with-right.result FreeCounts)) ++ [])
 ended g c bytes k = grind (arith, groups_end, totals_right)
 
 pub returns-in_err-say-clause-text : goal.returns-in_err-say-clause-text
@@ -95,13 +95,13 @@ loop-group-preserved g c =
 pub returns-in_err-say_unless-clause-text : goal.returns-in_err-say_unless-clause-text
 returns-in_err-say_unless-clause-text g c =
     let p = err_from_is_err_and c.from_residual-in_err-say_unless.result c.from_residual-in_err-say_unless.ensures.1 in
-    let at = (goal.at.returns-in_err-say_unless-clause-text g c).After-are-right in
+    let at = (goal.at.returns-in_err-say_unless-clause-text g c).After-agree_with-right in
     rw (p.1, p.2) (of_stops _ _ (λ bytes. []) _ _ _ _ _ c.loop-group.invariant.said (ended g at)
     c.in_err-say_unless.ensures.said)
 
 pub returns-clause-text : goal.returns-clause-text
 returns-clause-text g c = of_says _ _ _ _ _ _ _ _ c.loop-group.invariant.said
-    (ended g (goal.at.returns-clause-text g c).After-are-right) c.in_ok-say_unless.ensures.said
+    (ended g (goal.at.returns-clause-text g c).After-agree_with-right) c.in_ok-say_unless.ensures.said
 
 pub returns-in_err-found-clause-reads : goal.returns-in_err-found-clause-reads
 returns-in_err-found-clause-reads g c =

@@ -2,7 +2,7 @@ use Rattle.std.proofs.Common.{◌≡◌, arith, refl, ℕ, List, [], Ok}
 use Rattle.ffs_volume.specs.{declared.Layout.Layout, Directories.Roles.Volume, Messages.Kinds.{TreeMessage}}
 use Rattle.ffs_report.{specs.Progress.Progress, proofs.{Reporting.says_none, Paying.paid_none}}
 use Rattle.ffs_pathnames.specs.{EntryLines.ReportsOneEntry, Moments.{LinesMoment, PathMoment}, Ready.ReadyToPath, PassedNames.roled_reported}
-use Rattle.ffs_pathnames.{specs.declared.one_entry.EntryTexts.EntryTexts}
+use Rattle.ffs_pathnames.{specs.declared.entry_texts.EntryTexts.EntryTexts}
 use Rattle.ffs_pathnames.proofs.entries.report_by_role.Goals as goal
 
 -- where there is no line, nothing changes

@@ -2,26 +2,26 @@ use Rattle.std.proofs.Common.{arith, ◌≡◌, refl, sym, ap, ◌∙◌, ℕ, L
 use Rattle.std.proofs.lemmas.Result.{err_from_is_err_and}
 use Rattle.ffs_volume.specs.{Messages.Kinds.of_tree, Directories.{PathnameCheck.attributes, Parents.graph_of}}
 use Rattle.ffs_volume.specs.Directories.{PathnameCheck.header_lines, Paths.dir_path, Volumes.volume_of}
-use Rattle.ffs_volume.proofs.VerdictLaws.{none_lines, some_header}
+use Rattle.ffs_volume.proofs.VerdictLaws.{header_silent, some_header}
 use Rattle.ffs_report.proofs.{Reports.said_none, Paying.{paid_none, paid_reads, paid_says, paid_stops}}
 use Rattle.ffs_report.proofs.Reporting.{of_begins, of_says, of_stops, of_reads}
 use Rattle.ffs_pathnames.specs.{HeaderValues.{defects_value, facts_lines}, DirectoryContext.KnowsHeader}
 use Rattle.ffs_pathnames.proofs.{Begun.attr_size, LineCounts.{by_line, few_none, knows_places, some_said}}
 use Rattle.ffs_paths.proofs.Climbed.{few_more}
-use Rattle.ffs_pathnames.proofs.HeaderLaws.{none_value}
+use Rattle.ffs_pathnames.proofs.HeaderLaws.{header_value_silent}
 use Rattle.ffs_pathnames.proofs.tree.report_header.{Given.Over, Goals.{After-gather_dir, After-say_header}}
 use Rattle.ffs_pathnames.proofs.tree.report_header.Goals as goal
 
 -- a header that isn't right has a line
 some_line : (g : Over) (c : After-gather_dir g) (b : List ℕ) →
     1 ≤ length (facts_lines (volume_of c.args.geometry.now.layout b) c.args.header)
-some_line g c b = grind (arith, some_header, none_value)
+some_line g c b = grind (arith, some_header, header_value_silent)
 
 -- whatever was gathered: the size is that which isn't right
 some_said_of : (g : Over) (c : After-say_header g) →
     1 ≤ length (map of_tree (header_lines (defects_value c.header_defects-defects.result)
     (record c.in_ok-attr.attr { size = c.args.header.size }) c.as_slice.result.now))
-some_said_of g c = grind (arith, some_said, some_header, none_value)
+some_said_of g c = grind (arith, some_said, some_header, header_value_silent)
 
 -- the lines are those of what was gathered
 lines_are : (g : Over) (c : After-say_header g) (b : List ℕ) →
@@ -31,8 +31,8 @@ lines_are : (g : Over) (c : After-say_header g) (b : List ℕ) →
     (record c.in_ok-attr.attr { size = c.args.header.size }) c.as_slice.result.now) ++ []
 lines_are g c b k = grind (arith, attr_size, append-nil)
 
-pub returns-then-is_none : goal.returns-then-is_none
-returns-then-is_none g c =
+pub returns-then-is_silent : goal.returns-then-is_silent
+returns-then-is_silent g c =
     let v = c.args.geometry.now.layout in
     let s = c.args.header in
     let n = c.header_defects-defects.result in
@@ -42,7 +42,8 @@ returns-then-is_none g c =
         right = λ b k. sym (ap (map of_tree)
             (ap (λ m. header_lines m (attributes (volume_of v b) s.number) (dir_path (graph_of (volume_of v b)) s.number))
             (sym c.header_defects-defects.ensures)
-            ∙ none_lines (defects_value n) _ _ (none_value n ∙ (sym c.is_none.ensures ∙ c.if-is_none.true))));
+            ∙ header_silent (defects_value n) _ _
+            (header_value_silent n ∙ (sym c.is_silent.ensures ∙ c.if-is_silent.true))));
         said = said_none _;
       };
       counted = λ b k noted. few_none;

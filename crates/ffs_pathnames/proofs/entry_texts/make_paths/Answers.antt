@@ -1,7 +1,7 @@
 use Rattle.std.proofs.Common.{◌∙◌, ap, refl}
 use Rattle.ffs_image.specs.Device.{Device}
 use Rattle.ffs_pathnames.proofs.Limiting.{gathered, spared}
-use Rattle.ffs_pathnames.proofs.one_entry.make_paths.Goals as goal
+use Rattle.ffs_pathnames.proofs.entry_texts.make_paths.Goals as goal
 
 -- a read was refused: not where the image gives its bytes
 pub returns-then-is_spent-clause-makes : goal.returns-then-is_spent-clause-makes

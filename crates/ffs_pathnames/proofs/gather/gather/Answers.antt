@@ -1,7 +1,7 @@
 use Rattle.std.proofs.Common.{Bool, ap, arith, ◌∙◌}
 use Rattle.ffs_volume.specs.Report.Reads.{path_reads}
 use Rattle.ffs_pathnames.{specs.Gathers.if_wanted, proofs.{Carrying.if_ok, ReadyLaws.leaves_read}}
-use Rattle.ffs_pathnames.proofs.one_entry.gather.Goals as goal
+use Rattle.ffs_pathnames.proofs.gather.gather.Goals as goal
 
 pub gather_path-requires : goal.gather_path-requires
 gather_path-requires g c = grind arith

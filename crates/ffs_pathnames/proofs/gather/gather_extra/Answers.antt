@@ -3,7 +3,7 @@ use Rattle.ffs_volume.specs.Directories.{Parents.graph_of, Volumes.volume_of}
 use Rattle.ffs_paths.proofs.Sparing.{on_all}
 use Rattle.ffs_pathnames.proofs.{Carrying.if_ok, ReadyLaws.{gather_failed, leaves_read}}
 use Rattle.ffs_pathnames.proofs.PathOnce.{begin_most, begin_once}
-use Rattle.ffs_pathnames.proofs.one_entry.gather_extra.Goals as goal
+use Rattle.ffs_pathnames.proofs.gather.gather_extra.Goals as goal
 
 pub returns-in_err-begin_paths : goal.returns-in_err-begin_paths
 returns-in_err-begin_paths g c =

@@ -1,6 +1,6 @@
 use Rattle.std.proofs.{Common.{arith}}
 use Rattle.ffs_volume.specs.Directories.{PathnameCheck.{attributes}, Volumes.{volume_of, volume_with}}
-use Rattle.ffs_pathnames.proofs.one_entry.read_attr.Goals as goal
+use Rattle.ffs_pathnames.proofs.gather.read_attr.Goals as goal
 
 pub inode_by_part-requires : goal.inode_by_part-requires
 inode_by_part-requires g c = grind arith

@@ -2,7 +2,7 @@ use Rattle.std.proofs.Common.{◌∙◌, ap, refl}
 use Rattle.ffs_image.specs.Device.{Device}
 use Rattle.ffs_volume.proofs.Results.{on_ok}
 use Rattle.ffs_pathnames.proofs.Limiting.{gathered, spared}
-use Rattle.ffs_pathnames.proofs.one_entry.put_path.Goals as goal
+use Rattle.ffs_pathnames.proofs.entry_texts.put_path.Goals as goal
 
 -- a read was refused: not where the image gives its bytes
 pub returns-then-is_spent-clause-puts : goal.returns-then-is_spent-clause-puts

@@ -1,6 +1,6 @@
 use Rattle.std.proofs.Common.{ap, arith, ◌∙◌}
 use Rattle.ffs_pathnames.proofs.{Carrying.if_ok, ReadyLaws.leaves_read}
-use Rattle.ffs_pathnames.proofs.one_entry.gather_dir.Goals as goal
+use Rattle.ffs_pathnames.proofs.gather.gather_dir.Goals as goal
 
 pub put_path-requires : goal.put_path-requires
 put_path-requires g c = c.requires
@@ -14,7 +14,7 @@ returns g c =
     record {
       shown = if_ok c.read_attr.result _ _
           (λ a h b k. record {
-            attr = h b (ap (λ d. d.contents) path.leaves.path.reads.read ∙ k.gives_bytes);
+            attr_is = h b (ap (λ d. d.contents) path.leaves.path.reads.read ∙ k.gives_bytes);
             path_is = path.path c.args.dir b k;
           })
           c.read_attr.ensures.attr;

@@ -4,7 +4,7 @@ use Rattle.ffs_workspace.proofs.Leaving.{windows_leave}
 use Rattle.ffs_paths.proofs.{Climbed.{few_more, few_then}, Keeping.reads_then, Sparing.on_all}
 use Rattle.ffs_pathnames.proofs.{Carrying.if_ok, LineCounts.places_on, Passing.knows_on, StampLaws.windows_keep}
 use Rattle.ffs_pathnames.proofs.{PathOnce.{begin_most, begin_once, verdict_most}, ReadyLaws.gather_failed}
-use Rattle.ffs_pathnames.proofs.one_entry.gather_entry.Goals as goal
+use Rattle.ffs_pathnames.proofs.gather.gather_entry.Goals as goal
 
 pub returns-in_err-begin_paths : goal.returns-in_err-begin_paths
 returns-in_err-begin_paths g c =

@@ -1,0 +1,158 @@
+//! The texts that lines of entries show, and the paths of directories in them.
+ghost use Rattle.std.specs.Prelude.{◌≡◌, ℕ, List, Option};
+ghost use Rattle.ffs_volume.specs.declared.Layout.{Layout};
+ghost use Rattle.ffs_pathnames.specs.Ready.{ReadyToPath};
+ghost use Rattle.ffs_pathnames.specs.Gathers.{BeginsPath, MakesPath, MakesPathLimited, PutsPath, SparesPath};
+ghost use Rattle.ffs_workspace.specs.{declared.workspace.Workspace.Workspace as WorkspaceIn};
+ghost use Rattle.ffs_paths.specs.KeptParents.{KeepsParent};
+
+use ffs_image::{Image, ImageFault, LimitedImage};
+use ffs_layout::Geometry;
+use ffs_paths::{DirectoryPath, EntryPaths, KeptParent, PathBuffer, PathText};
+use ffs_workspace::{PATH_READS, Workspace};
+
+/// The texts that lines of entries show: those of an entry are written over the ones before.
+#[derive(Drop)]
+pub struct EntryTexts {
+    /// What is kept from the path of one directory to that of the next.
+    pub kept_parent: KeptParent,
+    /// Whether the path of the directory that the entries are in was made: the first line makes it.
+    pub begun: bool,
+    /// The path of the directory that the entries are in, and that of the last entry.
+    pub paths: EntryPaths,
+    /// The path of the directory that a line shows: the entry names it, or an extra entry is in it.
+    pub directory: PathText,
+}
+
+impl EntryTexts {
+    ghost use Rattle.ffs_paths.specs.KeptParents.{KeepsParent};
+    ghost use Rattle.ffs_workspace.specs.declared.workspace.Workspace as workspaces;
+
+    /// Of no directory.
+    pub fn none() -> EntryTexts
+        ensures { (v : Layout) (contents : Option (List ℕ)) (w : workspaces.Workspace)
+            → KeepsParent v contents w result.kept_parent }
+    {
+        EntryTexts {
+            kept_parent: KeptParent::none(),
+            begun: false,
+            paths: EntryPaths::of(DirectoryPath {
+                reached: false,
+                names: PathBuffer::new(),
+            }),
+            directory: PathText::new(),
+        }
+    }
+}
+
+/// Keeps nothing of a parent any more.
+fn forget_parent(kept_parent: &mut KeptParent)
+    ensures { (v : Layout) (contents : Option (List ℕ)) (w : WorkspaceIn)
+        → KeepsParent v contents w kept_parent.new }
+{
+    kept_parent.parent = 0;
+    kept_parent.child = 0;
+}
+
+/// As `make_paths`, with no limit on reads.
+fn make_paths_unlimited<I: Image>(
+    geometry: &Geometry,
+    image: &mut I,
+    workspace: &mut Workspace,
+    texts: &mut EntryTexts,
+    dir: u32,
+) -> Result<(), ImageFault>
+    requires { ReadyToPath geometry.now.layout (I.device image.old) workspace.old
+        texts.old.kept_parent dir }
+    ensures makes { MakesPath I.Image geometry.now.layout image.old image.new workspace.old
+        workspace.new dir texts.old texts.new result }
+    ensures spares { SparesPath I.Image geometry.now.layout image.old image.new workspace.old
+        workspace.new dir texts.old.kept_parent texts.new.kept_parent result }
+{
+    let path = texts.kept_parent.path_to(geometry, image, workspace, dir)?;
+    texts.paths = EntryPaths::of(path);
+    texts.begun = true;
+    Ok(())
+}
+
+/// Makes the path of a directory for the lines on its entries. An image that gives other bytes each
+/// time may be read more often than a path reads at most: then no more is read, and the path that
+/// was there before stays, for all lines of the directory. It is apart from `begin_paths`, which is
+/// called for each line: a function clears the room of its locals each time that it is entered, and
+/// those here are large.
+#[inline(never)]
+fn make_paths<I: Image>(
+    geometry: &Geometry,
+    image: &mut I,
+    workspace: &mut Workspace,
+    texts: &mut EntryTexts,
+    dir: u32,
+) -> Result<(), ImageFault>
+    requires { ReadyToPath geometry.now.layout (I.device image.old) workspace.old
+        texts.old.kept_parent dir }
+    ensures makes { MakesPathLimited I.Image geometry.now.layout image.old image.new workspace.old
+        workspace.new dir texts.old texts.new result }
+    ensures spares { SparesPath I.Image geometry.now.layout image.old image.new workspace.old
+        workspace.new dir texts.old.kept_parent texts.new.kept_parent result }
+{
+    let mut limited = LimitedImage::new(image, PATH_READS);
+    let result = make_paths_unlimited(geometry, &mut limited, workspace, texts, dir);
+    if limited.is_spent() {
+        forget_parent(&mut texts.kept_parent);
+        texts.begun = true;
+        return Ok(());
+    }
+    result
+}
+
+/// Makes the path of a directory for the lines on its entries, where it wasn't made yet.
+///
+/// # Errors
+/// A read of the image that failed.
+#[inline(always)]
+pub fn begin_paths<I: Image>(
+    geometry: &Geometry,
+    image: &mut I,
+    workspace: &mut Workspace,
+    texts: &mut EntryTexts,
+    dir: u32,
+) -> Result<(), ImageFault>
+    requires { ReadyToPath geometry.now.layout (I.device image.old) workspace.old
+        texts.old.kept_parent dir }
+    ensures { BeginsPath I.Image geometry.now.layout image.old image.new workspace.old
+        workspace.new dir texts.old texts.new result }
+{
+    if texts.begun {
+        return Ok(());
+    }
+    make_paths(geometry, image, workspace, texts, dir)
+}
+
+/// Writes the path of a directory. An image that gives other bytes each time may be read more often
+/// than a path reads at most: then no more is read, and the text stays.
+///
+/// # Errors
+/// A read of the image that failed.
+pub fn put_path<I: Image>(
+    geometry: &Geometry,
+    image: &mut I,
+    workspace: &mut Workspace,
+    kept_parent: &mut KeptParent,
+    dir: u32,
+    path: &mut PathText,
+) -> Result<(), ImageFault>
+    requires { ReadyToPath geometry.now.layout (I.device image.old) workspace.old kept_parent.old
+        dir }
+    ensures puts { PutsPath I.Image geometry.now.layout image.old image.new workspace.old
+        workspace.new dir path.new.items kept_parent.new result }
+    ensures spares { SparesPath I.Image geometry.now.layout image.old image.new workspace.old
+        workspace.new dir kept_parent.old kept_parent.new result }
+{
+    let mut limited_image = LimitedImage::new(image, PATH_READS);
+    let result = kept_parent.put_path(geometry, &mut limited_image, workspace, dir, path);
+    if limited_image.is_spent() {
+        forget_parent(kept_parent);
+        return Ok(());
+    }
+    result
+}
