@@ -1,4 +1,4 @@
--- A search in a workspace that holds what phase 1 leaves: what its faults, and its lines, say of the command.
+-- A target found in a workspace that holds what phase 1 leaves: what its faults, and its lines, say of the command.
 use Rattle.std.proofs.Common.{◌≡◌, ◌&&◌, ℕ, Bool, [], Option, Result, Err, refl}
 use Rattle.ffs_image.specs.Device.{Device}
 use Rattle.ffs_memory.specs.Account.{Account}
@@ -7,9 +7,9 @@ use Rattle.ffs_report.specs.{Known.{ForBytes, IsContents}, PhaseOutcome.ImageAft
 use Rattle.ffs_report.specs.declared.fault.RunFault.TheVariants.{Read, Out}
 use Rattle.ffs_workspace.specs.{declared.workspace.Workspace.Workspace, Found.WithPhase1, Holds.HoldsPhase1}
 use Rattle.ffs_finding.specs.declared.find.FindFault.{FindFault, TheVariants.{Refused, Failed, NoMemory}}
-use Rattle.ffs_finding.specs.{declared.request.Search.Search, Claims.TakesClaims, Fields.WithSuper, Outcome.PrintedTo}
-use Rattle.ffs_finding.specs.{Outcome.{PrintsLines, any_line}, Whole.{IsGranted, PrintedAll, SearchAnswers}}
-use Rattle.ffs_finding.{specs.Whole.{finds_defects, search_lines}, proofs.Printing.{knowing, reads_first}}
+use Rattle.ffs_finding.specs.{declared.request.Target.Target, Claims.TakesClaims, Fields.WithSuper, Outcome.PrintedTo}
+use Rattle.ffs_finding.specs.{Outcome.{PrintsLines, any_line}, Whole.{IsGranted, PrintedAll, TargetAnswers}}
+use Rattle.ffs_finding.{specs.Whole.{finds_defects, target_lines}, proofs.Printing.{knowing, reads_first}}
 use Rattle.ffs_check.specs.Moment.{Moment}
 
 -- what was taken, where no workspace was made
@@ -20,11 +20,11 @@ refused_memory v d d' held held' (Failed (Read fault)) p = p.1
 refused_memory v d d' held held' (Failed (Out fault)) p = absurd p
 refused_memory v d d' held held' NoMemory p = p.1
 
-module _ (search : Search) (sector : Option ℕ) (s : Superblock) (m : Moment) where
+module _ (target : Target) (sector : Option ℕ) (s : Superblock) (m : Moment) where
   -- nothing was printed then
   pub refused_answer : (d' : Device) (reads : ℕ) (held held' : Account) (fault : FindFault) →
       TakesClaims s.layout m.image d' held held' (Err fault) →
-      SearchAnswers search sector s m (record { image = d'; reads = reads; out = m.out }) (Err fault)
+      TargetAnswers target sector s m (record { image = d'; reads = reads; out = m.out }) (Err fault)
   refused_answer d' reads held held' (Refused fault) p = absurd p
   refused_answer d' reads held held' (Failed (Read fault)) p = (p.0, reads_first)
   refused_answer d' reads held held' (Failed (Out fault)) p = absurd p
@@ -34,15 +34,15 @@ module _ (search : Search) (sector : Option ℕ) (s : Superblock) (m : Moment) w
       (holds : ForBytes (IsContents m.image.contents) (λ b. HoldsPhase1 s.layout b w)) where
     -- what was printed, where more is known
     lines_answer : (T : Type 0) (r : Result T RunFault) →
-        PrintsLines (WithPhase1 s.layout m.image w) (λ b. search_lines search sector b s) m.out m'.out r →
-        PrintsLines (WithSuper m.image sector s) (λ b. search_lines search sector b s) m.out m'.out r
+        PrintsLines (WithPhase1 s.layout m.image w) (λ b. target_lines target sector b s) m.out m'.out r →
+        PrintsLines (WithSuper m.image sector s) (λ b. target_lines target sector b s) m.out m'.out r
     lines_answer T r p = knowing T _ _ _ m.out m'.out r (λ b k. (k.0, holds b k.0)) p
 
     -- all lines were printed
     pub all_answer : (defect : Bool) →
-        (p : PrintedTo (WithPhase1 s.layout m.image w) (λ b. []) (λ b. search_lines search sector b s) m.out m'.out) →
-        defect ≡ (finds_defects search && any_line p.lines) → PrintedAll (finds_defects search)
-        (WithSuper m.image sector s) (λ b. search_lines search sector b s) m.out m'.out defect
+        (p : PrintedTo (WithPhase1 s.layout m.image w) (λ b. []) (λ b. target_lines target sector b s) m.out m'.out) →
+        defect ≡ (finds_defects target && any_line p.lines) → PrintedAll (finds_defects target)
+        (WithSuper m.image sector s) (λ b. target_lines target sector b s) m.out m'.out defect
     all_answer defect p is = record {
       printed = record { lines = p.lines; right = λ b k. p.right b (k.0, holds b k.0); took = p.took };
       defect_is = is;
@@ -50,7 +50,7 @@ module _ (search : Search) (sector : Option ℕ) (s : Superblock) (m : Moment) w
 
     -- a fault came among the lines
     pub fault_answer : (T : Type 0) (fault : RunFault) → ImageAfter {T = T} m.image m'.image (Err fault) →
-        PrintsLines {T = T} (WithPhase1 s.layout m.image w) (λ b. search_lines search sector b s) m.out m'.out
-        (Err fault) → SearchAnswers search sector s m m' (Err (Failed fault))
+        PrintsLines {T = T} (WithPhase1 s.layout m.image w) (λ b. target_lines target sector b s) m.out m'.out
+        (Err fault) → TargetAnswers target sector s m m' (Err (Failed fault))
     fault_answer T (Read fault) image p = (image, lines_answer T (Err (Read fault)) p)
     fault_answer T (Out fault) image p = (image, lines_answer T (Err (Out fault)) p)

@@ -1,4 +1,4 @@
--- What looking at one sector leaves, by what was found there.
+-- What is left of one sector, by what was found there.
 use Rattle.std.proofs.Common.{◌≡◌, ◌∙◌, ℕ, ◌+◌, ◌*◌, ◌≤◌, true, false, List, [], length, Option, Some, Ok, arith, ap}
 use Rattle.std.proofs.Common.{subst, sym, inl, inr}
 use Rattle.ffs_image.specs.Device.{Device, ForContents, IsSized, Faulted}

@@ -5,7 +5,7 @@ use Rattle.ffs_volume.specs.Report.Opening.{fault_line}
 use Rattle.ffs_report.specs.{Known.IsContents, Sink.Sink, declared.fault.RunFault.TheVariants.{Read, Out}}
 use Rattle.ffs_memory.specs.Account.{Account}
 use Rattle.ffs_layout.specs.Super.{ReadsSuper}
-use Rattle.ffs_finding.specs.declared.request.{Search.Search, Command.{Command, TheVariants.{Copies, InVolume}}}
+use Rattle.ffs_finding.specs.declared.request.{Target.Target, Command.{Command, TheVariants.{Copies, InVolume}}}
 use Rattle.ffs_finding.specs.declared.find.FindFault.{FindFault, TheVariants.{Refused, Failed, NoMemory}}
 use Rattle.ffs_finding.specs.{Outcome.StoppedIn, Whole.{Answers, EndsBy, EndsByLine, FindEnds, RefusesSuperblock}}
 use Rattle.ffs_finding.specs.Whole.{IsUnreadableFor}
@@ -13,12 +13,12 @@ use Rattle.ffs_finding.specs.Whole.{PrintedAll, command_finds_defects, command_l
 use Rattle.ffs_finding.proofs.Printing.{reads_first}
 use Rattle.ffs_check.specs.{Moment.Moment, Run.IsPrintedOrBrokeOff}
 
-module _ (sector : Option ℕ) (search : Search) (m m' : Moment) (held held' : Account) (fault : SuperFault) (status : ℕ)
+module _ (sector : Option ℕ) (target : Target) (m m' : Moment) (held held' : Account) (fault : SuperFault) (status : ℕ)
   where
     ends_refused : ReadsSuper m.image m'.image sector (Err fault) →
-        IsUnreadableFor (InVolume sector search) m.image m'.image fault →
+        IsUnreadableFor (InVolume sector target) m.image m'.image fault →
         EndsByLine m.out m'.out (text_of (fault_line fault)) status →
-        FindEnds (InVolume sector search) m m' held held' status
+        FindEnds (InVolume sector target) m m' held held' status
     ends_refused p unreadable e = elim p [
       | inl failed ↦ inr (inr (inl (record {
         sector = m'.image.failed_sector;
@@ -42,8 +42,8 @@ ends_by_superblock : (command : Command) (m m' : Moment) (held held' : Account) 
     RefusesSuperblock command m.image m'.image fault → IsUnreadableFor command m.image m'.image fault →
     EndsByLine m.out m'.out (text_of (fault_line fault)) status → FindEnds command m m' held held' status
 ends_by_superblock Copies m m' held held' fault status p unreadable e = absurd p
-ends_by_superblock (InVolume sector search) m m' held held' fault status p unreadable e =
-    ends_refused sector search m m' held held' fault status p unreadable e
+ends_by_superblock (InVolume sector target) m m' held held' fault status p unreadable e =
+    ends_refused sector target m m' held held' fault status p unreadable e
 
 -- `b` is the output before the line of the fault
 pub ends : (command : Command) (m m' : Moment) (b : Sink) (held held' : Account) (answer : Result Bool FindFault)

@@ -1,4 +1,4 @@
--- How an inode is looked at.
+-- How the lines of an inode are found.
 use Rattle.std.proofs.Common.{◌≡◌, ◌∙◌, ℕ, ◌+◌, ◌<◌, ◌≤◌, List, Result, Ok, Err, slice_index, arith, ap, refl}
 use Rattle.ffs_image.specs.Device.{Device}
 use Rattle.ffs_volume.specs.{Blocks.{KeptSteps.claims_before, Inodes.inode_of}, Laws.Geometry.IsAcceptedLayout}
@@ -10,7 +10,8 @@ use Rattle.ffs_workspace.specs.{Found.WithPhase1, Ready.{CanRead, KeepsWindows}}
 use Rattle.ffs_volume.specs.{Blocks.Inodes.inodes_of, Encodings.Notes.{cut_in, note_at}}
 use Rattle.ffs_workspace.specs.declared.workspace.{Windows.Windows, Workspace.Workspace}
 use Rattle.ffs_check.specs.Moment.{Moment}
-use Rattle.ffs_finding.{specs.{Keepers.{LooksAtInode, WalksKept, sought_in}, Outcome.PrintsLines}, proofs.Owners.listed_inode}
+use Rattle.ffs_finding.specs.{Keepers.{FindsKeeper, WalksKept, sought_in}, Outcome.PrintsLines}
+use Rattle.ffs_finding.proofs.Owners.{listed_inode}
 use Rattle.ffs_finding.proofs.{Owners.inode_runs, Printing.knowing}
 
 -- lines that are the same
@@ -57,15 +58,15 @@ stays_from d d' r image can kept =
     record { held = refl; can_read = can_read_after d d' same.0 same.1 kept can }
 
 -- an inode was read before, as the image gives it
-pub looks_from : {T : Type 0} {v : Layout} {f x cut count now count' : ℕ} {old new : Sink}
+pub finds_keeper : {T : Type 0} {v : Layout} {f x cut count now count' : ℕ} {old new : Sink}
     {r : Result T RunFault} (i : Inode) (w : Workspace) (d d1 d' : Device) → d1 ≡ d →
     ForBytes (IsContents d.contents) (λ bytes. i ≡ inode_of v bytes x) → now ≤ count + 1 →
     cut ≡ cut_in (slice_index w.notes.items x) →
     WalksKept v (record { fragment = f; number = x; cut = cut }) i (record { image = d1; reads = now; out = old })
     (record { image = d'; reads = count'; out = new }) r →
-    LooksAtInode v (sought_in f x w) (record { image = d; reads = count; out = old })
+    FindsKeeper v (sought_in f x w) (record { image = d; reads = count; out = old })
     (record { image = d'; reads = count'; out = new }) r
-looks_from {old = old} {new = new} {r = r} i w d d1 d' e h few is p =
+finds_keeper {old = old} {new = new} {r = r} i w d d1 d' e h few is p =
     let q = rw (e, is) at p in
     record {
       found = record {
@@ -75,10 +76,10 @@ looks_from {old = old} {new = new} {r = r} i w d d1 d' e h few is p =
       reads = λ bytes k. omega (arith, few, rw (h bytes k) at (q.reads bytes k));
     }
 
--- the lines of an inode that was looked at, in a workspace of which only windows have changed
+-- the lines of an inode that was read, in a workspace of which only windows have changed
 pub found_lines : {T : Type 0} {v : Layout} {f x : ℕ} {m m' : Moment} {d0 on : Device} {w w0 : Workspace}
     {r : Result T RunFault} → m.image ≡ d0 → KeepsWindows v on w0 w → IsAcceptedLayout v → 2 ≤ x →
-    x < inodes_of v → LooksAtInode v (sought_in f x w) m m' r →
+    x < inodes_of v → FindsKeeper v (sought_in f x w) m m' r →
     PrintsLines (WithPhase1 v d0 w0) (λ b. keeper_lines_of_inode v b f x) m.out m'.out r
 found_lines {v = v} {f = f} {x = x} {m = m} {m' = m'} {d0 = d0} {w = w} {w0 = w0} {r = r} e stays g low high p =
     let note : ForBytes (WithPhase1 v d0 w0) (λ b. slice_index w.notes.items x ≡ note_at v b x) = λ b k.
@@ -91,7 +92,7 @@ found_lines {v = v} {f = f} {x = x} {m = m} {m' = m'} {d0 = d0} {w = w} {w0 = w0
 -- and its reads
 pub found_reads : {T : Type 0} {v : Layout} {f x : ℕ} {m m' : Moment} {d0 on : Device} {w w0 : Workspace}
     {r : Result T RunFault} → m.image ≡ d0 → KeepsWindows v on w0 w → IsAcceptedLayout v → 2 ≤ x →
-    x < inodes_of v → LooksAtInode v (sought_in f x w) m m' r →
+    x < inodes_of v → FindsKeeper v (sought_in f x w) m m' r →
     ForBytes (WithPhase1 v d0 w0) (λ b. m'.reads + (claims_before v b x).runs
     ≤ m.reads + 1 + (claims_before v b (x + 1)).runs)
 found_reads {v = v} {x = x} {w = w} e stays g low high p = λ b k.

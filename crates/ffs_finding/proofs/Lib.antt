@@ -19,5 +19,5 @@ pub mod Claiming
 pub mod Stretches
 pub mod LostGroups
 pub mod LostParts
-pub mod ClaimSearches
-pub mod Searching
+pub mod ClaimTargets
+pub mod Targets

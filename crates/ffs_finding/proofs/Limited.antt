@@ -1,4 +1,4 @@
--- What a search through a limited image leaves of the image below it, and of what it printed.
+-- What finding in a limited image leaves of the image below it, and what it printed.
 use Rattle.std.specs.Borrow.{GName}
 use Rattle.std.proofs.Common.{◌≡◌, ◌≤◌, ◌∙◌, ℕ, Bool, true, false, List, arith, sym, Result, Ok, Err}
 use Rattle.ffs_image.specs.{Device.Device, Limited.{GivesBack, GivesBackLent, LentAt, lent_at, limited_device, shown_above}}
@@ -29,8 +29,8 @@ module _ {T : Type 0} {lent given : LentAt} {asked : ℕ} {spent : Bool} {above 
   refused_text (Err (Out fault)) x s none h p =
       let no : true ≡ false = sym s ∙ (g.untouched h).0 in absurd (cc)
 
--- what a search over a limited image leaves of the image below, of its lines and of its answer
-pub record SearchServed {T : Type 0} (knows : List ℕ → Type 0) (all : List ℕ → List (List ℕ)) (lent below : Device)
+-- what finding in a limited image leaves of the image below, of its lines and of its answer
+pub record FindServed {T : Type 0} (knows : List ℕ → Type 0) (all : List ℕ → List (List ℕ)) (lent below : Device)
     (name_lent name : GName) (limit asked : ℕ) (spent : Bool) (old new : Sink) (r : Result T RunFault) : Type 0 where
   pub same_image : name_lent ≡ name
   pub few : asked ≤ limit → spent ≡ false
@@ -40,15 +40,15 @@ pub record SearchServed {T : Type 0} (knows : List ℕ → Type 0) (all : List �
   pub answered : spent ≡ false → (k k' : ℕ) → Finds knows all (record { image = lent; reads = k; out = old })
       (record { image = below; reads = k'; out = new }) r
 
--- the contract of the search, with the clause of the limited image on what is below
-pub search_served : {T : Type 0} {knows : List ℕ → Type 0} {all : List ℕ → List (List ℕ)} {lent below : Device}
+-- the contract of what finds, with the clause of the limited image on what is below
+pub find_served : {T : Type 0} {knows : List ℕ → Type 0} {all : List ℕ → List (List ℕ)} {lent below : Device}
     {name_lent name : GName} {reads reads' limit left asked k k' : ℕ} {s : Bool} {above : Device} {old new : Sink}
     {r : Result T RunFault} → Finds knows all
     (record { image = limited_device lent name_lent reads limit; reads = k; out = old })
     (record { image = above; reads = k'; out = new }) r →
     GivesBackLent (lent_at below name reads' left) asked s above →
-    SearchServed knows all lent below name_lent name limit asked s old new r
-search_served {lent = lent} {below = below} {name_lent = name_lent} {reads = reads} {limit = limit} {s = s}
+    FindServed knows all lent below name_lent name limit asked s old new r
+find_served {lent = lent} {below = below} {name_lent = name_lent} {reads = reads} {limit = limit} {s = s}
     {r = r} p back =
     let over = image_over (limited_device lent name_lent reads limit) _ r p.image in
     let g = back (lent_at lent name_lent reads limit) over.lent over.contents over.size in

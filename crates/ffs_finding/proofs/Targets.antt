@@ -1,4 +1,4 @@
--- A search in a volume, as the command that asks for it.
+-- A target found in a volume, as the command that asks for it.
 use Rattle.std.proofs.Common.{◌≡◌, ◌∙◌, ◌*◌, ◌+◌, ◌≤◌, ℕ, Bool, List, Option, Result, Ok, Err, sym, ap, arith, inl, inr}
 use Rattle.std.proofs.Common.{refl, is_ok}
 use Rattle.ffs_check.specs.{Moment.Moment, Taken.AsksMemory}
@@ -8,28 +8,29 @@ use Rattle.ffs_volume.specs.{declared.Layout.Layout, Report.Memory.{held_limit, 
 use Rattle.ffs_volume.specs.{Disk.Outcome.outcome, Laws.Geometry.IsAcceptedLayout}
 use Rattle.ffs_report.specs.{Known.{ForBytes, IsContents}, Sink.Sink, declared.fault.RunFault.TheVariants.{Read, Out}}
 use Rattle.ffs_finding.specs.declared.find.FindFault.{FindFault, TheVariants.{Refused, Failed, NoMemory}}
-use Rattle.ffs_finding.specs.declared.request.Search.{Search, TheVariants.{Inode, Fields, Lost, Owner}}
+use Rattle.ffs_finding.specs.declared.request.Target.{Target, TheVariants.{Inode, Fields, Lost, Owner}}
 use Rattle.ffs_finding.specs.{declared.request.Command.TheVariants.InVolume, Fields.WithSuper, Outcome.PrintedTo}
-use Rattle.ffs_finding.specs.Whole.{Answers, IsGranted, Looks, SearchAnswers, Searches, TakesForSearch, TakesMemory}
-use Rattle.ffs_finding.specs.Whole.{command_lines, lines_by, search_lines}
+use Rattle.ffs_finding.specs.Whole.{Answers, AnswersCommand, FindsTarget, IsGranted, TakesForTarget, TakesMemory}
+use Rattle.ffs_finding.specs.Whole.{TargetAnswers}
+use Rattle.ffs_finding.specs.Whole.{command_lines, lines_by, target_lines}
 
 -- memory was refused, where the answer says so
-refused : (search : Search) (v : Layout) (held held' : Account) → TakesForSearch search v held held' (Err NoMemory) →
+refused : (target : Target) (v : Layout) (held held' : Account) → TakesForTarget target v held held' (Err NoMemory) →
     RefusedOneMore held held'
 refused (Inode number) v held held' p = absurd (p.1 refl)
 refused Fields v held held' p = absurd (p.1 refl)
 refused Lost v held held' p = p.rose
 refused (Owner fragment) v held held' p = p.rose
 
-module _ (search : Search) (sector : Option ℕ) (s : Superblock) (d : Device)
+module _ (target : Target) (sector : Option ℕ) (s : Superblock) (d : Device)
     (accepted : ForContents d.contents (λ b. outcome b sector ≡ Ok s)) where
   lines_are : ForBytes (IsContents d.contents)
-      (λ b. search_lines search sector b s ≡ command_lines (InVolume sector search) b)
-  lines_are b k = sym (ap (lines_by (search_lines search sector b)) (accepted b k))
+      (λ b. target_lines target sector b s ≡ command_lines (InVolume sector target) b)
+  lines_are b k = sym (ap (lines_by (target_lines target sector b)) (accepted b k))
 
   printed : (rest : List ℕ → List (List ℕ)) (a b : Sink) →
-      PrintedTo (WithSuper d sector s) rest (λ b. search_lines search sector b s) a b →
-      PrintedTo (IsContents d.contents) rest (command_lines (InVolume sector search)) a b
+      PrintedTo (WithSuper d sector s) rest (λ b. target_lines target sector b s) a b →
+      PrintedTo (IsContents d.contents) rest (command_lines (InVolume sector target)) a b
   printed rest a b p =
       record {
         lines = p.lines;
@@ -38,9 +39,9 @@ module _ (search : Search) (sector : Option ℕ) (s : Superblock) (d : Device)
       }
 
   answers : (between before : ℕ) (a : Sink) (m : Moment) (held held' : Account) (r : Result Bool FindFault) →
-      SearchAnswers search sector s (record { image = d; reads = between; out = a }) m r →
-      TakesForSearch search s.layout held held' r →
-      Answers (InVolume sector search) (record { image = d; reads = before; out = a }) m held held' r
+      TargetAnswers target sector s (record { image = d; reads = between; out = a }) m r →
+      TakesForTarget target s.layout held held' r →
+      Answers (InVolume sector target) (record { image = d; reads = before; out = a }) m held held' r
   answers between before a m held held' (Ok defect) p t = (
     p.0,
     λ bytes k. ap is_ok (accepted bytes k),
@@ -65,7 +66,7 @@ module _ (search : Search) (sector : Option ℕ) (s : Superblock) (d : Device)
       broke_off = p.1.broke_off;
     },
   )
-  answers between before a m held held' (Err NoMemory) p t = (p.0, p.1, refused search s.layout held held' t)
+  answers between before a m held held' (Err NoMemory) p t = (p.0, p.1, refused target s.layout held held' t)
 
 -- what the lists and buffers of a check take is within their bound
 held_within : (v : Layout) → held_of v ≤ held_limit v
@@ -78,10 +79,10 @@ asked bytes held held' (Err (Refused fault)) p = inl p
 asked bytes held held' (Err (Failed fault)) p = inl p
 asked bytes held held' (Err NoMemory) p = inr p
 
-takes : (search : Search) (sector : Option ℕ) (s : Superblock) (d : Device) (held held' : Account)
+takes : (target : Target) (sector : Option ℕ) (s : Superblock) (d : Device) (held held' : Account)
     (r : Result Bool FindFault) → ForContents d.contents (λ b. outcome b sector ≡ Ok s) →
     IsAcceptedLayout s.layout → s.layout.size * s.layout.fsize ≤ d.size →
-    TakesForSearch search s.layout held held' r → TakesMemory (InVolume sector search) d held held'
+    TakesForTarget target s.layout held held' r → TakesMemory (InVolume sector target) d held held'
 takes (Inode number) sector s d held held' r accepted sound inside p = p.0
 takes Fields sector s d held held' r accepted sound inside p = p.0
 takes Lost sector s d held held' r accepted sound inside p = inr (record {
@@ -101,17 +102,17 @@ takes (Owner fragment) sector s d held held' r accepted sound inside p = inr (re
   within = held_within s.layout;
 })
 
--- a search was made after the superblock was read
-pub looked : (search : Search) (sector : Option ℕ) (s : Superblock) (d : Device) (before between : ℕ) (a : Sink)
+-- a target was found after the superblock was read
+pub answered : (target : Target) (sector : Option ℕ) (s : Superblock) (d : Device) (before between : ℕ) (a : Sink)
     (m : Moment) (held held' : Account) (r : Result Bool FindFault) →
     ForContents d.contents (λ b. outcome b sector ≡ Ok s) → IsAcceptedLayout s.layout →
     s.layout.size * s.layout.fsize ≤ d.size → between ≤ before + 2 →
-    Searches search sector s (record { image = d; reads = between; out = a }) m r →
-    TakesForSearch search s.layout held held' r →
-    Looks (InVolume sector search) (record { image = d; reads = before; out = a }) m held held' r
-looked search sector s d before between a m held held' r accepted sound inside opened p t = record {
-  answers = answers search sector s d accepted between before a m held held' r p.answer t;
-  memory = takes search sector s d held held' r accepted sound inside t;
+    FindsTarget target sector s (record { image = d; reads = between; out = a }) m r →
+    TakesForTarget target s.layout held held' r →
+    AnswersCommand (InVolume sector target) (record { image = d; reads = before; out = a }) m held held' r
+answered target sector s d before between a m held held' r accepted sound inside opened p t = record {
+  answers = answers target sector s d accepted between before a m held held' r p.answer t;
+  memory = takes target sector s d held held' r accepted sound inside t;
   reads = inr (record {
     found = s;
     accepted = accepted;

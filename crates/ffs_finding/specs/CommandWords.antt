@@ -5,7 +5,7 @@ use Rattle.clap.specs.Words.{App, Rule, Text, first_of, matches_of, new_rule, wi
 use Rattle.clap.specs.declared.builder.ArgAction.TheVariants.{Set}
 use Rattle.ffs_check.specs.CommandWords.{NameSector, needed_rule, no_write_rule, refusals, sector_rule, named_word}
 use Rattle.ffs_check.specs.CommandWords.{wordless}
-use Rattle.ffs_finding.specs.declared.request.{Search.TheVariants.{Inode, Fields, Lost, Owner}, Command.Command}
+use Rattle.ffs_finding.specs.declared.request.{Target.TheVariants.{Inode, Fields, Lost, Owner}, Command.Command}
 use Rattle.ffs_finding.specs.declared.request.Command.TheVariants.{Copies, InVolume}
 
 -- one more word, which may be there

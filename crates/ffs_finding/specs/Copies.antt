@@ -1,4 +1,4 @@
--- The search for magic numbers, window by window.
+-- How magic numbers are found, window by window.
 use Rattle.std.specs.Prelude.{◌≡◌, ℕ, ◌+◌, ◌-◌, ◌*◌, ◌/◌, ◌<◌, ◌≤◌, min, Bool, List, Some, is_some, Result, IfOk, OnOk}
 use Rattle.std.specs.{Prelude.{vec_len, count_by, if◌then◌else◌}, Int.div_ceil}
 use Rattle.ffs_image.specs.{Device.{Device, ForContents}, Reads.ReadAfter, declared.image.ImageFault.ImageFault}
@@ -24,7 +24,7 @@ window_length size place = min WINDOW_BYTES (size - place)
 
 -- a superblock at a sector lies in the image, `-b` takes the sector, and the window has its room and
 -- holds what the image gives
-pub record CanLookAt (d : Device) (sector : ℕ) (w : Window) : Type 0 where
+pub record CanFindAt (d : Device) (sector : ℕ) (w : Window) : Type 0 where
   pub sector_fits : sector < SECTOR_END
   pub inside : sector * DEV_BSIZE + SUPERBLOCK_BYTES ≤ d.size
   pub room : vec_len w.buffer ≡ WINDOW_BYTES
@@ -42,7 +42,7 @@ pub record WindowAfter {T E : Type 0} (d d' : Device) (sector : ℕ) (after : Wi
   pub holds : WindowHolds d'.contents after
 
 -- the answer is whether a magic number is there
-pub record LooksForMagic (d d' : Device) (sector : ℕ) (after : Window) (result : Result Bool ImageFault) : Type 0 where
+pub record FindsMagic (d d' : Device) (sector : ℕ) (after : Window) (result : Result Bool ImageFault) : Type 0 where
   pub answer : IfOk result (λ found. ForContents d.contents (λ b. found ≡ has_magic b sector))
   pub read : ReadAfter d d' result
   pub window : WindowAfter d d' sector after result
@@ -57,7 +57,7 @@ abbrev pub super_reads : (image : List ℕ) (sector : ℕ) → ℕ
 super_reads image sector = if has_magic image sector then 2 else 0
 
 -- the line of a sector was printed, where a superblock is accepted there, or what a fault leaves of it
-pub record LooksAt (sector : ℕ) (before after : Window) (old new : Moment) (result : Result (Unit {0}) RunFault) :
+pub record FindsAt (sector : ℕ) (before after : Window) (old new : Moment) (result : Result (Unit {0}) RunFault) :
     Type 0 where
   pub found : Finds (IsContents old.image.contents) (λ b. copy_lines_of sector (outcome b (Some sector))) old new result
   pub window : WindowAfter old.image new.image sector after result

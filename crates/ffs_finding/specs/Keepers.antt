@@ -16,7 +16,7 @@ use Rattle.ffs_check.specs.Moment.{Moment}
 use Rattle.ffs_finding.specs.{Outcome.Finds, declared.owner.Sought.Sought}
 
 -- ---- the map of a group
--- the map of the group of the fragment f can be looked at: the volume has f, and its group block is there
+-- what the map of its group says of the fragment f can be printed: the volume has f, and its group block is there
 pub record CanPrintMap (v : Layout) (block : List ℕ) (f : ℕ) : Type 0 where
   pub below : f < v.size
   pub size : length block ≡ v.cgsize
@@ -77,8 +77,8 @@ pub record WalksKept {T : Type 0} (v : Layout) (s : Sought) (inode : Inode) (old
   pub reads : ForBytes (IsContents old.image.contents)
       (λ b. new.reads ≤ old.reads + replayed_runs v s.cut fresh_replay (steps_of v inode b))
 
--- the inode x can be looked at
-pub record CanLookAtInode (v : Layout) (d : Device) (w : Workspace) (x : ℕ) : Type 0 where
+-- the lines of the inode x can be found
+pub record CanFindKeeper (v : Layout) (d : Device) (w : Workspace) (x : ℕ) : Type 0 where
   pub ready : CanRead v d w
   pub number : x < inodes_of v
 
@@ -86,17 +86,17 @@ pub record CanLookAtInode (v : Layout) (d : Device) (w : Workspace) (x : ℕ) : 
 abbrev pub sought_in : (f x : ℕ) → Workspace → Sought
 sought_in f x w = record { fragment = f; number = x; cut = cut_in (slice_index w.notes.items x) }
 
--- an inode was read and looked at: its lines were printed, with one read more
-pub record LooksAtInode {T : Type 0} (v : Layout) (s : Sought) (old new : Moment) (result : Result T RunFault) :
+-- an inode was read, and its lines were printed, with one read more
+pub record FindsKeeper {T : Type 0} (v : Layout) (s : Sought) (old new : Moment) (result : Result T RunFault) :
     Type 0 where
   pub found : Finds (IsContents old.image.contents) (λ b. sought_lines v s (steps_of v (inode_of v b s.number) b))
       old new result
   pub reads : ForBytes (IsContents old.image.contents) (λ b. new.reads ≤ old.reads + 1
       + replayed_runs v s.cut fresh_replay (steps_of v (inode_of v b s.number) b))
 
--- all inodes were looked at: their lines were printed, and the image was read at most once for each inode
+-- the lines of all inodes were printed, and the image was read at most once for each inode
 -- and once for each Run that is seen
-pub record LooksAtAll {T : Type 0} (v : Layout) (f : ℕ) (w : Workspace) (old new : Moment)
+pub record FindsAllKeepers {T : Type 0} (v : Layout) (f : ℕ) (w : Workspace) (old new : Moment)
     (result : Result T RunFault) : Type 0 where
   pub found : Finds (WithPhase1 v old.image w) (λ b. keeper_lines v b f) old new result
   pub reads : ForBytes (WithPhase1 v old.image w) (λ b. new.reads ≤ old.reads + inodes_of v + run_count v b)

@@ -1,5 +1,5 @@
--- What `ffs_find` promises: what its words ask for, by which texts they are refused, and how a look at an image
--- ends.
+-- What `ffs_find` promises: what its words ask for, by which texts they are refused, and what is found in an
+-- image.
 use Rattle.std.specs.Prelude.{◌≡◌, ◌⊎◌, ℕ, List}
 use Rattle.ffs_memory.specs.{System.account_of, Account.unused, declared.system.SystemMemory.SystemMemory}
 use Rattle.ffs_check.specs.{CommandWords.LacksMemory, Moment.Moment, Program.Meaning, Refusals.IsTextFor}
@@ -24,19 +24,19 @@ abbrev pub IsFindText : List (List ℕ) → (text : List ℕ) → Type 0
 IsFindText words text =
     IsTextFor find_program find_refusal_text words text ⊎ (AskForNone words × (text ≡ no_command_text))
 
--- what a command asks for was looked for in an image, with memory of the system of which nothing was
+-- what a command asks for was found in an image, with memory of the system of which nothing was
 -- granted before
-pub record IsLookedFor (command : Command) (old new : Moment) (status : ℕ) : Type 0 where
+pub record IsFoundIn (command : Command) (old new : Moment) (status : ℕ) : Type 0 where
   pub memory : SystemMemory
   pub memory' : SystemMemory
   pub begun : account_of memory ≡ unused
   pub found : FindsCommand command old new (account_of memory) (account_of memory') status
 
--- a look for what a command asks for
+-- the program, which finds what a command asks for
 abbrev pub ffs_find : Meaning Command
 ffs_find = record {
   asks = AskForCommand;
   refuses = IsFindText;
   lacks_memory = LacksMemory find_program;
-  looks = λ name. IsLookedFor;
+  looks = λ name. IsFoundIn;
 }

@@ -14,21 +14,21 @@ use Rattle.ffs_report.specs.{Known.IsContents, Sink.Sink, declared.fault.RunFaul
 use Rattle.ffs_memory.specs.Account.{Account, Granted, GaveUp, RefusedOneMore}
 use Rattle.ffs_check.specs.{Moment.Moment, Run.IsPrintedOrBrokeOff, Taken.{AsksMemory, Takes}}
 use Rattle.ffs_layout.specs.Super.{IsUnreadable, ReadsSuper}
-use Rattle.ffs_finding.specs.declared.request.Search.{Search, TheVariants.{Inode, Fields, Lost, Owner}}
+use Rattle.ffs_finding.specs.declared.request.Target.{Target, TheVariants.{Inode, Fields, Lost, Owner}}
 use Rattle.ffs_finding.specs.declared.request.Command.{Command, TheVariants.{Copies, InVolume}}
 use Rattle.ffs_finding.specs.declared.find.FindFault.{FindFault, TheVariants.{Refused, Failed, NoMemory}}
 use Rattle.ffs_finding.specs.{Outcome.{PrintedTo, PrintedSome, StoppedIn, any_line}, Fields.WithSuper}
 use Rattle.ffs_finding.specs.{Copies.ReadsCopies, declared.copies.TheConstants.WINDOW_BYTES}
 
--- what a search prints of an image with this accepted superblock
-abbrev pub search_lines : Search → (sector : Option ℕ) → (image : List ℕ) → Superblock → List (List ℕ)
-search_lines (Inode number) sector image s = inode_listing s.layout image number
-search_lines Fields sector image s = wrong_fields s image sector
-search_lines Lost sector image s = lost_lines s.layout image
-search_lines (Owner fragment) sector image s = lines_of_fragment s.layout image fragment
+-- what is printed of a target in an image with this accepted superblock
+abbrev pub target_lines : Target → (sector : Option ℕ) → (image : List ℕ) → Superblock → List (List ℕ)
+target_lines (Inode number) sector image s = inode_listing s.layout image number
+target_lines Fields sector image s = wrong_fields s image sector
+target_lines Lost sector image s = lost_lines s.layout image
+target_lines (Owner fragment) sector image s = lines_of_fragment s.layout image fragment
 
--- a line of the search is a defect
-abbrev pub finds_defects : Search → Bool
+-- a line of the target is a defect
+abbrev pub finds_defects : Target → Bool
 finds_defects (Inode number) = false
 finds_defects Fields = true
 finds_defects Lost = true
@@ -37,19 +37,19 @@ finds_defects (Owner fragment) = false
 -- a line of the command is a defect
 abbrev pub command_finds_defects : Command → Bool
 command_finds_defects Copies = false
-command_finds_defects (InVolume sector search) = finds_defects search
+command_finds_defects (InVolume sector target) = finds_defects target
 
 -- the superblock of the command's volume is accepted in these bytes; `copies` asks for no volume
 abbrev pub IsAcceptedIn : Command → (image : List ℕ) → Type 0
 IsAcceptedIn Copies image = ⊤
-IsAcceptedIn (InVolume sector search) image = IsOk (outcome image sector)
+IsAcceptedIn (InVolume sector target) image = IsOk (outcome image sector)
 
 -- the superblock of the command's volume is refused by this fault, in the bytes that the image gives
 abbrev pub IsRefusedBy : Command → SuperFault → Device → Type 0
 IsRefusedBy Copies fault d = ⊥
-IsRefusedBy (InVolume sector search) fault d = ForContents d.contents (λ b. outcome b sector ≡ Err fault)
+IsRefusedBy (InVolume sector target) fault d = ForContents d.contents (λ b. outcome b sector ≡ Err fault)
 
--- the lines by an outcome: those of a search, and none where the superblock is refused
+-- the lines by an outcome: those of a target, and none where the superblock is refused
 abbrev pub lines_by : (Superblock → List (List ℕ)) → Result Superblock SuperFault → List (List ℕ)
 lines_by lines (Ok s) = lines s
 lines_by lines (Err fault) = []
@@ -57,7 +57,7 @@ lines_by lines (Err fault) = []
 -- all lines that a command finds in an image
 abbrev pub command_lines : Command → (image : List ℕ) → List (List ℕ)
 command_lines Copies image = copies_lines image
-command_lines (InVolume sector search) image = lines_by (search_lines search sector image) (outcome image sector)
+command_lines (InVolume sector target) image = lines_by (target_lines target sector image) (outcome image sector)
 
 -- the status of an answer: 1 where a defect was found
 abbrev pub status_of_answer : Bool → ℕ
@@ -69,33 +69,33 @@ pub record PrintedAll (are_defects : Bool) (knows : List ℕ → Type 0) (all : 
   pub printed : PrintedTo knows (λ b. []) all old new
   pub defect_is : defect ≡ (are_defects && any_line printed.lines)
 
--- a search printed its lines, and the answer is whether a defect was found
-abbrev pub SearchAnswers : Search → Option ℕ → Superblock → Moment → Moment → Result Bool FindFault → Type 0
-SearchAnswers search sector s old new (Ok defect) =
-    (new.image ≡ old.image) × PrintedAll (finds_defects search) (WithSuper old.image sector s)
-    (λ b. search_lines search sector b s) old.out new.out defect
-SearchAnswers search sector s old new (Err (Refused fault)) = ⊥
-SearchAnswers search sector s old new (Err (Failed (Read fault))) =
+-- the lines of a target were printed, and the answer is whether a defect was found
+abbrev pub TargetAnswers : Target → Option ℕ → Superblock → Moment → Moment → Result Bool FindFault → Type 0
+TargetAnswers target sector s old new (Ok defect) =
+    (new.image ≡ old.image) × PrintedAll (finds_defects target) (WithSuper old.image sector s)
+    (λ b. target_lines target sector b s) old.out new.out defect
+TargetAnswers target sector s old new (Err (Refused fault)) = ⊥
+TargetAnswers target sector s old new (Err (Failed (Read fault))) =
     Faulted old.image new.image fault.sector
-    × PrintedSome (WithSuper old.image sector s) (λ b. search_lines search sector b s) old.out new.out
-SearchAnswers search sector s old new (Err (Failed (Out fault))) =
+    × PrintedSome (WithSuper old.image sector s) (λ b. target_lines target sector b s) old.out new.out
+TargetAnswers target sector s old new (Err (Failed (Out fault))) =
     (new.image ≡ old.image)
-    × StoppedIn (WithSuper old.image sector s) (λ b. search_lines search sector b s) old.out new.out
-SearchAnswers search sector s old new (Err NoMemory) = (new.image ≡ old.image) × (new.out ≡ old.out)
+    × StoppedIn (WithSuper old.image sector s) (λ b. target_lines target sector b s) old.out new.out
+TargetAnswers target sector s old new (Err NoMemory) = (new.image ≡ old.image) × (new.out ≡ old.out)
 
--- how often a search reads an image after the superblock, in a volume of this layout: `lost` for phase 1 and
+-- how often an image is read for a target after the superblock, in a volume of this layout: `lost` for phase 1 and
 -- the block of each group twice, `owner` for phase 1 and a sweep over all inodes
-abbrev pub search_reads : Search → Layout → ℕ
-search_reads (Inode number) v = 1
-search_reads Fields v = 1
-search_reads Lost v = scan_reads v + 2 * v.ncg
-search_reads (Owner fragment) v = scan_reads v + sweep_reads v
+abbrev pub target_reads : Target → Layout → ℕ
+target_reads (Inode number) v = 1
+target_reads Fields v = 1
+target_reads Lost v = scan_reads v + 2 * v.ncg
+target_reads (Owner fragment) v = scan_reads v + sweep_reads v
 
--- a search in a volume with this accepted superblock: what it printed, and how often it read the image
-pub record Searches (search : Search) (sector : Option ℕ) (s : Superblock) (old new : Moment)
+-- a target was found in a volume with this accepted superblock: what was printed, and how often the image was read
+pub record FindsTarget (target : Target) (sector : Option ℕ) (s : Superblock) (old new : Moment)
     (result : Result Bool FindFault) : Type 0 where
-  pub answer : SearchAnswers search sector s old new result
-  pub reads : new.reads ≤ old.reads + search_reads search s.layout
+  pub answer : TargetAnswers target sector s old new result
+  pub reads : new.reads ≤ old.reads + target_reads target s.layout
 
 -- bytes of the memory were granted, or a request for them was refused, as the answer says
 abbrev pub IsGranted : (bytes : ℕ) → Account → Account → Result Bool FindFault → Type 0
@@ -108,13 +108,13 @@ IsGranted bytes held held' (Err NoMemory) = GaveUp held held' bytes
 abbrev pub AsksNothing : Account → Account → Result Bool FindFault → Type 0
 AsksNothing held held' result = (held' ≡ held) × (result ≡ Err NoMemory → ⊥)
 
--- what a search takes of the memory, in a volume of this layout: nothing, or what the workspace of a check
+-- what is taken of the memory for a target, in a volume of this layout: nothing, or what the workspace of a check
 -- holds
-abbrev pub TakesForSearch : Search → Layout → Account → Account → Result Bool FindFault → Type 0
-TakesForSearch (Inode number) v held held' result = AsksNothing held held' result
-TakesForSearch Fields v held held' result = AsksNothing held held' result
-TakesForSearch Lost v held held' result = IsGranted (held_of v) held held' result
-TakesForSearch (Owner fragment) v held held' result = IsGranted (held_of v) held held' result
+abbrev pub TakesForTarget : Target → Layout → Account → Account → Result Bool FindFault → Type 0
+TakesForTarget (Inode number) v held held' result = AsksNothing held held' result
+TakesForTarget Fields v held held' result = AsksNothing held held' result
+TakesForTarget Lost v held held' result = IsGranted (held_of v) held held' result
+TakesForTarget (Owner fragment) v held held' result = IsGranted (held_of v) held held' result
 
 -- the line of a fault was printed, or the output failed in it, and the status is 8
 abbrev pub EndsByLine : Sink → Sink → List ℕ → ℕ → Type 0
@@ -136,13 +136,13 @@ EndsBy old new (Err NoMemory) status = EndsByLine old new (text_of cannot_alloc)
 -- ends before it does
 abbrev pub IsUnreadableFor : Command → Device → Device → SuperFault → Type 0
 IsUnreadableFor Copies d d' fault = ⊥
-IsUnreadableFor (InVolume sector search) d d' fault =
+IsUnreadableFor (InVolume sector target) d d' fault =
     (at : ℕ) → fault ≡ CannotRead at → IsUnreadable d d' sector at
 
 -- the superblock is refused: a read of it failed, or this is its fault in the image's bytes
 abbrev pub RefusesSuperblock : Command → Device → Device → SuperFault → Type 0
 RefusesSuperblock Copies d d' fault = ⊥
-RefusesSuperblock (InVolume sector search) d d' fault = ReadsSuper d d' sector (Err fault)
+RefusesSuperblock (InVolume sector target) d d' fault = ReadsSuper d d' sector (Err fault)
 
 -- what a command answers, before the line of a fault
 abbrev pub Answers : Command → Moment → Moment → Account → Account → Result Bool FindFault → Type 0
@@ -214,28 +214,28 @@ TakesMemory (InVolume sector Fields) d held held' = held' ≡ held
 TakesMemory (InVolume sector Lost) d held held' = Takes d sector held held'
 TakesMemory (InVolume sector (Owner fragment)) d held held' = Takes d sector held held'
 
--- the volume is accepted, and lies in the image: after its superblock a search reads as its layout says
-pub record ReadsVolume (search : Search) (sector : Option ℕ) (d : Device) (before after : ℕ) : Type 0 where
+-- the volume is accepted, and lies in the image: after its superblock it is read for a target as its layout says
+pub record ReadsVolume (target : Target) (sector : Option ℕ) (d : Device) (before after : ℕ) : Type 0 where
   pub found : Superblock
   pub accepted : ForContents d.contents (λ b. outcome b sector ≡ Ok found)
   pub sound : IsAcceptedLayout found.layout
   pub inside : found.layout.size * found.layout.fsize ≤ d.size
-  pub reads : after ≤ before + opening_reads + search_reads search found.layout
+  pub reads : after ≤ before + opening_reads + target_reads target found.layout
 
--- how often a command reads an image: in a volume the superblock, and what a search reads after it
+-- how often a command reads an image: in a volume the superblock, and what a target takes after it
 abbrev pub ReadsForCommand : Command → Device → ℕ → ℕ → Type 0
 ReadsForCommand Copies d before after = ReadsCopies d before after
-ReadsForCommand (InVolume sector search) d before after =
-    (after ≤ before + opening_reads) ⊎ ReadsVolume search sector d before after
+ReadsForCommand (InVolume sector target) d before after =
+    (after ≤ before + opening_reads) ⊎ ReadsVolume target sector d before after
 
--- what a command asks for was looked for; the line of a fault is still to come
-pub record Looks (command : Command) (old new : Moment) (held held' : Account) (result : Result Bool FindFault) :
-    Type 0 where
+-- what a command asks for was found; the line of a fault is still to come
+pub record AnswersCommand (command : Command) (old new : Moment) (held held' : Account)
+    (result : Result Bool FindFault) : Type 0 where
   pub answers : Answers command old new held held' result
   pub memory : TakesMemory command old.image held held'
   pub reads : ReadsForCommand command old.image old.reads new.reads
 
--- what a command asks for was looked for: what was printed and the status, what was taken of the memory,
+-- what a command asks for was found: what was printed and the status, what was taken of the memory,
 -- and how often the image was read
 pub record FindsCommand (command : Command) (old new : Moment) (held held' : Account) (status : ℕ) : Type 0 where
   pub ends : FindEnds command old new held held' status

@@ -1,4 +1,5 @@
--- What is written to standard error where `ffs_find` looks for nothing, by what `clap` answered of the words.
+-- What is written to standard error where the words of `ffs_find` don't say what to find, by what `clap` answered
+-- of them.
 use Rattle.std.specs.Prelude.{ℕ, List}
 use Rattle.clap.specs.declared.error.kind.ErrorKind.{ErrorKind}
 use Rattle.clap.specs.declared.error.kind.ErrorKind.TheVariants as kind

@@ -5,7 +5,7 @@ ghost use Rattle.ffs_volume.specs.declared.{Order.TheVariants.Big, constants.The
 ghost use Rattle.ffs_volume.specs.Find.Copies.{copies_lines, copy_lines_of, copy_text, order_word, which_text};
 ghost use Rattle.ffs_report.specs.{Known.IsContents, Sink.Prints};
 ghost use Rattle.ffs_check.specs.Moment.{moment};
-ghost use Rattle.ffs_finding.specs.{Outcome.Finds, Copies.{CanLookAt, IsSectorsEnd, LooksAt, LooksForMagic}};
+ghost use Rattle.ffs_finding.specs.{Outcome.Finds, Copies.{CanFindAt, IsSectorsEnd, FindsAt, FindsMagic}};
 ghost use Rattle.ffs_finding.specs.{Copies.{ReadsCopies, ReadsWindow}, declared.copies.TheConstants.WINDOW_BYTES};
 ghost use Rattle.ffs_walk.specs.Windows.{WindowHolds};
 
@@ -92,8 +92,8 @@ fn is_magic(bytes: &[u8], place: usize) -> bool
 /// # Errors
 /// A read of the image that failed.
 fn has_magic<I: Image>(image: &mut I, window: &mut Window, sector: u32) -> Result<bool, ImageFault>
-    requires { CanLookAt (I.device image.old) sector window.old }
-    ensures answer { LooksForMagic (I.device image.old) (I.device image.new) sector window.new
+    requires { CanFindAt (I.device image.old) sector window.old }
+    ensures answer { FindsMagic (I.device image.old) (I.device image.new) sector window.new
         result }
     ensures reads { ReadsWindow (I.device image.old) sector window.old (I.reads image.old)
         (I.reads image.new) }
@@ -112,8 +112,8 @@ fn find_copy<I: Image, W: Output>(
     sector: u32,
     out: &mut W,
 ) -> Result<(), RunFault>
-    requires { CanLookAt (I.device image.old) sector window.old }
-    ensures { LooksAt sector window.old window.new (moment I.Image W.Output image.old out.old)
+    requires { CanFindAt (I.device image.old) sector window.old }
+    ensures { FindsAt sector window.old window.new (moment I.Image W.Output image.old out.old)
         (moment I.Image W.Output image.new out.new) result }
 {
     let found = has_magic(image, window, sector)?;

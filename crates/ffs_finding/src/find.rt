@@ -1,12 +1,12 @@
-//! Looks in an image for what is asked for, and says how that ended.
+//! Finds in an image what is asked for, and says how that ended.
 ghost use Rattle.std.specs.Prelude.{◌≡◌, ◌+◌, ◌*◌, ◌≤◌, ℕ, Option};
 ghost use Rattle.ffs_volume.specs.{Messages.Texts.text_of};
 ghost use Rattle.ffs_report.specs.{Lines.message_of, Sink.Prints};
 ghost use Rattle.ffs_layout.specs.Super.{superblock_in};
 ghost use Rattle.ffs_check.specs.Moment.{moment};
-ghost use Rattle.ffs_finding.specs.Whole.{EndsBy, FindsCommand, Looks, Searches, TakesForSearch};
+ghost use Rattle.ffs_finding.specs.Whole.{AnswersCommand, EndsBy, FindsCommand, FindsTarget, TakesForTarget};
 ghost use Rattle.ffs_finding.specs.declared.find.FindFault.TheVariants.{Failed, NoMemory};
-ghost use Rattle.ffs_finding.specs.declared.request.Search.TheVariants.{Lost, Owner};
+ghost use Rattle.ffs_finding.specs.declared.request.Target.TheVariants.{Lost, Owner};
 ghost use Rattle.ffs_finding.specs.declared.request.Command.TheVariants.{Copies, InVolume};
 
 use crate::claims::claimed_workspace;
@@ -15,7 +15,7 @@ use crate::fields::find_wrong_fields;
 use crate::inode::find_inode;
 use crate::lost::find_lost;
 use crate::owner::find_owner;
-use crate::request::{Command, Search};
+use crate::request::{Command, Target};
 use ffs_check::opening::fault_line;
 use ffs_check::run::NOT_COMPLETED;
 use ffs_image::Image;
@@ -53,8 +53,8 @@ impl From<AllocError> for FindFault {
     }
 }
 
-/// Looks in an image for what a command asks for, prints it, and returns the exit status: 0, 1
-/// where a defect was found, or 8 where the search didn't run to its end.
+/// Finds in an image what a command asks for, prints it, and returns the exit status: 0, 1 where a
+/// defect was found, or 8 where it didn't run to its end.
 ///
 /// A superblock that is refused and a read that failed are reported as a check does; after a write
 /// that failed nothing more is printed.
@@ -68,37 +68,37 @@ pub fn find_in<M: Memory, I: Image, W: Output>(
         (moment I.Image W.Output image.new out.new) (M.account memory.old) (M.account memory.new)
         result }
 {
-    let answer = look(memory, image, command, out);
+    let answer = find(memory, image, command, out);
     end(answer, out)
 }
 
-/// Looks in an image for what a command asks for, and prints it, but for the line of a fault.
+/// Finds in an image what a command asks for, and prints it, but for the line of a fault.
 ///
 /// # Errors
 /// The superblock is refused, a read of the image or a write failed, or the memory was refused.
-fn look<M: Memory, I: Image, W: Output>(
+fn find<M: Memory, I: Image, W: Output>(
     memory: &mut M,
     image: &mut I,
     command: Command,
     out: &mut W,
 ) -> Result<bool, FindFault>
-    ensures { Looks command (moment I.Image W.Output image.old out.old)
+    ensures { AnswersCommand command (moment I.Image W.Output image.old out.old)
         (moment I.Image W.Output image.new out.new) (M.account memory.old) (M.account memory.new)
         result }
 {
     match command {
-        Command::Copies => look_for_copies(memory, image, out),
-        Command::InVolume { sector, search } => look_in_volume(memory, image, sector, search, out),
+        Command::Copies => find_copies_by_window(memory, image, out),
+        Command::InVolume { sector, target } => find_in_volume(memory, image, sector, target, out),
     }
 }
 
-/// Takes a window, and looks for copies of the superblock.
-fn look_for_copies<M: Memory, I: Image, W: Output>(
+/// Takes a window, and finds copies of the superblock.
+fn find_copies_by_window<M: Memory, I: Image, W: Output>(
     memory: &mut M,
     image: &mut I,
     out: &mut W,
 ) -> Result<bool, FindFault>
-    ensures { Looks Copies (moment I.Image W.Output image.old out.old)
+    ensures { AnswersCommand Copies (moment I.Image W.Output image.old out.old)
         (moment I.Image W.Output image.new out.new) (M.account memory.old) (M.account memory.new)
         result }
 {
@@ -107,61 +107,63 @@ fn look_for_copies<M: Memory, I: Image, W: Output>(
     Ok(false)
 }
 
-/// Looks for something in a volume.
-fn look_in_volume<M: Memory, I: Image, W: Output>(
+/// Finds something in a volume.
+fn find_in_volume<M: Memory, I: Image, W: Output>(
     memory: &mut M,
     image: &mut I,
     sector: Option<u32>,
-    search: Search,
+    target: Target,
     out: &mut W,
 ) -> Result<bool, FindFault>
-    ensures { Looks (InVolume sector search) (moment I.Image W.Output image.old out.old)
+    ensures { AnswersCommand (InVolume sector target) (moment I.Image W.Output image.old out.old)
         (moment I.Image W.Output image.new out.new) (M.account memory.old) (M.account memory.new)
         result }
 {
     match read_super(image, sector) {
-        Ok(superblock) => search_volume(memory, image, sector, search, &superblock, out),
+        Ok(superblock) => find_in_accepted(memory, image, sector, target, &superblock, out),
         Err(fault) => Err(FindFault::Refused(fault)),
     }
 }
 
-/// Looks for something in a volume with an accepted superblock, and returns whether a defect was
-/// found.
+/// Finds something in a volume with an accepted superblock, and returns whether a defect was found.
 ///
 /// # Errors
 /// A read of the image or a write failed, or the memory was refused.
-fn search_volume<M: Memory, I: Image, W: Output>(
+fn find_in_accepted<M: Memory, I: Image, W: Output>(
     memory: &mut M,
     image: &mut I,
     sector: Option<u32>,
-    search: Search,
+    target: Target,
     superblock: &Super,
     out: &mut W,
 ) -> Result<bool, FindFault>
     requires volume { superblock.now.geometry.layout.size * superblock.now.geometry.layout.fsize
         ≤ (I.device image.old).size }
-    ensures answer { Searches search sector (superblock_in superblock.now)
+    ensures answer { FindsTarget target sector (superblock_in superblock.now)
         (moment I.Image W.Output image.old out.old) (moment I.Image W.Output image.new out.new)
         result }
-    ensures memory { TakesForSearch search superblock.now.geometry.layout (M.account memory.old)
+    ensures memory { TakesForTarget target superblock.now.geometry.layout (M.account memory.old)
         (M.account memory.new) result }
 {
-    match search {
-        Search::Inode { number } => {
+    match target {
+        Target::Inode { number } => {
             find_inode(&superblock.geometry, image, number, out)?;
             Ok(false)
         }
-        Search::Fields => Ok(find_wrong_fields(image, sector, superblock, out)?),
-        Search::Lost => look_for_lost(memory, image, superblock, out),
-        Search::Owner { fragment } => look_for_owner(memory, image, superblock, fragment, out),
+        Target::Fields => Ok(find_wrong_fields(image, sector, superblock, out)?),
+        Target::Lost => claim_and_find_lost(memory, image, superblock, out),
+        Target::Owner { fragment } => claim_and_find_owner(
+            memory, image, superblock, fragment, out,
+        ),
     }
 }
 
-/// Runs phase 1 of a check, and looks for fragments that are lost, or marked as free though they are used.
+/// Runs phase 1 of a check, and finds fragments that are lost, or marked as free though they are
+/// used.
 ///
 /// # Errors
 /// A read of the image or a write failed, or the memory was refused.
-fn look_for_lost<M: Memory, I: Image, W: Output>(
+fn claim_and_find_lost<M: Memory, I: Image, W: Output>(
     memory: &mut M,
     image: &mut I,
     superblock: &Super,
@@ -170,10 +172,10 @@ fn look_for_lost<M: Memory, I: Image, W: Output>(
     requires volume { superblock.now.geometry.layout.size * superblock.now.geometry.layout.fsize
         ≤ (I.device image.old).size }
     // Whichever sector the superblock came from: only `fields` prints it.
-    ensures answer { (sector : Option ℕ) → Searches Lost sector (superblock_in superblock.now)
+    ensures answer { (sector : Option ℕ) → FindsTarget Lost sector (superblock_in superblock.now)
         (moment I.Image W.Output image.old out.old) (moment I.Image W.Output image.new out.new)
         result }
-    ensures memory { TakesForSearch Lost superblock.now.geometry.layout (M.account memory.old)
+    ensures memory { TakesForTarget Lost superblock.now.geometry.layout (M.account memory.old)
         (M.account memory.new) result }
 {
     let geometry = &superblock.geometry;
@@ -181,11 +183,11 @@ fn look_for_lost<M: Memory, I: Image, W: Output>(
     Ok(find_lost(geometry, image, &mut workspace, out)?)
 }
 
-/// Runs phase 1 of a check, and looks for what a fragment belongs to.
+/// Runs phase 1 of a check, and finds what a fragment belongs to.
 ///
 /// # Errors
 /// A read of the image or a write failed, or the memory was refused.
-fn look_for_owner<M: Memory, I: Image, W: Output>(
+fn claim_and_find_owner<M: Memory, I: Image, W: Output>(
     memory: &mut M,
     image: &mut I,
     superblock: &Super,
@@ -195,10 +197,10 @@ fn look_for_owner<M: Memory, I: Image, W: Output>(
     requires volume { superblock.now.geometry.layout.size * superblock.now.geometry.layout.fsize
         ≤ (I.device image.old).size }
     // Whichever sector the superblock came from: only `fields` prints it.
-    ensures answer { (sector : Option ℕ) → Searches (Owner fragment) sector
+    ensures answer { (sector : Option ℕ) → FindsTarget (Owner fragment) sector
         (superblock_in superblock.now) (moment I.Image W.Output image.old out.old)
         (moment I.Image W.Output image.new out.new) result }
-    ensures memory { TakesForSearch (Owner fragment) superblock.now.geometry.layout
+    ensures memory { TakesForTarget (Owner fragment) superblock.now.geometry.layout
         (M.account memory.old) (M.account memory.new) result }
 {
     let geometry = &superblock.geometry;

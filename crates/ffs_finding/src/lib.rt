@@ -9,8 +9,8 @@
 //! memory was refused, what memory was taken, and how often the image was read.
 //!
 //! ```text
-//! let search = Search::Inode { number: 2 };
-//! let command = Command::InVolume { sector: None, search };
+//! let target = Target::Inode { number: 2 };
+//! let command = Command::InVolume { sector: None, target };
 //! let status = find_in(&mut memory, &mut image, command, &mut out);
 //! ```
 //!
@@ -19,8 +19,9 @@
 //! - `copies`, `inode`, `fields`, `lost` and `owner` are the commands, and `find` puts them together.
 //!   `claims` runs phase 1 for the last two, and `group_map` is the map of a group. `request` is what
 //!   may be asked for.
-//! - `run` goes from the words of a command line to a search in the image that they name: `words`
-//!   are read by `clap`. `wrong_words` says what is written where nothing is looked for.
+//! - `run` goes from the words of a command line to what is found in the image that they name:
+//!   `words` are read by `clap`. `wrong_words` says what is written where these don't say what to
+//!   find.
 //!
 //! It rests on `ffs_check` for a run and for the image that a name opens, on `ffs_claims` for phase 1,
 //! on `ffs_groups` and `ffs_counts` for maps, on `ffs_walk` for walks and windows, and on `clap`.

@@ -9,8 +9,8 @@ ghost use Rattle.ffs_walk.specs.{Keepings.replay_in, Windows.{CanWalk, KeepsBloc
 ghost use Rattle.ffs_workspace.specs.{Found.WithPhase1, Ready.{CanRead, IsReady, KeepsWindows}};
 ghost use Rattle.ffs_check.specs.Moment.{moment};
 ghost use Rattle.ffs_claims.specs.Rescan.{ReplaysStep};
-ghost use Rattle.ffs_finding.specs.{Outcome.Finds, Keepers.{CanLookAtInode, CanPrintMap, CanPrintStep, CanReadMap}};
-ghost use Rattle.ffs_finding.specs.Keepers.{LooksAtInode, LooksAtAll, WalksKept, is_in_run, map_lines, run_text};
+ghost use Rattle.ffs_finding.specs.{Outcome.Finds, Keepers.{CanFindKeeper, CanPrintMap, CanPrintStep, CanReadMap}};
+ghost use Rattle.ffs_finding.specs.Keepers.{FindsKeeper, FindsAllKeepers, WalksKept, is_in_run, map_lines, run_text};
 ghost use Rattle.ffs_finding.specs.Keepers.{sought_in, step_text};
 
 use crate::group_map::{is_marked_free, map_place};
@@ -258,8 +258,8 @@ fn print_keeper<I: Image, W: Output>(
     number: u32,
     out: &mut W,
 ) -> Result<(), RunFault>
-    requires { CanLookAtInode geometry.now.layout (I.device image.old) workspace.old number }
-    ensures looks { LooksAtInode geometry.now.layout (sought_in fragment number workspace.old)
+    requires { CanFindKeeper geometry.now.layout (I.device image.old) workspace.old number }
+    ensures finds { FindsKeeper geometry.now.layout (sought_in fragment number workspace.old)
         (moment I.Image W.Output image.old out.old) (moment I.Image W.Output image.new out.new)
         result }
     ensures stays { KeepsWindows geometry.now.layout (I.device image.new) workspace.old
@@ -294,7 +294,7 @@ fn find_keepers_unlimited<I: Image, W: Output>(
     out: &mut W,
 ) -> Result<(), RunFault>
     requires { CanRead geometry.now.layout (I.device image.old) workspace.old }
-    ensures { LooksAtAll geometry.now.layout fragment workspace.old
+    ensures { FindsAllKeepers geometry.now.layout fragment workspace.old
         (moment I.Image W.Output image.old out.old) (moment I.Image W.Output image.new out.new)
         result }
 {

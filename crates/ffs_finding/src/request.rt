@@ -1,8 +1,8 @@
 //! What is asked for.
 
-/// What is looked for in a volume.
+/// What is to be found in a volume.
 #[derive(Clone, Copy, Debug, PartialEq, Eq)]
-pub enum Search {
+pub enum Target {
     /// Where an inode lies, and what it says.
     Inode { number: u32 },
     /// The fields of the superblock that a kernel computes with and that are wrong.
@@ -13,12 +13,12 @@ pub enum Search {
     Owner { fragment: u32 },
 }
 
-/// What is looked for in an image.
+/// What is to be found in an image.
 #[derive(Clone, Copy, Debug, PartialEq, Eq)]
 pub enum Command {
     /// The sectors at which a superblock is accepted.
     Copies,
     /// Something in the volume whose superblock is at a sector, of 512 bytes, or at the usual
     /// place.
-    InVolume { sector: Option<u32>, search: Search },
+    InVolume { sector: Option<u32>, target: Target },
 }

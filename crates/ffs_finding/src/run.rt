@@ -1,5 +1,5 @@
-//! The program `ffs_find`: a look for something in the image that its words name. `start`
-//! of `ffs_check` adds the standard streams.
+//! The program `ffs_find`: it finds something in the image that its words name. `start` of
+//! `ffs_check` adds the standard streams.
 ghost use Rattle.std.specs.Prelude.{map};
 ghost use Rattle.ffs_check.specs.Run.{RunEnds, RunEndsFlushed, images_of, run_moment};
 ghost use Rattle.ffs_finding.specs.Run.{ffs_find};
@@ -50,8 +50,8 @@ impl Program for Find {
     }
 }
 
-/// Looks in a file for what the words ask for, and returns the exit status: 0, 1 where a defect was
-/// found, 2 where the words are wrong, or 8 where the search didn't run to its end. `words` are
+/// Finds in a file what the words ask for, and returns the exit status: 0, 1 where a defect was
+/// found, 2 where the words are wrong, or 8 where it didn't run to its end. `words` are
 /// those after the program's name.
 ///
 /// What is found goes to `out`, which is flushed; a failed flush is status 8, as a failed write is.

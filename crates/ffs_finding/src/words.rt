@@ -3,9 +3,9 @@ ghost use Rattle.std.specs.Prelude.{◌≡◌, None, map, MatchOption, MatchResu
 ghost use Rattle.clap.specs.{Words.{app_of, kind_of}, declared.error.kind.ErrorKind.TheVariants.OutOfMemory};
 ghost use Rattle.ffs_check.specs.CommandWords.{AreRefusedBy, HasMatches, IsArgument};
 ghost use Rattle.ffs_finding.specs.CommandWords.{HaveOperands, find_program, second_rule};
-ghost use Rattle.ffs_finding.specs.{declared.request.Search.Search, Operands.{IsSearch, SaysOf, operands_in}};
+ghost use Rattle.ffs_finding.specs.{declared.request.Target.Target, Operands.{IsTarget, SaysOf, operands_in}};
 
-use crate::request::{Command, Search};
+use crate::request::{Command, Target};
 use clap::{Arg, ArgAction, ArgMatches, Command as App, Error};
 use ffs_check::program::Asked;
 use ffs_check::words::{needed_argument, no_write_argument, sector_argument, wordless_command};
@@ -46,7 +46,7 @@ fn matches_of<'a>(alloc: Global, words: &'a [&'a str]) -> Result<ArgMatches<'a>,
 /// The words that aren't options, and the sector.
 #[derive(Clone, Copy, Debug)]
 pub(crate) struct Operands<'a> {
-    /// What is looked for.
+    /// What is to be found.
     command: &'a str,
     /// The word after it: a number, or the image.
     first: &'a str,
@@ -86,28 +86,28 @@ fn asked_without_number<'a>(operands: &Operands<'a>) -> Option<Asked<'a, Command
         return Some(Asked { name, request });
     }
     if operands.command == "fields" {
-        let search = Search::Fields;
-        let request = Command::InVolume { sector, search };
+        let target = Target::Fields;
+        let request = Command::InVolume { sector, target };
         return Some(Asked { name, request });
     }
     if operands.command == "lost" {
-        let search = Search::Lost;
-        let request = Command::InVolume { sector, search };
+        let target = Target::Lost;
+        let request = Command::InVolume { sector, target };
         return Some(Asked { name, request });
     }
     None
 }
 
-/// What a command looks for by a number, if it is such a command.
-fn numbered_search(command: &str, number: u32) -> Option<Search>
-    ensures { MatchOption result ((search : Search) → IsSearch command.now number search → ⊥)
-        (IsSearch command.now number) }
+/// What a command finds by a number, if it is such a command.
+fn numbered_target(command: &str, number: u32) -> Option<Target>
+    ensures { MatchOption result ((target : Target) → IsTarget command.now number target → ⊥)
+        (IsTarget command.now number) }
 {
     if command == "inode" {
-        return Some(Search::Inode { number });
+        return Some(Target::Inode { number });
     }
     if command == "owner" {
-        return Some(Search::Owner { fragment: number });
+        return Some(Target::Owner { fragment: number });
     }
     None
 }
@@ -123,9 +123,9 @@ pub(crate) fn asked_of<'a>(operands: &Operands<'a>) -> Option<Asked<'a, Command>
     let Ok(number) = operands.first.parse::<u32>() else {
         return None;
     };
-    match numbered_search(operands.command, number) {
-        Some(search) => {
-            let request = Command::InVolume { sector, search };
+    match numbered_target(operands.command, number) {
+        Some(target) => {
+            let request = Command::InVolume { sector, target };
             Some(Asked { name, request })
         }
         None => None,

@@ -1,5 +1,5 @@
-//! What is written where nothing is looked for: the help, the version, and what is wrong with the
-//! words.
+//! What is written where the words don't say what to find: the help, the version, and what is wrong
+//! with them.
 ghost use Rattle.std.specs.Prelude.{◌≡◌};
 ghost use Rattle.ffs_check.specs.Refusals.{text_refused};
 ghost use Rattle.ffs_finding.specs.WrongWords.{find_first_text, find_refusal_text};

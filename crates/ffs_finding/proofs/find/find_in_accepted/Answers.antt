@@ -1,4 +1,4 @@
-use Rattle.ffs_finding.proofs.find.search_volume.Goals as goal
+use Rattle.ffs_finding.proofs.find.find_in_accepted.Goals as goal
 
 pub returns-in_ok-find_wrong_fields-in-Fields-clause-answer : goal.returns-in_ok-find_wrong_fields-in-Fields-clause-answer
 returns-in_ok-find_wrong_fields-in-Fields-clause-answer g c =
@@ -9,7 +9,7 @@ returns-in_ok-find_wrong_fields-in-Fields-clause-answer g c =
     })
 
 pub returns-in-Lost-clause-answer : goal.returns-in-Lost-clause-answer
-returns-in-Lost-clause-answer g c = rw (c.in-Lost.is) (c.look_for_lost.ensures.answer c.args.sector)
+returns-in-Lost-clause-answer g c = rw (c.in-Lost.is) (c.claim_and_find_lost.ensures.answer c.args.sector)
 
 pub returns-in-Owner-clause-answer : goal.returns-in-Owner-clause-answer
-returns-in-Owner-clause-answer g c = rw c.in-Owner.is (c.look_for_owner.ensures.answer c.args.sector)
+returns-in-Owner-clause-answer g c = rw c.in-Owner.is (c.claim_and_find_owner.ensures.answer c.args.sector)

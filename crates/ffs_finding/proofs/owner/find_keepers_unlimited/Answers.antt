@@ -32,7 +32,7 @@ returns-in_err-print_keeper g c =
     let n = c.loop-number.number in
     let f = c.args.fragment in
     let sound = c.args.geometry.now.sound in
-    let did = c.in_err-print_keeper.ensures.looks in
+    let did = c.in_err-print_keeper.ensures.finds in
     let fault : Result (Unit {0}) RunFault = Err c.in_err-print_keeper.field-0.0 in
     let high : n < inodes_of v = omega arith in
     rw (p.1, p.2) (record {
@@ -103,7 +103,7 @@ loop-number-preserved g c =
     let n = c.loop-number.number in
     let f = c.args.fragment in
     let sound = c.args.geometry.now.sound in
-    let did = c.in_ok-print_keeper.ensures.looks in
+    let did = c.in_ok-print_keeper.ensures.finds in
     let high : n < inodes_of v = omega arith in
     record {
       device = did.found.image ∙ inv.device;

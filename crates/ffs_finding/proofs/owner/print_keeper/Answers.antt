@@ -1,10 +1,10 @@
 use Rattle.std.proofs.{Common.{arith, ap, refl}, lemmas.Result.err_from_is_err_and}
 use Rattle.ffs_workspace.proofs.Readiness.{can_read_table}
-use Rattle.ffs_finding.proofs.{Printing.reads_first, Keepers.{looks_from, stays_from}}
+use Rattle.ffs_finding.proofs.{Printing.reads_first, Keepers.{finds_keeper, stays_from}}
 use Rattle.ffs_finding.proofs.owner.print_keeper.Goals as goal
 
-pub returns-in_err-inode-clause-looks : goal.returns-in_err-inode-clause-looks
-returns-in_err-inode-clause-looks g c =
+pub returns-in_err-inode-clause-finds : goal.returns-in_err-inode-clause-finds
+returns-in_err-inode-clause-finds g c =
     let p = err_from_is_err_and c.from_residual.result c.from_residual.ensures.1 in
     rw (p.1, p.2) (record {
       found = record { image = c.in_err-inode.ensures.reads.read; text = reads_first };
@@ -21,10 +21,11 @@ returns-in_err-inode-clause-stays g c =
           c.inode.ensures.reads.kept c.requires.ready;
     }
 
-pub returns-clause-looks : goal.returns-clause-looks
-returns-clause-looks g c =
-    looks_from c.in_ok-inode.inode c.args.workspace.now (g.I.Image.device c.args.image.now) (g.I.Image.device c.inode.new.image)
-    (g.I.Image.device c.print_kept.new.image) c.in_ok-inode.ensures.reads.read c.in_ok-inode.ensures.reads.inode
+pub returns-clause-finds : goal.returns-clause-finds
+returns-clause-finds g c =
+    finds_keeper c.in_ok-inode.inode c.args.workspace.now (g.I.Image.device c.args.image.now)
+    (g.I.Image.device c.inode.new.image) (g.I.Image.device c.print_kept.new.image)
+    c.in_ok-inode.ensures.reads.read c.in_ok-inode.ensures.reads.inode
     c.inode.ensures.counted c.noted_cut-cut.ensures c.print_kept.ensures.walks
 
 pub returns-clause-stays : goal.returns-clause-stays

@@ -1,12 +1,12 @@
 use Rattle.std.proofs.Common.{◌≡◌, ◌∙◌, ℕ, List, Some, None, sym, ap, arith, option_map}
-use Rattle.ffs_finding.specs.declared.request.{Command.{Command, TheVariants.{Copies, InVolume}}, Search.Search}
-use Rattle.ffs_finding.specs.{declared.request.Search.TheVariants.{Inode, Fields, Lost, Owner}, CommandWords.IsNumber}
-use Rattle.ffs_finding.specs.{CommandWords.{Operands, OperandsAskFor}, Operands.{IsSearch, operands_in}}
+use Rattle.ffs_finding.specs.declared.request.{Command.{Command, TheVariants.{Copies, InVolume}}, Target.Target}
+use Rattle.ffs_finding.specs.{declared.request.Target.TheVariants.{Inode, Fields, Lost, Owner}, CommandWords.IsNumber}
+use Rattle.ffs_finding.specs.{CommandWords.{Operands, OperandsAskFor}, Operands.{IsTarget, operands_in}}
 use Rattle.ffs_finding.proofs.words.asked_of.Goals as goal
 
 -- an image after a number: only a command with a number is asked for
 none_asked : (o : Operands) (image : List ℕ) (n : ℕ) → o.second ≡ Some image →
-    ((m : ℕ) → IsNumber o.first m → m ≡ n) → ((search : Search) → IsSearch o.command n search → ⊥) →
+    ((m : ℕ) → IsNumber o.first m → m ≡ n) → ((target : Target) → IsTarget o.command n target → ⊥) →
     (command : Command) (name : List ℕ) → OperandsAskFor o command name → ⊥
 none_asked o image n there value none Copies name p = let no : Some image ≡ None = sym there ∙ p.0.alone in cc
 none_asked o image n there value none (InVolume sector (Inode m)) name p =

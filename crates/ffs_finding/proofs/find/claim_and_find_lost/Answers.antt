@@ -1,9 +1,9 @@
 use Rattle.std.proofs.{Common.{Bool, arith}, lemmas.Result.err_from_is_err_and}
 use Rattle.ffs_layout.specs.Super.{superblock_in}
 use Rattle.ffs_check.specs.Moment.{moment}
-use Rattle.ffs_finding.{specs.declared.request.Search.TheVariants.Lost, proofs.ClaimSearches.all_answer}
-use Rattle.ffs_finding.proofs.ClaimSearches.{fault_answer, refused_answer, refused_memory}
-use Rattle.ffs_finding.proofs.find.look_for_lost.Goals as goal
+use Rattle.ffs_finding.{specs.declared.request.Target.TheVariants.Lost, proofs.ClaimTargets.all_answer}
+use Rattle.ffs_finding.proofs.ClaimTargets.{fault_answer, refused_answer, refused_memory}
+use Rattle.ffs_finding.proofs.find.claim_and_find_lost.Goals as goal
 
 pub returns-in_err-workspace-clause-answer : goal.returns-in_err-workspace-clause-answer
 returns-in_err-workspace-clause-answer g c = λ sector.
