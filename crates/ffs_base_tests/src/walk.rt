@@ -9,7 +9,7 @@ use ffs_layout::{Geometry, Inode, Order};
 use ffs_memory::{Memory, SystemMemory};
 use ffs_samples::{Number, ORDERS, Stop, Watched, geometry, image_of, inode};
 use ffs_volume::{Class, Step};
-use ffs_walk::{Blocks, Walk, class_of, has_steps};
+use ffs_walk::{Blocks, Walk, class_of, has_steps, is_device, is_short_symlink};
 use std::alloc::{AllocError, Global};
 use std::process::Abort;
 use std::test::Fail;
@@ -280,6 +280,21 @@ fn classes(rt: HostRuntime) -> Result<(), Fail> {
         let inode = inode_with(mode, size, addresses);
         is_classed(&rt, &inode, class, is_walked)?;
     }
+    Ok(())
+}
+
+/// A device and the text of a link, each with something else in place of its addresses.
+#[test]
+fn without_addresses(rt: HostRuntime) -> Result<(), Fail> {
+    let geometry = geometry(Order::Little)?;
+    let device = inode_with(0o20644, 0, &[7]);
+    let link = inode_with(0o120777, 59, &[7; 15]);
+    same(&rt, &(is_device(&device), is_device(&link)), &(true, false));
+    let are_links = (
+        is_short_symlink(&geometry, &device),
+        is_short_symlink(&geometry, &link),
+    );
+    same(&rt, &are_links, &(false, true));
     Ok(())
 }
 

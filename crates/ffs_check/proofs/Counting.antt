@@ -33,7 +33,7 @@ module _ (name : List ℕ) (sector : Option ℕ) (old new : Moment) (end : End) 
   pub reads_failed : ReadsFailed end old.image.failures new.image.failures
   reads_failed = elim h.ends [
     | inl read ↦
-        let same = ap (λ (d : Device). d.failures) read.no_read_failed in
+        let same = ap (λ (d : Device). d.failures) read.image in
         elim read.ends [
           | inl whole ↦ reads_none end old.image.failures new.image.failures (can_end_of name sector h.text end whole.1.agrees) same
           | inr part ↦ rw part.1 (inl same)

@@ -49,7 +49,7 @@ pub ends_known : {old new : Moment} {text : List Message} {IsEnd IsEnd' : End �
     {end : End} → (IsEnd end → IsEnd' end) → ((cut : Cut) → IsCut cut → IsCut' cut) →
     Ends old new text IsEnd IsCut end → Ends old new text IsEnd' IsCut' end
 ends_known to_end to_cut (inl read) = inl (record {
-  no_read_failed = read.no_read_failed;
+  image = read.image;
   ends = elim read.ends [ inl whole ↦ inl (whole.0, to_end whole.1) | inr part ↦ inr part ];
 })
 ends_known to_end to_cut (inr short) =
@@ -65,7 +65,7 @@ pub ends_after : (earlier : List Message) {a b c : Moment} {text : List Message}
     (IsEnd end → IsEnd' end) → ((cut : Cut) → IsCut cut → IsCut' (cut_after earlier cut)) →
     Ends b c text IsEnd IsCut end → Ends a c (earlier ++ text) IsEnd' IsCut' end
 ends_after earlier {a} {b} {c} {text} same went to_end to_cut (inl read) = inl (record {
-  no_read_failed = read.no_read_failed ∙ same;
+  image = read.image ∙ same;
   ends = elim read.ends [
     | inl whole ↦ inl (took_messages a.out b.out c.out earlier text went whole.0, to_end whole.1)
     | inr part ↦ inr (broke_after a.out b.out c.out earlier text went part.0, part.1)

@@ -51,7 +51,7 @@ module _ (had_defect : Bool) (knows : List ℕ → Type 0) (s : Superblock) (old
     text = p.said.messages;
     right = λ bytes k. sym (append-nil p.said.messages) ∙ p.said.right bytes k;
     ends = inl (record {
-      no_read_failed = none_failed;
+      image = none_failed;
       ends = inl (
         subst (λ (to : Progress). Took old.report.sink to.sink (texts_of p.said.messages)) (sym e.0) p.said.said.took,
         record {
@@ -98,7 +98,7 @@ module _ (had_defect : Bool) (knows : List ℕ → Type 0) (s : Superblock) (old
     text = prefix ++ at_contents old.image.contents rest;
     right = right_with prefix rest right;
     ends = inl (record {
-      no_read_failed = none_failed;
+      image = none_failed;
       ends = inr (
         broke_more old.report.sink new.report.sink prefix (at_contents old.image.contents rest)
             (broke_off old.report new.report prefix begun.working

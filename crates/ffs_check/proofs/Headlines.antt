@@ -144,7 +144,7 @@ module _ (name : List ℕ) (sector : Option ℕ) (old new : Moment) where
         text = text;
         is_report = report;
         ends = inl (record {
-          no_read_failed = read.0;
+          image = read.0;
           ends = inl (
             said,
             record {
@@ -168,7 +168,7 @@ module _ (name : List ℕ) (sector : Option ℕ) (old new : Moment) where
             (at_known old.image.contents (λ bytes. more_of bytes found) bytes t)
             ∙ opening_then bytes name sector found ∙ report_there bytes name sector found (right bytes t);
         ends = inl (record {
-          no_read_failed = none_failed;
+          image = none_failed;
           ends = inr (broke_more old.out new.out (opening_lines name sector found) more stop, refl);
         });
       }

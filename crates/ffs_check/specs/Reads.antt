@@ -37,8 +37,9 @@ pub record PhasesRead (knows : List ℕ → Type 0) (s : Superblock) (old new : 
   pub known : ForBytes knows (λ bytes. PhasesReadWithin s bytes old.reads new.reads)
   pub any : ReadsByMessages (phase_reads s.layout) old new
 
--- the same, by what the phases answered: of any image for the messages that were begun, each of which
--- takes `line_reads` in phase 2, and one read in phases 3 and 4
+-- the same, by what the phases answered: of any image for the messages that were begun. A message takes
+-- `line_reads` in phase 2, and one read in phases 3 and 4. Each is counted for both, since the limit
+-- doesn't ask of which phase a message is
 pub record PhasesPay {T : Type 0} (knows : List ℕ → Type 0) (s : Superblock) (old new : ReportMoment)
     (result : Result T RunFault) : Type 0 where
   pub known : ForBytes knows (λ bytes. PhasesReadWithin s bytes old.reads new.reads)

@@ -19,8 +19,8 @@
 //! - `run` goes from the words of a command line to a look at the image that they name, by any
 //!   `program`: `words` are those that programs have in common, `opener` opens the image, and
 //!   `refusal` writes why none is opened. `start` makes the process of a program: its words, its
-//!   streams, and its status. A program comes in by `start`, and this by `run_program`; `run_over`
-//!   and `run` are the same at `Fsck`, for callers of the library.
+//!   streams, and its status. A program is started by `start`, which calls `run_program`;
+//!   `run_over` and `run` are the same at `Fsck`, for callers of the library.
 //! - `fsck` is the program `fsck_ffs`: `args` is what its words may ask for, `parse_args` finds that
 //!   by `clap`, `wrong_words` has its texts where no check is run, and `version` what it is.
 //!

@@ -6,7 +6,7 @@ use Rattle.ffs_volume.specs.{declared.Layout.Layout, Disk.Superblock.Superblock,
 use Rattle.ffs_report.specs.{Known.{ForBytes, IsContents}, PhaseOutcome.ImageAfter, declared.fault.RunFault.RunFault}
 use Rattle.ffs_report.specs.declared.fault.RunFault.TheVariants.{Read, Out}
 use Rattle.ffs_workspace.specs.{declared.workspace.Workspace.Workspace, Found.WithPhase1, Holds.HoldsPhase1}
-use Rattle.ffs_finding.specs.declared.find.FindFault.{FindFault, TheVariants.{Refused, Run, NoMemory}}
+use Rattle.ffs_finding.specs.declared.find.FindFault.{FindFault, TheVariants.{Refused, Failed, NoMemory}}
 use Rattle.ffs_finding.specs.{declared.request.Target.Target, Claims.TakesClaims, Fields.WithSuper, Outcome.PrintedTo}
 use Rattle.ffs_finding.specs.{Outcome.{PrintsLines, any_line}, Whole.{IsGranted, PrintedAll, TargetAnswers}}
 use Rattle.ffs_finding.{specs.Whole.{finds_defects, target_lines}, proofs.Printing.{knowing, reads_first}}
@@ -16,8 +16,8 @@ use Rattle.ffs_check.specs.Moment.{Moment}
 pub refused_memory : (v : Layout) (d d' : Device) (held held' : Account) (fault : FindFault) →
     TakesClaims v d d' held held' (Err fault) → IsGranted (held_of v) held held' (Err fault)
 refused_memory v d d' held held' (Refused fault) p = absurd p
-refused_memory v d d' held held' (Run (Read fault)) p = p.1
-refused_memory v d d' held held' (Run (Out fault)) p = absurd p
+refused_memory v d d' held held' (Failed (Read fault)) p = p.1
+refused_memory v d d' held held' (Failed (Out fault)) p = absurd p
 refused_memory v d d' held held' NoMemory p = p.1
 
 module _ (target : Target) (sector : Option ℕ) (s : Superblock) (m : Moment) where
@@ -26,8 +26,8 @@ module _ (target : Target) (sector : Option ℕ) (s : Superblock) (m : Moment) w
       TakesClaims s.layout m.image d' held held' (Err fault) →
       TargetAnswers target sector s m (record { image = d'; reads = reads; out = m.out }) (Err fault)
   refused_answer d' reads held held' (Refused fault) p = absurd p
-  refused_answer d' reads held held' (Run (Read fault)) p = (p.0, reads_first)
-  refused_answer d' reads held held' (Run (Out fault)) p = absurd p
+  refused_answer d' reads held held' (Failed (Read fault)) p = (p.0, reads_first)
+  refused_answer d' reads held held' (Failed (Out fault)) p = absurd p
   refused_answer d' reads held held' NoMemory p = (p.0, refl)
 
   module _ (m' : Moment) (w : Workspace)
@@ -51,6 +51,6 @@ module _ (target : Target) (sector : Option ℕ) (s : Superblock) (m : Moment) w
     -- a fault came among the lines
     pub fault_answer : (T : Type 0) (fault : RunFault) → ImageAfter {T = T} m.image m'.image (Err fault) →
         PrintsLines {T = T} (WithPhase1 s.layout m.image w) (λ b. target_lines target sector b s) m.out m'.out
-        (Err fault) → TargetAnswers target sector s m m' (Err (Run fault))
+        (Err fault) → TargetAnswers target sector s m m' (Err (Failed fault))
     fault_answer T (Read fault) image p = (image, lines_answer T (Err (Read fault)) p)
     fault_answer T (Out fault) image p = (image, lines_answer T (Err (Out fault)) p)

@@ -6,7 +6,7 @@ use Rattle.ffs_report.specs.{Known.IsContents, Sink.Sink, declared.fault.RunFaul
 use Rattle.ffs_memory.specs.Account.{Account}
 use Rattle.ffs_layout.specs.Super.{ReadsSuper}
 use Rattle.ffs_finding.specs.declared.request.{Target.Target, Command.{Command, TheVariants.{Copies, InVolume}}}
-use Rattle.ffs_finding.specs.declared.find.FindFault.{FindFault, TheVariants.{Refused, Run, NoMemory}}
+use Rattle.ffs_finding.specs.declared.find.FindFault.{FindFault, TheVariants.{Refused, Failed, NoMemory}}
 use Rattle.ffs_finding.specs.{Outcome.StoppedIn, Whole.{Answers, EndsBy, EndsByLine, FindEnds, RefusesSuperblock}}
 use Rattle.ffs_finding.specs.Whole.{IsUnreadableFor}
 use Rattle.ffs_finding.specs.Whole.{PrintedAll, command_finds_defects, command_lines, status_of_answer}
@@ -61,7 +61,7 @@ ends command m m' b held held' (Ok defect) status p e =
 ends command m m' b held held' (Err (Refused fault)) status p e =
     ends_by_superblock command m m' held held' fault status p.1 p.2
     (subst (λ (s : Sink). EndsByLine s m'.out (text_of (fault_line fault)) status) p.0 e)
-ends command m m' b held held' (Err (Run (Read fault))) status p e = inr (inr (inl (record {
+ends command m m' b held held' (Err (Failed (Read fault))) status p e = inr (inr (inl (record {
   sector = fault.sector;
   faulted = p.0;
   between = b;
@@ -69,7 +69,7 @@ ends command m m' b held held' (Err (Run (Read fault))) status p e = inr (inr (i
   line = e.0;
   status_is = e.1;
 })))
-ends command m m' b held held' (Err (Run (Out fault))) status p e = inr (inr (inr (inl (record {
+ends command m m' b held held' (Err (Failed (Out fault))) status p e = inr (inr (inr (inl (record {
   no_read_failed = p.0;
   stopped = subst (StoppedIn (IsContents m.image.contents) (command_lines command) m.out) (sym e.0) p.1;
   status_is = e.1;

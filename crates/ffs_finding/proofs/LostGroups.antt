@@ -12,22 +12,22 @@ use Rattle.ffs_workspace.specs.{declared.workspace.Workspace.Workspace, Found.Wi
 use Rattle.ffs_finding.specs.LostMaps.{is_wrong_by, lines_of_group, lines_of_groups, no_map_lines, word_of}
 use Rattle.ffs_finding.{specs.declared.lost.Wrong.{Wrong, TheVariants.{Lost, MarkedFree}}, proofs.Ranges.{next, none}}
 
-pub without_map : (wrong : Wrong) (v : Layout) (free : ℕ → Bool) (c : ℕ) (block : List ℕ) → has_map v block ≡ false →
-    lines_of_group wrong v free c block ≡ no_map_lines wrong c
+pub without_map : (how : Wrong) (v : Layout) (free : ℕ → Bool) (c : ℕ) (block : List ℕ) → has_map v block ≡ false →
+    lines_of_group how v free c block ≡ no_map_lines how c
 without_map Lost v free c block none = rw none refl
 without_map MarkedFree v free c block none = rw none refl
 
-pub with_map : (wrong : Wrong) (v : Layout) (used : List Bool) (size base end place c : ℕ) (block : List ℕ) →
+pub with_map : (how : Wrong) (v : Layout) (used : List Bool) (size base end place c : ℕ) (block : List ℕ) →
     has_map v block ≡ true → place ≡ fragment_map_place v block → size ≡ v.size → base ≡ cgbase v c →
     end ≡ base + group_size v c →
-    lines_of_group wrong v (free_in used v.size) c block
-    ≡ stretch_lines (word_of wrong) (λ f. is_wrong_by wrong (free_in used size f)
+    lines_of_group how v (free_in used v.size) c block
+    ≡ stretch_lines (word_of how) (λ f. is_wrong_by how (free_in used size f)
     (bit_at block place (f - base))) base end
 with_map Lost v used size base end place c block some at is from to = rw (some, at, is, to, from) refl
 with_map MarkedFree v used size base end place c block some at is from to = rw (some, at, is, to, from) refl
 
 -- a map that is right says nothing wrongly
-wrong_none : (wrong : Wrong) (free marked : Bool) → same_bit marked free ≡ true → is_wrong_by wrong free marked ≡ false
+wrong_none : (how : Wrong) (free marked : Bool) → same_bit marked free ≡ true → is_wrong_by how free marked ≡ false
 wrong_none Lost free marked same = grind arith
 wrong_none MarkedFree free marked same = grind arith
 
@@ -38,41 +38,41 @@ no_stretch word p base n fail =
     let long : base + n - base ≡ n = omega arith in
     rw long (none (stretch_at word p base (base + n)) base n (λ k low high. rw (fail k low high) refl))
 
-pub right_map : (wrong : Wrong) (v : Layout) (used : List Bool) (size place c : ℕ) (block : List ℕ) →
+pub right_map : (how : Wrong) (v : Layout) (used : List Bool) (size place c : ℕ) (block : List ℕ) →
     has_map v block ≡ true →
     place ≡ fragment_map_place v block → size ≡ v.size →
     has_bits block place (group_size v c) (λ k. free_in used v.size (cgbase v c + k)) ≡ true →
-    lines_of_group wrong v (free_in used v.size) c block ≡ []
-right_map wrong v used size place c block some at is right =
+    lines_of_group how v (free_in used v.size) c block ≡ []
+right_map how v used size place c block some at is right =
     let free = free_in used v.size in
     let base = cgbase v c in
-    with_map wrong v used v.size base (base + group_size v c) place c block some at refl refl refl
-    ∙ no_stretch (word_of wrong) (λ f. is_wrong_by wrong (free f) (bit_at block place (f - base))) base (group_size v c)
+    with_map how v used v.size base (base + group_size v c) place c block some at refl refl refl
+    ∙ no_stretch (word_of how) (λ f. is_wrong_by how (free f) (bit_at block place (f - base))) base (group_size v c)
     (λ f low high.
     let back : base + (f - base) ≡ f = omega (arith, low) in
     let same = all_below-at (group_size v c) (f - base) (λ k. same_bit (bit_at block place k) (free (base + k))) right
     (omega (arith, low, high)) in
-    wrong_none wrong (free f) (bit_at block place (f - base))
+    wrong_none how (free f) (bit_at block place (f - base))
     (subst (λ (k : ℕ). same_bit (bit_at block place (f - base)) (free k) ≡ true) back same))
 
 -- the lines of group c of an image
 abbrev pub group_lines : Wrong → (v : Layout) (free : ℕ → Bool) (image : List ℕ) (c : ℕ) → List (List ℕ)
-group_lines wrong v free image c = lines_of_group wrong v free c (group_block v image c)
+group_lines how v free image c = lines_of_group how v free c (group_block v image c)
 
-module _ (wrong : Wrong) (v : Layout) (free : ℕ → Bool) where
+module _ (how : Wrong) (v : Layout) (free : ℕ → Bool) where
   -- the lines of the groups from c on
   abbrev pub from_group : (c : ℕ) (image : List ℕ) → List (List ℕ)
-  from_group c image = flat_map (group_lines wrong v free image) (range_with_len c (v.ncg - c))
+  from_group c image = flat_map (group_lines how v free image) (range_with_len c (v.ncg - c))
 
-  pub groups_begin : (image : List ℕ) → from_group 0 image ≡ lines_of_groups wrong v free image
+  pub groups_begin : (image : List ℕ) → from_group 0 image ≡ lines_of_groups how v free image
   groups_begin image = let all : v.ncg - 0 ≡ v.ncg = omega arith in rw all refl
 
   -- the lines of one group, and of those after it
   pub groups_next : (image block : List ℕ) (c : ℕ) → c < v.ncg → block ≡ group_block v image c →
-      from_group c image ≡ lines_of_group wrong v free c block ++ from_group (c + 1) image
+      from_group c image ≡ lines_of_group how v free c block ++ from_group (c + 1) image
   groups_next image block c low is =
       let left : v.ncg - c - 1 ≡ v.ncg - (c + 1) = omega arith in
-      rw (is, sym left) (next (group_lines wrong v free image) c (v.ncg - c) (omega (arith, low)))
+      rw (is, sym left) (next (group_lines how v free image) c (v.ncg - c) (omega (arith, low)))
 
   pub groups_end : (image : List ℕ) (c : ℕ) → v.ncg ≤ c → from_group c image ≡ []
   groups_end image c past = let none : v.ncg - c ≡ 0 = omega arith in rw none refl

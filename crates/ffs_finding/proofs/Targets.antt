@@ -7,7 +7,7 @@ use Rattle.ffs_memory.specs.Account.{Account, RefusedOneMore}
 use Rattle.ffs_volume.specs.{declared.Layout.Layout, Report.Memory.{held_limit, held_of}, Disk.Superblock.Superblock}
 use Rattle.ffs_volume.specs.{Disk.Outcome.outcome, Laws.Geometry.IsAcceptedLayout}
 use Rattle.ffs_report.specs.{Known.{ForBytes, IsContents}, Sink.Sink, declared.fault.RunFault.TheVariants.{Read, Out}}
-use Rattle.ffs_finding.specs.declared.find.FindFault.{FindFault, TheVariants.{Refused, Run, NoMemory}}
+use Rattle.ffs_finding.specs.declared.find.FindFault.{FindFault, TheVariants.{Refused, Failed, NoMemory}}
 use Rattle.ffs_finding.specs.declared.request.Target.{Target, TheVariants.{Inode, Fields, Lost, Owner}}
 use Rattle.ffs_finding.specs.{declared.request.Command.TheVariants.InVolume, Fields.WithSuper, Outcome.PrintedTo}
 use Rattle.ffs_finding.specs.Whole.{Answers, AnswersCommand, FindsTarget, IsGranted, TakesForTarget, TakesMemory}
@@ -55,9 +55,9 @@ module _ (target : Target) (sector : Option ℕ) (s : Superblock) (d : Device)
     },
   )
   answers between before a m held held' (Err (Refused fault)) p t = absurd p
-  answers between before a m held held' (Err (Run (Read fault))) p t =
+  answers between before a m held held' (Err (Failed (Read fault))) p t =
       (p.0, record { rest = p.1.rest; printed = printed p.1.rest a m.out p.1.printed })
-  answers between before a m held held' (Err (Run (Out fault))) p t = (
+  answers between before a m held held' (Err (Failed (Out fault))) p t = (
     p.0,
     record {
       lines = p.1.lines;
@@ -76,7 +76,7 @@ asked : (bytes : ℕ) (held held' : Account) (r : Result Bool FindFault) → IsG
     AsksMemory held held' bytes
 asked bytes held held' (Ok defect) p = inl p
 asked bytes held held' (Err (Refused fault)) p = inl p
-asked bytes held held' (Err (Run fault)) p = inl p
+asked bytes held held' (Err (Failed fault)) p = inl p
 asked bytes held held' (Err NoMemory) p = inr p
 
 takes : (target : Target) (sector : Option ℕ) (s : Superblock) (d : Device) (held held' : Account)

@@ -5,7 +5,7 @@ use Rattle.ffs_volume.specs.{declared.Layout.Layout, Report.Memory.held_of}
 use Rattle.ffs_memory.specs.Account.{Account, Granted, GaveUp}
 use Rattle.ffs_report.specs.{Known.{ForBytes, IsContents}, Sink.Sink, declared.fault.RunFault.TheVariants.{Read, Out}}
 use Rattle.ffs_workspace.specs.{declared.workspace.Workspace.Workspace, Holds.HoldsPhase1, Ready.IsReady}
-use Rattle.ffs_finding.specs.declared.find.FindFault.{FindFault, TheVariants.{Refused, Run, NoMemory}}
+use Rattle.ffs_finding.specs.declared.find.FindFault.{FindFault, TheVariants.{Refused, Failed, NoMemory}}
 
 -- an output that never fails, and of which nobody knows what it took
 abbrev pub discarding : Sink
@@ -17,6 +17,6 @@ TakesClaims v d d' held held' (Ok w) =
     (d' ≡ d) × Granted held held' (held_of v) × IsReady v d' w
     × ForBytes (IsContents d.contents) (λ b. HoldsPhase1 v b w)
 TakesClaims v d d' held held' (Err (Refused fault)) = ⊥
-TakesClaims v d d' held held' (Err (Run (Read fault))) = Faulted d d' fault.sector × Granted held held' (held_of v)
-TakesClaims v d d' held held' (Err (Run (Out fault))) = ⊥
+TakesClaims v d d' held held' (Err (Failed (Read fault))) = Faulted d d' fault.sector × Granted held held' (held_of v)
+TakesClaims v d d' held held' (Err (Failed (Out fault))) = ⊥
 TakesClaims v d d' held held' (Err NoMemory) = (d' ≡ d) × GaveUp held held' (held_of v)

@@ -22,11 +22,11 @@ pub record CanPrintMap (v : Layout) (block : List ℕ) (f : ℕ) : Type 0 where
   pub size : length block ≡ v.cgsize
 
 -- the group block of the fragment f can be read into a window
-pub record CanReadMap (v : Layout) (d : Device) (w : Window) (f : ℕ) : Type 0 where
+pub record CanReadMap (v : Layout) (d : Device) (window : Window) (f : ℕ) : Type 0 where
   pub below : f < v.size
   pub volume : v.size * v.fsize ≤ d.size
-  pub room : vec_len w.buffer ≡ v.bsize
-  pub holds : WindowHolds d.contents w
+  pub room : vec_len window.buffer ≡ v.bsize
+  pub holds : WindowHolds d.contents window
 
 -- the line of a fragment that nothing claims
 abbrev pub map_lines : (v : Layout) (image : List ℕ) (f : ℕ) → List (List ℕ)
@@ -37,7 +37,8 @@ map_lines v image f = map_text v (group_block v image (group_of_fragment v f)) f
 abbrev pub is_in_run : (f start taken : ℕ) → Bool
 is_in_run f start taken = nat_le start f && nat_lt f (start + taken)
 
--- the bytes of the line of a Run, where so many of its fragments are kept
+-- the bytes of the line of a Run, where so many of its fragments are kept. `earlier` counts the indirect
+-- blocks of the inode x before it
 abbrev pub run_text : (f x earlier start taken : ℕ) → Option ℕ → List ℕ
 run_text f x earlier start taken block = if is_in_run f start taken then keeper_text x earlier block else []
 

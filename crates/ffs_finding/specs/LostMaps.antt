@@ -12,20 +12,20 @@ use Rattle.ffs_check.specs.Moment.{Moment}
 use Rattle.ffs_finding.specs.{Outcome.FindsAny, declared.lost.{GroupMap.GroupMap, Wrong.Wrong}}
 use Rattle.ffs_finding.specs.declared.lost.Wrong.TheVariants.{Lost, MarkedFree}
 
--- the word before the fragments of which a map says this wrongly
+-- the word before the fragments about which a map is wrong in this way
 abbrev pub word_of : Wrong → List ℕ
 word_of Lost = codes "lost "
 word_of MarkedFree = codes "used and marked free "
 
--- a map says this wrongly of a fragment, by whether that is free, and is marked as free
+-- a map is wrong about a fragment in this way, by whether that is free, and is marked as free
 abbrev pub is_wrong_by : Wrong → (free marked : Bool) → Bool
 is_wrong_by Lost free marked = free && not marked
 is_wrong_by MarkedFree free marked = marked && not free
 
--- a map says this wrongly of f
+-- a map is wrong about f in this way
 abbrev pub is_wrong_at : Wrong → GroupMap → ℕ → Bool
-is_wrong_at wrong m f =
-    is_wrong_by wrong (free_in (bits_of m.used.now) m.used.now.size f) (bit_at m.block.now m.place (f - m.base))
+is_wrong_at how m f =
+    is_wrong_by how (free_in (bits_of m.used.now) m.used.now.size f) (bit_at m.block.now m.place (f - m.base))
 
 -- the map is of fragments of the volume, and lies in its block
 pub record IsGroupMap (m : GroupMap) : Type 0 where
@@ -57,15 +57,15 @@ abbrev pub no_map_lines : Wrong → ℕ → List (List ℕ)
 no_map_lines Lost c = number_text (codes "no map in group ") c (codes "\n") ∷ []
 no_map_lines MarkedFree c = []
 
--- the lines of what the map of group c says wrongly
+-- the lines of the fragments about which the map of group c is wrong in this way
 abbrev pub lines_of_group : Wrong → (v : Layout) (free : ℕ → Bool) (c : ℕ) (block : List ℕ) → List (List ℕ)
 lines_of_group Lost v free c block = lost_of_group v free c block
 lines_of_group MarkedFree v free c block = wrongly_free_of_group v free c block
 
 -- the lines of all groups
 abbrev pub lines_of_groups : Wrong → (v : Layout) (free : ℕ → Bool) (image : List ℕ) → List (List ℕ)
-lines_of_groups wrong v free image =
-    flat_map (λ c. lines_of_group wrong v free c (group_block v image c)) (group_numbers v)
+lines_of_groups how v free image =
+    flat_map (λ c. lines_of_group how v free c (group_block v image c)) (group_numbers v)
 
 -- a block is that of group c, whose map can be compared with a map of the volume
 pub record CanSayGroup (v : Layout) (mapped c : ℕ) (block : List ℕ) : Type 0 where
@@ -84,8 +84,8 @@ pub record CanReadGroups (v : Layout) (d : Device) (mapped : ℕ) (w : Window) :
   pub size : mapped ≡ v.size
   pub window : IsBlockWindow v d w
 
--- what the maps of all groups say wrongly was printed, with a read of each group block at most
-pub record FindsWrong (wrong : Wrong) (v : Layout) (free : ℕ → Bool) (old new : Moment)
+-- where the maps of all groups are wrong in this way was printed, with a read of each group block at most
+pub record FindsWrong (how : Wrong) (v : Layout) (free : ℕ → Bool) (old new : Moment)
     (result : Result Bool RunFault) : Type 0 where
-  pub lines : FindsAny (IsContents old.image.contents) (lines_of_groups wrong v free) old new result
+  pub lines : FindsAny (IsContents old.image.contents) (lines_of_groups how v free) old new result
   pub reads : new.reads ≤ old.reads + v.ncg

@@ -30,7 +30,7 @@ PrintsLines knows all old new (Ok x) = PrintedTo knows (λ bytes. []) all old ne
 PrintsLines knows all old new (Err (Read fault)) = PrintedSome knows all old new
 PrintsLines knows all old new (Err (Out fault)) = StoppedIn knows all old new
 
--- there is a line that isn't empty
+-- there is a line that isn't empty. No command has an empty line; the definition needs no proof of that
 abbrev pub any_line : List (List ℕ) → Bool
 any_line [] = false
 any_line ([] ∷ lines) = any_line lines

@@ -16,7 +16,7 @@ use Rattle.ffs_check.specs.{Moment.Moment, Run.IsPrintedOrBrokeOff, Taken.{AsksM
 use Rattle.ffs_layout.specs.Super.{IsUnreadable, ReadsSuper}
 use Rattle.ffs_finding.specs.declared.request.Target.{Target, TheVariants.{Inode, Fields, Lost, Owner}}
 use Rattle.ffs_finding.specs.declared.request.Command.{Command, TheVariants.{Copies, InVolume}}
-use Rattle.ffs_finding.specs.declared.find.FindFault.{FindFault, TheVariants.{Refused, Run, NoMemory}}
+use Rattle.ffs_finding.specs.declared.find.FindFault.{FindFault, TheVariants.{Refused, Failed, NoMemory}}
 use Rattle.ffs_finding.specs.{Outcome.{PrintedTo, PrintedSome, StoppedIn, any_line}, Fields.WithSuper}
 use Rattle.ffs_finding.specs.{Copies.ReadsCopies, declared.copies.TheConstants.WINDOW_BYTES}
 
@@ -75,10 +75,10 @@ TargetAnswers target sector s old new (Ok defect) =
     (new.image ≡ old.image) × PrintedAll (finds_defects target) (WithSuper old.image sector s)
     (λ b. target_lines target sector b s) old.out new.out defect
 TargetAnswers target sector s old new (Err (Refused fault)) = ⊥
-TargetAnswers target sector s old new (Err (Run (Read fault))) =
+TargetAnswers target sector s old new (Err (Failed (Read fault))) =
     Faulted old.image new.image fault.sector
     × PrintedSome (WithSuper old.image sector s) (λ b. target_lines target sector b s) old.out new.out
-TargetAnswers target sector s old new (Err (Run (Out fault))) =
+TargetAnswers target sector s old new (Err (Failed (Out fault))) =
     (new.image ≡ old.image)
     × StoppedIn (WithSuper old.image sector s) (λ b. target_lines target sector b s) old.out new.out
 TargetAnswers target sector s old new (Err NoMemory) = (new.image ≡ old.image) × (new.out ≡ old.out)
@@ -101,7 +101,7 @@ pub record FindsTarget (target : Target) (sector : Option ℕ) (s : Superblock) 
 abbrev pub IsGranted : (bytes : ℕ) → Account → Account → Result Bool FindFault → Type 0
 IsGranted bytes held held' (Ok defect) = Granted held held' bytes
 IsGranted bytes held held' (Err (Refused fault)) = Granted held held' bytes
-IsGranted bytes held held' (Err (Run fault)) = Granted held held' bytes
+IsGranted bytes held held' (Err (Failed fault)) = Granted held held' bytes
 IsGranted bytes held held' (Err NoMemory) = GaveUp held held' bytes
 
 -- nothing of the memory was asked for
@@ -128,8 +128,8 @@ EndsSilent old new right status = (new ≡ old) × (status ≡ right)
 abbrev pub EndsBy : Sink → Sink → Result Bool FindFault → ℕ → Type 0
 EndsBy old new (Ok defect) status = EndsSilent old new (status_of_answer defect) status
 EndsBy old new (Err (Refused fault)) status = EndsByLine old new (text_of (fault_line fault)) status
-EndsBy old new (Err (Run (Read fault))) status = EndsByLine old new (text_of (cannot_read fault.sector)) status
-EndsBy old new (Err (Run (Out fault))) status = EndsSilent old new 8 status
+EndsBy old new (Err (Failed (Read fault))) status = EndsByLine old new (text_of (cannot_read fault.sector)) status
+EndsBy old new (Err (Failed (Out fault))) status = EndsSilent old new 8 status
 EndsBy old new (Err NoMemory) status = EndsByLine old new (text_of cannot_alloc) status
 
 -- where a fault says that the superblock of the command's volume can't be read, a read of it failed, or the image
@@ -153,10 +153,10 @@ Answers command old new held held' (Ok defect) =
 Answers command old new held held' (Err (Refused fault)) =
     (new.out ≡ old.out) × RefusesSuperblock command old.image new.image fault
     × IsUnreadableFor command old.image new.image fault
-Answers command old new held held' (Err (Run (Read fault))) =
+Answers command old new held held' (Err (Failed (Read fault))) =
     Faulted old.image new.image fault.sector
     × PrintedSome (IsContents old.image.contents) (command_lines command) old.out new.out
-Answers command old new held held' (Err (Run (Out fault))) =
+Answers command old new held held' (Err (Failed (Out fault))) =
     (new.image ≡ old.image) × StoppedIn (IsContents old.image.contents) (command_lines command) old.out new.out
 Answers command old new held held' (Err NoMemory) =
     (new.image ≡ old.image) × (new.out ≡ old.out) × RefusedOneMore held held'

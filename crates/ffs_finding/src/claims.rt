@@ -36,8 +36,8 @@ impl Output for Discarding {
 /// The memory was refused, or a read of the image failed.
 pub(crate) fn claimed_workspace<M: Memory, I: Image>(
     memory: &mut M,
-    image: &mut I,
     geometry: &Geometry,
+    image: &mut I,
 ) -> Result<Workspace, FindFault>
     requires { geometry.now.layout.size * geometry.now.layout.fsize ≤ (I.device image.old).size }
     ensures takes { TakesClaims geometry.now.layout (I.device image.old) (I.device image.new)

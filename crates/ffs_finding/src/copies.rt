@@ -2,7 +2,7 @@
 ghost use Rattle.std.specs.Prelude.{◌≡◌, ◌+◌, ◌*◌, ◌≤◌, ◌<◌, ◌||◌, ◌==◌, length, vec_len};
 ghost use Rattle.ffs_volume.specs.{Disk.{Outcome.outcome, Numbers.u32_at as u32_in}, declared.Order.TheVariants.Little};
 ghost use Rattle.ffs_volume.specs.declared.{Order.TheVariants.Big, constants.TheConstants.FS_MAGIC};
-ghost use Rattle.ffs_volume.specs.Find.Copies.{copies_lines, copy_lines_of, copy_text, order_word, role_text};
+ghost use Rattle.ffs_volume.specs.Find.Copies.{copies_lines, copy_lines_of, copy_text, order_word, which_text};
 ghost use Rattle.ffs_report.specs.{Known.IsContents, Sink.Prints};
 ghost use Rattle.ffs_check.specs.Moment.{moment};
 ghost use Rattle.ffs_finding.specs.{Outcome.Finds, Copies.{CanFindAt, IsSectorsEnd, FindsAt, FindsMagic}};
@@ -38,8 +38,8 @@ fn order_word(order: Order) -> &'static [u8]
 }
 
 /// Prints which superblock of its volume one at a sector is, by the volume's geometry.
-fn print_role<W: Output>(out: &mut W, geometry: &Geometry, sector: u32) -> Result<(), OutFault>
-    ensures { Prints (W.sink out.old) (W.sink out.new) (role_text geometry.now.layout sector)
+fn print_which<W: Output>(out: &mut W, geometry: &Geometry, sector: u32) -> Result<(), OutFault>
+    ensures { Prints (W.sink out.old) (W.sink out.new) (which_text geometry.now.layout sector)
         result }
 {
     if u64::from(sector) == SUPERBLOCK_SECTOR {
@@ -74,7 +74,7 @@ fn print_copy<W: Output>(out: &mut W, geometry: &Geometry, sector: u32) -> Resul
             Piece::Number(u64::from(layout.size), b" "),
         ],
     )?;
-    print_role(out, geometry, sector)
+    print_which(out, geometry, sector)
 }
 
 /// Whether a number in either order of bytes is the magic number of a superblock.
@@ -86,8 +86,8 @@ fn is_magic(bytes: &[u8], place: usize) -> bool
     u32_at(Order::Little, place, bytes) == FS_MAGIC || u32_at(Order::Big, place, bytes) == FS_MAGIC
 }
 
-/// Whether a superblock with a magic number begins at a sector. The window in which it lies is
-/// read, where it isn't there already.
+/// Whether a superblock with a magic number begins at a sector. The window in which the magic
+/// number would lie is read, where it isn't there already.
 ///
 /// # Errors
 /// A read of the image that failed.

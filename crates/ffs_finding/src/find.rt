@@ -5,7 +5,7 @@ ghost use Rattle.ffs_report.specs.{Lines.message_of, Sink.Prints};
 ghost use Rattle.ffs_layout.specs.Super.{superblock_in};
 ghost use Rattle.ffs_check.specs.Moment.{moment};
 ghost use Rattle.ffs_finding.specs.Whole.{AnswersCommand, EndsBy, FindsCommand, FindsTarget, TakesForTarget};
-ghost use Rattle.ffs_finding.specs.declared.find.FindFault.TheVariants.{Run, NoMemory};
+ghost use Rattle.ffs_finding.specs.declared.find.FindFault.TheVariants.{Failed, NoMemory};
 ghost use Rattle.ffs_finding.specs.declared.request.Target.TheVariants.{Lost, Owner};
 ghost use Rattle.ffs_finding.specs.declared.request.Command.TheVariants.{Copies, InVolume};
 
@@ -32,16 +32,16 @@ pub(crate) enum FindFault {
     /// The superblock is refused, or can't be read.
     Refused(SuperFault),
     /// A later read failed, or the output did.
-    Run(RunFault),
+    Failed(RunFault),
     /// The memory was refused.
     NoMemory,
 }
 
 impl From<RunFault> for FindFault {
-    ghost from_gives = { λ run fault. fault ≡ Run run };
+    ghost from_gives = { λ run fault. fault ≡ Failed run };
 
     fn from(fault: RunFault) -> Self {
-        FindFault::Run(fault)
+        FindFault::Failed(fault)
     }
 }
 
@@ -147,7 +147,7 @@ fn find_in_accepted<M: Memory, I: Image, W: Output>(
 {
     match target {
         Target::Inode { number } => {
-            find_inode(image, &superblock.geometry, number, out)?;
+            find_inode(&superblock.geometry, image, number, out)?;
             Ok(false)
         }
         Target::Fields => Ok(find_wrong_fields(image, sector, superblock, out)?),
@@ -179,8 +179,8 @@ fn claim_and_find_lost<M: Memory, I: Image, W: Output>(
         (M.account memory.new) result }
 {
     let geometry = &superblock.geometry;
-    let mut workspace = claimed_workspace(memory, image, geometry)?;
-    Ok(find_lost(image, geometry, &mut workspace, out)?)
+    let mut workspace = claimed_workspace(memory, geometry, image)?;
+    Ok(find_lost(geometry, image, &mut workspace, out)?)
 }
 
 /// Runs phase 1 of a check, and finds what a fragment belongs to.
@@ -204,8 +204,8 @@ fn claim_and_find_owner<M: Memory, I: Image, W: Output>(
         (M.account memory.old) (M.account memory.new) result }
 {
     let geometry = &superblock.geometry;
-    let mut workspace = claimed_workspace(memory, image, geometry)?;
-    find_owner(image, geometry, &mut workspace, fragment, out)?;
+    let mut workspace = claimed_workspace(memory, geometry, image)?;
+    find_owner(geometry, image, &mut workspace, fragment, out)?;
     Ok(false)
 }
 
@@ -216,10 +216,10 @@ fn end<W: Output>(answer: Result<bool, FindFault>, out: &mut W) -> u8
     let line = match answer {
         Ok(defect) => return u8::from(defect),
         Err(FindFault::Refused(fault)) => fault_line(fault),
-        Err(FindFault::Run(RunFault::Read(fault))) => Line::CannotRead {
+        Err(FindFault::Failed(RunFault::Read(fault))) => Line::CannotRead {
             sector: fault.sector,
         },
-        Err(FindFault::Run(RunFault::Out(_))) => return NOT_COMPLETED,
+        Err(FindFault::Failed(RunFault::Out(_))) => return NOT_COMPLETED,
         Err(FindFault::NoMemory) => Line::CannotAlloc,
     };
     let _ = print_line(out, &line);

@@ -1,7 +1,6 @@
 //! `inode`: where an inode lies, and what it says.
 ghost use Rattle.std.specs.Prelude.{◌≡◌, ◌+◌, ◌*◌, ◌≤◌, ◌<◌};
-ghost use Rattle.ffs_volume.specs.Blocks.Inodes.{is_short_symlink as is_short_symlink_of, is_device as is_device_of};
-ghost use Rattle.ffs_volume.specs.{Blocks.Inodes.{type_of, inode_from_bytes}, Find.InodeText.place_text};
+ghost use Rattle.ffs_volume.specs.{Blocks.Inodes.{inode_from_bytes}, Find.InodeText.place_text};
 ghost use Rattle.ffs_volume.specs.Find.InodeText.{numbers_text, address_text, link_text, addresses_text, bytes_text};
 ghost use Rattle.ffs_volume.specs.Find.InodeText.{inode_listing, class_word, fifteen_text};
 ghost use Rattle.ffs_report.specs.{Known.IsContents, Sink.Prints};
@@ -12,9 +11,9 @@ use ffs_image::Image;
 use ffs_layout::{Geometry, decode_inode};
 use ffs_report::print::{print_octal, print_pieces};
 use ffs_report::{OutFault, Output, Piece, RunFault};
-use ffs_volume::constants::{DINODE_SIZE, DT_BLK, DT_CHR, DT_LNK};
+use ffs_volume::constants::DINODE_SIZE;
 use ffs_volume::{Class, Inode};
-use ffs_walk::class_of;
+use ffs_walk::{class_of, is_device, is_short_symlink};
 
 /// Where the addresses begin in an inode, in bytes (fs(5)).
 const ADDRESSES_PLACE: usize = 40;
@@ -107,21 +106,6 @@ fn print_addresses<W: Output>(
     Ok(())
 }
 
-/// Whether the text of a symbolic link is in place of the addresses.
-fn is_short_symlink(geometry: &Geometry, inode: &Inode) -> bool
-    ensures { result ≡ is_short_symlink_of geometry.now.layout inode.now }
-{
-    inode.mode / 4096 == u16::from(DT_LNK) && inode.size < u64::from(geometry.layout.maxsymlinklen)
-}
-
-/// Whether an inode is one of a device, with its number in place of the first address.
-fn is_device(inode: &Inode) -> bool
-    ensures { result ≡ is_device_of (type_of inode.now.mode) }
-{
-    let kind = inode.mode / 4096;
-    kind == u16::from(DT_CHR) || kind == u16::from(DT_BLK)
-}
-
 /// Prints what is in the place of the addresses: the text of a short symbolic link, the number of a
 /// device, or addresses.
 #[tactic(auto, unfolding(ffs_volume::specs::Find::InodeText::addresses_text))]
@@ -183,8 +167,8 @@ fn print_bytes<W: Output>(
 /// # Errors
 /// A read of the image that failed, and a write that failed.
 pub fn find_inode<I: Image, W: Output>(
-    image: &mut I,
     geometry: &Geometry,
+    image: &mut I,
     number: u32,
     out: &mut W,
 ) -> Result<(), RunFault>

@@ -20,7 +20,7 @@ use ffs_report::{OutFault, Output, Piece, RunFault};
 use ffs_walk::Window;
 use ffs_workspace::Workspace;
 
-/// What the map of a group says wrongly of a fragment.
+/// How the map of a group is wrong about a fragment.
 #[derive(Clone, Copy)]
 enum Wrong {
     /// It marks it as used, though it is neither reserved nor claimed.
@@ -56,27 +56,27 @@ struct GroupMap<'a> {
     place: u32,
 }
 
-/// Whether the map says this wrongly of a fragment of the group.
-fn is_wrong(map: &GroupMap<'_>, wrong: Wrong, fragment: u32) -> bool
+/// Whether the map is wrong about a fragment of the group in this way.
+fn is_wrong(map: &GroupMap<'_>, how: Wrong, fragment: u32) -> bool
     requires { IsInMap map.now fragment }
-    ensures { result ≡ is_wrong_at wrong map.now fragment }
+    ensures { result ≡ is_wrong_at how map.now fragment }
 {
     let free = !map.used.get(fragment);
     let marked = is_marked_free(map.block, map.place, fragment - map.base);
-    match wrong {
+    match how {
         Wrong::Lost => free && !marked,
         Wrong::MarkedFree => marked && !free,
     }
 }
 
-/// The first fragment of the group, from one on, of which `is_wrong` is `is_it`, and the one after the
-/// group's last where there is none.
-fn next(map: &GroupMap<'_>, wrong: Wrong, from: u32, is_it: bool) -> u32
+/// The first fragment of the group, from one on, of which `is_wrong` is `wanted`, and the one after
+/// the group's last where there is none.
+fn first_with(map: &GroupMap<'_>, how: Wrong, from: u32, wanted: bool) -> u32
     requires { IsInMapOrEnd map.now from }
-    ensures { IsNext (is_wrong_at wrong map.now) is_it from map.now.end result }
+    ensures { IsNext (is_wrong_at how map.now) wanted from map.now.end result }
 {
     for fragment in from..map.end {
-        if is_wrong(map, wrong, fragment) == is_it {
+        if is_wrong(map, how, fragment) == wanted {
             return fragment;
         }
     }
@@ -100,28 +100,28 @@ fn print_range<W: Output>(out: &mut W, word: &[u8], first: u32, last: u32) -> Re
     )
 }
 
-/// Prints the ranges of the fragments of a group of which its map says this wrongly.
-fn print_ranges<W: Output>(out: &mut W, map: &GroupMap<'_>, wrong: Wrong) -> Result<bool, OutFault>
+/// Prints the ranges of the fragments of a group about which its map is wrong in this way.
+fn print_ranges<W: Output>(out: &mut W, map: &GroupMap<'_>, how: Wrong) -> Result<bool, OutFault>
     requires { IsGroupMap map.now }
-    ensures { PrintsWhether (stretch_lines (word_of wrong) (is_wrong_at wrong map.now) map.now.base
+    ensures { PrintsWhether (stretch_lines (word_of how) (is_wrong_at how map.now) map.now.base
         map.now.end) (W.sink out.old) (W.sink out.new) result }
 {
     let mut any = false;
-    let mut first = next(map, wrong, map.base, true);
+    let mut first = first_with(map, how, map.base, true);
     while first < map.end {
-        let end = next(map, wrong, first, false);
-        print_range(out, wrong.word(), first, end - 1)?;
+        let end = first_with(map, how, first, false);
+        print_range(out, how.word(), first, end - 1)?;
         any = true;
-        first = next(map, wrong, end, true);
+        first = first_with(map, how, end, true);
     }
     Ok(any)
 }
 
 /// Prints that a group has no map, in the pass over lost fragments alone, so once.
-fn print_no_map<W: Output>(out: &mut W, group: u32, wrong: Wrong) -> Result<bool, OutFault>
-    ensures { PrintsWhether (no_map_lines wrong group) (W.sink out.old) (W.sink out.new) result }
+fn print_no_map<W: Output>(out: &mut W, group: u32, how: Wrong) -> Result<bool, OutFault>
+    ensures { PrintsWhether (no_map_lines how group) (W.sink out.old) (W.sink out.new) result }
 {
-    match wrong {
+    match how {
         Wrong::Lost => {
             print_number(out, b"no map in group ", u64::from(group), b"\n")?;
             Ok(true)
@@ -130,22 +130,22 @@ fn print_no_map<W: Output>(out: &mut W, group: u32, wrong: Wrong) -> Result<bool
     }
 }
 
-/// Prints what the block of a group says wrongly, and returns whether there was a line.
+/// Prints where the map of a group is wrong in this way, and returns whether there was a line.
 fn print_group<W: Output>(
     out: &mut W,
     geometry: &Geometry,
     used: &FragmentMap,
     group: u32,
     block: &[u8],
-    wrong: Wrong,
+    how: Wrong,
 ) -> Result<bool, OutFault>
     requires { CanSayGroup geometry.now.layout used.now.size group block.now }
-    ensures { PrintsWhether (lines_of_group wrong geometry.now.layout
+    ensures { PrintsWhether (lines_of_group how geometry.now.layout
         (free_in (bits_of used.now) geometry.now.layout.size) group block.now) (W.sink out.old)
         (W.sink out.new) result }
 {
     let Some(place) = map_place(geometry, block) else {
-        return print_no_map(out, group, wrong);
+        return print_no_map(out, group, how);
     };
     // Most maps are right: then no fragment is looked at by itself.
     if same_fragment_map(geometry, used, group, block, place) {
@@ -159,20 +159,20 @@ fn print_group<W: Output>(
         block,
         place,
     };
-    print_ranges(out, &map, wrong)
+    print_ranges(out, &map, how)
 }
 
-/// Reads the blocks of all groups, and prints what they say wrongly.
+/// Reads the blocks of all groups, and prints where their maps are wrong in this way.
 fn find_wrong<I: Image, W: Output>(
-    image: &mut I,
     geometry: &Geometry,
+    image: &mut I,
     used: &FragmentMap,
     window: &mut Window,
-    wrong: Wrong,
+    how: Wrong,
     out: &mut W,
 ) -> Result<bool, RunFault>
     requires { CanReadGroups geometry.now.layout (I.device image.old) used.now.size window.old }
-    ensures prints { FindsWrong wrong geometry.now.layout
+    ensures prints { FindsWrong how geometry.now.layout
         (free_in (bits_of used.now) geometry.now.layout.size)
         (moment I.Image W.Output image.old out.old) (moment I.Image W.Output image.new out.new)
         result }
@@ -182,7 +182,7 @@ fn find_wrong<I: Image, W: Output>(
     for group in 0..geometry.layout.ncg {
         let place = geometry.group_place(group);
         window.fill(image, place, geometry.layout.cgsize as usize)?;
-        let found = print_group(out, geometry, used, group, window.bytes(), wrong)?;
+        let found = print_group(out, geometry, used, group, window.bytes(), how)?;
         any |= found;
     }
     Ok(any)
@@ -195,8 +195,8 @@ fn find_wrong<I: Image, W: Output>(
 /// # Errors
 /// A read of the image that failed, and a write that failed.
 pub fn find_lost<I: Image, W: Output>(
-    image: &mut I,
     geometry: &Geometry,
+    image: &mut I,
     workspace: &mut Workspace,
     out: &mut W,
 ) -> Result<bool, RunFault>
@@ -209,7 +209,7 @@ pub fn find_lost<I: Image, W: Output>(
     workspace.forget_windows();
     let Workspace { used, windows, .. } = workspace;
     let window = &mut windows.current;
-    let lost = find_wrong(image, geometry, used, window, Wrong::Lost, out)?;
-    let free = find_wrong(image, geometry, used, window, Wrong::MarkedFree, out)?;
+    let lost = find_wrong(geometry, image, used, window, Wrong::Lost, out)?;
+    let free = find_wrong(geometry, image, used, window, Wrong::MarkedFree, out)?;
     Ok(lost | free)
 }

@@ -121,8 +121,8 @@ fn print_by_map<W: Output>(
 
 /// Reads the group block of a fragment that nothing claims, and prints whether it is free or lost.
 fn print_unclaimed<I: Image, W: Output>(
-    image: &mut I,
     geometry: &Geometry,
+    image: &mut I,
     window: &mut Window,
     fragment: u32,
     out: &mut W,
@@ -150,7 +150,8 @@ struct Sought {
     cut: u32,
 }
 
-/// Prints the line of a Run, where the fragment is one of its first ones that are taken.
+/// Prints the line of a Run, where the fragment is one of its first ones that are taken. `earlier`
+/// counts the indirect blocks of the inode before it.
 fn print_run<W: Output>(
     out: &mut W,
     sought: Sought,
@@ -217,8 +218,8 @@ fn indirect_in(step: Step) -> u64
 /// Walks over the blocks of an inode, and prints a line for each offer of the fragment that it keeps.
 #[tactic(auto, using(crate::proofs::Walking::blocks_then))]
 fn print_kept<I: Image, W: Output>(
-    image: &mut I,
     geometry: &Geometry,
+    image: &mut I,
     blocks: &mut Blocks,
     sought: Sought,
     inode: &Inode,
@@ -250,8 +251,8 @@ fn print_kept<I: Image, W: Output>(
 
 /// Reads an inode, and prints a line for each offer of the fragment that it keeps.
 fn print_keeper<I: Image, W: Output>(
-    image: &mut I,
     geometry: &Geometry,
+    image: &mut I,
     workspace: &mut Workspace,
     fragment: u32,
     number: u32,
@@ -273,7 +274,7 @@ fn print_keeper<I: Image, W: Output>(
         cut,
     };
     let blocks = &mut workspace.windows.blocks;
-    print_kept(image, geometry, blocks, sought, &inode, out)
+    print_kept(geometry, image, blocks, sought, &inode, out)
 }
 
 /// Whether an inode is allocated, as phase 1 found it: no other one has blocks.
@@ -285,9 +286,9 @@ fn is_allocated(workspace: &Workspace, number: u32) -> bool
 }
 
 /// As `find_keepers`, with no limit on reads.
-fn print_keepers<I: Image, W: Output>(
-    image: &mut I,
+fn find_keepers_unlimited<I: Image, W: Output>(
     geometry: &Geometry,
+    image: &mut I,
     workspace: &mut Workspace,
     fragment: u32,
     out: &mut W,
@@ -301,7 +302,7 @@ fn print_keepers<I: Image, W: Output>(
         if !is_allocated(workspace, number) {
             continue;
         }
-        print_keeper(image, geometry, workspace, fragment, number, out)?;
+        print_keeper(geometry, image, workspace, fragment, number, out)?;
     }
     Ok(())
 }
@@ -309,8 +310,8 @@ fn print_keepers<I: Image, W: Output>(
 /// Prints a line for each kept offer of the fragment. No more reads are made than those of a sweep
 /// (`sweep_reads`): where an image that gives other bytes each time asks for more, it ends there.
 fn find_keepers<I: Image, W: Output>(
-    image: &mut I,
     geometry: &Geometry,
+    image: &mut I,
     workspace: &mut Workspace,
     fragment: u32,
     out: &mut W,
@@ -323,7 +324,7 @@ fn find_keepers<I: Image, W: Output>(
     ensures reads { I.reads image.new ≤ I.reads image.old + sweep_reads geometry.now.layout }
 {
     let mut limited = LimitedImage::new(image, sweep_reads(geometry));
-    let found = print_keepers(&mut limited, geometry, workspace, fragment, out);
+    let found = find_keepers_unlimited(geometry, &mut limited, workspace, fragment, out);
     if limited.is_spent() {
         return Ok(());
     }
@@ -341,8 +342,8 @@ fn find_keepers<I: Image, W: Output>(
 /// # Errors
 /// A read of the image that failed, and a write that failed.
 pub fn find_owner<I: Image, W: Output>(
-    image: &mut I,
     geometry: &Geometry,
+    image: &mut I,
     workspace: &mut Workspace,
     fragment: u32,
     out: &mut W,
@@ -363,8 +364,8 @@ pub fn find_owner<I: Image, W: Output>(
     }
     workspace.forget_windows();
     if workspace.used.get(fragment) {
-        return find_keepers(image, geometry, workspace, fragment, out);
+        return find_keepers(geometry, image, workspace, fragment, out);
     }
     let window = &mut workspace.windows.current;
-    print_unclaimed(image, geometry, window, fragment, out)
+    print_unclaimed(geometry, image, window, fragment, out)
 }

@@ -5,8 +5,8 @@ ghost use Rattle.ffs_check.specs.CommandWords.{AreRefusedBy, HasMatches, IsArgum
 ghost use Rattle.ffs_finding.specs.CommandWords.{HaveOperands, find_program, second_rule};
 ghost use Rattle.ffs_finding.specs.{declared.request.Target.Target, Operands.{IsTarget, SaysOf, operands_in}};
 
-use crate::request::{Command as Wanted, Target};
-use clap::{Arg, ArgAction, ArgMatches, Command, Error};
+use crate::request::{Command, Target};
+use clap::{Arg, ArgAction, ArgMatches, Command as App, Error};
 use ffs_check::program::Asked;
 use ffs_check::words::{needed_argument, no_write_argument, sector_argument, wordless_command};
 use std::alloc::Global;
@@ -19,8 +19,8 @@ fn second_argument<'a>(alloc: Global) -> Arg<'a>
 }
 
 /// The words that the program takes.
-fn command<'a>(alloc: Global) -> Result<Command<'a>, Error>
-    ensures { MatchResult result (λ command. app_of command ≡ find_program)
+fn app<'a>(alloc: Global) -> Result<App<'a>, Error>
+    ensures { MatchResult result (λ app. app_of app ≡ find_program)
         (λ error. kind_of error ≡ OutOfMemory) }
 {
     let no_write = no_write_argument(alloc)?;
@@ -40,7 +40,7 @@ fn matches_of<'a>(alloc: Global, words: &'a [&'a str]) -> Result<ArgMatches<'a>,
     ensures { MatchResult result (HasMatches find_program (map (λ word. word.now) words.now))
         (AreRefusedBy find_program (map (λ word. word.now) words.now)) }
 {
-    command(alloc)?.try_get_matches_from(words)
+    app(alloc)?.try_get_matches_from(words)
 }
 
 /// The words that aren't options, and the sector.
@@ -75,24 +75,24 @@ pub(crate) fn operands_of<'a>(alloc: Global, words: &'a [&'a str]) -> Result<Ope
 }
 
 /// What operands without a number ask for, if they ask for something.
-fn asked_without_number<'a>(operands: &Operands<'a>) -> Option<Asked<'a, Wanted>>
+fn asked_without_number<'a>(operands: &Operands<'a>) -> Option<Asked<'a, Command>>
     requires { operands.now.second ≡ None }
     ensures { SaysOf (operands_in operands.now) result }
 {
     let sector = operands.sector;
     let name = operands.first;
     if operands.command == "copies" && sector.is_none() {
-        let request = Wanted::Copies;
+        let request = Command::Copies;
         return Some(Asked { name, request });
     }
     if operands.command == "fields" {
         let target = Target::Fields;
-        let request = Wanted::InVolume { sector, target };
+        let request = Command::InVolume { sector, target };
         return Some(Asked { name, request });
     }
     if operands.command == "lost" {
         let target = Target::Lost;
-        let request = Wanted::InVolume { sector, target };
+        let request = Command::InVolume { sector, target };
         return Some(Asked { name, request });
     }
     None
@@ -113,7 +113,7 @@ fn numbered_target(command: &str, number: u32) -> Option<Target>
 }
 
 /// What the operands ask for, if they ask for something.
-pub(crate) fn asked_of<'a>(operands: &Operands<'a>) -> Option<Asked<'a, Wanted>>
+pub(crate) fn asked_of<'a>(operands: &Operands<'a>) -> Option<Asked<'a, Command>>
     ensures { SaysOf (operands_in operands.now) result }
 {
     let sector = operands.sector;
@@ -125,7 +125,7 @@ pub(crate) fn asked_of<'a>(operands: &Operands<'a>) -> Option<Asked<'a, Wanted>>
     };
     match numbered_target(operands.command, number) {
         Some(target) => {
-            let request = Wanted::InVolume { sector, target };
+            let request = Command::InVolume { sector, target };
             Some(Asked { name, request })
         }
         None => None,

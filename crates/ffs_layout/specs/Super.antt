@@ -28,7 +28,7 @@ ReadsSuper old new sector found =
     ⊎ ((new ≡ old) × ((b : List ℕ) → old.contents ≡ Some b → found ≡ outcome b sector))
 
 -- The superblock can't be read, and the fault names the sector `at`: a read failed there, or the
--- superblock is there and ends past the image's end.
+-- superblock asked for begins at that sector, and would end past the image's end.
 abbrev pub IsUnreadable : Device → Device → Option ℕ → ℕ → Type 0
 IsUnreadable old new sector at = Faulted old new at ⊎ ((new ≡ old) × (at ≡ super_sector sector)
     × (old.size < at * DEV_BSIZE + SUPERBLOCK_BYTES))

@@ -51,15 +51,16 @@ fn type_of(inode: &Inode) -> u8
     (inode.mode / 4096) as u8
 }
 
-/// Whether this is the type of a character or a block device.
-fn is_device(kind: u8) -> bool
-    ensures { result ≡ inodes.is_device kind }
+/// Whether an inode is of a character or a block device, whose number is in place of the first
+/// address.
+pub fn is_device(inode: &Inode) -> bool
+    ensures { result ≡ inodes.is_device (inodes.type_of inode.now.mode) }
 {
-    matches!(kind, DT_CHR | DT_BLK)
+    matches!(type_of(inode), DT_CHR | DT_BLK)
 }
 
-/// Whether an inode is of a symbolic link whose text is in the inode.
-fn is_short_symlink(geometry: &Geometry, inode: &Inode) -> bool
+/// Whether an inode is of a symbolic link whose text is in place of the addresses.
+pub fn is_short_symlink(geometry: &Geometry, inode: &Inode) -> bool
     ensures { result ≡ inodes.is_short_symlink geometry.now.layout inode.now }
 {
     type_of(inode) == DT_LNK && inode.size < u64::from(geometry.layout.maxsymlinklen)
@@ -103,7 +104,7 @@ fn is_walked(geometry: &Geometry, inode: &Inode, class: Class) -> bool
         Class::File | Class::Dir => true,
         _ => false,
     };
-    walks && !(is_device(type_of(inode)) || is_short_symlink(geometry, inode))
+    walks && !(is_device(inode) || is_short_symlink(geometry, inode))
 }
 
 /// Whether an inode of the class has steps: its addresses are walked, and it isn't empty.
@@ -177,11 +178,7 @@ fn addresses_allowed(geometry: &Geometry, inode: &Inode) -> usize
         return inode.size.div_ceil(4) as usize;
     }
     let blocks = logical_blocks_of(geometry, inode);
-    let counted = if is_device(type_of(inode)) {
-        blocks + 1
-    } else {
-        blocks
-    };
+    let counted = if is_device(inode) { blocks + 1 } else { blocks };
     addresses_needed(u64::from(geometry.layout.nindir), counted) as usize
 }
 

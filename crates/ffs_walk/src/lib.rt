@@ -24,7 +24,7 @@ mod window;
 mod words;
 
 pub use blocks::Blocks;
-pub use class::{class_of, has_steps};
+pub use class::{class_of, has_steps, is_device, is_short_symlink};
 pub use keeping::Keeping;
 pub use walk::Walk;
 pub use window::Window;

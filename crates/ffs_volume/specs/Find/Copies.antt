@@ -20,18 +20,18 @@ is_group_copy v sector =
     nat_lt (group_of_sector v sector) v.ncg && (cgsblock v (group_of_sector v sector) * v.fsize == sector * DEV_BSIZE)
 
 -- which superblock of its volume a sector has: the primary one, that of a group, or another one
-abbrev pub role_text : Layout → ℕ → List ℕ
-role_text v sector =
+abbrev pub which_text : Layout → ℕ → List ℕ
+which_text v sector =
     if sector == SUPERBLOCK_SECTOR then codes "primary\n"
     else (if is_group_copy v sector then number_text (codes "group ") (group_of_sector v sector) (codes "\n")
     else codes "other\n")
 
 -- the line of a superblock: its sector, order of bytes, sizes of blocks and fragments in bytes, size in
--- fragments, and its role
+-- fragments, and which superblock of its volume it is
 abbrev pub copy_text : Layout → ℕ → List ℕ
 copy_text v sector = concat (
     (decimal sector ++ codes " ") ∷ order_word v.order ∷ codes " " ∷ (decimal v.bsize ++ codes "/")
-    ∷ (decimal v.fsize ++ codes " ") ∷ (decimal v.size ++ codes " ") ∷ []) ++ role_text v sector
+    ∷ (decimal v.fsize ++ codes " ") ∷ (decimal v.size ++ codes " ") ∷ []) ++ which_text v sector
 
 -- the line of a sector, where a superblock is accepted there
 abbrev pub copy_lines_of : (sector : ℕ) → Result Superblock SuperFault → List (List ℕ)

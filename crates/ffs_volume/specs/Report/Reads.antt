@@ -45,7 +45,8 @@ abbrev pub group_reads : Layout → ℕ
 group_reads v = v.ncg + div_ceil v.ncg records_at_once
 
 -- all phases read this often at most, where so many messages are printed in all: phase 1 goes over the
--- inode tables, phase 1b over all inodes, and phases 3 and 4 read an inode for each message
+-- inode tables, phase 1b over all inodes, and phases 3 and 4 read an inode for each message. Each message is
+-- counted for phase 2 too, since the limit doesn't ask of which phase it is
 abbrev pub phase_reads : Layout → (lines : ℕ) → ℕ
 phase_reads v lines = scan_reads v + sweep_reads v + pathname_reads v lines + lines + group_reads v
 

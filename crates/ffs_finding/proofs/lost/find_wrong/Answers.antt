@@ -27,7 +27,7 @@ loop-group-init g c =
       printed = record {
         printed = record {
           lines = [];
-          right = λ b k. groups_begin c.args.wrong v (free_in (bits_of c.args.used.now) v.size) b;
+          right = λ b k. groups_begin c.args.how v (free_in (bits_of c.args.used.now) v.size) b;
           took = took_nil _;
         };
         any_is = refl;
@@ -57,8 +57,8 @@ returns-in_err-found-clause-prints g c =
       lines = record {
         found = record {
           image = fill.read;
-          text = stops _ _ (from_group c.args.wrong v free (n + 1)) _ _ _ _ _ inv.printed.printed
-              (λ b k. groups_next c.args.wrong v free b _ n c.loop-group-test.true
+          text = stops _ _ (from_group c.args.how v free (n + 1)) _ _ _ _ _ inv.printed.printed
+              (λ b k. groups_next c.args.how v free b _ n c.loop-group-test.true
               (held v _ c.fill.new.self _ _ n c.bytes.ensures fill.bytes c.group_place-place.ensures b k))
               c.in_err-found.ensures.text;
         };
@@ -78,8 +78,8 @@ loop-group-preserved g c =
       device = fill.read;
       window = record { room = fill.room ∙ inv.window.room; holds = rw (fill.read) at fill.holds };
       reads = omega (arith, inv.reads, fill.counted);
-      printed = prints_whether _ _ (from_group c.args.wrong v free (n + 1)) _ _ _ _ _ _ _ inv.printed
-          (λ b k. groups_next c.args.wrong v free b _ n c.loop-group-test.true
+      printed = prints_whether _ _ (from_group c.args.how v free (n + 1)) _ _ _ _ _ _ _ inv.printed
+          (λ b k. groups_next c.args.how v free b _ n c.loop-group-test.true
           (held v _ c.fill.new.self _ _ n c.bytes.ensures fill.bytes c.group_place-place.ensures b k))
           c.in_ok-found.ensures.text c.in_ok-found.ensures.any;
     }
@@ -97,7 +97,7 @@ returns-clause-prints g c =
           text = record {
             lines = inv.printed.printed.lines;
             right = λ b k. sym (ap (λ (ls : List (List ℕ)). inv.printed.printed.lines ++ ls)
-                (groups_end c.args.wrong v free b n c.loop-group-test.false)) ∙ inv.printed.printed.right b k;
+                (groups_end c.args.how v free b n c.loop-group-test.false)) ∙ inv.printed.printed.right b k;
             took = inv.printed.printed.took;
           };
         };

@@ -14,6 +14,6 @@ invariant-loop-group g l =
       device : g.I.Image.device l.image ≡ d;
       window : IsBlockWindow v d l.window;
       reads : g.I.Image.reads l.image ≤ g.I.Image.reads l.fn.image + l.group;
-      printed : PrintedWhether (IsContents d.contents) (from_group l.wrong v free l.group)
-          (lines_of_groups l.wrong v free) l.any (g.W.Output.sink l.fn.out) (g.W.Output.sink l.out);
+      printed : PrintedWhether (IsContents d.contents) (from_group l.how v free l.group)
+          (lines_of_groups l.how v free) l.any (g.W.Output.sink l.fn.out) (g.W.Output.sink l.out);
     }

@@ -7,7 +7,7 @@ use Rattle.ffs_finding.proofs.lost.print_group.Goals as goal
 
 pub returns-in_default : goal.returns-in_default
 returns-in_default g c =
-    rw (without_map c.args.wrong c.args.geometry.now.layout
+    rw (without_map c.args.how c.args.geometry.now.layout
     (free_in (bits_of c.args.used.now) c.args.geometry.now.layout.size) c.args.group c.args.block.now
     c.in_default.ensures)
     c.print_no_map.ensures
@@ -16,7 +16,7 @@ pub returns : goal.returns
 returns g c =
     let base = c.cgbase-base.result in
     let map = c.in-Some.ensures in
-    rw (with_map c.args.wrong c.args.geometry.now.layout (bits_of c.args.used.now) c.args.used.now.size base
+    rw (with_map c.args.how c.args.geometry.now.layout (bits_of c.args.used.now) c.args.used.now.size base
     (base + c.group_fragments.result) c.in-Some.place c.args.group c.args.block.now map.0 map.1 c.requires.size
     c.cgbase-base.ensures.value (ap (λ (n : ℕ). base + n) c.group_fragments.ensures.value))
     c.print_ranges.ensures
@@ -24,7 +24,7 @@ returns g c =
 pub returns-then-same_fragment_map : goal.returns-then-same_fragment_map
 returns-then-same_fragment_map g c =
     let map = c.in-Some.ensures in
-    let right = right_map c.args.wrong c.args.geometry.now.layout (bits_of c.args.used.now) c.args.used.now.size
+    let right = right_map c.args.how c.args.geometry.now.layout (bits_of c.args.used.now) c.args.used.now.size
     c.in-Some.place c.args.group c.args.block.now map.0 map.1 c.requires.size
     (sym c.same_fragment_map.ensures ∙ c.if-same_fragment_map.true) in
     rw right (record { text = took_nil _; any = refl })

@@ -4,7 +4,7 @@ use Rattle.ffs_finding.proofs.lost.print_ranges.Given as goal
 
 abbrev pub invariant-loop-first : goal.invariant-loop-first
 invariant-loop-first g l =
-    IsAt (word_of l.wrong) (is_wrong_at l.wrong l.map) l.map.base l.map.end l.first l.any
+    IsAt (word_of l.how) (is_wrong_at l.how l.map) l.map.base l.map.end l.first l.any
     (g.W.Output.sink l.fn.out) (g.W.Output.sink l.out)
 
 abbrev pub decreases-loop-first : goal.decreases-loop-first

@@ -8,7 +8,7 @@ use Rattle.ffs_claims.proofs.{Numbers.numbers_most, Rescanned.runs_most, Frames.
 use Rattle.ffs_finding.proofs.{Keepers.{found_lines, found_reads, stays_then}, Owners.{inode_runs, keepers_begin}}
 use Rattle.ffs_finding.proofs.{Owners.{keepers_end, keepers_from, keepers_next, no_lines}, Printing.{part, part_fault}}
 use Rattle.ffs_finding.proofs.Printing.{printed_all}
-use Rattle.ffs_finding.proofs.owner.print_keepers.Goals as goal
+use Rattle.ffs_finding.proofs.owner.find_keepers_unlimited.Goals as goal
 
 pub loop-number-init : goal.loop-number-init
 loop-number-init g c = record {

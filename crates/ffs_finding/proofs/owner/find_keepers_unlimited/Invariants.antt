@@ -3,7 +3,7 @@ use Rattle.ffs_volume.specs.{Blocks.{KeptSteps.claims_before, Inodes.inodes_of},
 use Rattle.ffs_report.specs.Known.{ForBytes}
 use Rattle.ffs_workspace.specs.{Found.WithPhase1, Ready.KeepsWindows}
 use Rattle.ffs_finding.{specs.Outcome.PrintedTo, proofs.Owners.keepers_from}
-use Rattle.ffs_finding.proofs.owner.print_keepers.Given as goal
+use Rattle.ffs_finding.proofs.owner.find_keepers_unlimited.Given as goal
 
 abbrev pub invariant-loop-number : goal.invariant-loop-number
 invariant-loop-number g l =

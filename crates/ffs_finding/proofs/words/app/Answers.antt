@@ -1,6 +1,6 @@
 use Rattle.std.proofs.Common.{◌∙◌, ap₂}
 use Rattle.clap.specs.Words.{with_rule}
-use Rattle.ffs_finding.proofs.words.command.Goals as goal
+use Rattle.ffs_finding.proofs.words.app.Goals as goal
 
 pub returns : goal.returns
 returns c = c.in_ok-arg-5.ensures.shape c.second_argument.ensures.local
