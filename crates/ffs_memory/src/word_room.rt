@@ -39,6 +39,13 @@ impl WordRoom {
         self.words.len()
     }
 
+    /// How many words its memory has room for.
+    pub fn room(&self) -> usize
+        ensures { result ≡ vec_capacity self.now }
+    {
+        self.words.capacity()
+    }
+
     /// The words that are written.
     #[inline(always)]
     pub fn as_slice(&self) -> &[u64]

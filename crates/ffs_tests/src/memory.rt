@@ -3,7 +3,7 @@
 
 use crate::compare::same;
 use ffs::{Args, Counted, End, FuseMemory, Memory, MemoryImage, Order, SystemMemory, check_in};
-use ffs_memory::{FilledList, ZeroedWords, copy_short};
+use ffs_memory::{FilledList, WordRoom, copy_short};
 use ffs_samples::{base, put, put_super};
 use std::alloc::{AllocError, Global};
 use std::process::Abort;
@@ -51,44 +51,56 @@ fn each_request_refused(rt: HostRuntime) -> Result<(), Fail> {
     Ok(())
 }
 
-/// The bytes granted for a thousand words, and how many they are.
+/// The bytes granted for a thousand words, and for how many there is room.
 fn thousand_words(alloc: Global) -> Result<(u64, usize), AllocError> {
     let mut memory = SystemMemory::new(alloc);
-    let words = memory.zeroed_words(1000)?;
-    Ok((memory.granted(), words.len()))
+    let words = memory.room_for_words(1000)?;
+    Ok((memory.granted(), words.room()))
 }
 
-/// A call on a list of words.
+/// A call on words that are written one after another.
 #[derive(Clone, Copy)]
 enum WordCall {
+    /// How many words are written.
+    Len,
     /// A word.
     Get(usize),
     /// Sets a word.
     Set(usize, u64),
-    /// Claims the bits of a mask: 1 where they are claimed, and else 0.
-    Claim(usize, u64),
+    /// Writes one word more.
+    Push(u64),
+    /// Writes words of 0 until there are so many in all.
+    Zeros(usize),
 }
 
-/// The answer of a call: 0 where it has none, and nothing where there is no such word.
-fn word_answer(words: &mut ZeroedWords, call: WordCall) -> Option<u64> {
+/// The answer of a call: 0 where it has none, and nothing where there is no such word, or no room.
+fn word_answer(words: &mut WordRoom, call: WordCall) -> Option<u64> {
     let len = words.len();
     match call {
-        WordCall::Get(index) if index < len => Some(words.get(index)),
+        WordCall::Len => Some(len as u64),
+        WordCall::Get(index) if index < len => Some(words[index]),
         WordCall::Set(index, word) if index < len => {
             words.set(index, word);
             Some(0)
         }
-        WordCall::Claim(index, mask) if index < len => Some(u64::from(words.claim(index, mask))),
+        WordCall::Push(word) if len < words.room() => {
+            words.push(word);
+            Some(0)
+        }
+        WordCall::Zeros(end) if len <= end && end <= words.room() => {
+            words.push_zeros(end);
+            Some(0)
+        }
         _ => None,
     }
 }
 
-/// Makes calls on a thousand words, and compares their answers.
+/// Makes calls where there is room for a thousand words, and compares their answers.
 fn word_answers(
     rt: &(impl Abort + AllocGlobal),
     calls: &[(WordCall, u64)],
 ) -> Result<(), AllocError> {
-    let mut words = SystemMemory::new(rt.alloc()).zeroed_words(1000)?;
+    let mut words = SystemMemory::new(rt.alloc()).room_for_words(1000)?;
     for (index, (call, wanted)) in calls.iter().enumerate() {
         let found = word_answer(&mut words, *call);
         same(rt, &(index, found), &(index, Some(*wanted)));
@@ -163,41 +175,28 @@ fn more_inodes_than_16_bits(rt: HostRuntime) -> Result<(), Fail> {
     Ok(())
 }
 
-/// The last of a thousand words; those about 700 once it is set; 3 and 700 once 3 is set too.
-const WORDS: [(WordCall, u64); 8] = [
-    (WordCall::Get(999), 0),
-    (WordCall::Set(700, 7), 0),
+/// One word, zeros after it, a word of these that is set, and one word more.
+const WORDS: [(WordCall, u64); 14] = [
+    (WordCall::Len, 0),
+    (WordCall::Push(7), 0),
+    (WordCall::Len, 1),
+    (WordCall::Get(0), 7),
+    (WordCall::Zeros(700), 0),
+    (WordCall::Len, 700),
+    (WordCall::Get(0), 7),
     (WordCall::Get(699), 0),
-    (WordCall::Get(700), 7),
-    (WordCall::Get(701), 0),
     (WordCall::Set(3, 9), 0),
     (WordCall::Get(3), 9),
-    (WordCall::Get(700), 7),
+    (WordCall::Get(4), 0),
+    (WordCall::Push(5), 0),
+    (WordCall::Get(700), 5),
+    (WordCall::Get(3), 9),
 ];
 
-/// Claims beside bits that are set, over one of them, and of a word that isn't set.
-const CLAIMED: [(WordCall, u64); 8] = [
-    (WordCall::Set(3, 9), 0),
-    (WordCall::Claim(3, 6), 1),
-    (WordCall::Get(3), 15),
-    (WordCall::Claim(3, 24), 0),
-    (WordCall::Get(3), 15),
-    (WordCall::Claim(700, 24), 1),
-    (WordCall::Get(699), 0),
-    (WordCall::Get(700), 24),
-];
-
-/// Calls on words that are 0 at first.
-static WORD_CALLS: [&[(WordCall, u64)]; 2] = [&WORDS, &CLAIMED];
-
-/// Words are 0 until they are set, and the others stay. The bits of a mask are claimed where none
-/// of them is set: beside bits that are, but not over one.
 #[test]
-fn words_set_and_claimed(rt: HostRuntime) -> Result<(), Fail> {
+fn words_written_and_set(rt: HostRuntime) -> Result<(), Fail> {
     same(&rt, &thousand_words(rt.alloc())?, &(8000, 1000));
-    for &calls in &WORD_CALLS {
-        word_answers(&rt, calls)?;
-    }
+    word_answers(&rt, &WORDS)?;
     Ok(())
 }
 

@@ -1,7 +1,7 @@
 use Rattle.std.proofs.Common.{◌∙◌, arith, ap, length, refl, sym}
 use Rattle.std.proofs.lemmas.List.FromFn.{length-map-range_with_len}
 use Rattle.ffs_maps.specs.{WordBits.{bits_of_words, set_among}}
-use Rattle.ffs_maps.proofs.ReservedBits.{kept_all, kept_ones}
+use Rattle.ffs_maps.proofs.ReservedBits.{kept_all, untouched_ones}
 use Rattle.ffs_maps.proofs.FragmentMap.reserve.Goals as goal
 
 pub invariant_of-self : goal.invariant_of-self
@@ -12,7 +12,7 @@ invariant_of-self c =
     let n = length m.words.list in
     record {
       enough = ap (λ ws. length ws.list) now ∙ length-map-range_with_len _ 0 n ∙ m.enough;
-      counted = kept_ones g n m.size c.reserved_count-self.result c.requires (omega (arith, m.enough))
+      counted = untouched_ones g n m.size c.reserved_count-self.result c.requires (omega (arith, m.enough))
           c.reserved_count-self.ensures
           ∙ ap (λ ws. set_among (bits_of_words ws.list m.size) 0 m.size) (sym now);
     }
