@@ -27,7 +27,7 @@ use Rattle.ffs_workspace.specs.{declared.workspace.Workspace.Workspace, Lengths.
 use Rattle.ffs_workspace.{specs.Holds.HoldsSurvey, proofs.KindLaws.{reports_at, suspect_is, type_is}}
 use Rattle.ffs_survey.{specs.{Survey.number_at, Calm.{dir_by, IsCalm}}, proofs.CalmLaws.{calm_names_new, calm_new}}
 use Rattle.ffs_pathnames.{specs.Silent.IsSilentDirectory, proofs.SeesLaws.{chunks_are, chunks_read, settled}}
-use Rattle.ffs_pathnames.specs.PassedNames.{after_look, are_quiet, belongs, first_verdict, is_quiet}
+use Rattle.ffs_pathnames.specs.PassedNames.{after_look, are_quiet, belongs, verdict_at_look, is_quiet}
 use Rattle.ffs_names.proofs.DirLaws as dirs
 
 -- ---- what the lists show
@@ -81,7 +81,7 @@ plain_silent : (v : Volume) (s : CurrentDir) (parents : List ℕ) (flags : List 
     Shown v s.kinds s.marked parents → is_calm_plain s.kinds s.marked reached e.number e.kind ≡ true
     → (is_dir v e.number ≡ true → belongs v s.dir e.number ≡ true)
     → (is_dir v e.number ≡ true → (slice_index stamps e.number == s.dir) ≡ false)
-    → is_silent (first_verdict v s.dir (record { flags = flags; stamps = stamps }) e) ≡ true
+    → is_silent (verdict_at_look v s.dir (record { flags = flags; stamps = stamps }) e) ≡ true
 plain_silent v s parents flags stamps reached e sh c mine new = silent_of v _ _ e (record {
   below = grind (arith, nat_tests, and_parts);
   no_whiteout = grind (arith, nat_tests, and_parts, or_cases, name_is);
@@ -124,7 +124,7 @@ calm_quiet v s parents flags (e ∷ es) reached i stamps sh c mine seen =
     low x d = grind (arith, nat_tests)
 
     here : (role : Role) → e.role ≡ role → is_calm_role s reached i role e.entry.number e.entry.kind ≡ true →
-        is_role_silent role (first_verdict v s.dir (record { flags = flags; stamps = stamps }) e.entry) ≡ true
+        is_role_silent role (verdict_at_look v s.dir (record { flags = flags; stamps = stamps }) e.entry) ≡ true
     here Extra q h = absurd (cc)
     here Plain q h =
         let x = e.entry.number in

@@ -9,7 +9,7 @@ use Rattle.ffs_volume.specs.declared.tree_lines.DirectoryLine.TheVariants.{RootN
 use Rattle.ffs_workspace.specs.{declared.workspace.Workspace.Workspace, Leaves.LeavesSurvey}
 use Rattle.ffs_volume.specs.Encodings.Places.{AreNoted}
 use Rattle.ffs_workspace.specs.{Holds.{bool_at, HoldsClaims, HoldsSurvey}, Ready.{CanRead, IsReady}}
-use Rattle.ffs_pathnames.specs.{Gathers.{AreAsLong, passed_of}, PassedRight.AreRightBefore}
+use Rattle.ffs_pathnames.specs.{Gathers.{HasInodeLists, passed_of}, PassedRight.AreRightBefore}
 use Rattle.ffs_survey.specs.Survey.{suspect_at}
 
 -- what was found stays; the flags of suspect inodes are taken away, and no others; nothing is
@@ -42,12 +42,12 @@ needs_check w x = (slice_index w.kinds.items x == DT_DIR)
 
 -- the lists say something of each inode, and x is one
 pub record ListsInode (w : Workspace) (x : ℕ) : Type 0 where
-  pub lists : AreAsLong w
+  pub lists : HasInodeLists w
   pub number : x < vec_len w.kinds
 
 -- the lists say something of each of so many inodes, which are no fewer than the root's number
 pub record ListsInodes (w : Workspace) (n : ℕ) : Type 0 where
-  pub lists : AreAsLong w
+  pub lists : HasInodeLists w
   pub count : n ≡ vec_len w.kinds
   pub some : 2 ≤ n
 

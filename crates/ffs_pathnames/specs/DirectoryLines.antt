@@ -13,7 +13,7 @@ use Rattle.ffs_workspace.specs.declared.workspace.Workspace.{Workspace}
 use Rattle.ffs_pathnames.specs.{ChecksNeeded.ChecksLookedAt, Before.IsBefore, Gathers.passed_of, LineReads.again_reads}
 use Rattle.ffs_pathnames.specs.{LineReads.ReadsByLines, DirectoryContext.KnowsHeader, HeaderValues.facts_lines}
 use Rattle.ffs_pathnames.specs.{Moments.LinesMoment, PassedNames.{are_quiet, directory_reported}, Ready.LinesLeave}
-use Rattle.ffs_pathnames.specs.{Ready.PhaseLeaves, declared.{header.HeaderFacts.HeaderFacts, tree.Checking.Checking}}
+use Rattle.ffs_pathnames.specs.{Ready.PhaseLeaves, declared.{entry_texts.Checking.Checking, header.HeaderFacts.HeaderFacts}}
 
 -- the lines on what was found of a directory before its entries are said, and the image is read for no more
 -- than these; any image for no more than the messages that were begun. All of the workspace but its windows
@@ -59,7 +59,6 @@ pub record LeavesFindings (old new : Workspace) : Type 0 where
   pub reached : new.reached ≡ old.reached
   pub parents : new.parents ≡ old.parents
 
--- these lines of all directories are said, by what is known of the bytes. Each directory's own blocks are
 -- these lines of all directories are said, by what is known of the bytes. Each directory's own blocks are
 -- read thrice at most, for the places of its children, for a first look and for a second reading, and the
 -- rest is read for the lines; where only directories that are looked at need a check, their own blocks alone

@@ -15,7 +15,7 @@ use Rattle.ffs_paths.specs.{LastPaths.last_path, Reads.{KnowsPlaces, OnlyReadsFe
 use Rattle.ffs_paths.specs.declared.{entry_paths.EntryPaths.EntryPaths, kept_parent.KeptParent.KeptParent}
 use Rattle.ffs_pathnames.specs.{DirectoryContext.{DirectoryContext, KeepsPath, KnowsPath}, Ready.LimitedPathLeaves}
 use Rattle.ffs_pathnames.specs.declared.{gather.DirectoryEntry.DirectoryEntry, entry_texts.EntryTexts.EntryTexts}
-use Rattle.ffs_pathnames.specs.{PassedNames.{PassedNames, roled_reported, second_verdict}, Stamps.stamps_of}
+use Rattle.ffs_pathnames.specs.{PassedNames.{PassedNames, roled_reported, verdict_at_reading}, Stamps.stamps_of}
 use Rattle.ffs_pathnames.specs.LineReads.{again_reads, ReadsPathOnce}
 use Rattle.ffs_workspace.specs.{declared.workspace.Workspace.Workspace, Holds.{HoldsClaims, HoldsSurvey}, Lengths.IsFor}
 
@@ -46,7 +46,7 @@ roled_lines_by vol w e = roled_reported vol e.dir (passed_of w) (roled_value e)
 -- of a plain one, and of an extra one
 abbrev pub plain_lines_by : Volume → Workspace → DirectoryEntry → List TreeMessage
 plain_lines_by vol w e =
-    plain_lines vol e.dir (entry_value e.entry) (second_verdict vol e.dir (passed_of w) (entry_value e.entry))
+    plain_lines vol e.dir (entry_value e.entry) (verdict_at_reading vol e.dir (passed_of w) (entry_value e.entry))
 
 abbrev pub extra_reported : Volume → DirectoryEntry → List TreeMessage
 extra_reported vol e = extra_lines (attributes vol e.dir) (dir_path (graph_of vol) e.dir) (entry_value e.entry)
@@ -57,14 +57,14 @@ asks_attr OutOfRange = false
 asks_attr BadWhiteout = false
 asks_attr Whiteout = false
 asks_attr Unallocated = true
-asks_attr (Named n) = true
+asks_attr (Named defects) = true
 
 abbrev pub asks_path : Verdict → Bool
 asks_path OutOfRange = false
 asks_path BadWhiteout = false
 asks_path Whiteout = false
 asks_path Unallocated = false
-asks_path (Named n) = n.extraneous
+asks_path (Named defects) = defects.extraneous
 
 -- so many reads where they are wanted, else none
 abbrev pub if_wanted : Bool → ℕ → ℕ
@@ -79,10 +79,10 @@ verdict_reads verdict = if_wanted (asks_path verdict) path_reads + if_wanted (as
 pub record IsVerdictIn (w : Workspace) (s : ℕ) (e : Entry) (answer : Verdict) : Type 0 where
   pub below : IsTrue (asks_attr answer) → e.number < vec_len w.kinds
   pub verdict : (v : Layout) (b : List ℕ) → IsFor v w → HoldsClaims v b w → HoldsSurvey v b w
-      → answer ≡ second_verdict (volume_of v b) s (passed_of w) e
+      → answer ≡ verdict_at_reading (volume_of v b) s (passed_of w) e
 
 -- the lists that say something of each inode are as long as one another
-pub record AreAsLong (w : Workspace) : Type 0 where
+pub record HasInodeLists (w : Workspace) : Type 0 where
   pub marked : vec_len w.marked ≡ vec_len w.kinds
   pub parents : vec_len w.parents ≡ vec_len w.kinds
   pub flags : vec_len w.flags ≡ vec_len w.kinds

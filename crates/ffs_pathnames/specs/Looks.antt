@@ -7,7 +7,7 @@ use Rattle.ffs_pathnames.specs.{PassedNames.after_looks, Sees.{Sees, stamps_in},
 
 -- the entries of a chunk with their roles
 abbrev pub roled_in : Order → DirectoryChunk → List RoledEntry
-roled_in order c = roled_from c.first 0 (entries_of order c.bytes.now)
+roled_in order c = roled_from c.at_start 0 (entries_of order c.bytes.now)
 
 -- each inode that one of these entries names is stamped where it belongs to the directory d, by the words
 -- before and after, which note the same places

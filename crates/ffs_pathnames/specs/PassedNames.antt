@@ -36,12 +36,12 @@ after_roled vol s m e =
     if is_plain e.role && nat_lt e.entry.number vol.count then after_name vol s m e.entry.number else m
 
 -- the verdict on a plain entry of s by the names that were passed, for the second reading of s
-abbrev pub second_verdict : Volume → ℕ → PassedNames → Entry → Verdict
-second_verdict vol s m e = verdict_on vol (not (is_flagged m e.number)) (is_stamped s m e.number) e
+abbrev pub verdict_at_reading : Volume → ℕ → PassedNames → Entry → Verdict
+verdict_at_reading vol s m e = verdict_on vol (not (is_flagged m e.number)) (is_stamped s m e.number) e
 
 -- what is reported of an entry
 unfoldable pub roled_reported : Volume → ℕ → PassedNames → RoledEntry → List TreeMessage
-roled_reported vol s m e = role_lines vol s e.role e.entry (second_verdict vol s m e.entry)
+roled_reported vol s m e = role_lines vol s e.role e.entry (verdict_at_reading vol s m e.entry)
 
 -- some entries of s, one after another
 abbrev pub after_entries : Volume → ℕ → PassedNames → List RoledEntry → PassedNames
@@ -74,15 +74,15 @@ after_looks vol s stamps (e ∷ es) = after_looks vol s (after_look vol s stamps
 
 -- the verdict on a plain entry of s by the names that were passed, for the first look: the parent
 -- entry of what belongs to s is the first that the look meets
-abbrev pub first_verdict : Volume → ℕ → PassedNames → Entry → Verdict
-first_verdict vol s m e =
+abbrev pub verdict_at_look : Volume → ℕ → PassedNames → Entry → Verdict
+verdict_at_look vol s m e =
     verdict_on vol (not (is_flagged m e.number)) (belongs vol s e.number && not (is_stamped s m e.number)) e
 
 -- a first look is sure that nothing is reported of an entry of s, by the flags before s and the
 -- stamps before the entry
 unfoldable pub is_quiet : Volume → ℕ → List Bool → List ℕ → RoledEntry → Bool
 is_quiet vol s flags stamps e =
-    is_role_silent e.role (first_verdict vol s (record { flags = flags; stamps = stamps }) e.entry)
+    is_role_silent e.role (verdict_at_look vol s (record { flags = flags; stamps = stamps }) e.entry)
 
 abbrev pub are_quiet : Volume → ℕ → List Bool → List ℕ → List RoledEntry → Bool
 are_quiet vol s flags stamps [] = true

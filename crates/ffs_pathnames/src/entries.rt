@@ -8,12 +8,11 @@ ghost use Rattle.ffs_pathnames.specs.{Ready.{ReadyToPath, ReadyToReport}, ReadsL
 ghost use Rattle.ffs_pathnames.specs.{DirectoryLines.{ReadsForEntries, ReportsDirectory}, EntryLines.{PassesEntries, ReportsOneEntry}};
 ghost use Rattle.ffs_pathnames.specs.PassedNames as names;
 
-use crate::entry_texts::EntryTexts;
+use crate::entry_texts::{Checking, EntryTexts};
 use crate::gather::DirectoryEntry;
 use crate::inodes::Inodes;
 use crate::look::{Directory, DirectoryChunk};
 use crate::one_entry::{report_extra, report_plain};
-use crate::tree::Checking;
 use crate::verdict::pass;
 use ffs_image::{Image, ImageFault, LimitedImage};
 use ffs_layout::Geometry;
@@ -99,7 +98,7 @@ pub fn report_directory<I: Image, W: Output>(
     )? {
         let chunk = DirectoryChunk {
             dir: directory.number,
-            first: offset == 0,
+            at_start: offset == 0,
             bytes: &bytes,
         };
         report_chunk(
@@ -199,7 +198,7 @@ pub fn report_chunk<I: Image, W: Output>(
     'entries: while let Some((index, entry)) = entries.next() {
         let roled = DirectoryEntry {
             dir: chunk.dir,
-            role: role_of(chunk.first, index, &entry),
+            role: role_of(chunk.at_start, index, &entry),
             entry,
         };
         report_entry(geometry, image, workspace, texts, report, &roled)?;

@@ -13,7 +13,7 @@ ghost use Rattle.ffs_workspace.specs.{Holds.HoldsSurvey, Ready.CanRead};
 ghost use Rattle.ffs_layout.specs.Entry.{entry_value};
 
 use crate::entries::report_directory;
-use crate::entry_texts::EntryTexts;
+use crate::entry_texts::{Checking, EntryTexts};
 use crate::gather::gather_dir;
 use crate::header::{HeaderFacts, header_defects, say_header};
 use crate::look::{Directory, Examination, examine};
@@ -25,16 +25,6 @@ use ffs_report::{Output, Report, RunFault};
 use ffs_volume::Order;
 use ffs_volume::constants::{DIRBLKSIZ, DT_DIR, ROOTINO};
 use ffs_workspace::{Workspace, sweep_reads};
-
-/// What is carried from the check of one directory to that of the next.
-#[derive(Drop)]
-pub struct Checking {
-    /// The texts that lines of entries show.
-    pub texts: EntryTexts,
-    /// How many reads may still be made of directories' own blocks: their inodes, their indirect
-    /// blocks and their chunks. What a message shows is not among these.
-    pub reads_left: u64,
-}
 
 /// Prints the lines of each directory and of its entries, in the order of inode numbers. The places
 /// of parent entries are noted first, for the paths, where any directory is checked.
