@@ -22,16 +22,16 @@ pub record IsNonePassed (old new : Workspace) : Type 0 where
   pub ready : (v : Layout) (d : Device) → IsReady v d old → CanRead v d new
 
 -- the image gives the bytes, the workspace holds what the block check and the survey leave, and
--- what it remembers of the names that were passed before d is right
-pub record IsBefore (v : Layout) (contents : Option (List ℕ)) (w : Workspace) (d : ℕ) (b : List ℕ) : Type 0 where
+-- what it remembers of the names that were passed before `dir` is right
+pub record IsBefore (v : Layout) (contents : Option (List ℕ)) (w : Workspace) (dir : ℕ) (b : List ℕ) : Type 0 where
   pub gives_bytes : contents ≡ Some b
   pub claims : HoldsClaims v b w
   pub survey : HoldsSurvey v b w
-  pub passed : AreRightBefore (volume_of v b) d (passed_of w)
+  pub passed : AreRightBefore (volume_of v b) dir (passed_of w)
 
 -- and a place is noted of the parent entry of each directory that is reached and isn't the root
-pub record IsBeforeNoted (v : Layout) (contents : Option (List ℕ)) (w : Workspace) (d : ℕ) (b : List ℕ) : Type 0 where
-  pub before : IsBefore v contents w d b
+pub record IsBeforeNoted (v : Layout) (contents : Option (List ℕ)) (w : Workspace) (dir : ℕ) (b : List ℕ) : Type 0 where
+  pub before : IsBefore v contents w dir b
   pub noted : AreNoted v b w.queue.items
 
 -- a directory that isn't of size 0 and isn't known to be calm. That a marked one is flagged doesn't

@@ -81,18 +81,18 @@ pub record ReportsTree {T : Type 0} (v : Layout) (lines : Volume → List TreeMe
   pub findings : LeavesFindings old.at.workspace new.at.workspace
   pub ready : CanRead v new.at.image new.at.workspace
 
--- the entries of the directory x are reported: its Runs are read once, its path is made once, and for each
+-- the entries of the directory `dir` are reported: its Runs are read once, its path is made once, and for each
 -- line `again_reads` reads are made at most, where the place of each directory is noted
-abbrev pub ReadsForEntries : Layout → (knows : List ℕ → Type 0) → (x : ℕ) → (old new : LinesMoment Checking) → Type 0
-ReadsForEntries v knows x old new = ForBytes knows (λ b. AreNoted v b old.at.workspace.queue.items
-    → new.at.reads ≤ old.at.reads + (directory_runs v b x
-    + (path_reads + again_reads * length (directory_reported (volume_of v b) x (passed_of old.at.workspace)))))
+abbrev pub ReadsForEntries : Layout → (knows : List ℕ → Type 0) → (dir : ℕ) → (old new : LinesMoment Checking) → Type 0
+ReadsForEntries v knows dir old new = ForBytes knows (λ b. AreNoted v b old.at.workspace.queue.items
+    → new.at.reads ≤ old.at.reads + (directory_runs v b dir
+    + (path_reads + again_reads * length (directory_reported (volume_of v b) dir (passed_of old.at.workspace)))))
 
--- where a first look at the directory x makes sure that nothing is reported of its entries, its own blocks
+-- where a first look at the directory `dir` makes sure that nothing is reported of its entries, its own blocks
 -- are read once, and the rest is read for the lines that come before these
-abbrev pub ReadsQuietOnce : Layout → (knows : List ℕ → Type 0) → (x : ℕ) → (old new : LinesMoment Checking) → Type 0
-ReadsQuietOnce v knows x old new = ForBytes knows (λ b. AreNoted v b old.at.workspace.queue.items
-    → are_quiet (volume_of v b) x old.at.workspace.flags.items (passed_of old.at.workspace).stamps
-    (roled_entries (volume_of v b) x) ≡ true
+abbrev pub ReadsQuietOnce : Layout → (knows : List ℕ → Type 0) → (dir : ℕ) → (old new : LinesMoment Checking) → Type 0
+ReadsQuietOnce v knows dir old new = ForBytes knows (λ b. AreNoted v b old.at.workspace.queue.items
+    → are_quiet (volume_of v b) dir old.at.workspace.flags.items (passed_of old.at.workspace).stamps
+    (roled_entries (volume_of v b) dir) ≡ true
     → new.at.reads
-    ≤ old.at.reads + (directory_cost v b x + line_reads * length (dir_header_lines (volume_of v b) x)))
+    ≤ old.at.reads + (directory_cost v b dir + line_reads * length (dir_header_lines (volume_of v b) dir)))
