@@ -156,7 +156,7 @@ module _ {S : Type 0} (I : Ghosts S) (v : Layout) (old new : S) (w w' : Workspac
 
   -- all that messages of a verdict on an entry show but paths of directories, in one read at most, if
   -- they show attributes; the path of the entry's directory stays
-  pub record GathersInode (e : Entry) (verdict : Verdict) (p p' : EntryPaths) (result : Result Attr ImageFault)
+  pub record GathersShown (e : Entry) (verdict : Verdict) (p p' : EntryPaths) (result : Result Attr ImageFault)
       : Type 0 where
     pub enough : IfOk result (λ a. ForContents (I.device old).contents (λ b. (dir : ℕ) (path : List ℕ)
         → IsPathOf (graph_of (volume_of v b)) dir p.directory
