@@ -39,8 +39,8 @@ pub fn report_plain<I: Image, W: Output>(
     image: &mut I,
     workspace: &mut Workspace,
     texts: &mut EntryTexts,
-    report: &mut Report<'_, W>,
     entry: &DirectoryEntry<'_>,
+    report: &mut Report<'_, W>,
 ) -> Result<(), RunFault>
     requires ready { ReadyToPath geometry.now.layout (I.device image.old) workspace.old
         texts.old.kept_parent entry.now.dir }
@@ -93,8 +93,8 @@ pub fn report_extra<I: Image, W: Output>(
     image: &mut I,
     workspace: &mut Workspace,
     texts: &mut EntryTexts,
-    report: &mut Report<'_, W>,
     entry: &DirectoryEntry<'_>,
+    report: &mut Report<'_, W>,
 ) -> Result<(), RunFault>
     requires { ReadyToPath geometry.now.layout (I.device image.old) workspace.old
         texts.old.kept_parent entry.now.dir }

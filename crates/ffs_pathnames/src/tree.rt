@@ -59,7 +59,7 @@ pub fn check_inodes<I: Image, W: Output>(
         reads_left: 2 * sweep_reads(geometry),
     };
     for number in first..count {
-        check_inode(geometry, image, workspace, &mut checking, report, number)?;
+        check_inode(geometry, image, workspace, &mut checking, number, report)?;
     }
     Ok(())
 }
@@ -115,8 +115,8 @@ fn check_inode<I: Image, W: Output>(
     image: &mut I,
     workspace: &mut Workspace,
     checking: &mut Checking,
-    report: &mut Report<'_, W>,
     number: u32,
+    report: &mut Report<'_, W>,
 ) -> Result<(), RunFault>
     requires { ReadyToCheck geometry.now.layout (I.device image.old) workspace.old
         checking.old.texts.kept_parent number }
@@ -139,7 +139,7 @@ fn check_inode<I: Image, W: Output>(
         → I.reads image.new ≡ I.reads image.old }
 {
     if needs_check(workspace, number) {
-        return check_directory(geometry, image, workspace, checking, report, number);
+        return check_directory(geometry, image, workspace, checking, number, report);
     }
     Ok(())
 }
@@ -151,8 +151,8 @@ fn check_directory<I: Image, W: Output>(
     image: &mut I,
     workspace: &mut Workspace,
     checking: &mut Checking,
-    report: &mut Report<'_, W>,
     dir: u32,
+    report: &mut Report<'_, W>,
 ) -> Result<(), RunFault>
     requires { ReadyToCheck geometry.now.layout (I.device image.old) workspace.old
         checking.old.texts.kept_parent dir }
@@ -172,7 +172,7 @@ fn check_directory<I: Image, W: Output>(
         (lines_moment I.Image W.Output image.old workspace.old report.old checking.old)
         (lines_moment I.Image W.Output image.new workspace.new report.new checking.new) }
 {
-    let examined = begin_directory(geometry, image, workspace, checking, report, dir)?;
+    let examined = begin_directory(geometry, image, workspace, checking, dir, report)?;
     if examined.look.quiet {
         return Ok(());
     }
@@ -181,7 +181,7 @@ fn check_directory<I: Image, W: Output>(
         inode: examined.inode,
         cut: workspace.noted_cut(dir),
     };
-    report_directory(geometry, image, workspace, checking, report, &directory)
+    report_directory(geometry, image, workspace, checking, &directory, report)
 }
 
 /// Reads a directory once, and prints its lines that come before those of its entries.
@@ -190,8 +190,8 @@ fn begin_directory<I: Image, W: Output>(
     image: &mut I,
     workspace: &mut Workspace,
     checking: &mut Checking,
-    report: &mut Report<'_, W>,
     dir: u32,
+    report: &mut Report<'_, W>,
 ) -> Result<Examination, RunFault>
     requires { ReadyToCheck geometry.now.layout (I.device image.old) workspace.old
         checking.old.texts.kept_parent dir }
@@ -230,8 +230,8 @@ fn begin_directory<I: Image, W: Output>(
         image,
         workspace,
         &mut checking.texts.kept_parent,
-        report,
         header,
+        report,
     )?;
     Ok(examined)
 }
@@ -277,8 +277,8 @@ fn report_header<I: Image, W: Output>(
     image: &mut I,
     workspace: &mut Workspace,
     kept_parent: &mut KeptParent,
-    report: &mut Report<'_, W>,
     header: HeaderFacts<'_>,
+    report: &mut Report<'_, W>,
 ) -> Result<(), RunFault>
     requires { ReadyToPath geometry.now.layout (I.device image.old) workspace.old kept_parent.old
         header.number }
