@@ -37,8 +37,8 @@ record Shown (vol : Volume) (kinds : List ℕ) (marked : List Bool) (parents : L
   allocated : (x : ℕ) → is_allocated (vol.class x) ≡ is_allocated_kind (slice_index kinds x)
   unknown : (x : ℕ) → is_unknown (vol.class x) ≡ is_unknown_kind (slice_index kinds x)
   suspect : (x : ℕ) → is_suspect vol x ≡ (bool_at marked x || is_empty_dir_kind (slice_index kinds x))
-  kind : (x : ℕ) → is_allocated (vol.class x) ≡ true → is_unknown (vol.class x) ≡ false → type_of_kind (slice_index kinds x)
-      ≡ (vol.inode x).mode / 4096
+  kind : (x : ℕ) → is_allocated (vol.class x) ≡ true → is_unknown (vol.class x) ≡ false
+      → type_of_kind (slice_index kinds x) ≡ (vol.inode x).mode / 4096
   parent_is : (x : ℕ) → slice_index parents x ≡ unwrap_or (parent (graph_of vol) x) 0
 
 shown : (v : Layout) (b : List ℕ) (w : Workspace) → IsFor v w → HoldsClaims v b w → HoldsSurvey v b w →
@@ -274,8 +274,9 @@ root_up : (vol : Volume) → unwrap_or (parent (graph_of vol) 2) 0 ≡ 2
 unfolding parent
 root_up vol = refl
 
-calm_belongs : (vol : Volume) (kinds : List ℕ) (marked reached : List Bool) (parents : List ℕ) (sound : Bool) (d x : ℕ) →
-    2 ≤ d → Shown vol kinds marked parents → IsCalm (dir_by kinds marked parents d) reached parents (roled_entries vol d) sound
+calm_belongs : (vol : Volume) (kinds : List ℕ) (marked reached : List Bool) (parents : List ℕ) (sound : Bool)
+    (d x : ℕ) → 2 ≤ d → Shown vol kinds marked parents
+    → IsCalm (dir_by kinds marked parents d) reached parents (roled_entries vol d) sound
     → is_dir vol x ≡ true → list_any (is_naming_entry x) (roled_entries vol d) ≡ true → belongs vol d x ≡ true
 calm_belongs vol kinds marked reached parents sound d x two sh c dir named =
     let at = sh.dirs x ∙ dir in

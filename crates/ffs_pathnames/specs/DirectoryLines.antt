@@ -13,7 +13,8 @@ use Rattle.ffs_workspace.specs.declared.workspace.Workspace.{Workspace}
 use Rattle.ffs_pathnames.specs.{ChecksNeeded.ChecksLookedAt, Before.IsBefore, Gathers.passed_of, LineReads.again_reads}
 use Rattle.ffs_pathnames.specs.{LineReads.ReadsByLines, DirectoryContext.KnowsHeader, HeaderValues.facts_lines}
 use Rattle.ffs_pathnames.specs.{Moments.LinesMoment, PassedNames.{are_quiet, directory_reported}, Ready.LinesLeave}
-use Rattle.ffs_pathnames.specs.{Ready.PhaseLeaves, declared.{entry_texts.Checking.Checking, header.HeaderFacts.HeaderFacts}}
+use Rattle.ffs_pathnames.specs.{Ready.PhaseLeaves, declared.entry_texts.Checking.Checking}
+use Rattle.ffs_pathnames.specs.declared.header.HeaderFacts.{HeaderFacts}
 
 -- the lines on what was found of a directory before its entries are said, and the image is read for no more
 -- than these; any image for no more than the messages that were begun. All of the workspace but its windows

@@ -118,7 +118,8 @@ module _ {S : Type 0} (I : Ghosts S) (v : Layout) (old new : S) (w w' : Workspac
   -- directory y is checked
   pub record SparesPath {T : Type 0} (dir : ℕ) (s s' : KeptParent) (result : Result T ImageFault) : Type 0 where
     pub reads : SparesReads v dir (kept_moment I old w s) (kept_moment I new w' s')
-    pub keeps : OnOk result ((y : ℕ) → ForBytes (DirectoryContext v (I.device old).contents w y) (λ b. KeepsChild w dir s s'))
+    pub keeps : OnOk result ((y : ℕ) → ForBytes (DirectoryContext v (I.device old).contents w y)
+        (λ b. KeepsChild w dir s s'))
 
   -- the path is made, with at most `path_reads` reads of any image
   pub record MakesPathLimited {T : Type 0} (dir : ℕ) (t t' : EntryTexts) (result : Result T ImageFault) : Type 0 where

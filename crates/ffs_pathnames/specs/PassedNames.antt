@@ -50,7 +50,8 @@ after_entries vol dir m (e ∷ es) = after_entries vol dir (after_roled vol dir 
 
 abbrev pub entries_reported : Volume → ℕ → PassedNames → List RoledEntry → List TreeMessage
 entries_reported vol dir m [] = []
-entries_reported vol dir m (e ∷ es) = roled_reported vol dir m e ++ entries_reported vol dir (after_roled vol dir m e) es
+entries_reported vol dir m (e ∷ es) =
+    roled_reported vol dir m e ++ entries_reported vol dir (after_roled vol dir m e) es
 
 -- all entries of `dir`
 abbrev pub after_directory : Volume → ℕ → PassedNames → PassedNames

@@ -10,7 +10,8 @@ use Rattle.ffs_pathnames.specs.PassedNames.{belongs}
 pub record AreRight (vol : Volume) (dir : ℕ) (done : List RoledEntry) (m : PassedNames) : Type 0 where
   pub named : (x : ℕ) → x < vol.count → is_suspect vol x ≡ true → x ≢ WINO → x ≢ ROOTINO →
       is_flagged m x ≡ (some_below (λ t. is_naming_dir (graph_of vol) t x) dir || list_any (is_naming_entry x) done)
-  pub due : (x : ℕ) → x < vol.count → is_stamped dir m x ≡ (belongs vol dir x && not (list_any (is_naming_entry x) done))
+  pub due : (x : ℕ) → x < vol.count → is_stamped dir m x
+      ≡ (belongs vol dir x && not (list_any (is_naming_entry x) done))
   pub flags_length : length m.flags ≡ vol.count
   pub stamps_length : length m.stamps ≡ vol.count
 

@@ -13,7 +13,8 @@ LeftForLook v device w dir left b = DirectoryContext v device.contents w dir b �
 
 -- the same of a second reading, where its inode was read
 abbrev pub LeftForRuns : Layout → Device → Workspace → Directory → (left : ℕ) → List ℕ → Type 0
-LeftForRuns v device w directory left b = KnowsDirectory v device w directory b × (directory_runs v b directory.number ≤ left)
+LeftForRuns v device w directory left b =
+    KnowsDirectory v device w directory b × (directory_runs v b directory.number ≤ left)
 
 -- the bytes are those of a directory's context, what is remembered of the names that were passed
 -- before it is right, and the reads that are left suffice for a first look at it and a second reading

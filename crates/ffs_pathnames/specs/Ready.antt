@@ -29,7 +29,8 @@ pub record ReadyToCheck (v : Layout) (d : Device) (w : Workspace) (s : KeptParen
   pub low : 2 ≤ dir
 
 -- a path of the directory can be made, and its cut is the one that is noted: its entries can be reported
-pub record ReadyToReport (v : Layout) (d : Device) (w : Workspace) (s : KeptParent) (directory : Directory) : Type 0 where
+pub record ReadyToReport (v : Layout) (d : Device) (w : Workspace) (s : KeptParent) (directory : Directory) :
+    Type 0 where
   pub path : ReadyToPath v d w s directory.number
   pub cut : directory.cut ≡ cut_in (slice_index w.notes.items directory.number)
 
