@@ -1,7 +1,6 @@
-use Rattle.std.proofs.Common.{arith, refl, ap, ◌∙◌}
+use Rattle.std.proofs.Common.{arith, refl, ◌∙◌}
 use Rattle.ffs_volume.specs.Directories.Volumes.{volume_of}
-use Rattle.ffs_layout.specs.Entry.{entry_value}
-use Rattle.ffs_pathnames.{specs.Gathers.passed_of, specs.PassedNames.verdict_at_reading, proofs.SeesLaws.sees}
+use Rattle.ffs_pathnames.{proofs.SeesLaws.sees}
 use Rattle.ffs_pathnames.proofs.one_entry.verdict_of.Goals as goal
 
 pub returns : goal.returns
