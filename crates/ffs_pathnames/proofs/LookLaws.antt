@@ -10,7 +10,7 @@ use Rattle.ffs_volume.specs.Directories.{PathnameCheck.{is_role_silent, role_lin
 use Rattle.ffs_volume.specs.Directories.Graph.{is_naming_entry, is_naming_dir, parent}
 use Rattle.ffs_volume.specs.Directories.Roles.{Volume, RoledEntry, is_dir, is_plain, is_suspect, roled_entries}
 use Rattle.ffs_volume.proofs.{RoleLaws.plain-true, VerdictLaws.{silent_lines, silent_parts, silent_of}}
-use Rattle.ffs_pathnames.specs.PassedNames.{belongs, after_look, after_looks, first_verdict, is_quiet, are_quiet}
+use Rattle.ffs_pathnames.specs.PassedNames.{belongs, after_look, after_looks, verdict_at_look, is_quiet, are_quiet}
 use Rattle.ffs_pathnames.proofs.PassedLaws.{IsDirectory, IsEntry, size_of, size_more, first_name_is, from_parent_is}
 use Rattle.ffs_pathnames.proofs.PassedLaws.{any_more}
 
@@ -61,7 +61,7 @@ own_quiet dir root value mine stamped any own h m t o = grind (arith, nat_tests)
 module _ {v : Volume} {s : ℕ} {done es : List RoledEntry} {e : RoledEntry} (flags : List Bool) (stamps : List ℕ)
     (i : IsEntry v s done e es) (flagged : AreFlagged v s flags) (stamped : AreStamped v s done stamps) where
   plain_quiet : e.role ≡ Plain →
-      is_silent (first_verdict v s (record { flags = flags; stamps = stamps }) e.entry) ≡ true →
+      is_silent (verdict_at_look v s (record { flags = flags; stamps = stamps }) e.entry) ≡ true →
       is_silent (plain_verdict v s (size_of done) e.entry) ≡ true
   unfolding plain_verdict
   plain_quiet p h =
@@ -90,7 +90,7 @@ module _ {v : Volume} {s : ℕ} {done es : List RoledEntry} {e : RoledEntry} (fl
   entry_quiet h = one e.role refl h
     where
       one : (role : Role) → e.role ≡ role →
-          is_role_silent role (first_verdict v s (record { flags = flags; stamps = stamps }) e.entry) ≡ true →
+          is_role_silent role (verdict_at_look v s (record { flags = flags; stamps = stamps }) e.entry) ≡ true →
           role_lines v s role e.entry (plain_verdict v s (size_of done) e.entry) ≡ []
       one Plain p k = silent_lines (plain_verdict v s (size_of done) e.entry) e.entry.number _ _ _ (plain_quiet p k)
       one Extra p k = absurd (cc)

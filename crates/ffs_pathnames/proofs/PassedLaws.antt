@@ -12,7 +12,7 @@ use Rattle.ffs_volume.specs.Directories.{Graph.{is_naming_entry, is_naming_dir, 
 use Rattle.ffs_volume.specs.{Directories.Parents.{is_first_naming_entry, is_parent_entry}, Disk.Search.some_below}
 use Rattle.ffs_volume.{specs.Disk.Search.first_below, proofs.SearchLaws.first_below-tells}
 use Rattle.ffs_pathnames.specs.PassedNames.{PassedNames, is_flagged, is_flagged_calm, is_stamped, after_name, after_roled}
-use Rattle.ffs_pathnames.specs.PassedNames.{second_verdict, roled_reported, entries_reported}
+use Rattle.ffs_pathnames.specs.PassedNames.{verdict_at_reading, roled_reported, entries_reported}
 use Rattle.ffs_pathnames.specs.PassedRight.{AreRight}
 
 -- ---- the place of an entry
@@ -94,7 +94,7 @@ module _ {v : Volume} {s : ℕ} {done es : List RoledEntry} {e : RoledEntry} (i 
         ≡ defects_on v (not (is_flagged m e.entry.number)) (is_stamped s m e.entry.number) e.entry
     named_same h other = rw (suspect_same h other, extraneous_same h) refl
 
-    plain_same : plain_verdict v s (size_of done) e.entry ≡ second_verdict v s m e.entry
+    plain_same : plain_verdict v s (size_of done) e.entry ≡ verdict_at_reading v s m e.entry
     unfolding plain_verdict
     plain_same = let named = named_same in grind (arith, common_steps)
 

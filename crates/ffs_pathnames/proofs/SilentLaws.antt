@@ -27,19 +27,19 @@ use Rattle.ffs_workspace.specs.{declared.workspace.Workspace.Workspace, Lengths.
 use Rattle.ffs_workspace.{specs.Holds.HoldsSurvey, proofs.KindLaws.{reports_at, suspect_is, type_is}}
 use Rattle.ffs_survey.{specs.{Survey.number_at, Calm.{dir_by, IsCalm}}, proofs.CalmLaws.{calm_names_new, calm_new}}
 use Rattle.ffs_pathnames.{specs.Silent.IsSilentDirectory, proofs.SeesLaws.{chunks_are, chunks_read, settled}}
-use Rattle.ffs_pathnames.specs.PassedNames.{after_look, are_quiet, belongs, first_verdict, is_quiet}
+use Rattle.ffs_pathnames.specs.PassedNames.{after_look, are_quiet, belongs, verdict_at_look, is_quiet}
 use Rattle.ffs_names.proofs.DirLaws as dirs
 
 -- ---- what the lists show
-record Shown (v : Volume) (kinds : List ℕ) (marked : List Bool) (parents : List ℕ) : Type 0 where
-  count : v.count ≡ length kinds
-  dirs : (x : ℕ) → dir_at kinds x ≡ is_dir v x
-  allocated : (x : ℕ) → is_allocated (v.class x) ≡ is_allocated_kind (slice_index kinds x)
-  unknown : (x : ℕ) → is_unknown (v.class x) ≡ is_unknown_kind (slice_index kinds x)
-  suspect : (x : ℕ) → is_suspect v x ≡ (bool_at marked x || is_empty_dir_kind (slice_index kinds x))
-  kind : (x : ℕ) → is_allocated (v.class x) ≡ true → is_unknown (v.class x) ≡ false → type_of_kind (slice_index kinds x)
-      ≡ (v.inode x).mode / 4096
-  parent_is : (x : ℕ) → slice_index parents x ≡ unwrap_or (parent (graph_of v) x) 0
+record Shown (vol : Volume) (kinds : List ℕ) (marked : List Bool) (parents : List ℕ) : Type 0 where
+  count : vol.count ≡ length kinds
+  dirs : (x : ℕ) → dir_at kinds x ≡ is_dir vol x
+  allocated : (x : ℕ) → is_allocated (vol.class x) ≡ is_allocated_kind (slice_index kinds x)
+  unknown : (x : ℕ) → is_unknown (vol.class x) ≡ is_unknown_kind (slice_index kinds x)
+  suspect : (x : ℕ) → is_suspect vol x ≡ (bool_at marked x || is_empty_dir_kind (slice_index kinds x))
+  kind : (x : ℕ) → is_allocated (vol.class x) ≡ true → is_unknown (vol.class x) ≡ false
+      → type_of_kind (slice_index kinds x) ≡ (vol.inode x).mode / 4096
+  parent_is : (x : ℕ) → slice_index parents x ≡ unwrap_or (parent (graph_of vol) x) 0
 
 shown : (v : Layout) (b : List ℕ) (w : Workspace) → IsFor v w → HoldsClaims v b w → HoldsSurvey v b w →
     Shown (volume_of v b) w.kinds.items w.marked.items w.parents.items
@@ -48,12 +48,12 @@ shown v b w m h r = let reports = reports_at v b in grind (arith, kind_dirs, sus
 
 -- ---- the entries
 -- what a calm plain entry that is no whiteout says of its inode, whose kind is the entry's
-record IsCalmName (v : Volume) (e : Entry) : Type 0 where
+record IsCalmName (vol : Volume) (e : Entry) : Type 0 where
   named : e.number ≢ 1
   no_whiteout : is_bad_whiteout e ≡ false
-  allocated : is_allocated (v.class e.number) ≡ true
-  suspect : is_suspect v e.number ≡ false
-  type : is_unknown (v.class e.number) ≡ false → e.kind ≡ (v.inode e.number).mode / 4096
+  allocated : is_allocated (vol.class e.number) ≡ true
+  suspect : is_suspect vol e.number ≡ false
+  type : is_unknown (vol.class e.number) ≡ false → e.kind ≡ (vol.inode e.number).mode / 4096
 
 abbrev names_calm : CurrentDir → (ℕ → Bool) → Entry → Bool
 names_calm s reached e =
@@ -61,37 +61,37 @@ names_calm s reached e =
     && ((number_at s.kinds e.number == e.kind) && is_calm_kind e.kind (reached e.number)))
 
 not_suspect : (k kind : ℕ) (mark reached : Bool) → (not mark && ((k == kind) && is_calm_kind kind reached)) ≡ true →
-    (mark || (k == 5)) ≡ false
+    (mark || is_empty_dir_kind k) ≡ false
 not_suspect k kind mark reached h = grind (arith, nat_tests)
 
 right_type : (k kind : ℕ) (mark reached : Bool) → (not mark && ((k == kind) && is_calm_kind kind reached)) ≡ true →
     kind ≡ type_of_kind k
 right_type k kind mark reached h = grind (arith, nat_tests)
 
-name_is : (v : Volume) (s : CurrentDir) (parents : List ℕ) (reached : ℕ → Bool) (e : Entry) →
-    Shown v s.kinds s.marked parents → names_calm s reached e ≡ true → IsCalmName v e
-name_is v s parents reached e sh c = grind (arith, nat_tests, and_parts, not_suspect, right_type)
+name_is : (vol : Volume) (s : CurrentDir) (parents : List ℕ) (reached : ℕ → Bool) (e : Entry) →
+    Shown vol s.kinds s.marked parents → names_calm s reached e ≡ true → IsCalmName vol e
+name_is vol s parents reached e sh c = grind (arith, nat_tests, and_parts, not_suspect, right_type)
 
 -- so the verdict on it is silent, whatever is flagged
 calm_kind : (unknown right : Bool) → (unknown ≡ false → right ≡ true) → (not unknown && not right) ≡ false
 calm_kind unknown right h = grind (arith, nat_tests)
 
-plain_silent : (v : Volume) (s : CurrentDir) (parents : List ℕ) (flags : List Bool) (stamps : List ℕ)
+plain_silent : (vol : Volume) (s : CurrentDir) (parents : List ℕ) (flags : List Bool) (stamps : List ℕ)
     (reached : ℕ → Bool) (e : Entry) →
-    Shown v s.kinds s.marked parents → is_calm_plain s.kinds s.marked reached e.number e.kind ≡ true
-    → (is_dir v e.number ≡ true → belongs v s.dir e.number ≡ true)
-    → (is_dir v e.number ≡ true → (slice_index stamps e.number == s.dir) ≡ false)
-    → is_silent (first_verdict v s.dir (record { flags = flags; stamps = stamps }) e) ≡ true
-plain_silent v s parents flags stamps reached e sh c mine new = silent_of v _ _ e (record {
+    Shown vol s.kinds s.marked parents → is_calm_plain s.kinds s.marked reached e.number e.kind ≡ true
+    → (is_dir vol e.number ≡ true → belongs vol s.dir e.number ≡ true)
+    → (is_dir vol e.number ≡ true → (slice_index stamps e.number == s.dir) ≡ false)
+    → is_silent (verdict_at_look vol s.dir (record { flags = flags; stamps = stamps }) e) ≡ true
+plain_silent vol s parents flags stamps reached e sh c mine new = silent_of vol _ _ e (record {
   below = grind (arith, nat_tests, and_parts);
   no_whiteout = grind (arith, nat_tests, and_parts, or_cases, name_is);
   named = λ n.
-      let name : IsCalmName v e = grind (arith, nat_tests, and_parts, or_cases, name_is) in
+      let name : IsCalmName vol e = grind (arith, nat_tests, and_parts, or_cases, name_is) in
       record {
         allocated = name.allocated;
         suspect = rw name.suspect refl;
-        link = own_link (is_dir v e.number) _ _ mine new;
-        right_type = calm_kind (is_unknown (v.class e.number)) _ (λ u. eq-eqb e.kind _ (name.type u));
+        link = own_link (is_dir vol e.number) _ _ mine new;
+        right_type = calm_kind (is_unknown (vol.class e.number)) _ (λ u. eq-eqb e.kind _ (name.type u));
       };
 })
   where
@@ -106,41 +106,41 @@ stamp_reached : (stamps : List ℕ) (n x d : ℕ) (plain mine dir old : Bool) �
 stamp_reached stamps n x d plain mine dir old f g t = grind (arith, nat_tests, get_or-set_other)
 
 -- calm entries are quiet, where each that was stamped was reached
-calm_quiet : (v : Volume) (s : CurrentDir) (parents : List ℕ) (flags : List Bool) (es : List RoledEntry)
-    (reached : ℕ → Bool) (i : ℕ) (stamps : List ℕ) → Shown v s.kinds s.marked parents
+calm_quiet : (vol : Volume) (s : CurrentDir) (parents : List ℕ) (flags : List Bool) (es : List RoledEntry)
+    (reached : ℕ → Bool) (i : ℕ) (stamps : List ℕ) → Shown vol s.kinds s.marked parents
     → are_calm s reached i es ≡ true
-    → ((x : ℕ) → is_dir v x ≡ true → list_any (is_naming_entry x) es ≡ true → belongs v s.dir x ≡ true)
-    → ((x : ℕ) → x < v.count → (slice_index stamps x == s.dir) ≡ true → reached x ≡ true)
-    → are_quiet v s.dir flags stamps es ≡ true
+    → ((x : ℕ) → is_dir vol x ≡ true → list_any (is_naming_entry x) es ≡ true → belongs vol s.dir x ≡ true)
+    → ((x : ℕ) → x < vol.count → (slice_index stamps x == s.dir) ≡ true → reached x ≡ true)
+    → are_quiet vol s.dir flags stamps es ≡ true
 unfolding is_quiet
-calm_quiet v s parents flags [] reached i stamps sh c mine seen = refl
-calm_quiet v s parents flags (e ∷ es) reached i stamps sh c mine seen =
+calm_quiet vol s parents flags [] reached i stamps sh c mine seen = refl
+calm_quiet vol s parents flags (e ∷ es) reached i stamps sh c mine seen =
     let p = and_parts (is_calm_entry s reached i e) _ c in
-    and_from (is_quiet v s.dir flags stamps e) _ (here e.role refl p.0)
-    (calm_quiet v s parents flags es (reached_after s.kinds reached e) (suc i) (after_look v s.dir stamps e) sh p.1
+    and_from (is_quiet vol s.dir flags stamps e) _ (here e.role refl p.0)
+    (calm_quiet vol s parents flags es (reached_after s.kinds reached e) (suc i) (after_look vol s.dir stamps e) sh p.1
     (λ x d n. mine x d (or_right (is_naming_entry x e) _ n)) after)
   where
-    low : (x : ℕ) → is_dir v x ≡ true → x < v.count
+    low : (x : ℕ) → is_dir vol x ≡ true → x < vol.count
     low x d = grind (arith, nat_tests)
 
     here : (role : Role) → e.role ≡ role → is_calm_role s reached i role e.entry.number e.entry.kind ≡ true →
-        is_role_silent role (first_verdict v s.dir (record { flags = flags; stamps = stamps }) e.entry) ≡ true
+        is_role_silent role (verdict_at_look vol s.dir (record { flags = flags; stamps = stamps }) e.entry) ≡ true
     here Extra q h = absurd (cc)
     here Plain q h =
         let x = e.entry.number in
         let named : is_naming_entry x e ≡ true = rw q (eq-eqb x x refl) in
-        plain_silent v s parents flags stamps reached e.entry sh (and_parts (nat_le 2 i) _ h).1
+        plain_silent vol s parents flags stamps reached e.entry sh (and_parts (nat_le 2 i) _ h).1
         (λ d. mine x d (or_left (is_naming_entry x e) _ named))
         (λ d. false_from_ne_true (slice_index stamps x == s.dir)
         (λ t. both_ways (reached x)
         (calm_names_new s reached i x Plain x e.entry.kind h (sh.dirs x ∙ d) (eq-eqb x x refl)) (seen x (low x d) t)))
     here role q h = refl
 
-    after : (x : ℕ) → x < v.count → (slice_index (after_look v s.dir stamps e) x == s.dir) ≡ true →
+    after : (x : ℕ) → x < vol.count → (slice_index (after_look vol s.dir stamps e) x == s.dir) ≡ true →
         reached_after s.kinds reached e x ≡ true
-    after x l t = stamp_reached stamps e.entry.number x s.dir (is_plain e.role) (belongs v s.dir e.entry.number)
+    after x l t = stamp_reached stamps e.entry.number x s.dir (is_plain e.role) (belongs vol s.dir e.entry.number)
         (dir_at s.kinds x) (reached x)
-        (λ b z. sh.dirs x ∙ (ap (is_dir v) z ∙ (and_parts (is_dir v e.entry.number) _ b).0)) (seen x l) t
+        (λ b z. sh.dirs x ∙ (ap (is_dir vol) z ∙ (and_parts (is_dir vol e.entry.number) _ b).0)) (seen x l) t
 
 -- ---- the first two entries
 -- a sound chunk has an entry
@@ -261,38 +261,39 @@ shape_right : (size : ℕ) (gap sound : Bool) (dot dotdot : DotDefects (List ℕ
     }) ≡ true
 shape_right size gap sound dot dotdot h p q = grind (arith, nat_tests)
 
-starts_silent : (v : Volume) (d above : ℕ) → AreFirst d above (v.chunks d) →
-    above ≡ unwrap_or (parent (graph_of v) d) 0 → is_right_shape v d ≡ true → dir_header_lines v d ≡ []
+starts_silent : (vol : Volume) (d above : ℕ) → AreFirst d above (vol.chunks d) →
+    above ≡ unwrap_or (parent (graph_of vol) d) 0 → is_right_shape vol d ≡ true → dir_header_lines vol d ≡ []
 unfolding dir_header_lines header_defects start_entry
-starts_silent v d above f up right =
-    header_silent (header_of v d) _ _ (rw (f.first_is, f.second_is)
-    (shape_right (v.inode d).size (v.gap d) (are_sound (v.chunks d)) _ _ right f.dot
-    (dotdot_right (parent (graph_of v) d) f.second (rw (← up) f.dotdot))))
+starts_silent vol d above f up right =
+    header_silent (header_of vol d) _ _ (rw (f.first_is, f.second_is)
+    (shape_right (vol.inode d).size (vol.gap d) (are_sound (vol.chunks d)) _ _ right f.dot
+    (dotdot_right (parent (graph_of vol) d) f.second (rw (← up) f.dotdot))))
 
 -- ---- a calm directory
-root_up : (v : Volume) → unwrap_or (parent (graph_of v) 2) 0 ≡ 2
+root_up : (vol : Volume) → unwrap_or (parent (graph_of vol) 2) 0 ≡ 2
 unfolding parent
-root_up v = refl
+root_up vol = refl
 
-calm_belongs : (v : Volume) (kinds : List ℕ) (marked reached : List Bool) (parents : List ℕ) (sound : Bool) (d x : ℕ) →
-    2 ≤ d → Shown v kinds marked parents → IsCalm (dir_by kinds marked parents d) reached parents (roled_entries v d) sound
-    → is_dir v x ≡ true → list_any (is_naming_entry x) (roled_entries v d) ≡ true → belongs v d x ≡ true
-calm_belongs v kinds marked reached parents sound d x two sh c dir named =
+calm_belongs : (vol : Volume) (kinds : List ℕ) (marked reached : List Bool) (parents : List ℕ) (sound : Bool)
+    (d x : ℕ) → 2 ≤ d → Shown vol kinds marked parents
+    → IsCalm (dir_by kinds marked parents d) reached parents (roled_entries vol d) sound
+    → is_dir vol x ≡ true → list_any (is_naming_entry x) (roled_entries vol d) ≡ true → belongs vol d x ≡ true
+calm_belongs vol kinds marked reached parents sound d x two sh c dir named =
     let at = sh.dirs x ∙ dir in
     let up = (c.below x at named).1 in
     let new = calm_new (record { kinds = kinds; marked = marked; dir = d; parent = number_at parents d }) c.before 0 x
-    (roled_entries v d) c.entries_right at named in
+    (roled_entries vol d) c.entries_right at named in
     let begins = c.begins in
-    let root = root_up v in
+    let root = root_up vol in
     let parent_is = sh.parent_is x in
     let root_is = sh.parent_is 2 in
     grind (arith, nat_tests)
 
 -- the entries by the chunks
-by_chunks : (v : Volume) (d : ℕ) (s : CurrentDir) (r : ℕ → Bool) → are_calm s r 0 (roled_entries v d) ≡ true →
-    are_calm s r 0 (flat_map roled_chunk (v.chunks d)) ≡ true
+by_chunks : (vol : Volume) (d : ℕ) (s : CurrentDir) (r : ℕ → Bool) → are_calm s r 0 (roled_entries vol d) ≡ true →
+    are_calm s r 0 (flat_map roled_chunk (vol.chunks d)) ≡ true
 unfolding roled_entries
-by_chunks v d s r h = h
+by_chunks vol d s r h = h
 
 pub calm_silent : (v : Layout) (b : List ℕ) (w : Workspace) → IsAcceptedLayout v → IsFor v w → HoldsClaims v b w →
     HoldsSurvey v b w → FlagsOnlyCalm v b w → (d : ℕ) → bool_at w.flags.items d ≡ true → IsSilentDirectory (volume_of v b) d

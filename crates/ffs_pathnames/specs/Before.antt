@@ -9,7 +9,7 @@ use Rattle.ffs_volume.specs.declared.tree_lines.DirectoryLine.TheVariants.{RootN
 use Rattle.ffs_workspace.specs.{declared.workspace.Workspace.Workspace, Leaves.LeavesSurvey}
 use Rattle.ffs_volume.specs.Encodings.Places.{AreNoted}
 use Rattle.ffs_workspace.specs.{Holds.{bool_at, HoldsClaims, HoldsSurvey}, Ready.{CanRead, IsReady}}
-use Rattle.ffs_pathnames.specs.{Gathers.{AreAsLong, passed_of}, PassedRight.AreRightBefore}
+use Rattle.ffs_pathnames.specs.{Gathers.{HasInodeLists, passed_of}, PassedRight.AreRightBefore}
 use Rattle.ffs_survey.specs.Survey.{suspect_at}
 
 -- what was found stays; the flags of suspect inodes are taken away, and no others; nothing is
@@ -22,16 +22,16 @@ pub record IsNonePassed (old new : Workspace) : Type 0 where
   pub ready : (v : Layout) (d : Device) → IsReady v d old → CanRead v d new
 
 -- the image gives the bytes, the workspace holds what the block check and the survey leave, and
--- what it remembers of the names that were passed before d is right
-pub record IsBefore (v : Layout) (contents : Option (List ℕ)) (w : Workspace) (d : ℕ) (b : List ℕ) : Type 0 where
+-- what it remembers of the names that were passed before `dir` is right
+pub record IsBefore (v : Layout) (contents : Option (List ℕ)) (w : Workspace) (dir : ℕ) (b : List ℕ) : Type 0 where
   pub gives_bytes : contents ≡ Some b
   pub claims : HoldsClaims v b w
   pub survey : HoldsSurvey v b w
-  pub passed : AreRightBefore (volume_of v b) d (passed_of w)
+  pub passed : AreRightBefore (volume_of v b) dir (passed_of w)
 
 -- and a place is noted of the parent entry of each directory that is reached and isn't the root
-pub record IsBeforeNoted (v : Layout) (contents : Option (List ℕ)) (w : Workspace) (d : ℕ) (b : List ℕ) : Type 0 where
-  pub before : IsBefore v contents w d b
+pub record IsBeforeNoted (v : Layout) (contents : Option (List ℕ)) (w : Workspace) (dir : ℕ) (b : List ℕ) : Type 0 where
+  pub before : IsBefore v contents w dir b
   pub noted : AreNoted v b w.queue.items
 
 -- a directory that isn't of size 0 and isn't known to be calm. That a marked one is flagged doesn't
@@ -42,12 +42,12 @@ needs_check w x = (slice_index w.kinds.items x == DT_DIR)
 
 -- the lists say something of each inode, and x is one
 pub record ListsInode (w : Workspace) (x : ℕ) : Type 0 where
-  pub lists : AreAsLong w
+  pub lists : HasInodeLists w
   pub number : x < vec_len w.kinds
 
 -- the lists say something of each of so many inodes, which are no fewer than the root's number
 pub record ListsInodes (w : Workspace) (n : ℕ) : Type 0 where
-  pub lists : AreAsLong w
+  pub lists : HasInodeLists w
   pub count : n ≡ vec_len w.kinds
   pub some : 2 ≤ n
 

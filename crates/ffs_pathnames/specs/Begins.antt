@@ -20,14 +20,14 @@ pub record AreFirstTwo (one two : Option Entry) (started : Bool) (order : Order)
   pub second : two ≡ started_entry 1 started order start
 
 -- its inode is read, its entries were looked at, and each inode that belongs to it is stamped
-pub record IsDirectoryBegun (v : Layout) (b : List ℕ) (d : ℕ) (old : Workspace) (e : Examination) (new : Workspace)
+pub record IsDirectoryBegun (v : Layout) (b : List ℕ) (dir : ℕ) (old : Workspace) (e : Examination) (new : Workspace)
     :
     Type 0 where
-  pub inode : e.inode ≡ inode_of v b d
-  pub quiet : e.look.quiet ≡ are_quiet (volume_of v b) d old.flags.items (passed_of old).stamps
-      (roled_entries (volume_of v b) d)
+  pub inode : e.inode ≡ inode_of v b dir
+  pub quiet : e.look.quiet ≡ are_quiet (volume_of v b) dir old.flags.items (passed_of old).stamps
+      (roled_entries (volume_of v b) dir)
   pub passed : passed_of new
       ≡ record {
         flags = old.flags.items;
-        stamps = after_looks (volume_of v b) d (passed_of old).stamps (roled_entries (volume_of v b) d);
+        stamps = after_looks (volume_of v b) dir (passed_of old).stamps (roled_entries (volume_of v b) dir);
       }

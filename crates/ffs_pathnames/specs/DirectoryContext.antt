@@ -19,15 +19,15 @@ pub record DirectoryContext (v : Layout) (contents : Option (List ℕ)) (w : Wor
   pub noted : AreNoted v b w.queue.items
   pub dir : is_dir (volume_of v b) d ≡ true
 
--- the path of a directory, where it is begun, is that of d
+-- the path of a directory, where it is begun, is that of `dir`
 abbrev pub BeginsPathOf : Graph → ℕ → EntryTexts → Type 0
-BeginsPathOf g d t = IsTrue t.begun → IsPathOf g d t.paths.directory
+BeginsPathOf g dir t = IsTrue t.begun → IsPathOf g dir t.paths.directory
 
--- a directory's context, and the path that is begun, if any, is that of the directory d
-pub record KnowsPath (v : Layout) (contents : Option (List ℕ)) (w : Workspace) (d : ℕ) (t : EntryTexts)
+-- a directory's context, and the path that is begun, if any, is that of the directory `dir`
+pub record KnowsPath (v : Layout) (contents : Option (List ℕ)) (w : Workspace) (dir : ℕ) (t : EntryTexts)
     (b : List ℕ) : Type 0 where
-  pub knows : DirectoryContext v contents w d b
-  pub path : BeginsPathOf (graph_of (volume_of v b)) d t
+  pub knows : DirectoryContext v contents w dir b
+  pub path : BeginsPathOf (graph_of (volume_of v b)) dir t
 
 -- after a call the path that is begun, if any, still is that of x
 abbrev pub KeepsPath : Layout → Device → Workspace → ℕ → (old new : EntryTexts) → Type 0

@@ -13,7 +13,8 @@ use Rattle.ffs_workspace.specs.declared.workspace.Workspace.{Workspace}
 use Rattle.ffs_pathnames.specs.{ChecksNeeded.ChecksLookedAt, Before.IsBefore, Gathers.passed_of, LineReads.again_reads}
 use Rattle.ffs_pathnames.specs.{LineReads.ReadsByLines, DirectoryContext.KnowsHeader, HeaderValues.facts_lines}
 use Rattle.ffs_pathnames.specs.{Moments.LinesMoment, PassedNames.{are_quiet, directory_reported}, Ready.LinesLeave}
-use Rattle.ffs_pathnames.specs.{Ready.PhaseLeaves, declared.{header.HeaderFacts.HeaderFacts, tree.Checking.Checking}}
+use Rattle.ffs_pathnames.specs.{Ready.PhaseLeaves, declared.entry_texts.Checking.Checking}
+use Rattle.ffs_pathnames.specs.declared.header.HeaderFacts.{HeaderFacts}
 
 -- the lines on what was found of a directory before its entries are said, and the image is read for no more
 -- than these; any image for no more than the messages that were begun. All of the workspace but its windows
@@ -60,7 +61,6 @@ pub record LeavesFindings (old new : Workspace) : Type 0 where
   pub parents : new.parents ≡ old.parents
 
 -- these lines of all directories are said, by what is known of the bytes. Each directory's own blocks are
--- these lines of all directories are said, by what is known of the bytes. Each directory's own blocks are
 -- read thrice at most, for the places of its children, for a first look and for a second reading, and the
 -- rest is read for the lines; where only directories that are looked at need a check, their own blocks alone
 -- are read. Any image is read for no more than the messages that were begun. Left are the image, but for a
@@ -82,18 +82,18 @@ pub record ReportsTree {T : Type 0} (v : Layout) (lines : Volume → List TreeMe
   pub findings : LeavesFindings old.at.workspace new.at.workspace
   pub ready : CanRead v new.at.image new.at.workspace
 
--- the entries of the directory x are reported: its Runs are read once, its path is made once, and for each
+-- the entries of the directory `dir` are reported: its Runs are read once, its path is made once, and for each
 -- line `again_reads` reads are made at most, where the place of each directory is noted
-abbrev pub ReadsForEntries : Layout → (knows : List ℕ → Type 0) → (x : ℕ) → (old new : LinesMoment Checking) → Type 0
-ReadsForEntries v knows x old new = ForBytes knows (λ b. AreNoted v b old.at.workspace.queue.items
-    → new.at.reads ≤ old.at.reads + (directory_runs v b x
-    + (path_reads + again_reads * length (directory_reported (volume_of v b) x (passed_of old.at.workspace)))))
+abbrev pub ReadsForEntries : Layout → (knows : List ℕ → Type 0) → (dir : ℕ) → (old new : LinesMoment Checking) → Type 0
+ReadsForEntries v knows dir old new = ForBytes knows (λ b. AreNoted v b old.at.workspace.queue.items
+    → new.at.reads ≤ old.at.reads + (directory_runs v b dir
+    + (path_reads + again_reads * length (directory_reported (volume_of v b) dir (passed_of old.at.workspace)))))
 
--- where a first look at the directory x makes sure that nothing is reported of its entries, its own blocks
+-- where a first look at the directory `dir` makes sure that nothing is reported of its entries, its own blocks
 -- are read once, and the rest is read for the lines that come before these
-abbrev pub ReadsQuietOnce : Layout → (knows : List ℕ → Type 0) → (x : ℕ) → (old new : LinesMoment Checking) → Type 0
-ReadsQuietOnce v knows x old new = ForBytes knows (λ b. AreNoted v b old.at.workspace.queue.items
-    → are_quiet (volume_of v b) x old.at.workspace.flags.items (passed_of old.at.workspace).stamps
-    (roled_entries (volume_of v b) x) ≡ true
+abbrev pub ReadsQuietOnce : Layout → (knows : List ℕ → Type 0) → (dir : ℕ) → (old new : LinesMoment Checking) → Type 0
+ReadsQuietOnce v knows dir old new = ForBytes knows (λ b. AreNoted v b old.at.workspace.queue.items
+    → are_quiet (volume_of v b) dir old.at.workspace.flags.items (passed_of old.at.workspace).stamps
+    (roled_entries (volume_of v b) dir) ≡ true
     → new.at.reads
-    ≤ old.at.reads + (directory_cost v b x + line_reads * length (dir_header_lines (volume_of v b) x)))
+    ≤ old.at.reads + (directory_cost v b dir + line_reads * length (dir_header_lines (volume_of v b) dir)))

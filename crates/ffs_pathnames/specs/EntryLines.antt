@@ -8,34 +8,34 @@ use Rattle.ffs_pathnames.specs.{LineReads.ReadsPathOnce, declared.entry_texts.En
 use Rattle.ffs_pathnames.specs.{Moments.LinesMoment, PassedNames.{after_entries, entries_reported}, Ready.LinesLeave}
 use Rattle.ffs_pathnames.specs.Ready.{PhaseLeaves}
 
--- lines of entries of the directory x are said, those of the volume; the path that is begun, if
--- any, is still that of x, and made once; and the image is read for no more than these lines, any image
+-- lines of entries of the directory `dir` are said, those of the volume; the path that is begun, if
+-- any, is still that of `dir`, and made once; and the image is read for no more than these lines, any image
 -- for no more than the messages that were begun
-pub record ReportsEntries {T : Type 0} (v : Layout) (x : ℕ) (lines : Volume → List TreeMessage)
+pub record ReportsEntries {T : Type 0} (v : Layout) (dir : ℕ) (lines : Volume → List TreeMessage)
     (old new : LinesMoment EntryTexts) (result : Result T RunFault) : Type 0 where
-  pub text : PhaseReports (KnowsPath v old.at.image.contents old.at.workspace x old.kept)
+  pub text : PhaseReports (KnowsPath v old.at.image.contents old.at.workspace dir old.kept)
       (λ b. map of_tree (lines (volume_of v b))) old.said new.said result
-  pub path : KeepsPath v old.at.image old.at.workspace x old.kept new.kept
+  pub path : KeepsPath v old.at.image old.at.workspace dir old.kept new.kept
   pub begun : IsTrue old.kept.begun → IsTrue new.kept.begun
-  pub once : ForBytes (DirectoryContext v old.at.image.contents old.at.workspace x)
+  pub once : ForBytes (DirectoryContext v old.at.image.contents old.at.workspace dir)
       (λ b. AreNoted v b old.at.workspace.queue.items
       → ReadsPathOnce (length (lines (volume_of v b))) old.kept new.kept old.at.reads new.at.reads)
-  pub counted : ReadsByLines v (DirectoryContext v old.at.image.contents old.at.workspace x)
+  pub counted : ReadsByLines v (DirectoryContext v old.at.image.contents old.at.workspace dir)
       (λ b. lines (volume_of v b)) old.at new.at
   pub paid : Paid line_reads old.said new.said old.at.reads new.at.reads result
 
 -- such lines are said, and all of the workspace but its windows stays
-pub record ReportsOneEntry {T : Type 0} (v : Layout) (x : ℕ) (messages : Volume → List TreeMessage)
+pub record ReportsOneEntry {T : Type 0} (v : Layout) (dir : ℕ) (messages : Volume → List TreeMessage)
     (old new : LinesMoment EntryTexts) (result : Result T RunFault) : Type 0 where
-  pub lines : ReportsEntries v x messages old new result
+  pub lines : ReportsEntries v dir messages old new result
   pub leaves : LinesLeave v old.at new.at new.kept.kept_parent result
 
 -- the lines of these entries are said, and they are passed. The window of the current directory is as it
 -- was
-pub record PassesEntries {T : Type 0} (v : Layout) (x : ℕ) (entries : List RoledEntry)
+pub record PassesEntries {T : Type 0} (v : Layout) (dir : ℕ) (entries : List RoledEntry)
     (old new : LinesMoment EntryTexts) (result : Result T RunFault) : Type 0 where
-  pub lines : ReportsEntries v x (λ vol. entries_reported vol x (passed_of old.at.workspace) entries) old new result
-  pub passed : OnOk result (ForBytes (DirectoryContext v old.at.image.contents old.at.workspace x) (λ b.
-      after_entries (volume_of v b) x (passed_of old.at.workspace) entries ≡ passed_of new.at.workspace))
+  pub lines : ReportsEntries v dir (λ vol. entries_reported vol dir (passed_of old.at.workspace) entries) old new result
+  pub passed : OnOk result (ForBytes (DirectoryContext v old.at.image.contents old.at.workspace dir) (λ b.
+      after_entries (volume_of v b) dir (passed_of old.at.workspace) entries ≡ passed_of new.at.workspace))
   pub leaves : PhaseLeaves v old.at new.at new.kept.kept_parent result
   pub current : new.at.workspace.windows.current ≡ old.at.workspace.windows.current

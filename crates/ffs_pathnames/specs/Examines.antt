@@ -22,26 +22,26 @@ pub record ExamineLeaves {T : Type 0} (v : Layout) (old new : PathMoment) (resul
   pub ready : CanRead v new.image new.workspace
   pub read : ReadAfter old.image new.image result
 
--- what a look at the directory d finds: whether a Gap of it is kept, whether its chunks are sound, the
+-- what a look at the directory `dir` finds: whether a Gap of it is kept, whether its chunks are sound, the
 -- chunk at the start of the file, and whether it is sure that nothing is reported of its entries
-pub record IsLookedAt (v : Layout) (b : List ℕ) (d : ℕ) (old : Workspace) (f : FirstLook) (start : List ℕ) :
+pub record IsLookedAt (v : Layout) (b : List ℕ) (dir : ℕ) (old : Workspace) (f : FirstLook) (start : List ℕ) :
     Type 0 where
-  pub gap : f.gap ≡ (volume_of v b).gap d
-  pub sound : f.sound ≡ are_sound ((volume_of v b).chunks d)
-  pub started : find (λ c. c.offset == 0) ((volume_of v b).chunks d) ≡ start_chunk [] f.started v.order start
-  pub quiet : f.quiet ≡ are_quiet (volume_of v b) d old.flags.items (passed_of old).stamps
-      (roled_entries (volume_of v b) d)
+  pub gap : f.gap ≡ (volume_of v b).gap dir
+  pub sound : f.sound ≡ are_sound ((volume_of v b).chunks dir)
+  pub started : find (λ c. c.offset == 0) ((volume_of v b).chunks dir) ≡ start_chunk [] f.started v.order start
+  pub quiet : f.quiet ≡ are_quiet (volume_of v b) dir old.flags.items (passed_of old).stamps
+      (roled_entries (volume_of v b) dir)
 
 -- the same, and its inode is the image's
-pub record IsExamined (v : Layout) (b : List ℕ) (d : ℕ) (old : Workspace) (e : Examination) (start : List ℕ) :
+pub record IsExamined (v : Layout) (b : List ℕ) (dir : ℕ) (old : Workspace) (e : Examination) (start : List ℕ) :
     Type 0 where
-  pub inode : e.inode ≡ inode_of v b d
-  pub look : IsLookedAt v b d old e.look start
+  pub inode : e.inode ≡ inode_of v b dir
+  pub look : IsLookedAt v b dir old e.look start
 
--- each inode that belongs to the directory d is stamped
-abbrev pub StampsOwn : Layout → (b : List ℕ) → (d : ℕ) → (old new : Workspace) → Type 0
-StampsOwn v b d old new = (passed_of new).stamps
-    ≡ after_looks (volume_of v b) d (passed_of old).stamps (roled_entries (volume_of v b) d)
+-- each inode that belongs to the directory `dir` is stamped
+abbrev pub StampsOwn : Layout → (b : List ℕ) → (dir : ℕ) → (old new : Workspace) → Type 0
+StampsOwn v b dir old new = (passed_of new).stamps
+    ≡ after_looks (volume_of v b) dir (passed_of old).stamps (roled_entries (volume_of v b) dir)
 
 -- a look at a directory finds what `finds` says, by what is known of the bytes, and leaves all but which
 -- words are due

@@ -15,7 +15,7 @@ use Rattle.ffs_paths.specs.{LastPaths.last_path, Reads.{KnowsPlaces, OnlyReadsFe
 use Rattle.ffs_paths.specs.declared.{entry_paths.EntryPaths.EntryPaths, kept_parent.KeptParent.KeptParent}
 use Rattle.ffs_pathnames.specs.{DirectoryContext.{DirectoryContext, KeepsPath, KnowsPath}, Ready.LimitedPathLeaves}
 use Rattle.ffs_pathnames.specs.declared.{gather.DirectoryEntry.DirectoryEntry, entry_texts.EntryTexts.EntryTexts}
-use Rattle.ffs_pathnames.specs.{PassedNames.{PassedNames, roled_reported, second_verdict}, Stamps.stamps_of}
+use Rattle.ffs_pathnames.specs.{PassedNames.{PassedNames, roled_reported, verdict_at_reading}, Stamps.stamps_of}
 use Rattle.ffs_pathnames.specs.LineReads.{again_reads, ReadsPathOnce}
 use Rattle.ffs_workspace.specs.{declared.workspace.Workspace.Workspace, Holds.{HoldsClaims, HoldsSurvey}, Lengths.IsFor}
 
@@ -26,10 +26,10 @@ IsEnough vol verdict dir number name attr path directory =
     ≡ verdict_lines verdict number (attributes vol number) (entry_path (graph_of vol) dir name)
     (dir_path (graph_of vol) number)
 
--- these are the attributes and the path of the directory d
-pub record IsShownOf (vol : Volume) (d : ℕ) (attr : Attr) (path : List ℕ) : Type 0 where
-  pub attr_is : attr ≡ attributes vol d
-  pub path_is : path ≡ dir_path (graph_of vol) d
+-- these are the attributes and the path of the directory `dir`
+pub record IsShownOf (vol : Volume) (dir : ℕ) (attr : Attr) (path : List ℕ) : Type 0 where
+  pub attr_is : attr ≡ attributes vol dir
+  pub path_is : path ≡ dir_path (graph_of vol) dir
 
 -- what a workspace remembers of the names that were passed, during the pathname check
 abbrev pub passed_of : Workspace → PassedNames
@@ -46,7 +46,7 @@ roled_lines_by vol w e = roled_reported vol e.dir (passed_of w) (roled_value e)
 -- of a plain one, and of an extra one
 abbrev pub plain_lines_by : Volume → Workspace → DirectoryEntry → List TreeMessage
 plain_lines_by vol w e =
-    plain_lines vol e.dir (entry_value e.entry) (second_verdict vol e.dir (passed_of w) (entry_value e.entry))
+    plain_lines vol e.dir (entry_value e.entry) (verdict_at_reading vol e.dir (passed_of w) (entry_value e.entry))
 
 abbrev pub extra_reported : Volume → DirectoryEntry → List TreeMessage
 extra_reported vol e = extra_lines (attributes vol e.dir) (dir_path (graph_of vol) e.dir) (entry_value e.entry)
@@ -57,14 +57,14 @@ asks_attr OutOfRange = false
 asks_attr BadWhiteout = false
 asks_attr Whiteout = false
 asks_attr Unallocated = true
-asks_attr (Named n) = true
+asks_attr (Named defects) = true
 
 abbrev pub asks_path : Verdict → Bool
 asks_path OutOfRange = false
 asks_path BadWhiteout = false
 asks_path Whiteout = false
 asks_path Unallocated = false
-asks_path (Named n) = n.extraneous
+asks_path (Named defects) = defects.extraneous
 
 -- so many reads where they are wanted, else none
 abbrev pub if_wanted : Bool → ℕ → ℕ
@@ -76,13 +76,13 @@ verdict_reads verdict = if_wanted (asks_path verdict) path_reads + if_wanted (as
 
 -- this is the verdict on an entry, by the bytes of any volume for which the workspace holds what is right.
 -- Where it asks for attributes, the inode is there
-pub record IsVerdictIn (w : Workspace) (s : ℕ) (e : Entry) (answer : Verdict) : Type 0 where
+pub record IsVerdictIn (w : Workspace) (dir : ℕ) (e : Entry) (answer : Verdict) : Type 0 where
   pub below : IsTrue (asks_attr answer) → e.number < vec_len w.kinds
   pub verdict : (v : Layout) (b : List ℕ) → IsFor v w → HoldsClaims v b w → HoldsSurvey v b w
-      → answer ≡ second_verdict (volume_of v b) s (passed_of w) e
+      → answer ≡ verdict_at_reading (volume_of v b) dir (passed_of w) e
 
 -- the lists that say something of each inode are as long as one another
-pub record AreAsLong (w : Workspace) : Type 0 where
+pub record HasInodeLists (w : Workspace) : Type 0 where
   pub marked : vec_len w.marked ≡ vec_len w.kinds
   pub parents : vec_len w.parents ≡ vec_len w.kinds
   pub flags : vec_len w.flags ≡ vec_len w.kinds
@@ -105,29 +105,30 @@ module _ {S : Type 0} (I : Ghosts S) (v : Layout) (old new : S) (w w' : Workspac
   abbrev pub ReadsByPlaces : (most : ℕ) → Type 0
   ReadsByPlaces most = (b : List ℕ) → KnowsPlaces v (I.device old).contents w b → I.reads new ≤ I.reads old + most
 
-  -- the path of the directory x is made, and begun; also where that fails, one that is begun is that of x
-  pub record MakesPath {T : Type 0} (x : ℕ) (t t' : EntryTexts) (result : Result T ImageFault) : Type 0 where
+  -- the path of the directory `dir` is made, and begun; also where that fails, one that is begun is that of `dir`
+  pub record MakesPath {T : Type 0} (dir : ℕ) (t t' : EntryTexts) (result : Result T ImageFault) : Type 0 where
     pub begun : OnOk result (IsTrue t'.begun)
     pub stays : IsTrue t.begun → IsTrue t'.begun
-    pub made : OnOk result (ForBytes (KnowsPath v (I.device old).contents w x t) (λ b.
-        IsPathOf (graph_of (volume_of v b)) x t'.paths.directory))
-    pub path : KeepsPath v (I.device old) w x t t'
+    pub made : OnOk result (ForBytes (KnowsPath v (I.device old).contents w dir t) (λ b.
+        IsPathOf (graph_of (volume_of v b)) dir t'.paths.directory))
+    pub path : KeepsPath v (I.device old) w dir t t'
     pub leaves : PathLeaves v path_reads (path_moment I old w) (path_moment I new w') t'.kept_parent result
 
-  -- a path of the directory x spares the reads of what is kept, and leaves that for the next, whichever
+  -- a path of the directory `dir` spares the reads of what is kept, and leaves that for the next, whichever
   -- directory y is checked
-  pub record SparesPath {T : Type 0} (x : ℕ) (s s' : KeptParent) (result : Result T ImageFault) : Type 0 where
-    pub reads : SparesReads v x (kept_moment I old w s) (kept_moment I new w' s')
-    pub keeps : OnOk result ((y : ℕ) → ForBytes (DirectoryContext v (I.device old).contents w y) (λ b. KeepsChild w x s s'))
+  pub record SparesPath {T : Type 0} (dir : ℕ) (s s' : KeptParent) (result : Result T ImageFault) : Type 0 where
+    pub reads : SparesReads v dir (kept_moment I old w s) (kept_moment I new w' s')
+    pub keeps : OnOk result ((y : ℕ) → ForBytes (DirectoryContext v (I.device old).contents w y)
+        (λ b. KeepsChild w dir s s'))
 
   -- the path is made, with at most `path_reads` reads of any image
-  pub record MakesPathLimited {T : Type 0} (x : ℕ) (t t' : EntryTexts) (result : Result T ImageFault) : Type 0 where
-    pub makes : MakesPath x t t' result
+  pub record MakesPathLimited {T : Type 0} (dir : ℕ) (t t' : EntryTexts) (result : Result T ImageFault) : Type 0 where
+    pub makes : MakesPath dir t t' result
     pub most : I.reads new ≤ I.reads old + path_reads
 
   -- the same, and where a path was begun nothing is read, and that path stays
-  pub record BeginsPath {T : Type 0} (x : ℕ) (t t' : EntryTexts) (result : Result T ImageFault) : Type 0 where
-    pub makes : MakesPathLimited x t t' result
+  pub record BeginsPath {T : Type 0} (dir : ℕ) (t t' : EntryTexts) (result : Result T ImageFault) : Type 0 where
+    pub makes : MakesPathLimited dir t t' result
     pub held : IsTrue t.begun → (new ≡ old) × (w' ≡ w) × (t' ≡ t)
 
   -- what a line on an entry shows was read: the path of the directory is begun, and stays so; where it was
@@ -139,24 +140,24 @@ module _ {S : Type 0} (I : Ghosts S) (v : Layout) (old new : S) (w w' : Workspac
     pub once : (b : List ℕ) → KnowsPlaces v (I.device old).contents w b
         → ReadsPathOnce 1 t t' (I.reads old) (I.reads new)
 
-  -- the path of the directory x is put into a text, whichever directory y is checked
-  pub record PutsPath {T : Type 0} (x : ℕ) (text : List ℕ) (s : KeptParent) (result : Result T ImageFault)
+  -- the path of the directory `dir` is put into a text, whichever directory y is checked
+  pub record PutsPath {T : Type 0} (dir : ℕ) (text : List ℕ) (s : KeptParent) (result : Result T ImageFault)
       : Type 0 where
     pub path : OnOk result ((y : ℕ) → ForBytes (DirectoryContext v (I.device old).contents w y) (λ b.
-        text ≡ dir_path (graph_of (volume_of v b)) x))
+        text ≡ dir_path (graph_of (volume_of v b)) dir))
     pub leaves : ReadsForPaths path_reads s result
 
   -- the same, where it is wanted, and else nothing is read; the paths of entries and of their directory stay
-  pub record PutsWanted {T : Type 0} (wanted : Bool) (x : ℕ) (t t' : EntryTexts) (result : Result T ImageFault)
+  pub record PutsWanted {T : Type 0} (wanted : Bool) (dir : ℕ) (t t' : EntryTexts) (result : Result T ImageFault)
       : Type 0 where
     pub path : OnOk result ((y : ℕ) → ForBytes (DirectoryContext v (I.device old).contents w y) (λ b.
-        IsTrue wanted → t'.directory.items ≡ dir_path (graph_of (volume_of v b)) x))
+        IsTrue wanted → t'.directory.items ≡ dir_path (graph_of (volume_of v b)) dir))
     pub same : (t'.begun ≡ t.begun) × (t'.paths ≡ t.paths)
     pub leaves : ReadsForPaths (if_wanted wanted path_reads) t'.kept_parent result
 
   -- all that messages of a verdict on an entry show but paths of directories, in one read at most, if
   -- they show attributes; the path of the entry's directory stays
-  pub record GathersInode (e : Entry) (verdict : Verdict) (p p' : EntryPaths) (result : Result Attr ImageFault)
+  pub record GathersShown (e : Entry) (verdict : Verdict) (p p' : EntryPaths) (result : Result Attr ImageFault)
       : Type 0 where
     pub enough : IfOk result (λ a. ForContents (I.device old).contents (λ b. (dir : ℕ) (path : List ℕ)
         → IsPathOf (graph_of (volume_of v b)) dir p.directory
@@ -185,19 +186,19 @@ module _ {S : Type 0} (I : Ghosts S) (v : Layout) (old new : S) (w w' : Workspac
     pub once : BeginsOnce (verdict_reads verdict) t t' result
     pub leaves : ReadsForPaths line_reads t'.kept_parent result
 
-  -- what the message on an extra entry of the directory x shows: its attributes and its path; the
-  -- path that is begun, if any, still is that of x, and is made once
-  pub record GathersExtra (x : ℕ) (t t' : EntryTexts) (result : Result Attr ImageFault) : Type 0 where
-    pub attr : IfOk result (λ a. ForBytes (DirectoryContext v (I.device old).contents w x) (λ b.
-        a ≡ attributes (volume_of v b) x))
-    pub text : OnOk result (ForBytes (KnowsPath v (I.device old).contents w x t) (λ b.
-        t'.directory.items ≡ dir_path (graph_of (volume_of v b)) x))
-    pub path : KeepsPath v (I.device old) w x t t'
+  -- what the message on an extra entry of the directory `dir` shows: its attributes and its path; the
+  -- path that is begun, if any, still is that of `dir`, and is made once
+  pub record GathersExtra (dir : ℕ) (t t' : EntryTexts) (result : Result Attr ImageFault) : Type 0 where
+    pub attr : IfOk result (λ a. ForBytes (DirectoryContext v (I.device old).contents w dir) (λ b.
+        a ≡ attributes (volume_of v b) dir))
+    pub text : OnOk result (ForBytes (KnowsPath v (I.device old).contents w dir t) (λ b.
+        t'.directory.items ≡ dir_path (graph_of (volume_of v b)) dir))
+    pub path : KeepsPath v (I.device old) w dir t t'
     pub once : BeginsOnce 1 t t' result
     pub leaves : ReadsForPaths line_reads t'.kept_parent result
 
-  -- what messages on the directory x itself show: its attributes and its path
-  pub record GathersDir (x : ℕ) (path : List ℕ) (s : KeptParent) (result : Result Attr ImageFault) : Type 0 where
-    pub shown : IfOk result (λ a. ForBytes (DirectoryContext v (I.device old).contents w x) (λ b.
-        IsShownOf (volume_of v b) x a path))
+  -- what messages on the directory `dir` itself show: its attributes and its path
+  pub record GathersDir (dir : ℕ) (path : List ℕ) (s : KeptParent) (result : Result Attr ImageFault) : Type 0 where
+    pub shown : IfOk result (λ a. ForBytes (DirectoryContext v (I.device old).contents w dir) (λ b.
+        IsShownOf (volume_of v b) dir a path))
     pub leaves : ReadsForPaths again_reads s result

@@ -7,11 +7,11 @@ use Rattle.ffs_pathnames.specs.{PassedNames.after_looks, Sees.{Sees, stamps_in},
 
 -- the entries of a chunk with their roles
 abbrev pub roled_in : Order → DirectoryChunk → List RoledEntry
-roled_in order c = roled_from c.first 0 (entries_of order c.bytes.now)
+roled_in order c = roled_from c.at_start 0 (entries_of order c.bytes.now)
 
--- each inode that one of these entries names is stamped where it belongs to the directory d, by the words
+-- each inode that one of these entries names is stamped where it belongs to the directory `dir`, by the words
 -- before and after, which note the same places
-pub record StampsEntries (inodes : Inodes) (d : ℕ) (es : List RoledEntry) (old new : Vec ℕ Global) : Type 0 where
+pub record StampsEntries (inodes : Inodes) (dir : ℕ) (es : List RoledEntry) (old new : Vec ℕ Global) : Type 0 where
   pub after : (vol : Volume) → Sees vol inodes
-      → stamps_in inodes new.items ≡ after_looks vol d (stamps_in inodes old.items) es
+      → stamps_in inodes new.items ≡ after_looks vol dir (stamps_in inodes old.items) es
   pub words : KeepsWords old new

@@ -20,71 +20,72 @@ is_flagged m x = slice_index_or m.flags x false
 abbrev pub is_flagged_calm : Volume → PassedNames → ℕ → Bool
 is_flagged_calm vol m x = not (is_suspect vol x) && is_flagged m x
 
--- the parent entry of x is due in s: for the second reading of s it is still to come
+-- the parent entry of x is due in `dir`: for the second reading of `dir` it is still to come
 abbrev pub is_stamped : ℕ → PassedNames → ℕ → Bool
-is_stamped s m x = slice_index m.stamps x == s
+is_stamped dir m x = slice_index m.stamps x == dir
 
--- a plain entry of s that names x is passed
+-- a plain entry of `dir` that names x is passed
 abbrev pub after_name : Volume → ℕ → PassedNames → ℕ → PassedNames
-after_name vol s m x = record {
+after_name vol dir m x = record {
   flags = if is_suspect vol x then slice_set m.flags x true else m.flags;
-  stamps = if is_stamped s m x then slice_set m.stamps x 0 else m.stamps;
+  stamps = if is_stamped dir m x then slice_set m.stamps x 0 else m.stamps;
 }
 
 abbrev pub after_roled : Volume → ℕ → PassedNames → RoledEntry → PassedNames
-after_roled vol s m e =
-    if is_plain e.role && nat_lt e.entry.number vol.count then after_name vol s m e.entry.number else m
+after_roled vol dir m e =
+    if is_plain e.role && nat_lt e.entry.number vol.count then after_name vol dir m e.entry.number else m
 
--- the verdict on a plain entry of s by the names that were passed, for the second reading of s
-abbrev pub second_verdict : Volume → ℕ → PassedNames → Entry → Verdict
-second_verdict vol s m e = verdict_on vol (not (is_flagged m e.number)) (is_stamped s m e.number) e
+-- the verdict on a plain entry of `dir` by the names that were passed, for the second reading of `dir`
+abbrev pub verdict_at_reading : Volume → ℕ → PassedNames → Entry → Verdict
+verdict_at_reading vol dir m e = verdict_on vol (not (is_flagged m e.number)) (is_stamped dir m e.number) e
 
 -- what is reported of an entry
 unfoldable pub roled_reported : Volume → ℕ → PassedNames → RoledEntry → List TreeMessage
-roled_reported vol s m e = role_lines vol s e.role e.entry (second_verdict vol s m e.entry)
+roled_reported vol dir m e = role_lines vol dir e.role e.entry (verdict_at_reading vol dir m e.entry)
 
--- some entries of s, one after another
+-- some entries of `dir`, one after another
 abbrev pub after_entries : Volume → ℕ → PassedNames → List RoledEntry → PassedNames
-after_entries vol s m [] = m
-after_entries vol s m (e ∷ es) = after_entries vol s (after_roled vol s m e) es
+after_entries vol dir m [] = m
+after_entries vol dir m (e ∷ es) = after_entries vol dir (after_roled vol dir m e) es
 
 abbrev pub entries_reported : Volume → ℕ → PassedNames → List RoledEntry → List TreeMessage
-entries_reported vol s m [] = []
-entries_reported vol s m (e ∷ es) = roled_reported vol s m e ++ entries_reported vol s (after_roled vol s m e) es
+entries_reported vol dir m [] = []
+entries_reported vol dir m (e ∷ es) =
+    roled_reported vol dir m e ++ entries_reported vol dir (after_roled vol dir m e) es
 
--- all entries of s
+-- all entries of `dir`
 abbrev pub after_directory : Volume → ℕ → PassedNames → PassedNames
-after_directory vol s m = after_entries vol s m (roled_entries vol s)
+after_directory vol dir m = after_entries vol dir m (roled_entries vol dir)
 
 abbrev pub directory_reported : Volume → ℕ → PassedNames → List TreeMessage
-directory_reported vol s m = entries_reported vol s m (roled_entries vol s)
+directory_reported vol dir m = entries_reported vol dir m (roled_entries vol dir)
 
--- x is a directory other than the root, with the parent s
+-- x is a directory other than the root, with the parent `dir`
 abbrev pub belongs : Volume → ℕ → ℕ → Bool
-belongs vol s x = is_dir vol x && (not (x == ROOTINO) && is_value (parent (graph_of vol) x) s)
+belongs vol dir x = is_dir vol x && (not (x == ROOTINO) && is_value (parent (graph_of vol) x) dir)
 
--- a first look at the entries of s stamps each inode that belongs to s
+-- a first look at the entries of `dir` stamps each inode that belongs to `dir`
 abbrev pub after_look : Volume → ℕ → List ℕ → RoledEntry → List ℕ
-after_look vol s stamps e =
-    if is_plain e.role && belongs vol s e.entry.number then slice_set stamps e.entry.number s else stamps
+after_look vol dir stamps e =
+    if is_plain e.role && belongs vol dir e.entry.number then slice_set stamps e.entry.number dir else stamps
 
 abbrev pub after_looks : Volume → ℕ → List ℕ → List RoledEntry → List ℕ
-after_looks vol s stamps [] = stamps
-after_looks vol s stamps (e ∷ es) = after_looks vol s (after_look vol s stamps e) es
+after_looks vol dir stamps [] = stamps
+after_looks vol dir stamps (e ∷ es) = after_looks vol dir (after_look vol dir stamps e) es
 
--- the verdict on a plain entry of s by the names that were passed, for the first look: the parent
--- entry of what belongs to s is the first that the look meets
-abbrev pub first_verdict : Volume → ℕ → PassedNames → Entry → Verdict
-first_verdict vol s m e =
-    verdict_on vol (not (is_flagged m e.number)) (belongs vol s e.number && not (is_stamped s m e.number)) e
+-- the verdict on a plain entry of `dir` by the names that were passed, for the first look: the parent
+-- entry of what belongs to `dir` is the first that the look meets
+abbrev pub verdict_at_look : Volume → ℕ → PassedNames → Entry → Verdict
+verdict_at_look vol dir m e =
+    verdict_on vol (not (is_flagged m e.number)) (belongs vol dir e.number && not (is_stamped dir m e.number)) e
 
--- a first look is sure that nothing is reported of an entry of s, by the flags before s and the
+-- a first look is sure that nothing is reported of an entry of `dir`, by the flags before `dir` and the
 -- stamps before the entry
 unfoldable pub is_quiet : Volume → ℕ → List Bool → List ℕ → RoledEntry → Bool
-is_quiet vol s flags stamps e =
-    is_role_silent e.role (first_verdict vol s (record { flags = flags; stamps = stamps }) e.entry)
+is_quiet vol dir flags stamps e =
+    is_role_silent e.role (verdict_at_look vol dir (record { flags = flags; stamps = stamps }) e.entry)
 
 abbrev pub are_quiet : Volume → ℕ → List Bool → List ℕ → List RoledEntry → Bool
-are_quiet vol s flags stamps [] = true
-are_quiet vol s flags stamps (e ∷ es) =
-    is_quiet vol s flags stamps e && are_quiet vol s flags (after_look vol s stamps e) es
+are_quiet vol dir flags stamps [] = true
+are_quiet vol dir flags stamps (e ∷ es) =
+    is_quiet vol dir flags stamps e && are_quiet vol dir flags (after_look vol dir stamps e) es

@@ -8,24 +8,25 @@ use Rattle.ffs_pathnames.specs.{declared.look.Directory.Directory, DirectoryCont
 use Rattle.ffs_pathnames.specs.{Before.IsBeforeNoted, Gathers.passed_of, PassedRight.AreRightBefore}
 
 -- the bytes are those of a directory's context, and the reads that are left suffice for a first look at it
-abbrev pub LeftForLook : Layout → Device → Workspace → (d left : ℕ) → List ℕ → Type 0
-LeftForLook v device w d left b = DirectoryContext v device.contents w d b × (directory_cost v b d ≤ left)
+abbrev pub LeftForLook : Layout → Device → Workspace → (dir left : ℕ) → List ℕ → Type 0
+LeftForLook v device w dir left b = DirectoryContext v device.contents w dir b × (directory_cost v b dir ≤ left)
 
 -- the same of a second reading, where its inode was read
 abbrev pub LeftForRuns : Layout → Device → Workspace → Directory → (left : ℕ) → List ℕ → Type 0
-LeftForRuns v device w x left b = KnowsDirectory v device w x b × (directory_runs v b x.number ≤ left)
+LeftForRuns v device w directory left b =
+    KnowsDirectory v device w directory b × (directory_runs v b directory.number ≤ left)
 
 -- the bytes are those of a directory's context, what is remembered of the names that were passed
 -- before it is right, and the reads that are left suffice for a first look at it and a second reading
-pub record LeftForBoth (v : Layout) (device : Device) (w : Workspace) (d left : ℕ) (b : List ℕ) : Type 0 where
-  pub knows : DirectoryContext v device.contents w d b
-  pub passed : AreRightBefore (volume_of v b) d (passed_of w)
-  pub enough : 2 * directory_cost v b d ≤ left
+pub record LeftForBoth (v : Layout) (device : Device) (w : Workspace) (dir left : ℕ) (b : List ℕ) : Type 0 where
+  pub knows : DirectoryContext v device.contents w dir b
+  pub passed : AreRightBefore (volume_of v b) dir (passed_of w)
+  pub enough : 2 * directory_cost v b dir ≤ left
 
 -- what is known between two directories, and the reads that are left suffice for a first look at the next one
 -- and a second reading
-abbrev pub LeftForNext : Layout → Device → Workspace → (d left : ℕ) → List ℕ → Type 0
-LeftForNext v device w d left b = IsBeforeNoted v device.contents w d b × (2 * directory_cost v b d ≤ left)
+abbrev pub LeftForNext : Layout → Device → Workspace → (dir left : ℕ) → List ℕ → Type 0
+LeftForNext v device w dir left b = IsBeforeNoted v device.contents w dir b × (2 * directory_cost v b dir ≤ left)
 
 -- a call takes at most `allowed` of the reads that are left. Without a fault, `spared` of these are
 -- left to later calls

@@ -13,25 +13,26 @@ pub record ReadyWhere (wanted : Bool) (v : Layout) (x : ℕ) (is_ready : Type 0)
   pub ready : is_ready
   pub number : IsTrue wanted → x < v.ncg * v.ipg
 
--- the directory x can be looked at: it is the root or one after it
-pub record ReadyToLook (v : Layout) (d : Device) (w : Workspace) (x : ℕ) : Type 0 where
-  pub ready : CanReadFor v d w x
-  pub low : 2 ≤ x
+-- the directory `dir` can be looked at: it is the root or one after it
+pub record ReadyToLook (v : Layout) (d : Device) (w : Workspace) (dir : ℕ) : Type 0 where
+  pub ready : CanReadFor v d w dir
+  pub low : 2 ≤ dir
 
 -- and its chunks can be read, by its cut
-pub record ReadyToRead (v : Layout) (d : Device) (w : Workspace) (x : Directory) : Type 0 where
-  pub look : ReadyToLook v d w x.number
-  pub cut : x.cut ≡ cut_in (slice_index w.notes.items x.number)
+pub record ReadyToRead (v : Layout) (d : Device) (w : Workspace) (directory : Directory) : Type 0 where
+  pub look : ReadyToLook v d w directory.number
+  pub cut : directory.cut ≡ cut_in (slice_index w.notes.items directory.number)
 
--- the directory x can be checked: its path can be made, and it is the root or one after it
-pub record ReadyToCheck (v : Layout) (d : Device) (w : Workspace) (s : KeptParent) (x : ℕ) : Type 0 where
-  pub path : ReadyToPath v d w s x
-  pub low : 2 ≤ x
+-- the directory `dir` can be checked: its path can be made, and it is the root or one after it
+pub record ReadyToCheck (v : Layout) (d : Device) (w : Workspace) (s : KeptParent) (dir : ℕ) : Type 0 where
+  pub path : ReadyToPath v d w s dir
+  pub low : 2 ≤ dir
 
--- a path of the directory x can be made, and its cut is the one that is noted: its entries can be reported
-pub record ReadyToReport (v : Layout) (d : Device) (w : Workspace) (s : KeptParent) (x : Directory) : Type 0 where
-  pub path : ReadyToPath v d w s x.number
-  pub cut : x.cut ≡ cut_in (slice_index w.notes.items x.number)
+-- a path of the directory can be made, and its cut is the one that is noted: its entries can be reported
+pub record ReadyToReport (v : Layout) (d : Device) (w : Workspace) (s : KeptParent) (directory : Directory) :
+    Type 0 where
+  pub path : ReadyToPath v d w s directory.number
+  pub cut : directory.cut ≡ cut_in (slice_index w.notes.items directory.number)
 
 -- paths can be made after a call; where it failed, what is kept of a parent may be wrong
 abbrev pub ReadyAfter : {T E : Type 0} → Layout → Device → Workspace → KeptParent → Result T E → Type 0

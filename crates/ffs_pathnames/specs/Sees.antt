@@ -44,6 +44,6 @@ pub record CanStamp (i : Inodes) (s : ℕ) (words : List ℕ) : Type 0 where
   pub dir : 2 ≤ s
 
 -- and each inode has a flag
-pub record CanLook (i : Inodes) (s : ℕ) (flags : List Bool) (words : List ℕ) : Type 0 where
+pub record CanLook (i : Inodes) (dir : ℕ) (flags : List Bool) (words : List ℕ) : Type 0 where
   pub flags_long : length flags ≡ length i.kinds.now
-  pub stamp : CanStamp i s words
+  pub stamp : CanStamp i dir words

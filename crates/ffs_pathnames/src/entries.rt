@@ -8,12 +8,11 @@ ghost use Rattle.ffs_pathnames.specs.{Ready.{ReadyToPath, ReadyToReport}, ReadsL
 ghost use Rattle.ffs_pathnames.specs.{DirectoryLines.{ReadsForEntries, ReportsDirectory}, EntryLines.{PassesEntries, ReportsOneEntry}};
 ghost use Rattle.ffs_pathnames.specs.PassedNames as names;
 
-use crate::entry_texts::EntryTexts;
+use crate::entry_texts::{Checking, EntryTexts};
 use crate::gather::DirectoryEntry;
 use crate::inodes::Inodes;
 use crate::look::{Directory, DirectoryChunk};
 use crate::one_entry::{report_extra, report_plain};
-use crate::tree::Checking;
 use crate::verdict::pass;
 use ffs_image::{Image, ImageFault, LimitedImage};
 use ffs_layout::Geometry;
@@ -65,8 +64,8 @@ pub fn report_directory<I: Image, W: Output>(
     image: &mut I,
     workspace: &mut Workspace,
     checking: &mut Checking,
-    report: &mut Report<'_, W>,
     directory: &Directory,
+    report: &mut Report<'_, W>,
 ) -> Result<(), RunFault>
     requires { ReadyToReport geometry.now.layout (I.device image.old) workspace.old
         checking.old.texts.kept_parent directory.now }
@@ -99,7 +98,7 @@ pub fn report_directory<I: Image, W: Output>(
     )? {
         let chunk = DirectoryChunk {
             dir: directory.number,
-            first: offset == 0,
+            at_start: offset == 0,
             bytes: &bytes,
         };
         report_chunk(
@@ -107,8 +106,8 @@ pub fn report_directory<I: Image, W: Output>(
             image,
             workspace,
             &mut checking.texts,
-            report,
             &chunk,
+            report,
         )?;
     }
     Ok(())
@@ -120,8 +119,8 @@ fn report_by_role<I: Image, W: Output>(
     image: &mut I,
     workspace: &mut Workspace,
     texts: &mut EntryTexts,
-    report: &mut Report<'_, W>,
     entry: &DirectoryEntry<'_>,
+    report: &mut Report<'_, W>,
 ) -> Result<(), RunFault>
     requires { ReadyToPath geometry.now.layout (I.device image.old) workspace.old
         texts.old.kept_parent entry.now.dir }
@@ -135,8 +134,8 @@ fn report_by_role<I: Image, W: Output>(
         Role::Empty => Ok(()),
         Role::Dot => Ok(()),
         Role::Dotdot => Ok(()),
-        Role::Extra => report_extra(geometry, image, workspace, texts, report, entry),
-        Role::Plain => report_plain(geometry, image, workspace, texts, report, entry),
+        Role::Extra => report_extra(geometry, image, workspace, texts, entry, report),
+        Role::Plain => report_plain(geometry, image, workspace, texts, entry, report),
     }
 }
 
@@ -149,8 +148,8 @@ pub fn report_entry<I: Image, W: Output>(
     image: &mut I,
     workspace: &mut Workspace,
     texts: &mut EntryTexts,
-    report: &mut Report<'_, W>,
     entry: &DirectoryEntry<'_>,
+    report: &mut Report<'_, W>,
 ) -> Result<(), RunFault>
     requires { ReadyToPath geometry.now.layout (I.device image.old) workspace.old
         texts.old.kept_parent entry.now.dir }
@@ -158,7 +157,7 @@ pub fn report_entry<I: Image, W: Output>(
         (lines_moment I.Image W.Output image.old workspace.old report.old texts.old)
         (lines_moment I.Image W.Output image.new workspace.new report.new texts.new) result }
 {
-    report_by_role(geometry, image, workspace, texts, report, entry)?;
+    report_by_role(geometry, image, workspace, texts, entry, report)?;
     let inodes = Inodes {
         kinds: workspace.kinds.as_slice(),
         marked: &workspace.marked,
@@ -184,8 +183,8 @@ pub fn report_chunk<I: Image, W: Output>(
     image: &mut I,
     workspace: &mut Workspace,
     texts: &mut EntryTexts,
-    report: &mut Report<'_, W>,
     chunk: &DirectoryChunk<'_>,
+    report: &mut Report<'_, W>,
 ) -> Result<(), RunFault>
     requires { ReadyToPath geometry.now.layout (I.device image.old) workspace.old
         texts.old.kept_parent chunk.now.dir }
@@ -199,10 +198,10 @@ pub fn report_chunk<I: Image, W: Output>(
     'entries: while let Some((index, entry)) = entries.next() {
         let roled = DirectoryEntry {
             dir: chunk.dir,
-            role: role_of(chunk.first, index, &entry),
+            role: role_of(chunk.at_start, index, &entry),
             entry,
         };
-        report_entry(geometry, image, workspace, texts, report, &roled)?;
+        report_entry(geometry, image, workspace, texts, &roled, report)?;
     }
     Ok(())
 }

@@ -1,4 +1,5 @@
-//! The texts that lines of entries show, and the paths of directories in them.
+//! The texts that lines of entries show, and the paths of directories in them: both are carried from
+//! one directory to the next.
 ghost use Rattle.std.specs.Prelude.{◌≡◌, ℕ, List, Option};
 ghost use Rattle.ffs_volume.specs.declared.Layout.{Layout};
 ghost use Rattle.ffs_pathnames.specs.Ready.{ReadyToPath};
@@ -16,7 +17,8 @@ use ffs_workspace::{PATH_READS, Workspace};
 pub struct EntryTexts {
     /// What is kept from the path of one directory to that of the next.
     pub kept_parent: KeptParent,
-    /// Whether the path of the directory that the entries are in was made: the first line makes it.
+    /// Whether the path of the directory that the entries are in is settled: the first line makes it,
+    /// or gives it up, and then another path is shown.
     pub begun: bool,
     /// The path of the directory that the entries are in, and that of the last entry.
     pub paths: EntryPaths,
@@ -43,6 +45,16 @@ impl EntryTexts {
             directory: PathText::new(),
         }
     }
+}
+
+/// What is carried from the check of one directory to that of the next.
+#[derive(Drop)]
+pub struct Checking {
+    /// The texts that lines of entries show.
+    pub texts: EntryTexts,
+    /// How many reads may still be made of directories' own blocks: their inodes, their indirect
+    /// blocks and their chunks. What a message shows is not among these.
+    pub reads_left: u64,
 }
 
 /// Keeps nothing of a parent any more.

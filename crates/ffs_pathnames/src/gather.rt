@@ -1,7 +1,7 @@
 //! What the lines of an entry and of a directory show: paths, and what an inode says of itself.
 ghost use Rattle.std.specs.Prelude.{◌≡◌};
 ghost use Rattle.ffs_pathnames.specs.Ready.{ReadyToPath, ReadyWhere, ReadyWith};
-ghost use Rattle.ffs_pathnames.specs.Gathers.{GathersDir, GathersEntry, GathersExtra, GathersInode, GathersWithPath};
+ghost use Rattle.ffs_pathnames.specs.Gathers.{GathersDir, GathersEntry, GathersExtra, GathersShown, GathersWithPath};
 ghost use Rattle.ffs_pathnames.specs.Gathers.{PutsWanted, ReadsAttr, asks_attr, asks_path};
 ghost use Rattle.ffs_layout.specs.Entry.{entry_value};
 ghost use Rattle.ffs_workspace.specs.Ready.{CanRead};
@@ -98,7 +98,7 @@ fn no_attr(number: u32) -> Attr {
 /// Gathers what is shown of an entry besides paths of directories, once its directory's is made:
 /// the entry's path, and the attributes of its inode. It reads once at most.
 #[inline(always)]
-fn gather_inode<I: Image>(
+fn gather_shown<I: Image>(
     geometry: &Geometry,
     image: &mut I,
     workspace: &mut Workspace,
@@ -108,7 +108,7 @@ fn gather_inode<I: Image>(
 ) -> Result<Attr, ImageFault>
     requires { ReadyWhere (asks_attr verdict.now) geometry.now.layout entry.now.number
         (CanRead geometry.now.layout (I.device image.old) workspace.old) }
-    ensures { GathersInode I.Image geometry.now.layout image.old image.new workspace.old
+    ensures { GathersShown I.Image geometry.now.layout image.old image.new workspace.old
         workspace.new (entry_value entry.now) verdict.now paths.old paths.new result }
 {
     let (wants_attr, _) = asks(verdict);
@@ -139,7 +139,7 @@ fn gather<I: Image>(
 {
     let (_, wants_path) = asks(verdict);
     gather_path(geometry, image, workspace, texts, wants_path, entry.number)?;
-    gather_inode(geometry, image, workspace, &mut texts.paths, entry, verdict)
+    gather_shown(geometry, image, workspace, &mut texts.paths, entry, verdict)
 }
 
 /// Gathers what the messages on an entry of a directory show, and makes the path of that directory

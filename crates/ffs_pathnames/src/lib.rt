@@ -13,7 +13,7 @@
 //!   that an entry has named the inode (the others still say which directories are calm), and reports
 //!   the root.
 //! - `tree` goes over the directories by number, once the places of parent entries are noted
-//!   (`ffs_names::note_places`), and checks one of them.
+//!   (`ffs_names::note_places`), and checks each that isn't known to be calm.
 //! - `look` reads a directory once: its inode, then its chunks, then their entries, by the `verdict`
 //!   on each, which rests on what is known of the inodes that they name (`inodes`).
 //! - `header` finds and says what is wrong with its size, its chunks and its first two entries.

@@ -11,7 +11,7 @@ ghost use Rattle.ffs_layout.specs.Entry.{entry_value};
 ghost use Rattle.ffs_pathnames.specs.PassedNames as names;
 
 use crate::inodes::Inodes;
-use crate::verdict::{first_verdict, is_harmless};
+use crate::verdict::{is_harmless, verdict_at_look};
 use ffs_image::{Image, ImageFault, LimitedImage};
 use ffs_layout::{Entry, Geometry};
 use ffs_memory::FilledList;
@@ -211,7 +211,7 @@ pub fn look_directory<I: Image>(
     )? {
         let chunk = DirectoryChunk {
             dir: directory.number,
-            first: offset == 0,
+            at_start: offset == 0,
             bytes: &bytes,
         };
         let looked = look_chunk(&inodes, order, flags, words, &chunk);
@@ -248,13 +248,13 @@ pub fn is_quiet(
         Role::Extra => false,
         Role::Plain => {
             is_harmless(inodes, flags, entry)
-                || first_verdict(inodes, dir, flags, words, entry).is_silent()
+                || verdict_at_look(inodes, dir, flags, words, entry).is_silent()
         }
     }
 }
 
-/// Stamps the inode that an entry names, if it belongs to the directory: its parent entry is due by
-/// its word, whose place stays.
+/// Stamps the inode that a plain entry names, if that inode belongs to the directory: sets the bit
+/// of its word that says that its parent entry is due. The place in the word stays.
 pub fn stamp(
     inodes: &Inodes<'_>,
     dir: u32,
@@ -295,7 +295,7 @@ pub struct DirectoryChunk<'a> {
     /// The directory.
     pub dir: u32,
     /// Whether the chunk is at the start of the file.
-    pub first: bool,
+    pub at_start: bool,
     /// Its bytes.
     pub bytes: &'a [u8; DIRBLKSIZ],
 }
@@ -322,7 +322,7 @@ pub fn look_chunk(
     let mut entries = ChunkEntries::of_chunk(order, chunk.bytes);
     let mut quiet = true;
     'entries: while let Some((index, entry)) = entries.next() {
-        let role = role_of(chunk.first, index, &entry);
+        let role = role_of(chunk.at_start, index, &entry);
         // After an entry that isn't quiet the chunk isn't either, so no other entry is asked.
         quiet = quiet && is_quiet(inodes, dir, flags, words, role, &entry);
         stamp(inodes, dir, words, role, &entry);

@@ -1,14 +1,14 @@
 //! The lines of a plain or an extra entry.
 ghost use Rattle.ffs_volume.specs.Directories.PathnameCheck.{extra_lines};
 ghost use Rattle.ffs_pathnames.specs.{EntryLines.ReportsEntries, Moments.{lines_moment, path_moment}, Ready.{ReadyToPath, LinesLeave}};
-ghost use Rattle.ffs_pathnames.specs.{SaysTreeMessages.SaysTreeMessages, Gathers.{AreAsLong, IsVerdictIn, extra_reported, plain_lines_by}};
+ghost use Rattle.ffs_pathnames.specs.{SaysTreeMessages.SaysTreeMessages, Gathers.{HasInodeLists, IsVerdictIn, extra_reported, plain_lines_by}};
 ghost use Rattle.ffs_layout.specs.Entry.{entry_value};
 ghost use Rattle.ffs_report.specs.Progress.{progress};
 
 use crate::entry_texts::EntryTexts;
 use crate::gather::{DirectoryEntry, gather_entry, gather_extra};
 use crate::inodes::Inodes;
-use crate::verdict::{say_verdict, second_verdict};
+use crate::verdict::{say_verdict, verdict_at_reading};
 use ffs_image::Image;
 use ffs_layout::{Entry, Geometry};
 use ffs_names::is_one_dot;
@@ -19,7 +19,7 @@ use ffs_workspace::Workspace;
 
 /// The verdict on a plain entry, by what the workspace holds.
 fn verdict_of(workspace: &Workspace, dir: u32, entry: &Entry<'_>) -> Verdict
-    requires { AreAsLong workspace.now }
+    requires { HasInodeLists workspace.now }
     ensures { IsVerdictIn workspace.now dir (entry_value entry.now) result }
 {
     let inodes = Inodes {
@@ -27,7 +27,7 @@ fn verdict_of(workspace: &Workspace, dir: u32, entry: &Entry<'_>) -> Verdict
         marked: &workspace.marked,
         parents: &workspace.parents,
     };
-    second_verdict(&inodes, dir, &workspace.flags, &workspace.queue, entry)
+    verdict_at_reading(&inodes, dir, &workspace.flags, &workspace.queue, entry)
 }
 
 /// Prints the lines of a plain entry of a directory.
@@ -39,8 +39,8 @@ pub fn report_plain<I: Image, W: Output>(
     image: &mut I,
     workspace: &mut Workspace,
     texts: &mut EntryTexts,
-    report: &mut Report<'_, W>,
     entry: &DirectoryEntry<'_>,
+    report: &mut Report<'_, W>,
 ) -> Result<(), RunFault>
     requires ready { ReadyToPath geometry.now.layout (I.device image.old) workspace.old
         texts.old.kept_parent entry.now.dir }
@@ -93,8 +93,8 @@ pub fn report_extra<I: Image, W: Output>(
     image: &mut I,
     workspace: &mut Workspace,
     texts: &mut EntryTexts,
-    report: &mut Report<'_, W>,
     entry: &DirectoryEntry<'_>,
+    report: &mut Report<'_, W>,
 ) -> Result<(), RunFault>
     requires { ReadyToPath geometry.now.layout (I.device image.old) workspace.old
         texts.old.kept_parent entry.now.dir }

@@ -4,7 +4,7 @@ ghost use Rattle.ffs_report.specs.{Known.ForBytes, Paid.Paid, PhaseOutcome.{Imag
 ghost use Rattle.ffs_volume.specs.Directories.{PathnameCheck.pathname_lines, Volumes.volume_of};
 ghost use Rattle.ffs_volume.specs.{Encodings.Kinds.is_dir_kind, Messages.Kinds.of_tree, Report.Reads.{line_reads, sweep_reads}};
 ghost use Rattle.ffs_workspace.specs.{Found.WithClaims, Holds.{HoldsClaims, bool_at}, Leaves.LeavesBlockCheck, Ready.{CanRead, IsReady}};
-ghost use Rattle.ffs_pathnames.specs.{Before.{root_reported, IsBefore, IsNonePassed}, Gathers.AreAsLong};
+ghost use Rattle.ffs_pathnames.specs.{Before.{root_reported, IsBefore, IsNonePassed}, Gathers.HasInodeLists};
 ghost use Rattle.ffs_pathnames.specs.{Phase2.{Phase2Ends, Phase2Reads}, RootAnswers.{AnswersRoot, SaidStop, is_go}};
 ghost use Rattle.ffs_pathnames.specs.{DirectoryLines.ReportsTree, Moments.lines_moment, SaysTreeMessages.SaysTreeMessages};
 ghost use Rattle.ffs_survey.specs.Survey.{suspect_at};
@@ -90,7 +90,7 @@ pub fn phase2<I: Image, W: Output>(
 /// is set to 0: no parent entry's place is noted, and none is due. The survey's flags of other
 /// inodes stay, and say which directories are calm: these are left out. The windows hold nothing.
 pub fn clear_passed(workspace: &mut Workspace)
-    requires { AreAsLong workspace.old }
+    requires { HasInodeLists workspace.old }
     ensures { IsNonePassed workspace.old workspace.new }
 {
     workspace.forget_windows();

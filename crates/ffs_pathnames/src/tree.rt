@@ -13,7 +13,7 @@ ghost use Rattle.ffs_workspace.specs.{Holds.HoldsSurvey, Ready.CanRead};
 ghost use Rattle.ffs_layout.specs.Entry.{entry_value};
 
 use crate::entries::report_directory;
-use crate::entry_texts::EntryTexts;
+use crate::entry_texts::{Checking, EntryTexts};
 use crate::gather::gather_dir;
 use crate::header::{HeaderFacts, header_defects, say_header};
 use crate::look::{Directory, Examination, examine};
@@ -25,16 +25,6 @@ use ffs_report::{Output, Report, RunFault};
 use ffs_volume::Order;
 use ffs_volume::constants::{DIRBLKSIZ, DT_DIR, ROOTINO};
 use ffs_workspace::{Workspace, sweep_reads};
-
-/// What is carried from the check of one directory to that of the next.
-#[derive(Drop)]
-pub struct Checking {
-    /// The texts that lines of entries show.
-    pub texts: EntryTexts,
-    /// How many reads may still be made of directories' own blocks: their inodes, their indirect
-    /// blocks and their chunks. What a message shows is not among these.
-    pub reads_left: u64,
-}
 
 /// Prints the lines of each directory and of its entries, in the order of inode numbers. The places
 /// of parent entries are noted first, for the paths, where any directory is checked.
@@ -69,7 +59,7 @@ pub fn check_inodes<I: Image, W: Output>(
         reads_left: 2 * sweep_reads(geometry),
     };
     for number in first..count {
-        check_inode(geometry, image, workspace, &mut checking, report, number)?;
+        check_inode(geometry, image, workspace, &mut checking, number, report)?;
     }
     Ok(())
 }
@@ -125,8 +115,8 @@ fn check_inode<I: Image, W: Output>(
     image: &mut I,
     workspace: &mut Workspace,
     checking: &mut Checking,
-    report: &mut Report<'_, W>,
     number: u32,
+    report: &mut Report<'_, W>,
 ) -> Result<(), RunFault>
     requires { ReadyToCheck geometry.now.layout (I.device image.old) workspace.old
         checking.old.texts.kept_parent number }
@@ -149,7 +139,7 @@ fn check_inode<I: Image, W: Output>(
         → I.reads image.new ≡ I.reads image.old }
 {
     if needs_check(workspace, number) {
-        return check_directory(geometry, image, workspace, checking, report, number);
+        return check_directory(geometry, image, workspace, checking, number, report);
     }
     Ok(())
 }
@@ -161,8 +151,8 @@ fn check_directory<I: Image, W: Output>(
     image: &mut I,
     workspace: &mut Workspace,
     checking: &mut Checking,
-    report: &mut Report<'_, W>,
     dir: u32,
+    report: &mut Report<'_, W>,
 ) -> Result<(), RunFault>
     requires { ReadyToCheck geometry.now.layout (I.device image.old) workspace.old
         checking.old.texts.kept_parent dir }
@@ -182,7 +172,7 @@ fn check_directory<I: Image, W: Output>(
         (lines_moment I.Image W.Output image.old workspace.old report.old checking.old)
         (lines_moment I.Image W.Output image.new workspace.new report.new checking.new) }
 {
-    let examined = begin_directory(geometry, image, workspace, checking, report, dir)?;
+    let examined = begin_directory(geometry, image, workspace, checking, dir, report)?;
     if examined.look.quiet {
         return Ok(());
     }
@@ -191,7 +181,7 @@ fn check_directory<I: Image, W: Output>(
         inode: examined.inode,
         cut: workspace.noted_cut(dir),
     };
-    report_directory(geometry, image, workspace, checking, report, &directory)
+    report_directory(geometry, image, workspace, checking, &directory, report)
 }
 
 /// Reads a directory once, and prints its lines that come before those of its entries.
@@ -200,8 +190,8 @@ fn begin_directory<I: Image, W: Output>(
     image: &mut I,
     workspace: &mut Workspace,
     checking: &mut Checking,
-    report: &mut Report<'_, W>,
     dir: u32,
+    report: &mut Report<'_, W>,
 ) -> Result<Examination, RunFault>
     requires { ReadyToCheck geometry.now.layout (I.device image.old) workspace.old
         checking.old.texts.kept_parent dir }
@@ -240,8 +230,8 @@ fn begin_directory<I: Image, W: Output>(
         image,
         workspace,
         &mut checking.texts.kept_parent,
-        report,
         header,
+        report,
     )?;
     Ok(examined)
 }
@@ -287,8 +277,8 @@ fn report_header<I: Image, W: Output>(
     image: &mut I,
     workspace: &mut Workspace,
     kept_parent: &mut KeptParent,
-    report: &mut Report<'_, W>,
     header: HeaderFacts<'_>,
+    report: &mut Report<'_, W>,
 ) -> Result<(), RunFault>
     requires { ReadyToPath geometry.now.layout (I.device image.old) workspace.old kept_parent.old
         header.number }

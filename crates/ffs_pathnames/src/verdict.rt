@@ -1,11 +1,11 @@
 //! The verdict on a plain entry, and what is reported by it.
 ghost use Rattle.std.specs.{Prelude.{◌≡◌, ◌<◌, Bool, true, false, not, length, vec_len, IsTrue}, List.slice_index_or};
 ghost use Rattle.ffs_volume.specs.Messages.Kinds.{reported};
-ghost use Rattle.ffs_volume.specs.Directories.PathnameCheck.{defects_lines, defects_on, is_bad_whiteout, links_lines, suspect_message};
+ghost use Rattle.ffs_volume.specs.Directories.PathnameCheck.{defects_lines, defects_on, is_bad_whiteout, name_and_type_lines, suspect_message};
 ghost use Rattle.ffs_volume.specs.{Directories.{PathnameCheck.{is_silent, verdict_lines, verdict_on}, Roles.Volume}, Blocks.Inodes.is_allocated};
 ghost use Rattle.ffs_layout.specs.Entry.{entry_value};
 ghost use Rattle.ffs_pathnames.specs.{Gathers.asks_attr, SaysTreeMessages.SaysTreeMessages};
-ghost use Rattle.ffs_pathnames.specs.{PassedNames.{after_roled, first_verdict, second_verdict}, Stamps.KeepsWords};
+ghost use Rattle.ffs_pathnames.specs.{PassedNames.{after_roled, verdict_at_look, verdict_at_reading}, Stamps.KeepsWords};
 ghost use Rattle.ffs_pathnames.specs.Sees.{CanLook, HasFlagAndWord, Sees, passed_in};
 ghost use Rattle.ffs_report.specs.Progress.{progress};
 
@@ -29,28 +29,38 @@ fn is_bad_whiteout(entry: &Entry<'_>) -> bool
 }
 
 /// What is wrong with a plain entry that names an allocated inode.
-fn defects_of(inodes: &Inodes<'_>, entry: &Entry<'_>, first: bool, own: bool) -> EntryDefects
+fn defects_of(
+    inodes: &Inodes<'_>,
+    entry: &Entry<'_>,
+    first_naming: bool,
+    parent_entry: bool,
+) -> EntryDefects
     requires { entry.now.number < length inodes.now.kinds.now }
     ensures { (vol : Volume) → Sees vol inodes.now
         → IsTrue (is_allocated (vol.class entry.now.number))
-        → result ≡ defects_on vol first own (entry_value entry.now) }
+        → result ≡ defects_on vol first_naming parent_entry (entry_value entry.now) }
 {
     let number = entry.number;
     EntryDefects {
-        first_of_suspect: first && number != ROOTINO && inodes.is_suspect(number),
+        first_of_suspect: first_naming && number != ROOTINO && inodes.is_suspect(number),
         marked: inodes.marked[number as usize],
-        extraneous: !own && inodes.is_dir(number),
+        extraneous: !parent_entry && inodes.is_dir(number),
         wrong_type: inodes.has_wrong_type(number, entry.kind),
         label: inodes.kind(number).label(),
     }
 }
 
-/// The verdict on a plain entry: `first` says that no plain entry before it names its inode, and
-/// `own` that it is its parent entry.
-pub fn verdict(inodes: &Inodes<'_>, entry: &Entry<'_>, first: bool, own: bool) -> Verdict
+/// The verdict on a plain entry: `first_naming` says that no plain entry before it names its
+/// inode, and `parent_entry` that it is its parent entry.
+pub fn verdict(
+    inodes: &Inodes<'_>,
+    entry: &Entry<'_>,
+    first_naming: bool,
+    parent_entry: bool,
+) -> Verdict
     ensures below { IsTrue (asks_attr result) → entry.now.number < length inodes.now.kinds.now }
     ensures is { (vol : Volume) → Sees vol inodes.now → result
-        ≡ verdict_on vol first own (entry_value entry.now) }
+        ≡ verdict_on vol first_naming parent_entry (entry_value entry.now) }
 {
     if entry.number >= inodes.count() {
         return Verdict::OutOfRange;
@@ -64,7 +74,7 @@ pub fn verdict(inodes: &Inodes<'_>, entry: &Entry<'_>, first: bool, own: bool) -
     if !inodes.is_allocated(entry.number) {
         return Verdict::Unallocated;
     }
-    Verdict::Named(defects_of(inodes, entry, first, own))
+    Verdict::Named(defects_of(inodes, entry, first_naming, parent_entry))
 }
 
 /// Whether the inode is there, and flagged.
@@ -75,9 +85,10 @@ fn is_flagged(inodes: &Inodes<'_>, flags: &FilledList<bool>, inode: u32) -> bool
     inode < inodes.count() && flags[inode as usize]
 }
 
-/// The verdict on a plain entry of a directory for the second reading of it: its parent entry is
-/// the one that is due.
-pub fn second_verdict(
+/// The verdict on a plain entry of a directory for the second reading of that directory. The entry
+/// is the parent entry of its inode where the inode is stamped by the directory, since the passing
+/// of a parent entry clears the stamp.
+pub fn verdict_at_reading(
     inodes: &Inodes<'_>,
     dir: u32,
     flags: &FilledList<bool>,
@@ -87,18 +98,18 @@ pub fn second_verdict(
     requires { HasFlagAndWord inodes.now flags.now.items words.now.items }
     ensures below { IsTrue (asks_attr result) → entry.now.number < length inodes.now.kinds.now }
     ensures is { (vol : Volume) → Sees vol inodes.now → result
-        ≡ second_verdict vol dir (passed_in inodes.now flags.now.items words.now.items)
+        ≡ verdict_at_reading vol dir (passed_in inodes.now flags.now.items words.now.items)
         (entry_value entry.now) }
 {
-    let first = !is_flagged(inodes, flags, entry.number);
-    let own = entry.number < inodes.count() && inodes.stamp_of(words, entry.number) == dir;
-    verdict(inodes, entry, first, own)
+    let first_naming = !is_flagged(inodes, flags, entry.number);
+    let parent_entry = entry.number < inodes.count() && inodes.stamp_of(words, entry.number) == dir;
+    verdict(inodes, entry, first_naming, parent_entry)
 }
 
 /// The verdict on a plain entry of a directory for a first look at it. The parent entry of a
 /// directory is the first in its parent that names it, and the first look stamps the directory
 /// there: so an entry in the parent is the parent entry where the directory isn't stamped yet.
-pub fn first_verdict(
+pub fn verdict_at_look(
     inodes: &Inodes<'_>,
     dir: u32,
     flags: &FilledList<bool>,
@@ -107,14 +118,14 @@ pub fn first_verdict(
 ) -> Verdict
     requires { CanLook inodes.now dir flags.now.items words.now.items }
     ensures { (vol : Volume) → Sees vol inodes.now → result
-        ≡ first_verdict vol dir (passed_in inodes.now flags.now.items words.now.items)
+        ≡ verdict_at_look vol dir (passed_in inodes.now flags.now.items words.now.items)
         (entry_value entry.now) }
 {
-    let first = !is_flagged(inodes, flags, entry.number);
-    let own = entry.number < inodes.count()
+    let first_naming = !is_flagged(inodes, flags, entry.number);
+    let parent_entry = entry.number < inodes.count()
         && inodes.belongs(entry.number, dir)
         && inodes.stamp_of(words, entry.number) != dir;
-    verdict(inodes, entry, first, own)
+    verdict(inodes, entry, first_naming, parent_entry)
 }
 
 /// Whether a plain entry is a whiteout; or it has the type of the file that it names, and that file
@@ -122,8 +133,8 @@ pub fn first_verdict(
 /// directory it is. Most entries are so.
 pub fn is_harmless(inodes: &Inodes<'_>, flags: &FilledList<bool>, entry: &Entry<'_>) -> bool
     requires { vec_len flags.now ≡ length inodes.now.kinds.now }
-    ensures { IsTrue result → (vol : Volume) → Sees vol inodes.now → (own : Bool)
-        → is_silent (verdict_on vol (not (slice_index_or flags.now.items entry.now.number false)) own
+    ensures { IsTrue result → (vol : Volume) → Sees vol inodes.now → (parent_entry : Bool)
+        → is_silent (verdict_on vol (not (slice_index_or flags.now.items entry.now.number false)) parent_entry
         (entry_value entry.now)) ≡ true }
 {
     let number = entry.number as usize;
@@ -206,7 +217,7 @@ fn say_suspect<W: Output>(
 
 /// Says of an entry that it isn't the parent entry of the directory that it names, and that its
 /// type isn't that of the inode, each where it is so.
-fn say_links<W: Output>(
+fn say_name_and_type<W: Output>(
     report: &mut Report<'_, W>,
     defects: &EntryDefects,
     attr: Attr,
@@ -214,7 +225,7 @@ fn say_links<W: Output>(
     directory: &[u8],
 ) -> Result<(), OutFault>
     ensures { SaysTreeMessages (progress W.sink report.old) (progress W.sink report.new)
-        (links_lines defects.now attr path.now directory.now) result }
+        (name_and_type_lines defects.now attr path.now directory.now) result }
 {
     let extraneous = LineIf {
         holds: defects.extraneous,
@@ -247,7 +258,7 @@ fn say_defects<W: Output>(
         (defects_lines defects.now attr path.now directory.now) result }
 {
     say_suspect(report, defects, attr, path)?;
-    say_links(report, defects, attr, path, directory)
+    say_name_and_type(report, defects, attr, path, directory)
 }
 
 /// Says the lines of a plain entry's verdict.

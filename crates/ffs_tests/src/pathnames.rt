@@ -7,7 +7,7 @@ use crate::compare::same;
 use ffs_layout::Entry;
 use ffs_memory::FilledList;
 use ffs_pathnames::inodes::Inodes;
-use ffs_pathnames::verdict::{EntryDefects, Verdict, pass, second_verdict};
+use ffs_pathnames::verdict::{EntryDefects, Verdict, pass, verdict_at_reading};
 use ffs_samples::{flags, numbers};
 use ffs_volume::verdict::{DotDefects, HeaderDefects};
 use ffs_volume::{Label, Role};
@@ -57,7 +57,7 @@ fn verdict_on(number: u32, kind: u8, alloc: Global) -> Result<Verdict, AllocErro
     let words = numbers(&[0, 0, 0, 0, with_due(0), 0, with_due(0), 0, 0], alloc)?;
     let entry = entry(number, kind);
     let passed = flags(&[false; 9], alloc)?;
-    Ok(second_verdict(&inodes, 2, &passed, &words, &entry))
+    Ok(verdict_at_reading(&inodes, 2, &passed, &words, &entry))
 }
 
 /// The number and the type of an entry, the verdict on it, and whether that has no message.
@@ -98,13 +98,13 @@ fn in_turn(
 {
     let directory = entry(4, 4);
     let file = entry(8, 8);
-    let first = second_verdict(inodes, 2, passed, words, &file);
+    let first = verdict_at_reading(inodes, 2, passed, words, &file);
     pass(inodes, 2, passed, words, Role::Plain, &directory);
     pass(inodes, 2, passed, words, Role::Plain, &file);
     [
         first,
-        second_verdict(inodes, 2, passed, words, &directory),
-        second_verdict(inodes, 2, passed, words, &file),
+        verdict_at_reading(inodes, 2, passed, words, &directory),
+        verdict_at_reading(inodes, 2, passed, words, &file),
     ]
 }
 

@@ -117,12 +117,12 @@ header_defects d size parent gap sound first second = record {
 -- the messages on a directory of these attributes and this path: on its size; on its Gaps and chunks;
 -- on `.`, and on `..`
 abbrev pub size_lines : HeaderDefects (List ℕ) → Attr → (path : List ℕ) → List TreeMessage
-size_lines n attr path = reported n.short (of_directory (DirShort attr path))
-    ++ reported n.partial_chunk (of_directory (DirLength path attr.size))
+size_lines defects attr path = reported defects.short (of_directory (DirShort attr path))
+    ++ reported defects.partial_chunk (of_directory (DirLength path attr.size))
 
 abbrev pub chunk_lines : HeaderDefects (List ℕ) → Attr → (path : List ℕ) → List TreeMessage
-chunk_lines n attr path = reported n.gap (of_directory (DirEmpty path))
-    ++ reported n.unsound (of_directory (DirCorrupt attr path))
+chunk_lines defects attr path = reported defects.gap (of_directory (DirEmpty path))
+    ++ reported defects.unsound (of_directory (DirCorrupt attr path))
 
 abbrev pub dot_lines : DotDefects (List ℕ) → Attr → (path : List ℕ) → List TreeMessage
 dot_lines Missing attr path = of_dot (MissingDot attr path) ∷ []
@@ -137,11 +137,12 @@ dotdot_lines (Found wrong_number wrong_type) attr path = reported wrong_number (
     ++ reported wrong_type (of_dot (KindDotdot attr path))
 
 abbrev pub dots_lines : HeaderDefects (List ℕ) → Attr → (path : List ℕ) → List TreeMessage
-dots_lines n attr path = dot_lines n.dot attr path ++ dotdot_lines n.dotdot attr path
+dots_lines defects attr path = dot_lines defects.dot attr path ++ dotdot_lines defects.dotdot attr path
 
 -- all of them, in this order
 unfoldable pub header_lines : HeaderDefects (List ℕ) → Attr → (path : List ℕ) → List TreeMessage
-header_lines n attr path = size_lines n attr path ++ (chunk_lines n attr path ++ dots_lines n attr path)
+header_lines defects attr path =
+    size_lines defects attr path ++ (chunk_lines defects attr path ++ dots_lines defects attr path)
 
 -- there is no message on it
 abbrev pub is_dot_silent : {P : Type 0} → DotDefects P → Bool
@@ -150,8 +151,9 @@ is_dot_silent (Other name) = false
 is_dot_silent (Found wrong_number wrong_type) = not (wrong_number || wrong_type)
 
 abbrev pub is_header_silent : {P : Type 0} → HeaderDefects P → Bool
-is_header_silent n =
-    not (n.short || (n.partial_chunk || (n.gap || n.unsound))) && (is_dot_silent n.dot && is_dot_silent n.dotdot)
+is_header_silent defects =
+    not (defects.short || (defects.partial_chunk || (defects.gap || defects.unsound)))
+    && (is_dot_silent defects.dot && is_dot_silent defects.dotdot)
 
 -- what is wrong with the directory d of a volume before its entries, and the messages on that
 abbrev pub header_of : Volume → (d : ℕ) → HeaderDefects (List ℕ)
@@ -174,59 +176,62 @@ abbrev pub is_bad_whiteout : Entry → Bool
 is_bad_whiteout e =
     ((e.number == WINO) && not (e.kind == DT_WHT)) || ((e.kind == DT_WHT) && not (e.number == WINO))
 
--- x is a suspect (an inode that is marked, or a directory of size 0) other than the root; `first`
--- says that no plain entry before this one names it
-abbrev pub is_first_of_suspect : (vol : Volume) (first : Bool) (x : ℕ) → Bool
-is_first_of_suspect vol first x = is_suspect vol x && (not (x == ROOTINO) && first)
+-- x is a suspect (an inode that is marked, or a directory of size 0) other than the root;
+-- `first_naming` says that no plain entry before this one names it
+abbrev pub is_first_of_suspect : (vol : Volume) (first_naming : Bool) (x : ℕ) → Bool
+is_first_of_suspect vol first_naming x = is_suspect vol x && (not (x == ROOTINO) && first_naming)
 
--- x is a directory; `own` says that this entry, which names it, is its parent entry
-abbrev pub is_extraneous : (vol : Volume) (own : Bool) (x : ℕ) → Bool
-is_extraneous vol own x = is_dir vol x && not own
+-- x is a directory; `parent_entry` says that this entry, which names it, is its parent entry
+abbrev pub is_extraneous : (vol : Volume) (parent_entry : Bool) (x : ℕ) → Bool
+is_extraneous vol parent_entry x = is_dir vol x && not parent_entry
 
 -- the class of the inode isn't Unknown, and the entry has a type other than the inode's
 abbrev pub has_wrong_type : Volume → Entry → Bool
 has_wrong_type vol e = not (is_unknown (vol.class e.number)) && not (e.kind == type_of (vol.inode e.number).mode)
 
 -- what is wrong with a plain entry that names an allocated inode, and what messages on it show
-abbrev pub defects_on : (vol : Volume) (first own : Bool) → Entry → EntryDefects
-defects_on vol first own e = record {
-  first_of_suspect = is_first_of_suspect vol first e.number;
+abbrev pub defects_on : (vol : Volume) (first_naming parent_entry : Bool) → Entry → EntryDefects
+defects_on vol first_naming parent_entry e = record {
+  first_of_suspect = is_first_of_suspect vol first_naming e.number;
   marked = vol.marked e.number;
-  extraneous = is_extraneous vol own e.number;
+  extraneous = is_extraneous vol parent_entry e.number;
   wrong_type = has_wrong_type vol e;
   label = label_of (vol.class e.number);
 }
 
--- the verdict on a plain entry: `first` says that no plain entry before it names its inode, and
--- `own` that it is its parent entry
-abbrev pub verdict_on : (vol : Volume) (first own : Bool) → Entry → Verdict
-verdict_on vol first own e =
+-- the verdict on a plain entry: `first_naming` says that no plain entry before it names its
+-- inode, and `parent_entry` that it is its parent entry
+abbrev pub verdict_on : (vol : Volume) (first_naming parent_entry : Bool) → Entry → Verdict
+verdict_on vol first_naming parent_entry e =
     if not (nat_lt e.number vol.count) then OutOfRange
     else (if is_bad_whiteout e then BadWhiteout
     else (if e.number == WINO then Whiteout
-    else (if not (is_allocated (vol.class e.number)) then Unallocated else Named (defects_on vol first own e))))
+    else (if not (is_allocated (vol.class e.number)) then Unallocated
+    else Named (defects_on vol first_naming parent_entry e))))
 
 -- the message on a suspect: DUP/BAD where it is marked, else ZERO LENGTH DIRECTORY
 abbrev pub suspect_message : EntryDefects → Attr → (path : List ℕ) → TreeMessage
-suspect_message n attr path =
-    if n.marked then of_entry (DupBad n.label attr path) else of_entry (ZeroDir attr path)
+suspect_message defects attr path =
+    if defects.marked then of_entry (DupBad defects.label attr path) else of_entry (ZeroDir attr path)
 
 -- the messages by a verdict: `number` and `attr` are the inode's number and attributes, `path` is
 -- the entry's, and `directory` that of the inode where it is a directory
-abbrev pub links_lines : EntryDefects → Attr → (path directory : List ℕ) → List TreeMessage
-links_lines n attr path directory = reported n.extraneous (of_entry (Extraneous path directory))
-    ++ reported n.wrong_type (of_entry (KindEntry n.label attr path))
+abbrev pub name_and_type_lines : EntryDefects → Attr → (path directory : List ℕ) → List TreeMessage
+name_and_type_lines defects attr path directory =
+    reported defects.extraneous (of_entry (Extraneous path directory))
+    ++ reported defects.wrong_type (of_entry (KindEntry defects.label attr path))
 
 abbrev pub defects_lines : EntryDefects → Attr → (path directory : List ℕ) → List TreeMessage
-defects_lines n attr path directory =
-    reported n.first_of_suspect (suspect_message n attr path) ++ links_lines n attr path directory
+defects_lines defects attr path directory =
+    reported defects.first_of_suspect (suspect_message defects attr path)
+    ++ name_and_type_lines defects attr path directory
 
 abbrev pub verdict_lines : Verdict → (number : ℕ) → Attr → (path directory : List ℕ) → List TreeMessage
 verdict_lines OutOfRange number attr path directory = of_entry (OutOfRangeLine number path) ∷ []
 verdict_lines BadWhiteout number attr path directory = of_entry (WhiteoutLine number path) ∷ []
 verdict_lines Whiteout number attr path directory = []
 verdict_lines Unallocated number attr path directory = of_entry (UnallocatedLine attr path) ∷ []
-verdict_lines (Named n) number attr path directory = defects_lines n attr path directory
+verdict_lines (Named defects) number attr path directory = defects_lines defects attr path directory
 
 -- there is no message by it
 abbrev pub is_silent : Verdict → Bool
@@ -234,7 +239,7 @@ is_silent OutOfRange = false
 is_silent BadWhiteout = false
 is_silent Whiteout = true
 is_silent Unallocated = false
-is_silent (Named n) = not (n.first_of_suspect || (n.extraneous || n.wrong_type))
+is_silent (Named defects) = not (defects.first_of_suspect || (defects.extraneous || defects.wrong_type))
 
 -- ---- the entries of a directory
 -- the verdict on an entry at index j of the directory s

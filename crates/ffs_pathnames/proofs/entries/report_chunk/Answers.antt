@@ -14,10 +14,10 @@ use Rattle.ffs_names.{proofs.Stepping.{roled_end, roled_on}, specs.EntriesToCome
 use Rattle.ffs_pathnames.proofs.entries.report_chunk.Goals as goal
 
 -- the next entry, and those after it
-next : (g : Over) (c : After-role_of g) → let first = c.args.chunk.now.first in
+next : (g : Over) (c : After-role_of g) → let first = c.args.chunk.now.at_start in
     roled_to_come first c.entries.entries
     ≡ record { role = c.role_of.result; entry = entry_value c.in-Some.entry } ∷ roled_to_come first c.next.new.self
-next g c = roled_on c.args.chunk.now.first c.role_of.result c.in-Some.ensures.steps c.role_of.ensures
+next g c = roled_on c.args.chunk.now.at_start c.role_of.result c.in-Some.ensures.steps c.role_of.ensures
 
 -- what is known there
 know : (g : Over) (c : After-role_of g) (b : List ℕ) →
@@ -125,7 +125,7 @@ returns g c =
     let x = c.args.chunk.now in
     let m = passed_of c.entries.workspace in
     let inv = c.entries.invariant in
-    let end = roled_end x.first c.entries.entries c.in_default.ensures.steps.0 in
+    let end = roled_end x.at_start c.entries.entries c.in_default.ensures.steps.0 in
     record {
       lines = record {
         text = of_same _ _ (λ b. []) _ _ _ inv.said

@@ -16,8 +16,8 @@ invariant-entries g l =
     let x = l.chunk in
     let known = DirectoryContext v (reported_by l.fn.image).contents l.fn.workspace x.dir in
     let knows_path = KnowsPath v (reported_by l.fn.image).contents l.fn.workspace x.dir l.fn.texts in
-    let entries = roled_from x.first 0 (entries_of v.order x.bytes.now) in
-    let left = roled_to_come x.first l.entries in
+    let entries = roled_from x.at_start 0 (entries_of v.order x.bytes.now) in
+    let left = roled_to_come x.at_start l.entries in
     let all = λ (b : List ℕ). entries_reported (volume_of v b) x.dir (passed_of l.fn.workspace) entries in
     let to_come = λ (b : List ℕ). entries_reported (volume_of v b) x.dir (passed_of l.workspace) left in
     record {

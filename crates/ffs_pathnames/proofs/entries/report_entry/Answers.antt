@@ -1,4 +1,4 @@
-use Rattle.std.proofs.{Common.{ap, refl, ◌∙◌}, lemmas.{List.with_items_is, Result.err_from_is_err_and}}
+use Rattle.std.proofs.{Common.{ap, refl, ◌∙◌}, lemmas.{Result.err_from_is_err_and}}
 use Rattle.ffs_volume.specs.Directories.Volumes.{volume_of}
 use Rattle.ffs_workspace.{specs.declared.workspace.Workspace.Workspace, proofs.Leaving.{claims_left, survey_left}}
 use Rattle.ffs_workspace.proofs.Leaving.{leaves_more, windows_leave}

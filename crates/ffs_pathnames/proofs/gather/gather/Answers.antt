@@ -11,12 +11,12 @@ returns g c =
     let path = c.in_ok-gather_path.ensures in
     let wants = ap (λ (p : Bool × Bool). p.1) c.asks-wants_path.ensures in
     record {
-      enough = if_ok c.gather_inode.result _ _
+      enough = if_ok c.gather_shown.result _ _
           (λ a e dir b k p. e b (ap (λ x. x.contents) path.leaves.path.reads.read ∙ k.gives_bytes) dir
           c.gather_path.new.texts.directory.items
           (rw path.same.1 p) (λ q. path.path dir b k (wants ∙ q)))
-          c.gather_inode.ensures.enough;
-      same = (path.same.0, c.gather_inode.ensures.same ∙ ap (λ p. p.directory) path.same.1);
-      leaves = leaves_read c.gather_inode.result path.leaves c.gather_inode.ensures.reads
+          c.gather_shown.ensures.enough;
+      same = (path.same.0, c.gather_shown.ensures.same ∙ ap (λ p. p.directory) path.same.1);
+      leaves = leaves_read c.gather_shown.result path.leaves c.gather_shown.ensures.reads
           (let same = ap (λ q. if_wanted q path_reads) wants in omega (arith, same));
     }

@@ -12,7 +12,7 @@ entries-preserved c =
     let inv = c.entries.invariant in
     let dir = c.args.chunk.now.dir in
     let flags = c.args.flags.now.items in
-    let next = roled_on c.args.chunk.now.first c.role_of-role.result c.in-Some.ensures.steps c.role_of-role.ensures in
+    let next = roled_on c.args.chunk.now.at_start c.role_of-role.result c.in-Some.ensures.steps c.role_of-role.ensures in
     let seen : RoledEntry = record { role = c.role_of-role.result; entry = entry_value c.in-Some.entry } in
     let still : (v : Volume) → Sees v c.args.inodes.now → c.if-quiet.quiet
     ≡ (c.entries.quiet && is_quiet v dir flags old seen) = λ v s. elim c.if-quiet.branch [

@@ -9,7 +9,7 @@ abbrev pub invariant-entries : goal.invariant-entries
 invariant-entries l =
     let dir = l.chunk.dir in
     let all = roled_in l.fn.order l.chunk in
-    let left = roled_to_come l.chunk.first l.entries in
+    let left = roled_to_come l.chunk.at_start l.entries in
     record {
       words : KeepsWords l.fn.words l.words;
       quiet : (v : Volume) → Sees v l.inodes → are_quiet v dir l.flags.items (stamps_in l.inodes l.initial.words.items) all

@@ -1,14 +1,13 @@
-use Rattle.std.proofs.Common.{arith, refl, ap, ◌∙◌}
+use Rattle.std.proofs.Common.{arith, refl, ◌∙◌}
 use Rattle.ffs_volume.specs.Directories.Volumes.{volume_of}
-use Rattle.ffs_layout.specs.Entry.{entry_value}
-use Rattle.ffs_pathnames.{specs.Gathers.passed_of, specs.PassedNames.second_verdict, proofs.SeesLaws.sees}
+use Rattle.ffs_pathnames.{proofs.SeesLaws.sees}
 use Rattle.ffs_pathnames.proofs.one_entry.verdict_of.Goals as goal
 
 pub returns : goal.returns
 returns c =
     let w = c.args.workspace.now in
     record {
-      below = λ q. omega (arith, c.second_verdict.ensures.below q, c.as_slice.ensures.len);
+      below = λ q. omega (arith, c.verdict_at_reading.ensures.below q, c.as_slice.ensures.len);
       verdict = λ v b made h r.
           let shows = sees v b w _ (record {
             kinds = c.as_slice.ensures.value;
@@ -16,5 +15,5 @@ returns c =
             parents = refl;
             count = c.as_slice.ensures.len ∙ made.kinds;
           }) h r in
-          c.second_verdict.ensures.is (volume_of v b) shows;
+          c.verdict_at_reading.ensures.is (volume_of v b) shows;
     }
