@@ -1,7 +1,9 @@
 //! Bits of maps that a reader would work out by hand.
 
 use crate::compare::same;
+use ffs_layout::{Geometry, Order, SuperFault};
 use ffs_maps::FragmentMap;
+use ffs_samples::geometry;
 use std::alloc::AllocError;
 use std::process::Abort;
 use std::test::Fail;
@@ -20,6 +22,8 @@ enum Call {
     Clear(u32),
     /// Sets a run.
     SetRun(u32, u32),
+    /// Sets the bits of the reserved fragments of a volume of many groups.
+    Reserve,
     /// Claims a run: 1 where it is claimed, and else 0.
     Claim(u32, u32),
     /// The word of bits that are clear from a place on.
@@ -72,12 +76,33 @@ fn looked(map: &FragmentMap, call: Call) -> Option<u64> {
     }
 }
 
+/// How many groups the volume of many groups has.
+const GROUPS: u32 = 400;
+
+/// How many fragments each of them has.
+const GROUP: u32 = 100;
+
+/// Its geometry. Group c keeps 16 fragments from 100 c + 4 (c % 4) + 16 on, but for group 0: there
+/// the first 39 are reserved, up to the end of the summary area. In all 39 + 399 * 16 = 6,423 are.
+fn many_groups() -> Result<Geometry, SuperFault> {
+    let mut layout = geometry(Order::Little)?.layout;
+    layout.size = GROUPS * GROUP;
+    layout.ncg = GROUPS;
+    layout.ncyl = GROUPS;
+    layout.fpg = GROUP;
+    layout.cssize = 16 * GROUPS;
+    layout.cgoffset = 4;
+    layout.cgmask = 0xffff_fffc;
+    Geometry::new(layout, 1024 * 100 * 400)
+}
+
 /// The answer of a call that changes bits.
-fn changed(map: &mut FragmentMap, call: Call) -> Option<u64> {
+fn changed(map: &mut FragmentMap, geometry: &Geometry, call: Call) -> Option<u64> {
     let size = map.size;
     match call {
         Call::Set(bit) if bit < size => map.set(bit),
         Call::Clear(bit) if bit < size => map.clear(bit),
+        Call::Reserve if size == geometry.layout.size => map.reserve(geometry),
         Call::SetRun(start, len) if start <= size && len <= size - start => map.set_run(start, len),
         Call::Claim(start, len) if 0 < len && start <= size && len <= size - start => {
             return Some(u64::from(map.claim(start, len)));
@@ -90,13 +115,14 @@ fn changed(map: &mut FragmentMap, call: Call) -> Option<u64> {
 /// Makes calls on a new map of so many bits, and compares their answers.
 fn answers(
     rt: &(impl Abort + AllocGlobal),
+    geometry: &Geometry,
     size: u32,
     calls: &[Answered],
 ) -> Result<(), AllocError> {
     let mut map = FragmentMap::new(rt.alloc(), size)?;
     for (index, (call, wanted)) in calls.iter().enumerate() {
         let found = match looked(&map, *call) {
-            None => changed(&mut map, *call),
+            None => changed(&mut map, geometry, *call),
             found => found,
         };
         same(rt, &(index, found), &(index, Some(*wanted)));
@@ -182,8 +208,52 @@ const ALIKE_WORDS: [Answered; 7] = [
     (Call::CountOnes, 276),
 ];
 
+/// The reserved fragments, before any is claimed and after claims in the first page of words, which
+/// ends before fragment 32,768, and in the second one.
+const RESERVED: [Answered; 28] = [
+    (Call::Reserve, 0),
+    (Call::CountOnes, 6423),
+    (Call::Count(0, 40_000), 6423),
+    (Call::Count(0, 200), 55),
+    (Call::Count(130, 230), 12),
+    (Call::Count(128, 192), 8),
+    (Call::Count(39_930, 39_940), 10),
+    (Call::ClearBits(0), 0xffff_ff80_0000_0000),
+    (Call::ClearBits(100), 0xffff_fff0_000f_ffff),
+    (Call::ClearBits(32_768), 0x0000_ffff_ffff_ffff),
+    (Call::Claim(125, 2), 0),
+    (Call::Claim(136, 4), 1),
+    (Call::CountOnes, 6427),
+    (Call::Count(0, 200), 59),
+    (Call::Count(0, 40_000), 6427),
+    (Call::Count(32_700, 32_900), 32),
+    (Call::ClearBits(100), 0xffff_ff00_000f_ffff),
+    (Call::ClearBits(32_748), u64::MAX),
+    (Call::ClearBits(32_768), 0x0000_ffff_ffff_ffff),
+    (Call::Claim(39_930, 1), 0),
+    (Call::Claim(39_944, 8), 1),
+    (Call::Count(39_900, 40_000), 24),
+    (Call::Count(32_700, 32_900), 32),
+    (Call::ClearBits(32_768), 0x0000_ffff_ffff_ffff),
+    (Call::Clear(39_945), 0),
+    (Call::Clear(39_943), 0),
+    (Call::CountOnes, 6433),
+    (Call::Count(0, 40_000), 6433),
+];
+
+/// Reserved fragments in a map that has other bits.
+const RESERVED_LATER: [Answered; 7] = [
+    (Call::Set(5), 0),
+    (Call::Set(150), 0),
+    (Call::Reserve, 0),
+    (Call::CountOnes, 6424),
+    (Call::Count(100, 200), 17),
+    (Call::ClearBits(100), 0xfffb_fff0_000f_ffff),
+    (Call::Count(39_900, 40_000), 16),
+];
+
 /// The bits of a map, and calls on it.
-static MAPS: [(u32, &[Answered]); 7] = [
+static MAPS: [(u32, &[Answered]); 9] = [
     (130, &SINGLE),
     (130, &IN_TWO_WORDS),
     (500, &LONGER),
@@ -191,12 +261,15 @@ static MAPS: [(u32, &[Answered]); 7] = [
     (130, &WHOLE_WORD),
     (130, &ONES),
     (640, &ALIKE_WORDS),
+    (40_000, &RESERVED),
+    (40_000, &RESERVED_LATER),
 ];
 
 #[test]
 fn calls_on_maps(rt: HostRuntime) -> Result<(), Fail> {
+    let geometry = many_groups()?;
     for &(size, calls) in &MAPS {
-        answers(&rt, size, calls)?;
+        answers(&rt, &geometry, size, calls)?;
     }
     Ok(())
 }

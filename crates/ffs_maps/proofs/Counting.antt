@@ -1,14 +1,14 @@
 -- How many bits of a run are set.
-use Rattle.std.proofs.Common.{◌≡◌, ℕ, zero, suc, ◌+◌, ◌-◌, ◌*◌, ◌/◌, ◌%◌, ◌^◌, ◌<◌, ◌≤◌, Bool, false, List, length}
-use Rattle.std.proofs.Common.{cond, map, get_or, bit_and, count_ones, count_by, arith, refl, ap, ◌∙◌, sym, take, drop}
-use Rattle.std.proofs.{Common.{add-zero, min}, lemmas.List.{get_or_past, get_or-drop, get_or-take, length-drop}}
-use Rattle.std.proofs.lemmas.List.{length-take-le, Sums.{sum_by-cons, count_by-le-length}, FromFn.length-range_with_len}
-use Rattle.std.proofs.lemmas.List.{FromFn.{length-map-range_with_len, get_or-map-range_with_len}, Elements.All-get_or}
+use Rattle.std.proofs.Common.{◌≡◌, ℕ, zero, suc, ◌+◌, ◌-◌, ◌*◌, ◌/◌, ◌%◌, ◌^◌, ◌<◌, ◌≤◌, Bool, false, List}
+use Rattle.std.proofs.Common.{cond, map, get_or, bit_and, count_ones, count_by, arith, refl, ap, ◌∙◌, sym}
+use Rattle.std.proofs.{Common.{add-zero}, lemmas.List.{get_or_past}}
+use Rattle.std.proofs.lemmas.List.{Sums.{sum_by-cons, count_by-le-length}, FromFn.length-range_with_len}
+use Rattle.std.proofs.lemmas.List.{FromFn.{length-map-range_with_len, get_or-map-range_with_len}}
 use Rattle.std.proofs.lemmas.{Simd.{bit_mask_l, ones-mask_l}, Nat.Bits.{bit_at_and, bit_at-lt, bit_at_above}}
 use Rattle.std.proofs.lemmas.Nat.Bits.{bit_at_ones, bit_at_ones_above, same_from_bits, ones_shr}
-use Rattle.std.specs.{List.{range_with_len, sum_by, slice_index_or, All}, Int.bit_at}
+use Rattle.std.specs.{List.{range_with_len, sum_by, slice_index_or}, Int.bit_at}
 use lib.Lanes.{mask_l}
-use Rattle.ffs_maps.{specs.WordBits.{bits_of_words, set_among}, proofs.{Bits.{get_bits, bit_in}, WordShifts.bit_shr}}
+use Rattle.ffs_maps.{specs.WordBits.{bits_of_words, set_among}, proofs.{Bits.{bit_in}, WordShifts.bit_shr}}
 use Rattle.ffs_maps.proofs.WordShifts.{one_bit}
 
 -- the place of the next number
@@ -107,36 +107,3 @@ alike_words words size first (suc n) w fits below alike =
 pub none_counted : (p : ℕ → Bool) (a n : ℕ) → ((k : ℕ) → k < n → p (a + k) ≡ false) →
     count_by p (range_with_len a n) ≡ 0
 none_counted p a n none = omega (arith, sum_const (λ j. cond (p j) 1 0) 0 a n (λ k h. rw (none k h) refl))
-
--- words that are 0 have no set bit
-pub none_in_zeros : (words : List ℕ) (size a n : ℕ) → a + n ≤ size →
-    ((k : ℕ) → k < n → get_or words ((a + k) / 64) 0 ≡ 0) →
-    set_among (bits_of_words words size) a n ≡ 0
-none_in_zeros words size a n below zeros = grind (arith, none_counted, get_bits)
-
--- some words from one on, each like the first of them, are those of a longer list
-pub alike_touched : (words touched : List ℕ) (size first end : ℕ) → 64 * end ≤ size → first < end →
-    end ≤ length touched → get_or touched first 0 < 2 ^ 64 →
-    ((k : ℕ) → get_or words k 0 ≡ get_or touched k 0) →
-    All (λ w. w ≡ get_or touched first 0) (take (end - first) (drop first touched)) →
-    (end - first) * count_ones (get_or touched first 0)
-    ≡ set_among (bits_of_words words size) (64 * first) (64 * end - 64 * first)
-alike_touched words touched size first end below order inside fits same alike =
-    let long : 64 * end - 64 * first ≡ 64 * (end - first) = omega arith in
-    let len = length-take-le (end - first) (drop first touched)
-    (omega (arith, length-drop first touched, inside, order)) in
-    rw long (alike_words words size first (end - first) (get_or touched first 0) fits (omega (arith, below, order))
-    (λ k h. same (first + k) ∙ sym (get_or-drop first touched k 0)
-    ∙ sym (get_or-take (end - first) (drop first touched) k 0 h)
-    ∙ All-get_or (λ w. w ≡ get_or touched first 0) (take (end - first) (drop first touched)) k 0
-    (omega (arith, h, len)) alike))
-
--- the words from one on that are counted, where all after them are 0
-pub count_ends : (words touched : List ℕ) (size first index last count : ℕ) → first ≤ index → 64 * last ≤ size →
-    ((k : ℕ) → get_or words k 0 ≡ get_or touched k 0) → index ≤ last → min (length touched) last ≤ index →
-    count ≡ set_among (bits_of_words words size) (64 * first) (64 * index - 64 * first) →
-    count ≡ set_among (bits_of_words words size) (64 * first) (64 * last - 64 * first)
-count_ends words touched size first index last count from_ below same within ends is =
-    let rest = none_in_zeros words size (64 * index) (64 * last - 64 * index) (omega (arith, below, within))
-    (λ k h. same ((64 * index + k) / 64) ∙ get_or_past touched ((64 * index + k) / 64) 0 (omega (arith, ends, h))) in
-    grind (arith, count_join_at)

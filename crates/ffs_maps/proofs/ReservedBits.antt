@@ -8,8 +8,8 @@ use Rattle.ffs_volume.specs.{declared.Layout.Layout, Disk.Areas.is_reserved}
 use Rattle.ffs_layout.specs.declared.geometry.Geometry.{Geometry}
 use Rattle.ffs_maps.specs.declared.reserved.Stretch.{Stretch}
 use Rattle.ffs_maps.specs.{Bits.set_run, Reserved.{IsStretch, with_reserved}, WordBits.{bits_of_words, set_among}}
-use Rattle.ffs_maps.specs.Words.{kept_word, kept_words}
-use Rattle.ffs_maps.proofs.{Bits.{bits_are, get_bits, is_bit, zero_bits}, Counting.sum_same, Words.kept_bit, WordCounts.as_bit}
+use Rattle.ffs_maps.specs.Words.{reserved_bits, reserved_words}
+use Rattle.ffs_maps.proofs.{Bits.{bits_are, get_bits, is_bit, zero_bits}, Counting.sum_same, Words.reserved_bits_at, WordCounts.as_bit}
 use Rattle.ffs_maps.proofs.Masks.{run_inside, run_outside}
 
 pub length_with : (v : Layout) (bits : List Bool) → length (with_reserved v bits) ≡ v.size
@@ -64,22 +64,22 @@ all_set v old bits end past long at = same_lists _ _ (long ∙ sym (length_with 
     ∙ sym (get_with v old f d low))
 
 -- ---- in words that aren't touched
-pub kept_in : (g : Geometry) (n size f : ℕ) → size ≤ 64 * n → f < size →
-    is_bit (kept_words (Some g) 0 n) f ≡ is_reserved g.layout f
-kept_in g n size f enough low =
+pub reserved_in : (g : Geometry) (n size f : ℕ) → size ≤ 64 * n → f < size →
+    is_bit (reserved_words (Some g) 0 n) f ≡ is_reserved g.layout f
+reserved_in g n size f enough low =
     let place : 64 * (f / 64) + f % 64 ≡ f = omega arith in
     ap (λ x. nat_eq (bit_at x (f % 64)) 1)
-    (get_or-map-range_with_len (kept_word (Some g)) 0 n (f / 64) (f / 64) 0 (omega (arith, low, enough)) (omega arith))
-    ∙ ap (λ x. nat_eq x 1) (kept_bit (Some g) (f / 64) (f % 64) (omega arith))
+    (get_or-map-range_with_len (reserved_bits (Some g)) 0 n (f / 64) (f / 64) 0 (omega (arith, low, enough)) (omega arith))
+    ∙ ap (λ x. nat_eq x 1) (reserved_bits_at (Some g) (f / 64) (f % 64) (omega arith))
     ∙ as_bit (is_reserved g.layout (64 * (f / 64) + f % 64)) ∙ ap (is_reserved g.layout) place
 
 -- the bits of a map where none was set
-pub kept_all : (g : Geometry) (words : List ℕ) (n size : ℕ) → size ≡ g.layout.size → size ≤ 64 * n →
-    words ≡ replicate n 0 → bits_of_words (kept_words (Some g) 0 n) size ≡ with_reserved g.layout (bits_of_words words size)
-kept_all g words n size is enough zeros =
-    bits_are (kept_words (Some g) 0 n) size (with_reserved g.layout (bits_of_words words size))
+pub reserved_all : (g : Geometry) (words : List ℕ) (n size : ℕ) → size ≡ g.layout.size → size ≤ 64 * n →
+    words ≡ replicate n 0 → bits_of_words (reserved_words (Some g) 0 n) size ≡ with_reserved g.layout (bits_of_words words size)
+reserved_all g words n size is enough zeros =
+    bits_are (reserved_words (Some g) 0 n) size (with_reserved g.layout (bits_of_words words size))
     (length_with g.layout (bits_of_words words size) ∙ sym is)
-    (λ f d low. kept_in g n size f enough low
+    (λ f d low. reserved_in g n size f enough low
     ∙ alone (is_reserved g.layout f) (get_or (bits_of_words words size) f false)
     (ap (λ ws. get_or (bits_of_words ws size) f false) zeros ∙ ap (λ bits. get_or bits f false) (zero_bits n size)
     ∙ get_or-replicate size f false false low)
@@ -89,13 +89,13 @@ kept_all g words n size is enough zeros =
     alone a b e = grind arith
 
 -- how many they are
-pub kept_ones : (g : Geometry) (n size x : ℕ) → size ≡ g.layout.size → size ≤ 64 * n →
+pub reserved_ones : (g : Geometry) (n size x : ℕ) → size ≡ g.layout.size → size ≤ 64 * n →
     x ≡ count_by (is_reserved g.layout) (range_with_len 0 g.layout.size) →
-    x ≡ set_among (bits_of_words (kept_words (Some g) 0 n) size) 0 size
-kept_ones g n size x is enough counted =
+    x ≡ set_among (bits_of_words (reserved_words (Some g) 0 n) size) 0 size
+reserved_ones g n size x is enough counted =
     counted ∙ ap (λ m. count_by (is_reserved g.layout) (range_with_len 0 m)) (sym is)
     ∙ sum_same (λ f. cond (is_reserved g.layout f) 1 0)
-    (λ f. cond (slice_index_or (bits_of_words (kept_words (Some g) 0 n) size) f false) 1 0) 0 0 size
+    (λ f. cond (slice_index_or (bits_of_words (reserved_words (Some g) 0 n) size) f false) 1 0) 0 0 size
     (λ k low. ap (λ b. cond b 1 0)
-    (sym (get_bits (kept_words (Some g) 0 n) size (0 + k) false (omega (arith, low))
-    ∙ kept_in g n size (0 + k) enough (omega (arith, low)))))
+    (sym (get_bits (reserved_words (Some g) 0 n) size (0 + k) false (omega (arith, low))
+    ∙ reserved_in g n size (0 + k) enough (omega (arith, low)))))

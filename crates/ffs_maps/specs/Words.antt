@@ -14,17 +14,17 @@ pub record Words : Type 0 where
 
 -- the bit of a fragment in a word that isn't touched is set: the geometry is known, and the fragment
 -- is reserved
-abbrev pub is_kept : Option Geometry → ℕ → Bool
-is_kept None f = false
-is_kept (Some g) f = is_reserved g.layout f
+abbrev pub reserved_bit : Option Geometry → ℕ → Bool
+reserved_bit None f = false
+reserved_bit (Some g) f = is_reserved g.layout f
 
 -- the word at an index that isn't touched
-unfoldable pub kept_word : Option Geometry → ℕ → ℕ
-kept_word reserved index = mask_l (map (is_kept reserved) (range_with_len (64 * index) 64))
+unfoldable pub reserved_bits : Option Geometry → ℕ → ℕ
+reserved_bits reserved index = mask_l (map (reserved_bit reserved) (range_with_len (64 * index) 64))
 
 -- n words from an index on that aren't touched
-abbrev pub kept_words : Option Geometry → (from n : ℕ) → List ℕ
-kept_words reserved from n = map (kept_word reserved) (range_with_len from n)
+abbrev pub reserved_words : Option Geometry → (from n : ℕ) → List ℕ
+reserved_words reserved from n = map (reserved_bits reserved) (range_with_len from n)
 
 -- so many words are those of the volume whose geometry is known, if one is
 abbrev pub HasWordsFor : Option Geometry → ℕ → Type 0
@@ -35,11 +35,6 @@ HasWordsFor (Some g) count = count ≡ div_ceil g.layout.size 64
 abbrev pub IsWordFor : Option Geometry → ℕ → Type 0
 IsWordFor None index = Unit {0}
 IsWordFor (Some g) index = 64 * index < g.layout.size
-
--- these are the first words
-pub record AreTouched (all : Words) (touched : List ℕ) : Type 0 where
-  pub len : length touched ≤ length all.list
-  pub words : (k : ℕ) → k < length touched → slice_index_or all.list k 0 ≡ slice_index_or touched k 0
 
 -- the words with the bits of a mask set in the one at an index
 abbrev pub with_bits : Words → ℕ → ℕ → Words
@@ -66,11 +61,11 @@ pub record TouchesWords (old new : Vec ℕ Global) (reserved : Option Geometry) 
   pub past : index < vec_len new
   pub more : vec_len old ≤ vec_len new
   pub within : vec_len new ≤ count
-  pub touches : TouchesTo old new (kept_words reserved (vec_len old) (vec_len new - vec_len old))
+  pub touches : TouchesTo old new (reserved_words reserved (vec_len old) (vec_len new - vec_len old))
 
 -- the reserved fragments become known where no bit is set and no word is touched: their bits are set
 -- then. Else nothing is changed
 pub record LaysReserved (old new : Words) (g : Geometry) (laid : Bool) : Type 0 where
   pub zeros : IsTrue laid → old.list ≡ replicate (length old.list) 0
-  pub kept : IsTrue laid → new ≡ record old { list = kept_words (Some g) 0 (length old.list) }
+  pub bits : IsTrue laid → new ≡ record old { list = reserved_words (Some g) 0 (length old.list) }
   pub unchanged : laid ≡ false → new ≡ old

@@ -3,7 +3,7 @@
 ghost use Rattle.std.specs.Prelude.{ℕ, count_by, ◌≡◌, ◌↔◌, ◌*◌, ◌-◌, ◌^◌, ◌<◌, ◌≤◌, length, replicate, slice_set, vec_capacity, vec_len, IsTrue, Some};
 ghost use Rattle.std.specs.{List.{slice_index_or, range_with_len, All}, Int.div_ceil, Vec.vec_ptr};
 ghost use Rattle.ffs_memory.specs.Account.{IsRoom};
-ghost use Rattle.ffs_maps.specs.Words.{AreTouched, ClaimsBits, HasWordsFor, IsWordFor, LaysReserved, TouchesTo, TouchesWords, is_kept, kept_word, kept_words};
+ghost use Rattle.ffs_maps.specs.Words.{ClaimsBits, HasWordsFor, IsWordFor, LaysReserved, TouchesTo, TouchesWords, reserved_bit, reserved_bits, reserved_words};
 ghost use Rattle.ffs_maps.specs.WordBits.{bits_of_words, set_among};
 
 use crate::reserved::{reserved_among, reserved_word, stretch_from};
@@ -44,10 +44,10 @@ fn ones_of(words: &[u64]) -> u32
 }
 
 /// How many bits are set in the words from `first` on and below `last`, which aren't touched.
-fn kept_ones(reserved: &Option<Geometry>, first: u32, last: u32) -> u32
+fn untouched_ones(reserved: &Option<Geometry>, first: u32, last: u32) -> u32
     requires order { first ≤ last }
     requires fits { 64 * last < 2 ^ 32 }
-    ensures { result ≡ count_by (is_kept reserved.now)
+    ensures { result ≡ count_by (reserved_bit reserved.now)
         (range_with_len (64 * first) (64 * last - 64 * first)) }
 {
     match reserved {
@@ -78,7 +78,7 @@ fn touch_reserved(touched: &mut Vec<u64>, geometry: &Geometry, end: usize)
     requires room { (vec_len touched.old ≤ end) × (end ≤ vec_capacity touched.old) }
     requires words { end ≤ div_ceil geometry.now.layout.size 64 }
     ensures { TouchesTo touched.old touched.new
-        (kept_words (Some geometry.now) (vec_len touched.old) (end - vec_len touched.old)) }
+        (reserved_words (Some geometry.now) (vec_len touched.old) (end - vec_len touched.old)) }
 {
     let mut len = touched.len();
     while len < end {
@@ -128,7 +128,7 @@ fn touch(touched: &mut Vec<u64>, count: usize, reserved: &Option<Geometry>, inde
 #[inline(never)]
 fn untouched_word(reserved: &Option<Geometry>, index: usize) -> u64
     requires { IsWordFor reserved.now index }
-    ensures { result ≡ kept_word reserved.now index }
+    ensures { result ≡ reserved_bits reserved.now index }
 {
     match reserved {
         Some(geometry) => reserved_word(geometry, index as u32),
@@ -152,12 +152,12 @@ pub(crate) struct MapWords {
 impl Model for MapWords {
     ghost use Rattle.std.specs.Prelude.{◌≤◌, ◌-◌, ◌++◌, vec_capacity, vec_len};
     ghost use Rattle.std.specs.Vec.{vec_ptr};
-    ghost use Rattle.ffs_maps.specs.Words.{Words, HasWordsFor, kept_words};
+    ghost use Rattle.ffs_maps.specs.Words.{Words, HasWordsFor, reserved_words};
 
     ghost Value = { Words };
 
     ghost view = { λ w. record {
-      list = w.touched.items ++ kept_words w.reserved (vec_len w.touched) (w.count - vec_len w.touched);
+      list = w.touched.items ++ reserved_words w.reserved (vec_len w.touched) (w.count - vec_len w.touched);
       address = vec_ptr w.touched;
       room = vec_capacity w.touched;
     } };
@@ -168,7 +168,7 @@ impl Model for MapWords {
 
 impl MapWords {
     /// `count` words, each 0, in a list that is empty yet and has room for just as many.
-    #[tactic(auto, using(crate::proofs::Words::zeros_kept))]
+    #[tactic(auto, using(crate::proofs::Words::zero_words))]
     pub(crate) fn over(room: Vec<u64>, count: usize) -> MapWords
         requires { IsRoom count room }
         ensures { result ≡ record {
@@ -256,9 +256,9 @@ impl MapWords {
         let words = self.touched.as_slice();
         let end = words.len().min(last as usize) as u32;
         if end <= first {
-            return kept_ones(&self.reserved, first, last);
+            return untouched_ones(&self.reserved, first, last);
         }
         let touched = ones_of(&words[first as usize..end as usize]);
-        touched + kept_ones(&self.reserved, end, last)
+        touched + untouched_ones(&self.reserved, end, last)
     }
 }
