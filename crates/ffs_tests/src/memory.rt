@@ -3,7 +3,7 @@
 
 use crate::compare::same;
 use ffs::{Args, Counted, End, FuseMemory, Memory, MemoryImage, Order, SystemMemory, check_in};
-use ffs_memory::{FilledList, ZeroedWords, copy_short};
+use ffs_memory::{FilledList, copy_short};
 use ffs_samples::{base, put, put_super};
 use std::alloc::{AllocError, Global};
 use std::process::Abort;
@@ -51,49 +51,12 @@ fn each_request_refused(rt: HostRuntime) -> Result<(), Fail> {
     Ok(())
 }
 
-/// The bytes granted for a thousand words, and how many they are.
-fn thousand_words(alloc: Global) -> Result<(u64, usize), AllocError> {
+/// The bytes granted for room for a thousand words, how many words that has, and for how many there
+/// is room.
+fn thousand_words(alloc: Global) -> Result<(u64, usize, usize), AllocError> {
     let mut memory = SystemMemory::new(alloc);
-    let words = memory.zeroed_words(1000)?;
-    Ok((memory.granted(), words.len()))
-}
-
-/// A call on a list of words.
-#[derive(Clone, Copy)]
-enum WordCall {
-    /// A word.
-    Get(usize),
-    /// Sets a word.
-    Set(usize, u64),
-    /// Claims the bits of a mask: 1 where they are claimed, and else 0.
-    Claim(usize, u64),
-}
-
-/// The answer of a call: 0 where it has none, and nothing where there is no such word.
-fn word_answer(words: &mut ZeroedWords, call: WordCall) -> Option<u64> {
-    let len = words.len();
-    match call {
-        WordCall::Get(index) if index < len => Some(words.get(index)),
-        WordCall::Set(index, word) if index < len => {
-            words.set(index, word);
-            Some(0)
-        }
-        WordCall::Claim(index, mask) if index < len => Some(u64::from(words.claim(index, mask))),
-        _ => None,
-    }
-}
-
-/// Makes calls on a thousand words, and compares their answers.
-fn word_answers(
-    rt: &(impl Abort + AllocGlobal),
-    calls: &[(WordCall, u64)],
-) -> Result<(), AllocError> {
-    let mut words = SystemMemory::new(rt.alloc()).zeroed_words(1000)?;
-    for (index, (call, wanted)) in calls.iter().enumerate() {
-        let found = word_answer(&mut words, *call);
-        same(rt, &(index, found), &(index, Some(*wanted)));
-    }
-    Ok(())
+    let words = memory.room_for_words(1000)?;
+    Ok((memory.granted(), words.len(), words.capacity()))
 }
 
 /// A volume of one group with more inodes than 16 bits can count: its fragments, its inodes, and
@@ -163,41 +126,9 @@ fn more_inodes_than_16_bits(rt: HostRuntime) -> Result<(), Fail> {
     Ok(())
 }
 
-/// The last of a thousand words; those about 700 once it is set; 3 and 700 once 3 is set too.
-const WORDS: [(WordCall, u64); 8] = [
-    (WordCall::Get(999), 0),
-    (WordCall::Set(700, 7), 0),
-    (WordCall::Get(699), 0),
-    (WordCall::Get(700), 7),
-    (WordCall::Get(701), 0),
-    (WordCall::Set(3, 9), 0),
-    (WordCall::Get(3), 9),
-    (WordCall::Get(700), 7),
-];
-
-/// Claims beside bits that are set, over one of them, and of a word that isn't set.
-const CLAIMED: [(WordCall, u64); 8] = [
-    (WordCall::Set(3, 9), 0),
-    (WordCall::Claim(3, 6), 1),
-    (WordCall::Get(3), 15),
-    (WordCall::Claim(3, 24), 0),
-    (WordCall::Get(3), 15),
-    (WordCall::Claim(700, 24), 1),
-    (WordCall::Get(699), 0),
-    (WordCall::Get(700), 24),
-];
-
-/// Calls on words that are 0 at first.
-static WORD_CALLS: [&[(WordCall, u64)]; 2] = [&WORDS, &CLAIMED];
-
-/// Words are 0 until they are set, and the others stay. The bits of a mask are claimed where none
-/// of them is set: beside bits that are, but not over one.
 #[test]
-fn words_set_and_claimed(rt: HostRuntime) -> Result<(), Fail> {
-    same(&rt, &thousand_words(rt.alloc())?, &(8000, 1000));
-    for &calls in &WORD_CALLS {
-        word_answers(&rt, calls)?;
-    }
+fn room_for_words(rt: HostRuntime) -> Result<(), Fail> {
+    same(&rt, &thousand_words(rt.alloc())?, &(8000, 0, 1000));
     Ok(())
 }
 
