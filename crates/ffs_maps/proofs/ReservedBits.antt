@@ -1,13 +1,12 @@
 -- The bits of a map with the reserved fragments.
-use Rattle.std.proofs.Common.{◌≡◌, inl, inr, ℕ, ◌+◌, ◌*◌, ◌/◌, ◌%◌, ◌<◌, ◌≤◌, Bool, false, true, List, length}
+use Rattle.std.proofs.Common.{◌≡◌, inl, inr, ℕ, ◌+◌, ◌-◌, ◌*◌, ◌/◌, ◌%◌, ◌<◌, ◌≤◌, Bool, false, true, List, length}
 use Rattle.std.proofs.Common.{◌&&◌, ◌||◌, nat_lt, cond, count_by, get_or, nat_eq, replicate, arith, refl, ap, ◌∙◌, sym}
 use Rattle.std.proofs.lemmas.{List.{same_lists, get_or_default}, Bool.{cases_lt, lt-ltb, Decides.nat_tests}}
 use Rattle.std.proofs.lemmas.List.{get_or-replicate, FromFn.{get_or-map-range_with_len, length-map-range_with_len}}
 use Rattle.std.specs.{List.{range_with_len, slice_index_or}, Int.{bit_at}, Prelude.Some}
-use Rattle.ffs_volume.specs.{declared.Layout.Layout, Disk.Areas.is_reserved}
+use Rattle.ffs_volume.specs.{declared.Layout.Layout, Disk.Areas.{cgbase, is_reserved}}
 use Rattle.ffs_layout.specs.declared.geometry.Geometry.{Geometry}
-use Rattle.ffs_maps.specs.declared.reserved.Stretch.{Stretch}
-use Rattle.ffs_maps.specs.{Bits.set_run, Reserved.{IsStretch, with_reserved}, WordBits.{bits_of_words, set_among}}
+use Rattle.ffs_maps.specs.{Bits.set_run, Reserved.{IsReservedRun, with_reserved}, WordBits.{bits_of_words, set_among}}
 use Rattle.ffs_maps.specs.Words.{reserved_bits, reserved_words}
 use Rattle.ffs_maps.proofs.{Bits.{bits_are, get_bits, is_bit, zero_bits}, Counting.sum_same, Words.reserved_bits_at, WordCounts.as_bit}
 use Rattle.ffs_maps.proofs.Masks.{run_inside, run_outside}
@@ -26,32 +25,59 @@ get_with v bits f d low =
 abbrev so_far : Layout → List Bool → ℕ → ℕ → Bool
 so_far v bits end f = (nat_lt f end && is_reserved v f) || get_or bits f false
 
--- a stretch more
-pub stretch_set : (v : Layout) (old bits : List Bool) (s : Stretch) (fragment len size f : ℕ) →
-    IsStretch v fragment s → s.reserved ≡ true → fragment + len ≡ s.end → length bits ≡ size → s.end ≤ size → f < size →
-    get_or bits f false ≡ so_far v old fragment f →
-    get_or (set_run bits fragment len) f false ≡ so_far v old s.end f
-stretch_set v old bits s fragment len size f h is ends long within low before_ = elim (cases_lt f fragment) [
-  | inl under ↦ run_outside bits fragment len f false (inl under) ∙ before_ ∙ both_below f under (get_or old f false)
-  | inr over ↦ elim (cases_lt f s.end) [
+-- a group more
+pub group_set : (v : Layout) (old bits : List Bool) (c start end size f : ℕ) → IsReservedRun v c start end →
+    length bits ≡ size → end ≤ size → f < size → get_or bits f false ≡ so_far v old (cgbase v c) f →
+    get_or (set_run bits start (end - start)) f false ≡ so_far v old (cgbase v (c + 1)) f
+group_set v old bits c start end size f run long within low before_ = elim (cases_lt f start) [
+  | inl under ↦
+      run_outside bits start (end - start) f false (inl under) ∙ before_ ∙ (elim (cases_lt f (cgbase v c)) [
+        | inl earlier ↦ both f earlier (is_reserved v f) (get_or old f false)
+        | inr later ↦ neither f later (run.outside f later (omega (arith, under, run.order, run.within_group)) (inl under))
+            (get_or old f false)
+      ])
+  | inr over ↦ elim (cases_lt f end) [
     | inl inside ↦
-        run_inside bits fragment len f false over (omega (arith, ends, inside)) (omega (arith, long, low))
-        ∙ set_there f inside (is_reserved v f) (h.alike f over inside ∙ is) (get_or old f false)
+        run_inside bits start (end - start) f false over (omega (arith, inside, over)) (omega (arith, long, low))
+        ∙ set_there f (omega (arith, inside, run.within_group)) (is_reserved v f) (run.inside f over inside)
+        (get_or old f false)
     | inr past ↦
-        run_outside bits fragment len f false (inr (omega (arith, ends, past))) ∙ before_
-        ∙ both_past f over past (is_reserved v f) (get_or old f false)
+        run_outside bits start (end - start) f false (inr (omega (arith, past, run.order))) ∙ before_
+        ∙ (elim (cases_lt f (cgbase v (c + 1))) [
+          | inl here ↦ neither f (omega (arith, over, run.above))
+              (run.outside f (omega (arith, over, run.above)) here (inr past)) (get_or old f false)
+          | inr beyond ↦ both_past f (omega (arith, over, run.above)) beyond (is_reserved v f) (get_or old f false)
+        ])
   ]
 ]
   where
-    both_below : (f : ℕ) → f < fragment → (b : Bool) →
-        ((nat_lt f fragment && is_reserved v f) || b) ≡ ((nat_lt f s.end && is_reserved v f) || b)
-    both_below f under b = rw (lt-ltb f fragment under, lt-ltb f s.end (omega (arith, under, h.some))) refl
+    both : (f : ℕ) → f < cgbase v c → (r b : Bool) →
+        ((nat_lt f (cgbase v c) && r) || b) ≡ ((nat_lt f (cgbase v (c + 1)) && r) || b)
+    both f earlier r b =
+        rw (
+          lt-ltb f (cgbase v c) earlier,
+          lt-ltb f (cgbase v (c + 1)) (omega (
+            arith,
+            earlier,
+            run.above,
+            run.order,
+            run.within_group,
+          )),
+        ) refl
 
-    set_there : (f : ℕ) → f < s.end → (r : Bool) → r ≡ true → (b : Bool) → true ≡ ((nat_lt f s.end && r) || b)
-    set_there f inside r yes_ b = rw (lt-ltb f s.end inside, yes_) refl
+    drop_false : (a a' b : Bool) → ((a && false) || b) ≡ ((a' && false) || b)
+    drop_false a a' b = grind arith
 
-    both_past : (f : ℕ) → fragment ≤ f → s.end ≤ f → (r b : Bool) →
-        ((nat_lt f fragment && r) || b) ≡ ((nat_lt f s.end && r) || b)
+    neither : (f : ℕ) → cgbase v c ≤ f → is_reserved v f ≡ false → (b : Bool) →
+        ((nat_lt f (cgbase v c) && is_reserved v f) || b) ≡ ((nat_lt f (cgbase v (c + 1)) && is_reserved v f) || b)
+    neither f later none b = rw none (drop_false (nat_lt f (cgbase v c)) (nat_lt f (cgbase v (c + 1))) b)
+
+    set_there : (f : ℕ) → f < cgbase v (c + 1) → (r : Bool) → r ≡ true → (b : Bool) →
+        true ≡ ((nat_lt f (cgbase v (c + 1)) && r) || b)
+    set_there f inside r yes_ b = rw (lt-ltb f (cgbase v (c + 1)) inside, yes_) refl
+
+    both_past : (f : ℕ) → cgbase v c ≤ f → cgbase v (c + 1) ≤ f → (r b : Bool) →
+        ((nat_lt f (cgbase v c) && r) || b) ≡ ((nat_lt f (cgbase v (c + 1)) && r) || b)
     both_past f over past r b = grind (arith, nat_tests)
 
 -- all of them

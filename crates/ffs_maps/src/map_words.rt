@@ -222,12 +222,30 @@ impl MapWords {
         requires { index < length self.old.list }
         ensures { ClaimsBits self.old self.new index mask result }
     {
-        touch(&mut self.touched, self.count, &self.reserved, index);
+        if index >= self.touched.len() {
+            return self.claim_untouched(index, mask);
+        }
         let word = self.touched[index];
         if word & mask != 0 {
             return false;
         }
         self.touched[index] = word | mask;
+        true
+    }
+
+    /// Does what `claim` does, where the word may not be touched yet. It isn't inlined, and takes
+    /// no other part of the words than `claim`, so that the loops round a claim have registers.
+    #[inline(never)]
+    fn claim_untouched(&mut self, index: usize, mask: u64) -> bool
+        requires { index < length self.old.list }
+        ensures { ClaimsBits self.old self.new index mask result }
+    {
+        touch(&mut self.touched, self.count, &self.reserved, index);
+        let found = self.touched[index];
+        if found & mask != 0 {
+            return false;
+        }
+        self.touched[index] = found | mask;
         true
     }
 

@@ -10,7 +10,7 @@ use ffs_layout::Geometry;
 /// Where the reserved fragments of a group begin and end. They lie together: in the first group all
 /// before the end of the summary area, in another what the group keeps for itself.
 #[tactic(auto, using(crate::proofs::Runs::first_run, crate::proofs::Runs::other_run))]
-fn reserved_run(geometry: &Geometry, group: u32) -> (u32, u32)
+pub(crate) fn reserved_run(geometry: &Geometry, group: u32) -> (u32, u32)
     requires { group < geometry.now.layout.ncg }
     ensures { IsReservedRun geometry.now.layout group result.0 result.1 }
 {
