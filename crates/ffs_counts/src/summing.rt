@@ -1,8 +1,6 @@
 //! The summary of a check.
 
-ghost use Rattle.std.specs.Prelude.{◌≡◌, ◌∷◌, [], ◌-◌, ◌<◌, ◌^◌, length, count_by, pos, ◌+ℤ◌, ◌*ℤ◌, int_div};
-ghost use Rattle.std.specs.List.{range_with_len};
-ghost use Rattle.ffs_volume.specs.{Disk.Areas.{cgbase, is_reserved}, Groups.Records.group_size};
+ghost use Rattle.std.specs.Prelude.{◌≡◌, ◌∷◌, [], ◌-◌, ◌<◌, ◌^◌, length, pos, ◌+ℤ◌, ◌*ℤ◌, int_div};
 ghost use Rattle.ffs_volume.specs.Report.Whole.{summary_of, file_count as files_of, claimed_count as claimed_of};
 ghost use Rattle.ffs_layout.specs.Super.{superblock_in};
 ghost use Rattle.ffs_maps.specs.Bits.{bits_of};

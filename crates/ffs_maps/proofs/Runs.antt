@@ -2,7 +2,7 @@
 use Rattle.std.proofs.Common.{◌≡◌, ◌⊎◌, inl, inr, ℕ, ◌+◌, ◌-◌, ◌*◌, ◌/◌, ◌<◌, ◌≤◌, Bool, true, false}
 use Rattle.std.proofs.Common.{◌&&◌, ◌||◌, nat_lt, nat_le, count_by, max, min, arith, refl, ap, ◌∙◌, sym, cond}
 use Rattle.std.{proofs.Math.Nat.mul_comm, specs.{List.{range_with_len, sum_by}, Int.div_ceil}}
-use Rattle.std.proofs.lemmas.{Nat.mul-le, Bool.cases_lt}
+use Rattle.std.proofs.lemmas.{Nat.mul-le, Bool.{cases_lt, Decides.nat_tests}}
 use Rattle.std.proofs.lemmas.Bool.{lt-ltb, le-ltb, le-leb, lt-leb, and_from, and_left, and_right}
 use Rattle.ffs_volume.specs.{declared.Layout.Layout, Laws.Geometry.IsAcceptedLayout}
 use Rattle.ffs_volume.specs.Disk.Areas.{cgbase, cgstart, cgsblock, cgdmin, is_group_metadata, is_reserved}
@@ -204,3 +204,11 @@ pub group_of : (v : Layout) (f c : ℕ) → IsAcceptedLayout v → f < v.size �
     (cgbase v c ≤ f) × (f < cgbase v (c + 1)) × (c < v.ncg)
 unfolding cgbase
 group_of v f c g h is = (grind arith, grind arith, omega (arith, group_below v f g h, is))
+
+-- no fragment is of a group before the first one
+pub none_before : (v : Layout) (f : ℕ) (r b : Bool) → b ≡ ((nat_lt f (cgbase v 0) && r) || b)
+none_before v f r b = let z = base_zero v in grind (arith, nat_tests)
+
+-- the groups end at the volume's end or after it
+pub bases_end : (v : Layout) (c : ℕ) → IsAcceptedLayout v → c ≡ v.ncg → v.size ≤ cgbase v c
+bases_end v c g is = let all = groups_end v g in rw is (omega (arith, all))

@@ -5,33 +5,33 @@ use Rattle.std.proofs.lemmas.List.{get_or-drop, get_or-take, length-drop, length
 use Rattle.std.specs.{List.{range_with_len, slice_index_or}, Int.bit_at, Prelude.{Option, vec_len}}
 use Rattle.std.specs.declared.{vec.Vec.Vec, alloc.Global.Global}
 use Rattle.ffs_layout.specs.declared.geometry.Geometry.{Geometry}
-use Rattle.ffs_maps.specs.{Words.{Words, untouched_bit}, WordBits.{bits_of_words, set_among}}
-use Rattle.ffs_maps.proofs.{Bits.{get_bits, is_bit}, Counting.{count_join_at, sum_same}, Words.{bit_untouched, seen, touched_at, untouched_at}}
+use Rattle.ffs_maps.specs.{Words.{Words, reserved_bit}, WordBits.{bits_of_words, set_among}}
+use Rattle.ffs_maps.proofs.{Bits.{get_bits, is_bit}, Counting.{count_join_at, sum_same}, Words.{reserved_bits_at, seen, touched_at, untouched_at}}
 
 pub as_bit : (b : Bool) → nat_eq (cond b 1 0) 1 ≡ b
 as_bit true = refl
 as_bit false = refl
 
 -- the bit of a fragment in a word that isn't touched
-pub kept_at : (touched : Vec ℕ Global) (reserved : Option Geometry) (count f : ℕ) (w : Words) →
-    seen touched reserved count ≡ w → vec_len touched ≤ f / 64 → f / 64 < count → is_bit w.list f ≡ untouched_bit reserved f
-kept_at touched reserved count f w is past inside =
+pub reserved_at : (touched : Vec ℕ Global) (reserved : Option Geometry) (count f : ℕ) (w : Words) →
+    seen touched reserved count ≡ w → vec_len touched ≤ f / 64 → f / 64 < count → is_bit w.list f ≡ reserved_bit reserved f
+reserved_at touched reserved count f w is past inside =
     let place : 64 * (f / 64) + f % 64 ≡ f = omega arith in
     ap (λ x. nat_eq (bit_at x (f % 64)) 1) (untouched_at touched reserved (f / 64) count w is past inside)
-    ∙ ap (λ x. nat_eq x 1) (bit_untouched reserved (f / 64) (f % 64) (omega arith))
-    ∙ as_bit (untouched_bit reserved (64 * (f / 64) + f % 64)) ∙ ap (untouched_bit reserved) place
+    ∙ ap (λ x. nat_eq x 1) (reserved_bits_at reserved (f / 64) (f % 64) (omega arith))
+    ∙ as_bit (reserved_bit reserved (64 * (f / 64) + f % 64)) ∙ ap (reserved_bit reserved) place
 
 -- words from one on that aren't touched
-pub untouched_count : (touched : Vec ℕ Global) (reserved : Option Geometry) (count size first last : ℕ) (w : Words) →
+pub reserved_in_words : (touched : Vec ℕ Global) (reserved : Option Geometry) (count size first last : ℕ) (w : Words) →
     seen touched reserved count ≡ w → min (vec_len touched) last ≤ first → last ≤ count → 64 * last ≤ size →
     set_among (bits_of_words w.list size) (64 * first) (64 * last - 64 * first)
-    ≡ count_by (untouched_bit reserved) (range_with_len (64 * first) (64 * last - 64 * first))
-untouched_count touched reserved count size first last w is past within below =
-    sum_same (λ f. cond (slice_index_or (bits_of_words w.list size) f false) 1 0) (λ f. cond (untouched_bit reserved f) 1 0)
+    ≡ count_by (reserved_bit reserved) (range_with_len (64 * first) (64 * last - 64 * first))
+reserved_in_words touched reserved count size first last w is past within below =
+    sum_same (λ f. cond (slice_index_or (bits_of_words w.list size) f false) 1 0) (λ f. cond (reserved_bit reserved f) 1 0)
     (64 * first) (64 * first) (64 * last - 64 * first)
     (λ k low. ap (λ b. cond b 1 0)
     (get_bits w.list size (64 * first + k) false (omega (arith, low, below))
-    ∙ kept_at touched reserved count (64 * first + k) w is (omega (arith, past, low)) (omega (arith, low, within))))
+    ∙ reserved_at touched reserved count (64 * first + k) w is (omega (arith, past, low)) (omega (arith, low, within))))
 
 -- words that are touched
 pub touched_count : (touched : Vec ℕ Global) (reserved : Option Geometry) (count size first end : ℕ) (w : Words)
@@ -71,11 +71,11 @@ pub count_parts : (touched : Vec ℕ Global) (reserved : Option Geometry) (count
     (part : List ℕ) (x y : ℕ) → seen touched reserved count ≡ w → first ≤ end → end ≡ min (vec_len touched) last →
     last ≤ count → 64 * last ≤ size → part ≡ take (end - first) (drop first touched.items) →
     x ≡ set_among (bits_of_words part (64 * length part)) 0 (64 * length part) →
-    y ≡ count_by (untouched_bit reserved) (range_with_len (64 * end) (64 * last - 64 * end)) →
+    y ≡ count_by (reserved_bit reserved) (range_with_len (64 * end) (64 * last - 64 * end)) →
     x + y ≡ set_among (bits_of_words w.list size) (64 * first) (64 * last - 64 * first)
 count_parts touched reserved count size first end last w part x y is order at within below cut first_part rest =
     count_join_at (λ f. slice_index_or (bits_of_words w.list size) f false) (64 * first) (64 * end) (64 * last)
     (64 * last - 64 * end) x y (omega (arith, order)) (omega (arith, at))
     (first_part ∙ touched_count touched reserved count size first end w part is order (omega (arith, at))
     (omega (arith, at, below)) cut)
-    (rest ∙ sym (untouched_count touched reserved count size end last w is (omega (arith, at)) within below))
+    (rest ∙ sym (reserved_in_words touched reserved count size end last w is (omega (arith, at)) within below))

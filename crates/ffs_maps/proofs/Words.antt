@@ -8,74 +8,74 @@ use Rattle.std.proofs.lemmas.{List.get_or_past, Bool.cases_lt}
 use Rattle.std.{proofs.Math.ListN.get_or-append, specs.Int.bit_at}
 use Rattle.ffs_volume.specs.Disk.Areas.{is_reserved}
 use Rattle.ffs_layout.specs.declared.geometry.Geometry.{Geometry}
-use Rattle.ffs_maps.specs.Words.{Words, untouched_bit, word_untouched, words_untouched, HasWordsFor, IsWordFor, LaysReserved, TouchesWords}
+use Rattle.ffs_maps.specs.Words.{Words, reserved_bit, reserved_bits, reserved_words, HasWordsFor, IsWordFor, LaysReserved, TouchesWords}
 use Rattle.ffs_memory.specs.Touching.{TouchesTo}
 
 -- the bits of a word that isn't touched
-untouched_bits : (reserved : Option Geometry) (index k : ℕ) →
-    bit_at (word_untouched reserved index) k
-    ≡ cond (get_or (map (untouched_bit reserved) (range_with_len (64 * index) 64)) k false) 1 0
-unfolding word_untouched
-untouched_bits reserved index k = bit_mask_l (map (untouched_bit reserved) (range_with_len (64 * index) 64)) k
+reserved_bits_are : (reserved : Option Geometry) (index k : ℕ) →
+    bit_at (reserved_bits reserved index) k
+    ≡ cond (get_or (map (reserved_bit reserved) (range_with_len (64 * index) 64)) k false) 1 0
+unfolding reserved_bits
+reserved_bits_are reserved index k = bit_mask_l (map (reserved_bit reserved) (range_with_len (64 * index) 64)) k
 
-pub bit_untouched : (reserved : Option Geometry) (index k : ℕ) → k < 64 →
-    bit_at (word_untouched reserved index) k ≡ cond (untouched_bit reserved (64 * index + k)) 1 0
-bit_untouched reserved index k h =
-    untouched_bits reserved index k
-    ∙ ap (λ b. cond b 1 0) (get_or-map-range_with_len (untouched_bit reserved) (64 * index) 64 k (64 * index + k) false h refl)
+pub reserved_bits_at : (reserved : Option Geometry) (index k : ℕ) → k < 64 →
+    bit_at (reserved_bits reserved index) k ≡ cond (reserved_bit reserved (64 * index + k)) 1 0
+reserved_bits_at reserved index k h =
+    reserved_bits_are reserved index k
+    ∙ ap (λ b. cond b 1 0) (get_or-map-range_with_len (reserved_bit reserved) (64 * index) 64 k (64 * index + k) false h refl)
 
-bit_untouched_above : (reserved : Option Geometry) (index k : ℕ) → 64 ≤ k → bit_at (word_untouched reserved index) k ≡ 0
-bit_untouched_above reserved index k h =
-    untouched_bits reserved index k
-    ∙ ap (λ b. cond b 1 0) (get_or_past (map (untouched_bit reserved) (range_with_len (64 * index) 64)) k false
-    (omega (arith, length-map-range_with_len (untouched_bit reserved) (64 * index) 64, h)))
+reserved_bits_above : (reserved : Option Geometry) (index k : ℕ) → 64 ≤ k → bit_at (reserved_bits reserved index) k ≡ 0
+reserved_bits_above reserved index k h =
+    reserved_bits_are reserved index k
+    ∙ ap (λ b. cond b 1 0) (get_or_past (map (reserved_bit reserved) (range_with_len (64 * index) 64)) k false
+    (omega (arith, length-map-range_with_len (reserved_bit reserved) (64 * index) 64, h)))
 
 -- a word with these bits is the one
-pub untouched_from_bits : (reserved : Option Geometry) (index w : ℕ) →
-    ((k : ℕ) → k < 64 → bit_at w k ≡ cond (untouched_bit reserved (64 * index + k)) 1 0) →
-    ((k : ℕ) → 64 ≤ k → bit_at w k ≡ 0) → w ≡ word_untouched reserved index
-untouched_from_bits reserved index w low high = same_from_bits w (word_untouched reserved index) (λ k. elim (cases_lt k 64) [
-  | inl under ↦ low k under ∙ sym (bit_untouched reserved index k under)
-  | inr above ↦ high k above ∙ sym (bit_untouched_above reserved index k above)
+pub reserved_from_bits : (reserved : Option Geometry) (index w : ℕ) →
+    ((k : ℕ) → k < 64 → bit_at w k ≡ cond (reserved_bit reserved (64 * index + k)) 1 0) →
+    ((k : ℕ) → 64 ≤ k → bit_at w k ≡ 0) → w ≡ reserved_bits reserved index
+reserved_from_bits reserved index w low high = same_from_bits w (reserved_bits reserved index) (λ k. elim (cases_lt k 64) [
+  | inl under ↦ low k under ∙ sym (reserved_bits_at reserved index k under)
+  | inr above ↦ high k above ∙ sym (reserved_bits_above reserved index k above)
 ])
 
 -- where no geometry is known, each word is 0
-pub none_untouched : (index : ℕ) → word_untouched None index ≡ 0
-none_untouched index = sym (untouched_from_bits None index 0 (λ k h. bit_at-zero k) (λ k h. bit_at-zero k))
+pub no_reserved_bits : (index : ℕ) → reserved_bits None index ≡ 0
+no_reserved_bits index = sym (reserved_from_bits None index 0 (λ k h. bit_at-zero k) (λ k h. bit_at-zero k))
 
-pub zeros_untouched : (from n : ℕ) → words_untouched None from n ≡ replicate n 0
-zeros_untouched from zero = refl
-zeros_untouched from (suc n) = grind (arith, none_untouched, zeros_untouched (from + 1) n)
+pub zero_words : (from n : ℕ) → reserved_words None from n ≡ replicate n 0
+zero_words from zero = refl
+zero_words from (suc n) = grind (arith, no_reserved_bits, zero_words (from + 1) n)
 
-zeros_where : (reserved : Option Geometry) (from n : ℕ) → ((k : ℕ) → k < n → word_untouched reserved (from + k) ≡ 0) →
-    words_untouched reserved from n ≡ replicate n 0
+zeros_where : (reserved : Option Geometry) (from n : ℕ) → ((k : ℕ) → k < n → reserved_bits reserved (from + k) ≡ 0) →
+    reserved_words reserved from n ≡ replicate n 0
 zeros_where reserved from n zeros = same_lists _ _
-    (length-map-range_with_len (word_untouched reserved) from n ∙ sym (length-replicate {A = ℕ} n 0))
-    (λ k d low. let inside : k < n = omega (arith, low, length-map-range_with_len (word_untouched reserved) from n) in
-    get_or-map-range_with_len (word_untouched reserved) from n k (from + k) d inside refl ∙ zeros k inside
+    (length-map-range_with_len (reserved_bits reserved) from n ∙ sym (length-replicate {A = ℕ} n 0))
+    (λ k d low. let inside : k < n = omega (arith, low, length-map-range_with_len (reserved_bits reserved) from n) in
+    get_or-map-range_with_len (reserved_bits reserved) from n k (from + k) d inside refl ∙ zeros k inside
     ∙ sym (get_or-replicate n k 0 d inside))
 
-untouched_split : (reserved : Option Geometry) (a n m t : ℕ) → t ≡ n + m →
-    words_untouched reserved a n ++ words_untouched reserved (a + n) m ≡ words_untouched reserved a t
-untouched_split reserved a zero m t e = let same : t ≡ m = omega (arith, e) in rw (add-zero a, same) refl
-untouched_split reserved a (suc n) m zero e = absurd (omega (arith, e))
-untouched_split reserved a (suc n) m (suc t) e =
+reserved_split : (reserved : Option Geometry) (a n m t : ℕ) → t ≡ n + m →
+    reserved_words reserved a n ++ reserved_words reserved (a + n) m ≡ reserved_words reserved a t
+reserved_split reserved a zero m t e = let same : t ≡ m = omega (arith, e) in rw (add-zero a, same) refl
+reserved_split reserved a (suc n) m zero e = absurd (omega (arith, e))
+reserved_split reserved a (suc n) m (suc t) e =
     let place : a + suc n ≡ a + 1 + n = omega arith in
-    rw place (ap (λ ws. word_untouched reserved a ∷ ws) (untouched_split reserved (a + 1) n m t (omega (arith, e))))
+    rw place (ap (λ ws. reserved_bits reserved a ∷ ws) (reserved_split reserved (a + 1) n m t (omega (arith, e))))
 
 -- words after others
-pub untouched_on : (reserved : Option Geometry) (xs : List ℕ) (a n m t b : ℕ) → t ≡ n + m → b ≡ a + n →
-    (xs ++ words_untouched reserved a n) ++ words_untouched reserved b m ≡ xs ++ words_untouched reserved a t
-untouched_on reserved xs a n m t b e at = rw at (append_assoc xs (words_untouched reserved a n) (words_untouched reserved (a + n) m)
-    ∙ ap (λ ys. xs ++ ys) (untouched_split reserved a n m t e))
+pub reserved_on : (reserved : Option Geometry) (xs : List ℕ) (a n m t b : ℕ) → t ≡ n + m → b ≡ a + n →
+    (xs ++ reserved_words reserved a n) ++ reserved_words reserved b m ≡ xs ++ reserved_words reserved a t
+reserved_on reserved xs a n m t b e at = rw at (append_assoc xs (reserved_words reserved a n) (reserved_words reserved (a + n) m)
+    ∙ ap (λ ys. xs ++ ys) (reserved_split reserved a n m t e))
 
 -- one word more
-pub untouched_more : (reserved : Option Geometry) (xs : List ℕ) (a n b w : ℕ) → b ≡ a + n → w ≡ word_untouched reserved b →
-    (xs ++ words_untouched reserved a n) ++ w ∷ [] ≡ xs ++ words_untouched reserved a (b + 1 - a)
-untouched_more reserved xs a n b w at is =
+pub reserved_more : (reserved : Option Geometry) (xs : List ℕ) (a n b w : ℕ) → b ≡ a + n → w ≡ reserved_bits reserved b →
+    (xs ++ reserved_words reserved a n) ++ w ∷ [] ≡ xs ++ reserved_words reserved a (b + 1 - a)
+reserved_more reserved xs a n b w at is =
     let e : b + 1 - a ≡ n + 1 = omega (arith, at) in
-    rw (e, is) (append_assoc xs (words_untouched reserved a n) (word_untouched reserved b ∷ [])
-    ∙ ap (λ ys. xs ++ ys) (sym (map-range_with_len_more (word_untouched reserved) a n b (sym at))))
+    rw (e, is) (append_assoc xs (reserved_words reserved a n) (reserved_bits reserved b ∷ [])
+    ∙ ap (λ ys. xs ++ ys) (sym (map-range_with_len_more (reserved_bits reserved) a n b (sym at))))
 
 abbrev words : List ℕ → Ptr → ℕ → Words
 words list address room = record { list = list; address = address; room = room }
@@ -83,7 +83,7 @@ words list address room = record { list = list; address = address; room = room }
 -- so many words, of which these are touched
 abbrev pub seen : Vec ℕ Global → Option Geometry → ℕ → Words
 seen touched reserved count =
-    words (touched.items ++ words_untouched reserved (vec_len touched) (count - vec_len touched)) (vec_ptr touched)
+    words (touched.items ++ reserved_words reserved (vec_len touched) (count - vec_len touched)) (vec_ptr touched)
     (vec_capacity touched)
 
 pub length_seen : (touched : Vec ℕ Global) (reserved : Option Geometry) (count : ℕ) (w : Words) →
@@ -93,7 +93,7 @@ length_seen touched reserved count w is within = grind (arith, length-append, le
 -- more of the words are touched, and they are the same
 pub same_seen : (old new : Vec ℕ Global) (reserved : Option Geometry) (index count : ℕ) (w : Words) →
     seen old reserved count ≡ w → TouchesWords old new reserved count index → seen new reserved count ≡ w
-same_seen old new reserved index count w is touches = grind (arith, untouched_on)
+same_seen old new reserved index count w is touches = grind (arith, reserved_on)
 
 -- the word at a touched index is set
 pub set_seen : (touched : Vec ℕ Global) (reserved : Option Geometry) (index word count : ℕ) (w : Words) →
@@ -106,7 +106,7 @@ pub touched_at : (touched : Vec ℕ Global) (reserved : Option Geometry) (index 
     seen touched reserved count ≡ w → index < vec_len touched → get_or w.list index 0 ≡ get_or touched.items index d
 touched_at touched reserved index count w d is inside =
     ap (λ ws. get_or ws.list index 0) (sym is)
-    ∙ get_or-append touched.items (words_untouched reserved (vec_len touched) (count - vec_len touched)) 0 index
+    ∙ get_or-append touched.items (reserved_words reserved (vec_len touched) (count - vec_len touched)) 0 index
     (omega (arith, inside, touched.ok.0))
     ∙ get_or_default touched.items index 0 d (omega (arith, inside, touched.ok.0))
 
@@ -119,20 +119,20 @@ word_for (Some g) count index all inside = omega (arith, all, inside)
 -- a word that isn't touched
 pub untouched_at : (touched : Vec ℕ Global) (reserved : Option Geometry) (index count : ℕ) (w : Words) →
     seen touched reserved count ≡ w → vec_len touched ≤ index → index < count →
-    get_or w.list index 0 ≡ word_untouched reserved index
+    get_or w.list index 0 ≡ reserved_bits reserved index
 untouched_at touched reserved index count w is past inside =
     ap (λ ws. get_or ws.list index 0) (sym is)
-    ∙ get_or-append_right touched.items (words_untouched reserved (vec_len touched) (count - vec_len touched))
+    ∙ get_or-append_right touched.items (reserved_words reserved (vec_len touched) (count - vec_len touched))
     (vec_len touched) index 0 (omega arith) past
-    ∙ get_or-map-range_with_len (word_untouched reserved) (vec_len touched) (count - vec_len touched)
+    ∙ get_or-map-range_with_len (reserved_bits reserved) (vec_len touched) (count - vec_len touched)
     (index - vec_len touched) index 0 (omega (arith, inside, past)) (omega (arith, past))
 
 -- none of the fragments of some words is reserved
 pub zeros_of_stretch : (g : Geometry) (from to n : ℕ) → n ≡ to - from →
     ((f : ℕ) → 64 * from ≤ f → f < 64 * to → is_reserved g.layout f ≡ false) →
-    words_untouched (Some g) from n ≡ replicate n 0
+    reserved_words (Some g) from n ≡ replicate n 0
 zeros_of_stretch g from to n is none = zeros_where (Some g) from n (λ k low.
-    sym (untouched_from_bits (Some g) (from + k) 0
+    sym (reserved_from_bits (Some g) (from + k) 0
     (λ b h. bit_at-zero b ∙ ap (λ x. cond x 1 0) (sym (none (64 * (from + k) + b) (omega arith) (omega (arith, low, is, h)))))
     (λ b h. bit_at-zero b)))
 
@@ -146,7 +146,7 @@ lays touched None count w g is within fresh unknown =
     let none : touched.items ≡ [] = empty_is touched.items (omega (arith, fresh)) in
     record {
       zeros = λ _. all_zeros none long;
-      kept = λ _. now_kept none long;
+      bits = λ _. now_laid none long;
       unchanged = λ no. absurd (true≢false no);
     }
   where
@@ -156,21 +156,21 @@ lays touched None count w g is within fresh unknown =
 
     all_zeros : touched.items ≡ [] → length w.list ≡ count → w.list ≡ replicate (length w.list) 0
     all_zeros none long = rw long
-        (ap (λ x. x.list) (sym is) ∙ ap (λ xs. xs ++ words_untouched None (vec_len touched) (count - vec_len touched)) none
-        ∙ zeros_untouched (vec_len touched) (count - vec_len touched)
+        (ap (λ x. x.list) (sym is) ∙ ap (λ xs. xs ++ reserved_words None (vec_len touched) (count - vec_len touched)) none
+        ∙ zero_words (vec_len touched) (count - vec_len touched)
         ∙ ap (λ n. replicate n 0) (omega (arith, fresh)))
 
-    now_kept : touched.items ≡ [] → length w.list ≡ count →
-        seen touched (Some g) count ≡ record w { list = words_untouched (Some g) 0 (length w.list) }
-    now_kept none long =
+    now_laid : touched.items ≡ [] → length w.list ≡ count →
+        seen touched (Some g) count ≡ record w { list = reserved_words (Some g) 0 (length w.list) }
+    now_laid none long =
         ap (λ list. words list (vec_ptr touched) (vec_capacity touched))
-        (ap (λ xs. xs ++ words_untouched (Some g) (vec_len touched) (count - vec_len touched)) none
-        ∙ ap (λ n. words_untouched (Some g) n (count - n)) fresh ∙ ap (words_untouched (Some g) 0) (omega (arith, long)))
-        ∙ ap (λ x. words (words_untouched (Some g) 0 (length w.list)) x.address x.room) is
+        (ap (λ xs. xs ++ reserved_words (Some g) (vec_len touched) (count - vec_len touched)) none
+        ∙ ap (λ n. reserved_words (Some g) n (count - n)) fresh ∙ ap (reserved_words (Some g) 0) (omega (arith, long)))
+        ∙ ap (λ x. words (reserved_words (Some g) 0 (length w.list)) x.address x.room) is
 
 -- so many more words are touched, with the bits that they had
 pub touched_page : (old new : Vec ℕ Global) (reserved : Option Geometry) (count index end : ℕ) (more : List ℕ) →
-    TouchesTo old new more → more ≡ words_untouched reserved (vec_len old) (end - vec_len old) → vec_len old ≤ index →
+    TouchesTo old new more → more ≡ reserved_words reserved (vec_len old) (end - vec_len old) → vec_len old ≤ index →
     index < end → end ≤ count → TouchesWords old new reserved count index
 touched_page old new reserved count index end more touches is past inside within =
     let len = ap length touches.items in
@@ -181,7 +181,7 @@ touched_page old new reserved count index end more touches is past inside within
       new.ok.0,
       ap (length {A = ℕ}) is,
       length-append old.items more,
-      length-map-range_with_len (word_untouched reserved) (vec_len old) (end - vec_len old),
+      length-map-range_with_len (reserved_bits reserved) (vec_len old) (end - vec_len old),
       past,
       inside,
     ) in record {
@@ -190,7 +190,7 @@ touched_page old new reserved count index end more touches is past inside within
       within = omega (arith, long, within);
       touches = record {
         items = touches.items ∙ ap (λ ws. old.items ++ ws)
-            (is ∙ ap (λ e. words_untouched reserved (vec_len old) (e - vec_len old)) (sym long));
+            (is ∙ ap (λ e. reserved_words reserved (vec_len old) (e - vec_len old)) (sym long));
         address = touches.address;
         room = touches.room;
       };

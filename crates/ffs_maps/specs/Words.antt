@@ -15,17 +15,17 @@ pub record Words : Type 0 where
 
 -- the bit of a fragment in a word that isn't touched is set: the geometry is known, and the fragment
 -- is reserved
-abbrev pub untouched_bit : Option Geometry → ℕ → Bool
-untouched_bit None f = false
-untouched_bit (Some g) f = is_reserved g.layout f
+abbrev pub reserved_bit : Option Geometry → ℕ → Bool
+reserved_bit None f = false
+reserved_bit (Some g) f = is_reserved g.layout f
 
 -- the word at an index that isn't touched
-unfoldable pub word_untouched : Option Geometry → ℕ → ℕ
-word_untouched reserved index = mask_l (map (untouched_bit reserved) (range_with_len (64 * index) 64))
+unfoldable pub reserved_bits : Option Geometry → ℕ → ℕ
+reserved_bits reserved index = mask_l (map (reserved_bit reserved) (range_with_len (64 * index) 64))
 
 -- n words from an index on that aren't touched
-abbrev pub words_untouched : Option Geometry → (from n : ℕ) → List ℕ
-words_untouched reserved from n = map (word_untouched reserved) (range_with_len from n)
+abbrev pub reserved_words : Option Geometry → (from n : ℕ) → List ℕ
+reserved_words reserved from n = map (reserved_bits reserved) (range_with_len from n)
 
 -- so many words are those of the volume whose geometry is known, if one is
 abbrev pub HasWordsFor : Option Geometry → ℕ → Type 0
@@ -56,11 +56,11 @@ pub record TouchesWords (old new : Vec ℕ Global) (reserved : Option Geometry) 
   pub past : index < vec_len new
   pub more : vec_len old ≤ vec_len new
   pub within : vec_len new ≤ count
-  pub touches : TouchesTo old new (words_untouched reserved (vec_len old) (vec_len new - vec_len old))
+  pub touches : TouchesTo old new (reserved_words reserved (vec_len old) (vec_len new - vec_len old))
 
 -- the reserved fragments become known where no bit is set and no word is touched: their bits are set
 -- then. Else nothing is changed
 pub record LaysReserved (old new : Words) (g : Geometry) (laid : Bool) : Type 0 where
   pub zeros : IsTrue laid → old.list ≡ replicate (length old.list) 0
-  pub kept : IsTrue laid → new ≡ record old { list = words_untouched (Some g) 0 (length old.list) }
+  pub bits : IsTrue laid → new ≡ record old { list = reserved_words (Some g) 0 (length old.list) }
   pub unchanged : laid ≡ false → new ≡ old

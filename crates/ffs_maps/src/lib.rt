@@ -21,11 +21,14 @@ mod map_words;
 mod reserved;
 
 use crate::map_words::MapWords;
-use crate::reserved::stretch_from;
+use crate::reserved::reserved_run;
 use ffs_layout::Geometry;
 use ffs_memory::{Memory, SystemMemory};
 pub use reserved::reserved_count;
 use std::alloc::{AllocError, Global};
+
+/// A group of so many fragments is large: its words take half a page of memory.
+const LARGE_GROUP: u32 = 16384;
 
 /// A bit for each fragment, in words of 64, and how many of them are set.
 #[derive(Drop)]
@@ -207,30 +210,27 @@ impl FragmentMap {
         }
     }
 
-    /// Sets the bits of the reserved fragments, one run after the other.
+    /// Sets the bits of the reserved fragments, group after group.
     fn set_reserved(&mut self, geometry: &Geometry)
         requires { self.old.size ≡ geometry.now.layout.size }
         ensures { HasBits self.new self.old.size
             (with_reserved geometry.now.layout (bits_of self.old)) }
     {
-        let mut fragment = 0;
-        while fragment < geometry.layout.size {
-            let stretch = stretch_from(geometry, fragment);
-            if stretch.reserved {
-                self.set_run(fragment, stretch.end - fragment);
-            }
-            fragment = stretch.end;
+        for group in 0..geometry.layout.ncg {
+            let (first, end) = reserved_run(geometry, group);
+            self.set_run(first, end - first);
         }
     }
 
     /// Sets the bits of the reserved fragments of the volume that the map is of. In a map that is
-    /// new no word is written for it.
+    /// new no word is written for it where groups are large: where they are small, most words have
+    /// reserved fragments, and are looked at faster where they are written.
     pub fn reserve(&mut self, geometry: &Geometry)
         requires { self.old.size ≡ geometry.now.layout.size }
         ensures { HasBits self.new self.old.size
             (with_reserved geometry.now.layout (bits_of self.old)) }
     {
-        if self.words.lay_reserved(geometry) {
+        if geometry.layout.fpg >= LARGE_GROUP && self.words.lay_reserved(geometry) {
             self.ones = reserved_count(geometry);
             return;
         }

@@ -3,7 +3,7 @@
 ghost use Rattle.std.specs.Prelude.{ℕ, count_by, ◌≡◌, ◌↔◌, ◌*◌, ◌-◌, ◌^◌, ◌<◌, ◌≤◌, length, replicate, slice_set, vec_capacity, vec_len, IsTrue, Some};
 ghost use Rattle.std.specs.{List.{slice_index_or, range_with_len, All}, Int.div_ceil, Vec.vec_ptr};
 ghost use Rattle.ffs_memory.specs.{Account.IsRoom, Touching.TouchesTo};
-ghost use Rattle.ffs_maps.specs.Words.{ClaimsBits, HasWordsFor, IsWordFor, LaysReserved, TouchesWords, untouched_bit, word_untouched, words_untouched};
+ghost use Rattle.ffs_maps.specs.Words.{ClaimsBits, HasWordsFor, IsWordFor, LaysReserved, TouchesWords, reserved_bit, reserved_bits, reserved_words};
 ghost use Rattle.ffs_maps.specs.WordBits.{bits_of_words, set_among};
 
 use crate::reserved::{reserved_among, reserved_word, stretch_from};
@@ -47,7 +47,7 @@ fn ones_of(words: &[u64]) -> u32
 fn untouched_ones(reserved: &Option<Geometry>, first: u32, last: u32) -> u32
     requires order { first ≤ last }
     requires fits { 64 * last < 2 ^ 32 }
-    ensures { result ≡ count_by (untouched_bit reserved.now)
+    ensures { result ≡ count_by (reserved_bit reserved.now)
         (range_with_len (64 * first) (64 * last - 64 * first)) }
 {
     match reserved {
@@ -62,7 +62,7 @@ fn touch_reserved(touched: &mut WordRoom, geometry: &Geometry, end: usize)
     requires room { (vec_len touched.old ≤ end) × (end ≤ vec_capacity touched.old) }
     requires words { end ≤ div_ceil geometry.now.layout.size 64 }
     ensures { TouchesTo touched.old touched.new
-        (words_untouched (Some geometry.now) (vec_len touched.old) (end - vec_len touched.old)) }
+        (reserved_words (Some geometry.now) (vec_len touched.old) (end - vec_len touched.old)) }
 {
     let mut len = touched.len();
     while len < end {
@@ -112,7 +112,7 @@ fn touch(touched: &mut WordRoom, count: usize, reserved: &Option<Geometry>, inde
 #[inline(never)]
 fn untouched_word(reserved: &Option<Geometry>, index: usize) -> u64
     requires { IsWordFor reserved.now index }
-    ensures { result ≡ word_untouched reserved.now index }
+    ensures { result ≡ reserved_bits reserved.now index }
 {
     match reserved {
         Some(geometry) => reserved_word(geometry, index as u32),
@@ -136,12 +136,12 @@ pub(crate) struct MapWords {
 impl Model for MapWords {
     ghost use Rattle.std.specs.Prelude.{◌≤◌, ◌-◌, ◌++◌, vec_capacity, vec_len};
     ghost use Rattle.std.specs.Vec.{vec_ptr};
-    ghost use Rattle.ffs_maps.specs.Words.{Words, HasWordsFor, words_untouched};
+    ghost use Rattle.ffs_maps.specs.Words.{Words, HasWordsFor, reserved_words};
 
     ghost Value = { Words };
 
     ghost view = { λ w. record {
-      list = w.touched.items ++ words_untouched w.reserved (vec_len w.touched) (w.count - vec_len w.touched);
+      list = w.touched.items ++ reserved_words w.reserved (vec_len w.touched) (w.count - vec_len w.touched);
       address = vec_ptr w.touched;
       room = vec_capacity w.touched;
     } };
@@ -152,7 +152,7 @@ impl Model for MapWords {
 
 impl MapWords {
     /// `count` words, each 0, in a list that is empty yet and has room for just as many.
-    #[tactic(auto, using(crate::proofs::Words::zeros_untouched))]
+    #[tactic(auto, using(crate::proofs::Words::zero_words))]
     pub(crate) fn over(room: WordRoom, count: usize) -> MapWords
         requires { IsRoom count room }
         ensures { result ≡ record {
@@ -206,12 +206,30 @@ impl MapWords {
         requires { index < length self.old.list }
         ensures { ClaimsBits self.old self.new index mask result }
     {
-        touch(&mut self.touched, self.count, &self.reserved, index);
+        if index >= self.touched.len() {
+            return self.claim_untouched(index, mask);
+        }
         let word = self.touched[index];
         if word & mask != 0 {
             return false;
         }
         self.touched.set(index, word | mask);
+        true
+    }
+
+    /// Does what `claim` does, where the word may not be touched yet. It isn't inlined, and takes
+    /// no other part of the words than `claim`, so that the loops round a claim have registers.
+    #[inline(never)]
+    fn claim_untouched(&mut self, index: usize, mask: u64) -> bool
+        requires { index < length self.old.list }
+        ensures { ClaimsBits self.old self.new index mask result }
+    {
+        touch(&mut self.touched, self.count, &self.reserved, index);
+        let found = self.touched[index];
+        if found & mask != 0 {
+            return false;
+        }
+        self.touched.set(index, found | mask);
         true
     }
 

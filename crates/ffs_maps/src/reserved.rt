@@ -3,14 +3,14 @@
 ghost use Rattle.std.specs.Prelude.{ℕ, ◌≡◌, ◌+◌, ◌-◌, ◌*◌, ◌%◌, ◌<◌, ◌≤◌, ◌&&◌, count_by, cond, Some};
 ghost use Rattle.std.specs.{List.range_with_len, Int.bit_at};
 ghost use Rattle.ffs_volume.specs.Disk.Areas.{is_reserved};
-ghost use Rattle.ffs_maps.specs.{Reserved.{IsReservedRun, IsStretch, is_between}, Words.word_untouched};
+ghost use Rattle.ffs_maps.specs.{Reserved.{IsReservedRun, IsStretch, is_between}, Words.reserved_bits};
 
 use ffs_layout::Geometry;
 
 /// Where the reserved fragments of a group begin and end. They lie together: in the first group all
 /// before the end of the summary area, in another what the group keeps for itself.
 #[tactic(auto, using(crate::proofs::Runs::first_run, crate::proofs::Runs::other_run))]
-fn reserved_run(geometry: &Geometry, group: u32) -> (u32, u32)
+pub(crate) fn reserved_run(geometry: &Geometry, group: u32) -> (u32, u32)
     requires { group < geometry.now.layout.ncg }
     ensures { IsReservedRun geometry.now.layout group result.0 result.1 }
 {
@@ -109,7 +109,7 @@ fn bits_between(start: u32, end: u32, set: bool) -> u64
 /// The word at an index of a map that has the bits of the reserved fragments.
 pub(crate) fn reserved_word(geometry: &Geometry, index: u32) -> u64
     requires { 64 * index < geometry.now.layout.size }
-    ensures { result ≡ word_untouched (Some geometry.now) index }
+    ensures { result ≡ reserved_bits (Some geometry.now) index }
 {
     let start = 64 * index;
     let limit = geometry.layout.size.min(start + 64);

@@ -1,18 +1,18 @@
 use Rattle.std.proofs.Common.{◌∙◌, arith, ap, length, refl, sym}
 use Rattle.std.proofs.lemmas.List.FromFn.{length-map-range_with_len}
 use Rattle.ffs_maps.specs.{WordBits.{bits_of_words, set_among}}
-use Rattle.ffs_maps.proofs.ReservedBits.{kept_all, untouched_ones}
+use Rattle.ffs_maps.proofs.ReservedBits.{reserved_all, reserved_ones}
 use Rattle.ffs_maps.proofs.FragmentMap.reserve.Goals as goal
 
 pub invariant_of-self : goal.invariant_of-self
 invariant_of-self c =
     let m = c.args.self.now in
     let g = c.args.geometry.now in
-    let now = c.lay_reserved.ensures.kept c.if-lay_reserved.true in
+    let now = c.lay_reserved.ensures.bits c.if-lay_reserved.true in
     let n = length m.words.list in
     record {
       enough = ap (λ ws. length ws.list) now ∙ length-map-range_with_len _ 0 n ∙ m.enough;
-      counted = untouched_ones g n m.size c.reserved_count-self.result c.requires (omega (arith, m.enough))
+      counted = reserved_ones g n m.size c.reserved_count-self.result c.requires (omega (arith, m.enough))
           c.reserved_count-self.ensures
           ∙ ap (λ ws. set_among (bits_of_words ws.list m.size) 0 m.size) (sym now);
     }
@@ -21,11 +21,11 @@ pub returns-then-lay_reserved : goal.returns-then-lay_reserved
 returns-then-lay_reserved c =
     let m = c.args.self.now in
     let g = c.args.geometry.now in
-    let now = c.lay_reserved.ensures.kept c.if-lay_reserved.true in
+    let now = c.lay_reserved.ensures.bits c.if-lay_reserved.true in
     let n = length m.words.list in
     record {
       size = refl;
       bits = ap (λ ws. bits_of_words ws.list m.size) now
-          ∙ kept_all g m.words.list n m.size c.requires (omega (arith, m.enough))
+          ∙ reserved_all g m.words.list n m.size c.requires (omega (arith, m.enough))
           (c.lay_reserved.ensures.zeros c.if-lay_reserved.true);
     }

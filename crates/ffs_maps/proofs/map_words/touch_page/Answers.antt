@@ -1,6 +1,6 @@
 use Rattle.std.proofs.Common.{◌-◌, ◌+◌, ◌%◌, ◌∙◌, arith, ap, sym, vec_len}
-use Rattle.ffs_maps.specs.Words.{words_untouched}
-use Rattle.ffs_maps.proofs.Words.{touched_page, zeros_untouched}
+use Rattle.ffs_maps.specs.Words.{reserved_words}
+use Rattle.ffs_maps.proofs.Words.{touched_page, zero_words}
 use Rattle.ffs_maps.proofs.map_words.touch_page.Goals as goal
 
 pub returns-in-Some : goal.returns-in-Some
@@ -8,7 +8,7 @@ returns-in-Some c =
     let page = c.args.index - c.args.index % 512 in
     let end = page + c.min.result in
     touched_page c.args.touched.now _ c.args.reserved.now c.args.count c.args.index end _ c.touch_reserved.ensures
-    (ap (λ r. words_untouched r (vec_len c.args.touched.now) (end - vec_len c.args.touched.now)) (sym c.in-Some.is))
+    (ap (λ r. reserved_words r (vec_len c.args.touched.now) (end - vec_len c.args.touched.now)) (sym c.in-Some.is))
     c.requires.touched (omega (arith, c.min.ensures, c.requires.room.0)) (omega (arith, c.min.ensures, c.requires.room.0))
 
 pub returns-in-None : goal.returns-in-None
@@ -16,6 +16,6 @@ returns-in-None c =
     let page = c.args.index - c.args.index % 512 in
     let end = page + c.min.result in
     touched_page c.args.touched.now _ c.args.reserved.now c.args.count c.args.index end _ c.push_zeros.ensures
-    (sym (ap (λ r. words_untouched r (vec_len c.args.touched.now) (end - vec_len c.args.touched.now)) c.in-None.is
-    ∙ zeros_untouched (vec_len c.args.touched.now) (end - vec_len c.args.touched.now)))
+    (sym (ap (λ r. reserved_words r (vec_len c.args.touched.now) (end - vec_len c.args.touched.now)) c.in-None.is
+    ∙ zero_words (vec_len c.args.touched.now) (end - vec_len c.args.touched.now)))
     c.requires.touched (omega (arith, c.min.ensures, c.requires.room.0)) (omega (arith, c.min.ensures, c.requires.room.0))

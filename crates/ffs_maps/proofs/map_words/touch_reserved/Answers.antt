@@ -1,8 +1,8 @@
 use Rattle.std.proofs.Common.{◌-◌, ◌∙◌, ◌++◌, ◌≡◌, ◌∷◌, [], Bool, ℕ, true, false, not, arith, ap, length, refl, replicate, sym, vec_len}
 use Rattle.std.proofs.lemmas.List.{length-append, length-replicate}
 use Rattle.std.specs.Prelude.{Some}
-use Rattle.ffs_maps.specs.Words.{words_untouched}
-use Rattle.ffs_maps.proofs.Words.{untouched_more, untouched_on, zeros_of_stretch}
+use Rattle.ffs_maps.specs.Words.{reserved_words}
+use Rattle.ffs_maps.proofs.Words.{reserved_more, reserved_on, zeros_of_stretch}
 use Rattle.ffs_maps.proofs.map_words.touch_reserved.Goals as goal
 
 not_is : (b : Bool) → not b ≡ true → b ≡ false
@@ -32,10 +32,10 @@ loop-len-preserved-then-len-next c =
       items = c.push_zeros.ensures.items
           ∙ ap (λ n. c.loop-len.touched.items ++ replicate (next - n) 0) (sym inv.len)
           ∙ ap (λ xs. xs ++ replicate (next - len) 0) inv.items
-          ∙ ap (λ ws. (c.args.touched.now.items ++ words_untouched (Some g) first (len - first)) ++ ws)
+          ∙ ap (λ ws. (c.args.touched.now.items ++ reserved_words (Some g) first (len - first)) ++ ws)
           (sym (zeros_of_stretch g len next (next - len) refl (λ f low high.
           s.ensures.alike f low (omega (arith, high, c.min-next.ensures)) ∙ not_is s.result.reserved c.if-not-stretch.true)))
-          ∙ untouched_on (Some g) c.args.touched.now.items first (len - first) (next - len) (next - first) len
+          ∙ reserved_on (Some g) c.args.touched.now.items first (len - first) (next - len) (next - first) len
           (omega (arith, inv.within, c.if-len-next.true)) (omega (arith, inv.within));
       address = c.push_zeros.ensures.address ∙ inv.address;
       room = c.push_zeros.ensures.room ∙ inv.room;
@@ -60,7 +60,7 @@ loop-len-preserved c =
       past = omega (arith, c.loop-len-test.true);
       items = c.push.ensures.items
           ∙ ap (λ xs. xs ++ c.reserved_word.result ∷ []) inv.items
-          ∙ untouched_more (Some g) c.args.touched.now.items first (len - first) len c.reserved_word.result
+          ∙ reserved_more (Some g) c.args.touched.now.items first (len - first) len c.reserved_word.result
           (omega (arith, inv.within)) c.reserved_word.ensures;
       address = c.push.ensures.address ∙ inv.address;
       room = c.push.ensures.room ∙ inv.room;

@@ -1,7 +1,7 @@
 use Rattle.std.proofs.Common.{ap, sym, ◌∙◌}
-use Rattle.ffs_maps.specs.Words.{word_untouched}
-use Rattle.ffs_maps.proofs.Words.{none_untouched}
+use Rattle.ffs_maps.specs.Words.{reserved_bits}
+use Rattle.ffs_maps.proofs.Words.{no_reserved_bits}
 use Rattle.ffs_maps.proofs.map_words.untouched_word.Goals as goal
 
 pub returns-in-None : goal.returns-in-None
-returns-in-None c = sym (ap (λ r. word_untouched r c.args.index) c.in-None.is ∙ none_untouched c.args.index)
+returns-in-None c = sym (ap (λ r. reserved_bits r c.args.index) c.in-None.is ∙ no_reserved_bits c.args.index)

@@ -5,7 +5,7 @@ use Rattle.ffs_volume.specs.Disk.Areas.{is_reserved}
 use Rattle.ffs_volume.specs.declared.Layout.{Layout}
 use Rattle.ffs_maps.specs.Reserved.{IsStretch, is_between}
 use Rattle.ffs_maps.specs.declared.reserved.Stretch.{Stretch}
-use Rattle.ffs_maps.proofs.Words.{untouched_from_bits}
+use Rattle.ffs_maps.proofs.Words.{reserved_from_bits}
 use Rattle.ffs_maps.proofs.Runs.{none_past_size}
 use Rattle.ffs_maps.proofs.reserved.reserved_word.Goals as goal
 
@@ -62,7 +62,7 @@ returns c =
     let g = c.args.geometry.now in
     let inv = c.loop-fragment.invariant in
     let fragment = c.loop-fragment.fragment in
-    untouched_from_bits (Some g) c.args.index c.loop-fragment.word
+    reserved_from_bits (Some g) c.args.index c.loop-fragment.word
     (λ k h. elim (cases_lt k (fragment - 64 * c.args.index)) [
       | inl low ↦ inv.low k low
       | inr past ↦ inv.high k past ∙ ap (λ b. cond b 1 0) (sym (none_past_size g.layout (64 * c.args.index + k) g.sound

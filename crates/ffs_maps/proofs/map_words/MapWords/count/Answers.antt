@@ -1,7 +1,7 @@
 use Rattle.std.proofs.Common.{◌-◌, ◌*◌, ◌∙◌, arith, false, ap, drop, sym, take}
 use Rattle.std.specs.List.{slice_index_or}
 use Rattle.ffs_maps.specs.WordBits.{bits_of_words}
-use Rattle.ffs_maps.proofs.{Counting.count_within, Words.length_seen, WordCounts.{count_parts, untouched_count}}
+use Rattle.ffs_maps.proofs.{Counting.count_within, Words.length_seen, WordCounts.{count_parts, reserved_in_words}}
 use Rattle.ffs_maps.proofs.map_words.MapWords.count.Goals as goal
 
 pub returns-then-end-first : goal.returns-then-end-first
@@ -9,7 +9,7 @@ returns-then-end-first c = λ size below.
     let w = c.self.inside in
     let all = length_seen w.touched w.reserved w.count c.args.self.now c.self.view_is c.self.invariant.0 in
     c.untouched_ones.ensures
-    ∙ sym (untouched_count w.touched w.reserved w.count size c.args.first c.args.last c.args.self.now c.self.view_is
+    ∙ sym (reserved_in_words w.touched w.reserved w.count size c.args.first c.args.last c.args.self.now c.self.view_is
     (omega (arith, c.if-end-first.true, c.min-end.ensures, c.as_slice-words.ensures.len))
     (omega (arith, all, c.requires.words)) below)
 
