@@ -1,6 +1,6 @@
 -- The claims before the first inode.
-use Rattle.std.proofs.Common.{◌≡◌, ◌∙◌, ◌||◌, ◌<◌, ℕ, Bool, List, length, get_or, false, replicate, refl, ap, sym}
-use Rattle.std.proofs.{Common.arith, lemmas.List.{same_lists, get_or-replicate}}
+use Rattle.std.proofs.Common.{◌≡◌, ◌∙◌, ◌||◌, ◌<◌, Bool, List, false, replicate, refl, ap, sym}
+use Rattle.std.proofs.{Common.arith, Math.Bool.or-false, lemmas.List.{same_lists, get_or-replicate}}
 use Rattle.std.proofs.lemmas.List.FromFn.{length-map-range_with_len, get_or-map-range_with_len}
 use Rattle.ffs_volume.specs.{Blocks.Claims.{Claims, reserved_map, no_claims, at_next_inode}, Disk.Areas.is_reserved}
 use Rattle.ffs_volume.specs.declared.Layout.{Layout}
@@ -13,11 +13,9 @@ with_none v =
     same_lists _ _
     (length_with v (replicate v.size false) ∙ sym (length-map-range_with_len (is_reserved v) 0 v.size))
     (λ f d inside. let low : f < v.size = omega (arith, inside, length_with v (replicate v.size false)) in
-    get_with v (replicate v.size false) f d low ∙ alone (is_reserved v f) _ (get_or-replicate v.size f false false low)
+    get_with v (replicate v.size false) f d low
+    ∙ ap (λ b. is_reserved v f || b) (get_or-replicate v.size f false false low) ∙ or-false (is_reserved v f)
     ∙ sym (get_or-map-range_with_len (is_reserved v) 0 v.size f f d low (omega arith)))
-  where
-    alone : (a b : Bool) → b ≡ false → (a || b) ≡ a
-    alone a b e = grind arith
 
 -- the claims before the first inode
 pub reserved_claims : (v : Layout) (s s1 : Claims) (used : List Bool) → s1 ≡ at_next_inode s →

@@ -13,7 +13,8 @@ use ffs_workspace::{Workspace, links_start, note_of};
 
 /// The next inode becomes the current one.
 pub fn begin(workspace: &mut Workspace)
-    ensures { workspace.new ≡ record workspace.old { bad = 0; dup_offers = 0; kept = 0; tail = false } }
+    ensures { workspace.new
+        ≡ record workspace.old { bad = 0; dup_offers = 0; kept = 0; tail = false } }
 {
     workspace.bad = 0;
     workspace.dup_offers = 0;

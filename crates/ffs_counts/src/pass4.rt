@@ -83,7 +83,8 @@ const RIGHT_AT_ONCE: usize = 64;
 /// Whether one of `RIGHT_AT_ONCE` inodes isn't allocated, or is suspect: a loop without exit.
 #[inline(always)]
 fn any_free_or_suspect(kinds: &[u8], marked: &FilledList<bool>, first: usize) -> bool
-    requires { (first + RIGHT_AT_ONCE ≤ length kinds.now) × (vec_len marked.now ≡ length kinds.now) }
+    requires { (first + RIGHT_AT_ONCE ≤ length kinds.now)
+        × (vec_len marked.now ≡ length kinds.now) }
     ensures { result ≡ false → (x : ℕ) → first ≤ x → x < first + RIGHT_AT_ONCE
         → suspect_at kinds.now marked.now.items x ≡ false }
 {

@@ -206,7 +206,8 @@ impl Chunks {
             → ForContents (I.device image.old).contents (λ b. TakesReads (I.reads image.old)
             (I.reads image.new) (to_read b self.old) (to_read b self.new)
             (HoldsReading blocks.new window.new self.new) result) }
-        ensures leaves { NextChunkLeaves (dir_reading I.Image image.old blocks.old window.old self.old)
+        ensures leaves { NextChunkLeaves
+            (dir_reading I.Image image.old blocks.old window.old self.old)
             (dir_reading I.Image image.new blocks.new window.new self.new) chunk.new result }
     {
         if self.budget == 0 {

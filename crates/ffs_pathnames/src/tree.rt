@@ -88,11 +88,11 @@ fn any_to_check(workspace: &Workspace, count: u32) -> bool
 {
     let kinds = workspace.kinds.as_slice();
     let flags = workspace.flags.touched();
-    let mut any = workspace.marked.is_any_true(0, kinds.len());
+    let mut any = workspace.marked.is_any_true(0, count as usize);
     for number in ROOTINO as usize..flags.len() {
         any |= (kinds[number] == DT_DIR) & !flags[number];
     }
-    for number in flags.len().max(ROOTINO as usize)..kinds.len() {
+    for number in flags.len().max(ROOTINO as usize)..count as usize {
         any |= kinds[number] == DT_DIR;
     }
     any

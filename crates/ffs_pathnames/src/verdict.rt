@@ -134,8 +134,8 @@ pub fn verdict_at_look(
 pub fn is_harmless(inodes: &Inodes<'_>, flags: &FilledList<bool>, entry: &Entry<'_>) -> bool
     requires { vec_len flags.now ≡ length inodes.now.kinds.now }
     ensures { IsTrue result → (vol : Volume) → Sees vol inodes.now → (parent_entry : Bool)
-        → is_silent (verdict_on vol (not (slice_index_or flags.now.items entry.now.number false)) parent_entry
-        (entry_value entry.now)) ≡ true }
+        → is_silent (verdict_on vol (not (slice_index_or flags.now.items entry.now.number false))
+        parent_entry (entry_value entry.now)) ≡ true }
 {
     let number = entry.number as usize;
     if entry.number >= inodes.count() {

@@ -111,8 +111,8 @@ fn is_calm_plain(entry: EntryHead, current: &CurrentDir, lists: &Lists) -> bool
 /// Whether nothing can be reported of the entry at an index of the current directory.
 fn is_calm_entry(entry: EntryHead, index: u32, current: &CurrentDir, lists: &Lists) -> bool
     requires { current.now.kinds.now ≡ lists.now.kinds.now }
-    ensures { result ≡ is_calm_entry (current_of current.now) (bool_at lists.now.reached.now.items) index
-        (roled_of entry []) }
+    ensures { result ≡ is_calm_entry (current_of current.now)
+        (bool_at lists.now.reached.now.items) index (roled_of entry []) }
 {
     match entry.role {
         Role::Dot => index == 0 && entry.number == current.dir && entry.kind == DT_DIR,

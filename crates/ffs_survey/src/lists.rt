@@ -27,7 +27,7 @@ pub struct FoundLists<'a> {
     pub parents: &'a mut FilledList<u32>,
     /// Whether each inode is a directory of which nothing can be reported.
     pub calm: &'a mut FilledList<bool>,
-    /// The directories that are reached, level after level.
+    /// The directories that are reached, level after level. What it holds after a survey isn't said.
     pub queue: &'a mut FilledList<u32>,
 }
 
@@ -92,5 +92,6 @@ pub struct Surveyed<'a> {
     pub parents: &'a FilledList<u32>,
     /// Whether each inode is the least on a cycle of parents.
     pub leaders: &'a FilledList<bool>,
-    ghost whole: { AreSurveyed kinds.now marked.now.items named.now.items reached.now.items parents.now.items leaders.now.items },
+    ghost whole: { AreSurveyed kinds.now marked.now.items named.now.items reached.now.items
+        parents.now.items leaders.now.items },
 }

@@ -48,7 +48,8 @@ pub fn is_unref(dir: u32, found: &Surveyed<'_>) -> bool
     requires { dir < length found.now.kinds.now }
     ensures { (graph : Graph) → AreNamed graph found.now.kinds.now found.now.named.now.items
         → IsTree graph found.now.kinds.now found.now.reached.now.items found.now.parents.now.items
-        → result ≡ is_unref_dir_in graph (suspect_at found.now.kinds.now found.now.marked.now.items) dir }
+        → result
+        ≡ is_unref_dir_in graph (suspect_at found.now.kinds.now found.now.marked.now.items) dir }
 {
     if !is_dir(found.kinds, dir as usize) {
         return false;

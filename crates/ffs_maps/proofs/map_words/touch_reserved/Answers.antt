@@ -1,12 +1,9 @@
-use Rattle.std.proofs.Common.{◌-◌, ◌∙◌, ◌++◌, ◌≡◌, ◌∷◌, [], Bool, ℕ, true, false, not, arith, ap, length, refl, replicate, sym, vec_len}
-use Rattle.std.proofs.lemmas.List.{length-append, length-replicate}
+use Rattle.std.proofs.Common.{◌-◌, ◌∙◌, ◌++◌, ◌∷◌, [], ℕ, arith, ap, length, refl, replicate, sym, vec_len}
+use Rattle.std.proofs.lemmas.{Bool.not-true, List.{length-append, length-replicate}}
 use Rattle.std.specs.Prelude.{Some}
 use Rattle.ffs_maps.specs.Words.{reserved_words}
 use Rattle.ffs_maps.proofs.Words.{reserved_more, reserved_on, zeros_of_stretch}
 use Rattle.ffs_maps.proofs.map_words.touch_reserved.Goals as goal
-
-not_is : (b : Bool) → not b ≡ true → b ≡ false
-not_is b e = grind arith
 
 pub loop-len-preserved-then-len-next : goal.loop-len-preserved-then-len-next
 loop-len-preserved-then-len-next c =
@@ -34,7 +31,7 @@ loop-len-preserved-then-len-next c =
           ∙ ap (λ xs. xs ++ replicate (next - len) 0) inv.items
           ∙ ap (λ ws. (c.args.touched.now.items ++ reserved_words (Some g) first (len - first)) ++ ws)
           (sym (zeros_of_stretch g len next (next - len) refl (λ f low high.
-          s.ensures.alike f low (omega (arith, high, c.min-next.ensures)) ∙ not_is s.result.reserved c.if-not-stretch.true)))
+          s.ensures.alike f low (omega (arith, high, c.min-next.ensures)) ∙ not-true s.result.reserved c.if-not-stretch.true)))
           ∙ reserved_on (Some g) c.args.touched.now.items first (len - first) (next - len) (next - first) len
           (omega (arith, inv.within, c.if-len-next.true)) (omega (arith, inv.within));
       address = c.push_zeros.ensures.address ∙ inv.address;
