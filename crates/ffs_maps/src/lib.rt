@@ -91,6 +91,7 @@ impl FragmentMap {
 
     /// Which of the 64 fragments from `start` on are of the map and have a clear bit, the first one
     /// lowest.
+    #[inline(always)]
     #[tactic(auto, using(crate::proofs::WordShifts::joined, crate::proofs::WordShifts::joined_above))]
     pub fn clear_bits(&self, start: u64) -> u64
         ensures { (k : ℕ) → k < 64 → nat_eq (bit_at result k) 1
@@ -107,6 +108,7 @@ impl FragmentMap {
 
     /// Which fragments of the word at an index are of the map and have a clear bit, the first one
     /// lowest.
+    #[inline(always)]
     #[tactic(auto, using(crate::proofs::WordShifts::clear_is, crate::proofs::WordShifts::clear_in_last))]
     fn clear_word(&self, index: usize) -> u64
         ensures { (k : ℕ) → k < 64 → nat_eq (bit_at result k) 1

@@ -182,7 +182,7 @@ impl MapWords {
         requires { index < length self.now.list }
         ensures { result ≡ slice_index_or self.now.list index 0 }
     {
-        if index >= self.touched.len() {
+        if self.touched.len() <= index {
             return untouched_word(&self.reserved, index);
         }
         self.touched[index]
