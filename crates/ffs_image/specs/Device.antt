@@ -4,7 +4,8 @@ use Rattle.std.specs.Prelude.{◌≡◌, ℕ, ◌+◌, ◌-◌, ◌^◌, min, Li
 
 -- an image as it was lent to another one, which lies over it: the reference to it, how often that
 -- one reads it at most, how many reads it had counted, how many had failed, and the sector of the
--- last one that did
+-- last one that did. So a contract can say that a call over a `LimitedImage` leaves the same image
+-- below it
 pub record LentImage : Type 0 where
   pub image : GName
   pub limit : ℕ

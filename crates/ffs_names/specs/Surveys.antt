@@ -26,7 +26,9 @@ pub record SurveysNoMore (reads reads' : ℕ) (old new : Workspace) : Type 0 whe
   pub stays : new ≡ record old { flags = new.flags; queue = new.queue }
   pub unflagged : (x : ℕ) → bool_at new.flags.items x ≡ false
 
--- `flags` has only calm directories, by the kinds and marks of the workspace
+-- `flags` has only directories that are calm by what was reached when each was read, and by the kinds and
+-- marks of the workspace. Each that is calm by the bytes (`is_calm_directory`) is one of these, since it has a
+-- flag (`FlagsEachCalm`)
 pub record FlagsOnlyCalm (v : Layout) (b : List ℕ) (w : Workspace) : Type 0 where
   pub calm : AreCalm w.kinds.items w.marked.items w.reached.items w.parents.items (roled_entries (volume_of v b))
       (is_right_directory (volume_of v b)) w.flags.items

@@ -12,7 +12,8 @@ use Rattle.ffs_pathnames.specs.{RootAnswers.{SaidStop, is_go}, declared.pass2.Ro
 -- what phase 2 leaves, by its answer.
 -- At Ok: the check continues after the root as the image's bytes say, and the workspace holds what the block check
 -- and the survey found. Where the check stops after the root, the heading and the root's message were said.
--- Where a read failed: the heading alone was said, or the check continues after the root.
+-- Where a read failed: the heading alone was said, or the check continues after the root. So a message is
+-- missing then, of phase 2 or of a later one.
 -- Where the output failed this definition alone promises nothing: the clause `again` of `phase2` says what is held.
 abbrev pub Phase2Ends : Layout → Device → (w w' : Workspace) → (old new : Progress) → Result Root RunFault →
     Type 0

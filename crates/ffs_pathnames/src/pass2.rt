@@ -100,6 +100,7 @@ pub fn clear_passed(workspace: &mut Workspace)
         parents: &workspace.parents,
     };
     clear_suspects(&inodes, &mut workspace.flags);
+    // It is so after a survey; whoever calls this alone may have used it since.
     workspace.queue.fill(0);
 }
 

@@ -6,7 +6,8 @@ ghost use Rattle.ffs_pathnames.specs.SaysTreeMessages.{SaysTreeMessages, phase2_
 
 use ffs_report::{DirectoryLine, DotLine, EntryLine, Line, OutFault, Output, Report};
 
-/// A line of phase 2.
+/// A line of phase 2. A `Line` has all lines of a report, and takes longer to make (DECISIONS.md,
+/// "Output").
 #[derive(Clone, Copy, Debug)]
 pub enum Phase2Line<'a> {
     /// On a directory as a whole.
