@@ -88,9 +88,11 @@ fn any_free_or_suspect(kinds: &[u8], marked: &FilledList<bool>, first: usize) ->
     ensures { result ≡ false → (x : ℕ) → first ≤ x → x < first + RIGHT_AT_ONCE
         → suspect_at kinds.now marked.now.items x ≡ false }
 {
-    let end = first + RIGHT_AT_ONCE;
-    let mut any = marked.is_any_true(first, end);
-    for number in first..end {
+    if marked.is_any_true(first, first + RIGHT_AT_ONCE) {
+        return true;
+    }
+    let mut any = false;
+    for number in first..first + RIGHT_AT_ONCE {
         let kind = Kind {
             code: kinds[number],
         };

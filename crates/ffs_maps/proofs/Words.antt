@@ -8,7 +8,8 @@ use Rattle.std.proofs.lemmas.{List.get_or_past, Bool.cases_lt}
 use Rattle.std.{proofs.Math.ListN.get_or-append, specs.Int.bit_at}
 use Rattle.ffs_volume.specs.Disk.Areas.{is_reserved}
 use Rattle.ffs_layout.specs.declared.geometry.Geometry.{Geometry}
-use Rattle.ffs_maps.specs.Words.{Words, reserved_bit, reserved_bits, reserved_words, HasWordsFor, IsWordFor, LaysReserved, TouchesWords}
+use Rattle.ffs_maps.specs.declared.map_words.Stored.{Stored}
+use Rattle.ffs_maps.specs.Words.{Words, reserved_bit, reserved_bits, reserved_words, HasWordsFor, IsWordFor, LaysReserved, TouchesStored, TouchesWords}
 use Rattle.ffs_memory.specs.Touching.{TouchesTo}
 
 -- the bits of a word that isn't touched
@@ -94,6 +95,12 @@ length_seen touched reserved count w is within = grind (arith, length-append, le
 pub same_seen : (old new : Vec ℕ Global) (reserved : Option Geometry) (index count : ℕ) (w : Words) →
     seen old reserved count ≡ w → TouchesWords old new reserved count index → seen new reserved count ≡ w
 same_seen old new reserved index count w is touches = grind (arith, reserved_on)
+
+pub same_stored : (old new : Stored) (index : ℕ) (w : Words) → seen old.touched old.reserved old.count ≡ w →
+    TouchesStored old new index → seen new.touched new.reserved new.count ≡ w
+same_stored old new index w is touches =
+    ap (λ r. seen new.touched r new.count) touches.reserved ∙ ap (seen new.touched old.reserved) touches.count
+    ∙ same_seen old.touched new.touched old.reserved index old.count w is touches.words
 
 -- the word at a touched index is set
 pub set_seen : (touched : Vec ℕ Global) (reserved : Option Geometry) (index word count : ℕ) (w : Words) →

@@ -6,6 +6,7 @@ use Rattle.std.specs.declared.{vec.Vec.Vec, alloc.Global.Global}
 use Rattle.ffs_volume.specs.Disk.Areas.{is_reserved}
 use Rattle.ffs_memory.specs.Touching.{TouchesTo}
 use Rattle.ffs_layout.specs.declared.geometry.Geometry.{Geometry}
+use Rattle.ffs_maps.specs.declared.map_words.Stored.{Stored}
 
 -- a list of words, the address of its memory, and for how many words that has room
 pub record Words : Type 0 where
@@ -57,6 +58,12 @@ pub record TouchesWords (old new : Vec ℕ Global) (reserved : Option Geometry) 
   pub more : vec_len old ≤ vec_len new
   pub within : vec_len new ≤ count
   pub touches : TouchesTo old new (reserved_words reserved (vec_len old) (vec_len new - vec_len old))
+
+-- the same of a map's words as they are stored
+pub record TouchesStored (old new : Stored) (index : ℕ) : Type 0 where
+  pub words : TouchesWords old.touched new.touched old.reserved old.count index
+  pub count : new.count ≡ old.count
+  pub reserved : new.reserved ≡ old.reserved
 
 -- the reserved fragments become known where no bit is set and no word is touched: their bits are set
 -- then. Else nothing is changed

@@ -3,7 +3,7 @@
 ghost use Rattle.std.specs.Prelude.{ℕ, count_by, ◌≡◌, ◌↔◌, ◌*◌, ◌-◌, ◌^◌, ◌<◌, ◌≤◌, length, replicate, slice_set, vec_capacity, vec_len, IsTrue, Some};
 ghost use Rattle.std.specs.{List.{slice_index_or, range_with_len, All}, Int.div_ceil, Vec.vec_ptr};
 ghost use Rattle.ffs_memory.specs.{Account.IsRoom, Touching.TouchesTo};
-ghost use Rattle.ffs_maps.specs.Words.{ClaimsBits, HasWordsFor, IsWordFor, LaysReserved, TouchesWords, reserved_bit, reserved_bits, reserved_words};
+ghost use Rattle.ffs_maps.specs.Words.{ClaimsBits, HasWordsFor, IsWordFor, LaysReserved, TouchesStored, reserved_bit, reserved_bits, reserved_words};
 ghost use Rattle.ffs_maps.specs.WordBits.{bits_of_words, set_among};
 
 use crate::reserved::{reserved_among, reserved_word, stretch_from};
@@ -78,33 +78,49 @@ fn touch_reserved(touched: &mut WordRoom, geometry: &Geometry, end: usize)
     }
 }
 
+/// The words of a map as they are stored, and what the others have. Those that aren't touched yet
+/// aren't written: in them the bits of the reserved fragments are set, where it is known which these
+/// are.
+#[derive(Drop)]
+struct Stored {
+    /// The words that are touched, from index 0 on.
+    touched: WordRoom,
+    /// How many words there are in all.
+    count: usize,
+    /// Where the reserved fragments lie.
+    reserved: Option<Geometry>,
+}
+
 /// Touches the word at an index, and all others up to the end of its page. It isn't inlined, since
-/// a word that is asked for is mostly touched already.
+/// a word that is asked for is mostly touched already, and takes one reference, so that the loops
+/// round a claim have registers.
 #[inline(never)]
-fn touch_page(touched: &mut WordRoom, count: usize, reserved: &Option<Geometry>, index: usize)
-    requires touched { vec_len touched.old ≤ index }
-    requires room { (index < count) × (count ≤ vec_capacity touched.old) }
-    requires words { HasWordsFor reserved.now count }
-    ensures { TouchesWords touched.old touched.new reserved.now count index }
+fn touch_page(stored: &mut Stored, index: usize)
+    requires touched { vec_len stored.old.touched ≤ index }
+    requires room { (index < stored.old.count)
+        × (stored.old.count ≤ vec_capacity stored.old.touched) }
+    requires words { HasWordsFor stored.old.reserved stored.old.count }
+    ensures { TouchesStored stored.old stored.new index }
 {
     let page = index - index % PAGE_WORDS;
-    let end = page + PAGE_WORDS.min(count - page);
-    match reserved {
-        Some(geometry) => touch_reserved(touched, geometry, end),
-        None => touched.push_zeros(end),
+    let end = page + PAGE_WORDS.min(stored.count - page);
+    match &stored.reserved {
+        Some(geometry) => touch_reserved(&mut stored.touched, geometry, end),
+        None => stored.touched.push_zeros(end),
     }
 }
 
 /// Touches the word at an index, where it isn't touched.
 #[inline(always)]
-fn touch(touched: &mut WordRoom, count: usize, reserved: &Option<Geometry>, index: usize)
-    requires touched { vec_len touched.old ≤ count }
-    requires room { (index < count) × (count ≤ vec_capacity touched.old) }
-    requires words { HasWordsFor reserved.now count }
-    ensures { TouchesWords touched.old touched.new reserved.now count index }
+fn touch(stored: &mut Stored, index: usize)
+    requires touched { vec_len stored.old.touched ≤ stored.old.count }
+    requires room { (index < stored.old.count)
+        × (stored.old.count ≤ vec_capacity stored.old.touched) }
+    requires words { HasWordsFor stored.old.reserved stored.old.count }
+    ensures { TouchesStored stored.old stored.new index }
 {
-    if index >= touched.len() {
-        touch_page(touched, count, reserved, index);
+    if index >= stored.touched.len() {
+        touch_page(stored, index);
     }
 }
 
@@ -120,16 +136,10 @@ fn untouched_word(reserved: &Option<Geometry>, index: usize) -> u64
     }
 }
 
-/// Words of 64 bits, in memory that is taken before. Those that aren't touched yet aren't written:
-/// in them the bits of the reserved fragments are set, where it is known which these are.
+/// Words of 64 bits, in memory that is taken before.
 #[derive(Drop)]
 pub(crate) struct MapWords {
-    /// The words that are touched, from index 0 on.
-    touched: WordRoom,
-    /// How many words there are in all.
-    count: usize,
-    /// Where the reserved fragments lie.
-    reserved: Option<Geometry>,
+    stored: Stored,
 }
 
 /// They are seen as all words, and the memory that they are in.
@@ -141,13 +151,15 @@ impl Model for MapWords {
     ghost Value = { Words };
 
     ghost view = { λ w. record {
-      list = w.touched.items ++ reserved_words w.reserved (vec_len w.touched) (w.count - vec_len w.touched);
-      address = vec_ptr w.touched;
-      room = vec_capacity w.touched;
+      list = w.stored.touched.items
+          ++ reserved_words w.stored.reserved (vec_len w.stored.touched) (w.stored.count - vec_len w.stored.touched);
+      address = vec_ptr w.stored.touched;
+      room = vec_capacity w.stored.touched;
     } };
 
-    ghost invariant = { λ w. (vec_len w.touched ≤ w.count) × (w.count ≤ vec_capacity w.touched)
-        × HasWordsFor w.reserved w.count };
+    ghost invariant = { λ w. (vec_len w.stored.touched ≤ w.stored.count)
+        × (w.stored.count ≤ vec_capacity w.stored.touched)
+        × HasWordsFor w.stored.reserved w.stored.count };
 }
 
 impl MapWords {
@@ -161,11 +173,12 @@ impl MapWords {
           room = count;
         } }
     {
-        MapWords {
+        let stored = Stored {
             touched: room,
             count,
             reserved: None,
-        }
+        };
+        MapWords { stored }
     }
 
     /// How many words there are.
@@ -173,7 +186,7 @@ impl MapWords {
     pub(crate) fn len(&self) -> usize
         ensures { result ≡ length self.now.list }
     {
-        self.count
+        self.stored.count
     }
 
     /// The word at an index.
@@ -182,10 +195,10 @@ impl MapWords {
         requires { index < length self.now.list }
         ensures { result ≡ slice_index_or self.now.list index 0 }
     {
-        if self.touched.len() <= index {
-            return untouched_word(&self.reserved, index);
+        if self.stored.touched.len() <= index {
+            return untouched_word(&self.stored.reserved, index);
         }
-        self.touched[index]
+        self.stored.touched[index]
     }
 
     /// Sets the word at an index. The words up to it are touched, in the memory that was taken.
@@ -195,8 +208,8 @@ impl MapWords {
         requires { index < length self.old.list }
         ensures { self.new ≡ record self.old { list = slice_set self.old.list index word } }
     {
-        touch(&mut self.touched, self.count, &self.reserved, index);
-        self.touched.set(index, word);
+        touch(&mut self.stored, index);
+        self.stored.touched.set(index, word);
     }
 
     /// Sets the bits of a mask in the word at an index, where none of them is set there. Returns
@@ -206,30 +219,12 @@ impl MapWords {
         requires { index < length self.old.list }
         ensures { ClaimsBits self.old self.new index mask result }
     {
-        if index >= self.touched.len() {
-            return self.claim_untouched(index, mask);
-        }
-        let word = self.touched[index];
+        touch(&mut self.stored, index);
+        let word = self.stored.touched[index];
         if word & mask != 0 {
             return false;
         }
-        self.touched.set(index, word | mask);
-        true
-    }
-
-    /// Does what `claim` does, where the word may not be touched yet. It isn't inlined, and takes
-    /// no other part of the words than `claim`, so that the loops round a claim have registers.
-    #[inline(never)]
-    fn claim_untouched(&mut self, index: usize, mask: u64) -> bool
-        requires { index < length self.old.list }
-        ensures { ClaimsBits self.old self.new index mask result }
-    {
-        touch(&mut self.touched, self.count, &self.reserved, index);
-        let found = self.touched[index];
-        if found & mask != 0 {
-            return false;
-        }
-        self.touched.set(index, found | mask);
+        self.stored.touched.set(index, word | mask);
         true
     }
 
@@ -240,10 +235,10 @@ impl MapWords {
         requires { length self.old.list ≡ div_ceil geometry.now.layout.size 64 }
         ensures { LaysReserved self.old self.new geometry.now result }
     {
-        if self.touched.len() > 0 || self.reserved.is_some() {
+        if self.stored.touched.len() > 0 || self.stored.reserved.is_some() {
             return false;
         }
-        self.reserved = Some(*geometry);
+        self.stored.reserved = Some(*geometry);
         true
     }
 
@@ -255,12 +250,12 @@ impl MapWords {
         ensures { (size : ℕ) → 64 * last ≤ size → result
             ≡ set_among (bits_of_words self.now.list size) (64 * first) (64 * last - 64 * first) }
     {
-        let words = self.touched.as_slice();
+        let words = self.stored.touched.as_slice();
         let end = words.len().min(last as usize) as u32;
         if end <= first {
-            return untouched_ones(&self.reserved, first, last);
+            return untouched_ones(&self.stored.reserved, first, last);
         }
         let touched = ones_of(&words[first as usize..end as usize]);
-        touched + untouched_ones(&self.reserved, end, last)
+        touched + untouched_ones(&self.stored.reserved, end, last)
     }
 }

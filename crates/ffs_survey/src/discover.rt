@@ -1,5 +1,5 @@
 //! Reads a directory, or a level of directories: what their entries name.
-ghost use Rattle.std.specs.Prelude.{◌≡◌, ◌*◌, ◌-◌, ◌^◌, ◌&&◌, nat_le, [], length, drop, take, IfOk, OnOk};
+ghost use Rattle.std.specs.Prelude.{◌≡◌, ◌*◌, ◌-◌, ◌^◌, ◌<◌, ◌&&◌, nat_le, [], length, vec_len, drop, take, IfOk, OnOk};
 ghost use Rattle.std.specs.List.{sum_by};
 ghost use Rattle.ffs_volume.specs.Directories.Roles.{is_plain as is_plain_role};
 ghost use Rattle.ffs_survey.specs.{Reading.roled_of, Lists.CountLists, Survey.{bool_at}};
@@ -80,12 +80,13 @@ fn visit(entry: EntryHead, current: &CurrentDir, lists: &mut Lists, top: usize) 
 /// names. The inode must be allocated, of a known type (`DT_WHT` is no type of an inode), and no
 /// directory of size 0. A directory mustn't be reached yet: else this entry isn't its parent entry,
 /// but extraneous.
-fn is_calm_kind(kind: u8, reached: bool) -> bool
-    ensures { result ≡ is_calm_kind kind reached }
+fn is_calm_kind(kind: u8, number: usize, reached: &FilledList<bool>) -> bool
+    requires { number < vec_len reached.now }
+    ensures { result ≡ is_calm_kind kind (bool_at reached.now.items number) }
 {
     match kind {
         0 | EMPTY_DIR_KIND | DT_WHT | UNKNOWN_KIND => false,
-        DT_DIR => !reached,
+        DT_DIR => !reached[number],
         _ => true,
     }
 }
@@ -105,7 +106,7 @@ fn is_calm_plain(entry: EntryHead, current: &CurrentDir, lists: &Lists) -> bool
     }
     !current.marked[number]
         && current.kinds[number] == entry.kind
-        && is_calm_kind(entry.kind, lists.reached[number])
+        && is_calm_kind(entry.kind, number, lists.reached)
 }
 
 /// Whether nothing can be reported of the entry at an index of the current directory.

@@ -6,7 +6,7 @@ use Rattle.ffs_maps.proofs.map_words.MapWords.count.Goals as goal
 
 pub returns-then-end-first : goal.returns-then-end-first
 returns-then-end-first c = λ size below.
-    let w = c.self.inside in
+    let w = c.self.inside.stored in
     let all = length_seen w.touched w.reserved w.count c.args.self.now c.self.view_is c.self.invariant.0 in
     c.untouched_ones.ensures
     ∙ sym (reserved_in_words w.touched w.reserved w.count size c.args.first c.args.last c.args.self.now c.self.view_is
@@ -15,7 +15,7 @@ returns-then-end-first c = λ size below.
 
 pub overflow_add-result : goal.overflow_add-result
 overflow_add-result c =
-    let w = c.self.inside in
+    let w = c.self.inside.stored in
     let all = length_seen w.touched w.reserved w.count c.args.self.now c.self.view_is c.self.invariant.0 in
     let sum = count_parts w.touched w.reserved w.count (64 * c.args.last) c.args.first c.min-end.result c.args.last
     c.args.self.now _ _ _ c.self.view_is (omega (arith, c.if-end-first.false))
@@ -32,7 +32,7 @@ overflow_add-result c =
 
 pub returns : goal.returns
 returns c = λ size below.
-    let w = c.self.inside in
+    let w = c.self.inside.stored in
     let all = length_seen w.touched w.reserved w.count c.args.self.now c.self.view_is c.self.invariant.0 in
     count_parts w.touched w.reserved w.count size c.args.first c.min-end.result c.args.last
     c.args.self.now _ _ _ c.self.view_is (omega (arith, c.if-end-first.false))
