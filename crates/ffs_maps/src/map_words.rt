@@ -94,9 +94,8 @@ fn touch_reserved(touched: &mut Vec<u64>, geometry: &Geometry, end: usize)
     }
 }
 
-/// The words of a map as they are stored, and what the others have. Those that aren't touched yet
-/// aren't written: in them the bits of the reserved fragments are set, where it is known which these
-/// are.
+/// The words of a map as they are stored. Those that aren't touched yet aren't written: in them the
+/// bits of the reserved fragments are set, where it is known which these are.
 #[derive(Drop)]
 struct Stored {
     /// The words that are touched, from index 0 on.
@@ -113,7 +112,8 @@ struct Stored {
 #[inline(never)]
 fn touch_page(stored: &mut Stored, index: usize)
     requires touched { vec_len stored.old.touched ≤ index }
-    requires room { (index < stored.old.count) × (stored.old.count ≤ vec_capacity stored.old.touched) }
+    requires room { (index < stored.old.count)
+        × (stored.old.count ≤ vec_capacity stored.old.touched) }
     requires words { HasWordsFor stored.old.reserved stored.old.count }
     ensures { TouchesStored stored.old stored.new index }
 {
@@ -129,7 +129,8 @@ fn touch_page(stored: &mut Stored, index: usize)
 #[inline(always)]
 fn touch(stored: &mut Stored, index: usize)
     requires touched { vec_len stored.old.touched ≤ stored.old.count }
-    requires room { (index < stored.old.count) × (stored.old.count ≤ vec_capacity stored.old.touched) }
+    requires room { (index < stored.old.count)
+        × (stored.old.count ≤ vec_capacity stored.old.touched) }
     requires words { HasWordsFor stored.old.reserved stored.old.count }
     ensures { TouchesStored stored.old stored.new index }
 {
@@ -166,7 +167,8 @@ impl Model for MapWords {
 
     ghost view = { λ w. record {
       list = w.stored.touched.items
-          ++ reserved_words w.stored.reserved (vec_len w.stored.touched) (w.stored.count - vec_len w.stored.touched);
+          ++ reserved_words w.stored.reserved (vec_len w.stored.touched)
+          (w.stored.count - vec_len w.stored.touched);
       address = vec_ptr w.stored.touched;
       room = vec_capacity w.stored.touched;
     } };
