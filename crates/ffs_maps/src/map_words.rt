@@ -78,9 +78,8 @@ fn touch_reserved(touched: &mut WordRoom, geometry: &Geometry, end: usize)
     }
 }
 
-/// The words of a map as they are stored, and what the others have. Those that aren't touched yet
-/// aren't written: in them the bits of the reserved fragments are set, where it is known which these
-/// are.
+/// The words of a map as they are stored. Those that aren't touched yet aren't written: in them the
+/// bits of the reserved fragments are set, where it is known which these are.
 #[derive(Drop)]
 struct Stored {
     /// The words that are touched, from index 0 on.
@@ -152,7 +151,8 @@ impl Model for MapWords {
 
     ghost view = { λ w. record {
       list = w.stored.touched.items
-          ++ reserved_words w.stored.reserved (vec_len w.stored.touched) (w.stored.count - vec_len w.stored.touched);
+          ++ reserved_words w.stored.reserved (vec_len w.stored.touched)
+          (w.stored.count - vec_len w.stored.touched);
       address = vec_ptr w.stored.touched;
       room = vec_capacity w.stored.touched;
     } };
