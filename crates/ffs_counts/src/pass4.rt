@@ -91,14 +91,17 @@ fn any_free_or_suspect(kinds: &[u8], marked: &FilledList<bool>, first: usize) ->
     if marked.is_any_true(first, first + RIGHT_AT_ONCE) {
         return true;
     }
-    let mut any = false;
+    // Each test is kept by itself: of both in one the compiler makes a shift for each inode.
+    let mut free = false;
+    let mut empty = false;
     for number in first..first + RIGHT_AT_ONCE {
         let kind = Kind {
             code: kinds[number],
         };
-        any |= !kind.is_allocated() | kind.is_empty_dir();
+        free |= !kind.is_allocated();
+        empty |= kind.is_empty_dir();
     }
-    any
+    free | empty
 }
 
 /// Whether one of some counts of references isn't `LINKS_MET`: a loop without exit.

@@ -6,5 +6,5 @@ use Rattle.ffs_counts.proofs.pass4.any_free_or_suspect.Given as goal
 abbrev pub invariant-loop-number : goal.invariant-loop-number
 invariant-loop-number l = record {
   within : l.number ≤ l.first + 64;
-  sized : l.any ≡ false → (x : ℕ) → l.first ≤ x → x < l.number → is_empty_dir_kind (number_at l.kinds x) ≡ false;
+  sized : l.empty ≡ false → (x : ℕ) → l.first ≤ x → x < l.number → is_empty_dir_kind (number_at l.kinds x) ≡ false;
 }
