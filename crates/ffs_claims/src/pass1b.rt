@@ -16,6 +16,7 @@ use crate::report_offer::report_run;
 use ffs_image::{Image, LimitedImage};
 use ffs_layout::Geometry;
 use ffs_report::{Heading, Line, OutFault, Output, Report, RunFault};
+use ffs_volume::constants::ROOTINO;
 use ffs_volume::{Inode, Step};
 use ffs_walk::{Keeping, Walk};
 use ffs_workspace::{Workspace, sweep_reads};
@@ -127,7 +128,7 @@ fn phase1b_unlimited<I: Image, W: Output>(
     workspace.forget_windows();
     workspace.runs_again = 0;
     report.say(&Line::Heading(Heading::Phase1b))?;
-    for number in 2..geometry.layout.ncg * geometry.layout.ipg {
+    for number in ROOTINO..geometry.layout.ncg * geometry.layout.ipg {
         if !workspace.has_unreported_dups() {
             break;
         }

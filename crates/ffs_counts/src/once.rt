@@ -64,10 +64,10 @@ impl AlreadyReported {
 /// # Errors
 /// A write of the report that failed.
 pub fn say_unless<W: Output>(
-    report: &mut Report<'_, W>,
     once: &mut AlreadyReported,
     right: bool,
     message: BlockMessage,
+    report: &mut Report<'_, W>,
 ) -> Result<(), OutFault>
     ensures said { Says (progress W.sink report.old) (progress W.sink report.new)
         (map of_blocks (reported_once (reported_of once.old) (unless right message))) result }
@@ -87,10 +87,10 @@ pub fn say_unless<W: Output>(
 /// # Errors
 /// A write of the report that failed.
 pub fn say_group<W: Output>(
-    report: &mut Report<'_, W>,
     once: &mut AlreadyReported,
     found: &GroupFindings,
     group: u32,
+    report: &mut Report<'_, W>,
 ) -> Result<(), OutFault>
     ensures said { Says (progress W.sink report.old) (progress W.sink report.new)
         (map of_blocks (reported_once (reported_of once.old) (lines_of found.now group))) result }
@@ -99,9 +99,9 @@ pub fn say_group<W: Output>(
 {
     if !found.magic_right {
         report.say(&Line::Block(BlockMessage::GroupMagic { group }))?;
-        return say_unless(report, once, found.counts_right, BlockMessage::FreeCounts);
+        return say_unless(once, found.counts_right, BlockMessage::FreeCounts, report);
     }
-    say_unless(report, once, found.counts_right, BlockMessage::FreeCounts)?;
-    say_unless(report, once, found.maps_right, BlockMessage::MapsWrong)?;
-    say_unless(report, once, found.sums_right, BlockMessage::GroupSums)
+    say_unless(once, found.counts_right, BlockMessage::FreeCounts, report)?;
+    say_unless(once, found.maps_right, BlockMessage::MapsWrong, report)?;
+    say_unless(once, found.sums_right, BlockMessage::GroupSums, report)
 }

@@ -186,7 +186,7 @@ fn report_references<I: Image, W: Output>(
     let inode = workspace.windows.table.inode(geometry, number, image)?;
     let references = references_by(counted, &inode);
     let line = line_for(dead, marked, kind, references, number, &inode);
-    say_if_any(report, line)?;
+    say_if_any(line, report)?;
     Ok(())
 }
 

@@ -51,9 +51,9 @@ pub fn phase5<I: Image, W: Output>(
         let counts = group_counts(geometry, &workspace.used, &workspace.kinds, group);
         totals.add(&counts.summary);
         let found = read_group(geometry, image, workspace, &counts, group)?;
-        say_group(report, &mut once, &found, group)?;
+        say_group(&mut once, &found, group, report)?;
     }
     let right = totals.agree_with(&superblock.cstotal);
-    say_unless(report, &mut once, right, BlockMessage::FreeCounts)?;
+    say_unless(&mut once, right, BlockMessage::FreeCounts, report)?;
     Ok(())
 }

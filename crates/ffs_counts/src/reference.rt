@@ -63,8 +63,8 @@ pub fn line_for(
 /// # Errors
 /// A write of the report that failed.
 pub fn say_if_any<W: Output>(
-    report: &mut Report<'_, W>,
     line: Option<ReferenceLine>,
+    report: &mut Report<'_, W>,
 ) -> Result<(), OutFault>
     ensures { Says (progress W.sink report.old) (progress W.sink report.new)
         (map of_tree (lines_as line)) result }

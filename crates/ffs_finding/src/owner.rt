@@ -18,7 +18,7 @@ use ffs_image::{Image, LimitedImage};
 use ffs_layout::Geometry;
 use ffs_report::print::{print, print_number, print_pieces};
 use ffs_report::{OutFault, Output, Piece, RunFault};
-use ffs_volume::constants::DINODE_SIZE;
+use ffs_volume::constants::{DINODE_SIZE, ROOTINO};
 use ffs_volume::{Inode, Step};
 use ffs_walk::{Blocks, Keeping, Walk, Window};
 use ffs_workspace::{Workspace, sweep_reads};
@@ -298,7 +298,7 @@ fn find_keepers_unlimited<I: Image, W: Output>(
         (moment I.Image W.Output image.old out.old) (moment I.Image W.Output image.new out.new)
         result }
 {
-    for number in 2..geometry.layout.ncg * geometry.layout.ipg {
+    for number in ROOTINO..geometry.layout.ncg * geometry.layout.ipg {
         if !is_allocated(workspace, number) {
             continue;
         }
