@@ -399,7 +399,7 @@ static LINES: [Said; 75] = [
         b"BAD INODE NUMBER FOR '.' I=7 OWNER=1001 MODE=40755\nSIZE=512 MTIME=86400\nDIR=/d\nFIX? no\n\n",
     ),
     (
-        Line::Dot(DotLine::KindDot {
+        Line::Dot(DotLine::TypeDot {
             attr: ATTR,
             path: b"/d",
         }),
@@ -432,7 +432,7 @@ static LINES: [Said; 75] = [
         b"BAD INODE NUMBER FOR '..' I=7 OWNER=1001 MODE=40755\nSIZE=512 MTIME=86400\nDIR=/d\nFIX? no\n\n",
     ),
     (
-        Line::Dot(DotLine::KindDotdot {
+        Line::Dot(DotLine::TypeDotdot {
             attr: ATTR,
             path: b"/d",
         }),
@@ -518,13 +518,13 @@ static LINES: [Said; 75] = [
     (
         Line::Entry(EntryLine::Extraneous {
             path: b"/d/\x0b",
-            dir: b"?\x0c",
+            dir_path: b"?\x0c",
         }),
         true,
         b"/d/? IS AN EXTRANEOUS HARD LINK TO DIRECTORY ??\nREMOVE? no\n\n",
     ),
     (
-        Line::Entry(EntryLine::KindEntry {
+        Line::Entry(EntryLine::TypeEntry {
             label: Label::Name,
             attr: ATTR,
             path: b"/d/\x0b",

@@ -14,11 +14,11 @@ use Rattle.ffs_volume.specs.Report.{Memory.{held_limit, runs_limit}, Whole.{repo
 use Rattle.ffs_volume.specs.Examples.Images.{base_layout, base_image}
 use Rattle.ffs_volume.specs.declared.tree_lines.DirectoryLine.TheVariants.{RootNone, RootNotDir, RootSuspect, DirShort}
 use Rattle.ffs_volume.specs.declared.tree_lines.DirectoryLine.TheVariants.{DirLength, DirEmpty, DirCorrupt}
-use Rattle.ffs_volume.specs.declared.tree_lines.DotLine.TheVariants.{MissingDot, MissingDotFirst, NumberDot, KindDot}
+use Rattle.ffs_volume.specs.declared.tree_lines.DotLine.TheVariants.{MissingDot, MissingDotFirst, NumberDot, TypeDot}
 use Rattle.ffs_volume.specs.declared.tree_lines.DotLine.TheVariants.{MissingDotdot, MissingDotdotSecond, NumberDotdot}
-use Rattle.ffs_volume.specs.declared.tree_lines.DotLine.TheVariants.{KindDotdot, ExtraDot, ExtraDotdot}
+use Rattle.ffs_volume.specs.declared.tree_lines.DotLine.TheVariants.{TypeDotdot, ExtraDot, ExtraDotdot}
 use Rattle.ffs_volume.specs.declared.tree_lines.EntryLine.TheVariants.{OutOfRange, Whiteout, Unallocated, DupBad}
-use Rattle.ffs_volume.specs.declared.tree_lines.EntryLine.TheVariants.{ZeroDir, Extraneous, KindEntry}
+use Rattle.ffs_volume.specs.declared.tree_lines.EntryLine.TheVariants.{ZeroDir, Extraneous, TypeEntry}
 use Rattle.ffs_volume.specs.declared.tree_lines.ReferenceLine.TheVariants.{UnrefDir, DeadMarked, DeadZero, Unref}
 use Rattle.ffs_volume.specs.declared.tree_lines.ReferenceLine.TheVariants.{UnrefZero, LinkCount}
 use Rattle.ffs_volume.specs.Messages.Kinds.{of_directory, of_dot}
@@ -81,7 +81,7 @@ pub record MessageExamples : Type 0 where
   -- the entries `.` and `..`
   pub dots : texts_of (of_tree (of_dot (MissingDot about_root (codes "/")))
       ∷ of_tree (of_dot (MissingDotFirst about_root (codes "/") (98 ∷ 10 ∷ [])))
-      ∷ of_tree (of_dot (NumberDot about_root (codes "/"))) ∷ of_tree (of_dot (KindDot about_root (codes "/")))
+      ∷ of_tree (of_dot (NumberDot about_root (codes "/"))) ∷ of_tree (of_dot (TypeDot about_root (codes "/")))
       ∷ of_tree (of_dot (ExtraDot about_root (codes "/"))) ∷ [])
       ≡ codes "MISSING '.' I=2 OWNER=0 MODE=40755\nSIZE=512 MTIME=0\nDIR=/\nFIX? no\n\n"
       ++ codes "MISSING '.' I=2 OWNER=0 MODE=40755\nSIZE=512 MTIME=0\nDIR=/\n"
@@ -91,7 +91,7 @@ pub record MessageExamples : Type 0 where
       ++ codes "EXTRA '.' ENTRY I=2 OWNER=0 MODE=40755\nSIZE=512 MTIME=0\nDIR=/\nFIX? no\n\n"
   pub dotdots : texts_of (of_tree (of_dot (MissingDotdot about_root (codes "/")))
       ∷ of_tree (of_dot (MissingDotdotSecond about_root (codes "/") (codes "c")))
-      ∷ of_tree (of_dot (NumberDotdot about_root (codes "/"))) ∷ of_tree (of_dot (KindDotdot about_root (codes "/")))
+      ∷ of_tree (of_dot (NumberDotdot about_root (codes "/"))) ∷ of_tree (of_dot (TypeDotdot about_root (codes "/")))
       ∷ of_tree (of_dot (ExtraDotdot about_root (codes "/"))) ∷ [])
       ≡ codes "MISSING '..' I=2 OWNER=0 MODE=40755\nSIZE=512 MTIME=0\nDIR=/\nFIX? no\n\n"
       ++ codes "MISSING '..' I=2 OWNER=0 MODE=40755\nSIZE=512 MTIME=0\nDIR=/\n"
@@ -105,7 +105,7 @@ pub record MessageExamples : Type 0 where
       ∷ of_tree (of_entry (DupBad NameLabel (about_file 3) (codes "/a")))
       ∷ of_tree (of_entry (ZeroDir about_root (codes "/d"))) ∷ of_tree
       (of_entry (Extraneous (codes "/b") (codes "/a")))
-      ∷ of_tree (of_entry (KindEntry DirLabel (about_file 3) (codes "/a"))) ∷ [])
+      ∷ of_tree (of_entry (TypeEntry DirLabel (about_file 3) (codes "/a"))) ∷ [])
       ≡ codes "I OUT OF RANGE I=32\nNAME=/c??\nREMOVE? no\n\nBAD WHITEOUT ENTRY I=1\nNAME=/w\nFIX? no\n\n"
       ++ codes "UNALLOCATED I=3 OWNER=0 MODE=100644\nSIZE=100 MTIME=0\nNAME=/a\nREMOVE? no\n\n"
       ++ codes "DUP/BAD I=3 OWNER=0 MODE=100644\nSIZE=100 MTIME=0\nNAME=/a\nREMOVE? no\n\n"

@@ -9,7 +9,7 @@ use ffs_workspace::Workspace;
 
 /// Sets the reserved fragments in the map `used`, and the count of Runs and all counts of the
 /// current inode to 0.
-pub fn reserve(workspace: &mut Workspace, geometry: &Geometry)
+pub fn reserve(geometry: &Geometry, workspace: &mut Workspace)
     requires { IsFor geometry.now.layout workspace.old }
     ensures { Reserves geometry.now.layout workspace.old workspace.new }
 {

@@ -29,7 +29,7 @@ use ffs_workspace::{
 };
 
 /// Whether a directory is the parent of an inode other than the root, which has no parent entry.
-fn belongs_to(parents: &FilledList<u32>, number: u32, dir: u32) -> bool
+fn belongs_to(parents: &FilledList<u32>, dir: u32, number: u32) -> bool
     requires { 0 < dir }
     ensures { result ≡ belongs_to parents.now.items dir number }
 {
@@ -55,7 +55,7 @@ fn note_entry(
 {
     // Whether an entry is plain depends neither on its index nor on its chunk's place in the file:
     // any will do here.
-    if role_of(false, 0, entry) != Role::Plain || !belongs_to(parents, entry.number, dir) {
+    if role_of(false, 0, entry) != Role::Plain || !belongs_to(parents, dir, entry.number) {
         return;
     }
     let index = entry.number as usize;

@@ -186,7 +186,7 @@ fn say_dot<W: Output>(
             };
             let kind = LineIf {
                 holds: wrong_type,
-                line: Phase2Line::Dot(DotLine::KindDot { attr, path }),
+                line: Phase2Line::Dot(DotLine::TypeDot { attr, path }),
             };
             say_two(report, &number, &kind)
         }
@@ -222,7 +222,7 @@ fn say_dotdot<W: Output>(
             };
             let kind = LineIf {
                 holds: wrong_type,
-                line: Phase2Line::Dot(DotLine::KindDotdot { attr, path }),
+                line: Phase2Line::Dot(DotLine::TypeDotdot { attr, path }),
             };
             say_two(report, &number, &kind)
         }

@@ -79,7 +79,7 @@ impl<'a> Inodes<'a> {
     }
 
     /// Whether the inode is a directory other than the root, with this parent.
-    pub fn belongs(&self, inode: u32, parent: u32) -> bool
+    pub fn belongs(&self, parent: u32, inode: u32) -> bool
         requires { inode < length self.now.kinds.now }
         ensures { result ≡ (is_dir_kind (slice_index self.now.kinds.now inode)
             && (not (inode == constants.ROOTINO)

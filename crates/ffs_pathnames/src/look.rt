@@ -276,7 +276,7 @@ pub fn stamp(
     if entry.number <= ROOTINO || entry.number >= inodes.count() {
         return;
     }
-    if inodes.belongs(entry.number, dir) {
+    if inodes.belongs(dir, entry.number) {
         let index = entry.number as usize;
         words.set(index, with_due(words[index]));
     }

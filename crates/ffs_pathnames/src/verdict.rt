@@ -123,7 +123,7 @@ pub fn verdict_at_look(
 {
     let first_naming = !is_flagged(inodes, flags, entry.number);
     let parent_entry = entry.number < inodes.count()
-        && inodes.belongs(entry.number, dir)
+        && inodes.belongs(dir, entry.number)
         && inodes.stamp_of(words, entry.number) != dir;
     verdict(inodes, entry, first_naming, parent_entry)
 }
@@ -231,12 +231,12 @@ fn say_name_and_type<W: Output>(
         holds: defects.extraneous,
         line: Phase2Line::Entry(EntryLine::Extraneous {
             path,
-            dir: directory,
+            dir_path: directory,
         }),
     };
     let wrong_type = LineIf {
         holds: defects.wrong_type,
-        line: Phase2Line::Entry(EntryLine::KindEntry {
+        line: Phase2Line::Entry(EntryLine::TypeEntry {
             label: defects.label,
             attr,
             path,

@@ -238,7 +238,7 @@ pub fn print_dot<W: Output>(out: &mut W, line: &DotLine<&[u8]>) -> Result<(), Ou
             name,
         ),
         DotLine::NumberDot { attr, path } => print_dir(out, NUMBER_DOT, attr, path, FIX),
-        DotLine::KindDot { attr, path } => print_dir(out, KIND_DOT, attr, path, FIX),
+        DotLine::TypeDot { attr, path } => print_dir(out, TYPE_DOT, attr, path, FIX),
         DotLine::MissingDotdot { attr, path } => print_dir(out, MISSING_DOTDOT, attr, path, FIX),
         DotLine::MissingDotdotSecond { attr, path, name } => print_in_the_way(
             out,
@@ -249,7 +249,7 @@ pub fn print_dot<W: Output>(out: &mut W, line: &DotLine<&[u8]>) -> Result<(), Ou
             name,
         ),
         DotLine::NumberDotdot { attr, path } => print_dir(out, NUMBER_DOTDOT, attr, path, FIX),
-        DotLine::KindDotdot { attr, path } => print_dir(out, KIND_DOTDOT, attr, path, FIX),
+        DotLine::TypeDotdot { attr, path } => print_dir(out, TYPE_DOTDOT, attr, path, FIX),
         DotLine::ExtraDot { attr, path } => print_dir(out, EXTRA_DOT, attr, path, FIX),
         DotLine::ExtraDotdot { attr, path } => print_dir(out, EXTRA_DOTDOT, attr, path, FIX),
     }
@@ -284,9 +284,9 @@ pub fn print_entry<W: Output>(out: &mut W, line: &EntryLine<&[u8]>) -> Result<()
             out, DUP_BAD, attr, *label, path, REMOVE,
         ),
         EntryLine::ZeroDir { attr, path } => print_dir(out, ZERO_DIR, attr, path, REMOVE),
-        EntryLine::Extraneous { path, dir } => print_extraneous(out, path, dir),
-        EntryLine::KindEntry { label, attr, path } => print_path(
-            out, KIND_ENTRY, attr, *label, path, FIX,
+        EntryLine::Extraneous { path, dir_path } => print_extraneous(out, path, dir_path),
+        EntryLine::TypeEntry { label, attr, path } => print_path(
+            out, TYPE_ENTRY, attr, *label, path, FIX,
         ),
     }
 }

@@ -171,7 +171,7 @@ pub const FIRST_ENTRY: &[u8] = b"\nCANNOT FIX, FIRST ENTRY IN DIRECTORY CONTAINS
 
 pub const NUMBER_DOT: &[u8] = b"BAD INODE NUMBER FOR '.' ";
 
-pub const KIND_DOT: &[u8] = b"BAD TYPE VALUE FOR '.' ";
+pub const TYPE_DOT: &[u8] = b"BAD TYPE VALUE FOR '.' ";
 
 pub const MISSING_DOTDOT: &[u8] = b"MISSING '..' ";
 
@@ -179,7 +179,7 @@ pub const SECOND_ENTRY: &[u8] = b"\nCANNOT FIX, SECOND ENTRY IN DIRECTORY CONTAI
 
 pub const NUMBER_DOTDOT: &[u8] = b"BAD INODE NUMBER FOR '..' ";
 
-pub const KIND_DOTDOT: &[u8] = b"BAD TYPE VALUE FOR '..' ";
+pub const TYPE_DOTDOT: &[u8] = b"BAD TYPE VALUE FOR '..' ";
 
 pub const EXTRA_DOT: &[u8] = b"EXTRA '.' ENTRY ";
 
@@ -199,7 +199,7 @@ pub const ZERO_DIR: &[u8] = b"ZERO LENGTH DIRECTORY ";
 
 pub const EXTRANEOUS: &[u8] = b" IS AN EXTRANEOUS HARD LINK TO DIRECTORY ";
 
-pub const KIND_ENTRY: &[u8] = b"BAD TYPE VALUE ";
+pub const TYPE_ENTRY: &[u8] = b"BAD TYPE VALUE ";
 
 // Inodes by the entries that name them.
 

@@ -33,7 +33,7 @@ pub enum DotLine<P> {
     /// `.` has another number than the directory.
     NumberDot { attr: Attr, path: P },
     /// `.` hasn't the type of a directory.
-    KindDot { attr: Attr, path: P },
+    TypeDot { attr: Attr, path: P },
     /// The second entry isn't `..`.
     MissingDotdot { attr: Attr, path: P },
     /// The second entry has this name in place of `..`.
@@ -41,7 +41,7 @@ pub enum DotLine<P> {
     /// `..` has another number than the directory's parent.
     NumberDotdot { attr: Attr, path: P },
     /// `..` hasn't the type of a directory.
-    KindDotdot { attr: Attr, path: P },
+    TypeDotdot { attr: Attr, path: P },
     /// There is a `.` that isn't the first entry.
     ExtraDot { attr: Attr, path: P },
     /// There is a `..` that isn't the second entry.
@@ -62,10 +62,10 @@ pub enum EntryLine<P> {
     DupBad { label: Label, attr: Attr, path: P },
     /// It names a directory of size 0.
     ZeroDir { attr: Attr, path: P },
-    /// It is a further name of a directory, whose own path is `dir`.
-    Extraneous { path: P, dir: P },
+    /// It is a further name of a directory, whose own path is `dir_path`.
+    Extraneous { path: P, dir_path: P },
     /// Its type isn't that of the inode.
-    KindEntry { label: Label, attr: Attr, path: P },
+    TypeEntry { label: Label, attr: Attr, path: P },
 }
 
 /// What is wrong with an inode by the entries that name it: `attr` has its attributes.

@@ -14,10 +14,10 @@ use Rattle.ffs_volume.specs.{Directories.Paths.{dir_path, entry_path}, Messages.
 use Rattle.ffs_volume.specs.Messages.Kinds.{lines_below}
 use Rattle.ffs_volume.specs.declared.tree_lines.DirectoryLine.TheVariants.{DirCorrupt, DirEmpty, DirLength, DirShort}
 use Rattle.ffs_volume.specs.declared.tree_lines.DirectoryLine.TheVariants.{RootNone, RootNotDir, RootSuspect}
-use Rattle.ffs_volume.specs.declared.tree_lines.DotLine.TheVariants.{ExtraDot, ExtraDotdot, KindDot, KindDotdot}
+use Rattle.ffs_volume.specs.declared.tree_lines.DotLine.TheVariants.{ExtraDot, ExtraDotdot, TypeDot, TypeDotdot}
 use Rattle.ffs_volume.specs.declared.tree_lines.DotLine.TheVariants.{MissingDot, MissingDotFirst, MissingDotdot}
 use Rattle.ffs_volume.specs.declared.tree_lines.DotLine.TheVariants.{MissingDotdotSecond, NumberDot, NumberDotdot}
-use Rattle.ffs_volume.specs.declared.tree_lines.EntryLine.TheVariants.{DupBad, Extraneous, KindEntry, ZeroDir}
+use Rattle.ffs_volume.specs.declared.tree_lines.EntryLine.TheVariants.{DupBad, Extraneous, TypeEntry, ZeroDir}
 use Rattle.ffs_volume.specs.declared.tree_lines.EntryLine.TheVariants.{OutOfRange as OutOfRangeLine}
 use Rattle.ffs_volume.specs.declared.tree_lines.EntryLine.TheVariants.{Unallocated as UnallocatedLine}
 use Rattle.ffs_volume.specs.declared.tree_lines.EntryLine.TheVariants.{Whiteout as WhiteoutLine}
@@ -128,13 +128,13 @@ abbrev pub dot_lines : DotDefects (List ℕ) → Attr → (path : List ℕ) → 
 dot_lines Missing attr path = of_dot (MissingDot attr path) ∷ []
 dot_lines (Other name) attr path = of_dot (MissingDotFirst attr path name) ∷ []
 dot_lines (Found wrong_number wrong_type) attr path = reported wrong_number (of_dot (NumberDot attr path))
-    ++ reported wrong_type (of_dot (KindDot attr path))
+    ++ reported wrong_type (of_dot (TypeDot attr path))
 
 abbrev pub dotdot_lines : DotDefects (List ℕ) → Attr → (path : List ℕ) → List TreeMessage
 dotdot_lines Missing attr path = of_dot (MissingDotdot attr path) ∷ []
 dotdot_lines (Other name) attr path = of_dot (MissingDotdotSecond attr path name) ∷ []
 dotdot_lines (Found wrong_number wrong_type) attr path = reported wrong_number (of_dot (NumberDotdot attr path))
-    ++ reported wrong_type (of_dot (KindDotdot attr path))
+    ++ reported wrong_type (of_dot (TypeDotdot attr path))
 
 abbrev pub dots_lines : HeaderDefects (List ℕ) → Attr → (path : List ℕ) → List TreeMessage
 dots_lines defects attr path = dot_lines defects.dot attr path ++ dotdot_lines defects.dotdot attr path
@@ -219,7 +219,7 @@ suspect_message defects attr path =
 abbrev pub name_and_type_lines : EntryDefects → Attr → (path directory : List ℕ) → List TreeMessage
 name_and_type_lines defects attr path directory =
     reported defects.extraneous (of_entry (Extraneous path directory))
-    ++ reported defects.wrong_type (of_entry (KindEntry defects.label attr path))
+    ++ reported defects.wrong_type (of_entry (TypeEntry defects.label attr path))
 
 abbrev pub defects_lines : EntryDefects → Attr → (path directory : List ℕ) → List TreeMessage
 defects_lines defects attr path directory =

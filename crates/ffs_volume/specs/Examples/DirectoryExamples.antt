@@ -11,9 +11,9 @@ use Rattle.ffs_volume.specs.Directories.{Graph.{level, parent}, Parents.graph_of
 use Rattle.ffs_volume.specs.Directories.{Paths.entry_path, PathnameCheck.pathname_lines}
 use Rattle.ffs_volume.specs.Directories.{Connectivity.connectivity_lines, ReferenceCheck.reference_lines}
 use Rattle.ffs_volume.specs.Examples.Images.{bytes_in, word, zero_bytes, root_chunk}
-use Rattle.ffs_volume.specs.declared.tree_lines.EntryLine.TheVariants.{Extraneous, KindEntry, OutOfRange, Whiteout}
+use Rattle.ffs_volume.specs.declared.tree_lines.EntryLine.TheVariants.{Extraneous, TypeEntry, OutOfRange, Whiteout}
 use Rattle.ffs_volume.specs.declared.tree_lines.{EntryLine.TheVariants.ZeroDir, DotLine.TheVariants.ExtraDot}
-use Rattle.ffs_volume.specs.declared.tree_lines.DotLine.TheVariants.{ExtraDotdot, KindDot, KindDotdot, MissingDot}
+use Rattle.ffs_volume.specs.declared.tree_lines.DotLine.TheVariants.{ExtraDotdot, TypeDot, TypeDotdot, MissingDot}
 use Rattle.ffs_volume.specs.declared.tree_lines.DotLine.TheVariants.{MissingDotFirst, MissingDotdot}
 use Rattle.ffs_volume.specs.declared.tree_lines.DotLine.TheVariants.{MissingDotdotSecond, NumberDot, NumberDotdot}
 use Rattle.ffs_volume.specs.declared.tree_lines.DirectoryLine.TheVariants.{DirEmpty, DirLength, DirShort, RootNone}
@@ -247,14 +247,14 @@ pub record PathnameExamples : Type 0 where
       ∷ of_dot (ExtraDotdot (dir_attr 2) (47 ∷ []))
       ∷ of_dot (ExtraDot (dir_attr 2) (47 ∷ [])) ∷ []
   pub wrong_dots : pathname_lines (sub (entry 2 8 one_dot ∷ entry 3 8 two_dots ∷ []))
-      ≡ of_dot (NumberDot (dir_attr 3) (47 ∷ 97 ∷ [])) ∷ of_dot (KindDot (dir_attr 3) (47 ∷ 97 ∷ []))
+      ≡ of_dot (NumberDot (dir_attr 3) (47 ∷ 97 ∷ [])) ∷ of_dot (TypeDot (dir_attr 3) (47 ∷ 97 ∷ []))
       ∷ of_dot (NumberDotdot (dir_attr 3) (47 ∷ 97 ∷ []))
-      ∷ of_dot (KindDotdot (dir_attr 3) (47 ∷ 97 ∷ [])) ∷ []
+      ∷ of_dot (TypeDotdot (dir_attr 3) (47 ∷ 97 ∷ [])) ∷ []
   -- a whiteout that is right and two that aren't; the root entered, with another type
   pub whiteouts : pathname_lines (alone (dots 2 2 (entry 1 14 (97 ∷ []) ∷ entry 1 8 (98 ∷ []) ∷ entry 2 14 (99 ∷ [])
       ∷ []))) ≡ of_entry (Whiteout 1 (47 ∷ 98 ∷ [])) ∷ of_entry (Whiteout 2 (47 ∷ 99 ∷ [])) ∷ []
   pub root_entered : pathname_lines (alone (dots 2 2 (entry 2 8 (97 ∷ []) ∷ [])))
-      ≡ of_entry (Extraneous (47 ∷ 97 ∷ []) (47 ∷ [])) ∷ of_entry (KindEntry DirLabel (dir_attr 2) (47 ∷ 97 ∷ [])) ∷ []
+      ≡ of_entry (Extraneous (47 ∷ 97 ∷ []) (47 ∷ [])) ∷ of_entry (TypeEntry DirLabel (dir_attr 2) (47 ∷ 97 ∷ [])) ∷ []
   -- a directory of size 0, reported at its first entry alone
   pub zero_length : pathname_lines (empty_dir (entry 3 4 (97 ∷ []) ∷ entry 3 4 (98 ∷ []) ∷ []))
       ≡ of_entry (ZeroDir about_empty (47 ∷ 97 ∷ [])) ∷ of_entry (Extraneous (47 ∷ 98 ∷ []) (47 ∷ 97 ∷ [])) ∷ []

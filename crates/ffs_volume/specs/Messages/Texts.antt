@@ -16,11 +16,11 @@ use Rattle.ffs_volume.specs.declared.tree_lines.{EntryLine.EntryLine, ReferenceL
 use Rattle.ffs_volume.specs.Messages.Kinds.{TreeMessage, of_directory, of_dot, of_entry, of_reference}
 use Rattle.ffs_volume.specs.declared.tree_lines.DirectoryLine.TheVariants.{RootNone, RootNotDir, RootSuspect, DirShort}
 use Rattle.ffs_volume.specs.declared.tree_lines.DirectoryLine.TheVariants.{DirLength, DirEmpty, DirCorrupt}
-use Rattle.ffs_volume.specs.declared.tree_lines.DotLine.TheVariants.{MissingDot, MissingDotFirst, NumberDot, KindDot}
+use Rattle.ffs_volume.specs.declared.tree_lines.DotLine.TheVariants.{MissingDot, MissingDotFirst, NumberDot, TypeDot}
 use Rattle.ffs_volume.specs.declared.tree_lines.DotLine.TheVariants.{MissingDotdot, MissingDotdotSecond, NumberDotdot}
-use Rattle.ffs_volume.specs.declared.tree_lines.DotLine.TheVariants.{KindDotdot, ExtraDot, ExtraDotdot}
+use Rattle.ffs_volume.specs.declared.tree_lines.DotLine.TheVariants.{TypeDotdot, ExtraDot, ExtraDotdot}
 use Rattle.ffs_volume.specs.declared.tree_lines.EntryLine.TheVariants.{OutOfRange, Whiteout, Unallocated, DupBad}
-use Rattle.ffs_volume.specs.declared.tree_lines.EntryLine.TheVariants.{ZeroDir, Extraneous, KindEntry}
+use Rattle.ffs_volume.specs.declared.tree_lines.EntryLine.TheVariants.{ZeroDir, Extraneous, TypeEntry}
 use Rattle.ffs_volume.specs.declared.tree_lines.ReferenceLine.TheVariants.{UnrefDir, DeadMarked, DeadZero, Unref}
 use Rattle.ffs_volume.specs.declared.tree_lines.ReferenceLine.TheVariants.{UnrefZero, LinkCount}
 use Rattle.ffs_volume.specs.declared.texts.TheConstants as texts
@@ -152,12 +152,12 @@ dot_line_text (MissingDot attr path) = path_text texts.MISSING_DOT.now attr Dir 
 dot_line_text (MissingDotFirst attr path name) =
     name_in_the_way_text texts.MISSING_DOT.now attr path texts.FIRST_ENTRY.now name
 dot_line_text (NumberDot attr path) = path_text texts.NUMBER_DOT.now attr Dir path texts.FIX.now
-dot_line_text (KindDot attr path) = path_text texts.KIND_DOT.now attr Dir path texts.FIX.now
+dot_line_text (TypeDot attr path) = path_text texts.TYPE_DOT.now attr Dir path texts.FIX.now
 dot_line_text (MissingDotdot attr path) = path_text texts.MISSING_DOTDOT.now attr Dir path texts.FIX.now
 dot_line_text (MissingDotdotSecond attr path name) =
     name_in_the_way_text texts.MISSING_DOTDOT.now attr path texts.SECOND_ENTRY.now name
 dot_line_text (NumberDotdot attr path) = path_text texts.NUMBER_DOTDOT.now attr Dir path texts.FIX.now
-dot_line_text (KindDotdot attr path) = path_text texts.KIND_DOTDOT.now attr Dir path texts.FIX.now
+dot_line_text (TypeDotdot attr path) = path_text texts.TYPE_DOTDOT.now attr Dir path texts.FIX.now
 dot_line_text (ExtraDot attr path) = path_text texts.EXTRA_DOT.now attr Dir path texts.FIX.now
 dot_line_text (ExtraDotdot attr path) = path_text texts.EXTRA_DOTDOT.now attr Dir path texts.FIX.now
 
@@ -169,7 +169,7 @@ entry_line_text (Unallocated attr path) = path_text texts.UNALLOCATED.now attr N
 entry_line_text (DupBad label attr path) = path_text texts.DUP_BAD.now attr label path texts.REMOVE.now
 entry_line_text (ZeroDir attr path) = path_text texts.ZERO_DIR.now attr Dir path texts.REMOVE.now
 entry_line_text (Extraneous path directory) = extraneous_text path directory
-entry_line_text (KindEntry label attr path) = path_text texts.KIND_ENTRY.now attr label path texts.FIX.now
+entry_line_text (TypeEntry label attr path) = path_text texts.TYPE_ENTRY.now attr label path texts.FIX.now
 
 -- a message on an inode by the entries that name it
 abbrev pub reference_line_text : ReferenceLine → List ℕ
@@ -201,11 +201,11 @@ abbrev pub dot_message : DotLine (Bor (List ℕ)) → DotLine (List ℕ)
 dot_message (MissingDot attr path) = MissingDot attr path.now
 dot_message (MissingDotFirst attr path name) = MissingDotFirst attr path.now name.now
 dot_message (NumberDot attr path) = NumberDot attr path.now
-dot_message (KindDot attr path) = KindDot attr path.now
+dot_message (TypeDot attr path) = TypeDot attr path.now
 dot_message (MissingDotdot attr path) = MissingDotdot attr path.now
 dot_message (MissingDotdotSecond attr path name) = MissingDotdotSecond attr path.now name.now
 dot_message (NumberDotdot attr path) = NumberDotdot attr path.now
-dot_message (KindDotdot attr path) = KindDotdot attr path.now
+dot_message (TypeDotdot attr path) = TypeDotdot attr path.now
 dot_message (ExtraDot attr path) = ExtraDot attr path.now
 dot_message (ExtraDotdot attr path) = ExtraDotdot attr path.now
 
@@ -216,7 +216,7 @@ entry_message (Unallocated attr path) = Unallocated attr path.now
 entry_message (DupBad label attr path) = DupBad label attr path.now
 entry_message (ZeroDir attr path) = ZeroDir attr path.now
 entry_message (Extraneous path directory) = Extraneous path.now directory.now
-entry_message (KindEntry label attr path) = KindEntry label attr path.now
+entry_message (TypeEntry label attr path) = TypeEntry label attr path.now
 
 -- each number with what is after it; the fragmentation in tenths of a percent, its sign first
 abbrev pub summary_text : (files used : ℕ) (free frags blocks tenths : ℤ) → List ℕ
