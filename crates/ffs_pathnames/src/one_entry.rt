@@ -57,22 +57,22 @@ pub fn report_plain<I: Image, W: Output>(
     }
     let attr = gather_entry(geometry, image, workspace, texts, entry, &verdict)?;
     say_verdict(
-        report,
         &verdict,
         entry.entry.number,
         attr,
         texts.paths.last(),
         texts.directory.as_slice(),
+        report,
     )?;
     Ok(())
 }
 
 /// Says that an entry is extra.
 fn say_extra<W: Output>(
-    report: &mut Report<'_, W>,
     attr: Attr,
     path: &[u8],
     entry: &Entry<'_>,
+    report: &mut Report<'_, W>,
 ) -> Result<(), OutFault>
     ensures { SaysTreeMessages (progress W.sink report.old) (progress W.sink report.new)
         (extra_lines attr path.now (entry_value entry.now)) result }
@@ -106,6 +106,6 @@ pub fn report_extra<I: Image, W: Output>(
         (path_moment I.Image image.new workspace.new) texts.new.kept_parent result }
 {
     let attr = gather_extra(geometry, image, workspace, texts, entry.dir)?;
-    say_extra(report, attr, texts.directory.as_slice(), &entry.entry)?;
+    say_extra(attr, texts.directory.as_slice(), &entry.entry, report)?;
     Ok(())
 }

@@ -183,16 +183,16 @@ fn report_root<W: Output>(
 {
     let kind = Kind { code: kind };
     if !kind.is_allocated() {
-        return say_line(report, &Phase2Line::Directory(DirectoryLine::RootNone));
+        return say_line(&Phase2Line::Directory(DirectoryLine::RootNone), report);
     }
     if kind.is_dir() {
         let suspect = LineIf {
             holds: marked || kind.is_empty_dir(),
             line: Phase2Line::Directory(DirectoryLine::RootSuspect),
         };
-        return say_if(report, &suspect);
+        return say_if(&suspect, report);
     }
-    say_line(report, &Phase2Line::Directory(DirectoryLine::RootNotDir))
+    say_line(&Phase2Line::Directory(DirectoryLine::RootNotDir), report)
 }
 
 /// Whether the check continues after a root of this kind.
