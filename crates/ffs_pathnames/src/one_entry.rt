@@ -8,11 +8,12 @@ ghost use Rattle.ffs_report.specs.Progress.{progress};
 use crate::entry_texts::EntryTexts;
 use crate::gather::{DirectoryEntry, gather_entry, gather_extra};
 use crate::inodes::Inodes;
+use crate::say::{Phase2Line, say_line};
 use crate::verdict::{say_verdict, verdict_at_reading};
 use ffs_image::Image;
 use ffs_layout::{Entry, Geometry};
 use ffs_names::is_one_dot;
-use ffs_report::{DotLine, Line, OutFault, Output, Report, RunFault};
+use ffs_report::{DotLine, OutFault, Output, Report, RunFault};
 use ffs_volume::Attr;
 use ffs_volume::verdict::Verdict;
 use ffs_workspace::Workspace;
@@ -78,9 +79,12 @@ fn say_extra<W: Output>(
         (extra_lines attr path.now (entry_value entry.now)) result }
 {
     if is_one_dot(entry.name) {
-        return report.say(&Line::Dot(DotLine::ExtraDot { attr, path }));
+        return say_line(&Phase2Line::Dot(DotLine::ExtraDot { attr, path }), report);
     }
-    report.say(&Line::Dot(DotLine::ExtraDotdot { attr, path }))
+    say_line(
+        &Phase2Line::Dot(DotLine::ExtraDotdot { attr, path }),
+        report,
+    )
 }
 
 /// Prints the line of an extra entry: a `.` that isn't the first entry of the chunk at the start of
