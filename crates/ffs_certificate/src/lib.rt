@@ -2,9 +2,12 @@
 //!
 //! A report without a defect, and the end `Consistent`, are each the same as consistency, both ways
 //! (`report_is_right`); for directories with nothing marked so is a silent check of them
-//! (`silent_is_right`), and for blocks and groups `blocks_and_groups_are_certified`; claims are
-//! bounded (`claims_are_bounded`). Each function is a law: its contract is the statement, and
-//! nothing runs.
+//! (`silent_is_right`), and for blocks and groups `blocks_and_groups_are_certified`. Each condition
+//! of consistency has its messages (`conditions_are_reported`), and a run that stops at the root
+//! reports a defect (`stop_is_reported`). Claims are bounded (`claims_are_bounded`), the Runs of an
+//! inode hold each logical block once at most, in order (`blocks_rise`), and the fold over steps
+//! keeps what the rule says (`keeping_is_by_rule`). Worked images have their whole reports
+//! (`examples_hold`). Each function is a law: its contract is the statement, and nothing runs.
 //!
 //! It rests on `ffs_volume`.
 #![tactic(auto)]

@@ -8,16 +8,16 @@ use Rattle.ffs_check.specs.{Moment.Moment, Reads.ReadsByMessages, Taken.TakesWor
 
 -- a volume is accepted: its workspace is taken, and the image is read within the limit of the same volume for
 -- what was printed
-pub record CostsOfVolume (asked_sector : Option ℕ) (old new : Moment) (held held' : Account) : Type 0 where
-  pub memory : TakesWorkspace old.image asked_sector held held'
+pub record CostsOfVolume (asked_sector : Option ℕ) (old new : Moment) (before after : Account) : Type 0 where
+  pub memory : TakesWorkspace old.image asked_sector before after
   pub reads : ReadsByMessages (reads_limit memory.found.layout) old new
 
 -- nothing is taken, and the superblock and a copy alone are read; or a volume is accepted. A check ends as
 -- `NoMemory` only where a request was refused
-pub record Costs (asked_sector : Option ℕ) (old new : Moment) (held held' : Account) (end : End) : Type 0 where
-  pub most : ((held' ≡ held) × (new.reads ≤ old.reads + opening_reads))
-      ⊎ CostsOfVolume asked_sector old new held held'
-  pub refused : end ≡ NoMemory → RefusedOneMore held held'
+pub record Costs (asked_sector : Option ℕ) (old new : Moment) (before after : Account) (end : End) : Type 0 where
+  pub most : ((after ≡ before) × (new.reads ≤ old.reads + opening_reads))
+      ⊎ CostsOfVolume asked_sector old new before after
+  pub refused : end ≡ NoMemory → RefusedOneMore before after
 
 -- the memory is that of the system, of which nothing was granted before
 pub record CostsOfSystem (asked_sector : Option ℕ) (old new : Moment) (end : End) : Type 0 where

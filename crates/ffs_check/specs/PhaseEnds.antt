@@ -140,7 +140,7 @@ SaysRest s old new end =
 
 -- what an accepted superblock leads to: what is said, what is taken of the memory, and how often the
 -- image is read
-pub record FollowsAccepted (s : Superblock) (held held' : Account) (old new : ReportMoment) (end : End) : Type 0 where
+pub record FollowsAccepted (s : Superblock) (before after : Account) (old new : ReportMoment) (end : End) : Type 0 where
   pub followed : SaysRest s old new end
-  pub memory : TakesBytes (held_of s.layout) held held' end
+  pub memory : TakesBytes (held_of s.layout) before after end
   pub reads : PhasesRead (IsContents old.image.contents) s (at_output old) (at_output new)

@@ -19,7 +19,7 @@ use Rattle.ffs_claims.proofs.Frames.{ready_still, ready_walked, image_from, clai
 use Rattle.ffs_claims.proofs.{Inodes.ok_where, Reportings.{reporting_over, Reporting, reporting_begins, reporting_more}}
 use Rattle.ffs_claims.proofs.Reportings.{reporting_ends, reported_from, reported_to, lines_split}
 use Rattle.ffs_claims.{proofs.RescanCounts.{looked_none, looked_next, again_gaps}, specs.Lines.of_lines}
-use Rattle.ffs_claims.specs.{Moments.SweepMoment, Reporting.{OffersReported, ReportsOnly, RewalkLeaves}}
+use Rattle.ffs_claims.specs.{Moments.PhaseMoment, Reporting.{OffersReported, ReportsOnly, RewalkLeaves}}
 use Rattle.ffs_claims.specs.Rescan.{ReplaysStep, offers_again, step_offers_again}
 use Rattle.ffs_claims.specs.RescanRuns.{Counted, Rewalks, Rewalked, RoseBy, RunsPay, steps_runs_again}
 
@@ -120,7 +120,7 @@ pub rewalked_from : {v : Layout} {i cut : ℕ} {all : List Step} {u w : Workspac
 rewalked_from {u = u} p = record { reported = reported_from u _ _ p.reported refl refl; count = p.count }
 
 -- an inode was read before, as the image gives it
-pub rewalks_from : {T : Type 0} {v : Layout} {n now : ℕ} {d' : Device} {windows : Windows} {old new : SweepMoment}
+pub rewalks_from : {T : Type 0} {v : Layout} {n now : ℕ} {d' : Device} {windows : Windows} {old new : PhaseMoment}
     {r : Result T RunFault} (i : Inode) (inode : List ℕ → Inode) → d' ≡ old.image →
     ForBytes (IsContents old.image.contents) (λ bytes. i ≡ inode bytes) → now ≤ old.reads →
     Rewalks v n (λ _. i) (record old { image = d'; reads = now; workspace = record old.workspace { windows = windows } })

@@ -14,7 +14,7 @@ use Rattle.ffs_walk.specs.Counts.{entered}
 use Rattle.ffs_workspace.specs.{Holds.{IsFresh, claims_of}, Lengths.IsFor, Ready.CanRead, Tables.HoldsInode}
 use Rattle.ffs_workspace.specs.{Tables.HoldsPiece, declared.workspace.Workspace.Workspace}
 use Rattle.ffs_claims.specs.{Area.IsDataArea, Leaves.{CanOffer, ClaimsOnly, HasBegun, OffersOnly, SameFound}}
-use Rattle.ffs_claims.specs.{Lines.of_lines, Moments.{ClaimMoment, SweepMoment}, declared.area.DataArea.DataArea}
+use Rattle.ffs_claims.specs.{Lines.of_lines, Moments.{ClaimMoment, PhaseMoment}, declared.area.DataArea.DataArea}
 use Rattle.ffs_claims.specs.declared.{area.Run.Run, claim.Sweep.Sweep}
 
 -- the reserved fragments are marked: where the workspace was as it was made, they alone are used then. No Run
@@ -95,7 +95,7 @@ ReadsIndirect v s o reads reads' = reads' ≤ reads + indirect_in_steps v (at_ne
 -- an inode is read by its block of the inode table. Where the window held the inode, the table isn't read and
 -- the window stays: there are no more reads than Runs that are seen, and in an image that gives its bytes no more
 -- than indirect blocks that are seen. Else the window holds the inode's block then
-pub record ReadsByBlock {T : Type 0} (v : Layout) (number : ℕ) (old new : SweepMoment) (result : Result T RunFault)
+pub record ReadsByBlock {T : Type 0} (v : Layout) (number : ℕ) (old new : PhaseMoment) (result : Result T RunFault)
     : Type 0 where
   pub again : HoldsInode old.workspace.windows.table number →
       (new.workspace.windows.table ≡ old.workspace.windows.table)
@@ -108,7 +108,7 @@ pub record ReadsByBlock {T : Type 0} (v : Layout) (number : ℕ) (old new : Swee
 -- what an inode leaves: the image, but for a read that failed, what its steps leave but for `claim_bound`, `found`
 -- and `table`, a walk over the volume, and the count of phase 1b's Runs and the answer of `has_dups` as they were.
 -- Each Run that it sees claims a fragment, but for 22, and each read is paid by a Run that is seen
-pub record InodeLeaves {T : Type 0} (g : Geometry) (old new : SweepMoment) (sweep : Sweep) (result : Result T RunFault)
+pub record InodeLeaves {T : Type 0} (g : Geometry) (old new : PhaseMoment) (sweep : Sweep) (result : Result T RunFault)
     : Type 0 where
   pub image : ImageAfter old.image new.image result
   pub claim : CanClaim g.layout new.image new.workspace sweep.area
@@ -148,7 +148,7 @@ pub record ClaimsStep {E : Type 0} (v : Layout) (number : ℕ) (step : Step) (ol
 -- the steps of an owner claim what they offer: their lines are reported, the claims are those after
 -- them, the next inode can be walked over, and each read is paid by a Run that is seen. An image that
 -- gives its bytes is read once for each indirect block that is seen
-pub record ClaimsSteps {T : Type 0} (g : Geometry) (owner : List ℕ → Owner) (old new : SweepMoment) (sweep : Sweep)
+pub record ClaimsSteps {T : Type 0} (g : Geometry) (owner : List ℕ → Owner) (old new : PhaseMoment) (sweep : Sweep)
     (result : Result T RunFault) : Type 0 where
   pub text : PhaseReports (IsContents old.image.contents) (λ bytes.
       of_lines (lines_of_steps g.layout (owner bytes).number (claims_of old.workspace) (owner bytes).steps))
@@ -164,7 +164,7 @@ pub record ClaimsSteps {T : Type 0} (g : Geometry) (owner : List ℕ → Owner) 
 
 -- an inode claims as an owner of fragments: its lines are reported, the claims are those after it, and
 -- an image that gives its bytes is read once for each indirect block that is seen
-pub record ClaimsOwner {T : Type 0} (g : Geometry) (owner : List ℕ → Owner) (old new : SweepMoment) (sweep : Sweep)
+pub record ClaimsOwner {T : Type 0} (g : Geometry) (owner : List ℕ → Owner) (old new : PhaseMoment) (sweep : Sweep)
     (result : Result T RunFault) : Type 0 where
   pub text : PhaseReports (IsContents old.image.contents)
       (λ bytes. of_lines (owner_lines g.layout (claims_of old.workspace) (owner bytes))) old.report new.report result

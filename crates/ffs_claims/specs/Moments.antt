@@ -16,17 +16,17 @@ pub record ClaimMoment : Type 0 where
 abbrev pub claim_moment : {W : Type 0} → output.Ghosts W → Workspace → Report W → ClaimMoment
 claim_moment W workspace report = record { workspace = workspace; report = progress W.sink report }
 
--- a moment of a sweep over inodes: the image, how often it was read by then, the workspace, and how far
--- the report has come
-pub record SweepMoment : Type 0 where
+-- a moment of a phase, with all that it works on: the image, how often it was read by then, the
+-- workspace, and how far the report has come
+pub record PhaseMoment : Type 0 where
   pub image : Device
   pub reads : ℕ
   pub workspace : Workspace
   pub report : Progress
 
 -- the moment at which an image, a workspace and a report are these: in a contract I.Image and W.Output
-abbrev pub sweep_moment : {I W : Type 0} → image.Ghosts I → output.Ghosts W → I → Workspace → Report W → SweepMoment
-sweep_moment I W image workspace report = record {
+abbrev pub phase_moment : {I W : Type 0} → image.Ghosts I → output.Ghosts W → I → Workspace → Report W → PhaseMoment
+phase_moment I W image workspace report = record {
   image = I.device image;
   reads = I.reads image;
   workspace = workspace;
@@ -34,5 +34,5 @@ sweep_moment I W image workspace report = record {
 }
 
 -- the moment after one more read
-abbrev pub after_one_read : SweepMoment → SweepMoment
+abbrev pub after_one_read : PhaseMoment → PhaseMoment
 after_one_read moment = record moment { reads = moment.reads + 1 }

@@ -10,7 +10,7 @@ use Rattle.ffs_report.specs.{Known.{ForBytes, IsContents}, PhaseOutcome.PhaseRep
 use Rattle.ffs_maps.specs.Bits.{bits_of}
 use Rattle.ffs_walk.specs.{Counts.entered, Keepings.{replay_in, run_taken}, declared.keeping.Keeping.Keeping}
 use Rattle.ffs_workspace.specs.declared.workspace.Workspace.{Workspace}
-use Rattle.ffs_claims.specs.{Lines.of_lines, Moments.SweepMoment, Reporting.{CanReport, OffersReported, RewalkLeaves}}
+use Rattle.ffs_claims.specs.{Lines.of_lines, Moments.PhaseMoment, Reporting.{CanReport, OffersReported, RewalkLeaves}}
 use Rattle.ffs_claims.specs.Rescan.{offers_again}
 
 -- the kept offers of each Run that is seen, replayed
@@ -64,7 +64,7 @@ noted_cut w number = cut_in (slice_index w.notes.items number)
 
 -- an inode is walked over again: of its kept offers those are reported that are the first of a fragment
 -- with a DUP line, and its Runs are counted, which pay for the reads
-pub record Rewalks {T : Type 0} (v : Layout) (number : ℕ) (inode : List ℕ → Inode) (old new : SweepMoment)
+pub record Rewalks {T : Type 0} (v : Layout) (number : ℕ) (inode : List ℕ → Inode) (old new : PhaseMoment)
     (result : Result T RunFault) : Type 0 where
   pub text : PhaseReports (IsContents old.image.contents) (λ bytes.
       of_lines (first_offer_lines (bits_of old.workspace.duplicates)

@@ -5,7 +5,7 @@ ghost use Rattle.ffs_volume.specs.Blocks.{BlockCheck.phase1b_lines, Inodes.inode
 ghost use Rattle.ffs_report.specs.{Known.ForBytes, PhaseOutcome.{ImageAfter, PhaseReports}, Progress.progress};
 ghost use Rattle.ffs_workspace.specs.{Found.WithPhase1, Ready.IsReady};
 ghost use Rattle.ffs_walk.specs.Keepings.{replay_in};
-ghost use Rattle.ffs_claims.specs.Moments.{after_one_read, claim_moment, sweep_moment};
+ghost use Rattle.ffs_claims.specs.Moments.{after_one_read, claim_moment, phase_moment};
 ghost use Rattle.ffs_claims.specs.{Phases.{IsLeftByPhase1b, Phase1bKeeps, Phase1bReads}, Reporting.CanRewalk};
 ghost use Rattle.ffs_claims.specs.Phases.{RescanReads};
 ghost use Rattle.ffs_claims.specs.{Reporting.ReportsOffers, Rescan.{ReplaysStep, step_offers_again}};
@@ -60,8 +60,8 @@ fn rewalk<I: Image, W: Output>(
 ) -> Result<(), RunFault>
     requires { CanRewalk geometry.now.layout (I.device image.old) workspace.old number }
     ensures { Rewalks geometry.now.layout number (λ _. inode.now)
-        (sweep_moment I.Image W.Output image.old workspace.old report.old)
-        (sweep_moment I.Image W.Output image.new workspace.new report.new) result }
+        (phase_moment I.Image W.Output image.old workspace.old report.old)
+        (phase_moment I.Image W.Output image.new workspace.new report.new) result }
 {
     let cut = workspace.noted_cut(number);
     let mut keeping = Keeping::start(cut);
@@ -93,8 +93,8 @@ fn rewalk_inode<I: Image, W: Output>(
     requires { CanRewalk geometry.now.layout (I.device image.old) workspace.old number }
     ensures { Rewalks geometry.now.layout number
         (λ bytes. inode_of geometry.now.layout bytes number)
-        (after_one_read (sweep_moment I.Image W.Output image.old workspace.old report.old))
-        (sweep_moment I.Image W.Output image.new workspace.new report.new) result }
+        (after_one_read (phase_moment I.Image W.Output image.old workspace.old report.old))
+        (phase_moment I.Image W.Output image.new workspace.new report.new) result }
 {
     let inode = workspace.windows.table.inode(geometry, number, image)?;
     rewalk(geometry, image, workspace, number, &inode, report)

@@ -13,7 +13,7 @@ use ffs_image::Image;
 use ffs_layout::Geometry;
 use ffs_memory::FilledList;
 use ffs_report::{Heading, Line, Output, Report, RunFault};
-use ffs_survey::{any_unreached, flag_leaders, is_dir};
+use ffs_survey::{flag_leaders, is_dir, may_be_unreached};
 use ffs_volume::constants::ROOTINO;
 use ffs_workspace::Workspace;
 
@@ -24,7 +24,7 @@ fn first_unreached(kinds: &[u8], reached: &FilledList<bool>) -> u32
     ensures { IsFirstUnreached kinds.now reached.now.items result }
 {
     let count = kinds.len() as u32;
-    if !any_unreached(kinds, reached) {
+    if !may_be_unreached(kinds, reached) {
         return count;
     }
     for number in ROOTINO..count {

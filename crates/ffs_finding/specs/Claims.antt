@@ -13,10 +13,10 @@ discarding = record { taken = None; failures = 0; holds = None }
 
 -- a workspace that holds what phase 1 leaves was made, a read failed in phase 1, or the memory was refused
 abbrev pub TakesClaims : Layout → Device → Device → Account → Account → Result Workspace FindFault → Type 0
-TakesClaims v d d' held held' (Ok w) =
-    (d' ≡ d) × Granted held held' (held_of v) × IsReady v d' w
+TakesClaims v d d' before after (Ok w) =
+    (d' ≡ d) × Granted before after (held_of v) × IsReady v d' w
     × ForBytes (IsContents d.contents) (λ b. HoldsPhase1 v b w)
-TakesClaims v d d' held held' (Err (Refused fault)) = ⊥
-TakesClaims v d d' held held' (Err (Failed (Read fault))) = Faulted d d' fault.sector × Granted held held' (held_of v)
-TakesClaims v d d' held held' (Err (Failed (Out fault))) = ⊥
-TakesClaims v d d' held held' (Err NoMemory) = (d' ≡ d) × GaveUp held held' (held_of v)
+TakesClaims v d d' before after (Err (Refused fault)) = ⊥
+TakesClaims v d d' before after (Err (Failed (Read fault))) = Faulted d d' fault.sector × Granted before after (held_of v)
+TakesClaims v d d' before after (Err (Failed (Out fault))) = ⊥
+TakesClaims v d d' before after (Err NoMemory) = (d' ≡ d) × GaveUp before after (held_of v)

@@ -99,22 +99,22 @@ pub record FindsTarget (target : Target) (sector : Option ℕ) (s : Superblock) 
 
 -- bytes of the memory were granted, or a request for them was refused, as the answer says
 abbrev pub IsGranted : (bytes : ℕ) → Account → Account → Result Bool FindFault → Type 0
-IsGranted bytes held held' (Ok defect) = Granted held held' bytes
-IsGranted bytes held held' (Err (Refused fault)) = Granted held held' bytes
-IsGranted bytes held held' (Err (Failed fault)) = Granted held held' bytes
-IsGranted bytes held held' (Err NoMemory) = GaveUp held held' bytes
+IsGranted bytes before after (Ok defect) = Granted before after bytes
+IsGranted bytes before after (Err (Refused fault)) = Granted before after bytes
+IsGranted bytes before after (Err (Failed fault)) = Granted before after bytes
+IsGranted bytes before after (Err NoMemory) = GaveUp before after bytes
 
 -- nothing of the memory was asked for
 abbrev pub AsksNothing : Account → Account → Result Bool FindFault → Type 0
-AsksNothing held held' result = (held' ≡ held) × (result ≡ Err NoMemory → ⊥)
+AsksNothing before after result = (after ≡ before) × (result ≡ Err NoMemory → ⊥)
 
 -- what is taken of the memory for a target, in a volume of this layout: nothing, or what the workspace of a check
 -- holds
 abbrev pub TakesForTarget : Target → Layout → Account → Account → Result Bool FindFault → Type 0
-TakesForTarget (Inode number) v held held' result = AsksNothing held held' result
-TakesForTarget Fields v held held' result = AsksNothing held held' result
-TakesForTarget Lost v held held' result = IsGranted (held_of v) held held' result
-TakesForTarget (Owner fragment) v held held' result = IsGranted (held_of v) held held' result
+TakesForTarget (Inode number) v before after result = AsksNothing before after result
+TakesForTarget Fields v before after result = AsksNothing before after result
+TakesForTarget Lost v before after result = IsGranted (held_of v) before after result
+TakesForTarget (Owner fragment) v before after result = IsGranted (held_of v) before after result
 
 -- the line of a fault was printed, or the output failed in it, and the status is 8
 abbrev pub EndsByLine : Sink → Sink → List ℕ → ℕ → Type 0
@@ -146,20 +146,20 @@ RefusesSuperblock (InVolume sector target) d d' fault = ReadsSuper d d' sector (
 
 -- what a command answers, before the line of a fault
 abbrev pub Answers : Command → Moment → Moment → Account → Account → Result Bool FindFault → Type 0
-Answers command old new held held' (Ok defect) =
+Answers command old new before after (Ok defect) =
     (new.image ≡ old.image) × ForContents old.image.contents (IsAcceptedIn command)
     × PrintedAll (command_finds_defects command) (IsContents old.image.contents) (command_lines command) old.out
     new.out defect
-Answers command old new held held' (Err (Refused fault)) =
+Answers command old new before after (Err (Refused fault)) =
     (new.out ≡ old.out) × RefusesSuperblock command old.image new.image fault
     × IsUnreadableFor command old.image new.image fault
-Answers command old new held held' (Err (Failed (Read fault))) =
+Answers command old new before after (Err (Failed (Read fault))) =
     Faulted old.image new.image fault.sector
     × PrintedSome (IsContents old.image.contents) (command_lines command) old.out new.out
-Answers command old new held held' (Err (Failed (Out fault))) =
+Answers command old new before after (Err (Failed (Out fault))) =
     (new.image ≡ old.image) × StoppedIn (IsContents old.image.contents) (command_lines command) old.out new.out
-Answers command old new held held' (Err NoMemory) =
-    (new.image ≡ old.image) × (new.out ≡ old.out) × RefusedOneMore held held'
+Answers command old new before after (Err NoMemory) =
+    (new.image ≡ old.image) × (new.out ≡ old.out) × RefusedOneMore before after
 
 -- all lines were printed: the status is 1 where one of them is a defect, and else 0, of any image
 pub record AllFound (command : Command) (old new : Moment) (status : ℕ) : Type 0 where
@@ -194,25 +194,25 @@ pub record BrokeOffAmong (command : Command) (old new : Moment) (status : ℕ) :
 
 -- the memory was refused before anything was printed, and the line that says so was printed, perhaps a
 -- part of it
-pub record MemoryLacked (old new : Moment) (held held' : Account) (status : ℕ) : Type 0 where
+pub record MemoryLacked (old new : Moment) (before after : Account) (status : ℕ) : Type 0 where
   pub no_read_failed : new.image ≡ old.image
-  pub refused : RefusedOneMore held held'
+  pub refused : RefusedOneMore before after
   pub line : IsPrintedOrBrokeOff old.out new.out (text_of cannot_alloc)
   pub status_is : status ≡ 8
 
 -- how a command ends on an image
 abbrev pub FindEnds : Command → Moment → Moment → Account → Account → ℕ → Type 0
-FindEnds command old new held held' status =
+FindEnds command old new before after status =
     AllFound command old new status ⊎ (SuperRefused command old new status ⊎ (CutByRead command old new status
-    ⊎ (BrokeOffAmong command old new status ⊎ MemoryLacked old new held held' status)))
+    ⊎ (BrokeOffAmong command old new status ⊎ MemoryLacked old new before after status)))
 
 -- what a command takes of the memory: `copies` a window, `lost` and `owner` the workspace of a check
 abbrev pub TakesMemory : Command → Device → Account → Account → Type 0
-TakesMemory Copies d held held' = AsksMemory held held' WINDOW_BYTES
-TakesMemory (InVolume sector (Inode number)) d held held' = held' ≡ held
-TakesMemory (InVolume sector Fields) d held held' = held' ≡ held
-TakesMemory (InVolume sector Lost) d held held' = Takes d sector held held'
-TakesMemory (InVolume sector (Owner fragment)) d held held' = Takes d sector held held'
+TakesMemory Copies d before after = AsksMemory before after WINDOW_BYTES
+TakesMemory (InVolume sector (Inode number)) d before after = after ≡ before
+TakesMemory (InVolume sector Fields) d before after = after ≡ before
+TakesMemory (InVolume sector Lost) d before after = Takes d sector before after
+TakesMemory (InVolume sector (Owner fragment)) d before after = Takes d sector before after
 
 -- the volume is accepted, and lies in the image: after its superblock it is read for a target as its layout says
 pub record ReadsVolume (target : Target) (sector : Option ℕ) (d : Device) (before after : ℕ) : Type 0 where
@@ -229,15 +229,15 @@ ReadsForCommand (InVolume sector target) d before after =
     (after ≤ before + opening_reads) ⊎ ReadsVolume target sector d before after
 
 -- what a command asks for was found; the line of a fault is still to come
-pub record AnswersCommand (command : Command) (old new : Moment) (held held' : Account)
+pub record AnswersCommand (command : Command) (old new : Moment) (before after : Account)
     (result : Result Bool FindFault) : Type 0 where
-  pub answers : Answers command old new held held' result
-  pub memory : TakesMemory command old.image held held'
+  pub answers : Answers command old new before after result
+  pub memory : TakesMemory command old.image before after
   pub reads : ReadsForCommand command old.image old.reads new.reads
 
 -- what a command asks for was found: what was printed and the status, what was taken of the memory,
 -- and how often the image was read
-pub record FindsCommand (command : Command) (old new : Moment) (held held' : Account) (status : ℕ) : Type 0 where
-  pub ends : FindEnds command old new held held' status
-  pub memory : TakesMemory command old.image held held'
+pub record FindsCommand (command : Command) (old new : Moment) (before after : Account) (status : ℕ) : Type 0 where
+  pub ends : FindEnds command old new before after status
+  pub memory : TakesMemory command old.image before after
   pub reads : ReadsForCommand command old.image old.reads new.reads

@@ -2,7 +2,7 @@
 use Rattle.std.proofs.Common.{◌≡◌, ◌∙◌, ◌+◌, ◌≤◌, ℕ, Bool, true, false, List, Option, Some, None, IfNone, ap, arith, length}
 use Rattle.std.{proofs.{Common.{min, slice_index, sym, refl}, lemmas.Bool.and_parts}, specs.Result.is_ok}
 use Rattle.std.specs.Prelude.{Result, Ok, Err, OnOk, OnErr}
-use Rattle.ffs_image.specs.Device.{ForContents}
+use Rattle.ffs_image.specs.Known.{ForBytes}
 use Rattle.ffs_volume.specs.{declared.Layout.Layout, Encodings.Kinds.kind_at, Directories.Parents.graph_of}
 use Rattle.ffs_volume.specs.Directories.{Roles.roled_entries, Volumes.{volume_of, volume_with}}
 use Rattle.ffs_volume.specs.{Encodings.Links.start_at, Blocks.Inodes.inodes_of, Directories.Calm.is_right_directory}
@@ -69,9 +69,9 @@ pub on_ok_is : {T E : Type 0} (r : Result T E) (P Q : Type 0) → (is_ok r ≡ t
 on_ok_is (Ok x) P Q f h = f refl h
 on_ok_is (Err e) P Q f h = h
 
--- a fact of an Ok answer, by each list of bytes that an image gives
-pub on_ok_each : {T E : Type 0} {contents : Option (List ℕ)} {H : List ℕ → Type 0} (P : List ℕ → Type 0)
-    (r : Result T E) → ForContents contents (λ b. H b → OnOk r (P b)) → OnOk r (ForContents contents (λ b. H b → P b))
+-- a fact of an Ok answer, by each list of bytes that is known
+pub on_ok_each : {T E : Type 0} {knows : List ℕ → Type 0} (P : List ℕ → Type 0) (r : Result T E) →
+    ForBytes knows (λ b. OnOk r (P b)) → OnOk r (ForBytes knows P)
 on_ok_each P (Ok x) f = f
 on_ok_each P (Err e) f = tt
 

@@ -1,7 +1,7 @@
 -- How many reads of the image a reading of a directory still takes, and how many a directory takes in all.
 use Rattle.std.specs.Prelude.{◌≡◌, ℕ, ◌+◌, ◌<◌, ◌≤◌, ◌==◌, Bool, true, ◌&&◌, ◌||◌, nat_lt, if◌then◌else◌, List}
 use Rattle.std.specs.{Prelude.{◌∷◌, Option}, List.flat_map}
-use Rattle.ffs_image.specs.Device.{ForContents}
+use Rattle.ffs_image.specs.Known.{ForBytes}
 use Rattle.ffs_volume.specs.declared.{Class.Class, Inode.Inode, Layout.Layout, Step.{Step, TheVariants.Run}}
 use Rattle.ffs_volume.specs.{Blocks.{Inodes.class_of}, Directories.{Roles.roled_chunk}}
 use Rattle.ffs_volume.specs.{Directories.{Roles.roled_entries, Volumes.volume_of}}
@@ -70,12 +70,11 @@ reads_for_entries b r = if may_read r then to_read b r.chunks else 0
 abbrev pub HoldsEntries : Blocks → Window → Entries → Type 0
 HoldsEntries blocks w r = may_read r ≡ true → HoldsReading blocks w r.chunks
 
--- a call reads no more often than all directories take in a sweep, by the bytes of the image where
--- `known` holds of them, and any image no more often than a sweep may
-pub record SweepsOnce (v : Layout) (contents : Option (List ℕ)) (known : List ℕ → Type 0) (reads reads' : ℕ) : Type 0
-  where
-    pub each : ForContents contents (λ b. known b → reads' ≤ reads + noted_costs v b)
-    pub most : reads' ≤ reads + sweep_reads v
+-- a call reads no more often than all directories take in a sweep, by the bytes that are known, and
+-- any image no more often than a sweep may
+pub record SweepsOnce (v : Layout) (knows : List ℕ → Type 0) (reads reads' : ℕ) : Type 0 where
+  pub each : ForBytes knows (λ b. reads' ≤ reads + noted_costs v b)
+  pub most : reads' ≤ reads + sweep_reads v
 
 -- a reading of the chunks of the directory d begins. It takes no more reads than are left of those
 -- that the directory takes

@@ -2,12 +2,12 @@
 
 ghost use Rattle.std.specs.Prelude.{◌≡◌, ◌+◌, ◌<◌, ◌≤◌, ◌^◌, ◌∷◌, [], true, false, IfOk, OnOk, MatchResult, length};
 ghost use Rattle.std.specs.{Prelude.vec_len, List.flat_map};
-ghost use Rattle.ffs_image.specs.Device.{ForContents};
+ghost use Rattle.ffs_image.specs.{Device.ForContents, Known.ForBytes};
 ghost use Rattle.ffs_layout.specs.Entry.{entry_value};
 ghost use Rattle.ffs_volume.specs.Directories.{Entries.entries_of, Roles.{is_dir, role_of as role_in, roled_chunk}};
 ghost use Rattle.ffs_volume.specs.{Directories.{Roles.roled_from, Volumes.volume_of}, Encodings.Notes.note_at};
 ghost use Rattle.ffs_volume.specs.Report.DirectoryReads.{noted_cost, noted_costs};
-ghost use Rattle.ffs_workspace.specs.{Holds.{HoldsClaims, HoldsSurvey}, Ready.CanRead, Tables.CanReadInode};
+ghost use Rattle.ffs_workspace.specs.{Found.{WithClaims, WithSurvey}, Ready.CanRead, Tables.CanReadInode};
 ghost use Rattle.ffs_workspace.specs.Tables.{TableAfter};
 ghost use Rattle.ffs_names.specs.Noting.{chunk_noting, belongs_to, BeginsNotes, CanNote, CanNoteChunks, CanNoteDirectory};
 ghost use Rattle.ffs_names.specs.Noting.{HoldsPlaces, NotingDirectoryLeaves, NotingChunksLeaves, NotingLeaves, NotesDirectory};
@@ -163,10 +163,11 @@ fn note_directory<I: Image>(
     dir: u32,
 ) -> Result<(), ImageFault>
     requires { CanNoteDirectory geometry.now.layout (I.device image.old) workspace.old dir }
-    ensures notes { ForContents (I.device image.old).contents
-        (λ b. HoldsClaims geometry.now.layout b workspace.old
-        → is_dir (volume_of geometry.now.layout b) dir ≡ true
-        → NotesDirectory geometry.now.layout b dir (dir_moment I.Image image.old workspace.old)
+    ensures notes { ForBytes
+        (WithClaims geometry.now.layout (I.device image.old) workspace.old)
+        (λ bytes. is_dir (volume_of geometry.now.layout bytes) dir ≡ true
+        → NotesDirectory geometry.now.layout bytes dir
+        (dir_moment I.Image image.old workspace.old)
         (dir_moment I.Image image.new workspace.new) result) }
     ensures leaves { NotingDirectoryLeaves geometry.now.layout dir
         (dir_moment I.Image image.old workspace.old) (dir_moment I.Image image.new workspace.new)
@@ -214,14 +215,12 @@ fn note_places_unlimited<I: Image>(
     workspace: &mut Workspace,
 ) -> Result<(), ImageFault>
     requires { CanRead geometry.now.layout (I.device image.old) workspace.old }
-    ensures places { OnOk result (ForContents (I.device image.old).contents
-        (λ b. HoldsClaims geometry.now.layout b workspace.old
-        → HoldsSurvey geometry.now.layout b workspace.old
-        → HoldsPlaces geometry.now.layout b workspace.new)) }
-    ensures reads { ForContents (I.device image.old).contents
-        (λ b. HoldsClaims geometry.now.layout b workspace.old
-        → HoldsSurvey geometry.now.layout b workspace.old
-        → I.reads image.new ≤ I.reads image.old + noted_costs geometry.now.layout b) }
+    ensures places { OnOk result (ForBytes
+        (WithSurvey geometry.now.layout (I.device image.old) workspace.old)
+        (λ bytes. HoldsPlaces geometry.now.layout bytes workspace.new)) }
+    ensures reads { ForBytes
+        (WithSurvey geometry.now.layout (I.device image.old) workspace.old)
+        (λ bytes. I.reads image.new ≤ I.reads image.old + noted_costs geometry.now.layout bytes) }
     ensures leaves { NotingLeaves geometry.now.layout (dir_moment I.Image image.old workspace.old)
         (dir_moment I.Image image.new workspace.new) result }
 {
@@ -250,13 +249,12 @@ pub fn note_places<I: Image>(
     workspace: &mut Workspace,
 ) -> Result<(), ImageFault>
     requires { CanRead geometry.now.layout (I.device image.old) workspace.old }
-    ensures places { OnOk result (ForContents (I.device image.old).contents
-        (λ b. HoldsClaims geometry.now.layout b workspace.old
-        → HoldsSurvey geometry.now.layout b workspace.old
-        → HoldsPlaces geometry.now.layout b workspace.new)) }
-    ensures reads { SweepsOnce geometry.now.layout (I.device image.old).contents
-        (λ b. HoldsClaims geometry.now.layout b workspace.old
-        × HoldsSurvey geometry.now.layout b workspace.old) (I.reads image.old) (I.reads image.new) }
+    ensures places { OnOk result (ForBytes
+        (WithSurvey geometry.now.layout (I.device image.old) workspace.old)
+        (λ bytes. HoldsPlaces geometry.now.layout bytes workspace.new)) }
+    ensures reads { SweepsOnce geometry.now.layout
+        (WithSurvey geometry.now.layout (I.device image.old) workspace.old)
+        (I.reads image.old) (I.reads image.new) }
     ensures leaves { NotingLeaves geometry.now.layout (dir_moment I.Image image.old workspace.old)
         (dir_moment I.Image image.new workspace.new) result }
 {

@@ -1,8 +1,8 @@
 //! The survey of a volume's directories.
 
 ghost use Rattle.std.specs.Prelude.{◌≡◌, false, true, OnOk};
-ghost use Rattle.ffs_image.specs.Device.{ForContents};
-ghost use Rattle.ffs_workspace.specs.{Ready.{CanRead, IsReady}, Holds.HoldsClaims};
+ghost use Rattle.ffs_image.specs.Known.{ForBytes};
+ghost use Rattle.ffs_workspace.specs.{Found.WithClaims, Ready.{CanRead, IsReady}};
 ghost use Rattle.ffs_names.specs.{Costs.SweepsOnce, Sweeps.dir_moment, Surveys.{IsSurveyed, SurveyLeaves, SurveysAll}};
 ghost use Rattle.ffs_names.specs.{Surveys.SurveysNoMore, CalmDirs.FlagsEachCalm};
 
@@ -24,9 +24,10 @@ fn survey_unlimited<I: Image>(
 ) -> Result<(), ImageFault>
     requires ready { CanRead geometry.now.layout (I.device image.old) workspace.old }
     requires first { workspace.old.surveyed ≡ false }
-    ensures survey { ForContents (I.device image.old).contents
-        (λ b. HoldsClaims geometry.now.layout b workspace.old
-        → SurveysAll geometry.now.layout b (dir_moment I.Image image.old workspace.old)
+    ensures survey { ForBytes
+        (WithClaims geometry.now.layout (I.device image.old) workspace.old)
+        (λ bytes. SurveysAll geometry.now.layout bytes
+        (dir_moment I.Image image.old workspace.old)
         (dir_moment I.Image image.new workspace.new) result) }
     ensures leaves { SurveyLeaves geometry.now.layout (I.device image.old) (I.device image.new)
         workspace.old workspace.new result }
@@ -77,16 +78,15 @@ pub fn survey<I: Image>(
     workspace: &mut Workspace,
 ) -> Result<(), ImageFault>
     requires { IsReady geometry.now.layout (I.device image.old) workspace.old }
-    ensures survey { OnOk result (ForContents (I.device image.old).contents
-        (λ b. HoldsClaims geometry.now.layout b workspace.old
-        → IsSurveyed geometry.now.layout b workspace.new)) }
-    ensures flags { workspace.old.surveyed ≡ false → OnOk result
-        (ForContents (I.device image.old).contents
-        (λ b. HoldsClaims geometry.now.layout b workspace.old
-        → FlagsEachCalm geometry.now.layout b workspace.new)) }
-    ensures reads { SweepsOnce geometry.now.layout (I.device image.old).contents
-        (λ b. HoldsClaims geometry.now.layout b workspace.old) (I.reads image.old)
-        (I.reads image.new) }
+    ensures survey { OnOk result (ForBytes
+        (WithClaims geometry.now.layout (I.device image.old) workspace.old)
+        (λ bytes. IsSurveyed geometry.now.layout bytes workspace.new)) }
+    ensures flags { workspace.old.surveyed ≡ false → OnOk result (ForBytes
+        (WithClaims geometry.now.layout (I.device image.old) workspace.old)
+        (λ bytes. FlagsEachCalm geometry.now.layout bytes workspace.new)) }
+    ensures reads { SweepsOnce geometry.now.layout
+        (WithClaims geometry.now.layout (I.device image.old) workspace.old)
+        (I.reads image.old) (I.reads image.new) }
     ensures again { workspace.old.surveyed ≡ true → SurveysNoMore (I.reads image.old)
         (I.reads image.new) workspace.old workspace.new }
     ensures leaves { SurveyLeaves geometry.now.layout (I.device image.old) (I.device image.new)

@@ -1,10 +1,9 @@
 -- Stamps, where one word changes.
 use Rattle.std.proofs.Common.{arith, ◌≡◌, ℕ, zero, suc, Bool, true, false, if◌then◌else◌, refl, List, [], ◌∷◌, length}
-use Rattle.std.proofs.Common.{slice_index, slice_set, replicate, not, ◌&&◌, ◌==◌, ◌<◌, ◌≤◌, ◌∙◌, ap, eqb-true, eq-eqb}
+use Rattle.std.proofs.Common.{slice_index, slice_set, not, ◌&&◌, ◌==◌, ◌<◌, ◌≤◌, ◌∙◌, ap, eqb-true, eq-eqb}
 use Rattle.std.{proofs.{Common.lt-ltb, lemmas.Bool.{and_from, and_parts}}, specs.declared.alloc.Global.Global}
 use Rattle.std.specs.declared.vec.Vec.{Vec}
 use Rattle.ffs_workspace.specs.{Leaves.LeavesSurvey, declared.workspace.Workspace.Workspace}
-use Rattle.ffs_workspace.proofs.PlaceLaws.{zero_index}
 use Rattle.ffs_volume.specs.{Encodings.Places.{is_due, place_in, AreNoted}, declared.{Layout.Layout, Role.Role}}
 use Rattle.ffs_volume.specs.{Encodings.Kinds.is_dir_kind, Directories.{Entries.Entry, Roles.{Volume, is_plain}}}
 use Rattle.ffs_pathnames.specs.{Examines.LeavesAllButDue, declared.inodes.Inodes.Inodes, Sees.{Sees, passed_in}}
@@ -72,9 +71,9 @@ pub queue_leaves : (old new : Workspace) → new ≡ record old { queue = new.qu
     KeepPlaces old.queue.items new.queue.items → LeavesAllButDue old new
 queue_leaves old new e keep = grind (arith, ap, names_leave)
 
--- where each word is 0, none is due
-pub none_due : (ws : List ℕ) (n x : ℕ) → ws ≡ replicate n 0 → is_due (slice_index ws x) ≡ false
-none_due ws n x e = rw (e, zero_index n x) refl
+-- a word that is 0 isn't due
+pub none_due : (ws : List ℕ) (x : ℕ) → slice_index ws x ≡ 0 → is_due (slice_index ws x) ≡ false
+none_due ws x e = rw e refl
 
 -- the inode that an entry names is stamped where it belongs to the directory
 pub after_stamp : (v : Volume) (i : Inodes) (s word : ℕ) (ws ws' : List ℕ) (role : Role) (e : Entry) → Sees v i → 2 ≤ s

@@ -157,7 +157,7 @@ module _ {S : Type 0} (I : Ghosts S) (v : Layout) (old new : S) (w w' : Workspac
 
   -- all that messages of a verdict on an entry show but paths of directories, in one read at most, if
   -- they show attributes; the path of the entry's directory stays
-  pub record GathersShown (e : Entry) (verdict : Verdict) (p p' : EntryPaths) (result : Result Attr ImageFault)
+  pub record GathersOwnPathAndAttr (e : Entry) (verdict : Verdict) (p p' : EntryPaths) (result : Result Attr ImageFault)
       : Type 0 where
     pub enough : IfOk result (λ a. ForContents (I.device old).contents (λ b. (dir : ℕ) (path : List ℕ)
         → IsPathOf (graph_of (volume_of v b)) dir p.directory
@@ -167,7 +167,7 @@ module _ {S : Type 0} (I : Ghosts S) (v : Layout) (old new : S) (w w' : Workspac
     pub reads : OnlyReadsFew v (if_wanted (asks_attr verdict) 1) (path_moment I old w) (path_moment I new w') result
 
   -- all that messages of a verdict on an entry show, where the path of its directory is made; that stays
-  pub record GathersWithPath (e : Entry) (verdict : Verdict) (t t' : EntryTexts) (result : Result Attr ImageFault)
+  pub record GathersPathsAndAttr (e : Entry) (verdict : Verdict) (t t' : EntryTexts) (result : Result Attr ImageFault)
       : Type 0 where
     pub enough : IfOk result (λ a. (dir : ℕ) → ForBytes (DirectoryContext v (I.device old).contents w dir) (λ b.
         IsPathOf (graph_of (volume_of v b)) dir t.paths.directory

@@ -1,7 +1,7 @@
 //! What the lines of an entry and of a directory show: paths, and what an inode says of itself.
 ghost use Rattle.std.specs.Prelude.{◌≡◌};
 ghost use Rattle.ffs_pathnames.specs.Ready.{ReadyToPath, ReadyWhere, ReadyWith};
-ghost use Rattle.ffs_pathnames.specs.Gathers.{GathersDir, GathersEntry, GathersExtra, GathersShown, GathersWithPath};
+ghost use Rattle.ffs_pathnames.specs.Gathers.{GathersDir, GathersEntry, GathersExtra, GathersOwnPathAndAttr, GathersPathsAndAttr};
 ghost use Rattle.ffs_pathnames.specs.Gathers.{PutsWanted, ReadsAttr, asks_attr, asks_path};
 ghost use Rattle.ffs_layout.specs.Entry.{entry_value};
 ghost use Rattle.ffs_workspace.specs.Ready.{CanRead};
@@ -26,122 +26,6 @@ pub struct DirectoryEntry<'a> {
     pub entry: Entry<'a>,
 }
 
-/// Reads what messages show of the inode of a number.
-fn read_attr<I: Image>(
-    geometry: &Geometry,
-    image: &mut I,
-    workspace: &mut Workspace,
-    number: u32,
-) -> Result<Attr, ImageFault>
-    requires { CanReadFor geometry.now.layout (I.device image.old) workspace.old number }
-    ensures { ReadsAttr I.Image geometry.now.layout image.old image.new workspace.old workspace.new
-        number result }
-{
-    let inode = workspace
-        .windows
-        .table
-        .inode_by_part(geometry, number, image)?;
-    Ok(Attr::of(number, &inode))
-}
-
-/// Whether a verdict asks for the attributes of the inode that the entry names, and whether for its
-/// path.
-fn asks(verdict: &Verdict) -> (bool, bool)
-    ensures { result ≡ (asks_attr verdict.now, asks_path verdict.now) }
-{
-    match verdict {
-        Verdict::OutOfRange | Verdict::BadWhiteout | Verdict::Whiteout => (false, false),
-        Verdict::Unallocated => (true, false),
-        Verdict::Named(defects) => (true, defects.extraneous),
-    }
-}
-
-/// The path of a directory, where it is asked for.
-fn gather_path<I: Image>(
-    geometry: &Geometry,
-    image: &mut I,
-    workspace: &mut Workspace,
-    texts: &mut EntryTexts,
-    wanted: bool,
-    dir: u32,
-) -> Result<(), ImageFault>
-    requires { ReadyWhere wanted geometry.now.layout dir (ReadyWith geometry.now.layout
-        (I.device image.old) workspace.old texts.old.kept_parent) }
-    ensures { PutsWanted I.Image geometry.now.layout image.old image.new workspace.old workspace.new
-        wanted dir texts.old texts.new result }
-{
-    if !wanted {
-        return Ok(());
-    }
-    let kept_parent = &mut texts.kept_parent;
-    put_path(
-        geometry,
-        image,
-        workspace,
-        kept_parent,
-        dir,
-        &mut texts.directory,
-    )
-}
-
-/// The attributes of an inode that wasn't read.
-fn no_attr(number: u32) -> Attr {
-    Attr {
-        number,
-        uid: 0,
-        mode: 0,
-        size: 0,
-        mtime: 0,
-    }
-}
-
-/// Gathers what is shown of an entry besides paths of directories, once its directory's is made:
-/// the entry's path, and the attributes of its inode. It reads once at most.
-#[inline(always)]
-fn gather_shown<I: Image>(
-    geometry: &Geometry,
-    image: &mut I,
-    workspace: &mut Workspace,
-    paths: &mut EntryPaths,
-    entry: &Entry<'_>,
-    verdict: &Verdict,
-) -> Result<Attr, ImageFault>
-    requires { ReadyWhere (asks_attr verdict.now) geometry.now.layout entry.now.number
-        (CanRead geometry.now.layout (I.device image.old) workspace.old) }
-    ensures { GathersShown I.Image geometry.now.layout image.old image.new workspace.old
-        workspace.new (entry_value entry.now) verdict.now paths.old paths.new result }
-{
-    let (wants_attr, _) = asks(verdict);
-    paths.put(entry.name);
-    if !wants_attr {
-        // No line of this verdict shows attributes, so none are read.
-        return Ok(no_attr(entry.number));
-    }
-    read_attr(geometry, image, workspace, entry.number)
-}
-
-/// Gathers what the messages on an entry show, once the path of its directory is made: the entry's
-/// path and that of the directory that it names into `texts`, and the attributes of its inode.
-#[tactic(auto, using(std::proofs::lemmas::Result::err_from_is_err_and, crate::proofs::ReadyLaws::gather_failed))]
-#[inline(always)]
-fn gather<I: Image>(
-    geometry: &Geometry,
-    image: &mut I,
-    workspace: &mut Workspace,
-    texts: &mut EntryTexts,
-    entry: &Entry<'_>,
-    verdict: &Verdict,
-) -> Result<Attr, ImageFault>
-    requires { ReadyWhere (asks_attr verdict.now) geometry.now.layout entry.now.number
-        (ReadyWith geometry.now.layout (I.device image.old) workspace.old texts.old.kept_parent) }
-    ensures { GathersWithPath I.Image geometry.now.layout image.old image.new workspace.old
-        workspace.new (entry_value entry.now) verdict.now texts.old texts.new result }
-{
-    let (_, wants_path) = asks(verdict);
-    gather_path(geometry, image, workspace, texts, wants_path, entry.number)?;
-    gather_shown(geometry, image, workspace, &mut texts.paths, entry, verdict)
-}
-
 /// Gathers what the messages on an entry of a directory show, and makes the path of that directory
 /// where it wasn't made yet.
 ///
@@ -163,7 +47,7 @@ pub fn gather_entry<I: Image>(
         workspace.new entry.now verdict.now texts.old texts.new result }
 {
     begin_paths(geometry, image, workspace, texts, entry.dir)?;
-    gather(geometry, image, workspace, texts, &entry.entry, verdict)
+    gather_paths_and_attr(geometry, image, workspace, texts, &entry.entry, verdict)
 }
 
 /// Gathers what the message on an extra entry of a directory shows: the path of the directory into
@@ -209,4 +93,120 @@ pub fn gather_dir<I: Image>(
 {
     put_path(geometry, image, workspace, kept_parent, dir, path)?;
     read_attr(geometry, image, workspace, dir)
+}
+
+/// Gathers what the messages on an entry show, once the path of its directory is made: the entry's
+/// path and that of the directory that it names into `texts`, and the attributes of its inode.
+#[tactic(auto, using(std::proofs::lemmas::Result::err_from_is_err_and, crate::proofs::ReadyLaws::gather_failed))]
+#[inline(always)]
+fn gather_paths_and_attr<I: Image>(
+    geometry: &Geometry,
+    image: &mut I,
+    workspace: &mut Workspace,
+    texts: &mut EntryTexts,
+    entry: &Entry<'_>,
+    verdict: &Verdict,
+) -> Result<Attr, ImageFault>
+    requires { ReadyWhere (asks_attr verdict.now) geometry.now.layout entry.now.number
+        (ReadyWith geometry.now.layout (I.device image.old) workspace.old texts.old.kept_parent) }
+    ensures { GathersPathsAndAttr I.Image geometry.now.layout image.old image.new workspace.old
+        workspace.new (entry_value entry.now) verdict.now texts.old texts.new result }
+{
+    let (_, wants_path) = asks(verdict);
+    gather_named_path(geometry, image, workspace, texts, wants_path, entry.number)?;
+    gather_own_path_and_attr(geometry, image, workspace, &mut texts.paths, entry, verdict)
+}
+
+/// Puts the path of the directory that an entry names into `texts`, where it is asked for.
+fn gather_named_path<I: Image>(
+    geometry: &Geometry,
+    image: &mut I,
+    workspace: &mut Workspace,
+    texts: &mut EntryTexts,
+    wanted: bool,
+    dir: u32,
+) -> Result<(), ImageFault>
+    requires { ReadyWhere wanted geometry.now.layout dir (ReadyWith geometry.now.layout
+        (I.device image.old) workspace.old texts.old.kept_parent) }
+    ensures { PutsWanted I.Image geometry.now.layout image.old image.new workspace.old workspace.new
+        wanted dir texts.old texts.new result }
+{
+    if !wanted {
+        return Ok(());
+    }
+    let kept_parent = &mut texts.kept_parent;
+    put_path(
+        geometry,
+        image,
+        workspace,
+        kept_parent,
+        dir,
+        &mut texts.directory,
+    )
+}
+
+/// Gathers what is shown of an entry besides paths of directories, once its directory's is made:
+/// the entry's path, and the attributes of its inode. It reads once at most.
+#[inline(always)]
+fn gather_own_path_and_attr<I: Image>(
+    geometry: &Geometry,
+    image: &mut I,
+    workspace: &mut Workspace,
+    paths: &mut EntryPaths,
+    entry: &Entry<'_>,
+    verdict: &Verdict,
+) -> Result<Attr, ImageFault>
+    requires { ReadyWhere (asks_attr verdict.now) geometry.now.layout entry.now.number
+        (CanRead geometry.now.layout (I.device image.old) workspace.old) }
+    ensures { GathersOwnPathAndAttr I.Image geometry.now.layout image.old image.new workspace.old
+        workspace.new (entry_value entry.now) verdict.now paths.old paths.new result }
+{
+    let (wants_attr, _) = asks(verdict);
+    paths.put(entry.name);
+    if !wants_attr {
+        // No line of this verdict shows attributes, so none are read.
+        return Ok(no_attr(entry.number));
+    }
+    read_attr(geometry, image, workspace, entry.number)
+}
+
+/// Whether a verdict asks for the attributes of the inode that the entry names, and whether for its
+/// path.
+fn asks(verdict: &Verdict) -> (bool, bool)
+    ensures { result ≡ (asks_attr verdict.now, asks_path verdict.now) }
+{
+    match verdict {
+        Verdict::OutOfRange | Verdict::BadWhiteout | Verdict::Whiteout => (false, false),
+        Verdict::Unallocated => (true, false),
+        Verdict::Named(defects) => (true, defects.extraneous),
+    }
+}
+
+/// The attributes of an inode that wasn't read.
+fn no_attr(number: u32) -> Attr {
+    Attr {
+        number,
+        uid: 0,
+        mode: 0,
+        size: 0,
+        mtime: 0,
+    }
+}
+
+/// Reads what messages show of the inode of a number.
+fn read_attr<I: Image>(
+    geometry: &Geometry,
+    image: &mut I,
+    workspace: &mut Workspace,
+    number: u32,
+) -> Result<Attr, ImageFault>
+    requires { CanReadFor geometry.now.layout (I.device image.old) workspace.old number }
+    ensures { ReadsAttr I.Image geometry.now.layout image.old image.new workspace.old workspace.new
+        number result }
+{
+    let inode = workspace
+        .windows
+        .table
+        .inode_by_part(geometry, number, image)?;
+    Ok(Attr::of(number, &inode))
 }

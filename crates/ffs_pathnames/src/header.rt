@@ -115,10 +115,10 @@ pub fn header_defects<'a>(header: &HeaderFacts<'a>) -> HeaderDefects<&'a [u8]>
 
 /// Says that a directory's size is too short, or no multiple of a chunk.
 fn say_size<W: Output>(
-    report: &mut Report<'_, W>,
     attr: Attr,
     path: &[u8],
     defects: &HeaderDefects<&[u8]>,
+    report: &mut Report<'_, W>,
 ) -> Result<(), OutFault>
     ensures { SaysTreeMessages (progress W.sink report.old) (progress W.sink report.new)
         (size_lines (defects_value defects.now) attr path.now) result }
@@ -134,15 +134,15 @@ fn say_size<W: Output>(
             size: attr.size,
         }),
     };
-    say_two(report, &short, &broken)
+    say_two(&short, &broken, report)
 }
 
 /// Says that a directory has holes, or that a chunk isn't sound.
 fn say_chunks<W: Output>(
-    report: &mut Report<'_, W>,
     attr: Attr,
     path: &[u8],
     defects: &HeaderDefects<&[u8]>,
+    report: &mut Report<'_, W>,
 ) -> Result<(), OutFault>
     ensures { SaysTreeMessages (progress W.sink report.old) (progress W.sink report.new)
         (chunk_lines (defects_value defects.now) attr path.now) result }
@@ -155,26 +155,26 @@ fn say_chunks<W: Output>(
         holds: defects.unsound,
         line: Phase2Line::Directory(DirectoryLine::DirCorrupt { attr, path }),
     };
-    say_two(report, &empty, &corrupt)
+    say_two(&empty, &corrupt, report)
 }
 
 /// Says what is wrong with `.`.
 fn say_dot<W: Output>(
-    report: &mut Report<'_, W>,
     attr: Attr,
     path: &[u8],
     defects: DotDefects<&[u8]>,
+    report: &mut Report<'_, W>,
 ) -> Result<(), OutFault>
     ensures { SaysTreeMessages (progress W.sink report.old) (progress W.sink report.new)
         (dot_lines (dot_value defects.entry) attr path.now) result }
 {
     match defects {
         DotDefects::Missing => {
-            say_line(report, &Phase2Line::Dot(DotLine::MissingDot { attr, path }))
+            say_line(&Phase2Line::Dot(DotLine::MissingDot { attr, path }), report)
         }
         DotDefects::Other { name } => say_line(
-            report,
             &Phase2Line::Dot(DotLine::MissingDotFirst { attr, path, name }),
+            report,
         ),
         DotDefects::Found {
             wrong_number,
@@ -188,29 +188,29 @@ fn say_dot<W: Output>(
                 holds: wrong_type,
                 line: Phase2Line::Dot(DotLine::TypeDot { attr, path }),
             };
-            say_two(report, &number, &kind)
+            say_two(&number, &kind, report)
         }
     }
 }
 
 /// Says what is wrong with `..`.
 fn say_dotdot<W: Output>(
-    report: &mut Report<'_, W>,
     attr: Attr,
     path: &[u8],
     defects: DotDefects<&[u8]>,
+    report: &mut Report<'_, W>,
 ) -> Result<(), OutFault>
     ensures { SaysTreeMessages (progress W.sink report.old) (progress W.sink report.new)
         (dotdot_lines (dot_value defects.entry) attr path.now) result }
 {
     match defects {
         DotDefects::Missing => say_line(
-            report,
             &Phase2Line::Dot(DotLine::MissingDotdot { attr, path }),
+            report,
         ),
         DotDefects::Other { name } => say_line(
-            report,
             &Phase2Line::Dot(DotLine::MissingDotdotSecond { attr, path, name }),
+            report,
         ),
         DotDefects::Found {
             wrong_number,
@@ -224,7 +224,7 @@ fn say_dotdot<W: Output>(
                 holds: wrong_type,
                 line: Phase2Line::Dot(DotLine::TypeDotdot { attr, path }),
             };
-            say_two(report, &number, &kind)
+            say_two(&number, &kind, report)
         }
     }
 }
@@ -232,16 +232,16 @@ fn say_dotdot<W: Output>(
 /// Says what is wrong with `.` and `..`.
 #[tactic(auto, using(crate::proofs::Saying::first_stops))]
 fn say_dots<W: Output>(
-    report: &mut Report<'_, W>,
     attr: Attr,
     path: &[u8],
     defects: &HeaderDefects<&[u8]>,
+    report: &mut Report<'_, W>,
 ) -> Result<(), OutFault>
     ensures { SaysTreeMessages (progress W.sink report.old) (progress W.sink report.new)
         (dots_lines (defects_value defects.now) attr path.now) result }
 {
-    say_dot(report, attr, path, defects.dot)?;
-    say_dotdot(report, attr, path, defects.dotdot)
+    say_dot(attr, path, defects.dot, report)?;
+    say_dotdot(attr, path, defects.dotdot, report)
 }
 
 /// Says all lines of a directory that come before those of its entries.
@@ -250,15 +250,15 @@ fn say_dots<W: Output>(
 /// A write of the report that failed.
 #[tactic(auto, using(crate::proofs::Saying::first_stops), unfolding(ffs_volume::specs::Directories::PathnameCheck::header_lines))]
 pub fn say_header<W: Output>(
-    report: &mut Report<'_, W>,
     attr: Attr,
     path: &[u8],
     defects: &HeaderDefects<&[u8]>,
+    report: &mut Report<'_, W>,
 ) -> Result<(), OutFault>
     ensures { SaysTreeMessages (progress W.sink report.old) (progress W.sink report.new)
         (header_lines (defects_value defects.now) attr path.now) result }
 {
-    say_size(report, attr, path, defects)?;
-    say_chunks(report, attr, path, defects)?;
-    say_dots(report, attr, path, defects)
+    say_size(attr, path, defects, report)?;
+    say_chunks(attr, path, defects, report)?;
+    say_dots(attr, path, defects, report)
 }

@@ -1,7 +1,7 @@
 //! Phase 2: the pathname check (fsck(8)).
 //!
-//! `phase2` prints the pathname check's text, returns whether the check continues after the root,
-//! and leaves what the survey of directories found.
+//! `phase2` prints the pathname check's text, returns whether the check continues after the root
+//! (`Root`), and leaves what the survey of directories found.
 //!
 //! ```text
 //! let root = phase2(&geometry, &mut image, &mut workspace, &mut report)?;

@@ -8,11 +8,12 @@ ghost use Rattle.ffs_report.specs.Progress.{progress};
 use crate::entry_texts::EntryTexts;
 use crate::gather::{DirectoryEntry, gather_entry, gather_extra};
 use crate::inodes::Inodes;
+use crate::say::{Phase2Line, say_line};
 use crate::verdict::{say_verdict, verdict_at_reading};
 use ffs_image::Image;
 use ffs_layout::{Entry, Geometry};
 use ffs_names::is_one_dot;
-use ffs_report::{DotLine, Line, OutFault, Output, Report, RunFault};
+use ffs_report::{DotLine, OutFault, Output, Report, RunFault};
 use ffs_volume::Attr;
 use ffs_volume::verdict::Verdict;
 use ffs_workspace::Workspace;
@@ -57,30 +58,33 @@ pub fn report_plain<I: Image, W: Output>(
     }
     let attr = gather_entry(geometry, image, workspace, texts, entry, &verdict)?;
     say_verdict(
-        report,
         &verdict,
         entry.entry.number,
         attr,
         texts.paths.last(),
         texts.directory.as_slice(),
+        report,
     )?;
     Ok(())
 }
 
 /// Says that an entry is extra.
 fn say_extra<W: Output>(
-    report: &mut Report<'_, W>,
     attr: Attr,
     path: &[u8],
     entry: &Entry<'_>,
+    report: &mut Report<'_, W>,
 ) -> Result<(), OutFault>
     ensures { SaysTreeMessages (progress W.sink report.old) (progress W.sink report.new)
         (extra_lines attr path.now (entry_value entry.now)) result }
 {
     if is_one_dot(entry.name) {
-        return report.say(&Line::Dot(DotLine::ExtraDot { attr, path }));
+        return say_line(&Phase2Line::Dot(DotLine::ExtraDot { attr, path }), report);
     }
-    report.say(&Line::Dot(DotLine::ExtraDotdot { attr, path }))
+    say_line(
+        &Phase2Line::Dot(DotLine::ExtraDotdot { attr, path }),
+        report,
+    )
 }
 
 /// Prints the line of an extra entry: a `.` that isn't the first entry of the chunk at the start of
@@ -106,6 +110,6 @@ pub fn report_extra<I: Image, W: Output>(
         (path_moment I.Image image.new workspace.new) texts.new.kept_parent result }
 {
     let attr = gather_extra(geometry, image, workspace, texts, entry.dir)?;
-    say_extra(report, attr, texts.directory.as_slice(), &entry.entry)?;
+    say_extra(attr, texts.directory.as_slice(), &entry.entry, report)?;
     Ok(())
 }

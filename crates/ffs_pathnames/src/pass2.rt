@@ -1,5 +1,5 @@
 //! Phase 2: pathnames (fsck(8)).
-ghost use Rattle.std.specs.Prelude.{◌≡◌, ◌+◌, ◌*◌, ◌∷◌, [], false, true, length, map, vec_len, ◌&&◌, not, ℕ, IfOk, OnErr};
+ghost use Rattle.std.specs.Prelude.{◌≡◌, ◌+◌, ◌*◌, ◌∷◌, [], false, true, length, map, slice_index, vec_len, ◌&&◌, not, ℕ, IfOk, OnErr};
 ghost use Rattle.ffs_report.specs.{Known.ForBytes, Paid.Paid, PhaseOutcome.{ImageAfter, PhaseReports}, Progress.progress};
 ghost use Rattle.ffs_volume.specs.Directories.{PathnameCheck.pathname_lines, Volumes.volume_of};
 ghost use Rattle.ffs_volume.specs.{Encodings.Kinds.is_dir_kind, Messages.Kinds.of_tree, Report.Reads.{line_reads, sweep_reads}};
@@ -86,11 +86,13 @@ pub fn phase2<I: Image, W: Output>(
 }
 
 /// Begins the check of directories with no name passed: the flags of suspect inodes are cleared,
-/// and from now on such a flag says that a plain entry has named the inode. Each word of `queue`
-/// is set to 0: no parent entry's place is noted, and none is due. The survey's flags of other
-/// inodes stay, and say which directories are calm: these are left out. The windows hold nothing.
+/// and from now on such a flag says that a plain entry has named the inode. Each word of `queue` is
+/// 0, as the survey left it: no parent entry's place is noted, and none is due. The survey's flags
+/// of other inodes stay, and say which directories are calm: these are left out. The windows hold
+/// nothing.
 pub fn clear_passed(workspace: &mut Workspace)
-    requires { HasInodeLists workspace.old }
+    requires lists { HasInodeLists workspace.old }
+    requires unnoted { (x : ℕ) → slice_index workspace.old.queue.items x ≡ 0 }
     ensures { IsNonePassed workspace.old workspace.new }
 {
     workspace.forget_windows();
@@ -100,8 +102,6 @@ pub fn clear_passed(workspace: &mut Workspace)
         parents: &workspace.parents,
     };
     clear_suspects(&inodes, &mut workspace.flags);
-    // It is so after a survey; whoever calls this alone may have used it since.
-    workspace.queue.fill(0);
 }
 
 /// Whether an inode is suspect: a loop without exit, and mostly none is.
@@ -183,16 +183,16 @@ fn report_root<W: Output>(
 {
     let kind = Kind { code: kind };
     if !kind.is_allocated() {
-        return say_line(report, &Phase2Line::Directory(DirectoryLine::RootNone));
+        return say_line(&Phase2Line::Directory(DirectoryLine::RootNone), report);
     }
     if kind.is_dir() {
         let suspect = LineIf {
             holds: marked || kind.is_empty_dir(),
             line: Phase2Line::Directory(DirectoryLine::RootSuspect),
         };
-        return say_if(report, &suspect);
+        return say_if(&suspect, report);
     }
-    say_line(report, &Phase2Line::Directory(DirectoryLine::RootNotDir))
+    say_line(&Phase2Line::Directory(DirectoryLine::RootNotDir), report)
 }
 
 /// Whether the check continues after a root of this kind.

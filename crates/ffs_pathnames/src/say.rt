@@ -32,8 +32,8 @@ pub struct LineIf<'a> {
 /// # Errors
 /// A write of the report that failed.
 pub fn say_line<W: Output>(
-    report: &mut Report<'_, W>,
     line: &Phase2Line<'_>,
+    report: &mut Report<'_, W>,
 ) -> Result<(), OutFault>
     ensures { SaysTreeMessages (progress W.sink report.old) (progress W.sink report.new)
         (reported true (phase2_message line.now)) result }
@@ -49,12 +49,12 @@ pub fn say_line<W: Output>(
 ///
 /// # Errors
 /// A write of the report that failed.
-pub fn say_if<W: Output>(report: &mut Report<'_, W>, line: &LineIf<'_>) -> Result<(), OutFault>
+pub fn say_if<W: Output>(line: &LineIf<'_>, report: &mut Report<'_, W>) -> Result<(), OutFault>
     ensures { SaysTreeMessages (progress W.sink report.old) (progress W.sink report.new)
         (reported line.now.holds (phase2_message line.now.line)) result }
 {
     if line.holds {
-        return say_line(report, &line.line);
+        return say_line(&line.line, report);
     }
     Ok(())
 }
@@ -65,13 +65,13 @@ pub fn say_if<W: Output>(report: &mut Report<'_, W>, line: &LineIf<'_>) -> Resul
 /// A write of the report that failed.
 #[tactic(auto, using(crate::proofs::Saying::first_stops))]
 pub fn say_two<W: Output>(
-    report: &mut Report<'_, W>,
     first: &LineIf<'_>,
     second: &LineIf<'_>,
+    report: &mut Report<'_, W>,
 ) -> Result<(), OutFault>
     ensures { SaysTreeMessages (progress W.sink report.old) (progress W.sink report.new)
         (two_reported first.now second.now) result }
 {
-    say_if(report, first)?;
-    say_if(report, second)
+    say_if(first, report)?;
+    say_if(second, report)
 }

@@ -188,10 +188,10 @@ pub fn pass(
 
 /// Says that an inode is suspect, where this entry is the first that names it.
 fn say_suspect<W: Output>(
-    report: &mut Report<'_, W>,
     defects: &EntryDefects,
     attr: Attr,
     path: &[u8],
+    report: &mut Report<'_, W>,
 ) -> Result<(), OutFault>
     ensures { SaysTreeMessages (progress W.sink report.old) (progress W.sink report.new)
         (reported defects.now.first_of_suspect (suspect_message defects.now attr path.now)) result }
@@ -201,28 +201,28 @@ fn say_suspect<W: Output>(
     }
     if defects.marked {
         return say_line(
-            report,
             &Phase2Line::Entry(EntryLine::DupBad {
                 label: defects.label,
                 attr,
                 path,
             }),
+            report,
         );
     }
     say_line(
-        report,
         &Phase2Line::Entry(EntryLine::ZeroDir { attr, path }),
+        report,
     )
 }
 
 /// Says of an entry that it isn't the parent entry of the directory that it names, and that its
 /// type isn't that of the inode, each where it is so.
 fn say_name_and_type<W: Output>(
-    report: &mut Report<'_, W>,
     defects: &EntryDefects,
     attr: Attr,
     path: &[u8],
     directory: &[u8],
+    report: &mut Report<'_, W>,
 ) -> Result<(), OutFault>
     ensures { SaysTreeMessages (progress W.sink report.old) (progress W.sink report.new)
         (name_and_type_lines defects.now attr path.now directory.now) result }
@@ -242,23 +242,23 @@ fn say_name_and_type<W: Output>(
             path,
         }),
     };
-    say_two(report, &extraneous, &wrong_type)
+    say_two(&extraneous, &wrong_type, report)
 }
 
 /// Says what is wrong with an entry that names an allocated inode.
 #[tactic(auto, using(crate::proofs::Saying::first_stops))]
 fn say_defects<W: Output>(
-    report: &mut Report<'_, W>,
     defects: &EntryDefects,
     attr: Attr,
     path: &[u8],
     directory: &[u8],
+    report: &mut Report<'_, W>,
 ) -> Result<(), OutFault>
     ensures { SaysTreeMessages (progress W.sink report.old) (progress W.sink report.new)
         (defects_lines defects.now attr path.now directory.now) result }
 {
-    say_suspect(report, defects, attr, path)?;
-    say_name_and_type(report, defects, attr, path, directory)
+    say_suspect(defects, attr, path, report)?;
+    say_name_and_type(defects, attr, path, directory, report)
 }
 
 /// Says the lines of a plain entry's verdict.
@@ -266,30 +266,30 @@ fn say_defects<W: Output>(
 /// # Errors
 /// A write of the report that failed.
 pub fn say_verdict<W: Output>(
-    report: &mut Report<'_, W>,
     verdict: &Verdict,
     number: u32,
     attr: Attr,
     path: &[u8],
     directory: &[u8],
+    report: &mut Report<'_, W>,
 ) -> Result<(), OutFault>
     ensures { SaysTreeMessages (progress W.sink report.old) (progress W.sink report.new)
         (verdict_lines verdict.now number attr path.now directory.now) result }
 {
     match verdict {
         Verdict::OutOfRange => say_line(
-            report,
             &Phase2Line::Entry(EntryLine::OutOfRange { number, path }),
+            report,
         ),
         Verdict::BadWhiteout => say_line(
-            report,
             &Phase2Line::Entry(EntryLine::Whiteout { number, path }),
+            report,
         ),
         Verdict::Whiteout => Ok(()),
         Verdict::Unallocated => say_line(
-            report,
             &Phase2Line::Entry(EntryLine::Unallocated { attr, path }),
+            report,
         ),
-        Verdict::Named(defects) => say_defects(report, defects, attr, path, directory),
+        Verdict::Named(defects) => say_defects(defects, attr, path, directory, report),
     }
 }

@@ -1,12 +1,13 @@
 //! The paths of directories and of their entries.
 //!
-//! `path_of` writes the path of a directory, or of an entry of it, into a buffer of 1,024 bytes:
-//! the definition's path, cut to `?` and its longest end of whole names where it is longer.
-//! `KeptParent` makes the paths of one directory after another, and keeps that of the last one's
-//! parent for the next. `EntryPaths` writes those of a directory's entries. The name of a directory
-//! in its parent is read from the chunk that the workspace notes as its place, and where it isn't
-//! there, searched in all entries of the parent. Of an image that gives its bytes, where
-//! the place of each directory is noted, `path_of` makes at most 513 reads.
+//! `path_of` writes the path of a directory, or of an entry of it, into a `PathText` of 1,024
+//! bytes: the definition's path, cut to `?` and its longest end of whole names where it is longer.
+//! `directory_path` makes a `DirectoryPath`, which writes these for all entries of a directory; its
+//! names are in a `PathBuffer`. `KeptParent` makes the paths of one directory after another, and
+//! keeps that of the last one's parent for the next. `EntryPaths` writes those of a directory's
+//! entries. The name of a directory in its parent is read from the chunk that the workspace notes
+//! as its place, and where it isn't there, searched in all entries of the parent. Of an image that
+//! gives its bytes, where the place of each directory is noted, `path_of` makes at most 513 reads.
 //!
 //! It rests on `ffs_names` and `ffs_workspace`.
 #![tactic(auto)]

@@ -1,6 +1,11 @@
 //! A small volume and its images, for the tests of the crates: one group of 128 fragments of 1,024
 //! bytes. Its 32 inodes begin at byte 28,672, and its data at fragment 33.
 //!
+//! `geometry` is that of the volume in one of `ORDERS`, and `image_of` makes an image of numbers at
+//! places, by `put`; `base` has only the superblock, by `put_super`, and `put_bytes` writes a text.
+//! `inode` makes an inode, and `numbers`, `flags`, `set_first` and `set_first_filled` make or fill
+//! lists. A `Watched` image counts its reads, and `Stop` is why a test has no answer.
+//!
 //! ```text
 //! let geometry = geometry(Order::Little)?;
 //! let mut image = image_of(Order::Little, &[(28_672 + 2 * 128, 2, 0o040755)], alloc)?;

@@ -4,7 +4,7 @@
 //! image, and is the one that phase 2 calls.
 //!
 //! `survey` leaves what is reached, parents and references as the definitions have them;
-//! `any_unreached` looks for a directory that isn't reached, and `flag_leaders` flags one directory
+//! `may_be_unreached` looks for a directory that isn't reached, and `flag_leaders` flags one directory
 //! of each cycle of parents.
 //!
 //! It rests on `ffs_volume`, `ffs_image` and `ffs_memory`.
@@ -22,7 +22,7 @@ mod unref;
 pub use cycles::flag_leaders;
 pub use directories::Directories;
 pub use entry_head::{EntryHead, is_plain};
-pub use levels::{any_unreached, survey};
+pub use levels::{may_be_unreached, survey};
 pub use lists::{FoundLists, KnownInodes, Surveyed};
 pub use numbers::is_dir;
 pub use unref::{is_dead, is_suspect, is_unref};

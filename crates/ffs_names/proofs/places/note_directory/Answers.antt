@@ -13,10 +13,10 @@ note_is : (g : given.Over) (c : After-chunks_of g) (b : List ℕ) →
 note_is g c b notes = grind (arith, common_steps, get_or_default_zero)
 
 pub returns-clause-notes : goal.returns-clause-notes
-returns-clause-notes g c = λ b t claims dir.
+returns-clause-notes g c = λ b k dir.
     let begun = c.in_ok-chunks.ensures in
-    let now = ap (λ d. d.contents) begun.leaves.read ∙ t in
-    let begins = begun.chunks b t (note_is g (goal.at.returns-clause-notes g c).After-chunks_of b claims.notes) dir in
+    let now = ap (λ d. d.contents) begun.leaves.read ∙ k.0 in
+    let begins = begun.chunks b k.0 (note_is g (goal.at.returns-clause-notes g c).After-chunks_of b k.1.notes) dir in
     record {
       noted = on_ok c.note_chunks.result _ _
           (λ s. rw (begins.chunks, ap (λ x. x.layout) begun.begins.geometry) at (s b now)) c.note_chunks.ensures.noted;

@@ -23,10 +23,10 @@ loop-dir-init g c =
       low = omega arith;
       were_read = begins.low;
       only = begins.only;
-      reads = λ b t claims survey. omega arith;
-      places = λ b t claims survey x p k there is.
-          let none : 0 ≡ suc k = sym (begins.none x) ∙ there in absurd (omega arith);
-      noted = λ b t claims survey. coming_first long begins survey;
+      reads = λ b k. omega arith;
+      places = λ b k x p q there is.
+          let none : 0 ≡ suc q = sym (begins.none x) ∙ there in absurd (omega arith);
+      noted = λ b k. coming_first long begins k.2;
     }
 
 pub loop-dir-preserved : goal.loop-dir-preserved
@@ -66,21 +66,21 @@ loop-dir-preserved g c =
                 inv.were_read;
             only = only_fewer first.parents.items old new.queue.items dir w.without_due.result inside
                 w.without_due.ensures.due set_was_read inv.only;
-            reads = λ b t claims survey.
-                let is = parent_is_dir survey (inv.only dir unread) in
-                let took = noted.notes b (ap (λ d. d.contents) inv.same ∙ t) (claims_noted lists claims) is in
+            reads = λ b k.
+                let is = parent_is_dir k.2 (inv.only dir unread) in
+                let took = noted.notes b (ap (λ d. d.contents) inv.same ∙ k.0, claims_noted lists k.1) is in
                 let more = cost_take (λ s. true) (noted_cost v b) dir refl in
-                omega (arith, took.counted, more, inv.reads b t claims survey);
-            places = λ b t claims survey.
-                let right = places_same v b old mid.queue.items same (inv.places b t claims survey) in
-                places_after (survey_noted lists survey right)
-                (λ is. (noted.notes b (ap (λ d. d.contents) inv.same ∙ t) (claims_noted lists claims) is).noted)
+                omega (arith, took.counted, more, inv.reads b k);
+            places = λ b k.
+                let right = places_same v b old mid.queue.items same (inv.places b k) in
+                places_after (survey_noted lists k.2 right)
+                (λ is. (noted.notes b (ap (λ d. d.contents) inv.same ∙ k.0, claims_noted lists k.1) is).noted)
                 noted.leaves.children right;
-            noted = λ b t claims survey.
-                let right = places_same v b old mid.queue.items same (inv.places b t claims survey) in
-                coming_noted old (survey_noted lists survey right) same other
-                (λ is. (noted.notes b (ap (λ d. d.contents) inv.same ∙ t) (claims_noted lists claims) is).noted)
-                noted.leaves.children (inv.noted b t claims survey);
+            noted = λ b k.
+                let right = places_same v b old mid.queue.items same (inv.places b k) in
+                coming_noted old (survey_noted lists k.2 right) same other
+                (λ is. (noted.notes b (ap (λ d. d.contents) inv.same ∙ k.0, claims_noted lists k.1) is).noted)
+                noted.leaves.children (inv.noted b k);
           })
       | else-is_due w ↦
           rw (w.image-is, w.workspace-is) (record {
@@ -91,21 +91,21 @@ loop-dir-preserved g c =
             were_read = below_more (λ x. is_to_be_read (slice_index old x) ≡ false) dir inv.were_read
                 (ap is_to_be_read (sym word) ∙ (sym c.is_due.ensures ∙ w.if-is_due.false));
             only = inv.only;
-            reads = λ b t claims survey.
+            reads = λ b k.
                 let more = cost_take (λ s. true) (noted_cost v b) dir refl in
-                omega (arith, more, inv.reads b t claims survey);
+                omega (arith, more, inv.reads b k);
             places = inv.places;
             noted = inv.noted;
           })
     ]
 
 pub returns-clause-places : goal.returns-clause-places
-returns-clause-places g c = λ b t claims survey.
+returns-clause-places g c = λ b k.
     let inv = c.loop-dir.invariant in
     record {
-      survey = survey_noted inv.lists survey (inv.places b t claims survey);
+      survey = survey_noted inv.lists k.2 (inv.places b k);
       noted = coming_end c.args.geometry.now.layout b c.loop-dir.workspace.queue.items
-          (λ x l. inv.were_read x (omega arith)) (inv.noted b t claims survey);
+          (λ x l. inv.were_read x (omega arith)) (inv.noted b k);
     }
 
 -- what is left
@@ -120,7 +120,7 @@ pub returns-clause-reads : goal.returns-clause-reads
 returns-clause-reads g c = grind (arith, some_inodes, costs_rise)
 
 pub returns-in_err-note_directory-clause-reads : goal.returns-in_err-note_directory-clause-reads
-returns-in_err-note_directory-clause-reads g c = λ b t claims survey.
+returns-in_err-note_directory-clause-reads g c = λ b k.
     let v = c.args.geometry.now.layout in
     let inv = c.loop-dir.invariant in
     let first = c.args.workspace.now in
@@ -133,8 +133,8 @@ returns-in_err-note_directory-clause-reads g c = λ b t claims survey.
     let mid : Workspace = record c.loop-dir.workspace { queue = c.set.new.self } in
     let lists : mid ≡ record first { windows = mid.windows; queue = mid.queue } =
     ap (λ (x : Workspace). record x { queue = c.set.new.self }) inv.lists in
-    let took = (c.in_err-note_directory.ensures.notes b (ap (λ d. d.contents) inv.same ∙ t) (claims_noted lists claims)
-    (parent_is_dir survey (inv.only dir unread))).counted in
+    let took = (c.in_err-note_directory.ensures.notes b (ap (λ d. d.contents) inv.same ∙ k.0, claims_noted lists k.1)
+    (parent_is_dir k.2 (inv.only dir unread))).counted in
     let more = cost_take (λ s. true) (noted_cost v b) dir refl in
     let all = costs_rise (λ s. true) (noted_cost v b) (dir + 1) (v.ncg * v.ipg) (omega arith) in
-    omega (arith, took, more, all, inv.reads b t claims survey)
+    omega (arith, took, more, all, inv.reads b k)

@@ -1,25 +1,22 @@
 use Rattle.std.proofs.Common.{◌≡◌, ◌<◌, ◌≤◌, ◌+◌, ℕ, false, slice_index}
-use Rattle.ffs_image.specs.Device.{ForContents}
-use Rattle.ffs_workspace.specs.{Holds.{HoldsClaims, HoldsSurvey}, Ready.CanRead}
+use Rattle.ffs_image.specs.Known.{ForBytes}
+use Rattle.ffs_workspace.specs.{Found.WithSurvey, Ready.CanRead}
 use Rattle.ffs_volume.specs.{Encodings.Places.{is_due as is_to_be_read, ArePlaces}, Report.DirectoryReads.costs_all}
 use Rattle.ffs_volume.specs.Report.DirectoryReads.{noted_cost}
 use Rattle.ffs_names.proofs.PlacesNoted.{AreComing, OnlyParents}
 use Rattle.ffs_names.proofs.places.note_places_unlimited.Given as goal
 
 abbrev pub invariant-loop-dir : goal.invariant-loop-dir
-invariant-loop-dir g l = let device = g.I.Image.device in record {
-  same : device l.image ≡ device l.fn.image;
-  lists : l.workspace ≡ record l.fn.workspace { windows = l.workspace.windows; queue = l.workspace.queue };
-  ready : CanRead l.geometry.layout (device l.image) l.workspace;
-  low : 2 ≤ l.dir;
-  were_read : (x : ℕ) → x < l.dir → is_to_be_read (slice_index l.workspace.queue.items x) ≡ false;
-  only : OnlyParents l.fn.workspace.parents.items l.workspace.queue.items;
-  reads : ForContents (device l.fn.image).contents (λ b. HoldsClaims l.geometry.layout b l.fn.workspace →
-      HoldsSurvey l.geometry.layout b l.fn.workspace →
-      g.I.Image.reads l.image ≤ g.I.Image.reads l.fn.image + costs_all (noted_cost l.geometry.layout b) l.dir);
-  places : ForContents (device l.fn.image).contents (λ b. HoldsClaims l.geometry.layout b l.fn.workspace →
-      HoldsSurvey l.geometry.layout b l.fn.workspace → ArePlaces l.geometry.layout b l.workspace.queue.items);
-  noted : ForContents (device l.fn.image).contents (λ b. HoldsClaims l.geometry.layout b l.fn.workspace →
-      HoldsSurvey l.geometry.layout b l.fn.workspace →
-      AreComing l.geometry.layout b l.workspace.queue.items);
-}
+invariant-loop-dir g l = let device = g.I.Image.device in
+    let known = WithSurvey l.geometry.layout (device l.fn.image) l.fn.workspace in record {
+      same : device l.image ≡ device l.fn.image;
+      lists : l.workspace ≡ record l.fn.workspace { windows = l.workspace.windows; queue = l.workspace.queue };
+      ready : CanRead l.geometry.layout (device l.image) l.workspace;
+      low : 2 ≤ l.dir;
+      were_read : (x : ℕ) → x < l.dir → is_to_be_read (slice_index l.workspace.queue.items x) ≡ false;
+      only : OnlyParents l.fn.workspace.parents.items l.workspace.queue.items;
+      reads : ForBytes known (λ b.
+          g.I.Image.reads l.image ≤ g.I.Image.reads l.fn.image + costs_all (noted_cost l.geometry.layout b) l.dir);
+      places : ForBytes known (λ b. ArePlaces l.geometry.layout b l.workspace.queue.items);
+      noted : ForBytes known (λ b. AreComing l.geometry.layout b l.workspace.queue.items);
+    }

@@ -11,8 +11,9 @@ none_set (suc n) (suc x) = none_set n x
 
 -- what an earlier survey found stands
 pub returns-then-workspace-clause-survey : goal.returns-then-workspace-clause-survey
-returns-then-workspace-clause-survey g c = λ b t h.
+returns-then-workspace-clause-survey g c = λ b k.
     let w = c.args.workspace.now in
+    let h = k.1 in
     let found = counts_stand _ b w h.counts c.if-workspace.true in
     record {
       survey = record {
@@ -47,11 +48,15 @@ survey_unlimited-surveyed-requires-clause-ready g c =
 
 -- what it found, by the bytes of the image below the limit
 pub returns-clause-survey : goal.returns-clause-survey
-returns-clause-survey g c = on_ok_each _ c.survey_unlimited-surveyed.result (λ b t h.
-    (c.survey_unlimited-surveyed.ensures.survey b (ap (λ d. d.contents) c.new-limited.ensures.device ∙ t)
-    (claims_held _ b c.args.workspace.now _ c.forget_windows.ensures.only h)).found)
+returns-clause-survey g c = on_ok_each _ c.survey_unlimited-surveyed.result (λ b k.
+    (c.survey_unlimited-surveyed.ensures.survey b (
+      ap (λ d. d.contents) c.new-limited.ensures.device ∙ k.0,
+      claims_held _ b c.args.workspace.now _ c.forget_windows.ensures.only k.1,
+    )).found)
 
 pub returns-clause-flags : goal.returns-clause-flags
-returns-clause-flags g c = λ first. on_ok_each _ c.survey_unlimited-surveyed.result (λ b t h.
-    (c.survey_unlimited-surveyed.ensures.survey b (ap (λ d. d.contents) c.new-limited.ensures.device ∙ t)
-    (claims_held _ b c.args.workspace.now _ c.forget_windows.ensures.only h)).flags)
+returns-clause-flags g c = λ first. on_ok_each _ c.survey_unlimited-surveyed.result (λ b k.
+    (c.survey_unlimited-surveyed.ensures.survey b (
+      ap (λ d. d.contents) c.new-limited.ensures.device ∙ k.0,
+      claims_held _ b c.args.workspace.now _ c.forget_windows.ensures.only k.1,
+    )).flags)

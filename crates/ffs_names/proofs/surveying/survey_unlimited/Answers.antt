@@ -62,7 +62,9 @@ returns-clause-leaves g c =
     }
 
 pub returns-clause-survey : goal.returns-clause-survey
-returns-clause-survey g c = λ b t h.
+returns-clause-survey g c = λ b k.
+    let t = k.0 in
+    let h = k.1 in
     let at = (goal.at.returns-clause-survey g c).After-survey-surveyed in
     let v = c.args.geometry.now.layout in
     let w = c.args.workspace.now in

@@ -23,27 +23,27 @@ returns-in_err-begin_paths g c =
           (record { path = begun.makes.makes.leaves; most = begun.makes.most }) (omega arith);
     })
 
-pub gather-requires : goal.gather-requires
-gather-requires g c = grind arith
+pub gather_paths_and_attr-requires : goal.gather_paths_and_attr-requires
+gather_paths_and_attr-requires g c = grind arith
 
 pub returns : goal.returns
 returns g c =
     let v = c.args.geometry.now.layout in
     let begun = c.in_ok-begin_paths.ensures.makes in
     let read = begun.makes.leaves.reads in
-    let left = c.gather.ensures.leaves in
+    let left = c.gather_paths_and_attr.ensures.leaves in
     record {
-      enough = if_ok c.gather.result _ _
+      enough = if_ok c.gather_paths_and_attr.result _ _
           (λ a h b k. h c.args.entry.now.dir b
           (knows_on v _ _ c.args.workspace.now c.begin_paths.new.workspace c.args.entry.now.dir b
           (ap (λ d. d.contents) read.read)
           (windows_leave c.args.workspace.now c.begin_paths.new.workspace read.lists)
           (windows_keep c.args.workspace.now c.begin_paths.new.workspace read.lists) k.knows) (begun.makes.made b k))
-          c.gather.ensures.enough;
-      path = λ b k q. rw c.gather.ensures.same.1 (begun.makes.made b k);
+          c.gather_paths_and_attr.ensures.enough;
+      path = λ b k q. rw c.gather_paths_and_attr.ensures.same.1 (begun.makes.made b k);
       once = record {
-        begun = on_all c.gather.result _ (c.gather.ensures.same.0 ∙ begun.makes.begun);
-        stays = λ before. c.gather.ensures.same.0 ∙ begun.makes.stays before;
+        begun = on_all c.gather_paths_and_attr.result _ (c.gather_paths_and_attr.ensures.same.0 ∙ begun.makes.begun);
+        stays = λ before. c.gather_paths_and_attr.ensures.same.0 ∙ begun.makes.stays before;
         again = λ before b k.
             let same = ap g.I.Image.reads (c.in_ok-begin_paths.ensures.held before).0 in
             let few = (left.path.counted b (places_on b read k)).count in
@@ -52,7 +52,7 @@ returns g c =
             let first = begin_once c.in_ok-begin_paths.ensures b k in
             let few = (left.path.counted b (places_on b read k)).count in
             let most = verdict_most c.args.verdict.now in
-            let owed = ap (λ q. if q then 0 else path_reads) c.gather.ensures.same.0 in
+            let owed = ap (λ q. if q then 0 else path_reads) c.gather_paths_and_attr.ensures.same.0 in
             omega (arith, first, few, most, owed);
       };
       leaves = record {

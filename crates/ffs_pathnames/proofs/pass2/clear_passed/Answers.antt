@@ -1,5 +1,5 @@
-use Rattle.std.proofs.{Common.{◌≡◌, ap, rules}, lemmas.List.with_items_is}
-use Rattle.ffs_workspace.proofs.{Leaving.{leaves_more, windows_leave}, PlaceLaws.filled_noted}
+use Rattle.std.proofs.{Common.{◌≡◌, ◌∙◌, ap, rules, slice_index}, lemmas.List.with_items_is}
+use Rattle.ffs_workspace.proofs.Leaving.{leaves_more, windows_leave}
 use Rattle.ffs_workspace.specs.declared.workspace.Workspace.{Workspace}
 use Rattle.ffs_pathnames.proofs.{ReadyLaws.ready_passed, StampLaws.{none_due, none_stamped}}
 use Rattle.ffs_pathnames.proofs.pass2.clear_passed.Goals as goal
@@ -13,8 +13,9 @@ returns c =
     let marked : mid.marked ≡ old.marked = ap (λ (w : Workspace). w.marked) forgot in
     let flags : mid.flags ≡ old.flags = ap (λ (w : Workspace). w.flags) forgot in
     record {
-      survey = leaves_more old mid _ (windows_leave old mid forgot) (search (rules, filled_noted));
+      survey = leaves_more old mid _ (windows_leave old mid forgot) (search rules);
       flags = λ x. rw (← kinds, ← marked, ← flags) (search (rules, with_items_is));
-      stamps = search (rules, none_due, none_stamped);
+      stamps = λ x. none_stamped _ _ x
+          (none_due _ x (ap (λ (w : Workspace). slice_index w.queue.items x) forgot ∙ c.requires.unnoted x));
       ready = λ v d r. ready_passed v d mid _ _ (c.forget_windows.ensures.forgets v d r) (search rules) (search rules);
     }

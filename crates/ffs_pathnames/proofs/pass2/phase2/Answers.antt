@@ -20,18 +20,18 @@ use Rattle.ffs_pathnames.proofs.Findings.{at_error, findings_claims}
 use Rattle.ffs_pathnames.proofs.pass2.phase2.Goals as goal
 
 -- what is known before the first directory
-before_tree : (g : Over) (c : After-check_tree g) (b : List ℕ) → (g.I.Image.device c.args.image.now).contents ≡ Some b →
-    HoldsClaims c.args.geometry.now.layout b c.args.workspace.now →
+before_tree : (g : Over) (c : After-check_tree g) (b : List ℕ) →
+    WithClaims c.args.geometry.now.layout (g.I.Image.device c.args.image.now) c.args.workspace.now b →
     IsBefore c.args.geometry.now.layout (g.I.Image.device c.survey.new.image).contents c.clear_passed.new.workspace 2 b
-before_tree g c b t h =
+before_tree g c b k =
     let v = c.args.geometry.now.layout in
     let found = c.in_ok-survey.ensures in
     let clear = c.clear_passed.ensures in
-    let claims = (found.survey b t h).claims in
-    before_first v _ b _ _ (ap (λ d. d.contents) found.leaves.read ∙ t) claims (found.survey b t h).survey
+    let claims = (found.survey b k).claims in
+    before_first v _ b _ _ (ap (λ d. d.contents) found.leaves.read ∙ k.0) claims (found.survey b k).survey
     (clear.ready v _ found.leaves.ready).ready.made clear
-    (calm_silent v b _ c.args.geometry.now.sound found.leaves.ready.made claims (found.survey b t h).survey
-    (found.survey b t h).calm)
+    (calm_silent v b _ c.args.geometry.now.sound found.leaves.ready.made claims (found.survey b k).survey
+    (found.survey b k).calm)
 
 -- the phase ends as the check of the tree does
 ends_by : (v : Layout) (d d' : Device) (old w new : Workspace) (before after : Progress) (r : Result Root RunFault) →
@@ -86,7 +86,7 @@ returns-in_err-survey-clause-text g c =
 pub returns-clause-text : goal.returns-clause-text
 returns-clause-text g c =
     of_last Root _ _ _ _ _ _ _ c.check_tree.result (says_heading (λ b k. refl) c.in_ok-say.ensures.said) (λ b k. refl) (reports_knowing Root _ _ _ _ _ c.check_tree.result
-    (λ b k. before_tree g (goal.at.returns-clause-text g c).After-check_tree b k.0 k.1) c.check_tree.ensures.tree.text)
+    (λ b k. before_tree g (goal.at.returns-clause-text g c).After-check_tree b k) c.check_tree.ensures.tree.text)
 
 pub returns-clause-leaves : goal.returns-clause-leaves
 returns-clause-leaves g c =
@@ -94,11 +94,11 @@ returns-clause-leaves g c =
     let tree = c.check_tree.ensures.tree in
     ends_by v (g.I.Image.device c.args.image.now) (g.I.Image.device c.survey.new.image) _ c.clear_passed.new.workspace _
     _ _ c.check_tree.result
-    (λ b k. before_tree g (goal.at.returns-clause-leaves g c).After-check_tree b k.0 k.1)
+    (λ b k. before_tree g (goal.at.returns-clause-leaves g c).After-check_tree b k)
     (λ b k. references_on v b _ _ (tree.findings.references ∙ c.clear_passed.ensures.survey.references)
-    (c.in_ok-survey.ensures.survey b k.0 k.1).references) c.check_tree.ensures.root tree.holds
+    (c.in_ok-survey.ensures.survey b k).references) c.check_tree.ensures.root tree.holds
     (stop_after v (g.I.Image.device c.args.image.now) (g.I.Image.device c.survey.new.image) _ c.clear_passed.new.workspace
-    _ _ _ c.check_tree.result (λ b k. before_tree g (goal.at.returns-clause-leaves g c).After-check_tree b k.0 k.1)
+    _ _ _ c.check_tree.result (λ b k. before_tree g (goal.at.returns-clause-leaves g c).After-check_tree b k)
     c.in_ok-say.ensures.said c.check_tree.ensures.stop)
 
 pub check_tree-requires : goal.check_tree-requires
@@ -130,7 +130,7 @@ returns-in_err-survey-clause-again g c =
 pub returns-clause-again : goal.returns-clause-again
 returns-clause-again g c = at_error c.check_tree.result (λ e b k.
     let v = c.args.geometry.now.layout in
-    let cleared = claims_left v b _ _ c.clear_passed.ensures.survey (c.in_ok-survey.ensures.survey b k.0 k.1).claims in
+    let cleared = claims_left v b _ _ c.clear_passed.ensures.survey (c.in_ok-survey.ensures.survey b k).claims in
     findings_claims v b _ _ c.check_tree.ensures.tree.findings cleared)
 
 -- how often the image was read
@@ -149,8 +149,8 @@ returns-in_err-survey-clause-reads g c = record {
   known = grind (arith, costs_bounded, runs_bounded);
   directories = λ b k.
       let v = c.args.geometry.now.layout in
-      omega (arith, c.survey.ensures.reads.each b k.0 k.1, noted_all_within v b (v.ncg * v.ipg));
-  looked_at = λ first b k. omega (arith, c.survey.ensures.reads.each b k.0 k.1);
+      omega (arith, c.survey.ensures.reads.each b k, noted_all_within v b (v.ncg * v.ipg));
+  looked_at = λ first b k. omega (arith, c.survey.ensures.reads.each b k);
 }
 
 pub returns-in_err-survey-clause-paid : goal.returns-in_err-survey-clause-paid
@@ -161,18 +161,18 @@ pub returns-clause-reads : goal.returns-clause-reads
 returns-clause-reads g c = record {
   known = grind (arith, costs_bounded, runs_bounded, before_tree);
   directories = λ b k.
-      let before = before_tree g (goal.at.returns-clause-reads g c).After-check_tree b k.0 k.1 in
+      let before = before_tree g (goal.at.returns-clause-reads g c).After-check_tree b k in
       let v = c.args.geometry.now.layout in
       let sweep = noted_all_within v b (v.ncg * v.ipg) in
-      omega (arith, c.survey.ensures.reads.each b k.0 k.1, c.check_tree.ensures.tree.reads b before, sweep);
+      omega (arith, c.survey.ensures.reads.each b k, c.check_tree.ensures.tree.reads b before, sweep);
   looked_at = λ first b k.
-      let before = before_tree g (goal.at.returns-clause-reads g c).After-check_tree b k.0 k.1 in
+      let before = before_tree g (goal.at.returns-clause-reads g c).After-check_tree b k in
       let v = c.args.geometry.now.layout in
-      let claims = (c.in_ok-survey.ensures.survey b k.0 k.1).claims in
-      let flags = c.in_ok-survey.ensures.flags first b k.0 k.1 in
+      let claims = (c.in_ok-survey.ensures.survey b k).claims in
+      let flags = c.in_ok-survey.ensures.flags first b k in
       let checks = looked_at_first v b c.survey.new.workspace c.clear_passed.new.workspace claims flags
       c.clear_passed.ensures in
-      omega (arith, c.survey.ensures.reads.each b k.0 k.1, c.check_tree.ensures.tree.looks b before checks);
+      omega (arith, c.survey.ensures.reads.each b k, c.check_tree.ensures.tree.looks b before checks);
 }
 
 pub returns-clause-paid : goal.returns-clause-paid

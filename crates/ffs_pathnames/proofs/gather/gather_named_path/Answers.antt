@@ -1,6 +1,6 @@
 use Rattle.std.proofs.{Common.{arith}}
 use Rattle.ffs_volume.proofs.Results.{on_ok}
-use Rattle.ffs_pathnames.proofs.gather.gather_path.Goals as goal
+use Rattle.ffs_pathnames.proofs.gather.gather_named_path.Goals as goal
 
 pub returns-then-not-wanted : goal.returns-then-not-wanted
 returns-then-not-wanted g c = grind arith

@@ -1,6 +1,6 @@
 use Rattle.std.proofs.Common.{arith}
 use Rattle.ffs_paths.{proofs.{Rooms.entry_in_room}}
-use Rattle.ffs_pathnames.proofs.gather.gather_shown.Goals as goal
+use Rattle.ffs_pathnames.proofs.gather.gather_own_path_and_attr.Goals as goal
 
 pub returns : goal.returns
 returns g c = grind (arith, entry_in_room)
