@@ -43,9 +43,3 @@ module _ {S : Type 0} (contents : S → Option (List ℕ)) (was_written : S → 
     written = rw (← before, ← after) prints.taken;
     failed = inr (write_failed out' new refused after);
   }
-
--- a call that hands on the fault of a put that was refused
-pub refused_so : {W T E F : Type 0} (was_put : W → List ℕ → Result ℕ E → W → Type 0) (now : W) (r : Result T F) →
-    PutRefused was_put now → OnErr r (PutRefused was_put now)
-refused_so was_put now (Ok x) h = tt
-refused_so was_put now (Err e) h = h

@@ -5,7 +5,7 @@ ghost use Rattle.ffs_check.specs.Refusals.{IsWritten, second_text, text_refused}
 
 use crate::version::VERSION;
 use clap::error::ErrorKind;
-use ffs_report::print::print;
+use ffs_report::print::{print, print_both};
 use ffs_report::{Counted, OutFault, Outlet, Output};
 
 /// What is written for words that are refused, in two parts. The end of the last line follows.
@@ -28,23 +28,13 @@ pub fn second_text(kind: ErrorKind, usage: &'static [u8]) -> &'static [u8]
     }
 }
 
-/// Prints two texts.
-#[tactic(auto, using(ffs_report::proofs::Sinks::printing, crate::proofs::Refusals::refused_so))]
-fn print_two<W: Output>(out: &mut W, first: &[u8], second: &[u8]) -> Result<(), OutFault>
-    ensures prints { Prints (W.sink out.old) (W.sink out.new) (first.now ++ second.now) result }
-    ensures refused { OnErr result (PutRefused W.was_put out.new) }
-{
-    print(out, first)?;
-    print(out, second)
-}
-
 /// Prints both parts of a refusal, and ends the line.
-#[tactic(auto, using(ffs_report::proofs::Sinks::printing, crate::proofs::Refusals::refused_so))]
+#[tactic(auto, using(ffs_report::proofs::Sinks::printing, ffs_report::proofs::Sinks::refused_so))]
 fn print_refusal<W: Output>(out: &mut W, refusal: &Refusal) -> Result<(), OutFault>
     ensures prints { Prints (W.sink out.old) (W.sink out.new) (text_refused refusal.now) result }
     ensures refused { OnErr result (PutRefused W.was_put out.new) }
 {
-    print_two(out, refusal.first, refusal.second)?;
+    print_both(out, refusal.first, refusal.second)?;
     print(out, b"\n")
 }
 
