@@ -17,7 +17,7 @@ pub enum DirectoryLine<P> {
     /// Its size, in bytes, is no multiple of 512.
     DirLength { path: P, size: u64 },
     /// It has a hole (CONTAINS EMPTY BLOCKS). This isn't a directory of size 0.
-    DirEmpty { path: P },
+    DirHoles { path: P },
     /// A chunk of it isn't sound.
     DirCorrupt { attr: Attr, path: P },
 }
