@@ -7,7 +7,7 @@ use Rattle.ffs_volume.specs.{declared.Step.TheVariants.{Run, Tail, Gap}, Directo
 use Rattle.ffs_volume.specs.{Directories.Entries.{has_gap, is_gap, step_chunks}, Disk.Areas.is_run_in_range}
 use Rattle.ffs_volume.specs.Encodings.Replay.{Replay, is_replay_open, is_replayed, replay_after_step, replayed_steps}
 use Rattle.ffs_volume.specs.Encodings.ReplayCounts.{replayed_runs, seen_run}
-use Rattle.ffs_walk.{proofs.WalkSteps.top_ends, specs.{Counts.entered, Keepings.{Replays, replay_in}, Rests.IsOver}}
+use Rattle.ffs_walk.{proofs.WalkSteps.top_ends, specs.{Counts.entered, Keepings.{Replays, replay_in}, Rests.{IsOver, most_steps_left}}}
 use Rattle.ffs_walk.specs.{Rests.steps_left, declared.{keeping.Keeping.Keeping, walk.Walk.Walk}}
 use Rattle.ffs_names.specs.{Costs.{SeesRun, unread_run}, Readings.{CanSee, Continues, HasSeenAll, IsSame}}
 use Rattle.ffs_names.specs.{Readings.{chunks_after, gap_after, runs_after}, RunCursors.{IsWhole, cursor_chunks, reading_by}}
@@ -18,6 +18,10 @@ use Rattle.ffs_names.proofs.{Continuing.{continues_more, counts_here}, ReadCount
 -- a walk that is over has no steps left, and no Runs
 pub over_rest : (b : List ℕ) (w : Walk) → IsOver w → steps_left b w ≡ []
 over_rest b w o = let top = o.top in top_ends b w (omega arith) o.single o.double o.triple
+
+-- so it may take none, whatever its image holds
+pub over_left : {w : Walk} → IsOver w → most_steps_left w ≡ 0
+over_left h = grind arith
 
 pub over_runs : (b : List ℕ) (w : Walk) (v : Layout) (cut : ℕ) (r : Replay) → IsOver w →
     replayed_runs v cut r (steps_left b w) ≡ 0

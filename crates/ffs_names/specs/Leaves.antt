@@ -1,10 +1,10 @@
 -- What calls do and leave that read a directory, and how often they read the image.
-use Rattle.std.specs.Prelude.{◌≡◌, ℕ, ◌+◌, ◌<◌, ◌≤◌, Bool, ◌||◌, List, None, Ok, Result, OnOk, vec_len}
-use Rattle.std.specs.Prelude.{IfOk, IfSome, MatchOption, MatchResult, Option}
+use Rattle.std.specs.Prelude.{◌≡◌, ℕ, ◌+◌, ◌<◌, ◌≤◌, Bool, true, ◌||◌, List, None, Ok, Result, OnOk, vec_len}
+use Rattle.std.specs.Prelude.{IfOk, IfSome, MatchOption, MatchResult, Option, if◌then◌else◌, is_some}
 use Rattle.ffs_image.specs.{Device.{Device, ForContents}, Reads.ReadAfter, declared.image.Image.Ghosts}
 use Rattle.ffs_image.specs.declared.image.ImageFault.{ImageFault}
 use Rattle.ffs_walk.specs.declared.{blocks.Blocks.Blocks, window.Window.Window}
-use Rattle.ffs_walk.specs.{Windows.WindowHolds}
+use Rattle.ffs_walk.specs.{Rests.most_steps_left, Windows.WindowHolds}
 use Rattle.ffs_survey.specs.{Costs.TakesReads, declared.entry_head.EntryHead.EntryHead}
 use Rattle.ffs_names.specs.{Costs.{to_read, unread_run, HoldsReading, HoldsRun}, Entering.{left, GivesFromChunk}}
 use Rattle.ffs_names.specs.Readings.{gap_left, CountsRuns, IsSame}
@@ -52,15 +52,23 @@ dir_reading I image blocks window reading = record {
 }
 
 -- what a call leaves that reads a chunk of a Run: a window with the room that it had, which holds
--- what the image gives, and the Run too, where a chunk of it is left. The Run is read once
+-- what the image gives, and the Run too, where a chunk of it is left. The Run is read once, and where
+-- another reading has used the window since, once more in each call
 pub record LeavesRun {T : Type 0} (cursor : RunCursor) (old new : RunReading) (result : Result T ImageFault) : Type 0
   where
     pub room : vec_len new.window.buffer ≡ vec_len old.window.buffer
     pub holds : WindowHolds new.image.contents new.window
     pub read : ReadAfter old.image new.image result
     pub counted : HoldsRun old.window cursor → new.reads ≤ old.reads + unread_run cursor
+    pub any : new.reads ≤ old.reads + 1
     pub held : OnOk result (cursor.next + 1 < cursor.count → (new.window.place ≡ cursor.place)
         × (new.window.length ≡ cursor.length))
+
+-- whatever the image and its windows hold, a call reads at most once for each step of the walk that it
+-- takes, and `more` times beside
+abbrev pub ReadsBySteps : (reads reads' : ℕ) → (old new : Chunks) → (more : ℕ) → Type 0
+ReadsBySteps reads reads' old new more =
+    reads' + most_steps_left new.walk ≤ reads + most_steps_left old.walk + more
 
 -- what a call leaves that moves on to a Run, or looks for holes: it can walk on, and only reads the
 -- image, at most as often as the reading may
@@ -70,6 +78,12 @@ pub record LeavesWalk {T : Type 0} (old new : DirWalk) (result : Result T ImageF
   pub read : ReadAfter old.image new.image result
   pub counted : (w : Window) → HoldsReading old.blocks w old.chunks → ForContents old.image.contents (λ b. TakesReads
       old.reads new.reads (to_read b old.chunks) (to_read b new.chunks) (HoldsReading new.blocks w new.chunks) result)
+  pub any : ReadsBySteps old.reads new.reads old.chunks new.chunks 1
+
+-- a call that moves on to a Run, and finds one, reads for the steps of the walk alone
+abbrev pub ReadsForSteps : DirWalk → DirWalk → Result Bool ImageFault → Type 0
+ReadsForSteps old new result =
+    IfOk result (λ found. found ≡ true → ReadsBySteps old.reads new.reads old.chunks new.chunks 0)
 
 -- a call looks for a hole among the kept steps of a directory: those that a reading of its chunks has
 -- seen, and those that are left
@@ -82,10 +96,11 @@ pub record LeavesChunks {T : Type 0} (old new : DirReading Chunks) (result : Res
   pub same : IsSame old.reading new.reading
   pub ready : CanReadChunks old.reading.walk.geometry.layout new.image new.blocks new.window
   pub read : ReadAfter old.image new.image result
+  pub any : ReadsBySteps old.reads new.reads old.reading new.reading 1
 
 -- what a call leaves that gives the next chunk, if there is one: where that is in the image, how many Runs
 -- were looked at, and how many chunks may still come. These are one fewer after a chunk and none after a
--- fault, and where none may come nothing is read
+-- fault, and where none may come nothing is read. One read is for the chunk, or for the walk where it ends
 pub record NextChunkLeaves (old new : DirReading Chunks) (chunk : List ℕ) (result : Result (Option ℕ) ImageFault) : Type 0
   where
     pub geometry : new.reading.walk.geometry ≡ old.reading.walk.geometry
@@ -98,18 +113,28 @@ pub record NextChunkLeaves (old new : DirReading Chunks) (chunk : List ℕ) (res
     pub budget : MatchResult result (λ o. MatchOption o (new.reading.budget ≡ old.reading.budget)
         (λ _. new.reading.budget + 1 ≡ old.reading.budget)) (λ _. new.reading.budget ≡ 0)
     pub over : old.reading.budget ≡ 0 → (result ≡ Ok None) × (new.reads ≤ old.reads)
+    pub any : ReadsBySteps old.reads new.reads old.reading new.reading 1
+
+-- at most how many steps of its walk and how many chunks a reading has left, whatever the image holds
+abbrev pub most_left : Chunks → ℕ
+most_left c = most_steps_left c.walk + c.budget
 
 -- what a call leaves that gives the next entry, if there is one: that is in a chunk of the image, and fewer
--- may come after it
+-- may come after it. Whatever the image and its windows hold, at most one read is for each step of the walk
+-- and for each chunk that the call takes, and one more where it gives no entry
 pub record LeavesEntries (old new : DirReading Entries) (result : Result (Option EntryHead) ImageFault) : Type 0 where
   pub geometry : new.reading.chunks.walk.geometry ≡ old.reading.chunks.walk.geometry
   pub ready : CanReadChunks old.reading.chunks.walk.geometry.layout new.image new.blocks new.window
   pub read : ReadAfter old.image new.image result
   pub place : IfOk result (λ o. IfSome o (λ _. GivesFromChunk old.image.contents old.reading new.reading))
   pub left : IfOk result (λ o. IfSome o (λ _. left new.reading < left old.reading))
+  pub most : new.reads ≤ old.reads + most_left old.reading.chunks + 1
+  pub any : IfOk result (λ o. new.reads + most_left new.reading.chunks
+      ≤ old.reads + most_left old.reading.chunks + (if is_some o then 0 else 1))
 
--- what a call leaves that walks on, but for how often it reads
+-- what a call leaves that walks on, but for how often it reads an image of known bytes
 pub record LeavesBlocks {T : Type 0} (old new : DirWalk) (result : Result T ImageFault) : Type 0 where
   pub same : IsSame old.chunks new.chunks
   pub ready : CanWalkDir old.chunks.walk.geometry.layout new.image new.blocks
   pub read : ReadAfter old.image new.image result
+  pub any : ReadsBySteps old.reads new.reads old.chunks new.chunks 1

@@ -42,7 +42,7 @@ impl Chunks {
     ghost use Rattle.ffs_names.specs.Costs.{to_read, BeginsByClass, BeginsReading, HoldsReading, SeesRun};
     ghost use Rattle.ffs_names.specs.RunCursors.{last_place, IsGivenChunk, StepsOn};
     ghost use Rattle.ffs_names.specs.Readings.{all_chunks, rest, CanSee, ContinuesTo, CountsNoMore, FindsNextRun, GivesChunk, IsEnded, IsSame};
-    ghost use Rattle.ffs_names.specs.Leaves.{dir_reading, dir_walk, LeavesChunks, NextChunkLeaves, LeavesWalk};
+    ghost use Rattle.ffs_names.specs.Leaves.{dir_reading, dir_walk, LeavesChunks, NextChunkLeaves, LeavesWalk, ReadsForSteps};
 
     /// Looks at the Run that comes next in the walk: one of data that is kept whole, and is in
     /// range, becomes the current Run. Any other has no chunks.
@@ -78,6 +78,8 @@ impl Chunks {
             (λ _. ContinuesTo b self.old self.new) (λ _. CountsNoMore b self.old self.new)) }
         ensures found { IfOk result (FindsNextRun (I.device image.old).contents self.old self.new) }
         ensures leaves { LeavesWalk (dir_walk I.Image image.old blocks.old self.old)
+            (dir_walk I.Image image.new blocks.new self.new) result }
+        ensures steps { ReadsForSteps (dir_walk I.Image image.old blocks.old self.old)
             (dir_walk I.Image image.new blocks.new self.new) result }
     {
         'steps: while self.run_cursor.next == self.run_cursor.count {

@@ -141,6 +141,7 @@ impl Entries {
             (runs_of_inode self.old.chunks.walk.geometry.layout b (one_chunk address) 0)
             (reads_for_entries b self.new)
             ((blocks : Blocks) (w : Window) → HoldsEntries blocks w self.new) result) }
+        ensures once { I.reads image.new ≤ I.reads image.old + 1 }
         ensures read { ReadAfter (I.device image.old) (I.device image.new) result }
         ensures stopped { OnErr result (HasStopped self.old.chunks.walk.geometry self.new) }
         ensures geometry { self.new.chunks.walk.geometry ≡ self.old.chunks.walk.geometry }

@@ -12,6 +12,7 @@ runs-preserved g c =
       same = went.leaves.read ∙ inv.same;
       kept = search rules;
       ready = rw inv.kept.geometry at went.leaves.ready;
+      any = omega (arith, went.steps c.if-branch.true, inv.any);
       gap = λ b t. inv.gap b t ∙ sym (went.continues b (ap (λ d. d.contents) inv.same ∙ t)).gap;
       reads = λ w h b t.
           let old = inv.reads w h b t in
@@ -36,6 +37,7 @@ returns g c =
             let old = inv.reads w h b t in
             let took = went.counted w old.1 b (ap (λ d. d.contents) inv.same ∙ t) in
             record { most = omega (arith, took.most, old.0); paid = omega (arith, took.paid, old.0); held = took.held };
+        any = omega (arith, went.any, inv.any);
       };
     }
 
@@ -55,5 +57,6 @@ returns-in_err-advance g c =
             let old = inv.reads w h b t in
             let took = failed.counted w old.1 b (ap (λ d. d.contents) inv.same ∙ t) in
             record { most = omega (arith, took.most, old.0); paid = tt; held = tt };
+        any = omega (arith, failed.any, inv.any);
       };
     })

@@ -4,7 +4,7 @@ use Rattle.ffs_volume.specs.declared.Step.{Step, TheVariants.Gap}
 use Rattle.ffs_walk.specs.{Keepings.replay_in, Rests.{most_steps_left, steps_left}}
 use Rattle.ffs_names.{specs.Windows.CanWalkDir, proofs.Advances.{only_walks, over_gaps, over_rest, over_runs}}
 use Rattle.ffs_names.proofs.Advances.{over_tail, runs_gaps, runs_on, runs_tail, same_walked, seen_if_over, seen_if_shut}
-use Rattle.ffs_names.proofs.{Advances.{sees_on, walks_on}, Continuing.{can_walk, continues_here, continues_more}}
+use Rattle.ffs_names.proofs.{Advances.{over_left, sees_on, walks_on}, Continuing.{can_walk, continues_here, continues_more}}
 use Rattle.ffs_names.proofs.{Continuing.{no_more, same_here, same_more, walk_on}, ReadCounts.whole_held}
 use Rattle.ffs_names.proofs.chunks.Chunks.advance.Goals as goal
 
@@ -51,6 +51,7 @@ steps-preserved-in-Some-Tail g c =
       same = same_walked i.same (only_walks same refl refl refl refl refl);
       ready = walk_on i.same.geometry (ap (λ d. d.size) next.leaves.read) c.next.ensures.leaves.kept i.ready;
       device = next.leaves.read ∙ i.device;
+      any = omega (arith, falls, next.any, i.any);
       fewer = omega (arith, falls, i.fewer);
       falls = λ more. omega (arith, falls, i.fewer);
       run = i.run;
@@ -89,6 +90,7 @@ steps-preserved g c =
       same = same_walked i.same (only_walks same refl refl refl refl refl);
       ready = ready;
       device = device;
+      any = omega (arith, passed, next.any, i.any);
       fewer = omega (arith, passed, i.fewer);
       falls = λ more. omega (arith, passed, i.fewer);
       run = i.run;
@@ -118,6 +120,7 @@ steps-preserved-in-Some-Run g c =
       same = same_more c.see.ensures.same (same_walked i.same (only_walks same refl refl refl refl refl));
       ready = walk_on i.same.geometry (ap (λ d. d.size) next.leaves.read) c.next.ensures.leaves.kept i.ready;
       device = next.leaves.read ∙ i.device;
+      any = rw seen.walk (omega (arith, falls, next.any, i.any));
       fewer = rw seen.walk (omega (arith, falls, i.fewer));
       falls = λ more. rw seen.walk (omega (arith, falls, i.fewer));
       run = inr seen.whole;
@@ -163,6 +166,7 @@ returns-then-not-is_replay_open-clause-leaves g c = let i = c.steps.invariant in
   ready = i.ready;
   read = i.device;
   counted = λ u h b t. let now = i.reads u h b t in record { most = omega (arith, now); paid = now; held = i.held u h };
+  any = omega (arith, i.any);
 }
 
 pub returns-in_err-next-clause-leaves : goal.returns-in_err-next-clause-leaves
@@ -177,6 +181,7 @@ returns-in_err-next-clause-leaves g c =
       counted = λ u h b t.
           let most = (failed.counted (i.held u h).frames).most in
           record { most = omega (arith, most, i.reads u h b t); paid = tt; held = tt };
+      any = omega (arith, failed.any, over_left failed.fault, i.any);
     })
 
 pub returns-in-None-clause-leaves : goal.returns-in-None-clause-leaves
@@ -200,6 +205,7 @@ returns-in-None-clause-leaves g c =
             paid = omega (arith, paid, none, now);
             held = record { frames = counted.held; run = (i.held u h).run };
           };
+      any = omega (arith, next.any, over_left (next.step.over c.in-None.is), i.any);
     }
 
 pub returns-clause-leaves : goal.returns-clause-leaves
@@ -208,4 +214,5 @@ returns-clause-leaves g c = let i = c.steps.invariant in record {
   ready = i.ready;
   read = i.device;
   counted = λ u h b t. let now = i.reads u h b t in record { most = omega (arith, now); paid = now; held = i.held u h };
+  any = omega (arith, i.any);
 }

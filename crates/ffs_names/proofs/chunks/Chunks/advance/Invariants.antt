@@ -11,6 +11,8 @@ invariant-steps g l = let device = g.I.Image.device in record {
   same : IsSame l.fn.self l.self;
   ready : CanWalkDir l.fn.self.walk.geometry.layout (device l.image) l.blocks;
   device : device l.image ≡ device l.fn.image;
+  any : g.I.Image.reads l.image + most_steps_left l.self.walk
+      ≤ g.I.Image.reads l.fn.image + most_steps_left l.fn.self.walk;
   fewer : most_steps_left l.self.walk ≤ most_steps_left l.fn.self.walk;
   falls : l.self.run_cursor.next < l.self.run_cursor.count → most_steps_left l.self.walk < ahead l.fn.self;
   run : (l.self.run_cursor ≡ l.fn.self.run_cursor) ⊎ IsWhole l.self.run_cursor;

@@ -1,6 +1,7 @@
 use Rattle.std.proofs.{Common.{◌≡◌, ◌∙◌, ◌+◌, ◌≤◌, ◌==◌, ◌&&◌, ℕ, List, Some, ap, refl, sym, arith}, lemmas.Bool.and_parts}
 use Rattle.ffs_names.proofs.OneChunks.{ended_held, ended_reads, ended_rest}
 use Rattle.std.proofs.lemmas.Result.{err_from_is_err_and}
+use Rattle.ffs_walk.specs.Rests.{most_steps_left}
 use Rattle.ffs_names.specs.{Costs.{HoldsEntries, reads_for_entries}, Entering.to_come, Readings.rest}
 use Rattle.ffs_names.proofs.{Entered.{chunk_came, none_came}, EntryCounts.{HoldsBy, continues_by_chunks, reads_by}}
 use Rattle.ffs_names.proofs.Shaped.{shape_came, shape_ended, shape_same, fills_whole}
@@ -96,6 +97,14 @@ chunks-preserved g c =
           (λ e. (and_parts s.right_so_far _ e).0) (omega (arith, budget)) (λ e. (next.leaves.over e).1)
           (λ h. next.reads h b (ap (λ d. d.contents) i.device ∙ t)) now.1 in
           (omega (arith, took.paid, now.0), took.held);
+      any = omega (
+        arith,
+        next.leaves.any,
+        budget,
+        ap (λ x. x.budget) same.chunks,
+        ap (λ x. most_steps_left x.walk) same.chunks,
+        i.any,
+      );
       left = omega (arith, budget, ap (λ x. x.budget) same.chunks, i.left);
       geometry = c.next.ensures.leaves.geometry ∙ geometry;
       ready = rw geometry at c.next.ensures.leaves.ready;

@@ -1,7 +1,7 @@
 use Rattle.std.proofs.Common.{◌≡◌, ◌≤◌, ◌<◌, ◌+◌}
 use Rattle.ffs_image.specs.Device.{ForContents}
 use Rattle.ffs_names.specs.{Costs.HoldsEntries, Costs.reads_for_entries, Shapes.has_right_shape, Windows.CanReadChunks}
-use Rattle.ffs_names.specs.Entering.{to_come, left, IsInside, IsHeldIfLeft}
+use Rattle.ffs_names.specs.{Entering.{to_come, left, IsInside, IsHeldIfLeft}, Leaves.most_left}
 use Rattle.ffs_names.proofs.entries.Entries.advance.Given as goal
 
 abbrev pub invariant-chunks : goal.invariant-chunks
@@ -14,6 +14,8 @@ invariant-chunks g l = record {
   reads : HoldsEntries l.fn.blocks l.fn.window l.fn.self → ForContents (g.I.Image.device l.fn.image).contents
       (λ b. (g.I.Image.reads l.image + reads_for_entries b l.self
       ≤ g.I.Image.reads l.fn.image + reads_for_entries b l.fn.self) × HoldsEntries l.blocks l.window l.self);
+  any : g.I.Image.reads l.image + most_left l.self.chunks
+      ≤ g.I.Image.reads l.fn.image + most_left l.fn.self.chunks;
   left : left l.self ≤ left l.fn.self;
   geometry : l.self.chunks.walk.geometry ≡ l.fn.self.chunks.walk.geometry;
   ready : CanReadChunks l.fn.self.chunks.walk.geometry.layout (g.I.Image.device l.image) l.blocks l.window;
