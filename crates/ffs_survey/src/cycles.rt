@@ -11,7 +11,7 @@ use ffs_memory::FilledList;
 ///
 /// `walk_of` has, of each number, 1 more than the start of the walk that passed it, and 0 where
 /// none did.
-fn walk(start: u32, parents: &FilledList<u32>, walk_of: &mut FilledList<u32>) -> Option<u32>
+fn walk_parents(start: u32, parents: &FilledList<u32>, walk_of: &mut FilledList<u32>) -> Option<u32>
     requires { CanFollow parents.now.items walk_of.old.items start }
     ensures { NotesWalk parents.now.items start walk_of.old walk_of.new result }
 {
@@ -76,7 +76,7 @@ pub fn flag_leaders(
         if number_of(walk_of, start as usize) != 0 {
             continue;
         }
-        let Some(found) = walk(start, parents, walk_of) else {
+        let Some(found) = walk_parents(start, parents, walk_of) else {
             continue;
         };
         leaders.set(least_on(found, parents) as usize, true);

@@ -5,7 +5,7 @@ use Rattle.ffs_survey.proofs.cycles.flag_leaders.Goals as goal
 pub loop-start-preserved : goal.loop-start-preserved
 loop-start-preserved c =
     let inv = c.loop-start.invariant in
-    let walk = c.walk.ensures in
+    let walk = c.walk_parents.ensures in
     let least = c.least_on.ensures in
     record {
       long = grind arith;
