@@ -16,8 +16,6 @@ fn walk_parents(start: u32, parents: &FilledList<u32>, walk_of: &mut FilledList<
     ensures { NotesWalk parents.now.items start walk_of.old walk_of.new result }
 {
     let mut at = start;
-    // `steps` is for the proof that the walk ends.
-    let mut steps = 0u32;
     'up: loop {
         walk_of.set(at as usize, start + 1);
         let next = number_of(parents, at as usize);
@@ -35,7 +33,6 @@ fn walk_parents(start: u32, parents: &FilledList<u32>, walk_of: &mut FilledList<
             return None;
         }
         at = next;
-        steps += 1;
     }
 }
 

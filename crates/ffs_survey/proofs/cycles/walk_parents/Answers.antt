@@ -49,23 +49,23 @@ walked_some {start = start} {next = next} {now = now} h e s =
     subst (λ z. number_at now z ≢ 0) p s)
 
 pub up-init : goal.up-init
-up-init c = record { bound = c.requires.low; long = refl; walking = walk_start c.requires.is_unmet }
+up-init c = record { bound = c.requires.low; long = refl; walking = (0, walk_start c.requires.is_unmet) }
 
 pub returns-then-next-eq0 : goal.returns-then-next-eq0
 returns-then-next-eq0 c =
-    let h = here c.requires c.up.invariant.walking (omega (arith, c.requires.walks)) c.set.ensures.items in
+    let h = here c.requires c.up.invariant.walking.1 (omega (arith, c.requires.walks)) c.set.ensures.items in
     let w = walked_none h (inl (sym c.number_of-next.ensures ∙ c.if-next-eq0.true)) in
     record { walked = w.0; long = c.set.ensures.len ∙ c.up.invariant.long; cycle = w.1 }
 
 pub returns-then-next-len : goal.returns-then-next-len
 returns-then-next-len c =
-    let h = here c.requires c.up.invariant.walking (omega (arith, c.requires.walks)) c.set.ensures.items in
+    let h = here c.requires c.up.invariant.walking.1 (omega (arith, c.requires.walks)) c.set.ensures.items in
     let w = walked_none h (inr (omega (arith, c.number_of-next.ensures))) in
     record { walked = w.0; long = c.set.ensures.len ∙ c.up.invariant.long; cycle = w.1 }
 
 pub returns-then-seen-start : goal.returns-then-seen-start
 returns-then-seen-start c =
-    let h = here c.requires c.up.invariant.walking (omega (arith, c.requires.walks)) c.set.ensures.items in
+    let h = here c.requires c.up.invariant.walking.1 (omega (arith, c.requires.walks)) c.set.ensures.items in
     let p = c.number_of-next.result in
     let low : p < length c.args.parents.now.items = omega arith in
     let seen = sym c.number_of-seen.ensures ∙ c.if-seen-start.true in
@@ -80,7 +80,7 @@ returns-then-seen-start c =
 
 pub returns-then-seen-ne0 : goal.returns-then-seen-ne0
 returns-then-seen-ne0 c =
-    let h = here c.requires c.up.invariant.walking (omega (arith, c.requires.walks)) c.set.ensures.items in
+    let h = here c.requires c.up.invariant.walking.1 (omega (arith, c.requires.walks)) c.set.ensures.items in
     let up = next_parent c.args.parents.now.items c.up.at c.number_of-next.ensures c.if-next-eq0.false (omega arith) in
     let some = λ (z : number_at c.set.new.self.items c.number_of-next.result ≡ 0).
     c.if-seen-ne0.true (c.number_of-seen.ensures ∙ z) in
@@ -91,23 +91,17 @@ returns-then-seen-ne0 c =
           (λ z. c.if-seen-start.false (c.number_of-seen.ensures ∙ h.state.trace.fresh _ z some));
     }
 
-pub overflow_add-steps : goal.overflow_add-steps
-overflow_add-steps c =
-    let h = here c.requires c.up.invariant.walking (omega (arith, c.requires.walks)) c.set.ensures.items in
-    omega (arith, h.short, c.requires.few)
-
 pub up-smaller : goal.up-smaller
 up-smaller c = grind (arith, unmet-set)
 
 pub up-preserved : goal.up-preserved
 up-preserved c =
-    let h = here c.requires c.up.invariant.walking (omega (arith, c.requires.walks)) c.set.ensures.items in
+    let h = here c.requires c.up.invariant.walking.1 (omega (arith, c.requires.walks)) c.set.ensures.items in
     let p = c.number_of-next.result in
-    let one : suc c.up.steps ≡ c.up.steps + 1 = omega arith in
     record {
       bound = omega arith;
       long = c.set.ensures.len ∙ c.up.invariant.long;
-      walking = rw one at (walks_on h.state
+      walking = (suc c.up.invariant.walking.0, walks_on h.state
           (next_parent c.args.parents.now.items c.up.at c.number_of-next.ensures c.if-next-eq0.false (omega arith))
           (sym c.number_of-seen.ensures ∙ c.if-seen-ne0.false));
     }

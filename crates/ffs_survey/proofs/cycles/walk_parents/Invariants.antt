@@ -1,4 +1,4 @@
-use Rattle.std.proofs.Common.{◌≡◌, ◌+◌, ◌<◌, length, vec_len}
+use Rattle.std.proofs.Common.{◌≡◌, ℕ, ◌+◌, ◌<◌, length, vec_len}
 use Rattle.ffs_survey.{proofs.Walks.Walking, specs.Cycles.parent_in, specs.Cycles.unmet}
 use Rattle.ffs_survey.proofs.cycles.walk_parents.Given as goal
 
@@ -6,7 +6,8 @@ abbrev pub invariant-up : goal.invariant-up
 invariant-up l = record {
   bound : l.at < length l.parents.items;
   long : vec_len l.walk_of ≡ vec_len l.fn.walk_of;
-  walking : Walking (parent_in l.parents.items) l.start (l.start + 1) l.steps l.at l.fn.walk_of.items l.walk_of.items;
+  walking : (steps : ℕ) × Walking (parent_in l.parents.items) l.start (l.start + 1) steps l.at l.fn.walk_of.items
+      l.walk_of.items;
 }
 
 abbrev pub decreases-up : goal.decreases-up
