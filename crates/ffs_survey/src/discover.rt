@@ -122,7 +122,7 @@ fn is_calm_plain(entry: EntryHead, current: &CurrentDir, lists: &Lists) -> bool
     if entry.number < ROOTINO {
         return entry.number == WINO && entry.kind == DT_WHT;
     }
-    !current.marked[number]
+    !(current.any_marked && current.marked[number])
         && current.kinds[number] == entry.kind
         && is_calm_kind(entry.kind, number, lists.reached)
 }
@@ -203,6 +203,7 @@ fn read_reached<D: Directories>(
     let current = CurrentDir {
         kinds: lists.kinds,
         marked: lists.marked,
+        any_marked: lists.any_marked,
         dir: from,
         parent,
     };
