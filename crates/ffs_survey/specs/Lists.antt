@@ -1,5 +1,5 @@
 -- The lists of a survey: each has an entry for every inode.
-use Rattle.std.specs.Prelude.{◌≡◌, ℕ, ◌+◌, ◌<◌, ◌≤◌, ◌^◌, Bool, List, length}
+use Rattle.std.specs.Prelude.{◌≡◌, ℕ, ◌+◌, ◌<◌, ◌≤◌, ◌^◌, Bool, false, List, length}
 use Rattle.ffs_volume.specs.Directories.Climb.{is_leader_within}
 use Rattle.ffs_survey.specs.{Survey.{bool_at, number_at}, Cycles.parent_in, Discover.Found}
 
@@ -12,6 +12,10 @@ pub record FitsOneMore (kinds references : List ℕ) (x : ℕ) : Type 0 where
 pub record CanFlagSuspects (kinds : List ℕ) (marked named : List Bool) : Type 0 where
   pub marked_long : length marked ≡ length kinds
   pub named_long : length named ≡ length kinds
+
+-- no flag is set, unless `any` says so
+abbrev pub NoneUnless : Bool → List Bool → Type 0
+NoneUnless any flags = any ≡ false → (x : ℕ) → bool_at flags x ≡ false
 
 -- all lists of a survey. There are more than two inodes, and fewer than 2^31
 pub record AreLists (l : Found) : Type 0 where

@@ -1,5 +1,5 @@
 //! Reads a directory, or a level of directories: what their entries name.
-ghost use Rattle.std.specs.Prelude.{◌≡◌, ◌*◌, ◌-◌, ◌^◌, ◌<◌, ◌&&◌, nat_le, true, [], length, vec_len, drop, take, IfOk, OnOk};
+ghost use Rattle.std.specs.Prelude.{◌≡◌, ◌*◌, ◌-◌, ◌^◌, ◌<◌, ◌&&◌, ℕ, Bool, nat_le, true, [], length, vec_len, drop, take, IfOk, OnOk};
 ghost use Rattle.std.specs.List.{sum_by};
 ghost use Rattle.ffs_volume.specs.Directories.Roles.{is_plain as is_plain_role};
 ghost use Rattle.ffs_survey.specs.{Reading.roled_of, Lists.{CanFlagSuspects, FitsOneMore}, Survey.{bool_at, is_suspect_inode}};
@@ -122,9 +122,23 @@ fn is_calm_plain(entry: EntryHead, current: &CurrentDir, lists: &Lists) -> bool
     if entry.number < ROOTINO {
         return entry.number == WINO && entry.kind == DT_WHT;
     }
-    !current.marked[number]
+    !(current.any_marked && current.marked[number])
         && current.kinds[number] == entry.kind
         && is_calm_kind(entry.kind, number, lists.reached)
+}
+
+/// Whether nothing can be reported of the entry at index 0 or 1 of the current directory: `.` or
+/// `..`.
+fn is_calm_dot(entry: EntryHead, index: u32, current: &CurrentDir) -> bool
+    requires { index < 2 }
+    ensures { (reached : ℕ → Bool) → result
+        ≡ is_calm_entry (current_of current.now) reached index (roled_of entry []) }
+{
+    match entry.role {
+        Role::Dot => index == 0 && entry.number == current.dir && entry.kind == DT_DIR,
+        Role::Dotdot => index == 1 && entry.number == current.parent && entry.kind == DT_DIR,
+        Role::Extra | Role::Empty | Role::Plain => false,
+    }
 }
 
 /// Whether nothing can be reported of the entry at an index of the current directory.
@@ -133,12 +147,13 @@ fn is_calm_entry(entry: EntryHead, index: u32, current: &CurrentDir, lists: &Lis
     ensures { result ≡ is_calm_entry (current_of current.now)
         (bool_at lists.now.reached.now.items) index (roled_of entry []) }
 {
+    if index < 2 {
+        return is_calm_dot(entry, index, current);
+    }
     match entry.role {
-        Role::Dot => index == 0 && entry.number == current.dir && entry.kind == DT_DIR,
-        Role::Dotdot => index == 1 && entry.number == current.parent && entry.kind == DT_DIR,
-        Role::Extra => false,
-        Role::Empty => index >= 2,
-        Role::Plain => index >= 2 && is_calm_plain(entry, current, lists),
+        Role::Plain => is_calm_plain(entry, current, lists),
+        Role::Empty => true,
+        Role::Dot | Role::Dotdot | Role::Extra => false,
     }
 }
 
@@ -203,6 +218,7 @@ fn read_reached<D: Directories>(
     let current = CurrentDir {
         kinds: lists.kinds,
         marked: lists.marked,
+        any_marked: lists.any_marked,
         dir: from,
         parent,
     };

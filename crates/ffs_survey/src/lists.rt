@@ -1,6 +1,6 @@
 //! The lists of a survey.
 ghost use Rattle.std.specs.Prelude.{◌≡◌, length, vec_len};
-ghost use Rattle.ffs_survey.specs.Lists.{AreLists, AreSurveyed};
+ghost use Rattle.ffs_survey.specs.Lists.{AreLists, AreSurveyed, NoneUnless};
 
 use ffs_memory::FilledList;
 
@@ -40,6 +40,8 @@ pub struct Lists<'kinds, 'marked, 'lists> {
     pub kinds: &'kinds [u8],
     /// Whether each inode is marked.
     pub marked: &'marked FilledList<bool>,
+    /// Whether any inode is marked: of most volumes none is.
+    pub any_marked: bool,
     /// As `references` of `FoundLists`.
     pub references: &'lists mut FilledList<u64>,
     /// As `named` of `FoundLists`.
@@ -62,6 +64,7 @@ pub struct Lists<'kinds, 'marked, 'lists> {
       calm = calm.now.items;
       queue = queue.now.items;
     }) },
+    ghost none_marked: { NoneUnless any_marked marked.now.items },
 }
 
 /// The directory whose entries are read, with the lists by which it is found whether they are calm.
@@ -71,11 +74,14 @@ pub struct CurrentDir<'kinds, 'marked> {
     pub kinds: &'kinds [u8],
     /// Whether each inode is marked.
     pub marked: &'marked FilledList<bool>,
+    /// Whether any inode is marked: if none is, `marked` isn't asked.
+    pub any_marked: bool,
     /// The directory.
     pub dir: u32,
     /// Its parent, 0 for none.
     pub parent: u32,
     ghost long: { vec_len marked.now ≡ length kinds.now },
+    ghost none_marked: { NoneUnless any_marked marked.now.items },
 }
 
 /// What a survey left, and which directories lead a cycle of parents.
