@@ -19,7 +19,10 @@ pub record Costs (asked_sector : Option ℕ) (old new : Moment) (before after : 
       ⊎ CostsOfVolume asked_sector old new before after
   pub refused : end ≡ NoMemory → RefusedOneMore before after
 
--- the memory is that of the system, of which nothing was granted before
+-- the memory is that of the system, of which nothing was granted before. No field says that `memory'` is the one
+-- that the call left. But what `account_of` gives is hidden (`allocator_account` of ffs_memory): outside of what
+-- counts, an account with something granted or refused is known only by requests that were made and counted, so a
+-- body can't make one up
 pub record CostsOfSystem (asked_sector : Option ℕ) (old new : Moment) (end : End) : Type 0 where
   pub memory : SystemMemory
   pub memory' : SystemMemory

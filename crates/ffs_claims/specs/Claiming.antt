@@ -74,7 +74,7 @@ pub record ClaimsInArea (v : Layout) (old new : Workspace) (area : DataArea) : T
   pub all_in_range : IsDataArea v area
 
 -- between two workspaces no more Runs are seen than fragments were unused at first, and 22: each Run that an
--- inode sees claims a fragment, but for its bad Runs and its dup offers
+-- inode sees claims a fragment, but for its bad Runs and its dup offers, 21 at most (`runs_limit` rounds up to 22)
 abbrev pub FewRuns : Layout → Workspace → Workspace → Type 0
 FewRuns v old new = new.runs_seen + used_bits (claims_of old) ≤ old.runs_seen + v.size + 22
 

@@ -21,10 +21,10 @@ use ffs_volume::Order;
 use ffs_walk::{Blocks, Walk};
 use ffs_workspace::Workspace;
 
-/// How many bytes a word has.
+/// How many bytes a word of an indirect block has.
 const WORD_BYTES: usize = 4;
 
-/// How many fragments a word of the map has.
+/// How many fragments a word of the map of used fragments has: one a bit.
 const MAP_WORD: u64 = 64;
 
 /// The counts of a workspace that grow with each word. They are kept apart from it while words are
@@ -203,8 +203,8 @@ fn claim_next(
     true
 }
 
-/// Claims what the next words offer, as `claim_held_words` does, with the counts apart from the
-/// workspace, and for an order that is known where this is inlined.
+/// Claims what the next words offer, up to one with something to report, with the counts apart from
+/// the workspace, and for an order that is known where this is inlined.
 #[inline(always)]
 fn claim_words_in(
     order: Order,
@@ -226,8 +226,8 @@ fn claim_words_in(
     }
 }
 
-/// Claims what the next words offer, as `claim_held_words` does, with the counts apart from the
-/// workspace.
+/// Claims what the next words offer, up to one with something to report, with the counts apart from
+/// the workspace.
 #[inline(always)]
 fn claim_counted_words(
     workspace: &mut Workspace,
@@ -278,8 +278,8 @@ pub fn claim_words(workspace: &mut Workspace, area: &DataArea, walk: &mut Walk)
     }
 }
 
-/// Claims what the inode's direct addresses that come next offer, as `claim_direct` does, with the
-/// counts apart from the workspace.
+/// Claims what the inode's direct addresses that come next offer, up to one with something to
+/// report, with the counts apart from the workspace.
 #[inline(always)]
 fn claim_counted_direct(
     workspace: &mut Workspace,
@@ -303,8 +303,8 @@ fn claim_counted_direct(
 }
 
 /// Claims what the inode's direct addresses that come next offer, as long as nothing is to be
-/// reported of them and each Run is claimed at once, as `claim_words` does. The walk is in no
-/// indirect block.
+/// reported of them and each Run is claimed at once. The claims are then those that their steps
+/// would leave. The walk is in no indirect block.
 #[inline(always)]
 pub fn claim_direct(workspace: &mut Workspace, area: &DataArea, walk: &mut Walk)
     requires can { CanClaimWords workspace.old area.now walk.old }

@@ -205,7 +205,7 @@ fn flag_parents(reached: &FilledList<bool>, parents: &FilledList<u32>, words: &m
     }
 }
 
-/// As `note_places`, with no limit on reads.
+/// As `note_places`, with no limit on reads. Its clauses are the same, but for `reads`.
 ///
 /// # Errors
 /// A read of the image that failed.

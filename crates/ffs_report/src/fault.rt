@@ -6,7 +6,8 @@ use crate::output::OutFault;
 use ffs_image::ImageFault;
 
 /// What ends a phase, and with it a run of the program (no Run of fragments): a read of the image
-/// that failed, or a write of the report.
+/// that failed, or a write of the report. It is the public name of all faults that end a run, of
+/// phases and of commands (`ffs_find`) alike: so it has no phase's name.
 #[derive(Clone, Copy, Debug, PartialEq, Eq, thiserror::Error)]
 pub enum RunFault {
     /// A read of the image failed, at this sector.

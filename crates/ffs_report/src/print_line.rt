@@ -125,6 +125,7 @@ fn print_fault<W: Output>(out: &mut W, fault: SuperFault) -> Result<(), OutFault
     ensures { Prints (W.sink out.old) (W.sink out.new) (fault_text fault) result }
 {
     match fault {
+        // Such a fault is said as a `Line::CannotRead`; this arm makes the match exhaustive.
         SuperFault::CannotRead { sector } => print_number(out, CANNOT_READ, sector, LINE_END),
         SuperFault::Magic => print(out, MAGIC),
         SuperFault::InodeFormat => print(out, INODE_FORMAT),

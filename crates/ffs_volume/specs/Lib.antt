@@ -6,13 +6,10 @@
 -- texts in src/texts.rt. The lines `use` at the top of a file say where its names come from: begin to
 -- read after them.
 --
--- Words. `v` is a layout, `vol` a volume as the checks of directories see it, and `g` its graph.
--- The letter `s` means another thing in each folder: in Blocks the state of the block check
--- (`Claims`), in Directories the number of a directory that may have an edge to another, or an
--- entry with its role, in Groups the counts of a group, and in Report and Consistent a superblock.
--- The root is inode 2. A place is an offset in bytes, an index counts from 0, and an address is the
--- number of a fragment. A line is a message of the report (folder Messages): a definition with
--- `lines` in its name gives a list of messages.
+-- Words. What the letters mean, such as `v` and `s`, is in docs/ARCHITECTURE.md, "How a contract is
+-- read". The root is inode 2. A place is an offset in bytes, an index counts from 0, and an address
+-- is the number of a fragment. A line is a message of the report (folder Messages): a definition
+-- with `lines` in its name gives a list of messages.
 --
 -- Definitions. `abbrev` and `unfoldable` both begin one. Which of them it is, and a line `unfolding`,
 -- matter to proofs alone. The first line of a definition gives its type, and its equations follow, by

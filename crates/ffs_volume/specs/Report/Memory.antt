@@ -13,6 +13,7 @@ abbrev pub held_limit : Layout → ℕ
 held_limit v = 3 * (8 * div_ceil v.size 64) + 25 * (v.ncg * v.ipg) + 8 * v.bsize + 4096
 
 -- the most Runs that are seen: one for each fragment, and for each inode eleven that are bad and
--- eleven with dup offers
+-- eleven with dup offers. These 22 are rounded up: the first eleventh of either cuts the inode, so there
+-- are 21 at most
 abbrev pub runs_limit : Layout → ℕ
 runs_limit v = v.size + 22 * (v.ncg * v.ipg)
