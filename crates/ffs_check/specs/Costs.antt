@@ -19,10 +19,10 @@ pub record Costs (asked_sector : Option ℕ) (old new : Moment) (before after : 
       ⊎ CostsOfVolume asked_sector old new before after
   pub refused : end ≡ NoMemory → RefusedOneMore before after
 
--- the memory is that of the system, of which nothing was granted before. No field says that `memory'` is the one
--- that the call left. But what `account_of` gives is hidden (`allocator_account` of ffs_memory): outside of what
--- counts, an account with something granted or refused is known only by requests that were made and counted, so a
--- body can't make one up
+-- the memory is that of the system, of which nothing was granted before, and `memory'` what the call left of it. A
+-- body can't make such a value up: `account_of` is hidden (`allocator_account` of ffs_memory), so that what an
+-- account has granted or refused follows from requests that were made, and from nothing else. That the body asks
+-- for nothing beside is seen in its one line
 pub record CostsOfSystem (asked_sector : Option ℕ) (old new : Moment) (end : End) : Type 0 where
   pub memory : SystemMemory
   pub memory' : SystemMemory

@@ -1,6 +1,7 @@
 -- How the phases of a check end, how often they read, and what they leave. `knows` is what is known of the
 -- image's bytes, and `s` the superblock: with it the bytes determine the text, and whether the check
--- continues after the root.
+-- continues after the root. What Said, SaidOf, SaidNotAll and their like differ in is in a table at the top of
+-- specs/Lib.antt of ffs_report.
 use Rattle.std.specs.Prelude.{◌≡◌, ◌⊎◌, ◌<◌, ◌≤◌, ℕ, Bool, false, true, not, ◌||◌, List, [], ◌∷◌, ◌++◌, length, Result}
 use Rattle.std.specs.Prelude.{Ok, Err, IfOk, is_ok}
 use Rattle.ffs_image.specs.Device.{Device, Faulted}
@@ -113,7 +114,8 @@ pub record PhasesEnd (knows : List ℕ → Type 0) (s : Superblock) (old new : M
   pub right : ForBytes knows (λ bytes. text ≡ phase_lines bytes s)
   pub ends : Ends old new text (IsEndByRoot knows s text) (IsCutByRead knows text old.image new.image) end
 
--- an end that a whole report can have: also `Refused`, and `RootStop` (inode 2 is no directory)
+-- an end that a whole report can have: also `Refused`, and `RootStop` (inode 2 is no directory). No definition asks
+-- this of `Refused`, since RunsToEnd is of a check after its opening, which never ends so; proofs do
 abbrev pub can_end_report : End → Bool
 can_end_report Consistent = true
 can_end_report Defects = true

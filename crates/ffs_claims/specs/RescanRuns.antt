@@ -13,7 +13,8 @@ use Rattle.ffs_workspace.specs.declared.workspace.Workspace.{Workspace}
 use Rattle.ffs_claims.specs.{Lines.of_lines, Moments.PhaseMoment, Reporting.{CanReport, OffersReported, RewalkLeaves}}
 use Rattle.ffs_claims.specs.Rescan.{offers_again}
 
--- the kept offers of each Run that is seen, replayed
+-- the kept offers of each Run that is seen, replayed: `step_offers_again` and `offers_again`, with a list for each
+-- Run
 abbrev pub step_runs_again : (v : Layout) (number cut : ℕ) (r : Replay) (step : Step) → List (List Offer)
 step_runs_again v number cut r (Run start len block) =
     if is_replay_open cut r then map (offer_of number) (range_with_len start (run_taken v cut r start len)) ∷ [] else []

@@ -39,7 +39,8 @@ fn first_unreached(kinds: &[u8], reached: &FilledList<bool>) -> u32
 /// dead one, or is the least number on a cycle of parents (fsck(8), phase 3).
 ///
 /// The contract gives the text only for a workspace that holds what the block check and the survey
-/// of directories found. What they found is left as it was.
+/// of directories found. What they found is left as it was, but for `flags` (the survey's calm
+/// directories) and the noted places, whose lists are lent to the walks over parents.
 ///
 /// # Errors
 /// A read of the image that failed, and a write of the report that failed.

@@ -9,6 +9,11 @@
 //! summary(&superblock, &workspace, &mut report)?;
 //! ```
 //!
+//! Phase 4 is in `pass4`, with the line of an inode in `reference`. Phase 5 is in `pass5`: `groups`
+//! reads the records of a group, `once` says the messages that come once, and `totals` sums all
+//! groups up; what is right of a group, and the comparison with it, is in the crate `ffs_groups`.
+//! The summary is in `summing`.
+//!
 //! It rests on `ffs_groups`, `ffs_survey`, `ffs_workspace` and `ffs_report`.
 #![tactic(auto)]
 

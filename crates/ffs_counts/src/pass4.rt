@@ -42,7 +42,8 @@ fn is_right(workspace: &Workspace, number: u32) -> bool
     workspace.references[number as usize] == LINKS_MET && !is_dead(workspace, number)
 }
 
-/// How many inodes that aren't allocated are passed over at once.
+/// How many inodes that aren't allocated are passed over at once: four times the 16 bytes of a list
+/// that the machine takes at once (SPEED.md).
 const UNALLOCATED_AT_ONCE: usize = 64;
 
 /// Whether one of the inodes of some kinds is allocated: a loop without exit.
@@ -77,7 +78,7 @@ fn unallocated_from(kinds: &[u8], first: usize) -> usize
     }
 }
 
-/// How many allocated inodes are passed over at once.
+/// How many allocated inodes are passed over at once: as many as unallocated ones.
 const RIGHT_AT_ONCE: usize = 64;
 
 /// Whether one of `RIGHT_AT_ONCE` inodes isn't allocated, or is suspect: a loop without exit.
@@ -226,6 +227,7 @@ pub fn phase4<I: Image, W: Output>(
     report.say(&Line::Heading(Heading::Phase4))?;
     let inodes = geometry.layout.ncg * geometry.layout.ipg;
     // From 0, though no inode 0 or 1 is allocated: both are passed over with those after them.
+    // Jumps from 0 on end at multiples of `RIGHT_AT_ONCE`, and only at these `right_from` asks.
     let mut number = 0;
     while number < inodes {
         let passed = passed_from(workspace, number as usize);

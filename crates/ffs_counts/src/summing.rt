@@ -16,7 +16,8 @@ use ffs_report::{Line, Output, Report, RunFault};
 use ffs_volume::kinds::Kind;
 use ffs_workspace::Workspace;
 
-/// How many inodes are counted at once by a counter of one byte: fewer than 256, so it doesn't wrap.
+/// How many inodes are counted at once by a counter of one byte: fewer than 256, so it doesn't
+/// wrap, and twelve times the 16 bytes of a list that the machine takes at once (SPEED.md).
 const INODES_AT_ONCE: usize = 192;
 
 /// How many of the inodes from `first` on and below `end` are files or directories: a loop without

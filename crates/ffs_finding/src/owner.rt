@@ -326,6 +326,7 @@ fn find_keepers<I: Image, W: Output>(
     let mut limited = LimitedImage::new(image, sweep_reads(geometry));
     let found = find_keepers_unlimited(geometry, &mut limited, workspace, fragment, out);
     if limited.is_spent() {
+        // See `LimitedImage`: bytes that stay never ask for so many reads.
         return Ok(());
     }
     found

@@ -54,7 +54,8 @@ pub record CanCompareMaps (v : Layout) (usage : Usage) (c : ℕ) (block : List �
   pub maps : HasMaps v usage.fragments.now.size usage.kinds.now c
   pub block_length : length block ≡ v.cgsize
 
--- so can all records of group c: its right counts are there too, and its record of the summary area
+-- so can all records of group c: its right counts are there too, and its record of the summary area, of CSUM_SIZE
+-- bytes
 pub record CanCompareGroup (v : Layout) (usage : Usage) (c : ℕ) (counts : Counts) (summary block : List ℕ) :
     Type 0 where
   pub maps : CanCompareMaps v usage c block

@@ -35,8 +35,9 @@ pub struct GroupFindings {
     pub sums_right: bool,
 }
 
-/// Whether a number of an image is the right one, which is below 2^31: its bits are those of the
-/// right one.
+/// Whether a number of an image has the bits of the right one. The book compares so too
+/// (`has_counts`): right counts of a group are below 2^31, and so no negative number has their
+/// bits.
 #[tactic(auto, unfolding(crate::specs::Check::has_bits_of))]
 fn is_right(found: i32, right: u32) -> bool
     ensures { result ≡ has_bits_of found right }

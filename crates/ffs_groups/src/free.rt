@@ -10,10 +10,11 @@ use crate::maps::group_fragments;
 use ffs_layout::Geometry;
 use ffs_maps::FragmentMap;
 
-/// How many fragments `are_free` is asked about at first.
+/// How many fragments `are_free` is asked about at first. With one number for all times each that
+/// was tried was slower (SPEED.md).
 pub const FEW_FRAGMENTS: u32 = 1024;
 
-/// How many it is asked about at most.
+/// How many it is asked about at most: after four doublings, where all before were alike.
 const MANY_FRAGMENTS: u32 = 16384;
 
 /// How many fragments `are_free` is asked about next: twice as many, where those before were alike,

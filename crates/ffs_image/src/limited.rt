@@ -11,7 +11,8 @@ use std::snapshot::Snapshot;
 ///
 /// What reads a whole image needs a bound that holds of any image, also of one that gives other
 /// bytes each time. An image whose bytes stay never reaches the limit, where that is at least what
-/// its bytes ask for.
+/// its bytes ask for. So a caller that finds the limit spent (`is_spent`) answers `Ok` with what it
+/// has: bytes that stay never lead there, as its proof shows (`served` of `proofs/Limits.antt`).
 pub struct LimitedImage<'a, I: Image> {
     below: &'a mut I,
     begins: Snapshot<I>,

@@ -24,8 +24,9 @@ pub struct Chunks {
     pub keeping: Keeping,
     /// How many bytes of the directory are to be read in all, whatever was read so far.
     pub bytes_to_read: u64,
-    /// At most how many chunks are still to come. The size of the directory gives it; it ends the
-    /// reading of any image, also of one that gives other bytes each time.
+    /// At most how many chunks are still to come: no more than 2^22, as many chunks of 512 bytes as
+    /// the most bytes that are read of a directory, 2^31, have. The size of the directory gives it;
+    /// it ends the reading of any image, also of one that gives other bytes each time.
     pub budget: u32,
     /// The chunks of the current Run.
     pub run_cursor: RunCursor,
@@ -260,7 +261,8 @@ fn bytes_read(size: u64) -> u64
 
 /// Does nothing: its contract is the fact that a reading of a directory looks at no more Runs than
 /// the block check sees in it. `Chunks::start` and `Chunks::next` bound its count by the Runs of
-/// the replay, and these are as many.
+/// the replay, and these are as many. It stands here, since it says what the count of
+/// `Chunks::runs` means; the crate has no other law.
 pub fn runs_are_seen()
     ensures { RunsAreSeen }
 {}

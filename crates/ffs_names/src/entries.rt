@@ -22,6 +22,9 @@ use ffs_volume::{Class, Inode, Order};
 use ffs_walk::{Blocks, Window};
 
 /// A reading of the entries of a directory (dir(5)), chunk after chunk.
+///
+/// `few`: at most 2^28 entries are still to come. A chunk of 512 bytes has at most 64 entries of 8
+/// bytes, and at most 2^22 chunks are to come (`Chunks`).
 #[derive(Drop)]
 pub struct Entries {
     /// The byte order of the volume.

@@ -35,7 +35,8 @@ abbrev pub after_roled : Volume → ℕ → PassedNames → RoledEntry → Passe
 after_roled vol dir m e =
     if is_plain e.role && nat_lt e.entry.number vol.count then after_name vol dir m e.entry.number else m
 
--- the verdict on a plain entry of `dir` by the names that were passed, for the second reading of `dir`
+-- the verdict on a plain entry of `dir` by the names that were passed, for the second reading of `dir`. The flag of
+-- an inode that isn't suspect says nothing of names: `verdict_on` doesn't depend on it there
 abbrev pub verdict_at_reading : Volume → ℕ → PassedNames → Entry → Verdict
 verdict_at_reading vol dir m e = verdict_on vol (not (is_flagged m e.number)) (is_stamped dir m e.number) e
 

@@ -50,6 +50,7 @@ fn next_chunk<I: Image>(
     );
     *reads_left = limited.left();
     if limited.is_spent() {
+        // See `LimitedImage`: bytes that stay never ask for so many reads.
         return Ok(None);
     }
     offset

@@ -66,7 +66,8 @@ fn forget_parent(kept_parent: &mut KeptParent)
     kept_parent.child = 0;
 }
 
-/// As `make_paths`, with no limit on reads.
+/// As `make_paths`, with no limit on reads. Its clause `spares` is the same, and by `makes` the
+/// path is always made.
 fn make_paths_unlimited<I: Image>(
     geometry: &Geometry,
     image: &mut I,
@@ -110,6 +111,7 @@ fn make_paths<I: Image>(
     let mut limited = LimitedImage::new(image, PATH_READS);
     let result = make_paths_unlimited(geometry, &mut limited, workspace, texts, dir);
     if limited.is_spent() {
+        // See `LimitedImage`: bytes that stay never ask for so many reads.
         forget_parent(&mut texts.kept_parent);
         texts.begun = true;
         return Ok(());
@@ -163,6 +165,7 @@ pub fn put_path<I: Image>(
     let mut limited_image = LimitedImage::new(image, PATH_READS);
     let result = kept_parent.put_path(geometry, &mut limited_image, workspace, dir, path);
     if limited_image.is_spent() {
+        // See `LimitedImage`: bytes that stay never ask for so many reads.
         forget_parent(kept_parent);
         return Ok(());
     }

@@ -31,7 +31,7 @@ pub struct Examination {
     pub look: FirstLook,
 }
 
-/// As `examine`, with no limit on reads.
+/// As `examine`, with no limit on reads: so no clause speaks of reads that are left.
 fn examine_unlimited<I: Image>(
     geometry: &Geometry,
     image: &mut I,
@@ -120,6 +120,7 @@ pub fn examine<I: Image>(
     let examined = examine_unlimited(geometry, &mut limited, workspace, dir, start);
     *reads_left = limited.left();
     if limited.is_spent() {
+        // See `LimitedImage`: bytes that stay never ask for so many reads.
         return Ok(unexamined());
     }
     examined

@@ -144,6 +144,8 @@ fn check_tree<I: Image, W: Output>(
     report: &mut Report<'_, W>,
 ) -> Result<Root, RunFault>
     requires { CanRead geometry.now.layout (I.device image.old) workspace.old }
+
+    // `tt`: nothing is kept from one line to the next.
     ensures tree { ReportsTree geometry.now.layout pathname_lines
         (lines_moment I.Image W.Output image.old workspace.old report.old tt)
         (lines_moment I.Image W.Output image.new workspace.new report.new tt) result }

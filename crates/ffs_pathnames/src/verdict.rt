@@ -77,7 +77,9 @@ pub fn verdict(
     Verdict::Named(defects_of(inodes, entry, first_naming, parent_entry))
 }
 
-/// Whether the inode is there, and flagged.
+/// Whether the inode is there, and flagged: so a plain entry has named it, if it is suspect. The
+/// flag of any other inode says that it is calm, and nothing of names. Of such a one `first_naming`
+/// may say anything: `first_of_suspect` alone depends on it, and asks whether the inode is suspect.
 fn is_flagged(inodes: &Inodes<'_>, flags: &FilledList<bool>, inode: u32) -> bool
     requires { vec_len flags.now ≡ length inodes.now.kinds.now }
     ensures { result ≡ slice_index_or flags.now.items inode false }

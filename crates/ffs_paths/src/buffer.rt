@@ -92,7 +92,7 @@ impl PathBuffer {
         }
     }
 
-    /// No names any more.
+    /// Leaves no names in it.
     pub fn clear(&mut self)
         ensures { HoldsNames self.new [] }
     {
@@ -101,7 +101,7 @@ impl PathBuffer {
         self.cut = false;
     }
 
-    /// Whether there is room for them and one name more.
+    /// Whether there is room for its names and this one, with a `/` before each.
     #[inline]
     fn has_room(&self, name: &[u8]) -> bool
         ensures { result ≡ (not self.now.cut && nat_lt (length name.now) self.now.start) }
@@ -109,7 +109,7 @@ impl PathBuffer {
         !self.cut && name.len() < self.start
     }
 
-    /// Puts a name before them.
+    /// Puts a name before its names.
     pub fn push_front(&mut self, name: &[u8])
         ensures { (names : List (List ℕ)) → HoldsNames self.old names
             → HoldsNames self.new (name.now ∷ names) }

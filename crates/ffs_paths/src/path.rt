@@ -100,6 +100,8 @@ fn climb<I: Image>(
         (path_moment I.Image image.old workspace.old) (path_moment I.Image image.new workspace.new)
         result }
 {
+    // How many inodes there are: no way up has more steps. Each list of the workspace has this
+    // length.
     let count = workspace.notes.len();
     path.clear();
     let mut name = NameText::new();

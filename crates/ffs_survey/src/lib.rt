@@ -7,6 +7,13 @@
 //! `may_be_unreached` looks for a directory that isn't reached, and `flag_leaders` flags one directory
 //! of each cycle of parents.
 //!
+//! The lists of a survey have these views. In code a caller lends `KnownInodes`, what the survey
+//! goes by, and `FoundLists`, what it fills; within the survey both together are `Lists`.
+//! `CurrentDir` is one directory with the lists that its entries are compared with, and `Surveyed`
+//! is what `is_unref` looks at afterwards. In contracts all that the lists hold is `Found`:
+//! `all_found` gives it of `Lists`, `found_up_to` with the queue cut at its end, and `found_by` of
+//! the two that are lent; `CurrentDir` there is the book's, and that of the code is `LentDir`.
+//!
 //! It rests on `ffs_volume`, `ffs_image` and `ffs_memory`.
 #![tactic(auto)]
 

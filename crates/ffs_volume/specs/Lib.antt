@@ -1,10 +1,8 @@
--- The book of definitions, in the order to read it. Each folder has its page, with its files in
--- their order. A comment is for the definitions below it, up to the next comment. What a file
--- imports from `declared`, such as Layout, Step, Class and LAYOUT_PLACES, is declared in
--- src/lib.rt, the messages on directories, entries and references in src/tree_lines.rt, what is wrong
--- with a directory and with an entry in src/verdict.rt, numbers of the format in src/constants.rt, and
--- texts in src/texts.rt. The lines `use` at the top of a file say where its names come from: begin to
--- read after them.
+-- The book of definitions. docs/ARCHITECTURE.md, "The book of definitions", says in which order to
+-- read the folders, and in which file of src/ stands what a file imports from `declared`. Each folder
+-- has its page, with its files in their order. A comment is for the definitions below it, up to the
+-- next comment. The lines `use` at the top of a file say where its names come from: begin to read
+-- after them.
 --
 -- Words. What the letters mean, such as `v` and `s`, is in docs/ARCHITECTURE.md, "How a contract is
 -- read". The root is inode 2. A place is an offset in bytes, an index counts from 0, and an address

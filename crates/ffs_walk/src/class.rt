@@ -12,7 +12,7 @@ use ffs_volume::{Class, Inode};
 use std::simd::prelude::*;
 
 /// How many of the fifteen addresses a file of `blocks` logical blocks uses, where an indirect
-/// block has `words` addresses.
+/// block has `words` addresses: 16,384 at most, of 4 bytes in the largest block, of 65,536.
 pub fn addresses_needed(words: u64, blocks: u64) -> u32
     requires { words ≤ 16384 }
     ensures { result ≡ inodes.addresses_needed words blocks }

@@ -50,10 +50,14 @@ pub struct Workspace {
     pub reached: FilledList<bool>,
     /// Flags that are used one after another:
     ///
-    /// - The survey flags the calm directories. There the list is lent as `calm`.
-    /// - Phase 2 clears the flag of each suspect inode (a marked one, or a directory of size 0),
-    ///   and then flags those of them that a plain entry has named. Other flags stay.
-    /// - Phase 3 flags the least directory of each cycle of parents. There it is lent as `leaders`.
+    /// ```text
+    /// phase    which inodes are flagged                        lent as
+    /// survey   the calm directories                            calm
+    /// phase 2  of suspect inodes (marked ones, directories     flags
+    ///          of size 0) those that a plain entry has named;
+    ///          of others still the calm ones
+    /// phase 3  the least directory of each cycle of parents    leaders
+    /// ```
     pub flags: FilledList<bool>,
     /// How many entries refer to each inode, counted on from `links_start`.
     pub references: FilledList<u64>,
@@ -67,11 +71,18 @@ pub struct Workspace {
     pub parents: FilledList<u32>,
     /// Numbers of 32 bits that are used one after another:
     ///
-    /// - The survey's queue: the reached directories, level after level.
-    /// - In phase 2 a word of each directory: where its parent entry is (`noted_part`), and whether
-    ///   that is due. While the places are noted, the bit for the latter says whether the
-    ///   directory's chunks are to be read. There the list is lent as `words`.
-    /// - In phase 3 which walk over parents met each directory. There it is lent as `walk_of`.
+    /// ```text
+    /// phase    what the numbers are                            lent as
+    /// survey   the reached directories, level after level      queue
+    /// phase 2  of each directory where its parent entry is     words
+    ///          (noted_part), and a bit: while places are
+    ///          noted, whether its chunks are to be read, and
+    ///          then whether its parent entry is due
+    /// phase 3  of each directory which walk over parents met   walk_of
+    ///          it
+    /// ```
+    ///
+    /// The survey, and phase 3 after its walks, leave all of them at 0.
     pub queue: FilledList<u32>,
     /// How many Runs phase 1 has looked at.
     pub runs_seen: u64,

@@ -70,7 +70,8 @@ are_calm current reached i (e ∷ es) =
 abbrev pub is_elsewhere : (parent_of : ℕ → ℕ) (d x : ℕ) → Bool
 is_elsewhere parent_of d x = (x == ROOTINO) || not (parent_of x == d)
 
--- the directory d is calm by the parents of what it names, whichever directories were read before it
+-- the directory d is calm by the parents of what it names, whichever directories were read before it: each directory
+-- that is no child of d counts as reached before, which is the most that can be reached where d is read
 abbrev pub is_calm_by_parents : List ℕ → List Bool → (parent_of : ℕ → ℕ) → List RoledEntry → Bool → ℕ → Bool
 is_calm_by_parents kinds marked parent_of entries right_shape d =
     are_calm (record { kinds = kinds; marked = marked; dir = d; parent = parent_of d }) (is_elsewhere parent_of d) 0

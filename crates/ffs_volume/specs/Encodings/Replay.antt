@@ -1,5 +1,7 @@
 -- Walking over an inode again, without a map of claims, and finding its kept steps. It is enough to
--- know how many offers it kept, where dup offers cut it (`cut_of`); bad Runs are counted anew.
+-- know how many offers it kept, where dup offers cut it (`cut_of`); bad Runs are counted anew. Which
+-- offers are kept `Blocks/KeptByRule` says by one rule: read that for the meaning, and then this
+-- replay. That of `ReplayCounts` differs only where there is no cut; contracts of phase 1b cite it.
 use Rattle.std.{proofs.Common.{ℕ, ◌+◌, ◌-◌, Bool, List, [], ◌∷◌, ◌++◌}, specs.Prelude.{nat_lt, ◌&&◌, ◌||◌, ◌==◌, min}}
 use Rattle.std.specs.Prelude.{if◌then◌else◌}
 use Rattle.ffs_volume.specs.declared.{constants.TheConstants.{MAXBAD, MAXDUP}, Layout.Layout, Step.Step}
