@@ -198,8 +198,7 @@ connectivity-quiet v h d l = reported-quiet _ (of_reference (UnrefDir (attribute
 
 pub connectivity-silent : (v : Volume) → ((d : ℕ) → is_unref_dir v d ≡ false) → connectivity_lines v ≡ []
 unfolding connectivity_lines
-connectivity-silent v h = lines-silent _ v.count (λ d l. reported-silent _
-    (of_reference (UnrefDir (attributes v d))) (h d))
+connectivity-silent v h = grind (arith, lines-silent)
 
 -- REFERENCES: an inode that is allocated
 pub record IsCountQuiet (v : Volume) (i : ℕ) : Type 0 where

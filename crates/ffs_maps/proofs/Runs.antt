@@ -80,17 +80,7 @@ group_free v c f g some low high apart =
 -- ---- the run of a group
 pub first_run : (v : Layout) (c n : ℕ) → IsAcceptedLayout v → c < v.ncg → c ≡ 0 →
     n ≡ v.csaddr + div_ceil v.cssize v.fsize → IsReservedRun v c 0 n
-first_run v c n g h is_zero is = rw (is_zero, is) (record {
-  above = omega (arith, base_zero v);
-  order = omega arith;
-  within_group = g.summary.summary_in_group;
-  within_size = g.summary.summary_in_size;
-  inside = λ f low high. first_reserved v f g high;
-  outside = λ f low high apart. elim apart [
-    | inl under ↦ absurd (omega (arith, under))
-    | inr past ↦ first_free v f g past high
-  ];
-})
+first_run v c n g h is_zero is = grind (arith, base_zero, first_reserved, first_free)
 
 pub other_run : (v : Layout) (c start end : ℕ) → IsAcceptedLayout v → c < v.ncg → (c ≡ 0 → ⊥) →
     start ≡ cgsblock v c → end ≡ cgdmin v c → IsReservedRun v c start end
@@ -172,19 +162,13 @@ group_more v c x start end g h run counted =
 -- none is reserved from the volume's end on
 pub none_past_size : (v : Layout) (f : ℕ) → IsAcceptedLayout v → v.size ≤ f → is_reserved v f ≡ false
 unfolding is_reserved
-none_past_size v f g h =
-    none_of _ _ (is_group_metadata v f)
-    (le-ltb f (cgdmin v 0) (omega (arith, h, (g.groups 0 g.some_groups).within_size)))
-    (and_right _ _ (le-ltb f _ (omega (arith, h, g.summary.summary_in_size))))
-    (no_metadata_past_size v f g h)
+none_past_size v f g h = grind (arith, no_metadata_past_size)
 
 -- how many are reserved of the first ones of a stretch
 pub stretch_counts : (v : Layout) (f next n : ℕ) (s : Stretch) (b : Bool) → IsStretch v f s → f ≤ next → next ≤ s.end →
     b ≡ s.reserved → n ≡ cond b (next - f) 0 → n ≡ count_by (is_reserved v) (range_with_len f (next - f))
-stretch_counts v f next n s true h order within is counted =
-    counted ∙ all_reserved v f (next - f) (λ k l. h.alike (f + k) (omega arith) (omega (arith, l, within)) ∙ sym is)
-stretch_counts v f next n s false h order within is counted =
-    counted ∙ none_reserved v f (next - f) (λ k l. h.alike (f + k) (omega arith) (omega (arith, l, within)) ∙ sym is)
+stretch_counts v f next n s true h order within is counted = grind (arith, all_reserved)
+stretch_counts v f next n s false h order within is counted = grind (arith, none_reserved)
 
 -- the reserved ones up to the volume's end are all of them
 pub counted_to_end : (v : Layout) (start fragment end x : ℕ) → IsAcceptedLayout v → start ≤ fragment → fragment ≤ max start (min end v.size) →

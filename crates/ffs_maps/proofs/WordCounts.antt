@@ -15,11 +15,7 @@ as_bit false = refl
 -- the bit of a fragment in a word that isn't touched
 pub reserved_at : (touched : Vec ℕ Global) (reserved : Option Geometry) (count f : ℕ) (w : Words) →
     seen touched reserved count ≡ w → vec_len touched ≤ f / 64 → f / 64 < count → is_bit w.list f ≡ reserved_bit reserved f
-reserved_at touched reserved count f w is past inside =
-    let place : 64 * (f / 64) + f % 64 ≡ f = omega arith in
-    ap (λ x. nat_eq (bit_at x (f % 64)) 1) (untouched_at touched reserved (f / 64) count w is past inside)
-    ∙ ap (λ x. nat_eq x 1) (reserved_bits_at reserved (f / 64) (f % 64) (omega arith))
-    ∙ as_bit (reserved_bit reserved (64 * (f / 64) + f % 64)) ∙ ap (reserved_bit reserved) place
+reserved_at touched reserved count f w is past inside = grind (arith, untouched_at, reserved_bits_at)
 
 -- words from one on that aren't touched
 pub reserved_in_words : (touched : Vec ℕ Global) (reserved : Option Geometry) (count size first last : ℕ) (w : Words) →
@@ -27,11 +23,7 @@ pub reserved_in_words : (touched : Vec ℕ Global) (reserved : Option Geometry) 
     set_among (bits_of_words w.list size) (64 * first) (64 * last - 64 * first)
     ≡ count_by (reserved_bit reserved) (range_with_len (64 * first) (64 * last - 64 * first))
 reserved_in_words touched reserved count size first last w is past within below =
-    sum_same (λ f. cond (slice_index_or (bits_of_words w.list size) f false) 1 0) (λ f. cond (reserved_bit reserved f) 1 0)
-    (64 * first) (64 * first) (64 * last - 64 * first)
-    (λ k low. ap (λ b. cond b 1 0)
-    (get_bits w.list size (64 * first + k) false (omega (arith, low, below))
-    ∙ reserved_at touched reserved count (64 * first + k) w is (omega (arith, past, low)) (omega (arith, low, within))))
+    grind (arith, sum_same, get_bits, reserved_at)
 
 -- words that are touched
 pub touched_count : (touched : Vec ℕ Global) (reserved : Option Geometry) (count size first end : ℕ) (w : Words)

@@ -26,10 +26,7 @@ reserved_bits_at reserved index k h =
     ∙ ap (λ b. cond b 1 0) (get_or-map-range_with_len (reserved_bit reserved) (64 * index) 64 k (64 * index + k) false h refl)
 
 reserved_bits_above : (reserved : Option Geometry) (index k : ℕ) → 64 ≤ k → bit_at (reserved_bits reserved index) k ≡ 0
-reserved_bits_above reserved index k h =
-    reserved_bits_are reserved index k
-    ∙ ap (λ b. cond b 1 0) (get_or_past (map (reserved_bit reserved) (range_with_len (64 * index) 64)) k false
-    (omega (arith, length-map-range_with_len (reserved_bit reserved) (64 * index) 64, h)))
+reserved_bits_above reserved index k h = search (arith, reserved_bits_are, get_or_past)
 
 -- a word with these bits is the one
 pub reserved_from_bits : (reserved : Option Geometry) (index w : ℕ) →
@@ -50,11 +47,8 @@ zero_words from (suc n) = grind (arith, no_reserved_bits, zero_words (from + 1) 
 
 zeros_where : (reserved : Option Geometry) (from n : ℕ) → ((k : ℕ) → k < n → reserved_bits reserved (from + k) ≡ 0) →
     reserved_words reserved from n ≡ replicate n 0
-zeros_where reserved from n zeros = same_lists _ _
-    (length-map-range_with_len (reserved_bits reserved) from n ∙ sym (length-replicate {A = ℕ} n 0))
-    (λ k d low. let inside : k < n = omega (arith, low, length-map-range_with_len (reserved_bits reserved) from n) in
-    get_or-map-range_with_len (reserved_bits reserved) from n k (from + k) d inside refl ∙ zeros k inside
-    ∙ sym (get_or-replicate n k 0 d inside))
+zeros_where reserved from n zeros =
+    grind (arith, same_lists, length-map-range_with_len, length-replicate, get_or-map-range_with_len, get_or-replicate)
 
 reserved_split : (reserved : Option Geometry) (a n m t : ℕ) → t ≡ n + m →
     reserved_words reserved a n ++ reserved_words reserved (a + n) m ≡ reserved_words reserved a t
@@ -67,16 +61,12 @@ reserved_split reserved a (suc n) m (suc t) e =
 -- words after others
 pub reserved_on : (reserved : Option Geometry) (xs : List ℕ) (a n m t b : ℕ) → t ≡ n + m → b ≡ a + n →
     (xs ++ reserved_words reserved a n) ++ reserved_words reserved b m ≡ xs ++ reserved_words reserved a t
-reserved_on reserved xs a n m t b e at = rw at (append_assoc xs (reserved_words reserved a n) (reserved_words reserved (a + n) m)
-    ∙ ap (λ ys. xs ++ ys) (reserved_split reserved a n m t e))
+reserved_on reserved xs a n m t b e at = grind (arith, append_assoc, reserved_split)
 
 -- one word more
 pub reserved_more : (reserved : Option Geometry) (xs : List ℕ) (a n b w : ℕ) → b ≡ a + n → w ≡ reserved_bits reserved b →
     (xs ++ reserved_words reserved a n) ++ w ∷ [] ≡ xs ++ reserved_words reserved a (b + 1 - a)
-reserved_more reserved xs a n b w at is =
-    let e : b + 1 - a ≡ n + 1 = omega (arith, at) in
-    rw (e, is) (append_assoc xs (reserved_words reserved a n) (reserved_bits reserved b ∷ [])
-    ∙ ap (λ ys. xs ++ ys) (sym (map-range_with_len_more (reserved_bits reserved) a n b (sym at))))
+reserved_more reserved xs a n b w at is = grind (arith, append_assoc, map-range_with_len_more)
 
 abbrev words : List ℕ → Ptr → ℕ → Words
 words list address room = record { list = list; address = address; room = room }
@@ -111,11 +101,7 @@ set_seen touched reserved index word count w is inside = grind (arith, set-appen
 -- a touched word
 pub touched_at : (touched : Vec ℕ Global) (reserved : Option Geometry) (index count : ℕ) (w : Words) (d : ℕ) →
     seen touched reserved count ≡ w → index < vec_len touched → get_or w.list index 0 ≡ get_or touched.items index d
-touched_at touched reserved index count w d is inside =
-    ap (λ ws. get_or ws.list index 0) (sym is)
-    ∙ get_or-append touched.items (reserved_words reserved (vec_len touched) (count - vec_len touched)) 0 index
-    (omega (arith, inside, touched.ok.0))
-    ∙ get_or_default touched.items index 0 d (omega (arith, inside, touched.ok.0))
+touched_at touched reserved index count w d is inside = grind (arith, get_or-append, get_or_default)
 
 -- a word of the volume
 pub word_for : (reserved : Option Geometry) (count index : ℕ) → HasWordsFor reserved count → index < count →
@@ -128,11 +114,7 @@ pub untouched_at : (touched : Vec ℕ Global) (reserved : Option Geometry) (inde
     seen touched reserved count ≡ w → vec_len touched ≤ index → index < count →
     get_or w.list index 0 ≡ reserved_bits reserved index
 untouched_at touched reserved index count w is past inside =
-    ap (λ ws. get_or ws.list index 0) (sym is)
-    ∙ get_or-append_right touched.items (reserved_words reserved (vec_len touched) (count - vec_len touched))
-    (vec_len touched) index 0 (omega arith) past
-    ∙ get_or-map-range_with_len (reserved_bits reserved) (vec_len touched) (count - vec_len touched)
-    (index - vec_len touched) index 0 (omega (arith, inside, past)) (omega (arith, past))
+    grind (arith, get_or-append_right, get_or-map-range_with_len)
 
 -- none of the fragments of some words is reserved
 pub zeros_of_stretch : (g : Geometry) (from to n : ℕ) → n ≡ to - from →
@@ -180,25 +162,4 @@ pub touched_page : (old new : Vec ℕ Global) (reserved : Option Geometry) (coun
     TouchesTo old new more → more ≡ reserved_words reserved (vec_len old) (end - vec_len old) → vec_len old ≤ index →
     index < end → end ≤ count → TouchesWords old new reserved count index
 touched_page old new reserved count index end more touches is past inside within =
-    let len = ap length touches.items in
-    let long : vec_len new ≡ end = omega (
-      arith,
-      len,
-      old.ok.0,
-      new.ok.0,
-      ap (length {A = ℕ}) is,
-      length-append old.items more,
-      length-map-range_with_len (reserved_bits reserved) (vec_len old) (end - vec_len old),
-      past,
-      inside,
-    ) in record {
-      past = omega (arith, long, inside);
-      more = omega (arith, long, past, inside);
-      within = omega (arith, long, within);
-      touches = record {
-        items = touches.items ∙ ap (λ ws. old.items ++ ws)
-            (is ∙ ap (λ e. reserved_words reserved (vec_len old) (e - vec_len old)) (sym long));
-        address = touches.address;
-        room = touches.room;
-      };
-    }
+    grind (arith, length-append, length-map-range_with_len)

@@ -1,4 +1,4 @@
-use Rattle.std.proofs.Common.{◌∙◌, arith, ap, length, refl, sym}
+use Rattle.std.proofs.Common.{◌∙◌, arith, ap, length, sym}
 use Rattle.std.proofs.lemmas.List.FromFn.{length-map-range_with_len}
 use Rattle.ffs_maps.specs.{WordBits.{bits_of_words, set_among}}
 use Rattle.ffs_maps.proofs.ReservedBits.{reserved_all, reserved_ones}
@@ -18,14 +18,4 @@ invariant_of-self c =
     }
 
 pub returns-then-lay_reserved : goal.returns-then-lay_reserved
-returns-then-lay_reserved c =
-    let m = c.args.self.now in
-    let g = c.args.geometry.now in
-    let now = c.lay_reserved.ensures.bits c.if-lay_reserved.true in
-    let n = length m.words.list in
-    record {
-      size = refl;
-      bits = ap (λ ws. bits_of_words ws.list m.size) now
-          ∙ reserved_all g m.words.list n m.size c.requires (omega (arith, m.enough))
-          (c.lay_reserved.ensures.zeros c.if-lay_reserved.true);
-    }
+returns-then-lay_reserved c = grind (arith, reserved_all)

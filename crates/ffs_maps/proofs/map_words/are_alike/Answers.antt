@@ -1,4 +1,4 @@
-use Rattle.std.proofs.{Common.{◌≡◌, inl, inr, ℕ, arith, ap, refl, bit_or, nat_eq}, lemmas.Bool.{cases_eq, eqb-true}}
+use Rattle.std.proofs.{Common.{◌≡◌, ℕ, arith, ap, refl, bit_or, nat_eq}, lemmas.Bool.{eqb-true}}
 use Rattle.std.proofs.lemmas.{List.Elements.{All-from_get_or, All-get_or}, Nat.Bits.{bit_at_or, bit_at_xor, bit_at-lt}}
 use Rattle.std.{proofs.lemmas.Nat.Bits.{bit_at-zero, same_from_bits}, specs.Int.{RustNames.bit_xor, Bits.xor_self}}
 use Rattle.std.specs.Int.{bit_at}
@@ -19,20 +19,7 @@ pub loop-index-init : goal.loop-index-init
 loop-index-init c = (λ none k low. absurd (omega arith), λ same. refl)
 
 pub loop-index-preserved : goal.loop-index-preserved
-loop-index-preserved c =
-    let differ = c.loop-index.differ in
-    let index = c.loop-index.index in
-    let invariant = c.loop-index.invariant in (
-      λ none k low. elim (cases_eq k index) [
-        | inl e ↦ rw e (no_difference _ _ (none_of differ _ none).1)
-        | inr apart ↦ invariant.0 (none_of differ _ none).0 k (omega (arith, low, apart))
-      ],
-      λ same. rw (
-        invariant.1 (λ k low. same k (omega (arith, low))),
-        same index (omega arith),
-        xor_self c.args.word,
-      ) refl,
-    )
+loop-index-preserved c = grind (arith, no_difference, none_of, xor_self)
 
 pub returns : goal.returns
 returns c =

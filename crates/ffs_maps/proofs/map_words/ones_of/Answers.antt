@@ -1,4 +1,4 @@
-use Rattle.std.proofs.Common.{◌≡◌, ◌+◌, ◌*◌, ◌^◌, ◌<◌, ◌∙◌, ℕ, List, ap, arith, count_ones, false, get_or, length, refl}
+use Rattle.std.proofs.Common.{◌≡◌, ◌+◌, ◌*◌, ◌^◌, ◌<◌, ℕ, List, arith, count_ones, false, get_or, length, refl}
 use Rattle.std.proofs.lemmas.List.Elements.{All-get_or}
 use Rattle.std.specs.List.{slice_index_or}
 use Rattle.ffs_maps.{specs.WordBits.{bits_of_words, set_among}, proofs.Counting.{alike_words, count_join, count_within, ones_of_word}}
@@ -46,14 +46,7 @@ overflow_add-count c =
     )
 
 pub loop-index-preserved : goal.loop-index-preserved
-loop-index-preserved c =
-    let words = c.args.words.now in
-    let index = c.loop-index.index in
-    counted words index c.loop-index.count _ c.loop-index-test.true (omega (arith, c.type_inv.words index)) refl
-    c.loop-index.invariant
+loop-index-preserved c = search (arith, counted)
 
 pub returns : goal.returns
-returns c =
-    let words = c.args.words.now in
-    let over : c.loop-index.index ≡ length words = omega (arith, c.loop-index-test.false) in
-    c.loop-index.invariant ∙ ap (λ n. set_among (bits_of_words words (64 * length words)) 0 (64 * n)) over
+returns c = grind arith

@@ -1,4 +1,4 @@
-use Rattle.std.proofs.Common.{◌-◌, ◌∙◌, ◌++◌, ◌∷◌, [], ℕ, arith, ap, length, refl, replicate, sym, vec_len}
+use Rattle.std.proofs.Common.{◌-◌, ◌∙◌, ◌++◌, ℕ, arith, ap, length, refl, replicate, sym, vec_len}
 use Rattle.std.proofs.lemmas.{Bool.not-true, List.{length-append, length-replicate}}
 use Rattle.std.specs.Prelude.{Some}
 use Rattle.ffs_maps.specs.Words.{reserved_words}
@@ -39,26 +39,4 @@ loop-len-preserved-then-len-next c =
     }
 
 pub loop-len-preserved : goal.loop-len-preserved
-loop-len-preserved c =
-    let g = c.args.geometry.now in
-    let inv = c.loop-len.invariant in
-    let first = vec_len c.args.touched.now in
-    let len = c.loop-len.len in
-    record {
-      len = omega (
-        arith,
-        inv.len,
-        ap (length {A = ℕ}) c.push.ensures.items,
-        length-append c.loop-len.touched.items (c.reserved_word.result ∷ []),
-        c.loop-len.touched.ok.0,
-        c.push.new.self.ok.0,
-      );
-      within = omega (arith, inv.within);
-      past = omega (arith, c.loop-len-test.true);
-      items = c.push.ensures.items
-          ∙ ap (λ xs. xs ++ c.reserved_word.result ∷ []) inv.items
-          ∙ reserved_more (Some g) c.args.touched.now.items first (len - first) len c.reserved_word.result
-          (omega (arith, inv.within)) c.reserved_word.ensures;
-      address = c.push.ensures.address ∙ inv.address;
-      room = c.push.ensures.room ∙ inv.room;
-    }
+loop-len-preserved c = grind (arith, length-append, reserved_more)

@@ -1,10 +1,6 @@
-use Rattle.std.{proofs.Common.{◌+◌, ◌-◌, ◌*◌, ap, sym}}
-use Rattle.ffs_maps.specs.Words.{reserved_bit}
+use Rattle.std.proofs.Common.{arith}
 use Rattle.ffs_maps.proofs.Counting.{none_counted}
 use Rattle.ffs_maps.proofs.map_words.untouched_ones.Goals as goal
 
 pub returns-in-None : goal.returns-in-None
-returns-in-None c =
-    let n = 64 * c.args.last - 64 * c.args.first in
-    sym (none_counted (reserved_bit c.args.reserved.now) (64 * c.args.first) n
-    (λ k h. ap (λ r. reserved_bit r (64 * c.args.first + k)) c.in-None.is))
+returns-in-None c = grind (arith, none_counted)

@@ -1,3 +1,4 @@
+use Rattle.std.proofs.Common.{arith}
 use Rattle.std.proofs.Common.{ap, ◌+◌}
 use Rattle.ffs_maps.proofs.Runs.{first_run, other_run}
 use Rattle.ffs_maps.proofs.reserved.reserved_run.Goals as goal
@@ -9,6 +10,4 @@ returns-then-group-eq0 c =
     (ap (λ n. g.layout.csaddr + n) c.div_ceil-summary.ensures)
 
 pub returns : goal.returns
-returns c =
-    let g = c.args.geometry.now in
-    other_run g.layout c.args.group _ _ g.sound c.requires c.if-group-eq0.false c.cgsblock.ensures c.cgdmin.ensures.value
+returns c = search (arith, other_run)

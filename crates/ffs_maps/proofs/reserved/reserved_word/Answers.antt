@@ -1,5 +1,5 @@
 use Rattle.std.proofs.Common.{◌≡◌, ◌-◌, ◌+◌, ◌*◌, ◌≤◌, ◌<◌, ◌∙◌, ◌&&◌, ℕ, Bool, arith, cond, bit_or, inl, inr, ap, sym}
-use Rattle.std.proofs.lemmas.{Bool.{cases_lt, Decides.nat_tests}, Nat.Bits.bit_at_or}
+use Rattle.std.proofs.lemmas.{Bool.{cases_lt}, Nat.Bits.bit_at_or}
 use Rattle.std.specs.{Int.bit_at, Prelude.Some}
 use Rattle.ffs_volume.specs.Disk.Areas.{is_reserved}
 use Rattle.ffs_volume.specs.declared.Layout.{Layout}
@@ -16,28 +16,12 @@ more_bits : (v : Layout) (s : Stretch) (start fragment next word bits k : ℕ) �
     ((k : ℕ) → fragment - start ≤ k → bit_at word k ≡ 0) →
     ((k : ℕ) → bit_at bits k ≡ cond (s.reserved && is_between (fragment - start) (next - start) k) 1 0) →
     bit_at (bit_or word bits) k ≡ cond (is_reserved v (start + k)) 1 0
-more_bits v s start fragment next word bits k h from_ some within inside low high more = elim (cases_lt k (fragment - start)) [
-  | inl before_ ↦
-      let none : bit_at bits k ≡ 0 = more k ∙ outside s.reserved before_ in
-      omega (arith, bit_at_or word bits k, low k before_, none)
-  | inr past ↦
-      let one : bit_at bits k ≡ cond s.reserved 1 0 = more k ∙ within_ s.reserved past in
-      let alone : bit_at (bit_or word bits) k ≡ bit_at bits k = omega (arith, bit_at_or word bits k, high k past) in
-      alone ∙ one ∙ ap (λ b. cond b 1 0) (sym (h.alike (start + k) (omega (arith, past, from_)) (omega (arith, inside, within))))
-]
-  where
-    outside : (b : Bool) → k < fragment - start → ◌≡◌ {A = ℕ} (cond (b && is_between (fragment - start) (next - start) k) 1 0) 0
-    outside b before_ = grind (arith, nat_tests)
-
-    within_ : (b : Bool) → fragment - start ≤ k → ◌≡◌ {A = ℕ} (cond (b && is_between (fragment - start) (next - start) k) 1 0) (cond b 1 0)
-    within_ b past = grind (arith, nat_tests)
+more_bits v s start fragment next word bits k h from_ some within inside low high more = grind (arith, bit_at_or)
 
 -- and no others
 none_above : (b : Bool) (start end word bits k : ℕ) → start ≤ end → end ≤ k → bit_at word k ≡ 0 →
     bit_at bits k ≡ cond (b && is_between start end k) 1 0 → bit_at (bit_or word bits) k ≡ 0
-none_above b start end word bits k order past none is =
-    let out : ◌≡◌ {A = ℕ} (cond (b && is_between start end k) 1 0) 0 = grind (arith, nat_tests) in
-    omega (arith, bit_at_or word bits k, none, is, out)
+none_above b start end word bits k order past none is = grind (arith, bit_at_or)
 
 pub loop-fragment-preserved : goal.loop-fragment-preserved
 loop-fragment-preserved c =

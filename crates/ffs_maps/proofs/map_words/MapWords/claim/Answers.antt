@@ -3,10 +3,7 @@ use Rattle.ffs_maps.proofs.Words.{length_seen, same_stored, set_seen, touched_at
 use Rattle.ffs_maps.proofs.map_words.MapWords.claim.Goals as goal
 
 pub touch-requires-clause-room : goal.touch-requires-clause-room
-touch-requires-clause-room c =
-    let w = c.self.inside.stored in
-    let all = length_seen w.touched w.reserved w.count c.args.self.now c.self.view_is c.self.invariant.0 in
-    (omega (arith, all, c.requires), c.self.invariant.1)
+touch-requires-clause-room c = grind (arith, length_seen)
 
 pub returns-then-word-mask-ne0 : goal.returns-then-word-mask-ne0
 returns-then-word-mask-ne0 c =

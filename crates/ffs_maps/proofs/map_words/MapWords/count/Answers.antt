@@ -1,6 +1,4 @@
-use Rattle.std.proofs.Common.{◌-◌, ◌*◌, ◌∙◌, arith, false, ap, drop, sym, take}
-use Rattle.std.specs.List.{slice_index_or}
-use Rattle.ffs_maps.specs.WordBits.{bits_of_words}
+use Rattle.std.proofs.Common.{◌-◌, ◌∙◌, arith, ap, drop, sym, take}
 use Rattle.ffs_maps.proofs.{Counting.count_within, Words.length_seen, WordCounts.{count_parts, reserved_in_words}}
 use Rattle.ffs_maps.proofs.map_words.MapWords.count.Goals as goal
 
@@ -14,21 +12,7 @@ returns-then-end-first c = λ size below.
     (omega (arith, all, c.requires.words)) below)
 
 pub overflow_add-result : goal.overflow_add-result
-overflow_add-result c =
-    let w = c.self.inside.stored in
-    let all = length_seen w.touched w.reserved w.count c.args.self.now c.self.view_is c.self.invariant.0 in
-    let sum = count_parts w.touched w.reserved w.count (64 * c.args.last) c.args.first c.min-end.result c.args.last
-    c.args.self.now _ _ _ c.self.view_is (omega (arith, c.if-end-first.false))
-    (omega (arith, c.min-end.ensures, c.as_slice-words.ensures.len)) (omega (arith, all, c.requires.words))
-    (omega arith) (ap (λ xs. take (c.min-end.result - c.args.first) (drop c.args.first xs)) c.as_slice-words.ensures.value)
-    c.ones_of-touched.ensures c.untouched_ones-2.ensures in
-    omega (
-      arith,
-      sum,
-      c.requires.fits,
-      count_within (λ f. slice_index_or (bits_of_words c.args.self.now.list (64 * c.args.last)) f false)
-          (64 * c.args.first) (64 * c.args.last - 64 * c.args.first),
-    )
+overflow_add-result c = grind (arith, count_within)
 
 pub returns : goal.returns
 returns c = λ size below.
