@@ -8,10 +8,6 @@ use Rattle.ffs_layout.specs.declared.geometry.Geometry.{Geometry}
 use Rattle.ffs_maps.specs.{Words.{Words, reserved_bit}, WordBits.{bits_of_words, set_among}}
 use Rattle.ffs_maps.proofs.{Bits.{get_bits, is_bit}, Counting.{count_join_at, sum_same}, Words.{reserved_bits_at, seen, touched_at, untouched_at}}
 
-pub as_bit : (b : Bool) → nat_eq (cond b 1 0) 1 ≡ b
-as_bit true = refl
-as_bit false = refl
-
 -- the bit of a fragment in a word that isn't touched
 pub reserved_at : (touched : Vec ℕ Global) (reserved : Option Geometry) (count f : ℕ) (w : Words) →
     seen touched reserved count ≡ w → vec_len touched ≤ f / 64 → f / 64 < count → is_bit w.list f ≡ reserved_bit reserved f

@@ -103,12 +103,6 @@ pub touched_at : (touched : Vec ℕ Global) (reserved : Option Geometry) (index 
     seen touched reserved count ≡ w → index < vec_len touched → get_or w.list index 0 ≡ get_or touched.items index d
 touched_at touched reserved index count w d is inside = grind (arith, get_or-append, get_or_default)
 
--- a word of the volume
-pub word_for : (reserved : Option Geometry) (count index : ℕ) → HasWordsFor reserved count → index < count →
-    IsWordFor reserved index
-word_for None count index all inside = tt
-word_for (Some g) count index all inside = omega (arith, all, inside)
-
 -- a word that isn't touched
 pub untouched_at : (touched : Vec ℕ Global) (reserved : Option Geometry) (index count : ℕ) (w : Words) →
     seen touched reserved count ≡ w → vec_len touched ≤ index → index < count →

@@ -17,9 +17,6 @@ nil-both xs ys g h = rw (g, h)
 pub reported-quiet : (b : Bool) (m : TreeMessage) → reported b m ≡ [] → b ≡ false
 reported-quiet b m h = grind arith
 
-pub reported-silent : (b : Bool) (m : TreeMessage) → b ≡ false → reported b m ≡ []
-reported-silent b m h = rw h
-
 -- one of two, where the first has a message
 pub if-quiet : (b : Bool) (m : TreeMessage) (ms ys : List TreeMessage) → (if b then m ∷ ms else ys) ≡ [] → (b ≡ false)
     × (ys ≡ [])
