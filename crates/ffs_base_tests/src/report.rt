@@ -360,7 +360,7 @@ static LINES: [Said; 75] = [
         b"DIRECTORY /d?: LENGTH 513 NOT MULTIPLE OF 512\nADJUST? no\n\n",
     ),
     (
-        Line::Directory(DirectoryLine::DirEmpty { path: b"/d\n" }),
+        Line::Directory(DirectoryLine::DirHoles { path: b"/d\n" }),
         true,
         b"DIRECTORY /d?: CONTAINS EMPTY BLOCKS\nADJUST LENGTH? no\n\n",
     ),

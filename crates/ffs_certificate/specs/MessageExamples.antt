@@ -13,7 +13,7 @@ use Rattle.ffs_volume.specs.{Messages.{Kinds.{summary, is_defect}, Texts.texts_o
 use Rattle.ffs_volume.specs.Report.{Memory.{held_limit, runs_limit}, Whole.{report_lines, report_of, end_by, status_of}}
 use Rattle.ffs_volume.specs.Examples.Images.{base_layout, base_image}
 use Rattle.ffs_volume.specs.declared.tree_lines.DirectoryLine.TheVariants.{RootNone, RootNotDir, RootSuspect, DirShort}
-use Rattle.ffs_volume.specs.declared.tree_lines.DirectoryLine.TheVariants.{DirLength, DirEmpty, DirCorrupt}
+use Rattle.ffs_volume.specs.declared.tree_lines.DirectoryLine.TheVariants.{DirLength, DirHoles, DirCorrupt}
 use Rattle.ffs_volume.specs.declared.tree_lines.DotLine.TheVariants.{MissingDot, MissingDotFirst, NumberDot, KindDot}
 use Rattle.ffs_volume.specs.declared.tree_lines.DotLine.TheVariants.{MissingDotdot, MissingDotdotSecond, NumberDotdot}
 use Rattle.ffs_volume.specs.declared.tree_lines.DotLine.TheVariants.{KindDotdot, ExtraDot, ExtraDotdot}
@@ -72,7 +72,7 @@ pub record MessageExamples : Type 0 where
       ≡ codes "ROOT INODE UNALLOCATED\nALLOCATE? no\n\nROOT INODE NOT DIRECTORY\nREALLOCATE? no\n\nFIX? no\n\n"
       ++ codes "DUPS/BAD IN ROOT INODE\nREALLOCATE? no\n\nCONTINUE? yes\n\n"
   pub dirs : texts_of (of_tree (of_directory (DirShort about_root (codes "/a")))
-      ∷ of_tree (of_directory (DirLength (codes "/a") 600)) ∷ of_tree (of_directory (DirEmpty (codes "/a")))
+      ∷ of_tree (of_directory (DirLength (codes "/a") 600)) ∷ of_tree (of_directory (DirHoles (codes "/a")))
       ∷ of_tree (of_directory (DirCorrupt about_root (codes "/a"))) ∷ [])
       ≡ codes "DIRECTORY TOO SHORT I=2 OWNER=0 MODE=40755\nSIZE=512 MTIME=0\nDIR=/a\nFIX? no\n\n"
       ++ codes "DIRECTORY /a: LENGTH 600 NOT MULTIPLE OF 512\nADJUST? no\n\n"

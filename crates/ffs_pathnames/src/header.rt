@@ -149,7 +149,7 @@ fn say_chunks<W: Output>(
 {
     let empty = LineIf {
         holds: defects.gap,
-        line: Phase2Line::Directory(DirectoryLine::DirEmpty { path }),
+        line: Phase2Line::Directory(DirectoryLine::DirHoles { path }),
     };
     let corrupt = LineIf {
         holds: defects.unsound,

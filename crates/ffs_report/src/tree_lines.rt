@@ -201,7 +201,7 @@ pub fn print_directory<W: Output>(out: &mut W, line: &DirectoryLine<&[u8]>) -> R
         DirectoryLine::RootSuspect => print(out, ROOT_SUSPECT),
         DirectoryLine::DirShort { attr, path } => print_dir(out, DIR_SHORT, attr, path, FIX),
         DirectoryLine::DirLength { path, size } => print_length(out, path, *size),
-        DirectoryLine::DirEmpty { path } => print_pieces(
+        DirectoryLine::DirHoles { path } => print_pieces(
             out,
             &[
                 Piece::Text(DIRECTORY),

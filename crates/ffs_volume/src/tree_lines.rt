@@ -16,8 +16,8 @@ pub enum DirectoryLine<P> {
     DirShort { attr: Attr, path: P },
     /// Its size, in bytes, is no multiple of 512.
     DirLength { path: P, size: u64 },
-    /// It has a hole (CONTAINS EMPTY BLOCKS). This isn't a directory of size 0.
-    DirEmpty { path: P },
+    /// It has a hole (CONTAINS EMPTY BLOCKS).
+    DirHoles { path: P },
     /// A chunk of it isn't sound.
     DirCorrupt { attr: Attr, path: P },
 }

@@ -12,7 +12,7 @@ use Rattle.ffs_volume.specs.Directories.Roles.{is_one_dot, is_two_dots, start_en
 use Rattle.ffs_volume.specs.Directories.{Graph.parent, Parents.{graph_of, is_first_naming_entry, is_parent_entry}}
 use Rattle.ffs_volume.specs.{Directories.Paths.{dir_path, entry_path}, Messages.Kinds.{TreeMessage, reported}}
 use Rattle.ffs_volume.specs.Messages.Kinds.{lines_below}
-use Rattle.ffs_volume.specs.declared.tree_lines.DirectoryLine.TheVariants.{DirCorrupt, DirEmpty, DirLength, DirShort}
+use Rattle.ffs_volume.specs.declared.tree_lines.DirectoryLine.TheVariants.{DirCorrupt, DirHoles, DirLength, DirShort}
 use Rattle.ffs_volume.specs.declared.tree_lines.DirectoryLine.TheVariants.{RootNone, RootNotDir, RootSuspect}
 use Rattle.ffs_volume.specs.declared.tree_lines.DotLine.TheVariants.{ExtraDot, ExtraDotdot, KindDot, KindDotdot}
 use Rattle.ffs_volume.specs.declared.tree_lines.DotLine.TheVariants.{MissingDot, MissingDotFirst, MissingDotdot}
@@ -121,7 +121,7 @@ size_lines defects attr path = reported defects.short (of_directory (DirShort at
     ++ reported defects.partial_chunk (of_directory (DirLength path attr.size))
 
 abbrev pub chunk_lines : HeaderDefects (List ℕ) → Attr → (path : List ℕ) → List TreeMessage
-chunk_lines defects attr path = reported defects.gap (of_directory (DirEmpty path))
+chunk_lines defects attr path = reported defects.gap (of_directory (DirHoles path))
     ++ reported defects.unsound (of_directory (DirCorrupt attr path))
 
 abbrev pub dot_lines : DotDefects (List ℕ) → Attr → (path : List ℕ) → List TreeMessage

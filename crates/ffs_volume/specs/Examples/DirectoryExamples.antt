@@ -16,7 +16,7 @@ use Rattle.ffs_volume.specs.declared.tree_lines.{EntryLine.TheVariants.ZeroDir, 
 use Rattle.ffs_volume.specs.declared.tree_lines.DotLine.TheVariants.{ExtraDotdot, KindDot, KindDotdot, MissingDot}
 use Rattle.ffs_volume.specs.declared.tree_lines.DotLine.TheVariants.{MissingDotFirst, MissingDotdot}
 use Rattle.ffs_volume.specs.declared.tree_lines.DotLine.TheVariants.{MissingDotdotSecond, NumberDot, NumberDotdot}
-use Rattle.ffs_volume.specs.declared.tree_lines.DirectoryLine.TheVariants.{DirEmpty, DirLength, DirShort, RootNone}
+use Rattle.ffs_volume.specs.declared.tree_lines.DirectoryLine.TheVariants.{DirHoles, DirLength, DirShort, RootNone}
 use Rattle.ffs_volume.specs.declared.tree_lines.DirectoryLine.TheVariants.{RootNotDir, RootSuspect}
 use Rattle.ffs_volume.specs.declared.tree_lines.ReferenceLine.TheVariants.{DeadMarked, DeadZero, LinkCount, Unref}
 use Rattle.ffs_volume.specs.declared.tree_lines.ReferenceLine.TheVariants.{UnrefDir, UnrefZero}
@@ -267,7 +267,7 @@ pub record PathnameExamples : Type 0 where
       ≡ of_directory (DirShort (record (dir_attr 3) { size = 23 }) (47 ∷ 97 ∷ [])) ∷ []
   pub no_multiple : pathname_lines (sized 600) ≡ of_directory (DirLength (47 ∷ 97 ∷ []) 600) ∷ []
   pub hole : pathname_lines (record (sub (dots 3 2 [])) { gap = λ i. i == 3 })
-      ≡ of_directory (DirEmpty (47 ∷ 97 ∷ [])) ∷ []
+      ≡ of_directory (DirHoles (47 ∷ 97 ∷ [])) ∷ []
   -- a marked root that is entered is extraneous there, and no more; the type of an unknown inode
   -- isn't compared
   pub marked_root_entered : pathname_lines (record (alone (dots 2 2 (entry 2 4 (97 ∷ []) ∷ []))) { marked = λ i. true })

@@ -15,7 +15,7 @@ use Rattle.ffs_volume.specs.declared.tree_lines.{DirectoryLine.DirectoryLine, Do
 use Rattle.ffs_volume.specs.declared.tree_lines.{EntryLine.EntryLine, ReferenceLine.ReferenceLine}
 use Rattle.ffs_volume.specs.Messages.Kinds.{TreeMessage, of_directory, of_dot, of_entry, of_reference}
 use Rattle.ffs_volume.specs.declared.tree_lines.DirectoryLine.TheVariants.{RootNone, RootNotDir, RootSuspect, DirShort}
-use Rattle.ffs_volume.specs.declared.tree_lines.DirectoryLine.TheVariants.{DirLength, DirEmpty, DirCorrupt}
+use Rattle.ffs_volume.specs.declared.tree_lines.DirectoryLine.TheVariants.{DirLength, DirHoles, DirCorrupt}
 use Rattle.ffs_volume.specs.declared.tree_lines.DotLine.TheVariants.{MissingDot, MissingDotFirst, NumberDot, KindDot}
 use Rattle.ffs_volume.specs.declared.tree_lines.DotLine.TheVariants.{MissingDotdot, MissingDotdotSecond, NumberDotdot}
 use Rattle.ffs_volume.specs.declared.tree_lines.DotLine.TheVariants.{KindDotdot, ExtraDot, ExtraDotdot}
@@ -143,7 +143,7 @@ directory_line_text RootNotDir = texts.ROOT_NOT_DIR.now
 directory_line_text RootSuspect = texts.ROOT_SUSPECT.now
 directory_line_text (DirShort attr path) = path_text texts.DIR_SHORT.now attr Dir path texts.FIX.now
 directory_line_text (DirLength path size) = length_text path size
-directory_line_text (DirEmpty path) = empty_blocks_text path
+directory_line_text (DirHoles path) = empty_blocks_text path
 directory_line_text (DirCorrupt attr path) = path_text texts.DIR_CORRUPT.now attr Dir path texts.SALVAGE.now
 
 -- a message on the entries `.` and `..`
@@ -194,7 +194,7 @@ directory_message RootNotDir = RootNotDir
 directory_message RootSuspect = RootSuspect
 directory_message (DirShort attr path) = DirShort attr path.now
 directory_message (DirLength path size) = DirLength path.now size
-directory_message (DirEmpty path) = DirEmpty path.now
+directory_message (DirHoles path) = DirHoles path.now
 directory_message (DirCorrupt attr path) = DirCorrupt attr path.now
 
 abbrev pub dot_message : DotLine (Bor (List ℕ)) → DotLine (List ℕ)
