@@ -83,7 +83,7 @@ static LINES: [Said; 75] = [
         b"Alternate super block location: 4194303\n",
     ),
     (
-        Line::Opening { name: "a\tb.img" },
+        Line::ImageName { name: "a\tb.img" },
         false,
         b"** a\tb.img (NO WRITE)\n",
     ),

@@ -20,7 +20,7 @@ use Rattle.ffs_volume.specs.Directories.Volumes.{chunk_source_of}
 use Rattle.ffs_volume.specs.{Directories.Volumes.{volume_with, volume_of}, Groups.Records.right_group_counts}
 use Rattle.ffs_volume.specs.Groups.Records.{right_frsum, right_total, maps_fit, has_right_magic, has_right_maps}
 use Rattle.ffs_volume.specs.Groups.Records.{has_right_sums, has_right_record, has_right_totals}
-use Rattle.ffs_volume.specs.{Groups.GroupCheck.phase5_lines, Messages.Kinds.{lines_below, has_defect, opening, mounted}}
+use Rattle.ffs_volume.specs.{Groups.GroupCheck.phase5_lines, Messages.Kinds.{lines_below, has_defect, image_name, mounted}}
 use Rattle.ffs_volume.specs.Messages.Kinds.{phase1, phase1b, phase2, phase3, phase4, phase5, of_blocks, of_tree}
 use Rattle.ffs_volume.specs.{Messages.{Kinds.summary, Shown.octal, Texts.texts_of}, Report.Whole.file_count}
 use Rattle.ffs_volume.specs.Report.Whole.{claimed_count, later_phase_lines, phase_lines, report_lines, report_of}
@@ -95,9 +95,9 @@ report_examples =
     let silent = right.silent.0 (ap has_defect base_lines) in
     record {
       base = ap (λ r. head_lines (codes "t.img") None ++ lines_by_outcome (base_image Little) r) accepted
-          ∙ ap (λ ls. opening (codes "t.img") ∷ ls) base_lines;
+          ∙ ap (λ ls. image_name (codes "t.img") ∷ ls) base_lines;
       base_big = ap (λ r. head_lines (codes "t.img") None ++ lines_by_outcome (base_image Big) r) accepted_big
-          ∙ ap (λ ls. opening (codes "t.img") ∷ ls) base_big_lines;
+          ∙ ap (λ ls. image_name (codes "t.img") ∷ ls) base_big_lines;
       base_end = ap (end_by_outcome (base_image Little)) accepted ∙ right.end_is.1 silent;
       base_right = silent;
       base_big_right = right_big.silent.0 (ap has_defect base_big_lines);

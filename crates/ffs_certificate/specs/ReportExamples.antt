@@ -2,7 +2,7 @@
 use Rattle.std.specs.Prelude.{codes, ◌≡◌, ℕ, List, [], ◌∷◌, ◌++◌, pos, None, replicate}
 use Rattle.ffs_volume.specs.declared.{Order.{Order, TheVariants.{Little, Big}}, Attr.Attr, BlockMessage.TheVariants.Dup}
 use Rattle.ffs_volume.specs.declared.{End.TheVariants.Consistent, Label.TheVariants.File as FileLabel}
-use Rattle.ffs_volume.specs.{Disk.Superblock.Superblock, Messages.Kinds.{Message, opening, mounted, phase1, phase1b}}
+use Rattle.ffs_volume.specs.{Disk.Superblock.Superblock, Messages.Kinds.{Message, image_name, mounted, phase1, phase1b}}
 use Rattle.ffs_volume.specs.Messages.Kinds.{phase2, phase3, phase4, phase5, of_blocks, of_tree, summary}
 use Rattle.ffs_volume.specs.Directories.{PathnameCheck.pathname_lines, Connectivity.connectivity_lines}
 use Rattle.ffs_volume.specs.{Directories.{ReferenceCheck.reference_lines, Volumes.volume_of}, Report.Whole.phase_lines}
@@ -76,8 +76,8 @@ clean_lines = mounted mount_bytes ∷ phase1 ∷ phase2 ∷ phase3 ∷ phase4 �
 
 pub record ReportExamples : Type 0 where
   -- the base image, called t.img, in both orders: its report and its end, and so it is consistent
-  pub base : report_of (base_image Little) (codes "t.img") None ≡ opening (codes "t.img") ∷ clean_lines
-  pub base_big : report_of (base_image Big) (codes "t.img") None ≡ opening (codes "t.img") ∷ clean_lines
+  pub base : report_of (base_image Little) (codes "t.img") None ≡ image_name (codes "t.img") ∷ clean_lines
+  pub base_big : report_of (base_image Big) (codes "t.img") None ≡ image_name (codes "t.img") ∷ clean_lines
   pub base_end : report_end (base_image Little) None ≡ Consistent
   pub base_right : IsConsistent (base_image Little) (base_superblock Little)
   pub base_big_right : IsConsistent (base_image Big) (base_superblock Big)

@@ -2,7 +2,7 @@
 use Rattle.ffs_volume.specs.Messages.{Kinds.Message, Texts.{directory_message, dot_message, entry_message}}
 use Rattle.ffs_volume.specs.Messages.Kinds as messages
 use Rattle.ffs_report.specs.declared.line.{Line.Line, Heading.Heading as HeadingLine}
-use Rattle.ffs_report.specs.declared.line.Line.TheVariants.{Location, Opening, BadSuper, CannotRead, CannotAlloc}
+use Rattle.ffs_report.specs.declared.line.Line.TheVariants.{Location, ImageName, BadSuper, CannotRead, CannotAlloc}
 use Rattle.ffs_report.specs.declared.line.Line.TheVariants.{Optimization, Minfree, Mounted, Heading, Block, Directory}
 use Rattle.ffs_report.specs.declared.line.Line.TheVariants.{Dot, Entry, Reference, Summary}
 use Rattle.ffs_report.specs.declared.line.Heading.TheVariants.{Phase1, Phase1b, Phase2, Phase3, Phase4, Phase5}
@@ -17,7 +17,7 @@ heading_message Phase5 = messages.phase5
 
 abbrev pub message_of : Line → Message
 message_of (Location sector) = messages.location sector
-message_of (Opening name) = messages.opening name.now
+message_of (ImageName name) = messages.image_name name.now
 message_of (BadSuper fault) = messages.bad_super fault
 message_of (CannotRead sector) = messages.cannot_read sector
 message_of CannotAlloc = messages.cannot_alloc

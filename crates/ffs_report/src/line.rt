@@ -11,7 +11,7 @@ pub enum Line<'a> {
         sector: u32,
     },
     /// The image's name, as it was given.
-    Opening {
+    ImageName {
         name: &'a str,
     },
     /// Why the superblock is refused.

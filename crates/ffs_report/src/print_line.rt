@@ -2,7 +2,7 @@
 ghost use Rattle.std.specs.Prelude.{◌≡◌};
 ghost use Rattle.ffs_report.specs.Sink.{GoesGathered, Prints};
 ghost use Rattle.ffs_report.specs.Lines.{message_of};
-ghost use Rattle.ffs_volume.specs.Messages.Texts.{text_of, fault_text, opening_text, mounted_text, minfree_text, offer_text, block_count_text, block_message_text, summary_text};
+ghost use Rattle.ffs_volume.specs.Messages.Texts.{text_of, fault_text, image_name_text, mounted_text, minfree_text, offer_text, block_count_text, block_message_text, summary_text};
 
 use crate::line::{Heading, Line};
 use crate::line_buffer::LineBuffer;
@@ -44,7 +44,7 @@ fn print_line<W: Output>(out: &mut W, line: &Line<'_>) -> Result<(), OutFault>
 {
     match line {
         Line::Location { sector } => print_number(out, LOCATION, *sector as u64, LINE_END),
-        Line::Opening { name } => print_opening(out, name.as_bytes()),
+        Line::ImageName { name } => print_image_name(out, name.as_bytes()),
         Line::BadSuper(fault) => print_fault(out, *fault),
         Line::CannotRead { sector } => print_number(out, CANNOT_READ, *sector, LINE_END),
         Line::CannotAlloc => print(out, CANNOT_ALLOC),
@@ -83,13 +83,13 @@ fn print_line<W: Output>(out: &mut W, line: &Line<'_>) -> Result<(), OutFault>
     }
 }
 
-fn print_opening<W: Output>(out: &mut W, name: &[u8]) -> Result<(), OutFault>
-    ensures { Prints (W.sink out.old) (W.sink out.new) (opening_text name.now) result }
+fn print_image_name<W: Output>(out: &mut W, name: &[u8]) -> Result<(), OutFault>
+    ensures { Prints (W.sink out.old) (W.sink out.new) (image_name_text name.now) result }
 {
     print_pieces(
         out,
         &[
-            Piece::Text(OPENING),
+            Piece::Text(BEFORE_IMAGE_NAME),
             Piece::Text(name),
             Piece::Text(NO_WRITE),
         ],

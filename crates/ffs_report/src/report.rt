@@ -34,7 +34,7 @@ fn is_defect(line: &Line<'_>) -> bool
         Line::Block(_) | Line::Directory(_) | Line::Dot(_) | Line::Entry(_) | Line::Reference(_) =>
             true,
         Line::Location { .. }
-        | Line::Opening { .. }
+        | Line::ImageName { .. }
         | Line::BadSuper(_)
         | Line::CannotRead { .. }
         | Line::CannotAlloc

@@ -47,7 +47,7 @@ pub const SALVAGE: &[u8] = b"\nSALVAGE? no\n\n";
 
 pub const LOCATION: &[u8] = b"Alternate super block location: ";
 
-pub const OPENING: &[u8] = b"** ";
+pub const BEFORE_IMAGE_NAME: &[u8] = b"** ";
 
 pub const NO_WRITE: &[u8] = b" (NO WRITE)\n";
 

@@ -5,7 +5,7 @@ use Rattle.ffs_volume.specs.declared.{Order.TheVariants.{Little, Big}, SuperFaul
 use Rattle.ffs_volume.specs.declared.SuperFault.TheVariants.{Magic, InodeFormat, Ncg, Cpg, Ncyl, TooLarge, Shape, Short}
 use Rattle.ffs_volume.specs.{declared.SuperFault.TheVariants.Disagree, Disk.Areas.{cgstart, cgsblock, cgdmin}}
 use Rattle.ffs_volume.specs.Disk.Areas.{group_place, summary_place, inode_place, is_fragment_in_range, is_run_in_range}
-use Rattle.ffs_volume.specs.{Disk.{Areas.is_reserved, Outcome.outcome}, Messages.Kinds.{location, opening, mounted}}
+use Rattle.ffs_volume.specs.{Disk.{Areas.is_reserved, Outcome.outcome}, Messages.Kinds.{location, image_name, mounted}}
 use Rattle.ffs_volume.specs.Messages.Kinds.{bad_super, cannot_read, optimization, minfree, summary}
 use Rattle.ffs_volume.specs.{Report.{Opening.{setting_lines, opening_lines}, Whole.summary_of}, Messages.Shown.shown}
 use Rattle.ffs_volume.specs.{Messages.Shown.octal, Examples.Images.{zero_bytes, base_layout, base_superblock}}
@@ -108,10 +108,10 @@ pub record OpeningExamples : Type 0 where
   -- what is reported of the base image, of one at a sector, and of one that is refused. The image
   -- is called `t`
   pub reported : opening_lines (116 ∷ []) None (outcome (base_image Little) None)
-      ≡ opening (116 ∷ []) ∷ mounted (47 ∷ 109 ∷ 110 ∷ 116 ∷ []) ∷ []
+      ≡ image_name (116 ∷ []) ∷ mounted (47 ∷ 109 ∷ 110 ∷ 116 ∷ []) ∷ []
   pub unreadable : opening_lines (116 ∷ []) (Some 1) (outcome [] (Some 1))
-      ≡ location 1 ∷ opening (116 ∷ []) ∷ cannot_read 1 ∷ []
-  pub refused : opening_lines (116 ∷ []) None (outcome (zero_bytes 9568) None) ≡ opening (116 ∷ []) ∷ bad_super Magic ∷ []
+      ≡ location 1 ∷ image_name (116 ∷ []) ∷ cannot_read 1 ∷ []
+  pub refused : opening_lines (116 ∷ []) None (outcome (zero_bytes 9568) None) ≡ image_name (116 ∷ []) ∷ bad_super Magic ∷ []
   -- settings that aren't valid, and the last that are
   pub settings : setting_lines
       (record { layout = base_layout Little; optim = pos 2; minfree = pos 100; cstotal = []; mount = [] })

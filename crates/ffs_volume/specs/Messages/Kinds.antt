@@ -17,7 +17,7 @@ pub data TreeMessage : Type 0 where
 -- of a run that isn't completed
 pub data Message : Type 0 where
   location : (sector : ℕ) → Message  -- Alternate super block location
-  opening : (name : List ℕ) → Message  -- the image's name, one message of the opening
+  image_name : (name : List ℕ) → Message
   bad_super : (fault : SuperFault) → Message
   cannot_read : (sector : ℕ) → Message
   cannot_alloc : Message  -- the memory of a check was refused
@@ -38,7 +38,7 @@ pub data Message : Type 0 where
 -- the message reports an inconsistency; a refused superblock or a failed read ends the run instead
 abbrev pub is_defect : Message → Bool
 is_defect (location sector) = false
-is_defect (opening name) = false
+is_defect (image_name name) = false
 is_defect (bad_super fault) = false
 is_defect (cannot_read sector) = false
 is_defect cannot_alloc = false

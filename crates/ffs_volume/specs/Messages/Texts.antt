@@ -8,7 +8,7 @@ use Rattle.ffs_volume.specs.declared.{BlockMessage.TheVariants.{FreeCounts, Maps
 use Rattle.ffs_volume.specs.declared.{Label.TheVariants.{Dir, File, Name}, SuperFault.SuperFault}
 use Rattle.ffs_volume.specs.declared.SuperFault.TheVariants.{CannotRead, Magic, InodeFormat, Ncg, Cpg, Ncyl, TooLarge}
 use Rattle.ffs_volume.specs.{declared.SuperFault.TheVariants.{Shape, Short, Disagree}, Messages.Kinds.Message}
-use Rattle.ffs_volume.specs.Messages.Kinds.{location, opening, bad_super, cannot_read, cannot_alloc, optimization}
+use Rattle.ffs_volume.specs.Messages.Kinds.{location, image_name, bad_super, cannot_read, cannot_alloc, optimization}
 use Rattle.ffs_volume.specs.Messages.Kinds.{minfree, mounted, phase1, phase1b, phase2, phase3, phase4, phase5}
 use Rattle.ffs_volume.specs.Messages.{Kinds.{of_blocks, of_tree, summary}, Shown.{shown, octal, sign_text}}
 use Rattle.ffs_volume.specs.declared.tree_lines.{DirectoryLine.DirectoryLine, DotLine.DotLine}
@@ -227,8 +227,8 @@ summary_text files used free frags blocks tenths = concat (
     ∷ (decimal (unsigned_abs tenths % 10) ++ texts.FRAGMENTATION.now) ∷ [])
 
 -- the name of the image, as it was given
-abbrev pub opening_text : List ℕ → List ℕ
-opening_text name = concat (texts.OPENING.now ∷ name ∷ texts.NO_WRITE.now ∷ [])
+abbrev pub image_name_text : List ℕ → List ℕ
+image_name_text name = concat (texts.BEFORE_IMAGE_NAME.now ∷ name ∷ texts.NO_WRITE.now ∷ [])
 
 -- the mount point of the superblock
 abbrev pub mounted_text : List ℕ → List ℕ
@@ -242,7 +242,7 @@ minfree_text value = concat (
 -- the bytes of a message
 abbrev pub text_of : Message → List ℕ
 text_of (location sector) = number_text texts.LOCATION.now sector texts.LINE_END.now
-text_of (opening name) = opening_text name
+text_of (image_name name) = image_name_text name
 text_of (bad_super fault) = fault_text fault
 text_of (cannot_read sector) = number_text texts.CANNOT_READ.now sector texts.LINE_END.now
 text_of cannot_alloc = texts.CANNOT_ALLOC.now

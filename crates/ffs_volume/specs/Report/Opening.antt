@@ -3,7 +3,7 @@ use Rattle.std.specs.Prelude.{ℕ, ℤ, pos, negsuc, List, [], ◌∷◌, ◌++�
 use Rattle.std.specs.Prelude.{Some, None, Result, Ok, Err}
 use Rattle.ffs_volume.specs.declared.SuperFault.{SuperFault, TheVariants.{CannotRead, Magic, InodeFormat, Ncg, Cpg}}
 use Rattle.ffs_volume.specs.declared.SuperFault.TheVariants.{Ncyl, TooLarge, Shape, Short, Disagree}
-use Rattle.ffs_volume.specs.Messages.Kinds.{Message, location, opening, mounted, bad_super, cannot_read, optimization}
+use Rattle.ffs_volume.specs.Messages.Kinds.{Message, location, image_name, mounted, bad_super, cannot_read, optimization}
 use Rattle.ffs_volume.specs.{Messages.Kinds.{minfree, unless}, Disk.{Superblock.Superblock, Outcome.outcome}}
 
 -- the bytes up to the first NUL, or all of them: the mount point
@@ -52,7 +52,7 @@ location_lines (Some sector) = location sector ∷ []
 
 -- the messages before the superblock is read: the sector, if one is asked for, and the image's name
 abbrev pub head_lines : (name : List ℕ) (sector : Option ℕ) → List Message
-head_lines name sector = location_lines sector ++ opening name ∷ []
+head_lines name sector = location_lines sector ++ image_name name ∷ []
 
 -- what is reported of what was found: a superblock or its fault
 abbrev pub found_lines : Result Superblock SuperFault → List Message
