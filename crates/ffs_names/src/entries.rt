@@ -1,6 +1,6 @@
 //! The entries of a directory.
 
-ghost use Rattle.std.specs.Prelude.{◌≡◌, ◌+◌, ◌-◌, ◌*◌, ◌/◌, ◌≤◌, ◌^◌, ℕ, List, true, false, IfOk, OnOk, OnErr};
+ghost use Rattle.std.specs.Prelude.{◌≡◌, ◌+◌, ◌-◌, ◌*◌, ◌/◌, ◌≤◌, ◌^◌, ℕ, List, true, false, IfOk, OnOk, OnErr, if◌then◌else◌};
 ghost use Rattle.ffs_image.specs.Device.{ForContents};
 ghost use Rattle.ffs_names.specs.{OneChunk.one_chunk_at as one_chunk, Windows.{CanWalkDir, CanReadChunks}};
 ghost use Rattle.ffs_volume.specs.{Directories.Calm.is_right_size, declared.constants.TheConstants.DIRBLKSIZ};
@@ -66,7 +66,7 @@ fn has_right_size(inode: &Inode) -> bool
 impl Entries {
     ghost use Rattle.ffs_names.specs.Costs.{reads_for_entries, HoldsEntries};
     ghost use Rattle.ffs_names.specs.Leaves.{dir_reading, dir_walk, LeavesBlocks, LeavesEntries};
-    ghost use Rattle.ffs_image.specs.Reads.{ReadAfter};
+    ghost use Rattle.{ffs_image.specs.Reads.ReadAfter, ffs_volume.specs.Disk.Areas.is_run_in_range};
     ghost use Rattle.ffs_names.specs.Shapes.{runs_of_inode, has_right_shape, BeginsIn, EndsChunks, GivesDirectory, GivesEntry, HasEnded, HasStopped, RestartsIn, TakesFromChunk};
     ghost use Rattle.ffs_names.specs.Entering.{last_name};
 
@@ -144,7 +144,8 @@ impl Entries {
             (runs_of_inode self.old.chunks.walk.geometry.layout b (one_chunk address) 0)
             (reads_for_entries b self.new)
             ((blocks : Blocks) (w : Window) → HoldsEntries blocks w self.new) result) }
-        ensures once { I.reads image.new ≤ I.reads image.old + 1 }
+        ensures once { I.reads image.new ≤ I.reads image.old
+            + (if is_run_in_range self.old.chunks.walk.geometry.layout address 1 then 1 else 0) }
         ensures read { ReadAfter (I.device image.old) (I.device image.new) result }
         ensures stopped { OnErr result (HasStopped self.old.chunks.walk.geometry self.new) }
         ensures geometry { self.new.chunks.walk.geometry ≡ self.old.chunks.walk.geometry }

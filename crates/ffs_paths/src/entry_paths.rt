@@ -1,6 +1,6 @@
 //! The paths of the entries of a directory, one after another.
 
-ghost use Rattle.std.specs.Prelude.{◌≡◌, ◌<◌, ◌≤◌, ℕ, length as length_of};
+ghost use Rattle.std.specs.Prelude.{◌≡◌, ◌<◌, ◌≤◌, ℕ, [], length as length_of};
 ghost use Rattle.ffs_volume.specs.Directories.{Graph.Graph, Paths.entry_path};
 ghost use Rattle.ffs_paths.specs.{Climbing.in_room, DirectoryPaths.IsPathOf, EntryPaths.BeginsWith};
 ghost use Rattle.ffs_volume.specs.declared.constants.TheConstants.{MAXPATHLEN};
@@ -50,9 +50,10 @@ fn put_prefix(directory: &DirectoryPath, bytes: &mut [u8; MAXPATHLEN]) -> usize
 impl EntryPaths {
     ghost use Rattle.ffs_paths.specs.LastPaths.{last_path};
 
-    /// The paths of the entries of a directory with this path.
+    /// The paths of the entries of a directory with this path. None was asked for yet.
     pub fn of(directory: DirectoryPath) -> EntryPaths
-        ensures { result.directory ≡ directory }
+        ensures directory { result.directory ≡ directory }
+        ensures unasked { last_path result ≡ [] }
     {
         let mut bytes = [0u8; MAXPATHLEN];
         let begins = put_prefix(&directory, &mut bytes);

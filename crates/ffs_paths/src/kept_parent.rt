@@ -154,7 +154,7 @@ impl KeptParent {
     /// Writes the path of a directory.
     ///
     /// # Errors
-    /// A read of the image that failed. What is kept is right still.
+    /// A read of the image that failed. What is kept is right still, and the text is as it was.
     pub fn put_path<I: Image>(
         &mut self,
         geometry: &Geometry,
@@ -167,6 +167,7 @@ impl KeptParent {
             dir }
         ensures path { OnOk result (ForTree geometry.now.layout (I.device image.old) workspace.old
             (λ g. text.new.items ≡ dir_path g dir)) }
+        ensures untouched { OnErr result (text.new ≡ text.old) }
         ensures costs { PathCosts geometry.now.layout dir
             (kept_moment I.Image image.old workspace.old self.old)
             (kept_moment I.Image image.new workspace.new self.new) result }
