@@ -1,8 +1,11 @@
 //! The right records of a cylinder group, counted from a map of used fragments and the kinds of
 //! inodes, and the comparison of the image's records with them.
 //!
-//! `group_counts` counts what is right of a group, and `compare_group` finds where its group block
-//! and its summary record differ from it.
+//! `group_counts` counts what is right of a group (`Counts`, with the `SummaryCounts` of its
+//! record), by what is in use (`Usage`), and `compare_group` finds where its group block and its
+//! summary record differ from it (`GroupFindings`). `same_fragment_map` compares its map of
+//! fragments alone, `group_fragments` says how many it has, and `are_allocated` whether all of some
+//! inodes are allocated, or none is.
 //!
 //! ```text
 //! let counts = group_counts(&geometry, &used, kinds, group);

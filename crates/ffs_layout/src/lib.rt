@@ -1,8 +1,11 @@
 //! The parts of a UFS1 volume, decoded from bytes: the superblock and its geometry, inodes, group
 //! blocks and entries of directories (fs(5), dir(5)).
 //!
-//! `read_super` returns the accepted superblock, or the first fault in the stated order. Each
-//! decoded value is the definition's value of the bytes, in both byte orders.
+//! `read_super` returns the accepted superblock, a `Super` with the `Geometry` of its `Layout`, or
+//! the first `SuperFault` in the stated order. `decode_inode` makes an `Inode`, `entry_at` the
+//! `Entry` at a place of a chunk, and `decode` of `Group` and of `GroupSummary` what a group block
+//! and a summary record say; `u32_at` reads one number. Each decoded value is the definition's
+//! value of the bytes, in each byte order (`Order`).
 //!
 //! ```text
 //! let superblock = read_super(&mut image, None)?;

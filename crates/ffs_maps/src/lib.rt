@@ -3,7 +3,10 @@
 //! A `FragmentMap` is its list of bits: `get`, `set` and `clear` read and write one of them,
 //! `set_run` sets those of a run, and `claim` those of a run in one word, where none of them is set
 //! yet. A run is any number of consecutive fragments here. `count` counts the set bits of a part,
-//! and `count_ones` gives those of the whole map, which are counted as they change.
+//! and `count_ones` gives those of the whole map, which are counted as they change. `clear_bits`
+//! says which of 64 fragments have a clear one. `reserve` sets the bits of the reserved fragments,
+//! which hold no file's data, and `reserved_count` says how many these are, so that a summary can
+//! leave them out.
 //!
 //! ```text
 //! let mut claimed = FragmentMap::new(alloc, geometry.layout.size)?;

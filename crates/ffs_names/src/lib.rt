@@ -1,9 +1,11 @@
 //! The directories of a volume: their chunks and entries, and their survey.
 //!
 //! `Entries::next` returns the entries of a directory in their order, from the Runs that its inode
-//! keeps; `ChunkEntries` gives those of one chunk. `survey` leaves in the workspace how often each
-//! inode is referred to, which directories are reached from inode 2, and the parent of each
-//! directory. `note_places` notes where in the image the parent entries of these directories are.
+//! keeps; `ChunkEntries` gives those of one chunk, `Chunks` the chunks, and `gap_of` whether there
+//! is a hole among them. `role_of` says what part an entry has, and `is_one_dot` and `is_two_dots`
+//! what its name is. `survey` leaves in the workspace how often each inode is referred to, which
+//! directories are reached from inode 2, and the parent of each directory. `note_places` notes
+//! where in the image the parent entries of these directories are.
 //!
 //! ```text
 //! survey(&geometry, &mut image, &mut workspace)?;

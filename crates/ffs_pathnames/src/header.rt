@@ -147,7 +147,7 @@ fn say_chunks<W: Output>(
     ensures { SaysTreeMessages (progress W.sink report.old) (progress W.sink report.new)
         (chunk_lines (defects_value defects.now) attr path.now) result }
 {
-    let empty = LineIf {
+    let holes = LineIf {
         holds: defects.gap,
         line: Phase2Line::Directory(DirectoryLine::DirHoles { path }),
     };
@@ -155,7 +155,7 @@ fn say_chunks<W: Output>(
         holds: defects.unsound,
         line: Phase2Line::Directory(DirectoryLine::DirCorrupt { attr, path }),
     };
-    say_two(&empty, &corrupt, report)
+    say_two(&holes, &corrupt, report)
 }
 
 /// Says what is wrong with `.`.

@@ -3,12 +3,15 @@
 //! `Report::say` writes exactly the bytes of its line, or writes a prefix of them and returns a
 //! fault; after a fault each later line fails and writes nothing. A line goes out as one piece
 //! where it has room in a buffer of 2,048 bytes. A `Line` is a message with its values; it prints
-//! the texts of `ffs_volume::texts` that `Messages/Texts` of the definitions gives it.
+//! the texts of `ffs_volume::texts` that `Messages/Texts` of the definitions gives it. Those on
+//! directories, entries and references have types of their own (`DirectoryLine`, `DotLine`,
+//! `EntryLine`, `ReferenceLine`). `print` prints bytes, numbers and the parts of a line, each a
+//! `Piece`.
 //!
 //! The chain is `Report` over `Output` over `Outlet`: a report prints to an `Output`; `Counted` is
-//! one over an `Outlet`, any std writer, and counts its failures. A `Sink` is what contracts know
-//! of an output. A `MutedWriter` passes nothing on after its first failure, and a `FuseWriter`
-//! fails after some bytes.
+//! one over an `Outlet`, any std writer, and counts its failures, each an `OutFault`. A `Sink` is
+//! what contracts know of an output. A `MutedWriter` passes nothing on after its first failure, and
+//! a `FuseWriter` fails after some bytes.
 //!
 //! What each phase owes is said here too: `PhaseReports` says in one clause what was printed at Ok
 //! (all lines of the phase), at a failed read (a prefix of them, in whole lines) and at a failed

@@ -3,9 +3,11 @@
 //! (`Directories`), and holds no entry. `ffs_names::survey` calls it, over the directories of an
 //! image, and is the one that phase 2 calls.
 //!
-//! `survey` leaves what is reached, parents and references as the definitions have them;
-//! `may_be_unreached` looks for a directory that isn't reached, and `flag_leaders` flags one directory
-//! of each cycle of parents.
+//! `survey` goes by `KnownInodes`, is given each entry as an `EntryHead`, and leaves in
+//! `FoundLists` what is reached, parents and references as the definitions have them;
+//! `may_be_unreached` says whether a directory may be unreached, and `flag_leaders` flags one
+//! directory of each cycle of parents. `is_plain` asks this of an entry, `is_dir`, `is_suspect` and
+//! `is_dead` of an inode, and `is_unref` of a directory, by all that was `Surveyed`.
 //!
 //! The lists of a survey have these views. In code a caller lends `KnownInodes`, what the survey
 //! goes by, and `FoundLists`, what it fills; within the survey both together are `Lists`.

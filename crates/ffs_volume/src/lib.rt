@@ -2,11 +2,14 @@
 //! code.
 //!
 //! The definitions are a book, in `specs/`: folders by subject, in the order that `specs/Lib.antt`
-//! gives. What runs here is small: `End::status`, `Attr::of`, `is_silent` of the types of
-//! `verdict`, and the methods of `kinds::Kind`. `constants` has the numbers of the format, `texts`
-//! the texts of messages, `tree_lines` the messages on directories, entries and references,
-//! `verdict` what is wrong with a directory and with an entry, and `laws` states laws and worked
-//! examples of the definitions. The lemmas that the crates above use are in `proofs/`.
+//! gives. The types are `Layout` of a superblock, with `LAYOUT_PLACES`, `Order` and `SuperFault`;
+//! `Inode`, `Class` and `Step` of inodes and their blocks; `Role` of entries; `BlockMessage`,
+//! `Attr` and `Label` of messages; and `End` of a check. What runs here is small: `End::status`,
+//! `Attr::of`, `is_silent` of the types of `verdict`, and the methods of `kinds::Kind`. `constants`
+//! has the numbers of the format, `texts` the texts of messages, `tree_lines` the messages on
+//! directories, entries and references, `verdict` what is wrong with a directory and with an entry,
+//! and `laws` states laws and worked examples of the definitions. The lemmas that the crates above
+//! use are in `proofs/`.
 //!
 //! It rests on no other crate of this repository.
 #![tactic(auto)]

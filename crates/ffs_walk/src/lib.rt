@@ -4,7 +4,11 @@
 //! Runs of fragments, Gaps (holes), and Tails (indirect blocks with an address past the end of the
 //! file). It reads each indirect block in range once, into the part of the buffer of `Blocks` that
 //! is for its level. `Keeping` says, step after step, which steps an inode keeps, by its cut and by
-//! its bad Runs so far.
+//! its bad Runs so far. A `Window` keeps a piece of an image between reads.
+//!
+//! `class_of` gives the class of an inode, and `has_steps` says which classes have steps at all. An
+//! inode has none where `is_device` or `is_short_symlink` holds: something else is in place of its
+//! addresses.
 //!
 //! ```text
 //! let mut walk = Walk::start(geometry, &inode);
