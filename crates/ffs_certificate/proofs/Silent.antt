@@ -19,7 +19,7 @@ use Rattle.ffs_volume.specs.Directories.Connectivity.{is_dead, is_unref_dir, con
 use Rattle.ffs_volume.specs.Directories.ReferenceCheck.{inode_reference_lines, reference_lines_at, reference_lines}
 use Rattle.ffs_volume.specs.{Directories.Parents.{graph_of, nth_roled}, Messages.Kinds.lines_below}
 use Rattle.ffs_volume.specs.{Disk.Numbers.equals_natural}
-use Rattle.ffs_volume.proofs.Silence.{nil-left, nil-right, nil-both, reported-silent, reported-quiet}
+use Rattle.ffs_volume.proofs.Silence.{nil-left, nil-right, nil-both, reported-quiet}
 use Rattle.ffs_volume.proofs.Silence.{then-silent, lines-quiet, lines-silent}
 use Rattle.ffs_volume.specs.declared.tree_lines.ReferenceLine.TheVariants.{UnrefDir}
 use Rattle.ffs_volume.specs.Messages.Kinds.{of_reference}
