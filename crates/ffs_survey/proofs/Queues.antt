@@ -80,8 +80,8 @@ level_after {v = v} {k = k} {r' = r'} {p' = p'} {q = q} {new = new} {ys = ys} sa
     }
 
 -- the counts, one level further
-pub counted_on : {g : Graph} {z : ℕ → Bool} {starts f f' : List ℕ} {m m' : List Bool} (low high : ℕ) (q q' : List ℕ) → low ≤ high →
-    take high q' ≡ take high q → IsCount g z (take low q) starts f m →
+pub counted_on : {g : Graph} {z : ℕ → Bool} {starts f f' : List ℕ} {m m' : List Bool} (low high : ℕ)
+    (q q' : List ℕ) → low ≤ high → take high q' ≡ take high q → IsCount g z (take low q) starts f m →
     Counts g.count z (count_of g (drop low (take high q))) (any_of g (drop low (take high q))) f m none never f' m' →
     IsCount g z (take high q') starts f' m'
 counted_on {g = g} {m' = m'} low high q q' l kept i c =
@@ -136,9 +136,11 @@ pub alone_part : {starts : List ℕ} {r : List Bool} {p : List ℕ} (kinds : Lis
     IsReachedPart (graph_with kinds entries) starts starts r p
 alone_part kinds entries e sane dry n =
     let a = root_alone sane dry n in
-    reached_part kinds entries e sane a.1 a.0 (λ x b. omega (arith, cond-false (dir_at kinds 2) (count_by (refers x) (entries 2)) 0 dry))
+    reached_part kinds entries e sane a.1 a.0
+    (λ x b. omega (arith, cond-false (dir_at kinds 2) (count_by (refers x) (entries 2)) 0 dry))
 
 -- no entry is counted before the first directory
-pub none_counted : {g : Graph} {z : ℕ → Bool} {f : List ℕ} {m : List Bool} → ((x : ℕ) → bool_at m x ≡ false) → IsCount g z [] f f m
+pub none_counted : {g : Graph} {z : ℕ → Bool} {f : List ℕ} {m : List Bool} → ((x : ℕ) → bool_at m x ≡ false) →
+    IsCount g z [] f f m
 none_counted {f = f} blank =
     record { counts = λ x b. sym (add-zero (number_at f x)); names = λ x b. let none = blank x in grind arith }

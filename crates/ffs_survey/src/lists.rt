@@ -19,8 +19,8 @@ pub struct FoundLists<'a> {
     /// How many entries refer to each inode, added to the number that the list had at first: the
     /// *start* of the inode.
     pub references: &'a mut FilledList<u64>,
-    /// Whether each inode is suspect (marked, or a directory of size 0; the root or a later one) and
-    /// a plain entry names it.
+    /// Whether each inode is suspect (marked, or a directory of size 0; the root or a later one)
+    /// and a plain entry names it.
     pub named: &'a mut FilledList<bool>,
     /// Whether each inode is reached from inode 2.
     pub reached: &'a mut FilledList<bool>,

@@ -20,8 +20,8 @@ pub fn is_suspect(kinds: &[u8], marked: &FilledList<bool>, number: usize) -> boo
     marked[number] | kind.is_empty_dir()
 }
 
-/// Whether an inode is dead: suspect, not the root, and named by no plain entry. `named` flags suspect
-/// inodes alone.
+/// Whether an inode is dead: suspect, not the root, and named by no plain entry. `named` flags
+/// suspect inodes alone.
 pub fn is_dead(
     kinds: &[u8],
     marked: &FilledList<bool>,

@@ -36,5 +36,8 @@ loop-entry-preserved g c =
       parents = λ b k x l.
           let one = rw (same_kinds inv.lent.same, inv.kept.reached) at c.adopt.ensures.parent in
           let unreached = is_unreached_dir c.args.lists.now.kinds.now c.args.lists.now.reached.now.items x in
-          adopted (number_at c.loop-entry.lists.parents.now.items x) (number_at c.adopt.new.lists.parents.now.items x) c.args.from unreached (is_naming_entry x e) (any_in (rest b) x) (one x l) ∙ rw (cut b k) at (inv.parents b k x l);
+          let before = number_at c.loop-entry.lists.parents.now.items x in
+          let after = number_at c.adopt.new.lists.parents.now.items x in
+          adopted before after c.args.from unreached (is_naming_entry x e) (any_in (rest b) x) (one x l)
+          ∙ rw (cut b k) at (inv.parents b k x l);
     }

@@ -26,7 +26,8 @@ returns-clause-found g c =
           (sane_of inodes.kinds.now entries c.requires.lists.some) reached_long
           (new.long.parents_long ∙ kinds_long second.leaves.lent.lists ∙ ap length kinds) c.limit.ensures.items.items
           part more);
-      named = rw (same_marks first.leaves.lists) at (named_whole inodes.kinds.now entries (rw (← same_marks first.leaves.lists) at first.found.named b k) more);
+      named = rw (same_marks first.leaves.lists) at (named_whole inodes.kinds.now entries
+          (rw (← same_marks first.leaves.lists) at first.found.named b k) more);
       calm = rw (second.leaves.kept.reached, second.leaves.kept.calm) (calm_unreached found.calm.now.items
           (read_stays more reached_long) (first.found.calm b k));
       flagged = rw (second.leaves.kept.reached, second.leaves.kept.calm) (λ d dir reached calm.
