@@ -8,7 +8,7 @@ use Rattle.ffs_volume.specs.{Directories.{Entries.{has_gap, is_sound}, PathnameC
 use Rattle.ffs_volume.specs.Encodings.{Replay.{fresh_replay, replayed_steps}, ReplayCounts.replayed_runs}
 use Rattle.ffs_volume.specs.Directories.Calm.{is_right_size}
 use Rattle.ffs_walk.specs.declared.{blocks.Blocks.Blocks, window.Window.Window}
-use Rattle.ffs_names.specs.{Costs.{HoldsReading, to_read}, Readings.{chunks_in, gap_left, rest}, Shapes.{BeginsDirectory, HasEnded, has_right_shape}}
+use Rattle.ffs_names.specs.{Costs.{HoldsReading, to_read}, Readings.{chunks_in, gap_left, rest}, Shapes.{BeginsDirectory, HasEnded, fills, has_right_shape}}
 use Rattle.ffs_names.{specs.declared.{chunks.Chunks.Chunks, entries.Entries.Entries}, proofs.Entered.end_of_chunk}
 use Rattle.ffs_names.proofs.{Entered.{end_seen, none_from}, EntryCounts.at_most}
 
@@ -79,3 +79,11 @@ shape_same b s s' f f' c c' e h q = rw (e, h, q) refl
 pub shape_at_end : (b : List ℕ) (r : Entries) (gap : Bool) → r.right_so_far ≡ true → HasEnded b r →
     gap ≡ (r.chunks.gap || gap_left b r.chunks) → not gap ≡ has_right_shape b r
 shape_at_end b r gap right ended e = rw (right, ended.current, ended.chunks, e) refl
+
+-- asked again, what has ended before is ended still, and has the same shape
+pub again_at_end : (b : List ℕ) (r r' : Entries) (gap : Bool) → r'.right_so_far ≡ true → fills r' ≡ fills r →
+    HasEnded b r → rest b r'.chunks ≡ [] → gap ≡ (r'.chunks.gap || gap_left b r'.chunks) →
+    HasEnded b r' × (not gap ≡ has_right_shape b r')
+again_at_end b r r' gap right same ended none e =
+    let now : HasEnded b r' = record { chunks = none; current = rw same ended.current } in
+    (now, shape_at_end b r' gap right now e)

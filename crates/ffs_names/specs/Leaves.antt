@@ -1,5 +1,5 @@
 -- What calls do and leave that read a directory, and how often they read the image.
-use Rattle.std.specs.Prelude.{◌≡◌, ℕ, ◌+◌, ◌<◌, ◌≤◌, Bool, true, ◌||◌, List, None, Ok, Result, OnOk, vec_len}
+use Rattle.std.specs.Prelude.{◌≡◌, ℕ, ◌+◌, ◌<◌, ◌≤◌, Bool, true, ◌||◌, List, [], None, Ok, Result, OnOk, vec_len}
 use Rattle.std.specs.Prelude.{IfOk, IfSome, MatchOption, MatchResult, Option, if◌then◌else◌, is_some}
 use Rattle.ffs_image.specs.{Device.{Device, ForContents}, Reads.ReadAfter, declared.image.Image.Ghosts}
 use Rattle.ffs_image.specs.declared.image.ImageFault.{ImageFault}
@@ -7,7 +7,7 @@ use Rattle.ffs_walk.specs.declared.{blocks.Blocks.Blocks, window.Window.Window}
 use Rattle.ffs_walk.specs.{Rests.most_steps_left, Windows.WindowHolds}
 use Rattle.ffs_survey.specs.{Costs.TakesReads, declared.entry_head.EntryHead.EntryHead}
 use Rattle.ffs_names.specs.{Costs.{to_read, unread_run, HoldsReading, HoldsRun}, Entering.{left, GivesFromChunk}}
-use Rattle.ffs_names.specs.Readings.{gap_left, CountsRuns, IsSame}
+use Rattle.ffs_names.specs.Readings.{gap_left, rest, CountsRuns, IsSame}
 use Rattle.ffs_names.specs.{RunCursors.{IsGivenChunk, StepsOn}, Windows.{CanReadChunks, CanWalkDir}}
 use Rattle.ffs_names.specs.declared.{chunks.Chunks.Chunks, entries.Entries.Entries, run_cursor.RunCursor.RunCursor}
 
@@ -86,9 +86,11 @@ ReadsForSteps old new result =
     IfOk result (λ found. found ≡ true → ReadsBySteps old.reads new.reads old.chunks new.chunks 0)
 
 -- a call looks for a hole among the kept steps of a directory: those that a reading of its chunks has
--- seen, and those that are left
+-- seen, and those that are left. Asked again it answers the same, and no chunk comes where none was left
 pub record LooksForGap (old new : DirWalk) (result : Result Bool ImageFault) : Type 0 where
   pub gap : IfOk result (λ g. ForContents old.image.contents (λ b. g ≡ (old.chunks.gap || gap_left b old.chunks)))
+  pub again : IfOk result (λ g. ForContents old.image.contents (λ b. g ≡ (new.chunks.gap || gap_left b new.chunks)))
+  pub none : OnOk result (ForContents old.image.contents (λ b. rest b old.chunks ≡ [] → rest b new.chunks ≡ []))
   pub leaves : LeavesWalk old new result
 
 -- what a call leaves that reads a chunk

@@ -287,6 +287,9 @@ impl Entries {
         requires { CanWalkDir self.old.chunks.walk.geometry.layout (I.device image.old) blocks.old }
         ensures shape { IfOk result (λ right. ForContents (I.device image.old).contents
             (λ b. HasEnded b self.old → right ≡ has_right_shape b self.old)) }
+        ensures again { IfOk result (λ right. ForContents (I.device image.old).contents
+            (λ b. HasEnded b self.old
+            → HasEnded b self.new × (right ≡ has_right_shape b self.new))) }
         ensures reads { (w : Window) → HoldsEntries blocks.old w self.old
             → ForContents (I.device image.old).contents (λ b. TakesReads (I.reads image.old)
             (I.reads image.new) (reads_for_entries b self.old) (reads_for_entries b self.new)

@@ -1,5 +1,5 @@
 use Rattle.std.proofs.{Common.{sym, ap, ◌∙◌, arith, rules}, lemmas.Result.err_from_is_err_and}
-use Rattle.ffs_names.proofs.{Advances.gap_ended, ReadCounts.run_passed, Continuing.same_more}
+use Rattle.ffs_names.proofs.{Advances.gap_ended, ReadCounts.run_passed, Continuing.same_more, RunChunks.none_taken}
 use Rattle.ffs_names.proofs.gap.find_gap.Goals as goal
 
 -- a Run with chunks is passed over
@@ -29,6 +29,12 @@ returns g c =
     let went = c.in_ok-advance.ensures.leaves in
     record {
       gap = grind (arith, gap_ended);
+      again = λ b t.
+          let seen = c.in_ok-advance.ensures.found.none c.if-branch.false b (ap (λ d. d.contents) inv.same ∙ t) in
+          sym (gap_ended c.advance.new.self.gap _ seen.gap);
+      none = λ b t old.
+          let seen = c.in_ok-advance.ensures.found.none c.if-branch.false b (ap (λ d. d.contents) inv.same ∙ t) in
+          none_taken c.advance.new.self.budget _ seen.chunks;
       leaves = record {
         same = same_more went.same inv.kept;
         ready = rw inv.kept.geometry at went.ready;
@@ -49,6 +55,8 @@ returns-in_err-advance g c =
     let p = err_from_is_err_and c.from_residual.result c.from_residual.ensures.1 in
     rw (p.1, p.2) (record {
       gap = tt;
+      again = tt;
+      none = tt;
       leaves = record {
         same = same_more failed.same inv.kept;
         ready = rw inv.kept.geometry at failed.ready;

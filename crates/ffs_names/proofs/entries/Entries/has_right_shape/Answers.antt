@@ -1,6 +1,6 @@
 use Rattle.std.proofs.lemmas.Result.{err_from_is_err_and}
 use Rattle.std.proofs.Common.{◌≡◌, false, arith, refl}
-use Rattle.ffs_names.{specs.Costs.to_read, proofs.{EntryCounts.{looks_on, reads_by}, OneChunks.ended_gap, Shaped.shape_at_end}}
+use Rattle.ffs_names.{specs.Costs.to_read, proofs.{EntryCounts.{looks_on, reads_by}, OneChunks.ended_gap, Shaped.{again_at_end, shape_at_end}}}
 use Rattle.ffs_names.proofs.entries.Entries.has_right_shape.Goals as goal
 
 -- a look for holes continues the reads
@@ -32,3 +32,14 @@ returns-then-self-clause-shape g c = λ b t ended.
 pub returns-clause-shape : goal.returns-clause-shape
 returns-clause-shape g c = λ b t ended.
     shape_at_end b c.args.self.now _ c.if-not-self.false ended (c.in_ok-gap.ensures.gap b t)
+
+-- asked again it answers the same
+pub returns-then-self-clause-again : goal.returns-then-self-clause-again
+returns-then-self-clause-again g c = λ b t ended.
+    let r = c.args.self.now in
+    (ended, shape_at_end b r false c.if-not-self.false ended (ended_gap b r.chunks (r.only c.if-self.true)))
+
+pub returns-clause-again : goal.returns-clause-again
+returns-clause-again g c = λ b t ended.
+    again_at_end b c.args.self.now _ _ refl refl ended (c.in_ok-gap.ensures.none b t ended.chunks)
+    (c.in_ok-gap.ensures.again b t)
