@@ -9,3 +9,6 @@ returns-clause-spares g c = record {
   reads = c.in_ok-path.ensures.costs.spares;
   keeps = λ y b k. c.in_ok-path.ensures.costs.keeps;
 }
+
+pub returns-in_err-path-clause-makes : goal.returns-in_err-path-clause-makes
+returns-in_err-path-clause-makes g c = grind arith
