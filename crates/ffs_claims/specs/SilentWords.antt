@@ -8,10 +8,10 @@ use Rattle.ffs_walk.specs.{Counts.EntersOnly, HeldWords.word_step, Rests.{SameFi
 use Rattle.ffs_walk.specs.{Windows.BlocksHold, declared.walk.Walk.Walk}
 use Rattle.ffs_workspace.specs.{Holds.claims_of, declared.workspace.Workspace.Workspace}
 use Rattle.ffs_claims.specs.{Claiming.CanSeeNext, Leaves.ClaimsOnly, declared.area.DataArea.DataArea}
-use Rattle.ffs_claims.specs.declared.words.Counts.{Counts}
+use Rattle.ffs_claims.specs.declared.words.RunCounts.{RunCounts}
 
 -- a workspace with these counts of Runs that are looked at, and of offers that are kept
-abbrev pub with_run_counts : Workspace → Counts → Workspace
+abbrev pub with_run_counts : Workspace → RunCounts → Workspace
 with_run_counts w counts = record w { runs_seen = counts.runs_seen; kept = counts.kept }
 
 -- what the next addresses of a walk offer can be claimed: the inode's next step can be seen

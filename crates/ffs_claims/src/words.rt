@@ -30,22 +30,22 @@ const MAP_WORD: u64 = 64;
 /// The counts of a workspace that grow with each word. They are kept apart from it while words are
 /// claimed, and so in registers.
 #[derive(Clone, Copy)]
-struct Counts {
+struct RunCounts {
     /// How many Runs are looked at.
     runs_seen: u64,
     /// How many offers the current inode keeps.
     kept: u64,
 }
 
-impl Counts {
+impl RunCounts {
     ghost use Rattle.ffs_claims.specs.SilentWords.{with_run_counts};
 
     /// The counts of a workspace.
     #[inline(always)]
-    fn of(workspace: &Workspace) -> Counts
+    fn of(workspace: &Workspace) -> RunCounts
         ensures { workspace.now ≡ with_run_counts workspace.now result }
     {
-        Counts {
+        RunCounts {
             runs_seen: workspace.runs_seen,
             kept: workspace.kept,
         }
@@ -68,7 +68,7 @@ impl Counts {
 #[inline(always)]
 fn claim_address(
     workspace: &mut Workspace,
-    counts: &mut Counts,
+    counts: &mut RunCounts,
     area: &DataArea,
     address: u32,
     len: u32,
@@ -145,7 +145,7 @@ fn pass_series(order: Order, walk: &mut Walk, blocks: &Blocks, address: u32) -> 
 fn claim_series(
     order: Order,
     workspace: &mut Workspace,
-    counts: &mut Counts,
+    counts: &mut RunCounts,
     area: &DataArea,
     walk: &mut Walk,
     address: u32,
@@ -178,7 +178,7 @@ fn claim_series(
 fn claim_next(
     order: Order,
     workspace: &mut Workspace,
-    counts: &mut Counts,
+    counts: &mut RunCounts,
     area: &DataArea,
     walk: &mut Walk,
 ) -> bool
@@ -209,7 +209,7 @@ fn claim_next(
 fn claim_words_in(
     order: Order,
     workspace: &mut Workspace,
-    counts: &mut Counts,
+    counts: &mut RunCounts,
     area: &DataArea,
     walk: &mut Walk,
 )
@@ -231,7 +231,7 @@ fn claim_words_in(
 #[inline(always)]
 fn claim_counted_words(
     workspace: &mut Workspace,
-    counts: &mut Counts,
+    counts: &mut RunCounts,
     area: &DataArea,
     walk: &mut Walk,
 )
@@ -259,7 +259,7 @@ fn claim_held_words(workspace: &mut Workspace, area: &DataArea, walk: &mut Walk)
     // is written back once.
     let area = *area;
     let mut passing = *walk;
-    let mut counts = Counts::of(workspace);
+    let mut counts = RunCounts::of(workspace);
     claim_counted_words(workspace, &mut counts, &area, &mut passing);
     *walk = passing;
     counts.write_to(workspace);
@@ -283,7 +283,7 @@ pub fn claim_words(workspace: &mut Workspace, area: &DataArea, walk: &mut Walk)
 #[inline(always)]
 fn claim_counted_direct(
     workspace: &mut Workspace,
-    counts: &mut Counts,
+    counts: &mut RunCounts,
     area: &DataArea,
     walk: &mut Walk,
 )
@@ -314,7 +314,7 @@ pub fn claim_direct(workspace: &mut Workspace, area: &DataArea, walk: &mut Walk)
     ensures top { IsAtTop walk.new }
 {
     let area = *area;
-    let mut counts = Counts::of(workspace);
+    let mut counts = RunCounts::of(workspace);
     claim_counted_direct(workspace, &mut counts, &area, walk);
     counts.write_to(workspace);
 }

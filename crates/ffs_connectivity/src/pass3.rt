@@ -8,7 +8,7 @@ ghost use Rattle.ffs_connectivity.specs.Unreached.{IsFirstUnreached};
 ghost use Rattle.ffs_workspace.specs.{Found.WithSurvey, Leaves.LeavesSurvey, Ready.IsReady};
 ghost use Rattle.ffs_volume.specs.Messages.Kinds as messages;
 
-use crate::unref::report_lost;
+use crate::lost::report_lost;
 use ffs_image::Image;
 use ffs_layout::Geometry;
 use ffs_memory::FilledList;

@@ -159,7 +159,7 @@ fn check_tree<I: Image, W: Output>(
 {
     let kind = workspace.kinds[ROOTINO as usize];
     let marked = workspace.marked[ROOTINO as usize];
-    report_root(report, kind, marked)?;
+    report_root(kind, marked, report)?;
     match root_of(kind) {
         Root::Stop => Ok(Root::Stop),
         Root::Go => {
@@ -176,9 +176,9 @@ fn check_tree<I: Image, W: Output>(
 /// A write of the report that failed.
 #[tactic(auto, unfolding(crate::specs::Before::root_reported))]
 fn report_root<W: Output>(
-    report: &mut Report<'_, W>,
     kind: u8,
     marked: bool,
+    report: &mut Report<'_, W>,
 ) -> Result<(), OutFault>
     ensures { SaysTreeMessages (progress W.sink report.old) (progress W.sink report.new)
         (root_reported kind marked) result }

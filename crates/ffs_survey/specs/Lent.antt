@@ -4,7 +4,7 @@ use Rattle.std.specs.Prelude.{vec_len, true, false, ◌==◌, ◌&&◌, cond, On
 use Rattle.ffs_image.specs.{Reads.ReadAfter, declared.image.ImageFault.ImageFault}
 use Rattle.ffs_volume.specs.Directories.{Graph.is_naming_entry, Roles.RoledEntry}
 use Rattle.ffs_survey.specs.declared.lists.{Lists.Lists, FoundLists.FoundLists, KnownInodes.KnownInodes}
-use Rattle.ffs_survey.specs.declared.lists.{CurrentDir.CurrentDir as LentDir}
+use Rattle.ffs_survey.specs.declared.lists.{LentDir.LentDir}
 use Rattle.ffs_survey.specs.{declared.directories.Directories.Ghosts, Survey.{number_at, bool_at, graph_with}}
 use Rattle.ffs_survey.specs.Survey.{is_suspect_inode, most_start}
 use Rattle.ffs_volume.specs.Encodings.Kinds.{dir_at}

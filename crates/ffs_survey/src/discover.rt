@@ -11,7 +11,7 @@ ghost use Rattle.ffs_survey.specs.Discover.{IsCounted, IsSuspectFlagged, NamesNo
 
 use crate::directories::Directories;
 use crate::entry_head::{EntryHead, is_counted, is_plain};
-use crate::lists::{CurrentDir, Lists};
+use crate::lists::{LentDir, Lists};
 use crate::numbers::{is_dir, number_of};
 use crate::unref::is_suspect;
 use ffs_image::ImageFault;
@@ -80,7 +80,7 @@ fn is_new(entry: EntryHead, kinds: &[u8], lists: &Lists) -> bool
 /// Where an entry of the current directory names a directory that isn't reached yet, flags that as
 /// reached, gives it its parent, and puts it into the queue, which ends at `top`. Returns where the
 /// queue ends then.
-fn visit(entry: EntryHead, current: &CurrentDir, lists: &mut Lists, top: usize) -> usize
+fn visit(entry: EntryHead, current: &LentDir, lists: &mut Lists, top: usize) -> usize
     requires { CanVisit current.now top lists.old }
     ensures { Visits current.now.dir (roled_of entry []) top result lists.old lists.new }
 {
@@ -109,7 +109,7 @@ fn is_calm_kind(kind: u8, number: usize, reached: &FilledList<bool>) -> bool
 }
 
 /// Whether nothing can be reported of a plain entry: a whiteout, or one that names an inode.
-fn is_calm_plain(entry: EntryHead, current: &CurrentDir, lists: &Lists) -> bool
+fn is_calm_plain(entry: EntryHead, current: &LentDir, lists: &Lists) -> bool
     requires { current.now.kinds.now ≡ lists.now.kinds.now }
     ensures { result ≡ is_calm_plain current.now.kinds.now current.now.marked.now.items
         (bool_at lists.now.reached.now.items) entry.number entry.kind }
@@ -128,7 +128,7 @@ fn is_calm_plain(entry: EntryHead, current: &CurrentDir, lists: &Lists) -> bool
 
 /// Whether nothing can be reported of the entry at index 0 or 1 of the current directory: `.` or
 /// `..`.
-fn is_calm_dot(entry: EntryHead, index: u32, current: &CurrentDir) -> bool
+fn is_calm_dot(entry: EntryHead, index: u32, current: &LentDir) -> bool
     requires { index < 2 }
     ensures { (reached : ℕ → Bool) → result
         ≡ is_calm_entry (current_of current.now) reached index (roled_of entry []) }
@@ -141,7 +141,7 @@ fn is_calm_dot(entry: EntryHead, index: u32, current: &CurrentDir) -> bool
 }
 
 /// Whether nothing can be reported of the entry at an index of the current directory.
-fn is_calm_entry(entry: EntryHead, index: u32, current: &CurrentDir, lists: &Lists) -> bool
+fn is_calm_entry(entry: EntryHead, index: u32, current: &LentDir, lists: &Lists) -> bool
     requires { current.now.kinds.now ≡ lists.now.kinds.now }
     ensures { result ≡ is_calm_entry (current_of current.now)
         (bool_at lists.now.reached.now.items) index (roled_of entry []) }
@@ -159,10 +159,10 @@ fn is_calm_entry(entry: EntryHead, index: u32, current: &CurrentDir, lists: &Lis
 /// Whether nothing can be reported of the entries of the current directory up to this one, where
 /// `calm_so_far` says that of those before it.
 fn stays_calm(
-    calm_so_far: bool,
     entry: EntryHead,
+    calm_so_far: bool,
     index: u32,
-    current: &CurrentDir,
+    current: &LentDir,
     lists: &Lists,
 ) -> bool
     requires { current.now.kinds.now ≡ lists.now.kinds.now }
@@ -201,8 +201,8 @@ fn flag_calm<D: Directories>(
 /// than all entries together, and far below 2^64.
 fn read_reached<D: Directories>(
     directories: &mut D,
-    from: u32,
     lists: &mut Lists,
+    from: u32,
     top: usize,
 ) -> Result<usize, ImageFault>
     requires { CanReach D.Directories (2 ^ 60) top directories.old lists.old }
@@ -214,7 +214,7 @@ fn read_reached<D: Directories>(
         lists.old lists.new result }
 {
     let parent = number_of(lists.parents, from as usize);
-    let current = CurrentDir {
+    let current = LentDir {
         kinds: lists.kinds,
         marked: lists.marked,
         any_marked: lists.any_marked,
@@ -227,7 +227,7 @@ fn read_reached<D: Directories>(
     directories.start(from)?;
     while let Some(entry) = directories.next()? {
         count_entry(entry, current.kinds, lists.references);
-        calm_so_far = stays_calm(calm_so_far, entry, count, &current, lists);
+        calm_so_far = stays_calm(entry, calm_so_far, count, &current, lists);
         flag_suspect(
             entry,
             calm_so_far,
@@ -265,7 +265,7 @@ pub fn read_level<D: Directories>(
     let mut top = high;
     for at in low..high {
         let from = number_of(lists.queue, at);
-        top = read_reached(directories, from, lists, top)?;
+        top = read_reached(directories, lists, from, top)?;
     }
     Ok(top)
 }
@@ -292,8 +292,8 @@ fn adopt(entry: EntryHead, from: u32, lists: &mut Lists)
 /// A read of the image that failed.
 pub fn read_unreached<D: Directories>(
     directories: &mut D,
-    from: u32,
     lists: &mut Lists,
+    from: u32,
 ) -> Result<(), ImageFault>
     requires { CanCount D.Directories (2 ^ 60) directories.old lists.old }
     ensures { AddsUnreached D.Directories from directories.old directories.new lists.old lists.new

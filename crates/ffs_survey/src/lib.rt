@@ -11,10 +11,10 @@
 //!
 //! The lists of a survey have these views. In code a caller lends `KnownInodes`, what the survey
 //! goes by, and `FoundLists`, what it fills; within the survey both together are `Lists`.
-//! `CurrentDir` is one directory with the lists that its entries are compared with, and `Surveyed`
+//! `LentDir` is one directory with the lists that its entries are compared with, and `Surveyed`
 //! is what `is_unref` looks at afterwards. In contracts all that the lists hold is `Found`:
 //! `all_found` gives it of `Lists`, `found_up_to` with the queue cut at its end, and `found_by` of
-//! the two that are lent; `CurrentDir` there is the book's, and that of the code is `LentDir`.
+//! the two that are lent; the directory with its lists is the book's `CurrentDir`.
 //!
 //! It rests on `ffs_volume`, `ffs_image` and `ffs_memory`.
 #![tactic(auto)]

@@ -69,7 +69,7 @@ pub struct Lists<'kinds, 'marked, 'lists> {
 
 /// The directory whose entries are read, with the lists by which it is found whether they are calm.
 #[derive(Clone, Copy)]
-pub struct CurrentDir<'kinds, 'marked> {
+pub struct LentDir<'kinds, 'marked> {
     /// What each inode is: `DT_DIR` for a directory, but `EMPTY_DIR_KIND` for one of size 0.
     pub kinds: &'kinds [u8],
     /// Whether each inode is marked.
