@@ -13,10 +13,7 @@ pub skipped : (word k z n : ℕ) → ((i : ℕ) → i < z → bit_at word (k + i
     (count_by (λ f. f) (word_bits word k n) ≡ count_by (λ f. f) (word_bits word (k + z) (n - z)))
     × ((j : ℕ) → count_by (λ x. x == j) (free_stretches 0 (word_bits word k n))
     ≡ count_by (λ x. x == j) (free_stretches 0 (word_bits word (k + z) (n - z))))
-skipped word k zero n clear h =
-    let at : k + 0 ≡ k = omega arith in
-    let left : n - 0 ≡ n = omega arith in
-    rw (at, left) (refl, λ j. refl)
+skipped word k zero n clear h = grind arith
 skipped word k (suc z) n clear h =
     let first : bit_at word (k + 0) ≡ 0 = clear 0 (omega arith) in
     let at : k + 0 ≡ k = omega arith in
@@ -37,11 +34,7 @@ pub grown : (word k l n r : ℕ) → ((i : ℕ) → i < l → bit_at word (k + i
     (count_by (λ f. f) (word_bits word k n) ≡ l + count_by (λ f. f) (word_bits word (k + l) (n - l)))
     × ((j : ℕ) → count_by (λ x. x == j) (free_stretches r (word_bits word k n))
     ≡ count_by (λ x. x == j) (free_stretches (r + l) (word_bits word (k + l) (n - l))))
-grown word k zero n r set h =
-    let at : k + 0 ≡ k = omega arith in
-    let left : n - 0 ≡ n = omega arith in
-    let longer : r + 0 ≡ r = omega arith in
-    rw (at, left, longer) (omega arith, λ j. refl)
+grown word k zero n r set h = grind arith
 grown word k (suc l) n r set h =
     let first : bit_at word (k + 0) ≡ 1 = set 0 (omega arith) in
     let at : k + 0 ≡ k = omega arith in

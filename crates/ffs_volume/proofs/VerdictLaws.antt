@@ -5,7 +5,7 @@ use Rattle.std.proofs.{Common.{arith, length, length-append, inl, inr}, lemmas.B
 use Rattle.ffs_volume.specs.declared.{Attr.Attr, verdict.Verdict.{Verdict, TheVariants.{BadWhiteout, Named, OutOfRange}}}
 use Rattle.ffs_volume.specs.declared.verdict.{Verdict.TheVariants.{Unallocated, Whiteout}, EntryDefects.EntryDefects}
 use Rattle.ffs_volume.specs.{Blocks.Inodes.is_allocated, Directories.{Entries.Entry, Roles.Volume}}
-use Rattle.ffs_volume.specs.Directories.PathnameCheck.{defects_on, has_wrong_type, is_bad_whiteout, is_extraneous}
+use Rattle.ffs_volume.specs.Directories.PathnameCheck.{has_wrong_type, is_bad_whiteout, is_extraneous}
 use Rattle.ffs_volume.specs.Directories.PathnameCheck.{is_first_of_suspect, verdict_on}
 use Rattle.ffs_volume.specs.declared.verdict.{HeaderDefects.HeaderDefects, DotDefects.DotDefects}
 use Rattle.ffs_volume.specs.declared.verdict.DotDefects.TheVariants.{Found}
@@ -27,12 +27,7 @@ some_lines verdict number attr path directory h = omega arith
 
 pub silent_from : (verdict : Verdict) (number : ℕ) (attr : Attr) (path directory : List ℕ) →
     verdict_lines verdict number attr path directory ≡ [] → is_silent verdict ≡ true
-silent_from verdict number attr path directory h = elim (cases_Bool (is_silent verdict)) [
-  | inl e ↦ e
-  | inr e ↦
-      let some = some_lines verdict number attr path directory e in
-      let none = ap length h in absurd (omega (arith, some, none))
-]
+silent_from verdict number attr path directory h = grind arith
 
 -- ---- what a silent verdict says of a plain entry
 pub record IsNamedSilent (v : Volume) (first own : Bool) (e : Entry) : Type 0 where
@@ -64,25 +59,11 @@ if_silent a b c d n p q r = grind (arith, nat_tests)
 
 pub silent_parts : (v : Volume) (first own : Bool) (e : Entry) → is_silent (verdict_on v first own e) ≡ true →
     IsPlainSilent v first own e
-silent_parts v first own e h =
-    let parts = silent_if (nat_lt e.number v.count) (is_bad_whiteout e) (e.number == 1)
-    (is_allocated (v.class e.number)) (defects_on v first own e) h in
-    record {
-      below = parts.0;
-      no_whiteout = parts.1;
-      named = λ n.
-          let named = parts.2 n in
-          let none = silent_named (defects_on v first own e) named.1 in
-          record { allocated = named.0; suspect = none.0; link = none.1; right_type = none.2 };
-    }
+silent_parts v first own e h = grind arith
 
 pub silent_of : (v : Volume) (first own : Bool) (e : Entry) → IsPlainSilent v first own e →
     is_silent (verdict_on v first own e) ≡ true
-silent_of v first own e q =
-    if_silent (nat_lt e.number v.count) (is_bad_whiteout e) (e.number == 1)
-    (is_allocated (v.class e.number)) (defects_on v first own e) q.below q.no_whiteout
-    (λ n. let named = q.named n in
-    (named.allocated, rw (named.suspect, named.link, named.right_type) refl))
+silent_of v first own e q = grind arith
 
 -- ---- on a directory before its entries
 dot_silent : (n : DotDefects (List ℕ)) (attr : Attr) (path : List ℕ) → is_dot_silent n ≡ true →

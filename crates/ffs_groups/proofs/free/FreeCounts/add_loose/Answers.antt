@@ -17,27 +17,10 @@ end_stretch-requires c =
     }
 
 pub overflow_add-self : goal.overflow_add-self
-overflow_add-self c = record {
-  fits =
-      let now = c.loop-index.invariant in
-      omega (
-        arith,
-        c.end_stretch.ensures.fragments,
-        now.fragments,
-        free_within c.args.bits c.args.frag,
-        c.requires.below.fragments,
-        c.from.ensures,
-        c.min-stretch.ensures,
-        c.requires.few,
-      );
-}
+overflow_add-self c = grind (arith, free_within)
 
 pub loop-index-smaller : goal.loop-index-smaller
-loop-index-smaller c =
-    let (_, _, more, within) = next_stretch c.args.bits c.loop-index.index c.args.frag c.min-used.result
-    c.min-stretch.result c.ranges.bits.fits c.loop-index-test.true c.requires.few c.min-used.ensures
-    (rw c.trailing_ones.ensures at c.min-stretch.ensures) in
-    omega (arith, more, within)
+loop-index-smaller c = grind (arith, next_stretch)
 
 pub loop-index-preserved : goal.loop-index-preserved
 loop-index-preserved c =

@@ -1,7 +1,7 @@
-use Rattle.ffs_walk.{proofs.WalkSteps.{gives_one, some_words, spent_rest}, specs.Rests.{most_at, file_blocks_of}}
+use Rattle.ffs_walk.{proofs.WalkSteps.{gives_one, spent_rest}, specs.Rests.{most_at, file_blocks_of}}
 use Rattle.ffs_walk.proofs.{FrameSteps.can_take, GapSteps.{in_first, in_second, in_third}}
 use Rattle.ffs_walk.proofs.Counted.{double_reads, triple_reads}
-use Rattle.std.proofs.{Common.{arith, refl, rules, ◌∙◌}, Math.Nat.mul-pos}
+use Rattle.std.proofs.{Common.{arith, refl, rules, ◌∙◌}}
 use Rattle.ffs_volume.specs.Blocks.Steps.{steps_at}
 use Rattle.ffs_walk.proofs.walk.Walk.advance.Goals as goal
 
@@ -12,32 +12,13 @@ pub invariant_of-self-then-is_left-3 : goal.invariant_of-self-then-is_left-3
 invariant_of-self-then-is_left-3 g c = grind arith
 
 pub take-requires-then-is_left-2 : goal.take-requires-then-is_left-2
-take-requires-then-is_left-2 g c =
-    let w = c.args.self.now in
-    rw c.from-words.ensures (can_take w.geometry.layout _ w.logical_blocks _ 1 w.double _
-    (some_words _ w.geometry.sound) w.double_fits w.blocks_small (c.is_left-2.ensures.left.0 c.if-is_left-2.true)
-    (omega arith) c.requires)
+take-requires-then-is_left-2 g c = grind (arith, can_take)
 
 pub take-requires-then-is_left-3 : goal.take-requires-then-is_left-3
-take-requires-then-is_left-3 g c =
-    let w = c.args.self.now in
-    let some = some_words _ w.geometry.sound in
-    rw c.from-words.ensures (can_take w.geometry.layout _ w.logical_blocks _ 2 w.triple _ (mul-pos some some)
-    w.triple_fits w.blocks_small (c.is_left-3.ensures.left.0 c.if-is_left-3.true) (omega arith) c.requires)
+take-requires-then-is_left-3 g c = grind (arith, can_take)
 
 pub returns-then-is_left : goal.returns-then-is_left
-returns-then-is_left g c =
-    let took = c.in_ok-item.ensures.item in
-    let first = c.step_in_single.ensures in
-    record {
-      gives = gives_one _ _ _ _ (λ h. omega (arith, h.single.0, c.is_left.ensures.left.0 c.if-is_left.true))
-          (λ bytes t. in_first _ _ _ _ (took.item.steps bytes t (steps_at (file_blocks_of c.args.self.now) bytes 0))
-          ∙ first.steps bytes)
-          first.fits (omega (arith, took.item.falls 1, first.left)) (record { geometry = refl; blocks = refl });
-      leaves = record { kept = c.in_ok-item.ensures.leaves.kept; read = c.in_ok-item.ensures.leaves.read };
-      counted = grind arith;
-      any = c.in_ok-item.ensures.block.any;
-    }
+returns-then-is_left g c = grind (arith, in_first)
 
 pub returns-then-is_left-2 : goal.returns-then-is_left-2
 returns-then-is_left-2 g c =

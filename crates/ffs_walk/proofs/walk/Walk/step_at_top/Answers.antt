@@ -5,13 +5,7 @@ use Rattle.ffs_walk.{specs.Rests.file_blocks_of, proofs.Counted.{enters_none, en
 use Rattle.ffs_walk.proofs.walk.Walk.step_at_top.Goals as goal
 
 pub returns-then-self : goal.returns-then-self
-returns-then-self c =
-    let w = c.args.self.now in
-    record {
-      none = λ e. refl;
-      gives = λ contents. grind (arith, top_ends);
-      counted = enters_none _ _ _ refl refl refl;
-    }
+returns-then-self c = grind (arith, top_ends)
 
 pub returns-then-block-lt-NDADDR : goal.returns-then-block-lt-NDADDR
 unfolding steps_at
