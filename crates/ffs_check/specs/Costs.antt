@@ -19,10 +19,10 @@ pub record Costs (asked_sector : Option ℕ) (old new : Moment) (before after : 
       ⊎ CostsOfVolume asked_sector old new before after
   pub refused : end ≡ NoMemory → RefusedOneMore before after
 
--- the memory is that of the system, of which nothing was granted before, and `memory'` what the call left of it. A
--- body can't make such a value up: `account_of` is hidden (`allocator_account` of ffs_memory), so that what an
--- account has granted or refused follows from requests that were made, and from nothing else. That the body asks
--- for nothing beside is seen in its one line
+-- there are two memories of the system that cost so: `memory`, of which nothing was granted or refused before, and
+-- `memory'`, what the call left of it. That the body asks for nothing beside is seen in its one line. It can't make
+-- these values up: `account_of` is hidden (`allocator_account` of ffs_memory), so what is granted or refused
+-- follows from requests that were made, and from nothing else
 pub record CostsOfSystem (asked_sector : Option ℕ) (old new : Moment) (end : End) : Type 0 where
   pub memory : SystemMemory
   pub memory' : SystemMemory

@@ -6,7 +6,9 @@ use Rattle.ffs_volume.specs.Blocks.Claims.{has_blame}
 use Rattle.ffs_workspace.specs.{Holds.claims_of, Lengths.IsFor, declared.workspace.Workspace.Workspace}
 
 -- the current inode has no bad Run, no dup offer and no kept one yet, and there is room to count
--- its Runs: any bound far above `runs_limit`, and far below 2^64, serves
+-- its Runs: any bound far above `runs_limit`, and far below 2^64, serves. The bounds on this count
+-- that the contracts of phase 1 ask for, from 2^40 to 2^63, grow from a call to those that it makes,
+-- since some are counted in between
 pub record HasBegun (w : Workspace) : Type 0 where
   pub bad : w.bad ≡ 0
   pub dup_offers : w.dup_offers ≡ 0

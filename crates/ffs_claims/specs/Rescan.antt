@@ -1,5 +1,6 @@
 -- Which offers an inode keeps, replayed by its bad Runs so far and its kept offers up to its cut. The replay is
--- that of Encodings/ReplayCounts of the book: read Encodings/Replay first, from which it differs in one test.
+-- that of Encodings/ReplayCounts of the book. It differs from that of Encodings/Replay, which is to be read first, in
+-- this: where no dup offer cuts the inode (its cut is 0), kept offers aren't counted (`kept_by_cut`).
 use Rattle.std.specs.{List.range_with_len, Prelude.{◌≡◌, ℕ, if◌then◌else◌, List, [], ◌∷◌, ◌++◌, map}}
 use Rattle.ffs_volume.specs.{Blocks.KeptOffers.{Offer, offer_of}, Encodings.Replay.{Replay, is_replay_open}}
 use Rattle.ffs_volume.specs.{Encodings.ReplayCounts.replay_step_by_cut, declared.{Layout.Layout, Step.Step}}

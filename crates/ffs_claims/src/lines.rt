@@ -80,6 +80,7 @@ pub fn say_dup<W: Output>(
     Ok(())
 }
 
+/// Whether a class is that of a file or of a directory.
 fn is_file_or_dir(class: Class) -> bool
     ensures { result ≡ is_file_or_dir class }
 {

@@ -77,6 +77,7 @@ fn tenths_of(frags: i32, dsize: u32) -> i64
     i64::from(frags) * 1000 / i64::from(dsize)
 }
 
+/// The line of the summary, by how many files there are and how many fragments are claimed.
 fn summary_line(superblock: &Super, files: u32, claimed: u32) -> Line<'static>
     ensures { message_of result ≡ summary_of (superblock_in superblock.now) files claimed }
 {

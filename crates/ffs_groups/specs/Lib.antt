@@ -11,7 +11,7 @@
 -- `Inodes` about what its inodes add. `Check`, on these three, is about all counts, and about what is found in the
 -- records; `MapParts` is about the words of a map that are compared at a time.
 pub mod Inputs
-pub mod Check
 pub mod Free
 pub mod Inodes
+pub mod Check
 pub mod MapParts

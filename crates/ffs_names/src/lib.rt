@@ -11,6 +11,16 @@
 //! survey(&geometry, &mut image, &mut workspace)?;
 //! ```
 //!
+//! Its modules:
+//!
+//! - `run_cursor` gives the chunks of one Run, and `chunks` those of a directory.
+//! - `gap` looks for a hole among them.
+//! - `role` says what part an entry has.
+//! - `chunk_entries` gives the entries of a chunk, and `entries` those of a directory.
+//! - `reader` is what a survey goes over: the directories of an image.
+//! - `surveying` is the survey: `ffs_survey::survey` with that reader and the workspace's lists.
+//! - `places` notes where parent entries are.
+//!
 //! It rests on `ffs_survey`, `ffs_workspace` and `ffs_walk`.
 #![tactic(auto)]
 

@@ -17,8 +17,9 @@ use ffs_workspace::{PATH_READS, Workspace};
 pub struct EntryTexts {
     /// What is kept from the path of one directory to that of the next.
     pub kept_parent: KeptParent,
-    /// Whether the path of the directory that the entries are in is settled: the first line makes it,
-    /// or gives it up, and then another path is shown.
+    /// Whether the path of the directory that the entries are in is settled: the first line makes
+    /// it, or gives it up (`make_paths`). Where it is given up, all lines of the directory show that
+    /// of an earlier directory, or `?` if none was made yet.
     pub begun: bool,
     /// The path of the directory that the entries are in, and that of the last entry.
     pub paths: EntryPaths,

@@ -20,7 +20,7 @@ use ffs_workspace::Workspace;
 pub struct DirectoryEntry<'a> {
     /// The directory.
     pub dir: u32,
-    /// Its role.
+    /// The entry's role.
     pub role: Role,
     /// The entry.
     pub entry: Entry<'a>,

@@ -23,7 +23,8 @@ use ffs_volume::kinds::Kind;
 use ffs_workspace::Workspace;
 
 /// Whether the check continues after the root. It ends there, in phase 2, where inode 2 isn't a
-/// directory.
+/// directory: so it is named after what phase 2 finds of the root, and `ffs` gives it out by this
+/// name.
 #[derive(Clone, Copy, Debug, PartialEq, Eq)]
 pub enum Root {
     /// The check continues.

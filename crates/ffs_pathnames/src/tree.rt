@@ -121,13 +121,7 @@ fn check_inode<I: Image, W: Output>(
     requires { ReadyToCheck geometry.now.layout (I.device image.old) workspace.old
         checking.old.texts.kept_parent number }
 
-    // What is asked of it (`DirectoryTask`): what is known of the bytes, how often the directory's
-    // own blocks are read at most, the lines that are said, and what is known after them. The three
-    // calls below have the same clause. `check_directory` is the same for one that isn't of size 0,
-    // and `after` it only what is remembered of names is right, not that places are noted.
-    // `begin_directory` is its first look: one reading, the lines before the entries, and `after`
-    // it what the look found, and stamps. `report_directory` is its second reading: it knows the
-    // inode, reads the Runs and says the lines of the entries, and `after` it these are passed.
+    // What is asked of it: `DirectoryTask` says this in words, of the calls that it makes too.
     ensures lines { ReportsDirectory geometry.now.layout (record {
       knows = LeftForNext geometry.now.layout (I.device image.old) workspace.old number
           checking.old.reads_left;
@@ -189,7 +183,8 @@ fn check_directory<I: Image, W: Output>(
     report_directory(geometry, image, workspace, checking, &directory, report)
 }
 
-/// Reads a directory once, and prints its lines that come before those of its entries.
+/// Makes the first look at a directory, which reads it once, and then prints its lines that come
+/// before those of its entries.
 fn begin_directory<I: Image, W: Output>(
     geometry: &Geometry,
     image: &mut I,

@@ -51,7 +51,8 @@ fn defects_of(
 }
 
 /// The verdict on a plain entry: `first_naming` says that no plain entry before it names its
-/// inode, and `parent_entry` that it is its parent entry.
+/// inode, and `parent_entry` that it is its parent entry. `first_naming` is asked only of a suspect
+/// inode (`first_of_suspect`): of any other it may say anything.
 pub fn verdict(
     inodes: &Inodes<'_>,
     entry: &Entry<'_>,
@@ -78,8 +79,7 @@ pub fn verdict(
 }
 
 /// Whether the inode is there, and flagged: so a plain entry has named it, if it is suspect. The
-/// flag of any other inode says that it is calm, and nothing of names. Of such a one `first_naming`
-/// may say anything: `first_of_suspect` alone depends on it, and asks whether the inode is suspect.
+/// flag of any other inode says that it is calm, and nothing of names.
 fn is_flagged(inodes: &Inodes<'_>, flags: &FilledList<bool>, inode: u32) -> bool
     requires { vec_len flags.now ≡ length inodes.now.kinds.now }
     ensures { result ≡ slice_index_or flags.now.items inode false }

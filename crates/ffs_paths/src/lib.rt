@@ -7,7 +7,8 @@
 //! keeps that of the last one's parent for the next. `EntryPaths` writes those of a directory's
 //! entries. The name of a directory in its parent is read from the chunk that the workspace notes
 //! as its place, and where it isn't there, searched in all entries of the parent. Of an image that
-//! gives its bytes, where the place of each directory is noted, `path_of` makes at most 513 reads.
+//! gives its bytes, where the place of each directory is noted, `path_of` makes at most 513 reads,
+//! and a call of `KeptParent` 514: 513 for the parent's path, and one for the directory's own name.
 //!
 //! It rests on `ffs_names` and `ffs_workspace`.
 #![tactic(auto)]

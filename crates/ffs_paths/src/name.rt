@@ -149,6 +149,7 @@ pub fn find_name<I: Image>(
     dir: u32,
     name: &mut NameText,
 ) -> Result<(), ImageFault>
+    // Both inodes are of the volume just where the one with the greater number is.
     requires { CanReadFor geometry.now.layout (I.device image.old) workspace.old (max dir parent) }
     ensures finds { OnOk result (FindsName geometry.now.layout (I.device image.old) workspace.old
         dir parent (name_bytes name.new)) }

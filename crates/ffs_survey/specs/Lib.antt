@@ -19,12 +19,12 @@
 -- survey by the kinds and marks of a volume is one of the volume, and that a parent is one level nearer to inode 2.
 pub mod Survey
 pub mod Reading
+pub mod Costs
 pub mod Discover
 pub mod Cycles
 pub mod Lists
+pub mod Calm
+pub mod Levels
 pub mod Lent
 pub mod SurveyLaws
 pub mod ParentLaws
-pub mod Calm
-pub mod Levels
-pub mod Costs

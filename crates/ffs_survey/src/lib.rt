@@ -9,6 +9,16 @@
 //! directory of each cycle of parents. `is_plain` asks this of an entry, `is_dir`, `is_suspect` and
 //! `is_dead` of an inode, and `is_unref` of a directory, by all that was `Surveyed`.
 //!
+//! Its modules, each over those before it:
+//!
+//! - `entry_head` is what a survey is given of an entry, and `directories` the trait of a reader.
+//! - `numbers` looks up kinds and parents.
+//! - `lists` has the lists of a survey.
+//! - `unref` says which inodes are suspect or dead, and which directories are unreferenced.
+//! - `discover` reads a directory, or a level of directories: what their entries name.
+//! - `levels` is the survey: level after level, and then the directories that aren't reached.
+//! - `cycles` flags one directory of each cycle of parents.
+//!
 //! The lists of a survey have these views. In code a caller lends `KnownInodes`, what the survey
 //! goes by, and `FoundLists`, what it fills; within the survey both together are `Lists`.
 //! `LentDir` is one directory with the lists that its entries are compared with, and `Surveyed`

@@ -20,8 +20,8 @@ pub mod Keepings
 pub mod Frames
 pub mod Fits
 pub mod Lengths
+pub mod Counts
 pub mod Rests
 pub mod Skips
 pub mod HeldWords
-pub mod Counts
 pub mod Directs
