@@ -41,22 +41,6 @@ pub record IsPlainSilent (v : Volume) (first own : Bool) (e : Entry) : Type 0 wh
   pub no_whiteout : is_bad_whiteout e ≡ false
   pub named : (e.number == 1) ≡ false → IsNamedSilent v first own e
 
-silent_named : (n : EntryDefects) → is_silent (Named n) ≡ true →
-    (n.first_of_suspect ≡ false) × (n.extraneous ≡ false) × (n.wrong_type ≡ false)
-silent_named n h = grind (arith, nat_tests)
-
-silent_if : (a b c d : Bool) (n : EntryDefects) →
-    is_silent (if not a then OutOfRange else (if b then BadWhiteout else (if c then Whiteout
-    else (if not d then Unallocated else Named n)))) ≡ true →
-    (a ≡ true) × (b ≡ false) × (c ≡ false → (d ≡ true) × (is_silent (Named n) ≡ true))
-silent_if a b c d n h = grind (arith, nat_tests)
-
-if_silent : (a b c d : Bool) (n : EntryDefects) → a ≡ true → b ≡ false →
-    (c ≡ false → (d ≡ true) × (is_silent (Named n) ≡ true)) →
-    is_silent (if not a then OutOfRange else (if b then BadWhiteout else (if c then Whiteout
-    else (if not d then Unallocated else Named n)))) ≡ true
-if_silent a b c d n p q r = grind (arith, nat_tests)
-
 pub silent_parts : (v : Volume) (first own : Bool) (e : Entry) → is_silent (verdict_on v first own e) ≡ true →
     IsPlainSilent v first own e
 silent_parts v first own e h = grind arith

@@ -4,7 +4,7 @@ use Rattle.ffs_report.{specs.Known.ForBytes, proofs.Paying.{paid_none, paid_read
 use Rattle.ffs_report.proofs.Reporting.{reads_first, says_all, says_none, stops_all}
 use Rattle.ffs_workspace.{specs.Found.WithSurvey, proofs.Readiness.can_read_table}
 use Rattle.ffs_connectivity.{specs.Lines.unref_dir_lines, proofs.UnrefLines.{attributes_are, unref_dir_is, one_line}}
-use Rattle.ffs_connectivity.proofs.{UnrefLines.{silent, heard}, unref.report_lost.Goals.After-is_unref-unref}
+use Rattle.ffs_connectivity.proofs.{UnrefLines.{silent, heard}, lost.report_lost.Goals.After-is_unref-unref}
 use Rattle.ffs_connectivity.proofs.lost.report_lost.Goals.{After-of}
 use Rattle.ffs_connectivity.proofs.lost.report_lost.Given as given
 use Rattle.ffs_connectivity.proofs.lost.report_lost.Goals as goal
