@@ -1,8 +1,8 @@
 -- What the lines of phase 1 say: which inodes they blame, and whether there is a Dup line.
 use Rattle.std.proofs.Common.{◌≡◌, inl, inr, ℕ, zero, suc, ◌+◌, ◌<◌, ◌≤◌, Bool, true, false, not, ◌&&◌, ◌||◌, ◌==◌}
 use Rattle.std.proofs.Common.{if◌then◌else◌, List, [], ◌∷◌, ◌++◌, length, replicate, slice_set, length-set, ◌≢◌, arith}
-use Rattle.std.proofs.{Common.{refl, ap, ◌∙◌, sym, ◌-◌, nat_lt, nat_le, map}, Math.Bool.{or-false, and-false}}
-use Rattle.std.proofs.{Math.ListN.get_or-eq_default, lemmas.Bool.{cases_lt, eqb-true, not-false, Decides.nat_tests}}
+use Rattle.std.proofs.{Common.{refl, ap, ◌∙◌, ◌-◌, nat_lt, nat_le, map}}
+use Rattle.std.proofs.{Math.ListN.get_or-eq_default, lemmas.Bool.{cases_lt, Decides.nat_tests}}
 use Rattle.std.{proofs.lemmas.List.{length-replicate, Folds.list_any-append, Sums.sum_by-set}, specs.List.list_any}
 use Rattle.std.specs.List.{range_with_len}
 use Rattle.ffs_volume.proofs.{OwnerLaws.before_next, Potentials.{cond_holds, in_range_below}}
@@ -11,7 +11,7 @@ use Rattle.ffs_volume.specs.Blocks.BlockCheck.{is_dup_line, has_rescan, blames, 
 use Rattle.ffs_volume.specs.Blocks.Claims.{Claims, no_claims, at_next_inode, is_open, is_set, after_owner, after_owners}
 use Rattle.ffs_volume.specs.Blocks.Claims.{lines_of_steps, after_offer, after_offers, after_run, after_step, all_claims}
 use Rattle.ffs_volume.specs.Blocks.Claims.{after_steps, offer_lines, lines_of_offers, run_lines, step_lines, has_blame}
-use Rattle.ffs_volume.specs.Blocks.Inodes.{is_file_or_dir, inode_of, class_of, is_unknown, inodes_of}
+use Rattle.ffs_volume.specs.Blocks.Inodes.{is_file_or_dir, inodes_of}
 use Rattle.ffs_volume.specs.Blocks.{KeptOffers.Offer, KeptSteps.claims_before, Owners.{Owner, owners_of, owner_of}}
 use Rattle.ffs_volume.specs.Directories.Volumes.{is_inode_number, marked_at, marked_by_phase1_at}
 use Rattle.ffs_volume.specs.{Disk.Areas.{is_fragment_in_range, is_run_in_range}, declared.BlockMessage.BlockMessage}
@@ -107,16 +107,7 @@ abbrev Blames : ℕ → ℕ → Claims → List BlockMessage → Claims → Type
 Blames x i s lines t = (list_any (blames x) lines || blamed x i s) ≡ blamed x i t
 
 blames_hold : (v : Layout) (x i : ℕ) → HoldsOfEach v i (Blames x i)
-blames_hold v x i = record {
-  quiet = λ s t bad dups dup. rw (bad, dups) refl;
-  after = λ s t u xs ys p q. let both = list_any-append (blames x) xs ys in grind arith;
-  dup = λ s f many ok. grind (arith, nat_tests);
-  bad = λ s start many. grind (arith, nat_tests);
-  tail = λ s first. grind arith;
-  partial = λ s. refl;
-  unknown = λ s. refl;
-  count = λ s found right. refl;
-}
+blames_hold v x i = grind (arith, list_any-append)
 
 owner_blames : (v : Layout) (x : ℕ) (s : Claims) (o : Owner) → list_any (blames x) (owner_lines v s o)
     ≡ blamed x o.number (after_owner v s o)
@@ -158,16 +149,7 @@ first_blames v bytes x inside =
 pub marked_total : (v : Layout) (bytes : List ℕ) (x : ℕ) → marked_at v bytes x ≡ (marked_by_phase1_at v bytes x
     || (is_inode_number v x && list_any (blames x) (phase1b_lines v (owners_of v bytes))))
 unfolding marked_by_phase1_at is_marked
-marked_total v bytes x =
-    let first = phase1_lines v (owners_of v bytes) in
-    let again = phase1b_lines v (owners_of v bytes) in
-    both (is_inode_number v x) (is_unknown (class_of v (inode_of v bytes x))) (list_any (blames x) (first ++ again))
-    (blame_at v bytes x) (list_any (blames x) again) (λ q. list_any-append (blames x) first again
-    ∙ ap (λ b. b || list_any (blames x) again) (first_blames v bytes x q))
-  where
-    both : (i u l b c : Bool) → (i ≡ true → l ≡ (b || c)) →
-        (if i then u || l else false) ≡ ((if i then u || b else false) || (i && c))
-    both i u l b c e = grind arith
+marked_total v bytes x = grind (arith, list_any-append, first_blames)
 
 -- ---- whether there is a Dup line
 -- some bit is set
@@ -191,16 +173,7 @@ dups_then s t u xs ys p q = let both = list_any-append is_dup_line xs ys in (gri
 
 dups_hold : (v : Layout) (i : ℕ) →
     HoldsOfEach v i (λ s lines t. length s.duplicates ≡ v.size → DupsAreReported s lines t)
-dups_hold v i = record {
-  quiet = λ s t bad dups dup h. rw dup (refl, refl);
-  after = λ s t u xs ys p q h. dups_then s t u xs ys (p h) (q ((p h).1 ∙ h));
-  dup = λ s f many ok h. grind (arith, in_range_below, set_any, length-set);
-  bad = λ s start many h. (grind arith, refl);
-  tail = λ s first h. (grind arith, refl);
-  partial = λ s h. (refl, refl);
-  unknown = λ s h. (refl, refl);
-  count = λ s found right h. (refl, refl);
-}
+dups_hold v i = grind (arith, dups_then, in_range_below, set_any, length-set)
 
 owners_dups : (v : Layout) (s : Claims) (os : List Owner) → length s.duplicates ≡ v.size →
     DupsAreReported s (lines_of_owners v s os) (after_owners v s os)
@@ -241,22 +214,7 @@ none_first bits (o ∷ os) e = grind (arith, none_clear, none_first bits os)
 pub no_rescan : (v : Layout) (image : List ℕ) (w : Workspace) → has_rescan v (owners_of v image) ≡ false →
     HoldsPhase1 v image w → HoldsClaims v image w
 unfolding all_claims phase1b_lines
-no_rescan v image w none h = record {
-  used = h.used;
-  kinds = h.kinds;
-  notes = h.notes;
-  counts = counts_unsurveyed v image w h.unsurveyed h.starts;
-  marked = λ x. h.marked x ∙ sym (or-false (marked_by_phase1_at v image x))
-      ∙ ap (λ b. marked_by_phase1_at v image x || b) (sym (silent x)) ∙ sym (marked_total v image x);
-}
-  where
-    lines : phase1b_lines v (owners_of v image) ≡ []
-    lines = none_first (after_owners v (no_claims v) (owners_of v image)).duplicates _
-        (eqb-true (set_count (all_claims v image).duplicates) 0 (not-false _ (rescan_is v image ∙ none)))
-
-    silent : (x : ℕ) → (is_inode_number v x && list_any (blames x) (phase1b_lines v (owners_of v image))) ≡ false
-    silent x = ap (λ ls. is_inode_number v x && list_any (blames x) ls) lines
-        ∙ and-false (is_inode_number v x)
+no_rescan v image w none h = grind (arith, counts_unsurveyed, marked_total, none_first, rescan_is)
 
 -- whether something is left to report
 pub some_left : (n : ℕ) (some : Bool) → some ≡ not (n == 0) → some ≡ true → n ≢ 0

@@ -18,8 +18,7 @@ pub found_then : {u v w : Workspace} → SameFound u v → SameFound v w → Sam
 found_then p q = grind arith
 
 pub claims_none : (w : Workspace) → RescanKeeps w w
-claims_none w =
-    record { used = refl; kinds = refl; notes = refl; references = refl; surveyed = refl; seen = refl; has_dups = refl }
+claims_none w = grind arith
 
 pub claims_then : {u v w : Workspace} → RescanKeeps u v → RescanKeeps v w → RescanKeeps u w
 claims_then p q = grind arith

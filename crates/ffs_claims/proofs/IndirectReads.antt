@@ -1,7 +1,7 @@
 -- How many indirect blocks are seen, step by step and inode by inode, and how often phase 1 reads an
 -- image that gives its bytes.
 use Rattle.std.proofs.Common.{◌≡◌, ℕ, zero, suc, ◌+◌, ◌-◌, ◌<◌, ◌≤◌, true, List, ◌∷◌, ◌++◌, replicate, Some, None}
-use Rattle.std.proofs.{Common.{arith, refl, ap, ◌∙◌, sym, inl, inr, nat_eq}, lemmas.Bool.cases_Bool}
+use Rattle.std.proofs.{Common.{arith, refl, ap, ◌∙◌}}
 use Rattle.ffs_volume.specs.Blocks.Claims.{Claims, after_owner, after_step, at_next_inode, is_open, no_claims}
 use Rattle.ffs_volume.specs.Blocks.{Inodes.{class_of, inode_of, inodes_of}, Owners.{owner_of, owners_of}}
 use Rattle.ffs_volume.specs.Report.VolumeReads.{indirect_count, indirect_in_owners, indirect_in_steps, seen_indirect}
@@ -10,8 +10,8 @@ use Rattle.ffs_volume.specs.declared.{Class.TheVariants.Free, Layout.Layout, Ste
 use Rattle.ffs_report.specs.Known.{ForBytes}
 use Rattle.ffs_walk.specs.{Counts.entered, HeldWords.word_step, Rests.steps_left, declared.walk.Walk.Walk}
 use Rattle.ffs_workspace.specs.{Tables.{HoldsInode, HoldsPiece}, declared.table.Table.Table}
-use Rattle.ffs_claims.proofs.{Inodes.free_steps, StepsContinue.range_more, ZeroInodes.{AreFree, free_claims}}
-use Rattle.ffs_claims.proofs.TableReads.{BlocksRead, blocks_all, blocks_failed, blocks_later, blocks_next, blocks_none}
+use Rattle.ffs_claims.proofs.{Inodes.free_steps, ZeroInodes.{AreFree, free_claims}}
+use Rattle.ffs_claims.proofs.TableReads.{BlocksRead, blocks_all, blocks_failed, blocks_later, blocks_next}
 use Rattle.ffs_claims.specs.{Claiming.ReadsIndirect, Lines.owners_from}
 
 -- where the inode isn't cut, an indirect block is seen
@@ -23,10 +23,7 @@ seen_is s Gap uncut = refl
 
 -- the word of an indirect block of data is none
 pub word_unseen : (s : Claims) (frag address block : ℕ) → seen_indirect s (word_step frag address block) ≡ 0
-word_unseen s frag address block = elim (cases_Bool (nat_eq address 0)) [
-  | inl e ↦ rw e refl
-  | inr e ↦ rw e refl
-]
+word_unseen s frag address block = grind arith
 
 -- nor are gaps in a row
 pub gaps_unseen : (v : Layout) (s : Claims) (n : ℕ) (steps : List Step) →
@@ -47,8 +44,7 @@ pub indirect_on : {knows : List ℕ → Type 0} {s' : Claims} (v : Layout) (s : 
     is_open s ≡ true → ForBytes knows (λ bytes. steps_left bytes x ≡ step ∷ steps_left bytes y) →
     s' ≡ after_step v s step → ForBytes knows (λ bytes. indirect_in_steps v s (steps_left bytes x)
     ≡ entered step + indirect_in_steps v s' (steps_left bytes y))
-indirect_on {s'} v s x y step uncut next now = λ bytes t. step_on v s (next bytes t) now
-    ∙ ap (λ n. n + indirect_in_steps v s' (steps_left bytes y)) (seen_is s step uncut)
+indirect_on {s'} v s x y step uncut next now = grind arith
 
 -- ---- inode by inode
 -- those of an inode, and of the inodes after it
@@ -56,8 +52,7 @@ indirect_next : (v : Layout) (bytes : List ℕ) (s s' : Claims) (n : ℕ) → n 
     s' ≡ after_owner v s (owner_of v bytes n) → indirect_in_owners v s (owners_from v bytes n)
     ≡ indirect_in_steps v (at_next_inode s) (owner_of v bytes n).steps
     + indirect_in_owners v s' (owners_from v bytes (n + 1))
-indirect_next v bytes s s' n low now =
-    rw (range_more n (inodes_of v - n) (inodes_of v - (n + 1)) (omega arith), now) refl
+indirect_next v bytes s s' n low now = grind arith
 
 -- a free inode has none
 free_unseen : (v : Layout) (bytes : List ℕ) (x : ℕ) (s : Claims) → class_of v (inode_of v bytes x) ≡ Free →
@@ -68,12 +63,7 @@ free_unseen v bytes x s free = ap (indirect_in_steps v s) (free_steps v _ bytes 
 free_next : (v : Layout) (bytes : List ℕ) (s : Claims) (n : ℕ) → n < inodes_of v →
     class_of v (inode_of v bytes n) ≡ Free → indirect_in_owners v s (owners_from v bytes n)
     ≡ indirect_in_owners v (at_next_inode s) (owners_from v bytes (n + 1))
-free_next v bytes s n low free =
-    omega (
-      arith,
-      indirect_next v bytes s (at_next_inode s) n low (sym (free_claims v bytes n s free)),
-      free_unseen v bytes n (at_next_inode s) free,
-    )
+free_next v bytes s n low free = grind (arith, free_claims, free_unseen)
 
 free_over : (v : Layout) (bytes : List ℕ) (s : Claims) (n k : ℕ) → n + suc k ≤ inodes_of v →
     AreFree v bytes n (n + suc k) → indirect_in_owners v s (owners_from v bytes n)
@@ -94,9 +84,7 @@ pub record VolumeRead (v : Layout) (bytes : List ℕ) (s : Claims) (n reads now 
 pub read_begins : (v : Layout) (bytes : List ℕ) {s : Claims} {reads now : ℕ} {t : Table} → now ≤ reads →
     s ≡ no_claims v → VolumeRead v bytes s 2 reads now t
 unfolding indirect_count owners_of
-read_begins v bytes none first =
-    let all : indirect_in_owners v (no_claims v) (owners_from v bytes 2) ≡ indirect_count v bytes = refl in
-    record { seen = 0; read = blocks_none (omega (arith, none)); rest = rw first (omega (arith, all)) }
+read_begins v bytes none first = grind arith
 
 module _ {v : Layout} {bytes : List ℕ} {s : Claims} {n reads now : ℕ} {t : Table} where
   -- the inode n was read, and its indirect blocks

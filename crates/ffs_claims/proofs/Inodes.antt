@@ -2,19 +2,19 @@
 use Rattle.std.proofs.Common.{◌+◌, ◌<◌, ◌^◌, false, arith, OnOk, ◌≡◌, ℕ, List, [], ◌++◌, append-nil, Option, Result, Ok}
 use Rattle.std.proofs.{Common.{Err, ◌∙◌, refl, ◌≤◌, true}, lemmas.Bool.Decides.nat_tests}
 use Rattle.std.proofs.lemmas.List.Sums.{count_by-le-length}
-use Rattle.ffs_volume.{proofs.Potentials.{step_moves, moves_then}, specs.Blocks.BlockCheck.{class_lines, count_lines}}
+use Rattle.ffs_volume.{proofs.Potentials.{step_moves}, specs.Blocks.BlockCheck.{class_lines, count_lines}}
 use Rattle.ffs_volume.specs.Blocks.{BlockCheck.owner_lines, Claims.{Claims, at_next_inode, after_steps}}
 use Rattle.ffs_volume.specs.Blocks.{Claims.{lines_of_steps, is_open, after_step}, Inodes.{class_of}}
 use Rattle.ffs_volume.specs.{Blocks.{Steps.steps_of}, Laws.ClaimBounds.{used_bits, ClaimBound}}
 use Rattle.ffs_volume.specs.{Laws.{Geometry.IsAcceptedLayout, RunLengths.HasLength}, Messages.Kinds.Message}
 use Rattle.ffs_volume.specs.declared.{Class.{Class, TheVariants.Free}, Inode.Inode, Layout.Layout, Step.Step}
-use Rattle.ffs_report.{proofs.Reporting.{of_part, of_begins, of_says, of_stops}, specs.Known.{ForBytes, IsContents}}
+use Rattle.ffs_report.{proofs.Reporting.{of_part, of_begins, of_stops}, specs.Known.{ForBytes, IsContents}}
 use Rattle.ffs_report.specs.{PhaseOutcome.{SaidOf, StoppedOf}, Progress.{Progress, Said, Stopped}}
 use Rattle.ffs_report.specs.declared.fault.RunFault.{RunFault}
 use Rattle.ffs_image.specs.Device.{Device}
 use Rattle.ffs_layout.specs.declared.geometry.Geometry.{Geometry}
 use Rattle.ffs_walk.specs.{Windows.KeepsBlocks, declared.blocks.Blocks.Blocks}
-use Rattle.ffs_claims.proofs.{Frames.{found_none, found_then, ready_still, ready_walked}, StepsContinue.lines_append}
+use Rattle.ffs_claims.proofs.{Frames.{found_none, ready_walked}, StepsContinue.lines_append}
 use Rattle.ffs_claims.specs.{Area.IsDataArea, Claiming.{CanClaim, ClaimsInArea, FewRuns, StepsLeave, CanSeeNext}}
 use Rattle.ffs_claims.specs.{Leaves.HasBegun, Lines.{of_lines, owner_with, counted_owner}}
 use Rattle.ffs_claims.specs.declared.area.DataArea.{DataArea}
@@ -25,8 +25,7 @@ use Rattle.ffs_workspace.specs.{Holds.claims_of, Lengths.IsFor, declared.workspa
 -- a step more keeps the bound
 pub moves_on : {v : Layout} {s0 s' : Claims} {w : Workspace} (step : Step) → IsFor v w → v.frag ≤ 8 →
     HasLength v.frag step → s' ≡ after_step v (claims_of w) step → ClaimBound s0 (claims_of w) → ClaimBound s0 s'
-moves_on {v = v} {s0 = s0} {w = w} step made small some now before =
-    rw now (moves_then s0 _ _ before (step_moves v _ step (bits_long w.used ∙ made.used) small some))
+moves_on {v = v} {s0 = s0} {w = w} step made small some now before = grind (arith, step_moves, bits_long)
 
 -- at most the volume's fragments are used
 pub used_below : {v : Layout} {w : Workspace} → IsFor v w → used_bits (claims_of w) ≤ v.size
@@ -45,11 +44,7 @@ kept_room u {w = w} made free m = grind (arith, nat_tests, used_below)
 pub sees_next : {v : Layout} {u w : Workspace} {area : DataArea} → IsAcceptedLayout v → HasBegun u → IsFor v w →
     IsDataArea v area → is_open (claims_of w) ≡ true → ClaimBound (claims_of u) (claims_of w) →
     CanSeeNext v w area (2 ^ 62)
-sees_next {u = u} g begun made all_in_range uncut m =
-    let numbers = g.numbers in
-    let kept = kept_room u made uncut m in
-    let seen = seen_bound u made uncut m in
-    grind arith
+sees_next {u = u} g begun made all_in_range uncut m = grind (arith, seen_bound)
 
 -- ---- where the claiming of its steps is, before it ends
 abbrev pub Claiming : Layout → Device → Workspace → Workspace → DataArea → Type 0
@@ -68,10 +63,7 @@ claiming_walked e same kept p = let ready = ready_walked e same kept p.claim.rea
 pub claiming_on : {T : Type 0} {r : Result T RunFault} {v : Layout} {d : Device} {u w w' : Workspace}
     {area area' : DataArea} → ClaimsInArea v w w' area' → FewRuns v u w' →
     OnOk r (ClaimBound (claims_of u) (claims_of w')) → Claiming v d u w area → StepsLeave v d u w' area' r
-claiming_on left few moves p =
-    let ready = ready_still left.only.made left.only.windows p.claim.ready in
-    let found = found_then p.found left.only.found in
-    grind arith
+claiming_on left few moves p = grind arith
 
 -- ---- its lines
 -- the lines of an inode's steps and of its count, once its class is reported
@@ -90,8 +82,7 @@ pub class_said : {knows : List ℕ → Type 0} {a b : Progress} {s1 : Claims} {c
     Said a b (of_lines (class_lines number class)) →
     SaidOf knows (rest_lines v number i class s1) (λ bytes. of_lines (owner_lines v s (owner_with v bytes number i))) a
     b
-class_said v number i s e k q =
-    rw (e, k) (of_says _ _ _ _ _ _ _ _ (of_begins _ _ _) (λ bytes t. parts v number i s bytes) (rw k at q))
+class_said v number i s e k q = grind (arith, parts)
 
 pub class_stopped : {knows : List ℕ → Type 0} {a b : Progress} {class : Class} (v : Layout) (number : ℕ) (i : Inode)
     (s : Claims) → class ≡ class_of v i → Stopped a b (of_lines (class_lines number class)) →

@@ -1,17 +1,16 @@
 -- The inodes one after another.
 use Rattle.std.proofs.Common.{◌≡◌, ℕ, zero, suc, ◌+◌, ◌-◌, ◌<◌, ◌≤◌, true, false, ◌||◌, if◌then◌else◌, nat_lt, List}
-use Rattle.std.proofs.Common.{◌++◌, length, map, get_or, replicate, min, slice_set, arith, refl, ap, ◌∙◌, sym}
+use Rattle.std.proofs.Common.{◌++◌, length, get_or, replicate, min, slice_set, arith, refl, ap, ◌∙◌, sym}
 use Rattle.std.proofs.lemmas.{Bool.Decides.nat_tests, List.{get_or-set_same, get_or-set_other, set-get_or}}
-use Rattle.std.specs.List.{range_with_len}
 use Rattle.ffs_volume.specs.Blocks.{BlockCheck.{owner_lines, lines_of_owners}, Claims.{Claims, no_claims, after_owner}}
-use Rattle.ffs_volume.specs.Blocks.{Claims.{after_owners, has_blame, all_claims}, Inodes.{inode_of, class_of}}
+use Rattle.ffs_volume.specs.Blocks.{Claims.{has_blame, all_claims}, Inodes.{inode_of, class_of}}
 use Rattle.ffs_volume.specs.Blocks.{Inodes.{is_unknown, inodes_of}, KeptSteps.claims_before, Owners.owner_of}
 use Rattle.ffs_volume.specs.{Blocks.Owners.owners_of, Directories.Volumes.{is_inode_number, marked_by_phase1_at}}
 use Rattle.ffs_volume.specs.{Encodings.{Kinds.kind_at, Links.start_at, Replay.cut_of}, declared.Class.TheVariants.Free}
 use Rattle.ffs_volume.specs.{declared.{Inode.Inode, Layout.Layout}, Encodings.Notes.{note_of, note_at}}
 use Rattle.ffs_workspace.specs.{Holds.{claims_of, IsFresh, HoldsPhase1}, Lengths.IsFor}
 use Rattle.ffs_workspace.specs.declared.workspace.Workspace.{Workspace}
-use Rattle.ffs_claims.{proofs.StepsContinue.{range_more, lines_append}, specs.Leaves.{SameFound, Stored}}
+use Rattle.ffs_claims.{proofs.StepsContinue.{lines_append}, specs.Leaves.{SameFound, Stored}}
 use Rattle.ffs_claims.specs.Lines.{of_lines, owners_from}
 
 pub before_first : (v : Layout) (bytes : List ℕ) → claims_before v bytes 2 ≡ no_claims v
@@ -22,9 +21,7 @@ before_first v bytes = refl
 pub before_end : (v : Layout) (bytes : List ℕ) (x : ℕ) → inodes_of v ≤ x → (2 < x → x ≤ inodes_of v) → 2 ≤ x →
     claims_before v bytes x ≡ all_claims v bytes
 unfolding claims_before all_claims owners_of
-before_end v bytes x past exact low =
-    let same : x - 2 ≡ inodes_of v - 2 = grind arith in
-    ap (λ n. after_owners v (no_claims v) (map (owner_of v bytes) (range_with_len 2 n))) same
+before_end v bytes x past exact low = grind arith
 
 -- the numbers from 2 on that are gone over
 pub numbers_most : (n most : ℕ) → (2 < n → n ≤ most) → n - 2 ≤ most
@@ -35,9 +32,7 @@ pub lines_next : (v : Layout) (bytes : List ℕ) (s s' : Claims) (x : ℕ) → x
     s' ≡ after_owner v s (owner_of v bytes x) →
     of_lines (lines_of_owners v s (owners_from v bytes x)) ≡ of_lines (owner_lines v s (owner_of v bytes x))
     ++ of_lines (lines_of_owners v s' (owners_from v bytes (x + 1)))
-lines_next v bytes s s' x low now =
-    rw (range_more x (inodes_of v - x) (inodes_of v - (x + 1)) (omega arith), now)
-    (lines_append (owner_lines v s (owner_of v bytes x)) _)
+lines_next v bytes s s' x low now = grind (arith, lines_append)
 
 -- ---- lists that are filled up to a number
 abbrev FilledTo : {A : Type 0} → A → (ℕ → A) → List A → ℕ → Type 0
@@ -59,10 +54,7 @@ NoneOutside v d f = (x : ℕ) → is_inode_number v x ≡ false → f x ≡ d
 
 filled_end : {A : Type 0} (v : Layout) (d : A) (f : ℕ → A) (xs : List A) (n : ℕ) → inodes_of v ≤ n → NoneOutside v d f →
     FilledTo d f xs n → (x : ℕ) → get_or xs x d ≡ f x
-filled_end v d f xs n past out before x =
-    let here = before x in
-    let none = out x in
-    grind (arith, nat_tests)
+filled_end v d f xs n past out before x = grind arith
 
 filled_begin : {A : Type 0} (v : Layout) (d : A) (f : ℕ → A) (xs : List A) (len : ℕ) → xs ≡ replicate len d →
     NoneOutside v d f → FilledTo d f xs 2
@@ -124,22 +116,9 @@ found_next {v = v} {bytes = bytes} {u = u} {w = w} {n = n} low high m now stored
 -- a free inode leaves what is found of it as it begins
 pub stored_free : {v : Layout} {bytes : List ℕ} {u : Workspace} {n : ℕ} (i : Inode) → FoundTo v bytes u n →
     Stored n Free i u (record u { bad = 0; dup_offers = 0; kept = 0; tail = false })
-stored_free {u = u} {n = n} i before = record {
-  kinds = filled_still 0 _ u.kinds.items n before.kinds;
-  marked = filled_still false _ u.marked.items n before.marked;
-  notes = filled_still 0 _ u.notes.items n before.notes;
-  starts = filled_still 0 _ u.references.items n before.starts;
-}
+stored_free {u = u} {n = n} i before = search (arith, filled_still)
 
 pub found_all : {v : Layout} {bytes : List ℕ} {w : Workspace} {n : ℕ} → inodes_of v ≤ n →
     claims_of w ≡ all_claims v bytes → FoundTo v bytes w n → HoldsPhase1 v bytes (record w { surveyed = false })
 unfolding kind_at marked_by_phase1_at start_at
-found_all {v = v} {bytes = bytes} {n = n} past all found = record {
-  used = ap (λ s. s.used) all;
-  duplicates = ap (λ s. s.duplicates) all;
-  kinds = filled_end v 0 (kind_at v bytes) _ n past (λ x out. rw out refl) found.kinds;
-  marked = filled_end v false (marked_by_phase1_at v bytes) _ n past (λ x out. rw out refl) found.marked;
-  notes = filled_end v 0 (note_at v bytes) _ n past (note_out v bytes) found.notes;
-  starts = filled_end v 0 (start_at v bytes) _ n past (λ x out. rw out refl) found.starts;
-  unsurveyed = refl;
-}
+found_all {v = v} {bytes = bytes} {n = n} past all found = grind (arith, note_out)

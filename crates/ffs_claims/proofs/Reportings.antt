@@ -1,6 +1,6 @@
 -- How phase 1b continues.
-use Rattle.std.proofs.Common.{◌≡◌, append_assoc, append-nil, subst, ℕ, ◌+◌, ◌-◌, ◌<◌, ◌≤◌, Bool, false, if◌then◌else◌}
-use Rattle.std.proofs.{Common.{List, [], ◌∷◌, ◌++◌, map, slice_set, arith, refl, ap, ◌∙◌, sym}, Math.Bool.or_assoc}
+use Rattle.std.proofs.Common.{◌≡◌, append_assoc, append-nil, ℕ, ◌+◌, ◌-◌, ◌<◌, ◌≤◌, Bool, false, if◌then◌else◌}
+use Rattle.std.proofs.{Common.{List, [], ◌∷◌, ◌++◌, map, slice_set, arith, refl, ap, ◌∙◌, sym}}
 use Rattle.std.{proofs.{Math.Bool.or-false, lemmas.List.Folds.list_any-append}, specs.List.range_with_len}
 use Rattle.ffs_volume.specs.Blocks.{BlockCheck.first_offer_lines, Claims.is_set, KeptOffers.{Offer, offer_of}}
 use Rattle.ffs_volume.specs.Blocks.BlockCheck.{set_count, after_first}
@@ -27,8 +27,7 @@ after_append dup (o ∷ xs) ys = after_append (if is_set dup o.fragment then sli
 -- the lines of two parts
 pub lines_split : (dup dup' : List Bool) (os xs ys : List Offer) → os ≡ xs ++ ys → dup' ≡ after_first dup xs →
     of_lines (first_offer_lines dup os) ≡ of_lines (first_offer_lines dup xs) ++ of_lines (first_offer_lines dup' ys)
-lines_split dup dup' os xs ys e d = rw (e, first_append dup xs ys, d)
-    (lines_append (first_offer_lines dup xs) (first_offer_lines (after_first dup xs) ys))
+lines_split dup dup' os xs ys e d = grind (arith, first_append, lines_append)
 
 pub reported_none : (w : Workspace) → OffersReported [] w w
 reported_none w = record { duplicates = refl; marked = λ x. sym (or-false (bool_at w.marked.items x)) }
@@ -41,8 +40,7 @@ none_after bits (o ∷ os) e = rw (none_clear bits o.fragment e) (none_after bit
 -- what is reported is of the map and the marks alone
 pub reported_from : {offers : List Offer} (u u' w : Workspace) → OffersReported offers u' w →
     u'.duplicates ≡ u.duplicates → u'.marked ≡ u.marked → OffersReported offers u w
-reported_from {offers = offers} u u' w t d m =
-    record { duplicates = rw (sym d) t.duplicates; marked = λ x. rw (sym d, sym m) (t.marked x) }
+reported_from {offers = offers} u u' w t d m = grind arith
 
 pub reported_to : {offers : List Offer} (u w w' : Workspace) → OffersReported offers u w → w'.duplicates ≡ w.duplicates
     → w'.marked ≡ w.marked → OffersReported offers u w'
@@ -50,8 +48,7 @@ reported_to u w w' t d m = record { duplicates = rw d t.duplicates; marked = λ 
 
 pub reported_then : {u v w : Workspace} (xs ys : List Offer) → OffersReported xs u v → OffersReported ys v w →
     OffersReported (xs ++ ys) u w
-reported_then {u = u} {v = v} xs ys a b =
-    grind (arith, after_append, first_append, list_any-append, or_assoc)
+reported_then {u = u} {v = v} xs ys a b = grind (arith, after_append, first_append, list_any-append)
 
 -- what was reported so far, with what is to come
 pub record Reporting (rest all : List Offer) (old new : Workspace) : Type 0 where
@@ -73,8 +70,7 @@ reporting_more {part = part} {rest' = rest'} t e p = record {
 
 pub reporting_ends : {rest all : List Offer} {u v : Workspace} → Reporting rest all u v → rest ≡ [] →
     OffersReported all u v
-reporting_ends {u = u} {v = v} t e = subst (λ xs. OffersReported xs u v)
-    (sym (append-nil t.past) ∙ ap (λ xs. t.past ++ xs) (sym e) ∙ t.whole) t.reported
+reporting_ends {u = u} {v = v} t e = grind (arith, append-nil)
 
 -- nothing is left to report
 pub reporting_over : {rest all : List Offer} {u w : Workspace} → set_count (bits_of w.duplicates) ≡ 0 →

@@ -5,10 +5,10 @@ use Rattle.std.proofs.{Common.{Option, ◌-◌}, lemmas.Bool.{cases_eq, cases_Bo
 use Rattle.std.{proofs.lemmas.List.length-append, specs.List.range_with_len}
 use Rattle.ffs_volume.proofs.{Potentials.{cond_holds, offers_keep}, PrefixLaws.full_offers, ReplayIsKeeping.replay_of}
 use Rattle.ffs_volume.proofs.{ReplayIsKeeping.{seen_replays, step_replays, step_few}, ReplayLaws.offers_runs}
-use Rattle.ffs_volume.specs.Blocks.Claims.{after_offers, Claims, no_claims, at_next_inode, is_open, after_step}
+use Rattle.ffs_volume.specs.Blocks.Claims.{after_offers, Claims, at_next_inode, is_open, after_step}
 use Rattle.ffs_volume.specs.Blocks.Claims.{after_steps, after_owner, after_owners, after_offer, all_claims}
 use Rattle.ffs_volume.specs.Blocks.KeptOffers.{Offer, offer_of, kept_in_run, kept_in_offers, kept_in_step}
-use Rattle.ffs_volume.specs.{Blocks.{KeptOffers.kept_in_steps, Owners.{Owner, owners_of}}, Encodings.Replay.Replay}
+use Rattle.ffs_volume.specs.{Blocks.{KeptOffers.kept_in_steps, Owners.{Owner}}, Encodings.Replay.Replay}
 use Rattle.ffs_volume.specs.Encodings.Replay.{is_replay_open, fresh_replay, cut_of, replay_after_step}
 use Rattle.ffs_volume.specs.{Encodings.ReplayCounts.{seen_run, replay_step_by_cut}, Report.Whole.run_count}
 use Rattle.ffs_volume.specs.declared.{Layout.Layout, Step.{Step, TheVariants.{Run, Tail, Gap}}}
@@ -54,11 +54,7 @@ taken_by_cut v cut q start len = grind (arith, nat_tests)
 
 step_by_cut : (v : Layout) (cut : ℕ) (q : Replay) (step : Step) →
     replay_step_by_cut v cut (by_cut cut q) step ≡ by_cut cut (replay_after_step v cut q step)
-step_by_cut v cut q (Run start len block) = run cut
-  where
-    run : (cut : ℕ) → replay_step_by_cut v cut (by_cut cut q) (Run start len block)
-        ≡ by_cut cut (replay_after_step v cut q (Run start len block))
-    run cut = grind (arith, nat_tests)
+step_by_cut v cut q (Run start len block) = grind arith
 step_by_cut v cut q other = refl
 
 -- ---- an inode, replayed
@@ -66,8 +62,7 @@ run_offers : (v : Layout) (i : ℕ) (s : Claims) (cut start len : ℕ) (block : 
     is_replay_open cut (replay_of s) ≡ true →
     replay_after_step v cut (replay_of s) (Run start len block) ≡ replay_of (after_step v s (Run start len block)) →
     kept_in_run v i s start len ≡ map (offer_of i) (range_with_len start (run_taken v cut (replay_of s) start len))
-run_offers v i s cut start len block going seen next =
-    let kept = ap (λ r. r.kept) next in grind (arith, offers_firsts)
+run_offers v i s cut start len block going seen next = grind (arith, offers_firsts)
 
 -- a step, replayed: its kept offers, and those of its Run
 record StepAgain (v : Layout) (i cut : ℕ) (s : Claims) (r : Replay) (step : Step) : Type 0 where
@@ -158,8 +153,7 @@ pub looked_next : (v : Layout) (i cut : ℕ) (r r' : Replay) (step : Step) (R R'
     runs_until_reported dup (steps_runs_again v i cut r R) ≡ seen_run cut r step + runs_until_reported dup'
     (steps_runs_again v i cut r' R')
 unfolding steps_runs_again runs_until_reported
-looked_next v i cut r r' (Run start len block) R R' dup dup' e now going some d =
-    rw (e, now, d, going, ne_eqb _ _ some) refl
+looked_next v i cut r r' (Run start len block) R R' dup dup' e now going some d = grind arith
 looked_next v i cut r r' other R R' dup dup' e now going some d = rw (e, now, d) (omega arith)
 
 -- after the cut nothing is kept and no Run is seen, and gaps in a row keep nothing and are no Runs
@@ -183,10 +177,7 @@ step_seen : (v : Layout) (i : ℕ) (s : Claims) (step : Step) → s.runs + lengt
     ≡ (after_step v s step).runs
 step_seen v i s Gap = omega arith
 step_seen v i s Tail = grind arith
-step_seen v i s (Run start len block) =
-    let fits = offers_runs v (record s { runs = s.runs + 1 }) (range_with_len start len) in
-    let bad = offers_runs v (record s { runs = s.runs + 1; bad = s.bad + 1 }) (range_with_len start len) in
-    grind arith
+step_seen v i s (Run start len block) = grind (arith, offers_runs)
 
 steps_seen : (v : Layout) (i : ℕ) (s : Claims) (steps : List Step) → s.runs + length (steps_runs v i s steps)
     ≡ (after_steps v s steps).runs
@@ -213,7 +204,4 @@ looked_most dup (kept ∷ runs) = let more = looked_most (after_first dup kept) 
 
 pub look_most : (v : Layout) (bytes : List ℕ) → rescan_runs v bytes ≤ run_count v bytes
 unfolding rescan_runs run_count all_claims
-look_most v bytes =
-    let runs = owners_runs v (no_claims v) (owners_of v bytes) in
-    let most = looked_most (after_owners v (no_claims v) (owners_of v bytes)).duplicates runs in
-    omega (arith, owners_seen v (no_claims v) (owners_of v bytes))
+look_most v bytes = grind (arith, looked_most, owners_seen)

@@ -13,7 +13,6 @@ use Rattle.ffs_volume.specs.{Directories.Volumes.is_inode_number, Encodings.Repl
 use Rattle.ffs_volume.specs.{Encodings.ReplayCounts.replayed_runs, Laws.Geometry.IsAcceptedLayout}
 use Rattle.ffs_volume.specs.{Report.Whole.run_count, declared.{Layout.Layout, Step.{Step, TheVariants.Run}}}
 use Rattle.ffs_volume.specs.{Encodings.Notes.cut_in, Blocks.BlockCheck.{after_first, owners_runs, runs_until_reported}}
-use Rattle.ffs_maps.specs.Bits.{bits_of}
 use Rattle.ffs_workspace.proofs.{Leaving.counts_unsurveyed, NoteLaws.cut_is_noted}
 use Rattle.ffs_workspace.specs.{Holds.{HoldsPhase1, HoldsClaims}, declared.workspace.Workspace.Workspace}
 use Rattle.ffs_claims.proofs.{Duplicates.marked_total, Numbers.{before_end, is_inside}, RescanCounts.looked_both}
@@ -46,12 +45,7 @@ pub record IsNoted (v : Layout) (bytes notes : List ℕ) (n : ℕ) : Type 0 wher
 
 pub is_noted : {v : Layout} {bytes : List ℕ} {u w : Workspace} {n : ℕ} → IsAcceptedLayout v → 2 ≤ n → n < inodes_of v →
     RescanKeeps u w → HoldsPhase1 v bytes u → IsNoted v bytes w.notes.items n
-is_noted {v = v} {bytes = bytes} {n = n} g low high same h = record {
-  accepted = g;
-  low = low;
-  high = high;
-  cut = ap (λ z. cut_in (slice_index z.items n)) same.notes ∙ (ap cut_in (h.notes n) ∙ cut_is_noted v bytes n g);
-}
+is_noted {v = v} {bytes = bytes} {n = n} g low high same h = grind (arith, cut_is_noted)
 
 cut_noted : {v : Layout} {bytes notes : List ℕ} {n : ℕ} → IsNoted v bytes notes n →
     cut_of (after_steps v (at_next_inode (claims_before v bytes n)) (steps_of v (inode_of v bytes n) bytes))
@@ -63,10 +57,7 @@ cut_noted {v = v} {bytes = bytes} {n = n} p = sym (p.cut ∙ cut_is v bytes n p.
 pub kept_next : (v : Layout) (bytes notes : List ℕ) (n : ℕ) → IsNoted v bytes notes n →
     kept_from v bytes n ≡ offers_at v bytes notes n ++ kept_from v bytes (n + 1)
 unfolding owner_of
-kept_next v bytes notes n p =
-    let high = p.high in
-    let again = inode_again v n (claims_before v bytes n) (steps_of v (inode_of v bytes n) bytes) in
-    grind (arith, range_more, before_next, cut_noted)
+kept_next v bytes notes n p = grind (arith, inode_again, arith, range_more, before_next, cut_noted)
 
 -- its Runs are looked at, and those of the inodes after it
 pub looked_on : (v : Layout) (bytes notes : List ℕ) (n : ℕ) (dup dup' : List Bool) → IsNoted v bytes notes n →
@@ -96,9 +87,7 @@ pub runs_on : (v : Layout) (bytes notes : List ℕ) (n : ℕ) → IsNoted v byte
     (claims_before v bytes (n + 1)).runs ≡ (claims_before v bytes n).runs
     + replayed_runs v (cut_in (slice_index notes n)) fresh_replay (steps_of v (inode_of v bytes n) bytes)
 unfolding owner_of
-runs_on v bytes notes n p =
-    rw (before_next v bytes n p.low, ← cut_noted p)
-    (replay_is_runs v (claims_before v bytes n) (steps_of v (inode_of v bytes n) bytes))
+runs_on v bytes notes n p = grind (arith, before_next, replay_is_runs)
 
 -- the count of Runs rises
 runs_rise : (v : Layout) (bytes : List ℕ) (n k : ℕ) → 2 ≤ n →
@@ -134,11 +123,7 @@ offers_none_of v x i s (f ∷ fs) e =
 
 step_none_of : (v : Layout) (x i : ℕ) (s : Claims) (step : Step) → (i == x) ≡ false →
     no_offer x (kept_in_step v i s step) ≡ true
-step_none_of v x i s (Run start len block) e =
-    let fs = range_with_len start len in
-    let fits = offers_none_of v x i (record s { runs = s.runs + 1 }) fs e in
-    let bad = offers_none_of v x i (record s { runs = s.runs + 1; bad = s.bad + 1 }) fs e in
-    grind arith
+step_none_of v x i s (Run start len block) e = grind (arith, offers_none_of)
 step_none_of v x i s other e = refl
 
 steps_none_of : (v : Layout) (x i : ℕ) (s : Claims) (steps : List Step) → (i == x) ≡ false →
@@ -187,11 +172,4 @@ outside v bytes x = known (is_inode_number v x) _ (λ q. blames_none_of x
 pub claims_hold : (v : Layout) (bytes : List ℕ) (old new : Workspace) → HoldsPhase1 v bytes old → RescanKeeps old new →
     OffersReported (kept_in_owners v (no_claims v) (owners_of v bytes)) old new → HoldsClaims v bytes new
 unfolding all_claims phase1b_lines
-claims_hold v bytes old new h same t = record {
-  used = ap bits_of same.used ∙ h.used;
-  kinds = λ x. ap (λ k. slice_index k.items x) same.kinds ∙ h.kinds x;
-  notes = λ x. ap (λ k. slice_index k.items x) same.notes ∙ h.notes x;
-  marked = λ x. grind (arith, outside, marked_total);
-  counts = counts_unsurveyed v bytes new (same.surveyed ∙ h.unsurveyed)
-      (λ x. ap (λ k. slice_index k.items x) same.references ∙ h.starts x);
-}
+claims_hold v bytes old new h same t = grind (arith, outside, marked_total, counts_unsurveyed)

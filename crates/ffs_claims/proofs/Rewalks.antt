@@ -8,15 +8,14 @@ use Rattle.ffs_volume.specs.{Messages.Kinds.Message, declared.{BlockMessage.Bloc
 use Rattle.ffs_volume.specs.{declared.Step.{Step, TheVariants.Gap}, Blocks.BlockCheck.after_first}
 use Rattle.ffs_volume.specs.Blocks.BlockCheck.{runs_until_reported}
 use Rattle.ffs_image.specs.Device.{Device}
-use Rattle.ffs_report.{proofs.Reporting.{reports_same, reports_knowing, of_says}, specs.Known.{IsContents, ForBytes}}
+use Rattle.ffs_report.{proofs.Reporting.{of_says}, specs.Known.{IsContents, ForBytes}}
 use Rattle.ffs_report.specs.{PhaseOutcome.SaidOf, Progress.{Progress, Said}, declared.fault.RunFault.RunFault}
 use Rattle.ffs_maps.specs.Bits.{bits_of}
 use Rattle.ffs_walk.specs.{Keepings.{replay_in}, Rests.steps_left, Windows.KeepsBlocks}
 use Rattle.ffs_walk.specs.declared.{blocks.Blocks.Blocks, keeping.Keeping.Keeping, walk.Walk.Walk}
 use Rattle.ffs_workspace.specs.declared.workspace.{Windows.Windows, Workspace.Workspace}
 use Rattle.ffs_layout.specs.declared.geometry.Geometry.{Geometry}
-use Rattle.ffs_claims.proofs.Frames.{ready_still, ready_walked, image_from, claims_then, claims_still, claims_none}
-use Rattle.ffs_claims.proofs.{Inodes.ok_where, Reportings.{reporting_over, Reporting, reporting_begins, reporting_more}}
+use Rattle.ffs_claims.proofs.{Reportings.{reporting_over, Reporting, reporting_more}}
 use Rattle.ffs_claims.proofs.Reportings.{reporting_ends, reported_from, reported_to, lines_split}
 use Rattle.ffs_claims.{proofs.RescanCounts.{looked_none, looked_next, again_gaps}, specs.Lines.of_lines}
 use Rattle.ffs_claims.specs.{Moments.PhaseMoment, Reporting.{OffersReported, ReportsOnly, RewalkLeaves}}
@@ -44,8 +43,7 @@ pub lines_step : (v : Layout) (i cut : ℕ) (r r' : Replay) (step : Step) (R R' 
     of_lines (first_offer_lines dup (offers_again v i cut r R))
     ≡ of_lines (first_offer_lines dup (step_offers_again v i cut r step))
     ++ of_lines (first_offer_lines dup' (offers_again v i cut r' R'))
-lines_step v i cut r r' step R R' dup dup' e now d =
-    lines_split dup dup' _ _ (offers_again v i cut r' R') (offers_next v i cut r r' step R R' e now) d
+lines_step v i cut r r' step R R' dup dup' e now d = grind (arith, lines_split, offers_next)
 
 -- where a second walk is, with the steps R left to it: what it reported, and the Runs it looked at
 pub record Rewalking (v : Layout) (i cut : ℕ) (all : List Step) (r : Replay) (R : List Step) (u w : Workspace) :
@@ -58,8 +56,7 @@ pub record Rewalking (v : Layout) (i cut : ℕ) (all : List Step) (r : Replay) (
 
 pub rewalk_begins : {v : Layout} {i cut : ℕ} {all : List Step} {r : Replay} {R : List Step} {w : Workspace} →
     r ≡ fresh_replay → R ≡ all → Rewalking v i cut all r R w w
-rewalk_begins {w = w} e same = rw (e, same)
-    (record { reported = reporting_begins w w refl refl refl; runs = omega arith; count = λ _. refl })
+rewalk_begins {w = w} e same = grind arith
 
 -- a step more
 pub rewalk_on : {v : Layout} {i cut : ℕ} {all : List Step} {step : Step} {k k' : Keeping} {R R' : List Step}
@@ -87,15 +84,11 @@ pub rewalk_ends : {v : Layout} {i cut : ℕ} {all : List Step} {r : Replay} {R :
     offers_again v i cut r R ≡ [] →
     runs_until_reported (bits_of w.duplicates) (steps_runs_again v i cut r R) ≡ 0 → Rewalking v i cut all r R u w →
     Rewalked v i cut all u w
-rewalk_ends none unseen t =
-    record { reported = reporting_ends t.reported none; count = λ h. omega (arith, t.count h, unseen) }
+rewalk_ends none unseen t = search (arith, reporting_ends)
 
 pub rewalk_over : {v : Layout} {i cut : ℕ} {all : List Step} {r : Replay} {R : List Step} {u w : Workspace} →
     set_count (bits_of w.duplicates) ≡ 0 → Rewalking v i cut all r R u w → Rewalked v i cut all u w
-rewalk_over {v = v} {i = i} {cut = cut} {r = r} {R = R} {w = w} e t = record {
-  reported = reporting_over e t.reported;
-  count = λ h. omega (arith, t.count h, looked_none (bits_of w.duplicates) (steps_runs_again v i cut r R) e);
-}
+rewalk_over {v = v} {i = i} {cut = cut} {r = r} {R = R} {w = w} e t = search (arith, reporting_over, looked_none)
 
 -- where it has left the image, its workspace and the claims; and what a step more leaves
 abbrev pub Rereads : Layout → Device → Device → Workspace → Workspace → Type 0
@@ -105,10 +98,7 @@ pub rereads_on : {g k : Geometry} {d0 d d' : Device} {u w w' : Workspace} {b : B
     KeepsBlocks k.layout d'.contents w.windows.blocks b →
     ReportsOnly g.layout (record w { windows = record w.windows { blocks = b } }) w' →
     Rereads g.layout d0 d u w → Rereads g.layout d0 d' u w'
-rereads_on e same kept only p =
-    let ready = ready_still only.made only.windows (ready_walked e same kept p.ready) in
-    let claims = claims_then (claims_still p.claims) only.claims in
-    grind arith
+rereads_on e same kept only p = grind arith
 
 -- the windows are no part of it
 pub rewalked_to : {v : Layout} {i cut : ℕ} {all : List Step} {u w : Workspace} {windows : Windows} →
@@ -125,18 +115,7 @@ pub rewalks_from : {T : Type 0} {v : Layout} {n now : ℕ} {d' : Device} {window
     ForBytes (IsContents old.image.contents) (λ bytes. i ≡ inode bytes) → now ≤ old.reads →
     Rewalks v n (λ _. i) (record old { image = d'; reads = now; workspace = record old.workspace { windows = windows } })
     new r → Rewalks v n inode old new r
-rewalks_from {d' = d'} {old = old} {new = new} {r = r} i inode e h few p =
-    let gives : ForBytes (IsContents old.image.contents) (IsContents d'.contents) = λ bytes t.
-    ap (λ x. x.contents) e ∙ t in
-    let image = image_from new.image r e p.left.image in
-    let claims = claims_then (claims_still (claims_none old.workspace)) p.left.claims in
-    record {
-      text = grind (arith, reports_same, reports_knowing);
-      rewalked = grind (arith, ok_where, rewalked_from);
-      runs = grind arith;
-      left = grind arith;
-      counted = grind arith;
-    }
+rewalks_from {d' = d'} {old = old} {new = new} {r = r} i inode e h few p = grind arith
 
 -- a step more is reported
 pub rewalk_said : {knows : List ℕ → Type 0} {all : List ℕ → List Message} {a b c : Progress} {v : Layout} {cut : ℕ}

@@ -1,8 +1,8 @@
 -- A series of Runs that the words of an indirect block name, one after the other.
 use Rattle.std.proofs.Common.{◌≡◌, ◌≢◌, ℕ, ◌+◌, ◌<◌, ◌≤◌, false, nat_eq, nat_lt, get_or, List, [], ◌∷◌, ap, arith, inr}
 use Rattle.std.proofs.{Common.{Option, refl, sym, ◌∙◌, ◌/◌}, lemmas.Bool.{and_parts, Decides.nat_tests}}
-use Rattle.std.proofs.Math.Nat.{add-div_right, zero-div}
-use Rattle.ffs_volume.{proofs.Potentials.{cond_holds, moves_then, stays, step_moves}, specs.Blocks.Claims.Claims}
+use Rattle.std.proofs.Math.Nat.{add-div_right}
+use Rattle.ffs_volume.{proofs.Potentials.{cond_holds, moves_then, step_moves}, specs.Blocks.Claims.Claims}
 use Rattle.ffs_volume.specs.{Blocks.Claims.{after_step, is_open, step_lines}, declared.Step.Step}
 use Rattle.ffs_volume.specs.{Laws.RunLengths.HasLength, declared.Layout.Layout}
 use Rattle.ffs_image.specs.Device.{ForContents}
@@ -35,15 +35,7 @@ run_in_series v s start block some can =
 -- no word
 pub series_none : {v : Layout} {blocks : Blocks} {w : Walk} (s : Claims) (start : ℕ) →
     MeansSame v blocks s (with_series v.frag s start 0) w w
-series_none {v = v} s start =
-    let runs : s.runs + 0 / v.frag ≡ s.runs = ap (λ n. s.runs + n) (zero-div v.frag) ∙ omega arith in
-    let kept : s.kept + 0 ≡ s.kept = omega arith in
-    rw (runs, kept) (record {
-      claims = λ contents holds bytes e. refl;
-      lines = λ contents holds bytes e number. refl;
-      indirect = λ contents holds bytes e. refl;
-      bound = stays s;
-    })
+series_none {v = v} s start = grind arith
 
 -- one word more
 pub series_next : {v : Layout} {blocks : Blocks} {x y z : Walk} (s : Claims) (start len : ℕ) → v.frag ≤ 8 →

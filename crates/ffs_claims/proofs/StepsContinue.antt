@@ -1,12 +1,12 @@
 -- How offers, steps and inodes continue.
-use Rattle.std.proofs.Common.{◌≡◌, ℕ, zero, suc, ◌+◌, ◌-◌, ◌<◌, Bool, false, ◌==◌, List, [], ◌∷◌, ◌++◌, arith, rules}
-use Rattle.std.proofs.Common.{refl, ap, ◌∙◌, sym, replicate, ◌&&◌, not, if◌then◌else◌, inl, inr}
-use Rattle.std.{proofs.lemmas.{Bool.{cases_Bool, Decides.nat_tests}, List.map-append}, specs.Int.div_ceil}
+use Rattle.std.proofs.Common.{◌≡◌, ℕ, zero, suc, ◌+◌, ◌-◌, ◌<◌, false, ◌==◌, List, [], ◌∷◌, ◌++◌, arith, rules}
+use Rattle.std.proofs.Common.{refl, ap, replicate, ◌&&◌, not, inl, inr}
+use Rattle.std.{proofs.lemmas.{Bool.{cases_Bool, Decides.nat_tests}, List.map-append}}
 use Rattle.std.specs.List.{range_with_len}
-use Rattle.ffs_volume.{proofs.Sizes.no_blocks, specs.Blocks.Claims.{Claims, is_open, after_offer, after_step}}
+use Rattle.ffs_volume.{specs.Blocks.Claims.{Claims, is_open, after_offer, after_step}}
 use Rattle.ffs_volume.specs.Blocks.Claims.{after_steps, offer_lines, lines_of_offers, step_lines, lines_of_steps}
-use Rattle.ffs_volume.specs.Blocks.{Claims.run_lines, Inodes.addresses_needed, Steps.{steps_of, steps_of_addresses}}
-use Rattle.ffs_volume.specs.{Blocks.Steps.{is_walked, last_length_of}, Disk.Areas.is_run_in_range}
+use Rattle.ffs_volume.specs.Blocks.{Claims.run_lines, Steps.{steps_of}}
+use Rattle.ffs_volume.specs.{Blocks.Steps.{is_walked}, Disk.Areas.is_run_in_range}
 use Rattle.ffs_volume.specs.{Messages.Kinds.{Message, of_blocks}, declared.{BlockMessage.BlockMessage, Inode.Inode}}
 use Rattle.ffs_volume.specs.declared.{Layout.Layout, Step.{Step, TheVariants.Gap}}
 use Rattle.ffs_report.proofs.{Reporting.{of_says, of_same}, Reports.{stopped_more, said_then, stopped_after}}
@@ -22,8 +22,7 @@ range_more j n m e = rw e (search rules)
 
 -- a Run from its first fragment on, and from a later one
 pub from_start : (start len : ℕ) → range_with_len start len ≡ range_with_len (start + 0) (len - 0)
-from_start start len =
-    let same : start + 0 ≡ start = omega arith in let all : len - 0 ≡ len = omega arith in rw (same, all) refl
+from_start start len = grind arith
 
 pub range_next : (start len place f : ℕ) → place < len → f ≡ start + place →
     range_with_len (start + place) (len - place) ≡ f ∷ range_with_len (start + (place + 1)) (len - (place + 1))
@@ -80,8 +79,7 @@ pub claims_on : {knows : List ℕ → Type 0} {s' : Claims} {end : List ℕ → 
     ForBytes knows (λ bytes. after_steps v s (steps_left bytes x) ≡ end bytes) →
     ForBytes knows (λ bytes. after_steps v s' (steps_left bytes y) ≡ rest bytes) →
     ForBytes knows (λ bytes. rest bytes ≡ end bytes)
-claims_on v s x y rest step next now before same = λ bytes t. sym (same bytes t)
-    ∙ rw now (rw (next bytes t) at (before bytes t))
+claims_on v s x y rest step next now before same = grind arith
 
 -- and reported
 pub lines_on : {knows : List ℕ → Type 0} (v : Layout) (inode : ℕ) (s s' : Claims) (x y : Walk) (step : Step) →
@@ -114,9 +112,4 @@ gaps_over v inode s (suc n) steps = gaps_over v inode s n steps
 pub without_steps : (v : Layout) (i : Inode) (bytes : List ℕ) → 0 < v.bsize →
     (is_walked v i && not (i.size == 0)) ≡ false → steps_of v i bytes ≡ []
 unfolding steps_of
-without_steps v i bytes some h = ap (λ n. steps_of_addresses
-    (record { layout = v; blocks = n; last_length = last_length_of v i }) bytes i.addresses 0
-    (addresses_needed v.nindir n)) (none (is_walked v i) h)
-  where
-    none : (walked : Bool) → (walked && not (i.size == 0)) ≡ false → (if walked then div_ceil i.size v.bsize else 0) ≡ 0
-    none walked h = let empty = no_blocks i.size v.bsize some in grind (arith, nat_tests)
+without_steps v i bytes some h = grind (arith, nat_tests)

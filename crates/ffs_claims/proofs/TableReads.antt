@@ -44,13 +44,7 @@ block_begins x ipg n some whole =
 
 -- blocks of n that begin before `all`, which is whole blocks
 blocks_within : (k n all : ℕ) → all % n ≡ 0 → k * n < all + n → k ≤ all / n
-blocks_within k n all whole below = elim (cases_lt (all / n) k) [
-  | inl more ↦
-      let past : suc (all / n) * n ≤ k * n = mul-le-mul_right n more in
-      let is : all / n * n ≡ all = omega (arith, div-add-mod' all n, mul_comm n (all / n)) in
-      absurd (omega (arith, past, is, below))
-  | inr few ↦ few
-]
+blocks_within k n all whole below = grind arith
 
 -- no block is read yet
 pub blocks_none : {v : Layout} {x reads reads' runs : ℕ} {t : Table} → reads' ≤ reads + runs →
@@ -60,25 +54,12 @@ blocks_none few = record { blocks = 0; most = omega arith; passed = inl (omega a
 -- inodes that are held, or some of them, are passed over
 pub blocks_later : {v : Layout} {x y reads reads' runs : ℕ} {t : Table} → x ≤ y → BlocksRead v x reads reads' runs t →
     BlocksRead v y reads reads' runs t
-blocks_later later read = record {
-  blocks = read.blocks;
-  most = read.most;
-  passed = elim read.passed [
-    | inl before ↦ inl (omega (arith, before, later))
-    | inr last ↦ inr (record { count = last.count; ends = last.ends; begun = omega (arith, last.begun, later) })
-  ];
-}
+blocks_later later read = grind arith
 
 -- the blocks that were read before the inode x, where it isn't held, have their inodes before it
 passed_all : {v : Layout} {x reads now runs : ℕ} {t : Table} → (HoldsInode t x → ⊥) →
     (read : BlocksRead v x reads now runs t) → read.blocks * v.inopb ≤ x
-passed_all {x = x} {t = t} unheld read = elim read.passed [
-  | inl before ↦ before
-  | inr last ↦ elim (cases_lt x (t.first + t.count)) [
-    | inl within ↦ absurd (unheld (omega (arith, last.begun), within))
-    | inr past ↦ omega (arith, last.ends, last.count, past)
-  ]
-]
+passed_all {x = x} {t = t} unheld read = grind arith
 
 module _ {v : Layout} {x reads now now' runs runs' : ℕ} {t t' : Table} where
   -- the inode x was held
@@ -126,14 +107,11 @@ module _ {v : Layout} {x reads now now' runs runs' : ℕ} {t t' : Table} where
 
 -- a table is whole blocks
 whole_tables : (ncg ipg n : ℕ) → ipg % n ≡ 0 → ncg * ipg % n ≡ 0
-whole_tables ncg ipg n whole =
-    let all : n * (ipg / n) ≡ ipg = grind (arith, div-add-mod' ipg n) in
-    grind (arith, all, mul_comm, mul_assoc, mul-mod_right)
+whole_tables ncg ipg n whole = grind (arith, mul_comm, mul_assoc, mul-mod_right)
 
 -- blocks that begin in the tables
 few_blocks : {v : Layout} (k : ℕ) → IsAcceptedLayout v → k * v.inopb < inodes_of v + v.inopb → k ≤ table_blocks v
-few_blocks {v} k g below =
-    blocks_within k v.inopb (inodes_of v) (whole_tables v.ncg v.ipg v.inopb g.sizes.inode_blocks) below
+few_blocks {v} k g below = grind (arith, whole_tables)
 
 module _ {v : Layout} {x reads now runs : ℕ} {t : Table} where
   -- so many at most were read before the inode x

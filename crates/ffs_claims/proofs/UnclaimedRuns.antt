@@ -1,9 +1,9 @@
 -- Runs whose offers are taken at once with nothing to report, and which Runs are in range.
 use Rattle.std.proofs.Common.{◌≡◌, ℕ, zero, suc, ◌+◌, ◌-◌, ◌<◌, ◌≤◌, true, false, nat_lt, [], slice_set, get_or, arith}
-use Rattle.std.proofs.{Common.{refl, ap, ◌∙◌, Bool, sym, not, ◌/◌, inl, inr}, lemmas.Bool.cases_Bool}
-use Rattle.std.proofs.{Math.Nat.mul-div-le, lemmas.{Bool.Decides.nat_tests, List.{get_or-set_other, set-get_or}}}
+use Rattle.std.proofs.{Common.{refl, ap, ◌∙◌, Bool, sym, not, ◌/◌}}
+use Rattle.std.proofs.{lemmas.{Bool.Decides.nat_tests, List.{get_or-set_other, set-get_or}}}
 use Rattle.std.specs.List.{range_with_len, slice_index_or}
-use Rattle.ffs_volume.proofs.{AreaLaws.group_is, Potentials.{each_ok, in_range_below}, RunLaws.{in_range_is, is_apart}}
+use Rattle.ffs_volume.proofs.{AreaLaws.group_is, Potentials.{each_ok, in_range_below}, RunLaws.{in_range_is}}
 use Rattle.ffs_volume.specs.Blocks.Claims.{Claims, is_set, after_offer, after_offers, offer_lines, lines_of_offers}
 use Rattle.ffs_volume.specs.Disk.Areas.{is_fragment_in_range, is_run_in_range, cgbase, cgstart, cgsblock, cgdmin}
 use Rattle.ffs_volume.specs.{Laws.Geometry.IsAcceptedLayout, declared.Layout.Layout}
@@ -22,8 +22,7 @@ quiet_more {v = v} {s = s} t {start = start} {len = len} now silent more = grind
 pub only_kept : (v : Layout) (s : Claims) (start len : ℕ) → nat_lt s.dup_offers 11 ≡ true → v.size ≤ start →
     IsQuiet v s start len (record s { kept = s.kept + len })
 unfolding is_fragment_in_range
-only_kept v s start zero few past =
-    let sum : s.kept + 0 ≡ s.kept = omega arith in rw sum (record { claims = refl; silent = λ inode. refl })
+only_kept v s start zero few past = grind arith
 only_kept v s start (suc len) few past =
     let out : is_fragment_in_range v start ≡ false = grind (arith, nat_tests) in
     let sum : s.kept + suc len ≡ s.kept + 1 + len = omega arith in
@@ -34,8 +33,7 @@ only_kept v s start (suc len) few past =
 whole_from : (v : Layout) (s : Claims) (start len : ℕ) → nat_lt s.dup_offers 11 ≡ true →
     ((k : ℕ) → k < len → is_fragment_in_range v (start + k) ≡ true) → AreClear s.used start len →
     IsQuiet v s start len (record s { used = set_run s.used start len; kept = s.kept + len })
-whole_from v s start zero few ok clear =
-    let sum : s.kept + 0 ≡ s.kept = omega arith in rw sum (record { claims = refl; silent = λ inode. refl })
+whole_from v s start zero few ok clear = grind arith
 whole_from v s start (suc len) few ok clear =
     let first : is_fragment_in_range v start ≡ true = ap (is_fragment_in_range v) (omega arith) ∙ ok 0 (omega arith) in
     let unset : is_set s.used start ≡ false = ap (λ n. slice_index_or s.used n false) (omega arith)
@@ -62,10 +60,7 @@ run_below v start len some fits = let last =
 pub was_set : {old new : FragmentMap} {f : ℕ} {b : Bool} → ClaimsRun old new f 1 b → is_set (bits_of old) f ≡ not b
 was_set {old = old} {f = f} {b = true} c = ap (λ n. slice_index_or (bits_of old) n false) (omega arith)
     ∙ c.clear refl 0 (omega arith)
-was_set {old = old} {f = f} {b = false} c = elim (cases_Bool (is_set (bits_of old) f)) [
-  | inl e ↦ e
-  | inr e ↦ e ∙ c.one_word (omega arith) (λ k low. ap (λ n. slice_index_or (bits_of old) n false) (omega arith) ∙ e)
-]
+was_set {old = old} {f = f} {b = false} c = grind arith
 
 -- its bit is set then, claimed now or before
 pub is_set_now : {old new : FragmentMap} {f : ℕ} {b : Bool} → ClaimsRun old new f 1 b →
@@ -88,10 +83,7 @@ before_metadata v c start len g h low high some =
 pub after_metadata : (v : Layout) (c start len : ℕ) → IsAcceptedLayout v → c < v.ncg → cgdmin v c ≤ start →
     start + len ≤ cgbase v (c + 1) → start + len ≤ v.size → 0 < len → is_run_in_range v start len ≡ true
 unfolding cgstart
-after_metadata v c start len g h low high inside some =
-    let base : cgbase v c ≤ start = omega arith in
-    let same : start / v.fpg ≡ c = group_is v c start base (omega arith) in
-    in_range_is v g start len some ∙ rw same (grind (arith, nat_tests))
+after_metadata v c start len g h low high inside some = grind (arith, group_is, in_range_is)
 
 -- the next group begins as many fragments on as a group has
 pub base_above : (v : Layout) (c : ℕ) → cgbase v (c + 1) ≡ cgbase v c + v.fpg
@@ -108,8 +100,4 @@ pub record Lies (v : Layout) (start len : ℕ) : Type 0 where
 pub lies : (v : Layout) (start len : ℕ) → IsAcceptedLayout v → 0 < len → is_run_in_range v start len ≡ true
     → Lies v start len
 unfolding cgbase
-lies v start len g some fits =
-    let apart : is_apart v start len ≡ true = sym (in_range_is v g start len some) ∙ fits in
-    let base : cgbase v (start / v.fpg) ≤ start = mul-div-le start v.fpg in
-    let next = base_above v (start / v.fpg) in
-    grind (arith, nat_tests)
+lies v start len g some fits = grind (arith, in_range_is)

@@ -10,7 +10,7 @@ use Rattle.ffs_walk.specs.{Counts.EntersOnly, HeldWords.word_step, Rests.SameFil
 use Rattle.ffs_walk.specs.{Rests.{most_steps_left, steps_left}, Windows.BlocksHold, declared.walk.Walk.Walk}
 use Rattle.ffs_workspace.specs.{Holds.claims_of, Lengths.IsFor, declared.workspace.Workspace.Workspace}
 use Rattle.ffs_claims.proofs.{Frames.only_then, IndirectReads.{step_on, word_unseen}, UnclaimedRuns.whole_is}
-use Rattle.ffs_claims.proofs.Inodes.{kept_room, moves_on, seen_bound}
+use Rattle.ffs_claims.proofs.Inodes.{moves_on, seen_bound}
 use Rattle.ffs_claims.specs.SilentWords.{ClaimsAddress, ClaimsSilently, ClaimsWords}
 use Rattle.ffs_claims.specs.{Claiming.CanSeeNext, declared.area.DataArea.DataArea}
 
@@ -66,11 +66,7 @@ words_then {a = a} {b = b} {c = c} p q = grind (arith, moves_then, only_then)
 -- there is still room to count what the next address offers
 pub sees_still : {v : Layout} {a b : Workspace} {area : DataArea} {x y : Walk} → IsAcceptedLayout v →
     CanSeeNext v a area (2 ^ 62) → ClaimsWords v a b x y → CanSeeNext v b area (2 ^ 63)
-sees_still {a = a} g can words =
-    let size = g.numbers.size_below in
-    let kept = kept_room a words.only.made words.uncut words.claim_bound in
-    let seen = seen_bound a words.only.made words.uncut words.claim_bound in
-    grind arith
+sees_still {a = a} g can words = grind (arith, seen_bound)
 
 -- the layout of the walk's geometry is that of the volume
 pub words_for : {v v' : Layout} {a b : Workspace} {x y : Walk} → v ≡ v' → ClaimsWords v a b x y → ClaimsWords v' a b x y

@@ -13,7 +13,7 @@ use Rattle.ffs_volume.{specs.{Disk.Areas.inode_place, Blocks.KeptSteps.claims_be
 use Rattle.ffs_walk.specs.{Windows.{WindowHolds, held_bytes}, declared.window.Window.Window}
 use Rattle.ffs_workspace.{specs.{Tables.IsTableOf, declared.table.Table.Table}, proofs.TablePlaces.held_there}
 use Rattle.ffs_workspace.specs.{Holds.claims_of, Lengths.IsFor, declared.workspace.Workspace.Workspace}
-use Rattle.ffs_claims.proofs.{Inodes.free_steps, Numbers.{FoundTo, found_next, lines_next, stored_free}}
+use Rattle.ffs_claims.proofs.{Inodes.free_steps, Numbers.{FoundTo, found_next, stored_free}}
 use Rattle.ffs_claims.specs.{Lines.{of_lines, owners_from}, ZeroInodes.{AreZeroInodes, HasTableInodes, HoldsInodes}}
 use Rattle.ffs_claims.specs.ZeroInodes.{IsZeroInode}
 
@@ -37,13 +37,7 @@ part_zero xs a b c d low order high none =
 pub zero_inodes : {t : Table} (number count : ℕ) → HoldsInodes t number (number + count) →
     any_nonzero (slice_range (held_bytes t.window) (128 * (number - t.first)) (128 * (number - t.first + count))) ≡ false →
     AreZeroInodes t number (number + count)
-zero_inodes {t = t} number count held none = λ x low high.
-    let has = held x low high in
-    record {
-      held = has;
-      zero = part_zero (held_bytes t.window) (128 * (number - t.first)) (128 * (x - t.first)) (128 * (x - t.first) + 128)
-          (128 * (number - t.first + count)) (omega (arith, low)) (omega arith) (omega (arith, low, high, has)) none;
-    }
+zero_inodes {t = t} number count held none = grind (arith, part_zero)
 
 -- a list with no number but zero
 zeros_are : (xs : List ℕ) → any_nonzero xs ≡ false → xs ≡ replicate (length xs) 0
@@ -63,11 +57,7 @@ has_inodes made holds = record { inside = λ x has. (made.inodes x has).inside; 
 
 length_of : (w : Window) (at : ℕ) → w.length ≤ vec_len w.buffer → at + 128 ≤ w.length →
     length (slice_range (held_bytes w) at (at + 128)) ≡ 128
-length_of w at fits inside =
-    let whole : length (held_bytes w) ≡ w.length = length-take-le w.length w.buffer.items (omega (arith, fits, w.buffer.ok)) in
-    let part : length (drop at (held_bytes w)) ≡ w.length - at =
-    length-drop at (held_bytes w) ∙ ap (λ n. n - at) whole in
-    length-take-le (at + 128 - at) (drop at (held_bytes w)) (omega (arith, part, inside)) ∙ omega (arith)
+length_of w at fits inside = grind (arith, length-take-le, length-drop)
 
 -- an inode of the volume whose bytes in the window are zero is free
 pub free_where_zero : {v : Layout} {contents : Option (List ℕ)} {t : Table} {x : ℕ} → IsTableOf v t →
@@ -97,9 +87,7 @@ free_lines v bytes x s free = rw (free, free_steps v _ bytes free) refl
 lines_one : (v : Layout) (bytes : List ℕ) (s : Claims) (n : ℕ) → n < inodes_of v → class_of v (inode_of v bytes n) ≡ Free →
     of_lines (lines_of_owners v s (owners_from v bytes n))
     ≡ of_lines (lines_of_owners v (at_next_inode s) (owners_from v bytes (n + 1)))
-lines_one v bytes s n low free = lines_next v bytes s (at_next_inode s) n low (sym (free_claims v bytes n s free))
-    ∙ ap (λ lines. of_lines lines ++ of_lines (lines_of_owners v (at_next_inode s) (owners_from v bytes (n + 1))))
-    (free_lines v bytes n s free)
+lines_one v bytes s n low free = grind (arith, free_claims, free_lines)
 
 -- ---- the inodes before a number are looked at
 abbrev pub begun_of : Workspace → Workspace

@@ -1,4 +1,4 @@
-use Rattle.std.proofs.Common.{ℕ, suc, arith, refl, ◌≡◌, ◌∙◌, ap, sym, List, ◌++◌, ◌∷◌, true, false, replicate, []}
+use Rattle.std.proofs.Common.{ℕ, suc, arith, refl, ◌≡◌, ◌∙◌, ap, sym, List, ◌++◌, ◌∷◌, false, replicate, []}
 use Rattle.std.proofs.lemmas.Result.{err_from_is_err_and}
 use Rattle.ffs_volume.{proofs.Potentials.moves_then, specs.Blocks.Claims.{after_steps, lines_of_steps, is_open}}
 use Rattle.ffs_volume.specs.{declared.Step.TheVariants.Gap, Report.VolumeReads.indirect_in_steps}
@@ -32,13 +32,7 @@ returns-then-not-has_steps g c =
     }
 
 pub claim_direct-requires-clause-can : goal.claim_direct-requires-clause-can
-claim_direct-requires-clause-can g c =
-    let none = claiming_none c.requires.claim in
-    let uncut : is_open (claims_of c.args.workspace.now) ≡ true =
-    rw (c.requires.begun.bad, c.requires.begun.dup_offers) refl in
-    sees_for (sym (ap (λ k. k.layout) (c.restart.ensures.geometry ∙ c.requires.walk)))
-    (sees_next c.args.geometry.now.sound c.requires.begun none.claim.ready.ready.made none.claim.all_in_range uncut
-    none.claim_bound)
+claim_direct-requires-clause-can g c = grind arith
 
 pub loop-next-init : goal.loop-next-init
 loop-next-init g c =

@@ -22,14 +22,7 @@ say_count-requires g c =
     )
 
 pub claim-requires : goal.claim-requires
-claim-requires g c =
-    let can = c.requires.can in
-    record {
-      class_is = c.requires.class_is;
-      claim = record { ready = ready_begun c.begin.ensures can.claim.ready; all_in_range = can.claim.all_in_range };
-      walk = can.walk;
-      begun = begun c.args.workspace.now c.begin.ensures can.runs;
-    }
+claim-requires g c = grind arith
 
 pub returns-in_err-say_class-clause-claims : goal.returns-in_err-say_class-clause-claims
 returns-in_err-say_class-clause-claims g c =

@@ -1,7 +1,7 @@
-use Rattle.std.proofs.{Common.{arith, ap, ◌+◌, ◌∙◌, refl}, lemmas.Result.err_from_is_err_and}
-use Rattle.ffs_volume.{proofs.Potentials.each_ok, specs.Disk.Areas.is_fragment_in_range}
+use Rattle.std.proofs.{Common.{arith, ◌+◌, ◌∙◌, refl}, lemmas.Result.err_from_is_err_and}
+use Rattle.ffs_volume.{proofs.Potentials.each_ok}
 use Rattle.ffs_report.proofs.Reporting.{to_begins, to_says, to_stops}
-use Rattle.ffs_claims.proofs.{Frames.{offers_none, offers_then}, StepsContinue.{range_next, offers_more, from_start}}
+use Rattle.ffs_claims.proofs.{Frames.{offers_then}, StepsContinue.{range_next, offers_more}}
 use Rattle.ffs_claims.proofs.offer.offers.Goals as goal
 
 pub returns-in_err-offer : goal.returns-in_err-offer
@@ -31,21 +31,7 @@ loop-index-preserved g c =
     }
 
 pub loop-index-init : goal.loop-index-init
-loop-index-init g c =
-    rw (← from_start c.args.run.start c.args.run.len) (record {
-      only = offers_none c.requires.made;
-      kept = omega arith;
-      claims = refl;
-      said = to_begins _ _;
-    })
+loop-index-init g c = grind (arith, to_begins)
 
 pub offer-requires : goal.offer-requires
-offer-requires g c =
-    let inv = c.loop-index.invariant in
-    record {
-      made = inv.only.claiming.made;
-      room = omega (arith, inv.kept, c.requires.room, c.loop-index-test.true);
-      known = λ fits. ap (is_fragment_in_range c.args.geometry.now.layout) (omega arith)
-          ∙ each_ok _ c.args.run.start c.args.run.len c.loop-index.index (c.requires.known fits)
-          c.loop-index-test.true;
-    }
+offer-requires g c = grind (arith, each_ok)

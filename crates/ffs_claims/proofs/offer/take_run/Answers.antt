@@ -12,16 +12,7 @@ counts start len None more = omega (arith, more)
 counts start len (Some b) more = omega (arith, more)
 
 pub returns-then-move_to-clause-claims : goal.returns-then-move_to-clause-claims
-returns-then-move_to-clause-claims g c =
-    let did = c.take_run_in_range.ensures in
-    let fits = sym c.move_to.ensures.value ∙ c.if-move_to.true in
-    λ block. record {
-      said = rw (c.requires.uncut, fits) did.taken.said;
-      claims = rw (c.requires.uncut, fits) did.taken.claims;
-      seen = did.seen;
-      counted = counts c.args.run.start c.args.run.len block (omega (arith, did.taken.only.runs));
-      runs = omega (arith, did.taken.only.runs);
-    }
+returns-then-move_to-clause-claims g c = grind arith
 
 pub returns-in_err-say_bad-clause-claims : goal.returns-in_err-say_bad-clause-claims
 returns-in_err-say_bad-clause-claims g c =

@@ -1,15 +1,12 @@
 use Rattle.std.proofs.Common.{◌≡◌, true, nat_lt, arith, refl, sym}
-use Rattle.std.proofs.lemmas.{Bool.Decides.nat_tests, Result.err_from_is_err_and}
+use Rattle.std.proofs.lemmas.{Bool.Decides.nat_tests}
 use Rattle.ffs_report.proofs.Reports.{said_none}
 use Rattle.ffs_workspace.specs.Holds.{claims_of}
 use Rattle.ffs_claims.proofs.{Frames.offers_claimed, UnclaimedRuns.{whole_is, run_below}}
 use Rattle.ffs_claims.proofs.offer.take_run_in_range.Goals as goal
 
 pub claim-requires : goal.claim-requires
-claim-requires g c =
-    let fits = c.requires.offer.known refl in
-    let within = run_below _ c.args.run.start c.args.run.len c.args.run.some fits in
-    record { some = c.args.run.some; below = omega (arith, within, c.requires.offer.made.used) }
+claim-requires g c = grind (arith, run_below)
 
 pub returns-then-claim : goal.returns-then-claim
 returns-then-claim g c =
@@ -28,12 +25,7 @@ returns-then-claim g c =
 
 -- one that isn't claimed at once: the map is as it was
 pub returns-in_err-offers-clause-taken : goal.returns-in_err-offers-clause-taken
-returns-in_err-offers-clause-taken g c =
-    let p = err_from_is_err_and c.from_residual.result c.from_residual.ensures.1 in
-    let did = rw (c.claim.ensures.unchanged c.if-claim.false) at c.in_err-offers.ensures in
-    rw (p.1) (record { said = did.said; claims = tt; only = did.only })
+returns-in_err-offers-clause-taken g c = grind arith
 
 pub returns-clause-taken : goal.returns-clause-taken
-returns-clause-taken g c =
-    let did = rw (c.claim.ensures.unchanged c.if-claim.false) at c.in_ok-offers.ensures in
-    record { said = did.said; claims = did.claims; only = did.only }
+returns-clause-taken g c = grind arith

@@ -7,7 +7,7 @@ use Rattle.ffs_volume.{specs.{Blocks.Inodes.inodes_of, Laws.ClaimBounds.used_bit
 use Rattle.ffs_report.proofs.Reporting.{of_part, of_fault, of_same, reports_knowing, says_heading, stops_heading}
 use Rattle.ffs_report.{proofs.Reporting.said_knows, specs.Known.ForBytes}
 use Rattle.ffs_workspace.{proofs.Leaving.fresh_held, specs.{Found.WithFresh, Holds.claims_of}}
-use Rattle.ffs_claims.proofs.{Duplicates.{rescan_is}, Frames.{image_from, ready_begun, ready_still}}
+use Rattle.ffs_claims.proofs.{Duplicates.{rescan_is}, Frames.{ready_begun, ready_still}}
 use Rattle.ffs_claims.proofs.{Inodes.used_below, Numbers.{found_begins, found_next, found_all, numbers_most}}
 use Rattle.ffs_claims.proofs.{Numbers.{before_first, before_end, lines_next}, TableReads.{blocks_all, blocks_failed}}
 use Rattle.ffs_claims.proofs.{TableReads.{blocks_later, blocks_next, blocks_none}, IndirectReads.{VolumeRead, read_all}}
@@ -51,18 +51,10 @@ loop-number-init g c =
     }
 
 pub claim_inode-requires : goal.claim_inode-requires
-claim_inode-requires g c =
-    let inv = c.loop-number.invariant in
-    let numbers = c.args.geometry.now.sound.numbers in
-    let used = used_below inv.ready.ready.ready.made in
-    grind arith
+claim_inode-requires g c = grind (arith, used_below)
 
 pub returns-in_err-claim_inode-clause-faults : goal.returns-in_err-claim_inode-clause-faults
-returns-in_err-claim_inode-clause-faults g c =
-    let p = err_from_is_err_and c.from_residual-in_err-claim_inode.result
-    c.from_residual-in_err-claim_inode.ensures.1 in
-    rw (p.1, p.2) (image_from {T = Unit {0}} (g.I.Image.device c.claim_inode.new.image)
-    (Err c.in_err-claim_inode.field-0.0) c.loop-number.invariant.device c.in_err-claim_inode.ensures.claims.left.image)
+returns-in_err-claim_inode-clause-faults g c = grind arith
 
 pub returns-in_err-claim_inode-clause-text : goal.returns-in_err-claim_inode-clause-text
 returns-in_err-claim_inode-clause-text g c =
@@ -166,10 +158,7 @@ pass_zero_inodes-number-requires g c =
     }
 
 pub returns-clause-text : goal.returns-clause-text
-returns-clause-text g c =
-    let inv = c.loop-number.invariant in
-    let none : inodes_of c.args.geometry.now.layout - c.loop-number.number ≡ 0 = omega arith in
-    of_same _ _ _ _ _ _ inv.said (λ bytes k. rw none refl)
+returns-clause-text g c = grind arith
 
 pub returns-clause-leaves : goal.returns-clause-leaves
 unfolding run_count all_claims

@@ -8,7 +8,7 @@ use Rattle.ffs_maps.specs.Bits.{bits_of}
 use Rattle.ffs_workspace.specs.{Found.WithPhase1, declared.workspace.Workspace.Workspace}
 use Rattle.ffs_volume.specs.Blocks.{Inodes.inodes_of, Claims.all_claims, BlockCheck.{set_count, after_first}}
 use Rattle.ffs_volume.specs.Blocks.BlockCheck.{runs_until_reported, rescan_runs}
-use Rattle.ffs_claims.proofs.{Duplicates.{none_first, none_left}, Frames.{claims_none, claims_then, image_from, ready_again}}
+use Rattle.ffs_claims.proofs.{Duplicates.{none_first, none_left}, Frames.{claims_none, claims_then, ready_again}}
 use Rattle.ffs_claims.proofs.{Numbers.{numbers_most, before_first}, Reportings.{reporting_more, reporting_ends}}
 use Rattle.ffs_claims.proofs.{Reportings.{reporting_begins, lines_split, reporting_over}, RescanCounts.look_most}
 use Rattle.ffs_claims.proofs.{RescanCounts.looked_none, Rescanned.{IsNoted, is_noted, offers_at, runs_at, kept_from}}
@@ -59,11 +59,7 @@ loop-number-init g c =
     }
 
 pub returns-in_err-rewalk_inode-clause-faults : goal.returns-in_err-rewalk_inode-clause-faults
-returns-in_err-rewalk_inode-clause-faults g c =
-    let p = err_from_is_err_and c.from_residual-in_err-rewalk_inode.result
-    c.from_residual-in_err-rewalk_inode.ensures.1 in
-    rw (p.1, p.2) (image_from {T = Unit {0}} (g.I.Image.device c.rewalk_inode.new.image)
-    (Err c.in_err-rewalk_inode.field-0.0) c.loop-number.invariant.device c.in_err-rewalk_inode.ensures.left.image)
+returns-in_err-rewalk_inode-clause-faults g c = grind arith
 
 pub returns-in_err-rewalk_inode-clause-text : goal.returns-in_err-rewalk_inode-clause-text
 returns-in_err-rewalk_inode-clause-text g c =

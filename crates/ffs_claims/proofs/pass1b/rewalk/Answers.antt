@@ -54,14 +54,7 @@ returns-in_err-next g c =
     })
 
 pub report_step-requires : goal.report_step-requires
-report_step-requires g c =
-    let inv = c.loop-next.invariant in
-    let read = ready_walked c.in_ok-next.ensures.leaves.read inv.geometry c.next.ensures.leaves.kept inv.left.ready in
-    record {
-      can = record { made = read.ready.made; number_fits = c.requires.number_fits };
-      going = rw inv.cut inv.going;
-      length = (rw (inv.geometry, c.in-Some.is) at c.in_ok-next.ensures.step.fits).length;
-    }
+report_step-requires g c = grind arith
 
 pub returns-in_err-report_step : goal.returns-in_err-report_step
 returns-in_err-report_step g c =

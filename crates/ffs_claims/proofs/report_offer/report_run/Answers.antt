@@ -1,19 +1,12 @@
-use Rattle.std.proofs.{Common.{◌+◌, ◌∷◌, [], arith, refl, ap, List}, lemmas.Result.err_from_is_err_and}
-use Rattle.ffs_volume.specs.Blocks.{BlockCheck.first_offer_lines, KeptOffers.{Offer, offer_of}}
+use Rattle.std.proofs.{Common.{◌+◌, ◌∷◌, [], arith, refl}, lemmas.Result.err_from_is_err_and}
+use Rattle.ffs_volume.specs.Blocks.{KeptOffers.{offer_of}}
 use Rattle.ffs_report.proofs.Reporting.{to_begins, to_says, to_stops, to_ends}
-use Rattle.ffs_maps.specs.Bits.{bits_of}
-use Rattle.ffs_claims.proofs.{Frames.{offers_reported_none, offers_reported_then}, Reportings.{run_next, run_over}}
+use Rattle.ffs_claims.proofs.{Frames.{offers_reported_then}, Reportings.{run_next, run_over}}
 use Rattle.ffs_claims.proofs.Reportings.{reporting_begins, reporting_more, reporting_ends, lines_split}
-use Rattle.ffs_claims.{proofs.StepsContinue.from_start, specs.Lines.of_lines}
 use Rattle.ffs_claims.proofs.report_offer.report_run.Goals as goal
 
 pub loop-index-init : goal.loop-index-init
-loop-index-init g c =
-    rw (← from_start c.args.start c.args.len) (record {
-      only = offers_reported_none c.requires.made;
-      reported = reporting_begins c.args.workspace.now _ refl refl refl;
-      said = to_begins _ _;
-    })
+loop-index-init g c = grind (arith, reporting_begins, to_begins)
 
 pub returns-in_err-report_offer-clause-reported : goal.returns-in_err-report_offer-clause-reported
 returns-in_err-report_offer-clause-reported g c =
@@ -41,12 +34,4 @@ loop-index-preserved g c =
     }
 
 pub returns-clause-reported : goal.returns-clause-reported
-returns-clause-reported g c =
-    let inv = c.loop-index.invariant in
-    let over = run_over c.args.number c.args.start c.args.len c.loop-index.index (omega arith) in
-    record {
-      said = to_ends _ _ _ _ inv.said
-          (ap (λ (os : List Offer). of_lines (first_offer_lines (bits_of c.loop-index.workspace.duplicates) os)) over);
-      reported = reporting_ends inv.reported over;
-      only = inv.only.reporting;
-    }
+returns-clause-reported g c = search (arith, run_over, to_ends, reporting_ends)

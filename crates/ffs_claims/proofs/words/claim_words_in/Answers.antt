@@ -1,12 +1,11 @@
+use Rattle.std.proofs.Common.{arith}
 use Rattle.std.proofs.Common.{ap, sym}
 use Rattle.ffs_claims.proofs.WordClaims.{sees_for, sees_still, words_for, words_then}
 use Rattle.ffs_claims.proofs.words.claim_words_in.Goals as goal
 
 -- where the next word isn't claimed, nothing has changed
 pub returns-then-not-claim_next : goal.returns-then-not-claim_next
-returns-then-not-claim_next c =
-    let same = c.claim_next.ensures.unchanged c.if-not-claim_next.true in
-    rw (same.0, same.1) c.loop-order.invariant.words
+returns-then-not-claim_next c = grind arith
 
 pub claim_next-requires-clause-can : goal.claim_next-requires-clause-can
 claim_next-requires-clause-can c =

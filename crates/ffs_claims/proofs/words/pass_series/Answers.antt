@@ -19,10 +19,7 @@ loop-end-init c =
     }
 
 pub pass_word-requires : goal.pass_word-requires
-pass_word-requires c = record {
-  read = c.loop-end.invariant.passes.held.read;
-  left = (c.comes_next.ensures c.if-comes_next.true).left;
-}
+pass_word-requires c = grind arith
 
 pub loop-end-preserved : goal.loop-end-preserved
 loop-end-preserved c =
