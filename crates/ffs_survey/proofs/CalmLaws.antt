@@ -114,14 +114,7 @@ pub calm_read : {kinds : List ℕ} {m r r' : List Bool} {p p' q q' : List ℕ} (
     IsFlagged d (all_calm kinds m r p d (entries d)) (right_shape d) f f' →
     AreCalm kinds m r p entries right_shape f → AreCalm kinds m r' p' entries right_shape f'
 calm_read {kinds = kinds} {m = m} {r' = r'} {p' = p'} entries right_shape d f f' c h flagged old x set =
-    elim (or_cases (bool_at f x) _ (sym (flagged x) ∙ set)) [
-      | inl before ↦ calm_stays (same_result_stays c) (old x before)
-      | inr now ↦
-          let is = and_parts (x == d) _ now in
-          let calm = and_parts _ (right_shape d) (and_parts (nat_lt d (length f)) _ is.1).1 in
-          subst (λ z. IsCalm (dir_by kinds m p' z) r' p' (entries z) (right_shape z)) (sym (eqb-true x d is.0))
-          (calm_found m d (entries d) c h calm.0 calm.1)
-    ]
+    grind (arith, or_cases, eqb-true, calm_found)
 
 -- the step of the loop over a directory
 pub calm_step : {r r' : List Bool} {p p' q q' : List ℕ} {calm_so_far' total : Bool} (s : CurrentDir) (i : ℕ)

@@ -90,11 +90,7 @@ visit_hit {e = e} q s c i lr lp lq = from_each (λ x. let push = occurrences-pus
 pub visit_miss : (found : Found) (s : ℕ) (e : RoledEntry) →
     (is_plain e.role && is_unreached_dir found.kinds found.reached e.entry.number) ≡ false →
     AreDiscovered (from_entries found.kinds s (e ∷ [])) found found
-visit_miss found s e miss = record {
-  reaches = λ x. grind (arith, nat_tests);
-  parent_is = λ x. grind (arith, nat_tests);
-  queued = λ x. grind (arith, nat_tests);
-}
+visit_miss found s e miss = grind arith
 
 -- ---- a directory, and a level
 from_entries-cons : (kinds : List ℕ) (s : ℕ) (e : RoledEntry) (rest : List RoledEntry) (x : ℕ) →

@@ -1,4 +1,5 @@
 -- What a call leaves of the lists of a survey and of its reader.
+use Rattle.std.proofs.Common.{arith}
 use Rattle.std.proofs.Common.{◌≡◌, ◌+◌, ◌≤◌, ℕ, Bool, List, Result, ap, length, sym, ◌∙◌}
 use Rattle.ffs_image.specs.{Reads.ReadAfter, declared.image.ImageFault.ImageFault}
 use Rattle.ffs_volume.specs.Directories.Roles.{RoledEntry}
@@ -26,15 +27,13 @@ pub record StillLent {S : Type 0} (D : Ghosts S) (old now : S) (l l' : Lists) : 
 
 pub still_by : {S : Type 0} (D : Ghosts S) {a b : S} {l l' : Lists} → D.ready b → D.base b ≡ D.base a →
     D.device b ≡ D.device a → lent_in l' ≡ lent_in l → StillLent D a b l l'
-still_by D ready base device lent =
-    record { ready = ready; base = base; device = device; same = record { lent = lent } }
+still_by D ready base device lent = grind arith
 
 pub leaves_by : {S T : Type 0} (D : Ghosts S) {cost : (ℕ → ℕ) → ℕ} {a b : S} {l l' : Lists} {r : Result T ImageFault} →
     D.ready b → D.base b ≡ D.base a → ReadAfter (D.device a) (D.device b) r → SameLists l l' →
     ((n : List ℕ) → D.knows (D.base a) n → D.reads b ≤ D.reads a + cost (D.cost (D.base a) n)) →
     LeavesLent D cost a b l l' r
-leaves_by D ready base read same counted =
-    record { reader = record { is_ready = ready; same = base; read = read; counted = counted }; lists = same }
+leaves_by D ready base read same counted = grind arith
 
 -- a survey finds it where the lists hold the same
 pub finds_same : {kinds starts : List ℕ} {marked : List Bool} {entries : ℕ → List RoledEntry}
@@ -42,9 +41,4 @@ pub finds_same : {kinds starts : List ℕ} {marked : List Bool} {entries : ℕ �
     found'.named ≡ found.named → found'.reached ≡ found.reached → found'.parents ≡ found.parents →
     found'.calm ≡ found.calm → FindsSurvey kinds marked entries right_shape starts found →
     FindsSurvey kinds marked entries right_shape starts found'
-finds_same ef em er ep ec s = record {
-  survey = rw (ef, er, ep) s.survey;
-  named = rw em s.named;
-  calm = rw (er, ep, ec) s.calm;
-  flagged = rw (er, ep, ec) s.flagged;
-}
+finds_same ef em er ep ec s = grind arith

@@ -30,9 +30,7 @@ pub record AtSomeLevel (g : Graph) (low high : ℕ) (reached : List Bool) (paren
 -- the queue has fewer than 2^31 places, so no count is past 2^59
 pub few_counted : (l : Lists) {low high : ℕ} →
     HasRoomForLevel low high l.references.now.items l.reached.now.items l.queue.now.items → CountsAtMost (2 ^ 59) l
-few_counted l r x b =
-    let counted = r.counted x (omega (arith, b, l.long.references_long)) in
-    omega (arith, r.ordered, r.room, l.long.queue_long, l.long.few, counted)
+few_counted l r x b = grind arith
 
 -- all of a level is reached
 pub level_reached : {kinds q p : List ℕ} {r : List Bool} {low high : ℕ} (entries : ℕ → List RoledEntry) →
@@ -48,8 +46,7 @@ pub next_room : {here mid : Lists} {new : Vec ℕ Global} {low high end : ℕ} {
     Discovers ((high - low) * 2 ^ 28) high end reads (found_up_to here high) (found_up_to mid end) →
     SortsPart mid.queue.now new high end →
     HasRoomForLevel high end mid.references.now.items mid.reached.now.items new.items
-next_room {here = here} {mid = mid} {new = new} {high = high} {end = end} same room found sorted =
-    grind (arith, kinds_long, queue_long)
+next_room {here = here} {mid = mid} {new = new} {high = high} {end = end} same room found sorted = grind arith
 
 pub next_at : {old : List ℕ} {mid new : Vec ℕ Global} {r r' : List Bool} {p p' : List ℕ} {low high end : ℕ}
     (kinds : List ℕ) (entries : ℕ → List RoledEntry) → 2 < length kinds → Extends high end old mid.items →

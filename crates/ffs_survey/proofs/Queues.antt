@@ -106,14 +106,7 @@ pub reached_part : {k : ℕ} {starts f : List ℕ} {r : List Bool} {p q : List �
     ((x : ℕ) → x < length kinds → number_at f x ≡ number_at starts x + count_of (graph_with kinds entries) q x) →
     IsReachedPart (graph_with kinds entries) starts f r p
 reached_part {k = k} {starts = starts} {r = r} {q = q} kinds entries e sane frontier n counted =
-    let g = graph_with kinds entries in
-    let past = λ (s : ℕ) (l : length kinds ≤ s). get_or_past r s false (omega arith) in
-    record {
-      counts = λ x b. counted x b
-          ∙ ap (λ c. number_at starts x + c) (count_all g (bool_at r) q (length kinds) x n.queued past);
-      reaches = λ x. n.reaches x ∙ no_more g k x sane frontier;
-      parent = λ x. n.parent x ∙ ap (λ b. unwrap_or (cond b (parent g x) None) 0) (no_more g k x sane frontier);
-    }
+    grind (arith, get_or_past, count_all, no_more)
 
 -- and what these directories name is flagged where it is suspect
 pub reached_named : (z : ℕ → Bool) (m r : List Bool) (q : List ℕ) (kinds : List ℕ)
@@ -142,5 +135,4 @@ alone_part kinds entries e sane dry n =
 -- no entry is counted before the first directory
 pub none_counted : {g : Graph} {z : ℕ → Bool} {f : List ℕ} {m : List Bool} → ((x : ℕ) → bool_at m x ≡ false) →
     IsCount g z [] f f m
-none_counted {f = f} blank =
-    record { counts = λ x b. sym (add-zero (number_at f x)); names = λ x b. let none = blank x in grind arith }
+none_counted {f = f} blank = grind arith

@@ -45,21 +45,13 @@ pub flagged_by_parents : {kinds : List ℕ} {m r : List Bool} {p : List ℕ} {es
     {f : List Bool} {d : ℕ} → IsReadOnce (dir_by kinds m p d) r p es right_shape f →
     is_calm_by_parents kinds m (number_at p) es right_shape d ≡ true → bool_at f d ≡ true
 flagged_by_parents {kinds = kinds} {m = m} {p = p} {es = es} {right_shape = right_shape} {d = d} once calm =
-    let s : CurrentDir = record { kinds = kinds; marked = m; dir = d; parent = number_at p d } in
-    let parts = and_parts (are_calm s (is_elsewhere (number_at p) d) 0 es) right_shape calm in
-    once.flagged (calm_less s once.before (is_elsewhere (number_at p) d) 0 es once.elsewhere parts.0) parts.1
+    grind (arith, calm_less)
 
 -- ---- what stays of a directory that was read
 pub read_once_stays : {kinds : List ℕ} {m r r' : List Bool} {p p' : List ℕ} {es : List RoledEntry} {right_shape : Bool}
     {f f' : List Bool} {d : ℕ} → Stays r p r' p' → ((x : ℕ) → bool_at f x ≡ true → bool_at f' x ≡ true) →
     IsReadOnce (dir_by kinds m p d) r p es right_shape f → IsReadOnce (dir_by kinds m p' d) r' p' es right_shape f'
-read_once_stays {p = p} {p' = p'} {f = f} {f' = f'} {d = d} s more once = record {
-  before = once.before;
-  elsewhere = λ x b. rw (s.parents x (once.known x b)) (once.elsewhere x b);
-  known = λ x b. s.reached x (once.known x b);
-  is_reached = s.reached d once.is_reached;
-  flagged = λ calm right. more d (once.flagged (rw (s.parents d once.is_reached) at calm) right);
-}
+read_once_stays {p = p} {p' = p'} {f = f} {f' = f'} {d = d} s more once = grind arith
 
 -- a directory is read
 pub read_once : {kinds : List ℕ} {r r' : List Bool} {p p' q q' : List ℕ} {right_shape : Bool} (m : List Bool)
@@ -67,17 +59,7 @@ pub read_once : {kinds : List ℕ} {r r' : List Bool} {p p' q q' : List ℕ} {ri
     bool_at r d ≡ true → IsFlagged d (all_calm kinds m r p d es) right_shape f f' → d < length f →
     IsUnread r p d → IsReadOnce (dir_by kinds m p' d) r' p' es right_shape f'
 read_once {kinds = kinds} {r = r} {p = p} {right_shape = right_shape} m d es f f' c h flags long unread =
-    let s = same_result_stays c in
-    let flag = flags d in
-    record {
-      before = bool_at r;
-      elsewhere = λ x b. rw (s.parents x b) (unread x b);
-      known = s.reached;
-      is_reached = s.reached d h;
-      flagged = λ calm right.
-          let was : all_calm kinds m r p d es ≡ true = rw (s.parents d h) at calm in
-          grind (arith, nat_tests);
-    }
+    grind (arith, same_result_stays)
 
 -- no flag is taken away
 pub flags_grow : (d : ℕ) (calm right_shape : Bool) (f f' : List Bool) → IsFlagged d calm right_shape f f' → (x : ℕ) →
@@ -87,12 +69,7 @@ flags_grow d calm right_shape f f' flags x h = let now = flags x in grind arith
 -- nothing below another directory is reached by it
 pub unread_next : {r r' : List Bool} {p p' q q' : List ℕ} {d t : ℕ} (kinds : List ℕ) (es : List RoledEntry) →
     SameResult (from_entries kinds d es) r p q nothing r' p' q' → d ≢ t → IsUnread r p t → IsUnread r' p' t
-unread_next {r = r} {p' = p'} {d = d} {t = t} kinds es c other unread x now =
-    let stays = same_result_stays c in
-    let reaches = c.reaches x in
-    let up = c.parent x in
-    let old = unread x in
-    grind (arith, nat_tests)
+unread_next {r = r} {p' = p'} {d = d} {t = t} kinds es c other unread x now = grind arith
 
 -- ---- the directories of a level
 -- what occurs once at most is at one place
@@ -163,11 +140,7 @@ other_place xs low a i unread from less inside =
 -- what holds at each place of a level holds of all its directories
 pub all_places : (P : ℕ → Type 0) (low : ℕ) (xs : List ℕ) →
     ((i : ℕ) → low ≤ i → i < length xs → P (number_at xs i)) → All P (drop low xs)
-all_places P low xs each i d l =
-    let inside : low + i < length xs = omega (arith, length-drop low xs, l) in
-    let is : get_or (drop low xs) i d ≡ number_at xs (low + i) =
-    get_or-drop low xs i d ∙ get_or_default xs (low + i) d 0 inside in
-    subst P (sym is) (each (low + i) (omega arith) inside)
+all_places P low xs each i d l = grind (arith, length-drop, get_or-drop, get_or_default)
 
 -- ---- the directories of a level are read, one after another
 -- those before `at` are, and those from there on aren't
@@ -250,12 +223,7 @@ pub read_each : {kinds : List ℕ} {m r : List Bool} {p : List ℕ} {f : List Bo
     (right_shape (number_at q i)) f) → (d : ℕ) → bool_at r d ≡ true →
     IsReadOnce (dir_by kinds m p d) r p (entries d) (right_shape d) f
 read_each {kinds = kinds} {m = m} {r = r} {p = p} {f = f} entries right_shape high q queued read d reached =
-    let some : 1 ≤ occurrences d (take high q) = omega (arith, queued d, ap bit reached) in
-    let at = occurrences-index d (take high q) some in
-    let inside = at.1 in
-    let below : at.0 < high = omega (arith, length-take high q, inside) in
-    let is : number_at q at.0 ≡ d = sym (get_or-take high q at.0 0 below) ∙ at.2 in
-    subst (λ z. IsReadOnce (dir_by kinds m p z) r p (entries z) (right_shape z) f) is (read at.0 below)
+    grind (arith, occurrences-index, length-take, get_or-take)
 
 -- where inode 2 is no directory, no directory is reached
 pub root_alone_reached : (r : List Bool) (kinds : List ℕ) (d : ℕ) → ((x : ℕ) → bool_at r x ≡ false) →

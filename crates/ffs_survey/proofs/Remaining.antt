@@ -35,24 +35,13 @@ pub record Counts (n : ℕ) (suspect : ℕ → Bool) (count : ℕ → ℕ) (name
 -- what is discovered and counted once nothing is to come
 pub discovered_whole : {given : ℕ → Option ℕ} (old new : Found) → SameResult given old.reached old.parents old.queue
     nothing new.reached new.parents new.queue → AreDiscovered given old new
-discovered_whole old new same = record {
-  reaches = λ x. let now = same.reaches x in grind arith;
-  parent_is = λ x. let now = same.parent x in grind arith;
-  queued = λ x. let now = same.queued x in grind arith;
-}
+discovered_whole old new same = grind arith
 
 pub discovered_same : {given : ℕ → Option ℕ} {old new : Found} → AreDiscovered given old new →
     SameResult given old.reached old.parents old.queue nothing new.reached new.parents new.queue
-discovered_same is = record {
-  reaches = λ x. let now = is.reaches x in grind arith;
-  parent = λ x. let now = is.parent_is x in grind arith;
-  queued = λ x. let now = is.queued x in grind arith;
-}
+discovered_same is = grind arith
 
 pub counted_same : {n : ℕ} {count : ℕ → ℕ} {name : ℕ → Bool} {old new : Found} → AreCountedOn n count name old new →
     Counts n (is_suspect_inode old.kinds old.marked) count name old.references old.named none never new.references
     new.named
-counted_same is = record {
-  counts = λ x l. let now = is.counts x l in omega (arith, now);
-  names = λ x l. let now = is.names x l in grind arith;
-}
+counted_same is = grind arith

@@ -26,10 +26,4 @@ returns c =
     }
 
 pub returns-then-not-is_new : goal.returns-then-not-is_new
-returns-then-not-is_new c = record {
-  ends = omega arith;
-  discovered = visit_miss (found_up_to c.args.lists.now c.args.top) c.args.current.now.dir (roled_of c.args.entry [])
-      (sym c.is_new.ensures ∙ c.if-not-is_new.true);
-  extends = search rules;
-  counts = search rules;
-}
+returns-then-not-is_new c = grind (arith, rules)
