@@ -1,5 +1,5 @@
 -- What reads, claims and reports leave of a workspace whose windows hold what the image gives.
-use Rattle.std.proofs.Common.{◌≡◌, ℕ, refl, ap, arith, rules, length, length-set, slice_set, subst, false, Result}
+use Rattle.std.proofs.Common.{◌≡◌, ℕ, refl, ap, arith, length, length-set, slice_set, subst, false, Result}
 use Rattle.std.{proofs.Common.vec_len, specs.declared.{alloc.Global.Global, vec.Vec.Vec}}
 use Rattle.ffs_volume.specs.declared.{Class.Class, Inode.Inode, Layout.Layout}
 use Rattle.ffs_image.specs.Device.{Device}
@@ -7,26 +7,18 @@ use Rattle.ffs_report.specs.{PhaseOutcome.ImageAfter, declared.fault.RunFault.Ru
 use Rattle.ffs_layout.specs.declared.geometry.Geometry.{Geometry}
 use Rattle.ffs_maps.specs.declared.FragmentMap.{FragmentMap}
 use Rattle.ffs_walk.specs.{Windows.{CanWalk, KeepsBlocks}, declared.blocks.Blocks.Blocks}
-use Rattle.ffs_workspace.specs.{Lengths.IsFor, Ready.CanRead, declared.workspace.{Windows.Windows, Workspace.Workspace}}
+use Rattle.ffs_workspace.specs.{Lengths.IsFor, Ready.CanRead, declared.workspace.{Workspace.Workspace}}
 use Rattle.ffs_claims.specs.{Leaves.{SameFound, ClaimsOnly, Stored, OffersOnly}, Reporting.{RescanKeeps, ReportsOnly}}
 use Rattle.ffs_claims.specs.Reporting.{OffersReportedOnly}
 
 pub found_none : (w : Workspace) → SameFound w w
 found_none w = record { kinds = refl; marked = refl; notes = refl; references = refl; has_dups = refl; again = refl }
 
-pub found_then : {u v w : Workspace} → SameFound u v → SameFound v w → SameFound u w
-found_then p q = grind arith
-
 pub claims_none : (w : Workspace) → RescanKeeps w w
 claims_none w = grind arith
 
 pub claims_then : {u v w : Workspace} → RescanKeeps u v → RescanKeeps v w → RescanKeeps u w
 claims_then p q = grind arith
-
--- the windows are no part of it
-pub claims_still : {u w : Workspace} {windows : Windows} → RescanKeeps u w →
-    RescanKeeps u (record w { windows = windows })
-claims_still p = search rules
 
 pub only_then : {l : Layout} {u v w : Workspace} → ClaimsOnly l u v → ClaimsOnly l v w → ClaimsOnly l u w
 only_then p q = grind arith

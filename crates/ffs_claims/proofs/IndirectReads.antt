@@ -1,25 +1,18 @@
 -- How many indirect blocks are seen, step by step and inode by inode, and how often phase 1 reads an
 -- image that gives its bytes.
-use Rattle.std.proofs.Common.{◌≡◌, ℕ, zero, suc, ◌+◌, ◌-◌, ◌<◌, ◌≤◌, true, List, ◌∷◌, ◌++◌, replicate, Some, None}
+use Rattle.std.proofs.Common.{◌≡◌, ℕ, zero, suc, ◌+◌, ◌-◌, ◌<◌, ◌≤◌, true, List, ◌∷◌, ◌++◌, replicate}
 use Rattle.std.proofs.{Common.{arith, refl, ap, ◌∙◌}}
 use Rattle.ffs_volume.specs.Blocks.Claims.{Claims, after_owner, after_step, at_next_inode, is_open, no_claims}
 use Rattle.ffs_volume.specs.Blocks.{Inodes.{class_of, inode_of, inodes_of}, Owners.{owner_of, owners_of}}
 use Rattle.ffs_volume.specs.Report.VolumeReads.{indirect_count, indirect_in_owners, indirect_in_steps, seen_indirect}
 use Rattle.ffs_volume.specs.{Report.VolumeReads.volume_scan_reads, Laws.Geometry.IsAcceptedLayout}
-use Rattle.ffs_volume.specs.declared.{Class.TheVariants.Free, Layout.Layout, Step.{Step, TheVariants.{Gap, Run, Tail}}}
+use Rattle.ffs_volume.specs.declared.{Class.TheVariants.Free, Layout.Layout, Step.{Step, TheVariants.{Gap}}}
 use Rattle.ffs_report.specs.Known.{ForBytes}
 use Rattle.ffs_walk.specs.{Counts.entered, HeldWords.word_step, Rests.steps_left, declared.walk.Walk.Walk}
 use Rattle.ffs_workspace.specs.{Tables.{HoldsInode, HoldsPiece}, declared.table.Table.Table}
 use Rattle.ffs_claims.proofs.{Inodes.free_steps, ZeroInodes.{AreFree, free_claims}}
 use Rattle.ffs_claims.proofs.TableReads.{BlocksRead, blocks_all, blocks_failed, blocks_later, blocks_next}
 use Rattle.ffs_claims.specs.{Claiming.ReadsIndirect, Lines.owners_from}
-
--- where the inode isn't cut, an indirect block is seen
-pub seen_is : (s : Claims) (step : Step) → is_open s ≡ true → seen_indirect s step ≡ entered step
-seen_is s (Run start len None) uncut = rw uncut refl
-seen_is s (Run start len (Some block)) uncut = refl
-seen_is s Tail uncut = refl
-seen_is s Gap uncut = refl
 
 -- the word of an indirect block of data is none
 pub word_unseen : (s : Claims) (frag address block : ℕ) → seen_indirect s (word_step frag address block) ≡ 0

@@ -1,6 +1,6 @@
 -- How an inode's part of the block check continues, and how many Runs it is seen to have.
-use Rattle.std.proofs.Common.{◌+◌, ◌<◌, ◌^◌, false, arith, OnOk, ◌≡◌, ℕ, List, [], ◌++◌, append-nil, Option, Result, Ok}
-use Rattle.std.proofs.{Common.{Err, ◌∙◌, refl, ◌≤◌, true}, lemmas.Bool.Decides.nat_tests}
+use Rattle.std.proofs.Common.{◌+◌, ◌<◌, ◌^◌, false, arith, OnOk, ◌≡◌, ℕ, List, [], ◌++◌, append-nil, Result, Ok}
+use Rattle.std.proofs.{Common.{refl, ◌≤◌, true}, lemmas.Bool.Decides.nat_tests}
 use Rattle.std.proofs.lemmas.List.Sums.{count_by-le-length}
 use Rattle.ffs_volume.{proofs.Potentials.{step_moves}, specs.Blocks.BlockCheck.{class_lines, count_lines}}
 use Rattle.ffs_volume.specs.Blocks.{BlockCheck.owner_lines, Claims.{Claims, at_next_inode, after_steps}}
@@ -8,7 +8,7 @@ use Rattle.ffs_volume.specs.Blocks.{Claims.{lines_of_steps, is_open, after_step}
 use Rattle.ffs_volume.specs.{Blocks.{Steps.steps_of}, Laws.ClaimBounds.{used_bits, ClaimBound}}
 use Rattle.ffs_volume.specs.{Laws.{Geometry.IsAcceptedLayout, RunLengths.HasLength}, Messages.Kinds.Message}
 use Rattle.ffs_volume.specs.declared.{Class.{Class, TheVariants.Free}, Inode.Inode, Layout.Layout, Step.Step}
-use Rattle.ffs_report.{proofs.Reporting.{of_part, of_begins, of_stops}, specs.Known.{ForBytes, IsContents}}
+use Rattle.ffs_report.{proofs.Reporting.{of_part, of_begins, of_stops}, specs.Known.{ForBytes}}
 use Rattle.ffs_report.specs.{PhaseOutcome.{SaidOf, StoppedOf}, Progress.{Progress, Said, Stopped}}
 use Rattle.ffs_report.specs.declared.fault.RunFault.{RunFault}
 use Rattle.ffs_image.specs.Device.{Device}
@@ -35,10 +35,6 @@ used_below {w = w} made = grind (arith, bits_long, count_by-le-length)
 pub seen_bound : {v : Layout} (u : Workspace) {w : Workspace} → IsFor v w → is_open (claims_of w) ≡ true →
     ClaimBound (claims_of u) (claims_of w) → w.runs_seen + used_bits (claims_of u) + 2 ≤ u.runs_seen + v.size + 22
 seen_bound u {w = w} made free m = grind (arith, nat_tests, used_below)
-
-pub kept_room : {v : Layout} (u : Workspace) {w : Workspace} → IsFor v w → is_open (claims_of w) ≡ true →
-    ClaimBound (claims_of u) (claims_of w) → w.kept ≤ u.kept + v.size + 99
-kept_room u {w = w} made free m = grind (arith, nat_tests, used_below)
 
 -- so there is room to count them
 pub sees_next : {v : Layout} {u w : Workspace} {area : DataArea} → IsAcceptedLayout v → HasBegun u → IsFor v w →
@@ -119,14 +115,6 @@ stored_runs u e = rw e (record { seen = refl; has_dups = refl; again = refl; use
 pub begun : (u : Workspace) {w : Workspace} → w ≡ record u { bad = 0; dup_offers = 0; kept = 0; tail = false } →
     u.runs_seen < 2 ^ 40 → HasBegun w
 begun u e few = rw e (record { bad = refl; dup_offers = refl; kept = refl; runs = omega arith })
-
--- a fact of an Ok answer, of an image that gives the same
-pub ok_where : {T E : Type 0} (r : Result T E) (contents contents' : Option (List ℕ)) (P Q : List ℕ → Type 0) →
-    contents' ≡ contents →
-    ForBytes (IsContents contents) (λ bytes. P bytes → Q bytes) → OnOk r (ForBytes (IsContents contents') P) →
-    OnOk r (ForBytes (IsContents contents) Q)
-ok_where (Ok x) contents contents' P Q e more h = λ bytes t. more bytes t (h bytes (e ∙ t))
-ok_where (Err x) contents contents' P Q e more h = h
 
 -- a free inode has no steps
 pub free_steps : (v : Layout) (i : Inode) (bytes : List ℕ) → class_of v i ≡ Free → steps_of v i bytes ≡ []

@@ -52,10 +52,6 @@ filled_still d f xs n before =
 abbrev NoneOutside : {A : Type 0} → Layout → A → (ℕ → A) → Type 0
 NoneOutside v d f = (x : ℕ) → is_inode_number v x ≡ false → f x ≡ d
 
-filled_end : {A : Type 0} (v : Layout) (d : A) (f : ℕ → A) (xs : List A) (n : ℕ) → inodes_of v ≤ n → NoneOutside v d f →
-    FilledTo d f xs n → (x : ℕ) → get_or xs x d ≡ f x
-filled_end v d f xs n past out before x = grind arith
-
 filled_begin : {A : Type 0} (v : Layout) (d : A) (f : ℕ → A) (xs : List A) (len : ℕ) → xs ≡ replicate len d →
     NoneOutside v d f → FilledTo d f xs 2
 filled_begin v d f xs len e out = λ x. rw e (clear len x ∙ first x (out x))

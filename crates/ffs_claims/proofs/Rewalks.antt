@@ -1,15 +1,15 @@
 -- How a second walk over an inode continues.
 use Rattle.std.proofs.Common.{◌≡◌, ◌≢◌, ◌≤◌, ℕ, replicate, ◌+◌, Bool, true, List, [], ◌∷◌, ◌++◌, arith}
-use Rattle.std.proofs.{Common.{refl, ap, ◌∙◌, ◌<◌, ◌-◌, ◌^◌, Result, Ok}}
+use Rattle.std.proofs.{Common.{refl, ap, ◌∙◌, ◌<◌, ◌-◌, ◌^◌, Ok}}
 use Rattle.ffs_volume.{proofs.ReplayLaws.{counted_same, gaps_seen}, specs.Blocks.BlockCheck.first_offer_lines}
 use Rattle.ffs_volume.specs.{Encodings.Replay.{Replay, fresh_replay, is_replay_open}, Blocks.BlockCheck.set_count}
 use Rattle.ffs_volume.specs.Encodings.ReplayCounts.{seen_run, replayed_runs, replay_step_by_cut}
-use Rattle.ffs_volume.specs.{Messages.Kinds.Message, declared.{BlockMessage.BlockMessage, Inode.Inode, Layout.Layout}}
+use Rattle.ffs_volume.specs.{Messages.Kinds.Message, declared.{BlockMessage.BlockMessage, Layout.Layout}}
 use Rattle.ffs_volume.specs.{declared.Step.{Step, TheVariants.Gap}, Blocks.BlockCheck.after_first}
 use Rattle.ffs_volume.specs.Blocks.BlockCheck.{runs_until_reported}
 use Rattle.ffs_image.specs.Device.{Device}
-use Rattle.ffs_report.{proofs.Reporting.{of_says}, specs.Known.{IsContents, ForBytes}}
-use Rattle.ffs_report.specs.{PhaseOutcome.SaidOf, Progress.{Progress, Said}, declared.fault.RunFault.RunFault}
+use Rattle.ffs_report.{proofs.Reporting.{of_says}, specs.Known.{ForBytes}}
+use Rattle.ffs_report.specs.{PhaseOutcome.SaidOf, Progress.{Progress, Said}}
 use Rattle.ffs_maps.specs.Bits.{bits_of}
 use Rattle.ffs_walk.specs.{Keepings.{replay_in}, Rests.steps_left, Windows.KeepsBlocks}
 use Rattle.ffs_walk.specs.declared.{blocks.Blocks.Blocks, keeping.Keeping.Keeping, walk.Walk.Walk}
@@ -18,9 +18,9 @@ use Rattle.ffs_layout.specs.declared.geometry.Geometry.{Geometry}
 use Rattle.ffs_claims.proofs.{Reportings.{reporting_over, Reporting, reporting_more}}
 use Rattle.ffs_claims.proofs.Reportings.{reporting_ends, reported_from, reported_to, lines_split}
 use Rattle.ffs_claims.{proofs.RescanCounts.{looked_none, looked_next, again_gaps}, specs.Lines.of_lines}
-use Rattle.ffs_claims.specs.{Moments.PhaseMoment, Reporting.{OffersReported, ReportsOnly, RewalkLeaves}}
+use Rattle.ffs_claims.specs.{Reporting.{OffersReported, ReportsOnly, RewalkLeaves}}
 use Rattle.ffs_claims.specs.Rescan.{ReplaysStep, offers_again, step_offers_again}
-use Rattle.ffs_claims.specs.RescanRuns.{Counted, Rewalks, Rewalked, RoseBy, RunsPay, steps_runs_again}
+use Rattle.ffs_claims.specs.RescanRuns.{Counted, Rewalked, RoseBy, RunsPay, steps_runs_again}
 
 offers_next : (v : Layout) (i cut : ℕ) (r r' : Replay) (step : Step) (R R' : List Step) → R ≡ step ∷ R' →
     r' ≡ replay_step_by_cut v cut r step →
@@ -104,18 +104,6 @@ rereads_on e same kept only p = grind arith
 pub rewalked_to : {v : Layout} {i cut : ℕ} {all : List Step} {u w : Workspace} {windows : Windows} →
     Rewalked v i cut all u w → Rewalked v i cut all u (record w { windows = windows })
 rewalked_to p = record { reported = reported_to _ _ _ p.reported refl refl; count = p.count }
-
-pub rewalked_from : {v : Layout} {i cut : ℕ} {all : List Step} {u w : Workspace} {windows : Windows} →
-    Rewalked v i cut all (record u { windows = windows }) w → Rewalked v i cut all u w
-rewalked_from {u = u} p = record { reported = reported_from u _ _ p.reported refl refl; count = p.count }
-
--- an inode was read before, as the image gives it
-pub rewalks_from : {T : Type 0} {v : Layout} {n now : ℕ} {d' : Device} {windows : Windows} {old new : PhaseMoment}
-    {r : Result T RunFault} (i : Inode) (inode : List ℕ → Inode) → d' ≡ old.image →
-    ForBytes (IsContents old.image.contents) (λ bytes. i ≡ inode bytes) → now ≤ old.reads →
-    Rewalks v n (λ _. i) (record old { image = d'; reads = now; workspace = record old.workspace { windows = windows } })
-    new r → Rewalks v n inode old new r
-rewalks_from {d' = d'} {old = old} {new = new} {r = r} i inode e h few p = grind arith
 
 -- a step more is reported
 pub rewalk_said : {knows : List ℕ → Type 0} {all : List ℕ → List Message} {a b c : Progress} {v : Layout} {cut : ℕ}

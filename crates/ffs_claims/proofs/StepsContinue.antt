@@ -20,10 +20,6 @@ lines_append xs ys = map-append of_blocks xs ys
 pub range_more : (j n m : ℕ) → n ≡ m + 1 → range_with_len j n ≡ j ∷ range_with_len (j + 1) m
 range_more j n m e = rw e (search rules)
 
--- a Run from its first fragment on, and from a later one
-pub from_start : (start len : ℕ) → range_with_len start len ≡ range_with_len (start + 0) (len - 0)
-from_start start len = grind arith
-
 pub range_next : (start len place f : ℕ) → place < len → f ≡ start + place →
     range_with_len (start + place) (len - place) ≡ f ∷ range_with_len (start + (place + 1)) (len - (place + 1))
 range_next start len place f h is_place = grind (arith, range_more)

@@ -42,10 +42,6 @@ block_begins x ipg n some whole =
     ∙ div-mul-add (x / ipg * (ipg / n) + x % ipg / n) n (x % ipg % n) (mod_below (x % ipg) n some) in
     rw quotient (omega (arith, is))
 
--- blocks of n that begin before `all`, which is whole blocks
-blocks_within : (k n all : ℕ) → all % n ≡ 0 → k * n < all + n → k ≤ all / n
-blocks_within k n all whole below = grind arith
-
 -- no block is read yet
 pub blocks_none : {v : Layout} {x reads reads' runs : ℕ} {t : Table} → reads' ≤ reads + runs →
     BlocksRead v x reads reads' runs t

@@ -1,16 +1,15 @@
 -- Directories that are called calm are calm, and stay so.
-use Rattle.std.proofs.Common.{◌≡◌, ℕ, suc, ◌+◌, ◌<◌, ◌==◌, Bool, true, false, ◌&&◌, nat_le, nat_lt, List, [], ◌∷◌}
-use Rattle.std.proofs.{Common.{length, Option, arith, sym, ◌∙◌, ap, subst, inl, get_or, inr}, lemmas.Bool.both_ways}
+use Rattle.std.proofs.Common.{◌≡◌, ℕ, suc, ◌+◌, ◌<◌, ◌==◌, Bool, true, false, ◌&&◌, nat_le, List, [], ◌∷◌}
+use Rattle.std.proofs.{Common.{length, Option, arith, ◌∙◌, ap, inl, get_or, inr}, lemmas.Bool.both_ways}
 use Rattle.std.{proofs.lemmas.{Bool.{eqb-true, and_parts, or_cases, or_parts}, List.get_or_past}, specs.List.list_any}
-use Rattle.std.proofs.lemmas.Bool.Decides.{nat_tests}
 use mathlib.Core.Path.{fun_ext}
 use Rattle.ffs_volume.specs.Directories.{Graph.{Graph, is_naming_entry}, Roles.{RoledEntry, is_plain}}
 use Rattle.ffs_volume.specs.declared.Role.TheVariants.{Empty, Dot, Dotdot, Extra, Plain}
 use Rattle.ffs_volume.{proofs.SearchLaws.first_below-is_none, specs.declared.Role.Role}
 use Rattle.ffs_survey.specs.Calm.{dir_by, AreCalm, IsCalm}
 use Rattle.ffs_volume.specs.Directories.Calm.{CurrentDir, is_calm_role, is_calm_entry, reached_after, are_calm}
-use Rattle.ffs_survey.specs.{Calm.IsFlagged, Discover.{from_entries, IsFrontier, LevelsKnown, NamesNoneOf}}
-use Rattle.ffs_survey.{specs.Survey.{bool_at, is_suspect_inode, number_at}, proofs.Frontiers.frontier_within}
+use Rattle.ffs_survey.specs.{Calm.IsFlagged, Discover.{from_entries, IsFrontier, LevelsKnown}}
+use Rattle.ffs_survey.{specs.Survey.{bool_at, number_at}, proofs.Frontiers.frontier_within}
 use Rattle.ffs_survey.proofs.Remaining.{nothing, SameResult}
 use Rattle.ffs_volume.specs.Encodings.Kinds.{dir_at}
 use Rattle.ffs_survey.specs.Discover.{Found, IsRead}
@@ -24,21 +23,6 @@ calm_names_new s reached i x Dot number kind c d n = absurd (cc)
 calm_names_new s reached i x Dotdot number kind c d n = absurd (cc)
 calm_names_new s reached i x Extra number kind c d n = absurd (cc)
 calm_names_new s reached i x Plain number kind c d n = grind arith
-
--- a calm entry names no suspect inode: a whiteout's number is below the root's, and any other names an inode
--- that isn't marked and whose kind is a calm one
-calm_role_unsuspect : (s : CurrentDir) (reached : ℕ → Bool) (i x : ℕ) (role : Role) (number kind : ℕ) →
-    is_calm_role s reached i role number kind ≡ true →
-    (is_suspect_inode s.kinds s.marked x && (is_plain role && (number == x))) ≡ false
-calm_role_unsuspect s reached i x Empty number kind c = grind arith
-calm_role_unsuspect s reached i x Dot number kind c = grind arith
-calm_role_unsuspect s reached i x Dotdot number kind c = grind arith
-calm_role_unsuspect s reached i x Extra number kind c = grind arith
-calm_role_unsuspect s reached i x Plain number kind c = grind (arith, nat_tests)
-
-pub calm_unsuspect : (s : CurrentDir) (reached : ℕ → Bool) (i : ℕ) (e : RoledEntry) →
-    is_calm_entry s reached i e ≡ true → NamesNoneOf (is_suspect_inode s.kinds s.marked) e
-calm_unsuspect s reached i e c x = calm_role_unsuspect s reached i x e.role e.entry.number e.entry.kind c
 
 -- directories that calm entries name weren't reached before them
 pub calm_new : (s : CurrentDir) (reached : ℕ → Bool) (i x : ℕ) (es : List RoledEntry) → are_calm s reached i es ≡ true →

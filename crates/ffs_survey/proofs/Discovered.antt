@@ -5,7 +5,7 @@ use Rattle.std.proofs.{Common.{drop, get_or, get_or-set_same, get_or-set_other, 
 use Rattle.std.proofs.lemmas.List.{Sums.{sum_by-le, sum_by-set, sum_by_push}, at_drop_more, get_or_past, take_more_set}
 use Rattle.std.specs.Option.{option_or}
 use Rattle.ffs_volume.specs.Directories.{Graph.edge, Roles.{RoledEntry, is_plain}}
-use Rattle.ffs_survey.specs.Discover.{bit, from_dirs, from_entries, is_unreached_dir, occurrences, AreDiscovered, Found}
+use Rattle.ffs_survey.specs.Discover.{bit, from_dirs, from_entries, is_unreached_dir, occurrences}
 use Rattle.ffs_survey.specs.{Discover.unset, Survey.{bool_at, graph_with, number_at}}
 use Rattle.ffs_survey.proofs.Remaining.{nothing, SameResult}
 use Rattle.ffs_volume.specs.Encodings.Kinds.{dir_at}
@@ -85,12 +85,6 @@ pub visit_hit : {kinds : List ℕ} {r : List Bool} {p : List ℕ} {e : RoledEntr
     (set p e.entry.number s) (take (c + 1) (set q c e.entry.number))
 visit_hit {e = e} q s c i lr lp lq = from_each (λ x. let push = occurrences-push x q c e.entry.number lq in
     (grind (arith, set_tests), grind (arith, set_tests), grind (arith, set_tests)))
-
--- one that names no new directory discovers nothing
-pub visit_miss : (found : Found) (s : ℕ) (e : RoledEntry) →
-    (is_plain e.role && is_unreached_dir found.kinds found.reached e.entry.number) ≡ false →
-    AreDiscovered (from_entries found.kinds s (e ∷ [])) found found
-visit_miss found s e miss = grind arith
 
 -- ---- a directory, and a level
 from_entries-cons : (kinds : List ℕ) (s : ℕ) (e : RoledEntry) (rest : List RoledEntry) (x : ℕ) →

@@ -7,8 +7,8 @@ use Rattle.ffs_survey.specs.{declared.lists.Lists.Lists, Lent.{SameLists, found_
 use Rattle.ffs_survey.specs.Discover.{IsReachedDir, Found, Extends, IsFrontier, LevelsKnown, from_dirs}
 use Rattle.ffs_survey.{specs.{Discover.unset, Survey.{number_at, graph_with}}, proofs.Remaining.{nothing, SameResult}}
 use Rattle.ffs_volume.specs.Encodings.Kinds.{dir_at}
-use Rattle.ffs_survey.proofs.{CalmLaws.frontier_reached, Frontiers.{frontier_dirs, sane_of}, Lending.kinds_long}
-use Rattle.ffs_survey.proofs.{Lending.queue_long, Queues.{level_after, queue_parts, same_result_after}}
+use Rattle.ffs_survey.proofs.{CalmLaws.frontier_reached, Frontiers.{frontier_dirs, sane_of}}
+use Rattle.ffs_survey.proofs.{Queues.{level_after, queue_parts, same_result_after}}
 
 -- A level is in the queue from `low` to `high`: after it there is room for all that isn't reached
 -- yet, and no inode has more references than its start and the directories before it can give.

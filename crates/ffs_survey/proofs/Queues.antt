@@ -1,11 +1,11 @@
 -- The queue: what is after it, the current level, and the next level.
 use Rattle.std.proofs.Common.{◌≡◌, ℕ, suc, ◌+◌, ◌-◌, ◌<◌, ◌≤◌, All, Option, Bool, List, [], ◌∷◌, ◌++◌, length, take}
-use Rattle.std.proofs.Common.{◌&&◌, drop, cond, None, unwrap_or, false, count_by, arith, sym, ◌∙◌, ap, subst}
-use Rattle.std.proofs.{Common.{IsPermutation, add-zero, get_or}, lemmas.List.{get_or-drop, get_or-take, get_or_past}}
+use Rattle.std.proofs.Common.{◌&&◌, drop, false, count_by, arith, sym, ◌∙◌, ap, subst}
+use Rattle.std.proofs.{Common.{IsPermutation, get_or}, lemmas.List.{get_or-drop, get_or-take, get_or_past}}
 use Rattle.std.proofs.{lemmas.{List.{length-drop, take-append-drop, take-take}}}
 use Rattle.std.proofs.lemmas.{Bool.cond-false, Grind.common_steps, List.{Folds.list_any-append, Sums.sum_by-append}}
 use Rattle.std.specs.List.Sorted.{IsNonDecreasing}
-use Rattle.ffs_volume.{specs.Directories.{Graph.{Graph, is_naming_dir, parent}, Roles.RoledEntry}, proofs.Graphs.IsSane}
+use Rattle.ffs_volume.{specs.Directories.{Graph.{Graph, is_naming_dir}, Roles.RoledEntry}, proofs.Graphs.IsSane}
 use Rattle.ffs_volume.specs.Directories.Roles.{refers}
 use Rattle.ffs_survey.proofs.Frontiers.{next_level, frontier_from, queue_grows, IsNext, occurrences-append}
 use Rattle.ffs_survey.{proofs.Frontiers.{occurrences-permutation, no_more, root_alone}, specs.Discover.Extends}

@@ -101,7 +101,10 @@ up-preserved c =
     record {
       bound = omega arith;
       long = c.set.ensures.len ∙ c.up.invariant.long;
-      walking = (suc c.up.invariant.walking.0, walks_on h.state
-          (next_parent c.args.parents.now.items c.up.at c.number_of-next.ensures c.if-next-eq0.false (omega arith))
-          (sym c.number_of-seen.ensures ∙ c.if-seen-ne0.false));
+      walking = (
+        suc c.up.invariant.walking.0,
+        walks_on h.state
+            (next_parent c.args.parents.now.items c.up.at c.number_of-next.ensures c.if-next-eq0.false (omega arith))
+            (sym c.number_of-seen.ensures ∙ c.if-seen-ne0.false),
+      );
     }

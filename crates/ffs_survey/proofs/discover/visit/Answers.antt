@@ -1,6 +1,6 @@
 use Rattle.std.proofs.{Common.{arith, rules, ◌∙◌, sym, []}, lemmas.Grind.common_steps}
-use Rattle.ffs_survey.{specs.Reading.roled_of, proofs.Discovered.{visit_hit, visit_miss, unset-set, new_entry}}
-use Rattle.ffs_survey.{specs.Lent.found_up_to, proofs.Remaining.discovered_whole}
+use Rattle.ffs_survey.{specs.Reading.roled_of, proofs.Discovered.{visit_hit, unset-set, new_entry}}
+use Rattle.ffs_survey.{proofs.Remaining.discovered_whole}
 use Rattle.ffs_survey.proofs.discover.visit.Goals as goal
 
 pub set-requires-3 : goal.set-requires-3
