@@ -1,10 +1,10 @@
 -- How often the groups' blocks and summary records are read, group after group.
-use Rattle.std.proofs.Common.{ℕ, zero, suc, ◌≡◌, ◌∙◌, ◌+◌, ◌*◌, ◌%◌, ◌<◌, ◌≤◌, ap, arith, min}
+use Rattle.std.proofs.Common.{ℕ, zero, suc, ◌≡◌, ◌+◌, ◌%◌, ◌<◌, ◌≤◌, arith, min}
 use Rattle.std.{specs.Int.div_ceil, proofs.Math.Nat.{div-add-mod', mod-lt}}
-use Rattle.ffs_volume.specs.declared.{constants.TheConstants.CSUM_SIZE, Layout.Layout}
-use Rattle.ffs_volume.specs.{Disk.Areas.summary_place, Report.Reads.records_at_once}
+use Rattle.ffs_volume.specs.declared.{Layout.Layout}
+use Rattle.ffs_volume.specs.{Report.Reads.records_at_once}
 use Rattle.ffs_walk.specs.declared.window.Window.{Window}
-use Rattle.ffs_counts.specs.Records.{IsAtRecords, first_read, records_read}
+use Rattle.ffs_counts.specs.Records.{IsAtRecords, first_read}
 
 -- the reads for the first n groups
 abbrev pub reads_below : ℕ → ℕ

@@ -1,6 +1,6 @@
 -- The lines of phase 5, group after group: of the messages that come once, only the first ones.
 use Rattle.std.proofs.Common.{◌≡◌, ℕ, suc, ◌+◌, ◌-◌, ◌<◌, ◌≤◌, ◌^◌, Bool, List, [], ◌∷◌, ◌++◌, map, refl, ap, ◌∙◌, sym}
-use Rattle.std.{proofs.Common.{subst, append_assoc, append-nil, arith, ℤ, Result}, specs.List.range_with_len}
+use Rattle.std.{proofs.Common.{subst, append_assoc, arith, ℤ, Result}, specs.List.range_with_len}
 use Rattle.std.{specs.List.{flat_map, sum_by}, proofs.lemmas.List.map-append}
 use Rattle.ffs_volume.specs.declared.{Layout.Layout, Class.Class, BlockMessage.{BlockMessage, TheVariants.FreeCounts}}
 use Rattle.ffs_volume.specs.{Blocks.Owners.owners_of, Directories.Volumes.class_at, Groups.GroupCheck.AlreadyReported}

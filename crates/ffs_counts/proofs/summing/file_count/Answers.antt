@@ -1,6 +1,4 @@
-use Rattle.std.proofs.Common.{arith, ℕ, List, ◌∙◌, ◌≡◌, ◌<◌, ◌≤◌, ◌+◌, ◌-◌, ◌^◌}
-use Rattle.ffs_volume.specs.Blocks.Inodes.{is_file_or_dir}
-use Rattle.ffs_groups.specs.Inodes.{class_in}
+use Rattle.std.proofs.Common.{arith, ℕ, List, ◌≡◌, ◌<◌, ◌≤◌, ◌+◌, ◌^◌}
 use Rattle.ffs_maps.proofs.Counting.{count_join_at, count_within}
 use Rattle.ffs_counts.specs.Summing.{files_among}
 use Rattle.ffs_counts.proofs.summing.file_count.Goals as goal
