@@ -1,6 +1,6 @@
 -- The lines of phase 5, group after group: of the messages that come once, only the first ones.
 use Rattle.std.proofs.Common.{◌≡◌, ℕ, suc, ◌+◌, ◌-◌, ◌<◌, ◌≤◌, ◌^◌, Bool, List, [], ◌∷◌, ◌++◌, map, refl, ap, ◌∙◌, sym}
-use Rattle.std.{proofs.Common.{subst, append_assoc, append-nil, arith, ℤ, Result}, specs.List.range_with_len}
+use Rattle.std.{proofs.Common.{subst, append_assoc, arith, ℤ, Result}, specs.List.range_with_len}
 use Rattle.std.{specs.List.{flat_map, sum_by}, proofs.lemmas.List.map-append}
 use Rattle.ffs_volume.specs.declared.{Layout.Layout, Class.Class, BlockMessage.{BlockMessage, TheVariants.FreeCounts}}
 use Rattle.ffs_volume.specs.{Blocks.Owners.owners_of, Directories.Volumes.class_at, Groups.GroupCheck.AlreadyReported}
@@ -63,12 +63,7 @@ pub groups_begin : (v : Layout) (totals : List ℤ) (w : Workspace) (image : Lis
     map of_blocks (phase5_lines v image totals (is_free_of_kept v (owners_of v image)) (class_at v image))
     ≡ lines_after v totals w t 0 image
 unfolding phase5_lines all_claims
-groups_begin v totals w image t e h =
-    let n : v.ncg - 0 ≡ v.ncg = omega arith in
-    ap (λ (ms : List BlockMessage). map of_blocks ms)
-    (sym (ap (λ (u : List Bool). phase5_lines v image totals (free_in u v.size) (class_in w.kinds.items)) h.used
-    ∙ by_kinds v image totals (is_free_of_kept v (owners_of v image)) w.kinds.items h.kinds))
-    ∙ rw (e, n) refl
+groups_begin v totals w image t e h = grind (arith, sym, by_kinds)
 
 -- the lines of one group, by a workspace of which only the windows have changed
 pub groups_go_on : (v : Layout) (totals : List ℤ) (w now : Workspace) (image : List ℕ) (t t' : AlreadyReported)
@@ -89,10 +84,7 @@ groups_go_on v totals w now image t t' lines c low held is f =
 pub groups_end : (v : Layout) (totals : List ℤ) (w : Workspace) (image : List ℕ) (t : AlreadyReported) (c : ℕ)
     (right : Bool) → v.ncg ≤ c → right ≡ has_right_totals v (free_of v w) (class_in w.kinds.items) totals →
     lines_after v totals w t c image ≡ map of_blocks (reported_once t (unless right FreeCounts)) ++ []
-groups_end v totals w image t c right low f =
-    let n : v.ncg - c ≡ 0 = omega arith in
-    rw (n, f) (sym (append-nil (map of_blocks
-    (reported_once t (unless (has_right_totals v (free_of v w) (class_in w.kinds.items) totals) FreeCounts)))))
+groups_end v totals w image t c right low f = grind arith
 
 -- ---- the totals
 next_sum : (f : ℕ → ℕ) (n old new : ℕ) → old ≡ sum_by f (range_with_len 0 n) → new ≡ old + f n →

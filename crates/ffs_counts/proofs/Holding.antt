@@ -55,8 +55,7 @@ no_lines v b w i h e = ap (λ t. if t then inode_reference_lines (volume_of v b)
 pub some_lines : (v : Layout) (b : List ℕ) (w : Workspace) (i : ℕ) → HoldsClaims v b w →
     is_allocated (class_of_kind (slice_index w.kinds.items i)) ≡ true →
     inode_reference_lines (volume_of v b) i ≡ reference_lines_at (volume_of v b) i
-some_lines v b w i h e =
-    ap (λ t. if t then inode_reference_lines (volume_of v b) i else []) (sym (allocated_is v b w i h ∙ e))
+some_lines v b w i h e = grind (arith, allocated_is)
 
 -- where the count of an allocated inode starts
 start_used : (v : Layout) (b : List ℕ) (w : Workspace) (i : ℕ) → HoldsClaims v b w →
@@ -235,5 +234,4 @@ pub unmet_reported : (w : Workspace) (i : ℕ) (m : Bool) (label : Label) (attr 
     (count r : ℕ) → is_right_by w i ≡ false → dead ≡ is_dead_by w i → count ≡ slice_index w.references.items i →
     r ≡ count - links_start nlink → SFits w16 nlink →
     length (reference_reported dead m label attr nlink r) ≡ 1
-unmet_reported w i m label attr nlink dead count r unmet ed ec er fits =
-    grind (arith, one_reported, unequal, fits_small, nat_tests)
+unmet_reported w i m label attr nlink dead count r unmet ed ec er fits = grind arith

@@ -10,8 +10,7 @@ use Rattle.ffs_report.specs.declared.fault.RunFault.TheVariants.{Read, Out}
 account : {T : Type 0} {price : ℕ} {a b : Progress} {before after : ℕ} {r : Result T RunFault} (ms last : List Message)
     (mid : Progress) → length last ≤ 1 → Said a mid ms → LastBegun last mid b r →
     after ≤ before + price * (length ms + length last) → Paid price a b before after r
-account ms last mid few said begun most =
-    record { messages = ms; last = last; few = few; between = mid; said = said; begun = begun; most = most }
+account ms last mid few said begun most = grind arith
 
 -- another account of the same messages
 reckoned : {T : Type 0} {price price' : ℕ} {a b : Progress} {before after before' after' : ℕ} {r : Result T RunFault} →
@@ -48,8 +47,7 @@ paid_reads {price = price} {a = a} {before = before} {after = after} few =
 -- messages were said, at least one
 pub paid_says : {T : Type 0} {price : ℕ} {a b : Progress} {before after : ℕ} {x : T} (ms : List Message) → Said a b ms
     → 1 ≤ length ms → after ≤ before + price → Paid price a b before after (Ok x)
-paid_says {price = price} {b = b} {before = before} {after = after} ms said some few =
-    account ms [] b (omega arith) said (refl, refl) (pays_one price before after _ (omega (arith, some)) few)
+paid_says {price = price} {b = b} {before = before} {after = after} ms said some few = grind (arith, pays_one)
 
 -- the output failed among messages
 stops_paid : {T : Type 0} {price : ℕ} {a b : Progress} {before after : ℕ} {fault : _} (ms : List Message) →
@@ -62,8 +60,7 @@ stops_paid {a = a} {b = b} ms stopped most =
 -- at least one
 pub paid_stops : {T : Type 0} {price : ℕ} {a b : Progress} {before after : ℕ} {fault : _} (ms : List Message) →
     Stopped a b ms → 1 ≤ length ms → after ≤ before + price → Paid {T = T} price a b before after (Err (Out fault))
-paid_stops {price = price} {before = before} {after = after} ms stopped some few =
-    stops_paid ms stopped (λ n one. pays_one price before after n (one some) few)
+paid_stops {price = price} {before = before} {after = after} ms stopped some few = search (arith, stops_paid, pays_one)
 
 -- more was left before, or after
 pub paid_within : {T : Type 0} {price : ℕ} {a b : Progress} {before after before' after' : ℕ} {r : Result T RunFault} →
@@ -104,8 +101,6 @@ paid_fault fault p1 = grind arith
 pub paid_text : {T : Type 0} {price : ℕ} (knows : List ℕ → Type 0) (all : List ℕ → List Message) {a b : Progress}
     {before after : ℕ} (r : Result T RunFault) → PhaseReports knows all a b r → after ≤ before →
     Paid price a b before after r
-paid_text knows all {b = b} (Ok x) p few =
-    account p.messages [] b (omega arith) p.said (refl, refl) (omega (arith, few))
-paid_text knows all {b = b} (Err (Read fault)) p few =
-    account p.prefix.messages [] b (omega arith) p.prefix.said refl (omega (arith, few))
+paid_text knows all {b = b} (Ok x) p few = grind arith
+paid_text knows all {b = b} (Err (Read fault)) p few = grind arith
 paid_text knows all (Err (Out fault)) p few = stops_paid p.messages p.stopped (λ n _. omega (arith, few))

@@ -22,13 +22,7 @@ passed : (g : given.Over) (c : After-passed_from-passed g) →
     ForBytes (WithFindings c.args.geometry.now.layout (g.I.Image.device c.args.image.now) c.args.workspace.now)
     (λ bytes. lines_after c.args.geometry.now.layout c.loop-number.number bytes
     ≡ lines_after c.args.geometry.now.layout (c.loop-number.number + c.passed_from-passed.result) bytes)
-passed g c bytes k =
-    let v = c.args.geometry.now.layout in
-    let inv = c.loop-number.invariant in
-    let found : WithFindings v (g.I.Image.device c.args.image.now) c.loop-number.workspace bytes =
-    grind (arith, findings_held) in
-    passed_lines v bytes c.loop-number.workspace c.loop-number.number c.passed_from-passed.result (inodes_of v) found.1
-    c.passed_from-passed.ensures.right (omega (arith, c.passed_from-passed.ensures.within, inv.ready.ready.made.kinds)) refl
+passed g c bytes k = grind (arith, passed_lines)
 
 pub returns-in_err-say-clause-text : goal.returns-in_err-say-clause-text
 returns-in_err-say-clause-text g c =

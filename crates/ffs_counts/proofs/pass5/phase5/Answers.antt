@@ -7,7 +7,7 @@ use Rattle.ffs_report.proofs.Reporting.{stops_heading}
 use Rattle.ffs_workspace.specs.Found.{WithClaims}
 use Rattle.ffs_counts.{specs.Once.{reported_of, reported_after}, proofs.GroupText.{counts_held, free_of, groups_begin}}
 use Rattle.ffs_counts.proofs.GroupText.{groups_go_on, groups_end, lines_after, totals_next, totals_right, up_next}
-use Rattle.ffs_counts.proofs.{GroupReads.{next_within, reads_next, reads_within, records_next}, Holding.held_on}
+use Rattle.ffs_counts.proofs.{GroupReads.{reads_next, records_next}, Holding.held_on}
 use Rattle.ffs_counts.proofs.pass5.phase5.Goals.{After-agree_with-right, In_ok-found}
 use Rattle.ffs_counts.proofs.pass5.phase5.Given as given
 use Rattle.ffs_counts.proofs.pass5.phase5.Goals as goal
@@ -104,23 +104,13 @@ returns-clause-text g c = of_says _ _ _ _ _ _ _ _ c.loop-group.invariant.said
     (ended g (goal.at.returns-clause-text g c).After-agree_with-right) c.in_ok-say_unless.ensures.said
 
 pub returns-in_err-found-clause-reads : goal.returns-in_err-found-clause-reads
-returns-in_err-found-clause-reads g c =
-    let inv = c.loop-group.invariant in
-    let found = c.in_err-found.ensures.reads in
-    next_within c.loop-group.group _ _ _ _ c.loop-group-test.true inv.reads found.counted
-    (λ more. found.again (inv.records more))
+returns-in_err-found-clause-reads g c = grind arith
 
 pub returns-in_err-say_group-clause-reads : goal.returns-in_err-say_group-clause-reads
-returns-in_err-say_group-clause-reads g c =
-    let inv = c.loop-group.invariant in
-    let found = c.in_ok-found.ensures.reads in
-    next_within c.loop-group.group _ _ _ _ c.loop-group-test.true inv.reads found.counted
-    (λ more. found.again (inv.records more))
+returns-in_err-say_group-clause-reads g c = grind arith
 
 pub returns-in_err-say_unless-clause-reads : goal.returns-in_err-say_unless-clause-reads
-returns-in_err-say_unless-clause-reads g c =
-    omega (arith, c.loop-group.invariant.reads, reads_within c.loop-group.group _ c.loop-group.auto.group-end)
+returns-in_err-say_unless-clause-reads g c = grind arith
 
 pub returns-clause-reads : goal.returns-clause-reads
-returns-clause-reads g c =
-    omega (arith, c.loop-group.invariant.reads, reads_within c.loop-group.group _ c.loop-group.auto.group-end)
+returns-clause-reads g c = grind arith

@@ -1,6 +1,4 @@
-use Rattle.std.proofs.Common.{arith, ℕ, List, ◌∙◌, ◌≡◌, ◌<◌, ◌≤◌, ◌+◌, ◌-◌, ◌^◌}
-use Rattle.ffs_volume.specs.Blocks.Inodes.{is_file_or_dir}
-use Rattle.ffs_groups.specs.Inodes.{class_in}
+use Rattle.std.proofs.Common.{arith, ℕ, List, ◌≡◌, ◌<◌, ◌≤◌, ◌+◌, ◌^◌}
 use Rattle.ffs_maps.proofs.Counting.{count_join_at, count_within}
 use Rattle.ffs_counts.specs.Summing.{files_among}
 use Rattle.ffs_counts.proofs.summing.file_count.Goals as goal
@@ -8,13 +6,10 @@ use Rattle.ffs_counts.proofs.summing.file_count.Goals as goal
 -- some inodes, and those after them
 files_join : (kinds : List ℕ) (mid end files few x : ℕ) → files ≡ files_among kinds 2 mid → few ≡ files_among kinds mid end →
     2 ≤ mid → mid ≤ end → x ≡ few → files + x ≡ files_among kinds 2 end
-files_join kinds mid end files few x one two low high same =
-    count_join_at (λ i. is_file_or_dir (class_in kinds i)) 2 mid end (end - mid) files x low (omega (arith, high)) one
-    (same ∙ two)
+files_join kinds mid end files few x one two low high same = grind (arith, count_join_at)
 
 files_fit : (kinds : List ℕ) (end files : ℕ) → files ≡ files_among kinds 2 end → end < 2 ^ 32 → files < 2 ^ 32
-files_fit kinds end files is few =
-    omega (arith, is, few, count_within (λ i. is_file_or_dir (class_in kinds i)) 2 (end - 2))
+files_fit kinds end files is few = grind (arith, count_within)
 
 pub overflow_add-files : goal.overflow_add-files
 overflow_add-files c =

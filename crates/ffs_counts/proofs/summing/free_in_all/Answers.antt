@@ -8,8 +8,7 @@ blocks_most : (frag : ℕ) (blocks : ℤ) → Fits w8 frag → SFits w32 blocks 
 blocks_most frag blocks f b = grind (arith, ints, unsigned_abs-mul, mul-le-mul)
 
 blocks_fit : (frag : ℕ) (blocks : ℤ) → Fits w8 frag → SFits w32 blocks → SFits w64 (pos frag *ℤ blocks)
-blocks_fit frag blocks f b =
-    fits_signed_from_abs w64 (pos frag *ℤ blocks) (let m = blocks_most frag blocks f b in omega arith)
+blocks_fit frag blocks f b = search (arith, fits_signed_from_abs, blocks_most)
 
 sum_fits : (a p : ℤ) → SFits w32 a → unsigned_abs p ≤ 255 * 2147483648 → SFits w64 (a +ℤ p)
 sum_fits a p f m = grind (arith, ints)

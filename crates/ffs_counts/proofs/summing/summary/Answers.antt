@@ -12,8 +12,7 @@ use Rattle.ffs_counts.proofs.summing.summary.Goals as goal
 -- the kinds of the workspace are counted
 files_counted : (g : given.Over) (c : After-summary_line g) →
     c.file_count-files.result ≡ files_among c.args.workspace.now.kinds.items 2 (length c.args.workspace.now.kinds.items)
-files_counted g c =
-    c.file_count-files.ensures ∙ ap (λ kinds. files_among kinds 2 (length kinds)) c.deref.ensures.value
+files_counted g c = grind arith
 
 -- the counts are those of the image
 files_right : (g : given.Over) (c : After-summary_line g) →
