@@ -3,7 +3,7 @@ use Rattle.std.proofs.Common.{◌≡◌, ℕ, ℤ, pos, zero, suc, ◌+◌, ◌-
 use Rattle.std.proofs.Common.{◌||◌, ◌==◌, not, if◌then◌else◌, length, map, refl, ap, ◌∙◌, sym, slice_index, vec_len}
 use Rattle.std.proofs.Common.{drop, nat_le, take}
 use Rattle.std.{proofs.Common.{arith, SFits}, specs.{List.slice_index_or, Int.{w16, cast_signed}}}
-use Rattle.std.{specs.declared.{alloc.Global.Global, vec.Vec.Vec}, proofs.lemmas.{Bool.Decides.nat_tests, Int.ints}}
+use Rattle.std.{specs.declared.{alloc.Global.Global, vec.Vec.Vec}, proofs.lemmas.{Bool.Decides.nat_tests}}
 use Rattle.std.proofs.lemmas.List.{get_or-drop, get_or-take, length-drop, length-take-le}
 use Rattle.ffs_survey.specs.Survey.{suspect_at}
 use Rattle.std.proofs.lemmas.{Int.to_z_pos, List.get_or_read, Bool.{and_parts, cases_lt, eq-eqb, eqb-true, not-true}}
@@ -224,10 +224,6 @@ unmet_line v b w i low f used unmet =
     (λ alive some. unequal nlink r (links_small v b i)
     (ap (λ n. n == LINKS_MET) (sym counted)
     ∙ open_test (slice_index w.references.items i == LINKS_MET) (is_dead_by w i) unmet alive) some)
-
--- a count of links that two bytes hold
-fits_small : (nlink : ℤ) (n : ℕ) → SFits w16 nlink → nlink ≡ pos n → n < 2 ^ 15
-fits_small nlink n fits e = let f = rw e at fits in omega (arith, ints)
 
 -- an inode that isn't right by the lists of a workspace has a line, whatever is read of it
 pub unmet_reported : (w : Workspace) (i : ℕ) (m : Bool) (label : Label) (attr : Attr) (nlink : ℤ) (dead : Bool)
