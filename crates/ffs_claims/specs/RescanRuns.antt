@@ -35,7 +35,8 @@ pub record Counted (old new more : ℕ) : Type 0 where
   pub most : new ≤ old + more
   pub exact : RoseBy old new more
 
--- the reads are no more than what a count of Runs rose by, as long as that count has room in a u64
+-- there were no more reads (reads' less reads) than a count of Runs rose by (new less old), as long as
+-- that count has room in a u64
 pub record RunsPay (reads reads' old new : ℕ) : Type 0 where
   pub rises : new < 2 ^ 64 - 1 → old ≤ new
   pub paid : new < 2 ^ 64 - 1 → reads' + old ≤ reads + new

@@ -34,7 +34,7 @@ pub record ReadyToReport (v : Layout) (d : Device) (w : Workspace) (s : KeptPare
   pub path : ReadyToPath v d w s directory.number
   pub cut : directory.cut ≡ cut_in (slice_index w.notes.items directory.number)
 
--- paths can be made after a call; where it failed, what is kept of a parent may be wrong
+-- paths can be made after a call; where it failed, nothing is said of what is kept of a parent
 abbrev pub ReadyAfter : {T E : Type 0} → Layout → Device → Workspace → KeptParent → Result T E → Type 0
 ReadyAfter v d w s (Ok x) = ReadyWith v d w s
 ReadyAfter v d w s (Err e) = CanRead v d w

@@ -50,7 +50,7 @@ pub record CanKeepChild (v : Layout) (d : Device) (w : Workspace) (s : KeptParen
   pub parent : IsParentOf w x p
 
 -- what a call leaves that makes so many reads at most for a path, where each place is noted; where
--- it failed, what is kept of a parent may be wrong
+-- it failed, nothing is said here of what is kept of a parent (the clause `still` does)
 pub record PathLeaves {T : Type 0} (v : Layout) (most : ℕ) (old new : PathMoment) (s : KeptParent)
     (result : Result T ImageFault) : Type 0 where
   pub reads : OnlyReads v old.image new.image old.workspace new.workspace result

@@ -31,7 +31,9 @@
 -- `(x : A) → P` says that P holds of each x, and `(x : A) × B` that there is an x. `IsSomeAnd o p`
 -- says that o has a value, and that p holds of it. A record with fields that are statements is a
 -- statement, and asks them all; what other fields it has, as a number or a list, it says that there
--- is one. A record whose fields are all values is a value, as `Superblock`.
+-- is one. A record whose fields are all values is a value, as `Superblock`. `⊤` holds and `⊥` doesn't;
+-- `∥ P ∥₁` says that P holds, and not by which proof. `module _ (x : A) where` begins definitions that
+-- all take this x first.
 pub mod Disk
 pub mod Blocks
 pub mod Messages

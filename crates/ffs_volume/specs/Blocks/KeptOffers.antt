@@ -1,5 +1,5 @@
--- The offers that inodes keep, walked from a state as `Claims` walks. `KeptByRule` says by one rule
--- which they are: read it for the meaning.
+-- The offers that inodes keep, walked from a state as `Claims` walks. `KeptByRule`, the next file, says
+-- by one rule which they are.
 use Rattle.std.specs.{Prelude.{ℕ, ◌+◌, List, [], ◌∷◌, ◌++◌, ◌==◌, nat_lt, if◌then◌else◌}, List.range_with_len}
 use Rattle.ffs_volume.specs.declared.{constants.TheConstants.{MAXBAD, MAXDUP}, Layout.Layout, Step.Step}
 use Rattle.ffs_volume.specs.{declared.Step.TheVariants.{Run, Tail, Gap}, Disk.Areas.is_run_in_range}
