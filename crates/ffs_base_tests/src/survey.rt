@@ -1,5 +1,5 @@
 //! A small volume: directory 3 below the root, with the file 4, and directories 5 and 6 that name
-//! each other. The inodes 4, 6 and 7 are marked.
+//! each other.
 ghost use Rattle.std.specs.Prelude.{◌≡◌, IfOk, vec_len};
 
 use crate::compare::same;
@@ -125,10 +125,7 @@ static KINDS: [u8; 8] = [0, 0, 4, 4, 8, 4, 4, 8];
 
 static PARENTS: [u32; 8] = [0, 0, 2, 2, 0, 6, 5, 0];
 
-static MARKED: [bool; 8] = [false, false, false, false, true, false, true, true];
-
-/// Those of the marked inodes that an entry names: no other one is suspect.
-static NAMED: [bool; 8] = [false, false, false, false, true, false, true, false];
+static NAMED: [bool; 8] = [false, false, false, true, true, true, true, false];
 
 static REACHED: [bool; 8] = [false, false, true, true, false, false, false, false];
 
@@ -176,7 +173,7 @@ fn left_by_survey(alloc: Global) -> Result<Left, Fail> {
         dir: 0,
         place: 0,
     };
-    let marked = flags(&MARKED, alloc)?;
+    let marked = flags(&[false; 8], alloc)?;
     let inodes = KnownInodes {
         kinds: &KINDS,
         marked: &marked,
@@ -227,7 +224,7 @@ fn unref_of(surveyed: &Surveyed<'_>) -> [bool; 4] {
 /// The directories that lead a cycle, and which of four are unreferenced.
 fn leaders(alloc: Global) -> Result<([bool; 8], [bool; 4]), AllocError> {
     let parents = numbers(&PARENTS, alloc)?;
-    let marked = flags(&MARKED, alloc)?;
+    let marked = flags(&[false; 8], alloc)?;
     let named = flags(&NAMED, alloc)?;
     let reached = flags(&REACHED, alloc)?;
     let mut queue = numbers(&[7; 8], alloc)?;

@@ -1,7 +1,7 @@
 -- What a workspace holds where only its windows have changed, and the lines of an inode by it.
 use Rattle.std.proofs.Common.{◌≡◌, ℕ, ℤ, pos, zero, suc, ◌+◌, ◌-◌, ◌<◌, ◌≤◌, ◌^◌, Bool, true, false, List, [], ◌&&◌}
 use Rattle.std.proofs.Common.{◌||◌, ◌==◌, not, if◌then◌else◌, length, map, refl, ap, ◌∙◌, sym, slice_index, vec_len}
-use Rattle.std.proofs.Common.{drop, nat_le, take}
+use Rattle.std.proofs.Common.{drop, take}
 use Rattle.std.{proofs.Common.{arith, SFits}, specs.{List.slice_index_or, Int.{w16, cast_signed}}}
 use Rattle.std.{specs.declared.{alloc.Global.Global, vec.Vec.Vec}, proofs.lemmas.{Bool.Decides.nat_tests}}
 use Rattle.std.proofs.lemmas.List.{get_or-drop, get_or-take, length-drop, length-take-le}
@@ -40,14 +40,6 @@ allocated_is : (v : Layout) (b : List ℕ) (w : Workspace) (i : ℕ) → HoldsCl
     is_allocated_inode (volume_of v b) i ≡ is_allocated (class_of_kind (slice_index w.kinds.items i))
 allocated_is v b w i h = grind (arith, some_is, kind_tests)
 
--- an allocated inode is the root or a later one
-inode_low : (v : Layout) (b : List ℕ) (w : Workspace) (i : ℕ) → HoldsClaims v b w →
-    is_allocated (class_of_kind (slice_index w.kinds.items i)) ≡ true → nat_le 2 i ≡ true
-unfolding volume_of volume_with
-inode_low v b w i h used =
-    let both = and_parts (is_inode (volume_of v b) i) (is_allocated (class_at v b i)) (allocated_is v b w i h ∙ used) in
-    (and_parts (nat_le 2 i) _ both.0).0
-
 pub no_lines : (v : Layout) (b : List ℕ) (w : Workspace) (i : ℕ) → HoldsClaims v b w →
     is_allocated (class_of_kind (slice_index w.kinds.items i)) ≡ false → reference_lines_at (volume_of v b) i ≡ []
 no_lines v b w i h e = ap (λ t. if t then inode_reference_lines (volume_of v b) i else []) (allocated_is v b w i h ∙ e)
@@ -85,8 +77,6 @@ inode_reference_lines_are v b w i inode dead r low f used is e refs =
     let h = f.claims in
     let suspect : (bool_at w.marked.items i || is_empty_dir_kind (slice_index w.kinds.items i))
     ≡ (marked_at v b i || is_empty_dir_kind (kind_at v b i)) = grind arith in
-    let named = f.survey.tree.named i low in
-    let number = inode_low v b w i h used in
     let is_dead_is : dead ≡ is_dead (volume_of v b) i = grind (arith, suspect_is) in
     let label : label_of (class_of_kind (slice_index w.kinds.items i)) ≡ label_of (class_at v b i) =
     ap (λ k. label_of (class_of_kind k)) (h.kinds i) ∙ same_test label_of refl v b i in

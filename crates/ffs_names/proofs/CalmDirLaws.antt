@@ -19,15 +19,15 @@ listed e f xs n long each = ext_get_or e xs (map f (range_with_len 0 n))
     (λ i l. each i ∙ sym (get_or-map-range_with_len f 0 n i i e (omega (arith, l, long)) (omega arith)))
 
 -- lists that a survey fills
-pub flags_each_calm : (t : Base) (b kinds starts counts : List ℕ) (marked marks : List Bool) (parents : List ℕ)
+pub flags_each_calm : (t : Base) (b kinds starts counts : List ℕ) (marked named marks : List Bool) (parents : List ℕ)
     (flags : List Bool) → length kinds ≡ inodes_of t.layout →
     ((x : ℕ) → slice_index kinds x ≡ kind_at t.layout b x) → length marked ≡ inodes_of t.layout →
     ((x : ℕ) → bool_at marked x ≡ marked_at t.layout b x) →
-    IsSurvey (graph_of (volume_of t.layout b)) starts counts marks parents →
+    IsSurvey (graph_of (volume_of t.layout b)) starts counts named marks parents →
     EachCalmIsFlagged kinds marked marks parents (dir_entries t b) (dir_right_shape t b) flags
     → (d : ℕ) → is_calm_directory t.layout b d ≡ true → bool_at flags d ≡ true
 unfolding is_calm_directory
-flags_each_calm t b kinds starts counts marked marks parents flags kinds_long kinds_are marked_long marked_are
+flags_each_calm t b kinds starts counts marked named marks parents flags kinds_long kinds_are marked_long marked_are
     survey each d calm =
     let v = t.layout in
     let vol = volume_of v b in

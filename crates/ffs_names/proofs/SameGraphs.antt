@@ -3,7 +3,7 @@ use Rattle.std.proofs.Common.{◌≡◌, ◌∙◌, ℕ, zero, suc, ◌+◌, ◌
 use Rattle.std.{proofs.Common.{None, ap, ap₂, count_by, if◌then◌else◌, is_some, refl, unwrap_or}, specs.List.list_any}
 use mathlib.Core.Path.{fun_ext}
 use Rattle.ffs_volume.specs.Directories.{Climb.is_value, Roles.{RoledEntry, refers}, Graph.{Graph, edge, is_naming_dir}}
-use Rattle.ffs_volume.specs.Directories.Graph.{is_named, is_naming_entry, level, parent, parent_by, within}
+use Rattle.ffs_volume.specs.Directories.Graph.{is_naming_entry, level, parent, parent_by, within}
 use Rattle.ffs_volume.specs.Disk.Search.{first_below, some_below}
 use Rattle.ffs_survey.specs.Survey.{counted_in, counted_below, start_in, IsSurvey}
 
@@ -56,14 +56,12 @@ module _ (n : ℕ) (d : ℕ → Bool) (e f : ℕ → List RoledEntry) (h : (s : 
   references_same x zero = refl
   references_same x (suc k) = ap₂ ◌+◌ (references_same x k) (counted_same k x)
 
-  pub named_same : (x : ℕ) → is_named (graph n d e) x ≡ is_named (graph n d f) x
-  named_same x = ap (λ p. some_below p n) (fun_ext (λ k. names_same k x))
-
   -- a survey of a graph is one of each graph with the same entries of directories
-  pub survey_same : {starts counts : List ℕ} {marks : List Bool} {parents : List ℕ} →
-      IsSurvey (graph n d e) starts counts marks parents → IsSurvey (graph n d f) starts counts marks parents
+  pub survey_same : {starts counts : List ℕ} {flags marks : List Bool} {parents : List ℕ} →
+      IsSurvey (graph n d e) starts counts flags marks parents → IsSurvey (graph n d f) starts counts flags marks parents
   survey_same {starts = starts} s = record {
     counts = λ x l. s.counts x l ∙ ap (λ k. start_in starts x + k) (references_same x n);
+    names = λ x l. s.names x l ∙ ap (λ p. some_below p n) (fun_ext (λ k. names_same k x));
     reaches = λ x. s.reaches x ∙ ap (λ o. is_some o) (level_same x);
     parent_is = λ x. s.parent_is x ∙ ap (λ o. unwrap_or o 0) (parent_same x);
   }

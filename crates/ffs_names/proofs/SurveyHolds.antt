@@ -1,18 +1,18 @@
 -- A survey fills a workspace.
-use Rattle.std.proofs.Common.{◌≡◌, ◌∙◌, ◌+◌, ◌<◌, ◌≤◌, ◌&&◌, ℕ, Bool, true, false, List, Option, Some, None, IfNone, ap, ap₂, arith, length, nat_le}
+use Rattle.std.proofs.Common.{◌≡◌, ◌∙◌, ◌+◌, ◌≤◌, ℕ, Bool, true, false, List, Option, Some, None, IfNone, ap, arith, length}
 use Rattle.std.{proofs.{Common.{min, slice_index, sym, refl}, lemmas.Bool.and_parts}, specs.Result.is_ok}
 use Rattle.std.specs.Prelude.{Result, Ok, Err, OnOk, OnErr}
 use Rattle.ffs_image.specs.Known.{ForBytes}
 use Rattle.ffs_volume.specs.{declared.Layout.Layout, Encodings.Kinds.kind_at, Directories.Parents.graph_of}
-use Rattle.ffs_volume.specs.Directories.{Roles.roled_entries, Volumes.{marked_at, volume_of, volume_with}, Graph.is_named}
+use Rattle.ffs_volume.specs.Directories.{Roles.roled_entries, Volumes.{volume_of, volume_with}}
 use Rattle.ffs_volume.specs.{Encodings.Links.start_at, Blocks.Inodes.inodes_of, Directories.Calm.is_right_directory}
-use Rattle.ffs_workspace.specs.Holds.{HoldsClaims, HoldsReferences, HoldsTree, bool_at, is_named_suspect}
+use Rattle.ffs_workspace.specs.Holds.{HoldsClaims, HoldsReferences, HoldsTree}
 use Rattle.ffs_workspace.{proofs.Leaving.counts_surveyed, specs.Leaves.LeavesBlockCheck}
 use Rattle.ffs_workspace.specs.declared.workspace.Workspace.{Workspace}
 use Rattle.ffs_survey.specs.{Calm.AreCalm, SurveyLaws.references_is, Survey.{graph_with, most_start, references_to}}
-use Rattle.ffs_survey.specs.{SurveyLaws.suspects_of_kinds, Survey.{AreNamed, IsSurvey}}
+use Rattle.ffs_survey.specs.Survey.{IsSurvey}
 use Rattle.ffs_names.{specs.{Readers.{Base, dir_entries, dir_right_shape}, Surveys.FlagsOnlyCalm}, proofs.DirLaws.kind_dirs}
-use Rattle.ffs_names.proofs.SameGraphs.{named_same, survey_same}
+use Rattle.ffs_names.proofs.SameGraphs.{survey_same}
 
 pub none_ended : {T A : Type 0} {K : A → Type 0} (o : Option T) (P : A → Type 0) → ((b : A) → K b → IfNone o (P b))
     → IfNone o ((b : A) → K b → P b)
@@ -20,41 +20,19 @@ none_ended None P f = f
 none_ended (Some x) P f = tt
 
 -- the survey of the directories of a volume
-pub volume_survey : (t : Base) (b kinds : List ℕ) {starts counts : List ℕ} {marks : List Bool} {parents : List ℕ} →
+pub volume_survey : (t : Base) (b kinds : List ℕ) {starts counts : List ℕ} {flags marks : List Bool} {parents : List ℕ} →
     length kinds ≡ inodes_of t.layout → ((x : ℕ) → slice_index kinds x ≡ kind_at t.layout b x)
-    → IsSurvey (graph_with kinds (dir_entries t b)) starts counts marks parents →
-    IsSurvey (graph_of (volume_of t.layout b)) starts counts marks parents
+    → IsSurvey (graph_with kinds (dir_entries t b)) starts counts flags marks parents →
+    IsSurvey (graph_of (volume_of t.layout b)) starts counts flags marks parents
 unfolding volume_of volume_with
 volume_survey t b kinds n k s = grind (arith, kind_dirs, survey_same)
-
--- what the directories of a volume name
-volume_names : (t : Base) (b kinds : List ℕ) (x : ℕ) → length kinds ≡ inodes_of t.layout →
-    ((x : ℕ) → slice_index kinds x ≡ kind_at t.layout b x) →
-    is_named (graph_with kinds (dir_entries t b)) x ≡ is_named (graph_of (volume_of t.layout b)) x
-unfolding volume_of volume_with
-volume_names t b kinds x n k = grind (arith, kind_dirs, named_same)
-
--- the suspect inodes that they name
-pub volume_named : (t : Base) (b kinds : List ℕ) (marked named : List Bool) → length kinds ≡ inodes_of t.layout →
-    ((x : ℕ) → slice_index kinds x ≡ kind_at t.layout b x) → ((x : ℕ) → bool_at marked x ≡ marked_at t.layout b x)
-    → AreNamed (graph_with kinds (dir_entries t b)) kinds marked named → (x : ℕ) → x < inodes_of t.layout →
-    bool_at named x ≡ is_named_suspect (volume_of t.layout b) x
-unfolding kind_at
-volume_named t b kinds marked named n k m s x l =
-    let suspect = suspects_of_kinds t.layout b kinds marked x (k x) (m x) in
-    s.names x (omega (arith, n, l)) ∙ ap₂ (λ a c. (nat_le 2 x && a) && c) suspect (volume_names t b kinds x n k)
 
 -- lists that hold what a survey of a volume finds of each inode
 pub holds_tree : (v : Layout) (b : List ℕ) (w : Workspace) (starts counts : List ℕ) (flags marks : List Bool)
     (parents : List ℕ) → w.named.items ≡ flags → w.reached.items ≡ marks → w.parents.items ≡ parents
-    → ((x : ℕ) → x < inodes_of v → bool_at flags x ≡ is_named_suspect (volume_of v b) x)
-    → IsSurvey (graph_of (volume_of v b)) starts counts marks parents → HoldsTree v b w
+    → IsSurvey (graph_of (volume_of v b)) starts counts flags marks parents → HoldsTree v b w
 unfolding volume_of volume_with
-holds_tree v b w starts counts flags marks parents f m u named s = record {
-  named = rw f named;
-  reached = rw m s.reaches;
-  parents = rw u s.parent_is;
-}
+holds_tree v b w starts counts flags marks parents f m u s = grind arith
 
 -- no start is past the greatest one
 start_low : (v : Layout) (b : List ℕ) (x : ℕ) → start_at v b x ≤ most_start
@@ -62,10 +40,10 @@ unfolding start_at
 start_low v b x = grind arith
 
 -- and counts that continue from where they start
-pub holds_references : (v : Layout) (b : List ℕ) (old new : Workspace) {starts counts : List ℕ} {marks : List Bool}
+pub holds_references : (v : Layout) (b : List ℕ) (old new : Workspace) {starts counts : List ℕ} {flags marks : List Bool}
     {parents : List ℕ} → old.references.items ≡ starts → new.references.items ≡ counts
     → ((x : ℕ) → slice_index old.references.items x ≡ start_at v b x)
-    → IsSurvey (graph_of (volume_of v b)) starts counts marks parents → HoldsReferences v b new
+    → IsSurvey (graph_of (volume_of v b)) starts counts flags marks parents → HoldsReferences v b new
 unfolding volume_of volume_with
 holds_references v b old new {starts = starts} e c h s = record {
   counts = λ x l.

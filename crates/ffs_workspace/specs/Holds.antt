@@ -1,8 +1,7 @@
 -- What a workspace holds between the phases.
-use Rattle.std.specs.{Prelude.{◌≡◌, ◌<◌, ◌+◌, ◌&&◌, ℕ, Bool, nat_le, false, true, List, replicate, slice_index}, Option.unwrap_or}
+use Rattle.std.specs.{Prelude.{◌≡◌, ◌<◌, ◌+◌, ℕ, false, true, List, replicate, slice_index}, Option.unwrap_or}
 use Rattle.ffs_volume.specs.{declared.Layout.Layout, Blocks.{Inodes.inodes_of, Claims.{Claims, all_claims}}}
-use Rattle.ffs_volume.specs.Directories.{Graph.{is_named, reached, parent}, Parents.graph_of}
-use Rattle.ffs_volume.specs.{declared.constants.TheConstants.ROOTINO, Directories.Roles.{Volume, is_suspect, references}}
+use Rattle.ffs_volume.specs.Directories.{Graph.{is_named, reached, parent}, Roles.references, Parents.graph_of}
 use Rattle.ffs_volume.specs.{Directories.Volumes.{marked_at, marked_by_phase1_at, volume_of}, Encodings.Kinds.kind_at}
 use Rattle.ffs_volume.specs.Encodings.{Links.start_at, Places.ArePlaces, Notes.note_at}
 use Rattle.ffs_workspace.specs.declared.workspace.Workspace.{Workspace}
@@ -47,14 +46,10 @@ pub record HoldsReferences (v : Layout) (image : List ℕ) (w : Workspace) : Typ
   pub counts : (x : ℕ) → x < inodes_of v
       → slice_index w.references.items x ≡ start_at v image x + references (volume_of v image) x
 
--- x is a suspect inode, the root or a later one, that a plain entry names
-abbrev pub is_named_suspect : Volume → ℕ → Bool
-is_named_suspect vol x = (nat_le ROOTINO x && is_suspect vol x) && is_named (graph_of vol) x
-
--- what the survey leaves of each inode: whether it is suspect and a plain entry names it, whether it is
--- reached from the root, and its parent, or 0 for none
+-- what the survey leaves of each inode: whether a plain entry names it, whether it is reached from the
+-- root, and its parent, or 0 for none
 pub record HoldsTree (v : Layout) (image : List ℕ) (w : Workspace) : Type 0 where
-  pub named : (x : ℕ) → x < inodes_of v → bool_at w.named.items x ≡ is_named_suspect (volume_of v image) x
+  pub named : (x : ℕ) → x < inodes_of v → bool_at w.named.items x ≡ is_named (graph_of (volume_of v image)) x
   pub reached : (x : ℕ) → bool_at w.reached.items x ≡ reached (graph_of (volume_of v image)) x
   pub parents : (x : ℕ) → slice_index w.parents.items x ≡ unwrap_or (parent (graph_of (volume_of v image)) x) 0
 

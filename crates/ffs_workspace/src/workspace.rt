@@ -43,8 +43,7 @@ pub struct Workspace {
     pub kinds: FixedList<u8>,
     /// The inodes that are marked: of class Unknown, or with a BAD or DUP line.
     pub marked: FilledList<bool>,
-    /// The suspect inodes (marked, or directories of size 0) that a plain entry names: of suspect
-    /// ones alone it is asked whether they are dead.
+    /// The inodes that a plain entry names.
     pub named: FilledList<bool>,
     /// The directories that are reached from the root.
     pub reached: FilledList<bool>,

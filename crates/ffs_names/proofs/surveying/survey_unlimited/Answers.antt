@@ -1,8 +1,8 @@
 use Rattle.std.proofs.Common.{◌∙◌, ◌≡◌, ◌*◌, ℕ, List, Some, length, ap, subst, sym, rules, arith, slice_index}
-use Rattle.ffs_volume.{proofs.Sizes.some_inodes, specs.{Blocks.Inodes.inodes_of, Encodings.Kinds.kind_at}}
+use Rattle.ffs_volume.{proofs.Sizes.some_inodes, specs.{Encodings.Kinds.kind_at}}
 use Rattle.ffs_workspace.{proofs.{Leaving.counts_begin, PlaceLaws.{filled_noted, zero_index}}, specs.Holds.HoldsClaims}
 use Rattle.ffs_workspace.specs.Tables.{IsTableOf}
-use Rattle.ffs_names.{specs.Readers.{Base, KnowsReader}, proofs.SurveyHolds.{volume_named, volume_survey, holds_claims, holds_tree}}
+use Rattle.ffs_names.{specs.Readers.{Base, KnowsReader}, proofs.SurveyHolds.{volume_survey, holds_claims, holds_tree}}
 use Rattle.ffs_names.proofs.SurveyHolds.{volume_calm, holds_calm, holds_references, on_ok_is, on_err_is}
 use Rattle.ffs_names.proofs.{surveying.survey_unlimited.Goals.After-survey-surveyed, CalmDirLaws.flags_each_calm}
 use Rattle.ffs_names.proofs.surveying.survey_unlimited.Given as given
@@ -83,11 +83,7 @@ returns-clause-survey g c = λ b k.
           let survey = volume_survey (base g at) b kinds_now {counts = counts} (search rules)
           (kinds g at b h) found.survey in
           let begun = counts_begin v b w h.counts c.requires.first in
-          let all : length kinds_now ≡ inodes_of v =
-          omega (arith, c.deref-2.ensures.len, c.requires.ready.ready.made.kinds) in
-          let names = volume_named (base g at) b kinds_now marked named all (kinds g at b h) h.marked found.named in
-          let tree = holds_tree v b _ _ counts named reached parents (search rules) (search rules) (search rules) names
-          survey in
+          let tree = holds_tree v b _ _ counts named reached parents (search rules) (search rules) (search rules) survey in
           let references = holds_references v b w _ (search rules) (search rules) begun survey in
           record {
             survey = record { tree = tree; places = filled_noted _ _ _ _ c.fill.ensures.items };
@@ -102,7 +98,7 @@ returns-clause-survey g c = λ b k.
           let found = s b knows in
           let survey = volume_survey (base g at) b kinds_now (search rules) (kinds g at b h) found.survey in
           record {
-            flagged = λ d calm. flags_each_calm (base g at) b kinds_now _ _ marked reached parents flags (search rules)
+            flagged = λ d calm. flags_each_calm (base g at) b kinds_now _ _ marked _ reached parents flags (search rules)
                 (kinds g at b h) (omega (arith, c.requires.ready.ready.made.marked)) h.marked survey found.flagged d calm;
           })
           c.survey-surveyed.ensures.found;
