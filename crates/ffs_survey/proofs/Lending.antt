@@ -41,4 +41,4 @@ pub finds_same : {kinds starts : List ℕ} {marked : List Bool} {entries : ℕ �
     found'.named ≡ found.named → found'.reached ≡ found.reached → found'.parents ≡ found.parents →
     found'.calm ≡ found.calm → FindsSurvey kinds marked entries right_shape starts found →
     FindsSurvey kinds marked entries right_shape starts found'
-finds_same ef em er ep ec s = grind arith
+finds_same ef em er ep ec s = record { survey = rw (ef, em, er, ep) s.survey; calm = rw (er, ep, ec) s.calm; flagged = rw (er, ep, ec) s.flagged }

@@ -1,15 +1,15 @@
 -- The queue: what is after it, the current level, and the next level.
 use Rattle.std.proofs.Common.{◌≡◌, ℕ, suc, ◌+◌, ◌-◌, ◌<◌, ◌≤◌, All, Option, Bool, List, [], ◌∷◌, ◌++◌, length, take}
-use Rattle.std.proofs.Common.{◌&&◌, drop, false, count_by, arith, sym, ◌∙◌, ap, subst}
-use Rattle.std.proofs.{Common.{IsPermutation, get_or}, lemmas.List.{get_or-drop, get_or-take, get_or_past}}
-use Rattle.std.proofs.{lemmas.{List.{length-drop, take-append-drop, take-take}}}
+use Rattle.std.proofs.Common.{drop, cond, None, unwrap_or, ◌||◌, false, count_by, arith, sym, ◌∙◌, ap, subst}
+use Rattle.std.proofs.{Common.{IsPermutation, add-zero, get_or}, lemmas.List.{get_or-drop, get_or-take, get_or_past}}
+use Rattle.std.proofs.{lemmas.{List.{length-drop, take-append-drop, take-take}, Bool.and_left}, Math.Bool.or-false}
 use Rattle.std.proofs.lemmas.{Bool.cond-false, Grind.common_steps, List.{Folds.list_any-append, Sums.sum_by-append}}
 use Rattle.std.specs.List.Sorted.{IsNonDecreasing}
 use Rattle.ffs_volume.{specs.Directories.{Graph.{Graph, is_naming_dir}, Roles.RoledEntry}, proofs.Graphs.IsSane}
 use Rattle.ffs_volume.specs.Directories.Roles.{refers}
 use Rattle.ffs_survey.proofs.Frontiers.{next_level, frontier_from, queue_grows, IsNext, occurrences-append}
 use Rattle.ffs_survey.{proofs.Frontiers.{occurrences-permutation, no_more, root_alone}, specs.Discover.Extends}
-use Rattle.ffs_survey.specs.Discover.{AreNamedByReached, bit, occurrences, from_dirs, IsFrontier, LevelsKnown, IsCount}
+use Rattle.ffs_survey.specs.Discover.{occurrences, from_dirs, IsFrontier, LevelsKnown, IsCount}
 use Rattle.ffs_survey.specs.{Discover.{IsReachedPart, count_of, any_of}, Survey.bool_at}
 use Rattle.ffs_survey.proofs.Remaining.{nothing, none, never, Counts, SameResult}
 use Rattle.ffs_survey.{specs.Survey.{number_at, graph_with, counted_in}, proofs.Totals.{any_all, count_all}}
@@ -80,10 +80,10 @@ level_after {v = v} {k = k} {r' = r'} {p' = p'} {q = q} {new = new} {ys = ys} sa
     }
 
 -- the counts, one level further
-pub counted_on : {g : Graph} {z : ℕ → Bool} {starts f f' : List ℕ} {m m' : List Bool} (low high : ℕ)
-    (q q' : List ℕ) → low ≤ high → take high q' ≡ take high q → IsCount g z (take low q) starts f m →
-    Counts g.count z (count_of g (drop low (take high q))) (any_of g (drop low (take high q))) f m none never f' m' →
-    IsCount g z (take high q') starts f' m'
+pub counted_on : {g : Graph} {starts f f' : List ℕ} {m m' : List Bool} (low high : ℕ) (q q' : List ℕ) → low ≤ high →
+    take high q' ≡ take high q → IsCount g (take low q) starts f m →
+    Counts g.count (count_of g (drop low (take high q))) (any_of g (drop low (take high q))) f m none never f' m' →
+    IsCount g (take high q') starts f' m'
 counted_on {g = g} {m' = m'} low high q q' l kept i c =
     let parts : take high q' ≡ take low q ++ drop low (take high q) = kept ∙ queue_parts low high q l in
     record {
@@ -91,48 +91,41 @@ counted_on {g = g} {m' = m'} low high q q' l kept i c =
           let one = ap (λ z. count_of g z x) parts
           ∙ sum_by-append (λ s. counted_in g s x) (take low q) (drop low (take high q)) in
           omega (arith, one, i.counts x b, c.counts x b);
-      names = λ x b.
-          let one = ap (λ z. any_of g z x) parts
-          ∙ list_any-append (λ s. is_naming_dir g s x) (take low q) (drop low (take high q)) in
-          let was = i.names x b in
-          let now = c.names x b in
-          grind arith;
+      names = λ x b. sym (or-false (bool_at m' x))
+          ∙ (c.names x b ∙ (ap (λ y. y || any_of g (drop low (take high q)) x) (i.names x b)
+          ∙ sym (ap (λ z. any_of g z x) parts
+          ∙ list_any-append (λ s. is_naming_dir g s x) (take low q) (drop low (take high q)))));
     }
 
 -- where no level is left, all that is reached was read
-pub reached_part : {k : ℕ} {starts f : List ℕ} {r : List Bool} {p q : List ℕ} (kinds : List ℕ)
+pub reached_part : {k : ℕ} {starts f : List ℕ} {m r : List Bool} {p q : List ℕ} (kinds : List ℕ)
     (entries : ℕ → List RoledEntry) → length r ≡ length kinds → IsSane (graph_with kinds entries) →
     IsFrontier (graph_with kinds entries) k [] → LevelsKnown (graph_with kinds entries) k r p q →
-    ((x : ℕ) → x < length kinds → number_at f x ≡ number_at starts x + count_of (graph_with kinds entries) q x) →
-    IsReachedPart (graph_with kinds entries) starts f r p
-reached_part {k = k} {starts = starts} {r = r} {q = q} kinds entries e sane frontier n counted =
-    grind (arith, get_or_past, count_all, no_more)
-
--- and what these directories name is flagged where it is suspect
-pub reached_named : (z : ℕ → Bool) (m r : List Bool) (q : List ℕ) (kinds : List ℕ)
-    (entries : ℕ → List RoledEntry) → length r ≡ length kinds → ((x : ℕ) → occurrences x q ≡ bit (bool_at r x)) →
-    ((x : ℕ) → x < length kinds → bool_at m x ≡ (z x && any_of (graph_with kinds entries) q x)) →
-    AreNamedByReached (graph_with kinds entries) z m r
-reached_named z m r q kinds entries e queued named x b =
+    IsCount (graph_with kinds entries) q starts f m → IsReachedPart (graph_with kinds entries) starts f m r p
+reached_part {k = k} {starts = starts} {r = r} {q = q} kinds entries e sane frontier n i =
+    let g = graph_with kinds entries in
     let past = λ (s : ℕ) (l : length kinds ≤ s). get_or_past r s false (omega arith) in
-    named x b ∙ ap (λ y. z x && y) (any_all (graph_with kinds entries) (bool_at r) q (length kinds) x queued past)
+    record {
+      counts = λ x b. i.counts x b
+          ∙ ap (λ c. number_at starts x + c) (count_all g (bool_at r) q (length kinds) x n.queued past);
+      names = λ x b. i.names x b ∙ any_all g (bool_at r) q (length kinds) x n.queued past;
+      reaches = λ x. n.reaches x ∙ no_more g k x sane frontier;
+      parent = λ x. n.parent x ∙ ap (λ b. unwrap_or (cond b (parent g x) None) 0) (no_more g k x sane frontier);
+    }
 
 -- where inode 2 is no directory, nothing was read
-pub alone_named : (z : ℕ → Bool) (m : List Bool) (kinds : List ℕ) (entries : ℕ → List RoledEntry) →
-    dir_at kinds 2 ≡ false → ((x : ℕ) → bool_at m x ≡ false) → (x : ℕ) → x < length kinds →
-    bool_at m x ≡ (z x && any_of (graph_with kinds entries) (2 ∷ []) x)
-alone_named z m kinds entries dry blank x b = let none = blank x in grind arith
-
-pub alone_part : {starts : List ℕ} {r : List Bool} {p : List ℕ} (kinds : List ℕ) (entries : ℕ → List RoledEntry) →
+pub alone_part : {starts : List ℕ} {m r : List Bool} {p : List ℕ} (kinds : List ℕ) (entries : ℕ → List RoledEntry) →
     length r ≡ length kinds → IsSane (graph_with kinds entries) → dir_at kinds 2 ≡ false →
-    LevelsKnown (graph_with kinds entries) 0 r p (2 ∷ []) →
-    IsReachedPart (graph_with kinds entries) starts starts r p
-alone_part kinds entries e sane dry n =
+    LevelsKnown (graph_with kinds entries) 0 r p (2 ∷ []) → ((x : ℕ) → bool_at m x ≡ false) →
+    IsReachedPart (graph_with kinds entries) starts starts m r p
+alone_part kinds entries e sane dry n blank =
+    let g = graph_with kinds entries in
     let a = root_alone sane dry n in
-    reached_part kinds entries e sane a.1 a.0
-    (λ x b. omega (arith, cond-false (dir_at kinds 2) (count_by (refers x) (entries 2)) 0 dry))
+    reached_part kinds entries e sane a.1 a.0 (record {
+      counts = λ x b. omega (arith, cond-false (dir_at kinds 2) (count_by (refers x) (entries 2)) 0 dry);
+      names = λ x b. blank x ∙ sym (or-false (is_naming_dir g 2 x) ∙ and_left (dir_at kinds 2) _ dry);
+    })
 
 -- no entry is counted before the first directory
-pub none_counted : {g : Graph} {z : ℕ → Bool} {f : List ℕ} {m : List Bool} → ((x : ℕ) → bool_at m x ≡ false) →
-    IsCount g z [] f f m
-none_counted {f = f} blank = grind arith
+pub none_counted : {g : Graph} {f : List ℕ} {m : List Bool} → ((x : ℕ) → bool_at m x ≡ false) → IsCount g [] f f m
+none_counted {f = f} blank = record { counts = λ x b. sym (add-zero (number_at f x)); names = λ x b. blank x }

@@ -2,7 +2,7 @@
 -- add is the same before and after.
 use Rattle.std.proofs.Common.{◌≡◌, ℕ, ◌+◌, ◌<◌, Bool, false, not, cond, ◌&&◌, ◌||◌, List, Option, None, is_some}
 use Rattle.std.proofs.Common.{unwrap_or, arith}
-use Rattle.ffs_survey.specs.{Discover.{AreCountedOn, AreDiscovered, Found}, Survey.{bool_at, is_suspect_inode, number_at}}
+use Rattle.ffs_survey.specs.{Discover.{AreCountedOn, AreDiscovered, Found}, Survey.{bool_at, number_at}}
 use Rattle.ffs_survey.specs.Discover.{bit, occurrences}
 
 -- nothing is to come
@@ -25,12 +25,12 @@ none x = 0
 abbrev pub never : ℕ → Bool
 never x = false
 
--- of the references of the numbers below n, and of which suspect ones are named: the entries still to be read
--- add `count` references to a number, and name it where `name` says so
-pub record Counts (n : ℕ) (suspect : ℕ → Bool) (count : ℕ → ℕ) (name : ℕ → Bool) (references : List ℕ) (named : List Bool)
+-- of the references of the numbers below n, and of which are named: the entries still to be read add `count`
+-- references to a number, and name it where `name` says so
+pub record Counts (n : ℕ) (count : ℕ → ℕ) (name : ℕ → Bool) (references : List ℕ) (named : List Bool)
     (count' : ℕ → ℕ) (name' : ℕ → Bool) (references' : List ℕ) (named' : List Bool) : Type 0 where
   pub counts : (x : ℕ) → x < n → number_at references' x + count' x ≡ number_at references x + count x
-  pub names : (x : ℕ) → x < n → (bool_at named' x || (suspect x && name' x)) ≡ (bool_at named x || (suspect x && name x))
+  pub names : (x : ℕ) → x < n → (bool_at named' x || name' x) ≡ (bool_at named x || name x)
 
 -- what is discovered and counted once nothing is to come
 pub discovered_whole : {given : ℕ → Option ℕ} (old new : Found) → SameResult given old.reached old.parents old.queue
@@ -42,6 +42,8 @@ pub discovered_same : {given : ℕ → Option ℕ} {old new : Found} → AreDisc
 discovered_same is = grind arith
 
 pub counted_same : {n : ℕ} {count : ℕ → ℕ} {name : ℕ → Bool} {old new : Found} → AreCountedOn n count name old new →
-    Counts n (is_suspect_inode old.kinds old.marked) count name old.references old.named none never new.references
-    new.named
-counted_same is = grind arith
+    Counts n count name old.references old.named none never new.references new.named
+counted_same is = record {
+  counts = λ x l. let now = is.counts x l in omega (arith, now);
+  names = λ x l. let now = is.names x l in grind arith;
+}

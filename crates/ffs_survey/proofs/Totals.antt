@@ -128,24 +128,24 @@ count_by-step : {X : Type 0} (p : X → Bool) (e : X) (rest : List X) →
 count_by-step p e rest = omega (arith, sum_by-cons (λ x. cond (p x) 1 0) e rest, bit-times (p e) 1)
 
 -- the step of the loop over a directory
-pub entry_counted : {n : ℕ} {z : ℕ → Bool} {c : ℕ → ℕ} {a : ℕ → Bool} {f f' f'' : List ℕ} {m m' m'' : List Bool} (e : RoledEntry)
-    (rest : List RoledEntry) → Counts n z c a f m (count_in (e ∷ rest)) (any_in (e ∷ rest)) f' m' →
+pub entry_counted : {n : ℕ} {c : ℕ → ℕ} {a : ℕ → Bool} {f f' f'' : List ℕ} {m m' m'' : List Bool} (e : RoledEntry)
+    (rest : List RoledEntry) → Counts n c a f m (count_in (e ∷ rest)) (any_in (e ∷ rest)) f' m' →
     ((x : ℕ) → x < n → number_at f'' x ≡ number_at f' x + bit (refers x e)) →
-    ((x : ℕ) → x < n → bool_at m'' x ≡ (bool_at m' x || (z x && is_naming_entry x e))) →
-    Counts n z c a f m (count_in rest) (any_in rest) f'' m''
+    ((x : ℕ) → x < n → bool_at m'' x ≡ (bool_at m' x || is_naming_entry x e)) →
+    Counts n c a f m (count_in rest) (any_in rest) f'' m''
 entry_counted e rest h u w = record {
   counts = λ x l. omega (arith, u x l, count_by-step (refers x) e rest, h.counts x l);
   names = λ x l. let one = w x l in let two = h.names x l in grind arith;
 }
 
 -- the step of the loop over a level
-pub dir_counted : {n : ℕ} {z : ℕ → Bool} {c : ℕ → ℕ} {a : ℕ → Bool} {f f' f'' : List ℕ} {m m' m'' : List Bool} (kinds : List ℕ)
+pub dir_counted : {n : ℕ} {c : ℕ → ℕ} {a : ℕ → Bool} {f f' f'' : List ℕ} {m m' m'' : List Bool} (kinds : List ℕ)
     (entries : ℕ → List RoledEntry) (frontier : List ℕ) (i : ℕ) → i < length frontier →
     dir_at kinds (get_or frontier i 0) ≡ true →
-    Counts n z c a f m (count_of (graph_with kinds entries) (drop i frontier))
+    Counts n c a f m (count_of (graph_with kinds entries) (drop i frontier))
     (any_of (graph_with kinds entries) (drop i frontier)) f' m' →
-    Counts n z (count_in (entries (get_or frontier i 0))) (any_in (entries (get_or frontier i 0))) f' m' none never f''
-    m'' → Counts n z c a f m (count_of (graph_with kinds entries) (drop (i + 1) frontier))
+    Counts n (count_in (entries (get_or frontier i 0))) (any_in (entries (get_or frontier i 0))) f' m' none never f''
+    m'' → Counts n c a f m (count_of (graph_with kinds entries) (drop (i + 1) frontier))
     (any_of (graph_with kinds entries) (drop (i + 1) frontier)) f'' m''
 dir_counted kinds entries frontier i l d h k =
     let g = graph_with kinds entries in

@@ -1,17 +1,17 @@
 -- The directories that aren't reached are read after the others: what that adds, and that the
 -- survey is then whole.
-use Rattle.std.proofs.Common.{◌≡◌, ℕ, zero, suc, ◌+◌, ◌<◌, ◌≤◌, ◌==◌, Bool, true, false, not, cond, ◌&&◌, List}
+use Rattle.std.proofs.Common.{◌≡◌, ℕ, zero, suc, ◌+◌, ◌<◌, ◌≤◌, ◌==◌, Bool, true, false, not, cond, ◌&&◌, ◌||◌, List}
 use Rattle.std.proofs.{Common.{length, unwrap_or, refl, arith, sym, ◌∙◌, ap, subst, inl, inr}, lemmas.Bool.both_ways}
 use Rattle.std.proofs.lemmas.Bool.{cases_Bool, cases_lt, and_left, and_right, and_parts, false_from_ne_true}
-use Rattle.std.{proofs.lemmas.List.get_or_past, specs.List.list_any}
+use Rattle.std.proofs.lemmas.List.{get_or_past}
 use Rattle.ffs_volume.proofs.{LevelLaws.{reached-edge, reached-root}, SearchLaws.{some_below-suc, first_below-some}}
-use Rattle.ffs_volume.{proofs.SearchLaws.first_below-is_none, specs.Directories.Graph.{Graph, is_naming_dir, is_naming_entry, edge}}
-use Rattle.ffs_volume.specs.{Directories.Graph.{reached, parent}, Disk.Search.{first_below, earliest}}
+use Rattle.ffs_volume.{proofs.SearchLaws.first_below-is_none, specs.Directories.Graph.{Graph, is_naming_dir, edge}}
+use Rattle.ffs_volume.specs.{Directories.Graph.{reached, parent}, Disk.Search.{first_below, earliest, some_below}}
 use Rattle.ffs_volume.{proofs.{Graphs.IsSane, Unreached.parent-unreached}, specs.Directories.Roles.RoledEntry}
-use Rattle.ffs_survey.specs.Discover.{Found, AreCountedOn, AreNamedByReached, count_in, any_in, counted_by, IsReachedPart, IsRead}
+use Rattle.ffs_survey.specs.Discover.{Found, AreCountedOn, count_in, any_in, counted_by, IsReachedPart, IsRead}
 use Rattle.ffs_survey.specs.{Discover.{is_unreached_dir, is_unreached_edge}, Survey.{bool_at, number_at}}
 use Rattle.ffs_volume.specs.Encodings.Kinds.{dir_at}
-use Rattle.ffs_survey.{specs.Survey.{graph_with, counted_in, is_suspect_inode, start_in, AreNamed, IsSurvey}, proofs.Discovered.dir_below}
+use Rattle.ffs_survey.{specs.Survey.{graph_with, counted_in, start_in, IsSurvey}, proofs.Discovered.dir_below}
 use Rattle.ffs_survey.proofs.Totals.{counted_both, some_both}
 
 -- two tests that agree have the same first number
@@ -36,22 +36,19 @@ first_step p s o q q' a z k e h w = grind (arith, first_below-some)
 pub read_on : {old mid new : Found} (kinds : List ℕ) (entries : ℕ → List RoledEntry) (r : List Bool) (s : ℕ) →
     is_unreached_dir kinds r s ≡ true → ((x : ℕ) → is_unreached_dir kinds r x ≡ true → number_at old.parents x ≡ 0) →
     IsRead (graph_with kinds entries) kinds r s old mid →
-    mid.kinds ≡ kinds → mid.marked ≡ old.marked →
     AreCountedOn (length kinds) (count_in (entries s)) (any_in (entries s)) mid new →
     ((x : ℕ) → x < length kinds → number_at new.parents x
     ≡ cond ((number_at mid.parents x == 0) && (is_unreached_dir kinds r x && any_in (entries s) x)) s
     (number_at mid.parents x)) →
     IsRead (graph_with kinds entries) kinds r (s + 1) old new
 unfolding counted_by
-read_on {old = old} {mid = mid} {new = new} kinds entries r s unreached blank i ek em c u =
+read_on {old = old} {mid = mid} {new = new} kinds entries r s unreached blank i c u =
     subst (λ n. IsRead g kinds r n old new) one (record {
       counts = λ x l.
           let one : cond (not (bool_at r s)) (counted_in g s x) 0 ≡ count_in (entries s) x = grind arith in
           omega (arith, i.counts x l, c.counts x l, one);
       names = λ x l.
-          let was = i.names x l in
-          let now = rw (ek, em) at (c.names x l) in
-          let one = share x in
+          let was = i.names x l in let now = c.names x l in let one = share x in
           let more = some_below-suc (λ t. not (bool_at r t) && is_naming_dir g t x) s in
           grind arith;
       parent = λ x l.
@@ -73,26 +70,11 @@ read_on {old = old} {mid = mid} {new = new} kinds entries r s unreached blank i 
     share x = grind arith
 
 -- any other is passed over
-and_skip : (d r a : Bool) → (d && not r) ≡ false → (not r && (d && a)) ≡ false
-and_skip d r a taken = grind arith
-
 pub read_skip : {old new : Found} (kinds : List ℕ) (entries : ℕ → List RoledEntry) (r : List Bool) (s : ℕ) →
     is_unreached_dir kinds r s ≡ false → IsRead (graph_with kinds entries) kinds r s old new →
     IsRead (graph_with kinds entries) kinds r (s + 1) old new
 unfolding counted_by first_below
-read_skip {old = old} {new = new} kinds entries r s taken i =
-    let one : suc s ≡ s + 1 = omega arith in
-    let g = graph_with kinds entries in
-    let none = λ (x : ℕ). and_skip (dir_at kinds s) (bool_at r s) (list_any (is_naming_entry x) (entries s)) taken in
-    subst (λ n. IsRead g kinds r n old new) one (record {
-      counts = λ x l. let was = i.counts x l in grind arith;
-      names = λ x l.
-          let was = i.names x l in
-          let off = none x in
-          let more = some_below-suc (λ t. not (bool_at r t) && is_naming_dir g t x) s in
-          grind arith;
-      parent = λ x l. let was = i.parent x l in let off = none x in grind arith;
-    })
+read_skip {old = old} {new = new} kinds entries r s taken i = grind arith
 
 -- where none is unreached nothing is read
 pub read_none : {found : Found} (kinds : List ℕ) (entries : ℕ → List RoledEntry) (r : List Bool) (n : ℕ) →
@@ -105,8 +87,8 @@ read_none {found = found} kinds entries r (suc n) none =
     (read_skip kinds entries r n (none n (omega arith)) (read_none kinds entries r n (λ x low. none x (omega (arith, low)))))
 
 -- what has no mark and no parent yet
-pub unreached_blank : {starts f : List ℕ} {r : List Bool} {p : List ℕ} (kinds : List ℕ)
-    (entries : ℕ → List RoledEntry) → IsReachedPart (graph_with kinds entries) starts f r p →
+pub unreached_blank : {starts f : List ℕ} {m r : List Bool} {p : List ℕ} (kinds : List ℕ)
+    (entries : ℕ → List RoledEntry) → IsReachedPart (graph_with kinds entries) starts f m r p →
     (x : ℕ) → is_unreached_dir kinds r x ≡ true → number_at p x ≡ 0
 unreached_blank kinds entries i x h = let a = i.parent x in let b = i.reaches x in grind arith
 
@@ -120,29 +102,18 @@ unreached_edges kinds entries r x s ls lx h off =
     (λ t. both_ways (reached g x) (sym (h x) ∙ off) (reached-edge g s x ls lx (sym (h s) ∙ y) t)) in
     grind arith
 
--- what both parts name
-pub named_whole : {r : List Bool} {old new : Found} (kinds : List ℕ) (entries : ℕ → List RoledEntry) →
-    AreNamedByReached (graph_with kinds entries) (is_suspect_inode kinds old.marked) old.named r →
-    IsRead (graph_with kinds entries) kinds r (length kinds) old new →
-    AreNamed (graph_with kinds entries) kinds old.marked new.named
-named_whole {r = r} {old = old} kinds entries part more = record {
-  count = refl;
-  names = λ x l.
-      let reached = part x l in
-      let rest = more.names x l in
-      let both = some_both (bool_at r) (λ s. is_naming_dir (graph_with kinds entries) s x) (length kinds) in
-      grind arith;
-}
-
 -- both parts
 pub survey_whole : {given starts : List ℕ} {r : List Bool} {old new : Found} (kinds : List ℕ)
     (entries : ℕ → List RoledEntry) → IsSane (graph_with kinds entries) → length r ≡ length kinds →
     length new.parents ≡ length kinds → ((x : ℕ) → number_at starts x ≡ start_in given x) →
-    IsReachedPart (graph_with kinds entries) starts old.references r old.parents →
+    IsReachedPart (graph_with kinds entries) starts old.references old.named r old.parents →
     IsRead (graph_with kinds entries) kinds r (length kinds) old new →
-    IsSurvey (graph_with kinds entries) given new.references r new.parents
+    IsSurvey (graph_with kinds entries) given new.references new.named r new.parents
 survey_whole {r = r} {old = old} {new = new} kinds entries sane lr lp begins i k = record {
   counts = λ x l. omega (arith, k.counts x l, i.counts x l, counted_both (bool_at r) g x (length kinds), begins x);
+  names = λ x l. k.names x l
+      ∙ (ap (λ b. b || some_below (λ s. not (bool_at r s) && is_naming_dir g s x) (length kinds)) (i.names x l)
+      ∙ some_both (bool_at r) (λ s. is_naming_dir g s x) (length kinds));
   reaches = i.reaches;
   parent_is = λ x. elim (cases_lt x (length kinds)) [ inl l ↦ below x l | inr b ↦ past x b ];
 }

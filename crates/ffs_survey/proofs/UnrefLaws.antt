@@ -1,5 +1,5 @@
 -- The test of an unreferenced directory, from what is kept of each inode.
-use Rattle.std.proofs.Common.{◌≡◌, ◌≢◌, ℕ, zero, suc, ◌<◌, ◌≤◌, ◌==◌, Bool, true, cond, ◌&&◌, ◌||◌, List, length}
+use Rattle.std.proofs.Common.{◌≡◌, ◌≢◌, ℕ, zero, suc, ◌<◌, ◌==◌, Bool, true, false, cond, ◌&&◌, ◌||◌, List, length}
 use Rattle.std.proofs.Common.{Option, None, Some, unwrap_or, arith, sym, ◌∙◌, ap, inl, inr, ◌⊎◌}
 use Rattle.std.proofs.lemmas.Bool.Decides.{nat_tests}
 use mathlib.Core.Path.{fun_ext}
@@ -8,26 +8,18 @@ use Rattle.ffs_volume.{specs.Directories.Graph.{is_dead_in, none_or_dead, is_unr
 use Rattle.ffs_volume.{proofs.SearchLaws.first_below-some, specs.Directories.Climb.is_leader_within}
 use Rattle.ffs_survey.{proofs.Discovered.dir_below, specs.{Cycles.parent_in, Survey.{AreNamed, IsTree, number_at}}}
 use Rattle.ffs_survey.specs.Survey.{dead_at, suspect_at}
-use Rattle.ffs_volume.specs.Encodings.Kinds.{dir_at}
-
--- a directory is no number below the root's
-abbrev AreDirsLow : Graph → Type 0
-AreDirsLow v = (x : ℕ) → v.is_dir x ≡ true → 2 ≤ x
-
-pub dir_low : (kinds : List ℕ) (x : ℕ) → dir_at kinds x ≡ true → 2 ≤ x
-dir_low kinds x h = grind (arith, nat_tests)
 
 -- what a parent is
 record IsParent (v : Graph) (s : ℕ) : Type 0 where
-  low : 2 ≤ s
+  some : s ≢ 0
   below : s < v.count
 
-parent_by-dir : (v : Graph) (x s : ℕ) (o : Option ℕ) → AreDirsLow v → parent_by v x o ≡ Some s → IsParent v s
+parent_by-dir : (v : Graph) (x s : ℕ) (o : Option ℕ) → v.is_dir 0 ≡ false → parent_by v x o ≡ Some s → IsParent v s
 parent_by-dir v x s None z h = grind (arith, first_below-some)
 parent_by-dir v x s (Some zero) z h = absurd (cc)
 parent_by-dir v x s (Some (suc k)) z h = grind (arith, first_below-some)
 
-parent-some : (v : Graph) (x s : ℕ) → IsSane v → AreDirsLow v → parent v x ≡ Some s → IsParent v s
+parent-some : (v : Graph) (x s : ℕ) → IsSane v → v.is_dir 0 ≡ false → parent v x ≡ Some s → IsParent v s
 unfolding parent
 parent-some v x s sane z h = grind (arith, parent_by-dir)
 
@@ -36,7 +28,7 @@ abbrev Holds : Graph → List ℕ → ℕ → Type 0
 Holds v p d = ((parent v d ≡ None) × (number_at p d ≡ 0))
     ⊎ ((parent v d ≡ Some (number_at p d)) × IsParent v (number_at p d))
 
-holds : (v : Graph) (p : List ℕ) (d : ℕ) → IsSane v → AreDirsLow v → number_at p d ≡ unwrap_or (parent v d) 0 →
+holds : (v : Graph) (p : List ℕ) (d : ℕ) → IsSane v → v.is_dir 0 ≡ false → number_at p d ≡ unwrap_or (parent v d) 0 →
     Holds v p d
 holds v p d sane z h = grind (arith, parent-some)
 
@@ -50,16 +42,15 @@ none_or_dead_is v suspect p d h = grind (arith, nat_tests)
 
 -- whether an inode is dead in a graph, by a list of what is named in it
 pub dead_is : {v : Graph} {kinds : List ℕ} {named : List Bool} {dead : Bool} (marked : List Bool) (x : ℕ) →
-    AreNamed v kinds marked named → 2 ≤ x → x < length kinds → dead ≡ dead_at kinds marked named x → dead ≡ is_dead_in v (suspect_at kinds marked) x
-dead_is {v = v} marked x n low below is = grind arith
+    AreNamed v kinds named → x < length kinds → dead ≡ dead_at kinds marked named x → dead ≡ is_dead_in v (suspect_at kinds marked) x
+dead_is {v = v} marked x n below is = grind arith
 
 -- what is kept, with a parent list of full length
 tree-sane : {v : Graph} {kinds : List ℕ} {r : List Bool} {p : List ℕ} → IsTree v kinds r p → IsSane v
 tree-sane {kinds = kinds} t = grind (arith, dir_below)
 
 tree-holds : {v : Graph} {kinds : List ℕ} {r : List Bool} {p : List ℕ} (d : ℕ) → IsTree v kinds r p → Holds v p d
-tree-holds {v = v} {kinds = kinds} {p = p} d t =
-    holds v p d (tree-sane t) (λ x h. dir_low kinds x (sym (t.dirs x) ∙ h)) (t.parent_is d)
+tree-holds {v = v} {p = p} d t = holds v p d (tree-sane t) (t.dirs 0) (t.parent_is d)
 
 -- a parent is below the number of inodes
 pub parent-below : {v : Graph} {kinds : List ℕ} {r : List Bool} {p : List ℕ} (d : ℕ) → IsTree v kinds r p →
@@ -67,14 +58,6 @@ pub parent-below : {v : Graph} {kinds : List ℕ} {r : List Bool} {p : List ℕ}
 parent-below d t = elim (tree-holds d t) [
   | inl none ↦ omega (arith, none.1, t.some, t.count)
   | inr some ↦ omega (arith, some.1.below, t.count)
-]
-
--- nor is a parent, if there is one
-pub parent-low : {v : Graph} {kinds : List ℕ} {r : List Bool} {p : List ℕ} (d : ℕ) → IsTree v kinds r p →
-    number_at p d ≢ 0 → 2 ≤ number_at p d
-parent-low d t some = elim (tree-holds d t) [
-  | inl none ↦ absurd (some none.1)
-  | inr is ↦ is.1.low
 ]
 
 pub unref_is : {v : Graph} {suspect : ℕ → Bool} {kinds : List ℕ} {r : List Bool} {p : List ℕ} {d : ℕ} →

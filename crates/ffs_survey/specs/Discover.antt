@@ -4,11 +4,11 @@ use Rattle.std.specs.Prelude.{◌||◌, length, take, if◌then◌else◌, List,
 use Rattle.std.specs.{Prelude.{unwrap_or, find, count_by}, List.{list_any, sum_by}}
 use Rattle.ffs_volume.specs.{Directories.{Roles.{RoledEntry, refers}, Climb.is_value}, Disk.Search.first_below}
 use Rattle.ffs_volume.specs.Directories.Graph.{Graph, is_naming_entry, is_naming_dir, edge, within, level, parent}
-use Rattle.ffs_survey.specs.Survey.{bool_at, number_at, counted_in, is_suspect_inode}
+use Rattle.ffs_survey.specs.Survey.{bool_at, number_at, counted_in}
 use Rattle.ffs_volume.specs.Encodings.Kinds.{dir_at}
 
 -- what the lists of a survey hold at a moment: the kinds and the marks that it goes by, and what it has found
--- so far: references, suspect inodes that are named, reached inodes, parents, calm directories, and the queue
+-- so far: references, named and reached inodes, parents, calm directories, and the queue
 pub record Found : Type 0 where
   pub kinds : List ℕ
   pub marked : List Bool
@@ -63,32 +63,23 @@ count_of g ss x = sum_by (λ s. counted_in g s x) ss
 abbrev pub any_of : Graph → List ℕ → ℕ → Bool
 any_of g ss x = list_any (λ s. is_naming_dir g s x) ss
 
--- this entry is counted: the references of the numbers below n
-pub record IsCounted (n : ℕ) (e : RoledEntry) (references references' : List ℕ) : Type 0 where
+-- this entry is counted: the references of the numbers below n, and which are named
+pub record IsCounted (n : ℕ) (e : RoledEntry) (references : List ℕ) (named : List Bool) (references' : List ℕ)
+    (named' : List Bool) : Type 0 where
   pub long : length references' ≡ length references
+  pub named_long : length named' ≡ length named
   pub counts : (x : ℕ) → x < n → number_at references' x ≡ number_at references x + bit (refers x e)
+  pub names : (x : ℕ) → x < n → bool_at named' x ≡ (bool_at named x || is_naming_entry x e)
 
--- this entry names no number that passes
-abbrev pub NamesNoneOf : (ℕ → Bool) → RoledEntry → Type 0
-NamesNoneOf passes e = (x : ℕ) → (passes x && is_naming_entry x e) ≡ false
-
--- the number below n that this entry names is flagged if it is suspect, and no other flag changes
-pub record IsSuspectFlagged (n : ℕ) (suspect : ℕ → Bool) (e : RoledEntry) (named named' : List Bool) : Type 0 where
-  pub long : length named' ≡ length named
-  pub names : (x : ℕ) → x < n → bool_at named' x ≡ (bool_at named x || (suspect x && is_naming_entry x e))
-
--- what was read is counted: it refers `count` times to a number below n, and names it where `name` says so:
--- it is flagged then if it is a suspect inode
+-- what was read is counted: it refers `count` times to a number below n, and names it where `name` says so
 pub record AreCountedOn (n : ℕ) (count : ℕ → ℕ) (name : ℕ → Bool) (old new : Found) : Type 0 where
   pub counts : (x : ℕ) → x < n → number_at new.references x ≡ number_at old.references x + count x
-  pub names : (x : ℕ) → x < n
-      → bool_at new.named x ≡ (bool_at old.named x || (is_suspect_inode old.kinds old.marked x && name x))
+  pub names : (x : ℕ) → x < n → bool_at new.named x ≡ (bool_at old.named x || name x)
 
--- what exactly these directories refer to, counted on from these starts, and which suspect numbers they name
-pub record IsCount (g : Graph) (suspect : ℕ → Bool) (dirs starts references : List ℕ) (named : List Bool)
-    : Type 0 where
+-- what exactly these directories refer to, counted on from these starts, and what they name
+pub record IsCount (g : Graph) (dirs : List ℕ) (starts references : List ℕ) (named : List Bool) : Type 0 where
   pub counts : (x : ℕ) → x < g.count → number_at references x ≡ number_at starts x + count_of g dirs x
-  pub names : (x : ℕ) → x < g.count → bool_at named x ≡ (suspect x && any_of g dirs x)
+  pub names : (x : ℕ) → x < g.count → bool_at named x ≡ any_of g dirs x
 
 -- each number of an ascending list is before no smaller one
 abbrev pub Rising : List ℕ → Type 0
@@ -117,18 +108,15 @@ counted_by counts g x zero = 0
 counted_by counts g x (suc s) = counted_by counts g x s + (if counts s then counted_in g s x else 0)
 
 -- what is known when all reached directories are read: references, counted on from these starts,
--- which inodes are reached, and parents
-pub record IsReachedPart (g : Graph) (starts references : List ℕ) (reached : List Bool) (parents : List ℕ)
+-- which inodes are named and which are reached, and parents
+pub record IsReachedPart (g : Graph) (starts references : List ℕ) (named reached : List Bool) (parents : List ℕ)
     : Type 0 where
   pub counts : (x : ℕ) → x < g.count
       → number_at references x ≡ number_at starts x + counted_by (bool_at reached) g x g.count
+  pub names : (x : ℕ) → x < g.count
+      → bool_at named x ≡ is_some (first_below (λ s. bool_at reached s && is_naming_dir g s x) g.count)
   pub reaches : (x : ℕ) → bool_at reached x ≡ is_some (level g x)
   pub parent : (x : ℕ) → number_at parents x ≡ unwrap_or (cond (is_some (level g x)) (parent g x) None) 0
-
--- and which suspect numbers these directories name
-abbrev pub AreNamedByReached : Graph → (ℕ → Bool) → (named reached : List Bool) → Type 0
-AreNamedByReached g suspect named reached = (x : ℕ) → x < g.count → bool_at named x
-    ≡ (suspect x && is_some (first_below (λ s. bool_at reached s && is_naming_dir g s x) g.count))
 
 -- x is a directory that isn't reached
 abbrev pub is_unreached_dir : List ℕ → List Bool → ℕ → Bool
@@ -143,14 +131,13 @@ is_unreached_edge g kinds reached x s =
 abbrev pub IsBlank : List ℕ → List Bool → List ℕ → Type 0
 IsBlank kinds reached parents = (x : ℕ) → is_unreached_dir kinds reached x ≡ true → number_at parents x ≡ 0
 
--- what the directories below n that aren't reached add to references and to the suspect inodes that
--- are named, and which parents they give
+-- what the directories below n that aren't reached add to references and to what is named, and
+-- which parents they give
 pub record IsRead (g : Graph) (kinds : List ℕ) (reached : List Bool) (n : ℕ) (old new : Found) : Type 0 where
   pub counts : (x : ℕ) → x < g.count
       → number_at new.references x ≡ number_at old.references x + counted_by (λ s. not (bool_at reached s)) g x n
   pub names : (x : ℕ) → x < g.count → bool_at new.named x ≡ (bool_at old.named x
-      || (is_suspect_inode kinds old.marked x
-      && is_some (first_below (λ s. not (bool_at reached s) && is_naming_dir g s x) n)))
+      || is_some (first_below (λ s. not (bool_at reached s) && is_naming_dir g s x) n))
   pub parent : (x : ℕ) → x < g.count → number_at new.parents x
       ≡ unwrap_or (first_below (is_unreached_edge g kinds reached x) n) (number_at old.parents x)
 

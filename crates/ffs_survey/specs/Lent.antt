@@ -6,11 +6,11 @@ use Rattle.ffs_volume.specs.Directories.{Graph.is_naming_entry, Roles.RoledEntry
 use Rattle.ffs_survey.specs.declared.lists.{Lists.Lists, FoundLists.FoundLists, KnownInodes.KnownInodes}
 use Rattle.ffs_survey.specs.declared.lists.{LentDir.LentDir}
 use Rattle.ffs_survey.specs.{declared.directories.Directories.Ghosts, Survey.{number_at, bool_at, graph_with}}
-use Rattle.ffs_survey.specs.Survey.{is_suspect_inode, most_start}
+use Rattle.ffs_survey.specs.Survey.{most_start}
 use Rattle.ffs_volume.specs.Encodings.Kinds.{dir_at}
 use Rattle.ffs_survey.specs.Calm.{dir_by, AreCalm, IsFlagged, IsReadOnce}
 use Rattle.ffs_volume.specs.{Directories.Calm.CurrentDir, Report.DirectoryReads.costs_below}
-use Rattle.ffs_survey.specs.Discover.{AreDiscovered, AreNamedByReached, Extends, Found, IsReachedDir, IsReachedPart, from_entries}
+use Rattle.ffs_survey.specs.Discover.{AreDiscovered, Extends, Found, IsReachedDir, IsReachedPart, from_entries}
 use Rattle.ffs_survey.specs.{Discover.{is_unreached_dir, unset}, Levels.ReadsUnreached, Lists.{AreLists, GrowsBy}}
 
 -- what the lists hold
@@ -225,9 +225,7 @@ module _ {S : Type 0} (D : Ghosts S) where
   pub record ReadsEachReached (old new : S) (l l' : Lists) : Type 0 where
     pub counts : CountsAtMost (2 ^ 59) l'
     pub part : ForKnown old (λ entries right_shape. IsReachedPart (graph_with l.kinds.now entries)
-        l.references.now.items l'.references.now.items l'.reached.now.items l'.parents.now.items)
-    pub named : ForKnown old (λ entries right_shape. AreNamedByReached (graph_with l.kinds.now entries)
-        (is_suspect_inode l.kinds.now l.marked.now.items) l'.named.now.items l'.reached.now.items)
+        l.references.now.items l'.references.now.items l'.named.now.items l'.reached.now.items l'.parents.now.items)
     pub calm : ForKnown old (λ entries right_shape. AreCalm l.kinds.now l.marked.now.items l'.reached.now.items
         l'.parents.now.items entries right_shape l'.calm.now.items)
     pub read : ForKnown old (λ entries right_shape. (d : ℕ) → dir_at l.kinds.now d ≡ true

@@ -1,7 +1,7 @@
 -- What the reading of directories makes of what a survey has found.
 use Rattle.std.specs.Prelude.{◌≡◌, ℕ, ◌+◌, ◌<◌, ◌≤◌, ◌==◌, All, Bool, true, ◌&&◌, cond, List, length, take}
 use Rattle.ffs_volume.specs.Directories.Roles.{RoledEntry}
-use Rattle.ffs_survey.specs.{Survey.{bool_at, number_at, graph_with, AreNamed, IsSurvey}, Calm.{dir_by, AreCalm, IsFlagged}}
+use Rattle.ffs_survey.specs.{Survey.{bool_at, number_at, graph_with, IsSurvey}, Calm.{dir_by, AreCalm, IsFlagged}}
 use Rattle.ffs_volume.specs.Directories.Calm.{are_calm}
 use Rattle.ffs_survey.specs.Calm.{AreUnread, EachCalmIsFlagged, IsReadOnce}
 use Rattle.ffs_survey.specs.Discover.{Found, AreCountedOn, AreDiscovered, from_entries, from_dirs, count_in}
@@ -41,8 +41,7 @@ pub record ReadsDirs (dirs : List ℕ) (entries : ℕ → List RoledEntry) (righ
 -- and each has one that is calm by the parents of what it names. It says nothing of the queue
 pub record FindsSurvey (kinds : List ℕ) (marked : List Bool) (entries : ℕ → List RoledEntry) (right_shape : ℕ → Bool)
     (starts : List ℕ) (found : Found) : Type 0 where
-  pub survey : IsSurvey (graph_with kinds entries) starts found.references found.reached found.parents
-  pub named : AreNamed (graph_with kinds entries) kinds marked found.named
+  pub survey : IsSurvey (graph_with kinds entries) starts found.references found.named found.reached found.parents
   pub calm : AreCalm kinds marked found.reached found.parents entries right_shape found.calm
   pub flagged : EachCalmIsFlagged kinds marked found.reached found.parents entries right_shape found.calm
 

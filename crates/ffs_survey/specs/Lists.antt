@@ -3,15 +3,11 @@ use Rattle.std.specs.Prelude.{◌≡◌, ℕ, ◌+◌, ◌<◌, ◌≤◌, ◌^�
 use Rattle.ffs_volume.specs.Directories.Climb.{is_leader_within}
 use Rattle.ffs_survey.specs.{Survey.{bool_at, number_at}, Cycles.parent_in, Discover.Found}
 
--- the references of each inode: one more of x fits
-pub record FitsOneMore (kinds references : List ℕ) (x : ℕ) : Type 0 where
+-- the references of each inode and whether an entry names it: one more reference of x fits
+pub record CountLists (kinds references : List ℕ) (named : List Bool) (x : ℕ) : Type 0 where
   pub references_long : length references ≡ length kinds
-  pub room : x < length kinds → number_at references x + 1 < 2 ^ 64
-
--- the marks, and the flags of suspect inodes that are named, have an element for each inode
-pub record CanFlagSuspects (kinds : List ℕ) (marked named : List Bool) : Type 0 where
-  pub marked_long : length marked ≡ length kinds
   pub named_long : length named ≡ length kinds
+  pub room : x < length kinds → number_at references x + 1 < 2 ^ 64
 
 -- no flag is set, unless `any` says so
 abbrev pub NoneUnless : Bool → List Bool → Type 0

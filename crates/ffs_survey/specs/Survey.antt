@@ -1,5 +1,5 @@
 -- What a survey of directories finds of each inode, and the graph that it goes over.
-use Rattle.std.specs.Prelude.{◌≡◌, ℕ, zero, suc, ◌+◌, ◌<◌, ◌==◌, Bool, ◌&&◌, ◌||◌, nat_le, not, min, if◌then◌else◌}
+use Rattle.std.specs.Prelude.{◌≡◌, ℕ, zero, suc, ◌+◌, ◌<◌, ◌==◌, Bool, ◌&&◌, ◌||◌, not, min, if◌then◌else◌}
 use Rattle.std.specs.Prelude.{List, length, count_by, unwrap_or}
 use Rattle.ffs_volume.specs.{declared.constants.TheConstants.{NO_LINKS, ROOTINO}, Directories.Roles.RoledEntry}
 use Rattle.ffs_volume.specs.Directories.{Roles.refers, Graph.{Graph, is_named, reached as is_reached, parent}}
@@ -11,10 +11,6 @@ use Rattle.ffs_volume.specs.Encodings.Kinds.{dir_at}
 -- x is suspect: marked, or a directory of size 0
 abbrev pub suspect_at : List ℕ → List Bool → ℕ → Bool
 suspect_at kinds marked x = bool_at marked x || is_empty_dir_kind (number_at kinds x)
-
--- x is a suspect inode: the first is the root. The survey flags those of them that a plain entry names
-abbrev pub is_suspect_inode : List ℕ → List Bool → ℕ → Bool
-is_suspect_inode kinds marked x = nat_le ROOTINO x && suspect_at kinds marked x
 
 -- x is dead: suspect, not the root, and not named
 abbrev pub dead_at : List ℕ → List Bool → List Bool → ℕ → Bool
@@ -45,16 +41,18 @@ abbrev pub start_in : (starts : List ℕ) (x : ℕ) → ℕ
 start_in starts x = min (number_at starts x) most_start
 
 -- these lists hold of each inode how many entries refer to it, counted on from where it starts,
--- whether it is reached from inode 2, and its parent, 0 for none
-pub record IsSurvey (g : Graph) (starts references : List ℕ) (reached : List Bool) (parents : List ℕ) : Type 0 where
+-- whether a plain one names it, whether it is reached from inode 2, and its parent, 0 for none
+pub record IsSurvey (g : Graph) (starts references : List ℕ) (named reached : List Bool) (parents : List ℕ)
+    : Type 0 where
   pub counts : (x : ℕ) → x < g.count → number_at references x ≡ start_in starts x + references_to g x
+  pub names : (x : ℕ) → x < g.count → bool_at named x ≡ is_named g x
   pub reaches : (x : ℕ) → bool_at reached x ≡ is_reached g x
   pub parent_is : (x : ℕ) → number_at parents x ≡ unwrap_or (parent g x) 0
 
--- this list holds of each inode of a graph whether it is suspect and a plain entry names it
-pub record AreNamed (g : Graph) (kinds : List ℕ) (marked named : List Bool) : Type 0 where
+-- this list holds of each inode of a graph whether a plain entry names it
+pub record AreNamed (g : Graph) (kinds : List ℕ) (named : List Bool) : Type 0 where
   pub count : g.count ≡ length kinds
-  pub names : (x : ℕ) → x < g.count → bool_at named x ≡ (is_suspect_inode kinds marked x && is_named g x)
+  pub names : (x : ℕ) → x < g.count → bool_at named x ≡ is_named g x
 
 -- a graph over the directories of these kinds; the other lists hold of each inode whether it is
 -- reached in that graph, and its parent, 0 for none

@@ -1,29 +1,34 @@
 //! Reads a directory, or a level of directories: what their entries name.
-ghost use Rattle.std.specs.Prelude.{◌≡◌, ◌*◌, ◌-◌, ◌^◌, ◌<◌, ◌&&◌, ℕ, Bool, nat_le, true, [], length, vec_len, drop, take, IfOk, OnOk};
+ghost use Rattle.std.specs.Prelude.{◌≡◌, ◌*◌, ◌-◌, ◌^◌, ◌<◌, ◌&&◌, nat_le, [], length, vec_len, drop, take, IfOk, OnOk};
 ghost use Rattle.std.specs.List.{sum_by};
 ghost use Rattle.ffs_volume.specs.Directories.Roles.{is_plain as is_plain_role};
-ghost use Rattle.ffs_survey.specs.{Reading.roled_of, Lists.{CanFlagSuspects, FitsOneMore}, Survey.{bool_at, is_suspect_inode}};
+ghost use Rattle.ffs_survey.specs.{Reading.roled_of, Lists.CountLists, Survey.{bool_at}};
 ghost use Rattle.ffs_survey.specs.Lent.{found_up_to, current_of, ForKnown, CanVisit, CanCount, CanReach, CanReadLevel};
 ghost use Rattle.ffs_survey.specs.Lent.{Adopts, AddsUnreached, FlagsIfCalm, LeavesLent, Visits};
 ghost use Rattle.ffs_survey.specs.Levels.{Discovers, ReadsReached, ReadsDirs};
 ghost use Rattle.ffs_volume.specs.Directories.Calm.{is_calm_kind, is_calm_plain, is_calm_entry};
-ghost use Rattle.ffs_survey.specs.Discover.{IsCounted, IsSuspectFlagged, NamesNoneOf, is_unreached_dir as is_unreached_dir_at};
+ghost use Rattle.ffs_survey.specs.Discover.{IsCounted, is_unreached_dir as is_unreached_dir_at};
 
 use crate::directories::Directories;
 use crate::entry_head::{EntryHead, is_counted, is_plain};
 use crate::lists::{LentDir, Lists};
 use crate::numbers::{is_dir, number_of};
-use crate::unref::is_suspect;
 use ffs_image::ImageFault;
 use ffs_memory::FilledList;
 use ffs_volume::Role;
 use ffs_volume::constants::{DT_DIR, DT_WHT, EMPTY_DIR_KIND, ROOTINO, UNKNOWN_KIND, WINO};
 
-/// Counts an entry for the inode whose number it carries.
-fn count_entry(entry: EntryHead, kinds: &[u8], references: &mut FilledList<u64>)
-    requires { FitsOneMore kinds.now references.old.items entry.number }
-    ensures { IsCounted (length kinds.now) (roled_of entry []) references.old.items
-        references.new.items }
+/// Counts an entry for the inode whose number it carries, and flags that inode as named where the
+/// entry is plain.
+fn count_entry(
+    entry: EntryHead,
+    kinds: &[u8],
+    references: &mut FilledList<u64>,
+    named: &mut FilledList<bool>,
+)
+    requires { CountLists kinds.now references.old.items named.old.items entry.number }
+    ensures { IsCounted (length kinds.now) (roled_of entry []) references.old.items named.old.items
+        references.new.items named.new.items }
 {
     let number = entry.number as usize;
     if !is_counted(entry.role) || number >= kinds.len() {
@@ -31,30 +36,7 @@ fn count_entry(entry: EntryHead, kinds: &[u8], references: &mut FilledList<u64>)
     }
     let count = references[number];
     references.set(number, count + 1);
-}
-
-/// Flags the inode that an entry names, where the entry is plain and the inode suspect, the root or
-/// a later one: no other can be dead. So no memory of `named` is touched for most volumes. Of an
-/// entry that is known to be calm nothing is asked: it names no such inode.
-#[inline(always)]
-fn flag_suspect(
-    entry: EntryHead,
-    is_calm: bool,
-    kinds: &[u8],
-    marked: &FilledList<bool>,
-    named: &mut FilledList<bool>,
-)
-    requires lists { CanFlagSuspects kinds.now marked.now.items named.old.items }
-    requires calm { is_calm ≡ true → NamesNoneOf
-        (is_suspect_inode kinds.now marked.now.items) (roled_of entry []) }
-    ensures { IsSuspectFlagged (length kinds.now) (is_suspect_inode kinds.now marked.now.items)
-        (roled_of entry []) named.old.items named.new.items }
-{
-    let number = entry.number as usize;
-    if is_calm || !is_plain(entry.role) || entry.number < ROOTINO || number >= kinds.len() {
-        return;
-    }
-    if is_suspect(kinds, marked, number) {
+    if is_plain(entry.role) {
         named.set(number, true);
     }
 }
@@ -156,22 +138,6 @@ fn is_calm_entry(entry: EntryHead, index: u32, current: &LentDir, lists: &Lists)
     }
 }
 
-/// Whether nothing can be reported of the entries of the current directory up to this one, where
-/// `calm_so_far` says that of those before it.
-fn stays_calm(
-    entry: EntryHead,
-    calm_so_far: bool,
-    index: u32,
-    current: &LentDir,
-    lists: &Lists,
-) -> bool
-    requires { current.now.kinds.now ≡ lists.now.kinds.now }
-    ensures { result ≡ (calm_so_far && is_calm_entry (current_of current.now)
-        (bool_at lists.now.reached.now.items) index (roled_of entry [])) }
-{
-    calm_so_far && is_calm_entry(entry, index, current, lists)
-}
-
 /// Flags the directory `from`, all of whose `count` entries are read, if these are calm and its
 /// shape is right.
 fn flag_calm<D: Directories>(
@@ -226,15 +192,8 @@ fn read_reached<D: Directories>(
     let mut count = 0u32;
     directories.start(from)?;
     while let Some(entry) = directories.next()? {
-        count_entry(entry, current.kinds, lists.references);
-        calm_so_far = stays_calm(entry, calm_so_far, count, &current, lists);
-        flag_suspect(
-            entry,
-            calm_so_far,
-            current.kinds,
-            current.marked,
-            lists.named,
-        );
+        count_entry(entry, current.kinds, lists.references, lists.named);
+        calm_so_far = calm_so_far && is_calm_entry(entry, count, &current, lists);
         high = visit(entry, &current, lists, high);
         count += 1;
     }
@@ -301,8 +260,7 @@ pub fn read_unreached<D: Directories>(
 {
     directories.start(from)?;
     while let Some(entry) = directories.next()? {
-        count_entry(entry, lists.kinds, lists.references);
-        flag_suspect(entry, false, lists.kinds, lists.marked, lists.named);
+        count_entry(entry, lists.kinds, lists.references, lists.named);
         adopt(entry, from, lists);
     }
     Ok(())

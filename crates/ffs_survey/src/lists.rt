@@ -19,8 +19,7 @@ pub struct FoundLists<'a> {
     /// How many entries refer to each inode, added to the number that the list had at first: the
     /// *start* of the inode.
     pub references: &'a mut FilledList<u64>,
-    /// Whether each inode is suspect (marked, or a directory of size 0; the root or a later one)
-    /// and a plain entry names it.
+    /// Whether a plain entry names each inode.
     pub named: &'a mut FilledList<bool>,
     /// Whether each inode is reached from inode 2.
     pub reached: &'a mut FilledList<bool>,
@@ -91,7 +90,7 @@ pub struct Surveyed<'a> {
     pub kinds: &'a [u8],
     /// Whether each inode is marked.
     pub marked: &'a FilledList<bool>,
-    /// As `named` of `FoundLists`.
+    /// Whether a plain entry names each inode.
     pub named: &'a FilledList<bool>,
     /// Whether each inode is reached from inode 2.
     pub reached: &'a FilledList<bool>,

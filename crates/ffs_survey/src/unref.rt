@@ -20,8 +20,7 @@ pub fn is_suspect(kinds: &[u8], marked: &FilledList<bool>, number: usize) -> boo
     marked[number] | kind.is_empty_dir()
 }
 
-/// Whether an inode is dead: suspect, not the root, and named by no plain entry. `named` flags
-/// suspect inodes alone.
+/// Whether an inode is dead: suspect, not the root, and named by no plain entry.
 pub fn is_dead(
     kinds: &[u8],
     marked: &FilledList<bool>,
@@ -47,8 +46,7 @@ fn parent_of(parents: &FilledList<u32>, dir: u32) -> Option<u32>
 /// with a dead one, or the least number on a cycle of parents.
 pub fn is_unref(dir: u32, found: &Surveyed<'_>) -> bool
     requires { dir < length found.now.kinds.now }
-    ensures { (graph : Graph) → AreNamed graph found.now.kinds.now found.now.marked.now.items
-        found.now.named.now.items
+    ensures { (graph : Graph) → AreNamed graph found.now.kinds.now found.now.named.now.items
         → IsTree graph found.now.kinds.now found.now.reached.now.items found.now.parents.now.items
         → result
         ≡ is_unref_dir_in graph (suspect_at found.now.kinds.now found.now.marked.now.items) dir }

@@ -1,6 +1,6 @@
 use Rattle.std.proofs.Common.{◌≡◌, ℕ, ◌+◌, ◌-◌, ◌*◌, ◌<◌, ◌≤◌, ◌^◌, true, List, length, take, drop, All, sum_by}
 use Rattle.ffs_survey.specs.Discover.{Extends, IsReachedDir, from_dirs, unset, count_of, any_of}
-use Rattle.ffs_survey.{specs.{Calm.{AreCalm, AreUnread}, Survey.{bool_at, graph_with, is_suspect_inode, number_at}}, proofs.Lending.StillLent}
+use Rattle.ffs_survey.{specs.{Calm.{AreCalm, AreUnread}, Survey.{bool_at, graph_with, number_at}}, proofs.Lending.StillLent}
 use Rattle.ffs_survey.proofs.{ReadOnce.IsReadTo, Remaining.{Counts, SameResult}}
 use Rattle.ffs_survey.proofs.discover.read_level.Given as goal
 
@@ -24,8 +24,7 @@ invariant-loop-at g l =
       same_result : (b : List ℕ) → knows b → SameResult (from_dirs (graph b) (drop l.low level)) old.reached.now.items
           old.parents.now.items level (from_dirs (graph b) (drop l.at level)) l.lists.reached.now.items
           l.lists.parents.now.items (take l.top l.lists.queue.now.items);
-      counts : (b : List ℕ) → knows b → Counts (length old.kinds.now)
-          (is_suspect_inode old.kinds.now old.marked.now.items) (count_of (graph b) (drop l.low level))
+      counts : (b : List ℕ) → knows b → Counts (length old.kinds.now) (count_of (graph b) (drop l.low level))
           (any_of (graph b) (drop l.low level)) old.references.now.items old.named.now.items
           (count_of (graph b) (drop l.at level)) (any_of (graph b) (drop l.at level))
           l.lists.references.now.items l.lists.named.now.items;

@@ -1,9 +1,11 @@
-use Rattle.std.proofs.Common.{arith, ap, ◌∙◌, rules, ◌≡◌, ◌∷◌, ◌<◌, List, ℕ}
+use Rattle.std.proofs.Common.{arith, ap, ◌∙◌, ◌&&◌, rules, ◌≡◌, ◌∷◌, ◌<◌, List, ℕ}
 use Rattle.ffs_volume.specs.Directories.Roles.{RoledEntry, refers}
 use Rattle.ffs_survey.proofs.{CalmLaws.{calm_step, read_whole}, Discovered.{bit-le, entry_step}, Lending.still_by}
 use Rattle.ffs_survey.proofs.{Lending.{same_kinds, queue_long}, Queues.{extends_on, keeps_queue}, Totals.entry_counted}
 use Rattle.ffs_survey.proofs.Remaining.{discovered_same, discovered_whole}
-use Rattle.ffs_survey.specs.{Lent.current_in, Reading.roled_of, Survey.{number_at}}
+use Rattle.ffs_survey.specs.{Lent.current_in, Reading.roled_of, Survey.{bool_at, number_at}}
+use Rattle.ffs_volume.specs.Directories.Calm.{is_calm_entry}
+use Rattle.ffs_survey.proofs.discover.read_reached.Goals.{then-calm_so_far, else-calm_so_far}
 use Rattle.ffs_survey.proofs.discover.read_reached.Goals as goal
 
 pub loop-entry-preserved : goal.loop-entry-preserved
@@ -22,6 +24,12 @@ loop-entry-preserved g c =
     let counted = c.count_entry.ensures in
     let visited = c.visit-high.ensures in
     let same_result = rw (same_kinds inv.lent.same) at (discovered_same visited.discovered) in
+    let right : c.if-calm_so_far.calm_so_far ≡ (c.loop-entry.calm_so_far
+    && is_calm_entry current (bool_at c.loop-entry.lists.reached.now.items) c.loop-entry.count e)
+    = elim c.if-calm_so_far.branch [
+      | then-calm_so_far w ↦ rw w.if-calm_so_far.true (w.calm_so_far-is ∙ w.is_calm_entry-calm_so_far.ensures)
+      | else-calm_so_far w ↦ rw w.if-calm_so_far.false (w.calm_so_far-is ∙ w.if-calm_so_far.false)
+    ] in
     record {
       lent = still_by g.D.Directories (search rules) (search rules) (search rules)
           (visited.counts.same.lent ∙ inv.lent.same.lent);
@@ -39,9 +47,8 @@ loop-entry-preserved g c =
       same_result = λ b k.
           entry_step old.kinds.now c.args.from e (rest b) (rw (cut b k) at (inv.same_result b k)) same_result;
       counts = λ b k. rw (visited.counts.references, visited.counts.named)
-          (entry_counted e (rest b) (rw (cut b k) at (inv.counts b k)) counted.counts
-          c.flag_suspect.ensures.names);
-      calm_so_far = λ b k. calm_step current c.loop-entry.count e (rest b) c.loop-entry.calm_so_far same_result c.stays_calm-calm_so_far.ensures
+          (entry_counted e (rest b) (rw (cut b k) at (inv.counts b k)) counted.counts counted.names);
+      calm_so_far = λ b k. calm_step current c.loop-entry.count e (rest b) c.loop-entry.calm_so_far same_result right
           (rw (cut b k) at (inv.calm_so_far b k));
       right_shape = let s = rw inv.lent.base at c.in_ok-entry.ensures.shape in λ b k. s b k ∙ inv.right_shape b k;
     }

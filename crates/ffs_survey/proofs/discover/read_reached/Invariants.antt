@@ -1,6 +1,6 @@
 use Rattle.std.proofs.Common.{◌≡◌, ℕ, ◌+◌, ◌<◌, ◌≤◌, ◌^◌, List, length, take, ◌&&◌}
 use Rattle.ffs_survey.specs.Discover.{Extends, from_entries, unset, count_in, any_in}
-use Rattle.ffs_survey.specs.{Lent.{current_in, HasRoomAfter}, Survey.{number_at, bool_at, is_suspect_inode}}
+use Rattle.ffs_survey.specs.{Lent.{current_in, HasRoomAfter}, Survey.{number_at, bool_at}}
 use Rattle.ffs_volume.specs.Directories.Calm.{are_calm}
 use Rattle.ffs_survey.proofs.{Lending.StillLent, Remaining.{Counts, SameResult}}
 use Rattle.ffs_survey.proofs.discover.read_reached.Given as goal
@@ -30,8 +30,7 @@ invariant-loop-entry g l =
       same_result : (b : List ℕ) → knows b → SameResult (from_entries old.kinds.now l.from (entries b)) old.reached.now.items
           old.parents.now.items (take l.top old.queue.now.items) (from_entries old.kinds.now l.from (rest b))
           l.lists.reached.now.items l.lists.parents.now.items (take l.high l.lists.queue.now.items);
-      counts : (b : List ℕ) → knows b → Counts (length old.kinds.now)
-          (is_suspect_inode old.kinds.now old.marked.now.items) (count_in (entries b)) (any_in (entries b))
+      counts : (b : List ℕ) → knows b → Counts (length old.kinds.now) (count_in (entries b)) (any_in (entries b))
           old.references.now.items old.named.now.items (count_in (rest b)) (any_in (rest b))
           l.lists.references.now.items l.lists.named.now.items;
       calm_so_far : (b : List ℕ) → knows b →

@@ -1,5 +1,5 @@
 use Rattle.std.proofs.Common.{◌≡◌, ℕ, ◌+◌, ◌<◌, ◌≤◌, ◌^◌, List, length, cond, eqb, ◌&&◌}
-use Rattle.ffs_survey.specs.{Discover.{count_in, any_in, is_unreached_dir}, Lent.KeepsReached, Survey.{is_suspect_inode, number_at}}
+use Rattle.ffs_survey.specs.{Discover.{count_in, any_in, is_unreached_dir}, Lent.KeepsReached, Survey.number_at}
 use Rattle.ffs_survey.proofs.{Lending.StillLent, Remaining.Counts}
 use Rattle.ffs_survey.proofs.discover.read_unreached.Given as goal
 
@@ -20,8 +20,7 @@ invariant-loop-entry g l =
       left : coming ≤ 2 ^ 28;
       grown : (x : ℕ) → x < length old.kinds.now →
           number_at l.lists.references.now.items x + coming ≤ number_at old.references.now.items x + 2 ^ 28;
-      counts : (b : List ℕ) → knows b → Counts (length old.kinds.now)
-          (is_suspect_inode old.kinds.now old.marked.now.items) (count_in (entries b)) (any_in (entries b))
+      counts : (b : List ℕ) → knows b → Counts (length old.kinds.now) (count_in (entries b)) (any_in (entries b))
           old.references.now.items old.named.now.items (count_in (rest b)) (any_in (rest b))
           l.lists.references.now.items l.lists.named.now.items;
       parents : (b : List ℕ) → knows b → (x : ℕ) → x < length old.kinds.now →

@@ -1,6 +1,6 @@
 use Rattle.std.proofs.Common.{ap, length, rules, ◌∙◌}
 use Rattle.ffs_survey.proofs.{CalmLaws.{calm_unreached, read_stays, Stays}, Costs.costs_both, Frontiers.sane_of}
-use Rattle.ffs_survey.proofs.{Lending.{finds_same, kinds_long, same_kinds, same_marks}, UnreachedLaws.{named_whole, survey_whole}}
+use Rattle.ffs_survey.proofs.{Lending.{finds_same, kinds_long, same_kinds}, UnreachedLaws.survey_whole}
 use Rattle.ffs_survey.proofs.UnreachedLaws.{unreached_blank}
 use Rattle.ffs_survey.proofs.ReadOnce.{flagged_by_parents, read_once_stays}
 use Rattle.ffs_survey.specs.Lent.{all_found}
@@ -26,8 +26,6 @@ returns-clause-found g c =
           (sane_of inodes.kinds.now entries c.requires.lists.some) reached_long
           (new.long.parents_long ∙ kinds_long second.leaves.lent.lists ∙ ap length kinds) c.limit.ensures.items.items
           part more);
-      named = rw (same_marks first.leaves.lists) at (named_whole inodes.kinds.now entries
-          (rw (← same_marks first.leaves.lists) at first.found.named b k) more);
       calm = rw (second.leaves.kept.reached, second.leaves.kept.calm) (calm_unreached found.calm.now.items
           (read_stays more reached_long) (first.found.calm b k));
       flagged = rw (second.leaves.kept.reached, second.leaves.kept.calm) (λ d dir reached calm.

@@ -1,6 +1,6 @@
-use Rattle.std.proofs.Common.{ℕ, ap, rules, [], ◌∷◌, ◌≡◌, ◌+◌, ◌≤◌, length, take, arith, refl, sym, ◌∙◌}
+use Rattle.std.proofs.Common.{ℕ, ap, rules, ◌≡◌, ◌+◌, ◌≤◌, length, take, arith, refl, sym, ◌∙◌}
 use Rattle.ffs_survey.proofs.Frontiers.{sane_of, levels_start, frontier_start, queue_start}
-use Rattle.ffs_survey.proofs.Queues.{counted_on, reached_named, reached_part, alone_named, alone_part, none_counted, empty_level, is_extended}
+use Rattle.ffs_survey.proofs.Queues.{counted_on, reached_part, alone_part, none_counted, empty_level, is_extended}
 use Rattle.ffs_survey.proofs.{CalmLaws.{calm_none, same_result_stays}, Costs.{level_costs, queue_costs, queue_within}}
 use Rattle.ffs_survey.proofs.{Discovered.{unset-le, unset-set}, Lending.{kinds_long, same_kinds, same_marks}}
 use Rattle.ffs_survey.proofs.{Lending.still_by, NextLevel.{AtLevel, few_counted, level_reached, next_room, next_at}}
@@ -107,9 +107,7 @@ returns-clause-found g c =
           let es = g.D.Directories.entries base b in
           let level = (inv.levels b k).at in
           reached_part old.kinds.now es reached_long (sane_of old.kinds.now es old.long.some)
-          (rw none at level.frontier) level.levels (rw same at (inv.counts b k)).counts;
-      named = λ b k. reached_named _ _ _ _ old.kinds.now (g.D.Directories.entries base b) reached_long
-          (inv.levels b k).at.levels.queued (rw same at (inv.counts b k)).names;
+          (rw none at level.frontier) level.levels (rw same at (inv.counts b k));
       calm = inv.calm;
       read = λ b k d dir reached.
           let right_shape = g.D.Directories.right_shape base b in
@@ -130,13 +128,7 @@ returns-then-not-is_dir-clause-found g c =
           alone_part old.kinds.now es (omega (arith, c.set.ensures.len))
           (sane_of old.kinds.now es old.long.some) (sym c.is_dir.ensures ∙ c.if-not-is_dir.true)
           (rw (c.set.ensures.items, c.set-2.ensures.items) (levels_start (graph_with old.kinds.now es) old.reached.now.items
-          old.parents.now.items (omega arith) (omega arith) begins.reached begins.parents));
-      named = λ b k.
-          let es = g.D.Directories.entries (g.D.Directories.base c.args.directories.now) b in
-          let start = levels_start (graph_with old.kinds.now es) old.reached.now.items old.parents.now.items (omega arith)
-          (omega arith) begins.reached begins.parents in
-          reached_named _ _ c.set.new.self.items (2 ∷ []) old.kinds.now es (omega (arith, c.set.ensures.len)) (rw c.set.ensures.items start.queued)
-          (alone_named _ _ old.kinds.now es (sym c.is_dir.ensures ∙ c.if-not-is_dir.true) begins.named);
+          old.parents.now.items (omega arith) (omega arith) begins.reached begins.parents)) begins.named;
       calm = λ b k. calm_none _ _ old.calm.now.items begins.calm;
       read = λ b k d dir reached. absurd (root_alone_reached old.reached.now.items old.kinds.now d begins.reached
           (sym c.is_dir.ensures ∙ c.if-not-is_dir.true) dir (rw c.set.ensures.items at reached));

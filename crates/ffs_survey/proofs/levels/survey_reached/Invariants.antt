@@ -1,5 +1,5 @@
 use Rattle.std.proofs.Common.{ℕ, ◌+◌, ◌<◌, ◌≤◌, ◌-◌, List, length, take, sum_by}
-use Rattle.ffs_survey.specs.{Discover.IsCount, Calm.{dir_by, AreCalm, IsReadOnce}, Survey.{graph_with, is_suspect_inode, number_at}}
+use Rattle.ffs_survey.specs.{Discover.IsCount, Calm.{dir_by, AreCalm, IsReadOnce}, Survey.{graph_with, number_at}}
 use Rattle.ffs_survey.proofs.{NextLevel.{HasRoomForLevel, AtSomeLevel}, Lending.StillLent}
 use Rattle.ffs_survey.proofs.levels.survey_reached.Given as goal
 
@@ -16,8 +16,7 @@ invariant-loop-low g l =
       room : HasRoomForLevel l.low l.high l.lists.references.now.items l.lists.reached.now.items l.lists.queue.now.items;
       levels : (b : List ℕ) → knows b → AtSomeLevel (graph b) l.low l.high l.lists.reached.now.items
           l.lists.parents.now.items l.lists.queue.now.items;
-      counts : (b : List ℕ) → knows b → IsCount (graph b)
-          (is_suspect_inode old.kinds.now old.marked.now.items) (take l.low l.lists.queue.now.items)
+      counts : (b : List ℕ) → knows b → IsCount (graph b) (take l.low l.lists.queue.now.items)
           old.references.now.items l.lists.references.now.items l.lists.named.now.items;
       calm : (b : List ℕ) → knows b → AreCalm old.kinds.now old.marked.now.items l.lists.reached.now.items
           l.lists.parents.now.items (g.D.Directories.entries over b) (g.D.Directories.right_shape over b)
