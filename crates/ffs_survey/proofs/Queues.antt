@@ -5,7 +5,7 @@ use Rattle.std.proofs.{Common.{IsPermutation, add-zero, get_or}, lemmas.List.{ge
 use Rattle.std.proofs.{lemmas.{List.{length-drop, take-append-drop, take-take}, Bool.and_left}, Math.Bool.or-false}
 use Rattle.std.proofs.lemmas.{Bool.cond-false, Grind.common_steps, List.{Folds.list_any-append, Sums.sum_by-append}}
 use Rattle.std.specs.List.Sorted.{IsNonDecreasing}
-use Rattle.ffs_volume.{specs.Directories.{Graph.{Graph, is_naming_dir}, Roles.RoledEntry}, proofs.Graphs.IsSane}
+use Rattle.ffs_volume.{specs.Directories.{Graph.{Graph, is_naming_dir, parent}, Roles.RoledEntry}, proofs.Graphs.IsSane}
 use Rattle.ffs_volume.specs.Directories.Roles.{refers}
 use Rattle.ffs_survey.proofs.Frontiers.{next_level, frontier_from, queue_grows, IsNext, occurrences-append}
 use Rattle.ffs_survey.{proofs.Frontiers.{occurrences-permutation, no_more, root_alone}, specs.Discover.Extends}
