@@ -1,7 +1,10 @@
 -- Laws of walks along parents.
 use Rattle.std.proofs.Common.{◌≡◌, ◌≢◌, ℕ, zero, suc, ◌+◌, ◌-◌, ◌<◌, ◌≤◌, ◌==◌, Bool, true, false, List, length, Option}
 use Rattle.std.proofs.Common.{None, Some, arith, sym, ◌∙◌, ap, inl, inr, set, ◌⊎◌, get_or, get_or-set_same}
-use Rattle.std.proofs.{Common.{All, get_or-set_other, length-set}, lemmas.Bool.{cases_eq, false_from_ne_true}}
+use Rattle.std.proofs.{Common.{All, get_or-set_other, length-set, unwrap_or}, lemmas.Bool.{cases_eq, false_from_ne_true}}
+use Rattle.std.proofs.lemmas.Bool.{both_ways, cases_lt, eqb-true}
+use Rattle.ffs_volume.{specs.Disk.Search.first_below, specs.Directories.Climb.is_value, proofs.ClimbLaws.is_value-from}
+use Rattle.ffs_volume.proofs.SearchLaws.{first_below-is, some_below-from, some_below-gives, IsFirst}
 use Rattle.std.proofs.lemmas.{Bool.Decides.nat_tests, Grind.get_or_default_zero, List.get_or_past}
 use Rattle.std.proofs.lemmas.List.Sums.{sum_by-le, sum_by-set}
 use Rattle.ffs_volume.proofs.ClimbLaws.{climb-zero, climb-one, climb-suc, climb-add, climb-last, cycle-along}
@@ -179,6 +182,54 @@ pub round_step : {f : ℕ → Option ℕ} {found steps at least next least' : �
     (at ≡ found → ⊥) → f at ≡ Some next → least' ≤ least → least' ≤ at → (least' ≡ least) ⊎ (least' ≡ at) →
     Rounding f found (suc steps) next least'
 round_step {f = f} {found = found} {steps = steps} {at = at} r n h a b w = grind (arith, climb-suc)
+
+-- where a test holds one step later than another one, and not at once, it is first met later
+met_later : (p q : ℕ → Bool) (n s : ℕ) → IsFirst p n s → p 0 ≡ false → ((k : ℕ) → p (suc k) ≡ q k) →
+    (t : ℕ) × IsFirst q n t × (t < s)
+met_later p q n zero first none same = absurd (both_ways (p 0) none first.passes)
+met_later p q n (suc s) first none same =
+    let below = first.below in
+    let here : q s ≡ true = sym (same s) ∙ first.passes in
+    let next = some_below-gives q n (some_below-from q n s (omega arith) here) in (
+      next.0,
+      next.1,
+      elim (cases_lt s next.0) [
+        | inl y ↦ absurd (both_ways (q s) (next.1.least s y) here)
+        | inr y ↦ omega (arith, y)
+      ],
+    )
+
+first_later : (p q : ℕ → Bool) (n some : ℕ) → some < n → p some ≡ true → p 0 ≡ false → ((k : ℕ) → p (suc k) ≡ q k) →
+    unwrap_or (first_below q n) 0 < unwrap_or (first_below p n) 0
+first_later p q n some l e none same =
+    let first = some_below-gives p n (some_below-from p n some l e) in
+    let next = met_later p q n first.0 first.1 none same in
+    rw (first_below-is p n first.0 first.1, first_below-is q n next.0 next.1) next.2
+
+-- how many steps lead from x back to `found`, if fewer than n do
+pub steps_back : (f : ℕ → Option ℕ) (n found x : ℕ) → ℕ
+steps_back f n found x = unwrap_or (first_below (λ k. is_value (climb f k x) found) n) 0
+
+-- one fewer after each step
+pub steps_back-less : {f : ℕ → Option ℕ} {n found steps at least next : ℕ} (c : IsOnCycle f found) → c.steps_less_one < n →
+    Rounding f found steps at least → (at ≡ found → ⊥) → f at ≡ Some next →
+    steps_back f n found next < steps_back f n found at
+unfolding steps_back
+steps_back-less {f = f} {n = n} {found = found} {steps = steps} {at = at} {next = next} c l r away h =
+    let within : steps ≤ suc c.steps_less_one = elim (cases_lt (suc c.steps_less_one) steps) [
+      | inl y ↦ absurd (r.away (suc c.steps_less_one) (omega arith) y c.returns)
+      | inr y ↦ y
+    ] in
+    let p = r.moved in
+    let whole : suc c.steps_less_one - steps + steps ≡ suc c.steps_less_one = omega arith in
+    let back : climb f (suc c.steps_less_one - steps) at ≡ Some found =
+    sym (climb-add f (suc c.steps_less_one - steps) steps found at r.at_is)
+    ∙ (ap (λ k. climb f k found) whole ∙ c.returns) in
+    first_later (λ k. is_value (climb f k at) found) (λ k. is_value (climb f k next) found) n
+    (suc c.steps_less_one - steps) (omega arith) (is_value-from _ found back)
+    (rw (climb-zero f at) (false_from_ne_true (at == found) (λ t. away (eqb-true at found t))))
+    (λ t. let one : suc t ≡ t + 1 = omega arith in
+    ap (λ o. is_value o found) (ap (λ k. climb f k at) one ∙ climb-add f t 1 at next (climb-one f at ∙ h)))
 
 -- back at `found`, the least so far is the least of all
 pub round_end : {f : ℕ → Option ℕ} {found steps at least : ℕ} (n : ℕ) (c : IsOnCycle f found) → c.steps_less_one < n →

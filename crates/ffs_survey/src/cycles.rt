@@ -43,14 +43,11 @@ fn least_on(found: u32, parents: &FilledList<u32>) -> u32
 {
     let mut least = found;
     let mut at = number_of(parents, found as usize);
-    // `steps` is for the proof that the walk comes back.
-    let mut steps = 1u32;
     'round: while at != found {
         if at < least {
             least = at;
         }
         at = number_of(parents, at as usize);
-        steps += 1;
     }
     least
 }
