@@ -248,7 +248,8 @@ fn claim_counted_words(
 }
 
 /// Claims what the next words of the single indirect block that the walk is in offer, as long as
-/// nothing is to be reported of them. The block is held.
+/// nothing is to be reported of them. The block is held. It isn't inlined, so that its loops have
+/// the registers for themselves.
 #[inline(never)]
 fn claim_held_words(workspace: &mut Workspace, area: &DataArea, walk: &mut Walk)
     requires can { CanClaimWords workspace.old area.now walk.old }

@@ -60,6 +60,7 @@ fn zero_inodes_at_once(table: &Table, number: u32, end: u32) -> u32
 
 /// The first number from `number` on, below `end`, of an inode that the window doesn't hold or that
 /// has a byte which isn't zero, and `end` where there is none. What the window holds is asked once.
+/// It isn't inlined: beside the claims of a used inode its loop took registers from these.
 #[inline(never)]
 fn zero_inodes_end(table: &Table, number: u32, end: u32) -> u32
     requires inodes { HasTableInodes table.now }

@@ -5,7 +5,7 @@ ghost use Rattle.std.specs.Prelude.{◌≡◌, ◌≤◌, ◌*◌};
 ghost use Rattle.ffs.specs.Cited.{IsReady};
 
 use ffs::{
-    Args, Counted, Geometry, Image, Output, PathText, Report, RunFault, Super, Workspace,
+    Args, Counted, Geometry, Image, Output, PathText, Report, Root, RunFault, Super, Workspace,
     check_opening, check_rest, path_of, phase1, phase1b, phase2, phase3, phase4, phase5, summary,
     survey,
 };
@@ -14,8 +14,10 @@ use std::io;
 /// The root directory's inode.
 const ROOT: u32 = 2;
 
-/// All phases, one after another, and then the path of the root's entry `a`. The survey may be
-/// asked for by itself: phase 2 makes it again.
+/// All phases, one after another, and then the path of the root's entry `a`. Where inode 2 is no
+/// directory the check ends in phase 2, and there is no path. The survey is asked for by itself to
+/// show that it can be: phase 2 then reads nothing for its own, but takes no directory as calm, so
+/// it looks at each.
 fn run_phases<I: Image, W: Output>(
     superblock: &Super,
     image: &mut I,
@@ -30,12 +32,14 @@ fn run_phases<I: Image, W: Output>(
         phase1b(geometry, image, workspace, report)?;
     }
     survey(geometry, image, workspace)?;
-    phase2(geometry, image, workspace, report)?;
+    let mut path = PathText::new();
+    if let Root::Stop = phase2(geometry, image, workspace, report)? {
+        return Ok(path);
+    }
     phase3(geometry, image, workspace, report)?;
     phase4(geometry, image, workspace, report)?;
     phase5(superblock, image, workspace, report)?;
     summary(superblock, workspace, report)?;
-    let mut path = PathText::new();
     if ROOT < geometry.layout.ncg * geometry.layout.ipg {
         workspace.forget_windows();
         path_of(geometry, image, workspace, ROOT, Some(b"a"), &mut path)?;

@@ -59,7 +59,8 @@ pub fn are_allocated(kinds: &[u8]) -> Option<bool>
     if least > 0 { Some(true) } else { None }
 }
 
-/// How many inodes are counted at once by counters of one byte: fewer than 256, so none wraps.
+/// How many inodes are counted at once by counters of one byte: fewer than 256, so none wraps, and
+/// twelve times the 16 bytes of a list that the machine takes at once.
 const INODES_AT_ONCE: usize = 192;
 
 /// How many of a few inodes are directories, and how many are free. A byte holds each, so that the

@@ -30,7 +30,7 @@ pub struct Chunks {
     pub budget: u32,
     /// The chunks of the current Run.
     pub run_cursor: RunCursor,
-    /// How many Runs were looked at.
+    /// How many Runs were looked at: counted for its bound, which is proved.
     pub runs: u64,
     /// Whether a hole was seen.
     pub gap: bool,

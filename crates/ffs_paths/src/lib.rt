@@ -1,11 +1,11 @@
 //! The paths of directories and of their entries.
 //!
-//! `path_of` writes the path of a directory, or of an entry of it, into a `PathText` of 1,024
-//! bytes: the definition's path, cut to `?` and its longest end of whole names where it is longer.
-//! `directory_path` makes a `DirectoryPath`, which writes these for all entries of a directory; its
-//! names are in a `PathBuffer`. `KeptParent` makes the paths of one directory after another, and
-//! keeps that of the last one's parent for the next. `EntryPaths` writes those of a directory's
-//! entries. The name of a directory in its parent is read from the chunk that the workspace notes
+//! A path is written into a `PathText` of 1,024 bytes: the definition's path, cut to `?` and its
+//! longest end of whole names where it is longer. Phase 2 goes by two types: `KeptParent` makes the
+//! paths of one directory after another, and keeps that of the last one's parent for the next;
+//! `EntryPaths` writes those of a directory's entries. Both are made of `directory_path`, which
+//! makes a `DirectoryPath`; its names are in a `PathBuffer`. `path_of`, for callers of the library,
+//! writes one path, of a directory or of an entry of it. The name of a directory in its parent is read from the chunk that the workspace notes
 //! as its place, and where it isn't there, searched in all entries of the parent. Of an image that
 //! gives its bytes, where the place of each directory is noted, `path_of` makes at most 513 reads,
 //! and a call of `KeptParent` 514: 513 for the parent's path, and one for the directory's own name.

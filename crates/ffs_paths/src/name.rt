@@ -23,8 +23,9 @@ pub fn names(role: Role, number: u32, inode: u32) -> bool
     is_plain(role) && number == inode
 }
 
-/// Whether an entry of a chunk that isn't at the start of the file names an inode in the directory
-/// tree. Its number is looked at first, since most entries have another one.
+/// Whether an entry names an inode in the directory tree. Whether it is plain doesn't depend on its
+/// chunk's place in the file, so it is asked as if that weren't the first. Its number is looked at
+/// first, since most entries have another one.
 #[inline(always)]
 fn is_named_by(index: usize, entry: &Entry<'_>, inode: u32) -> bool
     ensures { result ≡ (is_plain (role_of false index (entry_value entry.now))

@@ -32,6 +32,8 @@ fn path_label(label: Label) -> &'static [u8]
     }
 }
 
+/// Prints who owns an inode, its mode, size and time of modification. It isn't inlined: many rows
+/// of the table have it.
 #[inline(never)]
 fn print_attr<W: Output>(out: &mut W, attr: &Attr) -> Result<(), OutFault>
     ensures { Prints (W.sink out.old) (W.sink out.new) (attr_text attr.now) result }

@@ -3,9 +3,9 @@
 use crate::Label;
 use crate::constants::{DT_DIR, EMPTY_DIR_KIND, UNKNOWN_KIND};
 
-/// What an inode is, as lists keep it: 0 where nothing is allocated, `UNKNOWN_KIND`, for a
-/// directory of size 0 `EMPTY_DIR_KIND`, else the type of the file or directory, as in an entry
-/// (dir(5)).
+/// What an inode is, as lists keep it: 0 where nothing is allocated, `UNKNOWN_KIND` where its class
+/// is Unknown, `EMPTY_DIR_KIND` for a directory of size 0, else the type of the file or directory,
+/// as in an entry (dir(5)).
 #[derive(Clone, Copy, Debug, PartialEq, Eq)]
 pub struct Kind {
     /// The number by which a list keeps it.

@@ -302,7 +302,7 @@ impl Walk {
     }
 
     /// Passes over the inode's addresses of zero that come next, where the walk is in no indirect
-    /// block: how many there are.
+    /// block: how many there are. It isn't inlined, since few inodes have such an address.
     #[inline(never)]
     fn skip_zero_addresses(&mut self) -> u32
         ensures { IsAtTop self.old → (blocks : Blocks)

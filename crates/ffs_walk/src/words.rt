@@ -40,7 +40,8 @@ fn any_set(bytes: &[u8]) -> bool
 }
 
 /// Whether one of the words of an indirect block from the index `used` on isn't zero. Bytes are
-/// looked at, since a word isn't zero where one of its bytes isn't, in either byte order.
+/// looked at, since a word isn't zero where one of its bytes isn't, in either byte order. It isn't
+/// inlined: it is asked once for an indirect block, and goes over most of it.
 #[inline(never)]
 #[tactic(auto, using(crate::proofs::WordBytes::any_byte_from))]
 pub fn any_from(geometry: &Geometry, block: &[u8], used: u32) -> bool

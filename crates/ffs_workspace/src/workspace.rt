@@ -83,9 +83,10 @@ pub struct Workspace {
     ///
     /// The survey, and phase 3 after its walks, leave all of them at 0.
     pub queue: FilledList<u32>,
-    /// How many Runs phase 1 has looked at.
+    /// How many Runs phase 1 has looked at. It is counted for its bound, which is proved: nothing is
+    /// decided by it.
     pub runs_seen: u64,
-    /// How many Runs phase 1b has looked at.
+    /// How many Runs phase 1b has looked at: the same.
     pub runs_again: u64,
     /// How many bad Runs the current inode has so far.
     pub bad: u32,
