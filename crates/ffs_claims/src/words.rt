@@ -10,19 +10,15 @@
 
 ghost use Rattle.std.specs.Prelude.{◌≡◌, ◌≢◌, ◌^◌, ◌<◌, false, IsTrue};
 ghost use Rattle.ffs_volume.specs.declared.Layout.{Layout};
-ghost use Rattle.ffs_walk.specs.{HeldWords.{CanSeeWord, IsInHeldBlock, next_address}, Windows.HasRoom, Rests.IsAtTop};
+ghost use Rattle.ffs_walk.specs.{HeldWords.IsInHeldBlock, Windows.HasRoom, Rests.IsAtTop};
 ghost use Rattle.ffs_claims.specs.{Claiming.CanSeeNext, SilentWords.{CanClaimWords, ClaimsAddress, CanClaimAddress}};
 ghost use Rattle.ffs_claims.specs.{SilentWords.{ClaimsWords, with_run_counts}, Series.{CanClaimNext, ClaimsNext}};
 ghost use Rattle.ffs_claims.specs.Series.{HasNext, PassesSeries};
 
 use crate::area::DataArea;
-use ffs_layout::u32_at;
 use ffs_volume::Order;
 use ffs_walk::{Blocks, Walk};
 use ffs_workspace::Workspace;
-
-/// How many bytes a word of an indirect block has.
-const WORD_BYTES: usize = 4;
 
 /// How many fragments a word of the map of used fragments has: one a bit.
 const MAP_WORD: u64 = 64;
@@ -93,18 +89,6 @@ fn claim_address(
     true
 }
 
-/// The address at the next word of the single indirect block that the walk is in, as
-/// `Walk::next_address` gives it, for an order that is known where this is inlined.
-#[inline(always)]
-fn next_address_in(order: Order, walk: &Walk, blocks: &Blocks) -> u32
-    requires word { CanSeeWord blocks.now walk.now }
-    requires order { order ≡ walk.now.geometry.layout.order }
-    ensures { result ≡ next_address blocks.now walk.now }
-{
-    let block = blocks.bytes(&walk.geometry, 0);
-    u32_at(order, WORD_BYTES * walk.single.next as usize, block)
-}
-
 /// Whether the single indirect block that the walk is in has a word left, with this address.
 #[inline(always)]
 fn comes_next(order: Order, walk: &Walk, blocks: &Blocks, address: u64) -> bool
@@ -112,7 +96,7 @@ fn comes_next(order: Order, walk: &Walk, blocks: &Blocks, address: u64) -> bool
     requires order { order ≡ walk.now.geometry.layout.order }
     ensures { IsTrue result → HasNext blocks.now walk.now address }
 {
-    walk.has_word() && u64::from(next_address_in(order, walk, blocks)) == address
+    walk.has_word() && u64::from(walk.next_address(order, blocks)) == address
 }
 
 /// Passes over the next words of the single indirect block that the walk is in, as long as they name
@@ -189,7 +173,7 @@ fn claim_next(
     ensures unchanged { result ≡ false → (with_run_counts workspace.new counts.new
         ≡ with_run_counts workspace.old counts.old) × (walk.new ≡ walk.old) }
 {
-    let address = next_address_in(order, walk, &workspace.windows.blocks);
+    let address = walk.next_address(order, &workspace.windows.blocks);
     let end = u64::from(address) + u64::from(walk.geometry.layout.frag);
     let mut ahead = *walk;
     ahead.pass_word();

@@ -7,11 +7,11 @@ ghost use Rattle.ffs_walk.specs.Fits.{FrameFits};
 use crate::blocks::Blocks;
 use crate::class::{addresses_needed, class_of, last_length, walked_blocks};
 use crate::frame::{Frame, Item};
-use crate::words::word;
+use crate::words::{WORD_BYTES, word};
 use ffs_image::{Image, ImageFault};
-use ffs_layout::Geometry;
+use ffs_layout::{Geometry, u32_at};
 use ffs_volume::constants::NDADDR;
-use ffs_volume::{Class, Inode, Step};
+use ffs_volume::{Class, Inode, Order, Step};
 
 /// A walk over the blocks of an inode: its position in the inode's own addresses, and in one
 /// indirect block of each level.
@@ -350,14 +350,16 @@ impl Walk {
         self.single.is_left()
     }
 
-    /// The address at the next word of the single indirect block that the walk is in.
+    /// The address at the next word of the single indirect block that the walk is in, in the
+    /// volume's byte order. The caller gives that, so that a loop can be made for each order.
     #[inline(always)]
-    pub fn next_address(&self, blocks: &Blocks) -> u32
-        requires { CanSeeWord blocks.now self.now }
+    pub fn next_address(&self, order: Order, blocks: &Blocks) -> u32
+        requires word { CanSeeWord blocks.now self.now }
+        requires order { order ≡ self.now.geometry.layout.order }
         ensures { result ≡ next_address blocks.now self.now }
     {
         let block = blocks.bytes(&self.geometry, 0);
-        word(&self.geometry, block, self.single.next)
+        u32_at(order, WORD_BYTES * self.single.next as usize, block)
     }
 
     /// Passes over the next word of the single indirect block that the walk is in, where the block

@@ -9,7 +9,7 @@ ghost use Rattle.ffs_walk.specs.Windows.{EndsZeros, HasWordsBetween};
 use ffs_layout::{Geometry, u32_at};
 
 /// How many bytes a word has.
-const WORD_BYTES: usize = 4;
+pub(crate) const WORD_BYTES: usize = 4;
 
 /// How many words `zeros_end` looks at together at first.
 const FEW_WORDS: u32 = 16;

@@ -15,7 +15,7 @@ returns-clause-claimed c = λ t.
     let did = c.claim_address.ensures.claimed c.if-not-claim_address.false w.geometry.layout can.next in
     record {
       words = address_once {a = a} (w.single.first + w.single.next) sizes.frag_low (omega arith) sizes.frag_high
-          can.next.made (rw c.next_address_in-address.ensures passes.steps) did
+          can.next.made (rw c.next_address-address.ensures passes.steps) did
           c.pass_word.ensures.falls c.pass_word.ensures.same c.pass_word.ensures.counted;
       held = rw did.only.windows passes.held;
       falls = c.pass_word.ensures.falls;
