@@ -39,8 +39,8 @@ pub record PassesSeries (v : Layout) (blocks : Blocks) (start len : ℕ) (walk w
   pub same : SameFileBlocks walk walk'
   pub counted : EntersOnly walk walk' 0
 
--- what the next words of an indirect block offer can be claimed: the inode's next step can be seen, the block
--- is held, and a word is left
+-- what the next words of an indirect block offer can be claimed: the inode's next step can be seen, with the bound
+-- of `CanClaimAddress`, the block is held, and a word is left
 pub record CanClaimNext (w : Workspace) (area : DataArea) (walk : Walk) : Type 0 where
   pub next : CanSeeNext walk.geometry.layout w area (2 ^ 63)
   pub held : IsInHeldBlock w.windows.blocks walk

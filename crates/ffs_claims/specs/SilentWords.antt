@@ -14,7 +14,8 @@ use Rattle.ffs_claims.specs.declared.words.RunCounts.{RunCounts}
 abbrev pub with_run_counts : Workspace → RunCounts → Workspace
 with_run_counts w counts = record w { runs_seen = counts.runs_seen; kept = counts.kept }
 
--- what the next addresses of a walk offer can be claimed: the inode's next step can be seen
+-- what the next addresses of a walk offer can be claimed: the inode's next step can be seen, with the bound of
+-- `CanSeeStep`
 abbrev pub CanClaimWords : Workspace → DataArea → Walk → Type 0
 CanClaimWords w area walk = CanSeeNext walk.geometry.layout w area (2 ^ 62)
 
@@ -23,7 +24,8 @@ pub record ClaimsSilently (v : Layout) (step : Step) (old new : Workspace) : Typ
   pub claims : claims_of new ≡ after_step v (claims_of old) step
   pub silent : (number : ℕ) → step_lines v number (claims_of old) step ≡ []
 
--- what an address offers can be claimed: in a volume of some layout, the inode's next step can be seen
+-- what an address offers can be claimed: in a volume of some layout, the inode's next step can be seen. The bound is
+-- above that of `CanClaimWords`, since addresses before this one have been counted
 pub record CanClaimAddress (w : Workspace) (area : DataArea) : Type 0 where
   pub layout : Layout
   pub next : CanSeeNext layout w area (2 ^ 63)
