@@ -20,6 +20,7 @@
 --   Reportings     offers and their lines, one after another
 --   Rewalks        a second walk over an inode
 --   Rescanned      from inode to inode
+--   FirstOffers    each fragment with a DUP line has a kept offer
 --   RescanCounts   a replay by its cut keeps what was kept, and how many Runs are looked at
 --   Limited        what a phase that read through a limited image leaves of the image below it
 pub mod Frames
@@ -39,3 +40,4 @@ pub mod ZeroInodes
 pub mod Limited
 pub mod SeriesClaims
 pub mod IndirectReads
+pub mod FirstOffers

@@ -1,7 +1,7 @@
 -- An inode replayed by its cut keeps what it kept, and how many Runs the rescan looks at.
 use Rattle.std.proofs.Common.{◌≡◌, ◌≢◌, ℕ, zero, suc, ◌+◌, Bool, true, false, ◌==◌, if◌then◌else◌, List, [], ◌∷◌, ◌++◌}
 use Rattle.std.proofs.Common.{map, replicate, arith, refl, ap, ◌∙◌, sym, inl, inr, eq-eqb, ne_eqb, ◌≤◌, length, nat_lt}
-use Rattle.std.proofs.{Common.{Option, ◌-◌}, lemmas.Bool.{cases_eq, cases_Bool, Decides.nat_tests}}
+use Rattle.std.proofs.{Common.{None, Option, ◌-◌}, lemmas.Bool.{cases_eq, cases_Bool, Decides.nat_tests}}
 use Rattle.std.{proofs.lemmas.List.length-append, specs.List.range_with_len}
 use Rattle.ffs_volume.proofs.{Potentials.{cond_holds, offers_keep}, PrefixLaws.full_offers, ReplayIsKeeping.replay_of}
 use Rattle.ffs_volume.proofs.{ReplayIsKeeping.{seen_replays, step_replays, step_few}, ReplayLaws.offers_runs}
@@ -13,10 +13,10 @@ use Rattle.ffs_volume.specs.Encodings.Replay.{is_replay_open, fresh_replay, cut_
 use Rattle.ffs_volume.specs.{Encodings.ReplayCounts.{seen_run, replay_step_by_cut}, Report.Whole.run_count}
 use Rattle.ffs_volume.specs.declared.{Layout.Layout, Step.{Step, TheVariants.{Run, Tail, Gap}}}
 use Rattle.ffs_volume.specs.Blocks.BlockCheck.{set_count, after_first, step_runs, runs_until_reported, steps_runs}
-use Rattle.ffs_volume.specs.Blocks.BlockCheck.{owners_runs, rescan_runs}
-use Rattle.ffs_walk.specs.Keepings.{run_taken}
+use Rattle.ffs_volume.specs.{Blocks.BlockCheck.{owners_runs, rescan_runs}, Report.VolumeReads.{indirect_in_steps, seen_indirect}}
+use Rattle.ffs_walk.specs.{Counts.entered, Keepings.run_taken}
 use Rattle.ffs_claims.{proofs.Reportings.{after_append, none_after}, specs.Rescan.{step_offers_again, offers_again}}
-use Rattle.ffs_claims.specs.RescanRuns.{steps_runs_again, step_runs_again}
+use Rattle.ffs_claims.specs.RescanRuns.{indirect_again, steps_runs_again, step_runs_again}
 
 -- ---- the offers that are kept are the first ones
 offers_firsts : (v : Layout) (i : ℕ) (s : Claims) (start len k : ℕ) →
@@ -170,6 +170,44 @@ module _ (v : Layout) (i cut : ℕ) (r : Replay) where
   unfolding steps_runs_again offers_again
   again_gaps zero R = (refl, refl)
   again_gaps (suc n) R = again_gaps n R
+
+-- ---- the indirect blocks of a second walk
+-- they are those that phase 1 saw
+step_indirect : (s : Claims) (cut : ℕ) (r : Replay) (step : Step) → is_replay_open cut r ≡ is_open s →
+    seen_indirect s step ≡ (if is_replay_open cut r then entered step else 0)
+step_indirect s cut r (Run start len None) same = grind arith
+step_indirect s cut r other same = grind arith
+
+steps_indirect : (v : Layout) (s : Claims) (steps : List Step) → s.dup_offers ≤ s.kept → indirect_in_steps v s steps
+    ≡ indirect_again v (cut_of (after_steps v s steps)) (by_cut (cut_of (after_steps v s steps)) (replay_of s)) steps
+unfolding indirect_again
+steps_indirect v s [] few = refl
+steps_indirect v s (step ∷ steps) few =
+    let cut = cut_of (after_steps v s (step ∷ steps)) in
+    let r = by_cut cut (replay_of s) in
+    let one = step_indirect s cut r step
+    (open_by_cut cut (replay_of s) ∙ seen_replays v s (step ∷ steps) few) in
+    let next = step_by_cut v cut (replay_of s) step ∙ ap (by_cut cut) (step_replays v s step steps few) in
+    let more = steps_indirect v (after_step v s step) steps (step_few v s step few) in
+    omega (arith, one, more, ap (λ q. indirect_again v cut q steps) next)
+
+pub inode_indirect : (v : Layout) (s : Claims) (steps : List Step) → indirect_in_steps v (at_next_inode s) steps
+    ≡ indirect_again v (cut_of (after_steps v (at_next_inode s) steps)) fresh_replay steps
+inode_indirect v s steps = rw (begins_by_cut (cut_of (after_steps v (at_next_inode s) steps)))
+    at (steps_indirect v (at_next_inode s) steps (omega arith))
+
+-- a step more, and gaps in a row
+pub entered_next : (v : Layout) (cut : ℕ) (r r' : Replay) (step : Step) (R R' : List Step) → R ≡ step ∷ R' →
+    r' ≡ replay_step_by_cut v cut r step → is_replay_open cut r ≡ true →
+    indirect_again v cut r R ≡ entered step + indirect_again v cut r' R'
+unfolding indirect_again
+entered_next v cut r r' step R R' e now going = grind arith
+
+pub entered_gaps : (v : Layout) (cut : ℕ) (r : Replay) (n : ℕ) (R : List Step) →
+    indirect_again v cut r (replicate n Gap ++ R) ≡ indirect_again v cut r R
+unfolding indirect_again
+entered_gaps v cut r zero R = refl
+entered_gaps v cut r (suc n) R = let more = entered_gaps v cut r n R in grind arith
 
 -- ---- the rescan looks at no Run that phase 1 didn't see
 -- each Run that is seen is counted once

@@ -16,9 +16,9 @@ use Rattle.ffs_volume.specs.{Encodings.Notes.cut_in, Blocks.BlockCheck.{after_fi
 use Rattle.ffs_workspace.proofs.{Leaving.counts_unsurveyed, NoteLaws.cut_is_noted}
 use Rattle.ffs_workspace.specs.{Holds.{HoldsPhase1, HoldsClaims}, declared.workspace.Workspace.Workspace}
 use Rattle.ffs_claims.proofs.{Duplicates.marked_total, Numbers.{before_end, is_inside}, RescanCounts.looked_both}
-use Rattle.ffs_claims.proofs.{RescanCounts.{runs_leave, inode_again}, StepsContinue.range_more}
-use Rattle.ffs_claims.specs.{Lines.owners_from, Reporting.{OffersReported, RescanKeeps}}
-use Rattle.ffs_claims.specs.{Rescan.offers_again, RescanRuns.steps_runs_again}
+use Rattle.ffs_claims.proofs.{RescanCounts.{runs_leave, inode_again, inode_indirect}, StepsContinue.range_more}
+use Rattle.ffs_claims.specs.{Claiming.ReadsIndirect, Lines.owners_from, Reporting.{OffersReported, RescanKeeps}}
+use Rattle.ffs_claims.specs.{Rescan.offers_again, RescanRuns.{ReadsIndirectAgain, steps_runs_again}}
 
 -- the offers that the inode n keeps, replayed by its noted cut, and those of each of its Runs
 abbrev pub offers_at : Layout → List ℕ → List ℕ → ℕ → List Offer
@@ -71,6 +71,15 @@ looked_on v bytes notes n dup dup' p d =
     grind (arith, range_more, before_next, cut_noted) in
     let left = runs_leave v n (cut_in (slice_index notes n)) fresh_replay dup (steps_of v (inode_of v bytes n) bytes) in
     rw (d, next, looked_both dup (runs_at v bytes notes n) _, left) refl
+
+-- its indirect blocks are those that phase 1 saw
+pub indirect_noted : {v : Layout} {bytes notes : List ℕ} {n : ℕ} (reads reads' : ℕ) → IsNoted v bytes notes n →
+    ReadsIndirectAgain v (cut_in (slice_index notes n)) (steps_of v (inode_of v bytes n) bytes) reads reads' →
+    ReadsIndirect v (claims_before v bytes n) (owner_of v bytes n) reads reads'
+unfolding owner_of
+indirect_noted {v = v} {bytes = bytes} {n = n} reads reads' p few =
+    let same = inode_indirect v (claims_before v bytes n) (steps_of v (inode_of v bytes n) bytes) in
+    omega (arith, few, rw (cut_noted p) at same)
 
 -- no inode is left
 pub kept_end : (v : Layout) (bytes : List ℕ) (s : Claims) (n : ℕ) → inodes_of v ≤ n →

@@ -41,16 +41,18 @@ address_once {v = v} {a = a} {b = b} {x = x} {y = y} {address = address} {len = 
     let silently = did.claims block in
     let now : claims_of b ≡ after_step v (claims_of a) step = silently.claims in
     record {
-      claims = λ contents holds bytes e. rw (next contents holds bytes e, now) refl;
-      indirect = λ contents holds bytes e. omega (
-        arith,
-        step_on v (claims_of a) (next contents holds bytes e) now,
-        word_unseen (claims_of a) len address block,
-      );
-      lines = λ contents holds bytes e number. let silent = silently.silent number in grind arith;
+      means = record {
+        claims = λ contents holds bytes e. rw (next contents holds bytes e, now) refl;
+        lines = λ contents holds bytes e number. let silent = silently.silent number in grind arith;
+        indirect = λ contents holds bytes e. omega (
+          arith,
+          step_on v (claims_of a) (next contents holds bytes e) now,
+          word_unseen (claims_of a) len address block,
+        );
+        bound = moves_on step made small (cond_holds (HasLength v.frag) (nat_eq address 0) _ _ (λ _. tt)
+            (λ _. (some, short))) now (stays (claims_of a));
+      };
       uncut = did.uncut;
-      claim_bound = moves_on step made small (cond_holds (HasLength v.frag) (nat_eq address 0) _ _ (λ _. tt)
-          (λ _. (some, short))) now (stays (claims_of a));
       only = did.only;
       falls = omega (arith, falls);
       same = same;

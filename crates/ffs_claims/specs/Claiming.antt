@@ -57,7 +57,8 @@ pub record CanSeeNext (v : Layout) (w : Workspace) (area : DataArea) (most : ℕ
   pub room : w.kept < most
   pub runs : w.runs_seen < most
 
--- this step can be seen as an inode's next one: it has as many fragments as a step can have
+-- this step can be seen as an inode's next one: it has as many fragments as a step can have. The bound is
+-- above that of `HasBegun`, since steps before it have been counted
 pub record CanSeeStep (v : Layout) (w : Workspace) (area : DataArea) (step : Step) : Type 0 where
   pub next : CanSeeNext v w area (2 ^ 62)
   pub length : HasLength v.frag step

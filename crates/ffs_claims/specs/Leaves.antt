@@ -15,8 +15,8 @@ pub record HasBegun (w : Workspace) : Type 0 where
   pub kept : w.kept ≡ 0
   pub runs : w.runs_seen < 2 ^ 61
 
--- the workspace was made for the volume, its count of kept offers has room for so many more, and where
--- `in_range` says that these are in range, they are (`are_in_range`)
+-- the workspace was made for the volume, its count of kept offers has room for so many more (any bound
+-- below 2^64 serves), and where `in_range` says that these are in range, they are (`are_in_range`)
 pub record CanOffer (v : Layout) (w : Workspace) (more : ℕ) (in_range are_in_range : Bool) : Type 0 where
   pub made : IsFor v w
   pub room : w.kept + more ≤ 2 ^ 63

@@ -6,6 +6,7 @@ use Rattle.ffs_volume.specs.Report.{Memory.runs_limit, Reads.{sweep_reads, table
 use Rattle.ffs_volume.specs.Report.{VolumeReads.volume_scan_reads, Whole.run_count}
 use Rattle.ffs_report.specs.Known.{ForBytes}
 use Rattle.ffs_workspace.specs.{declared.workspace.Workspace.Workspace, Found.{WithFresh, WithPhase1}}
+use Rattle.ffs_workspace.specs.Lengths.{has_unreported_dups}
 use Rattle.ffs_workspace.specs.Holds.{HoldsClaims, HoldsPhase1}
 
 -- phase 1 leaves what it found in the image's bytes, and `has_dups` answers whether one of its lines is
@@ -29,26 +30,24 @@ pub record Phase1Keeps {T E : Type 0} (old new : Workspace) (result : Result T E
   pub has_dups : OnErr result (new.has_dups ≡ old.has_dups)
 
 -- phase 1b leaves what the block check found in the image's bytes. Nothing is surveyed yet, so counts of
--- references are where they start. It has looked at Runs up to the one that reports the last fragment
--- with a DUP line
+-- references are where they start. It has reported the first kept offer of each fragment with a DUP line,
+-- and looked at Runs up to the one that reports the last of them
 pub record IsLeftByPhase1b (v : Layout) (bytes : List ℕ) (w : Workspace) : Type 0 where
   pub claims : HoldsClaims v bytes w
   pub unsurveyed : w.surveyed ≡ false
+  pub reported : has_unreported_dups w ≡ false
   pub count : w.runs_again ≡ rescan_runs v bytes
 
 -- the rescan reads the image at most once for each inode and once for each Run that it looks at, as
 -- long as the count of Runs has room in a u64. Where the image gives its bytes it looks at no more
--- Runs than phase 1 did
+-- Runs than phase 1 did, and reads no more than phase 1 does then: each block of the inode tables once,
+-- and each indirect block that is seen
 pub record RescanReads (v : Layout) (d : Device) (old new : Workspace) (before after : ℕ) : Type 0 where
   pub runs : ForBytes (WithPhase1 v d old) (λ bytes. new.runs_again ≤ run_count v bytes)
   pub reads : new.runs_again < 2 ^ 64 - 1 → after ≤ before + v.ncg * v.ipg + new.runs_again
+  pub known : ForBytes (WithPhase1 v d old) (λ bytes. after ≤ before + volume_scan_reads v bytes)
 
 -- phase 1b reads as the rescan does, and never more often than a sweep may
 pub record Phase1bReads (v : Layout) (d : Device) (old new : Workspace) (before after : ℕ) : Type 0 where
   pub rescan : RescanReads v d old new before after
   pub most : after ≤ before + sweep_reads v
-
--- phase 1b keeps the count of phase 1's Runs, and what `has_dups` answers
-pub record Phase1bKeeps (old new : Workspace) : Type 0 where
-  pub seen : new.runs_seen ≡ old.runs_seen
-  pub has_dups : new.has_dups ≡ old.has_dups

@@ -14,17 +14,15 @@ pub record OffersReported (offers : List Offer) (old new : Workspace) : Type 0 w
   pub marked : (x : ℕ) → bool_at new.marked.items x ≡ (bool_at old.marked.items x
       || list_any (blames x) (first_offer_lines (bits_of old.duplicates) offers))
 
--- a call left alone what phase 1b never changes: the used fragments, what each inode is, what is noted
--- of it, where its count of references starts, that nothing is surveyed, the Runs of phase 1, and what
--- `has_dups` answers
+-- what phase 1b changes: the fragments with a DUP line that are left to report, the marks, the count of
+-- its Runs and the windows. All else is as it was
 pub record RescanKeeps (old new : Workspace) : Type 0 where
-  pub used : new.used ≡ old.used
-  pub kinds : new.kinds ≡ old.kinds
-  pub notes : new.notes ≡ old.notes
-  pub references : new.references ≡ old.references
-  pub surveyed : new.surveyed ≡ old.surveyed
-  pub seen : new.runs_seen ≡ old.runs_seen
-  pub has_dups : new.has_dups ≡ old.has_dups
+  pub only : new ≡ record old {
+    duplicates = new.duplicates;
+    marked = new.marked;
+    runs_again = new.runs_again;
+    windows = new.windows;
+  }
 
 -- what reporting leaves: the lists have their lengths, and the windows, the claims and the Runs of
 -- phase 1 are as they were

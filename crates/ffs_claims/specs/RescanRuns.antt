@@ -2,14 +2,14 @@
 use Rattle.std.specs.{List.range_with_len, Prelude.{◌≡◌, ◌<◌, ◌≤◌, ℕ, ◌+◌, ◌-◌, ◌^◌, List, [], ◌∷◌, ◌++◌}}
 use Rattle.std.specs.Prelude.{if◌then◌else◌, map, Result, OnOk, slice_index, true}
 use Rattle.ffs_volume.specs.Blocks.{BlockCheck.{first_offer_lines, runs_until_reported}, KeptOffers.{Offer, offer_of}}
-use Rattle.ffs_volume.specs.{Blocks.Steps.steps_of, Encodings.Replay.{Replay, is_replay_open, fresh_replay}}
+use Rattle.ffs_volume.specs.{Blocks.{Inodes.inode_of, Steps.steps_of}, Encodings.Replay.{Replay, is_replay_open, fresh_replay}}
 use Rattle.ffs_volume.specs.Encodings.{ReplayCounts.{replayed_runs, replay_step_by_cut, seen_run}, Notes.cut_in}
 use Rattle.ffs_volume.specs.{Laws.RunLengths.HasLength, declared.{Inode.Inode, Layout.Layout, Step.Step}}
 use Rattle.ffs_volume.specs.declared.Step.TheVariants.{Run, Tail, Gap}
 use Rattle.ffs_report.specs.{Known.{ForBytes, IsContents}, PhaseOutcome.PhaseReports, declared.fault.RunFault.RunFault}
 use Rattle.ffs_maps.specs.Bits.{bits_of}
 use Rattle.ffs_walk.specs.{Counts.entered, Keepings.{replay_in, run_taken}, declared.keeping.Keeping.Keeping}
-use Rattle.ffs_workspace.specs.declared.workspace.Workspace.{Workspace}
+use Rattle.ffs_workspace.specs.{Tables.{HoldsInode, HoldsPiece}, declared.workspace.Workspace.Workspace}
 use Rattle.ffs_claims.specs.{Lines.of_lines, Moments.PhaseMoment, Reporting.{CanReport, OffersReported, RewalkLeaves}}
 use Rattle.ffs_claims.specs.Rescan.{offers_again}
 
@@ -25,6 +25,13 @@ unfoldable pub steps_runs_again : (v : Layout) (number cut : ℕ) (r : Replay) (
 steps_runs_again v number cut r [] = []
 steps_runs_again v number cut r (step ∷ steps) =
     step_runs_again v number cut r step ++ steps_runs_again v number cut (replay_step_by_cut v cut r step) steps
+
+-- how many indirect blocks are seen, replayed, of steps one after the other
+unfoldable pub indirect_again : Layout → ℕ → Replay → List Step → ℕ
+indirect_again v cut r [] = 0
+indirect_again v cut r (step ∷ steps) =
+    (if is_replay_open cut r then entered step else 0)
+    + indirect_again v cut (replay_step_by_cut v cut r step) steps
 
 -- a count rose by so many; it is exact as long as it fits a u64
 abbrev pub RoseBy : ℕ → ℕ → ℕ → Type 0
@@ -64,8 +71,13 @@ pub record Rewalked (v : Layout) (number cut : ℕ) (steps : List Step) (old new
 abbrev pub noted_cut : Workspace → ℕ → ℕ
 noted_cut w number = cut_in (slice_index w.notes.items number)
 
+-- each read is of an indirect block of an inode with this cut that is seen again, once
+abbrev pub ReadsIndirectAgain : Layout → (cut : ℕ) → List Step → (reads reads' : ℕ) → Type 0
+ReadsIndirectAgain v cut steps reads reads' = reads' ≤ reads + indirect_again v cut fresh_replay steps
+
 -- an inode is walked over again: of its kept offers those are reported that are the first of a fragment
--- with a DUP line, and its Runs are counted, which pay for the reads
+-- with a DUP line, and its Runs are counted, which pay for the reads. An image that gives its bytes is
+-- read once for each indirect block that is seen
 pub record Rewalks {T : Type 0} (v : Layout) (number : ℕ) (inode : List ℕ → Inode) (old new : PhaseMoment)
     (result : Result T RunFault) : Type 0 where
   pub text : PhaseReports (IsContents old.image.contents) (λ bytes.
@@ -79,3 +91,17 @@ pub record Rewalks {T : Type 0} (v : Layout) (number : ℕ) (inode : List ℕ �
       + replayed_runs v (noted_cut old.workspace number) fresh_replay (steps_of v (inode bytes) bytes))
   pub left : RewalkLeaves v old.image new.image old.workspace new.workspace result
   pub counted : RunsPay old.reads new.reads old.workspace.runs_again new.workspace.runs_again
+  pub known : ForBytes (IsContents old.image.contents) (λ bytes.
+      ReadsIndirectAgain v (noted_cut old.workspace number) (steps_of v (inode bytes) bytes) old.reads new.reads)
+
+-- an inode is read again by its block of the inode table. Where the window held the inode, the table isn't
+-- read and the window stays. Else the window holds the inode's block then
+pub record RereadsByBlock {T : Type 0} (v : Layout) (number : ℕ) (old new : PhaseMoment) (result : Result T RunFault)
+    : Type 0 where
+  pub again : HoldsInode old.workspace.windows.table number →
+      new.workspace.windows.table ≡ old.workspace.windows.table
+  pub known : HoldsInode old.workspace.windows.table number → ForBytes (IsContents old.image.contents) (λ bytes.
+      ReadsIndirectAgain v (noted_cut old.workspace number) (steps_of v (inode_of v bytes number) bytes)
+      old.reads new.reads)
+  pub block : (HoldsInode old.workspace.windows.table number → ⊥)
+      → OnOk result (HoldsPiece v v.inopb number new.workspace.windows.table)

@@ -1,14 +1,13 @@
 -- Runs that the words of an indirect block name in turn, and that are claimed together.
-use Rattle.std.specs.Prelude.{◌≡◌, ℕ, ◌+◌, ◌/◌, ◌%◌, ◌<◌, ◌≤◌, ◌^◌, true, length, List, Option}
-use Rattle.ffs_volume.specs.{Blocks.Claims.{Claims, after_steps, is_open, lines_of_steps}, Disk.Areas.is_run_in_range}
-use Rattle.ffs_volume.specs.{Laws.ClaimBounds.ClaimBound, declared.Layout.Layout, Report.VolumeReads.indirect_in_steps}
-use Rattle.ffs_image.specs.Device.{ForContents}
+use Rattle.std.specs.Prelude.{◌≡◌, ℕ, ◌+◌, ◌/◌, ◌%◌, ◌<◌, ◌≤◌, ◌^◌, true, length}
+use Rattle.ffs_volume.specs.{Blocks.Claims.{Claims, is_open}, Disk.Areas.is_run_in_range}
+use Rattle.ffs_volume.specs.{declared.Layout.Layout}
 use Rattle.ffs_maps.specs.Bits.{AreClear, set_run}
-use Rattle.ffs_walk.specs.{Counts.EntersOnly, HeldWords.{IsInHeldBlock, next_address}, Windows.BlocksHold}
-use Rattle.ffs_walk.specs.{Rests.{SameFileBlocks, most_steps_left, steps_left}, declared.blocks.Blocks.Blocks}
+use Rattle.ffs_walk.specs.{Counts.EntersOnly, HeldWords.{IsInHeldBlock, next_address}}
+use Rattle.ffs_walk.specs.{Rests.{SameFileBlocks, most_steps_left}, declared.blocks.Blocks.Blocks}
 use Rattle.ffs_walk.specs.declared.walk.Walk.{Walk}
 use Rattle.ffs_workspace.specs.declared.workspace.Workspace.{Workspace}
-use Rattle.ffs_claims.specs.{Claiming.CanSeeNext, SilentWords.ClaimsWords, declared.area.DataArea.DataArea}
+use Rattle.ffs_claims.specs.{Claiming.CanSeeNext, SilentWords.{ClaimsWords, MeansSame}, declared.area.DataArea.DataArea}
 
 -- a word is left of the single indirect block that a walk is in, and this is the address there
 pub record HasNext (blocks : Blocks) (w : Walk) (address : ℕ) : Type 0 where
@@ -28,19 +27,6 @@ pub record CanClaimSeries (v : Layout) (s : Claims) (start len : ℕ) : Type 0 w
   pub in_range : (f : ℕ) → start ≤ f → f + v.frag ≤ start + len → is_run_in_range v f v.frag ≡ true
   pub clear : AreClear s.used start len
 
--- a walk was at `walk` with the claims `old`, and is at `walk'` with the claims `new`: the steps that it has
--- left now lead to the same claims and lines as those that it had left then, and to the same count of indirect
--- blocks that are seen
-pub record MeansSame (v : Layout) (blocks : Blocks) (old new : Claims) (walk walk' : Walk) : Type 0 where
-  pub claims : (contents : Option (List ℕ)) → BlocksHold v contents blocks → ForContents contents (λ bytes.
-      after_steps v new (steps_left bytes walk') ≡ after_steps v old (steps_left bytes walk))
-  pub lines : (contents : Option (List ℕ)) → BlocksHold v contents blocks → ForContents contents (λ bytes.
-      (number : ℕ) → lines_of_steps v number new (steps_left bytes walk')
-      ≡ lines_of_steps v number old (steps_left bytes walk))
-  pub indirect : (contents : Option (List ℕ)) → BlocksHold v contents blocks → ForContents contents (λ bytes.
-      indirect_in_steps v new (steps_left bytes walk') ≡ indirect_in_steps v old (steps_left bytes walk))
-  pub bound : ClaimBound old new
-
 -- a walk passes over the words that name a series of Runs, which have `len` fragments from an address on, in one
 -- word of the map
 pub record PassesSeries (v : Layout) (blocks : Blocks) (start len : ℕ) (walk walk' : Walk) : Type 0 where
@@ -53,8 +39,8 @@ pub record PassesSeries (v : Layout) (blocks : Blocks) (start len : ℕ) (walk w
   pub same : SameFileBlocks walk walk'
   pub counted : EntersOnly walk walk' 0
 
--- what the next words of an indirect block offer can be claimed: the inode's next step can be seen, the block
--- is held, and a word is left
+-- what the next words of an indirect block offer can be claimed: the inode's next step can be seen, with the bound
+-- of `CanClaimAddress`, the block is held, and a word is left
 pub record CanClaimNext (w : Workspace) (area : DataArea) (walk : Walk) : Type 0 where
   pub next : CanSeeNext walk.geometry.layout w area (2 ^ 63)
   pub held : IsInHeldBlock w.windows.blocks walk

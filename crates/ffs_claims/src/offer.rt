@@ -168,6 +168,7 @@ fn take_run<W: Output>(
     run: Run,
     report: &mut Report<'_, W>,
 ) -> Result<bool, OutFault>
+    // The bound is that of `CanSeeStep`.
     requires { CanSeeNext geometry.now.layout workspace.old area.old (2 ^ 62) }
     // Whichever block of the file the Run is, or an indirect block.
     ensures claims { (block : Option ℕ) → ClaimsStep geometry.now.layout number

@@ -1,15 +1,15 @@
 //! Phase 1b: rescan for more dups (fsck(8)).
 
-ghost use Rattle.std.specs.Prelude.{◌∷◌, OnOk, map};
+ghost use Rattle.std.specs.Prelude.{◌≡◌, ◌∷◌, OnOk, map};
 ghost use Rattle.ffs_volume.specs.Blocks.{BlockCheck.phase1b_lines, Inodes.inode_of, Owners.owners_of};
 ghost use Rattle.ffs_report.specs.{Known.ForBytes, PhaseOutcome.{ImageAfter, PhaseReports}, Progress.progress};
 ghost use Rattle.ffs_workspace.specs.{Found.WithPhase1, Ready.IsReady};
 ghost use Rattle.ffs_walk.specs.Keepings.{replay_in};
 ghost use Rattle.ffs_claims.specs.Moments.{after_one_read, claim_moment, phase_moment};
-ghost use Rattle.ffs_claims.specs.{Phases.{IsLeftByPhase1b, Phase1bKeeps, Phase1bReads}, Reporting.CanRewalk};
+ghost use Rattle.ffs_claims.specs.{Phases.{IsLeftByPhase1b, Phase1bReads}, Reporting.{CanRewalk, RescanKeeps}};
 ghost use Rattle.ffs_claims.specs.Phases.{RescanReads};
 ghost use Rattle.ffs_claims.specs.{Reporting.ReportsOffers, Rescan.{ReplaysStep, step_offers_again}};
-ghost use Rattle.ffs_claims.specs.RescanRuns.{CanReportStep, CountsStep, Rewalks};
+ghost use Rattle.ffs_claims.specs.RescanRuns.{CanReportStep, CountsStep, RereadsByBlock, Rewalks};
 ghost use Rattle.ffs_volume.specs.Messages.Kinds as messages;
 
 use crate::report_offer::report_run;
@@ -59,9 +59,10 @@ fn rewalk<I: Image, W: Output>(
     report: &mut Report<'_, W>,
 ) -> Result<(), RunFault>
     requires { CanRewalk geometry.now.layout (I.device image.old) workspace.old number }
-    ensures { Rewalks geometry.now.layout number (λ _. inode.now)
+    ensures walks { Rewalks geometry.now.layout number (λ _. inode.now)
         (phase_moment I.Image W.Output image.old workspace.old report.old)
         (phase_moment I.Image W.Output image.new workspace.new report.new) result }
+    ensures table { workspace.new.windows.table ≡ workspace.old.windows.table }
 {
     let cut = workspace.noted_cut(number);
     let mut keeping = Keeping::start(cut);
@@ -91,9 +92,14 @@ fn rewalk_inode<I: Image, W: Output>(
     report: &mut Report<'_, W>,
 ) -> Result<(), RunFault>
     requires { CanRewalk geometry.now.layout (I.device image.old) workspace.old number }
-    ensures { Rewalks geometry.now.layout number
+    ensures walks { Rewalks geometry.now.layout number
         (λ bytes. inode_of geometry.now.layout bytes number)
         (after_one_read (phase_moment I.Image W.Output image.old workspace.old report.old))
+        (phase_moment I.Image W.Output image.new workspace.new report.new) result }
+
+    // No read of the inode table where the inode is held, else one of its block.
+    ensures table { RereadsByBlock geometry.now.layout number
+        (phase_moment I.Image W.Output image.old workspace.old report.old)
         (phase_moment I.Image W.Output image.new workspace.new report.new) result }
 {
     let inode = workspace.windows.table.inode(geometry, number, image)?;
@@ -122,7 +128,7 @@ fn phase1b_unlimited<I: Image, W: Output>(
         (λ bytes. IsLeftByPhase1b geometry.now.layout bytes workspace.new)) }
     ensures reads { RescanReads geometry.now.layout (I.device image.old) workspace.old
         workspace.new (I.reads image.old) (I.reads image.new) }
-    ensures stays { Phase1bKeeps workspace.old workspace.new }
+    ensures stays { RescanKeeps workspace.old workspace.new }
     ensures ready { IsReady geometry.now.layout (I.device image.new) workspace.new }
 {
     workspace.forget_windows();
@@ -164,7 +170,7 @@ pub fn phase1b<I: Image, W: Output>(
         (λ bytes. IsLeftByPhase1b geometry.now.layout bytes workspace.new)) }
     ensures reads { Phase1bReads geometry.now.layout (I.device image.old) workspace.old
         workspace.new (I.reads image.old) (I.reads image.new) }
-    ensures stays { Phase1bKeeps workspace.old workspace.new }
+    ensures stays { RescanKeeps workspace.old workspace.new }
     ensures ready { IsReady geometry.now.layout (I.device image.new) workspace.new }
 {
     let mut limited = LimitedImage::new(image, sweep_reads(geometry));

@@ -48,8 +48,8 @@ loop-next-init g c =
     record {
       device = refl;
       left = claiming_on (record { only = words.only; all_in_range = none.claim.all_in_range })
-          (omega (arith, seen_bound c.args.workspace.now words.only.made words.uncut words.claim_bound))
-          words.claim_bound none;
+          (omega (arith, seen_bound c.args.workspace.now words.only.made words.uncut words.means.bound))
+          words.means.bound none;
       open_still = words.uncut;
       geometry = words.same.geometry ∙ begins;
       held = words.counted.held _ (top_held c.restart.new.self top _);
@@ -58,12 +58,12 @@ loop-next-init g c =
         arith,
         top_unread c.restart.new.self top,
         words.counted.unread,
-        words.indirect image blocks bytes t,
+        words.means.indirect image blocks bytes t,
         ap (indirect_in_steps v s) (walk.steps bytes),
       );
-      claims = λ bytes t. words.claims image blocks bytes t ∙ ap (after_steps v s) (walk.steps bytes);
+      claims = λ bytes t. words.means.claims image blocks bytes t ∙ ap (after_steps v s) (walk.steps bytes);
       said = of_same _ _ _ _ _ _ (of_begins _ _ _)
-          (λ bytes t. ap of_lines (sym (words.lines image blocks bytes t c.args.claimant.now.number
+          (λ bytes t. ap of_lines (sym (words.means.lines image blocks bytes t c.args.claimant.now.number
           ∙ ap (lines_of_steps v c.args.claimant.now.number s) (walk.steps bytes))));
     }
 
@@ -85,14 +85,14 @@ returns-then-not-has_address g c =
     let over = λ (bytes : List ℕ). top_ends bytes w (grind arith) end.single end.double end.triple in
     record {
       text = of_same _ _ _ _ _ _ (of_begins _ _ _)
-          (λ bytes t. ap of_lines (sym (words.lines image blocks bytes t n ∙ ap (lines_of_steps v n s) (walk.steps bytes))
+          (λ bytes t. ap of_lines (sym (words.means.lines image blocks bytes t n ∙ ap (lines_of_steps v n s) (walk.steps bytes))
           ∙ ap (lines_of_steps v n s') (over bytes)));
-      claims = λ bytes t. sym (ap (after_steps v s') (over bytes)) ∙ words.claims image blocks bytes t
+      claims = λ bytes t. sym (ap (after_steps v s') (over bytes)) ∙ words.means.claims image blocks bytes t
           ∙ ap (after_steps v s) (walk.steps bytes);
       image = refl;
       left = claiming_on (record { only = words.only; all_in_range = none.claim.all_in_range })
-          (omega (arith, seen_bound c.args.workspace.now words.only.made words.uncut words.claim_bound))
-          words.claim_bound none;
+          (omega (arith, seen_bound c.args.workspace.now words.only.made words.uncut words.means.bound))
+          words.means.bound none;
       walk = words.same.geometry ∙ begins;
       counted = omega (arith, words.rises);
       known = λ bytes t. omega arith;
@@ -224,7 +224,7 @@ loop-next-preserved g c =
     let claimed = ready_still left.only.made left.only.windows read.claim.ready in
     let moves = moves_then _ (claims_of c.step.new.workspace) _
     (moves_on c.in-Some.next inv.left.claim.ready.ready.made c.args.geometry.now.sound.sizes.frag_high
-    (rw (inv.geometry, c.in-Some.is) at c.in_ok-next.ensures.step.fits).length now inv.left.claim_bound) words.claim_bound in
+    (rw (inv.geometry, c.in-Some.is) at c.in_ok-next.ensures.step.fits).length now inv.left.claim_bound) words.means.bound in
     let image = c.in_ok-next.ensures.leaves.read ∙ inv.device in
     let contents = (g.I.Image.device c.next.new.image).contents in
     let gives = ap (λ d. d.contents) image in
@@ -241,13 +241,13 @@ loop-next-preserved g c =
         paid,
         inv.indirect bytes t,
         indirect_on v s c.loop-next.sweep.walk c.next.new.self c.in-Some.next inv.open_still next now bytes t,
-        words.indirect contents claimed.windows.blocks bytes (gives ∙ t),
+        words.means.indirect contents claimed.windows.blocks bytes (gives ∙ t),
         words.counted.unread,
       );
       claims = claims_on v s c.loop-next.sweep.walk c.next.new.self _ c.in-Some.next next now inv.claims
-          (λ bytes t. sym (words.claims contents claimed.windows.blocks bytes (gives ∙ t)));
+          (λ bytes t. sym (words.means.claims contents claimed.windows.blocks bytes (gives ∙ t)));
       said = steps_said v n s (claims_of c.step.new.workspace) c.loop-next.sweep.walk c.next.new.self _ c.in-Some.next
-          inv.said next now (λ bytes t. sym (words.lines contents claimed.windows.blocks bytes (gives ∙ t) n))
+          inv.said next now (λ bytes t. sym (words.means.lines contents claimed.windows.blocks bytes (gives ∙ t) n))
           c.in_ok-seen.ensures.claims.said;
     }
 

@@ -8,12 +8,15 @@ use Rattle.ffs_maps.specs.Bits.{bits_of}
 use Rattle.ffs_workspace.specs.{Found.WithPhase1, declared.workspace.Workspace.Workspace}
 use Rattle.ffs_volume.specs.Blocks.{Inodes.inodes_of, Claims.all_claims, BlockCheck.{set_count, after_first}}
 use Rattle.ffs_volume.specs.Blocks.BlockCheck.{runs_until_reported, rescan_runs}
+use Rattle.ffs_claims.proofs.{FirstOffers.all_reported}
 use Rattle.ffs_claims.proofs.{Duplicates.{none_first, none_left}, Frames.{claims_none, claims_then, ready_again}}
 use Rattle.ffs_claims.proofs.{Numbers.{numbers_most, before_first}, Reportings.{reporting_more, reporting_ends}}
 use Rattle.ffs_claims.proofs.{Reportings.{reporting_begins, lines_split, reporting_over}, RescanCounts.look_most}
 use Rattle.ffs_claims.proofs.{RescanCounts.looked_none, Rescanned.{IsNoted, is_noted, offers_at, runs_at, kept_from}}
 use Rattle.ffs_claims.proofs.Rescanned.{runs_from, looked_on, looked_end, kept_next, kept_end, runs_on, runs_most}
 use Rattle.ffs_claims.proofs.{Rescanned.claims_hold, Rewalks.{runs_pay_all, runs_pay_then}}
+use Rattle.ffs_claims.proofs.{IndirectReads.{read_all, read_begins, read_failed, read_next}, Rescanned.indirect_noted}
+use Rattle.ffs_volume.proofs.{OwnerLaws.before_next, Sizes.some_inodes}
 use Rattle.ffs_claims.specs.Lines.{of_lines}
 use Rattle.ffs_claims.proofs.pass1b.phase1b_unlimited.Goals as goal
 
@@ -49,6 +52,7 @@ loop-number-init g c =
       high = λ h. omega arith;
       runs = λ bytes k. omega arith;
       reads = record { rises = λ _. omega arith; paid = λ _. omega arith };
+      known = λ bytes k. read_begins v bytes (omega arith) (before_first v bytes);
       count = λ bytes k. rw (before_first v bytes, same, k.1.duplicates) (omega arith);
       reported = λ bytes k. reporting_begins old _ (rw (before_first v bytes) refl)
           (ap (λ (w : Workspace). w.duplicates) forgot) (ap (λ (w : Workspace). w.marked) forgot);
@@ -78,14 +82,17 @@ returns-in_err-rewalk_inode-clause-text g c =
     _ _ _ _ c.in_err-rewalk_inode.field-0.0 inv.said (λ bytes k. lines_split d _ _ _ _ (kept_next v bytes notes n
     (is_noted c.args.geometry.now.sound inv.low (omega arith) inv.claims k.1)) refl)
     (reports_knowing (Unit {0}) _ _ _ _ _ fault (λ bytes k. ap (λ d. d.contents) inv.device ∙ k.0)
-    c.in_err-rewalk_inode.ensures.text))
+    c.in_err-rewalk_inode.ensures.walks.text))
 
 pub returns-in_err-rewalk_inode-clause-reads : goal.returns-in_err-rewalk_inode-clause-reads
 returns-in_err-rewalk_inode-clause-reads g c =
     let v = c.args.geometry.now.layout in
     let inv = c.loop-number.invariant in
     let n = c.loop-number.number in
-    let did = c.rewalk_inode.ensures in
+    let did = c.rewalk_inode.ensures.walks in
+    let table = c.rewalk_inode.ensures.table in
+    let notes = c.loop-number.workspace.notes.items in
+    let image = ap (λ d. d.contents) inv.device in
     let last : n < inodes_of v = omega arith in
     record {
       runs = λ bytes k.
@@ -94,6 +101,11 @@ returns-in_err-rewalk_inode-clause-reads g c =
           omega (arith, inv.runs bytes k, did.runs bytes (ap (λ d. d.contents) inv.device ∙ k.0));
       reads = runs_pay_all _ _ _ (runs_pay_then _ _ _ (n - 1) inv.reads did.counted (omega arith))
           (omega (arith, last, inv.low));
+      known = λ bytes k.
+          let noted = is_noted c.args.geometry.now.sound inv.low last inv.claims k.1 in
+          read_failed c.args.geometry.now.sound last
+          (λ held. indirect_noted _ _ noted (table.known held bytes (image ∙ k.0)))
+          (indirect_noted _ _ noted (did.known bytes (image ∙ k.0))) (inv.known bytes k);
     }
 
 pub loop-number-preserved : goal.loop-number-preserved
@@ -106,7 +118,8 @@ loop-number-preserved g c =
     let d' = bits_of c.rewalk_inode.new.workspace.duplicates in
     let notes = c.loop-number.workspace.notes.items in
     let image = ap (λ d. d.contents) inv.device in
-    let rewalks = c.in_ok-rewalk_inode.ensures in
+    let rewalks = c.in_ok-rewalk_inode.ensures.walks in
+    let table = c.in_ok-rewalk_inode.ensures.table in
     let noted : ForBytes (WithPhase1 v (g.I.Image.device c.args.image.now) c.args.workspace.now)
     (λ bytes. IsNoted v bytes notes n) = λ bytes k. is_noted sound inv.low (omega arith) inv.claims k.1 in
     let on : ForBytes (WithPhase1 v (g.I.Image.device c.args.image.now) c.args.workspace.now) (λ bytes.
@@ -122,7 +135,10 @@ loop-number-preserved g c =
       runs = λ bytes k.
           let more = runs_on v bytes notes n (noted bytes k) in
           omega (arith, inv.runs bytes k, rewalks.runs bytes (image ∙ k.0));
-      reads = runs_pay_then _ _ _ _ inv.reads c.rewalk_inode.ensures.counted (omega (arith, inv.low));
+      reads = runs_pay_then _ _ _ _ inv.reads c.rewalk_inode.ensures.walks.counted (omega (arith, inv.low));
+      known = λ bytes k. read_next sound (omega arith) (before_next v bytes n inv.low) table.again
+          (λ held. indirect_noted _ _ (noted bytes k) (table.known held bytes (image ∙ k.0))) table.block
+          (indirect_noted _ _ (noted bytes k) (rewalks.known bytes (image ∙ k.0))) (inv.known bytes k);
       count = λ bytes k.
           let most = look_most v bytes in
           let few = runs_bounded v bytes sound in
@@ -142,6 +158,7 @@ loop-number-preserved g c =
 pub returns-then-not-has_unreported_dups : goal.returns-then-not-has_unreported_dups
 returns-then-not-has_unreported_dups g c =
     let v = c.args.geometry.now.layout in
+    let sound = c.args.geometry.now.sound in
     let inv = c.loop-number.invariant in
     let n = c.loop-number.number in
     let d = bits_of c.loop-number.workspace.duplicates in
@@ -152,20 +169,23 @@ returns-then-not-has_unreported_dups g c =
           (λ bytes k. ap of_lines (none_first d (kept_from v bytes n) none));
       leaves = λ bytes k. record {
         claims = claims_hold v bytes c.args.workspace.now _ k.1 inv.claims (reporting_over none (inv.reported bytes k));
-        unsurveyed = inv.claims.surveyed ∙ k.1.unsurveyed;
+        reported = all_reported v bytes _ _ k.1 (reporting_over none (inv.reported bytes k));
+        unsurveyed = ap (λ (w : Workspace). w.surveyed) inv.claims.only ∙ k.1.unsurveyed;
         count = omega (arith, inv.count bytes k, looked_none d (runs_from v bytes n) none);
       };
       reads = record {
         runs = λ bytes k. omega (arith, inv.runs bytes k, runs_most v bytes n inv.low inv.high);
         reads = runs_pay_all _ _ _ inv.reads (numbers_most n (inodes_of v) inv.high);
+        known = λ bytes k. read_all sound (omega (arith, inv.high, some_inodes v sound)) (inv.known bytes k);
       };
-      stays = record { seen = inv.claims.seen; has_dups = inv.claims.has_dups };
+      stays = inv.claims;
       ready = inv.ready.ready;
     }
 
 pub returns-after-loop-number : goal.returns-after-loop-number
 returns-after-loop-number g c =
     let v = c.args.geometry.now.layout in
+    let sound = c.args.geometry.now.sound in
     let inv = c.loop-number.invariant in
     let n = c.loop-number.number in
     let d = bits_of c.loop-number.workspace.duplicates in
@@ -177,13 +197,16 @@ returns-after-loop-number g c =
       leaves = λ bytes k. record {
         claims = claims_hold v bytes c.args.workspace.now _ k.1 inv.claims
             (reporting_ends (inv.reported bytes k) (kept_end v bytes (claims_before v bytes n) n past));
-        unsurveyed = inv.claims.surveyed ∙ k.1.unsurveyed;
+        reported = all_reported v bytes _ _ k.1
+            (reporting_ends (inv.reported bytes k) (kept_end v bytes (claims_before v bytes n) n past));
+        unsurveyed = ap (λ (w : Workspace). w.surveyed) inv.claims.only ∙ k.1.unsurveyed;
         count = omega (arith, inv.count bytes k, looked_end v bytes d (claims_before v bytes n) n past);
       };
       reads = record {
         runs = λ bytes k. omega (arith, inv.runs bytes k, runs_most v bytes n inv.low inv.high);
         reads = runs_pay_all _ _ _ inv.reads (numbers_most n (inodes_of v) inv.high);
+        known = λ bytes k. read_all sound (omega (arith, inv.high, some_inodes v sound)) (inv.known bytes k);
       };
-      stays = record { seen = inv.claims.seen; has_dups = inv.claims.has_dups };
+      stays = inv.claims;
       ready = inv.ready.ready;
     }

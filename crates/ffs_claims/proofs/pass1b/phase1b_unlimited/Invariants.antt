@@ -5,7 +5,8 @@ use Rattle.ffs_volume.specs.{Messages.Kinds.phase1b, Blocks.{Inodes.inodes_of, B
 use Rattle.ffs_report.specs.{Known.ForBytes, PhaseOutcome.SaidOf, Progress.progress}
 use Rattle.ffs_maps.specs.Bits.{bits_of}
 use Rattle.ffs_workspace.specs.{Found.WithPhase1, Ready.CanRead}
-use Rattle.ffs_claims.{proofs.{Reportings.Reporting, Rescanned.{kept_from, runs_from}}, specs.Lines.of_lines}
+use Rattle.ffs_claims.{proofs.{IndirectReads.VolumeRead, Reportings.Reporting, Rescanned.{kept_from, runs_from}}}
+use Rattle.ffs_claims.specs.Lines.{of_lines}
 use Rattle.ffs_claims.specs.{Reporting.RescanKeeps, RescanRuns.RunsPay}
 use Rattle.ffs_claims.proofs.pass1b.phase1b_unlimited.Given as goal
 
@@ -19,6 +20,8 @@ invariant-loop-number g l = let v = l.geometry.layout in
       high : 2 < l.number → l.number ≤ inodes_of v;
       runs : ForBytes knows (λ bytes. l.workspace.runs_again ≤ (claims_before v bytes l.number).runs);
       reads : RunsPay (g.I.Image.reads l.fn.image + (l.number - 2)) (g.I.Image.reads l.image) 0 l.workspace.runs_again;
+      known : ForBytes knows (λ bytes. VolumeRead v bytes (claims_before v bytes l.number) l.number
+          (g.I.Image.reads l.fn.image) (g.I.Image.reads l.image) l.workspace.windows.table);
       count : ForBytes knows (λ bytes. l.workspace.runs_again
           + runs_until_reported (bits_of l.workspace.duplicates) (runs_from v bytes l.number) ≡ rescan_runs v bytes);
       reported : ForBytes knows (λ bytes. Reporting (kept_from v bytes l.number)

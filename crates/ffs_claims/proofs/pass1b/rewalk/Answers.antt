@@ -7,10 +7,11 @@ use Rattle.ffs_report.{proofs.Reporting.{of_begins, of_stops, of_reads, of_same}
 use Rattle.ffs_maps.specs.Bits.{bits_of}
 use Rattle.ffs_walk.{proofs.Counted.{top_held, top_unread}, specs.{Keepings.replay_in, Rests.steps_left}}
 use Rattle.ffs_claims.proofs.{Duplicates.{none_first, none_left, some_left}, Frames.{can_walk, claims_none, ready_read}}
-use Rattle.ffs_claims.proofs.{Frames.ready_walked, RescanCounts.{again_gaps, again_stopped}, Rewalks.offers_none}
+use Rattle.ffs_claims.proofs.{Frames.ready_walked, RescanCounts.{again_gaps, again_stopped, entered_gaps, entered_next}, Rewalks.offers_none}
 use Rattle.ffs_claims.proofs.Rewalks.{lines_step, runs_next, rewalk_begins, rewalk_on, rewalk_gaps, rewalk_ends}
 use Rattle.ffs_claims.proofs.Rewalks.{rewalk_over, rewalk_said, rewalked_to, runs_pay_on, runs_pay_ends, rereads_on}
-use Rattle.ffs_claims.specs.{Lines.of_lines, RescanRuns.steps_runs_again}
+use Rattle.ffs_workspace.specs.declared.workspace.Windows.{Windows}
+use Rattle.ffs_claims.specs.{Lines.of_lines, RescanRuns.{indirect_again, steps_runs_again}}
 use Rattle.ffs_claims.proofs.pass1b.rewalk.Goals as goal
 
 pub loop-next-init : goal.loop-next-init
@@ -26,10 +27,13 @@ loop-next-init g c =
       pending = c.requires.pending;
       geometry = c.start-walk.ensures.geometry;
       held = top_held c.start-walk.result c.start-walk.ensures.top _;
+      table = refl;
       counted = record {
         rises = λ _. omega arith;
         paid = λ _. omega (arith, top_unread c.start-walk.result c.start-walk.ensures.top);
       };
+      indirect = λ bytes t. rw (begun, steps bytes)
+          (omega (arith, top_unread c.start-walk.result c.start-walk.ensures.top));
       walk = λ bytes t. rewalk_begins begun (steps bytes);
       said = of_same _ _ _ _ _ _ (of_begins _ _ _) (λ bytes t. rw (begun, steps bytes) refl);
     }
@@ -37,8 +41,8 @@ loop-next-init g c =
 pub next-requires : goal.next-requires
 next-requires g c = can_walk c.loop-next.invariant.geometry c.loop-next.invariant.left.ready
 
-pub returns-in_err-next : goal.returns-in_err-next
-returns-in_err-next g c =
+pub returns-in_err-next-clause-walks : goal.returns-in_err-next-clause-walks
+returns-in_err-next-clause-walks g c =
     let p = err_from_is_err_and c.from_residual.result c.from_residual.ensures.1 in
     let inv = c.loop-next.invariant in
     let err = c.in_err-next.ensures.leaves.read in
@@ -51,13 +55,14 @@ returns-in_err-next g c =
       runs = λ bytes t. omega (arith, (inv.walk bytes t).runs);
       left = grind arith;
       counted = grind arith;
+      known = λ bytes t. omega (arith, inv.indirect bytes t, reads.most);
     })
 
 pub report_step-requires : goal.report_step-requires
 report_step-requires g c = grind arith
 
-pub returns-in_err-report_step : goal.returns-in_err-report_step
-returns-in_err-report_step g c =
+pub returns-in_err-report_step-clause-walks : goal.returns-in_err-report_step-clause-walks
+returns-in_err-report_step-clause-walks g c =
     let from = c.from_residual-in_err-report_step in
     let p = err_from_is_err_and from.result from.ensures.1 in
     let inv = c.loop-next.invariant in
@@ -82,6 +87,13 @@ returns-in_err-report_step g c =
       left = record { image = on.image; ready = on.ready; claims = on.claims };
       counted = runs_pay_ends _ _ _ _ _ inv.counted c.report_step.ensures.runs.counted
           (rw c.in-Some.is at (c.in_ok-next.ensures.counted inv.held).paid);
+      known = λ bytes t. omega (
+        arith,
+        inv.indirect bytes t,
+        rw c.in-Some.is at (c.in_ok-next.ensures.counted inv.held).paid,
+        entered_next v cut r r' c.in-Some.next (steps_left bytes c.loop-next.walk) (steps_left bytes c.next.new.self)
+            (next bytes t) refl inv.going,
+      );
     })
 
 pub loop-next-preserved-then-matches : goal.loop-next-preserved-then-matches
@@ -109,8 +121,19 @@ loop-next-preserved-then-matches g c =
       pending = some_left _ _ c.has_unreported_dups.ensures c.if-not-has_unreported_dups.false;
       geometry = c.skip_gaps.ensures.same.geometry ∙ same;
       held = c.skip_gaps.ensures.counted.held _ (rw c.report_step.ensures.reported.only.windows reads.held);
+      table = ap (λ (x : Windows). x.table) c.report_step.ensures.reported.only.windows ∙ inv.table;
       counted = runs_pay_on _ _ _ _ _ _ inv.counted c.report_step.ensures.runs.counted (rw c.in-Some.is at reads.paid)
           c.skip_gaps.ensures.counted.unread;
+      indirect = λ bytes t. omega (
+        arith,
+        inv.indirect bytes t,
+        rw c.in-Some.is at reads.paid,
+        c.skip_gaps.ensures.counted.unread,
+        entered_next v cut _ _ c.in-Some.next (steps_left bytes c.loop-next.walk) (steps_left bytes c.next.new.self)
+            (next bytes t) (rw inv.cut at did.next) inv.going,
+        ap (indirect_again v cut r') (gaps bytes t),
+        entered_gaps v cut r' c.skip_gaps.result (steps_left bytes c.skip_gaps.new.self),
+      );
       walk = λ bytes t. rewalk_gaps c.skip_gaps.result (gaps bytes t)
           (rewalk_on inv.cut (next bytes t) inv.going inv.pending reported did c.report_step.ensures.runs.runs (inv.walk bytes t));
       said = rewalk_said c.args.number c.loop-next.walk c.next.new.self _ inv.cut inv.said next reported did (λ bytes t. rw (
@@ -123,6 +146,8 @@ loop-next-preserved-then-matches g c =
 pub loop-next-preserved : goal.loop-next-preserved
 loop-next-preserved g c =
     let inv = c.loop-next.invariant in
+    let v = c.args.geometry.now.layout in
+    let cut = cut_in (slice_index c.args.workspace.now.notes.items c.args.number) in
     let on = rereads_on c.in_ok-next.ensures.leaves.read inv.geometry c.next.ensures.leaves.kept
     c.report_step.ensures.reported.only inv.left in
     let reads = c.in_ok-next.ensures.counted inv.held in
@@ -136,18 +161,28 @@ loop-next-preserved g c =
       pending = some_left _ _ c.has_unreported_dups.ensures c.if-not-has_unreported_dups.false;
       geometry = c.in_ok-next.ensures.same.geometry ∙ inv.geometry;
       held = rw c.report_step.ensures.reported.only.windows reads.held;
+      table = ap (λ (x : Windows). x.table) c.report_step.ensures.reported.only.windows ∙ inv.table;
       counted = runs_pay_on _ _ _ _ _ _ inv.counted c.report_step.ensures.runs.counted (rw c.in-Some.is at reads.paid)
           (omega arith);
+      indirect = λ bytes t. omega (
+        arith,
+        inv.indirect bytes t,
+        rw c.in-Some.is at reads.paid,
+        entered_next v cut _ _ c.in-Some.next (steps_left bytes c.loop-next.walk) (steps_left bytes c.next.new.self)
+            (next bytes t) (rw inv.cut at did.next) inv.going,
+      );
       walk = λ bytes t.
           rewalk_on inv.cut (next bytes t) inv.going inv.pending reported did c.report_step.ensures.runs.runs (inv.walk bytes t);
       said = rewalk_said c.args.number c.loop-next.walk c.next.new.self _ inv.cut inv.said next reported did (λ bytes t. refl)
           c.in_ok-report_step.ensures.reported.said;
     }
 
-pub returns-then-not-is_replay_open : goal.returns-then-not-is_replay_open
+pub returns-then-not-is_replay_open-clause-walks : goal.returns-then-not-is_replay_open-clause-walks
 unfolding runs_until_reported
-returns-then-not-is_replay_open g c =
+returns-then-not-is_replay_open-clause-walks g c =
     let inv = c.loop-next.invariant in
+    let v = c.args.geometry.now.layout in
+    let cut = cut_in (slice_index c.args.workspace.now.notes.items c.args.number) in
     let d' = bits_of c.report_step.new.workspace.duplicates in
     let reported = c.in_ok-report_step.ensures.reported.reported in
     let did = c.in_ok-report_step.ensures.replays in
@@ -166,11 +201,20 @@ returns-then-not-is_replay_open g c =
           c.report_step.ensures.reported.only inv.left;
       counted = runs_pay_ends _ _ _ _ _ inv.counted c.report_step.ensures.runs.counted
           (rw c.in-Some.is at (c.in_ok-next.ensures.counted inv.held).paid);
+      known = λ bytes t. omega (
+        arith,
+        inv.indirect bytes t,
+        rw c.in-Some.is at (c.in_ok-next.ensures.counted inv.held).paid,
+        entered_next v cut _ _ c.in-Some.next (steps_left bytes c.loop-next.walk) (steps_left bytes c.next.new.self)
+            (next bytes t) (rw inv.cut at did.next) inv.going,
+      );
     }
 
-pub returns-then-not-has_unreported_dups : goal.returns-then-not-has_unreported_dups
-returns-then-not-has_unreported_dups g c =
+pub returns-then-not-has_unreported_dups-clause-walks : goal.returns-then-not-has_unreported_dups-clause-walks
+returns-then-not-has_unreported_dups-clause-walks g c =
     let inv = c.loop-next.invariant in
+    let v = c.args.geometry.now.layout in
+    let cut = cut_in (slice_index c.args.workspace.now.notes.items c.args.number) in
     let d' = bits_of c.report_step.new.workspace.duplicates in
     let reported = c.in_ok-report_step.ensures.reported.reported in
     let did = c.in_ok-report_step.ensures.replays in
@@ -187,11 +231,18 @@ returns-then-not-has_unreported_dups g c =
           c.report_step.ensures.reported.only inv.left;
       counted = runs_pay_ends _ _ _ _ _ inv.counted c.report_step.ensures.runs.counted
           (rw c.in-Some.is at (c.in_ok-next.ensures.counted inv.held).paid);
+      known = λ bytes t. omega (
+        arith,
+        inv.indirect bytes t,
+        rw c.in-Some.is at (c.in_ok-next.ensures.counted inv.held).paid,
+        entered_next v cut _ _ c.in-Some.next (steps_left bytes c.loop-next.walk) (steps_left bytes c.next.new.self)
+            (next bytes t) (rw inv.cut at did.next) inv.going,
+      );
     }
 
-pub returns-in_default : goal.returns-in_default
+pub returns-in_default-clause-walks : goal.returns-in_default-clause-walks
 unfolding runs_until_reported steps_runs_again
-returns-in_default g c =
+returns-in_default-clause-walks g c =
     let inv = c.loop-next.invariant in
     let d = bits_of c.loop-next.workspace.duplicates in
     let ready = ready_walked c.in_ok-next.ensures.leaves.read inv.geometry c.next.ensures.leaves.kept inv.left.ready in
@@ -206,4 +257,5 @@ returns-in_default g c =
       runs = λ bytes t. omega (arith, (inv.walk bytes t).runs);
       left = grind arith;
       counted = grind arith;
+      known = λ bytes t. omega (arith, inv.indirect bytes t, paid);
     }

@@ -1,12 +1,38 @@
-use Rattle.std.proofs.{Common.arith}
+use Rattle.std.proofs.{Common.{◌∙◌, ap, arith}}
+use Rattle.ffs_volume.specs.Blocks.Steps.{steps_of}
+use Rattle.ffs_volume.specs.Encodings.Replay.{fresh_replay}
 use Rattle.ffs_report.proofs.Reporting.{reads_first}
+use Rattle.ffs_workspace.specs.Tables.{TakesPiece}
+use Rattle.ffs_claims.{proofs.TableReads.on_any, specs.RescanRuns.{indirect_again, noted_cut}}
 use Rattle.ffs_claims.proofs.pass1b.rewalk_inode.Goals as goal
 
 pub rewalk-requires : goal.rewalk-requires
 rewalk-requires g c = grind arith
 
-pub returns-in_err-inode : goal.returns-in_err-inode
-returns-in_err-inode g c = grind (arith, reads_first)
+pub returns-in_err-inode-clause-walks : goal.returns-in_err-inode-clause-walks
+returns-in_err-inode-clause-walks g c = grind (arith, reads_first)
 
-pub returns : goal.returns
-returns g c = grind arith
+pub returns-in_err-inode-clause-table : goal.returns-in_err-inode-clause-table
+unfolding TakesPiece
+returns-in_err-inode-clause-table g c = grind arith
+
+pub returns-clause-walks : goal.returns-clause-walks
+returns-clause-walks g c = grind arith
+
+pub returns-clause-table : goal.returns-clause-table
+unfolding TakesPiece
+returns-clause-table g c =
+    let v = c.args.geometry.now.layout in
+    let gives = ap (λ d. d.contents) c.in_ok-inode.ensures.reads.read in
+    let did = c.rewalk.ensures in
+    let cut = noted_cut c.args.workspace.now c.args.number in
+    record {
+      again = λ held. did.table ∙ c.in_ok-inode.ensures.piece.0 held;
+      known = λ held bytes t. omega (
+        arith,
+        c.in_ok-inode.ensures.again held,
+        did.walks.known bytes (gives ∙ t),
+        ap (λ i. indirect_again v cut fresh_replay (steps_of v i bytes)) (c.in_ok-inode.ensures.reads.inode bytes t),
+      );
+      block = λ unheld. on_any c.rewalk.result (rw did.table (c.in_ok-inode.ensures.piece.1 unheld));
+    }
