@@ -136,7 +136,8 @@ pub record LeavesEntries (old new : DirReading Entries) (result : Result (Option
 
 -- what a call leaves that walks on, but for how often it reads an image of known bytes
 pub record LeavesBlocks {T : Type 0} (old new : DirWalk) (result : Result T ImageFault) : Type 0 where
-  pub same : IsSame old.chunks new.chunks
+  pub geometry : new.chunks.walk.geometry ≡ old.chunks.walk.geometry
+  pub same : OnOk result (IsSame old.chunks new.chunks)
   pub ready : CanWalkDir old.chunks.walk.geometry.layout new.image new.blocks
   pub read : ReadAfter old.image new.image result
   pub any : ReadsBySteps old.reads new.reads old.chunks new.chunks 1

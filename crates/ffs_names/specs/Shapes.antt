@@ -9,7 +9,7 @@ use Rattle.ffs_volume.specs.{Encodings.ReplayCounts.replayed_runs, Directories.C
 use Rattle.ffs_layout.specs.declared.geometry.Geometry.{Geometry}
 use Rattle.ffs_walk.specs.declared.{blocks.Blocks.Blocks, window.Window.Window}
 use Rattle.ffs_survey.specs.{declared.entry_head.EntryHead.EntryHead, Reading.roled_of}
-use Rattle.ffs_names.specs.{Readings.{IsEnded, rest, gap_left, chunks_in}, Entering.{to_come, last_name, left}}
+use Rattle.ffs_names.specs.{Readings.{IsEnded, rest, gap_left, chunks_in}, Entering.{here, to_come, last_name, left}}
 use Rattle.ffs_names.specs.{Costs.{reads_for_entries, HoldsEntries}, declared.entries.Entries.Entries}
 
 -- the entries of the current chunk fill it
@@ -73,12 +73,13 @@ pub record HasStopped (g : Geometry) (r : Entries) : Type 0 where
   pub geometry : r.chunks.walk.geometry ≡ g
 
 -- the first of the entries to come in an image of these bytes was read; the answer is None where
--- there is none
+-- there is none, and then none comes any more
 pub record GivesEntry (b : List ℕ) (old new : Entries) (answer : Option EntryHead) : Type 0 where
   pub entries : MatchOption answer (to_come b old ≡ [])
       (λ head. to_come b old ≡ roled_of head (last_name new) ∷ to_come b new)
   pub shape : has_right_shape b new ≡ has_right_shape b old
   pub ended : IfNone answer (HasEnded b new)
+  pub over : IfNone answer (to_come b new ≡ [])
 
 -- no entry is left in the current chunk, and the reading is as it was
 pub record IsChunkOver (old new : Entries) : Type 0 where
@@ -97,6 +98,11 @@ pub record IsSameChunk (old new : Entries) : Type 0 where
   pub chunk : new.chunk ≡ old.chunk
   pub right_so_far : new.right_so_far ≡ old.right_so_far
   pub fills : fills new ≡ fills old
+
+-- the entries of the current chunk that are still to come are those that were, and so is the last name
+pub record KeepsCurrent (old new : Entries) : Type 0 where
+  pub entries : here new ≡ here old
+  pub name : last_name new ≡ last_name old
 
 -- the next entry of the current chunk was taken, if one is left, and all else of the reading is as it was
 pub record TakesFromChunk (old new : Entries) (answer : Option EntryHead) : Type 0 where

@@ -67,7 +67,7 @@ impl Entries {
     ghost use Rattle.ffs_names.specs.Costs.{reads_for_entries, HoldsEntries};
     ghost use Rattle.ffs_names.specs.Leaves.{dir_reading, dir_walk, LeavesBlocks, LeavesEntries};
     ghost use Rattle.{ffs_image.specs.Reads.ReadAfter, ffs_volume.specs.Disk.Areas.is_run_in_range};
-    ghost use Rattle.ffs_names.specs.Shapes.{runs_of_inode, has_right_shape, BeginsIn, EndsChunks, GivesDirectory, GivesEntry, HasEnded, HasStopped, RestartsIn, TakesFromChunk};
+    ghost use Rattle.ffs_names.specs.Shapes.{runs_of_inode, has_right_shape, BeginsIn, EndsChunks, GivesDirectory, GivesEntry, HasEnded, HasStopped, KeepsCurrent, RestartsIn, TakesFromChunk};
     ghost use Rattle.ffs_names.specs.Entering.{last_name};
 
     /// A reading of the directory with this inode. `cut` is how many offers it keeps where its
@@ -169,7 +169,8 @@ impl Entries {
 
     /// No entry comes any more.
     pub fn stop(&mut self)
-        ensures { HasStopped self.old.chunks.walk.geometry self.new }
+        ensures stopped { HasStopped self.old.chunks.walk.geometry self.new }
+        ensures walk { self.new.chunks.walk ≡ self.old.chunks.walk }
     {
         self.place = DIRBLKSIZ;
         self.right_so_far = false;
@@ -278,7 +279,7 @@ impl Entries {
     /// hole.
     ///
     /// # Errors
-    /// A read of the image that failed. The shape isn't right then, whenever it is asked for.
+    /// A read of the image that failed. The reading is stopped then, as in `next`.
     pub fn has_right_shape<I: Image>(
         &mut self,
         image: &mut I,
@@ -296,7 +297,8 @@ impl Entries {
             (HoldsEntries blocks.new w self.new) result) }
         ensures leaves { LeavesBlocks (dir_walk I.Image image.old blocks.old self.old.chunks)
             (dir_walk I.Image image.new blocks.new self.new.chunks) result }
-        ensures wrong { OnErr result ((b : List ℕ) → has_right_shape b self.new ≡ false) }
+        ensures current { OnOk result (KeepsCurrent self.old self.new) }
+        ensures stopped { OnErr result (HasStopped self.old.chunks.walk.geometry self.new) }
     {
         if !self.right_so_far {
             return Ok(false);
@@ -304,10 +306,13 @@ impl Entries {
         if self.only_chunk {
             return Ok(true);
         }
-        self.right_so_far = false;
-        let gap = gap_of(image, blocks, &mut self.chunks)?;
-        self.right_so_far = true;
-        Ok(!gap)
+        match gap_of(image, blocks, &mut self.chunks) {
+            Ok(gap) => Ok(!gap),
+            Err(fault) => {
+                self.stop();
+                Err(fault)
+            }
+        }
     }
 
     /// The name of the last entry.

@@ -112,8 +112,8 @@ fn gather_paths_and_attr<I: Image>(
     ensures { GathersPathsAndAttr I.Image geometry.now.layout image.old image.new workspace.old
         workspace.new (entry_value entry.now) verdict.now texts.old texts.new result }
 {
-    let (_, wants_path) = asks(verdict);
-    gather_named_path(geometry, image, workspace, texts, wants_path, entry.number)?;
+    let wanted = asks_path(verdict);
+    gather_named_path(geometry, image, workspace, texts, wanted, entry.number)?;
     gather_own_path_and_attr(geometry, image, workspace, &mut texts.paths, entry, verdict)
 }
 
@@ -161,25 +161,26 @@ fn gather_own_path_and_attr<I: Image>(
     ensures { GathersOwnPathAndAttr I.Image geometry.now.layout image.old image.new workspace.old
         workspace.new (entry_value entry.now) verdict.now paths.old paths.new result }
 {
-    let (wants_attr, _) = asks(verdict);
     paths.put(entry.name);
-    if !wants_attr {
+    if !asks_attr(verdict) {
         // No line of this verdict shows attributes, so none are read.
         return Ok(no_attr(entry.number));
     }
     read_attr(geometry, image, workspace, entry.number)
 }
 
-/// Whether a verdict asks for the attributes of the inode that the entry names, and whether for its
-/// path.
-fn asks(verdict: &Verdict) -> (bool, bool)
-    ensures { result ≡ (asks_attr verdict.now, asks_path verdict.now) }
+/// Whether the messages of a verdict show the attributes of the inode that the entry names.
+fn asks_attr(verdict: &Verdict) -> bool
+    ensures { result ≡ asks_attr verdict.now }
 {
-    match verdict {
-        Verdict::OutOfRange | Verdict::BadWhiteout | Verdict::Whiteout => (false, false),
-        Verdict::Unallocated => (true, false),
-        Verdict::Named(defects) => (true, defects.extraneous),
-    }
+    matches!(verdict, Verdict::Unallocated | Verdict::Named(_))
+}
+
+/// Whether they show the path of the directory that it names.
+fn asks_path(verdict: &Verdict) -> bool
+    ensures { result ≡ asks_path verdict.now }
+{
+    matches!(verdict, Verdict::Named(defects) if defects.extraneous)
 }
 
 /// The attributes of an inode that wasn't read.

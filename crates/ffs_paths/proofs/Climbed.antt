@@ -1,13 +1,13 @@
 -- How far a climb to the root has come, and how often it has read.
 use Rattle.std.proofs.Common.{◌≡◌, ◌≢◌, ℕ, zero, suc, ◌+◌, ◌*◌, ◌<◌, ◌≤◌, false, List, ◌∷◌, length, ltb-false, Some}
-use Rattle.std.proofs.Common.{arith, Option, Result, sym, ◌∙◌, true}
+use Rattle.std.proofs.{Common.{arith, Option, Result, sym, ◌∙◌, true}, Math.Nat.mul-le-mul_right}
 use Rattle.ffs_image.specs.declared.image.ImageFault.{ImageFault}
 use Rattle.ffs_volume.specs.Directories.{Graph.{Graph, level}, Paths.joined, Parents.graph_of, Volumes.volume_of}
 use Rattle.ffs_volume.{specs.{declared.Layout.Layout, Encodings.Places.IsNoted}, proofs.LevelLaws.reached-level}
 use Rattle.ffs_survey.specs.ParentLaws.{root_level}
-use Rattle.ffs_workspace.specs.{Holds.{bool_at, HoldsSurvey}, declared.workspace.Workspace.Workspace}
+use Rattle.ffs_workspace.specs.{Found.WithSurvey, Holds.{bool_at, HoldsSurvey}, declared.workspace.Workspace.Workspace}
 use Rattle.ffs_paths.specs.{Buffers.HoldsNames, Climbing.IsParentOf, Reads.{ForTree, KnowsPlaces, names_to, OnlyReads}}
-use Rattle.ffs_paths.{specs.Reads.{PathMoment, ReadsFew, ReadsNames}, proofs.LongestEnds.joined-length}
+use Rattle.ffs_paths.{specs.Reads.{HaveRunsAtMost, PathMoment, ReadsFew, ReadsNames}, proofs.LongestEnds.joined-length}
 use Rattle.ffs_paths.{proofs.WaysUp.{IsOnWay, parent_is}, specs.declared.buffer.PathBuffer.PathBuffer}
 
 -- so many steps were climbed, with a read for each at most, and with a name for each that takes two
@@ -54,10 +54,19 @@ pub noted_child : {v : Layout} {contents : Option (List ℕ)} {b : List ℕ} {w 
 noted_child {v = v} {b = b} {d = d} knows of lists = grind (arith, reached-level, noted_here)
 
 -- ---- a read for each name
+below_way : (left step k : ℕ) → left + step ≡ k → step ≤ k
+below_way left step k e = omega (arith, e)
+
 -- a climb has made no more reads than the directory that it began at has names
 climbed_names : {g : Graph} {k d at step reads reads' : ℕ} {w w' : Workspace} {p : PathBuffer} → level g d ≡ Some k →
     IsOnWay g k d at step p → HasClimbed step reads reads' w w' p → reads' ≤ reads + names_to g d
 climbed_names l way h = rw l (omega (arith, way.steps, h.few.count))
+
+-- nor more than so many for each of its names
+steps_below : {g : Graph} {k d at step : ℕ} {p : PathBuffer} (reads reads' n : ℕ) → level g d ≡ Some k →
+    IsOnWay g k d at step p → reads' ≤ reads + step * (2 + n) → reads' ≤ reads + names_to g d * (2 + n)
+steps_below {k = k} {step = step} reads reads' n l way h =
+    rw l (omega (arith, h, mul-le-mul_right (2 + n) (below_way way.left step k way.steps)))
 
 -- so it leaves what it states
 pub climb_leaves : {T : Type 0} {v : Layout} {old new : PathMoment} {x at step : ℕ} {p : PathBuffer}
@@ -65,13 +74,18 @@ pub climb_leaves : {T : Type 0} {v : Layout} {old new : PathMoment} {x at step :
     OnlyReads v old.image new.image old.workspace new.workspace result →
     ForTree v old.image old.workspace (λ tree. (k : ℕ) → level tree x ≡ Some k → IsOnWay tree k x at step p) →
     ((b : List ℕ) → KnowsPlaces v old.image.contents old.workspace b →
-    HasClimbed step old.reads new.reads old.workspace new.workspace p) → ReadsNames v x old new result
-climb_leaves {x = x} reached reads way counted = record {
+    HasClimbed step old.reads new.reads old.workspace new.workspace p) →
+    ((b : List ℕ) (n : ℕ) → WithSurvey v old.image old.workspace b → HaveRunsAtMost v b n →
+    new.reads ≤ old.reads + step * (2 + n)) → ReadsNames v x old new result
+climb_leaves {old = old} {new = new} {x = x} reached reads way counted searched = record {
   reads = reads;
   counted = λ b k. few_more (counted b k).few (counted b k).most;
   names = λ b k.
       let l = reached-level _ x (sym (k.survey.tree.reached x) ∙ reached) in
       climbed_names l.1 (way b k.gives_bytes k.claims k.survey l.0 l.1) (counted b k);
+  searched = λ b n k few.
+      let l = reached-level _ x (sym (k.2.tree.reached x) ∙ reached) in
+      steps_below old.reads new.reads n l.1 (way b k.0 k.1 k.2 l.0 l.1) (searched b n k few);
 }
 
 -- a directory has a name more than its parent

@@ -60,6 +60,7 @@ names_none r = record {
   reads = no_reads r;
   counted = λ b k. record { count = omega arith; blocks = refl };
   names = λ b k. omega arith;
+  searched = λ b n k few. omega arith;
 }
 
 -- a call that only reads, after another

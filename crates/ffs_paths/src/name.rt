@@ -1,9 +1,12 @@
 //! The name of a directory in its parent.
 
-ghost use Rattle.std.specs.Prelude.{◌≡◌, ◌==◌, ◌&&◌, ◌/◌, false, max, IfOk, OnOk, length};
+ghost use Rattle.std.specs.Prelude.{◌≡◌, ◌==◌, ◌+◌, ◌≤◌, ◌&&◌, ◌/◌, false, max, IfOk, OnOk, length};
+ghost use Rattle.ffs_image.specs.Known.{ForBytes};
 ghost use Rattle.ffs_volume.specs.Directories.{Entries.entries_of, Roles.{is_plain, role_of, roled_from}};
 ghost use Rattle.ffs_volume.specs.{Encodings.Places.entries_in_chunks, declared.constants.TheConstants.DIRBLKSIZ};
+ghost use Rattle.ffs_volume.specs.Report.DirectoryReads.{directory_runs};
 ghost use Rattle.ffs_layout.specs.Entry.{entry_value};
+ghost use Rattle.ffs_workspace.specs.Found.{WithClaims};
 ghost use Rattle.ffs_paths.specs.{Climbing.{FindsFirstName, FindsName, FindsNoted, IsNameIn}, NameTexts.name_bytes};
 ghost use Rattle.ffs_paths.specs.Reads.{ForTree, CanReadFor, OnlyReads, path_moment, ReadsName, ReadsPlace};
 
@@ -99,7 +102,8 @@ fn find_by_place<I: Image>(
 }
 
 /// Finds the name of a directory in its parent, by all entries of the parent: that of the first
-/// plain entry that names it, and none where no entry does.
+/// plain entry that names it, and none where no entry does. Of an image that gives its bytes the
+/// parent's inode and each of its Runs are read once at most.
 ///
 /// # Errors
 /// A read of the image that failed.
@@ -116,6 +120,9 @@ pub fn search_name<I: Image>(
         (λ g. IsNameIn g dir parent (name_bytes name.new))) }
     ensures reads { OnlyReads geometry.now.layout (I.device image.old) (I.device image.new)
         workspace.old workspace.new result }
+    ensures counted { ForBytes (WithClaims geometry.now.layout (I.device image.old) workspace.old)
+        (λ b. I.reads image.new
+        ≤ I.reads image.old + (1 + directory_runs geometry.now.layout b parent)) }
 {
     name.clear();
     let cut = workspace.noted_cut(parent);
@@ -157,6 +164,9 @@ pub fn find_name<I: Image>(
     ensures leaves { ReadsName geometry.now.layout dir
         (path_moment I.Image image.old workspace.old) (path_moment I.Image image.new workspace.new)
         result }
+    ensures counted { ForBytes (WithClaims geometry.now.layout (I.device image.old) workspace.old)
+        (λ b. I.reads image.new
+        ≤ I.reads image.old + (2 + directory_runs geometry.now.layout b parent)) }
 {
     if find_by_place(geometry, image, workspace, dir, name)? {
         return Ok(());

@@ -38,12 +38,13 @@ impl DirectoryPath {
         }
     }
 
-    /// The path of a directory in it, of this name.
+    /// The path of a directory in it, of this name: not reached, where it isn't.
     pub fn child(&self, name: &[u8]) -> DirectoryPath
         requires { length name.now ≤ DIRBLKSIZ }
-        ensures { (names : List (List ℕ)) → HoldsPath self.now (Some names)
+        ensures names { (names : List (List ℕ)) → HoldsPath self.now (Some names)
             → HaveNoSlash (names ++ name.now ∷ [])
             → HoldsPath result (Some (names ++ name.now ∷ [])) }
+        ensures reached { result.reached ≡ self.now.reached }
     {
         DirectoryPath {
             reached: self.reached,

@@ -1,4 +1,4 @@
-use Rattle.std.proofs.Common.{Bool, ap, arith, ◌∙◌}
+use Rattle.std.proofs.Common.{ap, arith, ◌∙◌}
 use Rattle.ffs_volume.specs.Report.Reads.{path_reads}
 use Rattle.ffs_pathnames.{specs.Gathers.if_wanted, proofs.{Carrying.if_ok, ReadyLaws.leaves_read}}
 use Rattle.ffs_pathnames.proofs.gather.gather_paths_and_attr.Goals as goal
@@ -9,7 +9,7 @@ gather_named_path-requires g c = grind arith
 pub returns : goal.returns
 returns g c =
     let path = c.in_ok-gather_named_path.ensures in
-    let wants = ap (λ (p : Bool × Bool). p.1) c.asks-wants_path.ensures in
+    let wants = c.asks_path-wanted.ensures in
     record {
       enough = if_ok c.gather_own_path_and_attr.result _ _
           (λ a e dir b k p. e b (ap (λ x. x.contents) path.leaves.path.reads.read ∙ k.gives_bytes) dir

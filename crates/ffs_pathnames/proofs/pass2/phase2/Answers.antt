@@ -1,4 +1,4 @@
-use Rattle.std.proofs.Common.{[], ◌∷◌, List, ℕ, refl, ap, ◌∙◌, inr, arith, ◌≡◌, ◌*◌, Some, OnOk, Result, Ok, Err, IfOk}
+use Rattle.std.proofs.Common.{[], ◌∷◌, List, ℕ, refl, ap, ◌∙◌, inr, arith, ◌≡◌, ◌*◌, OnOk, Result, Ok, Err, IfOk}
 use Rattle.std.proofs.{Common.{map, false}, lemmas.{Bool.both_ways, Result.err_from_is_err_and}}
 use Rattle.ffs_image.specs.Device.{Device}
 use Rattle.ffs_report.proofs.Reporting.{of_reads, of_last, reports_knowing, says_heading, stops_heading}

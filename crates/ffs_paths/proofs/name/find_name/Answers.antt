@@ -1,4 +1,5 @@
-use Rattle.std.proofs.{lemmas.{Bool.both_ways, Result.on_ok_weaker}}
+use Rattle.std.proofs.{Common.{ap, arith, ◌∙◌}, lemmas.{Bool.both_ways, Result.on_ok_weaker}}
+use Rattle.ffs_workspace.proofs.Leaving.{claims_held}
 use Rattle.ffs_paths.{specs.{Climbing.IsNameIn, NameTexts.name_bytes}, proofs.Keeping.{reads_as, reads_then, tree_on}}
 use Rattle.ffs_paths.proofs.name.find_name.Goals as goal
 
@@ -24,3 +25,11 @@ returns-then-branch-clause-leaves g c =
       reads = reads_as place.reads;
       counted = λ b t noted. record { few = place.counted; again = place.again; held = place.held b t noted };
     }
+
+-- the part of the place was read, and then the parent
+pub returns-clause-counted : goal.returns-clause-counted
+returns-clause-counted g c = λ b k.
+    let place = c.in_ok-find_by_place.ensures.leaves in
+    let search = c.search_name.ensures.counted b
+    (ap (λ d. d.contents) place.reads.read ∙ k.0, claims_held _ b _ _ place.reads.lists k.1) in
+    omega (arith, place.counted.count, search)

@@ -1,11 +1,12 @@
-use Rattle.std.proofs.Common.{arith, ◌≡◌, ◌<◌, ◌∙◌, ℕ, true, List, ap, sym, subst, slice_index}
+use Rattle.std.proofs.Common.{arith, ◌≡◌, ◌<◌, ◌≤◌, ◌∙◌, ℕ, true, List, ap, refl, sym, subst, slice_index}
 use Rattle.std.proofs.lemmas.Result.{err_from_is_err_and}
-use Rattle.ffs_names.{proofs.DirLaws.{dir_is, dir_size, dir_seen}, specs.Entering.{to_come, last_name}}
-use Rattle.ffs_names.specs.{Shapes.BeginsDirectory, declared.entries.Entries.Entries}
+use Rattle.ffs_names.{proofs.{DirCosts.runs_are, DirLaws.{dir_is, dir_size, dir_seen}}, specs.Entering.to_come}
+use Rattle.ffs_names.specs.{Entering.last_name, Costs.reads_for_entries, Shapes.BeginsDirectory}
+use Rattle.ffs_names.specs.declared.entries.Entries.{Entries}
+use Rattle.ffs_volume.specs.{Report.DirectoryReads.directory_runs, declared.{Inode.Inode, Layout.Layout}}
+use Rattle.ffs_volume.specs.{Blocks.Inodes.inode_of, Laws.Geometry.IsAcceptedLayout, Directories.Roles.is_dir}
+use Rattle.ffs_volume.specs.{Directories.{Roles.roled_entries, Volumes.volume_of}, Encodings.Notes.cut_in}
 use Rattle.ffs_survey.specs.Reading.{roled_of}
-use Rattle.ffs_volume.specs.{declared.{Inode.Inode, Layout.Layout}, Blocks.Inodes.inode_of}
-use Rattle.ffs_volume.specs.{Laws.Geometry.IsAcceptedLayout, Directories.Roles.{is_dir, roled_entries}}
-use Rattle.ffs_volume.specs.{Directories.Volumes.volume_of, Encodings.Notes.cut_in}
 use Rattle.ffs_workspace.specs.{Holds.HoldsClaims, declared.workspace.Workspace.Workspace}
 use Rattle.ffs_workspace.proofs.NoteLaws.{cut_is_noted}
 use Rattle.ffs_paths.{specs.Climbing.name_in, proofs.{Keeping.chunk_then, WaysUp.name_in-by}}
@@ -20,6 +21,14 @@ begun {v = v} {b = b} {i = i} {cut = cut} p sound claims dir inode noted begins 
     let is = dir_is v b p dir in
     sym ((begins.gives b (subst (λ (n : Inode). n.size < 2147483648) (sym inode) (dir_size v (inode_of v b p) is.1))).entries
     ∙ dir_seen v b p i cut sound is.0 inode (noted ∙ (ap cut_in (claims.notes p) ∙ cut_is_noted v b p sound)))
+
+-- and none of its Runs is read yet
+runs_begun : {v : Layout} {b : List ℕ} {w : Workspace} {i : Inode} {cut : ℕ} {r : Entries} (p : ℕ) → IsAcceptedLayout v →
+    HoldsClaims v b w → i ≡ inode_of v b p → cut ≡ cut_in (slice_index w.notes.items p) →
+    BeginsDirectory v i cut r → reads_for_entries b r ≤ directory_runs v b p
+runs_begun {v = v} {b = b} {i = i} {cut = cut} p sound claims inode noted begins =
+    let cut_is = noted ∙ (ap cut_in (claims.notes p) ∙ cut_is_noted v b p sound) in
+    omega (arith, begins.to_read b, runs_are v b p i cut inode cut_is)
 
 pub returns-then-names-clause-name : goal.returns-then-names-clause-name
 returns-then-names-clause-name g c = λ b t claims survey is dir.
@@ -40,6 +49,19 @@ returns-clause-name g c = λ b t claims survey is dir.
     claims dir (c.in_ok-inode.ensures.reads.inode b t) c.noted_cut-cut.ensures c.start-entries.ensures.begins)
     ∙ (i.name b t ∙ ap (name_in c.args.dir) (o b (ap (λ d. d.contents) i.reads.read ∙ t)).entries))
 
+pub entries-init : goal.entries-init
+entries-init g c = record {
+  name = λ b t. refl;
+  none = c.clear.ensures;
+  geometry = c.start-entries.ensures.geometry;
+  reads = grind arith;
+  counted = λ b k.
+      let begins = c.start-entries.ensures.begins in
+      let few = runs_begun c.args.parent c.args.geometry.now.sound k.1 (c.in_ok-inode.ensures.reads.inode b k.0)
+      c.noted_cut-cut.ensures begins in
+      (omega (arith, c.inode_by_part.ensures.counted, few), begins.held _ _);
+}
+
 pub entries-preserved : goal.entries-preserved
 entries-preserved g c =
     let i = c.entries.invariant in
@@ -53,6 +75,9 @@ entries-preserved g c =
       none = i.none;
       geometry = next.leaves.geometry ∙ i.geometry;
       reads = chunk_then i.reads (rw i.geometry at next.leaves.ready) next.leaves.read;
+      counted = λ b k.
+          let took = next.reads (i.counted b k).1 b (ap (λ d. d.contents) i.reads.read ∙ k.0) in
+          (omega (arith, (i.counted b k).0, took.paid), took.held);
     }
 
 pub returns-then-names-clause-reads : goal.returns-then-names-clause-reads
@@ -70,3 +95,22 @@ returns-clause-reads g c =
 -- a read failed
 pub returns-in_err-entry-clause-reads : goal.returns-in_err-entry-clause-reads
 returns-in_err-entry-clause-reads g c = grind (arith, err_from_is_err_and, chunk_then)
+
+-- how often it was read
+pub returns-then-names-clause-counted : goal.returns-then-names-clause-counted
+returns-then-names-clause-counted g c = λ b k.
+    let i = c.entries.invariant in
+    let took = c.in_ok-entry.ensures.reads (i.counted b k).1 b (ap (λ d. d.contents) i.reads.read ∙ k.0) in
+    omega (arith, (i.counted b k).0, took.most)
+
+pub returns-clause-counted : goal.returns-clause-counted
+returns-clause-counted g c = λ b k.
+    let i = c.entries.invariant in
+    let took = c.in_ok-entry.ensures.reads (i.counted b k).1 b (ap (λ d. d.contents) i.reads.read ∙ k.0) in
+    omega (arith, (i.counted b k).0, took.most)
+
+pub returns-in_err-entry-clause-counted : goal.returns-in_err-entry-clause-counted
+returns-in_err-entry-clause-counted g c = λ b k.
+    let i = c.entries.invariant in
+    let took = c.in_err-entry.ensures.reads (i.counted b k).1 b (ap (λ d. d.contents) i.reads.read ∙ k.0) in
+    omega (arith, (i.counted b k).0, took.most)

@@ -1,6 +1,8 @@
-use Rattle.std.proofs.Common.{◌≡◌, [], Ok}
-use Rattle.ffs_image.specs.Device.{ForContents}
-use Rattle.ffs_names.specs.Entering.{to_come, left}
+use Rattle.std.proofs.Common.{◌≡◌, ◌≤◌, ◌+◌, [], Ok}
+use Rattle.ffs_image.specs.{Device.ForContents, Known.ForBytes}
+use Rattle.ffs_names.specs.{Costs.{HoldsEntries, reads_for_entries}, Entering.{to_come, left}}
+use Rattle.ffs_volume.specs.Report.DirectoryReads.{directory_runs}
+use Rattle.ffs_workspace.specs.Found.{WithClaims}
 use Rattle.ffs_paths.specs.{Climbing.name_in, NameTexts.name_bytes, Reads.OnlyReads}
 use Rattle.ffs_paths.proofs.name.search_name.Given as goal
 
@@ -12,6 +14,10 @@ invariant-entries g l = let device = g.I.Image.device in record {
   geometry : l.entries.chunks.walk.geometry ≡ l.geometry;
   reads : OnlyReads {T = Unit {0}} l.geometry.layout (device l.fn.image) (device l.image) l.fn.workspace l.workspace
       (Ok tt);
+  counted : ForBytes (WithClaims l.geometry.layout (device l.fn.image) l.fn.workspace) (λ b.
+      (g.I.Image.reads l.image + reads_for_entries b l.entries
+      ≤ g.I.Image.reads l.fn.image + (1 + directory_runs l.geometry.layout b l.parent))
+      × HoldsEntries l.workspace.windows.blocks l.workspace.windows.other l.entries);
 }
 
 abbrev pub decreases-entries : goal.decreases-entries

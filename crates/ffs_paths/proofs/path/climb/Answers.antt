@@ -1,17 +1,29 @@
 use Rattle.std.proofs.Common.{◌≡◌, ◌≢◌, ◌<◌, ◌∙◌, ◌∷◌, ap, length, sym, subst, arith, ℕ, zero, suc, Some, slice_index}
-use Rattle.std.proofs.lemmas.List.{get_or_default}
+use Rattle.std.proofs.{Common.{List, Ok, ◌≤◌, ◌+◌}, lemmas.List.get_or_default, Math.Nat.{add-mul, mul-le-mul_right}}
 use Rattle.ffs_survey.specs.ParentLaws.{root_level}
 use Rattle.ffs_volume.{proofs.LevelLaws.reached-level, specs.Directories.{Graph.{Graph, level}, Parents.graph_of}}
-use Rattle.ffs_volume.specs.Directories.Volumes.{volume_of}
+use Rattle.ffs_volume.specs.{Directories.Volumes.volume_of, declared.Layout.Layout}
 use Rattle.ffs_paths.{specs.{Climbing.IsNameIn, Buffers.HoldsNames, NameTexts.name_bytes}, proofs.Climbed.climb_leaves}
 use Rattle.ffs_paths.proofs.{Climbed.{climb_more, few_more, few_then, noted_here, short_way}, Keeping.reads_then}
 use Rattle.ffs_paths.proofs.{Keeping.tree_on, WaysUp.{parent_is, way_root, way_cut, way_long, way_up, count_is}}
+use Rattle.ffs_paths.specs.Reads.{OnlyReads}
+use Rattle.ffs_image.specs.Device.{Device}
+use Rattle.ffs_workspace.{proofs.Leaving.claims_held, specs.Found.{WithClaims, WithSurvey}}
+use Rattle.ffs_workspace.specs.declared.workspace.Workspace.{Workspace}
 use Rattle.ffs_paths.proofs.path.climb.Goals as goal
 
 -- a directory that isn't the root has a level above 0, so a read more is within its names
 below_root : (g : Graph) (left at : ℕ) → level g at ≡ Some left → at ≢ 2 → 0 < left
 below_root g zero at l n = absurd (n (root_level g at l))
 below_root g (suc left) at l n = omega arith
+
+step_more : (left step k : ℕ) → left + step ≡ k → 0 < left → step + 1 ≤ k
+step_more left step k e some = omega (arith, e, some)
+
+-- what the block check found is held after reads, too
+read_before : {T : Type 0} {v : Layout} {d d' : Device} {w w' : Workspace} {x : T} {b : List ℕ} →
+    OnlyReads v d d' w w' (Ok x) → WithSurvey v d w b → WithClaims v d' w' b
+read_before {v = v} {b = b} r k = (ap (λ d. d.contents) r.read ∙ k.0, claims_held v b _ _ r.lists k.1)
 
 pub returns-then-at-eq-ROOTINO-clause-path : goal.returns-then-at-eq-ROOTINO-clause-path
 returns-then-at-eq-ROOTINO-clause-path g c = λ b t claims survey k l.
@@ -65,6 +77,9 @@ up-preserved g c =
           let noted = noted_here way.left c.up.at knows i.reads.lists way.level (omega arith) in
           climb_more c.as_slice.result.now (i.counted b knows) c.if-path.false (found.leaves.counted b t noted).few
           (subst (λ name. 0 < length name) (sym c.as_slice.ensures.value) (found.finds.some b t noted)) c.push_front.ensures;
+      searched = λ b n k few.
+          let one = found.counted b (read_before i.reads k) in
+          omega (arith, i.searched b n k few, one, few p, add-mul c.up.step 1 (2 + n));
     }
 
 -- a read failed, with names that have room
@@ -88,16 +103,23 @@ returns-in_err-find_name-clause-leaves g c =
           (noted_here way.left c.up.at knows i.reads.lists way.level (omega arith))).few in
           let above = below_root _ way.left c.up.at way.level (omega arith) in
           rw l.1 (omega (arith, (i.counted b knows).few.count, way.steps, one.count, above));
+      searched = λ b n k few.
+          let l = reached-level _ c.args.dir (sym (k.2.tree.reached c.args.dir) ∙ c.requires.reached) in
+          let way = i.path b k.0 k.1 k.2 l.0 l.1 in
+          let one = c.in_err-find_name.ensures.counted b (read_before i.reads k) in
+          let above = below_root _ way.left c.up.at way.level (omega arith) in
+          let more = mul-le-mul_right (2 + n) (step_more way.left c.up.step l.0 way.steps above) in
+          rw l.1 (omega (arith, i.searched b n k few, one, few c.index-parent.result.now, add-mul c.up.step 1 (2 + n), more));
     }
 
 pub returns-then-at-eq-ROOTINO-clause-leaves : goal.returns-then-at-eq-ROOTINO-clause-leaves
-returns-then-at-eq-ROOTINO-clause-leaves g c = let i = c.up.invariant in climb_leaves c.requires.reached i.reads i.path i.counted
+returns-then-at-eq-ROOTINO-clause-leaves g c = let i = c.up.invariant in climb_leaves c.requires.reached i.reads i.path i.counted i.searched
 
 pub returns-then-path-clause-leaves : goal.returns-then-path-clause-leaves
-returns-then-path-clause-leaves g c = let i = c.up.invariant in climb_leaves c.requires.reached i.reads i.path i.counted
+returns-then-path-clause-leaves g c = let i = c.up.invariant in climb_leaves c.requires.reached i.reads i.path i.counted i.searched
 
 pub returns-then-parent-count-clause-leaves : goal.returns-then-parent-count-clause-leaves
-returns-then-parent-count-clause-leaves g c = let i = c.up.invariant in climb_leaves c.requires.reached i.reads i.path i.counted
+returns-then-parent-count-clause-leaves g c = let i = c.up.invariant in climb_leaves c.requires.reached i.reads i.path i.counted i.searched
 
 pub returns-clause-leaves : goal.returns-clause-leaves
-returns-clause-leaves g c = let i = c.up.invariant in climb_leaves c.requires.reached i.reads i.path i.counted
+returns-clause-leaves g c = let i = c.up.invariant in climb_leaves c.requires.reached i.reads i.path i.counted i.searched

@@ -1,9 +1,9 @@
-use Rattle.std.proofs.{Common.{◌≡◌, ◌∙◌, ◌+◌, ◌≤◌, ◌==◌, ◌&&◌, ℕ, List, Some, ap, refl, sym, arith}, lemmas.Bool.and_parts}
+use Rattle.std.proofs.{Common.{◌≡◌, ◌∙◌, ◌+◌, ◌≤◌, ◌==◌, ◌&&◌, ℕ, List, [], Some, ap, refl, sym, arith}, lemmas.Bool.and_parts}
 use Rattle.ffs_names.proofs.OneChunks.{ended_held, ended_reads, ended_rest}
 use Rattle.std.proofs.lemmas.Result.{err_from_is_err_and}
 use Rattle.ffs_walk.specs.Rests.{most_steps_left}
 use Rattle.ffs_names.specs.{Costs.{HoldsEntries, reads_for_entries}, Entering.to_come, Readings.rest}
-use Rattle.ffs_names.proofs.{Entered.{chunk_came, none_came}, EntryCounts.{HoldsBy, continues_by_chunks, reads_by}}
+use Rattle.ffs_names.proofs.{Entered.{chunk_came, end_seen, none_came}, EntryCounts.{HoldsBy, continues_by_chunks, reads_by}}
 use Rattle.ffs_names.proofs.Shaped.{shape_came, shape_ended, shape_same, fills_whole}
 use Rattle.ffs_names.proofs.entries.Entries.advance.Goals.{After-take}
 use Rattle.ffs_names.proofs.entries.Entries.advance.Given as given
@@ -22,6 +22,7 @@ returns-in-Some-clause-entry g c = λ b t. let same = c.take.ensures.same in rec
   entries = sym (c.chunks.invariant.entries b t) ∙ c.in-Some.ensures.taken.entries b;
   shape = shape_same b _ _ _ _ _ _ same.right_so_far same.fills same.chunks ∙ c.chunks.invariant.shape b t;
   ended = tt;
+  over = tt;
 }
 
 -- the only chunk has no further entry
@@ -39,6 +40,7 @@ returns-then-self-clause-entry g c = λ b t.
       shape = shape_ended s.right_so_far s.order s.chunk s.chunk s.place _ _ _ _ none rest rest refl
           ∙ (shape_same b _ _ _ _ _ _ same.right_so_far same.fills same.chunks ∙ i.shape b t);
       ended = record { chunks = rest; current = fills_whole s.order s.chunk };
+      over = rw rest (end_seen s.first s.index s.order s.chunk []);
     }
 
 pub returns-then-self-clause-reads : goal.returns-then-self-clause-reads
@@ -65,6 +67,7 @@ returns-in-None-2-clause-entry g c = λ b t.
           (rest b c.next.new.self) _ _ none o.chunks.0 o.chunks.1 o.gap
           ∙ (shape_same b _ _ _ _ _ _ same.right_so_far same.fills same.chunks ∙ i.shape b t);
       ended = record { chunks = o.chunks.1; current = fills_whole s.order c.next.new.chunk };
+      over = rw o.chunks.1 (end_seen s.first s.index s.order c.next.new.chunk []);
     }
 
 -- a chunk came

@@ -2,8 +2,8 @@ use Rattle.std.proofs.{Common.{[], refl}, lemmas.Bool.false≢true}
 use Rattle.ffs_names.proofs.Entered.{end_seen}
 use Rattle.ffs_names.proofs.entries.Entries.stop.Goals as goal
 
-pub returns : goal.returns
-returns c = let s = c.args.self.now in record {
+pub returns-clause-stopped : goal.returns-clause-stopped
+returns-clause-stopped c = let s = c.args.self.now in record {
   entries = λ b. end_seen s.first s.index s.order s.chunk [];
   shape = λ b. refl;
   reads = λ b. refl;

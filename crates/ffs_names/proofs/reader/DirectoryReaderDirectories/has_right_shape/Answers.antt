@@ -1,4 +1,4 @@
-use Rattle.std.proofs.Common.{arith}
+use Rattle.std.proofs.{Common.arith, lemmas.Result.IfOk-weaker}
 use Rattle.ffs_names.proofs.Continuing.{contents_kept}
 use Rattle.ffs_names.proofs.reader.DirectoryReaderDirectories.has_right_shape.Goals as goal
 
@@ -7,3 +7,7 @@ returns-clause-reader g c = grind (arith, contents_kept)
 
 pub returns-clause-counted : goal.returns-clause-counted
 returns-clause-counted g c = λ b k held. c.has_right_shape.ensures.reads _ held b k.bytes
+
+pub returns-clause-shape : goal.returns-clause-shape
+returns-clause-shape g c = IfOk-weaker c.has_right_shape.result _ _
+    (λ right h b k ended. h b k.bytes ended) c.has_right_shape.ensures.shape

@@ -80,8 +80,8 @@ returns-in-Some-clause-shape g c = ok_then c.restart_at.result (rw c.requires.re
 -- the reads that were made, and those that are still to come
 pub returns-then-not-is_dir-clause-counted : goal.returns-then-not-is_dir-clause-counted
 returns-then-not-is_dir-clause-counted g c = λ b k.
-    let none = c.stop.ensures.reads b in
-    record { most = omega arith; paid = omega (arith, none); held = c.stop.ensures.held _ _ }
+    let none = c.stop.ensures.stopped.reads b in
+    record { most = omega arith; paid = omega (arith, none); held = c.stop.ensures.stopped.held _ _ }
 
 pub returns-clause-counted : goal.returns-clause-counted
 returns-clause-counted g c = λ b k.

@@ -20,7 +20,7 @@ returns-clause-keeps g c =
                   record {
                     path = λ some. subst (λ d. IsPathOf G d w.child-self.result) same
                         (child_made G s w.child-self.result kept (omega (arith, same, some))
-                        (rw w.as_slice.ensures.value at w.child-self.ensures));
+                        (rw w.as_slice.ensures.value at w.child-self.ensures.names));
                     parent = λ some. absurd (omega arith);
                     child = λ some. absurd (omega arith);
                   };

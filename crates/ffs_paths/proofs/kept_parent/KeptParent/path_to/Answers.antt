@@ -13,7 +13,7 @@ returns-clause-path g c = λ b t claims survey.
     let G = graph_of (volume_of c.args.geometry.now.layout b) in
     let holds = kept_before kept.leaves.reads kept.leaves.kept_parent b t claims survey in
     subst (λ d. IsPathOf G d c.child.result) child
-    (child_made G s _ holds (omega (arith, of.below, child)) (rw c.as_slice.ensures.value at c.child.ensures))
+    (child_made G s _ holds (omega (arith, of.below, child)) (rw c.as_slice.ensures.value at c.child.ensures.names))
 
 pub returns-clause-costs : goal.returns-clause-costs
 returns-clause-costs g c = costs_as c.in_ok-keep_child.ensures.costs
