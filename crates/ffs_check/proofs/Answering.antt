@@ -5,12 +5,13 @@ use Rattle.ffs_volume.specs.Report.Memory.{runs_limit}
 use Rattle.ffs_report.specs.{Progress.Progress, declared.fault.RunFault.{RunFault, TheVariants.{Read, Out}}}
 use Rattle.ffs_pathnames.specs.declared.pass2.Root.{Root}
 use Rattle.ffs_workspace.specs.{declared.workspace.Workspace.Workspace, Leaves.LeavesBlockCheck}
-use Rattle.ffs_check.specs.PhaseEnds.{EndsAs, LeavesAnswers, can_end_report}
+use Rattle.ffs_report.specs.Known.{ForBytes}
+use Rattle.ffs_check.specs.{PhaseEnds.{EndsAs, LeavesAnswers, can_end_report}, Phases.AnswersDups}
 
--- where a phase failed nothing is said of them but the bound
-pub unanswered : {knows : List ℕ → Type 0} {v : Layout} {w w' : Workspace} → w'.runs_seen ≤ runs_limit v →
-    LeavesAnswers false knows v w w'
-unanswered few = record { known = λ e. absurd (cc); most = few }
+-- where a phase failed nothing is said of them but the bound, and what `has_dups` may answer
+pub unanswered : {knows : List ℕ → Type 0} {v : Layout} {w w' : Workspace} →
+    ForBytes knows (λ bytes. AnswersDups v bytes w w') → w'.runs_seen ≤ runs_limit v → LeavesAnswers false knows v w w'
+unanswered dups few = record { known = λ e. absurd (cc); dups = dups; most = few }
 
 -- a phase leaves what the block check left
 pub answers_stay : {whole : Bool} {knows : List ℕ → Type 0} {v : Layout} {w u u' : Workspace} →
@@ -23,6 +24,7 @@ answers_stay answers stays = record {
         seen = stays.runs_seen ∙ now.seen;
         again = stays.runs_again ∙ now.again;
       };
+  dups = λ bytes k. rw stays.has_dups (answers.dups bytes k);
   most = rw stays.runs_seen answers.most;
 }
 
@@ -34,15 +36,18 @@ not_whole end fault is none whole = cc (ap can_end_report is)
 pub answers_end : {knows : List ℕ → Type 0} {v : Layout} {w w' : Workspace} (had_defect : Bool) (b c : Progress)
     (r : Result Root RunFault) (end : End) → EndsAs had_defect b c r end → LeavesAnswers (is_ok r) knows v w w' →
     LeavesAnswers (can_end_report end) knows v w w'
-answers_end had_defect b c (Ok root) end e answers = record { known = λ whole. answers.known refl; most = answers.most }
+answers_end had_defect b c (Ok root) end e answers =
+    record { known = λ whole. answers.known refl; dups = answers.dups; most = answers.most }
 answers_end had_defect b c (Err (Read fault)) end e answers = record {
   known = λ whole. answers.known (elim e [
     | inl said ↦ not_whole end (ReadFault fault.sector) said.1 refl whole
     | inr stopped ↦ not_whole end WriteFault stopped.1 refl whole
   ]);
+  dups = answers.dups;
   most = answers.most;
 }
 answers_end had_defect b c (Err (Out fault)) end e answers = record {
   known = λ whole. answers.known (not_whole end WriteFault e.1 refl whole);
+  dups = answers.dups;
   most = answers.most;
 }

@@ -17,8 +17,8 @@ use Rattle.ffs_report.specs.declared.fault.RunFault.TheVariants.{Out}
 use Rattle.ffs_pathnames.specs.{declared.pass2.Root.Root, RootAnswers.is_go}
 use Rattle.ffs_memory.specs.Account.{Account}
 use Rattle.ffs_workspace.specs.{declared.workspace.Workspace.Workspace, Found.WithFresh, Lengths.IsFor, Ready.IsReady}
-use Rattle.ffs_check.specs.{Ends.{Cut, Ends}, Reads.PhasesRead, Phases.HasAnswers, Moment.{Moment, ReportMoment}}
-use Rattle.ffs_check.specs.{Moment.at_output, Taken.TakesBytes}
+use Rattle.ffs_check.specs.{Ends.{Cut, Ends}, Reads.PhasesRead, Phases.{AnswersDups, HasAnswers}}
+use Rattle.ffs_check.specs.{Moment.{Moment, ReportMoment, at_output}, Taken.TakesBytes}
 
 -- a read failed before the text was complete: whole messages were said, and others were to come
 pub record SaidNotAll (knows : List ℕ → Type 0) (all : List ℕ → List Message) (old new : Progress) : Type 0 where
@@ -58,9 +58,11 @@ pub record HaveRun (s : Superblock) (w : Workspace) (old new : ReportMoment) (re
         (λ bytes. is_go root ≡ continues_after_root (volume_of s.layout bytes)))
 
 -- what a check leaves of the counts of Runs and of what `has_dups` answers: where it came to its end
--- (`whole`), what the bytes determine; and phase 1 looked at no more Runs than a volume can have
+-- (`whole`), what the bytes determine, and else what `has_dups` may answer; and phase 1 looked at no more Runs than a
+-- volume can have
 pub record LeavesAnswers (whole : Bool) (knows : List ℕ → Type 0) (v : Layout) (w w' : Workspace) : Type 0 where
   pub known : whole ≡ true → ForBytes knows (λ bytes. HasAnswers v bytes w w')
+  pub dups : ForBytes knows (λ bytes. AnswersDups v bytes w w')
   pub most : w'.runs_seen ≤ runs_limit v
 
 -- after the phases the workspace says how many Runs were looked at, and is ready for the image as it is now

@@ -1,6 +1,6 @@
 -- The parts of the text after the opening, as the calls that report them are nested, what is known of
 -- the image's bytes there, what phase 1b does, and what a workspace answers then.
-use Rattle.std.specs.Prelude.{ℕ, ◌≡◌, ◌≤◌, ◌+◌, Bool, false, if◌then◌else◌, List, [], ◌∷◌, ◌++◌, map, Result, OnOk}
+use Rattle.std.specs.Prelude.{ℕ, ◌≡◌, ◌⊎◌, ◌≤◌, ◌+◌, Bool, false, if◌then◌else◌, List, [], ◌∷◌, ◌++◌, map, Result, OnOk}
 use Rattle.ffs_image.specs.Device.{Device}
 use Rattle.ffs_report.specs.{Known.{ForBytes, IsContents}, declared.fault.RunFault.RunFault}
 use Rattle.ffs_volume.specs.{declared.Layout.Layout, Disk.Superblock.Superblock, Blocks.Owners.owners_of}
@@ -71,12 +71,18 @@ pub record HasAnswers (v : Layout) (bytes : List ℕ) (old new : Workspace) : Ty
   pub seen : new.runs_seen ≡ run_count v bytes
   pub again : new.runs_again ≡ (if has_rescan v (owners_of v bytes) then rescan_runs v bytes else old.runs_again)
 
--- what a workspace holds and answers after phase 1b, where it ran: the count of phase 1's Runs stays,
--- nothing is surveyed yet, and it is ready for the next phase
+-- what `has_dups` answers after a check that may have been cut short: what it answered before, or whether phase 1
+-- has a DUP line
+abbrev pub AnswersDups : Layout → List ℕ → (old new : Workspace) → Type 0
+AnswersDups v bytes old new = (new.has_dups ≡ old.has_dups) ⊎ (new.has_dups ≡ has_rescan v (owners_of v bytes))
+
+-- what a workspace holds and answers after phase 1b, where it ran: what `has_dups` answers and the count of phase 1's
+-- Runs stay, nothing is surveyed yet, and it is ready for the next phase
 pub record RescanLeaves (v : Layout) (d d' : Device) (w w' : Workspace) (result : Result (Unit {0}) RunFault) : Type 0
   where
     pub holds : OnOk result (ForBytes (WithLeftByPhase1 v d w) (λ bytes. HoldsClaims v bytes w'))
     pub answers : OnOk result (ForBytes (WithLeftByPhase1 v d w) (λ bytes. HasAnswers v bytes w w'))
+    pub has_dups : w'.has_dups ≡ w.has_dups
     pub seen : w'.runs_seen ≡ w.runs_seen
     pub unsurveyed : OnOk result (ForBytes (WithLeftByPhase1 v d w) (λ bytes. w'.surveyed ≡ false))
     pub ready : IsReady v d' w'

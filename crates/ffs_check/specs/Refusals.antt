@@ -1,25 +1,24 @@
 -- What is written to standard error where a program looks at no image, by what `clap` answered of the words.
-use Rattle.std.specs.{Prelude.{◌≡◌, ◌⊎◌, ◌∷◌, ◌++◌, ℕ, List, [], Option, Result}, Io.KnownBytes.Appends}
+use Rattle.std.specs.{Prelude.{◌≡◌, ◌⊎◌, ◌∷◌, ◌++◌, ℕ, List, [], Option, Result, codes}, Io.KnownBytes.Appends}
 use Rattle.std.specs.declared.io.Error.{Error}
 use Rattle.clap.specs.{declared.error.kind.ErrorKind.ErrorKind, Words.{App, IsAmong, Text}}
 use Rattle.ffs_report.specs.Outlet.{LastWriteFailed}
 use Rattle.ffs_check.specs.{CommandWords.refusals, Program.Meaning, declared.program.NotAsked.NotAsked}
 use Rattle.ffs_check.specs.declared.{program.NotAsked.TheVariants.{Refused, NoMemory}, refusal.Refusal.Refusal}
-use Rattle.ffs_check.specs.declared.{version.TheConstants.VERSION, wrong_words.TheConstants.{HELP, NAME, NEEDED}}
-use Rattle.ffs_check.specs.declared.wrong_words.TheConstants.{NO_SECTOR, OTHER_MISTAKE, SECTOR_RANGE, TWO_SECTORS}
-use Rattle.ffs_check.specs.declared.wrong_words.TheConstants.{UNKNOWN, USAGE}
+use Rattle.ffs_check.specs.declared.{version.TheConstants.VERSION, wrong_words.TheConstants.{HELP, USAGE}}
 use Rattle.clap.specs.declared.error.kind.ErrorKind.TheVariants as kind
 
 -- what the text of status 2 begins with: the help, the name of the program, or what is wrong with the words
 abbrev pub first_text : ErrorKind → List ℕ
 first_text kind.DisplayHelp = HELP.now
-first_text kind.DisplayVersion = NAME.now
-first_text kind.MissingRequiredArgument = NEEDED.now
-first_text kind.ValueValidation = SECTOR_RANGE.now
-first_text kind.InvalidValue = NO_SECTOR.now
-first_text kind.ArgumentConflict = TWO_SECTORS.now
-first_text kind.UnknownArgument = UNKNOWN.now
-first_text _ = OTHER_MISTAKE.now
+first_text kind.DisplayVersion = codes "fsck_ffs "
+first_text kind.MissingRequiredArgument = codes "error: -n and an image are needed"
+first_text kind.ValueValidation = codes "error: a sector is 1 to 4194303"
+first_text kind.InvalidValue = codes "error: -b needs a sector"
+first_text kind.ArgumentConflict = codes "error: -b can be given once"
+first_text kind.UnknownArgument =
+    codes "error: this program takes -n, -b and one image; it never repairs, so it takes no -y, -p and -f"
+first_text _ = codes "error: the arguments are wrong"
 
 -- what follows that: the version, or the usage where something is wrong
 abbrev pub second_text : (usage : List ℕ) → ErrorKind → List ℕ

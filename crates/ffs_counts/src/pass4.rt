@@ -119,8 +119,9 @@ fn any_unmet(counts: &[u64]) -> bool
 }
 
 /// How many inodes from `first` on are passed over, since nothing is reported of them:
-/// `RIGHT_AT_ONCE`, or none. This is asked once for each so many inodes: of those among which one
-/// isn't right, each is looked at by itself.
+/// `RIGHT_AT_ONCE`, or none. The lists are looked at only where `first` is a multiple of
+/// `RIGHT_AT_ONCE`, so once for each so many inodes: where one of them isn't right, none is passed
+/// over here, and each that is allocated is then looked at by itself.
 #[inline(always)]
 fn right_from(workspace: &Workspace, first: usize) -> usize
     requires { CanPass workspace.now first }
@@ -226,8 +227,9 @@ pub fn phase4<I: Image, W: Output>(
     workspace.forget_windows();
     report.say(&Line::Heading(Heading::Phase4))?;
     let inodes = geometry.layout.ncg * geometry.layout.ipg;
-    // From 0, though no inode 0 or 1 is allocated: both are passed over with those after them.
-    // Jumps from 0 on end at multiples of `RIGHT_AT_ONCE`, and only at these `right_from` asks.
+    // From 0: neither inode 0 nor 1 is allocated, so both are passed over. A jump over unallocated
+    // inodes may begin and end anywhere. One over inodes that are right begins at a multiple of
+    // `RIGHT_AT_ONCE`, and allocated inodes before that are looked at by themselves.
     let mut number = 0;
     while number < inodes {
         let passed = passed_from(workspace, number as usize);
