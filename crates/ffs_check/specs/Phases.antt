@@ -4,49 +4,25 @@ use Rattle.std.specs.Prelude.{ℕ, ◌≡◌, ◌⊎◌, ◌≤◌, ◌+◌, Boo
 use Rattle.ffs_image.specs.Device.{Device}
 use Rattle.ffs_report.specs.{Known.{ForBytes, IsContents}, declared.fault.RunFault.RunFault}
 use Rattle.ffs_volume.specs.{declared.Layout.Layout, Disk.Superblock.Superblock, Blocks.Owners.owners_of}
-use Rattle.ffs_volume.specs.Directories.{Volumes.volume_of, Connectivity.connectivity_lines}
-use Rattle.ffs_volume.specs.{Directories.ReferenceCheck.reference_lines, Messages.Kinds.{Message, phase1, phase2}}
-use Rattle.ffs_volume.specs.{Messages.Kinds.{phase3, phase4, phase5, of_blocks, of_tree}, Blocks.BlockCheck.has_rescan}
-use Rattle.ffs_volume.specs.{Blocks.BlockCheck.{phase1_lines, rescan_runs}, Directories.PathnameCheck.pathname_lines}
+use Rattle.ffs_volume.specs.Directories.{Volumes.volume_of}
+use Rattle.ffs_volume.specs.{Messages.Kinds.Message, Blocks.BlockCheck.{has_rescan, rescan_runs}}
 use Rattle.ffs_volume.specs.{Directories.PathnameCheck.continues_after_root, Report.Reads.sweep_reads}
-use Rattle.ffs_volume.specs.Report.Whole.{rescan_lines, group_check_lines, summary_of, file_count, claimed_count}
-use Rattle.ffs_volume.specs.Report.{Whole.run_count, VolumeReads.rescan_reads}
+use Rattle.ffs_volume.specs.Report.Whole.{phase1_text, rescan_lines, phase2_text, phase3_text, phase4_text, phase5_text}
+use Rattle.ffs_volume.specs.Report.{Whole.{run_count, summary_text}, VolumeReads.rescan_reads}
 use Rattle.ffs_workspace.specs.{declared.workspace.Workspace.Workspace, Holds.HoldsClaims, Ready.IsReady}
 use Rattle.ffs_claims.specs.Phases.{IsLeftByPhase1}
 
--- what each phase reports, with its heading
-abbrev pub phase1_part : List ℕ → Superblock → List Message
-phase1_part bytes s = phase1 ∷ map of_blocks (phase1_lines s.layout (owners_of s.layout bytes))
-
-abbrev pub phase1b_part : List ℕ → Superblock → List Message
-phase1b_part bytes s = rescan_lines s.layout bytes
-
-abbrev pub phase2_part : List ℕ → Superblock → List Message
-phase2_part bytes s = phase2 ∷ map of_tree (pathname_lines (volume_of s.layout bytes))
-
-abbrev pub phase3_part : List ℕ → Superblock → List Message
-phase3_part bytes s = phase3 ∷ map of_tree (connectivity_lines (volume_of s.layout bytes))
-
-abbrev pub phase4_part : List ℕ → Superblock → List Message
-phase4_part bytes s = phase4 ∷ map of_tree (reference_lines (volume_of s.layout bytes))
-
-abbrev pub phase5_part : List ℕ → Superblock → List Message
-phase5_part bytes s = phase5 ∷ group_check_lines bytes s
-
-abbrev pub summary_part : List ℕ → Superblock → List Message
-summary_part bytes s = summary_of s (file_count s.layout bytes) (claimed_count s.layout bytes) ∷ []
-
 -- phase 5 and the summary
 abbrev pub from_phase5 : List ℕ → Superblock → List Message
-from_phase5 bytes s = phase5_part bytes s ++ summary_part bytes s
+from_phase5 bytes s = phase5_text bytes s ++ summary_text bytes s
 
 -- phases 4 and 5 and the summary
 abbrev pub from_phase4 : List ℕ → Superblock → List Message
-from_phase4 bytes s = phase4_part bytes s ++ from_phase5 bytes s
+from_phase4 bytes s = phase4_text s.layout bytes ++ from_phase5 bytes s
 
 -- phases 3 to 5 and the summary
 abbrev pub from_phase3 : List ℕ → Superblock → List Message
-from_phase3 bytes s = phase3_part bytes s ++ from_phase4 bytes s
+from_phase3 bytes s = phase3_text s.layout bytes ++ from_phase4 bytes s
 
 -- the same, where the check continues after the root
 abbrev pub after_phase2 : Bool → List ℕ → Superblock → List Message
@@ -54,11 +30,11 @@ after_phase2 goes bytes s = if goes then from_phase3 bytes s else []
 
 -- phase 2 and what follows it
 abbrev pub from_phase2 : List ℕ → Superblock → List Message
-from_phase2 bytes s = phase2_part bytes s ++ after_phase2 (continues_after_root (volume_of s.layout bytes)) bytes s
+from_phase2 bytes s = phase2_text s.layout bytes ++ after_phase2 (continues_after_root (volume_of s.layout bytes)) bytes s
 
 -- phase 1b, where it runs, and what follows it
 abbrev pub from_phase1b : List ℕ → Superblock → List Message
-from_phase1b bytes s = phase1b_part bytes s ++ from_phase2 bytes s
+from_phase1b bytes s = rescan_lines s.layout bytes ++ from_phase2 bytes s
 
 -- the image gives the bytes, and the workspace is left by phase 1: `WithPhase1` and more
 abbrev pub WithLeftByPhase1 : Layout → Device → Workspace → List ℕ → Type 0

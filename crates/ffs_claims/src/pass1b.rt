@@ -1,7 +1,7 @@
 //! Phase 1b: rescan for more dups (fsck(8)).
 
-ghost use Rattle.std.specs.Prelude.{◌≡◌, ◌∷◌, OnOk, map};
-ghost use Rattle.ffs_volume.specs.Blocks.{BlockCheck.phase1b_lines, Inodes.inode_of, Owners.owners_of};
+ghost use Rattle.std.specs.Prelude.{◌≡◌, OnOk};
+ghost use Rattle.ffs_volume.specs.{Blocks.Inodes.inode_of, Report.Whole.phase1b_text};
 ghost use Rattle.ffs_report.specs.{Known.ForBytes, PhaseOutcome.{ImageAfter, PhaseReports}, Progress.progress};
 ghost use Rattle.ffs_workspace.specs.{Found.WithPhase1, Ready.IsReady};
 ghost use Rattle.ffs_walk.specs.Keepings.{replay_in};
@@ -10,7 +10,6 @@ ghost use Rattle.ffs_claims.specs.{Phases.{IsLeftByPhase1b, Phase1bReads}, Repor
 ghost use Rattle.ffs_claims.specs.Phases.{RescanReads};
 ghost use Rattle.ffs_claims.specs.{Reporting.ReportsOffers, Rescan.{ReplaysStep, step_offers_again}};
 ghost use Rattle.ffs_claims.specs.RescanRuns.{CanReportStep, CountsStep, RereadsByBlock, Rewalks};
-ghost use Rattle.ffs_volume.specs.Messages.Kinds as messages;
 
 use crate::report_offer::report_run;
 use ffs_image::{Image, LimitedImage};
@@ -120,9 +119,8 @@ fn phase1b_unlimited<I: Image, W: Output>(
     ensures faults { ImageAfter (I.device image.old) (I.device image.new) result }
     ensures text { PhaseReports
         (WithPhase1 geometry.now.layout (I.device image.old) workspace.old)
-        (λ bytes. messages.phase1b ∷ map messages.of_blocks
-        (phase1b_lines geometry.now.layout (owners_of geometry.now.layout bytes)))
-        (progress W.sink report.old) (progress W.sink report.new) result }
+        (phase1b_text geometry.now.layout) (progress W.sink report.old)
+        (progress W.sink report.new) result }
     ensures leaves { OnOk result (ForBytes
         (WithPhase1 geometry.now.layout (I.device image.old) workspace.old)
         (λ bytes. IsLeftByPhase1b geometry.now.layout bytes workspace.new)) }
@@ -162,9 +160,8 @@ pub fn phase1b<I: Image, W: Output>(
     ensures faults { ImageAfter (I.device image.old) (I.device image.new) result }
     ensures text { PhaseReports
         (WithPhase1 geometry.now.layout (I.device image.old) workspace.old)
-        (λ bytes. messages.phase1b ∷ map messages.of_blocks
-        (phase1b_lines geometry.now.layout (owners_of geometry.now.layout bytes)))
-        (progress W.sink report.old) (progress W.sink report.new) result }
+        (phase1b_text geometry.now.layout) (progress W.sink report.old)
+        (progress W.sink report.new) result }
     ensures leaves { OnOk result (ForBytes
         (WithPhase1 geometry.now.layout (I.device image.old) workspace.old)
         (λ bytes. IsLeftByPhase1b geometry.now.layout bytes workspace.new)) }

@@ -1,12 +1,11 @@
 //! Phase 3: connectivity (fsck(8)).
 
-ghost use Rattle.std.specs.Prelude.{◌≡◌, ◌<◌, ◌≤◌, ◌+◌, ◌^◌, ◌∷◌, length, map, vec_len};
+ghost use Rattle.std.specs.Prelude.{◌≡◌, ◌<◌, ◌≤◌, ◌+◌, ◌^◌, length, vec_len};
 ghost use Rattle.ffs_report.specs.{Known.ForBytes, Paid.Paid, PhaseOutcome.{ImageAfter, PhaseReports}, Progress.progress};
-ghost use Rattle.ffs_volume.specs.{Directories.Connectivity.connectivity_lines, Messages.Kinds.of_tree};
+ghost use Rattle.ffs_volume.specs.{Directories.Connectivity.connectivity_lines, Report.Whole.phase3_text};
 ghost use Rattle.ffs_volume.specs.Directories.Volumes.{volume_of};
 ghost use Rattle.ffs_connectivity.specs.Unreached.{IsFirstUnreached};
 ghost use Rattle.ffs_workspace.specs.{Found.WithSurvey, Leaves.LeavesSurvey, Ready.IsReady};
-ghost use Rattle.ffs_volume.specs.Messages.Kinds as messages;
 
 use crate::lost::report_lost;
 use ffs_image::Image;
@@ -54,8 +53,7 @@ pub fn phase3<I: Image, W: Output>(
     ensures faults { ImageAfter (I.device image.old) (I.device image.new) result }
     ensures text { PhaseReports
         (WithSurvey geometry.now.layout (I.device image.old) workspace.old)
-        (λ bytes. messages.phase3 ∷ map of_tree
-        (connectivity_lines (volume_of geometry.now.layout bytes))) (progress W.sink report.old)
+        (phase3_text geometry.now.layout) (progress W.sink report.old)
         (progress W.sink report.new) result }
     ensures leaves { LeavesSurvey workspace.old workspace.new }
 

@@ -1,14 +1,13 @@
 //! Phase 4: how often inodes are referred to.
 
-ghost use Rattle.std.specs.Prelude.{◌≡◌, ◌<◌, ◌≤◌, ◌+◌, ◌∷◌, ℕ, false, map, length, slice_index, vec_len};
-ghost use Rattle.ffs_volume.specs.Messages.Kinds.{of_tree};
+ghost use Rattle.std.specs.Prelude.{◌≡◌, ◌<◌, ◌≤◌, ◌+◌, ℕ, false, map, length, slice_index, vec_len};
+ghost use Rattle.ffs_volume.specs.{Messages.Kinds.of_tree, Report.Whole.phase4_text};
 ghost use Rattle.ffs_volume.specs.Directories.{ReferenceCheck.{reference_lines, reference_lines_at}, Volumes.volume_of};
 ghost use Rattle.ffs_report.specs.{Known.ForBytes, Paid.Paid, PhaseOutcome.{ImageAfter, PhaseReports}, Progress.progress};
 ghost use Rattle.ffs_workspace.specs.{Found.WithFindings, Ready.{IsReady, KeepsWindows}};
 ghost use Rattle.ffs_counts.specs.{Ready.{CanCheckAllocated, HasElements, AreUnallocated, AreUnallocatedFrom}, References.is_dead_by};
 ghost use Rattle.ffs_counts.specs.{References.{is_right_by}, Passed.{AreRightFrom, ArePassedFrom, CanPass}};
 ghost use Rattle.ffs_survey.specs.Survey.{suspect_at};
-ghost use Rattle.ffs_volume.specs.Messages.Kinds as messages;
 ghost use Rattle.ffs_volume.specs.declared.constants.TheConstants as constants;
 
 use crate::reference::{line_for, references_by, say_if_any};
@@ -210,8 +209,7 @@ pub fn phase4<I: Image, W: Output>(
     ensures faults { ImageAfter (I.device image.old) (I.device image.new) result }
     ensures text { PhaseReports
         (WithFindings geometry.now.layout (I.device image.old) workspace.old)
-        (λ bytes. messages.phase4 ∷ map of_tree
-        (reference_lines (volume_of geometry.now.layout bytes))) (progress W.sink report.old)
+        (phase4_text geometry.now.layout) (progress W.sink report.old)
         (progress W.sink report.new) result }
     ensures leaves { workspace.new ≡ record workspace.old { windows = workspace.new.windows } }
 

@@ -1,12 +1,11 @@
 //! Phase 5: the records of the cylinder groups.
 
-ghost use Rattle.std.specs.Prelude.{◌≡◌, ◌+◌, ◌≤◌, ◌∷◌};
+ghost use Rattle.std.specs.Prelude.{◌≡◌, ◌+◌, ◌≤◌};
 ghost use Rattle.ffs_volume.specs.Report.Reads.{group_reads};
-ghost use Rattle.ffs_volume.specs.Report.Whole.{group_check_lines};
+ghost use Rattle.ffs_volume.specs.Report.Whole.{phase5_text};
 ghost use Rattle.ffs_layout.specs.Super.{superblock_in};
 ghost use Rattle.ffs_report.specs.{Progress.progress, PhaseOutcome.{ImageAfter, PhaseReports}};
 ghost use Rattle.ffs_workspace.specs.{Found.WithClaims, Ready.IsReady};
-ghost use Rattle.ffs_volume.specs.Messages.Kinds as messages;
 
 use crate::groups::read_group;
 use crate::once::{AlreadyReported, say_group, say_unless};
@@ -35,7 +34,7 @@ pub fn phase5<I: Image, W: Output>(
     ensures faults { ImageAfter (I.device image.old) (I.device image.new) result }
     ensures text { PhaseReports
         (WithClaims superblock.now.geometry.layout (I.device image.old) workspace.old)
-        (λ bytes. messages.phase5 ∷ group_check_lines bytes (superblock_in superblock.now))
+        (λ bytes. phase5_text bytes (superblock_in superblock.now))
         (progress W.sink report.old) (progress W.sink report.new) result }
     ensures leaves { workspace.new ≡ record workspace.old { windows = workspace.new.windows } }
     ensures reads { I.reads image.new
