@@ -131,10 +131,7 @@ fn report_by_role<I: Image, W: Output>(
         (lines_moment I.Image W.Output image.new workspace.new report.new texts.new) result }
 {
     match entry.role {
-        // Each by itself, as the proof has a goal for each.
-        Role::Empty => Ok(()),
-        Role::Dot => Ok(()),
-        Role::Dotdot => Ok(()),
+        Role::Empty | Role::Dot | Role::Dotdot => Ok(()),
         Role::Extra => report_extra(geometry, image, workspace, texts, entry, report),
         Role::Plain => report_plain(geometry, image, workspace, texts, entry, report),
     }

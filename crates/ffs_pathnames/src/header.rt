@@ -115,9 +115,9 @@ pub fn header_defects<'a>(header: &HeaderFacts<'a>) -> HeaderDefects<&'a [u8]>
 
 /// Says that a directory's size is too short, or no multiple of a chunk.
 fn say_size<W: Output>(
+    defects: &HeaderDefects<&[u8]>,
     attr: Attr,
     path: &[u8],
-    defects: &HeaderDefects<&[u8]>,
     report: &mut Report<'_, W>,
 ) -> Result<(), OutFault>
     ensures { SaysTreeMessages (progress W.sink report.old) (progress W.sink report.new)
@@ -139,9 +139,9 @@ fn say_size<W: Output>(
 
 /// Says that a directory has holes, or that a chunk isn't sound.
 fn say_chunks<W: Output>(
+    defects: &HeaderDefects<&[u8]>,
     attr: Attr,
     path: &[u8],
-    defects: &HeaderDefects<&[u8]>,
     report: &mut Report<'_, W>,
 ) -> Result<(), OutFault>
     ensures { SaysTreeMessages (progress W.sink report.old) (progress W.sink report.new)
@@ -160,9 +160,9 @@ fn say_chunks<W: Output>(
 
 /// Says what is wrong with `.`.
 fn say_dot<W: Output>(
+    defects: DotDefects<&[u8]>,
     attr: Attr,
     path: &[u8],
-    defects: DotDefects<&[u8]>,
     report: &mut Report<'_, W>,
 ) -> Result<(), OutFault>
     ensures { SaysTreeMessages (progress W.sink report.old) (progress W.sink report.new)
@@ -195,9 +195,9 @@ fn say_dot<W: Output>(
 
 /// Says what is wrong with `..`.
 fn say_dotdot<W: Output>(
+    defects: DotDefects<&[u8]>,
     attr: Attr,
     path: &[u8],
-    defects: DotDefects<&[u8]>,
     report: &mut Report<'_, W>,
 ) -> Result<(), OutFault>
     ensures { SaysTreeMessages (progress W.sink report.old) (progress W.sink report.new)
@@ -232,16 +232,16 @@ fn say_dotdot<W: Output>(
 /// Says what is wrong with `.` and `..`.
 #[tactic(auto, using(crate::proofs::Saying::first_stops))]
 fn say_dots<W: Output>(
+    defects: &HeaderDefects<&[u8]>,
     attr: Attr,
     path: &[u8],
-    defects: &HeaderDefects<&[u8]>,
     report: &mut Report<'_, W>,
 ) -> Result<(), OutFault>
     ensures { SaysTreeMessages (progress W.sink report.old) (progress W.sink report.new)
         (dots_lines (defects_value defects.now) attr path.now) result }
 {
-    say_dot(attr, path, defects.dot, report)?;
-    say_dotdot(attr, path, defects.dotdot, report)
+    say_dot(defects.dot, attr, path, report)?;
+    say_dotdot(defects.dotdot, attr, path, report)
 }
 
 /// Says all lines of a directory that come before those of its entries.
@@ -250,15 +250,15 @@ fn say_dots<W: Output>(
 /// A write of the report that failed.
 #[tactic(auto, using(crate::proofs::Saying::first_stops), unfolding(ffs_volume::specs::Directories::PathnameCheck::header_lines))]
 pub fn say_header<W: Output>(
+    defects: &HeaderDefects<&[u8]>,
     attr: Attr,
     path: &[u8],
-    defects: &HeaderDefects<&[u8]>,
     report: &mut Report<'_, W>,
 ) -> Result<(), OutFault>
     ensures { SaysTreeMessages (progress W.sink report.old) (progress W.sink report.new)
         (header_lines (defects_value defects.now) attr path.now) result }
 {
-    say_size(attr, path, defects, report)?;
-    say_chunks(attr, path, defects, report)?;
-    say_dots(attr, path, defects, report)
+    say_size(defects, attr, path, report)?;
+    say_chunks(defects, attr, path, report)?;
+    say_dots(defects, attr, path, report)
 }

@@ -302,6 +302,6 @@ fn report_header<I: Image, W: Output>(
 
     // An image may give another inode now: the lines are on the size that was found wrong.
     attr.size = header.size;
-    say_header(attr, path.as_slice(), &defects, report)?;
+    say_header(&defects, attr, path.as_slice(), report)?;
     Ok(())
 }

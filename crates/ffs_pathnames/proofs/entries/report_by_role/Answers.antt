@@ -1,4 +1,4 @@
-use Rattle.std.proofs.Common.{◌≡◌, arith, refl, ℕ, List, [], Ok}
+use Rattle.std.proofs.Common.{◌≡◌, arith, refl, ℕ, List, [], Ok, inl, inr}
 use Rattle.ffs_volume.specs.{declared.Layout.Layout, Directories.Roles.Volume, Messages.Kinds.{TreeMessage}}
 use Rattle.ffs_report.{specs.Progress.Progress, proofs.{Reporting.says_none, Paying.paid_none}}
 use Rattle.ffs_pathnames.specs.{EntryLines.ReportsOneEntry, Moments.{LinesMoment, PathMoment}, Ready.ReadyToPath, PassedNames.roled_reported}
@@ -14,15 +14,13 @@ nothing_said r none = grind (arith, says_none, paid_none)
 
 pub returns-in-Empty : goal.returns-in-Empty
 unfolding roled_reported
-returns-in-Empty g c = rw c.in-Empty.is (nothing_said c.requires (λ v. refl))
-
-pub returns-in-Dot : goal.returns-in-Dot
-unfolding roled_reported
-returns-in-Dot g c = rw c.in-Dot.is (nothing_said c.requires (λ v. refl))
-
-pub returns-in-Dotdot : goal.returns-in-Dotdot
-unfolding roled_reported
-returns-in-Dotdot g c = rw c.in-Dotdot.is (nothing_said c.requires (λ v. refl))
+returns-in-Empty g c = elim c.in-Empty.is [
+  | inl empty ↦ rw empty (nothing_said c.requires (λ v. refl))
+  | inr is ↦ elim is [
+    | inl dot ↦ rw dot (nothing_said c.requires (λ v. refl))
+    | inr dotdot ↦ rw dotdot (nothing_said c.requires (λ v. refl))
+  ]
+]
 
 pub returns-in-Extra : goal.returns-in-Extra
 unfolding roled_reported
