@@ -7,8 +7,12 @@ use Rattle.ffs_volume.specs.{Find.Copies.{copy_lines_of, sector_count}, declared
 use Rattle.ffs_volume.specs.declared.constants.TheConstants.{SUPERBLOCK_BYTES}
 use Rattle.ffs_report.specs.{Known.IsContents, declared.fault.RunFault.RunFault}
 use Rattle.ffs_check.specs.{Moment.Moment, declared.words.TheConstants.SECTOR_END}
-use Rattle.ffs_finding.specs.{Outcome.Finds, declared.copies.TheConstants.{SECTORS_BEFORE_MAGIC, WINDOW_BYTES}}
+use Rattle.ffs_finding.specs.{Outcome.Finds, declared.copies.TheConstants.SECTORS_BEFORE_MAGIC}
 use Rattle.ffs_walk.specs.{Windows.WindowHolds, declared.window.Window.Window}
+
+-- how many bytes are read at a time
+abbrev pub window_bytes : ℕ
+window_bytes = 65536
 
 -- a superblock with a magic number, in one of the two orders of bytes, begins at a sector
 abbrev pub has_magic : (image : List ℕ) (sector : ℕ) → Bool
@@ -16,18 +20,18 @@ has_magic image sector = is_some (order_of (super_bytes image (Some sector)))
 
 -- where the window begins in which the magic number of a superblock at a sector lies, in bytes
 abbrev pub window_place : ℕ → ℕ
-window_place sector = (sector + SECTORS_BEFORE_MAGIC) * DEV_BSIZE / WINDOW_BYTES * WINDOW_BYTES
+window_place sector = (sector + SECTORS_BEFORE_MAGIC) * DEV_BSIZE / window_bytes * window_bytes
 
 -- how many bytes of an image are in the window from a place on
 abbrev pub window_length : (size place : ℕ) → ℕ
-window_length size place = min WINDOW_BYTES (size - place)
+window_length size place = min window_bytes (size - place)
 
 -- a superblock at a sector lies in the image, `-b` takes the sector, and the window has its room and
 -- holds what the image gives
 pub record CanFindAt (d : Device) (sector : ℕ) (w : Window) : Type 0 where
   pub sector_fits : sector < SECTOR_END
   pub inside : sector * DEV_BSIZE + SUPERBLOCK_BYTES ≤ d.size
-  pub room : vec_len w.buffer ≡ WINDOW_BYTES
+  pub room : vec_len w.buffer ≡ window_bytes
   pub holds : WindowHolds d.contents w
 
 -- the window is the one of this sector
@@ -38,7 +42,7 @@ pub record IsWindowOf (d : Device) (sector : ℕ) (w : Window) : Type 0 where
 -- the window is that of a sector now, unless a read failed; it has its room and holds what the image gives
 pub record WindowAfter {T E : Type 0} (d d' : Device) (sector : ℕ) (after : Window) (result : Result T E) : Type 0 where
   pub at : OnOk result (IsWindowOf d sector after)
-  pub room : vec_len after.buffer ≡ WINDOW_BYTES
+  pub room : vec_len after.buffer ≡ window_bytes
   pub holds : WindowHolds d'.contents after
 
 -- the answer is whether a magic number is there
@@ -67,11 +71,11 @@ pub record FindsAt (sector : ℕ) (before after : Window) (old new : Moment) (re
   pub any : new.reads ≤ old.reads + 3
 
 -- the image was read once for each window of 65,536 bytes at most, and twice for each magic number; any
--- image, also one that gives other bytes each time, at most three times for each sector
+-- image, also one that gives other bytes each time, at most three times for each of its sectors that `-b` takes
 pub record ReadsCopies (d : Device) (reads reads' : ℕ) : Type 0 where
   pub known : ForContents d.contents
-      (λ b. reads' ≤ reads + div_ceil d.size WINDOW_BYTES + 2 * count_by (has_magic b) asked_sectors)
-  pub any : reads' ≤ reads + 3 * sector_count
+      (λ b. reads' ≤ reads + div_ceil d.size window_bytes + 2 * count_by (has_magic b) asked_sectors)
+  pub any : reads' ≤ reads + 3 * min sector_count (d.size / DEV_BSIZE)
 
 -- superblocks at the sectors from 1 on and below this one, and at no others that `-b` takes, lie in an
 -- image of this size

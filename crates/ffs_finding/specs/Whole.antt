@@ -18,7 +18,7 @@ use Rattle.ffs_finding.specs.declared.request.Target.{Target, TheVariants.{Inode
 use Rattle.ffs_finding.specs.declared.request.Command.{Command, TheVariants.{Copies, InVolume}}
 use Rattle.ffs_finding.specs.declared.find.FindFault.{FindFault, TheVariants.{Refused, Failed, NoMemory}}
 use Rattle.ffs_finding.specs.{Outcome.{PrintedTo, PrintedSome, StoppedIn, any_line}, Fields.WithSuper}
-use Rattle.ffs_finding.specs.{Copies.ReadsCopies, declared.copies.TheConstants.WINDOW_BYTES}
+use Rattle.ffs_finding.specs.{Copies.{ReadsCopies, window_bytes}}
 
 -- what is printed of a target in an image with this accepted superblock
 abbrev pub target_lines : Target → (sector : Option ℕ) → (image : List ℕ) → Superblock → List (List ℕ)
@@ -208,7 +208,7 @@ FindEnds command old new before after status =
 
 -- what a command takes of the memory: `copies` a window, `lost` and `owner` the workspace of a check
 abbrev pub TakesMemory : Command → Device → Account → Account → Type 0
-TakesMemory Copies d before after = AsksMemory before after WINDOW_BYTES
+TakesMemory Copies d before after = AsksMemory before after window_bytes
 TakesMemory (InVolume sector (Inode number)) d before after = after ≡ before
 TakesMemory (InVolume sector Fields) d before after = after ≡ before
 TakesMemory (InVolume sector Lost) d before after = Takes d sector before after

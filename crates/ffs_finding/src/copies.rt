@@ -6,7 +6,7 @@ ghost use Rattle.ffs_volume.specs.Find.Copies.{copies_lines, copy_lines_of, copy
 ghost use Rattle.ffs_report.specs.{Known.IsContents, Sink.Prints};
 ghost use Rattle.ffs_check.specs.Moment.{moment};
 ghost use Rattle.ffs_finding.specs.{Outcome.Finds, Copies.{CanFindAt, IsSectorsEnd, FindsAt, FindsMagic}};
-ghost use Rattle.ffs_finding.specs.{Copies.{ReadsCopies, ReadsWindow}, declared.copies.TheConstants.WINDOW_BYTES};
+ghost use Rattle.ffs_finding.specs.Copies.{ReadsCopies, ReadsWindow, window_bytes};
 ghost use Rattle.ffs_walk.specs.Windows.{WindowHolds};
 
 use ffs_check::words::SECTOR_END;
@@ -153,7 +153,7 @@ pub fn find_copies<I: Image, W: Output>(
     window: &mut Window,
     out: &mut W,
 ) -> Result<(), RunFault>
-    requires room { vec_len window.old.buffer ≡ WINDOW_BYTES }
+    requires room { vec_len window.old.buffer ≡ window_bytes }
     requires holds { WindowHolds (I.device image.old).contents window.old }
     ensures prints { Finds (IsContents (I.device image.old).contents) copies_lines
         (moment I.Image W.Output image.old out.old) (moment I.Image W.Output image.new out.new)

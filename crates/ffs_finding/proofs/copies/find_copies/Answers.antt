@@ -42,7 +42,7 @@ returns-in_err-find_copy-clause-reads g c =
           (omega (arith, inside, c.size.ensures))
           (reads_next d b n _ _ _ _ (omega arith) inv.first (inv.known b k) inv.at (e.counted b k)
           (λ at. e.again at b k));
-      any = omega (arith, e.any, inv.any, count_is, c.sectors_end-sector-end.ensures.below);
+      any = omega (arith, e.any, inv.any, count_is, c.sectors_end-sector-end.ensures.below, inside, c.size.ensures);
     }
 
 pub loop-sector-preserved : goal.loop-sector-preserved
@@ -86,14 +86,17 @@ returns-clause-reads g c =
     let inv = c.loop-sector.invariant in
     let n = c.loop-sector.sector in
     let end = c.sectors_end-sector-end.ensures in
-    record {
-      known = λ b k. elim (cases_eq n 1) [
-        | inl one ↦ let none = inv.first one in omega (arith, none)
-        | inr more ↦
-            let inside = end.inside (n - 1) (omega (arith, more)) (omega (arith, more, end.some)) in
-            let most = inv.known b k in
-            reads_all b d.size (n - 1) _ _ (omega (arith, end.below, end.some)) (omega (arith, inside, c.size.ensures))
-            (omega (arith, most, more))
-      ];
-      any = omega (arith, inv.any, count_is, end.below, end.some);
-    }
+    elim (cases_eq n 1) [
+      | inl one ↦
+          let none = inv.first one in
+          record { known = λ b k. omega (arith, none); any = omega (arith, none) }
+      | inr more ↦
+          let inside = end.inside (n - 1) (omega (arith, more)) (omega (arith, more, end.some)) in
+          record {
+            known = λ b k.
+                let most = inv.known b k in
+                reads_all b d.size (n - 1) _ _ (omega (arith, end.below, end.some))
+                (omega (arith, inside, c.size.ensures)) (omega (arith, most, more));
+            any = omega (arith, inv.any, count_is, end.below, end.some, more, inside, c.size.ensures);
+          }
+    ]

@@ -3,8 +3,8 @@ use Rattle.ffs_image.specs.Device.{ForContents}
 use Rattle.ffs_report.specs.Known.{IsContents}
 use Rattle.ffs_walk.specs.Windows.{WindowHolds}
 use Rattle.ffs_volume.specs.Find.Copies.{copies_lines}
-use Rattle.ffs_finding.{specs.{Outcome.PrintedTo, Copies.IsWindowOf}, proofs.CopyLaws.{lines_from, magics}}
-use Rattle.ffs_finding.specs.declared.copies.TheConstants.{WINDOW_BYTES}
+use Rattle.ffs_finding.specs.{Outcome.PrintedTo, Copies.{IsWindowOf, window_bytes}}
+use Rattle.ffs_finding.proofs.CopyLaws.{lines_from, magics}
 use Rattle.ffs_finding.proofs.copies.find_copies.Given as goal
 
 abbrev pub invariant-loop-sector : goal.invariant-loop-sector
@@ -13,7 +13,7 @@ invariant-loop-sector g l =
     let reads = g.I.Image.reads l.fn.image in
     record {
       device : g.I.Image.device l.image ≡ d;
-      room : vec_len l.window.buffer ≡ WINDOW_BYTES;
+      room : vec_len l.window.buffer ≡ window_bytes;
       holds : WindowHolds d.contents l.window;
       at : 1 < l.sector → IsWindowOf d (l.sector - 1) l.window;
       first : l.sector ≡ 1 → g.I.Image.reads l.image ≤ reads;
