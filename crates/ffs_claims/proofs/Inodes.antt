@@ -1,13 +1,14 @@
 -- How an inode's part of the block check continues, and how many Runs it is seen to have.
-use Rattle.std.proofs.Common.{◌+◌, ◌<◌, ◌^◌, false, arith, OnOk, ◌≡◌, ℕ, List, [], ◌++◌, append-nil, Result, Ok}
+use Rattle.std.proofs.Common.{◌+◌, ◌<◌, ◌^◌, false, arith, OnOk, ◌≡◌, ℕ, List, [], ◌∷◌, ◌++◌, append-nil, Option, Result, Ok}
 use Rattle.std.proofs.{Common.{refl, ◌≤◌, true}, lemmas.Bool.Decides.nat_tests}
 use Rattle.std.proofs.lemmas.List.Sums.{count_by-le-length}
-use Rattle.ffs_volume.{proofs.Potentials.{step_moves}, specs.Blocks.BlockCheck.{class_lines, count_lines}}
+use Rattle.ffs_volume.{proofs.{Potentials.step_moves, ReplayLaws.offers_runs}, specs.Blocks.BlockCheck.{class_lines, count_lines}}
 use Rattle.ffs_volume.specs.Blocks.{BlockCheck.owner_lines, Claims.{Claims, at_next_inode, after_steps}}
 use Rattle.ffs_volume.specs.Blocks.{Claims.{lines_of_steps, is_open, after_step}, Inodes.{class_of}}
 use Rattle.ffs_volume.specs.{Blocks.{Steps.steps_of}, Laws.ClaimBounds.{used_bits, ClaimBound}}
 use Rattle.ffs_volume.specs.{Laws.{Geometry.IsAcceptedLayout, RunLengths.HasLength}, Messages.Kinds.Message}
-use Rattle.ffs_volume.specs.declared.{Class.{Class, TheVariants.Free}, Inode.Inode, Layout.Layout, Step.Step}
+use Rattle.ffs_volume.specs.declared.{Class.{Class, TheVariants.Free}, Inode.Inode, Layout.Layout}
+use Rattle.ffs_volume.specs.declared.Step.{Step, TheVariants.{Gap, Run, Tail}}
 use Rattle.ffs_report.{proofs.Reporting.{of_part, of_begins, of_stops}, specs.Known.{ForBytes}}
 use Rattle.ffs_report.specs.{PhaseOutcome.{SaidOf, StoppedOf}, Progress.{Progress, Said, Stopped}}
 use Rattle.ffs_report.specs.declared.fault.RunFault.{RunFault}
@@ -30,6 +31,25 @@ moves_on {v = v} {s0 = s0} {w = w} step made small some now before = grind (arit
 -- at most the volume's fragments are used
 pub used_below : {v : Layout} {w : Workspace} → IsFor v w → used_bits (claims_of w) ≤ v.size
 used_below {w = w} made = grind (arith, bits_long, count_by-le-length)
+
+-- a Run that is seen is one more, a step has one at most, and steps have none less
+pub run_more : (v : Layout) (s : Claims) (start len : ℕ) (block : Option ℕ) → is_open s ≡ true →
+    (after_step v s (Run start len block)).runs ≡ s.runs + 1
+run_more v s start len block uncut = grind (arith, offers_runs)
+
+pub step_most : (v : Layout) (s : Claims) (step : Step) → (after_step v s step).runs ≤ s.runs + 1
+step_most v s (Run start len block) = grind (arith, offers_runs)
+step_most v s Tail = grind arith
+step_most v s Gap = omega arith
+
+step_rises : (v : Layout) (s : Claims) (step : Step) → s.runs ≤ (after_step v s step).runs
+step_rises v s (Run start len block) = grind (arith, offers_runs)
+step_rises v s Tail = grind arith
+step_rises v s Gap = omega arith
+
+pub steps_rise : (v : Layout) (s : Claims) (steps : List Step) → s.runs ≤ (after_steps v s steps).runs
+steps_rise v s [] = omega arith
+steps_rise v s (step ∷ steps) = omega (arith, step_rises v s step, steps_rise v (after_step v s step) steps)
 
 -- how many Runs are seen, and how many offers are kept, while an inode isn't cut
 pub seen_bound : {v : Layout} (u : Workspace) {w : Workspace} → IsFor v w → is_open (claims_of w) ≡ true →

@@ -137,18 +137,19 @@ pub record TakesOffers {T E : Type 0} (v : Layout) (number : ℕ) (run : Run) (o
   pub only : OffersOnly v old.workspace new.workspace
 
 -- a step of an inode claims what it offers: its lines are said, the claims are those after it, and the
--- answer is whether the next step is seen. At most one Run is seen, and one where it is an indirect block
+-- answer is whether the next step is seen. No more Runs are seen than its own, and one where it is an
+-- indirect block
 pub record ClaimsStep {E : Type 0} (v : Layout) (number : ℕ) (step : Step) (old new : ClaimMoment)
     (result : Result Bool E) : Type 0 where
   pub said : Says old.report new.report (of_lines (step_lines v number (claims_of old.workspace) step)) result
   pub claims : OnOk result (claims_of new.workspace ≡ after_step v (claims_of old.workspace) step)
   pub seen : IfOk result (λ seen. seen ≡ is_open (claims_of new.workspace))
   pub counted : old.workspace.runs_seen + entered step ≤ new.workspace.runs_seen
-  pub runs : new.workspace.runs_seen ≤ old.workspace.runs_seen + 1
+  pub runs : new.workspace.runs_seen ≤ (after_step v (claims_of old.workspace) step).runs
 
 -- the steps of an owner claim what they offer: their lines are reported, the claims are those after
 -- them, the next inode can be walked over, and each read is paid by a Run that is seen. An image that
--- gives its bytes is read once for each indirect block that is seen
+-- gives its bytes is read once for each indirect block that is seen, and no more Runs are seen than theirs
 pub record ClaimsSteps {T : Type 0} (g : Geometry) (owner : List ℕ → Owner) (old new : PhaseMoment) (sweep : Sweep)
     (result : Result T RunFault) : Type 0 where
   pub text : PhaseReports (IsContents old.image.contents) (λ bytes.
@@ -162,9 +163,12 @@ pub record ClaimsSteps {T : Type 0} (g : Geometry) (owner : List ℕ → Owner) 
   pub counted : new.reads + old.workspace.runs_seen ≤ old.reads + new.workspace.runs_seen
   pub known : ForBytes (IsContents old.image.contents) (λ bytes.
       new.reads ≤ old.reads + indirect_in_steps g.layout (claims_of old.workspace) (owner bytes).steps)
+  pub most : ForBytes (IsContents old.image.contents) (λ bytes.
+      new.workspace.runs_seen ≤ (after_steps g.layout (claims_of old.workspace) (owner bytes).steps).runs)
 
 -- an inode claims as an owner of fragments: its lines are reported, the claims are those after it, and
--- an image that gives its bytes is read once for each indirect block that is seen
+-- an image that gives its bytes is read once for each indirect block that is seen, and no more Runs are seen than
+-- the owner's
 pub record ClaimsOwner {T : Type 0} (g : Geometry) (owner : List ℕ → Owner) (old new : PhaseMoment) (sweep : Sweep)
     (result : Result T RunFault) : Type 0 where
   pub text : PhaseReports (IsContents old.image.contents)
@@ -174,3 +178,5 @@ pub record ClaimsOwner {T : Type 0} (g : Geometry) (owner : List ℕ → Owner) 
   pub left : InodeLeaves g old new sweep result
   pub known : ForBytes (IsContents old.image.contents)
       (λ bytes. ReadsIndirect g.layout (claims_of old.workspace) (owner bytes) old.reads new.reads)
+  pub most : ForBytes (IsContents old.image.contents)
+      (λ bytes. new.workspace.runs_seen ≤ (after_owner g.layout (claims_of old.workspace) (owner bytes)).runs)

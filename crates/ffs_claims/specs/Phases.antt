@@ -17,11 +17,12 @@ pub record IsLeftByPhase1 (v : Layout) (bytes : List ℕ) (w : Workspace) : Type
   pub count : w.runs_seen ≡ run_count v bytes
 
 -- phase 1 reads the image at most once for each block of the inode tables and once for each Run that
--- it looks at. The Runs are no more than a volume can have. Where the image gives its bytes, it reads of
--- the Runs none but the indirect blocks that are seen
+-- it looks at. The Runs are no more than a volume can have. Where the image gives its bytes, they are none
+-- but those of its inodes, and it reads of them none but the indirect blocks that are seen
 pub record Phase1Reads (v : Layout) (d : Device) (old new : Workspace) (before after : ℕ) : Type 0 where
   pub runs : new.runs_seen ≤ runs_limit v
   pub reads : after ≤ before + table_blocks v + new.runs_seen
+  pub most : ForBytes (WithFresh v d old) (λ bytes. new.runs_seen ≤ run_count v bytes)
   pub known : ForBytes (WithFresh v d old) (λ bytes. after ≤ before + volume_scan_reads v bytes)
 
 -- phase 1 keeps the count of phase 1b's Runs, and where a read or a write failed what `has_dups` answers

@@ -1,6 +1,7 @@
 use Rattle.std.proofs.Common.{ℕ, suc, arith, refl, ◌≡◌, ◌∙◌, ap, sym, List, ◌++◌, ◌∷◌, false, replicate, []}
 use Rattle.std.proofs.lemmas.Result.{err_from_is_err_and}
-use Rattle.ffs_volume.{proofs.Potentials.moves_then, specs.Blocks.Claims.{after_steps, lines_of_steps, is_open}}
+use Rattle.ffs_volume.{proofs.Potentials.moves_then, specs.Blocks.Claims.{after_step, after_steps, lines_of_steps, is_open}}
+use Rattle.ffs_volume.specs.Blocks.Steps.{steps_of}
 use Rattle.ffs_volume.specs.{declared.Step.TheVariants.Gap, Report.VolumeReads.indirect_in_steps}
 use Rattle.ffs_report.{proofs.Reporting.{of_begins, of_stops, of_reads, of_same, says_none}, specs.Known.ForBytes}
 use Rattle.ffs_report.specs.Known.{IsContents}
@@ -8,6 +9,7 @@ use Rattle.ffs_walk.{proofs.{Counted.{top_held, top_unread}, WalkSteps.top_ends}
 use Rattle.ffs_workspace.specs.Holds.{claims_of}
 use Rattle.ffs_claims.proofs.{Frames.{can_walk, ready_still, ready_read, only_then}, Inodes.{sees_next, moves_on}}
 use Rattle.ffs_claims.proofs.{Inodes.{seen_bound, claiming_none, claiming_walked, claiming_on}, StepsContinue.cut_over}
+use Rattle.ffs_claims.proofs.Inodes.{step_most, steps_rise}
 use Rattle.ffs_claims.proofs.StepsContinue.{gaps_over, claims_on, lines_on, steps_said, without_steps}
 use Rattle.ffs_claims.proofs.{IndirectReads.{gaps_unseen, indirect_on}, claim.claim.Goals.{in-Gap, in_default-matches}}
 use Rattle.ffs_claims.{proofs.WordClaims.{sees_for, words_for}, specs.Lines.of_lines}
@@ -29,6 +31,7 @@ returns-then-not-has_steps g c =
       walk = c.requires.walk;
       counted = omega arith;
       known = λ bytes t. omega arith;
+      most = λ bytes t. omega (arith, ap (λ xs. (after_steps v s xs).runs) (none bytes));
     }
 
 pub claim_direct-requires-clause-can : goal.claim_direct-requires-clause-can
@@ -83,12 +86,15 @@ returns-then-not-has_address g c =
     let s' = claims_of c.claim_direct.new.workspace in
     let end = c.claim_direct.ensures.top in
     let over = λ (bytes : List ℕ). top_ends bytes w (grind arith) end.single end.double end.triple in
+    let now : ForBytes (IsContents image)
+    (λ bytes. s' ≡ after_steps v s (steps_of v c.args.claimant.now.inode.now bytes)) = λ bytes t.
+    sym (ap (after_steps v s') (over bytes)) ∙ words.means.claims image blocks bytes t
+    ∙ ap (after_steps v s) (walk.steps bytes) in
     record {
       text = of_same _ _ _ _ _ _ (of_begins _ _ _)
           (λ bytes t. ap of_lines (sym (words.means.lines image blocks bytes t n ∙ ap (lines_of_steps v n s) (walk.steps bytes))
           ∙ ap (lines_of_steps v n s') (over bytes)));
-      claims = λ bytes t. sym (ap (after_steps v s') (over bytes)) ∙ words.means.claims image blocks bytes t
-          ∙ ap (after_steps v s) (walk.steps bytes);
+      claims = now;
       image = refl;
       left = claiming_on (record { only = words.only; all_in_range = none.claim.all_in_range })
           (omega (arith, seen_bound c.args.workspace.now words.only.made words.uncut words.means.bound))
@@ -96,6 +102,7 @@ returns-then-not-has_address g c =
       walk = words.same.geometry ∙ begins;
       counted = omega (arith, words.rises);
       known = λ bytes t. omega arith;
+      most = λ bytes t. omega (arith, ap (λ s. s.runs) (now bytes t));
     }
 
 pub next-requires : goal.next-requires
@@ -116,6 +123,11 @@ returns-in_err-next g c =
       walk = c.next.ensures.same.geometry ∙ inv.geometry;
       counted = omega (arith, inv.counted, (c.in_err-next.ensures.counted inv.held).most);
       known = λ bytes t. omega (arith, inv.indirect bytes t, (c.in_err-next.ensures.counted inv.held).most);
+      most = λ bytes t. omega (
+        arith,
+        ap (λ s. s.runs) (inv.claims bytes t),
+        steps_rise c.args.geometry.now.layout (claims_of c.loop-next.workspace) (steps_left bytes c.loop-next.sweep.walk),
+      );
     })
 
 pub step-requires : goal.step-requires
@@ -143,7 +155,8 @@ returns-in_err-seen g c =
           c.in-Some.next next refl) c.in_err-seen.ensures.claims.said;
       claims = tt;
       image = c.in_ok-next.ensures.leaves.read ∙ inv.device;
-      left = claiming_on c.step.ensures.left (omega (arith, c.step.ensures.claims.runs)) tt read;
+      left = claiming_on c.step.ensures.left
+          (omega (arith, c.step.ensures.claims.runs, step_most v s c.in-Some.next)) tt read;
       walk = c.in_ok-next.ensures.same.geometry ∙ inv.geometry;
       counted = omega (arith, paid, inv.counted, c.step.ensures.claims.counted);
       known = λ bytes t. omega (
@@ -151,6 +164,13 @@ returns-in_err-seen g c =
         paid,
         inv.indirect bytes t,
         indirect_on v s c.loop-next.sweep.walk c.next.new.self c.in-Some.next inv.open_still next refl bytes t,
+      );
+      most = λ bytes t. omega (
+        arith,
+        c.step.ensures.claims.runs,
+        steps_rise v (after_step v s c.in-Some.next) (steps_left bytes c.next.new.self),
+        ap (λ xs. (after_steps v s xs).runs) (next bytes t),
+        ap (λ s. s.runs) (inv.claims bytes t),
       );
     })
 
@@ -271,7 +291,8 @@ returns-then-not-seen g c =
       claims = claims_on v s c.loop-next.sweep.walk c.next.new.self (λ bytes. s') c.in-Some.next next now.claims
           inv.claims (λ bytes t. (cut_over v n s' (steps_left bytes c.next.new.self) cut).0);
       image = c.in_ok-next.ensures.leaves.read ∙ inv.device;
-      left = claiming_on c.step.ensures.left (omega (arith, c.step.ensures.claims.runs))
+      left = claiming_on c.step.ensures.left
+          (omega (arith, c.step.ensures.claims.runs, step_most v s c.in-Some.next))
           (moves_on c.in-Some.next inv.left.claim.ready.ready.made c.args.geometry.now.sound.sizes.frag_high
           (rw (inv.geometry, c.in-Some.is) at c.in_ok-next.ensures.step.fits).length now.claims inv.left.claim_bound)
           read;
@@ -282,6 +303,13 @@ returns-then-not-seen g c =
         paid,
         inv.indirect bytes t,
         indirect_on v s c.loop-next.sweep.walk c.next.new.self c.in-Some.next inv.open_still next now.claims bytes t,
+      );
+      most = λ bytes t. omega (
+        arith,
+        c.step.ensures.claims.runs,
+        steps_rise v (after_step v s c.in-Some.next) (steps_left bytes c.next.new.self),
+        ap (λ xs. (after_steps v s xs).runs) (next bytes t),
+        ap (λ s. s.runs) (inv.claims bytes t),
       );
     }
 
@@ -303,5 +331,10 @@ returns-in_default g c =
         arith,
         rw c.in_default.is at (c.in_ok-next.ensures.counted inv.held).paid,
         inv.indirect bytes t,
+      );
+      most = λ bytes t. omega (
+        arith,
+        ap (λ s. s.runs) (inv.claims bytes t),
+        steps_rise v s (steps_left bytes c.loop-next.sweep.walk),
       );
     }

@@ -4,7 +4,7 @@ use Rattle.ffs_volume.specs.{Report.VolumeReads.indirect_in_steps, declared.Clas
 use Rattle.ffs_report.proofs.Reporting.{of_fault, of_says, of_stops, says_none}
 use Rattle.ffs_maps.proofs.Bits.{bits_long}
 use Rattle.ffs_workspace.specs.Holds.{claims_of}
-use Rattle.ffs_claims.proofs.{Frames.{ready_begun, ready_stored}, Inodes.{begun, begun_runs, stored_runs}}
+use Rattle.ffs_claims.proofs.{Frames.{ready_begun, ready_stored}, Inodes.{begun, begun_runs, steps_rise, stored_runs}}
 use Rattle.ffs_claims.proofs.Inodes.{steps_reported, class_said, class_stopped, free_steps, used_below}
 use Rattle.ffs_claims.{proofs.claim.claim_read_inode.Goals.{in-Free, in_default}}
 use Rattle.ffs_claims.proofs.claim.claim_read_inode.Goals as goal
@@ -35,6 +35,12 @@ returns-in_err-say_class-clause-claims g c =
       claims = tt;
       left = grind arith;
       known = λ bytes t. omega arith;
+      most = λ bytes t. omega (
+        arith,
+        b.seen,
+        steps_rise c.args.geometry.now.layout (at_next_inode (claims_of c.args.workspace.now))
+            (steps_of c.args.geometry.now.layout c.args.claimant.now.inode.now bytes),
+      );
     })
 
 pub returns-in_err-claim-clause-claims : goal.returns-in_err-claim-clause-claims
@@ -55,6 +61,11 @@ returns-in_err-claim-clause-claims g c =
         c.claim.ensures.known bytes t,
         ap (λ s. indirect_in_steps v s (steps_of v c.args.claimant.now.inode.now bytes)) (ap claims_of c.begin.ensures),
       );
+      most = λ bytes t. omega (
+        arith,
+        c.claim.ensures.most bytes t,
+        ap (λ s. (after_steps v s (steps_of v c.args.claimant.now.inode.now bytes)).runs) (ap claims_of c.begin.ensures),
+      );
     })
 
 pub returns-in_err-say_count-clause-claims : goal.returns-in_err-say_count-clause-claims
@@ -74,6 +85,11 @@ returns-in_err-say_count-clause-claims g c =
         arith,
         c.claim.ensures.known bytes t,
         ap (λ s. indirect_in_steps v s (steps_of v c.args.claimant.now.inode.now bytes)) (ap claims_of c.begin.ensures),
+      );
+      most = λ bytes t. omega (
+        arith,
+        c.claim.ensures.most bytes t,
+        ap (λ s. (after_steps v s (steps_of v c.args.claimant.now.inode.now bytes)).runs) (ap claims_of c.begin.ensures),
       );
     })
 
@@ -99,6 +115,12 @@ returns-clause-claims g c =
         c.claim.ensures.known bytes t,
         ap (λ s. indirect_in_steps v s (steps_of v c.args.claimant.now.inode.now bytes)) (ap claims_of c.begin.ensures),
       );
+      most = λ bytes t. omega (
+        arith,
+        s.seen,
+        c.claim.ensures.most bytes t,
+        ap (λ s. (after_steps v s (steps_of v c.args.claimant.now.inode.now bytes)).runs) (ap claims_of c.begin.ensures),
+      );
     }
 
 pub returns-then-matches-clause-claims : goal.returns-then-matches-clause-claims
@@ -121,4 +143,10 @@ returns-then-matches-clause-claims g c =
           ∙ sym (ap (after_steps v (at_next_inode old)) (free_steps v _ bytes free));
       left = grind arith;
       known = λ bytes t. omega arith;
+      most = λ bytes t. omega (
+        arith,
+        b.seen,
+        s.seen,
+        steps_rise v (at_next_inode old) (steps_of v c.args.claimant.now.inode.now bytes),
+      );
     }

@@ -12,6 +12,7 @@ use Rattle.ffs_claims.proofs.{Inodes.used_below, Numbers.{found_begins, found_ne
 use Rattle.ffs_claims.proofs.{Numbers.{before_first, before_end, lines_next}, TableReads.{blocks_all, blocks_failed}}
 use Rattle.ffs_claims.proofs.{TableReads.{blocks_later, blocks_next, blocks_none}, IndirectReads.{VolumeRead, read_all}}
 use Rattle.ffs_claims.proofs.{IndirectReads.{read_begins, read_failed, read_later, read_next}, ZeroInodes.AreFree}
+use Rattle.ffs_claims.proofs.Rescanned.{runs_most}
 use Rattle.ffs_claims.proofs.ZeroInodes.{StandsAt, free_where_zero, has_inodes, lines_later, stands_later}
 use Rattle.ffs_claims.proofs.pass1.phase1.Goals as goal
 
@@ -191,6 +192,13 @@ returns-in_err-claim_inode-clause-reads g c =
       runs = omega (arith, inv.runs, left.bound, most);
       reads = blocks_failed c.claim_inode.new.workspace.runs_seen c.args.geometry.now.sound (omega arith) c.claim_inode.ensures.table.again left.counted
           inv.reads;
+      most = λ bytes k.
+          let n = c.loop-number.number in
+          let next = ap (λ s. s.runs) (before_next c.args.geometry.now.layout bytes n inv.low) in
+          let before = ap (λ s. (after_owner c.args.geometry.now.layout s (owner_of c.args.geometry.now.layout bytes n)).runs)
+          (inv.claims bytes k) in
+          let rest = runs_most c.args.geometry.now.layout bytes (n + 1) (omega arith) (λ h. omega arith) in
+          omega (arith, next, before, rest, c.claim_inode.ensures.claims.most bytes (contents ∙ k.0));
       known = λ bytes k. read_failed c.args.geometry.now.sound (omega arith)
           (λ held. c.claim_inode.ensures.table.known held bytes (contents ∙ k.0))
           (c.claim_inode.ensures.claims.known bytes (contents ∙ k.0)) (inv.known bytes k);
@@ -205,5 +213,8 @@ returns-clause-reads g c =
     record {
       runs = omega (arith, inv.runs, used_below inv.ready.ready.ready.made, most);
       reads = blocks_all sound (omega (arith, inv.high, some_inodes v sound)) inv.reads;
+      most = λ bytes k.
+          let past : inodes_of v ≤ c.loop-number.number = omega arith in
+          omega (arith, ap (λ s. s.runs) (inv.claims bytes k), runs_most v bytes c.loop-number.number inv.low inv.high);
       known = λ bytes k. read_all sound (omega (arith, inv.high, some_inodes v sound)) (inv.known bytes k);
     }
