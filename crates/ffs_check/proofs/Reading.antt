@@ -21,16 +21,16 @@ report_among bytes name sector s accepted =
     omega (arith, whole, length-append (opening_lines name sector (Ok s)) (phase_lines bytes s))
 
 -- a superblock was accepted, and the phases follow, or nothing is read any more
-pub found_within : (name : List ℕ) (sector : Option ℕ) (old on : Moment) (found : Super) (reads' : ℕ) →
+pub found_within : (name : List ℕ) (sector : Option ℕ) (old on new : Moment) (found : Super) →
     OpeningOf name sector old on (Ok found) → on.reads ≤ old.reads + opening_reads →
-    ForBytes (IsContents on.image.contents) (λ bytes. PhasesReadWithin (superblock_in found) bytes on.reads reads') →
-    ReadsWithin old.image name sector old.reads reads'
-found_within name sector old on found reads' o opened follows =
+    ForBytes (IsContents on.image.contents) (λ bytes. PhasesReadWithin (superblock_in found) bytes on.reads new.reads) →
+    ReadsWithin name sector old new
+found_within name sector old on new found o opened follows =
     let answers = subst (ReadsSuper old.image on.image sector) o.ends.1 o.super_is_read in
     let still = unfailed_of old.image on.image sector (superblock_in found) answers in
     let is = found_of old.image on.image sector (superblock_in found) answers in
     let there : ForBytes (IsContents old.image.contents) (λ bytes. (s : Superblock) → outcome bytes sector ≡ Ok s →
-    PhasesReadWithin s bytes on.reads reads') = λ bytes t s e.
+    PhasesReadWithin s bytes on.reads new.reads) = λ bytes t s e.
     let same : superblock_in found ≡ s = ap (λ r. found_or r s) (is bytes t ∙ e) in
     subst (λ x. PhasesReadWithin x bytes on.reads reads') same (follows bytes (ap (λ d. d.contents) still ∙ t)) in
     record {
@@ -49,6 +49,6 @@ found_within name sector old on found reads' o opened follows =
     found_or (Err fault) d = d
 
 -- nothing was read but the superblock and its last copy
-pub opened_within : (image : Device) (name : List ℕ) (sector : Option ℕ) (reads reads' : ℕ) →
-    reads' ≤ reads + opening_reads → ReadsWithin image name sector reads reads'
-opened_within image name sector reads reads' opened = grind arith
+pub opened_within : (name : List ℕ) (sector : Option ℕ) (old new : Moment) → new.reads ≤ old.reads + opening_reads →
+    ReadsWithin name sector old new
+opened_within name sector old new opened = grind arith

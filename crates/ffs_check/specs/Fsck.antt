@@ -11,7 +11,7 @@ pub record IsChecked (name : List ℕ) (sector : Option ℕ) (old new : Moment) 
   pub headline : Headline name sector old new end
   pub failures : HaveFailed sector old new end
   pub costs : CostsOfSystem sector old new end
-  pub reads_within : ReadsWithin old.image name sector old.reads new.reads
+  pub reads_within : ReadsWithin name sector old new
   pub status_is : status ≡ status_of end
 
 -- a check of an image, asked for by its sector

@@ -16,13 +16,13 @@ pub record PhasesReadWithin (s : Superblock) (bytes : List ℕ) (reads reads' : 
 
 -- the whole check of an image that gives its bytes: at most twice where the superblock isn't
 -- accepted, else within the limit, and within that by what its volume holds
-pub record ReadsWithin (image : Device) (name : List ℕ) (asked_sector : Option ℕ) (reads reads' : ℕ) : Type 0 where
-  pub refused : ForContents image.contents (λ bytes. (fault : SuperFault) → outcome bytes asked_sector ≡ Err fault
-      → reads' ≤ reads + opening_reads)
-  pub accepted : ForContents image.contents (λ bytes. (s : Superblock) → outcome bytes asked_sector ≡ Ok s
-      → reads' ≤ reads + reads_limit s.layout (length (report_of bytes name asked_sector)))
-  pub volume : ForContents image.contents (λ bytes. (s : Superblock) → outcome bytes asked_sector ≡ Ok s
-      → reads' ≤ reads + (opening_reads + volume_phase_reads s.layout bytes))
+pub record ReadsWithin (name : List ℕ) (asked_sector : Option ℕ) (old new : Moment) : Type 0 where
+  pub refused : ForContents old.image.contents (λ bytes. (fault : SuperFault) → outcome bytes asked_sector ≡ Err fault
+      → new.reads ≤ old.reads + opening_reads)
+  pub accepted : ForContents old.image.contents (λ bytes. (s : Superblock) → outcome bytes asked_sector ≡ Ok s
+      → new.reads ≤ old.reads + reads_limit s.layout (length (report_of bytes name asked_sector)))
+  pub volume : ForContents old.image.contents (λ bytes. (s : Superblock) → outcome bytes asked_sector ≡ Ok s
+      → new.reads ≤ old.reads + (opening_reads + volume_phase_reads s.layout bytes))
 
 -- messages went out, or the output failed within the last of them, and there were no more reads than the
 -- limit for so many messages

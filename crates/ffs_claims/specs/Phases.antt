@@ -39,16 +39,16 @@ pub record IsLeftByPhase1b (v : Layout) (bytes : List ℕ) (w : Workspace) : Typ
   pub reported : has_unreported_dups w ≡ false
   pub count : w.runs_again ≡ rescan_runs v bytes
 
--- the rescan reads the image at most once for each inode and once for each Run that it looks at, as
+-- without a limit phase 1b reads the image at most once for each inode and once for each Run that it looks at, as
 -- long as the count of Runs has room in a u64. Where the image gives its bytes it looks at no more
 -- Runs than phase 1 did, and reads no more than phase 1 does then: each block of the inode tables once,
 -- and each indirect block that is seen
-pub record RescanReads (v : Layout) (d : Device) (old new : Workspace) (before after : ℕ) : Type 0 where
+pub record Phase1bReadsUnlimited (v : Layout) (d : Device) (old new : Workspace) (before after : ℕ) : Type 0 where
   pub runs : ForBytes (WithPhase1 v d old) (λ bytes. new.runs_again ≤ run_count v bytes)
   pub reads : new.runs_again < 2 ^ 64 - 1 → after ≤ before + v.ncg * v.ipg + new.runs_again
   pub known : ForBytes (WithPhase1 v d old) (λ bytes. after ≤ before + volume_scan_reads v bytes)
 
--- phase 1b reads as the rescan does, and never more often than a sweep may
+-- phase 1b reads as it does without a limit, and never more often than a sweep may
 pub record Phase1bReads (v : Layout) (d : Device) (old new : Workspace) (before after : ℕ) : Type 0 where
-  pub rescan : RescanReads v d old new before after
+  pub unlimited : Phase1bReadsUnlimited v d old new before after
   pub most : after ≤ before + sweep_reads v

@@ -77,12 +77,12 @@ returns-in-Ok-clause-costs g c =
     }
 
 pub returns-in-Err-clause-reads : goal.returns-in-Err-clause-reads
-returns-in-Err-clause-reads g c = opened_within _ _ _ _ _ c.in-Err.ensures.opens.answers.reads
+returns-in-Err-clause-reads g c = opened_within _ _ _ _ c.in-Err.ensures.opens.answers.reads
 
 pub returns-in-Ok-clause-reads : goal.returns-in-Ok-clause-reads
 returns-in-Ok-clause-reads g c =
     let old = moment g.I.Image g.W.Output c.args.image.now c.args.out.now in
     let on = report_moment g.I.Image g.W.Output c.say_opening.new.image c.say_opening.new.report in
     let opens = opens_at g.W.Output.sink _ _ _ _ c.in-Ok.ensures.opens (ap (λ (p : Progress). p.sink) c.new-report.ensures) refl in
-    found_within _ _ old (at_output on) c.in-Ok.superblock _ opens.opened opens.answers.reads
+    found_within _ _ old (at_output on) _ c.in-Ok.superblock opens.opened opens.answers.reads
     c.check_accepted.ensures.follows.reads.known
