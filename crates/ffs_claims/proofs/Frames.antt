@@ -1,5 +1,5 @@
 -- What reads, claims and reports leave of a workspace whose windows hold what the image gives.
-use Rattle.std.proofs.Common.{◌≡◌, ℕ, refl, ap, arith, length, length-set, slice_set, subst, false, Result}
+use Rattle.std.proofs.Common.{◌≡◌, ℕ, Bool, refl, ap, arith, length, length-set, slice_set, subst, false, Result}
 use Rattle.std.{proofs.Common.vec_len, specs.declared.{alloc.Global.Global, vec.Vec.Vec}}
 use Rattle.ffs_volume.specs.declared.{Class.Class, Inode.Inode, Layout.Layout}
 use Rattle.ffs_image.specs.Device.{Device}
@@ -72,12 +72,14 @@ pub ready_walked : {g k : Geometry} {d d' : Device} {w : Workspace} {b : Blocks}
     CanRead g.layout d' (record w { windows = record w.windows { blocks = b } })
 ready_walked e same kept r = ready_read (ap (λ x. x.contents) e) (ap (λ x. x.size) e) same kept r
 
--- they hold it where nothing is surveyed any more, and so does what is fresh
-pub ready_unsurveyed : {l : Layout} {d : Device} {w : Workspace} → CanRead l d w → CanRead l d (record w { surveyed = false })
-ready_unsurveyed r = grind arith
+-- they hold it whatever is surveyed, and so is what is fresh
+pub ready_surveyed : {l : Layout} {d : Device} {w : Workspace} {surveyed : Bool} → CanRead l d w →
+    CanRead l d (record w { surveyed = surveyed })
+ready_surveyed r = grind arith
 
-pub fresh_unsurveyed : {l : Layout} {w : Workspace} → IsFresh l w → IsFresh l (record w { surveyed = false })
-fresh_unsurveyed r = grind arith
+pub fresh_surveyed : {l : Layout} {w : Workspace} {surveyed : Bool} → IsFresh l w →
+    IsFresh l (record w { surveyed = surveyed })
+fresh_surveyed r = grind arith
 
 -- they hold it where the count of Runs starts again
 pub ready_again : {l : Layout} {d : Device} {u w : Workspace} → w ≡ record u { runs_again = 0 } → CanRead l d u →

@@ -1,4 +1,4 @@
-use Rattle.std.proofs.Common.{◌≡◌, ◌+◌, arith, refl, sym, ◌-◌, ◌≤◌, ◌<◌, ap, ◌∙◌, Err, inl, inr, ◌*◌}
+use Rattle.std.proofs.Common.{◌≡◌, ◌+◌, false, arith, refl, sym, ◌-◌, ◌≤◌, ◌<◌, ap, ◌∙◌, Err, inl, inr, ◌*◌}
 use Rattle.std.proofs.lemmas.{Result.err_from_is_err_and, Bool.cases_lt}
 use Rattle.ffs_volume.{proofs.OwnerLaws.before_next, specs.Blocks.{BlockCheck.phase1_lines, Claims.after_owner}}
 use Rattle.ffs_volume.specs.{Blocks.{KeptSteps.claims_before, Owners.{owner_of, owners_of}}, Report.Whole.run_count}
@@ -8,7 +8,7 @@ use Rattle.ffs_report.proofs.Reporting.{of_part, of_fault, of_same, reports_know
 use Rattle.ffs_report.{proofs.Reporting.said_knows, specs.Known.ForBytes}
 use Rattle.ffs_workspace.{proofs.Leaving.fresh_held, specs.{Found.WithFresh, Holds.claims_of}}
 use Rattle.ffs_workspace.specs.declared.workspace.Workspace.{Workspace}
-use Rattle.ffs_claims.proofs.{Duplicates.{any_set, rescan_is}, Frames.{changes_then, fresh_unsurveyed, ready_begun, ready_still, ready_unsurveyed, zeros_passed}}
+use Rattle.ffs_claims.proofs.{Duplicates.{any_set, rescan_is}, Frames.{changes_then, fresh_surveyed, ready_begun, ready_still, ready_surveyed, zeros_passed}}
 use Rattle.ffs_claims.proofs.{Inodes.used_below, Numbers.{found_begins, found_next, found_all, numbers_most}}
 use Rattle.ffs_claims.proofs.{Numbers.{before_first, before_end, lines_next}, TableReads.{blocks_all, blocks_failed}}
 use Rattle.ffs_claims.proofs.{TableReads.{blocks_later, blocks_next, blocks_none}, IndirectReads.{VolumeRead, read_all}}
@@ -24,7 +24,7 @@ returns-in_err-say-clause-text g c =
 
 pub reserve-requires : goal.reserve-requires
 reserve-requires g c =
-    (ready_unsurveyed (c.forget_windows.ensures.forgets c.args.geometry.now.layout _ c.requires.ready)).ready.made
+    (ready_surveyed (c.forget_windows.ensures.forgets c.args.geometry.now.layout _ c.requires.ready)).ready.made
 
 pub loop-number-init : goal.loop-number-init
 unfolding phase1_lines owners_of
@@ -36,7 +36,7 @@ loop-number-init g c =
     record {
       ready = record {
         ready = ready_still c.reserve.ensures.only.made c.reserve.ensures.only.windows
-            (ready_unsurveyed (c.forget_windows.ensures.forgets v _ c.requires.ready));
+            (ready_surveyed {surveyed = false} (c.forget_windows.ensures.forgets v _ c.requires.ready));
         all_in_range = c.empty.ensures v;
       };
       walk = c.ended.ensures.geometry;
@@ -45,11 +45,11 @@ loop-number-init g c =
       high = λ h. omega arith;
       runs = omega (arith, c.reserve.ensures.runs);
       reads = blocks_none (omega (arith, c.reserve.ensures.runs));
-      known = λ bytes k. read_begins v bytes (omega arith) (c.reserve.ensures.claims (fresh_unsurveyed (fresh k.1)));
+      known = λ bytes k. read_begins v bytes (omega arith) (c.reserve.ensures.claims (fresh_surveyed (fresh k.1)));
       changes = grind arith;
-      claims = λ bytes k. c.reserve.ensures.claims (fresh_unsurveyed (fresh k.1)) ∙ sym (before_first v bytes);
-      found = λ bytes k. found_begins bytes (fresh_unsurveyed (fresh k.1)) found;
-      said = says_heading (λ bytes k. rw (c.reserve.ensures.claims (fresh_unsurveyed (fresh k.1))) refl) c.in_ok-say.ensures.said;
+      claims = λ bytes k. c.reserve.ensures.claims (fresh_surveyed (fresh k.1)) ∙ sym (before_first v bytes);
+      found = λ bytes k. found_begins bytes (fresh_surveyed (fresh k.1)) found;
+      said = says_heading (λ bytes k. rw (c.reserve.ensures.claims (fresh_surveyed (fresh k.1))) refl) c.in_ok-say.ensures.said;
     }
 
 pub claim_inode-requires : goal.claim_inode-requires
