@@ -32,7 +32,7 @@ found_within name sector old on new found o opened follows =
     let there : ForBytes (IsContents old.image.contents) (λ bytes. (s : Superblock) → outcome bytes sector ≡ Ok s →
     PhasesReadWithin s bytes on.reads new.reads) = λ bytes t s e.
     let same : superblock_in found ≡ s = ap (λ r. found_or r s) (is bytes t ∙ e) in
-    subst (λ x. PhasesReadWithin x bytes on.reads reads') same (follows bytes (ap (λ d. d.contents) still ∙ t)) in
+    subst (λ x. PhasesReadWithin x bytes on.reads new.reads) same (follows bytes (ap (λ d. d.contents) still ∙ t)) in
     record {
       refused = λ bytes t fault e. let no : Ok (superblock_in found) ≡ Err fault = is bytes t ∙ e in absurd (cc);
       accepted = λ bytes t s e. omega (

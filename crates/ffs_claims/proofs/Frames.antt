@@ -1,5 +1,5 @@
 -- What reads, claims and reports leave of a workspace whose windows hold what the image gives.
-use Rattle.std.proofs.Common.{◌≡◌, ℕ, refl, ap, arith, length, length-set, slice_set, subst, false, Result}
+use Rattle.std.proofs.Common.{◌≡◌, ℕ, Bool, refl, ap, arith, length, length-set, slice_set, subst, false, Result}
 use Rattle.std.{proofs.Common.vec_len, specs.declared.{alloc.Global.Global, vec.Vec.Vec}}
 use Rattle.ffs_volume.specs.declared.{Class.Class, Inode.Inode, Layout.Layout}
 use Rattle.ffs_image.specs.Device.{Device}
@@ -7,18 +7,25 @@ use Rattle.ffs_report.specs.{PhaseOutcome.ImageAfter, declared.fault.RunFault.Ru
 use Rattle.ffs_layout.specs.declared.geometry.Geometry.{Geometry}
 use Rattle.ffs_maps.specs.declared.FragmentMap.{FragmentMap}
 use Rattle.ffs_walk.specs.{Windows.{CanWalk, KeepsBlocks}, declared.blocks.Blocks.Blocks}
-use Rattle.ffs_workspace.specs.{Lengths.IsFor, Ready.CanRead, declared.workspace.{Workspace.Workspace}}
-use Rattle.ffs_claims.specs.{Leaves.{SameFound, ClaimsOnly, Stored, OffersOnly}, Reporting.{RescanKeeps, ReportsOnly}}
+use Rattle.ffs_workspace.specs.{Holds.IsFresh, Lengths.IsFor, Ready.CanRead, declared.workspace.{Workspace.Workspace}}
+use Rattle.ffs_claims.specs.{Leaves.{SameFound, ClaimsAndFinds, ClaimsOnly, Stored, OffersOnly}, Reporting.{RescanKeeps, ReportsOnly}}
 use Rattle.ffs_claims.specs.Reporting.{OffersReportedOnly}
 
 pub found_none : (w : Workspace) → SameFound w w
-found_none w = record { kinds = refl; marked = refl; notes = refl; references = refl; has_dups = refl; again = refl }
+found_none w = record { only = refl }
 
 pub claims_none : (w : Workspace) → RescanKeeps w w
 claims_none w = grind arith
 
 pub claims_then : {u v w : Workspace} → RescanKeeps u v → RescanKeeps v w → RescanKeeps u w
 claims_then p q = grind arith
+
+pub changes_then : {u v w : Workspace} → ClaimsAndFinds u v → ClaimsAndFinds v w → ClaimsAndFinds u w
+changes_then p q = grind arith
+
+pub zeros_passed : {u w : Workspace} → ClaimsAndFinds u w →
+    ClaimsAndFinds u (record w { bad = 0; dup_offers = 0; kept = 0; tail = false })
+zeros_passed p = grind arith
 
 pub only_then : {l : Layout} {u v w : Workspace} → ClaimsOnly l u v → ClaimsOnly l v w → ClaimsOnly l u w
 only_then p q = grind arith
@@ -64,6 +71,15 @@ pub ready_walked : {g k : Geometry} {d d' : Device} {w : Workspace} {b : Blocks}
     KeepsBlocks k.layout d'.contents w.windows.blocks b → CanRead g.layout d w →
     CanRead g.layout d' (record w { windows = record w.windows { blocks = b } })
 ready_walked e same kept r = ready_read (ap (λ x. x.contents) e) (ap (λ x. x.size) e) same kept r
+
+-- they hold it whatever is surveyed, and so is what is fresh
+pub ready_surveyed : {l : Layout} {d : Device} {w : Workspace} {surveyed : Bool} → CanRead l d w →
+    CanRead l d (record w { surveyed = surveyed })
+ready_surveyed r = grind arith
+
+pub fresh_surveyed : {l : Layout} {w : Workspace} {surveyed : Bool} → IsFresh l w →
+    IsFresh l (record w { surveyed = surveyed })
+fresh_surveyed r = grind arith
 
 -- they hold it where the count of Runs starts again
 pub ready_again : {l : Layout} {d : Device} {u w : Workspace} → w ≡ record u { runs_again = 0 } → CanRead l d u →

@@ -117,20 +117,18 @@ pub steps_reported : {knows : List ℕ → Type 0} {a b c : Progress} {s1 s2 : C
 steps_reported v number i s e k q steps h = of_part _ _ _ _ _ _ _ _ (class_said v number i s e k q)
     (λ bytes t. rw (h bytes t, append-nil) refl) steps
 
--- the Runs that were seen are as they were, what `has_dups` answers, and how many fragments are used
+-- the Runs that were seen are as they were, and how many fragments are used
 pub record SameRuns (u w : Workspace) : Type 0 where
   pub seen : w.runs_seen ≡ u.runs_seen
-  pub has_dups : w.has_dups ≡ u.has_dups
-  pub again : w.runs_again ≡ u.runs_again
   pub used : used_bits (claims_of w) ≡ used_bits (claims_of u)
 
 pub begun_runs : (u : Workspace) {w : Workspace} → w ≡ record u { bad = 0; dup_offers = 0; kept = 0; tail = false } →
     SameRuns u w
-begun_runs u e = rw e (record { seen = refl; has_dups = refl; again = refl; used = refl })
+begun_runs u e = rw e (record { seen = refl; used = refl })
 
 pub stored_runs : (u : Workspace) {w : Workspace} →
     w ≡ record u { kinds = w.kinds; marked = w.marked; notes = w.notes; references = w.references } → SameRuns u w
-stored_runs u e = rw e (record { seen = refl; has_dups = refl; again = refl; used = refl })
+stored_runs u e = rw e (record { seen = refl; used = refl })
 
 pub begun : (u : Workspace) {w : Workspace} → w ≡ record u { bad = 0; dup_offers = 0; kept = 0; tail = false } →
     u.runs_seen < 2 ^ 40 → HasBegun w

@@ -81,11 +81,11 @@ pub record FoundTo (v : Layout) (bytes : List ℕ) (w : Workspace) (n : ℕ) : T
 pub found_begins : {v : Layout} {u w : Workspace} (bytes : List ℕ) → IsFresh v u → SameFound u w → FoundTo v bytes w 2
 unfolding kind_at marked_by_phase1_at start_at
 found_begins {v = v} bytes fresh same = record {
-  kinds = filled_begin v 0 (kind_at v bytes) _ _ (ap (λ x. x.items) same.kinds ∙ fresh.kinds) (λ x out. rw out refl);
-  marked = filled_begin v false (marked_by_phase1_at v bytes) _ _ (ap (λ x. x.items) same.marked ∙ fresh.marked)
+  kinds = filled_begin v 0 (kind_at v bytes) _ _ (ap (λ (x : Workspace). x.kinds.items) same.only ∙ fresh.kinds) (λ x out. rw out refl);
+  marked = filled_begin v false (marked_by_phase1_at v bytes) _ _ (ap (λ (x : Workspace). x.marked.items) same.only ∙ fresh.marked)
       (λ x out. rw out refl);
-  notes = filled_begin v 0 (note_at v bytes) _ _ (ap (λ x. x.items) same.notes ∙ fresh.notes) (note_out v bytes);
-  starts = filled_begin v 0 (start_at v bytes) _ _ (ap (λ x. x.items) same.references ∙ fresh.references)
+  notes = filled_begin v 0 (note_at v bytes) _ _ (ap (λ (x : Workspace). x.notes.items) same.only ∙ fresh.notes) (note_out v bytes);
+  starts = filled_begin v 0 (start_at v bytes) _ _ (ap (λ (x : Workspace). x.references.items) same.only ∙ fresh.references)
       (λ x out. rw out refl);
 }
 

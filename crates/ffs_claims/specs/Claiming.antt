@@ -13,7 +13,7 @@ use Rattle.ffs_layout.specs.declared.geometry.Geometry.{Geometry}
 use Rattle.ffs_walk.specs.Counts.{entered}
 use Rattle.ffs_workspace.specs.{Holds.{IsFresh, claims_of}, Lengths.IsFor, Ready.CanRead, Tables.HoldsInode}
 use Rattle.ffs_workspace.specs.{Tables.HoldsPiece, declared.workspace.Workspace.Workspace}
-use Rattle.ffs_claims.specs.{Area.IsDataArea, Leaves.{CanOffer, ClaimsOnly, HasBegun, OffersOnly, SameFound}}
+use Rattle.ffs_claims.specs.{Area.IsDataArea, Leaves.{CanOffer, ClaimsAndFinds, ClaimsOnly, HasBegun, OffersOnly, SameFound}}
 use Rattle.ffs_claims.specs.{Lines.of_lines, Moments.{ClaimMoment, PhaseMoment}, declared.area.DataArea.DataArea}
 use Rattle.ffs_claims.specs.declared.{area.Run.Run, claim.Sweep.Sweep}
 
@@ -107,7 +107,7 @@ pub record ReadsByBlock {T : Type 0} (v : Layout) (number : ℕ) (old new : Phas
       → OnOk result (HoldsPiece v v.inopb number new.workspace.windows.table)
 
 -- what an inode leaves: the image, but for a read that failed, what its steps leave but for `claim_bound`, `found`
--- and `table`, a walk over the volume, and the count of phase 1b's Runs and the answer of `has_dups` as they were.
+-- and `table`, a walk over the volume, and all that inodes which claim don't change (`ClaimsAndFinds`).
 -- Each Run that it sees claims a fragment, but for 22, and each read is paid by a Run that is seen
 pub record InodeLeaves {T : Type 0} (g : Geometry) (old new : PhaseMoment) (sweep : Sweep) (result : Result T RunFault)
     : Type 0 where
@@ -117,8 +117,7 @@ pub record InodeLeaves {T : Type 0} (g : Geometry) (old new : PhaseMoment) (swee
   pub bound : FewRuns g.layout old.workspace new.workspace
   pub runs_claim : OnOk result (new.workspace.runs_seen + used_bits (claims_of old.workspace)
       ≤ old.workspace.runs_seen + used_bits (claims_of new.workspace) + 22)
-  pub has_dups : new.workspace.has_dups ≡ old.workspace.has_dups
-  pub again : new.workspace.runs_again ≡ old.workspace.runs_again
+  pub changes : ClaimsAndFinds old.workspace new.workspace
   pub counted : new.reads + old.workspace.runs_seen ≤ old.reads + new.workspace.runs_seen
 
 -- an offer is taken: the claims are those after it, and all else is as offers leave it

@@ -22,14 +22,35 @@ pub record CanOffer (v : Layout) (w : Workspace) (more : ℕ) (in_range are_in_r
   pub room : w.kept + more ≤ 2 ^ 63
   pub known : IsTrue in_range → are_in_range ≡ true
 
--- what was found of inodes is as it was, and what `has_dups` answers, and the Runs of phase 1b
+-- what was found of inodes is as it was, and all else but claims, counts and windows
 pub record SameFound (old new : Workspace) : Type 0 where
-  pub kinds : new.kinds ≡ old.kinds
-  pub marked : new.marked ≡ old.marked
-  pub notes : new.notes ≡ old.notes
-  pub references : new.references ≡ old.references
-  pub has_dups : new.has_dups ≡ old.has_dups
-  pub again : new.runs_again ≡ old.runs_again
+  pub only : new ≡ record old {
+    used = new.used;
+    duplicates = new.duplicates;
+    runs_seen = new.runs_seen;
+    bad = new.bad;
+    dup_offers = new.dup_offers;
+    kept = new.kept;
+    tail = new.tail;
+    windows = new.windows;
+  }
+
+-- all is as it was but claims and counts, what is found of inodes that claim, and windows
+pub record ClaimsAndFinds (old new : Workspace) : Type 0 where
+  pub only : new ≡ record old {
+    used = new.used;
+    duplicates = new.duplicates;
+    kinds = new.kinds;
+    marked = new.marked;
+    notes = new.notes;
+    references = new.references;
+    runs_seen = new.runs_seen;
+    bad = new.bad;
+    dup_offers = new.dup_offers;
+    kept = new.kept;
+    tail = new.tail;
+    windows = new.windows;
+  }
 
 -- what claiming leaves: the lists have their lengths, and the windows and what was found are as they were
 pub record ClaimsOnly (v : Layout) (old new : Workspace) : Type 0 where

@@ -8,6 +8,7 @@ use Rattle.ffs_report.specs.Known.{ForBytes}
 use Rattle.ffs_workspace.specs.{declared.workspace.Workspace.Workspace, Found.{WithFresh, WithPhase1}}
 use Rattle.ffs_workspace.specs.Lengths.{has_unreported_dups}
 use Rattle.ffs_workspace.specs.Holds.{HoldsClaims, HoldsPhase1}
+use Rattle.ffs_claims.specs.Leaves.{ClaimsAndFinds}
 
 -- phase 1 leaves what it found in the image's bytes, and `has_dups` answers whether one of its lines is
 -- a DUP line, which is just where phase 1b is to run. It has counted each Run that is seen
@@ -25,9 +26,10 @@ pub record Phase1Reads (v : Layout) (d : Device) (old new : Workspace) (before a
   pub most : ForBytes (WithFresh v d old) (λ bytes. new.runs_seen ≤ run_count v bytes)
   pub known : ForBytes (WithFresh v d old) (λ bytes. after ≤ before + volume_scan_reads v bytes)
 
--- phase 1 keeps the count of phase 1b's Runs, and where a read or a write failed what `has_dups` answers
+-- phase 1 claims, and finds what inodes are. From then on nothing is surveyed. All else is as it was, and where a
+-- read or a write failed what `has_dups` answers, too
 pub record Phase1Keeps {T E : Type 0} (old new : Workspace) (result : Result T E) : Type 0 where
-  pub again : new.runs_again ≡ old.runs_again
+  pub changes : ClaimsAndFinds (record old { has_dups = new.has_dups; surveyed = false }) new
   pub has_dups : OnErr result (new.has_dups ≡ old.has_dups)
 
 -- phase 1b leaves what the block check found in the image's bytes. Nothing is surveyed yet, so counts of

@@ -1,4 +1,4 @@
-use Rattle.std.proofs.Common.{◌≡◌, ◌+◌, arith, refl, sym, ◌-◌, ◌≤◌, ◌<◌, ap, ◌∙◌, Err, inl, inr, ◌*◌}
+use Rattle.std.proofs.Common.{◌≡◌, ◌+◌, false, arith, refl, sym, ◌-◌, ◌≤◌, ◌<◌, ap, ◌∙◌, Err, inl, inr, ◌*◌}
 use Rattle.std.proofs.lemmas.{Result.err_from_is_err_and, Bool.cases_lt}
 use Rattle.ffs_volume.{proofs.OwnerLaws.before_next, specs.Blocks.{BlockCheck.phase1_lines, Claims.after_owner}}
 use Rattle.ffs_volume.specs.{Blocks.{KeptSteps.claims_before, Owners.{owner_of, owners_of}}, Report.Whole.run_count}
@@ -7,7 +7,8 @@ use Rattle.ffs_volume.{specs.{Blocks.Inodes.inodes_of, Laws.ClaimBounds.used_bit
 use Rattle.ffs_report.proofs.Reporting.{of_part, of_fault, of_same, reports_knowing, says_heading, stops_heading}
 use Rattle.ffs_report.{proofs.Reporting.said_knows, specs.Known.ForBytes}
 use Rattle.ffs_workspace.{proofs.Leaving.fresh_held, specs.{Found.WithFresh, Holds.claims_of}}
-use Rattle.ffs_claims.proofs.{Duplicates.{rescan_is}, Frames.{ready_begun, ready_still}}
+use Rattle.ffs_workspace.specs.declared.workspace.Workspace.{Workspace}
+use Rattle.ffs_claims.proofs.{Duplicates.{any_set, rescan_is}, Frames.{changes_then, fresh_surveyed, ready_begun, ready_still, ready_surveyed, zeros_passed}}
 use Rattle.ffs_claims.proofs.{Inodes.used_below, Numbers.{found_begins, found_next, found_all, numbers_most}}
 use Rattle.ffs_claims.proofs.{Numbers.{before_first, before_end, lines_next}, TableReads.{blocks_all, blocks_failed}}
 use Rattle.ffs_claims.proofs.{TableReads.{blocks_later, blocks_next, blocks_none}, IndirectReads.{VolumeRead, read_all}}
@@ -22,7 +23,8 @@ returns-in_err-say-clause-text g c =
     rw (p.1, p.2) (stops_heading c.in_err-say.ensures.said)
 
 pub reserve-requires : goal.reserve-requires
-reserve-requires g c = (c.forget_windows.ensures.forgets c.args.geometry.now.layout _ c.requires.ready).ready.made
+reserve-requires g c =
+    (ready_surveyed (c.forget_windows.ensures.forgets c.args.geometry.now.layout _ c.requires.ready)).ready.made
 
 pub loop-number-init : goal.loop-number-init
 unfolding phase1_lines owners_of
@@ -34,7 +36,7 @@ loop-number-init g c =
     record {
       ready = record {
         ready = ready_still c.reserve.ensures.only.made c.reserve.ensures.only.windows
-            (c.forget_windows.ensures.forgets v _ c.requires.ready);
+            (ready_surveyed {surveyed = false} (c.forget_windows.ensures.forgets v _ c.requires.ready));
         all_in_range = c.empty.ensures v;
       };
       walk = c.ended.ensures.geometry;
@@ -43,12 +45,11 @@ loop-number-init g c =
       high = λ h. omega arith;
       runs = omega (arith, c.reserve.ensures.runs);
       reads = blocks_none (omega (arith, c.reserve.ensures.runs));
-      known = λ bytes k. read_begins v bytes (omega arith) (c.reserve.ensures.claims (fresh k.1));
-      has_dups = found.has_dups ∙ ap (λ w. w.has_dups) forgot;
-      again = found.again ∙ ap (λ w. w.runs_again) forgot;
-      claims = λ bytes k. c.reserve.ensures.claims (fresh k.1) ∙ sym (before_first v bytes);
-      found = λ bytes k. found_begins bytes (fresh k.1) found;
-      said = says_heading (λ bytes k. rw (c.reserve.ensures.claims (fresh k.1)) refl) c.in_ok-say.ensures.said;
+      known = λ bytes k. read_begins v bytes (omega arith) (c.reserve.ensures.claims (fresh_surveyed (fresh k.1)));
+      changes = grind arith;
+      claims = λ bytes k. c.reserve.ensures.claims (fresh_surveyed (fresh k.1)) ∙ sym (before_first v bytes);
+      found = λ bytes k. found_begins bytes (fresh_surveyed (fresh k.1)) found;
+      said = says_heading (λ bytes k. rw (c.reserve.ensures.claims (fresh_surveyed (fresh k.1))) refl) c.in_ok-say.ensures.said;
     }
 
 pub claim_inode-requires : goal.claim_inode-requires
@@ -120,8 +121,7 @@ loop-number-preserved g c =
             runs = omega (arith, runs, some);
             reads = blocks_later passes.ends.low reads;
             known = λ bytes k. read_later some passes.ends.high (free bytes k) (known bytes k);
-            has_dups = c.claim_inode.ensures.claims.left.has_dups ∙ inv.has_dups;
-            again = c.claim_inode.ensures.claims.left.again ∙ inv.again;
+            changes = changes_then inv.changes (zeros_passed c.claim_inode.ensures.claims.left.changes);
             claims = λ bytes k. (stands_later (omega (arith, inv.low)) some passes.ends.high ready.ready.made (free bytes k)
                 (stands bytes k)).claims;
             found = λ bytes k. (stands_later (omega (arith, inv.low)) some passes.ends.high ready.ready.made (free bytes k)
@@ -140,8 +140,7 @@ loop-number-preserved g c =
             runs = runs;
             reads = reads;
             known = known;
-            has_dups = c.claim_inode.ensures.claims.left.has_dups ∙ inv.has_dups;
-            again = c.claim_inode.ensures.claims.left.again ∙ inv.again;
+            changes = changes_then inv.changes c.claim_inode.ensures.claims.left.changes;
             claims = λ bytes k. (stands bytes k).claims;
             found = λ bytes k. (stands bytes k).found;
             said = said;
@@ -176,9 +175,10 @@ returns-clause-leaves g c = λ bytes k.
         marked = holds.marked;
         notes = holds.notes;
         starts = holds.starts;
-        unsurveyed = refl;
+        unsurveyed = ap (λ (w : Workspace). w.surveyed) inv.changes.only;
       };
-      has_dups = let dup = holds.duplicates in grind (arith, rescan_is);
+      has_dups = c.has_unreported_dups-workspace.ensures ∙ ap any_set holds.duplicates
+          ∙ rescan_is c.args.geometry.now.layout bytes;
       count = ap (λ s. s.runs) all;
     }
 

@@ -1,11 +1,11 @@
-use Rattle.std.proofs.Common.{◌≡◌, ◌+◌, ◌-◌, ◌*◌, ◌<◌, ◌≤◌, ◌∷◌}
+use Rattle.std.proofs.Common.{false, ◌≡◌, ◌+◌, ◌-◌, ◌*◌, ◌<◌, ◌≤◌, ◌∷◌}
 use Rattle.ffs_volume.specs.Blocks.{BlockCheck.lines_of_owners, BlockCheck.phase1_lines, KeptSteps.claims_before}
 use Rattle.ffs_volume.specs.{Blocks.Owners.owners_of, Laws.ClaimBounds.used_bits, Messages.Kinds.phase1}
 use Rattle.ffs_report.specs.{Known.ForBytes, PhaseOutcome.SaidOf, Progress.progress}
 use Rattle.ffs_workspace.specs.{Found.WithFresh, Holds.claims_of}
 use Rattle.ffs_volume.specs.Blocks.Inodes.{inodes_of}
 use Rattle.ffs_claims.{proofs.{IndirectReads.VolumeRead, Numbers.FoundTo, TableReads.BlocksRead}, specs.Claiming.CanClaim}
-use Rattle.ffs_claims.specs.Lines.{of_lines, owners_from}
+use Rattle.ffs_claims.specs.{Leaves.ClaimsAndFinds, Lines.{of_lines, owners_from}}
 use Rattle.ffs_claims.proofs.pass1.phase1.Given as goal
 
 abbrev pub invariant-loop-number : goal.invariant-loop-number
@@ -21,8 +21,7 @@ invariant-loop-number g l = let v = l.geometry.layout in
           l.workspace.windows.table;
       known : ForBytes knows (λ bytes. VolumeRead v bytes (claims_of l.workspace) l.number
           (g.I.Image.reads l.fn.image) (g.I.Image.reads l.image) l.workspace.windows.table);
-      has_dups : l.workspace.has_dups ≡ l.fn.workspace.has_dups;
-      again : l.workspace.runs_again ≡ l.fn.workspace.runs_again;
+      changes : ClaimsAndFinds (record l.fn.workspace { surveyed = false }) l.workspace;
       claims : ForBytes knows (λ bytes. claims_of l.workspace ≡ claims_before v bytes l.number);
       found : ForBytes knows (λ bytes. FoundTo v bytes l.workspace l.number);
       said : SaidOf knows (λ bytes. of_lines (lines_of_owners v (claims_of l.workspace) (owners_from v bytes l.number)))
