@@ -2,13 +2,14 @@
 -- `Encodings/Places`, but the bit that says later that the parent entry of a directory is due
 -- (`is_due`) says here that the directory is a parent whose chunks are to be read (`is_to_be_read`).
 use Rattle.std.specs.Prelude.{◌≡◌, ◌⊎◌, ℕ, suc, ◌<◌, ◌≤◌, ◌^◌, ◌==◌, Bool, true, false, not, ◌&&◌, if◌then◌else◌, List}
-use Rattle.std.specs.{Prelude.{◌+◌, slice_index, length, vec_len, OnOk, Result}, List.list_any}
+use Rattle.std.specs.{Prelude.{◌+◌, nat_lt, slice_index, length, vec_len, OnOk, Result}, List.list_any}
 use Rattle.std.specs.declared.{alloc.Global.Global, vec.Vec.Vec}
 use Rattle.ffs_image.specs.{Device.{Device, ForContents}, Reads.ReadAfter, declared.image.ImageFault.ImageFault}
 use Rattle.ffs_image.specs.declared.image.Image.{Ghosts}
 use Rattle.ffs_volume.specs.declared.{constants.TheConstants.ROOTINO, Layout.Layout}
 use Rattle.ffs_volume.specs.Directories.{Graph.is_naming_entry, Roles.{RoledEntry, roled_entries}, Volumes.volume_of}
-use Rattle.ffs_volume.specs.{Encodings.Lists.bool_at, Blocks.Inodes.inodes_of, Report.DirectoryReads.noted_cost}
+use Rattle.ffs_volume.specs.{Disk.Search.some_below, Encodings.Lists.bool_at, Blocks.Inodes.inodes_of}
+use Rattle.ffs_volume.specs.Report.DirectoryReads.{costs_below, noted_cost}
 use Rattle.ffs_volume.specs.Encodings.Places.{entries_in_part, is_due as is_to_be_read, name_in, place_in, AreNoted}
 use Rattle.ffs_volume.specs.Encodings.Places.{IsNoted}
 use Rattle.ffs_workspace.specs.{Holds.HoldsSurvey, Ready.CanRead, declared.workspace.Windows.Windows}
@@ -103,6 +104,14 @@ pub record IsParent (parents : List ℕ) (p : ℕ) : Type 0 where
   pub after_root : ROOTINO < child
   pub parent_is : slice_index parents child ≡ p
   pub from_root : ROOTINO ≤ p
+
+-- whether d is a parent by this list, of an inode with a number greater than the root's
+abbrev pub has_child : (parents : List ℕ) → (d : ℕ) → Bool
+has_child parents d = some_below (λ x. nat_lt ROOTINO x && (slice_index parents x == d)) (length parents)
+
+-- at most how many reads parents take in a sweep
+abbrev pub parents_costs : Layout → List ℕ → (parents : List ℕ) → ℕ
+parents_costs v b parents = costs_below (has_child parents) (noted_cost v b) (inodes_of v)
 
 -- a word for each inode: no place is noted, no number below the root's is to be read, the parent of each
 -- reached inode with a number greater than the root's is to be read, and only parents are

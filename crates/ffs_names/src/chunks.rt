@@ -178,10 +178,12 @@ impl Chunks {
         self.gap = false;
     }
 
-    /// Leaves no chunk to come, no step of the walk, and no hole that was seen.
+    /// Leaves no chunk to come, no step of the walk, and no hole that was seen. How many Runs were
+    /// looked at stays.
     pub fn end(&mut self)
         ensures over { IsEnded self.new }
         ensures geometry { self.new.walk.geometry ≡ self.old.walk.geometry }
+        ensures runs { self.new.runs ≡ self.old.runs }
     {
         self.walk = Walk::ended(&self.walk.geometry);
         self.run_cursor = RunCursor::empty();

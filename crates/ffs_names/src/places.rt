@@ -6,12 +6,12 @@ ghost use Rattle.ffs_image.specs.{Device.ForContents, Known.ForBytes};
 ghost use Rattle.ffs_layout.specs.Entry.{entry_value};
 ghost use Rattle.ffs_volume.specs.Directories.{Entries.entries_of, Roles.{is_dir, role_of as role_in, roled_chunk}};
 ghost use Rattle.ffs_volume.specs.{Directories.{Roles.roled_from, Volumes.volume_of}, Encodings.Notes.note_at};
-ghost use Rattle.ffs_volume.specs.Report.DirectoryReads.{noted_cost, noted_costs};
+ghost use Rattle.ffs_volume.specs.Report.DirectoryReads.{noted_cost};
 ghost use Rattle.ffs_workspace.specs.{Found.{WithClaims, WithSurvey}, Ready.CanRead, Tables.CanReadInode};
 ghost use Rattle.ffs_workspace.specs.Tables.{TableAfter};
 ghost use Rattle.ffs_names.specs.Noting.{chunk_noting, belongs_to, BeginsNotes, CanNote, CanNoteChunks, CanNoteDirectory};
 ghost use Rattle.ffs_names.specs.Noting.{HoldsPlaces, NotingDirectoryLeaves, NotingChunksLeaves, NotingLeaves, NotesDirectory};
-ghost use Rattle.ffs_names.specs.{Noting.{NotesEntries, NotesInWords}, Costs.{BeginsChunks, BeginsReads, SweepsOnce}};
+ghost use Rattle.ffs_names.specs.{Noting.{NotesEntries, NotesInWords, parents_costs}, Costs.{BeginsChunks, BeginsReads, SweepsOnce}};
 ghost use Rattle.ffs_names.specs.{Sweeps.dir_moment, Readings.rest};
 
 use crate::chunk_entries::ChunkEntries;
@@ -218,9 +218,10 @@ fn note_places_unlimited<I: Image>(
     ensures places { OnOk result (ForBytes
         (WithSurvey geometry.now.layout (I.device image.old) workspace.old)
         (λ bytes. HoldsPlaces geometry.now.layout bytes workspace.new)) }
-    ensures reads { ForBytes
+    ensures parents { ForBytes
         (WithSurvey geometry.now.layout (I.device image.old) workspace.old)
-        (λ bytes. I.reads image.new ≤ I.reads image.old + noted_costs geometry.now.layout bytes) }
+        (λ bytes. I.reads image.new ≤ I.reads image.old
+        + parents_costs geometry.now.layout bytes workspace.old.parents.items) }
     ensures leaves { NotingLeaves geometry.now.layout (dir_moment I.Image image.old workspace.old)
         (dir_moment I.Image image.new workspace.new) result }
 {
@@ -242,7 +243,7 @@ fn note_places_unlimited<I: Image>(
 ///
 /// # Errors
 /// A read of the image that failed.
-#[tactic(auto, using(ffs_image::proofs::Limits::served, ffs_image::proofs::Limits::read_over, ffs_workspace::proofs::Readiness::can_read_same, crate::proofs::Limits::noted_within))]
+#[tactic(auto, using(ffs_image::proofs::Limits::served, ffs_image::proofs::Limits::read_over, ffs_workspace::proofs::Readiness::can_read_same, crate::proofs::Limits::noted_within, crate::proofs::Limits::parents_within))]
 pub fn note_places<I: Image>(
     geometry: &Geometry,
     image: &mut I,
@@ -255,6 +256,11 @@ pub fn note_places<I: Image>(
     ensures reads { SweepsOnce geometry.now.layout
         (WithSurvey geometry.now.layout (I.device image.old) workspace.old)
         (I.reads image.old) (I.reads image.new) }
+    // No other directory is read than the parents of some.
+    ensures parents { ForBytes
+        (WithSurvey geometry.now.layout (I.device image.old) workspace.old)
+        (λ bytes. I.reads image.new ≤ I.reads image.old
+        + parents_costs geometry.now.layout bytes workspace.old.parents.items) }
     ensures leaves { NotingLeaves geometry.now.layout (dir_moment I.Image image.old workspace.old)
         (dir_moment I.Image image.new workspace.new) result }
 {

@@ -30,7 +30,8 @@ Phase2Ends v d w w' old new (Err (Out fault)) = ⊤
 -- An image that gives its bytes is read at most `pathname_reads` times. What a volume holds counts, too: its
 -- directories are read for the survey, for the places of parent entries, and twice for the messages. Where the
 -- survey is the first, those of which nothing can be reported, and that aren't marked, are not read for the
--- messages; and where there are no others, no places are noted either: each is read for the survey alone
+-- messages; and where there are no others, no places are noted either: each is read for the survey alone.
+-- Where a survey was made before, none is made again
 pub record Phase2Reads (v : Layout) (d : Device) (w : Workspace) (before after : ℕ) : Type 0 where
   pub known : ForBytes (WithClaims v d w) (λ bytes.
       after ≤ before + pathname_reads v (length (pathname_lines (volume_of v bytes))))
@@ -38,3 +39,5 @@ pub record Phase2Reads (v : Layout) (d : Device) (w : Workspace) (before after :
       after ≤ before + (4 * directories_cost v bytes + line_reads * length (pathname_lines (volume_of v bytes))))
   pub looked_at : w.surveyed ≡ false → ForBytes (WithClaims v d w) (λ bytes.
       after ≤ before + (phase2_cost v bytes + line_reads * length (pathname_lines (volume_of v bytes))))
+  pub again : w.surveyed ≡ true → ForBytes (WithClaims v d w) (λ bytes.
+      after ≤ before + (3 * directories_cost v bytes + line_reads * length (pathname_lines (volume_of v bytes))))

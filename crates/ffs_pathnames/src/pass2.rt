@@ -44,7 +44,7 @@ pub enum Root {
 /// One that gives other bytes each time is read no more than four sweeps, and `line_reads` for each
 /// message that was begun. Where no survey was made before, a directory of which nothing can be
 /// reported isn't read for the messages, unless it is marked (`phase2_cost`, and `looked_at` of
-/// `Phase2Reads`).
+/// `Phase2Reads`); where one was made, none is made again (`again` there).
 ///
 /// # Errors
 /// A read of the image that failed, and a write of the report that failed. Where the workspace says

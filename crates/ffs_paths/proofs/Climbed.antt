@@ -7,7 +7,7 @@ use Rattle.ffs_volume.{specs.{declared.Layout.Layout, Encodings.Places.IsNoted},
 use Rattle.ffs_survey.specs.ParentLaws.{root_level}
 use Rattle.ffs_workspace.specs.{Found.WithSurvey, Holds.{bool_at, HoldsSurvey}, declared.workspace.Workspace.Workspace}
 use Rattle.ffs_paths.specs.{Buffers.HoldsNames, Climbing.IsParentOf, Reads.{ForTree, KnowsPlaces, names_to, OnlyReads}}
-use Rattle.ffs_paths.{specs.Reads.{HaveRunsAtMost, PathMoment, ReadsFew, ReadsNames}, proofs.LongestEnds.joined-length}
+use Rattle.ffs_paths.{specs.Reads.{EachTakesAtMost, PathMoment, ReadsFew, ReadsNames}, proofs.LongestEnds.joined-length}
 use Rattle.ffs_paths.{proofs.WaysUp.{IsOnWay, parent_is}, specs.declared.buffer.PathBuffer.PathBuffer}
 
 -- so many steps were climbed, with a read for each at most, and with a name for each that takes two
@@ -64,9 +64,9 @@ climbed_names l way h = rw l (omega (arith, way.steps, h.few.count))
 
 -- nor more than so many for each of its names
 steps_below : {g : Graph} {k d at step : ℕ} {p : PathBuffer} (reads reads' n : ℕ) → level g d ≡ Some k →
-    IsOnWay g k d at step p → reads' ≤ reads + step * (2 + n) → reads' ≤ reads + names_to g d * (2 + n)
+    IsOnWay g k d at step p → reads' ≤ reads + step * (1 + n) → reads' ≤ reads + names_to g d * (1 + n)
 steps_below {k = k} {step = step} reads reads' n l way h =
-    rw l (omega (arith, h, mul-le-mul_right (2 + n) (below_way way.left step k way.steps)))
+    rw l (omega (arith, h, mul-le-mul_right (1 + n) (below_way way.left step k way.steps)))
 
 -- so it leaves what it states
 pub climb_leaves : {T : Type 0} {v : Layout} {old new : PathMoment} {x at step : ℕ} {p : PathBuffer}
@@ -75,8 +75,8 @@ pub climb_leaves : {T : Type 0} {v : Layout} {old new : PathMoment} {x at step :
     ForTree v old.image old.workspace (λ tree. (k : ℕ) → level tree x ≡ Some k → IsOnWay tree k x at step p) →
     ((b : List ℕ) → KnowsPlaces v old.image.contents old.workspace b →
     HasClimbed step old.reads new.reads old.workspace new.workspace p) →
-    ((b : List ℕ) (n : ℕ) → WithSurvey v old.image old.workspace b → HaveRunsAtMost v b n →
-    new.reads ≤ old.reads + step * (2 + n)) → ReadsNames v x old new result
+    ((b : List ℕ) (n : ℕ) → WithSurvey v old.image old.workspace b → EachTakesAtMost n v b →
+    new.reads ≤ old.reads + step * (1 + n)) → ReadsNames v x old new result
 climb_leaves {old = old} {new = new} {x = x} reached reads way counted searched = record {
   reads = reads;
   counted = λ b k. few_more (counted b k).few (counted b k).most;

@@ -5,7 +5,7 @@ use Rattle.ffs_image.specs.{Device.{Device, ForContents}, Reads.ReadAfter, decla
 use Rattle.ffs_volume.specs.declared.{constants.TheConstants.MAXPATHLEN, Layout.Layout}
 use Rattle.ffs_volume.specs.Directories.{Graph.{Graph, level}, Parents.graph_of, Volumes.volume_of}
 use Rattle.ffs_workspace.specs.declared.workspace.Workspace.{Workspace}
-use Rattle.ffs_volume.specs.{Encodings.Places.{AreNoted, IsNoted, part_size, place_in}, Report.DirectoryReads.directory_runs}
+use Rattle.ffs_volume.specs.{Encodings.Places.{AreNoted, IsNoted, part_size, place_in}, Report.DirectoryReads.directory_cost}
 use Rattle.ffs_workspace.specs.{Found.WithSurvey, Ready.CanRead}
 use Rattle.ffs_workspace.specs.Holds.{bool_at, HoldsClaims, HoldsSurvey}
 
@@ -108,18 +108,18 @@ names_to g x = unwrap_or (level g x) 0
 abbrev pub climb_reads : ℕ
 climb_reads = MAXPATHLEN / 2 + 1
 
--- of no directory more than n Runs are seen, in a volume of these bytes
-abbrev pub HaveRunsAtMost : Layout → List ℕ → (n : ℕ) → Type 0
-HaveRunsAtMost v b n = (d : ℕ) → directory_runs v b d ≤ n
+-- no directory takes more than n reads, in a volume of these bytes
+abbrev pub EachTakesAtMost : (n : ℕ) → Layout → List ℕ → Type 0
+EachTakesAtMost n v b = (d : ℕ) → directory_cost v b d ≤ n
 
 -- a call for the path of the directory x leaves all of the workspace but its windows. Where each place is
 -- noted, it makes a read at most for each name of that path, and no more than the way up takes. Where some
--- aren't, it makes two reads at most for each name, and one for each Run of a directory that has to be searched
+-- aren't, for each name it may read all of the directory that has it, too
 pub record ReadsNames {T : Type 0} (v : Layout) (x : ℕ) (old new : PathMoment) (result : Result T ImageFault) :
     Type 0 where
   pub reads : OnlyReads v old.image new.image old.workspace new.workspace result
   pub counted : ReadsAtMost v climb_reads old new
   pub names : (b : List ℕ) → KnowsPlaces v old.image.contents old.workspace b
       → new.reads ≤ old.reads + names_to (graph_of (volume_of v b)) x
-  pub searched : (b : List ℕ) (n : ℕ) → WithSurvey v old.image old.workspace b → HaveRunsAtMost v b n
-      → new.reads ≤ old.reads + names_to (graph_of (volume_of v b)) x * (2 + n)
+  pub searched : (b : List ℕ) (n : ℕ) → WithSurvey v old.image old.workspace b → EachTakesAtMost n v b
+      → new.reads ≤ old.reads + names_to (graph_of (volume_of v b)) x * (1 + n)

@@ -1,15 +1,30 @@
-use Rattle.std.proofs.Common.{◌≡◌, ◌≢◌, ◌<◌, ◌*◌, ◌+◌, ◌∙◌, false, true, suc, ℕ, ap, arith, below_more, length, refl}
+use Rattle.std.proofs.Common.{◌≡◌, ◌≢◌, ◌<◌, ◌≤◌, ◌==◌, ◌&&◌, nat_lt, List, ◌*◌, ◌+◌, ◌∙◌, false, true, suc, ℕ, ap, arith, below_more, length, refl}
 use Rattle.std.proofs.{Common.{rules, slice_index, slice_set, sym}, lemmas.Grind.{common_steps, get_or_default_zero}}
-use Rattle.std.proofs.lemmas.Result.{err_from_is_err_and}
+use Rattle.std.proofs.lemmas.{Bool.Decides.nat_tests, Result.err_from_is_err_and}
 use Rattle.ffs_volume.{proofs.Sizes.some_inodes, specs.{Blocks.Inodes.inodes_of, Report.DirectoryReads.noted_cost}}
 use Rattle.ffs_workspace.specs.declared.workspace.Workspace.{Workspace}
 use Rattle.ffs_volume.specs.Encodings.Places.{is_due as is_to_be_read, place_in}
 use Rattle.ffs_survey.proofs.Costs.{cost_take, costs_rise}
-use Rattle.ffs_names.{specs.Noting.{BeginsNotes, KeepsToRead}, proofs.PlacesNoted.{claims_noted, coming_end}}
+use Rattle.ffs_volume.proofs.SearchLaws.{some_below-from}
+use Rattle.ffs_names.{specs.Noting.{BeginsNotes, IsParent, KeepsToRead, has_child}, proofs.PlacesNoted.{claims_noted, coming_end}}
 use Rattle.ffs_names.proofs.PlacesNoted.{coming_first, coming_noted, none_to_be_read, only_fewer, parent_is_dir}
 use Rattle.ffs_names.proofs.PlacesNoted.{read_next, places_after, places_same, set_other, set_same, survey_noted}
 use Rattle.ffs_names.proofs.places.note_places_unlimited.Goals.{then-is_due+in_ok-note_directory, else-is_due}
 use Rattle.ffs_names.proofs.places.note_places_unlimited.Goals as goal
+
+-- an inode with a parent is one of the list
+child_inside : (parents : List ℕ) (x : ℕ) → 2 ≤ slice_index parents x → x < length parents
+child_inside parents x some = grind (arith, common_steps)
+
+is_child : (root x parent d : ℕ) → root < x → parent ≡ d → (nat_lt root x && (parent == d)) ≡ true
+is_child root x parent d after is = grind (arith, common_steps, nat_tests)
+
+-- a parent has a child
+child_of : {parents : List ℕ} {d : ℕ} → IsParent parents d → has_child parents d ≡ true
+child_of {parents = parents} {d = d} p =
+    let some : 2 ≤ slice_index parents p.child = rw p.parent_is p.from_root in
+    some_below-from (λ x. nat_lt 2 x && (slice_index parents x == d)) (length parents) p.child
+    (child_inside parents p.child some) (is_child 2 p.child (slice_index parents p.child) d p.after_root p.parent_is)
 
 pub loop-dir-init : goal.loop-dir-init
 loop-dir-init g c =
@@ -69,7 +84,7 @@ loop-dir-preserved g c =
             reads = λ b k.
                 let is = parent_is_dir k.2 (inv.only dir unread) in
                 let took = noted.notes b (ap (λ d. d.contents) inv.same ∙ k.0, claims_noted lists k.1) is in
-                let more = cost_take (λ s. true) (noted_cost v b) dir refl in
+                let more = cost_take (has_child first.parents.items) (noted_cost v b) dir (child_of (inv.only dir unread)) in
                 omega (arith, took.counted, more, inv.reads b k);
             places = λ b k.
                 let right = places_same v b old mid.queue.items same (inv.places b k) in
@@ -92,7 +107,7 @@ loop-dir-preserved g c =
                 (ap is_to_be_read (sym word) ∙ (sym c.is_due.ensures ∙ w.if-is_due.false));
             only = inv.only;
             reads = λ b k.
-                let more = cost_take (λ s. true) (noted_cost v b) dir refl in
+                let more = costs_rise (has_child first.parents.items) (noted_cost v b) dir (dir + 1) (omega arith) in
                 omega (arith, more, inv.reads b k);
             places = inv.places;
             noted = inv.noted;
@@ -116,11 +131,11 @@ pub returns-in_err-note_directory-clause-leaves : goal.returns-in_err-note_direc
 returns-in_err-note_directory-clause-leaves g c = grind (arith, err_from_is_err_and)
 
 -- the reads that were made
-pub returns-clause-reads : goal.returns-clause-reads
-returns-clause-reads g c = grind (arith, some_inodes, costs_rise)
+pub returns-clause-parents : goal.returns-clause-parents
+returns-clause-parents g c = grind (arith, some_inodes, costs_rise)
 
-pub returns-in_err-note_directory-clause-reads : goal.returns-in_err-note_directory-clause-reads
-returns-in_err-note_directory-clause-reads g c = λ b k.
+pub returns-in_err-note_directory-clause-parents : goal.returns-in_err-note_directory-clause-parents
+returns-in_err-note_directory-clause-parents g c = λ b k.
     let v = c.args.geometry.now.layout in
     let inv = c.loop-dir.invariant in
     let first = c.args.workspace.now in
@@ -135,6 +150,7 @@ returns-in_err-note_directory-clause-reads g c = λ b k.
     ap (λ (x : Workspace). record x { queue = c.set.new.self }) inv.lists in
     let took = (c.in_err-note_directory.ensures.notes b (ap (λ d. d.contents) inv.same ∙ k.0, claims_noted lists k.1)
     (parent_is_dir k.2 (inv.only dir unread))).counted in
-    let more = cost_take (λ s. true) (noted_cost v b) dir refl in
-    let all = costs_rise (λ s. true) (noted_cost v b) (dir + 1) (v.ncg * v.ipg) (omega arith) in
+    let child = child_of (inv.only dir unread) in
+    let more = cost_take (has_child first.parents.items) (noted_cost v b) dir child in
+    let all = costs_rise (has_child first.parents.items) (noted_cost v b) (dir + 1) (v.ncg * v.ipg) (omega arith) in
     omega (arith, took, more, all, inv.reads b k)

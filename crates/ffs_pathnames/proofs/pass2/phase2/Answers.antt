@@ -139,6 +139,7 @@ returns-in_err-say-clause-reads g c = record {
   known = λ b k. omega arith;
   directories = λ b k. omega arith;
   looked_at = λ first b k. omega arith;
+  again = λ second b k. omega arith;
 }
 
 pub returns-in_err-say-clause-paid : goal.returns-in_err-say-clause-paid
@@ -151,6 +152,7 @@ returns-in_err-survey-clause-reads g c = record {
       let v = c.args.geometry.now.layout in
       omega (arith, c.survey.ensures.reads.each b k, noted_all_within v b (v.ncg * v.ipg));
   looked_at = λ first b k. omega (arith, c.survey.ensures.reads.each b k);
+  again = λ second b k. let unread = (c.survey.ensures.again second).unread in omega (arith, unread);
 }
 
 pub returns-in_err-survey-clause-paid : goal.returns-in_err-survey-clause-paid
@@ -173,6 +175,10 @@ returns-clause-reads g c = record {
       let checks = looked_at_first v b c.survey.new.workspace c.clear_passed.new.workspace claims flags
       c.clear_passed.ensures in
       omega (arith, c.survey.ensures.reads.each b k, c.check_tree.ensures.tree.looks b before checks);
+  again = λ second b k.
+      let before = before_tree g (goal.at.returns-clause-reads g c).After-check_tree b k in
+      let unread = (c.survey.ensures.again second).unread in
+      omega (arith, unread, c.check_tree.ensures.tree.reads b before);
 }
 
 pub returns-clause-paid : goal.returns-clause-paid

@@ -1,6 +1,6 @@
 use Rattle.std.proofs.Common.{arith, ◌≡◌, ◌<◌, ◌≤◌, ◌∙◌, ℕ, true, List, ap, refl, sym, subst, slice_index}
 use Rattle.std.proofs.lemmas.Result.{err_from_is_err_and}
-use Rattle.ffs_names.{proofs.{DirCosts.runs_are, DirLaws.{dir_is, dir_size, dir_seen}}, specs.Entering.to_come}
+use Rattle.ffs_names.{proofs.{DirCosts.{cost_is, runs_are}, DirLaws.{dir_is, dir_size, dir_seen}}, specs.Entering.to_come}
 use Rattle.ffs_names.specs.{Entering.last_name, Costs.reads_for_entries, Shapes.BeginsDirectory}
 use Rattle.ffs_names.specs.declared.entries.Entries.{Entries}
 use Rattle.ffs_volume.specs.{Report.DirectoryReads.directory_runs, declared.{Inode.Inode, Layout.Layout}}
@@ -98,19 +98,19 @@ returns-in_err-entry-clause-reads g c = grind (arith, err_from_is_err_and, chunk
 
 -- how often it was read
 pub returns-then-names-clause-counted : goal.returns-then-names-clause-counted
-returns-then-names-clause-counted g c = λ b k.
+returns-then-names-clause-counted g c = λ b k is.
     let i = c.entries.invariant in
     let took = c.in_ok-entry.ensures.reads (i.counted b k).1 b (ap (λ d. d.contents) i.reads.read ∙ k.0) in
-    omega (arith, (i.counted b k).0, took.most)
+    omega (arith, (i.counted b k).0, took.most, cost_is c.args.geometry.now.layout b c.args.parent is)
 
 pub returns-clause-counted : goal.returns-clause-counted
-returns-clause-counted g c = λ b k.
+returns-clause-counted g c = λ b k is.
     let i = c.entries.invariant in
     let took = c.in_ok-entry.ensures.reads (i.counted b k).1 b (ap (λ d. d.contents) i.reads.read ∙ k.0) in
-    omega (arith, (i.counted b k).0, took.most)
+    omega (arith, (i.counted b k).0, took.most, cost_is c.args.geometry.now.layout b c.args.parent is)
 
 pub returns-in_err-entry-clause-counted : goal.returns-in_err-entry-clause-counted
-returns-in_err-entry-clause-counted g c = λ b k.
+returns-in_err-entry-clause-counted g c = λ b k is.
     let i = c.entries.invariant in
     let took = c.in_err-entry.ensures.reads (i.counted b k).1 b (ap (λ d. d.contents) i.reads.read ∙ k.0) in
-    omega (arith, (i.counted b k).0, took.most)
+    omega (arith, (i.counted b k).0, took.most, cost_is c.args.geometry.now.layout b c.args.parent is)

@@ -78,8 +78,12 @@ up-preserved g c =
           climb_more c.as_slice.result.now (i.counted b knows) c.if-path.false (found.leaves.counted b t noted).few
           (subst (λ name. 0 < length name) (sym c.as_slice.ensures.value) (found.finds.some b t noted)) c.push_front.ensures;
       searched = λ b n k few.
-          let one = found.counted b (read_before i.reads k) in
-          omega (arith, i.searched b n k few, one, few p, add-mul c.up.step 1 (2 + n));
+          let l = reached-level _ c.args.dir (sym (k.2.tree.reached c.args.dir) ∙ c.requires.reached) in
+          let way = i.path b k.0 k.1 k.2 l.0 l.1 in
+          let above = parent_is _ way.left c.up.at p way.level (omega arith)
+          (is ∙ (ap (λ w. slice_index w.parents.items c.up.at) i.reads.lists ∙ k.2.tree.parents c.up.at)) in
+          let one = found.counted b (read_before i.reads k) above.dir in
+          omega (arith, i.searched b n k few, one, few p, add-mul c.up.step 1 (1 + n));
     }
 
 -- a read failed, with names that have room
@@ -106,10 +110,16 @@ returns-in_err-find_name-clause-leaves g c =
       searched = λ b n k few.
           let l = reached-level _ c.args.dir (sym (k.2.tree.reached c.args.dir) ∙ c.requires.reached) in
           let way = i.path b k.0 k.1 k.2 l.0 l.1 in
-          let one = c.in_err-find_name.ensures.counted b (read_before i.reads k) in
+          let p : ℕ = c.index-parent.result.now in
+          let at = i.at in
+          let long = i.reads.ready.ready.made.parents in
+          let is = c.index-parent.ensures ∙ get_or_default c.up.workspace.parents.items c.up.at p 0 (omega arith) in
+          let over = parent_is _ way.left c.up.at p way.level (omega arith)
+          (is ∙ (ap (λ w. slice_index w.parents.items c.up.at) i.reads.lists ∙ k.2.tree.parents c.up.at)) in
+          let one = c.in_err-find_name.ensures.counted b (read_before i.reads k) over.dir in
           let above = below_root _ way.left c.up.at way.level (omega arith) in
-          let more = mul-le-mul_right (2 + n) (step_more way.left c.up.step l.0 way.steps above) in
-          rw l.1 (omega (arith, i.searched b n k few, one, few c.index-parent.result.now, add-mul c.up.step 1 (2 + n), more));
+          let more = mul-le-mul_right (1 + n) (step_more way.left c.up.step l.0 way.steps above) in
+          rw l.1 (omega (arith, i.searched b n k few, one, few p, add-mul c.up.step 1 (1 + n), more));
     }
 
 pub returns-then-at-eq-ROOTINO-clause-leaves : goal.returns-then-at-eq-ROOTINO-clause-leaves

@@ -1,6 +1,6 @@
 use Rattle.std.proofs.Common.{◌≡◌, ℕ, ◌<◌, ◌≤◌, ◌+◌, ◌*◌, List, Some, Ok}
 use Rattle.ffs_volume.specs.Directories.Graph.{level}
-use Rattle.ffs_paths.{specs.Reads.{ForTree, HaveRunsAtMost, KnowsPlaces, OnlyReads}, proofs.{Climbed.HasClimbed, WaysUp.IsOnWay}}
+use Rattle.ffs_paths.{specs.Reads.{ForTree, EachTakesAtMost, KnowsPlaces, OnlyReads}, proofs.{Climbed.HasClimbed, WaysUp.IsOnWay}}
 use Rattle.ffs_workspace.specs.Found.{WithSurvey}
 use Rattle.ffs_paths.proofs.path.climb.Given as goal
 
@@ -14,6 +14,6 @@ invariant-up g l = let device = g.I.Image.device in record {
   counted : (b : List ℕ) → KnowsPlaces l.geometry.layout (device l.fn.image).contents l.fn.workspace b
       → HasClimbed l.step (g.I.Image.reads l.fn.image) (g.I.Image.reads l.image) l.fn.workspace l.workspace l.path;
   searched : (b : List ℕ) (n : ℕ) → WithSurvey l.geometry.layout (device l.fn.image) l.fn.workspace b
-      → HaveRunsAtMost l.geometry.layout b n
-      → g.I.Image.reads l.image ≤ g.I.Image.reads l.fn.image + l.step * (2 + n);
+      → EachTakesAtMost n l.geometry.layout b
+      → g.I.Image.reads l.image ≤ g.I.Image.reads l.fn.image + l.step * (1 + n);
 }
