@@ -1,7 +1,7 @@
 -- What the writers around another one leave.
-use Rattle.std.specs.Prelude.{◌≡◌, ℕ, ◌+◌, ◌<◌, ◌↔◌, true, List, length, take, Option, Some, Result, IsErr, IsErrAnd}
+use Rattle.std.specs.Prelude.{◌≡◌, ℕ, ◌+◌, ◌<◌, ◌↔◌, true, List, length, take, Option, Some, Result, Ok, IsErr, IsErrAnd}
 use Rattle.std.specs.{Prelude.MatchResult, Bool.{OnTrue, OnFalse}, Borrow.GName, declared.io.Error.Error}
-use Rattle.std.specs.{IoError.error_kind, declared.io.ErrorKind.TheVariants.BrokenPipe}
+use Rattle.std.specs.{IoError.error_kind, declared.io.ErrorKind.TheVariants.{BrokenPipe, Other}}
 use Rattle.ffs_report.specs.{Outlet.IsReported, Sink.{Sink, Puts}, declared.muted.MutedWriter.MutedWriter}
 use Rattle.ffs_report.specs.declared.{counted.Counted.Counted, fuse.FuseWriter.FuseWriter, outlet.Outlet.Ghosts}
 
@@ -38,11 +38,13 @@ pub record IsMuted {S T : Type 0} (was_asked : S → Result T Error → S → Ty
   pub passed : OnFalse old.failed (was_asked old.inner result new.inner)
 
 -- of a write that isn't empty the writer below is asked for as many bytes as the fuse has left, and
--- what it took burns; with nothing left such a write is an error, and no writer is asked
+-- what it took burns; with nothing left such a write is an error, after which no writer tries again,
+-- and no writer is asked. An empty write takes nothing, and asks none either
 pub record BurnsAtWrite {S : Type 0} (was_written : S → List ℕ → Result ℕ Error → S → Type 0) (old : FuseWriter S)
     (bytes : List ℕ) (result : Result ℕ Error) (new : FuseWriter S) : Type 0 where
   pub left : MatchResult result (λ n. new.left + n ≡ old.left) (λ _. new.left ≡ old.left)
-  pub blown : old.left ≡ 0 → 0 < length bytes → IsErr result
+  pub blown : old.left ≡ 0 → 0 < length bytes → IsErrAnd result (λ error. error_kind error ≡ Other)
+  pub empty : length bytes ≡ 0 → (result ≡ Ok 0) × (new ≡ old)
   pub shut : old.left ≡ 0 → new ≡ old
   pub passed : 0 < length bytes → 0 < old.left → was_written old.inner (take old.left bytes) result new.inner
 
