@@ -163,7 +163,7 @@ fn same_words_at_once(
     known: Option<bool>,
 ) -> bool
     requires words { HasMapWords used.now.size (length block.now) base place words }
-    requires known { IfSome known (λ free. (k : ℕ) → k < base + 64 * words - base
+    requires known { IfSome known (λ free. (k : ℕ) → k < 64 * words
         → free_in (bits_of used.now) used.now.size (base + k) ≡ free) }
     ensures { result ≡ has_bits block.now place (64 * words)
         (λ k. free_in (bits_of used.now) used.now.size (base + k)) }
