@@ -1,5 +1,6 @@
 -- What an image with a limit shows of the image below it, and what it gives back of that.
 use Rattle.std.specs.{Borrow.GName, Prelude.{◌≡◌, ℕ, ◌+◌, ◌-◌, ◌^◌, ◌<◌, ◌≤◌, min, Bool, if◌then◌else◌, ◌∷◌, true, false}}
+use Rattle.std.specs.{Prelude.{◌||◌, ◌==◌, Result, IsErr}, Bool.{OnTrue, OnFalse}}
 use Rattle.ffs_image.specs.Device.{Device, Faulted}
 
 -- the image below after reads of which at most one failed, at a sector
@@ -25,6 +26,13 @@ limited_device d name reads limit = record d {
 -- so many reads were asked for: those that were passed on, and one more where the limit refused one
 abbrev pub reads_asked : (limit left : ℕ) → (spent : Bool) → ℕ
 reads_asked limit left spent = limit - left + (if spent then 1 else 0)
+
+-- a read of an image with a limit. Once one failed or was refused (`over`), and where none is left,
+-- it fails, and the image below stays as it was, and so does how many are left; else one less is
+pub record PassesOrRefuses {I T E : Type 0} (over : Bool) (left left' : ℕ) (below below' : I) (result : Result T E) :
+    Type 0 where
+  pub refused : OnTrue (over || left == 0) (IsErr result × (left' ≡ left) × (below' ≡ below))
+  pub passed : OnFalse (over || left == 0) (left' + 1 ≡ left)
 
 -- a moment of an image that is lent to one with a limit: the image, the reference to it, how often it was
 -- read by then, and how many reads are left of the limit

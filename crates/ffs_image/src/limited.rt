@@ -79,7 +79,8 @@ impl<'a, I: Image> LimitedImage<'a, I> {
 }
 
 impl<'a, I: Image> Image for LimitedImage<'a, I> {
-    ghost use Rattle.std.specs.Prelude.{◌+◌};
+    ghost use Rattle.std.specs.Prelude.{◌+◌, length};
+    ghost use Rattle.ffs_image.specs.{Limited.PassesOrRefuses, Reads.ReadsBytes};
 
     ghost device = { λ l. record (limited_device (I.device l.begins.value) l.below.ghost_name
         (I.reads l.begins.value) l.limit) {
@@ -103,7 +104,18 @@ impl<'a, I: Image> Image for LimitedImage<'a, I> {
         self.failed_sector
     }
 
-    fn read_at(&mut self, at: u64, buf: &mut [u8]) -> Result<(), ImageFault> {
+    fn read_at(&mut self, at: u64, buf: &mut [u8]) -> Result<(), ImageFault>
+        requires { at + length buf.old
+            ≤ (⟦<LimitedImage<'a, I> as Image>⟧.device self.old).size }
+        ensures bytes { ReadsBytes (⟦<LimitedImage<'a, I> as Image>⟧.device self.old)
+            (⟦<LimitedImage<'a, I> as Image>⟧.device self.new) at buf.new result }
+        ensures counted { ⟦<LimitedImage<'a, I> as Image>⟧.reads self.new
+            ≤ ⟦<LimitedImage<'a, I> as Image>⟧.reads self.old + 1 }
+
+        // Which reads are passed on, and which refused.
+        ensures passes { PassesOrRefuses (self.old.failed || self.old.spent) self.old.left
+            self.new.left self.old.below.now self.new.below.now result }
+    {
         if !self.failed && !self.spent {
             if self.left == 0 {
                 self.spent = true;
