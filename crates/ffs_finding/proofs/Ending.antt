@@ -8,8 +8,9 @@ use Rattle.ffs_layout.specs.Super.{ReadsSuper}
 use Rattle.ffs_finding.specs.declared.request.{Target.Target, Command.{Command, TheVariants.{Copies, InVolume}}}
 use Rattle.ffs_finding.specs.declared.find.FindFault.{FindFault, TheVariants.{Refused, Failed, NoMemory}}
 use Rattle.ffs_finding.specs.{Outcome.StoppedIn, Whole.{Answers, EndsBy, EndsByLine, FindEnds, RefusesSuperblock}}
-use Rattle.ffs_finding.specs.Whole.{IsUnreadableFor}
+use Rattle.ffs_finding.specs.Whole.{FindFailsAt, IsReadFor, IsUnreadableFor}
 use Rattle.ffs_finding.specs.Whole.{PrintedAll, command_finds_defects, command_lines, status_of_answer}
+use Rattle.ffs_image.specs.Device.{ForContents}
 use Rattle.ffs_finding.proofs.Printing.{reads_first}
 use Rattle.ffs_check.specs.{Moment.Moment, Run.IsPrintedOrBrokeOff}
 
@@ -23,6 +24,7 @@ module _ (sector : Option ℕ) (target : Target) (m m' : Moment) (held held' : A
       | inl failed ↦ inr (inr (inl (record {
         sector = m'.image.failed_sector;
         faulted = failed.0.1;
+        place = λ b k. inl (failed.1 b k);
         between = m.out;
         printed = reads_first;
         line = rw (failed.0.0) at e.0;
@@ -47,9 +49,10 @@ ends_by_superblock (InVolume sector target) m m' held held' fault status p unrea
 
 -- `b` is the output before the line of the fault
 pub ends : (command : Command) (m m' : Moment) (b : Sink) (held held' : Account) (answer : Result Bool FindFault)
-    (status : ℕ) → Answers command m (record m' { out = b }) held held' answer → EndsBy b m'.out answer status →
-    FindEnds command m m' held held' status
-ends command m m' b held held' (Ok defect) status p e =
+    (status : ℕ) → Answers command m (record m' { out = b }) held held' answer →
+    FindFailsAt answer (λ at. ForContents m.image.contents (λ b. IsReadFor command b at)) →
+    EndsBy b m'.out answer status → FindEnds command m m' held held' status
+ends command m m' b held held' (Ok defect) status p at e =
     let all = subst (λ (s : Sink). PrintedAll (command_finds_defects command) (IsContents m.image.contents)
     (command_lines command) m.out s defect) (sym e.0) p.2 in
     inl (record {
@@ -58,23 +61,24 @@ ends command m m' b held held' (Ok defect) status p e =
       printed = all.printed;
       status_is = e.1 ∙ ap status_of_answer all.defect_is;
     })
-ends command m m' b held held' (Err (Refused fault)) status p e =
+ends command m m' b held held' (Err (Refused fault)) status p at e =
     ends_by_superblock command m m' held held' fault status p.1 p.2
     (subst (λ (s : Sink). EndsByLine s m'.out (text_of (fault_line fault)) status) p.0 e)
-ends command m m' b held held' (Err (Failed (Read fault))) status p e = inr (inr (inl (record {
+ends command m m' b held held' (Err (Failed (Read fault))) status p at e = inr (inr (inl (record {
   sector = fault.sector;
   faulted = p.0;
+  place = at;
   between = b;
   printed = p.1;
   line = e.0;
   status_is = e.1;
 })))
-ends command m m' b held held' (Err (Failed (Out fault))) status p e = inr (inr (inr (inl (record {
+ends command m m' b held held' (Err (Failed (Out fault))) status p at e = inr (inr (inr (inl (record {
   no_read_failed = p.0;
   stopped = subst (StoppedIn (IsContents m.image.contents) (command_lines command) m.out) (sym e.0) p.1;
   status_is = e.1;
 }))))
-ends command m m' b held held' (Err NoMemory) status p e = inr (inr (inr (inr (record {
+ends command m m' b held held' (Err NoMemory) status p at e = inr (inr (inr (inr (record {
   no_read_failed = p.0;
   refused = p.2;
   line = subst (λ (s : Sink). IsPrintedOrBrokeOff s m'.out (text_of cannot_alloc)) p.1 e.0;

@@ -1,6 +1,6 @@
 -- A target found in a volume, as the command that asks for it.
 use Rattle.std.proofs.Common.{◌≡◌, ◌∙◌, ◌*◌, ◌+◌, ◌≤◌, ℕ, Bool, List, Option, Result, Ok, Err, sym, ap, arith, inl, inr}
-use Rattle.std.proofs.Common.{refl, is_ok}
+use Rattle.std.{proofs.Common.{refl, is_ok}, specs.Prelude.⊤}
 use Rattle.ffs_check.specs.{Moment.Moment, Taken.AsksMemory}
 use Rattle.ffs_image.specs.Device.{Device, ForContents}
 use Rattle.ffs_memory.specs.Account.{Account, RefusedOneMore}
@@ -11,7 +11,7 @@ use Rattle.ffs_finding.specs.declared.find.FindFault.{FindFault, TheVariants.{Re
 use Rattle.ffs_finding.specs.declared.request.Target.{Target, TheVariants.{Inode, Fields, Lost, Owner}}
 use Rattle.ffs_finding.specs.{declared.request.Command.TheVariants.InVolume, Fields.WithSuper, Outcome.PrintedTo}
 use Rattle.ffs_finding.specs.Whole.{Answers, AnswersCommand, FindsTarget, IsGranted, TakesForTarget, TakesMemory}
-use Rattle.ffs_finding.specs.Whole.{TargetAnswers}
+use Rattle.ffs_finding.specs.Whole.{FindFailsAt, IsReadFor, IsSectorFor, TargetAnswers}
 use Rattle.ffs_finding.specs.Whole.{command_lines, lines_by, target_lines}
 
 -- memory was refused, where the answer says so
@@ -68,6 +68,23 @@ module _ (target : Target) (sector : Option ℕ) (s : Superblock) (d : Device)
   )
   answers between before a m held held' (Err NoMemory) p t = (p.0, p.1, refused target s.layout held held' t)
 
+  -- the sector of a failed read, in the bytes in which this superblock is accepted
+  places : (r : Result Bool FindFault) → FindFailsAt r (IsSectorFor target sector s) →
+      FindFailsAt r (λ at. ForContents d.contents (λ b. IsReadFor (InVolume sector target) b at))
+  places (Ok defect) p = tt
+  places (Err (Refused fault)) p = tt
+  places (Err (Failed (Read fault))) p = λ b k. inr (rw (accepted b k) p)
+  places (Err (Failed (Out fault))) p = tt
+  places (Err NoMemory) p = tt
+
+-- of some commands nothing is said of where a read fails
+pub anywhere : (r : Result Bool FindFault) → FindFailsAt r (λ at. ⊤)
+anywhere (Ok defect) = tt
+anywhere (Err (Refused fault)) = tt
+anywhere (Err (Failed (Read fault))) = tt
+anywhere (Err (Failed (Out fault))) = tt
+anywhere (Err NoMemory) = tt
+
 -- what the lists and buffers of a check take is within their bound
 held_within : (v : Layout) → held_of v ≤ held_limit v
 held_within v = omega arith
@@ -112,6 +129,7 @@ pub answered : (target : Target) (sector : Option ℕ) (s : Superblock) (d : Dev
     AnswersCommand (InVolume sector target) (record { image = d; reads = before; out = a }) m held held' r
 answered target sector s d before between a m held held' r accepted sound inside opened p t = record {
   answers = answers target sector s d accepted between before a m held held' r p.answer t;
+  place = places target sector s d accepted r p.place;
   memory = takes target sector s d held held' r accepted sound inside t;
   reads = inr (record {
     found = s;

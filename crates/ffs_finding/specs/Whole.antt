@@ -1,11 +1,12 @@
 -- What the program prints of an image, and its status, by what it is asked for. What is promised is
 -- `FindsCommand`, at the end, which says how a command ends by `FindEnds`. `Answers` is the same before the line
 -- of a fault is printed.
-use Rattle.std.specs.Prelude.{◌≡◌, ◌⊎◌, ◌≤◌, ◌+◌, ◌*◌, ℕ, Bool, true, false, ◌&&◌, List, [], if◌then◌else◌, Option}
-use Rattle.std.specs.Prelude.{Result, Ok, Err, IsOk, ⊤}
+use Rattle.std.specs.Prelude.{◌≡◌, ◌⊎◌, ◌≤◌, ◌+◌, ◌*◌, ◌/◌, ℕ, Bool, true, false, ◌&&◌, List, [], if◌then◌else◌, Option}
+use Rattle.std.specs.Prelude.{Result, Ok, Err, IsOk, IfOk, ⊤}
 use Rattle.ffs_image.specs.Device.{Device, Faulted, ForContents}
 use Rattle.ffs_volume.specs.{declared.{Layout.Layout, SuperFault.{SuperFault, TheVariants.CannotRead}}, Laws.Geometry.IsAcceptedLayout}
-use Rattle.ffs_volume.specs.{Disk.{Superblock.Superblock, Outcome.outcome}, Messages.Kinds.{cannot_read, cannot_alloc}}
+use Rattle.ffs_volume.specs.{declared.constants.TheConstants.DEV_BSIZE, Disk.{Areas.inode_place, Superblock.Superblock}}
+use Rattle.ffs_volume.specs.{Disk.Outcome.{IsSuperSector, outcome, super_sector}, Messages.Kinds.{cannot_read, cannot_alloc}}
 use Rattle.ffs_volume.specs.{Messages.Texts.text_of, Report.{Opening.fault_line, Reads.{opening_reads, scan_reads}}}
 use Rattle.ffs_volume.specs.{Report.Reads.sweep_reads, Find.{Copies.copies_lines, InodeText.inode_listing}}
 use Rattle.ffs_volume.specs.Find.{Fields.wrong_fields, Lost.lost_lines, Owner.lines_of_fragment}
@@ -91,10 +92,28 @@ target_reads Fields v = 1
 target_reads Lost v = scan_reads v + 2 * v.ncg
 target_reads (Owner fragment) v = scan_reads v + sweep_reads v
 
--- a target was found in a volume with this accepted superblock: what was printed, and how often the image was read
+-- the sector at which a read for a target may fail: that of the inode, or of the superblock. `lost` and `owner` read
+-- much, and nothing is said of where
+abbrev pub IsSectorFor : Target → (sector : Option ℕ) → Superblock → (at : ℕ) → Type 0
+IsSectorFor (Inode number) sector s at = at ≡ inode_place s.layout number / DEV_BSIZE
+IsSectorFor Fields sector s at = at ≡ super_sector sector
+IsSectorFor Lost sector s at = ⊤
+IsSectorFor (Owner fragment) sector s at = ⊤
+
+-- P holds of the sector of a failed read, where that is the answer
+abbrev pub FindFailsAt : Result Bool FindFault → (ℕ → Type 0) → Type 0
+FindFailsAt (Ok defect) P = ⊤
+FindFailsAt (Err (Refused fault)) P = ⊤
+FindFailsAt (Err (Failed (Read fault))) P = P fault.sector
+FindFailsAt (Err (Failed (Out fault))) P = ⊤
+FindFailsAt (Err NoMemory) P = ⊤
+
+-- a target was found in a volume with this accepted superblock: what was printed, where a read failed, and how often
+-- the image was read
 pub record FindsTarget (target : Target) (sector : Option ℕ) (s : Superblock) (old new : Moment)
     (result : Result Bool FindFault) : Type 0 where
   pub answer : TargetAnswers target sector s old new result
+  pub place : FindFailsAt result (IsSectorFor target sector s)
   pub reads : new.reads ≤ old.reads + target_reads target s.layout
 
 -- bytes of the memory were granted, or a request for them was refused, as the answer says
@@ -177,10 +196,18 @@ pub record SuperRefused (command : Command) (old new : Moment) (status : ℕ) : 
   pub line : IsPrintedOrBrokeOff old.out new.out (text_of (fault_line fault))
   pub status_is : status ≡ 8
 
+-- the sector at which a read for a command may fail, in these bytes: of its superblock, or of its target. Of `copies`
+-- nothing is said
+abbrev pub IsReadFor : Command → (image : List ℕ) → (at : ℕ) → Type 0
+IsReadFor Copies image at = ⊤
+IsReadFor (InVolume sector target) image at =
+    IsSuperSector image sector at ⊎ IfOk (outcome image sector) (λ s. IsSectorFor target sector s at)
+
 -- a read failed: whole lines were printed, and then the line that says so, perhaps a part of that
 pub record CutByRead (command : Command) (old new : Moment) (status : ℕ) : Type 0 where
   pub sector : ℕ
   pub faulted : Faulted old.image new.image sector
+  pub place : ForContents old.image.contents (λ b. IsReadFor command b sector)
   pub between : Sink
   pub printed : PrintedSome (IsContents old.image.contents) (command_lines command) old.out between
   pub line : IsPrintedOrBrokeOff between new.out (text_of (cannot_read sector))
@@ -232,6 +259,7 @@ ReadsForCommand (InVolume sector target) d before after =
 pub record AnswersCommand (command : Command) (old new : Moment) (before after : Account)
     (result : Result Bool FindFault) : Type 0 where
   pub answers : Answers command old new before after result
+  pub place : FindFailsAt result (λ at. ForContents old.image.contents (λ b. IsReadFor command b at))
   pub memory : TakesMemory command old.image before after
   pub reads : ReadsForCommand command old.image old.reads new.reads
 

@@ -1,11 +1,12 @@
 //! `inode`: where an inode lies, and what it says.
-ghost use Rattle.std.specs.Prelude.{◌≡◌, ◌+◌, ◌*◌, ◌≤◌, ◌<◌};
-ghost use Rattle.ffs_volume.specs.{Blocks.Inodes.{inode_from_bytes}, Find.InodeText.place_text};
+ghost use Rattle.std.specs.Prelude.{◌≡◌, ◌+◌, ◌*◌, ◌/◌, ◌≤◌, ◌<◌};
+ghost use Rattle.ffs_volume.specs.{Blocks.Inodes.{inode_from_bytes}, Disk.Areas.inode_place, Find.InodeText.place_text};
+ghost use Rattle.ffs_volume.specs.declared.constants.TheConstants.{DEV_BSIZE};
 ghost use Rattle.ffs_volume.specs.Find.InodeText.{numbers_text, address_text, link_text, addresses_text, bytes_text};
 ghost use Rattle.ffs_volume.specs.Find.InodeText.{inode_listing, class_word, fifteen_text};
 ghost use Rattle.ffs_report.specs.{Known.IsContents, Sink.Prints};
 ghost use Rattle.ffs_check.specs.Moment.{moment};
-ghost use Rattle.ffs_finding.specs.Outcome.{Finds};
+ghost use Rattle.ffs_finding.specs.Outcome.{Finds, FailsAt};
 
 use ffs_image::Image;
 use ffs_layout::{Geometry, decode_inode};
@@ -162,7 +163,7 @@ fn print_bytes<W: Output>(
 /// Prints where an inode lies in the image, and what its 128 bytes say (fs(5)): its class, mode,
 /// links, size in bytes, blocks in sectors, owner, time of modification, and its addresses, or what
 /// is in their place. Nothing is printed for a number that the volume doesn't have. At most one
-/// read.
+/// read; where it fails, its sector is the inode's.
 ///
 /// # Errors
 /// A read of the image that failed, and a write that failed.
@@ -178,6 +179,8 @@ pub fn find_inode<I: Image, W: Output>(
         (λ bytes. inode_listing geometry.now.layout bytes number)
         (moment I.Image W.Output image.old out.old) (moment I.Image W.Output image.new out.new)
         result }
+    ensures place { FailsAt result
+        (λ at. at ≡ inode_place geometry.now.layout number / DEV_BSIZE) }
     ensures reads { I.reads image.new ≤ I.reads image.old + 1 }
 {
     if number >= geometry.layout.ncg * geometry.layout.ipg {

@@ -1,8 +1,9 @@
-use Rattle.std.proofs.{Common.{arith, refl}, lemmas.Result.err_from_is_err_and}
+use Rattle.std.proofs.{Common.{Err, arith, refl}, lemmas.Result.err_from_is_err_and}
 use Rattle.ffs_layout.specs.Super.{superblock_in}
 use Rattle.ffs_check.specs.Moment.{moment}
 use Rattle.ffs_finding.{specs.declared.request.Target.TheVariants.Owner, proofs.ClaimTargets.all_answer}
-use Rattle.ffs_finding.proofs.ClaimTargets.{fault_answer, refused_answer, refused_memory}
+use Rattle.ffs_finding.proofs.{ClaimTargets.{fault_answer, refused_answer, refused_memory}, Targets.anywhere}
+use Rattle.ffs_finding.specs.declared.find.FindFault.TheVariants.{Failed}
 use Rattle.ffs_finding.proofs.find.claim_and_find_owner.Goals as goal
 
 pub returns-in_err-workspace-clause-answer : goal.returns-in_err-workspace-clause-answer
@@ -13,6 +14,7 @@ returns-in_err-workspace-clause-answer g c = λ sector.
       answer = refused_answer (Owner c.args.fragment) sector (superblock_in c.args.superblock.now)
           (moment g.I.Image g.W.Output c.args.image.now c.args.out.now) _
           (g.I.Image.reads c.claimed_workspace.new.image) _ _ c.in_err-workspace.field-0.0 made.takes;
+      place = anywhere (Err c.in_err-workspace.field-0.0);
       reads = omega (arith, made.reads);
     })
 
@@ -32,6 +34,7 @@ returns-in_err-find_owner-clause-answer g c = λ sector.
           (moment g.I.Image g.W.Output c.args.image.now c.args.out.now)
           (moment g.I.Image g.W.Output c.find_owner.new.image c.find_owner.new.out) c.in_ok-workspace.workspace
           made.takes.3 (Unit {0}) c.in_err-find_owner.field-0.0 found.image found.text;
+      place = anywhere (Err (Failed c.in_err-find_owner.field-0.0));
       reads = omega (arith, made.reads, c.find_owner.ensures.reads);
     })
 
@@ -52,6 +55,7 @@ returns-clause-answer g c = λ sector.
             (moment g.I.Image g.W.Output c.find_owner.new.image c.find_owner.new.out) c.in_ok-workspace.workspace
             made.takes.3 _ found.text refl,
       );
+      place = tt;
       reads = omega (arith, made.reads, c.find_owner.ensures.reads);
     }
 
