@@ -13,6 +13,7 @@ ghost use Rattle.ffs_workspace.specs.{Holds.HoldsClaims, Lengths.IsFor};
 use ffs_layout::{Geometry, Super};
 use ffs_maps::{FragmentMap, reserved_count};
 use ffs_report::{Line, Output, Report, RunFault};
+use ffs_volume::constants::ROOTINO;
 use ffs_volume::kinds::Kind;
 use ffs_workspace::Workspace;
 
@@ -40,7 +41,7 @@ fn file_count(kinds: &[u8]) -> u32
     ensures { result ≡ files_among kinds.now 2 (length kinds.now) }
 {
     let mut files = 0;
-    let mut inode = 2;
+    let mut inode = ROOTINO as usize;
     while inode < kinds.len() {
         let next = kinds.len().min(inode + INODES_AT_ONCE);
         files += u32::from(few_files(kinds, inode, next));

@@ -6,6 +6,7 @@ ghost use Rattle.ffs_volume.specs.Encodings.Kinds.{class_of_kind};
 ghost use Rattle.ffs_groups.specs.{Inodes.{AreCounted, AreFew, AreInodeCounts, class_in}, Inputs.HasInodes};
 
 use ffs_layout::Geometry;
+use ffs_volume::constants::ROOTINO;
 use ffs_volume::kinds::Kind;
 
 /// How many inodes of a group are directories, and how many are free.
@@ -37,7 +38,7 @@ pub fn is_used_at(kinds: &[u8], inode: usize) -> bool
     requires { inode < length kinds.now }
     ensures { result ≡ is_used_inode (class_in kinds.now) inode }
 {
-    inode < 2 || is_allocated_kind(kinds[inode])
+    inode < ROOTINO as usize || is_allocated_kind(kinds[inode])
 }
 
 /// Whether the inodes of some kinds are all allocated (`Some(true)`), or none is (`Some(false)`),
@@ -93,7 +94,7 @@ pub fn inode_counts(geometry: &Geometry, kinds: &[u8], group: u32) -> InodeCount
     let first = group as usize * geometry.layout.ipg as usize;
     let end = first + geometry.layout.ipg as usize;
     let mut counts = InodeCounts { dirs: 0, free: 0 };
-    let mut inode = first.max(2);
+    let mut inode = first.max(ROOTINO as usize);
     while inode < end {
         let next = end.min(inode + INODES_AT_ONCE);
         let few = few_counts(kinds, inode, next);

@@ -14,6 +14,7 @@ use crate::inodes::{are_allocated, is_used_at};
 use byteorder::{ByteOrder, LittleEndian};
 use ffs_layout::Geometry;
 use ffs_maps::FragmentMap;
+use ffs_volume::constants::ROOTINO;
 
 /// The bits in at most eight bytes of a map, the first one lowest. Most words are whole: their
 /// eight bytes are read together.
@@ -54,7 +55,7 @@ fn used_word(kinds: &[u8], first: usize, count: u32) -> u64
     ensures { (k : ℕ) → k < count → nat_eq (bit_at result k) 1
         ≡ is_used_inode (class_in kinds.now) (first + k) }
 {
-    if first >= 2 {
+    if first >= ROOTINO as usize {
         if let Some(allocated) = are_allocated(&kinds[first..first + count as usize]) {
             return filled(allocated);
         }

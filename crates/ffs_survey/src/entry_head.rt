@@ -11,7 +11,8 @@ pub struct EntryHead {
     pub role: Role,
     /// The inode number that it carries, or 0.
     pub number: u32,
-    /// The length of its record, in bytes.
+    /// The length of its record, in bytes. No survey asks for it: it makes this all of an entry but
+    /// the name.
     pub length: u16,
     /// Its type (`DT_DIR` and so on).
     pub kind: u8,

@@ -13,6 +13,12 @@ use ffs_layout::{Geometry, u32_at};
 use ffs_volume::constants::NDADDR;
 use ffs_volume::{Class, Inode, Order, Step};
 
+/// The index of the address of the single indirect block among an inode's fifteen addresses.
+const SINGLE: u32 = 12;
+
+/// The index of that of the double indirect block; the last one is that of the triple one.
+const DOUBLE: u32 = 13;
+
 /// A walk over the blocks of an inode: its position in the inode's own addresses, and in one
 /// indirect block of each level.
 #[derive(Clone, Copy, Debug)]
@@ -199,12 +205,12 @@ impl Walk {
         }
         let words = u64::from(self.geometry.layout.nindir);
         match index {
-            12 => {
+            SINGLE => {
                 let (step, frame) = self.enter(1, address, NDADDR);
                 self.single = frame;
                 Some(step)
             }
-            13 => {
+            DOUBLE => {
                 let (step, frame) = self.enter(words, address, NDADDR + words);
                 self.double = frame;
                 Some(step)
