@@ -17,7 +17,7 @@ use Rattle.ffs_volume.specs.Report.DirectoryReads.{directory_cost, noted_costs, 
 use Rattle.ffs_survey.proofs.Costs.{costs_part}
 use Rattle.ffs_names.proofs.Limits.{costs_within, noted_within}
 use Rattle.ffs_check.specs.Phases.{after_phase2, from_phase1b, from_phase2, from_phase4, from_phase5}
-use Rattle.ffs_volume.specs.Report.Whole.{phase1_text, rescan_lines, phase2_text, phase3_text, phase4_text}
+use Rattle.ffs_volume.specs.Report.Whole.{phase1_messages, rescan_lines, phase2_messages, phase3_messages, phase4_messages}
 
 -- each Run that is seen is counted
 run_rises : (v : Layout) (s : Claims) (start len : ℕ) → s.runs + 1 ≤ (after_run v s start len).runs
@@ -73,15 +73,15 @@ directories_few v bytes g =
 
 -- ---- the messages of the phases are among all
 -- the whole text: phase 1, and what follows it
-pub text_parts : (bytes : List ℕ) (s : Superblock) → phase_lines bytes s ≡ phase1_text s.layout bytes ++ from_phase1b bytes s
+pub text_parts : (bytes : List ℕ) (s : Superblock) → phase_lines bytes s ≡ phase1_messages s.layout bytes ++ from_phase1b bytes s
 unfolding phase_lines later_phase_lines
 text_parts bytes s = refl
 
 later_among : (goes : Bool) (bytes : List ℕ) (s : Superblock) →
     later_reads goes s.layout bytes ≤ length (after_phase2 goes bytes s) + group_reads s.layout
 later_among true bytes s =
-    let three = length-append (phase3_text s.layout bytes) (from_phase4 bytes s) in
-    let four = length-append (phase4_text s.layout bytes) (from_phase5 bytes s) in
+    let three = length-append (phase3_messages s.layout bytes) (from_phase4 bytes s) in
+    let four = length-append (phase4_messages s.layout bytes) (from_phase5 bytes s) in
     let lines3 = length-map (connectivity_lines (volume_of s.layout bytes)) of_tree in
     let lines4 = length-map (reference_lines (volume_of s.layout bytes)) of_tree in
     omega (arith, three, four, lines3, lines4)
@@ -92,9 +92,9 @@ names_among : (bytes : List ℕ) (s : Superblock) → length (pathname_lines (vo
 names_among bytes s =
     let after = after_phase2 (continues_after_root (volume_of s.layout bytes)) bytes s in
     let whole = ap length (text_parts bytes s) in
-    let one = length-append (phase1_text s.layout bytes) (from_phase1b bytes s) in
+    let one = length-append (phase1_messages s.layout bytes) (from_phase1b bytes s) in
     let again = length-append (rescan_lines s.layout bytes) (from_phase2 bytes s) in
-    let two = length-append (phase2_text s.layout bytes) after in
+    let two = length-append (phase2_messages s.layout bytes) after in
     let lines = length-map (pathname_lines (volume_of s.layout bytes)) of_tree in
     omega (arith, whole, one, again, two, lines)
 

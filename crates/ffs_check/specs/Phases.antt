@@ -7,22 +7,22 @@ use Rattle.ffs_volume.specs.{declared.Layout.Layout, Disk.Superblock.Superblock,
 use Rattle.ffs_volume.specs.Directories.{Volumes.volume_of}
 use Rattle.ffs_volume.specs.{Messages.Kinds.Message, Blocks.BlockCheck.{has_rescan, rescan_runs}}
 use Rattle.ffs_volume.specs.{Directories.PathnameCheck.continues_after_root, Report.Reads.sweep_reads}
-use Rattle.ffs_volume.specs.Report.Whole.{phase1_text, rescan_lines, phase2_text, phase3_text, phase4_text, phase5_text}
-use Rattle.ffs_volume.specs.Report.{Whole.{run_count, summary_text}, VolumeReads.rescan_reads}
+use Rattle.ffs_volume.specs.Report.Whole.{phase1_messages, rescan_lines, phase2_messages, phase3_messages, phase4_messages, phase5_messages}
+use Rattle.ffs_volume.specs.Report.{Whole.{run_count, summary_messages}, VolumeReads.rescan_reads}
 use Rattle.ffs_workspace.specs.{declared.workspace.Workspace.Workspace, Holds.HoldsClaims, Ready.IsReady}
 use Rattle.ffs_claims.specs.Phases.{IsLeftByPhase1}
 
 -- phase 5 and the summary
 abbrev pub from_phase5 : List ℕ → Superblock → List Message
-from_phase5 bytes s = phase5_text bytes s ++ summary_text bytes s
+from_phase5 bytes s = phase5_messages bytes s ++ summary_messages bytes s
 
 -- phases 4 and 5 and the summary
 abbrev pub from_phase4 : List ℕ → Superblock → List Message
-from_phase4 bytes s = phase4_text s.layout bytes ++ from_phase5 bytes s
+from_phase4 bytes s = phase4_messages s.layout bytes ++ from_phase5 bytes s
 
 -- phases 3 to 5 and the summary
 abbrev pub from_phase3 : List ℕ → Superblock → List Message
-from_phase3 bytes s = phase3_text s.layout bytes ++ from_phase4 bytes s
+from_phase3 bytes s = phase3_messages s.layout bytes ++ from_phase4 bytes s
 
 -- the same, where the check continues after the root
 abbrev pub after_phase2 : Bool → List ℕ → Superblock → List Message
@@ -30,7 +30,7 @@ after_phase2 goes bytes s = if goes then from_phase3 bytes s else []
 
 -- phase 2 and what follows it
 abbrev pub from_phase2 : List ℕ → Superblock → List Message
-from_phase2 bytes s = phase2_text s.layout bytes ++ after_phase2 (continues_after_root (volume_of s.layout bytes)) bytes s
+from_phase2 bytes s = phase2_messages s.layout bytes ++ after_phase2 (continues_after_root (volume_of s.layout bytes)) bytes s
 
 -- phase 1b, where it runs, and what follows it
 abbrev pub from_phase1b : List ℕ → Superblock → List Message

@@ -8,16 +8,16 @@ use Rattle.ffs_layout.specs.declared.geometry.Geometry.{Geometry}
 use Rattle.ffs_maps.specs.declared.FragmentMap.{FragmentMap}
 use Rattle.ffs_walk.specs.{Windows.{CanWalk, KeepsBlocks}, declared.blocks.Blocks.Blocks}
 use Rattle.ffs_workspace.specs.{Holds.IsFresh, Lengths.IsFor, Ready.CanRead, declared.workspace.{Workspace.Workspace}}
-use Rattle.ffs_claims.specs.{Leaves.{SameFound, ClaimsAndFinds, ClaimsOnly, Stored, OffersOnly}, Reporting.{RescanKeeps, ReportsOnly}}
+use Rattle.ffs_claims.specs.{Leaves.{SameFound, ClaimsAndFinds, ClaimsOnly, Stored, OffersOnly}, Reporting.{Phase1bKeeps, ReportsOnly}}
 use Rattle.ffs_claims.specs.Reporting.{OffersReportedOnly}
 
 pub found_none : (w : Workspace) → SameFound w w
 found_none w = record { only = refl }
 
-pub claims_none : (w : Workspace) → RescanKeeps w w
+pub claims_none : (w : Workspace) → Phase1bKeeps w w
 claims_none w = grind arith
 
-pub claims_then : {u v w : Workspace} → RescanKeeps u v → RescanKeeps v w → RescanKeeps u w
+pub claims_then : {u v w : Workspace} → Phase1bKeeps u v → Phase1bKeeps v w → Phase1bKeeps u w
 claims_then p q = grind arith
 
 pub changes_then : {u v w : Workspace} → ClaimsAndFinds u v → ClaimsAndFinds v w → ClaimsAndFinds u w

@@ -1,7 +1,7 @@
 -- How many indirect blocks are seen, step by step and inode by inode, and how often phase 1 reads an
 -- image that gives its bytes.
 use Rattle.std.proofs.Common.{◌≡◌, ℕ, zero, suc, ◌+◌, ◌-◌, ◌<◌, ◌≤◌, true, List, ◌∷◌, ◌++◌, replicate}
-use Rattle.std.proofs.{Common.{arith, refl, ap, ◌∙◌}}
+use Rattle.std.{proofs.{Common.{arith, refl, ap, ◌∙◌}}, specs.Int.div_ceil}
 use Rattle.ffs_volume.specs.Blocks.Claims.{Claims, after_owner, after_step, at_next_inode, is_open, no_claims}
 use Rattle.ffs_volume.specs.Blocks.{Inodes.{class_of, inode_of, inodes_of}, Owners.{owner_of, owners_of}}
 use Rattle.ffs_volume.specs.Report.VolumeReads.{indirect_count, indirect_in_owners, indirect_in_steps, seen_indirect}
@@ -11,7 +11,8 @@ use Rattle.ffs_report.specs.Known.{ForBytes}
 use Rattle.ffs_walk.specs.{Counts.entered, HeldWords.word_step, Rests.steps_left, declared.walk.Walk.Walk}
 use Rattle.ffs_workspace.specs.{Tables.{HoldsInode, HoldsPiece}, declared.table.Table.Table}
 use Rattle.ffs_claims.proofs.{Inodes.free_steps, ZeroInodes.{AreFree, free_claims}}
-use Rattle.ffs_claims.proofs.TableReads.{BlocksRead, blocks_all, blocks_failed, blocks_later, blocks_next}
+use Rattle.ffs_claims.proofs.TableReads.{BlocksRead, blocks_all, blocks_failed, blocks_failed_until, blocks_later, blocks_next}
+use Rattle.ffs_claims.proofs.TableReads.{blocks_until}
 use Rattle.ffs_claims.specs.{Claiming.ReadsIndirect, Lines.owners_from}
 
 -- the word of an indirect block of data is none
@@ -124,4 +125,19 @@ module _ {v : Layout} {bytes : List ℕ} {s : Claims} {n reads now : ℕ} {t : T
       let more = indirect_in_steps v (at_next_inode s) (owner_of v bytes n).steps in
       let all = blocks_failed {now' = now'} (r.seen + more) {T = Unit {0}} g low
       (λ h. (tt, omega (arith, again h))) (omega (arith, few)) r.read in
+      omega (arith, all, r.rest, indirect_next v bytes s (after_owner v s (owner_of v bytes n)) n low refl)
+
+  -- none from the inode m on was read
+  pub read_until : {m : ℕ} → IsAcceptedLayout v → n ≤ m → VolumeRead v bytes s n reads now t →
+      now ≤ reads + div_ceil m v.inopb + indirect_count v bytes
+  read_until g high r = omega (arith, blocks_until g high r.read, r.rest)
+
+  pub read_failed_until : {now' m : ℕ} → IsAcceptedLayout v → n < inodes_of v → n + 1 ≤ m →
+      (HoldsInode t n → ReadsIndirect v s (owner_of v bytes n) now now') →
+      ReadsIndirect v s (owner_of v bytes n) (now + 1) now' → VolumeRead v bytes s n reads now t →
+      now' ≤ reads + div_ceil m v.inopb + indirect_count v bytes
+  read_failed_until {now'} g low high again few r =
+      let more = indirect_in_steps v (at_next_inode s) (owner_of v bytes n).steps in
+      let all = blocks_failed_until {now' = now'} (r.seen + more) g high (λ h. omega (arith, again h)) (omega (arith, few))
+      r.read in
       omega (arith, all, r.rest, indirect_next v bytes s (after_owner v s (owner_of v bytes n)) n low refl)

@@ -1,5 +1,5 @@
 -- How phase 1b goes from inode to inode.
-use Rattle.std.proofs.Common.{◌≡◌, ℕ, zero, suc, ◌+◌, ◌-◌, ◌<◌, ◌≤◌, Bool, true, false, not, ◌&&◌, ◌==◌, List, [], ◌∷◌}
+use Rattle.std.proofs.Common.{◌≡◌, ◌≢◌, ℕ, zero, suc, ◌+◌, ◌-◌, ◌<◌, ◌≤◌, Bool, true, false, not, ◌&&◌, ◌==◌, List, [], ◌∷◌}
 use Rattle.std.proofs.Common.{◌++◌, map, slice_index, slice_set, arith, refl, ap, ◌∙◌, sym, ne_eqb}
 use Rattle.std.proofs.lemmas.{Bool.{and_from, and_parts, Decides.nat_tests}, List.Folds.list_all-append}
 use Rattle.std.specs.List.{range_with_len, list_any, list_all}
@@ -12,13 +12,13 @@ use Rattle.ffs_volume.specs.Blocks.{KeptSteps.claims_before, Owners.{owner_of, o
 use Rattle.ffs_volume.specs.{Directories.Volumes.is_inode_number, Encodings.Replay.{fresh_replay, cut_of, cut_at}}
 use Rattle.ffs_volume.specs.{Encodings.ReplayCounts.replayed_runs, Laws.Geometry.IsAcceptedLayout}
 use Rattle.ffs_volume.specs.{Report.Whole.run_count, declared.{Layout.Layout, Step.{Step, TheVariants.Run}}}
-use Rattle.ffs_volume.specs.{Encodings.Notes.cut_in, Blocks.BlockCheck.{after_first, owners_runs, runs_until_reported}}
+use Rattle.ffs_volume.specs.{Encodings.Notes.cut_in, Blocks.BlockCheck.{after_first, owners_runs, runs_until_reported, set_count}}
 use Rattle.ffs_workspace.proofs.{Leaving.counts_unsurveyed, NoteLaws.cut_is_noted}
 use Rattle.ffs_workspace.specs.{Holds.{HoldsPhase1, HoldsClaims}, declared.workspace.Workspace.Workspace}
 use Rattle.ffs_claims.proofs.{Duplicates.marked_total, Numbers.{before_end, is_inside}, RescanCounts.looked_both}
 use Rattle.ffs_claims.proofs.{RescanCounts.{runs_leave, inode_again, inode_indirect}, StepsContinue.range_more}
-use Rattle.ffs_claims.specs.{Claiming.ReadsIndirect, Lines.owners_from, Reporting.{OffersReported, RescanKeeps}}
-use Rattle.ffs_claims.specs.{Rescan.offers_again, RescanRuns.{ReadsIndirectAgain, steps_runs_again}}
+use Rattle.ffs_claims.specs.{Claiming.ReadsIndirect, Lines.owners_from, Reporting.{OffersReported, Phase1bKeeps}}
+use Rattle.ffs_claims.specs.{Rescan.offers_again, RescanRuns.{ReadsIndirectAgain, offers_by_owner, steps_runs_again}}
 
 -- the offers that the inode n keeps, replayed by its noted cut, and those of each of its Runs
 abbrev pub offers_at : Layout → List ℕ → List ℕ → ℕ → List Offer
@@ -44,7 +44,7 @@ pub record IsNoted (v : Layout) (bytes notes : List ℕ) (n : ℕ) : Type 0 wher
   cut : cut_in (slice_index notes n) ≡ cut_at v bytes n
 
 pub is_noted : {v : Layout} {bytes : List ℕ} {u w : Workspace} {n : ℕ} → IsAcceptedLayout v → 2 ≤ n → n < inodes_of v →
-    RescanKeeps u w → HoldsPhase1 v bytes u → IsNoted v bytes w.notes.items n
+    Phase1bKeeps u w → HoldsPhase1 v bytes u → IsNoted v bytes w.notes.items n
 is_noted {v = v} {bytes = bytes} {n = n} g low high same h = grind (arith, cut_is_noted)
 
 cut_noted : {v : Layout} {bytes notes : List ℕ} {n : ℕ} → IsNoted v bytes notes n →
@@ -80,6 +80,26 @@ unfolding owner_of
 indirect_noted {v = v} {bytes = bytes} {n = n} reads reads' p few =
     let same = inode_indirect v (claims_before v bytes n) (steps_of v (inode_of v bytes n) bytes) in
     omega (arith, few, rw (cut_noted p) at same)
+
+-- it is looked at, and so are those after it
+abbrev pub each_from : Layout → List ℕ → ℕ → List (List Offer)
+each_from v bytes n = offers_by_owner v (claims_before v bytes n) (owners_from v bytes n)
+
+pub inodes_on : (v : Layout) (bytes notes : List ℕ) (n : ℕ) (dup dup' : List Bool) → IsNoted v bytes notes n →
+    set_count dup ≢ 0 → dup' ≡ after_first dup (offers_at v bytes notes n) →
+    runs_until_reported dup (each_from v bytes n) ≡ 1 + runs_until_reported dup' (each_from v bytes (n + 1))
+unfolding owner_of offers_by_owner runs_until_reported
+inodes_on v bytes notes n dup dup' p some d =
+    let high = p.high in
+    let again = inode_again v n (claims_before v bytes n) (steps_of v (inode_of v bytes n) bytes) in
+    let next : each_from v bytes n ≡ offers_at v bytes notes n ∷ each_from v bytes (n + 1) =
+    grind (arith, range_more, before_next, cut_noted) in
+    rw (d, next, ne_eqb _ _ some) refl
+
+pub inodes_end : (v : Layout) (bytes : List ℕ) (dup : List Bool) (s : Claims) (n : ℕ) → inodes_of v ≤ n →
+    runs_until_reported dup (offers_by_owner v s (owners_from v bytes n)) ≡ 0
+unfolding offers_by_owner runs_until_reported
+inodes_end v bytes dup s n past = let none : inodes_of v - n ≡ 0 = omega arith in rw none refl
 
 -- no inode is left
 pub kept_end : (v : Layout) (bytes : List ℕ) (s : Claims) (n : ℕ) → inodes_of v ≤ n →
@@ -178,7 +198,7 @@ outside v bytes x = known (is_inode_number v x) _ (λ q. blames_none_of x
     past v x q high = grind (arith, nat_tests)
 
 -- all offers are gone over: the workspace holds the claims
-pub claims_hold : (v : Layout) (bytes : List ℕ) (old new : Workspace) → HoldsPhase1 v bytes old → RescanKeeps old new →
+pub claims_hold : (v : Layout) (bytes : List ℕ) (old new : Workspace) → HoldsPhase1 v bytes old → Phase1bKeeps old new →
     OffersReported (kept_in_owners v (no_claims v) (owners_of v bytes)) old new → HoldsClaims v bytes new
 unfolding all_claims phase1b_lines
 claims_hold v bytes old new h same t = grind (arith, outside, marked_total, counts_unsurveyed)

@@ -1,5 +1,6 @@
 -- How often phase 1 reads the inode tables: once for each block at most.
 use Rattle.std.proofs.Common.{◌≡◌, ℕ, suc, ◌+◌, ◌-◌, ◌*◌, ◌/◌, ◌%◌, ◌<◌, ◌≤◌, ◌⊎◌, inl, inr, ◌∙◌, ap, arith, OnOk}
+use Rattle.std.{proofs.lemmas.Grind.div_ceil_times, specs.Int.div_ceil}
 use Rattle.std.proofs.{Common.{Result, Ok, Err}, lemmas.{Bool.cases_lt, Nat.{div-mul-add, mod_below}}}
 use Rattle.std.proofs.Math.Nat.{div-add-mod', le-div_iff_mul-le, mul-le-mul_right, mul_assoc, mul_comm, mul-mod_right}
 use Rattle.ffs_volume.specs.{Laws.Geometry.IsAcceptedLayout, Report.Reads.table_blocks, declared.Layout.Layout}
@@ -139,6 +140,45 @@ module _ {v : Layout} {x reads now runs : ℕ} {t : Table} where
         | inl low ↦ unheld (λ h. omega (arith, h.0, low))
         | inr from ↦ elim (cases_lt x (t.first + t.count)) [
           | inl within ↦ held (from, within)
+          | inr past ↦ unheld (λ h. omega (arith, h.1, past))
+        ]
+      ]
+
+-- blocks that begin before the inode m
+few_until : (k m n : ℕ) → 0 < n → k * n < m + n → k ≤ div_ceil m n
+few_until k m n some below =
+    let most = (div_ceil_times m n some).0 in
+    elim (cases_lt (div_ceil m n) k) [
+      | inl more ↦
+          let whole : (div_ceil m n + 1) * n ≤ k * n = mul-le-mul_right n (omega (arith, more)) in
+          absurd (grind arith)
+      | inr few ↦ few
+    ]
+
+module _ {v : Layout} {x reads now runs : ℕ} {t : Table} where
+  -- all inodes before x were read, and none from the inode m on
+  pub blocks_until : {m : ℕ} → IsAcceptedLayout v → x ≤ m → BlocksRead v x reads now runs t →
+      now ≤ reads + div_ceil m v.inopb + runs
+  blocks_until {m} g high read =
+      let some : 0 < v.inopb = omega (arith, g.sizes.inopb, g.sizes.bsize_low) in
+      let below : read.blocks * v.inopb < m + v.inopb = elim read.passed [
+        | inl before ↦ omega (arith, before, high, some)
+        | inr last ↦ omega (arith, last.ends, last.begun, high)
+      ] in
+      omega (arith, read.most, few_until read.blocks m v.inopb some below)
+
+  -- and then the check of the inode x failed
+  pub blocks_failed_until : {now' m : ℕ} (runs' : ℕ) → IsAcceptedLayout v → x + 1 ≤ m →
+      (HoldsInode t x → now' + runs ≤ now + runs') → now' + runs ≤ now + 1 + runs' →
+      BlocksRead v x reads now runs t → now' ≤ reads + div_ceil m v.inopb + runs'
+  blocks_failed_until {now'} {m} runs' g high again few read =
+      let some : 0 < v.inopb = omega (arith, g.sizes.inopb, g.sizes.bsize_low) in
+      let unheld : (HoldsInode t x → ⊥) → now' ≤ reads + div_ceil m v.inopb + runs' = λ no.
+      omega (arith, few, read.most, few_until (suc read.blocks) m v.inopb some (omega (arith, passed_all no read, high))) in
+      elim (cases_lt x t.first) [
+        | inl low ↦ unheld (λ h. omega (arith, h.0, low))
+        | inr from ↦ elim (cases_lt x (t.first + t.count)) [
+          | inl within ↦ omega (arith, again (from, within), blocks_until {m = m} g (omega (arith, high)) read)
           | inr past ↦ unheld (λ h. omega (arith, h.1, past))
         ]
       ]

@@ -1,14 +1,15 @@
 -- What phases 1 and 1b leave of a workspace at their answer, and how often they read the image.
 use Rattle.std.specs.Prelude.{◌≡◌, ◌<◌, ◌≤◌, ◌+◌, ◌-◌, ◌*◌, ◌^◌, ℕ, false, List, OnErr, Result}
+use Rattle.std.specs.Int.{div_ceil}
 use Rattle.ffs_image.specs.Device.{Device}
 use Rattle.ffs_volume.specs.{declared.Layout.Layout, Blocks.{BlockCheck.{has_rescan, rescan_runs}, Owners.owners_of}}
 use Rattle.ffs_volume.specs.Report.{Memory.runs_limit, Reads.{sweep_reads, table_blocks}}
-use Rattle.ffs_volume.specs.Report.{VolumeReads.volume_scan_reads, Whole.run_count}
+use Rattle.ffs_volume.specs.Report.{VolumeReads.{indirect_count, volume_scan_reads}, Whole.run_count}
 use Rattle.ffs_report.specs.Known.{ForBytes}
 use Rattle.ffs_workspace.specs.{declared.workspace.Workspace.Workspace, Found.{WithFresh, WithPhase1}}
 use Rattle.ffs_workspace.specs.Lengths.{has_unreported_dups}
 use Rattle.ffs_workspace.specs.Holds.{HoldsClaims, HoldsPhase1}
-use Rattle.ffs_claims.specs.Leaves.{ClaimsAndFinds}
+use Rattle.ffs_claims.specs.{Leaves.ClaimsAndFinds, RescanRuns.rescan_end}
 
 -- phase 1 leaves what it found in the image's bytes, and `has_dups` answers whether one of its lines is
 -- a DUP line, which is just where phase 1b is to run. It has counted each Run that is seen
@@ -44,11 +45,13 @@ pub record IsLeftByPhase1b (v : Layout) (bytes : List ℕ) (w : Workspace) : Typ
 -- without a limit phase 1b reads the image at most once for each inode and once for each Run that it looks at, as
 -- long as the count of Runs has room in a u64. Where the image gives its bytes it looks at no more
 -- Runs than phase 1 did, and reads no more than phase 1 does then: each block of the inode tables once,
--- and each indirect block that is seen
+-- and each indirect block that is seen. Of the tables it reads no block past the inode with the last line
 pub record Phase1bReadsUnlimited (v : Layout) (d : Device) (old new : Workspace) (before after : ℕ) : Type 0 where
   pub runs : ForBytes (WithPhase1 v d old) (λ bytes. new.runs_again ≤ run_count v bytes)
   pub reads : new.runs_again < 2 ^ 64 - 1 → after ≤ before + v.ncg * v.ipg + new.runs_again
   pub known : ForBytes (WithPhase1 v d old) (λ bytes. after ≤ before + volume_scan_reads v bytes)
+  pub last : ForBytes (WithPhase1 v d old) (λ bytes.
+      after ≤ before + div_ceil (rescan_end v bytes) v.inopb + indirect_count v bytes)
 
 -- phase 1b reads as it does without a limit, and never more often than a sweep may
 pub record Phase1bReads (v : Layout) (d : Device) (old new : Workspace) (before after : ℕ) : Type 0 where

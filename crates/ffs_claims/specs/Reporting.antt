@@ -16,7 +16,7 @@ pub record OffersReported (offers : List Offer) (old new : Workspace) : Type 0 w
 
 -- what phase 1b changes: the fragments with a DUP line that are left to report, the marks, the count of
 -- its Runs and the windows. All else is as it was
-pub record RescanKeeps (old new : Workspace) : Type 0 where
+pub record Phase1bKeeps (old new : Workspace) : Type 0 where
   pub only : new ≡ record old {
     duplicates = new.duplicates;
     marked = new.marked;
@@ -29,7 +29,7 @@ pub record RescanKeeps (old new : Workspace) : Type 0 where
 pub record ReportsOnly (v : Layout) (old new : Workspace) : Type 0 where
   pub made : IsFor v new
   pub windows : new.windows ≡ old.windows
-  pub claims : RescanKeeps old new
+  pub claims : Phase1bKeeps old new
 
 -- what the offers of a Run leave: what reporting does, and no Run more is looked at
 pub record OffersReportedOnly (v : Layout) (old new : Workspace) : Type 0 where
@@ -69,4 +69,4 @@ pub record RewalkLeaves {T : Type 0} (v : Layout) (d d' : Device) (old new : Wor
     : Type 0 where
   pub image : ImageAfter d d' result
   pub ready : CanRead v d' new
-  pub claims : RescanKeeps old new
+  pub claims : Phase1bKeeps old new

@@ -1,9 +1,11 @@
 -- The Runs that phase 1b looks at, replayed, and what walking over an inode again leaves.
 use Rattle.std.specs.{List.range_with_len, Prelude.{◌≡◌, ◌<◌, ◌≤◌, ℕ, ◌+◌, ◌-◌, ◌^◌, List, [], ◌∷◌, ◌++◌}}
 use Rattle.std.specs.Prelude.{if◌then◌else◌, map, Result, OnOk, slice_index, true}
-use Rattle.ffs_volume.specs.Blocks.{BlockCheck.{first_offer_lines, runs_until_reported}, KeptOffers.{Offer, offer_of}}
+use Rattle.ffs_volume.specs.Blocks.{BlockCheck.{first_offer_lines, runs_until_reported}, KeptOffers.{Offer, kept_in_steps, offer_of}}
 use Rattle.ffs_volume.specs.{Blocks.{Inodes.inode_of, Steps.steps_of}, Encodings.Replay.{Replay, is_replay_open, fresh_replay}}
 use Rattle.ffs_volume.specs.Encodings.{ReplayCounts.{replayed_runs, replay_step_by_cut, seen_run}, Notes.cut_in}
+use Rattle.ffs_volume.specs.Blocks.{Claims.{Claims, after_owner, all_claims, at_next_inode, no_claims}, Owners.{Owner, owners_of}}
+use Rattle.ffs_volume.specs.declared.constants.TheConstants.{ROOTINO}
 use Rattle.ffs_volume.specs.{Laws.RunLengths.HasLength, declared.{Inode.Inode, Layout.Layout, Step.Step}}
 use Rattle.ffs_volume.specs.declared.Step.TheVariants.{Run, Tail, Gap}
 use Rattle.ffs_report.specs.{Known.{ForBytes, IsContents}, PhaseOutcome.PhaseReports, declared.fault.RunFault.RunFault}
@@ -32,6 +34,18 @@ indirect_again v cut r [] = 0
 indirect_again v cut r (step ∷ steps) =
     (if is_replay_open cut r then entered step else 0)
     + indirect_again v cut (replay_step_by_cut v cut r step) steps
+
+-- the offers that each inode keeps, of inodes one after the other
+unfoldable pub offers_by_owner : Layout → Claims → List Owner → List (List Offer)
+offers_by_owner v s [] = []
+offers_by_owner v s (o ∷ os) =
+    kept_in_steps v o.number (at_next_inode s) o.steps ∷ offers_by_owner v (after_owner v s o) os
+
+-- the number after the last inode that phase 1b looks at: it looks at all up to the one that reports the last
+-- fragment with a DUP line
+unfoldable pub rescan_end : Layout → List ℕ → ℕ
+rescan_end v bytes =
+    ROOTINO + runs_until_reported (all_claims v bytes).duplicates (offers_by_owner v (no_claims v) (owners_of v bytes))
 
 -- a count rose by so many; it is exact as long as it fits a u64
 abbrev pub RoseBy : ℕ → ℕ → ℕ → Type 0

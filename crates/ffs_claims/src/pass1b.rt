@@ -1,12 +1,12 @@
 //! Phase 1b: rescan for more dups (fsck(8)).
 
 ghost use Rattle.std.specs.Prelude.{◌≡◌, OnOk};
-ghost use Rattle.ffs_volume.specs.{Blocks.Inodes.inode_of, Report.Whole.phase1b_text};
+ghost use Rattle.ffs_volume.specs.{Blocks.Inodes.inode_of, Report.Whole.phase1b_messages};
 ghost use Rattle.ffs_report.specs.{Known.ForBytes, PhaseOutcome.{ImageAfter, PhaseReports}, Progress.progress};
 ghost use Rattle.ffs_workspace.specs.{Found.WithPhase1, Ready.IsReady};
 ghost use Rattle.ffs_walk.specs.Keepings.{replay_in};
 ghost use Rattle.ffs_claims.specs.Moments.{after_one_read, claim_moment, phase_moment};
-ghost use Rattle.ffs_claims.specs.{Phases.{IsLeftByPhase1b, Phase1bReads}, Reporting.{CanRewalk, RescanKeeps}};
+ghost use Rattle.ffs_claims.specs.{Phases.{IsLeftByPhase1b, Phase1bReads}, Reporting.{CanRewalk, Phase1bKeeps}};
 ghost use Rattle.ffs_claims.specs.Phases.{Phase1bReadsUnlimited};
 ghost use Rattle.ffs_claims.specs.{Reporting.ReportsOffers, Rescan.{ReplaysStep, step_offers_again}};
 ghost use Rattle.ffs_claims.specs.RescanRuns.{CanReportStep, CountsStep, RereadsByBlock, Rewalks};
@@ -119,14 +119,14 @@ fn phase1b_unlimited<I: Image, W: Output>(
     ensures faults { ImageAfter (I.device image.old) (I.device image.new) result }
     ensures text { PhaseReports
         (WithPhase1 geometry.now.layout (I.device image.old) workspace.old)
-        (phase1b_text geometry.now.layout) (progress W.sink report.old)
+        (phase1b_messages geometry.now.layout) (progress W.sink report.old)
         (progress W.sink report.new) result }
     ensures leaves { OnOk result (ForBytes
         (WithPhase1 geometry.now.layout (I.device image.old) workspace.old)
         (λ bytes. IsLeftByPhase1b geometry.now.layout bytes workspace.new)) }
     ensures reads { Phase1bReadsUnlimited geometry.now.layout (I.device image.old) workspace.old
         workspace.new (I.reads image.old) (I.reads image.new) }
-    ensures stays { RescanKeeps workspace.old workspace.new }
+    ensures stays { Phase1bKeeps workspace.old workspace.new }
     ensures ready { IsReady geometry.now.layout (I.device image.new) workspace.new }
 {
     workspace.forget_windows();
@@ -160,14 +160,14 @@ pub fn phase1b<I: Image, W: Output>(
     ensures faults { ImageAfter (I.device image.old) (I.device image.new) result }
     ensures text { PhaseReports
         (WithPhase1 geometry.now.layout (I.device image.old) workspace.old)
-        (phase1b_text geometry.now.layout) (progress W.sink report.old)
+        (phase1b_messages geometry.now.layout) (progress W.sink report.old)
         (progress W.sink report.new) result }
     ensures leaves { OnOk result (ForBytes
         (WithPhase1 geometry.now.layout (I.device image.old) workspace.old)
         (λ bytes. IsLeftByPhase1b geometry.now.layout bytes workspace.new)) }
     ensures reads { Phase1bReads geometry.now.layout (I.device image.old) workspace.old
         workspace.new (I.reads image.old) (I.reads image.new) }
-    ensures stays { RescanKeeps workspace.old workspace.new }
+    ensures stays { Phase1bKeeps workspace.old workspace.new }
     ensures ready { IsReady geometry.now.layout (I.device image.new) workspace.new }
 {
     let mut limited = LimitedImage::new(image, sweep_reads(geometry));

@@ -2,7 +2,7 @@
 
 ghost use Rattle.std.specs.Prelude.{◌≡◌, ◌+◌, ◌≤◌};
 ghost use Rattle.ffs_volume.specs.Report.Reads.{group_reads};
-ghost use Rattle.ffs_volume.specs.Report.Whole.{phase5_text};
+ghost use Rattle.ffs_volume.specs.Report.Whole.{phase5_messages};
 ghost use Rattle.ffs_layout.specs.Super.{superblock_in};
 ghost use Rattle.ffs_report.specs.{Progress.progress, PhaseOutcome.{ImageAfter, PhaseReports}};
 ghost use Rattle.ffs_workspace.specs.{Found.WithClaims, Ready.IsReady};
@@ -34,7 +34,7 @@ pub fn phase5<I: Image, W: Output>(
     ensures faults { ImageAfter (I.device image.old) (I.device image.new) result }
     ensures text { PhaseReports
         (WithClaims superblock.now.geometry.layout (I.device image.old) workspace.old)
-        (λ bytes. phase5_text bytes (superblock_in superblock.now))
+        (λ bytes. phase5_messages bytes (superblock_in superblock.now))
         (progress W.sink report.old) (progress W.sink report.new) result }
     ensures leaves { workspace.new ≡ record workspace.old { windows = workspace.new.windows } }
     ensures reads { I.reads image.new

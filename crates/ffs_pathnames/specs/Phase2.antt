@@ -4,7 +4,7 @@ use Rattle.ffs_image.specs.Device.{Device}
 use Rattle.ffs_volume.specs.{declared.Layout.Layout, Directories.PathnameCheck.{continues_after_root, pathname_lines}}
 use Rattle.ffs_volume.specs.{Directories.Volumes.volume_of, Messages.Kinds.{phase2}, Report.Reads.line_reads}
 use Rattle.ffs_volume.specs.Report.{Reads.pathname_reads, DirectoryReads.{directories_cost, phase2_cost}}
-use Rattle.ffs_volume.specs.Report.Whole.{phase2_text}
+use Rattle.ffs_volume.specs.Report.Whole.{phase2_messages}
 use Rattle.ffs_report.specs.{Known.ForBytes, Progress.{Progress, Said}, declared.fault.RunFault.RunFault}
 use Rattle.ffs_report.specs.declared.fault.RunFault.TheVariants.{Read, Out}
 use Rattle.ffs_workspace.specs.{declared.workspace.Workspace.Workspace, Found.WithClaims, Holds.HoldsFindings}
@@ -22,7 +22,7 @@ Phase2Ends v d w w' old new (Ok root) =
     ForBytes (WithClaims v d w) (λ bytes.
     (is_go root ≡ continues_after_root (volume_of v bytes)) × HoldsFindings v bytes w')
     × (is_go root ≡ false → SaidStop (WithClaims v d w) (phase2 ∷ [])
-    (phase2_text v) old new)
+    (phase2_messages v) old new)
 Phase2Ends v d w w' old new (Err (Read fault)) = Said old new (phase2 ∷ [])
     ⊎ ForBytes (WithClaims v d w) (λ bytes. continues_after_root (volume_of v bytes) ≡ true)
 Phase2Ends v d w w' old new (Err (Out fault)) = ⊤

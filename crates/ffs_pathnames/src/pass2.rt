@@ -3,7 +3,7 @@ ghost use Rattle.std.specs.Prelude.{◌≡◌, ◌+◌, ◌*◌, ◌∷◌, [], 
 ghost use Rattle.ffs_report.specs.{Known.ForBytes, Paid.Paid, PhaseOutcome.{ImageAfter, PhaseReports}, Progress.progress};
 ghost use Rattle.ffs_volume.specs.Directories.{PathnameCheck.pathname_lines, Volumes.volume_of};
 ghost use Rattle.ffs_volume.specs.{Encodings.Kinds.is_dir_kind, Messages.Kinds.of_tree, Report.Reads.{line_reads, sweep_reads}};
-ghost use Rattle.ffs_volume.specs.Report.Whole.{phase2_text};
+ghost use Rattle.ffs_volume.specs.Report.Whole.{phase2_messages};
 ghost use Rattle.ffs_workspace.specs.{Found.WithClaims, Holds.{HoldsClaims, bool_at}, Leaves.LeavesBlockCheck, Ready.{CanRead, IsReady}};
 ghost use Rattle.ffs_pathnames.specs.{Before.{root_reported, IsBefore, IsNonePassed}, Gathers.HasInodeLists};
 ghost use Rattle.ffs_pathnames.specs.{Phase2.{Phase2Ends, Phase2Reads}, RootAnswers.{AnswersRoot, SaidStop, is_go}};
@@ -59,7 +59,7 @@ pub fn phase2<I: Image, W: Output>(
     ensures faults { ImageAfter (I.device image.old) (I.device image.new) result }
     ensures text { PhaseReports
         (WithClaims geometry.now.layout (I.device image.old) workspace.old)
-        (phase2_text geometry.now.layout) (progress W.sink report.old)
+        (phase2_messages geometry.now.layout) (progress W.sink report.old)
         (progress W.sink report.new) result }
     ensures leaves { Phase2Ends geometry.now.layout (I.device image.old) workspace.old
         workspace.new (progress W.sink report.old) (progress W.sink report.new) result }

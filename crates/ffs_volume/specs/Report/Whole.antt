@@ -44,42 +44,42 @@ summary_of s files used =
     (int_div (loose_fragments s *ℤ pos 1000) (pos s.layout.dsize))
 
 -- what each phase reports, with its heading
-abbrev pub phase1_text : Layout → (image : List ℕ) → List Message
-phase1_text v image = phase1 ∷ map of_blocks (phase1_lines v (owners_of v image))
+abbrev pub phase1_messages : Layout → (image : List ℕ) → List Message
+phase1_messages v image = phase1 ∷ map of_blocks (phase1_lines v (owners_of v image))
 
-abbrev pub phase1b_text : Layout → (image : List ℕ) → List Message
-phase1b_text v image = phase1b ∷ map of_blocks (phase1b_lines v (owners_of v image))
+abbrev pub phase1b_messages : Layout → (image : List ℕ) → List Message
+phase1b_messages v image = phase1b ∷ map of_blocks (phase1b_lines v (owners_of v image))
 
-abbrev pub phase2_text : Layout → (image : List ℕ) → List Message
-phase2_text v image = phase2 ∷ map of_tree (pathname_lines (volume_of v image))
+abbrev pub phase2_messages : Layout → (image : List ℕ) → List Message
+phase2_messages v image = phase2 ∷ map of_tree (pathname_lines (volume_of v image))
 
-abbrev pub phase3_text : Layout → (image : List ℕ) → List Message
-phase3_text v image = phase3 ∷ map of_tree (connectivity_lines (volume_of v image))
+abbrev pub phase3_messages : Layout → (image : List ℕ) → List Message
+phase3_messages v image = phase3 ∷ map of_tree (connectivity_lines (volume_of v image))
 
-abbrev pub phase4_text : Layout → (image : List ℕ) → List Message
-phase4_text v image = phase4 ∷ map of_tree (reference_lines (volume_of v image))
+abbrev pub phase4_messages : Layout → (image : List ℕ) → List Message
+phase4_messages v image = phase4 ∷ map of_tree (reference_lines (volume_of v image))
 
 -- in phase 5 a fragment is free where it is neither reserved nor claimed by a kept offer
-abbrev pub phase5_text : (image : List ℕ) → Superblock → List Message
-phase5_text image s = phase5 ∷ map of_blocks (phase5_lines s.layout image s.cstotal
+abbrev pub phase5_messages : (image : List ℕ) → Superblock → List Message
+phase5_messages image s = phase5 ∷ map of_blocks (phase5_lines s.layout image s.cstotal
     (is_free_of_kept s.layout (owners_of s.layout image)) (class_at s.layout image))
 
-abbrev pub summary_text : (image : List ℕ) → Superblock → List Message
-summary_text image s = summary_of s (file_count s.layout image) (claimed_count s.layout image) ∷ []
+abbrev pub summary_messages : (image : List ℕ) → Superblock → List Message
+summary_messages image s = summary_of s (file_count s.layout image) (claimed_count s.layout image) ∷ []
 
 -- phase 1b, where it runs
 abbrev pub rescan_lines : Layout → List ℕ → List Message
-rescan_lines v image = if has_rescan v (owners_of v image) then phase1b_text v image else []
+rescan_lines v image = if has_rescan v (owners_of v image) then phase1b_messages v image else []
 
 -- phases 3 to 5 and the summary
 unfoldable pub later_phase_lines : List ℕ → Superblock → List Message
 later_phase_lines image s =
-    phase3_text s.layout image ++ (phase4_text s.layout image ++ (phase5_text image s ++ summary_text image s))
+    phase3_messages s.layout image ++ (phase4_messages s.layout image ++ (phase5_messages image s ++ summary_messages image s))
 
 -- the phases and the summary; where inode 2 isn't a directory, the check stops after the root's line
 unfoldable pub phase_lines : List ℕ → Superblock → List Message
 phase_lines image s =
-    phase1_text s.layout image ++ (rescan_lines s.layout image ++ (phase2_text s.layout image
+    phase1_messages s.layout image ++ (rescan_lines s.layout image ++ (phase2_messages s.layout image
     ++ (if continues_after_root (volume_of s.layout image) then later_phase_lines image s else [])))
 
 -- the report of an image with this accepted superblock, after `head_lines`

@@ -9,15 +9,15 @@ use Rattle.ffs_workspace.specs.{Found.WithPhase1, declared.workspace.Workspace.W
 use Rattle.ffs_volume.specs.Blocks.{Inodes.inodes_of, Claims.all_claims, BlockCheck.{set_count, after_first}}
 use Rattle.ffs_volume.specs.Blocks.BlockCheck.{runs_until_reported, rescan_runs}
 use Rattle.ffs_claims.proofs.{FirstOffers.all_reported}
-use Rattle.ffs_claims.proofs.{Duplicates.{none_first, none_left}, Frames.{claims_none, claims_then, ready_again}}
+use Rattle.ffs_claims.proofs.{Duplicates.{none_first, none_left, some_left}, Frames.{claims_none, claims_then, ready_again}}
 use Rattle.ffs_claims.proofs.{Numbers.{numbers_most, before_first}, Reportings.{reporting_more, reporting_ends}}
 use Rattle.ffs_claims.proofs.{Reportings.{reporting_begins, lines_split, reporting_over}, RescanCounts.look_most}
-use Rattle.ffs_claims.proofs.{RescanCounts.looked_none, Rescanned.{IsNoted, is_noted, offers_at, runs_at, kept_from}}
+use Rattle.ffs_claims.proofs.{RescanCounts.looked_none, Rescanned.{IsNoted, inodes_on, is_noted, offers_at, runs_at, kept_from}}
 use Rattle.ffs_claims.proofs.Rescanned.{runs_from, looked_on, looked_end, kept_next, kept_end, runs_on, runs_most}
 use Rattle.ffs_claims.proofs.{Rescanned.claims_hold, Rewalks.{runs_pay_all, runs_pay_then}}
-use Rattle.ffs_claims.proofs.{IndirectReads.{read_all, read_begins, read_failed, read_next}, Rescanned.indirect_noted}
+use Rattle.ffs_claims.proofs.{IndirectReads.{read_all, read_begins, read_failed, read_failed_until, read_next, read_until}, Rescanned.indirect_noted}
 use Rattle.ffs_volume.proofs.{OwnerLaws.before_next, Sizes.some_inodes}
-use Rattle.ffs_claims.specs.Lines.{of_lines}
+use Rattle.ffs_claims.specs.{Lines.of_lines, RescanRuns.rescan_end}
 use Rattle.ffs_claims.proofs.pass1b.phase1b_unlimited.Goals as goal
 
 pub returns-in_err-say-clause-text : goal.returns-in_err-say-clause-text
@@ -34,7 +34,7 @@ returns-in_err-say-clause-ready g c =
     (ready_again refl (c.forget_windows.ensures.forgets c.args.geometry.now.layout _ c.requires.ready)).ready
 
 pub loop-number-init : goal.loop-number-init
-unfolding phase1b_lines owners_of all_claims rescan_runs
+unfolding phase1b_lines owners_of all_claims rescan_runs rescan_end
 loop-number-init g c =
     let v = c.args.geometry.now.layout in
     let old = c.args.workspace.now in
@@ -54,6 +54,7 @@ loop-number-init g c =
       reads = record { rises = λ _. omega arith; paid = λ _. omega arith };
       known = λ bytes k. read_begins v bytes (omega arith) (before_first v bytes);
       count = λ bytes k. rw (before_first v bytes, same, k.1.duplicates) (omega arith);
+      inodes = λ bytes k. rw (before_first v bytes, same, k.1.duplicates) refl;
       reported = λ bytes k. reporting_begins old _ (rw (before_first v bytes) refl)
           (ap (λ (w : Workspace). w.duplicates) forgot) (ap (λ (w : Workspace). w.marked) forgot);
       said = of_says _ (λ bytes. phase1b ∷ of_lines (phase1b_lines v (owners_of v bytes)))
@@ -106,6 +107,14 @@ returns-in_err-rewalk_inode-clause-reads g c =
           read_failed c.args.geometry.now.sound last
           (λ held. indirect_noted _ _ noted (table.known held bytes (image ∙ k.0)))
           (indirect_noted _ _ noted (did.known bytes (image ∙ k.0))) (inv.known bytes k);
+      last = λ bytes k.
+          let noted = is_noted c.args.geometry.now.sound inv.low last inv.claims k.1 in
+          let d = bits_of c.loop-number.workspace.duplicates in
+          let on = inodes_on v bytes notes n d (after_first d (offers_at v bytes notes n)) noted
+          (some_left _ _ c.has_unreported_dups.ensures c.if-not-has_unreported_dups.false) refl in
+          read_failed_until c.args.geometry.now.sound last (omega (arith, on, inv.inodes bytes k))
+          (λ held. indirect_noted _ _ noted (table.known held bytes (image ∙ k.0)))
+          (indirect_noted _ _ noted (did.known bytes (image ∙ k.0))) (inv.known bytes k);
     }
 
 pub loop-number-preserved : goal.loop-number-preserved
@@ -145,6 +154,13 @@ loop-number-preserved g c =
           let fits : c.loop-number.workspace.runs_again + runs_until_reported d (runs_at v bytes notes n) < 2 ^ 64 =
           omega (arith, inv.count bytes k, on bytes k, sound.numbers.inodes_below, sound.numbers.size_below) in
           omega (arith, inv.count bytes k, on bytes k, (rewalks.rewalked bytes (image ∙ k.0)).count fits);
+      inodes = λ bytes k. omega (
+        arith,
+        inv.inodes bytes k,
+        inodes_on v bytes notes n d d' (noted bytes k)
+            (some_left _ _ c.has_unreported_dups.ensures c.if-not-has_unreported_dups.false)
+            (rewalks.rewalked bytes (image ∙ k.0)).reported.duplicates,
+      );
       reported = λ bytes k. reporting_more (inv.reported bytes k) (kept_next v bytes notes n (noted bytes k))
           (rewalks.rewalked bytes (image ∙ k.0)).reported;
       said = of_part _ (λ bytes. of_lines (first_offer_lines d (kept_from v bytes n)))
@@ -177,6 +193,7 @@ returns-then-not-has_unreported_dups g c =
         runs = λ bytes k. omega (arith, inv.runs bytes k, runs_most v bytes n inv.low inv.high);
         reads = runs_pay_all _ _ _ inv.reads (numbers_most n (inodes_of v) inv.high);
         known = λ bytes k. read_all sound (omega (arith, inv.high, some_inodes v sound)) (inv.known bytes k);
+        last = λ bytes k. read_until sound (omega (arith, inv.inodes bytes k)) (inv.known bytes k);
       };
       stays = inv.claims;
       ready = inv.ready.ready;
@@ -206,6 +223,7 @@ returns-after-loop-number g c =
         runs = λ bytes k. omega (arith, inv.runs bytes k, runs_most v bytes n inv.low inv.high);
         reads = runs_pay_all _ _ _ inv.reads (numbers_most n (inodes_of v) inv.high);
         known = λ bytes k. read_all sound (omega (arith, inv.high, some_inodes v sound)) (inv.known bytes k);
+        last = λ bytes k. read_until sound (omega (arith, inv.inodes bytes k)) (inv.known bytes k);
       };
       stays = inv.claims;
       ready = inv.ready.ready;

@@ -1,6 +1,6 @@
 use Rattle.std.proofs.Common.{◌≡◌, ◌+◌, ◌-◌, ◌≤◌, length, Ok}
 use Rattle.ffs_report.specs.{Known.ForBytes, Paid.Paid, PhaseOutcome.SaidOf, Progress.progress}
-use Rattle.ffs_volume.specs.{Directories.{Connectivity.connectivity_lines, Volumes.volume_of}, Report.Whole.phase3_text}
+use Rattle.ffs_volume.specs.{Directories.{Connectivity.connectivity_lines, Volumes.volume_of}, Report.Whole.phase3_messages}
 use Rattle.ffs_volume.specs.{Messages.Kinds.{lines_from}, Blocks.Inodes.inodes_of}
 use Rattle.ffs_workspace.specs.{Found.WithSurvey, Leaves.LeavesSurvey, Ready.CanRead}
 use Rattle.ffs_connectivity.{specs.{Leaders.HasLeaders, Lines.unref_dir_lines}, proofs.UnrefLines.lines_after}
@@ -19,7 +19,7 @@ invariant-loop-number g l = let v = l.geometry.layout in record {
       ≤ g.I.Image.reads l.fn.image + length (connectivity_lines (volume_of v bytes)));
   said : SaidOf (WithSurvey v (g.I.Image.device l.fn.image) l.fn.workspace)
       (lines_after v l.number)
-      (phase3_text v)
+      (phase3_messages v)
       (progress g.W.Output.sink l.fn.report) (progress g.W.Output.sink l.report);
   paid : Paid {T = Unit {0}} 1 (progress g.W.Output.sink l.fn.report) (progress g.W.Output.sink l.report)
       (g.I.Image.reads l.fn.image) (g.I.Image.reads l.image) (Ok tt);

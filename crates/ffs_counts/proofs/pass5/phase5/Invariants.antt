@@ -1,5 +1,5 @@
 use Rattle.std.proofs.Common.{◌≡◌, ◌+◌, ◌%◌, ◌≤◌, ◌∷◌}
-use Rattle.ffs_volume.specs.{Report.Whole.phase5_text}
+use Rattle.ffs_volume.specs.{Report.Whole.phase5_messages}
 use Rattle.ffs_volume.specs.Report.Reads.{records_at_once}
 use Rattle.ffs_layout.specs.Super.{superblock_in}
 use Rattle.ffs_report.specs.{PhaseOutcome.SaidOf, Progress.progress}
@@ -22,6 +22,6 @@ invariant-loop-group g l =
       totals : AreTotals v (free_of v w) (class_in w.kinds.items) l.group l.totals;
       said : SaidOf (WithClaims v (g.I.Image.device l.fn.image) w)
           (lines_after v l.superblock.cstotal w (reported_of l.once) l.group)
-          (λ bytes. phase5_text bytes (superblock_in l.superblock))
+          (λ bytes. phase5_messages bytes (superblock_in l.superblock))
           (progress g.W.Output.sink l.fn.report) (progress g.W.Output.sink l.report);
     }
