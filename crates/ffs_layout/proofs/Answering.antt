@@ -1,10 +1,10 @@
 -- The outcome, from what a read gives.
-use Rattle.std.proofs.Common.{◌≡◌, ℕ, ◌+◌, ◌*◌, ◌/◌, ◌<◌, ◌≤◌, true, false, List, length, Option, Some, None, Ok, Err}
+use Rattle.std.proofs.Common.{◌≡◌, ℕ, ◌+◌, ◌*◌, ◌<◌, ◌≤◌, true, false, List, length, Option, Some, None, Ok, Err}
 use Rattle.std.{proofs.Common.{arith, sym, ◌∙◌, ap}, specs.Prelude.{take, drop}}
-use Rattle.ffs_volume.specs.declared.{Order.Order, Layout.Layout, SuperFault.{SuperFault, TheVariants.CannotRead}}
+use Rattle.ffs_volume.specs.declared.{Order.Order, SuperFault.{SuperFault, TheVariants.CannotRead}}
 use Rattle.ffs_volume.specs.{declared.SuperFault.TheVariants.{Magic, Disagree}, Disk.Numbers.piece}
 use Rattle.ffs_volume.specs.Disk.{Superblock.{order_of, layout_of, superblock_of}, Outcome.{super_sector, layout_fault}}
-use Rattle.ffs_volume.specs.Disk.Outcome.{copy_agrees, copy_place, super_bytes, outcome, IsCopySector}
+use Rattle.ffs_volume.specs.Disk.Outcome.{copy_agrees, outcome}
 use Rattle.ffs_volume.proofs.OutcomeLaws.{outcome_past_end, outcome_magic, outcome_fault, outcome_disagree, outcome_ok}
 
 -- as many bytes as were asked for
@@ -47,8 +47,3 @@ module _ (contents : Option (List ℕ)) (count : ℕ) (sector : Option ℕ) (sta
             contents ≡ Some b → outcome b sector ≡ Ok (superblock_of order bytes)
         accepted h b e = outcome_ok b sector bytes (fits b e) (same b e) order order_is
             (ap (layout_fault (layout_of order bytes)) (long b e) ∙ good) (h b e)
-
-        pub copy_sector : (v : Layout) → v ≡ layout_of order bytes → (failed : ℕ) → failed ≡ copy_place v / 512 →
-            (b : List ℕ) → contents ≡ Some b → IsCopySector (super_bytes b sector) (length b) failed
-        copy_sector v v_is failed h b e = rw (← same b e, order_is)
-            (ap (layout_fault (layout_of order bytes)) (long b e) ∙ good, rw v_is at h)

@@ -1,11 +1,11 @@
 -- Copies of a superblock that are read, and faults of them.
-use Rattle.std.proofs.Common.{◌≡◌, ℕ, ◌*◌, ◌/◌, ◌≤◌, false, List, Option, Some, None, arith, refl, ap, ◌∙◌, inl, inr}
+use Rattle.std.proofs.Common.{◌≡◌, ℕ, ◌*◌, ◌≤◌, false, List, Option, Some, None, arith, refl, ap}
 use Rattle.std.specs.{Option.is_some, Prelude.unwrap_or}
 use Rattle.ffs_image.specs.Device.{Device}
-use Rattle.ffs_volume.specs.declared.{Layout.Layout, Order.Order, SuperFault.{SuperFault, TheVariants.CannotRead}}
+use Rattle.ffs_volume.specs.declared.{Layout.Layout, Order.Order, SuperFault.{SuperFault}}
 use Rattle.ffs_volume.specs.{Laws.Geometry.IsAcceptedLayout, Disk.Outcome.{copy_place, super_sector}}
 use Rattle.ffs_volume.specs.Disk.Superblock.{layout_of, superblock_of}
-use Rattle.ffs_volume.proofs.{AreaLaws.copy_inside, SearchLaws.is_some-none}
+use Rattle.ffs_volume.proofs.{AreaLaws.copy_inside}
 use Rattle.ffs_layout.specs.Copies.{IsUnreadCopy, IsCopyFault}
 
 -- where no sector is asked for, the superblock is read at that of the primary one
@@ -19,16 +19,7 @@ pub copy_fault : (v : Layout) (old new : Device) (sector : Option ℕ) (order : 
     v ≡ layout_of order bytes → v.size * v.fsize ≤ old.size → is_some sector ≡ false → at ≡ copy_place v →
     IsUnreadCopy old new at answer →
     IsCopyFault old new sector order bytes answer
-copy_fault v old new sector order bytes answer at geometry v_is inside none at_is unread =
-    let place : at ≡ copy_place (layout_of order bytes) = at_is ∙ ap copy_place v_is in
-    elim unread.cause [
-      | inl failed ↦ inl (record {
-        compared = is_some-none sector none;
-        fault = unread.fault ∙ ap (λ (n : ℕ). CannotRead (n / 512)) place;
-        failed = rw place at failed;
-      })
-      | inr past ↦ let held = copy_inside v geometry in absurd (omega (arith, past.1))
-    ]
+copy_fault v old new sector order bytes answer at geometry v_is inside none at_is unread = grind (arith, copy_inside)
 
 pub own_layout : (v : Layout) (order : Order) (bytes : List ℕ) → v ≡ layout_of order bytes →
     record (superblock_of order bytes) { layout = v } ≡ superblock_of order bytes

@@ -37,8 +37,7 @@ nul_or_slash_step n count xs i d below =
 pub nul_or_slash_part : (n count : ℕ) (xs : List ℕ) (parts : List (List ℕ)) (i : ℕ) (d : List ℕ) (b : Bool) →
     parts ≡ first_chunks n count xs → i < count → any (get_or parts i d) ≡ b →
     any (drop (i * n) xs) ≡ (b || any (drop ((i + 1) * n) xs))
-nul_or_slash_part n count xs parts i d b are below is =
-    grind (arith, nul_or_slash_step)
+nul_or_slash_part n count xs parts i d b are below is = grind (arith, nul_or_slash_step)
 
 -- where what is left of bytes has NUL or `/`, they have it too
 nul_or_slash_left : (xs : List ℕ) (k : ℕ) → any (drop k xs) ≡ true → any xs ≡ true

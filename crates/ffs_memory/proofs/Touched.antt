@@ -1,9 +1,9 @@
 -- Lists of which some elements are touched, and all others have one value.
-use Rattle.std.proofs.Common.{◌≡◌, ◌<◌, ◌≤◌, ◌+◌, ◌-◌, ◌++◌, ◌∷◌, ◌∙◌, [], ℕ, zero, suc, List, ap, arith, get_or, inl, inr, length, min}
+use Rattle.std.proofs.Common.{◌≡◌, ◌<◌, ◌≤◌, ◌+◌, ◌++◌, ◌∷◌, ◌∙◌, [], ℕ, zero, suc, List, ap, arith, get_or, length, min}
 use Rattle.std.proofs.Common.{refl, replicate, slice_set, sym, vec_len}
 use Rattle.std.proofs.lemmas.List.{append_assoc, get_or-append_right, get_or-replicate, length-append, length-replicate}
 use Rattle.std.proofs.lemmas.List.{replicate-append-replicate, set-append_left}
-use Rattle.std.proofs.{Math.{ListN.get_or-append, Seq.set-append_seam}, lemmas.Bool.cases_lt}
+use Rattle.std.proofs.{Math.{ListN.get_or-append, Seq.set-append_seam}}
 use Rattle.std.specs.{Prelude.vec_capacity, declared.{vec.Vec.Vec, alloc.Global.Global}}
 use Rattle.ffs_memory.specs.{Filled.{filled, LimitsItems}, Touching.Touches}
 
@@ -51,13 +51,5 @@ limit_untouched (suc n) x most (suc k) = limit_untouched n x most k
 -- the touched numbers are limited, and the value of the others
 pub limit_filled : (old new : List ℕ) (n x most : ℕ) → LimitsItems old new most →
     LimitsItems (old ++ replicate n x) (new ++ replicate n (min x most)) most
-limit_filled old new n x most limits = record {
-  same_length = grind (arith, length-append, length-replicate, limits.same_length);
-  items = λ k. elim (cases_lt k (length old)) [
-    | inl low ↦ get_or-append new (replicate n (min x most)) 0 k (omega (arith, limits.same_length))
-        ∙ limits.items k ∙ ap (λ y. min y most) (sym (get_or-append old (replicate n x) 0 k low))
-    | inr high ↦ get_or-append_right new (replicate n (min x most)) (length old) k 0 limits.same_length high
-        ∙ limit_untouched n x most (k - length old)
-        ∙ ap (λ y. min y most) (sym (get_or-append_right old (replicate n x) (length old) k 0 refl high))
-  ];
-}
+limit_filled old new n x most limits =
+    grind (arith, length-append, length-replicate, get_or-append, get_or-append_right, limit_untouched)

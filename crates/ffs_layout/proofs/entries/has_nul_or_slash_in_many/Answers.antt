@@ -1,5 +1,5 @@
-use Rattle.std.proofs.Common.{◌∙◌, ◌*◌, ◌-◌, ◌/◌, ◌≤◌, ap, sym, length, arith}
-use Rattle.ffs_layout.{specs.Entry.any_nul_or_slash, proofs.ListParts.{nul_or_slash_from, nul_or_slash_part}}
+use Rattle.std.proofs.Common.{◌∙◌, ◌/◌, sym, length, arith}
+use Rattle.ffs_layout.{proofs.ListParts.{nul_or_slash_from, nul_or_slash_part}}
 use Rattle.ffs_layout.proofs.entries.has_nul_or_slash_in_many.Goals as goal
 
 pub loop-part-preserved : goal.loop-part-preserved
@@ -19,10 +19,4 @@ returns-then-has_nul_or_slash_in_part c =
     (sym c.has_nul_or_slash_in_part.ensures ∙ c.if-has_nul_or_slash_in_part.true))
 
 pub returns : goal.returns
-returns c =
-    let n = length c.args.bytes.now in
-    let far : n - 8 ≤ c.loop-part.part-index * 8 =
-    omega (arith, c.loop-part-test.false, c.as_chunks.ensures.front_len) in
-    c.has_nul_or_slash_in_part-2.ensures
-    ∙ ap any_nul_or_slash c.in-Some.ensures.cases.1.same
-    ∙ nul_or_slash_from c.args.bytes.now (n - 8) (c.loop-part.part-index * 8) far c.loop-part.invariant
+returns c = grind (arith, nul_or_slash_from)

@@ -13,5 +13,4 @@ returns-then-not-group_fits c =
     sym (all_below-fails c.args.v.now.ncg c.loop-group.group (has_valid_group c.args.v.now) (omega arith) fails)
 
 pub loop-group-preserved : goal.loop-group-preserved
-loop-group-preserved c =
-    grind (arith, all_below-more)
+loop-group-preserved c = grind (arith, all_below-more)

@@ -1,7 +1,7 @@
-use Rattle.std.proofs.Common.{◌≡◌, ◌*◌, ◌/◌, Some, Ok, Err, arith, sym, refl, ◌∙◌, ap, inl, inr}
+use Rattle.std.proofs.Common.{◌≡◌, ◌*◌, ◌/◌, Err, arith, sym, ◌∙◌, ap, inl, inr}
 use Rattle.std.proofs.lemmas.Result.{err_from_is_err_and}
 use Rattle.ffs_volume.{specs.declared.SuperFault.TheVariants.CannotRead, proofs.OutcomeLaws.no_read_fault}
-use Rattle.ffs_layout.proofs.Answering.{past_end, magic, fault, disagree, accepted, copy_sector}
+use Rattle.ffs_layout.proofs.Answering.{past_end, magic, fault, disagree, accepted}
 use Rattle.ffs_layout.proofs.Copying.{default_sector, own_layout}
 use Rattle.ffs_image.proofs.Devices.{reported_length, faulted_there}
 use Rattle.ffs_layout.proofs.superblock.read_super.Goals as goal
@@ -37,9 +37,7 @@ returns-in_default-clause-answer g c =
     )
 
 pub returns-in_err-geometry-clause-inside_or_unreadable : goal.returns-in_err-geometry-clause-inside_or_unreadable
-returns-in_err-geometry-clause-inside_or_unreadable g c =
-    let p = err_from_is_err_and c.from_residual-in_err-geometry.result c.from_residual-in_err-geometry.ensures.1 in
-    rw (p.1, p.2) (λ at e. absurd (no_read_fault _ _ at (c.in_err-geometry.ensures ∙ ap Some e)))
+returns-in_err-geometry-clause-inside_or_unreadable g c = grind (arith, no_read_fault)
 
 pub returns-in_err-geometry-clause-answer : goal.returns-in_err-geometry-clause-answer
 returns-in_err-geometry-clause-answer g c =
@@ -55,50 +53,10 @@ returns-in_err-geometry-clause-answer g c =
     ))
 
 pub returns-in_err-check_copy-clause-answer : goal.returns-in_err-check_copy-clause-answer
-returns-in_err-check_copy-clause-answer g c =
-    let p = err_from_is_err_and c.from_residual-in_err-check_copy.result c.from_residual-in_err-check_copy.ensures.1 in
-    let copy = c.in_ok-read_superblock_bytes.ensures.copied in
-    let start = c.from-start.ensures ∙ c.unwrap_or.ensures ∙ default_sector c.args.sector in
-    let long = reported_length _ _ (g.met.I.Image.sized c.args.image.now) in
-    let good = rw (c.decode.ensures, c.size.ensures, copy.same) at c.in_ok-geometry.ensures.fault in
-    let fault_of_copy = rw copy.same at c.in_err-check_copy.ensures.compared in
-    rw (p.1, p.2) (elim fault_of_copy [
-      | inl unread ↦ inl (
-        (unread.fault ∙ ap CannotRead (sym unread.failed.failed_sector), faulted_there _ _ _ unread.failed),
-        λ b e.
-            inr (
-              unread.compared,
-              copy_sector _ _ c.args.sector _ long start _ copy.inside copy.bytes _
-                  (sym c.in-Some.ensures) good _ refl _ unread.failed.failed_sector b e,
-            ),
-      )
-      | inr differs ↦ inr (
-        differs.same,
-        λ b e.
-            sym (disagree _ _ c.args.sector _ long start _ copy.inside copy.bytes _
-            (sym c.in-Some.ensures) good differs.differs b e
-            ∙ ap Err (sym differs.fault)),
-      )
-    ])
+returns-in_err-check_copy-clause-answer g c = grind (arith, disagree)
 
 pub returns-clause-inside_or_unreadable : goal.returns-clause-inside_or_unreadable
-returns-clause-inside_or_unreadable g c =
-    let copy = c.in_ok-read_superblock_bytes.ensures.copied in
-    let inside = rw (c.size.ensures, copy.same) at c.in_ok-geometry.ensures.in_image in
-    rw (ap (λ s. s.layout) c.make_super.ensures) inside
+returns-clause-inside_or_unreadable g c = grind arith
 
 pub returns-clause-answer : goal.returns-clause-answer
-returns-clause-answer g c =
-    let copy = c.in_ok-read_superblock_bytes.ensures.copied in
-    let start = c.from-start.ensures ∙ c.unwrap_or.ensures ∙ default_sector c.args.sector in
-    let long = reported_length _ _ (g.met.I.Image.sized c.args.image.now) in
-    let good = rw (c.decode.ensures, c.size.ensures, copy.same) at c.in_ok-geometry.ensures.fault in
-    let compared = rw copy.same at c.in_ok-check_copy.ensures.compared in
-    inr (
-      compared.same,
-      λ b e.
-          sym (accepted _ _ c.args.sector _ long start _ copy.inside copy.bytes _
-          (sym c.in-Some.ensures) good compared.agrees b e
-          ∙ ap Ok (sym (c.make_super.ensures
-          ∙ own_layout _ _ _ (c.in_ok-geometry.ensures.layout ∙ c.decode.ensures)))),
-    )
+returns-clause-answer g c = grind (arith, accepted, own_layout)
