@@ -16,7 +16,7 @@ use Rattle.ffs_volume.specs.Directories.{PathnameCheck.{continues_after_root, pa
 use Rattle.ffs_volume.specs.Report.DirectoryReads.{directory_cost, noted_costs, is_looked_at, phase2_cost}
 use Rattle.ffs_survey.proofs.Costs.{costs_part}
 use Rattle.ffs_names.proofs.Limits.{costs_within, noted_within}
-use Rattle.ffs_check.specs.Phases.{after_phase2, from_phase1b, from_phase2, from_phase4, from_phase5}
+use Rattle.ffs_check.proofs.RestOfText.{after_phase2, from_phase1b, from_phase2, from_phase4, from_phase5}
 use Rattle.ffs_volume.specs.Report.Whole.{phase1_messages, rescan_lines, phase2_messages, phase3_messages, phase4_messages}
 
 -- each Run that is seen is counted

@@ -27,7 +27,7 @@
 -- The check: `Moment`, `Ends` and `Headline` are the first clause. `Failures` says how many reads and writes failed,
 -- `Taken` what is taken of the memory, `Reads` how often the image is read, and `Costs` the last two of any image.
 --
--- Its parts: `Opening` is about the text before the phases; `Phases` has the texts of the phases, what phase 1b leaves
+-- Its parts: `Opening` is about the text before the phases; `Phases` has what phase 1b leaves
 -- and reads, and what a workspace answers after a check; `PhaseEnds` is about all phases, and about what follows an
 -- accepted superblock (FollowsAccepted of `check_accepted`).
 --

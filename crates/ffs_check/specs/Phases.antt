@@ -1,5 +1,4 @@
--- The parts of the text after the opening, as the calls that report them are nested, what is known of
--- the image's bytes there, what phase 1b does, and what a workspace answers then.
+-- What is known of the image's bytes after phase 1, what phase 1b does, and what a workspace answers then.
 use Rattle.std.specs.Prelude.{ℕ, ◌≡◌, ◌⊎◌, ◌≤◌, ◌+◌, Bool, false, if◌then◌else◌, List, [], ◌∷◌, ◌++◌, map, Result, OnOk}
 use Rattle.ffs_image.specs.Device.{Device}
 use Rattle.ffs_report.specs.{Known.{ForBytes, IsContents}, declared.fault.RunFault.RunFault}
@@ -11,30 +10,6 @@ use Rattle.ffs_volume.specs.Report.Whole.{phase1_messages, rescan_lines, phase2_
 use Rattle.ffs_volume.specs.Report.{Whole.{run_count, summary_messages}, VolumeReads.rescan_reads}
 use Rattle.ffs_workspace.specs.{declared.workspace.Workspace.Workspace, Holds.HoldsClaims, Ready.IsReady}
 use Rattle.ffs_claims.specs.Phases.{IsLeftByPhase1}
-
--- phase 5 and the summary
-abbrev pub from_phase5 : List ℕ → Superblock → List Message
-from_phase5 bytes s = phase5_messages bytes s ++ summary_messages bytes s
-
--- phases 4 and 5 and the summary
-abbrev pub from_phase4 : List ℕ → Superblock → List Message
-from_phase4 bytes s = phase4_messages s.layout bytes ++ from_phase5 bytes s
-
--- phases 3 to 5 and the summary
-abbrev pub from_phase3 : List ℕ → Superblock → List Message
-from_phase3 bytes s = phase3_messages s.layout bytes ++ from_phase4 bytes s
-
--- the same, where the check continues after the root
-abbrev pub after_phase2 : Bool → List ℕ → Superblock → List Message
-after_phase2 goes bytes s = if goes then from_phase3 bytes s else []
-
--- phase 2 and what follows it
-abbrev pub from_phase2 : List ℕ → Superblock → List Message
-from_phase2 bytes s = phase2_messages s.layout bytes ++ after_phase2 (continues_after_root (volume_of s.layout bytes)) bytes s
-
--- phase 1b, where it runs, and what follows it
-abbrev pub from_phase1b : List ℕ → Superblock → List Message
-from_phase1b bytes s = rescan_lines s.layout bytes ++ from_phase2 bytes s
 
 -- the image gives the bytes, and the workspace is left by phase 1: `WithPhase1` and more
 abbrev pub WithLeftByPhase1 : Layout → Device → Workspace → List ℕ → Type 0

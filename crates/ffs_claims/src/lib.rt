@@ -10,6 +10,12 @@
 //! if workspace.has_dups() { phase1b(&geometry, &mut image, &mut workspace, &mut report)?; }
 //! ```
 //!
+//! Phase 1 is in `pass1`: `reserve` begins the map with the reserved fragments, `claim` goes over an
+//! inode's steps, `words` claims addresses of which nothing is to be reported, `offer` takes the Runs
+//! of the other steps, by the `area` that each lies in, `store` keeps what is found of an inode, and
+//! `zero` passes over inodes of zero bytes. Phase 1b is in `pass1b`, and `report_offer` reports its
+//! DUP lines. `lines` has the lines of both.
+//!
 //! It rests on `ffs_workspace` and `ffs_report`.
 #![tactic(auto)]
 

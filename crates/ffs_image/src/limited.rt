@@ -14,14 +14,21 @@ use std::snapshot::Snapshot;
 /// its bytes ask for. So a caller that finds the limit spent (`is_spent`) answers `Ok` with what it
 /// has: bytes that stay never lead there, as its proof shows (`served` of `proofs/Limits.antt`).
 pub struct LimitedImage<'a, I: Image> {
+    /// The image that is read.
     below: &'a mut I,
+    /// What it was when it was lent, for contracts alone: at run time a snapshot has no bytes.
     begins: Snapshot<I>,
+    /// How many reads may be made: for contracts alone.
     limit: u64,
+    /// How many of them are left.
     left: u64,
+    /// Whether a read was refused, since none was left.
     spent: bool,
+    /// Whether a read of the image below failed.
     failed: bool,
     /// Where the read below failed, if one did.
     below_failed_sector: u64,
+    /// How many reads of this image failed or were refused.
     failures: u64,
     /// Where the last read of this image failed or was refused.
     failed_sector: u64,

@@ -19,7 +19,8 @@ pub struct OpenedFile<F: RawFile> {
     ghost sized: { ForContents (F.contents file) (λ bytes. length bytes ≡ size) },
 }
 
-/// Reads a file at a place, and again where a signal interrupts that.
+/// Reads a file at a place, and again where a signal interrupts that. The bound of the loop is one
+/// that no run reaches: with it the call is proved to end.
 fn read_uninterrupted<F: RawFile>(file: &mut F, buf: &mut [u8], at: u64) -> io::Result<usize>
     ensures gives { GivesBytes (F.contents file.old) (F.contents file.new) at buf.new result }
     ensures tried { IsTriedAgain (λ old. F.was_read old at (length buf.old)) file.old file.new

@@ -9,7 +9,7 @@ use Rattle.ffs_volume.specs.Directories.{Roles.{is_dir, roled_chunk, roled_entri
 use Rattle.ffs_volume.specs.{Directories.Volumes.{is_inode_number, volume_of, volume_with}, Disk.Areas.is_run_in_range}
 use Rattle.ffs_volume.specs.Encodings.{Kinds.{kind_at, dir_at}, Replay.{cut_at, fresh_replay, replayed_steps}}
 use Rattle.ffs_volume.specs.{Laws.Geometry.IsAcceptedLayout, Directories.Calm.{is_right_shape, is_right_size}}
-use Rattle.ffs_survey.specs.SurveyLaws.{dirs_of_kinds}
+use Rattle.ffs_survey.proofs.SurveyLaws.{dirs_of_kinds}
 use Rattle.ffs_names.specs.RunCursors.{reading_by}
 
 class_by : Bool → Bool → Bool → Bool → Class

@@ -9,7 +9,8 @@ use Rattle.ffs_volume.specs.{Encodings.Links.start_at, Blocks.Inodes.inodes_of, 
 use Rattle.ffs_workspace.specs.Holds.{HoldsClaims, HoldsReferences, HoldsTree}
 use Rattle.ffs_workspace.{proofs.Leaving.counts_surveyed, specs.Leaves.LeavesBlockCheck}
 use Rattle.ffs_workspace.specs.declared.workspace.Workspace.{Workspace}
-use Rattle.ffs_survey.specs.{Calm.AreCalm, SurveyLaws.references_is, Survey.{graph_with, most_start, references_to}}
+use Rattle.ffs_survey.specs.{Calm.AreCalm, Survey.{graph_with, most_start, references_to}}
+use Rattle.ffs_survey.proofs.SurveyLaws.{references_is}
 use Rattle.ffs_survey.specs.Survey.{IsSurvey}
 use Rattle.ffs_names.{specs.{Readers.{Base, dir_entries, dir_right_shape}, Surveys.FlagsOnlyCalm}, proofs.DirLaws.kind_dirs}
 use Rattle.ffs_names.proofs.SameGraphs.{survey_same}

@@ -4,7 +4,7 @@ use Rattle.std.proofs.{Common.{arith, Option, Result, sym, ◌∙◌, true}, Mat
 use Rattle.ffs_image.specs.declared.image.ImageFault.{ImageFault}
 use Rattle.ffs_volume.specs.Directories.{Graph.{Graph, level}, Paths.joined, Parents.graph_of, Volumes.volume_of}
 use Rattle.ffs_volume.{specs.{declared.Layout.Layout, Encodings.Places.IsNoted}, proofs.LevelLaws.reached-level}
-use Rattle.ffs_survey.specs.ParentLaws.{root_level}
+use Rattle.ffs_survey.proofs.ParentLaws.{root_level}
 use Rattle.ffs_workspace.specs.{Found.WithSurvey, Holds.{bool_at, HoldsSurvey}, declared.workspace.Workspace.Workspace}
 use Rattle.ffs_paths.specs.{Buffers.HoldsNames, Climbing.IsParentOf, Reads.{ForTree, KnowsPlaces, names_to, OnlyReads}}
 use Rattle.ffs_paths.{specs.Reads.{EachTakesAtMost, PathMoment, ReadsFew, ReadsNames}, proofs.LongestEnds.joined-length}

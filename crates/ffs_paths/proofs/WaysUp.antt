@@ -12,7 +12,7 @@ use Rattle.ffs_paths.{proofs.NoSlashes.down_single, specs.{Buffers.HoldsNames, D
 use Rattle.ffs_paths.specs.{KeptParents.{IsKeptParent, LeadsTo}, NameTexts.name_bytes, Slashes.HaveNoSlash}
 use Rattle.ffs_paths.specs.declared.{buffer.PathBuffer.PathBuffer, kept_parent.KeptParent.KeptParent}
 use Rattle.ffs_paths.specs.declared.path.DirectoryPath.{DirectoryPath}
-use Rattle.ffs_survey.specs.ParentLaws.{parent_above, root_level}
+use Rattle.ffs_survey.proofs.ParentLaws.{parent_above, root_level}
 use Rattle.ffs_workspace.{proofs.PlaceLaws.name_in-cons, specs.Holds.HoldsSurvey}
 use Rattle.ffs_workspace.specs.declared.workspace.Workspace.{Workspace}
 

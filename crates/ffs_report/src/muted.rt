@@ -45,7 +45,8 @@ fn error_when_muted() -> io::Error
     io::Error::from(ErrorKind::BrokenPipe)
 }
 
-/// One write, tried again where a signal interrupts it.
+/// One write, tried again where a signal interrupts it. The bound of the loop is one that no run
+/// reaches: with it the call is proved to end.
 fn write_uninterrupted<S: Outlet>(inner: &mut S, buf: &[u8]) -> io::Result<usize>
     ensures { AnswersWrite S.contents (λ old piece answer new. IsTriedAgain
         (λ writer. S.was_written writer piece) old new answer) inner.old inner.new buf.now result }

@@ -14,7 +14,7 @@ use Rattle.ffs_survey.specs.Calm.{dir_by, AreUnread, IsReadOnce, IsUnread}
 use Rattle.ffs_volume.specs.Directories.Calm.{is_calm_by_parents, is_elsewhere}
 use Rattle.ffs_survey.specs.Discover.{bit, from_entries, occurrences, IsFrontier, LevelsKnown}
 use Rattle.ffs_survey.proofs.Remaining.{nothing, SameResult}
-use Rattle.ffs_survey.specs.{ParentLaws.{parent_above, root_level}, Survey.{bool_at, graph_with, number_at}}
+use Rattle.ffs_survey.{proofs.ParentLaws.{parent_above, root_level}, specs.Survey.{bool_at, graph_with, number_at}}
 use Rattle.ffs_volume.specs.Encodings.Kinds.{dir_at}
 use Rattle.ffs_survey.proofs.{CalmLaws.{Stays, all_calm, same_result_stays}, Discovered.{bit-le, set_tests}}
 use Rattle.ffs_survey.proofs.Frontiers.{bit-one, occurrences-at, occurrences-cons}

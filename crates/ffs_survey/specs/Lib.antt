@@ -14,9 +14,6 @@
 -- the lists, `Calm` about the directories that are flagged; `Levels` puts these together (FindsSurvey); `Lent` says
 -- the same of the lists as they are lent to a call (Lists, FoundLists), and what the calls within a survey need and
 -- leave.
---
--- `SurveyLaws` and `ParentLaws` are laws for the proofs of the crates above, and no contract cites them: that a
--- survey by the kinds and marks of a volume is one of the volume, and that a parent is one level nearer to inode 2.
 pub mod Survey
 pub mod Reading
 pub mod Costs
@@ -26,5 +23,3 @@ pub mod Lists
 pub mod Calm
 pub mod Levels
 pub mod Lent
-pub mod SurveyLaws
-pub mod ParentLaws

@@ -6,8 +6,10 @@
 --
 -- Words. What the letters mean, such as `v` and `s`, is in docs/ARCHITECTURE.md, "How a contract is
 -- read". The root is inode 2. A place is an offset in bytes, an index counts from 0, and an address
--- is the number of a fragment. A line is a message of the report (folder Messages): a definition
--- with `lines` in its name gives a list of messages.
+-- is the number of a fragment. A line is a message of the report (folder Messages). A definition with
+-- `lines` in its name gives a list of them, of the type of its folder: BlockMessage in Blocks and
+-- Groups, TreeMessage in Directories, Message in Report; in Find, whose lines are those of `ffs_find`,
+-- the bytes of each.
 --
 -- Definitions. `abbrev` and `unfoldable` both begin one. Which of them it is, and a line `unfolding`,
 -- matter to proofs alone. The first line of a definition gives its type, and its equations follow, by
