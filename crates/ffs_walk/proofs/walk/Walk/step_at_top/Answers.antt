@@ -20,27 +20,27 @@ returns-then-block-lt-NDADDR c =
     (top_falls _ _ _ _ _ _ _ _ _ (omega arith) (omega (arith, most_below _ w.geometry.sound)))
     (record { geometry = refl; blocks = refl }) (enters_none _ _ _ refl refl refl)
 
-pub returns-in-SINGLE : goal.returns-in-SINGLE
+pub returns-in-12 : goal.returns-in-12
 unfolding steps_at
-returns-in-SINGLE c =
+returns-in-12 c =
     let w = c.args.self.now in
     let enters = c.enter-step.ensures in
     top_gives _ _ _ (omega arith) (λ bytes.
     let none = no_rests bytes w c.requires in
-    top_next bytes w 1 12 _ _ (omega arith) c.requires (omega arith) (rw c.in-SINGLE.is refl)
+    top_next bytes w 1 12 _ _ (omega arith) c.requires (omega arith) (rw c.in-12.is refl)
     (enters.steps bytes (steps_at (file_blocks_of w) bytes 0)) ∙ rw (none.1, none.2) refl) (search rules)
     (top_falls _ _ _ _ _ _ _ _ _ (omega arith) (omega (arith, most_below _ w.geometry.sound, enters.left 1)))
     (record { geometry = refl; blocks = refl }) (enters_single _ _ _ _ enters.counted refl refl refl)
 
-pub returns-in-DOUBLE : goal.returns-in-DOUBLE
+pub returns-in-13 : goal.returns-in-13
 unfolding steps_at
-returns-in-DOUBLE c =
+returns-in-13 c =
     let w = c.args.self.now in
-    let enters = c.enter-step-in-DOUBLE.ensures in
+    let enters = c.enter-step-in-13.ensures in
     top_gives _ _ _ (omega arith) (λ bytes.
     let none = no_rests bytes w c.requires in
     let made = rw c.from-words.ensures at (enters.steps bytes (steps_at (file_blocks_of w) bytes 1)) in
-    top_next bytes w 2 _ _ _ (omega arith) c.requires (omega arith) (rw c.in-DOUBLE.is refl) made
+    top_next bytes w 2 _ _ _ (omega arith) c.requires (omega arith) (rw c.in-13.is refl) made
     ∙ rw (none.0, none.2) refl) (search rules) (top_falls _ _ _ _ _ _ _ _ _ (omega arith)
     (omega (arith, most_below _ w.geometry.sound, enters.left (most_at w.geometry.layout.nindir 1))))
     (record { geometry = refl; blocks = refl }) (enters_double _ _ _ _ enters.counted refl refl refl)
