@@ -31,7 +31,7 @@ pub record ReportsHeader {T : Type 0} (v : Layout) (h : HeaderFacts) (old new : 
 -- what is asked of a call for a directory: what it may know of the bytes, how often it reads the directory's
 -- own blocks at most, the lines that it says, and what holds of its answer then. The calls that are asked so:
 --
---   check_if_needed        all lines, in two readings. What is remembered of names is right then, and places are noted
+--   check_if_needed    all lines, in two readings. What is remembered of names is right then, and places are noted
 --   check_directory    the same of a directory that isn't of size 0; of noted places nothing is said
 --   begin_directory    the first look, one reading, and the lines before the entries. Then: what the look found, stamps
 --   report_directory   the second reading: the Runs of a known inode, the lines of the entries. Then these are passed
