@@ -23,8 +23,8 @@ not_needed k sized marked calm flag old s c f h = grind (arith, nat_tests)
 pub looked_at_first : (v : Layout) (b : List ℕ) (old w : Workspace) → HoldsClaims v b old → FlagsEachCalm v b old →
     IsNonePassed old w → ChecksLookedAt v b w
 looked_at_first v b old w claims flags none d h =
-    let kinds : slice_index w.kinds.items d ≡ slice_index old.kinds.items d = rw none.survey.kinds refl in
-    let marks : bool_at w.marked.items d ≡ bool_at old.marked.items d = rw none.survey.marked refl in
+    let kinds : slice_index w.kinds.items d ≡ slice_index old.kinds.items d = rw none.survey.findings.block_check.kinds refl in
+    let marks : bool_at w.marked.items d ≡ bool_at old.marked.items d = rw none.survey.findings.block_check.marked refl in
     let sized = looked_is v b d in
     let kind = claims.kinds d in
     let mark = claims.marked d in

@@ -1,9 +1,8 @@
 -- What the check of directories leaves of what was found before it.
 use Rattle.std.proofs.Common.{◌≡◌, ◌∙◌, ℕ, List, Result, Ok, Err, OnErr, ap, arith, refl}
 use Rattle.ffs_volume.specs.declared.Layout.{Layout}
-use Rattle.ffs_workspace.specs.{declared.workspace.Workspace.Workspace, Holds.HoldsClaims, Leaves.LeavesSurvey}
-use Rattle.ffs_workspace.proofs.Leaving.{block_check_kept, block_check_left, block_check_more, counts_same, queue_leaves}
-use Rattle.ffs_pathnames.specs.DirectoryLines.{LeavesFindings}
+use Rattle.ffs_workspace.specs.{declared.workspace.Workspace.Workspace, Leaves.LeavesFindings}
+use Rattle.ffs_workspace.proofs.Leaving.{block_check_kept, block_check_more, queue_leaves}
 
 pub findings_kept : (w : Workspace) → LeavesFindings w w
 findings_kept w = record {
@@ -26,16 +25,6 @@ findings_more a b c s t = record {
   parents = t.parents ∙ s.parents;
 }
 
-pub findings_left : (old new : Workspace) → LeavesSurvey old new → LeavesFindings old new
-findings_left old new s = record {
-  block_check = block_check_left old new s;
-  references = s.references;
-  surveyed = s.surveyed;
-  named = s.named;
-  reached = s.reached;
-  parents = s.parents;
-}
-
 -- where only the windows and the places that are noted have changed
 pub findings_noted : (old new : Workspace) → new ≡ record old { windows = new.windows; queue = new.queue } →
     LeavesFindings old new
@@ -47,12 +36,6 @@ findings_noted old new e = record {
   reached = ap (λ (w : Workspace). w.reached) e;
   parents = ap (λ (w : Workspace). w.parents) e;
 }
-
--- the claims are held still
-pub findings_claims : (v : Layout) (b : List ℕ) (old new : Workspace) → LeavesFindings old new →
-    HoldsClaims v b old → HoldsClaims v b new
-findings_claims v b old new s h =
-    let counts = counts_same v b old new s.references s.surveyed s.named s.reached s.parents h.counts in grind arith
 
 -- what holds in any case holds at an error
 pub at_error : {T E P : Type 0} (r : Result T E) → P → OnErr r P

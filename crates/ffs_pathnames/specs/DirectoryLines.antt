@@ -8,7 +8,7 @@ use Rattle.ffs_volume.specs.{Report.Reads.sweep_reads, Messages.Kinds.{TreeMessa
 use Rattle.ffs_volume.specs.Report.DirectoryReads.{directories_cost, directory_cost, directory_runs, looks_cost}
 use Rattle.ffs_volume.specs.{Report.DirectoryReads.places_cost, Encodings.Places.AreNoted}
 use Rattle.ffs_paths.specs.declared.kept_parent.KeptParent.{KeptParent}
-use Rattle.ffs_workspace.specs.{Holds.{HoldsClaims, HoldsSurvey}, Leaves.LeavesBlockCheck, Ready.CanRead}
+use Rattle.ffs_workspace.specs.{Holds.{HoldsClaims, HoldsSurvey}, Leaves.LeavesFindings, Ready.CanRead}
 use Rattle.ffs_workspace.specs.declared.workspace.Workspace.{Workspace}
 use Rattle.ffs_pathnames.specs.{ChecksNeeded.ChecksLookedAt, Before.IsBefore, Gathers.passed_of, LineReads.again_reads}
 use Rattle.ffs_pathnames.specs.{LineReads.ReadsByLines, DirectoryContext.KnowsHeader, HeaderValues.facts_lines}
@@ -31,7 +31,7 @@ pub record ReportsHeader {T : Type 0} (v : Layout) (h : HeaderFacts) (old new : 
 -- what is asked of a call for a directory: what it may know of the bytes, how often it reads the directory's
 -- own blocks at most, the lines that it says, and what holds of its answer then. The calls that are asked so:
 --
---   check_inode        all lines, in two readings. What is remembered of names is right then, and places are noted
+--   check_if_needed    all lines, in two readings. What is remembered of names is right then, and places are noted
 --   check_directory    the same of a directory that isn't of size 0; of noted places nothing is said
 --   begin_directory    the first look, one reading, and the lines before the entries. Then: what the look found, stamps
 --   report_directory   the second reading: the Runs of a known inode, the lines of the entries. Then these are passed
@@ -54,16 +54,6 @@ pub record ReportsDirectory {T : Type 0} (v : Layout) (task : DirectoryTask T) (
       (new.at.reads + new.kept.reads_left) result
   pub holds : IfOk result (λ x. ForBytes task.knows (task.after x))
   pub leaves : PhaseLeaves v old.at new.at new.kept.texts.kept_parent result
-
--- what the block check and the survey found is as it was, but for places of parent entries, of which some may be
--- noted, and `flags`
-pub record LeavesFindings (old new : Workspace) : Type 0 where
-  pub block_check : LeavesBlockCheck old new
-  pub references : new.references ≡ old.references
-  pub surveyed : new.surveyed ≡ old.surveyed
-  pub named : new.named ≡ old.named
-  pub reached : new.reached ≡ old.reached
-  pub parents : new.parents ≡ old.parents
 
 -- these lines of all directories are said, by what is known of the bytes. Each directory's own blocks are
 -- read thrice at most, for the places of its children, for a first look and for a second reading, and the

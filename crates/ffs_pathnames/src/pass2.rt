@@ -13,7 +13,7 @@ ghost use Rattle.ffs_volume.specs.Messages.Kinds as messages;
 
 use crate::inodes::Inodes;
 use crate::say::{LineIf, Phase2Line, say_if, say_line};
-use crate::tree::check_inodes;
+use crate::tree::check_directories;
 use ffs_image::Image;
 use ffs_layout::Geometry;
 use ffs_memory::FilledList;
@@ -164,7 +164,7 @@ fn check_tree<I: Image, W: Output>(
     match root_of(kind) {
         Root::Stop => Ok(Root::Stop),
         Root::Go => {
-            check_inodes(geometry, image, workspace, report)?;
+            check_directories(geometry, image, workspace, report)?;
             Ok(Root::Go)
         }
     }

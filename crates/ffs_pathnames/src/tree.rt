@@ -32,7 +32,7 @@ use ffs_workspace::{Workspace, sweep_reads};
 /// # Errors
 /// A read of the image that failed, and a write of the report that failed.
 #[tactic(auto, using(std::proofs::lemmas::Bool::both_ways, ffs_volume::proofs::Sizes::some_inodes))]
-pub fn check_inodes<I: Image, W: Output>(
+pub fn check_directories<I: Image, W: Output>(
     geometry: &Geometry,
     image: &mut I,
     workspace: &mut Workspace,
@@ -59,7 +59,7 @@ pub fn check_inodes<I: Image, W: Output>(
         reads_left: 2 * sweep_reads(geometry),
     };
     for number in first..count {
-        check_inode(geometry, image, workspace, &mut checking, number, report)?;
+        check_if_needed(geometry, image, workspace, &mut checking, number, report)?;
     }
     Ok(())
 }
@@ -109,8 +109,8 @@ fn needs_check(workspace: &Workspace, number: u32) -> bool
     (workspace.kinds[index] == DT_DIR) & (workspace.marked[index] | !workspace.flags[index])
 }
 
-/// Prints the lines of an inode as a directory, and of its entries.
-fn check_inode<I: Image, W: Output>(
+/// Prints the lines of an inode as a directory, and of its entries, where it needs a check.
+fn check_if_needed<I: Image, W: Output>(
     geometry: &Geometry,
     image: &mut I,
     workspace: &mut Workspace,

@@ -3,7 +3,7 @@ use Rattle.std.{proofs.{Common.{arith, ◌≡◌, ℕ, List, false, true}, lemma
 use Rattle.ffs_volume.specs.{declared.Layout.Layout, Encodings.Links.start_at}
 use Rattle.ffs_workspace.specs.{declared.workspace.Workspace.Workspace, Holds.{HoldsClaims, HoldsCounts, HoldsFindings, HoldsPhase1}}
 use Rattle.ffs_workspace.specs.Holds.{HoldsReferences, HoldsSurvey, HoldsTree, IsFresh}
-use Rattle.ffs_workspace.specs.Leaves.{LeavesBlockCheck, LeavesSurvey}
+use Rattle.ffs_workspace.specs.Leaves.{LeavesBlockCheck, LeavesFindings, LeavesSurvey}
 
 pub leaves_all : (w : Workspace) → LeavesSurvey w w
 leaves_all w = grind arith
@@ -11,10 +11,6 @@ leaves_all w = grind arith
 -- what two calls leave
 pub leaves_more : (a b c : Workspace) → LeavesSurvey a b → LeavesSurvey b c → LeavesSurvey a c
 leaves_more a b c s t = grind arith
-
--- with the survey, what the block check left stays, too
-pub block_check_left : (old new : Workspace) → LeavesSurvey old new → LeavesBlockCheck old new
-block_check_left old new s = grind arith
 
 pub block_check_kept : (w : Workspace) → LeavesBlockCheck w w
 block_check_kept w = grind arith
@@ -71,10 +67,14 @@ counts_same v b old new references surveyed named reached parents h = (
   ),
 )
 
+pub findings_claims : (v : Layout) (b : List ℕ) (old new : Workspace) → LeavesFindings old new →
+    HoldsClaims v b old → HoldsClaims v b new
+findings_claims v b old new s h =
+    let counts = counts_same v b old new s.references s.surveyed s.named s.reached s.parents h.counts in grind arith
+
 pub claims_left : (v : Layout) (b : List ℕ) (old new : Workspace) → LeavesSurvey old new → HoldsClaims v b old →
     HoldsClaims v b new
-claims_left v b old new s h =
-    let counts = counts_same v b old new s.references s.surveyed s.named s.reached s.parents h.counts in grind arith
+claims_left v b old new s h = findings_claims v b old new s.findings h
 
 pub survey_left : (v : Layout) (b : List ℕ) (old new : Workspace) → LeavesSurvey old new → HoldsSurvey v b old →
     HoldsSurvey v b new

@@ -15,20 +15,17 @@ pub record LeavesBlockCheck (old new : Workspace) : Type 0 where
   pub runs_seen : new.runs_seen ≡ old.runs_seen
   pub runs_again : new.runs_again ≡ old.runs_again
 
--- what the block check and the survey of directories left is as it was, but for `flags`, and each place
--- that is noted is right where each one was
-pub record LeavesSurvey (old new : Workspace) : Type 0 where
-  pub used : new.used ≡ old.used
-  pub duplicates : new.duplicates ≡ old.duplicates
-  pub has_dups : new.has_dups ≡ old.has_dups
-  pub kinds : new.kinds ≡ old.kinds
-  pub marked : new.marked ≡ old.marked
-  pub notes : new.notes ≡ old.notes
+-- so is what the survey of directories found, but for the places of parent entries, of which some may be
+-- noted, and `flags`
+pub record LeavesFindings (old new : Workspace) : Type 0 where
+  pub block_check : LeavesBlockCheck old new
   pub references : new.references ≡ old.references
+  pub surveyed : new.surveyed ≡ old.surveyed
   pub named : new.named ≡ old.named
   pub reached : new.reached ≡ old.reached
   pub parents : new.parents ≡ old.parents
-  pub surveyed : new.surveyed ≡ old.surveyed
-  pub runs_seen : new.runs_seen ≡ old.runs_seen
-  pub runs_again : new.runs_again ≡ old.runs_again
+
+-- and each place that is noted is right where each one was
+pub record LeavesSurvey (old new : Workspace) : Type 0 where
+  pub findings : LeavesFindings old new
   pub places : (v : Layout) (b : List ℕ) → ArePlaces v b old.queue.items → ArePlaces v b new.queue.items

@@ -5,7 +5,7 @@ use Rattle.ffs_workspace.specs.{Holds.HoldsClaims, Ready.CanRead, declared.works
 use Rattle.ffs_pathnames.proofs.Findings.{findings_kept}
 use Rattle.ffs_pathnames.{specs.Before.{IsBefore, root_reported}, proofs.{LineCounts.lines_long, Carrying.goes_is}}
 use Rattle.ffs_pathnames.proofs.Carrying.{root_kind_is, root_marked_is, tree_is, tree_lines}
-use Rattle.ffs_pathnames.proofs.pass2.check_tree.{Given.Over, Goals.{After-report_root, After-check_inodes}}
+use Rattle.ffs_pathnames.proofs.pass2.check_tree.{Given.Over, Goals.{After-report_root, After-check_directories}}
 use Rattle.ffs_pathnames.specs.{DirectoryLines.ReportsTree, Moments.PathMoment, RootAnswers.AnswersRoot}
 use Rattle.ffs_pathnames.{proofs.Begun.image_same, specs.{declared.pass2.Root.Root, ChecksNeeded.ChecksLookedAt}}
 use Rattle.ffs_volume.specs.Report.DirectoryReads.{directories_cost, looks_cost, places_cost}
@@ -50,41 +50,41 @@ pub returns-in-Stop-clause-root : goal.returns-in-Stop-clause-root
 returns-in-Stop-clause-root g c = λ b k.
     c.in-Stop.ensures ∙ goes g (goal.at.returns-in-Stop-clause-root g c).After-report_root b k
 
-pub returns-in_err-check_inodes-in-Go-clause-root : goal.returns-in_err-check_inodes-in-Go-clause-root
-returns-in_err-check_inodes-in-Go-clause-root g c =
-    let at = (goal.at.returns-in_err-check_inodes-in-Go-clause-root g c).After-report_root in
-    let p = err_from_is_err_and c.from_residual-in_err-check_inodes-in-Go.result
-    c.from_residual-in_err-check_inodes-in-Go.ensures.1 in
-    rw (p.1, p.2) (read_where_goes (g.I.Image.device c.args.image.now) c.in_err-check_inodes-in-Go.field-0.0
+pub returns-in_err-check_directories-in-Go-clause-root : goal.returns-in_err-check_directories-in-Go-clause-root
+returns-in_err-check_directories-in-Go-clause-root g c =
+    let at = (goal.at.returns-in_err-check_directories-in-Go-clause-root g c).After-report_root in
+    let p = err_from_is_err_and c.from_residual-in_err-check_directories-in-Go.result
+    c.from_residual-in_err-check_directories-in-Go.ensures.1 in
+    rw (p.1, p.2) (read_where_goes (g.I.Image.device c.args.image.now) c.in_err-check_directories-in-Go.field-0.0
     (λ b k. sym (c.in-Go.ensures ∙ goes g at b k)))
 
-pub returns-in_ok-check_inodes-in-Go-clause-root : goal.returns-in_ok-check_inodes-in-Go-clause-root
-returns-in_ok-check_inodes-in-Go-clause-root g c = λ b k.
-    c.in-Go.ensures ∙ goes g (goal.at.returns-in_ok-check_inodes-in-Go-clause-root g c).After-report_root b k
+pub returns-in_ok-check_directories-in-Go-clause-root : goal.returns-in_ok-check_directories-in-Go-clause-root
+returns-in_ok-check_directories-in-Go-clause-root g c = λ b k.
+    c.in-Go.ensures ∙ goes g (goal.at.returns-in_ok-check_directories-in-Go-clause-root g c).After-report_root b k
 
 -- the reads
-reads_few : (g : Over) (c : After-check_inodes g) (b : List ℕ) →
+reads_few : (g : Over) (c : After-check_directories g) (b : List ℕ) →
     map of_tree (pathname_lines (volume_of c.args.geometry.now.layout b))
     ≡ map of_tree (root_reported c.index-kind.result.now c.index-marked.result.now)
     ++ map of_tree (tree_lines c.args.geometry.now.layout b true) →
     IsBefore c.args.geometry.now.layout (g.I.Image.device c.args.image.now).contents c.args.workspace.now 2 b →
-    g.I.Image.reads c.check_inodes.new.image ≤ g.I.Image.reads c.args.image.now
+    g.I.Image.reads c.check_directories.new.image ≤ g.I.Image.reads c.args.image.now
     + (3 * directories_cost c.args.geometry.now.layout b
     + line_reads * length (pathname_lines (volume_of c.args.geometry.now.layout b)))
 reads_few g c b is k = search (arith, lines_long)
 
-looks_few : (g : Over) (c : After-check_inodes g) (b : List ℕ) →
+looks_few : (g : Over) (c : After-check_directories g) (b : List ℕ) →
     map of_tree (pathname_lines (volume_of c.args.geometry.now.layout b))
     ≡ map of_tree (root_reported c.index-kind.result.now c.index-marked.result.now)
     ++ map of_tree (tree_lines c.args.geometry.now.layout b true) →
     IsBefore c.args.geometry.now.layout (g.I.Image.device c.args.image.now).contents c.args.workspace.now 2 b →
     ChecksLookedAt c.args.geometry.now.layout b c.args.workspace.now →
-    g.I.Image.reads c.check_inodes.new.image ≤ g.I.Image.reads c.args.image.now
+    g.I.Image.reads c.check_directories.new.image ≤ g.I.Image.reads c.args.image.now
     + (places_cost c.args.geometry.now.layout b + looks_cost c.args.geometry.now.layout b
     + line_reads * length (pathname_lines (volume_of c.args.geometry.now.layout b)))
 looks_few g c b is k checks =
     let long = lines_long _ _ _ is in
-    let tree = c.check_inodes.ensures.tree.looks b k checks in
+    let tree = c.check_directories.ensures.tree.looks b k checks in
     omega (arith, tree, long)
 
 -- what is said, what is read for it, and what is left, where nothing is read
@@ -108,21 +108,21 @@ returns-in-Stop-clause-tree g c =
     only_said _ refl c.requires (of_says _ _ (λ b. []) _ _ _ _ _ (of_begins _ _ _)
     (λ b k. lines_are g at b false k.claims c.in-Stop.ensures) c.in_ok-report_root.ensures)
 
-pub returns-in_err-check_inodes-in-Go-clause-tree : goal.returns-in_err-check_inodes-in-Go-clause-tree
-returns-in_err-check_inodes-in-Go-clause-tree g c =
-    let at = goal.at.returns-in_err-check_inodes-in-Go-clause-tree g c in
-    let tree = c.in_err-check_inodes-in-Go.ensures.tree in
-    let fault = c.in_err-check_inodes-in-Go.field-0.0 in
-    let p = err_from_is_err_and c.from_residual-in_err-check_inodes-in-Go.result
-    c.from_residual-in_err-check_inodes-in-Go.ensures.1 in
+pub returns-in_err-check_directories-in-Go-clause-tree : goal.returns-in_err-check_directories-in-Go-clause-tree
+returns-in_err-check_directories-in-Go-clause-tree g c =
+    let at = goal.at.returns-in_err-check_directories-in-Go-clause-tree g c in
+    let tree = c.in_err-check_directories-in-Go.ensures.tree in
+    let fault = c.in_err-check_directories-in-Go.field-0.0 in
+    let p = err_from_is_err_and c.from_residual-in_err-check_directories-in-Go.result
+    c.from_residual-in_err-check_directories-in-Go.ensures.1 in
     rw (p.1, p.2) (record {
       text = of_fault (Unit {0}) (Unit {0}) _ _ _ (λ b. []) _ _ _ _ fault
           (of_says _ _ _ _ _ _ _ _ (of_begins _ _ _)
           (λ b k. lines_are g at.After-report_root b true k.claims c.in-Go.ensures) c.in_ok-report_root.ensures)
           (λ b k. sym (append-nil _)) tree.text;
-      reads = λ b k. reads_few g at.After-check_inodes b
+      reads = λ b k. reads_few g at.After-check_directories b
           (lines_are g at.After-report_root b true k.claims c.in-Go.ensures) k;
-      looks = λ b k. looks_few g at.After-check_inodes b
+      looks = λ b k. looks_few g at.After-check_directories b
           (lines_are g at.After-report_root b true k.claims c.in-Go.ensures) k;
       paid = paid_fault fault
           (paid_then (paid_said _ c.in_ok-report_root.ensures (omega arith)) tree.paid);
@@ -132,18 +132,18 @@ returns-in_err-check_inodes-in-Go-clause-tree g c =
       ready = tree.ready;
     })
 
-pub returns-in_ok-check_inodes-in-Go-clause-tree : goal.returns-in_ok-check_inodes-in-Go-clause-tree
-returns-in_ok-check_inodes-in-Go-clause-tree g c =
-    let at = goal.at.returns-in_ok-check_inodes-in-Go-clause-tree g c in
-    let tree = c.in_ok-check_inodes-in-Go.ensures.tree in
+pub returns-in_ok-check_directories-in-Go-clause-tree : goal.returns-in_ok-check_directories-in-Go-clause-tree
+returns-in_ok-check_directories-in-Go-clause-tree g c =
+    let at = goal.at.returns-in_ok-check_directories-in-Go-clause-tree g c in
+    let tree = c.in_ok-check_directories-in-Go.ensures.tree in
     record {
       text = of_part _ _ _ (λ b. []) _ _ _ _
           (of_says _ _ _ _ _ _ _ _ (of_begins _ _ _)
           (λ b k. lines_are g at.After-report_root b true k.claims c.in-Go.ensures) c.in_ok-report_root.ensures)
           (λ b k. sym (append-nil _)) tree.text;
-      reads = λ b k. reads_few g at.After-check_inodes b
+      reads = λ b k. reads_few g at.After-check_directories b
           (lines_are g at.After-report_root b true k.claims c.in-Go.ensures) k;
-      looks = λ b k. looks_few g at.After-check_inodes b
+      looks = λ b k. looks_few g at.After-check_directories b
           (lines_are g at.After-report_root b true k.claims c.in-Go.ensures) k;
       paid = paid_answer
           (paid_then (paid_said _ c.in_ok-report_root.ensures (omega arith)) tree.paid);

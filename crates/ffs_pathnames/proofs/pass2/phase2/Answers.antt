@@ -15,8 +15,8 @@ use Rattle.ffs_pathnames.proofs.ChecksNeededLaws.{looked_at_first}
 use Rattle.ffs_names.proofs.{DirCosts.noted_all_within, RunSums.costs_bounded}
 use Rattle.ffs_workspace.specs.{declared.workspace.Workspace.Workspace, Found.WithClaims, Holds.HoldsClaims}
 use Rattle.ffs_workspace.{specs.Holds.{HoldsReferences, HoldsSurvey}, proofs.Leaving.block_check_kept}
-use Rattle.ffs_workspace.proofs.Leaving.{block_check_left, block_check_more, claims_left}
-use Rattle.ffs_pathnames.proofs.Findings.{at_error, findings_claims}
+use Rattle.ffs_workspace.proofs.Leaving.{block_check_more, claims_left, findings_claims}
+use Rattle.ffs_pathnames.proofs.Findings.{at_error}
 use Rattle.ffs_pathnames.proofs.pass2.phase2.Goals as goal
 
 -- what is known before the first directory
@@ -95,7 +95,7 @@ returns-clause-leaves g c =
     ends_by v (g.I.Image.device c.args.image.now) (g.I.Image.device c.survey.new.image) _ c.clear_passed.new.workspace _
     _ _ c.check_tree.result
     (λ b k. before_tree g (goal.at.returns-clause-leaves g c).After-check_tree b k)
-    (λ b k. references_on v b _ _ (tree.findings.references ∙ c.clear_passed.ensures.survey.references)
+    (λ b k. references_on v b _ _ (tree.findings.references ∙ c.clear_passed.ensures.survey.findings.references)
     (c.in_ok-survey.ensures.survey b k).references) c.check_tree.ensures.root tree.holds
     (stop_after v (g.I.Image.device c.args.image.now) (g.I.Image.device c.survey.new.image) _ c.clear_passed.new.workspace
     _ _ _ c.check_tree.result (λ b k. before_tree g (goal.at.returns-clause-leaves g c).After-check_tree b k)
@@ -114,7 +114,7 @@ returns-in_err-survey-clause-block_check g c = c.survey.ensures.leaves.same
 pub returns-clause-block_check : goal.returns-clause-block_check
 returns-clause-block_check g c =
     let surveyed = block_check_more _ _ _ c.in_ok-survey.ensures.leaves.same
-    (block_check_left _ _ c.clear_passed.ensures.survey) in
+    c.clear_passed.ensures.survey.findings.block_check in
     block_check_more _ _ _ surveyed c.check_tree.ensures.tree.findings.block_check
 
 -- what is held where something failed

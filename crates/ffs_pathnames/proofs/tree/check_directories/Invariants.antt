@@ -5,8 +5,8 @@ use Rattle.ffs_volume.specs.{Directories.{PathnameCheck.directory_lines, Volumes
 use Rattle.ffs_volume.specs.Report.DirectoryReads.{is_looked_at, places_cost, costs_all, costs_below, directories_cost}
 use Rattle.ffs_volume.specs.Report.DirectoryReads.{directory_cost}
 use Rattle.ffs_pathnames.specs.{ChecksNeeded.ChecksLookedAt, Ready.ReadyWith, Before.{IsBefore, IsBeforeNoted}}
-use Rattle.ffs_pathnames.specs.DirectoryLines.{LeavesFindings}
-use Rattle.ffs_pathnames.proofs.tree.check_inodes.Given as goal
+use Rattle.ffs_workspace.specs.Leaves.{LeavesFindings}
+use Rattle.ffs_pathnames.proofs.tree.check_directories.Given as goal
 
 abbrev pub invariant-loop-number : goal.invariant-loop-number
 invariant-loop-number g l =

@@ -6,18 +6,18 @@ use Rattle.ffs_volume.specs.{Directories.Volumes.volume_of, Blocks.Inodes.inodes
 use Rattle.ffs_volume.specs.Report.DirectoryReads.{directory_cost, noted_costs, is_looked_at}
 use Rattle.ffs_report.proofs.Reporting.{of_begins, of_same, of_part, of_fault, of_reads, said_knows, reports_knowing}
 use Rattle.ffs_report.proofs.Paying.{paid_failed, paid_none, paid_then, paid_within}
-use Rattle.ffs_workspace.proofs.Leaving.{block_check_left, queue_leaves}
-use Rattle.ffs_pathnames.proofs.Findings.{findings_kept, findings_left, findings_more, findings_noted}
+use Rattle.ffs_workspace.proofs.Leaving.{queue_leaves}
+use Rattle.ffs_pathnames.proofs.Findings.{findings_kept, findings_more, findings_noted}
 use Rattle.ffs_pathnames.{specs.Before.{IsBeforeNoted, IsBefore}, proofs.{Begun.image_same, Carrying.noted_reported}}
 use Rattle.ffs_pathnames.{proofs.Skipping.{noted_before, unseen}, specs.ReadsLeft.LeftForNext}
-use Rattle.ffs_pathnames.proofs.{tree.check_inodes.{Given.Over, Goals.After-check_inode}, ChecksNeededLaws.flags_kept}
+use Rattle.ffs_pathnames.proofs.{tree.check_directories.{Given.Over, Goals.After-check_if_needed}, ChecksNeededLaws.flags_kept}
 use Rattle.ffs_pathnames.proofs.ChecksNeededLaws.{look_next, looked_at_next, places_noted}
 use Rattle.ffs_survey.proofs.Costs.{cost_take, costs_rise}
 use Rattle.ffs_names.proofs.{DirCosts.noted_all_within, Limits.costs_within}
-use Rattle.ffs_pathnames.proofs.tree.check_inodes.Goals as goal
+use Rattle.ffs_pathnames.proofs.tree.check_directories.Goals as goal
 
 -- what is known before an inode, and what is left suffices for it
-next : (g : Over) (c : After-check_inode g) (b : List ℕ) → IsBefore c.args.geometry.now.layout
+next : (g : Over) (c : After-check_if_needed g) (b : List ℕ) → IsBefore c.args.geometry.now.layout
     (g.I.Image.device c.args.image.now).contents c.args.workspace.now 2 b →
     LeftForNext c.args.geometry.now.layout (g.I.Image.device c.loop-number.image) c.loop-number.workspace
     c.loop-number.number c.loop-number.checking.reads_left b
@@ -74,36 +74,36 @@ loop-number-init g c =
 
 pub loop-number-preserved : goal.loop-number-preserved
 loop-number-preserved g c =
-    let at = (goal.at.loop-number-preserved g c).After-check_inode in
+    let at = (goal.at.loop-number-preserved g c).After-check_if_needed in
     let v = c.args.geometry.now.layout in
     let inv = c.loop-number.invariant in
     let n = c.loop-number.number in
-    let ok = c.in_ok-check_inode.ensures.lines in
+    let ok = c.in_ok-check_if_needed.ensures.lines in
     let q : suc n ≡ n + 1 = omega arith in
     record {
       ready = ok.leaves.ready;
       device = search rules;
       low = omega arith;
-      findings = findings_more _ _ _ inv.findings (findings_left _ _ ok.leaves.survey);
+      findings = findings_more _ _ _ inv.findings ok.leaves.survey.findings;
       reads = λ b k.
           let taken = cost_take (λ s. true) (directory_cost v b) n refl in
           let here = ok.reads b (next g at b k) ((inv.before b k).noted) in
           let long = next_long (directory_lines (volume_of v b)) n (inodes_of v) (omega arith) in
           omega (arith, taken, here, long, inv.reads b k);
-      checks = λ b k checks. looked_at_next v b c.loop-number.workspace c.check_inode.new.workspace
-          (block_check_left _ _ ok.leaves.survey) (ok.holds b (next g at b k)).1 (inv.checks b k checks);
+      checks = λ b k checks. looked_at_next v b c.loop-number.workspace c.check_if_needed.new.workspace
+          ok.leaves.survey.findings.block_check (ok.holds b (next g at b k)).1 (inv.checks b k checks);
       looks = λ b k checks.
           let here = ok.reads b (next g at b k) ((inv.before b k).noted) in
           let long = next_long (directory_lines (volume_of v b)) n (inodes_of v) (omega arith) in
           let one = look_next v b c.loop-number.workspace n _ _ _ (inv.checks b k checks)
-          c.in_ok-check_inode.ensures.skipped here in
+          c.in_ok-check_if_needed.ensures.skipped here in
           omega (arith, one, long, inv.looks b k checks);
       left = λ b k.
           let taken = cost_take (λ s. true) (directory_cost v b) n refl in
           let kept = ok.spends b (next g at b k) in
           omega (arith, inv.left b k, taken, kept);
       paid = paid_then inv.paid ok.paid;
-      before = λ b k. subst (λ d. IsBeforeNoted v (g.I.Image.device c.args.image.now).contents c.check_inode.new.workspace d
+      before = λ b k. subst (λ d. IsBeforeNoted v (g.I.Image.device c.args.image.now).contents c.check_if_needed.new.workspace d
           b) q
           (noted_reported (sym (ap (λ d. d.contents) inv.device)) (ok.holds b (next g at b k)).0);
       said = of_part _ _ _ _ _ _ _ _ inv.said
@@ -153,19 +153,19 @@ returns-in_err-note_places-clause-tree g c =
       ready = noted.leaves.ready;
     })
 
-pub returns-in_err-check_inode-clause-tree : goal.returns-in_err-check_inode-clause-tree
-returns-in_err-check_inode-clause-tree g c =
-    let at = (goal.at.returns-in_err-check_inode-clause-tree g c).After-check_inode in
+pub returns-in_err-check_if_needed-clause-tree : goal.returns-in_err-check_if_needed-clause-tree
+returns-in_err-check_if_needed-clause-tree g c =
+    let at = (goal.at.returns-in_err-check_if_needed-clause-tree g c).After-check_if_needed in
     let v = c.args.geometry.now.layout in
     let inv = c.loop-number.invariant in
     let n = c.loop-number.number in
-    let said = c.in_err-check_inode.ensures.lines in
-    let p = err_from_is_err_and c.from_residual-in_err-check_inode.result
-    c.from_residual-in_err-check_inode.ensures.1 in
+    let said = c.in_err-check_if_needed.ensures.lines in
+    let p = err_from_is_err_and c.from_residual-in_err-check_if_needed.result
+    c.from_residual-in_err-check_if_needed.ensures.1 in
     rw (p.1, p.2) (record {
-      text = of_fault (Unit {0}) (Unit {0}) _ _ _ _ _ _ _ _ c.in_err-check_inode.field-0.0 inv.said
+      text = of_fault (Unit {0}) (Unit {0}) _ _ _ _ _ _ _ _ c.in_err-check_if_needed.field-0.0 inv.said
           (λ b k. from_next (directory_lines (volume_of v b)) n (inodes_of v) (omega arith))
-          (reports_knowing (Unit {0}) _ _ _ _ _ (Err c.in_err-check_inode.field-0.0) (next g at) said.text);
+          (reports_knowing (Unit {0}) _ _ _ _ _ (Err c.in_err-check_if_needed.field-0.0) (next g at) said.text);
       reads = λ b k.
           let here = said.reads b (next g at b k) ((inv.before b k).noted) in
           let long = next_long (directory_lines (volume_of v b)) n (inodes_of v) (omega arith) in
@@ -176,13 +176,13 @@ returns-in_err-check_inode-clause-tree g c =
           let here = said.reads b (next g at b k) ((inv.before b k).noted) in
           let long = next_long (directory_lines (volume_of v b)) n (inodes_of v) (omega arith) in
           let one = look_next v b c.loop-number.workspace n _ _ _ (inv.checks b k checks)
-          c.in_err-check_inode.ensures.skipped here in
+          c.in_err-check_if_needed.ensures.skipped here in
           let rise = costs_rise (is_looked_at v b) (directory_cost v b) (n + 1) (inodes_of v) (omega arith) in
           omega (arith, one, long, rise, inv.looks b k checks);
       paid = paid_within (paid_then inv.paid said.paid) (omega arith) (omega arith);
-      image = image_same (Unit {0}) (Unit {0}) _ _ _ c.in_err-check_inode.field-0.0 inv.device said.leaves.image;
+      image = image_same (Unit {0}) (Unit {0}) _ _ _ c.in_err-check_if_needed.field-0.0 inv.device said.leaves.image;
       holds = tt;
-      findings = findings_more _ _ _ inv.findings (findings_left _ _ said.leaves.survey);
+      findings = findings_more _ _ _ inv.findings said.leaves.survey.findings;
       ready = said.leaves.ready;
     })
 
