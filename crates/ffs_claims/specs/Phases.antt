@@ -45,7 +45,8 @@ pub record IsLeftByPhase1b (v : Layout) (bytes : List ℕ) (w : Workspace) : Typ
 -- without a limit phase 1b reads the image at most once for each inode and once for each Run that it looks at, as
 -- long as the count of Runs has room in a u64. Where the image gives its bytes it looks at no more
 -- Runs than phase 1 did, and reads no more than phase 1 does then: each block of the inode tables once,
--- and each indirect block that is seen. Of the tables it reads no block past the inode with the last line
+-- and each indirect block that is seen. Of the tables it reads no more blocks than up to the inode with the
+-- last line
 pub record Phase1bReadsUnlimited (v : Layout) (d : Device) (old new : Workspace) (before after : ℕ) : Type 0 where
   pub runs : ForBytes (WithPhase1 v d old) (λ bytes. new.runs_again ≤ run_count v bytes)
   pub reads : new.runs_again < 2 ^ 64 - 1 → after ≤ before + v.ncg * v.ipg + new.runs_again

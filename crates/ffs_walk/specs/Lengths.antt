@@ -10,8 +10,8 @@ pub record IsLastLength (v : Layout) (inode : Inode) (len : ℕ) : Type 0 where
   pub value : len ≡ last_length_of v inode
   pub within : (0 < len) × (len ≤ v.frag)
 
--- a walk over an inode goes over so many logical blocks, if this is the inode's class; they have a bound
--- in any case
+-- a walk over an inode goes over so many logical blocks, if this is the inode's class. In any case they are few
+-- enough that the number of each fits a u64: a size is below 2^64, and a block has 2^12 bytes or more
 pub record AreWalkedBlocks (v : Layout) (inode : Inode) (class : Class) (blocks : ℕ) : Type 0 where
   pub value : class ≡ class_of v inode → blocks ≡ (if is_walked v inode then logical_blocks_of v inode else 0)
   pub small : blocks < 2 ^ 53

@@ -154,6 +154,7 @@ fn is_too_large(geometry: &Geometry, kind: u8, size: u64) -> bool
 #[tactic(auto, using(crate::proofs::Sizes::blocks_small, crate::proofs::Powers::bsize_power))]
 fn logical_blocks_of(geometry: &Geometry, inode: &Inode) -> u64
     ensures value { result ≡ inodes.logical_blocks_of geometry.now.layout inode.now }
+    // A size is below 2^64, and a block has 4,096 bytes or more.
     ensures small { result < 2 ^ 53 }
 {
     pieces_of(inode.size, geometry.layout.bsize)

@@ -343,7 +343,7 @@ impl Walk {
     /// Whether the single indirect block that the walk is in is held and was read before.
     #[inline(always)]
     pub fn is_in_held_block(&self, blocks: &Blocks) -> bool
-        ensures { IsTrue result → IsInHeldBlock blocks.now self.now }
+        ensures { IsTrue result ↔ IsInHeldBlock blocks.now self.now }
     {
         !self.single.unread && blocks.held[0] == Some(self.single.address)
     }
