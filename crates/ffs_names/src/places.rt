@@ -11,8 +11,8 @@ ghost use Rattle.ffs_workspace.specs.{Found.{WithClaims, WithSurvey}, Ready.CanR
 ghost use Rattle.ffs_workspace.specs.Tables.{TableAfter};
 ghost use Rattle.ffs_names.specs.Noting.{chunk_noting, belongs_to, BeginsNotes, CanNote, CanNoteChunks, CanNoteDirectory};
 ghost use Rattle.ffs_names.specs.Noting.{HoldsPlaces, NotingDirectoryLeaves, NotingChunksLeaves, NotingLeaves, NotesDirectory};
-ghost use Rattle.ffs_names.specs.{Noting.{NotesEntries, NotesInWords, parents_costs}, Costs.{BeginsChunks, BeginsReads, SweepsOnce}};
-ghost use Rattle.ffs_names.specs.{Sweeps.dir_moment, Readings.rest};
+ghost use Rattle.ffs_names.specs.Noting.{NotesEntries, NotesInWords, parents_costs};
+ghost use Rattle.ffs_names.specs.{Costs.{BeginsChunks, BeginsReads, SweepsOnce}, Sweeps.dir_moment, Readings.rest};
 
 use crate::chunk_entries::ChunkEntries;
 use crate::chunks::Chunks;
@@ -256,7 +256,7 @@ pub fn note_places<I: Image>(
     ensures reads { SweepsOnce geometry.now.layout
         (WithSurvey geometry.now.layout (I.device image.old) workspace.old)
         (I.reads image.old) (I.reads image.new) }
-    // No other directory is read than the parents of some.
+    // Of directories only those that are parents are read.
     ensures parents { ForBytes
         (WithSurvey geometry.now.layout (I.device image.old) workspace.old)
         (λ bytes. I.reads image.new ≤ I.reads image.old

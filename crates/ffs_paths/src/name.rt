@@ -166,7 +166,8 @@ pub fn find_name<I: Image>(
         result }
     ensures counted { ForBytes (WithClaims geometry.now.layout (I.device image.old) workspace.old)
         (λ b. is_dir (volume_of geometry.now.layout b) parent ≡ true
-        → I.reads image.new ≤ I.reads image.old + (1 + directory_cost geometry.now.layout b parent)) }
+        → I.reads image.new
+        ≤ I.reads image.old + (1 + directory_cost geometry.now.layout b parent)) }
 {
     if find_by_place(geometry, image, workspace, dir, name)? {
         return Ok(());
