@@ -1,8 +1,8 @@
 use Rattle.std.proofs.{Common.{◌≡◌, ◌∷◌, [], map, refl, sym, ◌∙◌, arith, rules, true}, lemmas.Result.err_from_is_err_and}
 use Rattle.ffs_volume.specs.{Directories.{Connectivity.is_unref_dir, Volumes.volume_of}, Messages.Kinds.of_tree}
-use Rattle.ffs_report.{specs.Known.ForBytes, proofs.Paying.{paid_none, paid_reads, paid_says, paid_stops}}
-use Rattle.ffs_report.proofs.Reporting.{reads_first, says_all, says_none, stops_all}
-use Rattle.ffs_workspace.{specs.Found.WithSurvey, proofs.Readiness.can_read_table}
+use Rattle.ffs_report.{specs.Known.ForBytes, proofs.Paying.{paid_none, paid_reads, paid_stops}}
+use Rattle.ffs_report.proofs.Reporting.{reads_first, says_none, stops_all}
+use Rattle.ffs_workspace.specs.Found.{WithSurvey}
 use Rattle.ffs_connectivity.{specs.Lines.unref_dir_lines, proofs.UnrefLines.{attributes_are, unref_dir_is, one_line}}
 use Rattle.ffs_connectivity.proofs.{UnrefLines.{silent, heard}, lost.report_lost.Goals.After-is_unref-unref}
 use Rattle.ffs_connectivity.proofs.lost.report_lost.Goals.{After-of}
@@ -42,14 +42,7 @@ pub returns-in_err-inode : goal.returns-in_err-inode
 returns-in_err-inode g c = grind (arith, err_from_is_err_and, reads_first, tested, one_line, paid_reads)
 
 pub returns-in_err-say : goal.returns-in_err-say
-returns-in_err-say g c =
-    grind (arith, err_from_is_err_and, stops_all, heard_of, tested, one_line, paid_stops, can_read_table)
+returns-in_err-say g c = grind (arith, stops_all, heard_of, tested, paid_stops)
 
 pub returns : goal.returns
-returns g c = record {
-  faults = search rules;
-  text = grind (arith, says_all, heard_of, tested);
-  reads = grind (arith, tested, one_line);
-  paid = paid_says _ c.in_ok-say.ensures.said (omega arith) c.in_ok-inode.ensures.counted;
-  stays = search rules;
-}
+returns g c = grind (arith, heard_of, tested)

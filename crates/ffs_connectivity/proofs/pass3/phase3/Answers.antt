@@ -116,5 +116,4 @@ pub returns-clause-paid : goal.returns-clause-paid
 returns-clause-paid g c = grind (arith, paid_answer)
 
 pub returns-in_err-report_lost-clause-leaves : goal.returns-in_err-report_lost-clause-leaves
-returns-in_err-report_lost-clause-leaves g c =
-    leaves_more _ _ _ c.loop-number.invariant.survey (windows_leave _ _ c.in_err-report_lost.ensures.stays.held)
+returns-in_err-report_lost-clause-leaves g c = grind arith
