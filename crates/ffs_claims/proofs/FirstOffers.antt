@@ -119,5 +119,6 @@ all_reported v bytes old new h t =
           absurd (grind arith)
       | inr none ↦ none
     ] in
-    let count : set_count (bits_of new.duplicates) ≡ 0 = ap set_count (t.duplicates ∙ ap (λ d. after_first d os) h.duplicates) ∙ none_set (after_first dup os) clear in
+    let now = t.duplicates ∙ ap (λ d. after_first d os) h.duplicates in
+    let count : set_count (bits_of new.duplicates) ≡ 0 = ap set_count now ∙ none_set (after_first dup os) clear in
     rw count refl

@@ -8,7 +8,8 @@ use Rattle.ffs_layout.specs.declared.geometry.Geometry.{Geometry}
 use Rattle.ffs_maps.specs.declared.FragmentMap.{FragmentMap}
 use Rattle.ffs_walk.specs.{Windows.{CanWalk, KeepsBlocks}, declared.blocks.Blocks.Blocks}
 use Rattle.ffs_workspace.specs.{Holds.IsFresh, Lengths.IsFor, Ready.CanRead, declared.workspace.{Workspace.Workspace}}
-use Rattle.ffs_claims.specs.{Leaves.{SameFound, ClaimsAndFinds, ClaimsOnly, Stored, OffersOnly}, Reporting.{Phase1bKeeps, ReportsOnly}}
+use Rattle.ffs_claims.specs.Leaves.{SameFound, ClaimsAndFinds, ClaimsOnly, Stored, OffersOnly}
+use Rattle.ffs_claims.specs.Reporting.{Phase1bKeeps, ReportsOnly}
 use Rattle.ffs_claims.specs.Reporting.{OffersReportedOnly}
 
 pub found_none : (w : Workspace) → SameFound w w

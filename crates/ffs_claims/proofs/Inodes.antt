@@ -1,8 +1,10 @@
 -- How an inode's part of the block check continues, and how many Runs it is seen to have.
-use Rattle.std.proofs.Common.{◌+◌, ◌<◌, ◌^◌, false, arith, OnOk, ◌≡◌, ℕ, List, [], ◌∷◌, ◌++◌, append-nil, Option, Result, Ok}
+use Rattle.std.proofs.Common.{◌+◌, ◌<◌, ◌^◌, false, arith, OnOk, ◌≡◌, ℕ}
+use Rattle.std.proofs.Common.{List, [], ◌∷◌, ◌++◌, append-nil, Option, Result, Ok}
 use Rattle.std.proofs.{Common.{refl, ◌≤◌, true}, lemmas.Bool.Decides.nat_tests}
 use Rattle.std.proofs.lemmas.List.Sums.{count_by-le-length}
-use Rattle.ffs_volume.{proofs.{Potentials.step_moves, ReplayLaws.offers_runs}, specs.Blocks.BlockCheck.{class_lines, count_lines}}
+use Rattle.ffs_volume.proofs.{Potentials.step_moves, ReplayLaws.offers_runs}
+use Rattle.ffs_volume.specs.Blocks.BlockCheck.{class_lines, count_lines}
 use Rattle.ffs_volume.specs.Blocks.{BlockCheck.owner_lines, Claims.{Claims, at_next_inode, after_steps}}
 use Rattle.ffs_volume.specs.Blocks.{Claims.{lines_of_steps, is_open, after_step}, Inodes.{class_of}}
 use Rattle.ffs_volume.specs.{Blocks.{Steps.steps_of}, Laws.ClaimBounds.{used_bits, ClaimBound}}

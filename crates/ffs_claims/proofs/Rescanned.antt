@@ -1,5 +1,6 @@
 -- How phase 1b goes from inode to inode.
-use Rattle.std.proofs.Common.{◌≡◌, ◌≢◌, ℕ, zero, suc, ◌+◌, ◌-◌, ◌<◌, ◌≤◌, Bool, true, false, not, ◌&&◌, ◌==◌, List, [], ◌∷◌}
+use Rattle.std.proofs.Common.{◌≡◌, ◌≢◌, ℕ, zero, suc, ◌+◌, ◌-◌, ◌<◌, ◌≤◌}
+use Rattle.std.proofs.Common.{Bool, true, false, not, ◌&&◌, ◌==◌, List, [], ◌∷◌}
 use Rattle.std.proofs.Common.{◌++◌, map, slice_index, slice_set, arith, refl, ap, ◌∙◌, sym, ne_eqb}
 use Rattle.std.proofs.lemmas.{Bool.{and_from, and_parts, Decides.nat_tests}, List.Folds.list_all-append}
 use Rattle.std.specs.List.{range_with_len, list_any, list_all}
@@ -12,7 +13,8 @@ use Rattle.ffs_volume.specs.Blocks.{KeptSteps.claims_before, Owners.{owner_of, o
 use Rattle.ffs_volume.specs.{Directories.Volumes.is_inode_number, Encodings.Replay.{fresh_replay, cut_of, cut_at}}
 use Rattle.ffs_volume.specs.{Encodings.ReplayCounts.replayed_runs, Laws.Geometry.IsAcceptedLayout}
 use Rattle.ffs_volume.specs.{Report.Whole.run_count, declared.{Layout.Layout, Step.{Step, TheVariants.Run}}}
-use Rattle.ffs_volume.specs.{Encodings.Notes.cut_in, Blocks.BlockCheck.{after_first, owners_runs, runs_until_reported, set_count}}
+use Rattle.ffs_volume.specs.{Encodings.Notes.cut_in}
+use Rattle.ffs_volume.specs.Blocks.BlockCheck.{after_first, owners_runs, runs_until_reported, set_count}
 use Rattle.ffs_workspace.proofs.{Leaving.counts_unsurveyed, NoteLaws.cut_is_noted}
 use Rattle.ffs_workspace.specs.{Holds.{HoldsPhase1, HoldsClaims}, declared.workspace.Workspace.Workspace}
 use Rattle.ffs_claims.proofs.{Duplicates.marked_total, Numbers.{before_end, is_inside}, RescanCounts.looked_both}

@@ -13,7 +13,8 @@ use Rattle.ffs_layout.specs.declared.geometry.Geometry.{Geometry}
 use Rattle.ffs_walk.specs.Counts.{entered}
 use Rattle.ffs_workspace.specs.{Holds.{IsFresh, claims_of}, Lengths.IsFor, Ready.CanRead, Tables.HoldsInode}
 use Rattle.ffs_workspace.specs.{Tables.HoldsPiece, declared.workspace.Workspace.Workspace}
-use Rattle.ffs_claims.specs.{Area.IsDataArea, Leaves.{CanOffer, ClaimsAndFinds, ClaimsOnly, HasBegun, OffersOnly, SameFound}}
+use Rattle.ffs_claims.specs.{Area.IsDataArea}
+use Rattle.ffs_claims.specs.Leaves.{CanOffer, ClaimsAndFinds, ClaimsOnly, HasBegun, OffersOnly, SameFound}
 use Rattle.ffs_claims.specs.{Lines.of_lines, Moments.{ClaimMoment, PhaseMoment}, declared.area.DataArea.DataArea}
 use Rattle.ffs_claims.specs.declared.{area.Run.Run, claim.Sweep.Sweep}
 

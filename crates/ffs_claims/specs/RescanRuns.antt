@@ -1,10 +1,13 @@
 -- The Runs that phase 1b looks at, replayed, and what walking over an inode again leaves.
 use Rattle.std.specs.{List.range_with_len, Prelude.{◌≡◌, ◌<◌, ◌≤◌, ℕ, ◌+◌, ◌-◌, ◌^◌, List, [], ◌∷◌, ◌++◌}}
 use Rattle.std.specs.Prelude.{if◌then◌else◌, map, Result, OnOk, slice_index, true}
-use Rattle.ffs_volume.specs.Blocks.{BlockCheck.{first_offer_lines, runs_until_reported}, KeptOffers.{Offer, kept_in_steps, offer_of}}
-use Rattle.ffs_volume.specs.{Blocks.{Inodes.inode_of, Steps.steps_of}, Encodings.Replay.{Replay, is_replay_open, fresh_replay}}
+use Rattle.ffs_volume.specs.Blocks.BlockCheck.{first_offer_lines, runs_until_reported}
+use Rattle.ffs_volume.specs.Blocks.KeptOffers.{Offer, kept_in_steps, offer_of}
+use Rattle.ffs_volume.specs.Blocks.{Inodes.inode_of, Steps.steps_of}
+use Rattle.ffs_volume.specs.Encodings.Replay.{Replay, is_replay_open, fresh_replay}
 use Rattle.ffs_volume.specs.Encodings.{ReplayCounts.{replayed_runs, replay_step_by_cut, seen_run}, Notes.cut_in}
-use Rattle.ffs_volume.specs.Blocks.{Claims.{Claims, after_owner, all_claims, at_next_inode, no_claims}, Owners.{Owner, owners_of}}
+use Rattle.ffs_volume.specs.Blocks.Claims.{Claims, after_owner, all_claims, at_next_inode, no_claims}
+use Rattle.ffs_volume.specs.Blocks.Owners.{Owner, owners_of}
 use Rattle.ffs_volume.specs.declared.constants.TheConstants.{ROOTINO}
 use Rattle.ffs_volume.specs.{Laws.RunLengths.HasLength, declared.{Inode.Inode, Layout.Layout, Step.Step}}
 use Rattle.ffs_volume.specs.declared.Step.TheVariants.{Run, Tail, Gap}

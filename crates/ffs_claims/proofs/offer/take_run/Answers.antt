@@ -1,4 +1,5 @@
-use Rattle.std.proofs.{Common.{ℕ, Option, None, Some, ◌+◌, ◌<◌, ◌≤◌, rules, sym, ◌∙◌, arith}, lemmas.Bool.Decides.nat_tests}
+use Rattle.std.proofs.Common.{ℕ, Option, None, Some, ◌+◌, ◌<◌, ◌≤◌, rules, sym, ◌∙◌, arith}
+use Rattle.std.proofs.{lemmas.Bool.Decides.nat_tests}
 use Rattle.std.proofs.lemmas.Result.{err_from_is_err_and}
 use Rattle.ffs_volume.specs.declared.Step.TheVariants.{Run}
 use Rattle.ffs_walk.specs.Counts.{entered}

@@ -8,7 +8,9 @@ use Rattle.ffs_report.proofs.Reporting.{of_part, of_fault, of_same, reports_know
 use Rattle.ffs_report.{proofs.Reporting.said_knows, specs.Known.ForBytes}
 use Rattle.ffs_workspace.{proofs.Leaving.fresh_held, specs.{Found.WithFresh, Holds.claims_of}}
 use Rattle.ffs_workspace.specs.declared.workspace.Workspace.{Workspace}
-use Rattle.ffs_claims.proofs.{Duplicates.{any_set, rescan_is}, Frames.{changes_then, fresh_surveyed, ready_begun, ready_still, ready_surveyed, zeros_passed}}
+use Rattle.ffs_claims.proofs.Duplicates.{any_set, rescan_is}
+use Rattle.ffs_claims.proofs.Frames.{changes_then, fresh_surveyed, ready_begun}
+use Rattle.ffs_claims.proofs.Frames.{ready_still, ready_surveyed, zeros_passed}
 use Rattle.ffs_claims.proofs.{Inodes.used_below, Numbers.{found_begins, found_next, found_all, numbers_most}}
 use Rattle.ffs_claims.proofs.{Numbers.{before_first, before_end, lines_next}, TableReads.{blocks_all, blocks_failed}}
 use Rattle.ffs_claims.proofs.{TableReads.{blocks_later, blocks_next, blocks_none}, IndirectReads.{VolumeRead, read_all}}

@@ -4,7 +4,8 @@ use Rattle.ffs_volume.specs.{Blocks.Owners.owners_of, Laws.ClaimBounds.used_bits
 use Rattle.ffs_report.specs.{Known.ForBytes, PhaseOutcome.SaidOf, Progress.progress}
 use Rattle.ffs_workspace.specs.{Found.WithFresh, Holds.claims_of}
 use Rattle.ffs_volume.specs.Blocks.Inodes.{inodes_of}
-use Rattle.ffs_claims.{proofs.{IndirectReads.VolumeRead, Numbers.FoundTo, TableReads.BlocksRead}, specs.Claiming.CanClaim}
+use Rattle.ffs_claims.proofs.{IndirectReads.VolumeRead, Numbers.FoundTo, TableReads.BlocksRead}
+use Rattle.ffs_claims.{specs.Claiming.CanClaim}
 use Rattle.ffs_claims.specs.{Leaves.ClaimsAndFinds, Lines.{of_lines, owners_from}}
 use Rattle.ffs_claims.proofs.pass1.phase1.Given as goal
 

@@ -9,13 +9,17 @@ use Rattle.ffs_workspace.specs.{Found.WithPhase1, declared.workspace.Workspace.W
 use Rattle.ffs_volume.specs.Blocks.{Inodes.inodes_of, Claims.all_claims, BlockCheck.{set_count, after_first}}
 use Rattle.ffs_volume.specs.Blocks.BlockCheck.{runs_until_reported, rescan_runs}
 use Rattle.ffs_claims.proofs.{FirstOffers.all_reported}
-use Rattle.ffs_claims.proofs.{Duplicates.{none_first, none_left, some_left}, Frames.{claims_none, claims_then, ready_again}}
+use Rattle.ffs_claims.proofs.Duplicates.{none_first, none_left, some_left}
+use Rattle.ffs_claims.proofs.Frames.{claims_none, claims_then, ready_again}
 use Rattle.ffs_claims.proofs.{Numbers.{numbers_most, before_first}, Reportings.{reporting_more, reporting_ends}}
 use Rattle.ffs_claims.proofs.{Reportings.{reporting_begins, lines_split, reporting_over}, RescanCounts.look_most}
-use Rattle.ffs_claims.proofs.{RescanCounts.looked_none, Rescanned.{IsNoted, inodes_on, is_noted, offers_at, runs_at, kept_from}}
+use Rattle.ffs_claims.proofs.{RescanCounts.looked_none}
+use Rattle.ffs_claims.proofs.Rescanned.{IsNoted, inodes_on, is_noted, offers_at, runs_at, kept_from}
 use Rattle.ffs_claims.proofs.Rescanned.{runs_from, looked_on, looked_end, kept_next, kept_end, runs_on, runs_most}
 use Rattle.ffs_claims.proofs.{Rescanned.claims_hold, Rewalks.{runs_pay_all, runs_pay_then}}
-use Rattle.ffs_claims.proofs.{IndirectReads.{read_all, read_begins, read_failed, read_failed_until, read_next, read_until}, Rescanned.indirect_noted}
+use Rattle.ffs_claims.proofs.IndirectReads.{read_all, read_begins, read_failed}
+use Rattle.ffs_claims.proofs.IndirectReads.{read_failed_until, read_next, read_until}
+use Rattle.ffs_claims.proofs.{Rescanned.indirect_noted}
 use Rattle.ffs_volume.proofs.{OwnerLaws.before_next, Sizes.some_inodes}
 use Rattle.ffs_claims.specs.{Lines.of_lines, RescanRuns.rescan_end}
 use Rattle.ffs_claims.proofs.pass1b.phase1b_unlimited.Goals as goal

@@ -7,7 +7,8 @@ use Rattle.ffs_report.{proofs.Reporting.{of_begins, of_stops, of_reads, of_same}
 use Rattle.ffs_maps.specs.Bits.{bits_of}
 use Rattle.ffs_walk.{proofs.Counted.{top_held, top_unread}, specs.{Keepings.replay_in, Rests.steps_left}}
 use Rattle.ffs_claims.proofs.{Duplicates.{none_first, none_left, some_left}, Frames.{can_walk, claims_none, ready_read}}
-use Rattle.ffs_claims.proofs.{Frames.ready_walked, RescanCounts.{again_gaps, again_stopped, entered_gaps, entered_next}, Rewalks.offers_none}
+use Rattle.ffs_claims.proofs.{Frames.ready_walked}
+use Rattle.ffs_claims.proofs.{RescanCounts.{again_gaps, again_stopped, entered_gaps, entered_next}, Rewalks.offers_none}
 use Rattle.ffs_claims.proofs.Rewalks.{lines_step, runs_next, rewalk_begins, rewalk_on, rewalk_gaps, rewalk_ends}
 use Rattle.ffs_claims.proofs.Rewalks.{rewalk_over, rewalk_said, rewalked_to, runs_pay_on, runs_pay_ends, rereads_on}
 use Rattle.ffs_workspace.specs.declared.workspace.Windows.{Windows}
