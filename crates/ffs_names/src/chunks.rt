@@ -2,8 +2,7 @@
 
 ghost use Rattle.std.specs.Prelude.{◌≡◌, ◌≤◌, ◌<◌, ◌^◌, IfOk, IfSome, MatchResult};
 ghost use Rattle.ffs_image.specs.Device.{ForContents};
-ghost use Rattle.ffs_volume.specs.Directories.Entries.{bytes_read};
-ghost use Rattle.ffs_volume.specs.declared.Step.TheVariants.{Run};
+ghost use Rattle.ffs_volume.specs.{Directories.Entries.bytes_read, declared.Step.TheVariants.Run};
 ghost use Rattle.ffs_names.specs.{Fits.CursorFits, SeenRuns.RunsAreSeen, Windows.{CanWalkDir, CanReadChunks}};
 ghost use Rattle.ffs_survey.specs.Costs.{TakesReads};
 

@@ -7,12 +7,11 @@ ghost use Rattle.ffs_layout.specs.Entry.{entry_value};
 ghost use Rattle.ffs_volume.specs.Directories.{Entries.entries_of, Roles.{is_dir, role_of as role_in, roled_chunk}};
 ghost use Rattle.ffs_volume.specs.{Directories.{Roles.roled_from, Volumes.volume_of}, Encodings.Notes.note_at};
 ghost use Rattle.ffs_volume.specs.Report.DirectoryReads.{noted_cost};
-ghost use Rattle.ffs_workspace.specs.{Found.{WithClaims, WithSurvey}, Ready.CanRead, Tables.CanReadInode};
-ghost use Rattle.ffs_workspace.specs.Tables.{TableAfter};
-ghost use Rattle.ffs_names.specs.Noting.{chunk_noting, belongs_to, BeginsNotes, CanNote, CanNoteChunks, CanNoteDirectory};
-ghost use Rattle.ffs_names.specs.Noting.{HoldsPlaces, NotingDirectoryLeaves, NotingChunksLeaves, NotingLeaves, NotesDirectory};
-ghost use Rattle.ffs_names.specs.{Noting.{NotesEntries, NotesInWords, parents_costs}, Costs.{BeginsChunks, BeginsReads, SweepsOnce}};
-ghost use Rattle.ffs_names.specs.{Sweeps.dir_moment, Readings.rest};
+ghost use Rattle.ffs_workspace.specs.{Found.{WithClaims, WithSurvey}, Ready.CanRead, Tables.{CanReadInode, TableAfter}};
+ghost use Rattle.ffs_names.specs.Noting.{chunk_noting, belongs_to, BeginsNotes, CanNote, CanNoteChunks};
+ghost use Rattle.ffs_names.specs.Noting.{CanNoteDirectory, HoldsPlaces, NotingDirectoryLeaves, NotingChunksLeaves};
+ghost use Rattle.ffs_names.specs.Noting.{NotingLeaves, NotesDirectory, NotesEntries, NotesInWords, parents_costs};
+ghost use Rattle.ffs_names.specs.{Costs.{BeginsChunks, BeginsReads, SweepsOnce}, Sweeps.dir_moment, Readings.rest};
 
 use crate::chunk_entries::ChunkEntries;
 use crate::chunks::Chunks;
@@ -256,7 +255,7 @@ pub fn note_places<I: Image>(
     ensures reads { SweepsOnce geometry.now.layout
         (WithSurvey geometry.now.layout (I.device image.old) workspace.old)
         (I.reads image.old) (I.reads image.new) }
-    // No other directory is read than the parents of some.
+    // Of directories only those that are parents are read.
     ensures parents { ForBytes
         (WithSurvey geometry.now.layout (I.device image.old) workspace.old)
         (λ bytes. I.reads image.new ≤ I.reads image.old

@@ -9,7 +9,7 @@
 //! as its place, and where it isn't there, searched in all entries of the parent. Of an image that
 //! gives its bytes, where the place of each directory is noted, `path_of` makes at most 513 reads,
 //! and a call of `KeptParent` 514: 513 for the parent's path, and one for the directory's own name.
-//! Where some places aren't noted, `path_of` may read all of a parent too for a name: its inode, and
+//! Where some places aren't noted, `path_of` may read all of a parent too for a name: its inode and
 //! each of its Runs.
 //!
 //! It rests on `ffs_names` and `ffs_workspace`.

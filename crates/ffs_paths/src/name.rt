@@ -3,9 +3,8 @@
 ghost use Rattle.std.specs.Prelude.{◌≡◌, ◌==◌, ◌+◌, ◌≤◌, ◌&&◌, ◌/◌, false, true, max, IfOk, OnOk, length};
 ghost use Rattle.ffs_image.specs.Known.{ForBytes};
 ghost use Rattle.ffs_volume.specs.Directories.{Entries.entries_of, Roles.{is_dir, is_plain, role_of, roled_from}};
-ghost use Rattle.ffs_volume.specs.Directories.Volumes.{volume_of};
-ghost use Rattle.ffs_volume.specs.{Encodings.Places.entries_in_chunks, declared.constants.TheConstants.DIRBLKSIZ};
-ghost use Rattle.ffs_volume.specs.Report.DirectoryReads.{directory_cost};
+ghost use Rattle.ffs_volume.specs.{Directories.Volumes.volume_of, Encodings.Places.entries_in_chunks};
+ghost use Rattle.ffs_volume.specs.{declared.constants.TheConstants.DIRBLKSIZ, Report.DirectoryReads.directory_cost};
 ghost use Rattle.ffs_layout.specs.Entry.{entry_value};
 ghost use Rattle.ffs_workspace.specs.Found.{WithClaims};
 ghost use Rattle.ffs_paths.specs.{Climbing.{FindsFirstName, FindsName, FindsNoted, IsNameIn}, NameTexts.name_bytes};
@@ -166,7 +165,8 @@ pub fn find_name<I: Image>(
         result }
     ensures counted { ForBytes (WithClaims geometry.now.layout (I.device image.old) workspace.old)
         (λ b. is_dir (volume_of geometry.now.layout b) parent ≡ true
-        → I.reads image.new ≤ I.reads image.old + (1 + directory_cost geometry.now.layout b parent)) }
+        → I.reads image.new
+        ≤ I.reads image.old + (1 + directory_cost geometry.now.layout b parent)) }
 {
     if find_by_place(geometry, image, workspace, dir, name)? {
         return Ok(());
