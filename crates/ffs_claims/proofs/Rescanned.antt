@@ -98,11 +98,6 @@ inodes_on v bytes notes n dup dup' p some d =
     grind (arith, range_more, before_next, cut_noted) in
     rw (d, next, ne_eqb _ _ some) refl
 
-pub inodes_end : (v : Layout) (bytes : List ℕ) (dup : List Bool) (s : Claims) (n : ℕ) → inodes_of v ≤ n →
-    runs_until_reported dup (offers_by_owner v s (owners_from v bytes n)) ≡ 0
-unfolding offers_by_owner runs_until_reported
-inodes_end v bytes dup s n past = let none : inodes_of v - n ≡ 0 = omega arith in rw none refl
-
 -- no inode is left
 pub kept_end : (v : Layout) (bytes : List ℕ) (s : Claims) (n : ℕ) → inodes_of v ≤ n →
     kept_in_owners v s (owners_from v bytes n) ≡ []
