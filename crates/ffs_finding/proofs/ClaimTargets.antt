@@ -1,24 +1,16 @@
 -- A target found in a workspace that holds what phase 1 leaves: what its faults, and its lines, say of the command.
-use Rattle.std.proofs.Common.{◌≡◌, ◌&&◌, ℕ, Bool, [], Option, Result, Err, refl}
+use Rattle.std.proofs.Common.{◌≡◌, ◌&&◌, ℕ, Bool, [], Option, Err, refl}
 use Rattle.ffs_image.specs.Device.{Device}
 use Rattle.ffs_memory.specs.Account.{Account}
-use Rattle.ffs_volume.specs.{declared.Layout.Layout, Disk.Superblock.Superblock, Report.Memory.held_of}
-use Rattle.ffs_report.specs.{Known.{ForBytes, IsContents}, PhaseOutcome.ImageAfter, declared.fault.RunFault.RunFault}
+use Rattle.ffs_volume.specs.{Disk.Superblock.Superblock}
+use Rattle.ffs_report.specs.{Known.{ForBytes, IsContents}}
 use Rattle.ffs_report.specs.declared.fault.RunFault.TheVariants.{Read, Out}
 use Rattle.ffs_workspace.specs.{declared.workspace.Workspace.Workspace, Found.WithPhase1, Holds.HoldsPhase1}
 use Rattle.ffs_finding.specs.declared.find.FindFault.{FindFault, TheVariants.{Refused, Failed, NoMemory}}
 use Rattle.ffs_finding.specs.{declared.request.Target.Target, Claims.TakesClaims, Fields.WithSuper, Outcome.PrintedTo}
-use Rattle.ffs_finding.specs.{Outcome.{PrintsLines, any_line}, Whole.{IsGranted, PrintedAll, TargetAnswers}}
-use Rattle.ffs_finding.{specs.Whole.{finds_defects, target_lines}, proofs.Printing.{knowing, reads_first}}
+use Rattle.ffs_finding.specs.{Outcome.{any_line}, Whole.{PrintedAll, TargetAnswers}}
+use Rattle.ffs_finding.{specs.Whole.{finds_defects, target_lines}, proofs.Printing.{reads_first}}
 use Rattle.ffs_check.specs.Moment.{Moment}
-
--- what was taken, where no workspace was made
-pub refused_memory : (v : Layout) (d d' : Device) (held held' : Account) (fault : FindFault) →
-    TakesClaims v d d' held held' (Err fault) → IsGranted (held_of v) held held' (Err fault)
-refused_memory v d d' held held' (Refused fault) p = absurd p
-refused_memory v d d' held held' (Failed (Read fault)) p = p.1
-refused_memory v d d' held held' (Failed (Out fault)) p = absurd p
-refused_memory v d d' held held' NoMemory p = p.1
 
 module _ (target : Target) (sector : Option ℕ) (s : Superblock) (m : Moment) where
   -- nothing was printed then
@@ -32,12 +24,6 @@ module _ (target : Target) (sector : Option ℕ) (s : Superblock) (m : Moment) w
 
   module _ (m' : Moment) (w : Workspace)
       (holds : ForBytes (IsContents m.image.contents) (λ b. HoldsPhase1 s.layout b w)) where
-    -- what was printed, where more is known
-    lines_answer : (T : Type 0) (r : Result T RunFault) →
-        PrintsLines (WithPhase1 s.layout m.image w) (λ b. target_lines target sector b s) m.out m'.out r →
-        PrintsLines (WithSuper m.image sector s) (λ b. target_lines target sector b s) m.out m'.out r
-    lines_answer T r p = knowing T _ _ _ m.out m'.out r (λ b k. (k.0, holds b k.0)) p
-
     -- all lines were printed
     pub all_answer : (defect : Bool) →
         (p : PrintedTo (WithPhase1 s.layout m.image w) (λ b. []) (λ b. target_lines target sector b s) m.out m'.out) →
@@ -47,10 +33,3 @@ module _ (target : Target) (sector : Option ℕ) (s : Superblock) (m : Moment) w
       printed = record { lines = p.lines; right = λ b k. p.right b (k.0, holds b k.0); took = p.took };
       defect_is = is;
     }
-
-    -- a fault came among the lines
-    pub fault_answer : (T : Type 0) (fault : RunFault) → ImageAfter {T = T} m.image m'.image (Err fault) →
-        PrintsLines {T = T} (WithPhase1 s.layout m.image w) (λ b. target_lines target sector b s) m.out m'.out
-        (Err fault) → TargetAnswers target sector s m m' (Err (Failed fault))
-    fault_answer T (Read fault) image p = (image, lines_answer T (Err (Read fault)) p)
-    fault_answer T (Out fault) image p = (image, lines_answer T (Err (Out fault)) p)

@@ -1,7 +1,7 @@
 -- A fragment is claimed just where an inode keeps an offer of it.
 use Rattle.std.proofs.Common.{◌≡◌, ◌≢◌, ◌∙◌, ℕ, zero, suc, ◌+◌, ◌*◌, ◌-◌, ◌<◌, ◌≤◌, ◌==◌, Bool, true, false, ◌||◌, List}
-use Rattle.std.proofs.Common.{[], ◌∷◌, ◌++◌, length, length-set, arith, refl, sym, inl, inr, nat_lt, if◌then◌else◌}
-use Rattle.std.proofs.{Common.slice_set, lemmas.{Bool.{cases_Bool, cases_eq, Decides.nat_tests}, List.get_or-set_other}}
+use Rattle.std.proofs.Common.{[], ◌∷◌, ◌++◌, length, length-set, arith, refl, inl, inr, nat_lt, if◌then◌else◌}
+use Rattle.std.proofs.{Common.slice_set, lemmas.{Bool.{cases_Bool, Decides.nat_tests}, List.get_or-set_other}}
 use Rattle.std.proofs.lemmas.List.{get_or-set_same, Folds.list_any-append, FromFn.get_or-map-range_with_len}
 use Rattle.std.specs.List.{flat_map, list_any, range_with_len}
 use Rattle.ffs_volume.proofs.{OwnerLaws.before_next, Potentials.in_range_below, CutLaws.before_length}
@@ -46,18 +46,7 @@ set_other used f h b apart = get_or-set_other used h f b false apart
 
 offer_uses : (v : Layout) (f i : ℕ) (s : Claims) (h : ℕ) → is_fragment_in_range v f ≡ true → length s.used ≡ v.size →
     Uses f s (after_offer v s h) (any_of f (if nat_lt s.dup_offers 11 then offer_of i h ∷ [] else []))
-offer_uses v f i s h ok long = elim (cases_Bool (nat_lt s.dup_offers 11)) [
-  | inr full ↦ rw full (uses_none f s s refl)
-  | inl few ↦ elim (cases_eq h f) [
-    | inl same ↦
-        let low = in_range_below v f ok in
-        let set = get_or-set_same s.used f true false (omega arith) in
-        grind (arith, length-set)
-    | inr apart ↦
-        let kept = set_other s.used f h true (λ e. apart (sym e)) in
-        grind (arith, nat_tests, length-set)
-  ]
-]
+offer_uses v f i s h ok long = grind (arith, in_range_below, get_or-set_same, length-set, set_other)
 
 offers_use : (v : Layout) (f i : ℕ) (s : Claims) (fs : List ℕ) → is_fragment_in_range v f ≡ true →
     length s.used ≡ v.size → Uses f s (after_offers v s fs) (any_of f (kept_in_offers v i s fs))
@@ -90,10 +79,7 @@ run_uses v f i s start len ok long =
 step_uses : (v : Layout) (f i earlier : ℕ) (s : Claims) (step : Step) → is_fragment_in_range v f ≡ true →
     length s.used ≡ v.size → Uses f s (after_step v s step) (has_line (keeper_lines_of_step v f i earlier s step))
 step_uses v f i earlier s Gap ok long = uses_none f s s refl
-step_uses v f i earlier s Tail ok long = elim (cases_Bool (is_open s)) [
-  | inl q ↦ rw q (uses_none f s (record s { tail = true }) refl)
-  | inr q ↦ rw q (uses_none f s s refl)
-]
+step_uses v f i earlier s Tail ok long = grind arith
 step_uses v f i earlier s (Run start len block) ok long =
     let line = line_there (keeps_in_step v f i s (Run start len block)) (keeper_text i earlier block) in
     elim (cases_Bool (is_open s)) [
@@ -126,8 +112,7 @@ inode_uses v b f x g ok low =
 inodes_use : (v : Layout) (b : List ℕ) (f x k : ℕ) → IsAcceptedLayout v → is_fragment_in_range v f ≡ true → 2 ≤ x →
     Uses f (claims_before v b x) (claims_before v b (x + k))
     (has_line (flat_map (keeper_lines_of_inode v b f) (range_with_len x k)))
-inodes_use v b f x zero g ok low =
-    let same : x + 0 ≡ x = omega arith in rw same (uses_none f (claims_before v b x) (claims_before v b x) refl)
+inodes_use v b f x zero g ok low = grind arith
 inodes_use v b f x (suc k) g ok low =
     let one = inode_uses v b f x g ok low in
     let more = inodes_use v b f (x + 1) k g ok (omega arith) in
@@ -154,14 +139,9 @@ all_are : (v : Layout) (b : List ℕ) (f : ℕ) → is_set (claims_before v b (2
     is_set (reserved_map v) f ≡ false →
     is_set (all_claims v b).used f ≡ has_line (keeper_lines v b f)
 unfolding all_claims owners_of claims_before no_claims keeper_lines
-all_are v b f all first =
-    let n : 2 + (v.ncg * v.ipg - 2) - 2 ≡ v.ncg * v.ipg - 2 = omega arith in
-    rw (n, first) at all
+all_are v b f all first = grind arith
 
 -- a fragment that isn't reserved is claimed where an inode has a line
 pub claimed_is : (v : Layout) (b : List ℕ) (f : ℕ) → IsAcceptedLayout v → f < v.size → is_reserved v f ≡ false →
     is_set (all_claims v b).used f ≡ has_line (keeper_lines v b f)
-claimed_is v b f g low e =
-    let ok = in_range_is v f low e in
-    let all = (inodes_use v b f 2 (v.ncg * v.ipg - 2) g ok (omega arith)).is in
-    all_are v b f all (reserved_bit v f low ∙ e)
+claimed_is v b f g low e = grind (arith, in_range_is, inodes_use, all_are, reserved_bit)

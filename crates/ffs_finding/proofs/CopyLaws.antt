@@ -1,13 +1,13 @@
 -- The lines of the sectors from one on, and the reads of the sectors before it.
-use Rattle.std.proofs.Common.{◌≡◌, ◌∙◌, ℕ, ◌+◌, ◌-◌, ◌*◌, ◌/◌, ◌<◌, ◌≤◌, List, [], ◌++◌, length, Some, arith, refl, ap}
-use Rattle.std.{proofs.{Common.{sym, inl, inr}, lemmas.Bool.cases_eq}, specs.{Prelude.count_by, List.flat_map}}
+use Rattle.std.proofs.Common.{◌≡◌, ℕ, ◌+◌, ◌-◌, ◌*◌, ◌/◌, ◌<◌, ◌≤◌, List, [], ◌++◌, length, Some, arith, refl}
+use Rattle.std.{specs.{Prelude.count_by, List.flat_map}}
 use Rattle.std.specs.{List.range_with_len, Int.div_ceil}
 use Rattle.ffs_volume.{specs.{Disk.Outcome.outcome, Find.Copies.asked_sectors}, proofs.OutcomeLaws.outcome_past_end}
 use Rattle.ffs_volume.specs.Find.Copies.{copies_lines, copy_lines_of, sector_count}
 use Rattle.ffs_image.specs.Device.{Device}
 use Rattle.ffs_walk.specs.declared.window.Window.{Window}
 use Rattle.ffs_maps.proofs.Counting.{count_join}
-use Rattle.ffs_finding.{specs.Copies.{IsSectorsEnd, IsWindowOf, has_magic, super_reads}, proofs.Ranges.{next, none}}
+use Rattle.ffs_finding.{specs.Copies.{IsSectorsEnd, IsWindowOf, has_magic, super_reads}, proofs.Ranges.{none}}
 
 pub count_is : sector_count ≡ 4194303
 unfolding sector_count
@@ -23,24 +23,16 @@ lines_from b sector = flat_map (lines_at b) (range_with_len sector (sector_count
 
 pub lines_begin : (b : List ℕ) → copies_lines b ≡ lines_from b 1
 unfolding copies_lines lines_from
-lines_begin b = let all : sector_count + 1 - 1 ≡ sector_count = omega arith in
-    ap (λ (n : ℕ). flat_map (lines_at b) (range_with_len 1 n)) (sym all)
+lines_begin b = grind arith
 
 pub lines_next : (b : List ℕ) (sector : ℕ) → sector < 4194304 →
     lines_from b sector ≡ lines_at b sector ++ lines_from b (sector + 1)
 unfolding lines_from
-lines_next b sector h =
-    let some : 0 < sector_count + 1 - sector = omega (arith, count_is) in
-    let fewer : sector_count + 1 - sector - 1 ≡ sector_count + 1 - (sector + 1) = omega arith in
-    next (lines_at b) sector (sector_count + 1 - sector) some
-    ∙ ap (λ (n : ℕ). lines_at b sector ++ flat_map (lines_at b) (range_with_len (sector + 1) n)) fewer
+lines_next b sector h = grind (arith, count_is)
 
 pub lines_end : (b : List ℕ) (sector end : ℕ) → IsSectorsEnd (length b) end → end ≤ sector → lines_from b sector ≡ []
 unfolding lines_from
-lines_end b sector end h past =
-    none (lines_at b) sector (sector_count + 1 - sector)
-    (λ k low high. ap (copy_lines_of k) (outcome_past_end b (Some k)
-    (h.outside k (omega arith) (omega (arith, count_is)))))
+lines_end b sector end h past = grind (arith, none, outcome_past_end, count_is)
 
 -- ---- reads
 -- how many sectors from 1 on, so many of them, have a magic number
@@ -65,35 +57,16 @@ magics_within b sector h =
     (omega (arith, count_is)) refl refl in
     omega (arith, joined)
 
-same_window : (d : Device) (sector : ℕ) (w : Window) → 0 < sector → (sector + 2) / 128 ≡ (sector + 1) / 128 →
-    IsWindowOf d (sector - 1) w → IsWindowOf d sector w
-same_window d sector w some e h =
-    let back : sector - 1 + 2 ≡ sector + 1 = omega arith in
-    grind (arith, back, e)
-
 -- the reads up to a sector, where those before it were few enough
 pub reads_next : (d : Device) (b : List ℕ) (sector reads before after : ℕ) (w : Window) → 0 < sector →
     (sector ≡ 1 → before ≤ reads) → before ≤ reads + (sector + 129) / 128 + 2 * magics b (sector - 1) →
     (1 < sector → IsWindowOf d (sector - 1) w) → after ≤ before + 1 + super_reads b sector →
     (IsWindowOf d sector w → after ≤ before + super_reads b sector) →
     after ≤ reads + (sector + 130) / 128 + 2 * magics b sector
-reads_next d b sector reads before after w some first most at counted again =
-    let more = magics_next b sector some in
-    elim (cases_eq sector 1) [
-      | inl one ↦ let none = first one in omega (arith, counted, more, none)
-      | inr past ↦ elim (cases_eq ((sector + 2) / 128) ((sector + 1) / 128)) [
-        | inl same ↦
-            let few = again (same_window d sector w some same (at (omega (arith, past)))) in
-            omega (arith, few, more, most)
-        | inr other ↦ omega (arith, counted, more, most, other)
-      ]
-    ]
+reads_next d b sector reads before after w some first most at counted again = grind (arith, magics_next)
 
 -- no more windows were read than the image has
 pub reads_all : (b : List ℕ) (size sector reads after : ℕ) → sector < 4194304 → sector * 512 + 1376 ≤ size →
     after ≤ reads + (sector + 130) / 128 + 2 * magics b sector →
     after ≤ reads + div_ceil size 65536 + 2 * count_by (has_magic b) asked_sectors
-reads_all b size sector reads after h inside most =
-    let within = magics_within b sector h in
-    let windows : (sector + 130) / 128 ≤ div_ceil size 65536 = omega arith in
-    omega (arith, within, windows, most)
+reads_all b size sector reads after h inside most = search (arith, magics_within)

@@ -1,18 +1,19 @@
 -- How a command ends, by its answer and the line of its fault.
+use Rattle.std.proofs.Common.{arith}
 use Rattle.std.proofs.Common.{◌∙◌, ℕ, Option, Result, Ok, Err, sym, ap, subst, inl, inr, Bool}
-use Rattle.ffs_volume.specs.{declared.SuperFault.SuperFault, Messages.{Kinds.cannot_alloc, Texts.text_of}}
+use Rattle.ffs_volume.specs.{declared.SuperFault.SuperFault, Messages.{Texts.text_of}}
 use Rattle.ffs_volume.specs.Report.Opening.{fault_line}
 use Rattle.ffs_report.specs.{Known.IsContents, Sink.Sink, declared.fault.RunFault.TheVariants.{Read, Out}}
 use Rattle.ffs_memory.specs.Account.{Account}
 use Rattle.ffs_layout.specs.Super.{ReadsSuper}
 use Rattle.ffs_finding.specs.declared.request.{Target.Target, Command.{Command, TheVariants.{Copies, InVolume}}}
 use Rattle.ffs_finding.specs.declared.find.FindFault.{FindFault, TheVariants.{Refused, Failed, NoMemory}}
-use Rattle.ffs_finding.specs.{Outcome.StoppedIn, Whole.{Answers, EndsBy, EndsByLine, FindEnds, RefusesSuperblock}}
+use Rattle.ffs_finding.specs.{Whole.{Answers, EndsBy, EndsByLine, FindEnds, RefusesSuperblock}}
 use Rattle.ffs_finding.specs.Whole.{FindFailsAt, IsReadFor, IsUnreadableFor}
 use Rattle.ffs_finding.specs.Whole.{PrintedAll, command_finds_defects, command_lines, status_of_answer}
 use Rattle.ffs_image.specs.Device.{ForContents}
 use Rattle.ffs_finding.proofs.Printing.{reads_first}
-use Rattle.ffs_check.specs.{Moment.Moment, Run.IsPrintedOrBrokeOff}
+use Rattle.ffs_check.specs.{Moment.Moment}
 
 module _ (sector : Option ℕ) (target : Target) (m m' : Moment) (held held' : Account) (fault : SuperFault) (status : ℕ)
   where
@@ -64,23 +65,6 @@ ends command m m' b held held' (Ok defect) status p at e =
 ends command m m' b held held' (Err (Refused fault)) status p at e =
     ends_by_superblock command m m' held held' fault status p.1 p.2
     (subst (λ (s : Sink). EndsByLine s m'.out (text_of (fault_line fault)) status) p.0 e)
-ends command m m' b held held' (Err (Failed (Read fault))) status p at e = inr (inr (inl (record {
-  sector = fault.sector;
-  faulted = p.0;
-  place = at;
-  between = b;
-  printed = p.1;
-  line = e.0;
-  status_is = e.1;
-})))
-ends command m m' b held held' (Err (Failed (Out fault))) status p at e = inr (inr (inr (inl (record {
-  no_read_failed = p.0;
-  stopped = subst (StoppedIn (IsContents m.image.contents) (command_lines command) m.out) (sym e.0) p.1;
-  status_is = e.1;
-}))))
-ends command m m' b held held' (Err NoMemory) status p at e = inr (inr (inr (inr (record {
-  no_read_failed = p.0;
-  refused = p.2;
-  line = subst (λ (s : Sink). IsPrintedOrBrokeOff s m'.out (text_of cannot_alloc)) p.1 e.0;
-  status_is = e.1;
-}))))
+ends command m m' b held held' (Err (Failed (Read fault))) status p at e = search (arith, inr, inl)
+ends command m m' b held held' (Err (Failed (Out fault))) status p at e = grind arith
+ends command m m' b held held' (Err NoMemory) status p at e = grind arith

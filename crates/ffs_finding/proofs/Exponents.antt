@@ -1,15 +1,13 @@
 -- The exponents of powers of two.
 use Rattle.std.proofs.{Common.{◌≡◌, ℕ, ◌+◌, ◌*◌, ◌^◌, ◌<◌, ◌≤◌, true, false, arith, ap, nat_lt}, Math.Pow.pow_mono}
-use Rattle.std.{proofs.lemmas.{Grind.pow_more, Bool.Decides.nat_tests}, specs.Prelude.unwrap_or}
+use Rattle.std.{proofs.lemmas.{Grind.pow_more}, specs.Prelude.unwrap_or}
 use Rattle.ffs_volume.{proofs.SearchLaws.first_below-is, specs.Find.Fields.exponent_of}
 
 above : (n r : ℕ) → n < 2 * 2 ^ r → nat_lt n (2 ^ (r + 1)) ≡ true
-above n r h = let power : 2 ^ (r + 1) ≡ 2 ^ r * 2 = pow_more 2 r in
-    let low : n < 2 ^ (r + 1) = omega (arith, power) in grind (arith, nat_tests)
+above n r h = grind (arith, pow_more)
 
 below : (n r t : ℕ) → 2 ^ r ≤ n → t < r → nat_lt n (2 ^ (t + 1)) ≡ false
-below n r t h less = let power : 2 ^ (t + 1) ≤ 2 ^ r = pow_mono (omega arith) in
-    let high : 2 ^ (t + 1) ≤ n = omega (arith, power) in grind (arith, nat_tests)
+below n r t h less = grind (arith, pow_mono)
 
 pub exponent_is : (n r : ℕ) → r < 32 → 2 ^ r ≤ n → n < 2 * 2 ^ r → exponent_of n ≡ r
 unfolding exponent_of

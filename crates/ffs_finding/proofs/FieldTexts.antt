@@ -7,15 +7,12 @@ use Rattle.ffs_volume.specs.Disk.{Outcome.{outcome, super_bytes, super_sector}, 
 use Rattle.ffs_volume.{proofs.OutcomeLaws.outcome_past_end, specs.Find.Fields.{field_lines, layout_fields}}
 use Rattle.ffs_volume.specs.Find.Fields.{total_fields, wrong_fields}
 use Rattle.ffs_volume.specs.Find.Fields as book
-use Rattle.ffs_finding.{specs.{Fields.{field_of, wrong_lines}, declared.fields.Field.Field}, proofs.CopySteps.sized_at}
+use Rattle.ffs_finding.{specs.{Fields.{field_of, wrong_lines}, declared.fields.Field.Field}}
 
 -- no superblock is accepted that ends after the image
 pub too_short : (d : Device) (b : List ℕ) (sector : Option ℕ) (s : Superblock) (start : ℕ) → IsSized d →
     d.contents ≡ Some b → start ≡ super_sector sector → d.size < start * 512 + 1376 → outcome b sector ≡ Ok s → ⊥
-too_short d b sector s start sized k at h accepted =
-    let long = sized_at d b sized k in
-    let past = outcome_past_end b sector (omega (arith, at, h, long)) in
-    cc (past, accepted)
+too_short d b sector s start sized k at h accepted = grind (arith, outcome_past_end)
 
 module _ (s : Superblock) (sector : Option ℕ) (start : ℕ) (at : start ≡ super_sector sector) (b bytes : List ℕ)
     (read : bytes ≡ super_bytes b sector) where

@@ -1,6 +1,5 @@
 pub mod Claimed
 pub mod Keepers
-pub mod Limited
 pub mod Owners
 pub mod Replayed
 pub mod Walking

@@ -4,18 +4,13 @@ use Rattle.std.{proofs.Common.subst, specs.List.{flat_map, range_with_len}}
 use Rattle.ffs_image.specs.Device.{Device}
 use Rattle.ffs_volume.specs.{declared.Layout.Layout, Disk.Areas.cgbase, Groups.Records.{bit_at, fragment_map_place}}
 use Rattle.ffs_volume.{specs.Groups.Records.{group_block, group_size, has_bits, same_bit}, proofs.Below.all_below-at}
-use Rattle.ffs_volume.specs.{Find.Lost.{has_map, lost_lines, stretch_at, stretch_lines}, Blocks.Claims.all_claims}
+use Rattle.ffs_volume.specs.{Find.Lost.{has_map, lost_lines, stretch_lines}, Blocks.Claims.all_claims}
 use Rattle.ffs_groups.specs.Free.{free_in}
 use Rattle.ffs_maps.specs.Bits.{bits_of}
 use Rattle.ffs_report.specs.Known.{ForBytes}
 use Rattle.ffs_workspace.specs.{declared.workspace.Workspace.Workspace, Found.WithPhase1}
-use Rattle.ffs_finding.specs.LostMaps.{is_wrong_by, lines_of_group, lines_of_groups, no_map_lines, word_of}
+use Rattle.ffs_finding.specs.LostMaps.{is_wrong_by, lines_of_group, lines_of_groups, word_of}
 use Rattle.ffs_finding.{specs.declared.lost.Wrong.{Wrong, TheVariants.{Lost, MarkedFree}}, proofs.Ranges.{next, none}}
-
-pub without_map : (how : Wrong) (v : Layout) (free : ℕ → Bool) (c : ℕ) (block : List ℕ) → has_map v block ≡ false →
-    lines_of_group how v free c block ≡ no_map_lines how c
-without_map Lost v free c block none = rw none refl
-without_map MarkedFree v free c block none = rw none refl
 
 pub with_map : (how : Wrong) (v : Layout) (used : List Bool) (size base end place c : ℕ) (block : List ℕ) →
     has_map v block ≡ true → place ≡ fragment_map_place v block → size ≡ v.size → base ≡ cgbase v c →
@@ -34,9 +29,7 @@ wrong_none MarkedFree free marked same = grind arith
 no_stretch : (word : List ℕ) (p : ℕ → Bool) (base n : ℕ) → ((f : ℕ) → base ≤ f → f < base + n → p f ≡ false) →
     stretch_lines word p base (base + n) ≡ []
 unfolding stretch_lines
-no_stretch word p base n fail =
-    let long : base + n - base ≡ n = omega arith in
-    rw long (none (stretch_at word p base (base + n)) base n (λ k low high. rw (fail k low high) refl))
+no_stretch word p base n fail = grind (arith, none)
 
 pub right_map : (how : Wrong) (v : Layout) (used : List Bool) (size place c : ℕ) (block : List ℕ) →
     has_map v block ≡ true →

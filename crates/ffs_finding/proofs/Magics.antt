@@ -1,5 +1,5 @@
 -- The magic number of a superblock, in a window on an image.
-use Rattle.std.proofs.Common.{◌≡◌, ℕ, ◌+◌, ◌*◌, ◌≤◌, ◌==◌, ◌||◌, ◌∙◌, Bool, true, false, List, [], ◌∷◌, length, Option}
+use Rattle.std.proofs.Common.{◌≡◌, ℕ, ◌+◌, ◌*◌, ◌≤◌, ◌==◌, ◌||◌, ◌∙◌, Bool, true, false, List, [], ◌∷◌, length}
 use Rattle.std.proofs.Common.{Some, None, Err, take, drop, is_some, arith, refl, sym, ap, ap₂}
 use Rattle.std.specs.Prelude.{if◌then◌else◌}
 use Rattle.ffs_volume.specs.declared.{Order.{Order, TheVariants.{Little, Big}}, constants.TheConstants.FS_MAGIC}
@@ -53,11 +53,7 @@ magic_there b xs sector place n at is there inside =
     ∙ ap (λ (k : ℕ). number Big 4 (piece k 4 b)) there ∙ sym (number_in Big (sector * 512) 1376 1372 b (omega arith)) in
     ap₂ (λ (k m : ℕ). (k == FS_MAGIC || m == FS_MAGIC)) little big ∙ sym (magic_at (piece (sector * 512) 1376 b))
 
-no_order : (o : Option Order) → is_some o ≡ false → o ≡ None
-no_order o e = grind arith
-
 -- where none is there, no superblock is accepted
 pub no_magic : (b : List ℕ) (sector : ℕ) → sector * 512 + 1376 ≤ length b → has_magic b sector ≡ false →
     outcome b (Some sector) ≡ Err Magic
-no_magic b sector inside none =
-    outcome_magic b (Some sector) (piece (sector * 512) 1376 b) inside refl (no_order _ none)
+no_magic b sector inside none = grind (arith, outcome_magic)

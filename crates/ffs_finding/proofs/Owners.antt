@@ -1,5 +1,5 @@
 -- The lines of inodes, one after another.
-use Rattle.std.proofs.Common.{◌≡◌, ◌∙◌, ℕ, ◌+◌, ◌-◌, ◌<◌, ◌≤◌, true, false, List, [], ◌++◌, arith, refl, ap, sym}
+use Rattle.std.proofs.Common.{◌≡◌, ◌∙◌, ℕ, ◌+◌, ◌-◌, ◌<◌, ◌≤◌, true, false, List, [], ◌++◌, arith, refl}
 use Rattle.std.{proofs.lemmas.Bool.Decides.nat_tests, specs.List.{flat_map, range_with_len}}
 use Rattle.ffs_volume.proofs.{CutLaws.cut_is, OwnerLaws.before_next, ReplayLaws.replay_is_runs}
 use Rattle.ffs_volume.specs.Blocks.{Claims.{at_next_inode, after_steps}, KeptSteps.claims_before, Inodes.inode_of}
@@ -11,7 +11,7 @@ use Rattle.ffs_volume.specs.{Encodings.ReplayCounts.replayed_runs, Laws.Geometry
 use Rattle.ffs_volume.specs.{declared.Layout.Layout, Find.Owner.{keeper_lines, keeper_lines_of_inode}}
 use Rattle.ffs_volume.specs.Encodings.Notes.{cut_in, note_at}
 use Rattle.ffs_workspace.proofs.{KindLaws.reports_at, NoteLaws.cut_is_noted}
-use Rattle.ffs_finding.{specs.Keepers.lines_again, proofs.{Ranges.next, Replayed.inode_replay}}
+use Rattle.ffs_finding.{specs.Keepers.lines_again, proofs.{Replayed.inode_replay}}
 
 -- the lines of the inodes from n on
 unfoldable pub keepers_from : (v : Layout) (b : List ℕ) (f n : ℕ) → List (List ℕ)
@@ -28,10 +28,7 @@ keepers_end v b f n past = let none : inodes_of v - n ≡ 0 = omega arith in rw 
 pub keepers_next : (v : Layout) (b : List ℕ) (f n : ℕ) → n < inodes_of v →
     keepers_from v b f n ≡ keeper_lines_of_inode v b f n ++ keepers_from v b f (n + 1)
 unfolding keepers_from
-keepers_next v b f n low =
-    let fewer : inodes_of v - n - 1 ≡ inodes_of v - (n + 1) = omega arith in
-    next (keeper_lines_of_inode v b f) n (inodes_of v - n) (omega arith)
-    ∙ ap (λ k. keeper_lines_of_inode v b f n ++ flat_map (keeper_lines_of_inode v b f) (range_with_len (n + 1) k)) fewer
+keepers_next v b f n low = grind arith
 
 number_is : (v : Layout) (n : ℕ) → 2 ≤ n → n < inodes_of v → is_inode_number v n ≡ true
 number_is v n low high = grind (arith, nat_tests)
@@ -40,26 +37,21 @@ number_is v n low high = grind (arith, nat_tests)
 cut_ends : (v : Layout) (b : List ℕ) (n note : ℕ) → IsAcceptedLayout v → 2 ≤ n → n < inodes_of v →
     note ≡ note_at v b n →
     cut_in note ≡ cut_of (after_steps v (at_next_inode (claims_before v b n)) (steps_of v (inode_of v b n) b))
-cut_ends v b n note g low high e =
-    ap cut_in e ∙ (cut_is_noted v b n g ∙ cut_is v b n g (number_is v n low high))
+cut_ends v b n note g low high e = grind (arith, cut_is_noted, cut_is)
 
 -- the lines of an inode, replayed by its noted cut
 pub listed_inode : (v : Layout) (b : List ℕ) (f n note : ℕ) → IsAcceptedLayout v → 2 ≤ n → n < inodes_of v →
     note ≡ note_at v b n → lines_again v f n 0 (cut_in note) fresh_replay (steps_of v (inode_of v b n) b)
     ≡ keeper_lines_of_inode v b f n
 unfolding keeper_lines_of_inode
-listed_inode v b f n note g low high e =
-    rw (cut_ends v b n note g low high e) (sym (inode_replay v f n (claims_before v b n)
-    (steps_of v (inode_of v b n) b)))
+listed_inode v b f n note g low high e = grind (arith, cut_ends, inode_replay)
 
 -- and its Runs
 pub inode_runs : (v : Layout) (b : List ℕ) (n note : ℕ) → IsAcceptedLayout v → 2 ≤ n → n < inodes_of v →
     note ≡ note_at v b n → (claims_before v b (n + 1)).runs ≡ (claims_before v b n).runs
     + replayed_runs v (cut_in note) fresh_replay (steps_of v (inode_of v b n) b)
 unfolding owner_of
-inode_runs v b n note g low high e =
-    rw (before_next v b n low, cut_ends v b n note g low high e)
-    (replay_is_runs v (claims_before v b n) (steps_of v (inode_of v b n) b))
+inode_runs v b n note g low high e = grind (arith, before_next, cut_ends, replay_is_runs)
 
 -- ---- an inode that isn't allocated
 not_walked : (c : Class) → is_allocated c ≡ false → is_file_or_dir c ≡ false

@@ -36,8 +36,7 @@ stops knows rest rest' all ms a b c p e q = record {
 -- all was printed at once
 pub prints_all : {knows : List ℕ → Type 0} {all : List ℕ → List (List ℕ)} {ms : List (List ℕ)} {a b : Sink} →
     ForBytes knows (λ bytes. all bytes ≡ ms) → Took a b (concat ms) → PrintedTo knows (λ bytes. []) all a b
-prints_all {knows} {all} {ms} e p =
-    record { lines = ms; right = λ bytes k. append-nil ms ∙ sym (e bytes k); took = p }
+prints_all {knows} {all} {ms} e p = grind (arith, append-nil)
 
 pub prints_none : {knows : List ℕ → Type 0} {all : List ℕ → List (List ℕ)} {a : Sink} →
     ForBytes knows (λ bytes. all bytes ≡ []) → PrintedTo knows (λ bytes. []) all a a
@@ -137,32 +136,9 @@ prints_whether knows rest rest' all ms any found a b c p e q here = record {
   any_is = rw (any_more p.printed.lines ms, p.any_is, here) refl;
 }
 
--- nothing is to come
-pub printed_all : (knows : List ℕ → Type 0) (rest all : List ℕ → List (List ℕ)) (a b : Sink) →
-    PrintedTo knows rest all a b
-    → ForBytes knows (λ bytes. rest bytes ≡ []) → PrintedTo knows (λ bytes. []) all a b
-printed_all knows rest all a b p e = record {
-  lines = p.lines;
-  right = λ bytes k. grind (arith, p.right bytes k, e bytes k);
-  took = p.took;
-}
-
 -- where more is known
 pub knowing : (T : Type 0) (knows knows' : List ℕ → Type 0) (all : List ℕ → List (List ℕ)) (a b : Sink)
     (r : Result T RunFault) → ForBytes knows' knows → PrintsLines knows all a b r → PrintsLines knows' all a b r
-knowing T knows knows' all a b (Ok x) more p =
-    record { lines = p.lines; right = λ bytes k. p.right bytes (more bytes k); took = p.took }
-knowing T knows knows' all a b (Err (Read fault)) more p = record {
-  rest = p.rest;
-  printed = record {
-    lines = p.printed.lines;
-    right = λ bytes k. p.printed.right bytes (more bytes k);
-    took = p.printed.took;
-  };
-}
-knowing T knows knows' all a b (Err (Out fault)) more p = record {
-  lines = p.lines;
-  rest = p.rest;
-  right = λ bytes k. p.right bytes (more bytes k);
-  broke_off = p.broke_off;
-}
+knowing T knows knows' all a b (Ok x) more p = grind arith
+knowing T knows knows' all a b (Err (Read fault)) more p = grind arith
+knowing T knows knows' all a b (Err (Out fault)) more p = grind arith

@@ -2,7 +2,7 @@
 use Rattle.std.proofs.Common.{◌≡◌, ℕ, zero, suc, ◌+◌, ◌-◌, ◌≤◌, true, false, ◌==◌, if◌then◌else◌, List, [], ◌∷◌, ◌++◌}
 use Rattle.std.proofs.Common.{map, replicate, arith, refl, ap, ◌∙◌, inl, inr, Option, nat_lt, ◌&&◌}
 use Rattle.std.{proofs.lemmas.Bool.{cases_Bool, Decides.nat_tests}, specs.List.{list_any, range_with_len}}
-use Rattle.ffs_volume.proofs.{Potentials.{cond_holds, offers_keep}, PrefixLaws.full_offers, ReplayIsKeeping.replay_of}
+use Rattle.ffs_volume.proofs.{Potentials.{offers_keep}, PrefixLaws.full_offers, ReplayIsKeeping.replay_of}
 use Rattle.ffs_volume.{proofs.ReplayIsKeeping.{seen_replays, step_replays, step_few}, specs.Blocks.Claims.after_offers}
 use Rattle.ffs_volume.specs.Blocks.Claims.{Claims, at_next_inode, is_open, after_step, after_steps, after_offer}
 use Rattle.ffs_volume.specs.Blocks.KeptOffers.{offer_of, kept_in_run, kept_in_offers, kept_in_step}
@@ -38,9 +38,6 @@ offers_firsts v i s start (suc len) k e = elim (cases_Bool (nat_lt s.dup_offers 
 abbrev by_cut : ℕ → Replay → Replay
 by_cut cut q = record { bad = q.bad; kept = if cut == 0 then 0 else q.kept }
 
-begins_by_cut : (cut : ℕ) → by_cut cut fresh_replay ≡ fresh_replay
-begins_by_cut cut = cond_holds (λ n. record { bad = 0; kept = n } ≡ fresh_replay) (cut == 0) 0 0 (λ _. refl) (λ _. refl)
-
 open_by_cut : (cut : ℕ) (q : Replay) → is_replay_open cut (by_cut cut q) ≡ is_replay_open cut q
 open_by_cut cut q = grind (arith, nat_tests)
 
@@ -50,19 +47,14 @@ taken_by_cut v cut q start len = grind (arith, nat_tests)
 
 step_by_cut : (v : Layout) (cut : ℕ) (q : Replay) (step : Step) →
     replay_step_by_cut v cut (by_cut cut q) step ≡ by_cut cut (replay_after_step v cut q step)
-step_by_cut v cut q (Run start len block) = run cut
-  where
-    run : (cut : ℕ) → replay_step_by_cut v cut (by_cut cut q) (Run start len block)
-        ≡ by_cut cut (replay_after_step v cut q (Run start len block))
-    run cut = grind (arith, nat_tests)
+step_by_cut v cut q (Run start len block) = grind arith
 step_by_cut v cut q other = refl
 
 run_offers : (v : Layout) (i : ℕ) (s : Claims) (cut start len : ℕ) (block : Option ℕ) → is_open s ≡ true →
     is_replay_open cut (replay_of s) ≡ true →
     replay_after_step v cut (replay_of s) (Run start len block) ≡ replay_of (after_step v s (Run start len block)) →
     kept_in_run v i s start len ≡ map (offer_of i) (range_with_len start (run_taken v cut (replay_of s) start len))
-run_offers v i s cut start len block going seen next =
-    let kept = ap (λ r. r.kept) next in grind (arith, offers_firsts)
+run_offers v i s cut start len block going seen next = grind (arith, offers_firsts)
 
 step_again : (v : Layout) (i cut : ℕ) (s : Claims) (step : Step) → is_replay_open cut (replay_of s) ≡ is_open s →
     replay_after_step v cut (replay_of s) step ≡ replay_of (after_step v s step) →
@@ -84,9 +76,7 @@ any_in_range f x start (suc taken) = let more = any_in_range f x (start + 1) tak
 any_again : (v : Layout) (f x cut : ℕ) (r : Replay) (start len : ℕ) (block : Option ℕ) →
     list_any (λ o. o.fragment == f) (step_offers_again v x cut r (Run start len block))
     ≡ (is_replay_open cut r && is_in_run f start (run_taken v cut r start len))
-any_again v f x cut r start len block =
-    let some = any_in_range f x start (run_taken v cut r start len) in
-    elim (cases_Bool (is_replay_open cut r)) [ inl q ↦ rw q some | inr q ↦ rw q refl ]
+any_again v f x cut r start len block = grind (arith, any_in_range)
 
 line_again : (v : Layout) (f x earlier cut : ℕ) (s : Claims) (r : Replay) (step : Step) →
     kept_in_step v x s step ≡ step_offers_again v x cut r step →
@@ -113,8 +103,7 @@ lines_replay v f x earlier s (step ∷ steps) few =
 pub inode_replay : (v : Layout) (f x : ℕ) (s : Claims) (steps : List Step) →
     keeper_lines_of_steps v f x 0 (at_next_inode s) steps
     ≡ lines_again v f x 0 (cut_of (after_steps v (at_next_inode s) steps)) fresh_replay steps
-inode_replay v f x s steps = rw (begins_by_cut (cut_of (after_steps v (at_next_inode s) steps)))
-    at (lines_replay v f x 0 (at_next_inode s) steps (omega arith))
+inode_replay v f x s steps = grind (arith, lines_replay)
 
 -- ---- how a walk continues
 pub lines_next : (v : Layout) (f x earlier earlier' cut : ℕ) (r r' : Replay) (step : Step) (R R' : List Step) →

@@ -1,35 +1,25 @@
 -- The lines of stretches of numbers that pass, one after another.
 use Rattle.std.proofs.Common.{◌≡◌, ◌∙◌, ℕ, zero, suc, ◌+◌, ◌-◌, ◌<◌, ◌≤◌, Bool, true, false, List, [], ◌∷◌, ◌++◌}
 use Rattle.std.proofs.{Common.{append-nil, arith, refl, ap, sym, subst, inl, inr}, lemmas.Bool.cases_lt}
-use Rattle.std.specs.{List.{concat, flat_map, prefix_len, range_with_len}, Prelude.{◌||◌, ◌==◌, codes, decimal}}
-use Rattle.std.specs.Prelude.{if◌then◌else◌}
+use Rattle.std.specs.{List.{concat, flat_map, prefix_len, range_with_len}, Prelude.{◌||◌}}
 use Rattle.ffs_report.{specs.Sink.{Sink, Took, BrokeOff}, proofs.Sinks.{took_nil, took_then, broke_off_after}}
 use Rattle.ffs_report.proofs.Sinks.{broke_off_more}
 use Rattle.ffs_finding.specs.{Outcome.any_line, LostMaps.IsNext}
-use Rattle.ffs_finding.proofs.{Printing.{any_more, concat-append, text_at_begin, text_at_end}, Ranges.{next, none, split}}
+use Rattle.ffs_finding.proofs.{Printing.{any_more, concat-append, text_at_begin}, Ranges.{next, none, split}}
 use Rattle.ffs_volume.specs.Find.Lost.{range_text, stretch_at, stretch_length, stretch_lines}
 
 or_true : (b : Bool) → (b || true) ≡ true
 or_true b = grind arith
 
--- the line of a range has a text, whichever form it has
-either_text : (b : Bool) (xs ys : List ℕ) → any_line (xs ∷ []) ≡ true → any_line (ys ∷ []) ≡ true →
-    any_line ((if b then xs else ys) ∷ []) ≡ true
-either_text true xs ys p q = p
-either_text false xs ys p q = q
-
 range_is_text : (word : List ℕ) (first last : ℕ) → any_line (range_text word first last ∷ []) ≡ true
-range_is_text word first last = either_text (first == last) _ _
-    (text_at_end word _ (text_at_end (decimal first) _ refl))
-    (text_at_end word _ (text_at_begin (decimal first ++ codes " to ") _ (text_at_end (decimal first) _ refl)))
+range_is_text word first last = grind (arith, text_at_begin)
 
 -- so many pass from the front on
 prefix_is : (p : ℕ → Bool) (f n j : ℕ) → j ≤ n → ((k : ℕ) → f ≤ k → k < f + j → p k ≡ true) →
     (j < n → p (f + j) ≡ false) → prefix_len p (range_with_len f n) ≡ j
 prefix_is p f zero zero few pass stop = refl
 prefix_is p f zero (suc j) few pass stop = absurd (omega (arith, few))
-prefix_is p f (suc n) zero few pass stop = let place : f + 0 ≡ f = omega arith in
-    let at : p f ≡ false = subst (λ (k : ℕ). p k ≡ false) place (stop (omega arith)) in rw at refl
+prefix_is p f (suc n) zero few pass stop = grind arith
 prefix_is p f (suc n) (suc j) few pass stop =
     let at : p f ≡ true = pass f (omega arith) (omega arith) in
     let rest = prefix_is p (f + 1) n j (omega (arith, few))

@@ -4,7 +4,7 @@ use Rattle.std.{proofs.Common.{refl, is_ok}, specs.Prelude.⊤}
 use Rattle.ffs_check.specs.{Moment.Moment, Taken.AsksMemory}
 use Rattle.ffs_image.specs.Device.{Device, ForContents}
 use Rattle.ffs_memory.specs.Account.{Account, RefusedOneMore}
-use Rattle.ffs_volume.specs.{declared.Layout.Layout, Report.Memory.{held_limit, held_of}, Disk.Superblock.Superblock}
+use Rattle.ffs_volume.specs.{declared.Layout.Layout, Disk.Superblock.Superblock}
 use Rattle.ffs_volume.specs.{Disk.Outcome.outcome, Laws.Geometry.IsAcceptedLayout}
 use Rattle.ffs_report.specs.{Known.{ForBytes, IsContents}, Sink.Sink, declared.fault.RunFault.TheVariants.{Read, Out}}
 use Rattle.ffs_finding.specs.declared.find.FindFault.{FindFault, TheVariants.{Refused, Failed, NoMemory}}
@@ -85,10 +85,6 @@ anywhere (Err (Failed (Read fault))) = tt
 anywhere (Err (Failed (Out fault))) = tt
 anywhere (Err NoMemory) = tt
 
--- what the lists and buffers of a check take is within their bound
-held_within : (v : Layout) → held_of v ≤ held_limit v
-held_within v = omega arith
-
 asked : (bytes : ℕ) (held held' : Account) (r : Result Bool FindFault) → IsGranted bytes held held' r →
     AsksMemory held held' bytes
 asked bytes held held' (Ok defect) p = inl p
@@ -102,22 +98,8 @@ takes : (target : Target) (sector : Option ℕ) (s : Superblock) (d : Device) (h
     TakesForTarget target s.layout held held' r → TakesMemory (InVolume sector target) d held held'
 takes (Inode number) sector s d held held' r accepted sound inside p = p.0
 takes Fields sector s d held held' r accepted sound inside p = p.0
-takes Lost sector s d held held' r accepted sound inside p = inr (record {
-  found = s;
-  accepted = accepted;
-  sound = sound;
-  inside = inside;
-  asked = asked (held_of s.layout) held held' r p;
-  within = held_within s.layout;
-})
-takes (Owner fragment) sector s d held held' r accepted sound inside p = inr (record {
-  found = s;
-  accepted = accepted;
-  sound = sound;
-  inside = inside;
-  asked = asked (held_of s.layout) held held' r p;
-  within = held_within s.layout;
-})
+takes Lost sector s d held held' r accepted sound inside p = grind arith
+takes (Owner fragment) sector s d held held' r accepted sound inside p = grind arith
 
 -- a target was found after the superblock was read
 pub answered : (target : Target) (sector : Option ℕ) (s : Superblock) (d : Device) (before between : ℕ) (a : Sink)

@@ -11,10 +11,7 @@ use Rattle.ffs_volume.specs.{declared.Step.TheVariants.{Run, Tail, Gap}, Find.Ow
 
 -- at most how many steps lie under an address, by the words of a block
 most_under : (n m1 m2 m3 : ℕ) → n ≤ 16384 → m1 ≡ 2 + n * 1 → m2 ≡ 2 + n * m1 → m3 ≡ 2 + n * m2 → m3 ≤ 4398583414786
-most_under n m1 m2 m3 few a b c =
-    let first : n * m1 ≤ 16384 * 16386 = mul-le n m1 16384 16386 few (omega arith) in
-    let second : n * m2 ≤ 16384 * 268468226 = mul-le n m2 16384 268468226 few (omega arith) in
-    omega arith
+most_under n m1 m2 m3 few a b c = grind arith
 
 spent_left : (most : ℕ) (f : Frame) → IsSpent f → frame_left most f ≡ 0
 spent_left most f s = let none : f.used - f.next ≡ 0 = omega (arith, s.0) in rw (s.1, none) (omega arith)

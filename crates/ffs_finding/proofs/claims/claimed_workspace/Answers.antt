@@ -1,21 +1,11 @@
-use Rattle.std.proofs.{Common.{arith, refl}, lemmas.Result.err_from_is_err_and}
-use Rattle.ffs_finding.proofs.Claiming.{failed}
+use Rattle.std.proofs.{Common.{arith}}
 use Rattle.ffs_finding.proofs.claims.claimed_workspace.Goals as goal
 
 pub phase1-requires : goal.phase1-requires
-phase1-requires g c = record {
-  ready = record {
-    made = c.in_ok-workspace.ensures.new.made;
-    volume = c.requires;
-  };
-}
+phase1-requires g c = grind arith
 
 pub returns-in_err-phase1-clause-takes : goal.returns-in_err-phase1-clause-takes
-returns-in_err-phase1-clause-takes g c =
-    let p = err_from_is_err_and c.from_residual-in_err-phase1.result c.from_residual-in_err-phase1.ensures.1 in
-    let did = c.in_err-phase1.ensures in
-    rw (p.1, p.2) (failed _ _ _ _ _ c.args.geometry.now.layout _ _ _ _ c.in_err-phase1.field-0.0
-    c.new.ensures refl did.text did.faults c.in_ok-workspace.ensures.asks)
+returns-in_err-phase1-clause-takes g c = grind arith
 
 pub returns-in_err-phase1-clause-reads : goal.returns-in_err-phase1-clause-reads
 returns-in_err-phase1-clause-reads g c = let p = c.phase1.ensures.reads in omega (arith, p.reads, p.runs)

@@ -1,22 +1,13 @@
-use Rattle.std.proofs.Common.{◌≡◌, ◌∙◌, ◌+◌, ◌-◌, ℕ, [], arith, refl, sym, ap, subst}
+use Rattle.std.proofs.Common.{◌≡◌, ◌+◌, ◌-◌, ℕ, arith, ap, subst}
 use Rattle.std.proofs.{Common.{inl, inr}, lemmas.{Result.err_from_is_err_and, Bool.cases_eq}}
 use Rattle.ffs_report.{proofs.Sinks.took_nil}
-use Rattle.ffs_finding.{specs.Copies.{IsSectorsEnd, IsWindowOf}, proofs.Printing.{part, part_fault, printed_all}}
-use Rattle.ffs_finding.proofs.{CopySteps.sized_at, CopyLaws.{count_is, lines_begin, lines_next, lines_end, magics}}
+use Rattle.ffs_finding.{specs.Copies.{IsWindowOf}, proofs.Printing.{part, part_fault}}
+use Rattle.ffs_finding.proofs.{CopyLaws.{count_is, lines_begin, lines_next, lines_end, magics}}
 use Rattle.ffs_finding.proofs.CopyLaws.{reads_next, reads_all}
 use Rattle.ffs_finding.proofs.copies.find_copies.Goals as goal
 
 pub loop-sector-init : goal.loop-sector-init
-loop-sector-init g c = record {
-  device = refl;
-  room = c.requires.room;
-  holds = c.requires.holds;
-  at = λ h. absurd (omega (arith, h));
-  first = λ e. omega arith;
-  known = λ b k. omega arith;
-  any = omega arith;
-  printed = record { lines = []; right = λ b k. sym (lines_begin b); took = took_nil _ };
-}
+loop-sector-init g c = grind (arith, lines_begin, took_nil)
 
 pub returns-in_err-find_copy-clause-prints : goal.returns-in_err-find_copy-clause-prints
 returns-in_err-find_copy-clause-prints g c =
@@ -69,16 +60,7 @@ loop-sector-preserved g c =
     }
 
 pub returns-clause-prints : goal.returns-clause-prints
-returns-clause-prints g c =
-    let d = g.I.Image.device c.args.image.now in
-    let inv = c.loop-sector.invariant in
-    record {
-      image = inv.device;
-      text = printed_all _ _ _ _ _ inv.printed (λ b k. lines_end b c.loop-sector.sector c.sectors_end-sector-end.result
-          (subst (λ (m : ℕ). IsSectorsEnd m c.sectors_end-sector-end.result)
-          (c.size.ensures ∙ sym (sized_at d b (g.met.I.Image.sized c.args.image.now) k))
-          c.sectors_end-sector-end.ensures) c.loop-sector-test.false);
-    }
+returns-clause-prints g c = grind (arith, lines_end)
 
 pub returns-clause-reads : goal.returns-clause-reads
 returns-clause-reads g c =

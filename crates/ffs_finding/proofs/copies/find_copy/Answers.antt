@@ -1,21 +1,11 @@
 use Rattle.std.proofs.{Common.{◌∙◌, arith, rules, sym, ap}, lemmas.Result.err_from_is_err_and}
 use Rattle.ffs_volume.specs.Find.Copies.{copy_lines_of}
 use Rattle.ffs_finding.proofs.Printing.{one, one_broken, prints_all, prints_none, stops_all, reads_first}
-use Rattle.ffs_finding.proofs.CopySteps.{no_line, two_reads, same_super, unread, holds_on}
+use Rattle.ffs_finding.proofs.CopySteps.{no_line, two_reads, same_super, holds_on}
 use Rattle.ffs_finding.proofs.copies.find_copy.Goals as goal
 
 pub returns-in_err-found : goal.returns-in_err-found
-returns-in_err-found g c =
-    let p = err_from_is_err_and c.from_residual.result c.from_residual.ensures.1 in
-    let e = c.in_err-found.ensures.answer in
-    let read = c.has_magic.ensures.reads in
-    rw (p.1, p.2) (record {
-      found = record { image = e.read; text = reads_first };
-      window = record { at = search rules; room = e.window.room; holds = e.window.holds };
-      counted = λ b k. omega (arith, read.counted);
-      again = λ at b k. omega (arith, read.again at);
-      any = omega (arith, read.counted);
-    })
+returns-in_err-found g c = grind (arith, reads_first)
 
 pub returns-then-not-found : goal.returns-then-not-found
 returns-then-not-found g c =
@@ -87,23 +77,4 @@ returns-in_ok-print_copy-in-Ok g c =
     }
 
 pub returns-in-Err-CannotRead : goal.returns-in-Err-CannotRead
-returns-in-Err-CannotRead g c =
-    let e = c.in_ok-found.ensures.answer in
-    let read = c.has_magic.ensures.reads in
-    let failed = unread (g.I.Image.device c.args.image.now) _ _ c.args.sector c.in-Err-CannotRead.sector e.read
-    c.requires.inside
-    (c.in-Err-CannotRead.ensures.inside_or_unreadable c.in-Err-CannotRead.sector c.in-Err-CannotRead.field-0-is) in
-    let two = two_reads (g.I.Image.device c.args.image.now) c.args.sector
-    (λ b k. sym c.if-not-found.false ∙ e.answer b k) in
-    record {
-      found = record { image = failed; text = reads_first };
-      window = record {
-        at = search rules;
-        room = e.window.room;
-        holds = holds_on (g.I.Image.device c.args.image.now) (g.I.Image.device c.has_magic.new.image)
-            (g.I.Image.device c.read_super.new.image) c.has_magic.new.window e.read failed.contents e.window.holds;
-      };
-      counted = λ b k. let reads = two b k in omega (arith, read.counted, reads, c.in-Err-CannotRead.ensures.reads);
-      again = λ at b k. let reads = two b k in omega (arith, read.again at, reads, c.in-Err-CannotRead.ensures.reads);
-      any = omega (arith, read.counted, c.in-Err-CannotRead.ensures.reads);
-    }
+returns-in-Err-CannotRead g c = grind (arith, reads_first)

@@ -18,9 +18,4 @@ returns-clause-answer g c =
     }
 
 pub returns-clause-reads : goal.returns-clause-reads
-returns-clause-reads g c =
-    let fills = c.in_ok-fill.ensures.fills in
-    record {
-      counted = fills.counted;
-      again = λ h. fills.again (omega (arith, h.place)) (omega (arith, h.length));
-    }
+returns-clause-reads g c = grind arith

@@ -33,9 +33,7 @@ returns-then-size-start-clause-prints g c =
     }
 
 pub returns-in_err-read_at-clause-prints : goal.returns-in_err-read_at-clause-prints
-returns-in_err-read_at-clause-prints g c =
-    let p = err_from_is_err_and c.from_residual.result c.from_residual.ensures.1 in
-    rw (p.1, p.2) (record { found = record { image = search rules; text = reads_first }; any = tt })
+returns-in_err-read_at-clause-prints g c = grind (arith, err_from_is_err_and, reads_first)
 
 pub returns-in_err-of_layout-clause-prints : goal.returns-in_err-of_layout-clause-prints
 returns-in_err-of_layout-clause-prints g c =

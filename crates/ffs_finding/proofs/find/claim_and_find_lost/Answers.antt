@@ -1,9 +1,8 @@
-use Rattle.std.proofs.{Common.{Bool, Err, arith}, lemmas.Result.err_from_is_err_and}
+use Rattle.std.proofs.{Common.{Err, arith}, lemmas.Result.err_from_is_err_and}
 use Rattle.ffs_layout.specs.Super.{superblock_in}
 use Rattle.ffs_check.specs.Moment.{moment}
 use Rattle.ffs_finding.{specs.declared.request.Target.TheVariants.Lost, proofs.ClaimTargets.all_answer}
-use Rattle.ffs_finding.proofs.{ClaimTargets.{fault_answer, refused_answer, refused_memory}, Targets.anywhere}
-use Rattle.ffs_finding.specs.declared.find.FindFault.TheVariants.{Failed}
+use Rattle.ffs_finding.proofs.{ClaimTargets.{refused_answer}, Targets.anywhere}
 use Rattle.ffs_finding.proofs.find.claim_and_find_lost.Goals as goal
 
 pub returns-in_err-workspace-clause-answer : goal.returns-in_err-workspace-clause-answer
@@ -19,29 +18,13 @@ returns-in_err-workspace-clause-answer g c = λ sector.
     })
 
 pub returns-in_err-workspace-clause-memory : goal.returns-in_err-workspace-clause-memory
-returns-in_err-workspace-clause-memory g c =
-    let p = err_from_is_err_and c.from_residual.result c.from_residual.ensures.1 in
-    rw (p.1, p.2) (refused_memory c.args.superblock.now.geometry.layout _ _ _ _ c.in_err-workspace.field-0.0
-    c.in_err-workspace.ensures.takes)
+returns-in_err-workspace-clause-memory g c = grind arith
 
 pub returns-in_err-find_lost-clause-answer : goal.returns-in_err-find_lost-clause-answer
-returns-in_err-find_lost-clause-answer g c = λ sector.
-    let p = err_from_is_err_and c.from_residual-in_err-find_lost.result c.from_residual-in_err-find_lost.ensures.1 in
-    let made = c.in_ok-workspace.ensures in
-    let found = rw (made.takes.0) at c.in_err-find_lost.ensures.prints.found in
-    rw (p.1, p.2) (record {
-      answer = fault_answer Lost sector (superblock_in c.args.superblock.now)
-          (moment g.I.Image g.W.Output c.args.image.now c.args.out.now)
-          (moment g.I.Image g.W.Output c.find_lost.new.image c.find_lost.new.out) c.in_ok-workspace.workspace
-          made.takes.3 Bool c.in_err-find_lost.field-0.0 found.image found.text;
-      place = anywhere (Err (Failed c.in_err-find_lost.field-0.0));
-      reads = omega (arith, made.reads, c.find_lost.ensures.reads);
-    })
+returns-in_err-find_lost-clause-answer g c = grind arith
 
 pub returns-in_err-find_lost-clause-memory : goal.returns-in_err-find_lost-clause-memory
-returns-in_err-find_lost-clause-memory g c =
-    let p = err_from_is_err_and c.from_residual-in_err-find_lost.result c.from_residual-in_err-find_lost.ensures.1 in
-    rw (p.1, p.2) (c.in_ok-workspace.ensures.takes.1)
+returns-in_err-find_lost-clause-memory g c = grind arith
 
 pub returns-clause-answer : goal.returns-clause-answer
 returns-clause-answer g c = λ sector.

@@ -1,9 +1,8 @@
-use Rattle.std.proofs.{Common.{Err, arith, refl}, lemmas.Result.err_from_is_err_and}
+use Rattle.std.proofs.{Common.{Err, arith}, lemmas.Result.err_from_is_err_and}
 use Rattle.ffs_layout.specs.Super.{superblock_in}
 use Rattle.ffs_check.specs.Moment.{moment}
-use Rattle.ffs_finding.{specs.declared.request.Target.TheVariants.Owner, proofs.ClaimTargets.all_answer}
-use Rattle.ffs_finding.proofs.{ClaimTargets.{fault_answer, refused_answer, refused_memory}, Targets.anywhere}
-use Rattle.ffs_finding.specs.declared.find.FindFault.TheVariants.{Failed}
+use Rattle.ffs_finding.{specs.declared.request.Target.TheVariants.Owner}
+use Rattle.ffs_finding.proofs.{ClaimTargets.{refused_answer}, Targets.anywhere}
 use Rattle.ffs_finding.proofs.find.claim_and_find_owner.Goals as goal
 
 pub returns-in_err-workspace-clause-answer : goal.returns-in_err-workspace-clause-answer
@@ -19,45 +18,16 @@ returns-in_err-workspace-clause-answer g c = λ sector.
     })
 
 pub returns-in_err-workspace-clause-memory : goal.returns-in_err-workspace-clause-memory
-returns-in_err-workspace-clause-memory g c =
-    let p = err_from_is_err_and c.from_residual.result c.from_residual.ensures.1 in
-    rw (p.1, p.2) (refused_memory c.args.superblock.now.geometry.layout _ _ _ _ c.in_err-workspace.field-0.0
-    c.in_err-workspace.ensures.takes)
+returns-in_err-workspace-clause-memory g c = grind arith
 
 pub returns-in_err-find_owner-clause-answer : goal.returns-in_err-find_owner-clause-answer
-returns-in_err-find_owner-clause-answer g c = λ sector.
-    let p = err_from_is_err_and c.from_residual-in_err-find_owner.result c.from_residual-in_err-find_owner.ensures.1 in
-    let made = c.in_ok-workspace.ensures in
-    let found = rw (made.takes.0) at c.in_err-find_owner.ensures.prints in
-    rw (p.1, p.2) (record {
-      answer = fault_answer (Owner c.args.fragment) sector (superblock_in c.args.superblock.now)
-          (moment g.I.Image g.W.Output c.args.image.now c.args.out.now)
-          (moment g.I.Image g.W.Output c.find_owner.new.image c.find_owner.new.out) c.in_ok-workspace.workspace
-          made.takes.3 (Unit {0}) c.in_err-find_owner.field-0.0 found.image found.text;
-      place = anywhere (Err (Failed c.in_err-find_owner.field-0.0));
-      reads = omega (arith, made.reads, c.find_owner.ensures.reads);
-    })
+returns-in_err-find_owner-clause-answer g c = grind (arith, anywhere)
 
 pub returns-in_err-find_owner-clause-memory : goal.returns-in_err-find_owner-clause-memory
-returns-in_err-find_owner-clause-memory g c =
-    let p = err_from_is_err_and c.from_residual-in_err-find_owner.result c.from_residual-in_err-find_owner.ensures.1 in
-    rw (p.1, p.2) (c.in_ok-workspace.ensures.takes.1)
+returns-in_err-find_owner-clause-memory g c = grind arith
 
 pub returns-clause-answer : goal.returns-clause-answer
-returns-clause-answer g c = λ sector.
-    let made = c.in_ok-workspace.ensures in
-    let found = rw (made.takes.0) at c.in_ok-find_owner.ensures.prints in
-    record {
-      answer = (
-        found.image,
-        all_answer (Owner c.args.fragment) sector (superblock_in c.args.superblock.now)
-            (moment g.I.Image g.W.Output c.args.image.now c.args.out.now)
-            (moment g.I.Image g.W.Output c.find_owner.new.image c.find_owner.new.out) c.in_ok-workspace.workspace
-            made.takes.3 _ found.text refl,
-      );
-      place = tt;
-      reads = omega (arith, made.reads, c.find_owner.ensures.reads);
-    }
+returns-clause-answer g c = grind arith
 
 pub returns-clause-memory : goal.returns-clause-memory
 returns-clause-memory g c = c.in_ok-workspace.ensures.takes.1

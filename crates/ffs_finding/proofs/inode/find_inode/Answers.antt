@@ -1,9 +1,8 @@
-use Rattle.std.proofs.Common.{◌≡◌, ℕ, ◌*◌, ◌<◌, ◌≤◌, List, [], ◌∷◌, true, false, arith, nat_lt, refl, rules, length}
+use Rattle.std.proofs.Common.{◌≡◌, ℕ, ◌*◌, ◌<◌, ◌≤◌, List, [], ◌∷◌, arith, rules, length}
 use Rattle.std.proofs.{Common.{take, drop}, lemmas.{Result.err_from_is_err_and, Bool.Decides.nat_tests}}
-use Rattle.ffs_volume.specs.{declared.Layout.Layout, Disk.{Areas.inode_place, Numbers.piece}}
+use Rattle.ffs_volume.specs.{declared.Layout.Layout, Disk.{Areas.inode_place}}
 use Rattle.ffs_volume.{specs.{Blocks.Inodes.inode_from_bytes, Find.InodeText.bytes_text}, proofs.AreaLaws.inode_group}
 use Rattle.ffs_volume.specs.Find.InodeText.{inode_listing}
-use Rattle.ffs_layout.proofs.Answering.{taken}
 use Rattle.ffs_workspace.proofs.TablePlaces.{piece_inside}
 use Rattle.ffs_finding.proofs.Printing.{one, one_broken, prints_all, prints_none, stops_all, reads_first}
 use Rattle.ffs_finding.proofs.inode.find_inode.Goals as goal
@@ -13,22 +12,14 @@ lines_are : (v : Layout) (b bytes : List ℕ) (x place : ℕ) → x < v.ncg * v.
     length bytes ≡ 128 → bytes ≡ take (length bytes) (drop place b) →
     inode_listing v b x ≡ bytes_text v place bytes (inode_from_bytes v.order bytes) ∷ []
 unfolding inode_listing
-lines_are v b bytes x place h at long is =
-    let e : nat_lt x (v.ncg * v.ipg) ≡ true = grind (arith, nat_tests) in
-    let read : bytes ≡ piece place 128 b = taken place 128 b bytes long is in
-    rw (e, ← at, ← read) refl
+lines_are v b bytes x place h at long is = grind (arith, nat_tests)
 
 no_lines : (v : Layout) (b : List ℕ) (x : ℕ) → v.ncg * v.ipg ≤ x → inode_listing v b x ≡ []
 unfolding inode_listing
-no_lines v b x h =
-    let e : nat_lt x (v.ncg * v.ipg) ≡ false = grind (arith, nat_tests) in
-    rw e refl
+no_lines v b x h = grind arith
 
 pub returns-then-number-geometry-clause-prints : goal.returns-then-number-geometry-clause-prints
-returns-then-number-geometry-clause-prints g c = record {
-  image = refl;
-  text = prints_none (λ b k. no_lines c.args.geometry.now.layout b c.args.number (omega arith));
-}
+returns-then-number-geometry-clause-prints g c = search (arith, prints_none, no_lines)
 
 pub read_at-requires : goal.read_at-requires
 read_at-requires g c =
@@ -39,9 +30,7 @@ read_at-requires g c =
     omega (arith, inside, c.inode_place-place.ensures, c.requires.volume)
 
 pub returns-in_err-read_at-clause-prints : goal.returns-in_err-read_at-clause-prints
-returns-in_err-read_at-clause-prints g c =
-    let p = err_from_is_err_and c.from_residual.result c.from_residual.ensures.1 in
-    rw (p.1, p.2) (record { image = search rules; text = reads_first })
+returns-in_err-read_at-clause-prints g c = grind (arith, err_from_is_err_and, reads_first)
 
 pub returns-in_err-print_bytes-clause-prints : goal.returns-in_err-print_bytes-clause-prints
 returns-in_err-print_bytes-clause-prints g c =

@@ -1,4 +1,4 @@
-use Rattle.std.proofs.{Common.{arith, ◌≡◌, ◌<◌, ℕ, List, subst}, lemmas.Result.err_from_is_err_and}
+use Rattle.std.proofs.{Common.{arith, ◌≡◌, ◌<◌, ℕ, List}}
 use Rattle.std.specs.List.{flat_map, range_with_len}
 use Rattle.ffs_volume.specs.{declared.Layout.Layout, Find.InodeText.{address_text, fifteen_text}}
 use Rattle.ffs_report.{specs.Sink.{Sink, Took, BrokeOff}, proofs.Sinks.took_nil}
@@ -8,8 +8,7 @@ use Rattle.ffs_finding.proofs.inode.print_addresses.Goals as goal
 all_took : (v : Layout) (addresses : List ℕ) (a b : Sink) (j : ℕ) → j ≡ 15 →
     Took a b (flat_map (address_text v addresses) (range_with_len 0 j)) → Took a b (fifteen_text v addresses)
 unfolding fifteen_text
-all_took v addresses a b j e p =
-    subst (λ (k : ℕ). Took a b (flat_map (address_text v addresses) (range_with_len 0 k))) e p
+all_took v addresses a b j e p = grind arith
 
 one_broke : (v : Layout) (addresses : List ℕ) (a b c : Sink) (j : ℕ) → j < 15 →
     Took a b (flat_map (address_text v addresses) (range_with_len 0 j)) → BrokeOff b c (address_text v addresses j) →
@@ -21,16 +20,10 @@ pub loop-index-init : goal.loop-index-init
 loop-index-init g c = record { took = took_nil _ }
 
 pub loop-index-preserved : goal.loop-index-preserved
-loop-index-preserved g c = record {
-  took = took_next (address_text c.args.geometry.now.layout c.args.inode.now.addresses) _ _ _ c.loop-index.index
-      c.loop-index.invariant.took c.in_ok-print_address.ensures;
-}
+loop-index-preserved g c = grind (arith, took_next)
 
 pub returns-in_err-print_address : goal.returns-in_err-print_address
-returns-in_err-print_address g c =
-    let p = err_from_is_err_and c.from_residual.result c.from_residual.ensures.1 in
-    rw (p.1) (one_broke c.args.geometry.now.layout c.args.inode.now.addresses _ _ _ c.loop-index.index
-    c.loop-index-test.true c.loop-index.invariant.took c.in_err-print_address.ensures)
+returns-in_err-print_address g c = grind (arith, one_broke)
 
 pub returns : goal.returns
 returns g c =

@@ -1,3 +1,4 @@
+use Rattle.std.proofs.Common.{arith}
 use Rattle.std.proofs.{Common.ap, lemmas.Result.err_from_is_err_and}
 use Rattle.ffs_workspace.specs.declared.workspace.Workspace.{Workspace}
 use Rattle.ffs_finding.proofs.LostParts.{fault_in_first, fault_in_second, printed_both}
@@ -13,18 +14,7 @@ find_wrong-requires g c =
     }
 
 pub returns-in_err-lost-clause-prints : goal.returns-in_err-lost-clause-prints
-returns-in_err-lost-clause-prints g c =
-    let p = err_from_is_err_and c.from_residual.result c.from_residual.ensures.1 in
-    let used = ap (λ (w : Workspace). w.used) c.forget_windows.ensures.only in
-    let e = rw used at c.in_err-lost.ensures.prints.lines.found in
-    rw (p.1, p.2) (record {
-      found = record {
-        image = e.image;
-        text = fault_in_first c.args.geometry.now.layout (g.I.Image.device c.args.image.now) c.args.workspace.now
-            _ _ _ e.text;
-      };
-      any = tt;
-    })
+returns-in_err-lost-clause-prints g c = grind (arith, fault_in_first)
 
 pub returns-in_err-free-clause-prints : goal.returns-in_err-free-clause-prints
 returns-in_err-free-clause-prints g c =

@@ -35,15 +35,7 @@ loop-group-init g c =
     }
 
 pub fill-requires : goal.fill-requires
-fill-requires g c =
-    let v = c.args.geometry.now.layout in
-    let inv = c.loop-group.invariant in
-    let fits = block_inside v c.loop-group.group c.args.geometry.now.sound c.loop-group-test.true in
-    rw (inv.device) (record {
-      room = omega (arith, inv.window.room, c.args.geometry.now.sound.parts.cgsize_high);
-      inside = omega (arith, fits, c.requires.volume, c.group_place-place.ensures);
-      holds = inv.window.holds;
-    })
+fill-requires g c = grind (arith, block_inside)
 
 pub returns-in_err-found-clause-prints : goal.returns-in_err-found-clause-prints
 returns-in_err-found-clause-prints g c =

@@ -1,12 +1,10 @@
+use Rattle.std.proofs.Common.{arith}
 use Rattle.std.proofs.lemmas.Result.{err_from_is_err_and}
 use Rattle.ffs_finding.{specs.LostMaps.{is_wrong_at, word_of}, proofs.Stretches.{at_begin, at_end, at_next, broke_at}}
 use Rattle.ffs_finding.proofs.lost.print_ranges.Goals as goal
 
 pub loop-first-init : goal.loop-first-init
-loop-first-init g c =
-    let m = c.args.map.now in
-    at_begin (word_of c.args.how) (is_wrong_at c.args.how m) m.base m.end c.first_with-first.result _ c.requires.order
-    c.first_with-first.ensures
+loop-first-init g c = search (arith, at_begin)
 
 pub returns-in_err-print_range : goal.returns-in_err-print_range
 returns-in_err-print_range g c =

@@ -4,10 +4,9 @@ use Rattle.ffs_volume.specs.{declared.Layout.Layout, Encodings.Kinds.{is_allocat
 use Rattle.ffs_volume.specs.{Find.Owner.keeper_lines_of_inode, Blocks.Inodes.inodes_of, Encodings.Notes.note_at}
 use Rattle.ffs_report.{proofs.Sinks.took_nil, specs.{Known.ForBytes, declared.fault.RunFault.RunFault}}
 use Rattle.ffs_workspace.specs.{Found.WithPhase1, declared.workspace.Workspace.Workspace}
-use Rattle.ffs_claims.proofs.{Numbers.numbers_most, Rescanned.runs_most, Frames.image_from}
+use Rattle.ffs_claims.proofs.{Rescanned.runs_most, Frames.image_from}
 use Rattle.ffs_finding.proofs.{Keepers.{found_lines, found_reads, stays_then}, Owners.{inode_runs, keepers_begin}}
 use Rattle.ffs_finding.proofs.{Owners.{keepers_end, keepers_from, keepers_next, no_lines}, Printing.{part, part_fault}}
-use Rattle.ffs_finding.proofs.Printing.{printed_all}
 use Rattle.ffs_finding.proofs.owner.find_keepers_unlimited.Goals as goal
 
 pub loop-number-init : goal.loop-number-init
@@ -60,8 +59,7 @@ unallocated k b e none = grind (arith, nat_tests)
 
 passed_over : (v : Layout) (b : List ℕ) (f n : ℕ) → 2 ≤ n → n < inodes_of v → kind_at v b n ≡ 0 →
     keepers_from v b f n ≡ keepers_from v b f (n + 1)
-passed_over v b f n low high e =
-    keepers_next v b f n high ∙ ap (λ ls. ls ++ keepers_from v b f (n + 1)) (no_lines v b f n low high e)
+passed_over v b f n low high e = grind (arith, keepers_next, no_lines)
 
 pub loop-number-preserved-then-not-is_allocated : goal.loop-number-preserved-then-not-is_allocated
 loop-number-preserved-then-not-is_allocated g c =
@@ -116,19 +114,4 @@ loop-number-preserved g c =
     }
 
 pub returns : goal.returns
-returns g c =
-    let inv = c.loop-number.invariant in
-    let v = c.args.geometry.now.layout in
-    let n = c.loop-number.number in
-    record {
-      found = record {
-        image = inv.device;
-        text = printed_all _ _ _ _ _ inv.printed (λ b k. keepers_end v b c.args.fragment n (omega arith));
-      };
-      reads = λ b k. omega (
-        arith,
-        inv.paid b k,
-        runs_most v b n inv.low inv.high,
-        numbers_most n (inodes_of v) inv.high,
-      );
-    }
+returns g c = grind (arith, keepers_end, runs_most)

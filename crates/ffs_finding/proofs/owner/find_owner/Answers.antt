@@ -40,10 +40,7 @@ claimed_lines : (v : Layout) (d : Device) (w : Workspace) (f : ℕ) (claimed : B
 claimed_lines v d w f claimed g h r e b k = e ∙ (ap (λ bits. is_set bits f) k.1.used ∙ claimed_is v b f g h r)
 
 pub returns-then-fragment-geometry-clause-prints : goal.returns-then-fragment-geometry-clause-prints
-returns-then-fragment-geometry-clause-prints g c = record {
-  image = refl;
-  text = prints_none (λ b k. no_fragment c.args.geometry.now.layout b c.args.fragment (omega arith));
-}
+returns-then-fragment-geometry-clause-prints g c = search (arith, prints_none, no_fragment)
 
 pub returns-in_err-print_reserved-clause-prints : goal.returns-in_err-print_reserved-clause-prints
 returns-in_err-print_reserved-clause-prints g c =

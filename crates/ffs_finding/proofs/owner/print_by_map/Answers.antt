@@ -1,4 +1,4 @@
-use Rattle.std.proofs.Common.{◌≡◌, ◌∙◌, ◌+◌, ◌-◌, ◌<◌, ◌≤◌, ℕ, List, Bool, true, false, codes, arith, refl, sym}
+use Rattle.std.proofs.Common.{◌≡◌, ◌+◌, ◌-◌, ◌<◌, ◌≤◌, ℕ, List, Bool, true, false, codes, arith, refl, sym}
 use Rattle.ffs_volume.specs.{declared.Layout.Layout, Disk.Areas.cgbase, Messages.Texts.number_text}
 use Rattle.ffs_volume.specs.{Groups.Records.{bit_at, fragment_map_place}, Laws.Geometry.IsAcceptedLayout}
 use Rattle.ffs_volume.specs.Find.{Lost.{has_map, is_marked_free}, Owner.{group_of_fragment, map_text}}
@@ -36,27 +36,13 @@ returns-in_default g c =
     (rw c.from.ensures at c.print_number.ensures)
 
 pub overflow_sub-index : goal.overflow_sub-index
-overflow_sub-index g c =
-    let low = base_low c.args.geometry.now.layout c.args.fragment c.args.geometry.now.sound in
-    omega (arith, low.0, c.cgbase.ensures.value)
+overflow_sub-index g c = grind (arith, base_low)
 
 pub is_marked_free-requires : goal.is_marked_free-requires
-is_marked_free-requires g c =
-    let low = base_low c.args.geometry.now.layout c.args.fragment c.args.geometry.now.sound in
-    omega (arith, low.0, low.1, c.cgbase.ensures.value, c.requires.size, c.in-Some.ensures.2)
+is_marked_free-requires g c = grind (arith, base_low)
 
 pub returns-then-is_marked_free : goal.returns-then-is_marked_free
-returns-then-is_marked_free g c =
-    let v = c.args.geometry.now.layout in
-    let map = c.in-Some.ensures in
-    let bit = bit_is v c.args.block.now c.args.fragment c.cgbase.result c.in-Some.place _ map.1 c.cgbase.ensures.value
-    c.is_marked_free.ensures ∙ c.if-is_marked_free.true in
-    rw (free_text v c.args.block.now c.args.fragment map.0 bit) c.print.ensures.prints
+returns-then-is_marked_free g c = grind (arith, free_text)
 
 pub returns : goal.returns
-returns g c =
-    let v = c.args.geometry.now.layout in
-    let map = c.in-Some.ensures in
-    let bit = bit_is v c.args.block.now c.args.fragment c.cgbase.result c.in-Some.place _ map.1 c.cgbase.ensures.value
-    c.is_marked_free.ensures ∙ c.if-is_marked_free.false in
-    rw (lost_text v c.args.block.now c.args.fragment map.0 bit) c.print-2.ensures.prints
+returns g c = grind (arith, lost_text)

@@ -6,9 +6,9 @@ use Rattle.ffs_volume.{proofs.ReplayLaws.gaps_seen, specs.Find.Owner.indirect_in
 use Rattle.ffs_report.{proofs.Sinks.took_nil, specs.Known.{ForBytes, IsContents}}
 use Rattle.ffs_walk.{proofs.Counted.{top_held, top_unread}, specs.{Keepings.replay_in, Rests.steps_left}}
 use Rattle.ffs_claims.proofs.Rewalks.{runs_next}
-use Rattle.ffs_finding.{specs.Keepers.{lines_again, step_lines_again}, proofs.Printing.{printed_all, prints, stops}}
+use Rattle.ffs_finding.{specs.Keepers.{lines_again, step_lines_again}, proofs.Printing.{prints, stops}}
 use Rattle.ffs_finding.proofs.{Replayed.{lines_gaps, lines_next, lines_none, lines_stopped}, Walking.blocks_on}
-use Rattle.ffs_finding.proofs.Walking.{most_small, one_indirect, seen_pays, walk_on}
+use Rattle.ffs_finding.proofs.Walking.{most_small, one_indirect, seen_pays}
 use Rattle.ffs_finding.proofs.owner.print_kept.Goals as goal
 
 pub loop-step-init : goal.loop-step-init
@@ -33,8 +33,7 @@ loop-step-init g c =
     }
 
 pub next-requires : goal.next-requires
-next-requires g c =
-    walk_on c.loop-step.invariant.geometry c.loop-step.invariant.device c.requires c.loop-step.invariant.blocks
+next-requires g c = grind arith
 
 pub returns-in_err-step-clause-walks : goal.returns-in_err-step-clause-walks
 returns-in_err-step-clause-walks g c =
@@ -50,9 +49,7 @@ returns-in_err-step-clause-walks g c =
     })
 
 pub print_step-requires : goal.print_step-requires
-print_step-requires g c =
-    let inv = c.loop-step.invariant in
-    record { going = rw inv.cut inv.going; room = omega (arith, inv.room) }
+print_step-requires g c = grind arith
 
 pub returns-in_err-print_step-clause-walks : goal.returns-in_err-print_step-clause-walks
 returns-in_err-print_step-clause-walks g c =
@@ -81,8 +78,7 @@ returns-in_err-print_step-clause-walks g c =
     })
 
 pub overflow_add-earlier : goal.overflow_add-earlier
-overflow_add-earlier g c =
-    omega (arith, c.loop-step.invariant.room, c.indirect_in-earlier.ensures, one_indirect c.in-Some.step)
+overflow_add-earlier g c = grind arith
 
 pub loop-step-preserved : goal.loop-step-preserved
 loop-step-preserved g c =
@@ -202,15 +198,4 @@ returns-then-not-is_replay_open-clause-walks g c =
     }
 
 pub returns-in_default-clause-walks : goal.returns-in_default-clause-walks
-returns-in_default-clause-walks g c =
-    let inv = c.loop-step.invariant in
-    let reads = c.in_ok-step.ensures.counted inv.held in
-    let over = rw (inv.device, c.in_default.is) at c.in_ok-step.ensures.step.steps in
-    record {
-      found = record {
-        image = c.in_ok-step.ensures.leaves.read ∙ inv.device;
-        text = printed_all _ _ _ _ _ inv.printed (λ b k. lines_none c.args.geometry.now.layout c.args.sought.fragment
-            c.args.sought.number c.loop-step.earlier c.args.sought.cut (replay_in c.loop-step.keeping) _ (over b k));
-      };
-      reads = λ b k. omega (arith, inv.paid b k, reads.most);
-    }
+returns-in_default-clause-walks g c = grind (arith, lines_none)

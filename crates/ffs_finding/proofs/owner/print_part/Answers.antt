@@ -1,4 +1,4 @@
-use Rattle.std.proofs.Common.{◌≡◌, ◌+◌, ◌<◌, ◌≤◌, ℕ, true, false, nat_lt, codes, arith, refl}
+use Rattle.std.proofs.Common.{◌≡◌, ◌+◌, ◌<◌, ◌≤◌, ℕ, true, nat_lt, codes, arith, refl}
 use Rattle.std.proofs.lemmas.Bool.Decides.{nat_tests}
 use Rattle.ffs_volume.specs.{declared.Layout.Layout, Disk.Areas.cgstart, Messages.Texts.number_text}
 use Rattle.ffs_volume.specs.Find.Owner.{part_text}
@@ -12,10 +12,7 @@ of_super v c f h = let e : nat_lt f (cgstart v c + v.cblkno) ≡ true = grind (a
 of_block : (v : Layout) (c f : ℕ) → cgstart v c + v.cblkno ≤ f → f < cgstart v c + v.iblkno →
     part_text v c f ≡ number_text (codes "group block of group ") c (codes "\n")
 unfolding part_text
-of_block v c f low h =
-    let e : nat_lt f (cgstart v c + v.cblkno) ≡ false = grind (arith, nat_tests) in
-    let d : nat_lt f (cgstart v c + v.iblkno) ≡ true = grind (arith, nat_tests) in
-    rw (e, d) refl
+of_block v c f low h = grind arith
 
 pub returns-then-fragment-start : goal.returns-then-fragment-start
 returns-then-fragment-start g c =

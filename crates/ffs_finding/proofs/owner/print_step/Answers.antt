@@ -1,18 +1,15 @@
-use Rattle.std.proofs.Common.{◌≡◌, ℕ, true, Option, refl, sym, inl, inr, append-nil}
-use Rattle.std.{proofs.lemmas.Bool.cases_Bool, specs.List.concat}
+use Rattle.std.proofs.Common.{arith}
+use Rattle.std.proofs.Common.{◌≡◌, ℕ, true, Option, append-nil}
+use Rattle.std.{specs.List.concat}
 use Rattle.ffs_volume.specs.{Encodings.Replay.{Replay, is_replay_open}, declared.{Layout.Layout, Step.TheVariants.Run}}
 use Rattle.ffs_walk.specs.Keepings.{run_taken}
-use Rattle.ffs_finding.specs.Keepers.{is_in_run, run_text, step_lines_again}
+use Rattle.ffs_finding.specs.Keepers.{run_text, step_lines_again}
 use Rattle.ffs_finding.proofs.owner.print_step.Goals as goal
 
 text_is : (v : Layout) (f x earlier cut : ℕ) (r : Replay) (start len : ℕ) (block : Option ℕ) (taken : ℕ) →
     is_replay_open cut r ≡ true → taken ≡ run_taken v cut r start len →
     run_text f x earlier start taken block ≡ concat (step_lines_again v f x earlier cut r (Run start len block))
-text_is v f x earlier cut r start len block taken going is =
-    rw (going, ← is) (elim (cases_Bool (is_in_run f start taken)) [
-      | inl q ↦ rw q (sym (append-nil _))
-      | inr q ↦ rw q refl
-    ])
+text_is v f x earlier cut r start len block taken going is = grind (arith, append-nil)
 
 pub returns-in-Run-clause-prints : goal.returns-in-Run-clause-prints
 returns-in-Run-clause-prints g c =

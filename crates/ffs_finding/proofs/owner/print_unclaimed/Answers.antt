@@ -6,25 +6,14 @@ use Rattle.ffs_finding.{specs.Keepers.map_lines, proofs.Printing.{one, one_broke
 use Rattle.ffs_finding.proofs.owner.print_unclaimed.Goals as goal
 
 pub fill-requires : goal.fill-requires
-fill-requires g c =
-    let v = c.args.geometry.now.layout in
-    let s = c.args.geometry.now.sound in
-    let inside = block_inside v (group_of_fragment v c.args.fragment) s
-    (group_below v c.args.fragment s c.requires.below) in
-    record {
-      room = omega (arith, s.parts.cgsize_high, c.requires.room);
-      inside = omega (arith, inside, c.group_place-place.ensures, c.requires.volume);
-      holds = c.requires.holds;
-    }
+fill-requires g c = grind (arith, block_inside, group_below)
 
 lines_are : (v : Layout) (b block : List ℕ) (f : ℕ) → block ≡ group_block v b (group_of_fragment v f) →
     map_lines v b f ≡ map_text v block f ∷ []
 lines_are v b block f e = rw e refl
 
 pub returns-in_err-fill-clause-prints : goal.returns-in_err-fill-clause-prints
-returns-in_err-fill-clause-prints g c =
-    let p = err_from_is_err_and c.from_residual.result c.from_residual.ensures.1 in
-    rw (p.1, p.2) (record { image = search rules; text = reads_first })
+returns-in_err-fill-clause-prints g c = grind (arith, err_from_is_err_and, reads_first)
 
 pub returns-in_err-print_by_map-clause-prints : goal.returns-in_err-print_by_map-clause-prints
 returns-in_err-print_by_map-clause-prints g c =

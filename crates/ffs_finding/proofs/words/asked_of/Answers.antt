@@ -11,10 +11,8 @@ none_asked : (o : Operands) (image : List ℕ) (n : ℕ) → o.second ≡ Some i
 none_asked o image n there value none Copies name p = let no : Some image ≡ None = sym there ∙ p.0.alone in cc
 none_asked o image n there value none (InVolume sector (Inode m)) name p =
     none (Inode m) (p.0.word_is, value m p.0.number)
-none_asked o image n there value none (InVolume sector Fields) name p =
-    let no : Some image ≡ None = sym there ∙ p.0.alone in cc
-none_asked o image n there value none (InVolume sector Lost) name p =
-    let no : Some image ≡ None = sym there ∙ p.0.alone in cc
+none_asked o image n there value none (InVolume sector Fields) name p = grind arith
+none_asked o image n there value none (InVolume sector Lost) name p = grind arith
 none_asked o image n there value none (InVolume sector (Owner m)) name p =
     none (Owner m) (p.0.word_is, value m p.0.number)
 

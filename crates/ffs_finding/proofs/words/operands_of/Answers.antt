@@ -1,10 +1,11 @@
+use Rattle.std.proofs.Common.{arith}
 use Rattle.std.proofs.Common.{◌≡◌, ◌∙◌, ap, refl, List, [], ℕ, Option, option_map, map, codes}
 use Rattle.std.specs.{Prelude.unwrap_or, Borrow.Bor, Str.Parse.{ParsesUnsigned, ExplainsUnsignedError}}
 use Rattle.std.specs.Str.Parse.{HasUnsignedDigitsIfOk}
 use Rattle.clap.specs.Words.{Row, Text, first_of, first_value, found_of, matches_of, one_of, one_text, rows_of}
 use Rattle.clap.{specs.declared.parser.matches.ArgMatches.ArgMatches, proofs.WalkLemmas.first_value-rows}
 use Rattle.clap.proofs.WalkLemmas.{one_text-rows}
-use Rattle.ffs_check.proofs.MatchLaws.{sector_read, text_or}
+use Rattle.ffs_check.proofs.MatchLaws.{sector_read}
 use Rattle.ffs_finding.specs.CommandWords.{find_program}
 use Rattle.ffs_finding.proofs.words.operands_of.Goals as goal
 
@@ -12,9 +13,7 @@ use Rattle.ffs_finding.proofs.words.operands_of.Goals as goal
 word_is : (m : ArgMatches) (rows : List Row) (id : Text) (found : Option (Bor (List ℕ))) (other word : Bor (List ℕ)) →
     rows_of (found_of m) ≡ rows → option_map (λ s. s.now) found ≡ first_value (found_of m) id →
     word ≡ unwrap_or found other → other.now ≡ [] → word.now ≡ unwrap_or (first_of id rows) []
-word_is m rows id found other word same got is empty =
-    text_or found other word is empty
-    ∙ ap (λ o. unwrap_or o []) (got ∙ first_value-rows (found_of m) id ∙ ap (first_of id) same)
+word_is m rows id found other word same got is empty = grind (arith, first_value-rows)
 
 pub returns : goal.returns
 returns c =
