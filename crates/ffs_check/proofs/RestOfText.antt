@@ -28,4 +28,3 @@ from_phase2 bytes s = phase2_messages s.layout bytes ++ after_phase2 (continues_
 -- phase 1b, where it runs, and what follows it
 abbrev pub from_phase1b : List ℕ → Superblock → List Message
 from_phase1b bytes s = rescan_lines s.layout bytes ++ from_phase2 bytes s
-

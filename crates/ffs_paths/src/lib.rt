@@ -5,12 +5,12 @@
 //! paths of one directory after another, and keeps that of the last one's parent for the next;
 //! `EntryPaths` writes those of a directory's entries. Both are made of `directory_path`, which
 //! makes a `DirectoryPath`; its names are in a `PathBuffer`. `path_of`, for callers of the library,
-//! writes one path, of a directory or of an entry of it. The name of a directory in its parent is read from the chunk that the workspace notes
-//! as its place, and where it isn't there, searched in all entries of the parent. Of an image that
-//! gives its bytes, where the place of each directory is noted, `path_of` makes at most 513 reads,
-//! and a call of `KeptParent` 514: 513 for the parent's path, and one for the directory's own name.
-//! Where some places aren't noted, `path_of` may read all of a parent too for a name: its inode and
-//! each of its Runs.
+//! writes one path, of a directory or of an entry of it. The name of a directory in its parent is
+//! read from the chunk that the workspace notes as its place, and where it isn't there, searched in
+//! all entries of the parent. Of an image that gives its bytes, where the place of each directory
+//! is noted, `path_of` makes at most 513 reads, and a call of `KeptParent` 514: 513 for the
+//! parent's path, and one for the directory's own name. Where some places aren't noted, `path_of`
+//! may read all of a parent too for a name: its inode and each of its Runs.
 //!
 //! It rests on `ffs_names` and `ffs_workspace`.
 #![tactic(auto)]
