@@ -1,5 +1,5 @@
 //! Reads a directory, or a level of directories: what their entries name.
-ghost use Rattle.std.specs.Prelude.{◌≡◌, ◌*◌, ◌-◌, ◌^◌, ◌<◌, ◌&&◌, ℕ, Bool, nat_le, [], length, vec_len, drop, take, IfOk, OnOk};
+ghost use Rattle.std.specs.Prelude.{◌≡◌, ◌*◌, ◌-◌, ◌^◌, ◌<◌, ◌&&◌, nat_le, [], length, vec_len, drop, take, IfOk, OnOk};
 ghost use Rattle.std.specs.List.{sum_by};
 ghost use Rattle.ffs_volume.specs.Directories.Roles.{is_plain as is_plain_role};
 ghost use Rattle.ffs_survey.specs.{Reading.roled_of, Lists.CountLists, Survey.{bool_at}};
@@ -84,10 +84,11 @@ fn is_calm_kind(kind: u8, number: usize, reached: &FilledList<bool>) -> bool
     requires { number < vec_len reached.now }
     ensures { result ≡ is_calm_kind kind (bool_at reached.now.items number) }
 {
-    // Both are asked, so that the compiler makes one test of the kinds in the first.
-    let is_sound = !matches!(kind, 0 | EMPTY_DIR_KIND | DT_WHT | UNKNOWN_KIND);
-    let is_reached = kind == DT_DIR && reached[number];
-    is_sound & !is_reached
+    match kind {
+        0 | EMPTY_DIR_KIND | DT_WHT | UNKNOWN_KIND => false,
+        DT_DIR => !reached[number],
+        _ => true,
+    }
 }
 
 /// Whether nothing can be reported of a plain entry: a whiteout, or one that names an inode.
@@ -108,33 +109,18 @@ fn is_calm_plain(entry: EntryHead, current: &LentDir, lists: &Lists) -> bool
         && is_calm_kind(entry.kind, number, lists.reached)
 }
 
-/// Whether nothing can be reported of the entry at index 0 or 1 of the current directory: `.` or
-/// `..`.
-fn is_calm_dot(entry: EntryHead, index: u32, current: &LentDir) -> bool
-    requires { index < 2 }
-    ensures { (reached : ℕ → Bool) → result
-        ≡ is_calm_entry (current_of current.now) reached index (roled_of entry []) }
-{
-    match entry.role {
-        Role::Dot => index == 0 && entry.number == current.dir && entry.kind == DT_DIR,
-        Role::Dotdot => index == 1 && entry.number == current.parent && entry.kind == DT_DIR,
-        Role::Extra | Role::Empty | Role::Plain => false,
-    }
-}
-
 /// Whether nothing can be reported of the entry at an index of the current directory.
 fn is_calm_entry(entry: EntryHead, index: u32, current: &LentDir, lists: &Lists) -> bool
     requires { current.now.kinds.now ≡ lists.now.kinds.now }
     ensures { result ≡ is_calm_entry (current_of current.now)
         (bool_at lists.now.reached.now.items) index (roled_of entry []) }
 {
-    if index < 2 {
-        return is_calm_dot(entry, index, current);
-    }
     match entry.role {
-        Role::Plain => is_calm_plain(entry, current, lists),
-        Role::Empty => true,
-        Role::Dot | Role::Dotdot | Role::Extra => false,
+        Role::Dot => index == 0 && entry.number == current.dir && entry.kind == DT_DIR,
+        Role::Dotdot => index == 1 && entry.number == current.parent && entry.kind == DT_DIR,
+        Role::Extra => false,
+        Role::Empty => index >= 2,
+        Role::Plain => index >= 2 && is_calm_plain(entry, current, lists),
     }
 }
 
