@@ -10,7 +10,7 @@ use Rattle.ffs_volume.specs.declared.{Class.TheVariants.Free, Layout.Layout, Ste
 use Rattle.ffs_report.specs.Known.{ForBytes}
 use Rattle.ffs_walk.specs.{Counts.entered, HeldWords.word_step, Rests.steps_left, declared.walk.Walk.Walk}
 use Rattle.ffs_workspace.specs.{Tables.{HoldsInode, HoldsPiece}, declared.table.Table.Table}
-use Rattle.ffs_claims.proofs.{Inodes.free_steps, ZeroInodes.{AreFree, free_claims}}
+use Rattle.ffs_claims.proofs.{Inodes.free_steps, FreeInodes.{AreFree, free_claims}}
 use Rattle.ffs_claims.proofs.TableReads.{BlocksRead, blocks_all, blocks_failed}
 use Rattle.ffs_claims.proofs.TableReads.{blocks_failed_until, blocks_later, blocks_next}
 use Rattle.ffs_claims.proofs.TableReads.{blocks_until}

@@ -11,7 +11,7 @@
 --   UnclaimedRuns  Runs that claim with nothing to report, and which Runs are in range
 --   WordClaims     words of an indirect block that claim so, one after another
 --   SeriesClaims   a series of Runs that such words name
---   ZeroInodes     an inode of zero bytes is free
+--   FreeInodes     free inodes, by their bytes, and one after another
 --   Duplicates     which inodes the lines blame, and whether there is a DUP line
 --   TableReads     how often the inode tables are read
 --   IndirectReads  how many indirect blocks are seen, and how often an image that gives its bytes is read
@@ -36,7 +36,7 @@ pub mod Rescanned
 pub mod UnclaimedRuns
 pub mod RescanCounts
 pub mod WordClaims
-pub mod ZeroInodes
+pub mod FreeInodes
 pub mod Limited
 pub mod SeriesClaims
 pub mod IndirectReads

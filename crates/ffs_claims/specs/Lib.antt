@@ -9,7 +9,7 @@
 -- Phase 1, what inodes claim: `Area` is about fragments where each Run is in range. `Claiming` leads from an inode to
 -- its steps, a step and its offers: ClaimsOwner (of `claim_inode`), ClaimsSteps, ClaimsStep, TakesOffers, TakesOffer.
 -- What claims with nothing to report is claimed together: `SilentWords` is about the next addresses of a walk, and
--- `Series` about those of them that name whole blocks in a row. `ZeroInodes` is about inodes that are passed over.
+-- `Series` about those of them that name whole blocks in a row. `FreeInodes` is about inodes that are passed over.
 --
 -- Phase 1b, who had a fragment first: `Rescan` has the offers that an inode keeps, replayed, `Reporting` what is
 -- reported of them (ReportsOffers), `RescanRuns` how many Runs are looked at for that, and both together of an inode
@@ -21,7 +21,7 @@ pub mod Area
 pub mod Claiming
 pub mod SilentWords
 pub mod Series
-pub mod ZeroInodes
+pub mod FreeInodes
 pub mod Rescan
 pub mod Reporting
 pub mod RescanRuns

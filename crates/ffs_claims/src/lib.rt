@@ -13,7 +13,7 @@
 //! Phase 1 is in `pass1`: `reserve` begins the map with the reserved fragments, `claim` goes over an
 //! inode's steps, `words` claims addresses of which nothing is to be reported, `offer` takes the Runs
 //! of the other steps, by the `area` that each lies in, `store` keeps what is found of an inode, and
-//! `zero` passes over inodes of zero bytes. Phase 1b is in `pass1b`, and `report_offer` reports its
+//! `free` passes over free inodes side by side. Phase 1b is in `pass1b`, and `report_offer` reports its
 //! DUP lines. `lines` has the lines of both.
 //!
 //! It rests on `ffs_workspace` and `ffs_report`.
@@ -21,6 +21,7 @@
 
 mod area;
 mod claim;
+mod free;
 mod lines;
 mod offer;
 mod pass1;
@@ -29,7 +30,6 @@ mod report_offer;
 mod reserve;
 mod store;
 mod words;
-mod zero;
 
 pub use pass1::phase1;
 pub use pass1b::phase1b;

@@ -14,9 +14,9 @@ use Rattle.ffs_claims.proofs.Frames.{ready_still, ready_surveyed, zeros_passed}
 use Rattle.ffs_claims.proofs.{Inodes.used_below, Numbers.{found_begins, found_next, found_all, numbers_most}}
 use Rattle.ffs_claims.proofs.{Numbers.{before_first, before_end, lines_next}, TableReads.{blocks_all, blocks_failed}}
 use Rattle.ffs_claims.proofs.{TableReads.{blocks_later, blocks_next, blocks_none}, IndirectReads.{VolumeRead, read_all}}
-use Rattle.ffs_claims.proofs.{IndirectReads.{read_begins, read_failed, read_later, read_next}, ZeroInodes.AreFree}
+use Rattle.ffs_claims.proofs.{IndirectReads.{read_begins, read_failed, read_later, read_next}, FreeInodes.AreFree}
 use Rattle.ffs_claims.proofs.Rescanned.{runs_most}
-use Rattle.ffs_claims.proofs.ZeroInodes.{StandsAt, free_where_zero, has_inodes, lines_later, stands_later}
+use Rattle.ffs_claims.proofs.FreeInodes.{StandsAt, free_by_bytes, has_inodes, lines_later, stands_later}
 use Rattle.ffs_claims.proofs.pass1.phase1.Goals as goal
 
 pub returns-in_err-say-clause-text : goal.returns-in_err-say-clause-text
@@ -87,9 +87,9 @@ loop-number-preserved g c =
     (λ bytes. s' ≡ after_owner v (claims_before v bytes n) (owner_of v bytes n)) = λ bytes k. now bytes (contents ∙ k.0)
     ∙ ap (λ t. after_owner v t (owner_of v bytes n)) (inv.claims bytes k) in
     let w = c.claim_inode.new.workspace in
-    let next = c.pass_zero_inodes-number.result in
+    let next = c.pass_free_inodes-number.result in
     let ready = c.claim_inode.ensures.claims.left.claim.ready in
-    let passes = c.pass_zero_inodes-number.ensures in
+    let passes = c.pass_free_inodes-number.ensures in
     let gives = ap (λ d. d.contents) (c.in_ok-claim_inode.ensures.claims.left.image ∙ inv.device) in
     let stands : ForBytes (WithFresh v (g.I.Image.device c.args.image.now) c.args.workspace.now)
     (λ bytes. StandsAt v bytes w (n + 1)) = λ bytes k. record {
@@ -113,7 +113,7 @@ loop-number-preserved g c =
       | inl some ↦
           let free : ForBytes (WithFresh v (g.I.Image.device c.args.image.now) c.args.workspace.now)
           (λ bytes. AreFree v bytes (n + 1) next) = λ bytes k x from below.
-          free_where_zero ready.windows.table.made ready.windows.table.holds (passes.ends.zero x from below) bytes (gives ∙ k.0) in
+          free_by_bytes ready.windows.table.made ready.windows.table.holds (passes.ends.free x from below) bytes (gives ∙ k.0) in
           rw (passes.some some) (record {
             ready = record { ready = ready_begun refl ready; all_in_range = c.claim_inode.ensures.claims.left.claim.all_in_range };
             walk = c.claim_inode.ensures.claims.left.walk;
@@ -149,8 +149,8 @@ loop-number-preserved g c =
           })
     ]
 
-pub pass_zero_inodes-number-requires : goal.pass_zero_inodes-number-requires
-pass_zero_inodes-number-requires g c =
+pub pass_free_inodes-number-requires : goal.pass_free_inodes-number-requires
+pass_free_inodes-number-requires g c =
     let ready = c.claim_inode.ensures.claims.left.claim.ready in
     record {
       inodes = has_inodes ready.windows.table.made ready.windows.table.holds;

@@ -1,43 +1,21 @@
--- An inode of zero bytes is free.
-use Rattle.std.proofs.Common.{◌≡◌, ◌*◌, ◌+◌, ◌-◌, ◌<◌, ◌≤◌, ◌++◌, ℕ, zero, suc, false, List, [], ◌∷◌, length, replicate}
-use Rattle.std.proofs.{Common.{Option, arith, refl, ap, ◌∙◌, sym, subst, drop, take, vec_len}, Math.Seq.take-add}
-use Rattle.std.proofs.lemmas.{Bool.Decides.nat_tests, List.{drop-drop, length-drop, length-take-le}}
-use Rattle.std.{proofs.lemmas.List.Folds.list_any-append, specs.List.slice_range}
+-- An inode whose bytes say that it is free is free, and free inodes are passed over.
+use Rattle.std.proofs.Common.{◌≡◌, ◌*◌, ◌+◌, ◌-◌, ◌<◌, ◌≤◌, ◌++◌, ℕ, zero, suc, false, true, List, [], ◌∷◌, length, replicate}
+use Rattle.std.proofs.Common.{Option, arith, inl, inr, refl, ap, ◌∙◌, sym, subst, drop, take, map, vec_len}
+use Rattle.std.proofs.lemmas.{Bool.{cases_lt, Decides.nat_tests}, List.{length-drop, length-take-le, take-append-drop}}
+use Rattle.std.specs.List.{range_with_len, slice_range}
 use Rattle.ffs_image.specs.Device.{ForContents}
-use Rattle.ffs_volume.specs.Blocks.Inodes.{any_nonzero, class_of, inode_from_bytes, inode_of, inodes_of}
-use Rattle.ffs_volume.specs.Disk.Numbers.{piece, i16_at, i32_at, number, u16_at, u32_at, u64_at}
+use Rattle.ffs_volume.specs.Blocks.{Inodes.{any_nonzero, class_of, inode_from_bytes, inode_of, inodes_of}, Steps.address_in}
+use Rattle.ffs_volume.specs.Disk.Numbers.{number, u16_at, u32_at, u64_at}
 use Rattle.ffs_volume.specs.Blocks.{BlockCheck.{owner_lines, lines_of_owners}, Claims.{Claims, after_owner}}
 use Rattle.ffs_volume.specs.Blocks.{Claims.{after_steps, at_next_inode}, Owners.owner_of}
-use Rattle.ffs_volume.specs.declared.{Class.TheVariants.Free, Layout.Layout, Order.{Order, TheVariants.{Little, Big}}}
-use Rattle.ffs_volume.{specs.{Disk.Areas.inode_place, Blocks.KeptSteps.claims_before}, proofs.OwnerLaws.before_next}
-use Rattle.ffs_walk.specs.{Windows.{WindowHolds, held_bytes}, declared.window.Window.Window}
+use Rattle.ffs_volume.specs.declared.{Class.TheVariants.Free, Inode.Inode, Layout.Layout}
+use Rattle.ffs_volume.specs.declared.Order.{Order, TheVariants.{Little, Big}}
+use Rattle.ffs_volume.{specs.Blocks.KeptSteps.claims_before, proofs.OwnerLaws.before_next}
+use Rattle.ffs_walk.{specs.{Windows.{WindowHolds, held_bytes}, declared.window.Window.Window}, proofs.WordBytes.no_byte}
 use Rattle.ffs_workspace.{specs.{Tables.IsTableOf, declared.table.Table.Table}, proofs.TablePlaces.held_there}
 use Rattle.ffs_workspace.specs.{Holds.claims_of, Lengths.IsFor, declared.workspace.Workspace.Workspace}
 use Rattle.ffs_claims.proofs.{Inodes.free_steps, Numbers.{FoundTo, found_next, stored_free}}
-use Rattle.ffs_claims.specs.{Lines.{of_lines, owners_from}, ZeroInodes.{AreZeroInodes, HasTableInodes, HoldsInodes}}
-use Rattle.ffs_claims.specs.ZeroInodes.{IsZeroInode}
-
--- the bytes of a range, and those after it
-range_split : (xs : List ℕ) (a b c : ℕ) → a ≤ b → b ≤ c → slice_range xs a c ≡ slice_range xs a b ++ slice_range xs b c
-range_split xs a b c low high =
-    let long : c - a ≡ (b - a) + (c - b) = omega (arith, low, high) in
-    let there : a + (b - a) ≡ b = omega (arith, low) in
-    ap (λ n. take n (drop a xs)) long ∙ take-add (b - a) (c - b) (drop a xs)
-    ∙ ap (λ ys. take (b - a) (drop a xs) ++ take (c - b) ys) (drop-drop (b - a) a xs ∙ ap (λ n. drop n xs) there)
-
--- where no byte of a range is set, none of a part of it is
-part_zero : (xs : List ℕ) (a b c d : ℕ) → a ≤ b → b ≤ c → c ≤ d → any_nonzero (slice_range xs a d) ≡ false →
-    any_nonzero (slice_range xs b c) ≡ false
-part_zero xs a b c d low order high none =
-    let first = range_split xs a b d low (omega (arith, order, high)) in
-    let second = range_split xs b c d order high in
-    grind (arith, list_any-append, none, first, second)
-
--- inodes in a row that are held, and none of whose bytes is set
-pub zero_inodes : {t : Table} (number count : ℕ) → HoldsInodes t number (number + count) →
-    any_nonzero (slice_range (held_bytes t.window) (128 * (number - t.first)) (128 * (number - t.first + count))) ≡ false →
-    AreZeroInodes t number (number + count)
-zero_inodes {t = t} number count held none = grind (arith, part_zero)
+use Rattle.ffs_claims.specs.{Lines.{of_lines, owners_from}, FreeInodes.{HasTableInodes, IsFreeInode, inode_bytes, is_free_by}}
 
 -- a list with no number but zero
 zeros_are : (xs : List ℕ) → any_nonzero xs ≡ false → xs ≡ replicate (length xs) 0
@@ -45,10 +23,68 @@ zeros_are [] none = refl
 zeros_are (zero ∷ xs) none = ap (λ ys. 0 ∷ ys) (zeros_are xs none)
 zeros_are (suc x ∷ xs) none = absurd (grind (arith, nat_tests, none))
 
-zero_is_free : (v : Layout) (order : Order) → class_of v (inode_from_bytes order (replicate 128 0)) ≡ Free
-unfolding class_of inode_from_bytes u16_at i16_at u32_at i32_at u64_at number
-zero_is_free v Little = refl
-zero_is_free v Big = refl
+-- a list that begins with n zeros
+begins_zero : (n : ℕ) (xs : List ℕ) → n ≤ length xs → any_nonzero (take n xs) ≡ false → xs ≡ replicate n 0 ++ drop n xs
+begins_zero n xs long none =
+    let many : length (take n xs) ≡ n = length-take-le n xs long in
+    sym (take-append-drop n xs) ∙ ap (λ ys. ys ++ drop n xs) (zeros_are (take n xs) none ∙ ap (λ k. replicate k 0) many)
+
+-- the numbers of two and of eight bytes, none of which is set
+two_zero : (order : Order) (rest : List ℕ) → number order 2 (replicate 2 0 ++ rest) ≡ 0
+unfolding number
+two_zero Little rest = refl
+two_zero Big rest = refl
+
+eight_zero : (order : Order) (rest : List ℕ) → number order 8 (replicate 8 0 ++ rest) ≡ 0
+unfolding number
+eight_zero Little rest = refl
+eight_zero Big rest = refl
+
+-- the fields of an inode that are 0
+record HasZeros (i : Inode) : Type 0 where
+  mode : i.mode ≡ 0
+  size : i.size ≡ 0
+  addresses : any_nonzero i.addresses ≡ false
+
+free_class : (v : Layout) (i : Inode) → HasZeros i → class_of v i ≡ Free
+unfolding class_of
+free_class v i z = rw (z.mode, z.size, z.addresses) refl
+
+-- an inode whose bytes say that it is free
+zeros_of : (v : Layout) (inode : List ℕ) → length inode ≡ 128 → is_free_by inode ≡ true →
+    HasZeros (inode_from_bytes v.order inode)
+unfolding inode_from_bytes u16_at u64_at
+zeros_of v inode long free =
+    let parts : (any_nonzero (take 2 inode) ≡ false) × (any_nonzero (take 8 (drop 8 inode)) ≡ false)
+    × (any_nonzero (take 60 (drop 40 inode)) ≡ false) = grind (arith, free) in
+    let address : (k : ℕ) → 10 ≤ k → k < 25 → address_in v inode k ≡ 0 =
+    λ k low high. no_byte v inode 10 15 k (omega (arith, long)) parts.2 low high in
+    record {
+      mode = ap (λ xs. number v.order 2 xs) (begins_zero 2 inode (omega (arith, long)) parts.0) ∙ two_zero v.order (drop 2 inode);
+      size = ap (λ xs. number v.order 8 xs) (begins_zero 8 (drop 8 inode) (omega (arith, long, length-drop 8 inode)) parts.1)
+          ∙ eight_zero v.order (drop 8 (drop 8 inode));
+      addresses = none_set (λ j. u32_at v.order (40 + 4 * j) inode) 15 0
+          (λ j low high. subst (λ k. u32_at v.order k inode ≡ 0) (place j) (address (10 + j) (omega arith) (omega (arith, high))));
+    }
+  where
+    place : (j : ℕ) → 4 * (10 + j) ≡ 40 + 4 * j
+    place j = omega arith
+
+    none_set : (word : ℕ → ℕ) (n first : ℕ) → ((j : ℕ) → first ≤ j → j < first + n → word j ≡ 0) →
+        any_nonzero (map word (range_with_len first n)) ≡ false
+    none_set word zero first zeros = refl
+    none_set word (suc n) first zeros =
+        let now = zeros first (omega arith) (omega arith) in
+        let rest = none_set word n (first + 1) (λ j low high. zeros j (omega (arith, low)) (omega (arith, high))) in
+        rw (now, rest) refl
+
+-- inodes that are free by their bytes, and one more
+pub free_next : {t : Table} {number next : ℕ} → ((x : ℕ) → number ≤ x → x < next → IsFreeInode t x) → IsFreeInode t next →
+    (x : ℕ) → number ≤ x → x < next + 1 → IsFreeInode t x
+free_next {t = t} {next = next} before now x low high = elim (cases_lt x next) [
+  | inl below ↦ before x low below
+  | inr there ↦ subst (λ y. IsFreeInode t y) (omega (arith, there, high)) now
+]
 
 -- the window has the bytes of the inodes of the volume that it holds
 pub has_inodes : {v : Layout} {contents : Option (List ℕ)} {t : Table} → IsTableOf v t →
@@ -59,19 +95,16 @@ length_of : (w : Window) (at : ℕ) → w.length ≤ vec_len w.buffer → at + 1
     length (slice_range (held_bytes w) at (at + 128)) ≡ 128
 length_of w at fits inside = grind (arith, length-take-le, length-drop)
 
--- an inode of the volume whose bytes in the window are zero is free
-pub free_where_zero : {v : Layout} {contents : Option (List ℕ)} {t : Table} {x : ℕ} → IsTableOf v t →
-    WindowHolds contents t.window → IsZeroInode t x →
+-- an inode of the volume whose bytes in the window say that it is free is free
+pub free_by_bytes : {v : Layout} {contents : Option (List ℕ)} {t : Table} {x : ℕ} → IsTableOf v t →
+    WindowHolds contents t.window → IsFreeInode t x →
     ForContents contents (λ bytes. class_of v (inode_of v bytes x) ≡ Free)
 unfolding inode_of
-free_where_zero {v = v} {contents = contents} {t = t} {x = x} made holds is = λ bytes e.
+free_by_bytes {v = v} {contents = contents} {t = t} {x = x} made holds is = λ bytes e.
     let there = held_there v contents x t made holds is.held in
-    let at = 128 * (x - t.first) in
-    let held = slice_range (held_bytes t.window) at (at + 128) in
-    let long : length held ≡ 128 = length_of t.window at holds.fits there.inside in
-    let zeros : piece (inode_place v x) 128 bytes ≡ replicate 128 0 =
-    sym (there.bytes bytes e) ∙ zeros_are held is.zero ∙ ap (λ n. replicate n 0) long in
-    ap (λ bs. class_of v (inode_from_bytes v.order bs)) zeros ∙ zero_is_free v v.order
+    let long = length_of t.window (128 * (x - t.first)) holds.fits there.inside in
+    ap (λ bs. class_of v (inode_from_bytes v.order bs)) (sym (there.bytes bytes e))
+    ∙ free_class v _ (zeros_of v (inode_bytes t x) long is.free)
 
 -- a free inode claims nothing, and nothing is reported of it
 pub free_claims : (v : Layout) (bytes : List ℕ) (x : ℕ) (s : Claims) → class_of v (inode_of v bytes x) ≡ Free →

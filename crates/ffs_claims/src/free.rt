@@ -1,0 +1,106 @@
+//! Free inodes side by side, which are passed over.
+
+ghost use Rattle.std.specs.Prelude.{◌≡◌, ◌<◌, ◌≤◌, ◌+◌, length};
+ghost use Rattle.ffs_volume.specs.Blocks.Inodes.{any_nonzero};
+ghost use Rattle.ffs_volume.specs.declared.constants.TheConstants.{DINODE_SIZE};
+ghost use Rattle.ffs_workspace.specs.Tables.{HoldsInode};
+ghost use Rattle.ffs_claims.specs.FreeInodes.{CanPassFreeInodes, EndsFreeInodes, HasTableInodes, IsPastFreeInodes, PassesFreeInodes};
+ghost use Rattle.ffs_claims.specs.FreeInodes.{inode_bytes, is_free_by};
+
+use crate::store::begin;
+use ffs_volume::constants::DINODE_SIZE;
+use ffs_workspace::{Table, Workspace};
+
+/// Where the mode of an inode ends, in bytes from the inode's start (inode(5)).
+const MODE_END: usize = 2;
+
+/// Where its size is.
+const SIZE: usize = 8;
+
+/// Where its size ends.
+const SIZE_END: usize = 16;
+
+/// Where its fifteen addresses are.
+const ADDRESSES: usize = 40;
+
+/// Where these end.
+const ADDRESSES_END: usize = 100;
+
+/// Whether one of the bytes isn't zero: a loop without exit.
+#[inline(always)]
+#[tactic(auto, using(ffs_walk::proofs::AnySet::or_set, std::proofs::lemmas::List::Folds::list_any_more, std::proofs::lemmas::Grind::common_steps))]
+fn any_set(bytes: &[u8]) -> bool
+    ensures { result ≡ any_nonzero bytes.now }
+{
+    let mut bits = 0;
+    for byte in bytes {
+        bits |= *byte;
+    }
+    bits != 0
+}
+
+/// Whether an inode is free by its bytes. A number is zero where each of its bytes is, in either byte
+/// order. The other bytes aren't asked: newfs(8) gives free inodes a generation number too.
+#[inline(always)]
+fn is_free(inode: &[u8]) -> bool
+    requires { length inode.now ≡ DINODE_SIZE }
+    ensures { result ≡ is_free_by inode.now }
+{
+    let mode = any_set(&inode[..MODE_END]);
+    let size = any_set(&inode[SIZE..SIZE_END]);
+    let addresses = any_set(&inode[ADDRESSES..ADDRESSES_END]);
+    !(mode | size | addresses)
+}
+
+/// Whether an inode that the window on the inode table holds is free by its bytes.
+#[inline(always)]
+fn is_free_inode(table: &Table, number: u32) -> bool
+    requires inodes { HasTableInodes table.now }
+    requires held { HoldsInode table.now number }
+    ensures { result ≡ is_free_by (inode_bytes table.now number) }
+{
+    let at = DINODE_SIZE * (number - table.first) as usize;
+    is_free(&table.window.bytes()[at..at + DINODE_SIZE])
+}
+
+/// The first number from `number` on, below `end`, of an inode that the window doesn't hold or that
+/// isn't free, and `end` where there is none. What the window holds is asked once. It isn't
+/// inlined: beside the claims of a used inode its loop took registers from these.
+#[inline(never)]
+fn free_inodes_end(table: &Table, number: u32, end: u32) -> u32
+    requires inodes { HasTableInodes table.now }
+    requires order { number ≤ end }
+    ensures ends { EndsFreeInodes table.now number end result }
+    ensures all { IsPastFreeInodes table.now end result }
+{
+    if number < table.first {
+        return number;
+    }
+    let held = end.min(table.first.saturating_add(table.count));
+    for next in number..held {
+        if !is_free_inode(table, next) {
+            return next;
+        }
+    }
+    held.max(number)
+}
+
+/// Passes over the inodes from `number` on, below `end`, that the window holds and that are free,
+/// where the inode before them is free or Partial: free inodes are mostly side by side. Returns the
+/// number of the next inode.
+#[inline(always)]
+pub fn pass_free_inodes(workspace: &mut Workspace, number: u32, end: u32) -> u32
+    requires { CanPassFreeInodes workspace.old number end }
+    ensures { PassesFreeInodes workspace.old workspace.new number end result }
+{
+    if workspace.kinds[number as usize - 1] != 0 {
+        return number;
+    }
+    let next = free_inodes_end(&workspace.windows.table, number, end);
+    if next == number {
+        return number;
+    }
+    // As the last of them would leave it.
+    begin(workspace);
+    next
+}
