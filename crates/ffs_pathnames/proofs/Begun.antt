@@ -8,7 +8,7 @@ use Rattle.ffs_pathnames.specs.{Examines.{IsExamined, LeavesAllButDue, StampsOwn
 use Rattle.ffs_pathnames.specs.{Begins.IsDirectoryBegun, PassedRight.AreRightBefore, PassedNames.PassedNames}
 use Rattle.ffs_pathnames.specs.PassedNames.{are_quiet, entries_reported, after_entries}
 use Rattle.ffs_volume.specs.{declared.Layout.Layout, Blocks.Inodes.inode_of, Directories.{Entries.Entry, Graph.parent}}
-use Rattle.ffs_volume.specs.Directories.{Parents.graph_of, Paths.dir_path, PathnameCheck.{attributes, sized_dir_lines}}
+use Rattle.ffs_volume.specs.Directories.{Parents.graph_of, Paths.dir_path, PathnameCheck.{attributes, attributes_of, sized_dir_lines}}
 use Rattle.ffs_volume.specs.Directories.PathnameCheck.{lines_of_entries, dir_header_lines, header_defects, header_lines}
 use Rattle.ffs_volume.specs.Directories.{Roles.{Volume, is_dir, roled_entries, start_entry}, Volumes.volume_of}
 use Rattle.ffs_volume.specs.{Directories.Volumes.volume_with, Messages.Kinds.{Message, TreeMessage, of_tree}}
@@ -36,10 +36,10 @@ pub image_same : (T E : Type 0) (d d' d'' : Device) (fault : RunFault) → d' �
 image_same T E d d' d'' (Read fault) e after = subst (λ x. Faulted x d'' fault.sector) e after
 image_same T E d d' d'' (Out fault) e after = after ∙ e
 
--- a size as messages show it
-pub attr_size : (v : Layout) (b : List ℕ) (d : ℕ) → (attributes (volume_of v b) d).size ≡ (inode_of v b d).size
+-- what messages show of an inode of the volume
+pub attr_is : (v : Layout) (b : List ℕ) (d : ℕ) → attributes (volume_of v b) d ≡ attributes_of d (inode_of v b d)
 unfolding attributes volume_of volume_with
-attr_size v b d = refl
+attr_is v b d = refl
 
 -- the size of an inode of the volume
 size_of_inode : (v : Layout) (b : List ℕ) (d : ℕ) → ((volume_of v b).inode d).size ≡ (inode_of v b d).size

@@ -1,6 +1,5 @@
 -- What the check of directories leaves of what was found before it.
-use Rattle.std.proofs.Common.{◌≡◌, ◌∙◌, ℕ, List, Result, Ok, Err, OnErr, ap, arith, refl}
-use Rattle.ffs_volume.specs.declared.Layout.{Layout}
+use Rattle.std.proofs.Common.{◌≡◌, ◌∙◌, Result, Ok, Err, OnErr, ap, refl}
 use Rattle.ffs_workspace.specs.{declared.workspace.Workspace.Workspace, Leaves.LeavesFindings}
 use Rattle.ffs_workspace.proofs.Leaving.{block_check_kept, block_check_more, queue_leaves}
 

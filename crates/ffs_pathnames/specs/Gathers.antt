@@ -16,7 +16,7 @@ use Rattle.ffs_paths.specs.declared.{entry_paths.EntryPaths.EntryPaths, kept_par
 use Rattle.ffs_pathnames.specs.{DirectoryContext.{DirectoryContext, KeepsPath, KnowsPath}, Ready.LimitedPathLeaves}
 use Rattle.ffs_pathnames.specs.declared.{gather.DirectoryEntry.DirectoryEntry, entry_texts.EntryTexts.EntryTexts}
 use Rattle.ffs_pathnames.specs.{PassedNames.{PassedNames, roled_reported, verdict_at_reading}, Stamps.stamps_of}
-use Rattle.ffs_pathnames.specs.LineReads.{again_reads, ReadsPathOnce}
+use Rattle.ffs_pathnames.specs.LineReads.{ReadsPathOnce}
 use Rattle.ffs_workspace.specs.{declared.workspace.Workspace.Workspace, Holds.{HoldsClaims, HoldsSurvey}, Lengths.IsFor}
 
 -- the messages are the same as with the volume's own attributes and paths
@@ -25,11 +25,6 @@ IsEnough vol verdict dir number name attr path directory =
     verdict_lines verdict number attr path directory
     ≡ verdict_lines verdict number (attributes vol number) (entry_path (graph_of vol) dir name)
     (dir_path (graph_of vol) number)
-
--- these are the attributes and the path of the directory `dir`
-pub record IsShownOf (vol : Volume) (dir : ℕ) (attr : Attr) (path : List ℕ) : Type 0 where
-  pub attr_is : attr ≡ attributes vol dir
-  pub path_is : path ≡ dir_path (graph_of vol) dir
 
 -- what a workspace remembers of the names that were passed, during the pathname check
 abbrev pub passed_of : Workspace → PassedNames
@@ -196,9 +191,3 @@ module _ {S : Type 0} (I : Ghosts S) (v : Layout) (old new : S) (w w' : Workspac
     pub path : KeepsPath v (I.device old) w dir t t'
     pub once : BeginsOnce 1 t t' result
     pub leaves : ReadsForPaths line_reads t'.kept_parent result
-
-  -- what messages on the directory `dir` itself show: its attributes and its path
-  pub record GathersDir (dir : ℕ) (path : List ℕ) (s : KeptParent) (result : Result Attr ImageFault) : Type 0 where
-    pub shown : IfOk result (λ a. ForBytes (DirectoryContext v (I.device old).contents w dir) (λ b.
-        IsShownOf (volume_of v b) dir a path))
-    pub leaves : ReadsForPaths again_reads s result

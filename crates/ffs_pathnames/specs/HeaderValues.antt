@@ -26,9 +26,10 @@ defects_value n = record {
 -- by what was found of a directory
 abbrev pub defects_of_facts : HeaderFacts → HeaderDefects (List ℕ)
 defects_of_facts h =
-    header_defects h.number h.size h.parent h.gap h.sound (option_map entry_value h.first)
+    header_defects h.attr.number h.attr.size h.parent h.gap h.sound (option_map entry_value h.first)
     (option_map entry_value h.second)
 
 -- the messages on it, for a directory of a volume
 abbrev pub facts_lines : Volume → HeaderFacts → List TreeMessage
-facts_lines vol h = header_lines (defects_of_facts h) (attributes vol h.number) (dir_path (graph_of vol) h.number)
+facts_lines vol h = header_lines (defects_of_facts h) (attributes vol h.attr.number)
+    (dir_path (graph_of vol) h.attr.number)

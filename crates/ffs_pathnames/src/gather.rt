@@ -1,7 +1,7 @@
 //! What the lines of an entry and of a directory show: paths, and what an inode says of itself.
 ghost use Rattle.std.specs.Prelude.{◌≡◌};
 ghost use Rattle.ffs_pathnames.specs.Ready.{ReadyToPath, ReadyWhere, ReadyWith};
-ghost use Rattle.ffs_pathnames.specs.Gathers.{GathersDir, GathersEntry, GathersExtra, GathersOwnPathAndAttr, GathersPathsAndAttr};
+ghost use Rattle.ffs_pathnames.specs.Gathers.{GathersEntry, GathersExtra, GathersOwnPathAndAttr, GathersPathsAndAttr};
 ghost use Rattle.ffs_pathnames.specs.Gathers.{PutsWanted, ReadsAttr, asks_attr, asks_path};
 ghost use Rattle.ffs_layout.specs.Entry.{entry_value};
 ghost use Rattle.ffs_workspace.specs.Ready.{CanRead};
@@ -70,28 +70,6 @@ pub fn gather_extra<I: Image>(
     begin_paths(geometry, image, workspace, texts, dir)?;
     let paths = &texts.paths;
     paths.directory.put(&mut texts.directory);
-    read_attr(geometry, image, workspace, dir)
-}
-
-/// Gathers what the messages on a directory show: its path into `path`, and its attributes.
-///
-/// # Errors
-/// A read of the image that failed.
-#[tactic(auto, using(std::proofs::lemmas::Result::err_from_is_err_and, crate::proofs::ReadyLaws::gather_failed))]
-pub fn gather_dir<I: Image>(
-    geometry: &Geometry,
-    image: &mut I,
-    workspace: &mut Workspace,
-    kept_parent: &mut KeptParent,
-    dir: u32,
-    path: &mut PathText,
-) -> Result<Attr, ImageFault>
-    requires { ReadyToPath geometry.now.layout (I.device image.old) workspace.old kept_parent.old
-        dir }
-    ensures { GathersDir I.Image geometry.now.layout image.old image.new workspace.old workspace.new
-        dir path.new.items kept_parent.new result }
-{
-    put_path(geometry, image, workspace, kept_parent, dir, path)?;
     read_attr(geometry, image, workspace, dir)
 }
 

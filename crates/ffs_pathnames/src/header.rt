@@ -17,12 +17,10 @@ use ffs_volume::verdict::{DotDefects, HeaderDefects};
 /// What the lines of a directory before those of its entries depend on.
 #[derive(Clone, Copy, Debug)]
 pub struct HeaderFacts<'a> {
-    /// Its number.
-    pub number: u32,
+    /// What messages show of its inode. Its number and its size are looked at too.
+    pub attr: Attr,
     /// Its parent, as the survey found it.
     pub parent: Option<u32>,
-    /// Its size.
-    pub size: u64,
     /// Whether a hole is among its kept steps.
     pub gap: bool,
     /// Whether all its chunks are sound.
@@ -104,11 +102,11 @@ pub fn header_defects<'a>(header: &HeaderFacts<'a>) -> HeaderDefects<&'a [u8]>
     ensures { defects_value result ≡ defects_of_facts header.now }
 {
     HeaderDefects {
-        short: header.size < MINDIRSIZE,
-        partial_chunk: has_partial_chunk(header.size),
+        short: header.attr.size < MINDIRSIZE,
+        partial_chunk: has_partial_chunk(header.attr.size),
         gap: header.gap,
         unsound: !header.sound,
-        dot: dot_defects(header.number, header.first),
+        dot: dot_defects(header.attr.number, header.first),
         dotdot: dotdot_defects(header.parent, header.second),
     }
 }

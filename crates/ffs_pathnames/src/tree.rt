@@ -13,8 +13,7 @@ ghost use Rattle.ffs_workspace.specs.{Holds.HoldsSurvey, Ready.CanRead};
 ghost use Rattle.ffs_layout.specs.Entry.{entry_value};
 
 use crate::entries::report_directory;
-use crate::entry_texts::{Checking, EntryTexts};
-use crate::gather::gather_dir;
+use crate::entry_texts::{Checking, EntryTexts, put_path};
 use crate::header::{HeaderFacts, header_defects, say_header};
 use crate::look::{Directory, Examination, examine};
 use ffs_image::Image;
@@ -22,8 +21,8 @@ use ffs_layout::{Entry, Geometry, entry_at};
 use ffs_names::note_places;
 use ffs_paths::{KeptParent, PathText};
 use ffs_report::{Output, Report, RunFault};
-use ffs_volume::Order;
 use ffs_volume::constants::{DIRBLKSIZ, DT_DIR, ROOTINO};
+use ffs_volume::{Attr, Order};
 use ffs_workspace::{Workspace, sweep_reads};
 
 /// Prints the lines of each directory and of its entries, in the order of inode numbers. The places
@@ -217,9 +216,8 @@ fn begin_directory<I: Image, W: Output>(
     let parent = found_parent(workspace, dir);
     let (first, second) = first_two(geometry.layout.order, examined.look.started, &start);
     let header = HeaderFacts {
-        number: dir,
+        attr: Attr::of(dir, &examined.inode),
         parent,
-        size: examined.inode.size,
         gap: examined.look.gap,
         sound: examined.look.sound,
         first,
@@ -281,7 +279,7 @@ fn report_header<I: Image, W: Output>(
     report: &mut Report<'_, W>,
 ) -> Result<(), RunFault>
     requires { ReadyToPath geometry.now.layout (I.device image.old) workspace.old kept_parent.old
-        header.number }
+        header.attr.number }
     ensures { ReportsHeader geometry.now.layout header.entry
         (lines_moment I.Image W.Output image.old workspace.old report.old kept_parent.old)
         (lines_moment I.Image W.Output image.new workspace.new report.new kept_parent.new) result }
@@ -291,17 +289,8 @@ fn report_header<I: Image, W: Output>(
         return Ok(());
     }
     let mut path = PathText::new();
-    let mut attr = gather_dir(
-        geometry,
-        image,
-        workspace,
-        kept_parent,
-        header.number,
-        &mut path,
-    )?;
-
-    // An image may give another inode now: the lines are on the size that was found wrong.
-    attr.size = header.size;
-    say_header(&defects, attr, path.as_slice(), report)?;
+    let number = header.attr.number;
+    put_path(geometry, image, workspace, kept_parent, number, &mut path)?;
+    say_header(&defects, header.attr, path.as_slice(), report)?;
     Ok(())
 }

@@ -1,7 +1,7 @@
 use Rattle.std.proofs.Common.{◌∙◌, ap, map, arith, length, ◌≡◌, ◌≤◌, ◌+◌, ◌*◌, ℕ, List, option_map}
 use Rattle.std.proofs.lemmas.Result.{err_from_is_err_and}
 use Rattle.ffs_volume.specs.{Messages.Kinds.of_tree, Blocks.Inodes.inode_of, Directories.Volumes.volume_of}
-use Rattle.ffs_volume.specs.Directories.{Parents.graph_of, PathnameCheck.{attributes, dir_header_lines, header_defects}}
+use Rattle.ffs_volume.specs.Directories.{Parents.graph_of, PathnameCheck.{attributes, attributes_of, dir_header_lines, header_defects}}
 use Rattle.ffs_volume.specs.{Directories.{PathnameCheck.header_lines, Paths.dir_path}, Report.Reads.line_reads}
 use Rattle.ffs_volume.specs.{Report.DirectoryReads.directory_cost, Encodings.Places.AreNoted}
 use Rattle.ffs_report.proofs.{Reporting.{of_begins, of_reads}, Paying.{paid_answer, paid_failed, paid_beside}}
@@ -23,28 +23,29 @@ Known g c = LeftForLook c.args.geometry.now.layout (g.I.Image.device c.args.imag
 -- what is known before the lines are printed
 known : (g : Over) (c : After-report_header g) (b : List ℕ) → Known g c b →
     DirectoryContext c.args.geometry.now.layout (g.I.Image.device c.examine.new.image).contents c.examine.new.workspace
-    c.args.dir b × (c.in_ok-examined.examined.inode.size ≡ (inode_of c.args.geometry.now.layout b c.args.dir).size)
-known g c b k = (
+    c.of.result.number b × (c.of.result ≡ attributes_of c.of.result.number
+    (inode_of c.args.geometry.now.layout b c.of.result.number))
+known g c b k = rw c.of.ensures (
   knows_on c.args.geometry.now.layout _ _ c.args.workspace.now c.examine.new.workspace c.args.dir b
       (ap (λ d. d.contents) c.in_ok-examined.ensures.examines.leaves.read) c.in_ok-examined.ensures.examines.leaves.lists.survey
       c.in_ok-examined.ensures.examines.leaves.lists.places k.0,
-  ap (λ i. i.size) (c.in_ok-examined.ensures.examines.found b k).0.inode,
+  ap (attributes_of c.args.dir) (c.in_ok-examined.ensures.examines.found b k).0.inode,
 )
 
 -- the lines are the directory's
 lines_are : (g : Over) (c : After-report_header g) (b : List ℕ) → Known g c b →
-    header_lines (header_defects c.args.dir c.in_ok-examined.examined.inode.size c.found_parent-parent.result
+    header_lines (header_defects c.of.result.number c.of.result.size c.found_parent-parent.result
     c.in_ok-examined.examined.look.gap c.in_ok-examined.examined.look.sound
     (option_map entry_value c.first_two.result.0) (option_map entry_value c.first_two.result.1))
-    (attributes (volume_of c.args.geometry.now.layout b) c.args.dir)
-    (dir_path (graph_of (volume_of c.args.geometry.now.layout b)) c.args.dir)
+    (attributes (volume_of c.args.geometry.now.layout b) c.of.result.number)
+    (dir_path (graph_of (volume_of c.args.geometry.now.layout b)) c.of.result.number)
     ≡ dir_header_lines (volume_of c.args.geometry.now.layout b) c.args.dir
 lines_are g c b k =
     let v = c.args.geometry.now.layout in
-    starts_are v b c.args.dir c.args.workspace.now c.in_ok-examined.examined _ _ _ _
+    rw c.of.ensures (starts_are v b c.args.dir c.args.workspace.now c.in_ok-examined.examined _ _ _ _
     (c.in_ok-examined.ensures.examines.found b k).0 (c.found_parent-parent.ensures v b
     (survey_left v b _ _ c.in_ok-examined.ensures.examines.leaves.lists.survey k.0.survey))
-    c.first_two.ensures
+    c.first_two.ensures)
 
 -- the reads
 reads_few : (g : Over) (c : After-report_header g) (b : List ℕ) → Known g c b →

@@ -6,21 +6,21 @@ use Rattle.ffs_volume.proofs.VerdictLaws.{header_silent, some_header}
 use Rattle.ffs_report.proofs.{Reports.said_none, Paying.{paid_none, paid_reads, paid_says, paid_stops}}
 use Rattle.ffs_report.proofs.Reporting.{of_begins, of_says, of_stops, of_reads}
 use Rattle.ffs_pathnames.specs.{HeaderValues.{defects_value, facts_lines}, DirectoryContext.KnowsHeader}
-use Rattle.ffs_pathnames.proofs.{Begun.attr_size, LineCounts.{by_line, few_none, knows_places, some_said}}
+use Rattle.ffs_pathnames.proofs.{Begun.attr_is, LineCounts.{by_line, few_none, knows_places, some_said}}
 use Rattle.ffs_paths.proofs.Climbed.{few_more}
 use Rattle.ffs_pathnames.proofs.HeaderLaws.{header_value_silent}
-use Rattle.ffs_pathnames.proofs.tree.report_header.{Given.Over, Goals.{After-gather_dir, After-say_header}}
+use Rattle.ffs_pathnames.proofs.tree.report_header.{Given.Over, Goals.{After-put_path, After-say_header}}
 use Rattle.ffs_pathnames.proofs.tree.report_header.Goals as goal
 
 -- a header that isn't right has a line
-some_line : (g : Over) (c : After-gather_dir g) (b : List ℕ) →
+some_line : (g : Over) (c : After-put_path g) (b : List ℕ) →
     1 ≤ length (facts_lines (volume_of c.args.geometry.now.layout b) c.args.header)
 some_line g c b = grind (arith, some_header, header_value_silent)
 
 -- whatever was gathered: the size is that which isn't right
 some_said_of : (g : Over) (c : After-say_header g) →
     1 ≤ length (map of_tree (header_lines (defects_value c.header_defects-defects.result)
-    (record c.in_ok-attr.attr { size = c.args.header.size }) c.as_slice.result.now))
+    c.args.header.attr c.as_slice.result.now))
 some_said_of g c = grind (arith, some_said, some_header, header_value_silent)
 
 -- the lines are those of what was gathered
@@ -28,8 +28,8 @@ lines_are : (g : Over) (c : After-say_header g) (b : List ℕ) →
     KnowsHeader c.args.geometry.now.layout (g.I.Image.device c.args.image.now) c.args.workspace.now c.args.header b →
     map of_tree (facts_lines (volume_of c.args.geometry.now.layout b) c.args.header)
     ≡ map of_tree (header_lines (defects_value c.header_defects-defects.result)
-    (record c.in_ok-attr.attr { size = c.args.header.size }) c.as_slice.result.now) ++ []
-lines_are g c b k = grind (arith, attr_size, append-nil)
+    c.args.header.attr c.as_slice.result.now) ++ []
+lines_are g c b k = grind (arith, attr_is, append-nil)
 
 pub returns-then-is_silent : goal.returns-then-is_silent
 returns-then-is_silent g c =
@@ -40,7 +40,7 @@ returns-then-is_silent g c =
       text = record {
         messages = [];
         right = λ b k. sym (ap (map of_tree)
-            (ap (λ m. header_lines m (attributes (volume_of v b) s.number) (dir_path (graph_of (volume_of v b)) s.number))
+            (ap (λ m. header_lines m (attributes (volume_of v b) s.attr.number) (dir_path (graph_of (volume_of v b)) s.attr.number))
             (sym c.header_defects-defects.ensures)
             ∙ header_silent (defects_value n) _ _
             (header_value_silent n ∙ (sym c.is_silent.ensures ∙ c.if-is_silent.true))));
@@ -56,10 +56,10 @@ returns-then-is_silent g c =
       };
     }
 
-pub returns-in_err-attr : goal.returns-in_err-attr
-returns-in_err-attr g c =
-    let at = (goal.at.returns-in_err-attr g c).After-gather_dir in
-    let left = c.in_err-attr.ensures.leaves in
+pub returns-in_err-put_path : goal.returns-in_err-put_path
+returns-in_err-put_path g c =
+    let at = (goal.at.returns-in_err-put_path g c).After-put_path in
+    let left = c.in_err-put_path.ensures.puts.leaves in
     let read = left.path.reads in
     let p = err_from_is_err_and c.from_residual.result c.from_residual.ensures.1 in
     rw (p.1, p.2) (record {
@@ -72,14 +72,14 @@ returns-in_err-attr g c =
 pub returns-in_err-say_header : goal.returns-in_err-say_header
 returns-in_err-say_header g c =
     let at = goal.at.returns-in_err-say_header g c in
-    let left = c.in_ok-attr.ensures.leaves in
+    let left = c.in_ok-put_path.ensures.puts.leaves in
     let read = left.path.reads in
     let p = err_from_is_err_and c.from_residual-in_err-say_header.result c.from_residual-in_err-say_header.ensures.1 in
     rw (p.1, p.2) (record {
       text = of_stops _ _ (λ b. []) _ _ _ _ _ (of_begins _ _ _) (lines_are g at.After-say_header)
           c.in_err-say_header.ensures;
       counted = λ b k noted. by_line _ (few_more (left.path.counted b (knows_places _ _ _ _ b k.0 noted)) (omega arith))
-          (some_line g at.After-gather_dir b);
+          (some_line g at.After-put_path b);
       paid = paid_stops _ c.in_err-say_header.ensures (some_said_of g at.After-say_header)
           (let most = left.most in omega (arith, most));
       leaves = record { image = read.read; lists = read.lists; current = read.current; ready = read.ready };
@@ -88,13 +88,13 @@ returns-in_err-say_header g c =
 pub returns : goal.returns
 returns g c =
     let at = goal.at.returns g c in
-    let left = c.in_ok-attr.ensures.leaves in
+    let left = c.in_ok-put_path.ensures.puts.leaves in
     let read = left.path.reads in
     record {
       text = of_says _ _ (λ b. []) _ _ _ _ _ (of_begins _ _ _) (lines_are g at.After-say_header)
           c.in_ok-say_header.ensures;
       counted = λ b k noted. by_line _ (few_more (left.path.counted b (knows_places _ _ _ _ b k.0 noted)) (omega arith))
-          (some_line g at.After-gather_dir b);
+          (some_line g at.After-put_path b);
       paid = paid_says _ c.in_ok-say_header.ensures (some_said_of g at.After-say_header)
           (let most = left.most in omega (arith, most));
       leaves = record {
