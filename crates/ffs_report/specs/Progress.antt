@@ -1,8 +1,9 @@
 -- How far a report has come.
-use Rattle.std.specs.{Bool.{MatchBool, OnTrue}, Borrow.GName, Io.KnownBytes.Appends, Prelude.{◌≡◌, ◌⊎◌, ℕ, List, [], ◌∷◌, ◌++◌}}
-use Rattle.std.specs.Prelude.{Bool, true, false, ◌||◌, ◌&&◌, Result, MatchResult, IsErr, OnErr, is_ok, is_err}
+use Rattle.std.specs.{Bool.{MatchBool, OnTrue}, Borrow.GName, Io.KnownBytes.Appends, Prelude.{◌≡◌, ◌⊎◌, ℕ, List, []}}
+use Rattle.std.specs.Prelude.{◌∷◌, ◌++◌, Bool, true, false, ◌||◌, ◌&&◌, Result, MatchResult, IsErr, OnErr, is_ok, is_err}
 use Rattle.ffs_image.specs.Device.{Rose}
-use Rattle.ffs_report.specs.{Sink.{GoesGathered, Sink, Took}, declared.{line_buffer.TheConstants.LINE_ROOM, report.Report.Report}}
+use Rattle.ffs_report.specs.{Sink.{GoesGathered, Sink, Took}, declared.report.Report.Report}
+use Rattle.ffs_report.specs.declared.line_buffer.TheConstants.{LINE_ROOM}
 use Rattle.ffs_volume.specs.Messages.{Kinds.{Message, has_defect}, Texts.{text_of, texts_of}}
 
 -- the reference to its output, what that took, whether a line has failed, and whether a defect was said
