@@ -46,6 +46,7 @@ pub struct FragmentMap {
 }
 
 impl FragmentMap {
+    ghost use Rattle.ffs_memory.specs.System.{AsksOfSystem};
     ghost use Rattle.ffs_maps.specs.Reserved.{with_reserved};
     ghost use Rattle.ffs_maps.specs.Bits.{bits_of, set_run, is_clear, ClaimsRun, HasBits, IsInWord, IsPart, IsSomeInWord, IsSomeRun, MakesMap};
 
@@ -53,8 +54,12 @@ impl FragmentMap {
     ///
     /// # Errors
     /// The memory was refused.
+    #[tactic(auto, using(ffs_memory::proofs::Asking::of_system))]
     pub fn new(alloc: Global, size: u32) -> Result<FragmentMap, AllocError>
-        ensures { IfOk result (λ m. HasBits m size (replicate size false)) }
+        ensures new { IfOk result (λ m. HasBits m size (replicate size false)) }
+
+        // It is refused only where the system refused a request.
+        ensures asks { AsksOfSystem (8 * div_ceil size 64) result }
     {
         FragmentMap::in_memory(&mut SystemMemory::new(alloc), size)
     }
@@ -64,7 +69,8 @@ impl FragmentMap {
     /// # Errors
     /// The memory was refused.
     pub fn in_memory<M: Memory>(memory: &mut M, size: u32) -> Result<FragmentMap, AllocError>
-        ensures { MakesMap (M.account memory.old) (M.account memory.new) size result }
+        ensures made { MakesMap (M.account memory.old) (M.account memory.new) size result }
+        ensures once { M.requests memory.new ≤ M.requests memory.old + 1 }
     {
         let count = size.div_ceil(64) as usize;
         let room = memory.room_for_words(count)?;

@@ -1,7 +1,7 @@
 -- Which request a fuse refuses.
-use Rattle.std.specs.Prelude.{◌≡◌, ℕ, ◌+◌, ◌-◌, ◌^◌, ◌==◌, Bool, min, if◌then◌else◌, Result, IsErr}
+use Rattle.std.specs.Prelude.{◌≡◌, ℕ, ◌+◌, ◌-◌, ◌^◌, ◌≤◌, ◌==◌, Bool, min, if◌then◌else◌, Result, IsErr}
 use Rattle.std.specs.Bool.{OnTrue, OnFalse}
-use Rattle.ffs_memory.specs.{Account.{Account, Asks}, declared.fuse.FuseMemory.FuseMemory}
+use Rattle.ffs_memory.specs.{Account.{Account, Asks}, declared.{fuse.FuseMemory.FuseMemory, memory.Memory.Ghosts}}
 
 -- the request after which none is left
 abbrev pub is_blown : ℕ → Bool
@@ -20,12 +20,13 @@ pub record CountsRequest {M : Type 0} (old new : FuseMemory M) (blown : Bool) : 
   }
 
 -- a request for these bytes: the fuse refuses it, and the memory below isn't asked, or that memory
--- answers it
-pub record BurnsAtRequest {M T E : Type 0} (account : M → Account) (old new : FuseMemory M) (bytes : ℕ)
-    (result : Result T E) : Type 0 where
+-- answers it, by one request at most
+pub record BurnsAtRequest {S T E : Type 0} (M : Ghosts S) (old new : FuseMemory S) (bytes : ℕ) (result : Result T E) :
+    Type 0 where
   pub left : new.left ≡ left_after old.left
   pub blown : OnTrue (is_blown old.left) (IsErr result × (new.inner ≡ old.inner))
-  pub passed : OnFalse (is_blown old.left) (Asks (account old.inner) (account new.inner) bytes result)
+  pub passed : OnFalse (is_blown old.left) (Asks (M.account old.inner) (M.account new.inner) bytes result)
+  pub counted : M.requests new.inner ≤ M.requests old.inner + 1
 
 -- a memory with a fuse is made of one below, whose account it shows, and the fuse has refused no
 -- request yet

@@ -1,5 +1,6 @@
 -- What the memory of the system granted, and how often it refused.
-use Rattle.ffs_memory.specs.{Account.Account, declared.counted.CountedAllocator.CountedAllocator}
+use Rattle.std.specs.Prelude.{◌≡◌, ℕ, Result}
+use Rattle.ffs_memory.specs.{Account.{Account, Asks, unused}, declared.counted.CountedAllocator.CountedAllocator}
 use Rattle.ffs_memory.specs.declared.system.SystemMemory.{SystemMemory}
 
 -- the account of an allocator whose requests are counted. Its body is hidden (`unfoldable`): all
@@ -11,3 +12,11 @@ allocator_account a = record { granted = a.granted; refused = a.refused }
 -- the account of a `SystemMemory` is that of its allocator
 abbrev pub account_of : SystemMemory → Account
 account_of m = allocator_account m.allocator
+
+-- so many bytes were asked of the memory of the system, of which nothing was granted before: they were
+-- granted, or a request was refused
+pub record AsksOfSystem {T E : Type 0} (bytes : ℕ) (result : Result T E) : Type 0 where
+  pub memory : SystemMemory
+  pub memory' : SystemMemory
+  pub begun : account_of memory ≡ unused
+  pub asked : Asks (account_of memory) (account_of memory') bytes result

@@ -53,6 +53,8 @@ impl<M: Memory> Memory for FuseMemory<M> {
 
     ghost account = { λ f. let a = M.account f.inner in record a { refused = min (a.refused + f.own) (2 ^ 64 - 1) } };
 
+    ghost requests = { λ f. M.requests f.inner };
+
     fn granted(&self) -> u64 {
         self.inner.granted()
     }
@@ -64,7 +66,7 @@ impl<M: Memory> Memory for FuseMemory<M> {
     fn bytes(&mut self, n: usize) -> Result<FixedList<u8>, AllocError>
         ensures given { Gives (⟦<FuseMemory<M> as Memory>⟧.account self.old)
             (⟦<FuseMemory<M> as Memory>⟧.account self.new) n n 0 result }
-        ensures fuse { BurnsAtRequest M.account self.old self.new n result }
+        ensures fuse { BurnsAtRequest M.Memory self.old self.new n result }
     {
         if self.blows() {
             return Err(AllocError);
@@ -75,7 +77,7 @@ impl<M: Memory> Memory for FuseMemory<M> {
     fn flags(&mut self, n: usize) -> Result<FilledList<bool>, AllocError>
         ensures given { Gives (⟦<FuseMemory<M> as Memory>⟧.account self.old)
             (⟦<FuseMemory<M> as Memory>⟧.account self.new) n n false result }
-        ensures fuse { BurnsAtRequest M.account self.old self.new n result }
+        ensures fuse { BurnsAtRequest M.Memory self.old self.new n result }
     {
         if self.blows() {
             return Err(AllocError);
@@ -86,7 +88,7 @@ impl<M: Memory> Memory for FuseMemory<M> {
     fn numbers(&mut self, n: usize) -> Result<FilledList<u32>, AllocError>
         ensures given { Gives (⟦<FuseMemory<M> as Memory>⟧.account self.old)
             (⟦<FuseMemory<M> as Memory>⟧.account self.new) n (4 * n) 0 result }
-        ensures fuse { BurnsAtRequest M.account self.old self.new (4 * n) result }
+        ensures fuse { BurnsAtRequest M.Memory self.old self.new (4 * n) result }
     {
         if self.blows() {
             return Err(AllocError);
@@ -97,7 +99,7 @@ impl<M: Memory> Memory for FuseMemory<M> {
     fn long_numbers(&mut self, n: usize) -> Result<FilledList<u64>, AllocError>
         ensures given { Gives (⟦<FuseMemory<M> as Memory>⟧.account self.old)
             (⟦<FuseMemory<M> as Memory>⟧.account self.new) n (8 * n) 0 result }
-        ensures fuse { BurnsAtRequest M.account self.old self.new (8 * n) result }
+        ensures fuse { BurnsAtRequest M.Memory self.old self.new (8 * n) result }
     {
         if self.blows() {
             return Err(AllocError);
@@ -108,7 +110,7 @@ impl<M: Memory> Memory for FuseMemory<M> {
     fn room_for_words(&mut self, n: usize) -> Result<WordRoom, AllocError>
         ensures given { MakesRoom (⟦<FuseMemory<M> as Memory>⟧.account self.old)
             (⟦<FuseMemory<M> as Memory>⟧.account self.new) n 8 result }
-        ensures fuse { BurnsAtRequest M.account self.old self.new (8 * n) result }
+        ensures fuse { BurnsAtRequest M.Memory self.old self.new (8 * n) result }
     {
         if self.blows() {
             return Err(AllocError);

@@ -1,9 +1,10 @@
 -- How far a report has come.
-use Rattle.std.specs.{Bool.OnTrue, Borrow.GName, Io.KnownBytes.Appends, Prelude.{◌≡◌, ◌⊎◌, ℕ, List, [], ◌∷◌, ◌++◌}}
-use Rattle.std.specs.Prelude.{Bool, true, false, ◌||◌, ◌&&◌, Result, MatchResult, IsErr, OnErr, is_ok, is_err}
+use Rattle.std.specs.{Bool.{MatchBool, OnTrue}, Borrow.GName, Io.KnownBytes.Appends, Prelude.{◌≡◌, ◌⊎◌, ℕ, List, []}}
+use Rattle.std.specs.Prelude.{◌∷◌, ◌++◌, Bool, true, false, ◌||◌, ◌&&◌, Result, MatchResult, IsErr, OnErr, is_ok, is_err}
 use Rattle.ffs_image.specs.Device.{Rose}
-use Rattle.ffs_report.specs.{Sink.{Sink, Took}, declared.report.Report.Report}
-use Rattle.ffs_volume.specs.Messages.{Kinds.{Message, has_defect}, Texts.texts_of}
+use Rattle.ffs_report.specs.{Sink.{GoesGathered, Sink, Took}, declared.report.Report.Report}
+use Rattle.ffs_report.specs.declared.line_buffer.TheConstants.{LINE_ROOM}
+use Rattle.ffs_volume.specs.Messages.{Kinds.{Message, has_defect}, Texts.{text_of, texts_of}}
 
 -- the reference to its output, what that took, whether a line has failed, and whether a defect was said
 pub record Progress : Type 0 where
@@ -27,7 +28,7 @@ starts output sink = record { output = output; sink = sink; failed = false; defe
 
 -- printing a line had this outcome, which is returned and recorded, and so is whether a defect was
 -- printed
-pub record AfterPrinting {T E : Type 0} (old new : Progress) (printed : Result T E) (is_defect : Bool)
+pub record AfterPrinting {W T E : Type 0} (old new : Report W) (printed : Result T E) (is_defect : Bool)
     (result : Result T E) : Type 0 where
   pub answer : result ≡ printed
   pub recorded : new ≡ record old {
@@ -57,9 +58,18 @@ pub record Stopped (old new : Progress) (messages : List Message) : Type 0 where
 abbrev pub Says : {T E : Type 0} → Progress → Progress → List Message → Result T E → Type 0
 Says old new messages result = MatchResult result (λ _. Said old new messages) (λ _. Stopped old new messages)
 
+-- a message goes out by one put, if its text has room in the buffer of a line, and by no put once a
+-- line has failed. `unfoldable`, since it is said of each message, and asked of few
+unfoldable pub GoesInOnePut : {W E : Type 0} → (W → List ℕ → Result ℕ E → W → Type 0) → Report W → Report W → Message →
+    Type 0
+GoesInOnePut was_put old new message = MatchBool old.failed (new.out.now ≡ old.out.now)
+    (GoesGathered was_put old.out.now new.out.now (text_of message) LINE_ROOM)
+
 -- the outcome of a call that says one message: a fault adds no defect, and after one each further
 -- call is a fault that leaves the report as it was
-pub record SaysOne {T E : Type 0} (old new : Progress) (message : Message) (result : Result T E) : Type 0 where
-  pub said : Says old new (message ∷ []) result
+pub record SaysOne {W T E F : Type 0} (sink : W → Sink) (was_put : W → List ℕ → Result ℕ F → W → Type 0)
+    (old new : Report W) (message : Message) (result : Result T E) : Type 0 where
+  pub said : Says (progress sink old) (progress sink new) (message ∷ []) result
   pub defect : OnErr result (new.defect ≡ old.defect)
-  pub over : OnTrue old.failed (IsErr result × (new ≡ old))
+  pub over : OnTrue old.failed (IsErr result × (progress sink new ≡ progress sink old))
+  pub puts : GoesInOnePut was_put old new message

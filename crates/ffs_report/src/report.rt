@@ -68,8 +68,7 @@ impl<'a, W: Output> Report<'a, W> {
     /// Records whether a line was printed, and returns that.
     #[inline(always)]
     fn after(&mut self, printed: Result<(), OutFault>, is_defect: bool) -> Result<(), OutFault>
-        ensures { AfterPrinting (progress W.sink self.old) (progress W.sink self.new) printed
-            is_defect result }
+        ensures { AfterPrinting self.old self.new printed is_defect result }
     {
         match printed {
             Ok(()) => {
@@ -84,9 +83,9 @@ impl<'a, W: Output> Report<'a, W> {
     }
 
     /// Says a line of any kind.
+    #[tactic(auto, unfolding(crate::specs::Progress::GoesInOnePut))]
     fn say_any(&mut self, line: &Line<'_>) -> Result<(), OutFault>
-        ensures { SaysOne (progress W.sink self.old) (progress W.sink self.new)
-            (message_of line.now) result }
+        ensures { SaysOne W.sink W.was_put self.old self.new (message_of line.now) result }
     {
         if self.failed {
             return Err(OutFault);
@@ -97,8 +96,9 @@ impl<'a, W: Output> Report<'a, W> {
 
     /// Says a DUP line, of a fragment and an inode. Where a volume has many defects, most of its
     /// lines are of this kind, so what a line shares with the one before it isn't made again.
+    #[tactic(auto, unfolding(crate::specs::Progress::GoesInOnePut))]
     fn say_dup_line(&mut self, fragment: u32, inode: u32) -> Result<(), OutFault>
-        ensures { SaysOne (progress W.sink self.old) (progress W.sink self.new)
+        ensures { SaysOne W.sink W.was_put self.old self.new
             (of_blocks (BlockMessage.Dup fragment inode)) result }
     {
         let printed = if self.failed {
@@ -109,7 +109,7 @@ impl<'a, W: Output> Report<'a, W> {
         self.after(printed, true)
     }
 
-    /// Says a line, with its questions.
+    /// Says a line, with its questions: by one put, where it has room in the buffer of a line.
     ///
     /// Inlined, so that the match is decided at compile time where the line is a literal.
     ///
@@ -118,8 +118,7 @@ impl<'a, W: Output> Report<'a, W> {
     /// call returns `Err` and writes nothing.
     #[inline(always)]
     pub fn say(&mut self, line: &Line<'_>) -> Result<(), OutFault>
-        ensures { SaysOne (progress W.sink self.old) (progress W.sink self.new)
-            (message_of line.now) result }
+        ensures { SaysOne W.sink W.was_put self.old self.new (message_of line.now) result }
     {
         match line {
             Line::Block(BlockMessage::Dup { fragment, inode }) => {

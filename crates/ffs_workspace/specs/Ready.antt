@@ -1,8 +1,7 @@
 -- A workspace as it is made, one that is ready for the volume of an image, and one that can be read into.
 use Rattle.std.specs.Prelude.{◌≡◌, ◌*◌, ◌≤◌, ℕ, false, Result, IfOk, vec_len}
 use Rattle.ffs_image.specs.Device.{Device}
-use Rattle.ffs_memory.specs.{Account.{Account, Asks, unused}, System.account_of}
-use Rattle.ffs_memory.specs.declared.system.SystemMemory.{SystemMemory}
+use Rattle.ffs_memory.specs.Account.{Account, Asks}
 use Rattle.ffs_volume.specs.declared.Layout.{Layout}
 use Rattle.ffs_workspace.specs.{declared.workspace.{Windows.Windows, Workspace.Workspace}, Holds.IsFresh, Lengths.IsFor}
 use Rattle.ffs_workspace.specs.Lengths.{HoldWindows}
@@ -36,14 +35,6 @@ pub record MakesInMemory {T E : Type 0} (before after : Account) (bytes : ℕ) (
     Type 0 where
   pub new : IfOk result P
   pub asks : Asks before after bytes result
-
--- so many bytes were asked of the memory of the system, of which nothing was granted before: they were
--- granted, or a request was refused
-pub record AsksOfSystem {T E : Type 0} (bytes : ℕ) (result : Result T E) : Type 0 where
-  pub memory : SystemMemory
-  pub memory' : SystemMemory
-  pub begun : account_of memory ≡ unused
-  pub asked : Asks (account_of memory) (account_of memory') bytes result
 
 -- the windows have room for six blocks
 pub record HaveRoom (v : Layout) (w : Windows) : Type 0 where

@@ -104,13 +104,14 @@ impl Workspace {
     ghost use Rattle.ffs_image.specs.Device.{Device};
     ghost use Rattle.ffs_workspace.specs.Lengths.{IsFor, has_unreported_dups};
     ghost use Rattle.ffs_volume.specs.{Encodings.Notes.cut_in, Report.Memory.held_of};
-    ghost use Rattle.ffs_workspace.specs.Ready.{AsksOfSystem, CanRead, IsNew, IsReady};
+    ghost use Rattle.ffs_workspace.specs.Ready.{CanRead, IsNew, IsReady};
+    ghost use Rattle.ffs_memory.specs.System.{AsksOfSystem};
 
     /// Takes all memory of a check of the volume from an allocator, and holds nothing yet.
     ///
     /// # Errors
     /// The memory was refused. What was granted before is freed.
-    #[tactic(auto, using(crate::proofs::Requests::of_system))]
+    #[tactic(auto, using(ffs_memory::proofs::Asking::of_system))]
     pub fn new(alloc: Global, geometry: &Geometry) -> Result<Workspace, AllocError>
         ensures new { IfOk result (IsNew geometry.now.layout) }
 
@@ -130,8 +131,11 @@ impl Workspace {
         geometry: &Geometry,
     ) -> Result<Workspace, AllocError>
         // What it holds was granted and no byte more, or a request was refused.
-        ensures { MakesInMemory (M.account memory.old) (M.account memory.new)
+        ensures made { MakesInMemory (M.account memory.old) (M.account memory.new)
             (held_of geometry.now.layout) result (IsNew geometry.now.layout) }
+
+        // Two requests are for maps, nine for lists of inodes and four for buffers.
+        ensures requests { M.requests memory.new ≤ M.requests memory.old + 15 }
     {
         let inodes = geometry.layout.ncg as usize * geometry.layout.ipg as usize;
         let used = FragmentMap::in_memory(memory, geometry.layout.size)?;
@@ -245,8 +249,9 @@ impl Windows {
     ghost use Rattle.ffs_workspace.specs.Ready.{HaveRoom};
 
     fn in_memory<M: Memory>(memory: &mut M, geometry: &Geometry) -> Result<Windows, AllocError>
-        ensures { MakesInMemory (M.account memory.old) (M.account memory.new)
+        ensures made { MakesInMemory (M.account memory.old) (M.account memory.new)
             (6 * geometry.now.layout.bsize) result (HaveRoom geometry.now.layout) }
+        ensures requests { M.requests memory.new ≤ M.requests memory.old + 4 }
     {
         let size = geometry.layout.bsize as usize;
         let table = Table::over(memory.bytes(size)?);
@@ -272,9 +277,10 @@ struct FlagLists {
 }
 
 fn flag_lists<M: Memory>(memory: &mut M, n: usize) -> Result<FlagLists, AllocError>
-    ensures { MakesInMemory (M.account memory.old) (M.account memory.new) (4 * n) result
+    ensures made { MakesInMemory (M.account memory.old) (M.account memory.new) (4 * n) result
         (λ lists. IsFilled n false lists.marked × IsFilled n false lists.named
         × IsFilled n false lists.reached × IsFilled n false lists.flags) }
+    ensures requests { M.requests memory.new ≤ M.requests memory.old + 4 }
 {
     let marked = memory.flags(n)?;
     let named = memory.flags(n)?;
@@ -297,9 +303,10 @@ struct WordLists {
 }
 
 fn word_lists<M: Memory>(memory: &mut M, n: usize) -> Result<WordLists, AllocError>
-    ensures { MakesInMemory (M.account memory.old) (M.account memory.new) (12 * n) result
+    ensures made { MakesInMemory (M.account memory.old) (M.account memory.new) (12 * n) result
         (λ lists. IsFilled n 0 lists.notes × IsFilled n 0 lists.parents
         × IsFilled n 0 lists.queue) }
+    ensures requests { M.requests memory.new ≤ M.requests memory.old + 3 }
 {
     let notes = memory.numbers(n)?;
     let parents = memory.numbers(n)?;

@@ -13,5 +13,5 @@ invariant_of-result g c =
           (λ k h. get_or-replicate c.args.size (0 + k) false false (omega (arith, h))));
     }
 
-pub returns : goal.returns
-returns g c = record { made = grind (arith, zero_bits); asks = search (arith, rules) }
+pub returns-clause-made : goal.returns-clause-made
+returns-clause-made g c = record { made = grind (arith, zero_bits); asks = search (arith, rules) }

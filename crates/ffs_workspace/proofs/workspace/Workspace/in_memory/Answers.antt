@@ -4,8 +4,8 @@ use Rattle.ffs_memory.proofs.Asking.{granted_both}
 use Rattle.ffs_workspace.proofs.Requests.{both}
 use Rattle.ffs_workspace.proofs.workspace.Workspace.in_memory.Goals as goal
 
-pub returns : goal.returns
-returns g c =
+pub returns-clause-made : goal.returns-clause-made
+returns-clause-made g c =
     record {
       new = record {
         made = grind arith;
