@@ -1,11 +1,11 @@
 -- How a reading of chunks continues, and that its windows can be read into from read to read.
-use Rattle.std.proofs.Common.{◌≡◌, ◌≤◌, ◌∙◌, ℕ, List, Result, Ok, Err, ap, arith, refl}
+use Rattle.std.proofs.Common.{◌≡◌, ◌≤◌, ◌∙◌, ℕ, List, Option, Result, Ok, Err, ap, arith, refl}
 use Rattle.ffs_image.specs.{Device.Device, Reads.ReadAfter, declared.image.ImageFault.ImageFault}
 use Rattle.ffs_volume.specs.declared.Step.{Step}
 use Rattle.ffs_layout.specs.declared.geometry.Geometry.{Geometry}
 use Rattle.ffs_walk.specs.{Windows.{CanWalk, KeepsBlocks}, declared.{blocks.Blocks.Blocks, window.Window.Window}}
 use Rattle.ffs_names.specs.{declared.chunks.Chunks.Chunks, Windows.{CanWalkDir, CanReadChunks}, Readings.Continues}
-use Rattle.ffs_names.specs.Readings.{ContinuesTo, CountsOn, IsSame}
+use Rattle.ffs_names.specs.Readings.{ContinuesTo, CountsOn, CountsRuns, IsSame, StopsChunks}
 
 pub no_more : (n : ℕ) → n ≤ n
 no_more n = omega arith
@@ -13,8 +13,17 @@ no_more n = omega arith
 pub counts_here : (n : ℕ) → CountsOn n n
 counts_here n = record { most = omega arith; all = λ h. refl }
 
-counts_more : {n m k : ℕ} → CountsOn n m → CountsOn m k → CountsOn n k
+pub counts_more : {n m k : ℕ} → CountsOn n m → CountsOn m k → CountsOn n k
 counts_more h l = grind arith
+
+-- a reading that is stopped has the count of Runs that it had
+pub counts_stopped : {T : Type 0} {contents : Option (List ℕ)} {c c' c'' : Chunks} {result : Result T ImageFault} →
+    CountsRuns contents c c' result → StopsChunks c' c'' → CountsRuns contents c c'' result
+counts_stopped h s = record {
+  rises = rw s.runs h.rises;
+  each = rw (s.runs, s.walk, s.keeping) h.each;
+  fault = rw (s.runs, s.walk, s.keeping) h.fault;
+}
 
 pub continues_here : (b : List ℕ) (c : Chunks) → ContinuesTo b c c
 continues_here b c = record { chunks = refl; runs = counts_here _; gap = refl }

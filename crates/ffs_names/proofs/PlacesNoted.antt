@@ -25,7 +25,7 @@ use Rattle.ffs_workspace.{specs.Tables.KeepsTable, proofs.PartLaws.{begins_part,
 use Rattle.ffs_workspace.specs.declared.{table.Table.Table, workspace.Workspace.Workspace}
 use Rattle.ffs_names.{proofs.InParts.named_in_part, specs.{Fits.CursorFits, RunCursors.{last_place, StepsOn}}}
 use Rattle.ffs_names.specs.{declared.run_cursor.RunCursor.RunCursor, Noting.{belongs_to, is_found, BeginsNotes, IsParent}}
-use Rattle.ffs_names.specs.{Noting.{KeepsToRead, NotesChildren, NotesChunk, NotesEntries}, Windows.CanReadChunks}
+use Rattle.ffs_names.specs.{Noting.{KeepsToRead, NotesChildren, NotesChunk, NotesEach, NotesRight}, Windows.CanReadChunks}
 
 -- ---- entries of a chunk
 -- where no entry is left
@@ -69,12 +69,6 @@ notes_end {parents = parents} {ws = ws} {p = p} {place = place} is = rw is (note
 abbrev pub AreToCome : (parents ws : List ℕ) (p : ℕ) (all rest : List RoledEntry) → Type 0
 AreToCome parents ws p all rest = (x : ℕ) → belongs_to parents p x ≡ true → place_in (slice_index ws x) ≡ 0 →
     name_in x all ≡ name_in x rest
-
--- each place that is noted anew is that of a part whose first plain entry that names the inode has
--- the name of the first one of all
-abbrev pub HavePlaces : (v : Layout) (b old new : List ℕ) (all : List RoledEntry) → Type 0
-HavePlaces v b old new all = (x k : ℕ) → place_in (slice_index new x) ≡ suc k → (place_in (slice_index old x) ≡ suc k)
-    ⊎ (name_in x (entries_in_part v b k) ≡ name_in x all)
 
 -- of an inode with the parent p that some entries of p name, a place is noted, or one of those to
 -- come names it
@@ -162,7 +156,7 @@ module _ {v : Layout} {b parents old new : List ℕ} {p place at offset : ℕ} {
 
   -- it has the first one of those whose place it is
   pub noted_chunk : (first : List ℕ) (all : List RoledEntry) → AreToCome parents old p all (flat_map roled_chunk rest) →
-      HavePlaces v b first old all → HavePlaces v b first new all
+      NotesRight v b all first old → NotesRight v b all first new
   noted_chunk first all coming before x j h = one (is_found parents old p (entries_in_chunk v.order bytes) x) refl
     where
       one : (f : Bool) → is_found parents old p (entries_in_chunk v.order bytes) x ≡ f →
@@ -266,8 +260,7 @@ parent_dir g x s other h = grind (arith, by_dir, cond-false)
 
 -- places are right after the directory p is noted
 pub places_after : {v : Layout} {b : List ℕ} {w : Workspace} {old new : List ℕ} {p : ℕ} → HoldsSurvey v b w →
-    (is_dir (volume_of v b) p ≡ true
-    → NotesEntries v b (belongs_to w.parents.items p) (roled_entries (volume_of v b) p) old new) →
+    (is_dir (volume_of v b) p ≡ true → NotesRight v b (roled_entries (volume_of v b) p) old new) →
     NotesChildren w.parents.items old new p → ArePlaces v b old → ArePlaces v b new
 places_after {v = v} {b = b} {w = w} {p = p} survey noted children right x q k there is =
     go (belongs_to w.parents.items p x) refl
@@ -280,7 +273,7 @@ places_after {v = v} {b = b} {w = w} {p = p} survey noted children right x q k t
         let up : q ≡ p = sym (survey.tree.parents x ∙ ap (λ (o : Option ℕ). unwrap_or o 0) is)
         ∙ eqb-true (slice_index w.parents.items x) p parts.0 in
         let dir = parent_dir (graph_of (volume_of v b)) x p (not-true (x == 2) parts.1) (is ∙ ap Some up) in
-        elim ((noted dir).places x k there) [
+        elim (noted dir x k there) [
           | inl before ↦ right x q k before is
           | inr named ↦ named ∙ ap (λ (n : ℕ). name_in x (roled_entries (volume_of v b) n)) (sym up)
         ]
@@ -400,7 +393,7 @@ coming_first {v = v} {b = b} {w = w} {words = words} long begins survey x p unde
 -- after the directory d, which was to be read, is noted
 pub coming_noted : {v : Layout} {b : List ℕ} {w : Workspace} {mid new : List ℕ} {d : ℕ} (old : List ℕ) → HoldsSurvey v b
     w → ((x : ℕ) → place_in (slice_index mid x) ≡ place_in (slice_index old x)) → ((x : ℕ) → x ≢ d
-    → is_to_be_read (slice_index mid x) ≡ is_to_be_read (slice_index old x)) → (is_dir (volume_of v b) d ≡ true → NotesEntries v b
+    → is_to_be_read (slice_index mid x) ≡ is_to_be_read (slice_index old x)) → (is_dir (volume_of v b) d ≡ true → NotesEach v b
     (belongs_to w.parents.items d) (roled_entries (volume_of v b) d) mid new) → NotesChildren w.parents.items mid new d →
     AreComing v b old → AreComing v b new
 coming_noted {v = v} {b = b} {w = w} {mid = mid} {new = new} {d = d} old survey same others noted children coming
@@ -420,7 +413,7 @@ coming_noted {v = v} {b = b} {w = w} {mid = mid} {new = new} {d = d} old survey 
         let child : belongs_to w.parents.items d x ≡ true =
         and_from (slice_index w.parents.items x == d) (not (x == 2)) (eq-eqb (slice_index w.parents.items x) d (up ∙ e))
         (not_from_false (x == 2) under.other) in
-        inl ((noted (rw e at link.0)).all x child (rw e at link.1)
+        inl (noted (rw e at link.0) x child (rw e at link.1)
         (elim before [ inl is ↦ inr is | inr w ↦ inl w.0 ]))
     go (inr o) =
         let child : belongs_to w.parents.items d x ≡ false =

@@ -8,7 +8,7 @@ use Rattle.ffs_volume.specs.{Directories.{Entries.{has_gap, is_sound}, PathnameC
 use Rattle.ffs_volume.specs.Encodings.{Replay.{fresh_replay, replayed_steps}, ReplayCounts.replayed_runs}
 use Rattle.ffs_volume.specs.Directories.Calm.{is_right_size}
 use Rattle.ffs_walk.specs.declared.{blocks.Blocks.Blocks, window.Window.Window}
-use Rattle.ffs_names.specs.{Costs.{HoldsReading, to_read}, Readings.{chunks_in, gap_left, rest}, Shapes.{BeginsDirectory, HasEnded, fills, has_right_shape}}
+use Rattle.ffs_names.specs.{Costs.{HoldsReading, to_read}, Readings.{chunks_in, gap_left, rest, runs_left}, Shapes.{BeginsDirectory, HasEnded, fills, has_right_shape}}
 use Rattle.ffs_names.{specs.declared.{chunks.Chunks.Chunks, entries.Entries.Entries}, proofs.Entered.end_of_chunk}
 use Rattle.ffs_names.proofs.{Entered.{end_seen, none_from}, EntryCounts.at_most}
 
@@ -62,10 +62,13 @@ pub begins_directory : {v : Layout} {i : Inode} {cut : ℕ} {r : Entries} → r.
     i.size → ((b : List ℕ) → i.size < 2 ^ 31 → rest b r.chunks ≡ chunks_in v b i cut) → r.chunks.gap ≡ false → ((b :
     List ℕ) → gap_left b r.chunks ≡ has_gap (replayed_steps v cut fresh_replay (steps_of v i b))) → ((b : List ℕ) →
     to_read b r.chunks ≤ replayed_runs v cut fresh_replay (steps_of v i b)) → ((blocks : Blocks) (w : Window) →
-    HoldsReading blocks w r.chunks) → BeginsDirectory v i cut r
-begins_directory {r = r} place right chunks gap left few held = record {
+    HoldsReading blocks w r.chunks) → r.chunks.runs ≡ 0 → ((b : List ℕ) → runs_left b r.chunks ≡ replayed_runs v cut
+    fresh_replay (steps_of v i b)) → BeginsDirectory v i cut r
+begins_directory {r = r} place right chunks gap left few held none runs = record {
   gives = λ b small. record { entries = grind (arith, end_seen); shape = grind (arith, shape_begun) };
   place = place;
+  runs = none;
+  runs_left = runs;
   to_read = λ b. omega (arith, at_most b r.right_so_far r.chunks, few b);
   held = λ blocks w may. held blocks w;
 }

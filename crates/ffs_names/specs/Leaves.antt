@@ -1,13 +1,13 @@
 -- What calls do and leave that read a directory, and how often they read the image.
 use Rattle.std.specs.Prelude.{◌≡◌, ℕ, ◌+◌, ◌<◌, ◌≤◌, Bool, true, ◌||◌, List, [], None, Ok, Result, OnOk, vec_len}
-use Rattle.std.specs.Prelude.{IfOk, IfSome, MatchOption, MatchResult, Option, if◌then◌else◌, is_some}
+use Rattle.std.specs.Prelude.{IfOk, IfSome, MatchOption, MatchResult, OnErr, Option, if◌then◌else◌, is_some}
 use Rattle.ffs_image.specs.{Device.{Device, ForContents}, Reads.ReadAfter, declared.image.Image.Ghosts}
 use Rattle.ffs_image.specs.declared.image.ImageFault.{ImageFault}
 use Rattle.ffs_walk.specs.declared.{blocks.Blocks.Blocks, window.Window.Window}
 use Rattle.ffs_walk.specs.{Rests.most_steps_left, Windows.WindowHolds}
 use Rattle.ffs_survey.specs.{Costs.TakesReads, declared.entry_head.EntryHead.EntryHead}
 use Rattle.ffs_names.specs.{Costs.{to_read, unread_run, HoldsReading, HoldsRun}, Entering.{left, GivesFromChunk}}
-use Rattle.ffs_names.specs.Readings.{gap_left, rest, CountsRuns, IsSame}
+use Rattle.ffs_names.specs.Readings.{gap_left, rest, CountsRuns, HasSeenAll, IsSame}
 use Rattle.ffs_names.specs.{RunCursors.{IsGivenChunk, StepsOn}, Windows.{CanReadChunks, CanWalkDir}}
 use Rattle.ffs_names.specs.declared.{chunks.Chunks.Chunks, entries.Entries.Entries, run_cursor.RunCursor.RunCursor}
 
@@ -86,16 +86,20 @@ ReadsForSteps old new result =
     IfOk result (λ found. found ≡ true → ReadsBySteps old.reads new.reads old.chunks new.chunks 0)
 
 -- a call looks for a hole among the kept steps of a directory: those that a reading of its chunks has
--- seen, and those that are left. Asked again it answers the same, and no chunk comes where none was left
+-- seen, and those that are left. Asked again it answers the same, and no chunk comes where none was left,
+-- nor after a fault
 pub record LooksForGap (old new : DirWalk) (result : Result Bool ImageFault) : Type 0 where
   pub gap : IfOk result (λ g. ForContents old.image.contents (λ b. g ≡ (old.chunks.gap || gap_left b old.chunks)))
   pub again : IfOk result (λ g. ForContents old.image.contents (λ b. g ≡ (new.chunks.gap || gap_left b new.chunks)))
   pub none : OnOk result (ForContents old.image.contents (λ b. rest b old.chunks ≡ [] → rest b new.chunks ≡ []))
+  pub fault : OnErr result ((b : List ℕ) → HasSeenAll b new.chunks)
+  pub runs : CountsRuns old.image.contents old.chunks new.chunks result
   pub leaves : LeavesWalk old new result
 
 -- what a call leaves that reads a chunk
 pub record LeavesChunks {T : Type 0} (old new : DirReading Chunks) (result : Result T ImageFault) : Type 0 where
   pub same : IsSame old.reading new.reading
+  pub runs : CountsRuns old.image.contents old.reading new.reading result
   pub ready : CanReadChunks old.reading.walk.geometry.layout new.image new.blocks new.window
   pub read : ReadAfter old.image new.image result
   pub any : ReadsBySteps old.reads new.reads old.reading new.reading 1
@@ -122,7 +126,7 @@ abbrev pub most_left : Chunks → ℕ
 most_left c = most_steps_left c.walk + c.budget
 
 -- what a call leaves that gives the next entry, if there is one: that is in a chunk of the image, and fewer
--- may come after it. Whatever the image and its windows hold, at most one read is for each step of the walk
+-- may come after it. Each Run that was looked at is counted. Whatever the image and its windows hold, at most one read is for each step of the walk
 -- and for each chunk that the call takes, and one more where it gives no entry
 pub record LeavesEntries (old new : DirReading Entries) (result : Result (Option EntryHead) ImageFault) : Type 0 where
   pub geometry : new.reading.chunks.walk.geometry ≡ old.reading.chunks.walk.geometry
@@ -130,14 +134,19 @@ pub record LeavesEntries (old new : DirReading Entries) (result : Result (Option
   pub read : ReadAfter old.image new.image result
   pub place : IfOk result (λ o. IfSome o (λ _. GivesFromChunk old.image.contents old.reading new.reading))
   pub left : IfOk result (λ o. IfSome o (λ _. left new.reading < left old.reading))
+  pub runs : CountsRuns old.image.contents old.reading.chunks new.reading.chunks result
   pub most : new.reads ≤ old.reads + most_left old.reading.chunks + 1
   pub any : IfOk result (λ o. new.reads + most_left new.reading.chunks
       ≤ old.reads + most_left old.reading.chunks + (if is_some o then 0 else 1))
 
--- what a call leaves that walks on, but for how often it reads an image of known bytes
+-- what a call leaves that walks on, but for how often it reads an image of known bytes: what no reading
+-- changes, how many chunks may still come, none after a fault, and how many Runs were looked at
 pub record LeavesBlocks {T : Type 0} (old new : DirWalk) (result : Result T ImageFault) : Type 0 where
   pub geometry : new.chunks.walk.geometry ≡ old.chunks.walk.geometry
-  pub same : OnOk result (IsSame old.chunks new.chunks)
+  pub cut : new.chunks.keeping.cut ≡ old.chunks.keeping.cut
+  pub bytes_to_read : new.chunks.bytes_to_read ≡ old.chunks.bytes_to_read
+  pub budget : MatchResult result (λ _. new.chunks.budget ≡ old.chunks.budget) (λ _. new.chunks.budget ≡ 0)
+  pub runs : CountsRuns old.image.contents old.chunks new.chunks result
   pub ready : CanWalkDir old.chunks.walk.geometry.layout new.image new.blocks
   pub read : ReadAfter old.image new.image result
   pub any : ReadsBySteps old.reads new.reads old.chunks new.chunks 1

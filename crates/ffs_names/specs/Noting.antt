@@ -74,26 +74,28 @@ pub record NotesInWords (parents old new : Vec ℕ Global) (p place : ℕ) (es :
   pub noted : NotesChunk parents.items old.items new.items p place es
   pub long : vec_len new ≡ vec_len old
 
--- the entries es of the parent of some inodes are noted: of each place that is noted anew the first plain
--- entry of the part that names the inode has the name of the first one of es. A place is noted of each
--- child that a plain one of these entries names, if none or a right one was noted before
-pub record NotesEntries (v : Layout) (b : List ℕ) (child : ℕ → Bool) (es : List RoledEntry) (old new : List ℕ)
-    : Type 0 where
-  pub places : (x k : ℕ) → place_in (slice_index new x) ≡ suc k → (place_in (slice_index old x) ≡ suc k)
-      ⊎ (name_in x (entries_in_part v b k) ≡ name_in x es)
-  pub all : (x : ℕ) → child x ≡ true → list_any (is_naming_entry x) es ≡ true →
-      (place_in (slice_index old x) ≡ 0) ⊎ IsNoted v b old x → IsNoted v b new x
+-- places are noted by the entries es of a directory: of each place that is noted anew the first plain entry of
+-- the part that names the inode has the name of the first one of es
+abbrev pub NotesRight : (v : Layout) (b : List ℕ) (es : List RoledEntry) (old new : List ℕ) → Type 0
+NotesRight v b es old new = (x k : ℕ) → place_in (slice_index new x) ≡ suc k → (place_in (slice_index old x) ≡ suc k)
+    ⊎ (name_in x (entries_in_part v b k) ≡ name_in x es)
+
+-- a place is noted of each child that a plain one of these entries names, if none or a right one was noted before
+abbrev pub NotesEach : (v : Layout) (b : List ℕ) (child : ℕ → Bool) (es : List RoledEntry) (old new : List ℕ) → Type 0
+NotesEach v b child es old new = (x : ℕ) → child x ≡ true → list_any (is_naming_entry x) es ≡ true →
+    (place_in (slice_index old x) ≡ 0) ⊎ IsNoted v b old x → IsNoted v b new x
 
 -- no place of an inode with another parent is noted, and what is to be read stays so
 pub record NotesChildren (parents old new : List ℕ) (p : ℕ) : Type 0 where
   pub others : (x : ℕ) → belongs_to parents p x ≡ false → place_in (slice_index new x) ≡ place_in (slice_index old x)
   pub to_read : KeepsToRead old new
 
--- the places of the entries of the directory p are noted, where no read failed, and the image was read at
--- most as often as the directory asks for
+-- places of the entries of the directory p are noted, those of all where no read failed, and the image was read
+-- at most as often as the directory asks for
 pub record NotesDirectory {T : Type 0} (v : Layout) (b : List ℕ) (p : ℕ) (old new : DirMoment)
     (result : Result T ImageFault) : Type 0 where
-  pub noted : OnOk result (NotesEntries v b (belongs_to old.workspace.parents.items p) (roled_entries (volume_of v b) p)
+  pub right : NotesRight v b (roled_entries (volume_of v b) p) old.workspace.queue.items new.workspace.queue.items
+  pub each : OnOk result (NotesEach v b (belongs_to old.workspace.parents.items p) (roled_entries (volume_of v b) p)
       old.workspace.queue.items new.workspace.queue.items)
   pub counted : new.reads ≤ old.reads + noted_cost v b p
 

@@ -1,6 +1,9 @@
--- The inode of a directory of one chunk at an address, as far as a reading of its entries asks for it.
-use Rattle.std.specs.Prelude.{ℕ, ◌*◌, ◌∷◌, replicate, pos}
-use Rattle.ffs_volume.specs.declared.{constants.TheConstants.{DT_DIR, DIRBLKSIZ}, Inode.Inode}
+-- A directory of one chunk at an address.
+use Rattle.std.specs.Prelude.{ℕ, ◌*◌, ◌∷◌, ◌==◌, ◌&&◌, Bool, not, replicate, pos}
+use Rattle.ffs_volume.specs.declared.{constants.TheConstants.{DT_DIR, DIRBLKSIZ}, Inode.Inode, Layout.Layout}
+use Rattle.ffs_volume.specs.Disk.Areas.{is_run_in_range}
+
+-- its inode, as far as a reading of its entries asks for it
 
 abbrev pub one_chunk_at : ℕ → Inode
 one_chunk_at address = record {
@@ -12,3 +15,7 @@ one_chunk_at address = record {
   blocks = 0;
   uid = 0;
 }
+
+-- the chunk is read: its address is no hole, and in range
+abbrev pub has_chunk_at : Layout → ℕ → Bool
+has_chunk_at v address = not (address == 0) && is_run_in_range v address 1

@@ -1,6 +1,6 @@
 -- What a reading of a directory has still to give.
 use Rattle.std.specs.Prelude.{◌≡◌, ◌⊎◌, ◌<◌, ◌≤◌, ◌^◌, ℕ, ◌+◌, ◌-◌, Bool, true, false, ◌||◌, Result, List, [], ◌∷◌, ◌++◌}
-use Rattle.std.specs.Prelude.{take, Option, MatchOption, OnErr}
+use Rattle.std.specs.Prelude.{take, Option, MatchOption, OnErr, OnOk}
 use Rattle.ffs_volume.specs.{declared.{Layout.Layout, Inode.Inode, Step.Step}, Disk.Areas.is_run_in_range}
 use Rattle.ffs_volume.specs.{Blocks.Steps.steps_of, Directories.Entries.{Chunk, chunk_of, chunks_of, has_gap}}
 use Rattle.ffs_volume.specs.{Directories.Entries.bytes_read, Encodings.Replay.{is_replay_open, fresh_replay}}
@@ -89,12 +89,27 @@ ContinuesTo b old new = Continues b old (steps_left b old.walk) new (steps_left 
 abbrev pub CountsNoMore : List ℕ → Chunks → Chunks → Type 0
 CountsNoMore b old new = new.runs + runs_left b new ≤ old.runs + runs_left b old
 
--- the count of Runs never falls in a call, and after a fault no more of them are counted and to be
--- counted than before
+-- each Run that was looked at is counted
+abbrev pub CountsEach : List ℕ → Chunks → Chunks → Type 0
+CountsEach b old new = CountsOn (old.runs + runs_left b old) (new.runs + runs_left b new)
+
+-- the count of Runs never falls in a call: each that is looked at is counted, and after a fault no more of them
+-- are counted and to be counted than before
 pub record CountsRuns {T : Type 0} (contents : Option (List ℕ)) (old new : Chunks) (result : Result T ImageFault) :
     Type 0 where
   pub rises : old.runs ≤ new.runs
+  pub each : OnOk result (ForContents contents (λ b. CountsEach b old new))
   pub fault : OnErr result (ForContents contents (λ b. CountsNoMore b old new))
+
+-- no chunk of a reading comes any more, and all else of it stays
+pub record StopsChunks (old new : Chunks) : Type 0 where
+  pub budget : new.budget ≡ 0
+  pub walk : new.walk ≡ old.walk
+  pub keeping : new.keeping ≡ old.keeping
+  pub bytes_to_read : new.bytes_to_read ≡ old.bytes_to_read
+  pub run_cursor : new.run_cursor ≡ old.run_cursor
+  pub runs : new.runs ≡ old.runs
+  pub gap : new.gap ≡ old.gap
 
 -- a Run with a chunk left was found, and fewer steps are left than steps and chunks were before: it
 -- is the current Run still, or no chunk of it was given yet; else all is seen of an image of these
@@ -111,7 +126,6 @@ pub record GivesChunk (b : List ℕ) (to_come : Chunks → List Chunk) (old new 
     (chunk : List ℕ) (answer : Option ℕ) : Type 0 where
   pub chunks : MatchOption answer ((to_come old ≡ []) × (to_come new ≡ []))
       (λ offset. to_come old ≡ chunk_of old.walk.geometry.layout.order offset chunk ∷ to_come new)
-  pub runs : CountsOn (old.runs + runs_left b old) (new.runs + runs_left b new)
   pub gap : (new.gap || gap_left b new) ≡ (old.gap || gap_left b old)
 
 -- the chunks of a directory with this inode and this cut

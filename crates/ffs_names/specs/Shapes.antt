@@ -9,7 +9,7 @@ use Rattle.ffs_volume.specs.{Encodings.ReplayCounts.replayed_runs, Directories.C
 use Rattle.ffs_layout.specs.declared.geometry.Geometry.{Geometry}
 use Rattle.ffs_walk.specs.declared.{blocks.Blocks.Blocks, window.Window.Window}
 use Rattle.ffs_survey.specs.{declared.entry_head.EntryHead.EntryHead, Reading.roled_of}
-use Rattle.ffs_names.specs.{Readings.{IsEnded, rest, gap_left, chunks_in}, Entering.{here, to_come, last_name, left}}
+use Rattle.ffs_names.specs.{Readings.{IsEnded, rest, gap_left, chunks_in, runs_left}, Entering.{to_come, last_name, left}}
 use Rattle.ffs_names.specs.{Costs.{reads_for_entries, HoldsEntries}, declared.entries.Entries.Entries}
 
 -- the entries of the current chunk fill it
@@ -38,11 +38,13 @@ pub record GivesDirectory (v : Layout) (b : List ℕ) (inode : Inode) (cut : ℕ
 abbrev pub runs_of_inode : Layout → List ℕ → Inode → ℕ → ℕ
 runs_of_inode v b inode cut = replayed_runs v cut fresh_replay (steps_of v inode b)
 
--- a reading of the directory with this inode and this cut begins, before its first chunk. It takes a
--- read for each Run that is seen, and needs nothing that was read
+-- a reading of the directory with this inode and this cut begins, before its first chunk. No Run was
+-- looked at, it takes a read for each that is seen, and needs nothing that was read
 pub record BeginsDirectory (v : Layout) (inode : Inode) (cut : ℕ) (r : Entries) : Type 0 where
   pub gives : (b : List ℕ) → inode.size < 2 ^ 31 → GivesDirectory v b inode cut r
   pub place : r.place ≡ DIRBLKSIZ
+  pub runs : r.chunks.runs ≡ 0
+  pub runs_left : (b : List ℕ) → runs_left b r.chunks ≡ runs_of_inode v b inode cut
   pub to_read : (b : List ℕ) → reads_for_entries b r ≤ runs_of_inode v b inode cut
   pub held : (blocks : Blocks) (w : Window) → HoldsEntries blocks w r
 
@@ -56,11 +58,12 @@ pub record RestartsIn (g : Geometry) (inode : Inode) (class : Class) (cut : ℕ)
   pub begins : class ≡ class_of g.layout inode → BeginsDirectory g.layout inode cut r
   pub geometry : r.chunks.walk.geometry ≡ g
 
--- nothing of the chunks is left to come, in the same volume
+-- nothing of the chunks is left to come, in the same volume, and how many Runs were looked at stays
 pub record EndsChunks (old new : Entries) : Type 0 where
   pub ended : IsEnded new.chunks
   pub only : new.only_chunk ≡ true
   pub geometry : new.chunks.walk.geometry ≡ old.chunks.walk.geometry
+  pub runs : new.chunks.runs ≡ old.chunks.runs
 
 -- no entry comes any more of a reading in a volume of this geometry; it shows no right shape, and
 -- takes no read
@@ -98,11 +101,6 @@ pub record IsSameChunk (old new : Entries) : Type 0 where
   pub chunk : new.chunk ≡ old.chunk
   pub right_so_far : new.right_so_far ≡ old.right_so_far
   pub fills : fills new ≡ fills old
-
--- the entries of the current chunk that are still to come are those that were, and so is the last name
-pub record KeepsCurrent (old new : Entries) : Type 0 where
-  pub entries : here new ≡ here old
-  pub name : last_name new ≡ last_name old
 
 -- the next entry of the current chunk was taken, if one is left, and all else of the reading is as it was
 pub record TakesFromChunk (old new : Entries) (answer : Option EntryHead) : Type 0 where

@@ -1,6 +1,6 @@
 //! The chunks of a directory.
 
-ghost use Rattle.std.specs.Prelude.{◌≡◌, ◌≤◌, ◌<◌, ◌^◌, IfOk, IfSome, MatchResult};
+ghost use Rattle.std.specs.Prelude.{◌≡◌, ◌≤◌, ◌<◌, ◌^◌, ℕ, List, IfOk, IfSome, MatchResult, OnErr};
 ghost use Rattle.ffs_image.specs.Device.{ForContents};
 ghost use Rattle.ffs_volume.specs.{Directories.Entries.bytes_read, declared.Step.TheVariants.Run};
 ghost use Rattle.ffs_names.specs.{Fits.CursorFits, SeenRuns.RunsAreSeen, Windows.{CanWalkDir, CanReadChunks}};
@@ -41,7 +41,7 @@ pub struct Chunks {
 impl Chunks {
     ghost use Rattle.ffs_names.specs.Costs.{to_read, BeginsByClass, BeginsReading, HoldsReading, SeesRun};
     ghost use Rattle.ffs_names.specs.RunCursors.{last_place, IsGivenChunk, StepsOn};
-    ghost use Rattle.ffs_names.specs.Readings.{all_chunks, rest, CanSee, ContinuesTo, CountsNoMore, FindsNextRun, GivesChunk, IsEnded, IsSame};
+    ghost use Rattle.ffs_names.specs.Readings.{all_chunks, rest, CanSee, ContinuesTo, CountsNoMore, FindsNextRun, GivesChunk, HasSeenAll, IsEnded, IsSame};
     ghost use Rattle.ffs_names.specs.Leaves.{dir_reading, dir_walk, LeavesChunks, NextChunkLeaves, LeavesWalk, ReadsForSteps};
 
     /// Looks at the Run that comes next in the walk: one of data that is kept whole, and is in
@@ -77,6 +77,7 @@ impl Chunks {
         ensures continues { ForContents (I.device image.old).contents (λ b. MatchResult result
             (λ _. ContinuesTo b self.old self.new) (λ _. CountsNoMore b self.old self.new)) }
         ensures found { IfOk result (FindsNextRun (I.device image.old).contents self.old self.new) }
+        ensures fault { OnErr result ((b : List ℕ) → HasSeenAll b self.new) }
         ensures leaves { LeavesWalk (dir_walk I.Image image.old blocks.old self.old)
             (dir_walk I.Image image.new blocks.new self.new) result }
         ensures steps { ReadsForSteps (dir_walk I.Image image.old blocks.old self.old)
@@ -111,9 +112,8 @@ impl Chunks {
     ) -> Result<Option<u64>, ImageFault>
         requires { CanReadChunks self.old.walk.geometry.layout (I.device image.old) blocks.old
             window.old }
-        ensures chunk { ForContents (I.device image.old).contents (λ b. MatchResult result
-            (GivesChunk b (all_chunks b) self.old self.new chunk.new)
-            (λ _. CountsNoMore b self.old self.new)) }
+        ensures chunk { IfOk result (λ offset. ForContents (I.device image.old).contents
+            (λ b. GivesChunk b (all_chunks b) self.old self.new chunk.new offset)) }
         ensures place { IfOk result (λ o. IfSome o (λ _. IsGivenChunk self.old.walk.geometry.layout
             (I.device image.old).contents self.new.run_cursor chunk.new)) }
         ensures steps { IfOk result (λ o. IfSome o (λ _.

@@ -1,12 +1,12 @@
 //! The entries of a directory.
 
-ghost use Rattle.std.specs.Prelude.{◌≡◌, ◌+◌, ◌-◌, ◌*◌, ◌/◌, ◌≤◌, ◌^◌, ℕ, List, true, false, IfOk, OnOk, OnErr, if◌then◌else◌};
+ghost use Rattle.std.specs.Prelude.{◌≡◌, ◌+◌, ◌-◌, ◌*◌, ◌/◌, ◌≤◌, ◌^◌, ℕ, List, true, false, IfErr, IfOk, MatchBool, OnOk, OnErr, if◌then◌else◌};
 ghost use Rattle.ffs_image.specs.Device.{ForContents};
-ghost use Rattle.ffs_names.specs.{OneChunk.one_chunk_at as one_chunk, Windows.{CanWalkDir, CanReadChunks}};
+ghost use Rattle.ffs_names.specs.{OneChunk.{has_chunk_at, one_chunk_at as one_chunk}, Windows.{CanWalkDir, CanReadChunks}};
 ghost use Rattle.ffs_volume.specs.{Directories.Calm.is_right_size, declared.constants.TheConstants.DIRBLKSIZ};
-ghost use Rattle.ffs_volume.specs.declared.constants.TheConstants.{DIRENT_HEADER};
+ghost use Rattle.ffs_volume.specs.declared.constants.TheConstants.{DEV_BSIZE, DIRENT_HEADER};
 ghost use Rattle.ffs_survey.specs.Costs.{TakesReads};
-ghost use Rattle.ffs_names.specs.Readings.{IsEnded};
+ghost use Rattle.ffs_names.specs.Readings.{IsEnded, StopsChunks};
 ghost use Rattle.ffs_walk.specs.declared.blocks.Blocks.{Blocks};
 ghost use Rattle.ffs_walk.specs.declared.window.Window.{Window};
 
@@ -66,9 +66,9 @@ fn has_right_size(inode: &Inode) -> bool
 impl Entries {
     ghost use Rattle.ffs_names.specs.Costs.{reads_for_entries, HoldsEntries};
     ghost use Rattle.ffs_names.specs.Leaves.{dir_reading, dir_walk, LeavesBlocks, LeavesEntries};
-    ghost use Rattle.{ffs_image.specs.Reads.ReadAfter, ffs_volume.specs.Disk.Areas.is_run_in_range};
-    ghost use Rattle.ffs_names.specs.Shapes.{runs_of_inode, has_right_shape, BeginsIn, EndsChunks, GivesDirectory, GivesEntry, HasEnded, HasStopped, KeepsCurrent, RestartsIn, TakesFromChunk};
-    ghost use Rattle.ffs_names.specs.Entering.{last_name};
+    ghost use Rattle.ffs_image.specs.Reads.{ReadAfter};
+    ghost use Rattle.ffs_names.specs.Shapes.{runs_of_inode, has_right_shape, BeginsDirectory, BeginsIn, EndsChunks, GivesDirectory, GivesEntry, HasEnded, HasStopped, RestartsIn, TakesFromChunk};
+    ghost use Rattle.ffs_names.specs.Entering.{here, last_name};
 
     /// A reading of the directory with this inode. `cut` is how many offers it keeps where its
     /// eleventh dup offer cut it, else 0.
@@ -92,7 +92,8 @@ impl Entries {
 
     /// A reading of no entries.
     pub fn none(geometry: &Geometry) -> Entries
-        ensures { HasStopped geometry.now result }
+        ensures stopped { HasStopped geometry.now result }
+        ensures runs { result.chunks.runs ≡ 0 }
     {
         // Any inode will do: the reading is stopped before its first step.
         let mut entries = Entries::start(geometry, &one_chunk_at(0), 0);
@@ -145,8 +146,15 @@ impl Entries {
             (reads_for_entries b self.new)
             ((blocks : Blocks) (w : Window) → HoldsEntries blocks w self.new) result) }
         ensures once { I.reads image.new ≤ I.reads image.old
-            + (if is_run_in_range self.old.chunks.walk.geometry.layout address 1 then 1 else 0) }
+            + (if has_chunk_at self.old.chunks.walk.geometry.layout address then 1 else 0) }
         ensures read { ReadAfter (I.device image.old) (I.device image.new) result }
+        ensures sector { IfErr result (λ fault. fault.sector
+            ≡ address * self.old.chunks.walk.geometry.layout.fsize / DEV_BSIZE) }
+        // Where its chunk is read, none is left to `chunks`.
+        ensures chunks { MatchBool (has_chunk_at self.old.chunks.walk.geometry.layout address)
+            (EndsChunks self.old self.new)
+            (BeginsDirectory self.old.chunks.walk.geometry.layout (one_chunk address) 0
+            self.new) }
         ensures stopped { OnErr result (HasStopped self.old.chunks.walk.geometry self.new) }
         ensures geometry { self.new.chunks.walk.geometry ≡ self.old.chunks.walk.geometry }
     {
@@ -170,7 +178,8 @@ impl Entries {
     /// No entry comes any more.
     pub fn stop(&mut self)
         ensures stopped { HasStopped self.old.chunks.walk.geometry self.new }
-        ensures walk { self.new.chunks.walk ≡ self.old.chunks.walk }
+        ensures chunks { StopsChunks self.old.chunks self.new.chunks }
+        ensures name { last_name self.new ≡ last_name self.old }
     {
         self.place = DIRBLKSIZ;
         self.right_so_far = false;
@@ -297,7 +306,8 @@ impl Entries {
             (HoldsEntries blocks.new w self.new) result) }
         ensures leaves { LeavesBlocks (dir_walk I.Image image.old blocks.old self.old.chunks)
             (dir_walk I.Image image.new blocks.new self.new.chunks) result }
-        ensures current { OnOk result (KeepsCurrent self.old self.new) }
+        ensures current { OnOk result (here self.new ≡ here self.old) }
+        ensures name { last_name self.new ≡ last_name self.old }
         ensures stopped { OnErr result (HasStopped self.old.chunks.walk.geometry self.new) }
     {
         if !self.right_so_far {
@@ -315,7 +325,7 @@ impl Entries {
         }
     }
 
-    /// The name of the last entry.
+    /// The name of the entry that `next` gave last, until `next` is called again.
     pub fn name(&self) -> &[u8]
         ensures { result.now ≡ last_name self.now }
     {

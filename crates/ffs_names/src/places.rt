@@ -7,10 +7,11 @@ ghost use Rattle.ffs_layout.specs.Entry.{entry_value};
 ghost use Rattle.ffs_volume.specs.Directories.{Entries.entries_of, Roles.{is_dir, role_of as role_in, roled_chunk}};
 ghost use Rattle.ffs_volume.specs.{Directories.{Roles.roled_from, Volumes.volume_of}, Encodings.Notes.note_at};
 ghost use Rattle.ffs_volume.specs.Report.DirectoryReads.{noted_cost};
-ghost use Rattle.ffs_workspace.specs.{Found.{WithClaims, WithSurvey}, Ready.CanRead, Tables.{CanReadInode, TableAfter}};
+ghost use Rattle.ffs_workspace.specs.{Found.{WithClaims, WithSurvey}, Holds.HoldsSurvey, Ready.CanRead};
+ghost use Rattle.ffs_workspace.specs.Tables.{CanReadInode, TableAfter};
 ghost use Rattle.ffs_names.specs.Noting.{chunk_noting, belongs_to, BeginsNotes, CanNote, CanNoteChunks};
 ghost use Rattle.ffs_names.specs.Noting.{CanNoteDirectory, HoldsPlaces, NotingDirectoryLeaves, NotingChunksLeaves};
-ghost use Rattle.ffs_names.specs.Noting.{NotingLeaves, NotesDirectory, NotesEntries, NotesInWords, parents_costs};
+ghost use Rattle.ffs_names.specs.Noting.{NotingLeaves, NotesDirectory, NotesEach, NotesInWords, NotesRight, parents_costs};
 ghost use Rattle.ffs_names.specs.{Costs.{BeginsChunks, BeginsReads, SweepsOnce}, Sweeps.dir_moment, Readings.rest};
 
 use crate::chunk_entries::ChunkEntries;
@@ -99,8 +100,11 @@ fn note_chunks<I: Image>(
 ) -> Result<(), ImageFault>
     requires { CanNoteChunks parents.now dir
         (chunk_noting I.Image image.old windows.old chunks.old words.old) }
-    ensures noted { OnOk result (ForContents (I.device image.old).contents
-        (λ b. NotesEntries chunks.old.walk.geometry.layout b (belongs_to parents.now.items dir)
+    ensures right { ForContents (I.device image.old).contents
+        (λ b. NotesRight chunks.old.walk.geometry.layout b
+        (flat_map roled_chunk (rest b chunks.old)) words.old.items words.new.items) }
+    ensures each { OnOk result (ForContents (I.device image.old).contents
+        (λ b. NotesEach chunks.old.walk.geometry.layout b (belongs_to parents.now.items dir)
         (flat_map roled_chunk (rest b chunks.old)) words.old.items words.new.items)) }
     ensures leaves { NotingChunksLeaves parents.now dir
         (chunk_noting I.Image image.old windows.old chunks.old words.old)
@@ -217,6 +221,9 @@ fn note_places_unlimited<I: Image>(
     ensures places { OnOk result (ForBytes
         (WithSurvey geometry.now.layout (I.device image.old) workspace.old)
         (λ bytes. HoldsPlaces geometry.now.layout bytes workspace.new)) }
+    ensures still { ForBytes
+        (WithSurvey geometry.now.layout (I.device image.old) workspace.old)
+        (λ bytes. HoldsSurvey geometry.now.layout bytes workspace.new) }
     ensures parents { ForBytes
         (WithSurvey geometry.now.layout (I.device image.old) workspace.old)
         (λ bytes. I.reads image.new ≤ I.reads image.old
@@ -241,7 +248,8 @@ fn note_places_unlimited<I: Image>(
 /// Each of their parents is read once. Afterwards no parent entry is due. The windows change too.
 ///
 /// # Errors
-/// A read of the image that failed.
+/// A read of the image that failed. Each place that is noted is right then too, so what the survey
+/// found is held still.
 #[tactic(auto, using(ffs_image::proofs::Limits::served, ffs_image::proofs::Limits::read_over, ffs_workspace::proofs::Readiness::can_read_same, crate::proofs::Limits::noted_within, crate::proofs::Limits::parents_within))]
 pub fn note_places<I: Image>(
     geometry: &Geometry,
@@ -252,6 +260,9 @@ pub fn note_places<I: Image>(
     ensures places { OnOk result (ForBytes
         (WithSurvey geometry.now.layout (I.device image.old) workspace.old)
         (λ bytes. HoldsPlaces geometry.now.layout bytes workspace.new)) }
+    ensures still { ForBytes
+        (WithSurvey geometry.now.layout (I.device image.old) workspace.old)
+        (λ bytes. HoldsSurvey geometry.now.layout bytes workspace.new) }
     ensures reads { SweepsOnce geometry.now.layout
         (WithSurvey geometry.now.layout (I.device image.old) workspace.old)
         (I.reads image.old) (I.reads image.new) }

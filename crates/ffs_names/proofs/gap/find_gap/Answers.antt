@@ -1,5 +1,5 @@
 use Rattle.std.proofs.{Common.{sym, ap, ◌∙◌, arith, rules}, lemmas.Result.err_from_is_err_and}
-use Rattle.ffs_names.proofs.{Advances.gap_ended, ReadCounts.run_passed, Continuing.same_more, RunChunks.none_taken}
+use Rattle.ffs_names.proofs.{Advances.gap_ended, ReadCounts.run_passed, Continuing.{counts_more, same_more}, RunChunks.none_taken}
 use Rattle.ffs_names.proofs.gap.find_gap.Goals as goal
 
 -- a Run with chunks is passed over
@@ -11,6 +11,7 @@ runs-preserved g c =
     record {
       same = went.leaves.read ∙ inv.same;
       kept = search rules;
+      each = λ b t. counts_more (inv.each b t) (went.continues b (ap (λ d. d.contents) inv.same ∙ t)).runs;
       ready = rw inv.kept.geometry at went.leaves.ready;
       any = omega (arith, went.steps c.if-branch.true, inv.any);
       gap = λ b t. inv.gap b t ∙ sym (went.continues b (ap (λ d. d.contents) inv.same ∙ t)).gap;
@@ -35,6 +36,13 @@ returns g c =
       none = λ b t old.
           let seen = c.in_ok-advance.ensures.found.none c.if-branch.false b (ap (λ d. d.contents) inv.same ∙ t) in
           none_taken c.advance.new.self.budget _ seen.chunks;
+      fault = tt;
+      runs = record {
+        rises = (same_more went.same inv.kept).runs;
+        each = λ b t. counts_more (inv.each b t)
+            (c.in_ok-advance.ensures.continues b (ap (λ d. d.contents) inv.same ∙ t)).runs;
+        fault = tt;
+      };
       leaves = record {
         same = same_more went.same inv.kept;
         ready = rw inv.kept.geometry at went.ready;
@@ -57,6 +65,16 @@ returns-in_err-advance g c =
       gap = tt;
       again = tt;
       none = tt;
+      fault = c.in_err-advance.ensures.fault;
+      runs = record {
+        rises = (same_more failed.same inv.kept).runs;
+        each = tt;
+        fault = λ b t. omega (
+          arith,
+          (inv.each b t).most,
+          c.in_err-advance.ensures.continues b (ap (λ d. d.contents) inv.same ∙ t),
+        );
+      };
       leaves = record {
         same = same_more failed.same inv.kept;
         ready = rw inv.kept.geometry at failed.ready;

@@ -1,13 +1,14 @@
 use Rattle.std.proofs.Common.{◌≡◌, ◌≤◌, ◌+◌, ◌||◌}
 use Rattle.ffs_image.specs.Device.{ForContents}
 use Rattle.ffs_walk.specs.{Rests.most_steps_left, declared.window.Window.Window}
-use Rattle.ffs_names.specs.{Costs.{HoldsReading, to_read}, Readings.{IsSame, ahead, gap_left}, Windows.CanWalkDir}
+use Rattle.ffs_names.specs.{Costs.{HoldsReading, to_read}, Readings.{CountsEach, IsSame, ahead, gap_left}, Windows.CanWalkDir}
 use Rattle.ffs_names.proofs.gap.find_gap.Given as goal
 
 abbrev pub invariant-runs : goal.invariant-runs
 invariant-runs g l = let device = g.I.Image.device in record {
   same : device l.image ≡ device l.initial.image;
   kept : IsSame l.initial.chunks l.chunks;
+  each : ForContents (device l.initial.image).contents (λ b. CountsEach b l.initial.chunks l.chunks);
   ready : CanWalkDir l.initial.chunks.walk.geometry.layout (device l.image) l.blocks;
   any : g.I.Image.reads l.image + most_steps_left l.chunks.walk
       ≤ g.I.Image.reads l.initial.image + most_steps_left l.initial.chunks.walk;

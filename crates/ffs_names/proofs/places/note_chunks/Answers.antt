@@ -43,23 +43,20 @@ chunks-preserved g c =
           let old = inv.reads held b t in
           let took = went.reads old.1 b (now b t) in
           (omega (arith, took.paid, old.0), took.held);
-      noted = λ b t. noted_chunk (noted b t) words (all b) (inv.to_come b t) (inv.noted b t);
+      right = λ b t. noted_chunk (noted b t) words (all b) (inv.to_come b t) (inv.right b t);
       unnamed = λ b t. unnamed_after (noted b t);
       to_come = λ b t. coming_after (noted b t) (all b) (inv.to_come b t);
       waiting = λ b t. waiting_after (noted b t) words (all b) (inv.waiting b t);
     }
 
-pub returns-clause-noted : goal.returns-clause-noted
-returns-clause-noted g c = λ b t.
+pub returns-clause-each : goal.returns-clause-each
+returns-clause-each g c = λ b t.
     let inv = c.chunks.invariant in
     let v = c.args.chunks.now.walk.geometry.layout in
     let now : (g.I.Image.device c.chunks.image).contents ≡ Some b = ap (λ d. d.contents) inv.same ∙ t in
     let none = (rw c.in_default.is at (c.in_ok-_offset.ensures.chunk b now)).chunks.0 in
-    record {
-      places = inv.noted b t;
-      all = all_noted v b c.args.parents.now.items c.args.words.now.items c.chunks.words.items c.args.dir
-          (flat_map roled_chunk (rest b c.args.chunks.now)) (rest b c.chunks.chunks) none (inv.waiting b t);
-    }
+    all_noted v b c.args.parents.now.items c.args.words.now.items c.chunks.words.items c.args.dir
+    (flat_map roled_chunk (rest b c.args.chunks.now)) (rest b c.chunks.chunks) none (inv.waiting b t)
 
 pub returns-clause-leaves : goal.returns-clause-leaves
 returns-clause-leaves g c = grind arith

@@ -1,8 +1,8 @@
 use Rattle.std.proofs.Common.{◌≡◌, ◌≤◌, ◌+◌, flat_map, vec_len}
 use Rattle.ffs_image.specs.Device.{ForContents}
 use Rattle.ffs_volume.specs.Directories.Roles.{roled_chunk}
-use Rattle.ffs_names.specs.{Costs.{HoldsReading, to_read}, Noting.NotesChildren, Readings.rest, Windows.CanReadChunks}
-use Rattle.ffs_names.proofs.PlacesNoted.{AreToCome, AreUnnamed, AreWaiting, HavePlaces}
+use Rattle.ffs_names.specs.{Costs.{HoldsReading, to_read}, Noting.{NotesChildren, NotesRight}, Readings.rest}
+use Rattle.ffs_names.{specs.Windows.CanReadChunks, proofs.PlacesNoted.{AreToCome, AreUnnamed, AreWaiting}}
 use Rattle.ffs_names.proofs.places.note_chunks.Given as goal
 
 abbrev pub invariant-chunks : goal.invariant-chunks
@@ -16,8 +16,8 @@ invariant-chunks g l = let device = g.I.Image.device in record {
   reads : HoldsReading l.fn.windows.blocks l.fn.windows.current l.fn.chunks → ForContents (device l.fn.image).contents
       (λ b. (g.I.Image.reads l.image + to_read b l.chunks ≤ g.I.Image.reads l.fn.image + to_read b l.fn.chunks)
       × HoldsReading l.windows.blocks l.windows.current l.chunks);
-  noted : ForContents (device l.fn.image).contents (λ b. HavePlaces l.fn.chunks.walk.geometry.layout b
-      l.fn.words.items l.words.items (flat_map roled_chunk (rest b l.fn.chunks)));
+  right : ForContents (device l.fn.image).contents (λ b. NotesRight l.fn.chunks.walk.geometry.layout b
+      (flat_map roled_chunk (rest b l.fn.chunks)) l.fn.words.items l.words.items);
   unnamed : ForContents (device l.fn.image).contents (λ b. AreUnnamed l.fn.chunks.walk.geometry.layout b
       l.parents.items l.words.items l.dir l.chunks.run_cursor);
   waiting : ForContents (device l.fn.image).contents (λ b. AreWaiting l.fn.chunks.walk.geometry.layout b

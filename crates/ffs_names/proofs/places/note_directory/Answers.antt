@@ -18,8 +18,9 @@ returns-clause-notes g c = λ b k dir.
     let now = ap (λ d. d.contents) begun.leaves.read ∙ k.0 in
     let begins = begun.chunks b k.0 (note_is g (goal.at.returns-clause-notes g c).After-chunks_of b k.1.notes) dir in
     record {
-      noted = on_ok c.note_chunks.result _ _
-          (λ s. rw (begins.chunks, ap (λ x. x.layout) begun.begins.geometry) at (s b now)) c.note_chunks.ensures.noted;
+      right = rw (begins.chunks, ap (λ x. x.layout) begun.begins.geometry) at (c.note_chunks.ensures.right b now);
+      each = on_ok c.note_chunks.result _ _
+          (λ s. rw (begins.chunks, ap (λ x. x.layout) begun.begins.geometry) at (s b now)) c.note_chunks.ensures.each;
       counted = omega (arith, begins.within, c.note_chunks.ensures.leaves.counted (begun.begins.held _ _) b now);
     }
 

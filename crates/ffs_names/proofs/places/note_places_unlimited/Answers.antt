@@ -89,12 +89,12 @@ loop-dir-preserved g c =
             places = λ b k.
                 let right = places_same v b old mid.queue.items same (inv.places b k) in
                 places_after (survey_noted lists k.2 right)
-                (λ is. (noted.notes b (ap (λ d. d.contents) inv.same ∙ k.0, claims_noted lists k.1) is).noted)
+                (λ is. (noted.notes b (ap (λ d. d.contents) inv.same ∙ k.0, claims_noted lists k.1) is).right)
                 noted.leaves.children right;
             noted = λ b k.
                 let right = places_same v b old mid.queue.items same (inv.places b k) in
                 coming_noted old (survey_noted lists k.2 right) same other
-                (λ is. (noted.notes b (ap (λ d. d.contents) inv.same ∙ k.0, claims_noted lists k.1) is).noted)
+                (λ is. (noted.notes b (ap (λ d. d.contents) inv.same ∙ k.0, claims_noted lists k.1) is).each)
                 noted.leaves.children (inv.noted b k);
           })
       | else-is_due w ↦
@@ -122,6 +122,35 @@ returns-clause-places g c = λ b k.
       noted = coming_end c.args.geometry.now.layout b c.loop-dir.workspace.queue.items
           (λ x l. inv.were_read x (omega arith)) (inv.noted b k);
     }
+
+-- the places that are noted are right, also where a read failed
+pub returns-clause-still : goal.returns-clause-still
+returns-clause-still g c = λ b k. let inv = c.loop-dir.invariant in survey_noted inv.lists k.2 (inv.places b k)
+
+pub returns-in_err-note_directory-clause-still : goal.returns-in_err-note_directory-clause-still
+returns-in_err-note_directory-clause-still g c = λ b k.
+    let v = c.args.geometry.now.layout in
+    let inv = c.loop-dir.invariant in
+    let first = c.args.workspace.now in
+    let old = c.loop-dir.workspace.queue.items in
+    let dir = c.loop-dir.dir in
+    let inside : dir < length old = grind (arith, common_steps) in
+    let word : c.index-word.result.now ≡ slice_index old dir =
+    c.index-word.ensures ∙ get_or_default_zero old dir c.index-word.result.now inside in
+    let mid : Workspace = record c.loop-dir.workspace { queue = c.set.new.self } in
+    let new = c.note_directory.new.workspace in
+    let lists : mid ≡ record first { windows = mid.windows; queue = mid.queue } =
+    ap (λ (x : Workspace). record x { queue = c.set.new.self }) inv.lists in
+    let same : (x : ℕ) → place_in (slice_index mid.queue.items x) ≡ place_in (slice_index old x) =
+    λ x. rw c.set.ensures.items (set_same place_in old dir c.without_due.result inside
+    (c.without_due.ensures.place ∙ ap place_in word) x) in
+    let failed = c.in_err-note_directory.ensures in
+    let right = places_same v b old mid.queue.items same (inv.places b k) in
+    survey_noted (failed.leaves.lists
+    ∙ ap (λ (x : Workspace). record x { windows = new.windows; queue = new.queue }) inv.lists) k.2
+    (places_after (survey_noted lists k.2 right)
+    (λ is. (failed.notes b (ap (λ d. d.contents) inv.same ∙ k.0, claims_noted lists k.1) is).right)
+    failed.leaves.children right)
 
 -- what is left
 pub returns-clause-leaves : goal.returns-clause-leaves

@@ -142,6 +142,10 @@ returns-then-not-is_replay_open-clause-found g c = grind (arith, seen_if_shut)
 pub returns-in_err-next-clause-continues : goal.returns-in_err-next-clause-continues
 returns-in_err-next-clause-continues g c = grind (arith, err_from_is_err_and, over_runs)
 
+pub returns-in_err-next-clause-fault : goal.returns-in_err-next-clause-fault
+returns-in_err-next-clause-fault g c = rw (err_from_is_err_and c.from_residual.result c.from_residual.ensures.1).1
+    (λ b. seen_if_over c.steps-test.true c.in_err-next.ensures.fault)
+
 -- no step is left
 pub returns-in-None-clause-continues : goal.returns-in-None-clause-continues
 returns-in-None-clause-continues g c = λ b t.

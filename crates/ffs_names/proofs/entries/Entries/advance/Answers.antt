@@ -3,7 +3,8 @@ use Rattle.ffs_names.proofs.OneChunks.{ended_held, ended_reads, ended_rest}
 use Rattle.std.proofs.lemmas.Result.{err_from_is_err_and}
 use Rattle.ffs_walk.specs.Rests.{most_steps_left}
 use Rattle.ffs_names.specs.{Costs.{HoldsEntries, reads_for_entries}, Entering.to_come, Readings.rest}
-use Rattle.ffs_names.proofs.{Entered.{chunk_came, end_seen, none_came}, EntryCounts.{HoldsBy, continues_by_chunks, reads_by}}
+use Rattle.ffs_names.proofs.{Continuing.counts_more, Entered.{chunk_came, end_seen, none_came}}
+use Rattle.ffs_names.proofs.EntryCounts.{HoldsBy, continues_by_chunks, reads_by}
 use Rattle.ffs_names.proofs.Shaped.{shape_came, shape_ended, shape_same, fills_whole}
 use Rattle.ffs_names.proofs.entries.Entries.advance.Goals.{After-take}
 use Rattle.ffs_names.proofs.entries.Entries.advance.Given as given
@@ -109,17 +110,74 @@ chunks-preserved g c =
         i.any,
       );
       left = omega (arith, budget, ap (λ x. x.budget) same.chunks, i.left);
+      runs = omega (arith, next.leaves.runs.rises, ap (λ x. x.runs) same.chunks, i.runs);
+      each = λ b t. counts_more (i.each b t)
+          ((rw same.chunks at next.leaves.runs.each) b (ap (λ d. d.contents) i.device ∙ t));
       geometry = c.next.ensures.leaves.geometry ∙ geometry;
       ready = rw geometry at c.next.ensures.leaves.ready;
       device = next.leaves.read ∙ i.device;
     }
 
 pub returns-in-Some-clause-leaves : goal.returns-in-Some-clause-leaves
-returns-in-Some-clause-leaves g c = grind arith
+returns-in-Some-clause-leaves g c =
+    let i = c.chunks.invariant in
+    let same = c.take.ensures.same in
+    let taken = c.in-Some.ensures.taken in
+    record {
+      geometry = ap (λ x. x.walk.geometry) same.chunks ∙ i.geometry;
+      ready = i.ready;
+      read = i.device;
+      place = record {
+        held = λ b t before. rw (same.chunk, same.chunks) (i.place b t before taken.place);
+        inside = λ before. rw same.chunks (i.inside before taken.place);
+      };
+      left = omega (arith, taken.left, i.left);
+      runs = rw same.chunks (record { rises = i.runs; each = i.each; fault = tt });
+      most = omega (arith, i.any);
+      any = rw same.chunks (omega (arith, i.any));
+    }
+
+pub returns-then-self-clause-leaves : goal.returns-then-self-clause-leaves
+returns-then-self-clause-leaves g c =
+    let i = c.chunks.invariant in
+    let same = c.take.ensures.same.chunks in
+    record {
+      geometry = ap (λ x. x.walk.geometry) same ∙ i.geometry;
+      ready = i.ready;
+      read = i.device;
+      place = tt;
+      left = tt;
+      runs = rw same (record { rises = i.runs; each = i.each; fault = tt });
+      most = omega (arith, i.any);
+      any = rw same (omega (arith, i.any));
+    }
 
 -- a read failed
 pub returns-in_err-next-clause-leaves : goal.returns-in_err-next-clause-leaves
-returns-in_err-next-clause-leaves g c = grind (arith, err_from_is_err_and)
+returns-in_err-next-clause-leaves g c =
+    let i = c.chunks.invariant in
+    let same = c.take.ensures.same.chunks in
+    let failed = c.in_err-next.ensures.leaves in
+    let geometry = ap (λ x. x.walk.geometry) same ∙ i.geometry in
+    let p = err_from_is_err_and c.from_residual.result c.from_residual.ensures.1 in
+    rw (p.1, p.2) (record {
+      geometry = failed.geometry ∙ geometry;
+      ready = rw geometry at failed.ready;
+      read = rw i.device at failed.read;
+      place = tt;
+      left = tt;
+      runs = record {
+        rises = omega (arith, failed.runs.rises, ap (λ x. x.runs) same, i.runs);
+        each = tt;
+        fault = λ b t. omega (
+          arith,
+          (i.each b t).most,
+          (rw same at failed.runs.fault) b (ap (λ d. d.contents) i.device ∙ t),
+        );
+      };
+      most = omega (arith, failed.any, ap (λ x. most_steps_left x.walk) same, i.any);
+      any = tt;
+    })
 
 pub returns-in-Some-clause-reads : goal.returns-in-Some-clause-reads
 returns-in-Some-clause-reads g c = λ held b t.
@@ -149,4 +207,30 @@ returns-in_err-next-clause-reads g c =
     record { most = omega (arith, took.most, now.0); paid = tt; held = tt })
 
 pub returns-in-None-2-clause-leaves : goal.returns-in-None-2-clause-leaves
-returns-in-None-2-clause-leaves g c = grind arith
+returns-in-None-2-clause-leaves g c =
+    let i = c.chunks.invariant in
+    let same = c.take.ensures.same.chunks in
+    let next = c.in_ok-next.ensures.leaves in
+    let geometry = ap (λ x. x.walk.geometry) same ∙ i.geometry in
+    let budget = rw c.in-None-2.is at next.budget in
+    record {
+      geometry = next.geometry ∙ geometry;
+      ready = rw geometry at next.ready;
+      read = next.read ∙ i.device;
+      place = tt;
+      left = tt;
+      runs = record {
+        rises = omega (arith, next.runs.rises, ap (λ x. x.runs) same, i.runs);
+        each = λ b t. counts_more (i.each b t) ((rw same at next.runs.each) b (ap (λ d. d.contents) i.device ∙ t));
+        fault = tt;
+      };
+      most = omega (arith, next.any, ap (λ x. most_steps_left x.walk) same, i.any);
+      any = omega (
+        arith,
+        next.any,
+        budget,
+        ap (λ x. x.budget) same,
+        ap (λ x. most_steps_left x.walk) same,
+        i.any,
+      );
+    }

@@ -1,5 +1,6 @@
-use Rattle.std.proofs.Common.{false, arith, refl}
-use Rattle.ffs_names.{proofs.{EntryCounts.{looks_on}, OneChunks.ended_gap, Shaped.{again_at_end, shape_at_end}}}
+use Rattle.std.proofs.Common.{◌∙◌, ap, false, arith, refl}
+use Rattle.ffs_names.proofs.{Continuing.counts_stopped, EntryCounts.looks_on, OneChunks.ended_gap}
+use Rattle.ffs_names.proofs.Shaped.{again_at_end, shape_at_end}
 use Rattle.ffs_names.proofs.entries.Entries.has_right_shape.Goals as goal
 
 -- a look for holes continues the reads
@@ -39,3 +40,19 @@ pub returns-in-Ok-clause-again : goal.returns-in-Ok-clause-again
 returns-in-Ok-clause-again g c = λ b t ended.
     again_at_end b c.args.self.now _ _ c.if-not-self.false refl ended (c.in-Ok.ensures.none b t ended.chunks)
     (c.in-Ok.ensures.again b t)
+
+-- a read failed: the reading is stopped, and its count of Runs stays
+pub returns-in-Err-clause-leaves : goal.returns-in-Err-clause-leaves
+returns-in-Err-clause-leaves g c =
+    let stops = c.stop.ensures.chunks in
+    let failed = c.in-Err.ensures in
+    record {
+      geometry = ap (λ w. w.geometry) stops.walk ∙ failed.leaves.same.geometry;
+      cut = ap (λ k. k.cut) stops.keeping ∙ failed.leaves.same.cut;
+      bytes_to_read = stops.bytes_to_read ∙ failed.leaves.same.bytes_to_read;
+      budget = stops.budget;
+      runs = counts_stopped failed.runs stops;
+      ready = failed.leaves.ready;
+      read = failed.leaves.read;
+      any = rw stops.walk failed.leaves.any;
+    }

@@ -9,6 +9,6 @@ returns c =
       begins = λ known.
           let begins = c.restart.ensures.begins known in
           begins_directory refl (search rules) begins.chunks begins.gap begins.gap_left
-          (λ b. omega (arith, reads.to_read b, begins.runs_left b)) reads.held;
+          (λ b. omega (arith, reads.to_read b, begins.runs_left b)) reads.held begins.runs begins.runs_left;
       geometry = reads.geometry;
     }

@@ -3,7 +3,9 @@ use Rattle.std.proofs.lemmas.{Bool.{Decides.nat_tests, false≢true}, Result.err
 use Rattle.ffs_volume.specs.Disk.Areas.{is_run_in_range}
 use Rattle.ffs_names.proofs.{OneChunks.{ended_held, ended_reads, ended_rest, gives_only_chunk, one_chunk_class, runs_of_one}}
 use Rattle.ffs_names.proofs.{Entered.end_seen, RunChunks.run_in_volume}
-use Rattle.ffs_names.proofs.entries.Entries.restart_at.Goals.{After-end_chunks}
+use Rattle.ffs_names.proofs.entries.Entries.restart_at.Goals.{After-end_chunks, then-address-eq0-via-then-address-eq0}
+use Rattle.ffs_names.proofs.entries.Entries.restart_at.Goals.{then-address-eq0-via-else-address-eq0+then-not-in_range}
+use Rattle.{std.proofs.Math.Bool.and-false, ffs_names.specs.OneChunk.has_chunk_at}
 use Rattle.ffs_names.proofs.entries.Entries.restart_at.Given as given
 use Rattle.ffs_names.proofs.entries.Entries.restart_at.Goals as goal
 
@@ -19,6 +21,17 @@ returns-then-address-eq0-clause-reads g c = λ b t.
     let begins = (rw c.one_chunk_at.ensures at c.restart.ensures.begins)
     (sym (one_chunk_class _ c.args.address c.args.self.now.chunks.walk.geometry.sound)) in
     record { most = omega arith; paid = omega (arith, begins.to_read b); held = begins.held }
+
+pub returns-then-address-eq0-clause-chunks : goal.returns-then-address-eq0-clause-chunks
+returns-then-address-eq0-clause-chunks g c =
+    let v = c.args.self.now.chunks.walk.geometry.layout in
+    let none : has_chunk_at v c.args.address ≡ false = elim c.then-address-eq0.branch [
+      | then-address-eq0-via-then-address-eq0 w ↦ rw w.if-address-eq0.true refl
+      | then-address-eq0-via-else-address-eq0+then-not-in_range w ↦
+          rw (sym w.in_range.ensures ∙ w.if-not-in_range.true) (and-false _)
+    ] in
+    rw none ((rw c.one_chunk_at.ensures at c.restart.ensures.begins)
+    (sym (one_chunk_class _ c.args.address c.args.self.now.chunks.walk.geometry.sound)))
 
 -- the chunk lies in the volume
 place_is : (g : given.Over) (c : After-end_chunks g) →

@@ -8,6 +8,6 @@ returns c =
     let reads = c.start-chunks.ensures.reads in
     record {
       begins = begins_directory refl (search rules) begins.chunks begins.gap begins.gap_left
-          (λ b. omega (arith, reads.to_read b, begins.runs_left b)) reads.held;
+          (λ b. omega (arith, reads.to_read b, begins.runs_left b)) reads.held begins.runs begins.runs_left;
       geometry = reads.geometry;
     }
