@@ -156,8 +156,8 @@ def root_empty(case):
     f = first_lost(case)
     names = {entry.name: entry.number for entry in entries_of(case.run("entries", f=f))}
     case.run("below", i=names["docs"])
-    found = mend(case, 2, "mode size address", mode="040755", size=512, k=0, f=f)
-    mend_counts(case, found, "mode size address", mode="040755", size=512, k=0, f=f)
+    found = mend(case, 2, "mode size address", mode="40755", size=512, k=0, f=f)
+    mend_counts(case, found, "mode size address", mode="40755", size=512, k=0, f=f)
 
 
 @damage("the block of inodes that has inode 2 became zeros")
@@ -187,7 +187,7 @@ def root_file(case):
     case.volume.put_inode(2, mode=0o100755)
     case.at_stake(*case.tree)
     case.report("ROOT INODE NOT DIRECTORY")
-    mend(case, 2, "mode", mode="040755")
+    mend(case, 2, "mode", mode="40755")
 
 
 @damage("an address was set in inode 2 that it doesn't use")

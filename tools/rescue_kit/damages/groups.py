@@ -2,6 +2,7 @@
 from images import formats
 
 from .. import sources
+from ..case import Wrong
 from .all import damage
 
 
@@ -15,7 +16,11 @@ def group_magic(case):
     case.volume.put(case.volume.layout.group_place(3) + formats.GROUP["magic"][0], 4, 0)
     all_at_stake(case)
     case.report("CG: BAD MAGIC NUMBER")
-    case.run("names all")
+    case.run("names all attributes")
+    attributes = case.bytes_of("saved.list").decode()
+    missing = [path for path, text in sources.SHORT_LINKS.items() if f"/{path} -> {text}|" not in attributes]
+    if missing or "|/pipe|" not in attributes:
+        raise Wrong(f"no text of the link {missing} is in saved.list, or no FIFO")
 
 
 @damage("a bit of a map of fragments was cleared")

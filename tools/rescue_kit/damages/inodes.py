@@ -1,4 +1,6 @@
 """Damaged inodes: modes, sizes, addresses, indirect blocks."""
+import re
+
 from ..case import NotHere, direct_owners_of, fragments_of, number_of, owners_of
 from .all import damage
 
@@ -24,7 +26,7 @@ def mode_zero(case):
     report = case.report("PARTIALLY ALLOCATED INODE", "UNALLOCATED")
     i = report.first("PARTIALLY ALLOCATED INODE")["inode"]
     case.run("bytes", i=i)
-    mend(case, i, "mode", mode="0100644")
+    mend(case, i, "mode", mode="100644")
 
 
 @damage("a directory's mode became 0")
@@ -32,7 +34,7 @@ def directory_mode_zero(case):
     case.volume.put_inode(case.volume.find("docs/names"), mode=0)
     case.at_stake(*[path for path in case.tree if path.startswith("docs/names")])
     report = case.report("PARTIALLY ALLOCATED INODE", "UNALLOCATED")
-    mend(case, report.first("PARTIALLY ALLOCATED INODE")["inode"], "mode", mode="040755")
+    mend(case, report.first("PARTIALLY ALLOCATED INODE")["inode"], "mode", mode="40755")
 
 
 @damage("a short link's mode became 0")
@@ -42,7 +44,7 @@ def link_mode_zero(case):
     report = case.report("PARTIALLY ALLOCATED INODE", "UNALLOCATED")
     i = report.first("PARTIALLY ALLOCATED INODE")["inode"]
     case.run("place text", i=i)
-    mend(case, i, "mode", mode="0120777")
+    mend(case, i, "mode", mode="120777")
 
 
 @damage("a file's type became one that there isn't")
@@ -51,7 +53,7 @@ def mode_unknown(case):
     case.at_stake("docs/report", "mail/report_too")
     i = case.report("UNKNOWN FILE TYPE").first("UNKNOWN FILE TYPE")["inode"]
     case.run("bytes", i=i)
-    mend(case, i, "mode", mode="0100644")
+    mend(case, i, "mode", mode="100644")
 
 
 @damage("a short link's type became one that there isn't")
@@ -68,7 +70,7 @@ def directory_mode_unknown(case):
     case.volume.put_inode(case.volume.find("mail/in"), mode=0o170755)
     case.at_stake("mail/in", "mail/in/one", "mail/in/two")
     i = case.report("UNKNOWN FILE TYPE").first("UNKNOWN FILE TYPE")["inode"]
-    mend(case, i, "mode", mode="040755")
+    mend(case, i, "mode", mode="40755")
 
 
 @damage("a bit of a file's size was set, beyond what a file can have")
@@ -196,16 +198,40 @@ def indirect_zeroed(case):
 
 
 def refill(case, i):
-    case.run("further refill check", f=fragments_of(case.run("inode", i=i))[12])
+    case.run("further list refill check", f=fragments_of(case.run("inode", i=i))[12])
 
 
-@damage("an indirect block was overwritten by text, of a file that passes cylinder groups")
-def indirect_overwritten(case):
-    place, bsize = indirect_place(case), case.volume.layout.bsize
-    case.volume.image[place:place + bsize] = (b"All work and no play makes Jack a dull boy. " * bsize)[:bsize]
-    case.at_stake("big/film")
-    i = case.report("EXCESSIVE BAD BLKS", "BAD").first("EXCESSIVE BAD BLKS")["inode"]
-    refill(case, i)
+@damage("the indirect blocks of two files became zeros")
+def two_indirect_zeroed(case):
+    volume = case.volume
+    paths = ("big/film", "big/photo")
+    for path in paths:
+        at = volume.inode(volume.find(path))["single"]
+        if not at:
+            raise NotHere
+        volume.zero(at * volume.layout.fsize, volume.layout.bsize)
+    case.at_stake(*paths)
+    counts = {message["inode"]: message for message in case.report("INCORRECT BLOCK COUNT").of("INCORRECT BLOCK COUNT")}
+    missed = {i: (count["count"] - count["right_count"]) * 512 // volume.layout.bsize for i, count in counts.items()}
+    blocks = blocks_of(case.run("lost"), volume.layout.frag)
+    case.run("further")
+    for i in sorted(missed, key=lambda i: fragments_of(case.run("inode", i=i))[11]):
+        put_list(case, blocks[:missed[i]])
+        blocks = blocks[missed[i]:]
+        case.run("refill", f=fragments_of(case.run("inode", i=i))[12])
+    case.run("check")
+
+
+def blocks_of(text, frag):
+    """The first fragment of each block in the ranges that the recipe `lost` printed."""
+    ranges = (map(int, line.split()) for line in text.splitlines())
+    return [f for first, last in ranges for f in range(first, last + 1, frag)]
+
+
+def put_list(case, blocks):
+    """The list that *refill* takes, of these blocks alone."""
+    with open(f"{case.place}/list", "w", encoding="ascii") as it:
+        it.writelines(f"{f} {f}\n" for f in blocks)
 
 
 def damage_word(case, k, number):
@@ -362,7 +388,7 @@ def file_as_link(case):
     put_type(case, "docs/report", 0o120644)
     case.at_stake("docs/report", "mail/report_too")
     i = case.report("BAD TYPE VALUE").first("BAD TYPE VALUE")["inode"]
-    mend(case, i, "mode", mode="0100644")
+    mend(case, i, "mode", mode="100644")
 
 
 @damage("a file became a FIFO")
@@ -370,7 +396,7 @@ def file_as_fifo(case):
     put_type(case, "docs/letter", 0o010644)
     case.at_stake("docs/letter")
     i = case.report("BAD TYPE VALUE").first("BAD TYPE VALUE")["inode"]
-    mend(case, i, "mode", mode="0100644")
+    mend(case, i, "mode", mode="100644")
 
 
 @damage("a file became a socket")
@@ -378,7 +404,7 @@ def file_as_socket(case):
     put_type(case, "docs/letter", 0o140644)
     case.at_stake("docs/letter")
     i = case.report("BAD TYPE VALUE").first("BAD TYPE VALUE")["inode"]
-    mend(case, i, "mode", mode="0100644")
+    mend(case, i, "mode", mode="100644")
 
 
 @damage("a file became a device")
@@ -386,7 +412,7 @@ def file_as_device(case):
     put_type(case, "docs/letter", 0o020644)
     case.at_stake("docs/letter")
     i = case.report("INCORRECT BLOCK COUNT").first("INCORRECT BLOCK COUNT")["inode"]
-    mend(case, i, "mode", mode="0100644")
+    mend(case, i, "mode", mode="100644")
 
 
 @damage("a file became a directory")
@@ -395,7 +421,7 @@ def file_as_directory(case):
     case.at_stake("docs/letter")
     i = case.report("BAD TYPE VALUE", "DIRECTORY CORRUPTED").first("BAD TYPE VALUE")["inode"]
     case.run("bytes", i=i)
-    mend(case, i, "mode", mode="0100644")
+    mend(case, i, "mode", mode="100644")
 
 
 @damage("a directory became a file")
@@ -403,7 +429,7 @@ def directory_as_file(case):
     put_type(case, "mail", 0o100755)
     case.at_stake(*[path for path in case.tree if path.startswith("mail")])
     report = case.report("BAD TYPE VALUE", "UNREF")
-    mend(case, report.first("BAD TYPE VALUE")["inode"], "mode", mode="040755")
+    mend(case, report.first("BAD TYPE VALUE")["inode"], "mode", mode="40755")
 
 
 @damage("a block of inodes became zeros")
@@ -436,13 +462,55 @@ def inodes_overwritten(case):
 
 @damage("a file's bytes are in a bad area of the disk")
 def bytes_bad(case):
+    find_bad(case, 0)
+
+
+@damage("a file's bytes are in a bad area of the disk, of which a partition was cut out")
+def bytes_bad_of_disk(case):
+    find_bad(case, 2048)
+
+
+def find_bad(case, start):
+    """Two bad areas, the second one of several blocks: ddrescue's map of them leads to all files that have a fragment there."""
     volume = case.volume
-    place = volume.blocks(volume.find("docs/letter"))[0] * volume.layout.fsize
-    volume.zero(place, 512)
-    case.at_stake("docs/letter", data=False)
+    fsize = volume.layout.fsize
+    film = volume.blocks(volume.find("big/film"))
+    areas = [(volume.blocks(volume.find("docs/letter"))[0] * fsize, 512), (film[-1] * fsize + 512, 40 * volume.layout.bsize)]
+    case.at_stake("docs/letter", "big/film", "big/photo", data=False)
+    for place, length in areas:
+        volume.zero(place, length)
+    with open(f"{case.place}/copy.map", "w", encoding="ascii") as it:
+        it.write("# Mapfile. Created by GNU ddrescue version 1.27\n# current_pos  current_status  current_pass\n0x00000200     +               1\n")
+        it.write("#      pos        size  status\n0x00000000  0x00000200  +\n")
+        it.writelines(f"0x{512 * start + place:08X}  0x{length:08X}  {status}\n" for (place, length), status in zip(areas, "-*"))
     case.report()
-    owners = case.run("bad-area owners", position=place)
-    case.run("names-of", i=owners_of(owners)[0])
+    found = case.run("bad-areas", start=start)
+    for i in sorted({int(number) for number in re.findall(r"\binode (\d+) ", found)}):
+        case.run("names-of", i=i)
+
+
+@damage("a recipe is given a number that can't be right")
+def refused(case):
+    case.at_stake("docs/letter", name=False)
+    case.report()
+    i = case.run("number-of", path="docs/letter").strip()
+    case.refuses("place", i=99999999)
+    for recipe, variables in (("mode", {"mode": 100644}), ("links", {"links": 1}), ("size", {"size": 1}), ("address", {"k": 0, "f": 99}), ("blocks", {"blocks": 8})):
+        case.refuses(f"further place {recipe}", i=99999999, **variables)
+        case.refuses(f"further {recipe}", **variables)
+    case.refuses("further place mode", i=i)
+    case.refuses("further place links", i=i, links=70000)
+    case.refuses("further word", b=0, k=0, f=9)
+    case.refuses("further word", b=case.volume.layout.size, k=0, f=9)
+    case.refuses("further number", e=2, i=i)
+    case.refuses("further refill", f=99)
+    put_list(case, range(100, 100 + case.volume.layout.bsize))
+    case.refuses("further refill", f=99)
+    case.refuses("further list refill", f=0)
+    case.refuses("exchange", i=i, j=99999999)
+    for recipe in ("inode", "bytes", "names-of", "text", "owners"):
+        case.refuses(recipe)
+    case.run("bytes", i=i)
 
 
 @damage("an inode that is whole, a link among them")
