@@ -1,7 +1,7 @@
 """Damaged inodes: modes, sizes, addresses, indirect blocks."""
 import re
 
-from ..case import NotHere, direct_owners_of, fragments_of, number_of, owners_of
+from ..case import NotHere, Wrong, direct_owners_of, fragments_of, number_of, owners_of
 from .all import damage
 
 WILD = 0x0BADF00D
@@ -435,7 +435,10 @@ def directory_as_file(case):
 @damage("a block of inodes became zeros")
 def inodes_zeroed(case):
     zero_inodes(case)
-    case.report("UNALLOCATED", "BLK(S) MISSING IN BIT MAPS")
+    report = case.report("UNALLOCATED", "BLK(S) MISSING IN BIT MAPS")
+    counts = [int(line.split()[0]) for line in case.run("kinds").splitlines()]
+    if sum(counts) != len(report) or len(counts) != len({message["kind"] for message in report}):
+        raise Wrong(f"the recipe counts {counts}, of {len(report)} messages")
     case.run("names")
     case.run("rest")
 
