@@ -6,6 +6,7 @@
 #
 #   sizes                    sets order, bsize and fsize, as the first superblock in copy.img has them
 #   place I                  the byte where inode I lies
+#   maps                     what ffs_find lost prints, or a complaint
 #   lost                     the fragments that the maps mark and no inode has: first and last of each range, by ffs_find lost
 #   whole                    how many bytes the image should have, by its superblock
 #   last_copy                the sector of the superblock's copy in the last group, by its superblock
@@ -32,10 +33,15 @@ place() {
     ffs_find inode "$1" copy.img | sed -n 's/^byte //p' | grep . || complain "place: no inode $1 is found: see ffs_find inode $1 copy.img"
 }
 
-lost() (
+maps() (
     found=$(ffs_find lost copy.img)
-    [ $? -le 1 ] || { complain "lost: $found"; exit 1; }
+    [ $? -le 1 ] || { complain "ffs_find lost: $found"; exit 1; }
     echo "$found" | grep '^no map' >&2
+    echo "$found"
+)
+
+lost() (
+    found=$(maps) || exit 1
     echo "$found" | awk '$1 == "lost" { print $2, (NF > 2 ? $4 : $2) }'
 )
 

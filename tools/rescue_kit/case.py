@@ -190,9 +190,14 @@ def owners_of(text):
     return [int(number) for number in re.findall(r"^inode (\d+) ", text, re.M)]
 
 
-def direct_owners_of(text):
-    """Those of them whose own address is the fragment: each inode with the index of that."""
-    return [(int(number), int(k)) for number, k in re.findall(r"^inode (\d+) block (\d+)$", text, re.M) if int(k) < 12]
+def places_of(text):
+    """The places of what the recipe `owners` printed: an inode, the index of an address, and the number of a word of the indirect block that
+    address 12 names, or none where the address itself is meant."""
+    out = []
+    for i, indirect, k in re.findall(r"^inode (\d+) (indirect )?block (\d+)$", text, re.M):
+        index, word = (11 + int(k), None) if indirect else (min(int(k), 12), int(k) - 12 if int(k) >= 12 else None)
+        out.append((int(i), index, word))
+    return out
 
 
 def entries_of(text):

@@ -26,10 +26,8 @@ def group_magic(case):
 @damage("a bit of a map of fragments was cleared")
 def map_bit(case):
     volume = case.volume
-    f = volume.blocks(volume.find("docs/letter"))[0]
-    c, k = divmod(f, volume.layout.fpg)
-    place = volume.layout.group_place(c) + volume.layout.freeoff(volume.image, c) + k // 8
-    volume.image[place] ^= 1 << k % 8
+    place, bit = volume.mark(volume.blocks(volume.find("docs/letter"))[0])
+    volume.image[place] ^= 1 << bit
     all_at_stake(case)
     case.report("BLK(S) MISSING IN BIT MAPS")
     case.run("names all")

@@ -1,7 +1,7 @@
 """Damaged inodes: modes, sizes, addresses, indirect blocks."""
 import re
 
-from ..case import NotHere, Wrong, direct_owners_of, fragments_of, number_of, owners_of
+from ..case import NotHere, Wrong, fragments_of, number_of, owners_of, places_of
 from .all import damage
 
 WILD = 0x0BADF00D
@@ -17,6 +17,19 @@ def mend(case, i, recipes, **values):
 def first_lost(case):
     """The first fragment that no file has."""
     return int(case.run("lost").split()[0])
+
+
+def put_lost(case, i, k, word=None):
+    """Puts the first lost fragment at an address of inode i, or at a word of the indirect block that this names, and checks the copy."""
+    if word is None:
+        return mend(case, i, "address", k=k, f=first_lost(case))
+    return case.run("further word check", b=fragments_of(case.run("inode", i=i))[k], k=word, f=first_lost(case))
+
+
+def words_of(case, i, k):
+    """The words of the indirect block at an address of inode i."""
+    printed = case.run("words", b=fragments_of(case.run("inode", i=i))[k], order=case.volume.order)
+    return [int(line.split()[1]) for line in printed.splitlines()]
 
 
 @damage("a file's mode became 0")
@@ -125,6 +138,31 @@ def size_within_block(case):
     case.volume.put_inode(case.volume.find("docs/letter"), size=100)
     case.at_stake("docs/letter")
     i = case.report("INCORRECT BLOCK COUNT").first("INCORRECT BLOCK COUNT")["inode"]
+    mend(case, i, "size", size=right_most(case, i))
+    case.run("keep bytes", i=i)
+
+
+def file_before_free(case):
+    """A file that a free fragment of its last block follows."""
+    volume = case.volume
+    for path, data in case.tree.items():
+        if isinstance(data, bytes) and len(data) >= volume.layout.maxsymlinklen:
+            run = volume.runs(volume.find(path))[-1]
+            place, bit = volume.mark(run.start + run.length)
+            if run.length < volume.layout.frag and volume.image[place] >> bit & 1:
+                return path
+    raise NotHere
+
+
+@damage("a file's size became larger by a free fragment")
+def size_larger_within_block(case):
+    path = file_before_free(case)
+    i = case.volume.find(path)
+    case.volume.put_inode(i, size=case.volume.inode(i)["size"] + case.volume.layout.fsize)
+    case.at_stake(path)
+    i = case.report("INCORRECT BLOCK COUNT", "BLK(S) MISSING IN BIT MAPS").first("INCORRECT BLOCK COUNT")["inode"]
+    if i not in owners_of(case.run("owners", f=int(case.run("marked-free").split()[0]))):
+        raise Wrong("the file doesn't have the fragments that are marked as free")
     mend(case, i, "size", size=right_most(case, i))
     case.run("keep bytes", i=i)
 
@@ -242,10 +280,7 @@ def damage_word(case, k, number):
 
 def mend_word(case, i, value):
     """Puts the lost block at the word of the indirect block that has this value."""
-    b = fragments_of(case.run("inode", i=i))[12]
-    words = [line.split() for line in case.run("words", b=b, order=case.volume.order).splitlines()]
-    k = next(k for k, word in words if int(word) == value)
-    case.run("further word check", b=b, k=k, f=first_lost(case))
+    put_lost(case, i, 12, words_of(case, i, 12).index(value))
 
 
 @damage("a word of an indirect block points outside of the volume")
@@ -285,6 +320,15 @@ def double_zeroed(case):
     case.run("further word check", b=fragments_of(case.run("inode", i=i))[13], k=0, f=first_lost(case))
 
 
+@damage("an indirect block that the double indirect block of a large file names became zeros")
+def second_zeroed(case):
+    volume = case.volume
+    i, double = double_of(case)
+    volume.zero(volume.number(double * volume.layout.fsize, 4) * volume.layout.fsize, volume.layout.bsize)
+    i = case.report("INCORRECT BLOCK COUNT").first("INCORRECT BLOCK COUNT")["inode"]
+    case.run("further list refill check", f=words_of(case, i, 13)[0])
+
+
 @damage("a file got the address of another one's block")
 def address_shared(case):
     volume = case.volume
@@ -295,17 +339,69 @@ def address_shared(case):
 
 
 def mend_shared(case):
-    """Puts the lost block at each address of the shared fragment that doesn't follow the one before it, one at a time. Which these are
-    *owners* says, or *inode*, where the fragment is one of the file system's own."""
+    """Puts the lost block at each address, or word, of the shared fragment that doesn't follow the one before it, one at a time. Which these
+    are *owners* says, or *inode*, where the fragment is one of the file system's own."""
     report = case.report("DUP", "DUP/BAD")
     f = report.first("DUP")["fragment"]
-    places = direct_owners_of(case.run("owners", f=f))
+    places = places_of(case.run("owners", f=f))
     if not places:
         i = report.first("DUP")["inode"]
-        places = [(i, k) for k, at in fragments_of(case.run("inode", i=i)).items() if at == f]
-    for i, k in places:
-        if fragments_of(case.run("inode", i=i)).get(k - 1, 0) + case.volume.layout.frag != f:
-            mend(case, i, "address", k=k, f=first_lost(case))
+        places = [(i, k, None) for k, at in fragments_of(case.run("inode", i=i)).items() if at == f]
+    for i, k, word in places:
+        before = words_of(case, i, k)[word - 1] if word else fragments_of(case.run("inode", i=i)).get(k - 1, 0)
+        if before + case.volume.layout.frag != f:
+            put_lost(case, i, k, word)
+
+
+@damage("a word of an indirect block became another file's block")
+def word_shared(case):
+    volume = case.volume
+    case.at_stake("docs/report", "mail/report_too")
+    damage_word(case, 17, volume.blocks(volume.find("docs/report"))[2])
+    mend_shared(case)
+
+
+@damage("the address of an indirect block became that of another file's block")
+def indirect_address_shared(case):
+    volume = case.volume
+    volume.put_inode(volume.find("big/film"), single=volume.blocks(volume.find("docs/report"))[2])
+    case.at_stake("big/film", "docs/report", "mail/report_too")
+    mend_shared(case)
+
+
+def free_block(case):
+    """The first fragment of a block near the end of the volume, which is free."""
+    return case.volume.layout.size - 2 * case.volume.layout.frag
+
+
+def mend_free(case):
+    """Puts the first lost block in the place of the free block that a file was given."""
+    f = int(case.run("marked-free").split()[0])
+    for i, k, word in places_of(case.run("owners", f=f)):
+        put_lost(case, i, k, word)
+
+
+@damage("a file's address became that of a free block")
+def address_free(case):
+    case.volume.put_inode(case.volume.find("docs/report"), direct2=free_block(case))
+    case.at_stake("docs/report", "mail/report_too")
+    case.report("BLK(S) MISSING IN BIT MAPS")
+    mend_free(case)
+
+
+@damage("a word of an indirect block became a free block")
+def word_free(case):
+    damage_word(case, 17, free_block(case))
+    case.report("BLK(S) MISSING IN BIT MAPS")
+    mend_free(case)
+
+
+@damage("the address of an indirect block became that of a free block")
+def indirect_address_free(case):
+    case.volume.put_inode(case.volume.find("big/film"), single=free_block(case))
+    case.at_stake("big/film")
+    case.report("INCORRECT BLOCK COUNT", "BLK(S) MISSING IN BIT MAPS")
+    mend_free(case)
 
 
 @damage("a file got the address of another one's block, and lost its name")
@@ -430,6 +526,19 @@ def directory_as_file(case):
     case.at_stake(*[path for path in case.tree if path.startswith("mail")])
     report = case.report("BAD TYPE VALUE", "UNREF")
     mend(case, report.first("BAD TYPE VALUE")["inode"], "mode", mode="40755")
+
+
+@damage("a file's inode became zeros")
+def inode_zeroed(case):
+    case.volume.zero(case.volume.layout.inode_place(case.volume.find("docs/letter")), 128)
+    case.at_stake("docs/letter")
+    i = case.report("UNALLOCATED", "BLK(S) MISSING IN BIT MAPS").first("UNALLOCATED")["inode"]
+    case.run("rest")
+    values = {"mode": "100644", "links": 1, "size": len(case.pieces[-1][1]), "k": 0, "f": first_lost(case)}
+    found = mend(case, i, "mode links size address", **values)
+    count = found.first("INCORRECT BLOCK COUNT")["right_count"]
+    if mend(case, i, "mode links size address blocks", blocks=count, **values).status != 0:
+        raise Wrong("an inode that was put anew isn't consistent")
 
 
 @damage("a block of inodes became zeros")

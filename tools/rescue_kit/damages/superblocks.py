@@ -126,6 +126,19 @@ def cut(case):
     case.run("keep names all")
 
 
+@damage("fields of the superblock that a kernel computes with are wrong")
+def fields(case):
+    right = bytes(case.volume.image)
+    for byte, width, number in ((72, 4, 7), (84, 4, 12), (96, 4, 0), (1008, 8, -3), (1032, 8, 99)):
+        case.volume.put(formats.SUPERBLOCK_AT + byte, width, number)
+    all_at_stake(case)
+    case.report()
+    case.run("further fields check")
+    with open(f"{case.place}/further.img", "rb") as it:
+        if it.read() != right:
+            raise Wrong("the fields aren't as they were")
+
+
 @damage("the image is a partition of a whole disk")
 def partition(case):
     cut_out(case, lambda first, second: first - 16)
