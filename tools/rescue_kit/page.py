@@ -23,7 +23,7 @@ class Page:
         self.rows = [line for line in lines if line.startswith("| ") and not line.startswith("| Message")]
         self.prose = "\n".join(line for line in lines if not line.startswith("|"))
         self.steps = self.prose.partition("## What to do first\n")[2].partition("\n## ")[0]
-        self.lists = re.findall(r"^\*\*(`.*?)\*\*(.*?)\n\n", self.prose, re.S | re.M)
+        self.lists = re.findall(r"^\*\*(`.*?)\*\*(.*?)(?:\n\n|\Z)", self.prose, re.S | re.M)
         self.used = set()
 
     def _take(self, block):
