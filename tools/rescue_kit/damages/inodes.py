@@ -1,4 +1,5 @@
 """Damaged inodes: modes, sizes, addresses, indirect blocks."""
+import os
 import re
 
 from ..case import NotHere, Wrong, fragments_of, number_of, owners_of, places_of
@@ -607,6 +608,10 @@ def refused(case):
     case.report()
     i = case.run("number-of", path="docs/letter").strip()
     case.refuses("place", i=99999999)
+    for recipe, variables in (("superblock", {"sector": 32}), ("last-copy", {}), ("longer", {}), ("keep", {})):
+        case.refuses(recipe, **variables)
+    if os.path.exists(f"{case.place}/further.img"):
+        raise Wrong("a further copy was made by a recipe that changes one")
     for recipe, variables in (("mode", {"mode": 100644}), ("links", {"links": 1}), ("size", {"size": 1}), ("address", {"k": 0, "f": 99}), ("blocks", {"blocks": 8})):
         case.refuses(f"further place {recipe}", i=99999999, **variables)
         case.refuses(f"further {recipe}", **variables)
