@@ -13,7 +13,7 @@ MANDIR = $(PREFIX)/share/man
 DOCDIR = $(PREFIX)/share/doc/fsck-ffs
 BASHDIR = $(PREFIX)/share/bash-completion/completions
 ZSHDIR = $(PREFIX)/share/zsh/site-functions
-GUIDES = READING.md PIPELINES.md FORMATS.md RULES.md rescue.sh
+GUIDES = READING.md PIPELINES.md FORMATS.md RULES.md GLOSSARY.md rescue.sh
 EXAMPLES = $(notdir $(wildcard examples/*))
 
 # What make install puts below DESTDIR; the list of it is what make uninstall takes.

@@ -1,45 +1,90 @@
 # shellcheck shell=sh
 # Functions for the recipes of READING.md, for sh and bash: they need perl and ffs_find. They read copy.img, and only put writes, to
-# further.img.
+# further.img. What can't be done is said on standard error, with status 1, and nothing is written.
 #
-#   . ./rescue.sh
+#   . ./rescue.sh            also sets order, bsize and fsize, and lets a variable that isn't set be an error (set -u)
 #
+#   sizes                    sets order, bsize and fsize, as the first superblock in copy.img has them
 #   place I                  the byte where inode I lies
+#   maps                     what ffs_find lost prints, or a complaint
 #   lost                     the fragments that the maps mark and no inode has: first and last of each range, by ffs_find lost
 #   whole                    how many bytes the image should have, by its superblock
-#   put BYTE WIDTH NUMBER    writes a number of so many bytes into further.img, in the byte order of its superblock
+#   last_copy                the sector of the superblock's copy in the last group, by its superblock
+#   put BYTE WIDTH NUMBER    writes a number of so many bytes into further.img, in the byte order of the image
 #   entries FIRST LENGTH [I] what looks like an entry in these bytes, of inode I alone where it is given, also where no directory
-#                            has it: byte, number, record length, type, length of the name, name
+#                            has it: byte, number, record length, type, length of the name, name (control bytes are shown as ?)
 
-place() {
-    ffs_find inode "$1" copy.img | sed -n 's/^byte //p'
+set -u
+
+complain() {
+    echo "$*" >&2
+    return 1
 }
 
-lost() {
-    ffs_find lost copy.img | awk '$1 == "lost" { print $2, (NF > 2 ? $4 : $2) }'
+sizes() {
+    # shellcheck disable=SC2046
+    set -- $(ffs_find copies copy.img | tr / ' ' | awk '$2 == "little" || $2 == "big" { print; exit }')
+    [ $# -gt 3 ] || { complain "rescue.sh: no superblock is found in copy.img, so order, bsize and fsize aren't set"; return 1; }
+    # shellcheck disable=SC2034
+    order=$2 bsize=$3 fsize=$4
+}
+
+place() {
+    ffs_find inode "$1" copy.img | sed -n 's/^byte //p' | grep . || complain "place: no inode $1 is found: see ffs_find inode $1 copy.img"
+}
+
+maps() (
+    found=$(ffs_find lost copy.img)
+    [ $? -le 1 ] || { complain "ffs_find lost: $found"; exit 1; }
+    echo "$found" | grep '^no map' >&2
+    echo "$found"
+)
+
+lost() (
+    found=$(maps) || exit 1
+    echo "$found" | awk '$1 == "lost" { print $2, (NF > 2 ? $4 : $2) }'
+)
+
+by_superblock() {
+    perl -e 'open F, "<", "copy.img" or die "copy.img: $!\n"; seek F, 8192, 0; read F, $super, 1376;
+        $magic = substr $super, 1372; $magic =~ /^(\0\x01\x19\x54|\x54\x19\x01\0)$/s or die "no superblock is at byte 8192 of copy.img\n";
+        @super = unpack $magic =~ /^\0/ ? "N*" : "V*", $super;
+        ($sblkno, $cgoffset, $cgmask, $size, $ncg, $fsize, $fpg) = @super[2, 6, 7, 9, 11, 13, 47];
+        $last = ($ncg - 1) * $fpg + $cgoffset * ($ncg - 1 & ~$cgmask & 0xffffffff) + $sblkno;
+        print $size * $fsize, " ", $last * $fsize / 512, "\n"'
 }
 
 whole() {
-    perl -e 'open F, "<", "copy.img" or die "copy.img: $!\n"; seek F, 8192, 0; read F, $super, 1376;
-        @super = unpack(substr($super, 1372) eq "\0\x01\x19\x54" ? "N*" : "V*", $super); print $super[9] * $super[13], "\n"'
+    by_superblock | cut -d ' ' -f 1
+}
+
+last_copy() {
+    by_superblock | cut -d ' ' -f 2
 }
 
 put() {
-    perl -e 'open F, "+<", "further.img" or die "further.img: $!\n"; seek F, 9564, 0; read F, $magic, 1; seek F, $ARGV[0], 0;
-        $bytes = substr pack("Q>", $ARGV[2]), -$ARGV[1]; print F ord $magic ? scalar reverse $bytes : $bytes' $(($1)) "$2" $(($3))
+    [ $# = 3 ] || { complain "put: wants a byte, a width and a number, and was given: $*"; return 1; }
+    perl -e '($order, $at, $width, $number) = @ARGV;
+        open F, "+<", "further.img" or die "put: further.img: $!\n";
+        $at >= 8192 && $at + $width <= -s "further.img" or die "put: byte $at is of the boot area, or past the end of further.img\n";
+        $width == 8 || $number < 1 << 8 * $width && $number >= -(1 << 8 * $width - 1) or die "put: $number takes more than $width bytes\n";
+        $bytes = substr pack("Q>", $number), -$width;
+        seek F, $at, 0; print F $order eq "little" ? scalar reverse $bytes : $bytes; close F or die "put: $!\n"' \
+        "$order" $(($1)) "$2" $(($3))
 }
 
 entries() {
-    perl -e 'open F, "<", "copy.img"; seek F, 9564, 0; read F, $magic, 1; ($at, $length, $wanted) = @ARGV;
-        ($fields, $word) = ord $magic ? ("VvCC", "V") : ("NnCC", "N");
+    perl -e 'open F, "<", "copy.img" or die "copy.img: $!\n"; ($order, $at, $length, $wanted) = @ARGV;
+        ($fields, $word) = $order eq "little" ? ("VvCC", "V") : ("NnCC", "N");
         sub look {
             my $k = shift;
             return if $k % 4 || $k % 512 > 500;
             ($number, $record, $type, $count) = unpack $fields, substr $piece, $k, 8;
             return if $type < 1 || $type > 14 || $record > 512;
             return if substr($piece, $k + 8, 504 - $k % 512) !~ /^([^\0\/]{1,255})\0/;
-            return if $count != length $1 && $record != (length($1) + 12 & ~3);
-            print $at + $k, " $number $record $type $count $1\n";
+            ($name = $1) =~ tr/\1-\37\177/?/;
+            return if $count != length $name && $record != (length($name) + 12 & ~3);
+            print $at + $k, " $number $record $type $count $name\n";
         }
         for (seek F, $at, 0; $length > 0 && read F, $piece, $length < 1 << 20 ? $length : 1 << 20; $at += length $piece) {
             $length -= length $piece;
@@ -48,5 +93,7 @@ entries() {
             } else {
                 for ($k = 0; $k < length $piece; $k += 4) { look($k) }
             }
-        }' $(($1)) $(($2)) ${3:+"$3"}
+        }' "$order" $(($1)) $(($2)) ${3:+"$3"}
 }
+
+sizes

@@ -85,7 +85,7 @@ class Case:
         for name in ("saved", "rest"):
             if os.path.exists(f"{self.place}/{name}"):
                 os.remove(f"{self.place}/{name}")
-        run = self.page.run(recipes, {**self.sizes(), **variables}, self.place)
+        run = self.page.run(recipes, variables, self.place)
         text = run.stdout.decode("utf-8", "surrogateescape")
         self.texts.append(text)
         self._collect(run.stdout)
@@ -103,9 +103,17 @@ class Case:
             self.trees.append(tree_of_files(f"{self.place}/saved.d"))
             shutil.rmtree(f"{self.place}/saved.d")
 
-    def sizes(self):
-        layout = self.volume.layout
-        return {"bsize": layout.bsize, "fsize": layout.fsize}
+    def refuses(self, recipes, **variables):
+        """Runs recipes that can't be followed: the last one must say so by its status and a complaint, and nothing may be written."""
+        run = self.page.run(recipes, variables, self.place)
+        if run.returncode == 0 or not run.stderr:
+            raise Wrong(f"{recipes}: no complaint, status {run.returncode}")
+        if os.path.exists(f"{self.place}/further.img") and self.bytes_of("further.img") != self.bytes_of("copy.img"):
+            raise Wrong(f"{recipes}: it complains, and has written")
+
+    def bytes_of(self, name):
+        with open(f"{self.place}/{name}", "rb") as it:
+            return it.read()
 
     def has_bytes(self, path):
         data = self.tree[path]
@@ -125,8 +133,8 @@ class Case:
         return any(last.search(text) for text in self.texts)
 
     def unnamed(self):
-        """A recipe that was run though no row of a message of the report names it, as a complaint; else none."""
-        rows = "".join(row for kind in self.kinds for row in self.page.rows_of(kind)) or self.page.prose
+        """A recipe that was run though neither the steps nor a row of a message of the report names it, as a complaint; else none."""
+        rows = "".join(row for kind in self.kinds for row in self.page.rows_of(kind)) + self.page.steps if self.kinds else self.page.prose
         for name in dict.fromkeys(self.named.split()):
             if name not in GENERAL and f"*{name}*" not in rows:
                 return f"no row of its messages names {name}"
@@ -182,9 +190,14 @@ def owners_of(text):
     return [int(number) for number in re.findall(r"^inode (\d+) ", text, re.M)]
 
 
-def direct_owners_of(text):
-    """Those of them whose own address is the fragment: each inode with the index of that."""
-    return [(int(number), int(k)) for number, k in re.findall(r"^inode (\d+) block (\d+)$", text, re.M) if int(k) < 12]
+def places_of(text):
+    """The places of what the recipe `owners` printed: an inode, the index of an address, and the number of a word of the indirect block that
+    address 12 names, or none where the address itself is meant."""
+    out = []
+    for i, indirect, k in re.findall(r"^inode (\d+) (indirect )?block (\d+)$", text, re.M):
+        index, word = (11 + int(k), None) if indirect else (min(int(k), 12), int(k) - 12 if int(k) >= 12 else None)
+        out.append((int(i), index, word))
+    return out
 
 
 def entries_of(text):

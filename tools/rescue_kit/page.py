@@ -22,6 +22,8 @@ class Page:
         lines = text.partition("# A gallery\n")[0].splitlines()
         self.rows = [line for line in lines if line.startswith("| ") and not line.startswith("| Message")]
         self.prose = "\n".join(line for line in lines if not line.startswith("|"))
+        self.steps = self.prose.partition("## What to do first\n")[2].partition("\n## ")[0]
+        self.lists = re.findall(r"^\*\*(`.*?)\*\*(.*?)(?:\n\n|\Z)", self.prose, re.S | re.M)
         self.used = set()
 
     def _take(self, block):
@@ -51,11 +53,11 @@ class Page:
         return subprocess.run(["sh", "-c", "".join(script)], cwd=place, capture_output=True, timeout=SECONDS, check=False)
 
     def rows_of(self, kind):
-        """The rows of a message: those whose first column has its words, in their order."""
+        """The rows of a message: those whose first column has its words, in their order; and the lists below the tables whose head has."""
         words = [rf"(?<![\w/.'-]){re.escape(word)}(?![\w/.'-])" for word in re.findall(r"[^\s,:]+", kind.replace(", CANNOT FIX", ""))]
         rows = [row for row in self.rows if re.search(".*?".join(words), row.split(" | ")[0])]
         if "CANNOT FIX" in kind:
             rows += [row for row in self.rows if "CANNOT FIX" in row.split(" | ")[0]]
         if not rows:
             raise KeyError(f"no row of READING has {kind}")
-        return rows
+        return rows + [text for head, text in self.lists if re.search(".*?".join(words), head)]

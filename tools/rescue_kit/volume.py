@@ -38,6 +38,11 @@ class Volume:
     def zero(self, place, length):
         self.image[place:place + length] = bytes(length)
 
+    def mark(self, f):
+        """The byte by which the map of its group has a fragment as free, and the number of its bit there."""
+        c, k = divmod(f, self.layout.fpg)
+        return self.layout.group_place(c) + self.layout.freeoff(self.image, c) + k // 8, k % 8
+
     def runs(self, i):
         return list(Inode(self.image, self.layout, i).runs(self.image))
 

@@ -1,14 +1,24 @@
 //! The checker of UFS1 images as a library, by one name: the whole check, each of its phases, and
 //! what they work on.
 //!
-//! A caller lists `ffs` alone, and finds here all that the crates below give out for callers. Each
-//! item keeps its contract, and the page of its own crate says what it does.
+//! A caller is a crate in Rattle, beside these, with a line `name: ffs` in `crates.txt`: it lists
+//! `ffs` alone, and finds here all that the crates below give out for callers. Each item keeps its
+//! contract, and the page of its own crate says what it does. What the program `ffs_find` prints is
+//! in `ffs_finding`, which this crate doesn't give out.
 //!
 //! ```text
 //! let mut image = MemoryImage::new(bytes);
 //! let args = Args { name: "an image in memory", sector: None };
 //! let mut text = Vec::new(alloc);
 //! let end = check(alloc, &mut image, &args, &mut Counted::new(&mut text));
+//! ```
+//!
+//! The check of a file is the same over a `FileImage`. `rt` is the `HostRuntime` that `main` is
+//! given, and the opening fails where the file can't be opened:
+//!
+//! ```text
+//! let mut system = rt;
+//! let mut image = FileImage::open(&mut system, "root.img")?;
 //! ```
 //!
 //! The same in parts, each by its own call, with one report for all of them:
@@ -33,9 +43,11 @@
 //! summary(&superblock, &workspace, &mut report)?;
 //! ```
 //!
-//! `run` is what the program runs. `check_rest`, `path_of`, `Chunks` with `runs`, and the fields of a
-//! `Geometry` by their names exist for callers of the library. Before `path_of` after the phases,
-//! `workspace.forget_windows()` lets go of what they have read.
+//! `run` and `run_over` check the file, or the image of an opener, that the words of a command line
+//! name; the program itself starts by `start` of `ffs_check`, which does the same. These two,
+//! `check_rest`, `path_of`, `Chunks` with `runs`, and the fields of a `Geometry` by their names
+//! exist for callers of the library. Call `workspace.forget_windows()` between the last phase and
+//! `path_of`.
 #![tactic(auto)]
 
 // Images: bytes at a place, or a fault with its sector.

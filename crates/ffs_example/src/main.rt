@@ -8,7 +8,7 @@ use ffs::{Args, Counted, End, MemoryImage, check};
 use std::{fs, io};
 
 fn main(rt: HostRuntime) -> io::Result<()> {
-    // The bytes can be of anywhere: here they are a file's.
+    // The bytes can be of anywhere: here they are a file's. (A `FileImage` reads a file in place.)
     let bytes = fs::read(&rt, "shared_fragment.img")?;
     let mut image = MemoryImage::new(bytes);
 

@@ -2,7 +2,7 @@
 from .. import sources
 from ..case import entries_of, fragments_of, number_of, owners_of
 from .all import damage
-from .inodes import first_lost, mend
+from .inodes import first_lost, free_block, mend, mend_free, mend_shared
 from .names import entries_of_inode, place_of
 
 # How many of the inodes that are left are copied, of those that have no name.
@@ -72,6 +72,43 @@ def hole(case):
     case.run("strings", f=f)
     case.run("entries", f=f)
     mend(case, i, "address", k=1, f=f)
+
+
+@damage("a directory's address became that of a free block")
+def address_free(case):
+    case.volume.put_inode(case.volume.find("mail/in"), direct0=free_block(case))
+    case.at_stake("mail/in", "mail/in/one", "mail/in/two")
+    case.report("DIRECTORY CORRUPTED", "MISSING '.'", "UNREF")
+    case.run("lost-names")
+    mend_free(case)
+
+
+@damage("a directory's second address became that of a free block")
+def second_address_free(case):
+    put_names(case, direct1=free_block(case))
+    case.report("DIRECTORY CORRUPTED", "UNREF")
+    case.run("lost-names")
+    mend_free(case)
+
+
+@damage("a directory's address became that of another directory's block")
+def address_shared(case):
+    volume = case.volume
+    volume.put_inode(volume.find("mail/in"), direct0=volume.blocks(volume.find("mail/out"))[0])
+    case.at_stake("mail/in", "mail/in/one", "mail/in/two", "mail/out", "mail/out/three")
+    mend_shared(case)
+
+
+@damage("a directory's inode became zeros")
+def inode_zeroed(case):
+    volume = case.volume
+    volume.zero(volume.layout.inode_place(volume.find("mail/in")), 128)
+    case.at_stake("mail/in", "mail/in/one", "mail/in/two")
+    i = case.report("UNALLOCATED", "UNREF", "BLK(S) MISSING IN BIT MAPS").first("UNALLOCATED")["inode"]
+    case.run("lost-names")
+    values = {"mode": "40755", "size": 512, "k": 0, "f": first_lost(case)}
+    found = mend(case, i, "mode size address", **values)
+    mend_counts(case, i, found, "mode size address", **values)
 
 
 @damage("a directory's size and address became 0")
@@ -156,8 +193,8 @@ def root_empty(case):
     f = first_lost(case)
     names = {entry.name: entry.number for entry in entries_of(case.run("entries", f=f))}
     case.run("below", i=names["docs"])
-    found = mend(case, 2, "mode size address", mode="040755", size=512, k=0, f=f)
-    mend_counts(case, found, "mode size address", mode="040755", size=512, k=0, f=f)
+    found = mend(case, 2, "mode size address", mode="40755", size=512, k=0, f=f)
+    mend_counts(case, 2, found, "mode size address", mode="40755", size=512, k=0, f=f)
 
 
 @damage("the block of inodes that has inode 2 became zeros")
@@ -175,11 +212,11 @@ def root_block_zero(case):
     case.at_stake(*[path for path, i in numbers.items() if i in left or i < layout.bsize // 128])
 
 
-def mend_counts(case, found, recipes, **values):
-    """Puts the counts that the report of the further copy says are right, beside what was put before."""
+def mend_counts(case, i, found, recipes, **values):
+    """Puts the counts of inode i that the report of the further copy says are right, beside what was put before."""
     blocks = found.first("INCORRECT BLOCK COUNT")["right_count"]
     links = found.first("LINK COUNT")["right_count"]
-    mend(case, 2, recipes + " links blocks", blocks=blocks, links=links, **values)
+    mend(case, i, recipes + " links blocks", blocks=blocks, links=links, **values)
 
 
 @damage("inode 2 became a file")
@@ -187,7 +224,7 @@ def root_file(case):
     case.volume.put_inode(2, mode=0o100755)
     case.at_stake(*case.tree)
     case.report("ROOT INODE NOT DIRECTORY")
-    mend(case, 2, "mode", mode="040755")
+    mend(case, 2, "mode", mode="40755")
 
 
 @damage("an address was set in inode 2 that it doesn't use")

@@ -2,6 +2,7 @@
 from images import formats
 
 from .. import sources
+from ..case import Wrong
 from .all import damage
 
 
@@ -15,16 +16,18 @@ def group_magic(case):
     case.volume.put(case.volume.layout.group_place(3) + formats.GROUP["magic"][0], 4, 0)
     all_at_stake(case)
     case.report("CG: BAD MAGIC NUMBER")
-    case.run("names all")
+    case.run("names all attributes")
+    attributes = case.bytes_of("saved.list").decode()
+    missing = [path for path, text in sources.SHORT_LINKS.items() if f"/{path} -> {text}|" not in attributes]
+    if missing or "|/pipe|" not in attributes:
+        raise Wrong(f"no text of the link {missing} is in saved.list, or no FIFO")
 
 
 @damage("a bit of a map of fragments was cleared")
 def map_bit(case):
     volume = case.volume
-    f = volume.blocks(volume.find("docs/letter"))[0]
-    c, k = divmod(f, volume.layout.fpg)
-    place = volume.layout.group_place(c) + volume.layout.freeoff(volume.image, c) + k // 8
-    volume.image[place] ^= 1 << k % 8
+    place, bit = volume.mark(volume.blocks(volume.find("docs/letter"))[0])
+    volume.image[place] ^= 1 << bit
     all_at_stake(case)
     case.report("BLK(S) MISSING IN BIT MAPS")
     case.run("names all")

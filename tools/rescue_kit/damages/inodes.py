@@ -1,5 +1,8 @@
 """Damaged inodes: modes, sizes, addresses, indirect blocks."""
-from ..case import NotHere, direct_owners_of, fragments_of, number_of, owners_of
+import os
+import re
+
+from ..case import NotHere, Wrong, fragments_of, number_of, owners_of, places_of
 from .all import damage
 
 WILD = 0x0BADF00D
@@ -17,6 +20,19 @@ def first_lost(case):
     return int(case.run("lost").split()[0])
 
 
+def put_lost(case, i, k, word=None):
+    """Puts the first lost fragment at an address of inode i, or at a word of the indirect block that this names, and checks the copy."""
+    if word is None:
+        return mend(case, i, "address", k=k, f=first_lost(case))
+    return case.run("further word check", b=fragments_of(case.run("inode", i=i))[k], k=word, f=first_lost(case))
+
+
+def words_of(case, i, k):
+    """The words of the indirect block at an address of inode i."""
+    printed = case.run("words", b=fragments_of(case.run("inode", i=i))[k], order=case.volume.order)
+    return [int(line.split()[1]) for line in printed.splitlines()]
+
+
 @damage("a file's mode became 0")
 def mode_zero(case):
     case.volume.put_inode(case.volume.find("docs/letter"), mode=0)
@@ -24,7 +40,7 @@ def mode_zero(case):
     report = case.report("PARTIALLY ALLOCATED INODE", "UNALLOCATED")
     i = report.first("PARTIALLY ALLOCATED INODE")["inode"]
     case.run("bytes", i=i)
-    mend(case, i, "mode", mode="0100644")
+    mend(case, i, "mode", mode="100644")
 
 
 @damage("a directory's mode became 0")
@@ -32,7 +48,7 @@ def directory_mode_zero(case):
     case.volume.put_inode(case.volume.find("docs/names"), mode=0)
     case.at_stake(*[path for path in case.tree if path.startswith("docs/names")])
     report = case.report("PARTIALLY ALLOCATED INODE", "UNALLOCATED")
-    mend(case, report.first("PARTIALLY ALLOCATED INODE")["inode"], "mode", mode="040755")
+    mend(case, report.first("PARTIALLY ALLOCATED INODE")["inode"], "mode", mode="40755")
 
 
 @damage("a short link's mode became 0")
@@ -42,7 +58,7 @@ def link_mode_zero(case):
     report = case.report("PARTIALLY ALLOCATED INODE", "UNALLOCATED")
     i = report.first("PARTIALLY ALLOCATED INODE")["inode"]
     case.run("place text", i=i)
-    mend(case, i, "mode", mode="0120777")
+    mend(case, i, "mode", mode="120777")
 
 
 @damage("a file's type became one that there isn't")
@@ -51,7 +67,7 @@ def mode_unknown(case):
     case.at_stake("docs/report", "mail/report_too")
     i = case.report("UNKNOWN FILE TYPE").first("UNKNOWN FILE TYPE")["inode"]
     case.run("bytes", i=i)
-    mend(case, i, "mode", mode="0100644")
+    mend(case, i, "mode", mode="100644")
 
 
 @damage("a short link's type became one that there isn't")
@@ -68,7 +84,7 @@ def directory_mode_unknown(case):
     case.volume.put_inode(case.volume.find("mail/in"), mode=0o170755)
     case.at_stake("mail/in", "mail/in/one", "mail/in/two")
     i = case.report("UNKNOWN FILE TYPE").first("UNKNOWN FILE TYPE")["inode"]
-    mend(case, i, "mode", mode="040755")
+    mend(case, i, "mode", mode="40755")
 
 
 @damage("a bit of a file's size was set, beyond what a file can have")
@@ -123,6 +139,31 @@ def size_within_block(case):
     case.volume.put_inode(case.volume.find("docs/letter"), size=100)
     case.at_stake("docs/letter")
     i = case.report("INCORRECT BLOCK COUNT").first("INCORRECT BLOCK COUNT")["inode"]
+    mend(case, i, "size", size=right_most(case, i))
+    case.run("keep bytes", i=i)
+
+
+def file_before_free(case):
+    """A file that a free fragment of its last block follows."""
+    volume = case.volume
+    for path, data in case.tree.items():
+        if isinstance(data, bytes) and len(data) >= volume.layout.maxsymlinklen:
+            run = volume.runs(volume.find(path))[-1]
+            place, bit = volume.mark(run.start + run.length)
+            if run.length < volume.layout.frag and volume.image[place] >> bit & 1:
+                return path
+    raise NotHere
+
+
+@damage("a file's size became larger by a free fragment")
+def size_larger_within_block(case):
+    path = file_before_free(case)
+    i = case.volume.find(path)
+    case.volume.put_inode(i, size=case.volume.inode(i)["size"] + case.volume.layout.fsize)
+    case.at_stake(path)
+    i = case.report("INCORRECT BLOCK COUNT", "BLK(S) MISSING IN BIT MAPS").first("INCORRECT BLOCK COUNT")["inode"]
+    if i not in owners_of(case.run("owners", f=int(case.run("marked-free").split()[0]))):
+        raise Wrong("the file doesn't have the fragments that are marked as free")
     mend(case, i, "size", size=right_most(case, i))
     case.run("keep bytes", i=i)
 
@@ -196,16 +237,40 @@ def indirect_zeroed(case):
 
 
 def refill(case, i):
-    case.run("further refill check", f=fragments_of(case.run("inode", i=i))[12])
+    case.run("further list refill check", f=fragments_of(case.run("inode", i=i))[12])
 
 
-@damage("an indirect block was overwritten by text, of a file that passes cylinder groups")
-def indirect_overwritten(case):
-    place, bsize = indirect_place(case), case.volume.layout.bsize
-    case.volume.image[place:place + bsize] = (b"All work and no play makes Jack a dull boy. " * bsize)[:bsize]
-    case.at_stake("big/film")
-    i = case.report("EXCESSIVE BAD BLKS", "BAD").first("EXCESSIVE BAD BLKS")["inode"]
-    refill(case, i)
+@damage("the indirect blocks of two files became zeros")
+def two_indirect_zeroed(case):
+    volume = case.volume
+    paths = ("big/film", "big/photo")
+    for path in paths:
+        at = volume.inode(volume.find(path))["single"]
+        if not at:
+            raise NotHere
+        volume.zero(at * volume.layout.fsize, volume.layout.bsize)
+    case.at_stake(*paths)
+    counts = {message["inode"]: message for message in case.report("INCORRECT BLOCK COUNT").of("INCORRECT BLOCK COUNT")}
+    missed = {i: (count["count"] - count["right_count"]) * 512 // volume.layout.bsize for i, count in counts.items()}
+    blocks = blocks_of(case.run("lost"), volume.layout.frag)
+    case.run("further")
+    for i in sorted(missed, key=lambda i: fragments_of(case.run("inode", i=i))[11]):
+        put_list(case, blocks[:missed[i]])
+        blocks = blocks[missed[i]:]
+        case.run("refill", f=fragments_of(case.run("inode", i=i))[12])
+    case.run("check")
+
+
+def blocks_of(text, frag):
+    """The first fragment of each block in the ranges that the recipe `lost` printed."""
+    ranges = (map(int, line.split()) for line in text.splitlines())
+    return [f for first, last in ranges for f in range(first, last + 1, frag)]
+
+
+def put_list(case, blocks):
+    """The list that *refill* takes, of these blocks alone."""
+    with open(f"{case.place}/list", "w", encoding="ascii") as it:
+        it.writelines(f"{f} {f}\n" for f in blocks)
 
 
 def damage_word(case, k, number):
@@ -216,10 +281,7 @@ def damage_word(case, k, number):
 
 def mend_word(case, i, value):
     """Puts the lost block at the word of the indirect block that has this value."""
-    b = fragments_of(case.run("inode", i=i))[12]
-    words = [line.split() for line in case.run("words", b=b, order=case.volume.order).splitlines()]
-    k = next(k for k, word in words if int(word) == value)
-    case.run("further word check", b=b, k=k, f=first_lost(case))
+    put_lost(case, i, 12, words_of(case, i, 12).index(value))
 
 
 @damage("a word of an indirect block points outside of the volume")
@@ -259,6 +321,15 @@ def double_zeroed(case):
     case.run("further word check", b=fragments_of(case.run("inode", i=i))[13], k=0, f=first_lost(case))
 
 
+@damage("an indirect block that the double indirect block of a large file names became zeros")
+def second_zeroed(case):
+    volume = case.volume
+    i, double = double_of(case)
+    volume.zero(volume.number(double * volume.layout.fsize, 4) * volume.layout.fsize, volume.layout.bsize)
+    i = case.report("INCORRECT BLOCK COUNT").first("INCORRECT BLOCK COUNT")["inode"]
+    case.run("further list refill check", f=words_of(case, i, 13)[0])
+
+
 @damage("a file got the address of another one's block")
 def address_shared(case):
     volume = case.volume
@@ -269,17 +340,69 @@ def address_shared(case):
 
 
 def mend_shared(case):
-    """Puts the lost block at each address of the shared fragment that doesn't follow the one before it, one at a time. Which these are
-    *owners* says, or *inode*, where the fragment is one of the file system's own."""
+    """Puts the lost block at each address, or word, of the shared fragment that doesn't follow the one before it, one at a time. Which these
+    are *owners* says, or *inode*, where the fragment is one of the file system's own."""
     report = case.report("DUP", "DUP/BAD")
     f = report.first("DUP")["fragment"]
-    places = direct_owners_of(case.run("owners", f=f))
+    places = places_of(case.run("owners", f=f))
     if not places:
         i = report.first("DUP")["inode"]
-        places = [(i, k) for k, at in fragments_of(case.run("inode", i=i)).items() if at == f]
-    for i, k in places:
-        if fragments_of(case.run("inode", i=i)).get(k - 1, 0) + case.volume.layout.frag != f:
-            mend(case, i, "address", k=k, f=first_lost(case))
+        places = [(i, k, None) for k, at in fragments_of(case.run("inode", i=i)).items() if at == f]
+    for i, k, word in places:
+        before = words_of(case, i, k)[word - 1] if word else fragments_of(case.run("inode", i=i)).get(k - 1, 0)
+        if before + case.volume.layout.frag != f:
+            put_lost(case, i, k, word)
+
+
+@damage("a word of an indirect block became another file's block")
+def word_shared(case):
+    volume = case.volume
+    case.at_stake("docs/report", "mail/report_too")
+    damage_word(case, 17, volume.blocks(volume.find("docs/report"))[2])
+    mend_shared(case)
+
+
+@damage("the address of an indirect block became that of another file's block")
+def indirect_address_shared(case):
+    volume = case.volume
+    volume.put_inode(volume.find("big/film"), single=volume.blocks(volume.find("docs/report"))[2])
+    case.at_stake("big/film", "docs/report", "mail/report_too")
+    mend_shared(case)
+
+
+def free_block(case):
+    """The first fragment of a block near the end of the volume, which is free."""
+    return case.volume.layout.size - 2 * case.volume.layout.frag
+
+
+def mend_free(case):
+    """Puts the first lost block in the place of the free block that a file was given."""
+    f = int(case.run("marked-free").split()[0])
+    for i, k, word in places_of(case.run("owners", f=f)):
+        put_lost(case, i, k, word)
+
+
+@damage("a file's address became that of a free block")
+def address_free(case):
+    case.volume.put_inode(case.volume.find("docs/report"), direct2=free_block(case))
+    case.at_stake("docs/report", "mail/report_too")
+    case.report("BLK(S) MISSING IN BIT MAPS")
+    mend_free(case)
+
+
+@damage("a word of an indirect block became a free block")
+def word_free(case):
+    damage_word(case, 17, free_block(case))
+    case.report("BLK(S) MISSING IN BIT MAPS")
+    mend_free(case)
+
+
+@damage("the address of an indirect block became that of a free block")
+def indirect_address_free(case):
+    case.volume.put_inode(case.volume.find("big/film"), single=free_block(case))
+    case.at_stake("big/film")
+    case.report("INCORRECT BLOCK COUNT", "BLK(S) MISSING IN BIT MAPS")
+    mend_free(case)
 
 
 @damage("a file got the address of another one's block, and lost its name")
@@ -362,7 +485,7 @@ def file_as_link(case):
     put_type(case, "docs/report", 0o120644)
     case.at_stake("docs/report", "mail/report_too")
     i = case.report("BAD TYPE VALUE").first("BAD TYPE VALUE")["inode"]
-    mend(case, i, "mode", mode="0100644")
+    mend(case, i, "mode", mode="100644")
 
 
 @damage("a file became a FIFO")
@@ -370,7 +493,7 @@ def file_as_fifo(case):
     put_type(case, "docs/letter", 0o010644)
     case.at_stake("docs/letter")
     i = case.report("BAD TYPE VALUE").first("BAD TYPE VALUE")["inode"]
-    mend(case, i, "mode", mode="0100644")
+    mend(case, i, "mode", mode="100644")
 
 
 @damage("a file became a socket")
@@ -378,7 +501,7 @@ def file_as_socket(case):
     put_type(case, "docs/letter", 0o140644)
     case.at_stake("docs/letter")
     i = case.report("BAD TYPE VALUE").first("BAD TYPE VALUE")["inode"]
-    mend(case, i, "mode", mode="0100644")
+    mend(case, i, "mode", mode="100644")
 
 
 @damage("a file became a device")
@@ -386,7 +509,7 @@ def file_as_device(case):
     put_type(case, "docs/letter", 0o020644)
     case.at_stake("docs/letter")
     i = case.report("INCORRECT BLOCK COUNT").first("INCORRECT BLOCK COUNT")["inode"]
-    mend(case, i, "mode", mode="0100644")
+    mend(case, i, "mode", mode="100644")
 
 
 @damage("a file became a directory")
@@ -395,7 +518,7 @@ def file_as_directory(case):
     case.at_stake("docs/letter")
     i = case.report("BAD TYPE VALUE", "DIRECTORY CORRUPTED").first("BAD TYPE VALUE")["inode"]
     case.run("bytes", i=i)
-    mend(case, i, "mode", mode="0100644")
+    mend(case, i, "mode", mode="100644")
 
 
 @damage("a directory became a file")
@@ -403,13 +526,29 @@ def directory_as_file(case):
     put_type(case, "mail", 0o100755)
     case.at_stake(*[path for path in case.tree if path.startswith("mail")])
     report = case.report("BAD TYPE VALUE", "UNREF")
-    mend(case, report.first("BAD TYPE VALUE")["inode"], "mode", mode="040755")
+    mend(case, report.first("BAD TYPE VALUE")["inode"], "mode", mode="40755")
+
+
+@damage("a file's inode became zeros")
+def inode_zeroed(case):
+    case.volume.zero(case.volume.layout.inode_place(case.volume.find("docs/letter")), 128)
+    case.at_stake("docs/letter")
+    i = case.report("UNALLOCATED", "BLK(S) MISSING IN BIT MAPS").first("UNALLOCATED")["inode"]
+    case.run("rest")
+    values = {"mode": "100644", "links": 1, "size": len(case.pieces[-1][1]), "k": 0, "f": first_lost(case)}
+    found = mend(case, i, "mode links size address", **values)
+    count = found.first("INCORRECT BLOCK COUNT")["right_count"]
+    if mend(case, i, "mode links size address blocks", blocks=count, **values).status != 0:
+        raise Wrong("an inode that was put anew isn't consistent")
 
 
 @damage("a block of inodes became zeros")
 def inodes_zeroed(case):
     zero_inodes(case)
-    case.report("UNALLOCATED", "BLK(S) MISSING IN BIT MAPS")
+    report = case.report("UNALLOCATED", "BLK(S) MISSING IN BIT MAPS")
+    counts = [int(line.split()[0]) for line in case.run("kinds").splitlines()]
+    if sum(counts) != len(report) or len(counts) != len({message["kind"] for message in report}):
+        raise Wrong(f"the recipe counts {counts}, of {len(report)} messages")
     case.run("names")
     case.run("rest")
 
@@ -436,13 +575,59 @@ def inodes_overwritten(case):
 
 @damage("a file's bytes are in a bad area of the disk")
 def bytes_bad(case):
+    find_bad(case, 0)
+
+
+@damage("a file's bytes are in a bad area of the disk, of which a partition was cut out")
+def bytes_bad_of_disk(case):
+    find_bad(case, 2048)
+
+
+def find_bad(case, start):
+    """Two bad areas, the second one of several blocks: ddrescue's map of them leads to all files that have a fragment there."""
     volume = case.volume
-    place = volume.blocks(volume.find("docs/letter"))[0] * volume.layout.fsize
-    volume.zero(place, 512)
-    case.at_stake("docs/letter", data=False)
+    fsize = volume.layout.fsize
+    film = volume.blocks(volume.find("big/film"))
+    areas = [(volume.blocks(volume.find("docs/letter"))[0] * fsize, 512), (film[-1] * fsize + 512, 40 * volume.layout.bsize)]
+    case.at_stake("docs/letter", "big/film", "big/photo", data=False)
+    for place, length in areas:
+        volume.zero(place, length)
+    with open(f"{case.place}/copy.map", "w", encoding="ascii") as it:
+        it.write("# Mapfile. Created by GNU ddrescue version 1.27\n# current_pos  current_status  current_pass\n0x00000200     +               1\n")
+        it.write("#      pos        size  status\n0x00000000  0x00000200  +\n")
+        it.writelines(f"0x{512 * start + place:08X}  0x{length:08X}  {status}\n" for (place, length), status in zip(areas, "-*"))
     case.report()
-    owners = case.run("bad-area owners", position=place)
-    case.run("names-of", i=owners_of(owners)[0])
+    found = case.run("bad-areas", start=start)
+    for i in sorted({int(number) for number in re.findall(r"\binode (\d+) ", found)}):
+        case.run("names-of", i=i)
+
+
+@damage("a recipe is given a number that can't be right")
+def refused(case):
+    case.at_stake("docs/letter", name=False)
+    case.report()
+    i = case.run("number-of", path="docs/letter").strip()
+    case.refuses("place", i=99999999)
+    for recipe, variables in (("superblock", {"sector": 32}), ("last-copy", {}), ("longer", {}), ("keep", {})):
+        case.refuses(recipe, **variables)
+    if os.path.exists(f"{case.place}/further.img"):
+        raise Wrong("a further copy was made by a recipe that changes one")
+    for recipe, variables in (("mode", {"mode": 100644}), ("links", {"links": 1}), ("size", {"size": 1}), ("address", {"k": 0, "f": 99}), ("blocks", {"blocks": 8})):
+        case.refuses(f"further place {recipe}", i=99999999, **variables)
+        case.refuses(f"further {recipe}", **variables)
+    case.refuses("further place mode", i=i)
+    case.refuses("further place links", i=i, links=70000)
+    case.refuses("further word", b=0, k=0, f=9)
+    case.refuses("further word", b=case.volume.layout.size, k=0, f=9)
+    case.refuses("further number", e=2, i=i)
+    case.refuses("further refill", f=99)
+    put_list(case, range(100, 100 + case.volume.layout.bsize))
+    case.refuses("further refill", f=99)
+    case.refuses("further list refill", f=0)
+    case.refuses("exchange", i=i, j=99999999)
+    for recipe in ("inode", "bytes", "names-of", "text", "owners"):
+        case.refuses(recipe)
+    case.run("bytes", i=i)
 
 
 @damage("an inode that is whole, a link among them")

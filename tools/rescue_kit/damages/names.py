@@ -1,5 +1,5 @@
 """Damaged entries: numbers, types, lengths, and entries that are gone."""
-from ..case import entries_of, fragments_of, number_of
+from ..case import Wrong, entries_of, fragments_of, number_of
 from .all import damage
 
 
@@ -146,6 +146,17 @@ def name_dot(case):
     case.at_stake("docs/letter", name=False)
     report = case.report("EXTRA '.' ENTRY", "UNREF")
     case.run("bytes", i=report.first("UNREF")["inode"])
+
+
+@damage("a byte of an entry's name became a control byte")
+def name_control(case):
+    case.volume.image[case.volume.entry("docs/letter") + 8] = 0x1B
+    case.at_stake("docs/letter", name=False)
+    case.report()
+    found = next((entry for entry in entries_in(case, "docs") if entry.name == "?etter"), None)
+    if found is None:
+        raise Wrong("the name isn't shown with a question mark")
+    case.run("bytes", i=found.number)
 
 
 @damage("an entry's record length became 0")

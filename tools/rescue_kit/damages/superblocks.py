@@ -1,4 +1,6 @@
 """Damaged superblocks, images that were cut, and images of another kind."""
+import os
+
 from images import formats
 
 from .. import sources
@@ -53,14 +55,40 @@ def geometry(case):
     mend_from(case, 32)
 
 
+@damage("the superblock's size of the volume is wrong")
+def size(case):
+    case.volume.put_superblock("size", case.volume.layout.size * 2)
+    all_at_stake(case)
+    case.report("BAD SUPER BLOCK")
+    mend_from(case, case.run("copies").split()[0])
+
+
 @damage("the last copy of the superblock is damaged")
 def last_copy(case):
     case.volume.put_superblock("cgoffset", 8, copy=case.volume.layout.ncg - 1)
+    mend_last(case)
+
+
+@damage("the last copy of the superblock became zeros")
+def last_copy_lost(case):
+    case.volume.zero(case.volume.layout.copy_place(case.volume.layout.ncg - 1), 3 * SECTOR)
+    mend_last(case)
+
+
+def mend_last(case):
+    """Writes the last copy anew where two checks by -b agree, also over a further damage, which is mended without -b."""
+    case.volume.put_inode(case.volume.find("docs/letter"), mode=0)
     all_at_stake(case)
     case.report("BAD SUPER BLOCK")
-    case.write()
-    if not case.check_again(words=("-b", "16")):
-        case.trees.append(tree_of(f"{case.place}/copy.img"))
+    case.refuses("lost")
+    case.refuses("further place mode", i=4, mode=100644)
+    reports = [case.check_again("PARTIALLY ALLOCATED INODE", words=("-b", sector)) for sector in ("16", "32")]
+    first, second = ([message["kind"] for message in report if message["kind"] not in COUNTS] for report in reports)
+    if first != second:
+        raise Wrong(f"the reports of -b 16 and of -b 32 differ: {first} and {second}")
+    i = case.run("further last-copy check").first("PARTIALLY ALLOCATED INODE")["inode"]
+    case.run("keep")
+    case.run("further place mode check", i=i, mode="100644")
 
 
 @damage("the superblock and all of its copies became zeros")
@@ -71,10 +99,13 @@ def no_copy(case):
         volume.zero(volume.layout.copy_place(c), SECTOR * 3)
     all_at_stake(case)
     case.report("BAD SUPER BLOCK")
-    found = case.run("twin", order=case.kind.order, words=case.kind.words, size=case.kind.size)
+    case.refuses("further twin", order=volume.order, words=case.kind.words)
+    found = case.run("further twin", order=volume.order, words=case.kind.words, size=case.kind.size)
     if "FREE BLK COUNT(S)" in found and found.count("? no") == 1:
-        adopt(case)
-    case.run("keep names")
+        case.run("keep")
+        if {message["kind"] for message in case.run("further last-copy check")} <= COUNTS:
+            adopt(case)
+    case.run("names")
 
 
 @damage("the image was cut short")
@@ -83,23 +114,81 @@ def cut(case):
     used = max(run.start + run.length for path, data in case.tree.items() if isinstance(data, bytes)
                for run in volume.runs(volume.find(path))) * volume.layout.fsize
     del volume.image[used:]
+    volume.put_inode(volume.find("docs/letter"), mode=0)
     case.at_stake(*[path for path in case.tree if path not in sources.SHORT_LINKS])
     case.report("BAD SUPER BLOCK")
-    case.run("longer")
-    if case.check_again(words=("-b", "16")).status == 8:
-        raise Wrong("the check doesn't run to its end")
-    case.run("names all")
+    if case.run("copies"):
+        raise Wrong("a copy is found in an image that was cut short")
+    case.run("further longer check")
+    case.run("keep")
+    found = case.check_again("PARTIALLY ALLOCATED INODE")
+    case.run("further place mode check", i=found.first("PARTIALLY ALLOCATED INODE")["inode"], mode="100644")
+    case.run("keep names all")
+
+
+@damage("fields of the superblock that a kernel computes with are wrong")
+def fields(case):
+    right = bytes(case.volume.image)
+    for byte, width, number in ((72, 4, 7), (84, 4, 12), (96, 4, 0), (1008, 8, -3), (1032, 8, 99)):
+        case.volume.put(formats.SUPERBLOCK_AT + byte, width, number)
+    all_at_stake(case)
+    case.report()
+    case.run("further fields check")
+    with open(f"{case.place}/further.img", "rb") as it:
+        if it.read() != right:
+            raise Wrong("the fields aren't as they were")
 
 
 @damage("the image is a partition of a whole disk")
 def partition(case):
+    cut_out(case, lambda first, second: first - 16)
+
+
+@damage("the image is a partition of a whole disk, whose superblock became zeros")
+def partition_lost(case):
+    case.volume.zero(formats.SUPERBLOCK_AT, 8192)
+    cut_out(case, lambda first, second: first - 32)
+
+
+START = 2048
+
+
+def cut_out(case, start_of):
+    """Cuts a partition out of a disk that has another one, mends it, and writes it back. Its begin follows from the first two copies."""
+    volume = case.volume
     all_at_stake(case)
-    case.volume.image[:0] = bytes(2048 * SECTOR)
+    volume.put_inode(volume.find("docs/letter"), mode=0)
+    length = len(volume.image)
+    disk = bytes(START * SECTOR) + volume.image + bytes(range(256)) * 512
+    volume.image[:] = disk
     case.report("BAD SUPER BLOCK")
-    first = case.run("copies").split()[0]
-    case.run("partition", start=int(first) - 16)
-    if case.check_again().status == 0:
-        case.trees.append(tree_of(f"{case.place}/copy.img"))
+    lines = [line.split() for line in case.run("copies").splitlines()]
+    first, second = (int(line[0]) for line in lines[:2])
+    if (second - first == 16) != (first - 16 == START):
+        raise Wrong(f"sectors {first} and {second}, and the partition begins at {START}")
+    sectors = int(lines[0][3]) * int(lines[0][2].split("/")[1]) // SECTOR
+    case.run("partition", start=start_of(first, second), sectors=sectors)
+    # The disk stays, and what was cut out is the copy.
+    os.rename(f"{case.place}/copy.img", f"{case.place}/disk.img")
+    os.rename(f"{case.place}/part.img", f"{case.place}/copy.img")
+    found = case.check_again()
+    if found.status == 8:
+        case.run("further superblock check", sector=32)
+        case.run("keep")
+    found = case.check_again("PARTIALLY ALLOCATED INODE")
+    case.run("further place mode check", i=found.first("PARTIALLY ALLOCATED INODE")["inode"], mode="100644")
+    case.run("keep")
+    write_back(case, disk, length, sectors)
+
+
+def write_back(case, disk, length, sectors):
+    """Writes the copy back, and compares the whole disk: nothing but the partition may differ, and a disk that isn't there isn't made."""
+    case.refuses("back", disk="nothing.img", start=START, sectors=sectors)
+    case.refuses("back", disk="disk.img", start=START)
+    case.run("back", disk="disk.img", start=START, sectors=sectors)
+    begin = START * SECTOR
+    if case.bytes_of("disk.img") != disk[:begin] + case.bytes_of("copy.img") + disk[begin + length:]:
+        raise Wrong("something beside the partition was written")
 
 
 @damage("each two bytes of the image were exchanged")
@@ -108,6 +197,5 @@ def swapped(case):
     image[::2], image[1::2] = image[1::2], image[::2]
     all_at_stake(case)
     case.report("BAD SUPER BLOCK")
-    case.run("swapped")
-    if case.check_again().status == 0:
-        case.trees.append(tree_of(f"{case.place}/copy.img"))
+    if case.run("further swapped check").status == 0:
+        case.run("keep names")
