@@ -29,16 +29,16 @@ begins_zero n xs long none =
     let many : length (take n xs) ≡ n = length-take-le n xs long in
     sym (take-append-drop n xs) ∙ ap (λ ys. ys ++ drop n xs) (zeros_are (take n xs) none ∙ ap (λ k. replicate k 0) many)
 
--- the numbers of two and of eight bytes, none of which is set
-two_zero : (order : Order) (rest : List ℕ) → number order 2 (replicate 2 0 ++ rest) ≡ 0
+-- the mode and the size, where no byte up to the end of the size is set
+mode_zero : (order : Order) (rest : List ℕ) → number order 2 (replicate 16 0 ++ rest) ≡ 0
 unfolding number
-two_zero Little rest = refl
-two_zero Big rest = refl
+mode_zero Little rest = refl
+mode_zero Big rest = refl
 
-eight_zero : (order : Order) (rest : List ℕ) → number order 8 (replicate 8 0 ++ rest) ≡ 0
+size_zero : (order : Order) (rest : List ℕ) → number order 8 (drop 8 (replicate 16 0 ++ rest)) ≡ 0
 unfolding number
-eight_zero Little rest = refl
-eight_zero Big rest = refl
+size_zero Little rest = refl
+size_zero Big rest = refl
 
 -- the fields of an inode that are 0
 record HasZeros (i : Inode) : Type 0 where
@@ -55,14 +55,13 @@ zeros_of : (v : Layout) (inode : List ℕ) → length inode ≡ 128 → is_free_
     HasZeros (inode_from_bytes v.order inode)
 unfolding inode_from_bytes u16_at u64_at
 zeros_of v inode long free =
-    let parts : (any_nonzero (take 2 inode) ≡ false) × (any_nonzero (take 8 (drop 8 inode)) ≡ false)
-    × (any_nonzero (take 60 (drop 40 inode)) ≡ false) = grind (arith, free) in
-    let address : (k : ℕ) → 10 ≤ k → k < 25 → address_in v inode k ≡ 0 =
-    λ k low high. no_byte v inode 10 15 k (omega (arith, long)) parts.2 low high in
+    let parts : (any_nonzero (take 16 inode) ≡ false) × (any_nonzero (take 64 (drop 40 inode)) ≡ false) = grind (arith, free) in
+    let begins = begins_zero 16 inode (omega (arith, long)) parts.0 in
+    let address : (k : ℕ) → 10 ≤ k → k < 26 → address_in v inode k ≡ 0 =
+        λ k low high. no_byte v inode 10 16 k (omega (arith, long)) parts.1 low high in
     record {
-      mode = ap (λ xs. number v.order 2 xs) (begins_zero 2 inode (omega (arith, long)) parts.0) ∙ two_zero v.order (drop 2 inode);
-      size = ap (λ xs. number v.order 8 xs) (begins_zero 8 (drop 8 inode) (omega (arith, long, length-drop 8 inode)) parts.1)
-          ∙ eight_zero v.order (drop 8 (drop 8 inode));
+      mode = ap (λ xs. number v.order 2 xs) begins ∙ mode_zero v.order (drop 16 inode);
+      size = ap (λ xs. number v.order 8 (drop 8 xs)) begins ∙ size_zero v.order (drop 16 inode);
       addresses = none_set (λ j. u32_at v.order (40 + 4 * j) inode) 15 0
           (λ j low high. subst (λ k. u32_at v.order k inode ≡ 0) (place j) (address (10 + j) (omega arith) (omega (arith, high))));
     }

@@ -1,14 +1,14 @@
 -- Inodes that the window on the inode table holds and whose bytes say that they are free: what phase 1 passes over.
-use Rattle.std.specs.{Prelude.{◌≡◌, ◌*◌, ◌+◌, ◌-◌, ◌<◌, ◌≤◌, ◌||◌, ℕ, Bool, true, false, not, List, slice_index, vec_len}, List.slice_range}
+use Rattle.std.specs.{Prelude.{◌≡◌, ◌*◌, ◌+◌, ◌-◌, ◌<◌, ◌≤◌, ◌&&◌, ℕ, Bool, true, false, not, List, slice_index, vec_len}, List.slice_range}
 use Rattle.ffs_volume.specs.{Blocks.Inodes.any_nonzero, declared.constants.TheConstants.DINODE_SIZE}
 use Rattle.ffs_walk.specs.Windows.{held_bytes}
 use Rattle.ffs_workspace.specs.{Tables.HoldsInode, declared.{table.Table.Table, workspace.Workspace.Workspace}}
 
--- no byte of an inode's mode, of its size and of its addresses is set: so the inode is free. What else it
--- has may be set, as the generation number that newfs(8) gives each inode
+-- no byte of an inode is set among those of its mode, its links and its size, and among those of its addresses
+-- and its flags: so the inode is free. What else it has may be set, as the generation number that newfs(8) gives
+-- each inode
 abbrev pub is_free_by : List ℕ → Bool
-is_free_by inode = not (any_nonzero (slice_range inode 0 2)
-    || (any_nonzero (slice_range inode 8 16) || any_nonzero (slice_range inode 40 100)))
+is_free_by inode = not (any_nonzero (slice_range inode 0 16)) && not (any_nonzero (slice_range inode 40 104))
 
 -- the bytes of the inode x in the window
 abbrev pub inode_bytes : Table → ℕ → List ℕ

@@ -11,20 +11,14 @@ use crate::store::begin;
 use ffs_volume::constants::DINODE_SIZE;
 use ffs_workspace::{Table, Workspace};
 
-/// Where the mode of an inode ends, in bytes from the inode's start (inode(5)).
-const MODE_END: usize = 2;
-
-/// Where its size is.
-const SIZE: usize = 8;
-
-/// Where its size ends.
+/// Where the bytes of an inode end that have its mode, its links and its size (inode(5)).
 const SIZE_END: usize = 16;
 
-/// Where its fifteen addresses are.
+/// Where its fifteen addresses are, in bytes from its start.
 const ADDRESSES: usize = 40;
 
-/// Where these end.
-const ADDRESSES_END: usize = 100;
+/// Where its flags end, which lie after the addresses.
+const FLAGS_END: usize = 104;
 
 /// Whether one of the bytes isn't zero: a loop without exit.
 #[inline(always)]
@@ -39,17 +33,16 @@ fn any_set(bytes: &[u8]) -> bool
     bits != 0
 }
 
-/// Whether an inode is free by its bytes. A number is zero where each of its bytes is, in either byte
-/// order. The other bytes aren't asked: newfs(8) gives free inodes a generation number too.
+/// Whether an inode is free by its bytes: none of those of its mode, its size and its addresses is set,
+/// nor of what lies beside, so that whole sixteens of bytes are looked at together. A number is zero
+/// where each of its bytes is, in either byte order. Other bytes aren't asked: newfs(8) gives free
+/// inodes a generation number too.
 #[inline(always)]
 fn is_free(inode: &[u8]) -> bool
     requires { length inode.now ≡ DINODE_SIZE }
     ensures { result ≡ is_free_by inode.now }
 {
-    let mode = any_set(&inode[..MODE_END]);
-    let size = any_set(&inode[SIZE..SIZE_END]);
-    let addresses = any_set(&inode[ADDRESSES..ADDRESSES_END]);
-    !(mode | size | addresses)
+    !any_set(&inode[..SIZE_END]) && !any_set(&inode[ADDRESSES..FLAGS_END])
 }
 
 /// Whether an inode that the window on the inode table holds is free by its bytes.
