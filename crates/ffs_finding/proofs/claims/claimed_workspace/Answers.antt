@@ -12,7 +12,7 @@ returns-in_err-phase1-clause-reads g c = let p = c.phase1.ensures.reads in omega
 
 pub returns-clause-takes : goal.returns-clause-takes
 returns-clause-takes g c =
-    let new = c.in_ok-workspace.ensures in
+    let new = c.in_ok-workspace.ensures.made in
     let did = c.in_ok-phase1.ensures in
     (did.faults, new.asks, did.ready, λ b k. (did.leaves b (k, new.new.fresh)).holds)
 
