@@ -242,11 +242,11 @@ impl Workspace {
 }
 
 impl Windows {
-    ghost use Rattle.ffs_workspace.specs.Ready.{HaveRoom};
+    ghost use Rattle.ffs_workspace.specs.Ready.{AreNewWindows};
 
     fn in_memory<M: Memory>(memory: &mut M, geometry: &Geometry) -> Result<Windows, AllocError>
         ensures { MakesInMemory (M.account memory.old) (M.account memory.new)
-            (6 * geometry.now.layout.bsize) result (HaveRoom geometry.now.layout) }
+            (6 * geometry.now.layout.bsize) result (AreNewWindows geometry.now.layout) }
     {
         let size = geometry.layout.bsize as usize;
         let table = Table::over(memory.bytes(size)?);
