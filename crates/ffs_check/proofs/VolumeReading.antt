@@ -5,15 +5,16 @@ use Rattle.std.{proofs.lemmas.List.length-map, specs.List.range_with_len}
 use Rattle.ffs_volume.{proofs.{Potentials.offers_keep, RunBounds.runs_bounded}, specs.Blocks.BlockCheck.has_rescan}
 use Rattle.ffs_volume.specs.Blocks.{Owners.{Owner, owners_of}, Claims.{Claims, after_owner, after_owners, after_run}}
 use Rattle.ffs_volume.specs.Blocks.Claims.{after_step, after_steps, at_next_inode, is_open, no_claims, all_claims}
-use Rattle.ffs_volume.specs.{Laws.Geometry.IsAcceptedLayout, Report.{Memory.runs_limit, Reads.phase_reads}}
+use Rattle.ffs_volume.specs.{Laws.Geometry.IsAcceptedLayout, Report.{Memory.runs_limit, Reads.{phase_reads, table_blocks}}}
 use Rattle.ffs_volume.specs.Report.{Reads.{sweep_reads, group_reads}, Whole.{run_count, later_phase_lines, phase_lines}}
 use Rattle.ffs_volume.specs.Report.VolumeReads.{indirect_count, indirect_in_owners, indirect_in_steps, seen_indirect}
-use Rattle.ffs_volume.specs.{Report.VolumeReads.{later_reads, rescan_reads, volume_phase_reads}, declared.Layout.Layout}
-use Rattle.ffs_volume.specs.{declared.Step.{Step, TheVariants.{Gap, Run, Tail}}, Disk.Search.some_below}
+use Rattle.ffs_volume.specs.Report.VolumeReads.{later_reads, rescan_reads, volume_phase_reads, volume_scan_reads}
+use Rattle.ffs_volume.specs.{declared.{Layout.Layout, Step.{Step, TheVariants.{Gap, Run, Tail}}}, Disk.Search.some_below}
 use Rattle.ffs_volume.specs.{Disk.Superblock.Superblock, Messages.Kinds.of_tree}
 use Rattle.ffs_volume.specs.Directories.{Connectivity.connectivity_lines, ReferenceCheck.reference_lines}
 use Rattle.ffs_volume.specs.Directories.{PathnameCheck.{continues_after_root, pathname_lines}, Volumes.volume_of}
 use Rattle.ffs_volume.specs.Report.DirectoryReads.{directory_cost, noted_costs, is_looked_at, phase2_cost}
+use Rattle.std.proofs.Math.Nat.{div-add-mod', mul-le-mul_left}
 use Rattle.ffs_survey.proofs.Costs.{costs_part}
 use Rattle.ffs_names.proofs.Limits.{costs_within, noted_within}
 use Rattle.ffs_check.proofs.RestOfText.{after_phase2, from_phase1b, from_phase2, from_phase4, from_phase5}
@@ -57,6 +58,12 @@ owners_rise v s (o ∷ os) = omega (arith, steps_rise v (at_next_inode s) o.step
 indirect_few : (v : Layout) (bytes : List ℕ) → IsAcceptedLayout v → indirect_count v bytes ≤ runs_limit v
 unfolding indirect_count run_count all_claims
 indirect_few v bytes g = omega (arith, owners_rise v (no_claims v) (owners_of v bytes), runs_bounded v bytes g)
+
+-- a table has no more blocks than inodes
+tables_few : (v : Layout) → IsAcceptedLayout v → table_blocks v ≤ v.ncg * v.ipg
+tables_few v g =
+    let some : 1 ≤ v.inopb = omega (arith, g.sizes.inopb, g.sizes.bsize_low) in
+    omega (arith, div-add-mod' (v.ncg * v.ipg) v.inopb, mul-le-mul_left (table_blocks v) some)
 
 few_of : (b : Bool) (n m most : ℕ) → n ≤ most → m ≤ most → (if b then n else m) ≤ most
 few_of true n m most hn hm = hn
@@ -102,7 +109,9 @@ names_among bytes s =
 pub volume_few : (s : Superblock) (bytes : List ℕ) → IsAcceptedLayout s.layout →
     volume_phase_reads s.layout bytes ≤ phase_reads s.layout (length (phase_lines bytes s))
 volume_few s bytes g =
+    let scan : volume_scan_reads s.layout bytes ≤ sweep_reads s.layout =
+    omega (arith, tables_few s.layout g, indirect_few s.layout bytes g) in
     let again : rescan_reads s.layout bytes ≤ sweep_reads s.layout =
-    few_of (has_rescan s.layout (owners_of s.layout bytes)) (sweep_reads s.layout) 0 _ (omega arith) (omega arith) in
+    few_of (has_rescan s.layout (owners_of s.layout bytes)) (volume_scan_reads s.layout bytes) 0 _ scan (omega arith) in
     let later = later_among (continues_after_root (volume_of s.layout bytes)) bytes s in
     omega (arith, indirect_few s.layout bytes g, again, directories_few s.layout bytes g, later, names_among bytes s)

@@ -1,6 +1,6 @@
 -- The inodes one after another.
 use Rattle.std.proofs.Common.{◌≡◌, ℕ, zero, suc, ◌+◌, ◌-◌, ◌<◌, ◌≤◌, true, false, ◌||◌, if◌then◌else◌, nat_lt, List}
-use Rattle.std.proofs.Common.{◌++◌, length, get_or, replicate, min, slice_set, arith, refl, ap, ◌∙◌, sym}
+use Rattle.std.proofs.Common.{◌++◌, length, get_or, replicate, min, slice_index, slice_set, arith, refl, ap, ◌∙◌, sym}
 use Rattle.std.proofs.lemmas.{Bool.Decides.nat_tests, List.{get_or-set_same, get_or-set_other, set-get_or}}
 use Rattle.ffs_volume.specs.Blocks.{BlockCheck.{owner_lines, lines_of_owners}, Claims.{Claims, no_claims, after_owner}}
 use Rattle.ffs_volume.specs.Blocks.{Claims.{has_blame, all_claims}, Inodes.{inode_of, class_of}}
@@ -8,9 +8,9 @@ use Rattle.ffs_volume.specs.Blocks.{Inodes.{is_unknown, inodes_of}, KeptSteps.cl
 use Rattle.ffs_volume.specs.{Blocks.Owners.owners_of, Directories.Volumes.{is_inode_number, marked_by_phase1_at}}
 use Rattle.ffs_volume.specs.{Encodings.{Kinds.kind_at, Links.start_at, Replay.cut_of}, declared.Class.TheVariants.Free}
 use Rattle.ffs_volume.specs.{declared.{Inode.Inode, Layout.Layout}, Encodings.Notes.{note_of, note_at}}
-use Rattle.ffs_workspace.specs.{Holds.{claims_of, IsFresh, HoldsPhase1}, Lengths.IsFor}
+use Rattle.ffs_workspace.specs.{Holds.{bool_at, claims_of, IsFresh, HoldsPhase1}, Lengths.IsFor}
 use Rattle.ffs_workspace.specs.declared.workspace.Workspace.{Workspace}
-use Rattle.ffs_claims.{proofs.StepsContinue.{lines_append}, specs.Leaves.{SameFound, Stored}}
+use Rattle.ffs_claims.{proofs.StepsContinue.{lines_append}, specs.{Leaves.{SameFound, Stored}, Phases.IsCutInPhase1}}
 use Rattle.ffs_claims.specs.Lines.{of_lines, owners_from}
 
 pub before_first : (v : Layout) (bytes : List ℕ) → claims_before v bytes 2 ≡ no_claims v
@@ -108,6 +108,17 @@ found_next {v = v} {bytes = bytes} {u = u} {w = w} {n = n} low high m now stored
       starts = filled_next 0 (start_at v bytes) u.references.items _ n _ (omega (arith, m.references)) stored.starts
           (rw inside refl) before.starts;
     }
+
+-- where claims end early, what was found before stays
+pub found_cut : {v : Layout} {bytes : List ℕ} {u w : Workspace} {n : ℕ} → SameFound u w → FoundTo v bytes u n →
+    IsCutInPhase1 v bytes w
+found_cut {n = n} same found = record {
+  number = n;
+  kinds = λ x. ap (λ (w : Workspace). slice_index w.kinds.items x) same.only ∙ found.kinds x;
+  marked = λ x. ap (λ (w : Workspace). bool_at w.marked.items x) same.only ∙ found.marked x;
+  notes = λ x. ap (λ (w : Workspace). slice_index w.notes.items x) same.only ∙ found.notes x;
+  starts = λ x. ap (λ (w : Workspace). slice_index w.references.items x) same.only ∙ found.starts x;
+}
 
 -- a free inode leaves what is found of it as it begins
 pub stored_free : {v : Layout} {bytes : List ℕ} {u : Workspace} {n : ℕ} (i : Inode) → FoundTo v bytes u n →

@@ -7,7 +7,7 @@ use Rattle.ffs_volume.specs.Blocks.BlockCheck.{set_count, after_first}
 use Rattle.ffs_maps.specs.Bits.{bits_of}
 use Rattle.ffs_workspace.specs.{Holds.bool_at, declared.workspace.Workspace.Workspace}
 use Rattle.ffs_claims.proofs.{Duplicates.{none_clear, none_first}, StepsContinue.{range_next, lines_append}}
-use Rattle.ffs_claims.specs.{Lines.of_lines, Reporting.OffersReported}
+use Rattle.ffs_claims.specs.{Lines.of_lines, Reporting.{OffersReported, ReportedInPart}}
 
 -- offers one after the other
 pub first_append : (dup : List Bool) (xs ys : List Offer) → first_offer_lines dup (xs ++ ys) ≡ first_offer_lines dup xs
@@ -66,6 +66,34 @@ reporting_more {part = part} {rest' = rest'} t e p = record {
   past = t.past ++ part;
   whole = append_assoc t.past part rest' ∙ ap (λ xs. t.past ++ xs) (sym e) ∙ t.whole;
   reported = reported_then t.past part t.reported p;
+}
+
+-- some offers were gone over: all of them, none yet, those so far, and those so far with some of the next ones
+pub part_all : {offers : List Offer} {u w : Workspace} → OffersReported offers u w → ReportedInPart offers u w
+part_all {offers = offers} p = record { past = offers; rest = []; whole = append-nil offers; reported = p }
+
+pub part_now : {rest all : List Offer} {u w w' : Workspace} → Reporting rest all u w → w'.duplicates ≡ w.duplicates →
+    w'.marked ≡ w.marked → ReportedInPart all u w'
+part_now {rest = rest} t d m =
+    record { past = t.past; rest = rest; whole = t.whole; reported = reported_to _ _ _ t.reported d m }
+
+pub part_none : {all : List Offer} (u w : Workspace) → w.duplicates ≡ u.duplicates → w.marked ≡ u.marked →
+    ReportedInPart all u w
+part_none u w d m = part_now (reporting_begins u u refl refl refl) d m
+
+pub part_from : {offers : List Offer} (u u' w : Workspace) → ReportedInPart offers u' w →
+    u'.duplicates ≡ u.duplicates → u'.marked ≡ u.marked → ReportedInPart offers u w
+part_from u u' w p d m =
+    record { past = p.past; rest = p.rest; whole = p.whole; reported = reported_from u u' w p.reported d m }
+
+pub part_then : {rest part all : List Offer} {u v w : Workspace} (rest' : List Offer) → Reporting rest all u v →
+    rest ≡ part ++ rest' → ReportedInPart part v w → ReportedInPart all u w
+part_then rest' t e p = record {
+  past = t.past ++ p.past;
+  rest = p.rest ++ rest';
+  whole = append_assoc t.past p.past (p.rest ++ rest') ∙ ap (λ xs. t.past ++ xs) (sym (append_assoc p.past p.rest rest')
+      ∙ ap (λ xs. xs ++ rest') p.whole ∙ sym e) ∙ t.whole;
+  reported = reported_then t.past p.past t.reported p.reported;
 }
 
 pub reporting_ends : {rest all : List Offer} {u v : Workspace} → Reporting rest all u v → rest ≡ [] →

@@ -1,7 +1,7 @@
 -- How phase 1b goes from inode to inode.
 use Rattle.std.proofs.Common.{◌≡◌, ◌≢◌, ℕ, zero, suc, ◌+◌, ◌-◌, ◌<◌, ◌≤◌}
 use Rattle.std.proofs.Common.{Bool, true, false, not, ◌&&◌, ◌==◌, List, [], ◌∷◌}
-use Rattle.std.proofs.Common.{◌++◌, map, slice_index, slice_set, arith, refl, ap, ◌∙◌, sym, ne_eqb}
+use Rattle.std.proofs.Common.{◌++◌, map, slice_index, slice_set, arith, refl, ap, ◌∙◌, sym, ne_eqb, Result}
 use Rattle.std.proofs.lemmas.{Bool.{and_from, and_parts, Decides.nat_tests}, List.Folds.list_all-append}
 use Rattle.std.specs.List.{range_with_len, list_any, list_all}
 use Rattle.ffs_volume.proofs.{CutLaws.cut_is, OwnerLaws.before_next, Potentials.cond_holds, ReplayLaws.replay_is_runs}
@@ -13,13 +13,20 @@ use Rattle.ffs_volume.specs.Blocks.{KeptSteps.claims_before, Owners.{owner_of, o
 use Rattle.ffs_volume.specs.{Directories.Volumes.is_inode_number, Encodings.Replay.{fresh_replay, cut_of, cut_at}}
 use Rattle.ffs_volume.specs.{Encodings.ReplayCounts.replayed_runs, Laws.Geometry.IsAcceptedLayout}
 use Rattle.ffs_volume.specs.{Report.Whole.run_count, declared.{Layout.Layout, Step.{Step, TheVariants.Run}}}
-use Rattle.ffs_volume.specs.{Encodings.Notes.cut_in}
+use Rattle.ffs_volume.specs.{Encodings.Notes.{cut_in, note_at}}
 use Rattle.ffs_volume.specs.Blocks.BlockCheck.{after_first, owners_runs, runs_until_reported, set_count}
 use Rattle.ffs_workspace.proofs.{Leaving.counts_unsurveyed, NoteLaws.cut_is_noted}
 use Rattle.ffs_workspace.specs.{Holds.{HoldsPhase1, HoldsClaims}, declared.workspace.Workspace.Workspace}
 use Rattle.ffs_claims.proofs.{Duplicates.marked_total, Numbers.{before_end, is_inside}, RescanCounts.looked_both}
 use Rattle.ffs_claims.proofs.{RescanCounts.{runs_leave, inode_again, inode_indirect}, StepsContinue.range_more}
 use Rattle.ffs_claims.specs.{Claiming.ReadsIndirect, Lines.owners_from, Reporting.{OffersReported, Phase1bKeeps}}
+use Rattle.ffs_image.specs.Device.{Device}
+use Rattle.ffs_report.{proofs.Reporting.{reports_knowing, reports_same}, specs.{PhaseOutcome.PhaseReports, Progress.Progress}}
+use Rattle.ffs_report.specs.declared.fault.RunFault.{RunFault}
+use Rattle.ffs_volume.specs.Report.Whole.{phase1b_messages}
+use Rattle.ffs_maps.specs.Bits.{bits_of}
+use Rattle.ffs_workspace.specs.Found.{WithPhase1}
+use Rattle.ffs_claims.specs.Phases.{WithNotes, rescan_messages}
 use Rattle.ffs_claims.specs.{Rescan.offers_again, RescanRuns.{ReadsIndirectAgain, offers_by_owner, steps_runs_again}}
 
 -- the offers that the inode n keeps, replayed by its noted cut, and those of each of its Runs
@@ -46,7 +53,7 @@ pub record IsNoted (v : Layout) (bytes notes : List ℕ) (n : ℕ) : Type 0 wher
   cut : cut_in (slice_index notes n) ≡ cut_at v bytes n
 
 pub is_noted : {v : Layout} {bytes : List ℕ} {u w : Workspace} {n : ℕ} → IsAcceptedLayout v → 2 ≤ n → n < inodes_of v →
-    Phase1bKeeps u w → HoldsPhase1 v bytes u → IsNoted v bytes w.notes.items n
+    Phase1bKeeps u w → ((x : ℕ) → slice_index u.notes.items x ≡ note_at v bytes x) → IsNoted v bytes w.notes.items n
 is_noted {v = v} {bytes = bytes} {n = n} g low high same h = grind (arith, cut_is_noted)
 
 cut_noted : {v : Layout} {bytes notes : List ℕ} {n : ℕ} → IsNoted v bytes notes n →
@@ -97,6 +104,14 @@ inodes_on v bytes notes n dup dup' p some d =
     let next : each_from v bytes n ≡ offers_at v bytes notes n ∷ each_from v bytes (n + 1) =
     grind (arith, range_more, before_next, cut_noted) in
     rw (d, next, ne_eqb _ _ some) refl
+
+-- where phase 1 left the workspace, each fragment with a DUP line is to be reported
+pub text_noted : {T : Type 0} (v : Layout) (d : Device) (w : Workspace) (a b : Progress) (r : Result T RunFault) →
+    PhaseReports (WithNotes v d w) (rescan_messages (bits_of w.duplicates) v) a b r →
+    PhaseReports (WithPhase1 v d w) (phase1b_messages v) a b r
+unfolding phase1b_lines all_claims
+text_noted {T = T} v d w a b r p = reports_same T _ _ _ _ _ r (λ bytes k. rw k.1.duplicates refl)
+    (reports_knowing T _ _ _ _ _ r (λ bytes k. (k.0, k.1.notes)) p)
 
 -- no inode is left
 pub kept_end : (v : Layout) (bytes : List ℕ) (s : Claims) (n : ℕ) → inodes_of v ≤ n →

@@ -22,7 +22,7 @@ use Rattle.ffs_claims.specs.{Reporting.{OffersReported, ReportsOnly, RewalkLeave
 use Rattle.ffs_claims.specs.Rescan.{ReplaysStep, offers_again, step_offers_again}
 use Rattle.ffs_claims.specs.RescanRuns.{Counted, Rewalked, RoseBy, RunsPay, steps_runs_again}
 
-offers_next : (v : Layout) (i cut : ℕ) (r r' : Replay) (step : Step) (R R' : List Step) → R ≡ step ∷ R' →
+pub offers_next : (v : Layout) (i cut : ℕ) (r r' : Replay) (step : Step) (R R' : List Step) → R ≡ step ∷ R' →
     r' ≡ replay_step_by_cut v cut r step →
     offers_again v i cut r R ≡ step_offers_again v i cut r step ++ offers_again v i cut r' R'
 unfolding offers_again

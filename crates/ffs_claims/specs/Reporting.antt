@@ -1,5 +1,5 @@
 -- What phase 1b has reported, and what it leaves to report.
-use Rattle.std.specs.{List.list_any, Prelude.{◌≡◌, ◌≢◌, ◌<◌, ℕ, Result, OnOk, ◌||◌, List, [], ◌∷◌}}
+use Rattle.std.specs.{List.list_any, Prelude.{◌≡◌, ◌≢◌, ◌<◌, ℕ, Result, OnErr, OnOk, ◌||◌, List, [], ◌∷◌, ◌++◌}}
 use Rattle.ffs_volume.specs.Blocks.{BlockCheck.{blames, first_offer_lines, set_count, after_first}, KeptOffers.Offer}
 use Rattle.ffs_volume.specs.{declared.Layout.Layout, Blocks.Inodes.inodes_of}
 use Rattle.ffs_image.specs.Device.{Device}
@@ -13,6 +13,13 @@ pub record OffersReported (offers : List Offer) (old new : Workspace) : Type 0 w
   pub duplicates : bits_of new.duplicates ≡ after_first (bits_of old.duplicates) offers
   pub marked : (x : ℕ) → bool_at new.marked.items x ≡ (bool_at old.marked.items x
       || list_any (blames x) (first_offer_lines (bits_of old.duplicates) offers))
+
+-- the first of these offers were gone over, perhaps all of them
+pub record ReportedInPart (offers : List Offer) (old new : Workspace) : Type 0 where
+  pub past : List Offer
+  pub rest : List Offer
+  pub whole : past ++ rest ≡ offers
+  pub reported : OffersReported past old new
 
 -- what phase 1b changes: the fragments with a DUP line that are left to report, the marks, the count of
 -- its Runs and the windows. All else is as it was
@@ -41,13 +48,14 @@ pub record ReportsOffer (v : Layout) (offer : Offer) (old new : Workspace) : Typ
   pub reported : OffersReported (offer ∷ []) old new
   pub only : OffersReportedOnly v old new
 
--- kept offers are gone over: those are reported that are the first of a fragment with a DUP line, and
--- all else is as reporting leaves it
+-- kept offers are gone over, up to one at which the output failed: those are reported that are the first of a
+-- fragment with a DUP line, and all else is as reporting leaves it
 pub record ReportsOffers {T E : Type 0} (v : Layout) (offers : List Offer) (old new : ClaimMoment)
     (result : Result T E) : Type 0 where
   pub said : Says old.report new.report
       (of_lines (first_offer_lines (bits_of old.workspace.duplicates) offers)) result
   pub reported : OnOk result (OffersReported offers old.workspace new.workspace)
+  pub part : OnErr result (ReportedInPart offers old.workspace new.workspace)
   pub only : ReportsOnly v old.workspace new.workspace
 
 -- first kept offers of an inode can be reported: the workspace was made for the volume, and the

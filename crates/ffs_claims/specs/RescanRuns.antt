@@ -1,6 +1,6 @@
 -- The Runs that phase 1b looks at, replayed, and what walking over an inode again leaves.
 use Rattle.std.specs.{List.range_with_len, Prelude.{◌≡◌, ◌<◌, ◌≤◌, ℕ, ◌+◌, ◌-◌, ◌^◌, List, [], ◌∷◌, ◌++◌}}
-use Rattle.std.specs.Prelude.{if◌then◌else◌, map, Result, OnOk, slice_index, true}
+use Rattle.std.specs.Prelude.{if◌then◌else◌, map, Result, OnErr, OnOk, slice_index, true}
 use Rattle.ffs_volume.specs.Blocks.BlockCheck.{first_offer_lines, runs_until_reported}
 use Rattle.ffs_volume.specs.Blocks.KeptOffers.{Offer, kept_in_steps, offer_of}
 use Rattle.ffs_volume.specs.Blocks.{Inodes.inode_of, Steps.steps_of}
@@ -16,6 +16,7 @@ use Rattle.ffs_maps.specs.Bits.{bits_of}
 use Rattle.ffs_walk.specs.{Counts.entered, Keepings.{replay_in, run_taken}, declared.keeping.Keeping.Keeping}
 use Rattle.ffs_workspace.specs.{Tables.{HoldsInode, HoldsPiece}, declared.workspace.Workspace.Workspace}
 use Rattle.ffs_claims.specs.{Lines.of_lines, Moments.PhaseMoment, Reporting.{CanReport, OffersReported, RewalkLeaves}}
+use Rattle.ffs_claims.specs.Reporting.{ReportedInPart}
 use Rattle.ffs_claims.specs.Rescan.{offers_again}
 
 -- the kept offers of each Run that is seen, replayed: `step_offers_again` and `offers_again`, with a list for each
@@ -103,6 +104,9 @@ pub record Rewalks {T : Type 0} (v : Layout) (number : ℕ) (inode : List ℕ �
       old.report new.report result
   pub rewalked : OnOk result (ForBytes (IsContents old.image.contents) (λ bytes.
       Rewalked v number (noted_cut old.workspace number) (steps_of v (inode bytes) bytes) old.workspace new.workspace))
+  pub part : OnErr result (ForBytes (IsContents old.image.contents) (λ bytes. ReportedInPart
+      (offers_again v number (noted_cut old.workspace number) fresh_replay (steps_of v (inode bytes) bytes))
+      old.workspace new.workspace))
   pub runs : ForBytes (IsContents old.image.contents) (λ bytes.
       new.workspace.runs_again ≤ old.workspace.runs_again
       + replayed_runs v (noted_cut old.workspace number) fresh_replay (steps_of v (inode bytes) bytes))

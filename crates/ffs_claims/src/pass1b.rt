@@ -7,7 +7,8 @@ ghost use Rattle.ffs_workspace.specs.{Found.WithPhase1, Ready.IsReady};
 ghost use Rattle.ffs_walk.specs.Keepings.{replay_in};
 ghost use Rattle.ffs_claims.specs.Moments.{after_one_read, claim_moment, phase_moment};
 ghost use Rattle.ffs_claims.specs.{Phases.{IsLeftByPhase1b, Phase1bReads}, Reporting.{CanRewalk, Phase1bKeeps}};
-ghost use Rattle.ffs_claims.specs.Phases.{Phase1bReadsUnlimited};
+ghost use Rattle.ffs_claims.specs.Phases.{GoesOverOffers, Phase1bReadsUnlimited, WithNotes, rescan_messages};
+ghost use Rattle.ffs_maps.specs.Bits.{bits_of};
 ghost use Rattle.ffs_claims.specs.{Reporting.ReportsOffers, Rescan.{ReplaysStep, step_offers_again}};
 ghost use Rattle.ffs_claims.specs.RescanRuns.{CanReportStep, CountsStep, RereadsByBlock, Rewalks};
 
@@ -105,7 +106,8 @@ fn rewalk_inode<I: Image, W: Output>(
     rewalk(geometry, image, workspace, number, &inode, report)
 }
 
-/// As `phase1b`, with no limit on reads. Its clauses are the same, but for `reads`.
+/// As `phase1b`, with no limit on reads. Its clauses are the same, but for `reads`, and but that `text`
+/// is what `again` is there.
 ///
 /// # Errors
 /// A read of the image that failed, and a write of the report that failed.
@@ -118,12 +120,15 @@ fn phase1b_unlimited<I: Image, W: Output>(
     requires ready { IsReady geometry.now.layout (I.device image.old) workspace.old }
     ensures faults { ImageAfter (I.device image.old) (I.device image.new) result }
     ensures text { PhaseReports
-        (WithPhase1 geometry.now.layout (I.device image.old) workspace.old)
-        (phase1b_messages geometry.now.layout) (progress W.sink report.old)
-        (progress W.sink report.new) result }
+        (WithNotes geometry.now.layout (I.device image.old) workspace.old)
+        (rescan_messages (bits_of workspace.old.duplicates) geometry.now.layout)
+        (progress W.sink report.old) (progress W.sink report.new) result }
     ensures leaves { OnOk result (ForBytes
         (WithPhase1 geometry.now.layout (I.device image.old) workspace.old)
         (λ bytes. IsLeftByPhase1b geometry.now.layout bytes workspace.new)) }
+    ensures offers { ForBytes
+        (WithNotes geometry.now.layout (I.device image.old) workspace.old)
+        (λ bytes. GoesOverOffers geometry.now.layout bytes workspace.old workspace.new result) }
     ensures reads { Phase1bReadsUnlimited geometry.now.layout (I.device image.old) workspace.old
         workspace.new (I.reads image.old) (I.reads image.new) }
     ensures stays { Phase1bKeeps workspace.old workspace.new }
@@ -144,7 +149,8 @@ fn phase1b_unlimited<I: Image, W: Output>(
 /// Walks over the blocks of the inodes again, until each fragment with a DUP line has its first
 /// kept offer reported: by a DUP line for the first inode that keeps an offer of it.
 ///
-/// The contract gives the text only for a workspace as phase 1 left it. No more reads are made than
+/// The contract gives the text for a workspace as phase 1 left it, and after a fault once more: what
+/// is left is reported then. No more reads are made than
 /// those of a sweep (`sweep_reads`): where an image that gives other bytes each time asks for more,
 /// it ends there with `Ok`, and what is left isn't reported.
 ///
@@ -165,6 +171,15 @@ pub fn phase1b<I: Image, W: Output>(
     ensures leaves { OnOk result (ForBytes
         (WithPhase1 geometry.now.layout (I.device image.old) workspace.old)
         (λ bytes. IsLeftByPhase1b geometry.now.layout bytes workspace.new)) }
+
+    // Where a call before was cut short, what it left is reported, and no more.
+    ensures again { PhaseReports
+        (WithNotes geometry.now.layout (I.device image.old) workspace.old)
+        (rescan_messages (bits_of workspace.old.duplicates) geometry.now.layout)
+        (progress W.sink report.old) (progress W.sink report.new) result }
+    ensures offers { ForBytes
+        (WithNotes geometry.now.layout (I.device image.old) workspace.old)
+        (λ bytes. GoesOverOffers geometry.now.layout bytes workspace.old workspace.new result) }
     ensures reads { Phase1bReads geometry.now.layout (I.device image.old) workspace.old
         workspace.new (I.reads image.old) (I.reads image.new) }
     ensures stays { Phase1bKeeps workspace.old workspace.new }

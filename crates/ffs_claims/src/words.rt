@@ -1,5 +1,6 @@
 //! The words of an indirect block, and the direct addresses of an inode, that are claimed with nothing
-//! to report.
+//! to report. The single indirect block that a walk is in is a block of data addresses: that of the
+//! inode, or one under a double one.
 //!
 //! From `claim_words` up: it asks whether the block is held; `claim_held_words` takes
 //! the counts out of the workspace, and `claim_counted_words` asks for the byte order, both once;

@@ -5,7 +5,7 @@ use Rattle.ffs_image.specs.{Device.{Device, ForContents}, declared.image.ImageFa
 use Rattle.ffs_volume.specs.{declared.{Layout.Layout, Step.{Step, TheVariants.Tail}}, Blocks.Steps.block_bytes}
 use Rattle.ffs_volume.specs.Blocks.Steps.{tail_of, any_nonzero_from, steps_under}
 use Rattle.ffs_walk.specs.declared.{blocks.Blocks.Blocks, frame.{Frame.Frame, Item.Item}}
-use Rattle.ffs_walk.specs.{declared.frame.Item.TheVariants.{UnusedWord, Word}, Windows.CanFill}
+use Rattle.ffs_walk.specs.{declared.frame.Item.TheVariants.{UnusedWord, Word}, Windows.{CanFill, FailsAt}}
 
 -- the steps that a frame has left, where `child` has the steps at an address
 abbrev pub frame_rest : Layout → List ℕ → (ℕ → ℕ → List Step) → ℕ → Frame → List Step
@@ -55,9 +55,10 @@ pub record CanTake (v : Layout) (d : Device) (span level : ℕ) (f : Frame) (blo
   pub ready : CanFill v d level f.address blocks
 
 -- the next item of a frame is taken, in an image of these contents, and its block counts as read then; where
--- a read failed none is taken. In both cases the frame stays in its block
+-- a read of the block failed none is taken. In both cases the frame stays in its block
 pub record TakesItem (v : Layout) (contents : Option (List ℕ)) (span : ℕ) (old new : Frame)
     (result : Result Item ImageFault) : Type 0 where
   pub item : IfOk result (IsNextItem v contents span old new)
   pub read : OnOk result (new.unread ≡ false)
   pub same : IsSameBlock old new
+  pub sector : FailsAt (old.address * v.fsize) result

@@ -1,6 +1,6 @@
 -- What is left of a walk.
 use Rattle.std.specs.Prelude.{◌≡◌, ℕ, zero, suc, ◌+◌, ◌-◌, ◌*◌, ◌<◌, ◌≤◌, List, [], ◌∷◌, ◌++◌, if◌then◌else◌, Option}
-use Rattle.std.specs.Prelude.{None, IfSome, MatchOption, Result, Ok, IfOk, OnErr}
+use Rattle.std.specs.Prelude.{None, IfSome, MatchOption, Result, Ok, IfOk, OnErr, nat_lt}
 use Rattle.ffs_image.specs.{Device.ForContents, declared.image.ImageFault.ImageFault}
 use Rattle.ffs_volume.specs.declared.{Class.Class, Inode.Inode, Step.Step}
 use Rattle.ffs_volume.specs.Blocks.{Inodes.{class_of, logical_blocks_of}, Steps.FileBlocks}
@@ -9,7 +9,7 @@ use Rattle.ffs_layout.specs.declared.geometry.Geometry.{Geometry}
 use Rattle.ffs_walk.specs.{declared.{walk.Walk.Walk, frame.{Frame.Frame, Item.Item}}, Frames.{frame_rest, frame_left}}
 use Rattle.ffs_walk.specs.{Frames.{item_steps, item_left}, Fits.{FrameFits, IsBelow, IsSpent}, Lengths.IsStepOf}
 use Rattle.ffs_walk.specs.Counts.{AreHeld, EntersOnly, IsEntered, StepReads, entered, entered_by}
-use Rattle.ffs_walk.specs.{Windows.{BlocksAfter, ImageWith}, declared.blocks.Blocks.Blocks}
+use Rattle.ffs_walk.specs.{Windows.{BlocksAfter, FailsAt, ImageWith}, declared.blocks.Blocks.Blocks}
 
 -- the blocks of the file that a walk is over, as the definition of steps takes them
 abbrev pub file_blocks_of : Walk → FileBlocks
@@ -69,6 +69,15 @@ pub record IsNextStep (contents : Option (List ℕ)) (old new : Walk) (answer : 
   pub fits : IfSome answer (IsStepOf old.geometry.layout.frag old.logical_blocks)
   pub falls : IfSome answer (λ _. most_steps_left new < most_steps_left old)
   pub over : answer ≡ None → IsOver new
+
+-- the innermost indirect block that a walk is in, of those with a used word left
+abbrev pub innermost : Walk → Frame
+innermost w = if nat_lt w.single.next w.single.used
+    then w.single else (if nat_lt w.double.next w.double.used then w.double else w.triple)
+
+-- the byte of the image where the indirect block begins that a walk reads for its next step, if it reads one
+abbrev pub block_place : Walk → ℕ
+block_place w = (innermost w).address * w.geometry.layout.fsize
 
 -- the walks are over as many logical blocks of the same volume
 pub record SameFileBlocks (old new : Walk) : Type 0 where
@@ -151,6 +160,7 @@ pub record Advances (before after : ImageWith Blocks) (old new : Walk) (result :
   pub leaves : BlocksAfter old.geometry.layout before after result
   pub counted : AreHeld before.cache old → StepReads before after old new result
   pub any : after.reads ≤ before.reads + 1
+  pub sector : FailsAt (block_place old) result
 
 -- the step at the next of the inode's own addresses is taken, whatever the image holds; where there
 -- is none, the walk stays as it is
@@ -171,3 +181,4 @@ pub record TakesStep (before after : ImageWith Blocks) (old new : Walk) (result 
   pub leaves : BlocksAfter old.geometry.layout before after result
   pub counted : AreHeld before.cache old → StepReads before after old new result
   pub any : after.reads ≤ before.reads + 1
+  pub sector : FailsAt (block_place old) result

@@ -1,9 +1,10 @@
 -- What is kept of an image between reads.
-use Rattle.std.specs.Prelude.{◌≡◌, ◌*◌, ◌+◌, ◌<◌, ◌≤◌, ℕ, List, length, take, Option, Some, None, vec_len, get_or}
-use Rattle.std.specs.Prelude.{Result, OnOk, OnErr, IsTrue}
+use Rattle.std.specs.Prelude.{◌≡◌, ◌*◌, ◌+◌, ◌/◌, ◌<◌, ◌≤◌, ℕ, List, length, take, Option, Some, None, vec_len, get_or}
+use Rattle.std.specs.Prelude.{Result, OnOk, OnErr, IfErr, IsTrue}
 use Rattle.ffs_image.specs.{Device.{Device, ForContents}, Reads.ReadAfter, declared.image.ImageFault.ImageFault}
 use Rattle.ffs_image.specs.declared.image.Image as image
 use Rattle.ffs_volume.specs.{declared.Layout.Layout, Disk.{Areas.is_run_in_range, Numbers.piece}}
+use Rattle.ffs_volume.specs.declared.constants.TheConstants.{DEV_BSIZE}
 use Rattle.ffs_volume.specs.Blocks.Steps.{address_in, block_bytes}
 use Rattle.ffs_memory.specs.declared.fixed_list.FixedList.{FixedList}
 use Rattle.ffs_walk.specs.declared.{window.Window.Window, blocks.Blocks.Blocks}
@@ -87,6 +88,10 @@ pub record CanFill (v : Layout) (d : Device) (level address : ℕ) (blocks : Blo
   pub in_range : IsTrue (is_run_in_range v address v.frag)
   pub ready : CanWalk v d blocks
 
+-- a read that fails is one from this byte of the image on: its fault has the sector of that byte
+abbrev pub FailsAt : {T : Type 0} → ℕ → Result T ImageFault → Type 0
+FailsAt at result = IfErr result (λ fault. fault.sector ≡ at / DEV_BSIZE)
+
 -- the block at an address is held for a level, or a read of it failed; the other levels hold what
 -- they held. It is read at most once, and not where it was held already
 pub record FillsBlock {T : Type 0} (v : Layout) (level address : ℕ) (old new : ImageWith Blocks)
@@ -96,6 +101,7 @@ pub record FillsBlock {T : Type 0} (v : Layout) (level address : ℕ) (old new :
   pub others : (other : ℕ) → (other ≡ level → ⊥) → held_address other new.cache ≡ held_address other old.cache
   pub counted : new.reads ≤ old.reads + 1
   pub again : held_address level old.cache ≡ Some address → new.reads ≤ old.reads
+  pub sector : FailsAt (address * v.fsize) result
 
 -- `size` bytes of a place may be asked for: the image has them, and the window has room for them and
 -- holds what the image gives
@@ -116,6 +122,7 @@ pub record FillsWindow {T : Type 0} (at size : ℕ) (old new : ImageWith Window)
     pub read : ReadAfter old.image new.image result
     pub counted : new.reads ≤ old.reads + 1
     pub again : old.cache.place ≡ at → old.cache.length ≡ size → new.reads ≤ old.reads
+    pub sector : FailsAt at result
 
 -- a window over a list that holds nothing, and so what any image gives
 pub record IsEmptyWindow (list : FixedList ℕ) (w : Window) : Type 0 where

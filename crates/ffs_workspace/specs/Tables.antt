@@ -1,12 +1,12 @@
 -- What the window on the inode table holds.
 use Rattle.std.specs.Prelude.{◌≡◌, ◌*◌, ◌+◌, ◌-◌, ◌/◌, ◌%◌, ◌<◌, ◌≤◌, ℕ, Bool, ◌&&◌, nat_le, nat_lt, List, Option}
-use Rattle.std.specs.{Prelude.{Result, IfOk, OnOk, if◌then◌else◌, vec_len}, List.slice_range}
+use Rattle.std.specs.{Prelude.{Result, IfOk, IsOk, OnOk, if◌then◌else◌, vec_len}, List.slice_range}
 use Rattle.ffs_image.specs.{Device.{Device, ForContents}, Reads.ReadAfter, declared.image.ImageFault.ImageFault}
 use Rattle.ffs_memory.specs.declared.fixed_list.FixedList.{FixedList}
 use Rattle.ffs_volume.specs.declared.{constants.TheConstants.DINODE_SIZE, Inode.Inode, Layout.Layout}
 use Rattle.ffs_volume.specs.{Blocks.Inodes.inode_of, Disk.Areas.{cgstart, inode_place}, Laws.Geometry.IsAcceptedLayout}
 use Rattle.ffs_volume.specs.Disk.Numbers.{piece}
-use Rattle.ffs_walk.specs.Windows.{ImageWith, WindowHolds, held_bytes}
+use Rattle.ffs_walk.specs.Windows.{FailsAt, ImageWith, WindowHolds, held_bytes}
 use Rattle.ffs_workspace.specs.declared.table.Table.{Table}
 
 -- a block of the inode table is whole pieces of n inodes
@@ -98,6 +98,7 @@ pub record ReadsPiece {T : Type 0} (v : Layout) (n x : ℕ) (old new : ImageWith
   pub piece : OnOk result (HoldsPiece v n x new.cache)
   pub leaves : TableAfter v old.image new.image new.cache result
   pub counted : new.reads ≤ old.reads + 1
+  pub sector : FailsAt (table_place v n x) result
 
 -- the inode x is read: it is that of the image's bytes, where the image gives them, and the table holds
 -- what the image gives
@@ -118,6 +119,11 @@ unfoldable pub TakesPiece : {T : Type 0} → Layout → (n x : ℕ) → (old new
 TakesPiece v n x old new result = (HoldsInode old x → new ≡ old) ×
     ((HoldsInode old x → ⊥) → OnOk result (HoldsPiece v n x new))
 
+-- no read fails where the table held the inode x; else one that fails is of the piece of n inodes that has it.
+-- `unfoldable` as `TakesPiece` is
+unfoldable pub FailsInPiece : {T : Type 0} → Layout → (n x : ℕ) → (old : Table) → Result T ImageFault → Type 0
+FailsInPiece v n x old result = (HoldsInode old x → IsOk result) × FailsAt (table_place v n x) result
+
 -- the bytes of the inode x are in the window from the place on that is returned. They are read at most
 -- once, with their block, and not where the table held the inode
 pub record LoadsInode (v : Layout) (x : ℕ) (old new : ImageWith Table) (result : Result ℕ ImageFault) : Type 0 where
@@ -126,6 +132,7 @@ pub record LoadsInode (v : Layout) (x : ℕ) (old new : ImageWith Table) (result
   pub counted : new.reads ≤ old.reads + 1
   pub again : HoldsInode old.cache x → new.reads ≤ old.reads
   pub block : TakesPiece v v.inopb x old.cache new.cache result
+  pub fault : FailsInPiece v v.inopb x old.cache result
 
 -- the inode x is read, with its piece of n inodes: once at most, and not where the table held it
 pub record ReadsInodeOnce (v : Layout) (n x : ℕ) (old new : ImageWith Table)
@@ -134,6 +141,7 @@ pub record ReadsInodeOnce (v : Layout) (n x : ℕ) (old new : ImageWith Table)
   pub counted : new.reads ≤ old.reads + 1
   pub again : HoldsInode old.cache x → new.reads ≤ old.reads
   pub piece : TakesPiece v n x old.cache new.cache result
+  pub fault : FailsInPiece v n x old.cache result
 
 -- a table over a list that holds no inode, and so what any image of any layout gives
 pub record IsEmptyTable (list : FixedList ℕ) (t : Table) : Type 0 where

@@ -99,7 +99,7 @@ impl Table {
     /// Reads the block of the table that has an inode, unless the window holds the inode. Returns
     /// where its bytes are in the window.
     #[inline(always)]
-    #[tactic(auto, using(crate::proofs::TablePlaces::block_divides), unfolding(crate::specs::Tables::TakesPiece))]
+    #[tactic(auto, using(crate::proofs::TablePlaces::block_divides), unfolding(crate::specs::Tables::TakesPiece, crate::specs::Tables::FailsInPiece))]
     fn load<I: Image>(
         &mut self,
         geometry: &Geometry,
@@ -122,7 +122,7 @@ impl Table {
     /// # Errors
     /// A read of the image that failed.
     #[inline(always)]
-    #[tactic(auto, unfolding(crate::specs::Tables::TakesPiece))]
+    #[tactic(auto, unfolding(crate::specs::Tables::TakesPiece, crate::specs::Tables::FailsInPiece))]
     pub fn inode<I: Image>(
         &mut self,
         geometry: &Geometry,
@@ -170,7 +170,7 @@ impl Table {
     /// # Errors
     /// A read of the image that failed.
     #[inline(always)]
-    #[tactic(auto, unfolding(crate::specs::Tables::TakesPiece))]
+    #[tactic(auto, unfolding(crate::specs::Tables::TakesPiece, crate::specs::Tables::FailsInPiece))]
     pub fn inode_by_part<I: Image>(
         &mut self,
         geometry: &Geometry,

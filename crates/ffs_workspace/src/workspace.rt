@@ -246,11 +246,11 @@ impl Workspace {
 }
 
 impl Windows {
-    ghost use Rattle.ffs_workspace.specs.Ready.{HaveRoom};
+    ghost use Rattle.ffs_workspace.specs.Ready.{AreNewWindows};
 
     fn in_memory<M: Memory>(memory: &mut M, geometry: &Geometry) -> Result<Windows, AllocError>
         ensures made { MakesInMemory (M.account memory.old) (M.account memory.new)
-            (6 * geometry.now.layout.bsize) result (HaveRoom geometry.now.layout) }
+            (6 * geometry.now.layout.bsize) result (AreNewWindows geometry.now.layout) }
         ensures requests { M.requests memory.new ≤ M.requests memory.old + 4 }
     {
         let size = geometry.layout.bsize as usize;

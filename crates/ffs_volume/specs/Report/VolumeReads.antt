@@ -8,7 +8,7 @@ use Rattle.std.specs.Prelude.{Bool, length, ◌*◌}
 use Rattle.ffs_volume.specs.{Blocks.BlockCheck.has_rescan, Report.DirectoryReads.phase2_cost}
 use Rattle.ffs_volume.specs.Directories.{Connectivity.connectivity_lines, ReferenceCheck.reference_lines}
 use Rattle.ffs_volume.specs.Directories.{PathnameCheck.{continues_after_root, pathname_lines}, Volumes.volume_of}
-use Rattle.ffs_volume.specs.Report.Reads.{group_reads, line_reads, sweep_reads}
+use Rattle.ffs_volume.specs.Report.Reads.{group_reads, line_reads}
 
 -- 1 for an indirect block that is seen, else 0
 abbrev pub seen_indirect : Claims → Step → ℕ
@@ -36,9 +36,9 @@ indirect_count v image = indirect_in_owners v (no_claims v) (owners_of v image)
 abbrev pub volume_scan_reads : Layout → List ℕ → ℕ
 volume_scan_reads v image = table_blocks v + indirect_count v image
 
--- phase 1b sweeps over a volume only where phase 1 has a DUP line
+-- phase 1b reads no more than phase 1 does, and only where phase 1 has a DUP line
 abbrev pub rescan_reads : Layout → (bytes : List ℕ) → ℕ
-rescan_reads v bytes = if has_rescan v (owners_of v bytes) then sweep_reads v else 0
+rescan_reads v bytes = if has_rescan v (owners_of v bytes) then volume_scan_reads v bytes else 0
 
 -- phase 2 reads directories as `phase2_cost` says, and for each of its messages `line_reads` times
 abbrev pub volume_pathname_reads : Layout → (bytes : List ℕ) → ℕ

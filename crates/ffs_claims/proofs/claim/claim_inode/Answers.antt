@@ -1,4 +1,4 @@
-use Rattle.std.proofs.{Common.{arith, ap, ◌∙◌}}
+use Rattle.std.proofs.{Common.{arith, ap, ◌∙◌}, lemmas.Result.on_err_weaker}
 use Rattle.ffs_volume.specs.Blocks.{Claims.{at_next_inode}}
 use Rattle.ffs_volume.specs.{Blocks.{Owners.owner_of, Steps.steps_of}, Report.VolumeReads.indirect_in_steps}
 use Rattle.ffs_report.{proofs.Reporting.{reads_first, reports_same}}
@@ -44,3 +44,7 @@ returns-clause-table g c =
 
 pub returns-clause-stored : goal.returns-clause-stored
 returns-clause-stored g c = grind arith
+
+pub returns-clause-unstored : goal.returns-clause-unstored
+returns-clause-unstored g c =
+    on_err_weaker c.claim_read_inode.result (λ p. record { only = p.only }) c.claim_read_inode.ensures.unstored

@@ -9,9 +9,9 @@ use Rattle.ffs_report.{proofs.Reporting.said_knows, specs.Known.ForBytes}
 use Rattle.ffs_workspace.{proofs.Leaving.fresh_held, specs.{Found.WithFresh, Holds.claims_of}}
 use Rattle.ffs_workspace.specs.declared.workspace.Workspace.{Workspace}
 use Rattle.ffs_claims.proofs.Duplicates.{any_set, rescan_is}
-use Rattle.ffs_claims.proofs.Frames.{changes_then, fresh_surveyed, ready_begun}
+use Rattle.ffs_claims.proofs.Frames.{changes_then, found_none, fresh_surveyed, ready_begun}
 use Rattle.ffs_claims.proofs.Frames.{ready_still, ready_surveyed, zeros_passed}
-use Rattle.ffs_claims.proofs.{Inodes.used_below, Numbers.{found_begins, found_next, found_all, numbers_most}}
+use Rattle.ffs_claims.proofs.{Inodes.used_below, Numbers.{found_begins, found_cut, found_next, found_all, numbers_most}}
 use Rattle.ffs_claims.proofs.{Numbers.{before_first, before_end, lines_next}, TableReads.{blocks_all, blocks_failed}}
 use Rattle.ffs_claims.proofs.{TableReads.{blocks_later, blocks_next, blocks_none}, IndirectReads.{VolumeRead, read_all}}
 use Rattle.ffs_claims.proofs.{IndirectReads.{read_begins, read_failed, read_later, read_next}, FreeInodes.AreFree}
@@ -23,6 +23,13 @@ pub returns-in_err-say-clause-text : goal.returns-in_err-say-clause-text
 returns-in_err-say-clause-text g c =
     let p = err_from_is_err_and c.from_residual.result c.from_residual.ensures.1 in
     rw (p.1, p.2) (stops_heading c.in_err-say.ensures.said)
+
+pub returns-in_err-say-clause-cut : goal.returns-in_err-say-clause-cut
+returns-in_err-say-clause-cut g c =
+    let p = err_from_is_err_and c.from_residual.result c.from_residual.ensures.1 in
+    let fresh = fresh_held c.args.geometry.now.layout c.args.workspace.now _ c.forget_windows.ensures.only in
+    rw p.1 (λ bytes k. found_cut (found_none c.reserve.new.workspace)
+    (found_begins bytes (fresh_surveyed (fresh k.1)) c.reserve.ensures.only.found))
 
 pub reserve-requires : goal.reserve-requires
 reserve-requires g c =
@@ -72,6 +79,12 @@ returns-in_err-claim_inode-clause-text g c =
     inv.said (λ bytes t. lines_next v bytes s (after_owner v s (owner_of v bytes n)) n (omega arith) refl)
     (reports_knowing (Unit {0}) _ _ _ _ _ (Err c.in_err-claim_inode.field-0.0)
     (λ bytes k. ap (λ d. d.contents) inv.device ∙ k.0) c.in_err-claim_inode.ensures.claims.text))
+
+pub returns-in_err-claim_inode-clause-cut : goal.returns-in_err-claim_inode-clause-cut
+returns-in_err-claim_inode-clause-cut g c =
+    let from = c.from_residual-in_err-claim_inode in
+    let p = err_from_is_err_and from.result from.ensures.1 in
+    rw p.1 (λ bytes k. found_cut c.in_err-claim_inode.ensures.unstored (c.loop-number.invariant.found bytes k))
 
 pub loop-number-preserved : goal.loop-number-preserved
 loop-number-preserved g c =

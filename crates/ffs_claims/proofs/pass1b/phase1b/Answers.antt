@@ -1,9 +1,12 @@
-use Rattle.std.proofs.{Common.{◌≡◌, ◌∙◌, false, ap, arith}}
+use Rattle.std.proofs.{Common.{◌≡◌, ◌≤◌, ◌∙◌, ℕ, false, List, [], ap, arith, Result, Ok, Err}}
 use Rattle.ffs_image.specs.Device.{Device}
-use Rattle.ffs_volume.proofs.{RunBounds.runs_bounded}
-use Rattle.ffs_report.specs.Known.{ForBytes}
+use Rattle.ffs_volume.{proofs.RunBounds.runs_bounded, specs.Report.Whole.run_count}
+use Rattle.ffs_report.specs.{Known.ForBytes, PhaseOutcome.{ImageAfter, PhaseReports, SaidOf}, Progress.Progress}
+use Rattle.ffs_report.specs.declared.fault.RunFault.{RunFault, TheVariants.{Out, Read}}
+use Rattle.ffs_volume.specs.Messages.Kinds.{Message}
 use Rattle.ffs_workspace.{specs.Found.WithPhase1}
-use Rattle.ffs_claims.proofs.{pass1b.phase1b.Goals.After-is_spent}
+use Rattle.ffs_claims.specs.Phases.{WithNotes}
+use Rattle.ffs_claims.proofs.{Rescanned.text_noted, pass1b.phase1b.Goals.After-is_spent}
 use Rattle.ffs_claims.proofs.pass1b.phase1b.Given as given
 use Rattle.ffs_claims.proofs.pass1b.phase1b.Goals as goal
 
@@ -14,20 +17,54 @@ known : (g : given.Over) (c : After-is_spent g) →
     c.args.workspace.now bytes)
 known g c bytes k = (ap (λ (d : Device). d.contents) c.new-limited.ensures.device ∙ k.0, k.1)
 
+noted : (g : given.Over) (c : After-is_spent g) →
+    ForBytes (WithNotes c.args.geometry.now.layout (g.I.Image.device c.args.image.now) c.args.workspace.now)
+    (λ bytes. WithNotes c.args.geometry.now.layout (g.I.Image.device c.new-limited.result.begins.value)
+    c.args.workspace.now bytes)
+noted g c bytes k = (ap (λ (d : Device). d.contents) c.new-limited.ensures.device ∙ k.0, k.1)
+
 -- no more reads of known bytes are asked for than the limit
 fits : (g : given.Over) (c : After-is_spent g) →
-    ForBytes (WithPhase1 c.args.geometry.now.layout (g.I.Image.device c.args.image.now) c.args.workspace.now)
+    ForBytes (WithNotes c.args.geometry.now.layout (g.I.Image.device c.args.image.now) c.args.workspace.now)
     (λ bytes. c.is_spent.result ≡ false)
-fits g c bytes k = grind (arith, runs_bounded)
+fits g c bytes k =
+    let v = c.args.geometry.now.layout in
+    let reads = c.phase1b_unlimited-scanned.ensures.reads in
+    let few = runs_bounded v bytes c.args.geometry.now.sound in
+    let runs : c.phase1b_unlimited-scanned.new.workspace.runs_again ≤ run_count v bytes =
+    reads.runs bytes (noted g c bytes k) in
+    grind arith
+
+-- a call that ended as the limit refused a read has said whole messages
+said_of_spent : {T : Type 0} {d d' : Device} (knows knows' : List ℕ → Type 0) (all : List ℕ → List Message)
+    (a b : Progress) (r : Result T RunFault) → ImageAfter d d' r → (d' ≡ d → ⊥) →
+    ForBytes knows' (λ bytes. ⊥) → PhaseReports knows all a b r → SaidOf knows' (λ bytes. []) all a b
+said_of_spent knows knows' all a b (Ok x) same moved never p = absurd (moved same)
+said_of_spent knows knows' all a b (Err (Out fault)) same moved never p = absurd (moved same)
+said_of_spent knows knows' all a b (Err (Read fault)) same moved never p =
+    record { messages = p.prefix.messages; right = λ bytes k. absurd (never bytes k); said = p.prefix.said }
 
 pub returns-then-is_spent-clause-faults : goal.returns-then-is_spent-clause-faults
 returns-then-is_spent-clause-faults g c = grind arith
 
+pub returns-then-is_spent-clause-again : goal.returns-then-is_spent-clause-again
+returns-then-is_spent-clause-again g c =
+    let faults = c.phase1b_unlimited-scanned.ensures.faults in
+    said_of_spent _ _ _ _ _ c.phase1b_unlimited-scanned.result faults (λ e. grind arith) (λ bytes k. grind (arith, fits))
+    c.phase1b_unlimited-scanned.ensures.text
+
 pub returns-then-is_spent-clause-text : goal.returns-then-is_spent-clause-text
-returns-then-is_spent-clause-text g c = grind (arith, fits)
+returns-then-is_spent-clause-text g c =
+    let answer : Result (Unit {0}) RunFault = Ok tt in
+    text_noted c.args.geometry.now.layout (g.I.Image.device c.args.image.now) c.args.workspace.now _ _ answer
+    (returns-then-is_spent-clause-again g c)
 
 pub returns-then-is_spent-clause-leaves : goal.returns-then-is_spent-clause-leaves
-returns-then-is_spent-clause-leaves g c = grind (arith, fits)
+returns-then-is_spent-clause-leaves g c = λ bytes k.
+    let fit = fits g (goal.at.returns-then-is_spent-clause-leaves g c).After-is_spent bytes (k.0, k.1.notes) in grind arith
+
+pub returns-then-is_spent-clause-offers : goal.returns-then-is_spent-clause-offers
+returns-then-is_spent-clause-offers g c = grind (arith, fits)
 
 pub returns-then-is_spent-clause-reads : goal.returns-then-is_spent-clause-reads
 returns-then-is_spent-clause-reads g c = grind arith
@@ -38,11 +75,18 @@ returns-then-is_spent-clause-ready g c = grind arith
 pub returns-clause-faults : goal.returns-clause-faults
 returns-clause-faults g c = grind arith
 
+pub returns-clause-again : goal.returns-clause-again
+returns-clause-again g c = grind arith
+
 pub returns-clause-text : goal.returns-clause-text
-returns-clause-text g c = grind arith
+returns-clause-text g c = text_noted c.args.geometry.now.layout (g.I.Image.device c.args.image.now)
+    c.args.workspace.now _ _ c.phase1b_unlimited-scanned.result (returns-clause-again g c)
 
 pub returns-clause-leaves : goal.returns-clause-leaves
 returns-clause-leaves g c = grind arith
+
+pub returns-clause-offers : goal.returns-clause-offers
+returns-clause-offers g c = grind arith
 
 pub returns-clause-reads : goal.returns-clause-reads
 returns-clause-reads g c = grind arith

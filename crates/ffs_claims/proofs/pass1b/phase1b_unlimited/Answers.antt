@@ -1,6 +1,6 @@
 use Rattle.std.proofs.Common.{Result, ◌≡◌, ◌≤◌, ◌+◌, ◌-◌, ◌^◌, ◌<◌, ◌∷◌, [], arith, refl, ap, ◌∙◌, Err}
 use Rattle.std.proofs.lemmas.Result.{err_from_is_err_and}
-use Rattle.ffs_volume.{proofs.RunBounds.runs_bounded, specs.Blocks.BlockCheck.{first_offer_lines, phase1b_lines}}
+use Rattle.ffs_volume.{proofs.RunBounds.runs_bounded, specs.Blocks.BlockCheck.first_offer_lines}
 use Rattle.ffs_volume.specs.{Blocks.{KeptSteps.claims_before, Owners.owners_of}, Messages.Kinds.phase1b}
 use Rattle.ffs_report.proofs.Reporting.{of_begins, of_says, of_part, of_fault, of_stops, of_same, reports_knowing}
 use Rattle.ffs_report.{proofs.Reporting.said_knows, specs.{Known.ForBytes, declared.fault.RunFault.RunFault}}
@@ -13,7 +13,7 @@ use Rattle.ffs_claims.proofs.Duplicates.{none_first, none_left, some_left}
 use Rattle.ffs_claims.proofs.Frames.{claims_none, claims_then, ready_again}
 use Rattle.ffs_claims.proofs.{Numbers.{numbers_most, before_first}, Reportings.{reporting_more, reporting_ends}}
 use Rattle.ffs_claims.proofs.{Reportings.{reporting_begins, lines_split, reporting_over}, RescanCounts.look_most}
-use Rattle.ffs_claims.proofs.{RescanCounts.looked_none}
+use Rattle.ffs_claims.proofs.{RescanCounts.looked_none, Reportings.{part_none, part_then}}
 use Rattle.ffs_claims.proofs.Rescanned.{IsNoted, inodes_on, is_noted, offers_at, runs_at, kept_from}
 use Rattle.ffs_claims.proofs.Rescanned.{runs_from, looked_on, looked_end, kept_next, kept_end, runs_on, runs_most}
 use Rattle.ffs_claims.proofs.{Rescanned.claims_hold, Rewalks.{runs_pay_all, runs_pay_then}}
@@ -21,24 +21,29 @@ use Rattle.ffs_claims.proofs.IndirectReads.{read_all, read_begins, read_failed}
 use Rattle.ffs_claims.proofs.IndirectReads.{read_failed_until, read_next, read_until}
 use Rattle.ffs_claims.proofs.{Rescanned.indirect_noted}
 use Rattle.ffs_volume.proofs.{OwnerLaws.before_next, Sizes.some_inodes}
-use Rattle.ffs_claims.specs.{Lines.of_lines, RescanRuns.rescan_end}
+use Rattle.ffs_claims.specs.{Lines.of_lines, Phases.{WithNotes, rescan_messages}, RescanRuns.rescan_end}
 use Rattle.ffs_claims.proofs.pass1b.phase1b_unlimited.Goals as goal
 
 pub returns-in_err-say-clause-text : goal.returns-in_err-say-clause-text
 returns-in_err-say-clause-text g c =
     let p = err_from_is_err_and c.from_residual.result c.from_residual.ensures.1 in
-    let v = c.args.geometry.now.layout in
-    rw (p.1, p.2) (of_stops _ (λ bytes. phase1b ∷ of_lines (phase1b_lines v (owners_of v bytes)))
-    (λ bytes. of_lines (phase1b_lines v (owners_of v bytes))) _ (phase1b ∷ []) _ _ _
-    (of_begins _ (λ bytes. phase1b ∷ of_lines (phase1b_lines v (owners_of v bytes))) _) (λ bytes t. refl)
+    let all = rescan_messages (bits_of c.args.workspace.now.duplicates) c.args.geometry.now.layout in
+    rw (p.1, p.2) (of_stops _ all _ _ (phase1b ∷ []) _ _ _ (of_begins _ all _) (λ bytes t. refl)
     c.in_err-say.ensures.said)
+
+pub returns-in_err-say-clause-offers : goal.returns-in_err-say-clause-offers
+returns-in_err-say-clause-offers g c =
+    let p = err_from_is_err_and c.from_residual.result c.from_residual.ensures.1 in
+    let forgot = c.forget_windows.ensures.only in
+    rw p.1 (λ bytes k.
+    part_none _ _ (ap (λ (w : Workspace). w.duplicates) forgot) (ap (λ (w : Workspace). w.marked) forgot))
 
 pub returns-in_err-say-clause-ready : goal.returns-in_err-say-clause-ready
 returns-in_err-say-clause-ready g c =
     (ready_again refl (c.forget_windows.ensures.forgets c.args.geometry.now.layout _ c.requires.ready)).ready
 
 pub loop-number-init : goal.loop-number-init
-unfolding phase1b_lines owners_of all_claims rescan_runs rescan_end
+unfolding owners_of all_claims rescan_runs rescan_end
 loop-number-init g c =
     let v = c.args.geometry.now.layout in
     let old = c.args.workspace.now in
@@ -61,10 +66,10 @@ loop-number-init g c =
       inodes = λ bytes k. rw (before_first v bytes, same, k.1.duplicates) refl;
       reported = λ bytes k. reporting_begins old _ (rw (before_first v bytes) refl)
           (ap (λ (w : Workspace). w.duplicates) forgot) (ap (λ (w : Workspace). w.marked) forgot);
-      said = of_says _ (λ bytes. phase1b ∷ of_lines (phase1b_lines v (owners_of v bytes)))
+      said = of_says _ (rescan_messages (bits_of old.duplicates) v)
           (λ bytes. of_lines (first_offer_lines d (kept_from v bytes 2))) _ (phase1b ∷ []) _ _ _
-          (of_begins _ (λ bytes. phase1b ∷ of_lines (phase1b_lines v (owners_of v bytes))) _)
-          (λ bytes k. rw (before_first v bytes, same, k.1.duplicates) refl) c.in_ok-say.ensures.said;
+          (of_begins _ (rescan_messages (bits_of old.duplicates) v) _)
+          (λ bytes k. rw (before_first v bytes, same) refl) c.in_ok-say.ensures.said;
     }
 
 pub returns-in_err-rewalk_inode-clause-faults : goal.returns-in_err-rewalk_inode-clause-faults
@@ -89,6 +94,17 @@ returns-in_err-rewalk_inode-clause-text g c =
     (reports_knowing (Unit {0}) _ _ _ _ _ fault (λ bytes k. ap (λ d. d.contents) inv.device ∙ k.0)
     c.in_err-rewalk_inode.ensures.walks.text))
 
+pub returns-in_err-rewalk_inode-clause-offers : goal.returns-in_err-rewalk_inode-clause-offers
+returns-in_err-rewalk_inode-clause-offers g c =
+    let from = c.from_residual-in_err-rewalk_inode in
+    let p = err_from_is_err_and from.result from.ensures.1 in
+    let v = c.args.geometry.now.layout in
+    let inv = c.loop-number.invariant in
+    rw p.1 (λ bytes k. part_then _ (inv.reported bytes k)
+    (kept_next v bytes c.loop-number.workspace.notes.items c.loop-number.number
+    (is_noted c.args.geometry.now.sound inv.low (omega arith) inv.claims k.1))
+    (c.in_err-rewalk_inode.ensures.walks.part bytes (ap (λ d. d.contents) inv.device ∙ k.0)))
+
 pub returns-in_err-rewalk_inode-clause-reads : goal.returns-in_err-rewalk_inode-clause-reads
 returns-in_err-rewalk_inode-clause-reads g c =
     let v = c.args.geometry.now.layout in
@@ -112,13 +128,13 @@ returns-in_err-rewalk_inode-clause-reads g c =
           (λ held. indirect_noted _ _ noted (table.known held bytes (image ∙ k.0)))
           (indirect_noted _ _ noted (did.known bytes (image ∙ k.0))) (inv.known bytes k);
       last = λ bytes k.
-          let noted = is_noted c.args.geometry.now.sound inv.low last inv.claims k.1 in
+          let noted = is_noted c.args.geometry.now.sound inv.low last inv.claims k.1.notes in
           let d = bits_of c.loop-number.workspace.duplicates in
           let on = inodes_on v bytes notes n d (after_first d (offers_at v bytes notes n)) noted
           (some_left _ _ c.has_unreported_dups.ensures c.if-not-has_unreported_dups.false) refl in
           read_failed_until c.args.geometry.now.sound last (omega (arith, on, inv.inodes bytes k))
           (λ held. indirect_noted _ _ noted (table.known held bytes (image ∙ k.0)))
-          (indirect_noted _ _ noted (did.known bytes (image ∙ k.0))) (inv.known bytes k);
+          (indirect_noted _ _ noted (did.known bytes (image ∙ k.0))) (inv.known bytes (k.0, k.1.notes));
     }
 
 pub loop-number-preserved : goal.loop-number-preserved
@@ -133,12 +149,14 @@ loop-number-preserved g c =
     let image = ap (λ d. d.contents) inv.device in
     let rewalks = c.in_ok-rewalk_inode.ensures.walks in
     let table = c.in_ok-rewalk_inode.ensures.table in
-    let noted : ForBytes (WithPhase1 v (g.I.Image.device c.args.image.now) c.args.workspace.now)
+    let noted : ForBytes (WithNotes v (g.I.Image.device c.args.image.now) c.args.workspace.now)
     (λ bytes. IsNoted v bytes notes n) = λ bytes k. is_noted sound inv.low (omega arith) inv.claims k.1 in
+    let left : ForBytes (WithPhase1 v (g.I.Image.device c.args.image.now) c.args.workspace.now)
+    (λ bytes. IsNoted v bytes notes n) = λ bytes k. noted bytes (k.0, k.1.notes) in
     let on : ForBytes (WithPhase1 v (g.I.Image.device c.args.image.now) c.args.workspace.now) (λ bytes.
     runs_until_reported d (runs_from v bytes n)
     ≡ runs_until_reported d (runs_at v bytes notes n) + runs_until_reported d' (runs_from v bytes (n + 1))) = λ bytes k.
-    looked_on v bytes notes n d d' (noted bytes k) (rewalks.rewalked bytes (image ∙ k.0)).reported.duplicates in
+    looked_on v bytes notes n d d' (left bytes k) (rewalks.rewalked bytes (image ∙ k.0)).reported.duplicates in
     record {
       ready = rewalks.left.ready;
       device = rewalks.left.image ∙ inv.device;
@@ -161,7 +179,7 @@ loop-number-preserved g c =
       inodes = λ bytes k. omega (
         arith,
         inv.inodes bytes k,
-        inodes_on v bytes notes n d d' (noted bytes k)
+        inodes_on v bytes notes n d d' (left bytes k)
             (some_left _ _ c.has_unreported_dups.ensures c.if-not-has_unreported_dups.false)
             (rewalks.rewalked bytes (image ∙ k.0)).reported.duplicates,
       );
@@ -188,16 +206,17 @@ returns-then-not-has_unreported_dups g c =
       text = of_same _ _ (λ bytes. []) _ _ _ inv.said
           (λ bytes k. ap of_lines (none_first d (kept_from v bytes n) none));
       leaves = λ bytes k. record {
-        claims = claims_hold v bytes c.args.workspace.now _ k.1 inv.claims (reporting_over none (inv.reported bytes k));
-        reported = all_reported v bytes _ _ k.1 (reporting_over none (inv.reported bytes k));
+        claims = claims_hold v bytes c.args.workspace.now _ k.1 inv.claims (reporting_over none (inv.reported bytes (k.0, k.1.notes)));
+        reported = all_reported v bytes _ _ k.1 (reporting_over none (inv.reported bytes (k.0, k.1.notes)));
         unsurveyed = ap (λ (w : Workspace). w.surveyed) inv.claims.only ∙ k.1.unsurveyed;
         count = omega (arith, inv.count bytes k, looked_none d (runs_from v bytes n) none);
       };
+      offers = λ bytes k. reporting_over none (inv.reported bytes k);
       reads = record {
         runs = λ bytes k. omega (arith, inv.runs bytes k, runs_most v bytes n inv.low inv.high);
         reads = runs_pay_all _ _ _ inv.reads (numbers_most n (inodes_of v) inv.high);
         known = λ bytes k. read_all sound (omega (arith, inv.high, some_inodes v sound)) (inv.known bytes k);
-        last = λ bytes k. read_until sound (omega (arith, inv.inodes bytes k)) (inv.known bytes k);
+        last = λ bytes k. read_until sound (omega (arith, inv.inodes bytes k)) (inv.known bytes (k.0, k.1.notes));
       };
       stays = inv.claims;
       ready = inv.ready.ready;
@@ -217,17 +236,18 @@ returns-after-loop-number g c =
           (kept_end v bytes (claims_before v bytes n) n past));
       leaves = λ bytes k. record {
         claims = claims_hold v bytes c.args.workspace.now _ k.1 inv.claims
-            (reporting_ends (inv.reported bytes k) (kept_end v bytes (claims_before v bytes n) n past));
+            (reporting_ends (inv.reported bytes (k.0, k.1.notes)) (kept_end v bytes (claims_before v bytes n) n past));
         reported = all_reported v bytes _ _ k.1
-            (reporting_ends (inv.reported bytes k) (kept_end v bytes (claims_before v bytes n) n past));
+            (reporting_ends (inv.reported bytes (k.0, k.1.notes)) (kept_end v bytes (claims_before v bytes n) n past));
         unsurveyed = ap (λ (w : Workspace). w.surveyed) inv.claims.only ∙ k.1.unsurveyed;
         count = omega (arith, inv.count bytes k, looked_end v bytes d (claims_before v bytes n) n past);
       };
+      offers = λ bytes k. reporting_ends (inv.reported bytes k) (kept_end v bytes (claims_before v bytes n) n past);
       reads = record {
         runs = λ bytes k. omega (arith, inv.runs bytes k, runs_most v bytes n inv.low inv.high);
         reads = runs_pay_all _ _ _ inv.reads (numbers_most n (inodes_of v) inv.high);
         known = λ bytes k. read_all sound (omega (arith, inv.high, some_inodes v sound)) (inv.known bytes k);
-        last = λ bytes k. read_until sound (omega (arith, inv.inodes bytes k)) (inv.known bytes k);
+        last = λ bytes k. read_until sound (omega (arith, inv.inodes bytes k)) (inv.known bytes (k.0, k.1.notes));
       };
       stays = inv.claims;
       ready = inv.ready.ready;

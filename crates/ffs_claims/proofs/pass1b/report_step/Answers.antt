@@ -1,6 +1,6 @@
-use Rattle.std.proofs.{Common.{inl, inr, arith, refl, rules}, lemmas.Result.on_ok_weaker}
+use Rattle.std.proofs.{Common.{inl, inr, arith, refl, rules}, lemmas.Result.{on_ok_weaker, on_err_weaker}}
 use Rattle.ffs_report.{proofs.Reports.said_none, specs.Progress.progress}
-use Rattle.ffs_claims.proofs.{Frames.reports_none, Reportings.{reported_from, reported_none}, TableReads.on_any}
+use Rattle.ffs_claims.proofs.{Frames.reports_none, Reportings.{part_from, reported_from, reported_none}, TableReads.on_any}
 use Rattle.ffs_claims.proofs.pass1b.report_step.Goals as goal
 
 pub returns-in-Run : goal.returns-in-Run
@@ -14,6 +14,8 @@ returns-in-Run g c =
         said = rw (c.requires.going, ← count) did.reported.said;
         reported = on_ok_weaker c.report_run.result (λ p. rw (c.requires.going, ← count)
             (reported_from c.args.workspace.now _ c.report_run.new.workspace p refl refl)) did.reported.reported;
+        part = on_err_weaker c.report_run.result (λ p. rw (c.requires.going, ← count)
+            (part_from c.args.workspace.now _ c.report_run.new.workspace p refl refl)) did.reported.part;
         only = search rules;
       };
       replays = on_any c.report_run.result (record { next = replays.after; cut = c.take-taken.ensures.cut });

@@ -8,7 +8,8 @@ use Rattle.ffs_maps.specs.Bits.{bits_of}
 use Rattle.ffs_walk.{proofs.Counted.{top_held, top_unread}, specs.{Keepings.replay_in, Rests.steps_left}}
 use Rattle.ffs_claims.proofs.{Duplicates.{none_first, none_left, some_left}, Frames.{can_walk, claims_none, ready_read}}
 use Rattle.ffs_claims.proofs.{Frames.ready_walked}
-use Rattle.ffs_claims.proofs.{RescanCounts.{again_gaps, again_stopped, entered_gaps, entered_next}, Rewalks.offers_none}
+use Rattle.ffs_claims.proofs.{RescanCounts.{again_gaps, again_stopped, entered_gaps, entered_next}, Rewalks.{offers_next, offers_none}}
+use Rattle.ffs_claims.proofs.Reportings.{part_from, part_now, part_then}
 use Rattle.ffs_claims.proofs.Rewalks.{lines_step, runs_next, rewalk_begins, rewalk_on, rewalk_gaps, rewalk_ends}
 use Rattle.ffs_claims.proofs.Rewalks.{rewalk_over, rewalk_said, rewalked_to, runs_pay_on, runs_pay_ends, rereads_on}
 use Rattle.ffs_workspace.specs.declared.workspace.Windows.{Windows}
@@ -53,6 +54,7 @@ returns-in_err-next-clause-walks g c =
     rw (p.1, p.2) (record {
       text = of_reads _ _ _ _ _ inv.said;
       rewalked = tt;
+      part = λ bytes t. part_now (inv.walk bytes t).reported refl refl;
       runs = λ bytes t. omega (arith, (inv.walk bytes t).runs);
       left = grind arith;
       counted = grind arith;
@@ -81,6 +83,9 @@ returns-in_err-report_step-clause-walks g c =
           (steps_left bytes c.loop-next.walk) (steps_left bytes c.next.new.self) d _ (next bytes t) refl refl)
           (rw inv.cut at c.in_err-report_step.ensures.reported.said);
       rewalked = tt;
+      part = λ bytes t. part_then _ (inv.walk bytes t).reported (offers_next v n cut r r' c.in-Some.next
+          (steps_left bytes c.loop-next.walk) (steps_left bytes c.next.new.self) (next bytes t) refl)
+          (part_from _ _ _ (rw inv.cut at c.in_err-report_step.ensures.reported.part) refl refl);
       runs = λ bytes t.
           let rest = runs_next v cut r r' c.in-Some.next (steps_left bytes c.loop-next.walk)
           (steps_left bytes c.next.new.self) (next bytes t) refl in
@@ -197,6 +202,7 @@ returns-then-not-is_replay_open-clause-walks g c =
       text = rewalk_said c.args.number c.loop-next.walk c.next.new.self (λ bytes. []) inv.cut inv.said next reported did
           (λ bytes t. ap (first_offer_lines d') (none bytes).0) c.in_ok-report_step.ensures.reported.said;
       rewalked = λ bytes t. rewalk_ends (none bytes).0 (ap (runs_until_reported d') (none bytes).1) (walk bytes t);
+      part = tt;
       runs = λ bytes t. omega (arith, (walk bytes t).runs);
       left = rereads_on c.in_ok-next.ensures.leaves.read inv.geometry c.next.ensures.leaves.kept
           c.report_step.ensures.reported.only inv.left;
@@ -227,6 +233,7 @@ returns-then-not-has_unreported_dups-clause-walks g c =
       text = rewalk_said c.args.number c.loop-next.walk c.next.new.self (λ bytes. []) inv.cut inv.said next reported did
           (λ bytes t. none_first d' _ none) c.in_ok-report_step.ensures.reported.said;
       rewalked = λ bytes t. rewalk_over none (walk bytes t);
+      part = tt;
       runs = λ bytes t. omega (arith, (walk bytes t).runs);
       left = rereads_on c.in_ok-next.ensures.leaves.read inv.geometry c.next.ensures.leaves.kept
           c.report_step.ensures.reported.only inv.left;
@@ -255,6 +262,7 @@ returns-in_default-clause-walks g c =
       text = of_same _ _ _ _ _ _ inv.said (λ bytes t. ap (λ os. of_lines (first_offer_lines d os)) (none bytes t));
       rewalked = λ bytes t. rewalked_to (rewalk_ends (none bytes t) (rw (over bytes t) refl)
           (inv.walk bytes t));
+      part = tt;
       runs = λ bytes t. omega (arith, (inv.walk bytes t).runs);
       left = grind arith;
       counted = grind arith;

@@ -3,14 +3,14 @@ use Rattle.ffs_volume.specs.Blocks.Steps.{steps_of}
 use Rattle.ffs_volume.specs.Encodings.Replay.{fresh_replay}
 use Rattle.ffs_report.proofs.Reporting.{reads_first}
 use Rattle.ffs_workspace.specs.Tables.{TakesPiece}
-use Rattle.ffs_claims.{proofs.TableReads.on_any, specs.RescanRuns.{indirect_again, noted_cut}}
+use Rattle.ffs_claims.{proofs.{Reportings.part_none, TableReads.on_any}, specs.RescanRuns.{indirect_again, noted_cut}}
 use Rattle.ffs_claims.proofs.pass1b.rewalk_inode.Goals as goal
 
 pub rewalk-requires : goal.rewalk-requires
 rewalk-requires g c = grind arith
 
 pub returns-in_err-inode-clause-walks : goal.returns-in_err-inode-clause-walks
-returns-in_err-inode-clause-walks g c = grind (arith, reads_first)
+returns-in_err-inode-clause-walks g c = grind (arith, reads_first, part_none)
 
 pub returns-in_err-inode-clause-table : goal.returns-in_err-inode-clause-table
 unfolding TakesPiece

@@ -2,7 +2,7 @@ use Rattle.std.proofs.{Common.{◌+◌, ◌∷◌, [], arith, refl}, lemmas.Resu
 use Rattle.ffs_volume.specs.Blocks.{KeptOffers.{offer_of}}
 use Rattle.ffs_report.proofs.Reporting.{to_begins, to_says, to_stops, to_ends}
 use Rattle.ffs_claims.proofs.{Frames.{offers_reported_then}, Reportings.{run_next, run_over}}
-use Rattle.ffs_claims.proofs.Reportings.{reporting_begins, reporting_more, reporting_ends, lines_split}
+use Rattle.ffs_claims.proofs.Reportings.{reporting_begins, reporting_more, reporting_ends, lines_split, part_all, part_then}
 use Rattle.ffs_claims.proofs.report_offer.report_run.Goals as goal
 
 pub loop-index-init : goal.loop-index-init
@@ -11,11 +11,12 @@ loop-index-init g c = grind (arith, reporting_begins, to_begins)
 pub returns-in_err-report_offer-clause-reported : goal.returns-in_err-report_offer-clause-reported
 returns-in_err-report_offer-clause-reported g c =
     let f = c.from.result + c.from-in-loop-index.result in
+    let next = run_next c.args.number c.args.start c.args.len c.loop-index.index f c.loop-index-test.true (omega arith) in
     rw ((err_from_is_err_and c.from_residual.result c.from_residual.ensures.1).1) (record {
-      said = to_stops _ _ _ _ _ _ _ c.loop-index.invariant.said (lines_split _ _ _ (offer_of c.args.number f ∷ []) _
-          (run_next c.args.number c.args.start c.args.len c.loop-index.index f c.loop-index-test.true (omega arith))
-          refl) c.in_err-report_offer.ensures.said;
+      said = to_stops _ _ _ _ _ _ _ c.loop-index.invariant.said
+          (lines_split _ _ _ (offer_of c.args.number f ∷ []) _ next refl) c.in_err-report_offer.ensures.said;
       reported = tt;
+      part = part_then _ c.loop-index.invariant.reported next (part_all c.report_offer.ensures.reported.reported);
       only = (offers_reported_then c.loop-index.invariant.only c.report_offer.ensures.reported.only).reporting;
     })
 

@@ -32,4 +32,5 @@ returns g c =
       others = grind (arith, common_steps);
       counted = search rules;
       again = grind (arith, common_steps);
+      sector = tt;
     }

@@ -1,7 +1,8 @@
 use Rattle.ffs_walk.{proofs.WalkSteps.{gives_one, spent_rest}, specs.Rests.{most_at, file_blocks_of}}
 use Rattle.ffs_walk.proofs.{FrameSteps.can_take, GapSteps.{in_first, in_second, in_third}}
 use Rattle.ffs_walk.proofs.Counted.{double_reads, triple_reads}
-use Rattle.std.proofs.{Common.{arith, refl, rules, ◌∙◌}}
+use Rattle.std.proofs.{Common.{arith, refl, rules, ◌∙◌, ◌≡◌, false, nat_lt}}
+use Rattle.std.proofs.lemmas.{Bool.Decides.nat_tests, Result.err_from_is_err_and}
 use Rattle.ffs_volume.specs.Blocks.Steps.{steps_at}
 use Rattle.ffs_walk.proofs.walk.Walk.advance.Goals as goal
 
@@ -38,6 +39,7 @@ returns-then-is_left-2 g c =
       leaves = record { kept = c.in_ok-item-2.ensures.leaves.kept; read = c.in_ok-item-2.ensures.leaves.read };
       counted = λ h. double_reads _ _ _ _ _ _ _ h c.in_ok-item-2.ensures.block took.read refl refl first.counted;
       any = c.in_ok-item-2.ensures.block.any;
+      sector = tt;
     }
 
 pub returns-then-is_left-3 : goal.returns-then-is_left-3
@@ -59,6 +61,7 @@ returns-then-is_left-3 g c =
       leaves = record { kept = c.in_ok-item-3.ensures.leaves.kept; read = c.in_ok-item-3.ensures.leaves.read };
       counted = λ h. triple_reads _ _ _ _ _ _ _ h c.in_ok-item-3.ensures.block took.read refl refl first.counted;
       any = c.in_ok-item-3.ensures.block.any;
+      sector = tt;
     }
 
 pub returns : goal.returns
@@ -67,4 +70,18 @@ returns g c = record {
   leaves = search rules;
   counted = grind arith;
   any = omega arith;
+  sector = tt;
 }
+
+pub returns-in_err-item-3 : goal.returns-in_err-item-3
+returns-in_err-item-3 g c =
+    let p = err_from_is_err_and c.from_residual-in_err-item-3.result c.from_residual-in_err-item-3.ensures.1 in
+    let none : nat_lt c.args.self.now.single.next c.args.self.now.single.used ≡ false = grind (arith, nat_tests) in
+    let none-2 : nat_lt c.args.self.now.double.next c.args.self.now.double.used ≡ false = grind (arith, nat_tests) in
+    rw (p.1, p.2) (record {
+      gives = grind arith;
+      leaves = grind arith;
+      counted = grind arith;
+      any = grind arith;
+      sector = rw (none, none-2) c.in_err-item-3.ensures.item.sector;
+    })

@@ -1,11 +1,11 @@
-use Rattle.std.proofs.Common.{rules}
+use Rattle.std.proofs.Common.{refl, rules}
 use Rattle.ffs_volume.specs.declared.Inode.{Inode}
 use Rattle.ffs_walk.specs.Windows.{held_bytes}
-use Rattle.ffs_workspace.{proofs.TablePlaces.inode_there, specs.Tables.TakesPiece}
+use Rattle.ffs_workspace.{proofs.TablePlaces.inode_there, specs.Tables.{FailsInPiece, TakesPiece}}
 use Rattle.ffs_workspace.proofs.table.Table.inode.Goals as goal
 
 pub returns : goal.returns
-unfolding TakesPiece
+unfolding TakesPiece FailsInPiece
 returns g c = record {
   reads = record {
     inode = λ bytes t.
@@ -18,4 +18,5 @@ returns g c = record {
   counted = c.load.ensures.counted;
   again = c.load.ensures.again;
   piece = c.in_ok-at.ensures.block;
+  fault = (λ held. refl, tt);
 }

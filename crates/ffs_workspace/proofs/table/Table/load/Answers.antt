@@ -1,10 +1,10 @@
-use Rattle.std.proofs.{Common.{arith, rules}, lemmas.Grind.common_steps}
-use Rattle.ffs_workspace.{proofs.TablePlaces.held_there, specs.Tables.TakesPiece}
+use Rattle.std.proofs.{Common.{arith, refl, rules}, lemmas.Grind.common_steps}
+use Rattle.ffs_workspace.{proofs.TablePlaces.held_there, specs.Tables.{FailsInPiece, TakesPiece}}
 use Rattle.ffs_workspace.proofs.table.Table.load.Goals.{then-not-has+in_ok-read_piece, else-not-has}
 use Rattle.ffs_workspace.proofs.table.Table.load.Goals as goal
 
 pub returns : goal.returns
-unfolding TakesPiece
+unfolding TakesPiece FailsInPiece
 returns g c =
     let v = c.args.geometry.now.layout in
     let ready = c.requires.ready in
@@ -22,4 +22,5 @@ returns g c =
       counted = grind (arith, common_steps);
       again = grind (arith, common_steps);
       block = grind (arith, common_steps);
+      fault = (λ held. refl, tt);
     }

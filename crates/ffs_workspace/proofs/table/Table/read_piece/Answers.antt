@@ -24,4 +24,5 @@ returns g c = record {
     read = search rules;
   };
   counted = c.fill.ensures.fills.counted;
+  sector = tt;
 }

@@ -11,8 +11,14 @@ returns-clause-made g c =
         made = grind arith;
         fresh = search rules;
         has_dups = refl;
-        runs_seen = refl;
-        runs_again = refl;
+        unsurveyed = search rules;
+        uncounted = search rules;
+        windows = λ contents. record {
+          table = c.in_ok-windows.ensures.new.table_holds contents;
+          blocks = c.in_ok-windows.ensures.new.blocks_hold contents;
+          current = c.in_ok-windows.ensures.new.current_holds contents;
+          other = c.in_ok-windows.ensures.new.other_holds contents;
+        };
       };
       asks = grind (arith, granted_both, both);
     }
