@@ -1,5 +1,5 @@
 -- What a survey finds, which directories it flags, and what it leaves as it was.
-use Rattle.std.specs.Prelude.{◌≡◌, ◌+◌, ◌≤◌, ℕ, false, List, OnErr, OnOk, Result, slice_index}
+use Rattle.std.specs.Prelude.{◌≡◌, ◌+◌, ◌≤◌, ℕ, false, true, List, OnErr, OnOk, Result, slice_index}
 use Rattle.ffs_image.specs.{Device.Device, Reads.ReadAfter, declared.image.ImageFault.ImageFault}
 use Rattle.ffs_volume.specs.{declared.Layout.Layout, Directories.{Roles.roled_entries, Volumes.volume_of}}
 use Rattle.ffs_survey.specs.Calm.{AreCalm}
@@ -33,11 +33,12 @@ pub record FlagsOnlyCalm (v : Layout) (b : List ℕ) (w : Workspace) : Type 0 wh
   pub calm : AreCalm w.kinds.items w.marked.items w.reached.items w.parents.items (roled_entries (volume_of v b))
       (is_right_directory (volume_of v b)) w.flags.items
 
--- what a survey finds is held: also how often each inode is referred to, counted once. The claims are
--- held still, so that another survey finds the same; and only calm directories have a flag
+-- what a survey finds is held: also how often each inode is referred to, counted once. It counts as made, and
+-- the claims are held still, so that another survey finds the same; and only calm directories have a flag
 pub record IsSurveyed (v : Layout) (b : List ℕ) (w : Workspace) : Type 0 where
   pub survey : HoldsSurvey v b w
   pub references : HoldsReferences v b w
+  pub surveyed : w.surveyed ≡ true
   pub claims : HoldsClaims v b w
   pub calm : FlagsOnlyCalm v b w
 

@@ -61,6 +61,7 @@ fn note_entry(
     let index = entry.number as usize;
     let word = words[index];
     if noted_part(word).is_none() {
+        // The low 31 bits, which have the place, are 0.
         words.set(index, word + place);
     }
 }

@@ -21,6 +21,7 @@ returns-then-workspace-clause-survey g c = λ b k.
         places = filled_noted _ _ _ _ c.fill-then-workspace.ensures.items;
       };
       references = record { counts = found.0.counts };
+      surveyed = c.if-workspace.true;
       claims = record {
         used = h.used;
         kinds = h.kinds;
