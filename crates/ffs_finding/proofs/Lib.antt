@@ -18,5 +18,6 @@ pub mod Claiming
 pub mod Stretches
 pub mod LostGroups
 pub mod LostParts
+pub mod Leaving
 pub mod ClaimTargets
 pub mod Targets

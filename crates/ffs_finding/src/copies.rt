@@ -159,6 +159,8 @@ pub fn find_copies<I: Image, W: Output>(
         (moment I.Image W.Output image.old out.old) (moment I.Image W.Output image.new out.new)
         result }
     ensures reads { ReadsCopies (I.device image.old) (I.reads image.old) (I.reads image.new) }
+    ensures room { vec_len window.new.buffer ≡ window_bytes }
+    ensures holds { WindowHolds (I.device image.new).contents window.new }
 {
     for sector in 1..sectors_end(image.size()) {
         find_copy(image, window, sector, out)?;

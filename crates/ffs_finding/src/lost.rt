@@ -204,7 +204,9 @@ pub fn find_lost<I: Image, W: Output>(
     ensures prints { FindsAny (WithPhase1 geometry.now.layout (I.device image.old) workspace.old)
         (λ bytes. lost_lines geometry.now.layout bytes) (moment I.Image W.Output image.old out.old)
         (moment I.Image W.Output image.new out.new) result }
+    ensures leaves { workspace.new ≡ record workspace.old { windows = workspace.new.windows } }
     ensures reads { I.reads image.new ≤ I.reads image.old + 2 * geometry.now.layout.ncg }
+    ensures ready { IsReady geometry.now.layout (I.device image.new) workspace.new }
 {
     workspace.forget_windows();
     let Workspace { used, windows, .. } = workspace;

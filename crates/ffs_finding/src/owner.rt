@@ -10,6 +10,7 @@ ghost use Rattle.ffs_workspace.specs.{Found.WithPhase1, Ready.{CanRead, IsReady,
 ghost use Rattle.ffs_check.specs.Moment.{moment};
 ghost use Rattle.ffs_claims.specs.Rescan.{ReplaysStep};
 ghost use Rattle.ffs_finding.specs.{Outcome.Finds, Keepers.{CanFindKeeper, CanPrintMap, CanPrintStep, CanReadMap}};
+ghost use Rattle.ffs_finding.specs.LostMaps.{IsBlockWindow};
 ghost use Rattle.ffs_finding.specs.Keepers.{FindsKeeper, FindsAllKeepers, WalksKept, is_in_run, map_lines, run_text};
 ghost use Rattle.ffs_finding.specs.Keepers.{sought_in, step_text};
 
@@ -132,6 +133,7 @@ fn print_unclaimed<I: Image, W: Output>(
         (λ bytes. map_lines geometry.now.layout bytes fragment)
         (moment I.Image W.Output image.old out.old) (moment I.Image W.Output image.new out.new)
         result }
+    ensures window { IsBlockWindow geometry.now.layout (I.device image.new) window.new }
     ensures reads { I.reads image.new ≤ I.reads image.old + 1 }
 {
     let place = geometry.group_place(fragment / geometry.layout.fpg);
@@ -294,9 +296,11 @@ fn find_keepers_unlimited<I: Image, W: Output>(
     out: &mut W,
 ) -> Result<(), RunFault>
     requires { CanRead geometry.now.layout (I.device image.old) workspace.old }
-    ensures { FindsAllKeepers geometry.now.layout fragment workspace.old
+    ensures finds { FindsAllKeepers geometry.now.layout fragment workspace.old
         (moment I.Image W.Output image.old out.old) (moment I.Image W.Output image.new out.new)
         result }
+    ensures stays { KeepsWindows geometry.now.layout (I.device image.new) workspace.old
+        workspace.new }
 {
     for number in ROOTINO..geometry.layout.ncg * geometry.layout.ipg {
         if !is_allocated(workspace, number) {
@@ -321,6 +325,8 @@ fn find_keepers<I: Image, W: Output>(
         (λ bytes. keeper_lines geometry.now.layout bytes fragment)
         (moment I.Image W.Output image.old out.old) (moment I.Image W.Output image.new out.new)
         result }
+    ensures stays { KeepsWindows geometry.now.layout (I.device image.new) workspace.old
+        workspace.new }
     ensures reads { I.reads image.new ≤ I.reads image.old + sweep_reads geometry.now.layout }
 {
     let mut limited = LimitedImage::new(image, sweep_reads(geometry));
@@ -354,7 +360,9 @@ pub fn find_owner<I: Image, W: Output>(
         (λ bytes. lines_of_fragment geometry.now.layout bytes fragment)
         (moment I.Image W.Output image.old out.old) (moment I.Image W.Output image.new out.new)
         result }
+    ensures leaves { workspace.new ≡ record workspace.old { windows = workspace.new.windows } }
     ensures reads { I.reads image.new ≤ I.reads image.old + sweep_reads geometry.now.layout }
+    ensures ready { IsReady geometry.now.layout (I.device image.new) workspace.new }
 {
     if fragment >= geometry.layout.size {
         return Ok(());

@@ -1,7 +1,8 @@
 use Rattle.std.proofs.Common.{arith}
-use Rattle.std.proofs.{Common.ap, lemmas.Result.err_from_is_err_and}
+use Rattle.std.proofs.{Common.{◌∙◌, ap, Bool, Err}, lemmas.Result.err_from_is_err_and}
+use Rattle.ffs_image.specs.Device.{Device}
 use Rattle.ffs_workspace.specs.declared.workspace.Workspace.{Workspace}
-use Rattle.ffs_finding.proofs.LostParts.{fault_in_first, fault_in_second, printed_both}
+use Rattle.ffs_finding.proofs.{Leaving.{block_read, size_after}, LostParts.{fault_in_first, fault_in_second, printed_both}}
 use Rattle.ffs_finding.proofs.lost.find_lost.Goals as goal
 
 pub find_wrong-requires : goal.find_wrong-requires
@@ -40,3 +41,26 @@ returns-clause-prints g c =
     let all = printed_both c.args.geometry.now.layout d c.args.workspace.now _ _ _ c.in_ok-lost.lost c.in_ok-free.free
     one.found.text one.any two.found.text two.any in
     record { found = record { image = two.found.image; text = all.printed }; any = all.any_is }
+
+pub returns-in_err-lost-clause-ready : goal.returns-in_err-lost-clause-ready
+returns-in_err-lost-clause-ready g c =
+    let can = c.forget_windows.ensures.forgets c.args.geometry.now.layout _ c.requires.ready in
+    let did = c.in_err-lost.ensures in
+    block_read _ _ _ _ _ (size_after {T = Bool} _ _ (Err c.in_err-lost.field-0.0) did.prints.lines.found.image)
+    can.ready did.window
+
+pub returns-in_err-free-clause-ready : goal.returns-in_err-free-clause-ready
+returns-in_err-free-clause-ready g c =
+    let can = c.forget_windows.ensures.forgets c.args.geometry.now.layout _ c.requires.ready in
+    let first = c.in_ok-lost.ensures.prints.lines.found.image in
+    let did = c.in_err-free.ensures in
+    block_read _ _ _ _ _ (size_after {T = Bool} _ _ (Err c.in_err-free.field-0.0) did.prints.lines.found.image
+    ∙ ap (λ (d : Device). d.size) first)
+    can.ready did.window
+
+pub returns-clause-ready : goal.returns-clause-ready
+returns-clause-ready g c =
+    let can = c.forget_windows.ensures.forgets c.args.geometry.now.layout _ c.requires.ready in
+    let first = c.in_ok-lost.ensures.prints.lines.found.image in
+    let did = c.in_ok-free.ensures in
+    block_read _ _ _ _ _ (ap (λ (d : Device). d.size) (did.prints.lines.found.image ∙ first)) can.ready did.window

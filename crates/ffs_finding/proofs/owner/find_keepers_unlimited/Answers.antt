@@ -23,8 +23,8 @@ loop-number-init g c = record {
   };
 }
 
-pub returns-in_err-print_keeper : goal.returns-in_err-print_keeper
-returns-in_err-print_keeper g c =
+pub returns-in_err-print_keeper-clause-finds : goal.returns-in_err-print_keeper-clause-finds
+returns-in_err-print_keeper-clause-finds g c =
     let p = err_from_is_err_and c.from_residual.result c.from_residual.ensures.1 in
     let inv = c.loop-number.invariant in
     let v = c.args.geometry.now.layout in
@@ -113,5 +113,8 @@ loop-number-preserved g c =
           (λ b k. keepers_next v b f n high) (found_lines inv.device inv.stays sound inv.low high did);
     }
 
-pub returns : goal.returns
-returns g c = grind (arith, keepers_end, runs_most)
+pub returns-in_err-print_keeper-clause-stays : goal.returns-in_err-print_keeper-clause-stays
+returns-in_err-print_keeper-clause-stays g c = stays_then c.loop-number.invariant.stays c.print_keeper.ensures.stays
+
+pub returns-clause-finds : goal.returns-clause-finds
+returns-clause-finds g c = grind (arith, keepers_end, runs_most)

@@ -8,6 +8,7 @@ use Rattle.ffs_maps.specs.Bits.{bits_of}
 use Rattle.ffs_report.specs.Known.{ForBytes}
 use Rattle.ffs_workspace.{proofs.Leaving.phase1_held, specs.{Found.WithPhase1, declared.workspace.Workspace.Workspace}}
 use Rattle.ffs_finding.{specs.Keepers.map_lines, proofs.{Claimed.{claimed_is, has_line}, Keepers.same_lines}}
+use Rattle.ffs_finding.proofs.Leaving.{block_read, size_after}
 use Rattle.ffs_finding.proofs.Printing.{knowing, one, one_broken, prints_all, prints_none, stops_all}
 use Rattle.ffs_finding.proofs.owner.find_owner.Goals as goal
 
@@ -104,3 +105,9 @@ returns-clause-prints g c =
           (sym (some b k) ∙ c.if-get.false)))
           (knowing _ _ (WithPhase1 v d c.args.workspace.now) _ _ _ _ (λ b k. k.0) did.text);
     }
+
+pub returns-clause-ready : goal.returns-clause-ready
+returns-clause-ready g c =
+    let can = c.forget_windows.ensures.forgets c.args.geometry.now.layout _ c.requires.ready in
+    let did = c.print_unclaimed.ensures in
+    block_read _ _ _ _ _ (size_after {T = Unit {0}} _ _ c.print_unclaimed.result did.prints.image) can.ready did.window
