@@ -25,7 +25,8 @@ use Rattle.ffs_workspace.{specs.Tables.KeepsTable, proofs.PartLaws.{begins_part,
 use Rattle.ffs_workspace.specs.declared.{table.Table.Table, workspace.Workspace.Workspace}
 use Rattle.ffs_names.{proofs.InParts.named_in_part, specs.{Fits.CursorFits, RunCursors.{last_place, StepsOn}}}
 use Rattle.ffs_names.specs.{declared.run_cursor.RunCursor.RunCursor, Noting.{belongs_to, is_found, BeginsNotes, IsParent}}
-use Rattle.ffs_names.specs.{Noting.{KeepsToRead, NotesChildren, NotesChunk, NotesEach, NotesRight}, Windows.CanReadChunks}
+use Rattle.ffs_names.specs.{Noting.{KeepsToRead, NotesChildren, NotesChunk, NotesEach, NotesRight}}
+use Rattle.ffs_names.specs.Windows.{CanReadChunks}
 
 -- ---- entries of a chunk
 -- where no entry is left
@@ -393,8 +394,8 @@ coming_first {v = v} {b = b} {w = w} {words = words} long begins survey x p unde
 -- after the directory d, which was to be read, is noted
 pub coming_noted : {v : Layout} {b : List ℕ} {w : Workspace} {mid new : List ℕ} {d : ℕ} (old : List ℕ) → HoldsSurvey v b
     w → ((x : ℕ) → place_in (slice_index mid x) ≡ place_in (slice_index old x)) → ((x : ℕ) → x ≢ d
-    → is_to_be_read (slice_index mid x) ≡ is_to_be_read (slice_index old x)) → (is_dir (volume_of v b) d ≡ true → NotesEach v b
-    (belongs_to w.parents.items d) (roled_entries (volume_of v b) d) mid new) → NotesChildren w.parents.items mid new d →
+    → is_to_be_read (slice_index mid x) ≡ is_to_be_read (slice_index old x)) → (is_dir (volume_of v b) d ≡ true
+    → NotesEach v b (belongs_to w.parents.items d) (roled_entries (volume_of v b) d) mid new) → NotesChildren w.parents.items mid new d →
     AreComing v b old → AreComing v b new
 coming_noted {v = v} {b = b} {w = w} {mid = mid} {new = new} {d = d} old survey same others noted children coming
     x p under = go (cases_eq p d)

@@ -8,7 +8,8 @@ use Rattle.ffs_volume.specs.{Directories.{Entries.{has_gap, is_sound}, PathnameC
 use Rattle.ffs_volume.specs.Encodings.{Replay.{fresh_replay, replayed_steps}, ReplayCounts.replayed_runs}
 use Rattle.ffs_volume.specs.Directories.Calm.{is_right_size}
 use Rattle.ffs_walk.specs.declared.{blocks.Blocks.Blocks, window.Window.Window}
-use Rattle.ffs_names.specs.{Costs.{HoldsReading, to_read}, Readings.{chunks_in, gap_left, rest, runs_left}, Shapes.{BeginsDirectory, HasEnded, fills, has_right_shape}}
+use Rattle.ffs_names.specs.{Costs.{HoldsReading, to_read}, Readings.{chunks_in, gap_left, rest, runs_left}}
+use Rattle.ffs_names.specs.Shapes.{BeginsDirectory, HasEnded, fills, has_right_shape}
 use Rattle.ffs_names.{specs.declared.{chunks.Chunks.Chunks, entries.Entries.Entries}, proofs.Entered.end_of_chunk}
 use Rattle.ffs_names.proofs.{Entered.{end_seen, none_from}, EntryCounts.at_most}
 

@@ -126,8 +126,9 @@ abbrev pub most_left : Chunks → ℕ
 most_left c = most_steps_left c.walk + c.budget
 
 -- what a call leaves that gives the next entry, if there is one: that is in a chunk of the image, and fewer
--- may come after it. Each Run that was looked at is counted. Whatever the image and its windows hold, at most one read is for each step of the walk
--- and for each chunk that the call takes, and one more where it gives no entry
+-- may come after it. Each Run that was looked at is counted. Whatever the image and its windows hold, at most
+-- one read is for each step of the walk and for each chunk that the call takes, and one more where it gives
+-- no entry
 pub record LeavesEntries (old new : DirReading Entries) (result : Result (Option EntryHead) ImageFault) : Type 0 where
   pub geometry : new.reading.chunks.walk.geometry ≡ old.reading.chunks.walk.geometry
   pub ready : CanReadChunks old.reading.chunks.walk.geometry.layout new.image new.blocks new.window

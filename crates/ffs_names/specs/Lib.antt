@@ -8,8 +8,8 @@
 --   gap_of                      LooksForGap (`Leaves`)
 --   survey                      IsSurveyed and SurveyLeaves (`Surveys`), FlagsEachCalm (`CalmDirs`), SweepsOnce
 --                               (`Costs`)
---   note_places                 HoldsPlaces and NotingLeaves (`Noting`), SweepsOnce (`Costs`); after a fault HoldsSurvey
---                               of ffs_workspace
+--   note_places                 HoldsPlaces and NotingLeaves (`Noting`), SweepsOnce (`Costs`); after a fault
+--                               HoldsSurvey of ffs_workspace
 --
 -- The chunks of a directory: `Windows` says when they can be read, `Fits` where a Run lies. `RunCursors` has the chunks
 -- of the current Run that are still to come, and `Readings` those of the directory. `OneChunk` is about a directory of

@@ -9,7 +9,8 @@ use Rattle.ffs_volume.specs.{Encodings.ReplayCounts.replayed_runs, Directories.C
 use Rattle.ffs_layout.specs.declared.geometry.Geometry.{Geometry}
 use Rattle.ffs_walk.specs.declared.{blocks.Blocks.Blocks, window.Window.Window}
 use Rattle.ffs_survey.specs.{declared.entry_head.EntryHead.EntryHead, Reading.roled_of}
-use Rattle.ffs_names.specs.{Readings.{IsEnded, rest, gap_left, chunks_in, runs_left}, Entering.{to_come, last_name, left}}
+use Rattle.ffs_names.specs.{Readings.{IsEnded, rest, gap_left, chunks_in, runs_left}}
+use Rattle.ffs_names.specs.Entering.{to_come, last_name, left}
 use Rattle.ffs_names.specs.{Costs.{reads_for_entries, HoldsEntries}, declared.entries.Entries.Entries}
 
 -- the entries of the current chunk fill it

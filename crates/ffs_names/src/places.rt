@@ -11,7 +11,8 @@ ghost use Rattle.ffs_workspace.specs.{Found.{WithClaims, WithSurvey}, Holds.Hold
 ghost use Rattle.ffs_workspace.specs.Tables.{CanReadInode, TableAfter};
 ghost use Rattle.ffs_names.specs.Noting.{chunk_noting, belongs_to, BeginsNotes, CanNote, CanNoteChunks};
 ghost use Rattle.ffs_names.specs.Noting.{CanNoteDirectory, HoldsPlaces, NotingDirectoryLeaves, NotingChunksLeaves};
-ghost use Rattle.ffs_names.specs.Noting.{NotingLeaves, NotesDirectory, NotesEach, NotesInWords, NotesRight, parents_costs};
+ghost use Rattle.ffs_names.specs.Noting.{NotingLeaves, NotesDirectory, NotesEach, NotesInWords, NotesRight};
+ghost use Rattle.ffs_names.specs.Noting.{parents_costs};
 ghost use Rattle.ffs_names.specs.{Costs.{BeginsChunks, BeginsReads, SweepsOnce}, Sweeps.dir_moment, Readings.rest};
 
 use crate::chunk_entries::ChunkEntries;

@@ -1,5 +1,6 @@
 use Rattle.std.proofs.{Common.{sym, ap, ◌∙◌, arith, rules}, lemmas.Result.err_from_is_err_and}
-use Rattle.ffs_names.proofs.{Advances.gap_ended, ReadCounts.run_passed, Continuing.{counts_more, same_more}, RunChunks.none_taken}
+use Rattle.ffs_names.proofs.{Advances.gap_ended, Continuing.{counts_more, same_more}, ReadCounts.run_passed}
+use Rattle.ffs_names.proofs.RunChunks.{none_taken}
 use Rattle.ffs_names.proofs.gap.find_gap.Goals as goal
 
 -- a Run with chunks is passed over

@@ -1,7 +1,8 @@
 use Rattle.std.proofs.Common.{◌≡◌, ◌≤◌, ◌+◌, ◌||◌}
 use Rattle.ffs_image.specs.Device.{ForContents}
 use Rattle.ffs_walk.specs.{Rests.most_steps_left, declared.window.Window.Window}
-use Rattle.ffs_names.specs.{Costs.{HoldsReading, to_read}, Readings.{CountsEach, IsSame, ahead, gap_left}, Windows.CanWalkDir}
+use Rattle.ffs_names.specs.{Costs.{HoldsReading, to_read}, Readings.{CountsEach, IsSame, ahead, gap_left}}
+use Rattle.ffs_names.specs.Windows.{CanWalkDir}
 use Rattle.ffs_names.proofs.gap.find_gap.Given as goal
 
 abbrev pub invariant-runs : goal.invariant-runs
