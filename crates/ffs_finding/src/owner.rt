@@ -343,8 +343,9 @@ fn find_keepers<I: Image, W: Output>(
 /// its cylinder group (fs(5)) has it as free, or it is lost. Nothing is printed for a fragment that
 /// the volume doesn't have.
 ///
-/// The contract gives the lines only for a workspace that holds what phase 1 found. No more reads are
-/// made than those of a sweep over all inodes.
+/// The contract gives the lines only for a workspace that holds what phase 1 found. It is left ready,
+/// and all of it but its windows as it was: more can be found in it. No more reads are made than those
+/// of a sweep over all inodes.
 ///
 /// # Errors
 /// A read of the image that failed, and a write that failed.
