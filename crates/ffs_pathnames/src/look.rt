@@ -61,7 +61,9 @@ fn examine_unlimited<I: Image>(
 }
 
 /// What is said of a directory of which no more may be read: that it is too short, is corrupted,
-/// and has neither `.` nor `..`. Nothing is said of its entries.
+/// and has neither `.` nor `..`. Nothing is said of its entries. Only an image that gives other
+/// bytes each time has one. A line is said, since silence would pass the directory as right: each
+/// line of phase 2 is a defect, so the check doesn't end as consistent.
 fn unexamined() -> Examination
     ensures { result.look ≡ record {
       quiet = true;
