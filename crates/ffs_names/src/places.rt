@@ -24,8 +24,8 @@ use ffs_memory::FilledList;
 use ffs_volume::constants::{DIRBLKSIZ, ROOTINO};
 use ffs_volume::{Class, Order, Role};
 use ffs_workspace::{
-    Table, Windows, Workspace, address_in, is_due, noted_part, place_of, sweep_reads, with_due,
-    without_due,
+    Table, Windows, Workspace, address_in, cut_in, is_due, noted_part, place_of, sweep_reads,
+    with_due, without_due,
 };
 
 /// Whether a directory is the parent of an inode other than the root, which has no parent entry.
@@ -151,8 +151,7 @@ fn chunks_of<I: Image>(
         return Ok(Chunks::of_class(geometry, &inode, Class::Dir, 0));
     }
     let inode = table.inode_by_part(geometry, dir, image)?;
-    // A note that is no address is a cut.
-    Ok(Chunks::of_class(geometry, &inode, Class::Dir, note))
+    Ok(Chunks::of_class(geometry, &inode, Class::Dir, cut_in(note)))
 }
 
 /// Notes the places of the parent entries that are in a directory.
