@@ -6,8 +6,8 @@ use Rattle.ffs_memory.specs.declared.system.SystemMemory.{SystemMemory}
 use Rattle.ffs_volume.specs.{declared.End.{End, TheVariants.NoMemory}, Report.Reads.{opening_reads, reads_limit}}
 use Rattle.ffs_check.specs.{Moment.Moment, Reads.ReadsByMessages, Taken.TakesWorkspace}
 
--- a volume is accepted: its workspace is taken, and the image is read within the limit of the same volume for
--- what was printed
+-- a volume is accepted: its workspace is taken, and the image is read within `reads_limit` of the same volume for
+-- the messages that went out (`ReadsByMessages` says of which images and outputs that says something)
 pub record CostsOfVolume (asked_sector : Option ℕ) (old new : Moment) (before after : Account) : Type 0 where
   pub memory : TakesWorkspace old.image asked_sector before after
   pub reads : ReadsByMessages (reads_limit memory.found.layout) old new

@@ -5,8 +5,9 @@ use Rattle.ffs_volume.specs.{declared.End.{End, TheVariants.WriteFault}, Message
 use Rattle.ffs_report.specs.Sink.{Sink, Took, BrokeOff}
 use Rattle.ffs_check.specs.Moment.{Moment}
 
--- no read failed: all of the text went out, and the end is the text's, or the output failed within it
-pub record NoReadFailed (old new : Moment) (text : List Message) (IsEnd : End → Type 0) (end : End) : Type 0 where
+-- nothing cut the text: all of it went out, and the end is the text's, or the output failed within it; and no read
+-- failed
+pub record NotCut (old new : Moment) (text : List Message) (IsEnd : End → Type 0) (end : End) : Type 0 where
   pub image : new.image ≡ old.image
   pub ends : (Took old.out new.out (texts_of text) × IsEnd end)
       ⊎ (BrokeOff old.out new.out (texts_of text) × (end ≡ WriteFault))
@@ -43,4 +44,4 @@ pub record CutShort (old new : Sink) (IsCut : Cut → Type 0) (end : End) : Type
 
 -- a check ended in one of these ways
 abbrev pub Ends : Moment → Moment → List Message → (End → Type 0) → (Cut → Type 0) → End → Type 0
-Ends old new text IsEnd IsCut end = NoReadFailed old new text IsEnd end ⊎ CutShort old.out new.out IsCut end
+Ends old new text IsEnd IsCut end = NotCut old new text IsEnd end ⊎ CutShort old.out new.out IsCut end

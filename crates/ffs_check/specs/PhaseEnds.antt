@@ -47,8 +47,8 @@ ReportsOrStopsEarly knows all old new (Ok root) = SaidWhole (not (is_go root)) k
 ReportsOrStopsEarly knows all old new (Err (Read fault)) = SaidNotAll knows all old new
 ReportsOrStopsEarly knows all old new (Err (Out fault)) = StoppedOf knows all old new
 
--- the phases have run over a workspace that holds nothing yet: what they leave of the image, what
--- they reported, and whether the check continues after the root
+-- the phases have run: what they leave of the image; and, where the workspace held nothing before, what they reported,
+-- and whether the check continues after the root
 pub record HaveRun (s : Superblock) (w : Workspace) (old new : ReportMoment) (result : Result Root RunFault) : Type 0
   where
     pub image : ImageAfter old.image new.image result

@@ -27,8 +27,8 @@ pub record HasAnswers (v : Layout) (bytes : List ℕ) (old new : Workspace) : Ty
 abbrev pub AnswersDups : Layout → List ℕ → (old new : Workspace) → Type 0
 AnswersDups v bytes old new = (new.has_dups ≡ old.has_dups) ⊎ (new.has_dups ≡ has_rescan v (owners_of v bytes))
 
--- what a workspace holds and answers after phase 1b, where it ran: what `has_dups` answers and the count of phase 1's
--- Runs stay, nothing is surveyed yet, and it is ready for the next phase
+-- what a workspace holds and answers after `rescan`, which is phase 1b, if phase 1 has a DUP line, else nothing: what
+-- `has_dups` answers and the count of phase 1's Runs stay, nothing is surveyed yet, and it is ready for the next phase
 pub record RescanLeaves (v : Layout) (d d' : Device) (w w' : Workspace) (result : Result (Unit {0}) RunFault) : Type 0
   where
     pub holds : OnOk result (ForBytes (WithLeftByPhase1 v d w) (λ bytes. HoldsClaims v bytes w'))

@@ -25,7 +25,8 @@ pub record ReadsWithin (name : List ℕ) (asked_sector : Option ℕ) (old new : 
       → new.reads ≤ old.reads + (opening_reads + volume_phase_reads s.layout bytes))
 
 -- messages went out, or the output failed within the last of them, and there were no more reads than the
--- limit for so many messages
+-- limit for so many messages. It says nothing of an image that counts no reads, as a file (its `reads` is 0), nor
+-- with an output that doesn't give its bytes, as standard output: there the messages are any
 pub record ReadsByMessages (limit : ℕ → ℕ) (old new : Moment) : Type 0 where
   pub messages : List Message
   pub went_out : Took old.out new.out (texts_of messages) ⊎ BrokeOffInLast old.out new.out messages

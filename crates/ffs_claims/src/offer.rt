@@ -34,6 +34,7 @@ fn fragment_in_range(geometry: &Geometry, fragment: u64, in_range: bool) -> bool
         → is_fragment_in_range geometry.now.layout fragment ≡ true }
     ensures { result ≡ is_fragment_in_range geometry.now.layout fragment }
 {
+    // `ok` asks for the size too: it is asked for here so that the fragment has room in 32 bits.
     in_range || (fragment < u64::from(geometry.layout.size) && geometry.ok(fragment as u32))
 }
 

@@ -50,7 +50,8 @@ fn is_marked(workspace: &Workspace, class: Class) -> bool
 }
 
 /// How many offers the current inode keeps, at most 2^32 - 1, if its eleventh dup offer cut it;
-/// else 0.
+/// else 0. No inode keeps so many (see `FIRST_NOTED` of `ffs_workspace`): with the bound here, that
+/// need not be known for each workspace.
 #[inline(always)]
 fn stored_cut(workspace: &Workspace) -> u32
     ensures { result ≡ min (cut_of (claims_of workspace.now)) 4294967295 }

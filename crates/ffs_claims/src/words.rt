@@ -8,6 +8,9 @@
 //! the next one names the fragments after its Run, all such words together by `claim_series`, which
 //! `pass_series` counts. Where a word isn't claimed, nothing has changed, and the caller takes it as a
 //! step. Below it `claim_direct` does the same for direct addresses, one by one.
+//!
+//! The single indirect block that a walk is in is the lowest one, with addresses of data: the one of
+//! the inode's thirteenth address, or any that is under a double one (`Walk::single`).
 
 ghost use Rattle.std.specs.Prelude.{◌≡◌, ◌≢◌, ◌^◌, ◌<◌, false, IsTrue};
 ghost use Rattle.ffs_volume.specs.declared.Layout.{Layout};

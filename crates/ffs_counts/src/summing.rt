@@ -110,7 +110,8 @@ pub fn summary<W: Output>(
     report: &mut Report<'_, W>,
 ) -> Result<(), RunFault>
     requires { IsFor superblock.now.geometry.layout workspace.now }
-    // No image is read: this holds of any image, left as it was. No read's fault is returned.
+    // No image is read: this holds of any image, left as it was, so no read's fault is returned. It
+    // is said as each phase says it, so that a caller takes the summary as one more of them.
     ensures faults { (device : Device) → ImageAfter device device result }
     ensures text { SaysSummary (superblock_in superblock.now) workspace.now
         (progress W.sink report.old) (progress W.sink report.new) result }

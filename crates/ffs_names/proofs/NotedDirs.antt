@@ -8,7 +8,7 @@ use Rattle.ffs_volume.specs.{Directories.Volumes.volume_of, Encodings.Replay.{fr
 use Rattle.ffs_volume.specs.{Encodings.{ReplayCounts.replayed_runs, Notes.cut_in}, Laws.Geometry.IsAcceptedLayout}
 use Rattle.ffs_volume.specs.{Encodings.Notes.{first_noted, note_at}, Report.DirectoryReads.directory_runs}
 use Rattle.ffs_volume.specs.Directories.Calm.{is_right_shape, is_right_size}
-use Rattle.ffs_workspace.proofs.NoteLaws.{below_is_cut, cut_is_noted, address_is_noted, address_is_whole, IsOneChunkAt}
+use Rattle.ffs_workspace.proofs.NoteLaws.{cut_is_noted, address_is_noted, address_is_whole, IsOneChunkAt}
 use Rattle.ffs_workspace.specs.{Tables.KeepsTable, declared.{table.Table.Table, workspace.Windows.Windows}}
 use Rattle.ffs_names.specs.{OneChunk.one_chunk_at, Readers.IsReaderReady, Readings.chunks_in}
 use Rattle.ffs_names.proofs.{DirCosts.runs_are, DirLaws.{dir_is, dir_size, dir_seen, shape_seen}, OneChunks.entries_by}
@@ -40,17 +40,17 @@ read_by_chunk v b d a g dir noted =
           ∙ runs_are v b d i 0 refl whole;
     }
 
-pub read_by_cut : (v : Layout) (b : List ℕ) (d : ℕ) {i : Inode} {note : ℕ} → IsAcceptedLayout v → is_dir (volume_of v b)
-    d ≡ true → i ≡ inode_of v b d → note ≡ note_at v b d → note < first_noted → IsReadAs v b d i note
-read_by_cut v b d {i = i} {note = note} g dir inode noted low =
+pub read_by_cut : (v : Layout) (b : List ℕ) (d : ℕ) {i : Inode} {note cut : ℕ} → IsAcceptedLayout v →
+    is_dir (volume_of v b) d ≡ true → i ≡ inode_of v b d → note ≡ note_at v b d → cut ≡ cut_in note → IsReadAs v b d i cut
+read_by_cut v b d {i = i} {cut = cut} g dir inode noted is_cut =
     let is = dir_is v b d dir in
-    let cut = sym (below_is_cut note low) ∙ (ap cut_in noted ∙ cut_is_noted v b d g) in
+    let same = is_cut ∙ (ap cut_in noted ∙ cut_is_noted v b d g) in
     record {
       is_dir = ap (class_of v) inode ∙ is.1;
       small = rw inode (dir_size v (inode_of v b d) is.1);
-      entries = dir_seen v b d i note g is.0 inode cut;
-      shape = shape_seen v b d i note g is.0 inode cut;
-      runs = runs_are v b d i note inode cut;
+      entries = dir_seen v b d i cut g is.0 inode same;
+      shape = shape_seen v b d i cut g is.0 inode same;
+      runs = runs_are v b d i cut inode same;
     }
 
 -- a reader stays ready where an inode was read, or couldn't be

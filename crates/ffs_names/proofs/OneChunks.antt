@@ -128,7 +128,7 @@ ended_gap b c e = rw (e.gap, over_rest b c.walk e.walk) refl
 -- where its only chunk was read, the entries of that are to come
 pub gives_only_chunk : {v : Layout} {a : ℕ} {b : List ℕ} {r : Entries} → IsAcceptedLayout v → (a == 0) ≡ false →
     is_run_in_range v a 1 ≡ true → IsEnded r.chunks → r.order ≡ v.order → r.chunk ≡ piece (a * v.fsize) 512 b
-    → r.place ≡ 0 → r.index ≡ 0 → r.first ≡ true → r.right_so_far ≡ true → GivesDirectory v b (one_chunk_at a) 0 r
+    → r.place ≡ 0 → r.index ≡ 0 → r.at_start ≡ true → r.right_so_far ≡ true → GivesDirectory v b (one_chunk_at a) 0 r
 gives_only_chunk {v = v} {a = a} {b = b} {r = r} g some inside ended order chunk place index first right =
     let only = only_chunk_is v a b g some inside in
     let over = over_rest b r.chunks.walk ended.walk in

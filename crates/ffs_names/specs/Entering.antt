@@ -7,7 +7,7 @@ use Rattle.ffs_names.specs.{Readings.rest, RunCursors.last_place, declared.entri
 
 -- the entries to come of the current chunk
 abbrev pub here : Entries → List RoledEntry
-here r = roled_from r.first r.index (entries_from r.order r.chunk 64 r.place)
+here r = roled_from r.at_start r.index (entries_from r.order r.chunk 64 r.place)
 
 -- all entries to come: those of the current chunk, and those of the chunks to come in an image of
 -- these bytes

@@ -8,9 +8,9 @@ use Rattle.ffs_names.specs.declared.chunk_entries.ChunkEntries.{ChunkEntries}
 abbrev pub entries_to_come : ChunkEntries → List Entry
 entries_to_come es = entries_from es.order es.chunk.now 64 es.place
 
--- the same with their roles; `first` says that the chunk is at the start of the file
-abbrev pub roled_to_come : (first : Bool) → ChunkEntries → List RoledEntry
-roled_to_come first es = roled_from first es.index (entries_to_come es)
+-- the same with their roles; `at_start` says that the chunk is at the start of the file
+abbrev pub roled_to_come : (at_start : Bool) → ChunkEntries → List RoledEntry
+roled_to_come at_start es = roled_from at_start es.index (entries_to_come es)
 
 -- the entry at the place is given, with its index; those after it are still to come
 pub record GivesWithIndex (old : ChunkEntries) (given : ℕ × CodeEntry) (new : ChunkEntries) : Type 0 where

@@ -38,7 +38,7 @@ pub struct Entries {
     /// How many entries of the chunk are before `place`.
     pub index: usize,
     /// Whether the chunk is at the start of the file.
-    pub first: bool,
+    pub at_start: bool,
     /// Whether the size is right, and the entries of each chunk before fill it.
     pub right_so_far: bool,
     /// Where the name of the last entry is in the chunk, in bytes from its start.
@@ -82,7 +82,7 @@ impl Entries {
             chunk: [0; DIRBLKSIZ],
             place: DIRBLKSIZ,
             index: 0,
-            first: false,
+            at_start: false,
             right_so_far: has_right_size(inode),
             name_place: 0,
             name_len: 0,
@@ -110,7 +110,7 @@ impl Entries {
         self.place = DIRBLKSIZ;
         self.index = 0;
         self.chunks.restart(inode, class, cut);
-        self.first = false;
+        self.at_start = false;
         self.right_so_far = has_right_size(inode);
         self.only_chunk = false;
     }
@@ -171,7 +171,7 @@ impl Entries {
         self.place = 0;
         self.index = 0;
         self.right_so_far = true;
-        self.first = true;
+        self.at_start = true;
         Ok(())
     }
 
@@ -194,7 +194,7 @@ impl Entries {
         let Some(entry) = entry_at(self.order, &self.chunk, self.place) else {
             return None;
         };
-        let role = role_of(self.first, self.index, &entry);
+        let role = role_of(self.at_start, self.index, &entry);
         let head = EntryHead {
             role,
             number: entry.number,
@@ -242,7 +242,7 @@ impl Entries {
             match self.chunks.next(image, blocks, window, &mut self.chunk)? {
                 None => return Ok(None),
                 Some(offset) => {
-                    self.first = offset == 0;
+                    self.at_start = offset == 0;
                     self.index = 0;
                     self.place = 0;
                 }

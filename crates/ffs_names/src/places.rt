@@ -25,8 +25,8 @@ use ffs_memory::FilledList;
 use ffs_volume::constants::{DIRBLKSIZ, ROOTINO};
 use ffs_volume::{Class, Order, Role};
 use ffs_workspace::{
-    Table, Windows, Workspace, address_in, is_due, noted_part, place_of, sweep_reads, with_due,
-    without_due,
+    Table, Windows, Workspace, address_in, cut_in, is_due, noted_part, place_of, sweep_reads,
+    with_due, without_due,
 };
 
 /// Whether a directory is the parent of an inode other than the root, which has no parent entry.
@@ -62,7 +62,7 @@ fn note_entry(
     let index = entry.number as usize;
     let word = words[index];
     if noted_part(word).is_none() {
-        // The low 31 bits, which have the place, are 0.
+        // The bits of a place are 0 in the word, and `place` has no others: the sum sets these alone.
         words.set(index, word + place);
     }
 }
@@ -153,8 +153,7 @@ fn chunks_of<I: Image>(
         return Ok(Chunks::of_class(geometry, &inode, Class::Dir, 0));
     }
     let inode = table.inode_by_part(geometry, dir, image)?;
-    // A note that is no address is a cut.
-    Ok(Chunks::of_class(geometry, &inode, Class::Dir, note))
+    Ok(Chunks::of_class(geometry, &inode, Class::Dir, cut_in(note)))
 }
 
 /// Notes the places of the parent entries that are in a directory.

@@ -10,7 +10,7 @@ use ffs_memory::FilledList;
 use ffs_survey::{Directories, EntryHead, is_dir};
 use ffs_volume::constants::{DIRBLKSIZ, DT_DIR};
 use ffs_volume::{Class, Inode};
-use ffs_workspace::{Windows, address_in};
+use ffs_workspace::{Windows, address_in, cut_in};
 
 /// The inode of a directory of one chunk at an address, as far as a reading of its entries asks
 /// for it.
@@ -110,8 +110,7 @@ impl<I: Image> Directories for DirectoryReader<'_, I> {
             .windows
             .table
             .inode_by_part(&self.geometry, dir, self.image)?;
-        // A note that is no address is a cut.
-        self.entries.restart(&inode, Class::Dir, note);
+        self.entries.restart(&inode, Class::Dir, cut_in(note));
         Ok(())
     }
 

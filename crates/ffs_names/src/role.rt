@@ -22,15 +22,15 @@ pub fn is_two_dots(name: &[u8]) -> bool
     matches!(name, [b'.', rest @ ..] if is_one_dot(rest))
 }
 
-/// The role of an entry at an index of its chunk; `first` says that the chunk is at the start of
+/// The role of an entry at an index of its chunk; `at_start` says that the chunk is at the start of
 /// the file (dir(5)).
 ///
 /// `.` is right as the first entry of the first chunk alone, and `..` as its second; elsewhere they
 /// are extra. An entry with the number 0 is empty.
 #[inline(always)]
 #[tactic(auto, unfolding(ffs_volume::specs::Directories::Roles::role_of))]
-pub fn role_of(first: bool, index: usize, entry: &Entry<'_>) -> Role
-    ensures { result ≡ role_in first index (entry_value entry.now) }
+pub fn role_of(at_start: bool, index: usize, entry: &Entry<'_>) -> Role
+    ensures { result ≡ role_in at_start index (entry_value entry.now) }
 {
     if entry.number == 0 {
         return Role::Empty;
@@ -40,13 +40,13 @@ pub fn role_of(first: bool, index: usize, entry: &Entry<'_>) -> Role
         return Role::Plain;
     }
     if is_one_dot(entry.name) {
-        if first && index == 0 {
+        if at_start && index == 0 {
             Role::Dot
         } else {
             Role::Extra
         }
     } else if is_two_dots(entry.name) {
-        if first && index == 1 {
+        if at_start && index == 1 {
             Role::Dotdot
         } else {
             Role::Extra

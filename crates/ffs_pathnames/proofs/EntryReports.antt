@@ -22,7 +22,7 @@ module _ {S : Type 0} {v : Layout} {d d' : Device} {w w' : Workspace} {x : ℕ} 
     {lines : Volume → List TreeMessage} {reads reads' : ℕ} {r : Result S ImageFault}
     (keeps : KeepsPath v d w x t t') (left : LimitedPathLeaves v line_reads (record { image = d; reads = reads; workspace = w })
     (record { image = d'; reads = reads'; workspace = w' }) s r)
-    (stays : IsTrue t.begun → IsTrue t'.begun)
+    (stays : IsTrue t.path_settled → IsTrue t'.path_settled)
     (once : (bytes : List ℕ) → KnowsPlaces v d.contents w bytes → ReadsPathOnce 1 t t' reads reads')
     (some : ForBytes (DirectoryContext v d.contents w x) (λ bytes. 1 ≤ length (lines (volume_of v bytes)))) where
   -- a read failed
@@ -31,7 +31,7 @@ module _ {S : Type 0} {v : Layout} {d d' : Device} {w w' : Workspace} {x : ℕ} 
   entry_unread = record {
     text = reads_first;
     path = keeps;
-    begun = stays;
+    settled = stays;
     once = λ bytes k noted. by_once t t' reads reads' _ (once bytes (knows_places _ _ _ _ bytes k noted)) (some bytes k);
     counted = λ bytes k noted. by_line _ (left.path.counted bytes (knows_places _ _ _ _ bytes k noted)) (some bytes k);
     paid = paid_reads left.most;
@@ -44,7 +44,7 @@ module _ {S : Type 0} {v : Layout} {d d' : Device} {w w' : Workspace} {x : ℕ} 
   entry_said ms many right said = record {
     text = says_all (λ bytes k. ap (map of_tree) (right bytes k)) said;
     path = keeps;
-    begun = stays;
+    settled = stays;
     once = λ bytes k noted. by_once t t' reads reads' _ (once bytes (knows_places _ _ _ _ bytes k noted)) (some bytes k);
     counted = λ bytes k noted. by_line _ (left.path.counted bytes (knows_places _ _ _ _ bytes k noted)) (some bytes k);
     paid = paid_says _ said (some_said _ many) left.most;
@@ -56,7 +56,7 @@ module _ {S : Type 0} {v : Layout} {d d' : Device} {w w' : Workspace} {x : ℕ} 
   entry_stopped ms many right stopped = record {
     text = stops_all (λ bytes k. ap (map of_tree) (right bytes k)) stopped;
     path = keeps;
-    begun = stays;
+    settled = stays;
     once = λ bytes k noted. by_once t t' reads reads' _ (once bytes (knows_places _ _ _ _ bytes k noted)) (some bytes k);
     counted = λ bytes k noted. by_line _ (left.path.counted bytes (knows_places _ _ _ _ bytes k noted)) (some bytes k);
     paid = paid_stops _ stopped (some_said _ many) left.most;

@@ -19,11 +19,12 @@ verdict_most verdict =
     let attr = wanted_most (asks_attr verdict) 1 in
     omega (arith, path, attr)
 
--- what is owed for the path, by whether it is begun
-owed_by : (t : EntryTexts) (begun : Bool) → t.begun ≡ begun → path_owed t ≡ (if begun then 0 else path_reads)
-owed_by t begun e = ap (λ q. if q then 0 else path_reads) e
+-- what is owed for the path, by whether it is settled
+owed_by : (t : EntryTexts) (settled : Bool) → t.path_settled ≡ settled →
+    path_owed t ≡ (if settled then 0 else path_reads)
+owed_by t settled e = ap (λ q. if q then 0 else path_reads) e
 
-owed_most : (t : EntryTexts) (begun : Bool) → t.begun ≡ begun → path_owed t ≤ path_reads
+owed_most : (t : EntryTexts) (settled : Bool) → t.path_settled ≡ settled → path_owed t ≤ path_reads
 owed_most t true e = let o = owed_by t true e in omega (arith, o)
 owed_most t false e = let o = owed_by t false e in omega (arith, o)
 
@@ -32,10 +33,11 @@ pub by_once : (t t' : EntryTexts) (reads reads' n : ℕ) → ReadsPathOnce 1 t t
     ReadsPathOnce n t t' reads reads'
 by_once t t' reads reads' n once some = omega (arith, once, some)
 
--- the path is made, where it wasn't begun
+-- the path is made, where it wasn't settled
 module _ {S : Type 0} {I : Ghosts S} {v : Layout} {old new : S} {w w' : Workspace} {x : ℕ} {t t' : EntryTexts} where
-  begin_by : {T : Type 0} {y : T} (begun : Bool) → t.begun ≡ begun → BeginsPath I v old new w w' x t t' (Ok y) →
-      (b : List ℕ) → KnowsPlaces v (I.device old).contents w b → I.reads new + path_owed t' ≤ I.reads old + path_owed t
+  begin_by : {T : Type 0} {y : T} (settled : Bool) → t.path_settled ≡ settled →
+      BeginsPath I v old new w w' x t t' (Ok y) → (b : List ℕ) → KnowsPlaces v (I.device old).contents w b →
+      I.reads new + path_owed t' ≤ I.reads old + path_owed t
   begin_by true e p b k =
       let same = p.held e in
       let reads = ap I.reads same.0 in
@@ -44,14 +46,14 @@ module _ {S : Type 0} {I : Ghosts S} {v : Layout} {old new : S} {w w' : Workspac
   begin_by false e p b k =
       let few = (p.makes.makes.leaves.counted b k).count in
       let owed = owed_by t false e in
-      let none = owed_by t' true p.makes.makes.begun in
+      let none = owed_by t' true p.makes.makes.settled in
       omega (arith, few, owed, none)
 
   pub begin_once : {T : Type 0} {y : T} → BeginsPath I v old new w w' x t t' (Ok y) → (b : List ℕ) →
       KnowsPlaces v (I.device old).contents w b → I.reads new + path_owed t' ≤ I.reads old + path_owed t
-  begin_once p b k = begin_by t.begun refl p b k
+  begin_once p b k = begin_by t.path_settled refl p b k
 
-  most_by : {T : Type 0} {r : Result T ImageFault} (begun : Bool) → t.begun ≡ begun →
+  most_by : {T : Type 0} {r : Result T ImageFault} (settled : Bool) → t.path_settled ≡ settled →
       BeginsPath I v old new w w' x t t' r → (b : List ℕ) → KnowsPlaces v (I.device old).contents w b →
       I.reads new + path_owed t' ≤ I.reads old + (path_owed t + path_reads)
   most_by true e p b k =
@@ -62,10 +64,10 @@ module _ {S : Type 0} {I : Ghosts S} {v : Layout} {old new : S} {w w' : Workspac
   most_by false e p b k =
       let few = (p.makes.makes.leaves.counted b k).count in
       let owed = owed_by t false e in
-      let most = owed_most t' t'.begun refl in
+      let most = owed_most t' t'.path_settled refl in
       omega (arith, few, owed, most)
 
   -- and where that fails
   pub begin_most : {T : Type 0} {r : Result T ImageFault} → BeginsPath I v old new w w' x t t' r → (b : List ℕ) →
       KnowsPlaces v (I.device old).contents w b → I.reads new + path_owed t' ≤ I.reads old + (path_owed t + path_reads)
-  begin_most p b k = most_by t.begun refl p b k
+  begin_most p b k = most_by t.path_settled refl p b k

@@ -19,17 +19,17 @@ pub record DirectoryContext (v : Layout) (contents : Option (List ℕ)) (w : Wor
   pub noted : AreNoted v b w.queue.items
   pub dir : is_dir (volume_of v b) d ≡ true
 
--- the path of a directory, where it is begun, is that of `dir`
+-- the path of a directory, where it is settled, is that of `dir`
 abbrev pub BeginsPathOf : Graph → ℕ → EntryTexts → Type 0
-BeginsPathOf g dir t = IsTrue t.begun → IsPathOf g dir t.paths.directory
+BeginsPathOf g dir t = IsTrue t.path_settled → IsPathOf g dir t.paths.directory
 
--- a directory's context, and the path that is begun, if any, is that of the directory `dir`
+-- a directory's context, and the path that is settled, if any, is that of the directory `dir`
 pub record KnowsPath (v : Layout) (contents : Option (List ℕ)) (w : Workspace) (dir : ℕ) (t : EntryTexts)
     (b : List ℕ) : Type 0 where
   pub knows : DirectoryContext v contents w dir b
   pub path : BeginsPathOf (graph_of (volume_of v b)) dir t
 
--- after a call the path that is begun, if any, still is that of x
+-- after a call the path that is settled, if any, still is that of x
 abbrev pub KeepsPath : Layout → Device → Workspace → ℕ → (old new : EntryTexts) → Type 0
 KeepsPath v d w x old new =
     ForBytes (KnowsPath v d.contents w x old) (λ b. BeginsPathOf (graph_of (volume_of v b)) x new)

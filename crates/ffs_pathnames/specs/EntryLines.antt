@@ -8,7 +8,7 @@ use Rattle.ffs_pathnames.specs.{LineReads.ReadsPathOnce, declared.entry_texts.En
 use Rattle.ffs_pathnames.specs.{Moments.LinesMoment, PassedNames.{after_entries, entries_reported}, Ready.LinesLeave}
 use Rattle.ffs_pathnames.specs.Ready.{PhaseLeaves}
 
--- lines of entries of the directory `dir` are said, those of the volume; the path that is begun, if
+-- lines of entries of the directory `dir` are said, those of the volume; the path that is settled, if
 -- any, is still that of `dir`, and made once; and the image is read for no more than these lines, any image
 -- for no more than the messages that were begun
 pub record ReportsEntries {T : Type 0} (v : Layout) (dir : ℕ) (lines : Volume → List TreeMessage)
@@ -16,7 +16,7 @@ pub record ReportsEntries {T : Type 0} (v : Layout) (dir : ℕ) (lines : Volume 
   pub text : PhaseReports (KnowsPath v old.at.image.contents old.at.workspace dir old.kept)
       (λ b. map of_tree (lines (volume_of v b))) old.said new.said result
   pub path : KeepsPath v old.at.image old.at.workspace dir old.kept new.kept
-  pub begun : IsTrue old.kept.begun → IsTrue new.kept.begun
+  pub settled : IsTrue old.kept.path_settled → IsTrue new.kept.path_settled
   pub once : ForBytes (DirectoryContext v old.at.image.contents old.at.workspace dir)
       (λ b. AreNoted v b old.at.workspace.queue.items
       → ReadsPathOnce (length (lines (volume_of v b))) old.kept new.kept old.at.reads new.at.reads)

@@ -24,7 +24,7 @@ pub record ExamineLeaves {T : Type 0} (v : Layout) (old new : PathMoment) (resul
 
 -- what a look at the directory `dir` finds: whether a Gap of it is kept, whether its chunks are sound, the
 -- chunk at the start of the file, and whether it is sure that nothing is reported of its entries
-pub record IsLookedAt (v : Layout) (b : List ℕ) (dir : ℕ) (old : Workspace) (f : FirstLook) (start : List ℕ) :
+pub record IsFirstLook (v : Layout) (b : List ℕ) (dir : ℕ) (old : Workspace) (f : FirstLook) (start : List ℕ) :
     Type 0 where
   pub gap : f.gap ≡ (volume_of v b).gap dir
   pub sound : f.sound ≡ are_sound ((volume_of v b).chunks dir)
@@ -36,7 +36,7 @@ pub record IsLookedAt (v : Layout) (b : List ℕ) (dir : ℕ) (old : Workspace) 
 pub record IsExamined (v : Layout) (b : List ℕ) (dir : ℕ) (old : Workspace) (e : Examination) (start : List ℕ) :
     Type 0 where
   pub inode : e.inode ≡ inode_of v b dir
-  pub look : IsLookedAt v b dir old e.look start
+  pub look : IsFirstLook v b dir old e.look start
 
 -- each inode that belongs to the directory `dir` is stamped
 abbrev pub StampsOwn : Layout → (b : List ℕ) → (dir : ℕ) → (old new : Workspace) → Type 0

@@ -100,10 +100,10 @@ module _ {S : Type 0} (I : Ghosts S) (v : Layout) (old new : S) (w w' : Workspac
   abbrev pub ReadsByPlaces : (most : ℕ) → Type 0
   ReadsByPlaces most = (b : List ℕ) → KnowsPlaces v (I.device old).contents w b → I.reads new ≤ I.reads old + most
 
-  -- the path of the directory `dir` is made, and begun; also where that fails, one that is begun is that of `dir`
+  -- the path of the directory `dir` is made, and settled; also where that fails, a settled one is that of `dir`
   pub record MakesPath {T : Type 0} (dir : ℕ) (t t' : EntryTexts) (result : Result T ImageFault) : Type 0 where
-    pub begun : OnOk result (IsTrue t'.begun)
-    pub stays : IsTrue t.begun → IsTrue t'.begun
+    pub settled : OnOk result (IsTrue t'.path_settled)
+    pub stays : IsTrue t.path_settled → IsTrue t'.path_settled
     pub made : OnOk result (ForBytes (KnowsPath v (I.device old).contents w dir t) (λ b.
         IsPathOf (graph_of (volume_of v b)) dir t'.paths.directory))
     pub path : KeepsPath v (I.device old) w dir t t'
@@ -121,17 +121,17 @@ module _ {S : Type 0} (I : Ghosts S) (v : Layout) (old new : S) (w w' : Workspac
     pub makes : MakesPath dir t t' result
     pub most : I.reads new ≤ I.reads old + path_reads
 
-  -- the same, and where a path was begun nothing is read, and that path stays
+  -- the same, and where a path was settled nothing is read, and that path stays
   pub record BeginsPath {T : Type 0} (dir : ℕ) (t t' : EntryTexts) (result : Result T ImageFault) : Type 0 where
     pub makes : MakesPathLimited dir t t' result
-    pub held : IsTrue t.begun → (new ≡ old) × (w' ≡ w) × (t' ≡ t)
+    pub held : IsTrue t.path_settled → (new ≡ old) × (w' ≡ w) × (t' ≡ t)
 
-  -- what a line on an entry shows was read: the path of the directory is begun, and stays so; where it was
-  -- begun before, n reads were made at most; and that path is read for once
+  -- what a line on an entry shows was read: the path of the directory is settled, and stays so; where it was
+  -- settled before, n reads were made at most; and that path is read for once
   pub record BeginsOnce {T : Type 0} (n : ℕ) (t t' : EntryTexts) (result : Result T ImageFault) : Type 0 where
-    pub begun : OnOk result (IsTrue t'.begun)
-    pub stays : IsTrue t.begun → IsTrue t'.begun
-    pub again : IsTrue t.begun → ReadsByPlaces n
+    pub settled : OnOk result (IsTrue t'.path_settled)
+    pub stays : IsTrue t.path_settled → IsTrue t'.path_settled
+    pub again : IsTrue t.path_settled → ReadsByPlaces n
     pub once : (b : List ℕ) → KnowsPlaces v (I.device old).contents w b
         → ReadsPathOnce 1 t t' (I.reads old) (I.reads new)
 
@@ -147,7 +147,7 @@ module _ {S : Type 0} (I : Ghosts S) (v : Layout) (old new : S) (w w' : Workspac
       : Type 0 where
     pub path : OnOk result ((y : ℕ) → ForBytes (DirectoryContext v (I.device old).contents w y) (λ b.
         IsTrue wanted → t'.directory.items ≡ dir_path (graph_of (volume_of v b)) dir))
-    pub same : (t'.begun ≡ t.begun) × (t'.paths ≡ t.paths)
+    pub same : (t'.path_settled ≡ t.path_settled) × (t'.paths ≡ t.paths)
     pub leaves : ReadsForPaths (if_wanted wanted path_reads) t'.kept_parent result
 
   -- all that messages of a verdict on an entry show but paths of directories, in one read at most, if
@@ -167,10 +167,10 @@ module _ {S : Type 0} (I : Ghosts S) (v : Layout) (old new : S) (w w' : Workspac
     pub enough : IfOk result (λ a. (dir : ℕ) → ForBytes (DirectoryContext v (I.device old).contents w dir) (λ b.
         IsPathOf (graph_of (volume_of v b)) dir t.paths.directory
         → IsEnough (volume_of v b) verdict dir e.number e.name a (last_path t'.paths) t'.directory.items))
-    pub same : (t'.begun ≡ t.begun) × (t'.paths.directory ≡ t.paths.directory)
+    pub same : (t'.path_settled ≡ t.path_settled) × (t'.paths.directory ≡ t.paths.directory)
     pub leaves : ReadsForPaths (verdict_reads verdict) t'.kept_parent result
 
-  -- all that messages of a verdict on an entry show; the path that is begun, if any, still is that of its
+  -- all that messages of a verdict on an entry show; the path that is settled, if any, still is that of its
   -- directory, and is made once
   pub record GathersEntry (e : DirectoryEntry) (verdict : Verdict) (t t' : EntryTexts) (result : Result Attr ImageFault)
       : Type 0 where
@@ -182,7 +182,7 @@ module _ {S : Type 0} (I : Ghosts S) (v : Layout) (old new : S) (w w' : Workspac
     pub leaves : ReadsForPaths line_reads t'.kept_parent result
 
   -- what the message on an extra entry of the directory `dir` shows: its attributes and its path; the
-  -- path that is begun, if any, still is that of `dir`, and is made once
+  -- path that is settled, if any, still is that of `dir`, and is made once
   pub record GathersExtra (dir : ℕ) (t t' : EntryTexts) (result : Result Attr ImageFault) : Type 0 where
     pub attr : IfOk result (λ a. ForBytes (DirectoryContext v (I.device old).contents w dir) (λ b.
         a ≡ attributes (volume_of v b) dir))

@@ -17,9 +17,9 @@ ReadsByLines v knows lines old new = (b : List ℕ) → knows b → AreNoted v b
 abbrev pub again_reads : ℕ
 again_reads = path_reads + 1
 
--- the reads that the path of the directory still takes, none once it is begun
+-- the reads that the path of the directory still takes, none once it is settled
 abbrev pub path_owed : EntryTexts → ℕ
-path_owed t = if t.begun then 0 else path_reads
+path_owed t = if t.path_settled then 0 else path_reads
 
 -- so many lines of entries were said: for each `again_reads` reads were made at most, beside those for the
 -- path of their directory, which is made once

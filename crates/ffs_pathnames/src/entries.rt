@@ -56,7 +56,7 @@ fn next_chunk<I: Image>(
     offset
 }
 
-/// Prints the lines of the entries of a directory, chunk by chunk, and passes them.
+/// Says the lines of the entries of a directory, chunk by chunk, and passes them.
 ///
 /// # Errors
 /// A read of the image that failed, and a write of the report that failed.
@@ -89,7 +89,7 @@ pub fn report_directory<I: Image, W: Output>(
 {
     let mut chunks = Chunks::start(geometry, &directory.inode, directory.cut);
     let mut bytes = [0u8; DIRBLKSIZ];
-    checking.texts.begun = false;
+    checking.texts.path_settled = false;
     'chunks: while let Some(offset) = next_chunk(
         &mut chunks,
         image,
@@ -114,7 +114,7 @@ pub fn report_directory<I: Image, W: Output>(
     Ok(())
 }
 
-/// Prints the lines of an entry, by its role.
+/// Says the lines of an entry, by its role.
 fn report_by_role<I: Image, W: Output>(
     geometry: &Geometry,
     image: &mut I,
@@ -137,7 +137,7 @@ fn report_by_role<I: Image, W: Output>(
     }
 }
 
-/// Prints the lines of an entry, and passes it.
+/// Says the lines of an entry, and passes it.
 ///
 /// # Errors
 /// A read of the image that failed, and a write of the report that failed.
@@ -172,7 +172,7 @@ pub fn report_entry<I: Image, W: Output>(
     Ok(())
 }
 
-/// Prints the lines of the entries of a chunk, and passes them.
+/// Says the lines of the entries of a chunk, and passes them.
 ///
 /// # Errors
 /// A read of the image that failed, and a write of the report that failed.

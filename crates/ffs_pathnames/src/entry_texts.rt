@@ -18,9 +18,9 @@ pub struct EntryTexts {
     /// What is kept from the path of one directory to that of the next.
     pub kept_parent: KeptParent,
     /// Whether the path of the directory that the entries are in is settled: the first line makes
-    /// it, or gives it up (`make_paths`). Where it is given up, all lines of the directory show that
+    /// it, or gives it up (`make_path`). Where it is given up, all lines of the directory show that
     /// of an earlier directory, or `?` if none was made yet.
-    pub begun: bool,
+    pub path_settled: bool,
     /// The path of the directory that the entries are in, and that of the last entry.
     pub paths: EntryPaths,
     /// The path of the directory that a line shows: the entry names it, or an extra entry is in it.
@@ -38,7 +38,7 @@ impl EntryTexts {
     {
         EntryTexts {
             kept_parent: KeptParent::none(),
-            begun: false,
+            path_settled: false,
             paths: EntryPaths::of(DirectoryPath {
                 reached: false,
                 names: PathBuffer::new(),
@@ -67,9 +67,9 @@ fn forget_parent(kept_parent: &mut KeptParent)
     kept_parent.child = 0;
 }
 
-/// As `make_paths`, with no limit on reads. Its clause `spares` is the same, and by `makes` the
+/// As `make_path`, with no limit on reads. Its clause `spares` is the same, and by `makes` the
 /// path is always made.
-fn make_paths_unlimited<I: Image>(
+fn make_path_unlimited<I: Image>(
     geometry: &Geometry,
     image: &mut I,
     workspace: &mut Workspace,
@@ -85,17 +85,17 @@ fn make_paths_unlimited<I: Image>(
 {
     let path = texts.kept_parent.path_to(geometry, image, workspace, dir)?;
     texts.paths = EntryPaths::of(path);
-    texts.begun = true;
+    texts.path_settled = true;
     Ok(())
 }
 
 /// Makes the path of a directory for the lines on its entries. An image that gives other bytes each
 /// time may be read more often than a path reads at most: then no more is read, and the path that
-/// was there before stays, for all lines of the directory. It is apart from `begin_paths`, which is
+/// was there before stays, for all lines of the directory. It is apart from `make_path_once`, which is
 /// called for each line: a function clears the room of its locals each time that it is entered, and
 /// those here are large.
 #[inline(never)]
-fn make_paths<I: Image>(
+fn make_path<I: Image>(
     geometry: &Geometry,
     image: &mut I,
     workspace: &mut Workspace,
@@ -110,11 +110,11 @@ fn make_paths<I: Image>(
         workspace.new dir texts.old.kept_parent texts.new.kept_parent result }
 {
     let mut limited = LimitedImage::new(image, PATH_READS);
-    let result = make_paths_unlimited(geometry, &mut limited, workspace, texts, dir);
+    let result = make_path_unlimited(geometry, &mut limited, workspace, texts, dir);
     if limited.is_spent() {
         // See `LimitedImage`: bytes that stay never ask for so many reads.
         forget_parent(&mut texts.kept_parent);
-        texts.begun = true;
+        texts.path_settled = true;
         return Ok(());
     }
     result
@@ -125,7 +125,7 @@ fn make_paths<I: Image>(
 /// # Errors
 /// A read of the image that failed.
 #[inline(always)]
-pub fn begin_paths<I: Image>(
+pub fn make_path_once<I: Image>(
     geometry: &Geometry,
     image: &mut I,
     workspace: &mut Workspace,
@@ -137,10 +137,10 @@ pub fn begin_paths<I: Image>(
     ensures { BeginsPath I.Image geometry.now.layout image.old image.new workspace.old
         workspace.new dir texts.old texts.new result }
 {
-    if texts.begun {
+    if texts.path_settled {
         return Ok(());
     }
-    make_paths(geometry, image, workspace, texts, dir)
+    make_path(geometry, image, workspace, texts, dir)
 }
 
 /// Writes the path of a directory. An image that gives other bytes each time may be read more often

@@ -7,7 +7,7 @@ ghost use Rattle.ffs_layout.specs.Entry.{entry_value};
 ghost use Rattle.ffs_workspace.specs.Ready.{CanRead};
 ghost use Rattle.ffs_paths.specs.Reads.{CanReadFor};
 
-use crate::entry_texts::{EntryTexts, begin_paths, put_path};
+use crate::entry_texts::{EntryTexts, make_path_once, put_path};
 use ffs_image::{Image, ImageFault};
 use ffs_layout::{Entry, Geometry};
 use ffs_paths::{EntryPaths, KeptParent, PathText};
@@ -46,7 +46,7 @@ pub fn gather_entry<I: Image>(
     ensures { GathersEntry I.Image geometry.now.layout image.old image.new workspace.old
         workspace.new entry.now verdict.now texts.old texts.new result }
 {
-    begin_paths(geometry, image, workspace, texts, entry.dir)?;
+    make_path_once(geometry, image, workspace, texts, entry.dir)?;
     gather_paths_and_attr(geometry, image, workspace, texts, &entry.entry, verdict)
 }
 
@@ -67,7 +67,7 @@ pub fn gather_extra<I: Image>(
     ensures { GathersExtra I.Image geometry.now.layout image.old image.new workspace.old
         workspace.new dir texts.old texts.new result }
 {
-    begin_paths(geometry, image, workspace, texts, dir)?;
+    make_path_once(geometry, image, workspace, texts, dir)?;
     let paths = &texts.paths;
     paths.directory.put(&mut texts.directory);
     read_attr(geometry, image, workspace, dir)

@@ -1,6 +1,6 @@
 //! Phase 2: the pathname check (fsck(8)).
 //!
-//! `phase2` prints the pathname check's text, returns whether the check continues after the root
+//! `phase2` says the pathname check's text, returns whether the check continues after the root
 //! (`Root`), and leaves what the survey of directories found.
 //!
 //! ```text
@@ -18,7 +18,7 @@
 //!   on each, which rests on what is known of the inodes that they name (`inodes`).
 //! - `header` finds and says what is wrong with its size, its chunks and its first two entries.
 //! - `entries` reads its chunks again where something is to be said of their entries.
-//! - `one_entry` prints the lines of one entry, by the `verdict` on it, which says them. `gather` puts
+//! - `one_entry` says the lines of one entry, by the `verdict` on it. `gather` puts
 //!   together what they show, in `entry_texts`, which makes the paths of directories.
 //! - `say` says a line where it holds.
 //!

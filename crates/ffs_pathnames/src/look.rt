@@ -6,7 +6,7 @@ ghost use Rattle.ffs_volume.specs.{Report.DirectoryReads.{directory_cost, direct
 ghost use Rattle.ffs_volume.specs.{declared.Role.Role, Directories.{Entries.{Chunk, chunk_of, is_sound}, Roles.Volume}};
 ghost use Rattle.ffs_report.specs.Known.{ForBytes};
 ghost use Rattle.ffs_pathnames.specs.{DirectoryContext.{DirectoryContext, KnowsDirectory}, Moments.path_moment};
-ghost use Rattle.ffs_pathnames.specs.{ReadsLeft.LeftForLook, Examines.{Examines, IsExamined, IsLookedAt, StampsOwn}};
+ghost use Rattle.ffs_pathnames.specs.{ReadsLeft.LeftForLook, Examines.{Examines, IsExamined, IsFirstLook, StampsOwn}};
 ghost use Rattle.ffs_pathnames.specs.{Examines.TakesLook, StartChunks.start_chunk, Looks.{StampsEntries, roled_in}};
 ghost use Rattle.ffs_pathnames.specs.{Ready.{ReadyToLook, ReadyToRead}, Sees.{CanLook, CanStamp, Sees, stamps_in}};
 ghost use Rattle.ffs_layout.specs.Entry.{entry_value};
@@ -61,7 +61,9 @@ fn examine_unlimited<I: Image>(
 }
 
 /// What is said of a directory of which no more may be read: that it is too short, is corrupted,
-/// and has neither `.` nor `..`. Nothing is said of its entries.
+/// and has neither `.` nor `..`. Nothing is said of its entries. Only an image that gives other
+/// bytes each time has one. A line is said, since silence would pass the directory as right: each
+/// line of phase 2 is a defect, so the check doesn't end as consistent.
 fn unexamined() -> Examination
     ensures { result.look ≡ record {
       quiet = true;
@@ -183,7 +185,7 @@ pub fn look_directory<I: Image>(
     requires { ReadyToRead geometry.now.layout (I.device image.old) workspace.old directory.now }
     ensures looks { Examines geometry.now.layout
         (KnowsDirectory geometry.now.layout (I.device image.old) workspace.old directory.now)
-        (λ f b. IsLookedAt geometry.now.layout b directory.now.number workspace.old f start.new
+        (λ f b. IsFirstLook geometry.now.layout b directory.now.number workspace.old f start.new
         × StampsOwn geometry.now.layout b directory.now.number workspace.old workspace.new)
         (path_moment I.Image image.old workspace.old) (path_moment I.Image image.new workspace.new)
         result }

@@ -31,7 +31,7 @@ fn verdict_of(workspace: &Workspace, dir: u32, entry: &Entry<'_>) -> Verdict
     verdict_at_reading(&inodes, dir, &workspace.flags, &workspace.queue, entry)
 }
 
-/// Prints the lines of a plain entry of a directory.
+/// Says the lines of a plain entry of a directory.
 ///
 /// # Errors
 /// A read of the image that failed, and a write of the report that failed.
@@ -87,7 +87,7 @@ fn say_extra<W: Output>(
     )
 }
 
-/// Prints the line of an extra entry: a `.` that isn't the first entry of the chunk at the start of
+/// Says the line of an extra entry: a `.` that isn't the first entry of the chunk at the start of
 /// the file, or a `..` that isn't the second entry of that chunk.
 ///
 /// # Errors

@@ -34,7 +34,7 @@ pub enum Root {
     Stop,
 }
 
-/// Surveys the directories, and prints the lines of the root, of each directory and of its entries
+/// Surveys the directories, and says the lines of the root, of each directory and of its entries
 /// (fsck(8), phase 2). Returns whether the check continues after the root.
 ///
 /// The contract gives the text only for a workspace that holds what the block check found. At `Ok`
@@ -135,7 +135,7 @@ fn clear_suspects(inodes: &Inodes<'_>, flags: &mut FilledList<bool>)
     }
 }
 
-/// Prints the root's line and, where the check continues after it, the lines of each directory and
+/// Says the root's line and, where the check continues after it, the lines of each directory and
 /// of its entries.
 #[tactic(auto, using(ffs_volume::proofs::Sizes::some_inodes))]
 fn check_tree<I: Image, W: Output>(
@@ -170,7 +170,7 @@ fn check_tree<I: Image, W: Output>(
     }
 }
 
-/// Prints the root's line, where it isn't allocated, isn't a directory, is marked, or is of size 0:
+/// Says the root's line, where it isn't allocated, isn't a directory, is marked, or is of size 0:
 /// one line at most.
 ///
 /// # Errors

@@ -25,7 +25,7 @@ use ffs_volume::constants::{DIRBLKSIZ, DT_DIR, ROOTINO};
 use ffs_volume::{Attr, Order};
 use ffs_workspace::{Workspace, sweep_reads};
 
-/// Prints the lines of each directory and of its entries, in the order of inode numbers. The places
+/// Says the lines of each directory and of its entries, in the order of inode numbers. The places
 /// of parent entries are noted first, for the paths, where any directory is checked.
 ///
 /// # Errors
@@ -108,7 +108,7 @@ fn needs_check(workspace: &Workspace, number: u32) -> bool
     (workspace.kinds[index] == DT_DIR) & (workspace.marked[index] | !workspace.flags[index])
 }
 
-/// Prints the lines of an inode as a directory, and of its entries, where it needs a check.
+/// Says the lines of an inode as a directory, and of its entries, where it needs a check.
 fn check_if_needed<I: Image, W: Output>(
     geometry: &Geometry,
     image: &mut I,
@@ -142,7 +142,7 @@ fn check_if_needed<I: Image, W: Output>(
     Ok(())
 }
 
-/// Prints the lines of a directory that isn't of size 0: of its size, its chunks, its first two
+/// Says the lines of a directory that isn't of size 0: of its size, its chunks, its first two
 /// entries, and all its entries.
 fn check_directory<I: Image, W: Output>(
     geometry: &Geometry,
@@ -182,7 +182,7 @@ fn check_directory<I: Image, W: Output>(
     report_directory(geometry, image, workspace, checking, &directory, report)
 }
 
-/// Makes the first look at a directory, which reads it once, and then prints its lines that come
+/// Makes the first look at a directory, which reads it once, and then says its lines that come
 /// before those of its entries.
 fn begin_directory<I: Image, W: Output>(
     geometry: &Geometry,
@@ -269,7 +269,7 @@ fn first_two<'a>(
     }
 }
 
-/// Prints the lines of a directory that come before those of its entries.
+/// Says the lines of a directory that come before those of its entries.
 fn report_header<I: Image, W: Output>(
     geometry: &Geometry,
     image: &mut I,

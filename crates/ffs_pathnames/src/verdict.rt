@@ -1,4 +1,14 @@
 //! The verdict on a plain entry, and what is reported by it.
+//!
+//! Four words say that nothing is reported of an entry:
+//! - *calm* (`ffs_survey`), as the survey reads it: by the kinds, the marks and what is reached by
+//!   then. Where all entries of a directory are calm and its shape is right, they are quiet too
+//!   (`calm_silent`), and phase 2 doesn't read the directory, unless it is marked.
+//! - *quiet* (`is_quiet`), in the first look, of an entry of any role: by the flags and the parents
+//!   too. Where all are, nothing is reported of them (`quiet_silent`): there is no second reading.
+//! - *silent*, of a verdict: it has no line. A plain entry is quiet where its verdict is silent.
+//! - *harmless* (`is_harmless`), asked before the verdict, which is then silent: by the kinds, the
+//!   marks and the flags alone. An entry that names a directory never is; a calm one may name one.
 ghost use Rattle.std.specs.{Prelude.{◌≡◌, ◌<◌, Bool, true, false, not, length, vec_len, IsTrue}, List.slice_index_or};
 ghost use Rattle.ffs_volume.specs.Messages.Kinds.{reported};
 ghost use Rattle.ffs_volume.specs.Directories.PathnameCheck.{defects_lines, defects_on, is_bad_whiteout, name_and_type_lines, suspect_message};

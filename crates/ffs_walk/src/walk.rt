@@ -37,8 +37,8 @@ pub struct Walk {
     /// The inode's addresses: twelve direct ones, and a single, a double and a triple indirect one
     /// (fs(5)).
     pub addresses: [u32; 15],
-    /// The indirect block of data addresses that the walk is in: the inode's own, or one under a
-    /// double one.
+    /// The single indirect block that the walk is in: the lowest one, with addresses of data. It is
+    /// the inode's own, or any that is under a double one.
     pub single: Frame,
     /// The double indirect block that the walk is in.
     pub double: Frame,

@@ -31,10 +31,6 @@ not_below a = grind (arith, nat_tests)
 below_first : (n : ℕ) → n < first_noted → nat_lt n first_noted ≡ true
 below_first n h = grind (arith, nat_tests)
 
--- a note that is no address is a cut
-pub below_is_cut : (note : ℕ) → note < first_noted → cut_in note ≡ note
-below_is_cut note below = ap (λ (b : Bool). if b then note else 0) (below_first note below)
-
 zero_of : (n : ℕ) → (n == 0) ≡ true → n ≡ 0
 zero_of n h = grind (arith, nat_tests)
 

@@ -45,7 +45,7 @@ entries-init g c = let all = c.of_chunk-entries.ensures in rw (all.0, all.1, all
   places = λ x. refl;
   current = refl;
   path = λ b k. k.path;
-  begun = λ begun. begun;
+  settled = λ settled. settled;
   once = λ b k noted. omega arith;
   passed = λ b k. refl;
   said = of_begins _ _ _;
@@ -69,7 +69,7 @@ returns-in_err-report_entry g c =
             (λ b k. entry_reported (volume_of v b) x.dir m _ _ _ (next g at) refl)
             (reports_knowing (Unit {0}) _ _ _ _ _ (Err c.in_err-report_entry.field-0.0) (know_path g at) lines.text);
         path = λ b k. lines.path b (know_path g at b k);
-        begun = λ begun. lines.begun (inv.begun begun);
+        settled = λ settled. lines.settled (inv.settled settled);
         once = λ b k noted.
             let here = lines.once b (know g at b k) (noted_kept v b _ _ inv.places noted) in
             let long = entry_counted (volume_of v b) x.dir m _ _ _ (next g at) refl in
@@ -104,7 +104,7 @@ entries-preserved g c =
       places = keep_more _ _ _ inv.places ok.leaves.places;
       current = ok.current ∙ inv.current;
       path = λ b k. ok.lines.path b (know_path g at b k);
-      begun = λ begun. ok.lines.begun (inv.begun begun);
+      settled = λ settled. ok.lines.settled (inv.settled settled);
       once = λ b k noted.
           let here = ok.lines.once b (know g at b k) (noted_kept v b _ _ inv.places noted) in
           let long = entry_counted (volume_of v b) x.dir m _ _ _ (next g at) (ok.passed b (know g at b k)) in
@@ -131,7 +131,7 @@ returns g c =
         text = of_same _ _ (λ b. []) _ _ _ inv.said
             (λ b k. ap (λ es. map of_tree (entries_reported (volume_of v b) x.dir m es)) end);
         path = inv.path;
-        begun = inv.begun;
+        settled = inv.settled;
         once = λ b k noted. omega (arith, inv.once b k noted);
         counted = λ b k noted. read_all (inv.counted b k noted);
         paid = inv.paid;

@@ -27,7 +27,7 @@ invariant-entries g l =
       places : KeepPlaces l.fn.workspace.queue.items l.workspace.queue.items;
       current : l.workspace.windows.current ≡ l.fn.workspace.windows.current;
       path : ForBytes knows_path (λ b. BeginsPathOf (graph_of (volume_of v b)) x.dir l.texts);
-      begun : IsTrue l.fn.texts.begun → IsTrue l.texts.begun;
+      settled : IsTrue l.fn.texts.path_settled → IsTrue l.texts.path_settled;
       once : ForBytes known (λ b. AreNoted v b l.fn.workspace.queue.items →
           g.I.Image.reads l.image + (path_owed l.texts + again_reads * length (to_come b))
           ≤ g.I.Image.reads l.fn.image + (path_owed l.fn.texts + again_reads * length (all b)));

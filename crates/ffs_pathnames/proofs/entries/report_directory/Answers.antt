@@ -79,7 +79,7 @@ chunks-init g c =
       once = λ b k noted. let long = as_many _ _ (lines b k) in omega (arith, long, few b k);
       spent = λ b k. omega (arith, few b k);
       paid = paid_none (omega arith);
-      path = λ b k begun. absurd (both_ways _ refl begun);
+      path = λ b k settled. absurd (both_ways _ refl settled);
       passed = λ b k. ap (after_entries (volume_of v b) x.number m) (sym (seen b k));
       said = of_same _ _ _ _ _ _ (of_begins _ _ _) lines;
     }

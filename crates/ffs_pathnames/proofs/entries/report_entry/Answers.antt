@@ -42,7 +42,7 @@ returns g c =
       lines = record {
         text = lines.text;
         path = lines.path;
-        begun = lines.begun;
+        settled = lines.settled;
         once = λ b k noted. lines.once b k noted;
         counted = λ b k noted.
             let few = lines.counted b k noted in record { count = few.count; blocks = few.blocks };

@@ -6,21 +6,21 @@ use Rattle.ffs_pathnames.proofs.{Carrying.if_ok, LineCounts.places_on, Passing.k
 use Rattle.ffs_pathnames.proofs.{PathOnce.{begin_most, begin_once, verdict_most}, ReadyLaws.gather_failed}
 use Rattle.ffs_pathnames.proofs.gather.gather_entry.Goals as goal
 
-pub returns-in_err-begin_paths : goal.returns-in_err-begin_paths
-returns-in_err-begin_paths g c =
-    let begun = c.in_err-begin_paths.ensures in
+pub returns-in_err-make_path_once : goal.returns-in_err-make_path_once
+returns-in_err-make_path_once g c =
+    let made = c.in_err-make_path_once.ensures in
     let p = err_from_is_err_and c.from_residual.result c.from_residual.ensures.1 in
     rw (p.1, p.2) (record {
       enough = tt;
-      path = begun.makes.makes.path;
+      path = made.makes.makes.path;
       once = record {
-        begun = tt;
-        stays = begun.makes.makes.stays;
-        again = λ before b k. let same = ap g.I.Image.reads (begun.held before).0 in omega (arith, same);
-        once = λ b k. let most = begin_most begun b k in omega (arith, most);
+        settled = tt;
+        stays = made.makes.makes.stays;
+        again = λ before b k. let same = ap g.I.Image.reads (made.held before).0 in omega (arith, same);
+        once = λ b k. let most = begin_most made b k in omega (arith, most);
       };
-      leaves = gather_failed c.in_err-begin_paths.field-0.0
-          (record { path = begun.makes.makes.leaves; most = begun.makes.most }) (omega arith);
+      leaves = gather_failed c.in_err-make_path_once.field-0.0
+          (record { path = made.makes.makes.leaves; most = made.makes.most }) (omega arith);
     })
 
 pub gather_paths_and_attr-requires : goal.gather_paths_and_attr-requires
@@ -29,27 +29,27 @@ gather_paths_and_attr-requires g c = grind arith
 pub returns : goal.returns
 returns g c =
     let v = c.args.geometry.now.layout in
-    let begun = c.in_ok-begin_paths.ensures.makes in
-    let read = begun.makes.leaves.reads in
+    let made = c.in_ok-make_path_once.ensures.makes in
+    let read = made.makes.leaves.reads in
     let left = c.gather_paths_and_attr.ensures.leaves in
     record {
       enough = if_ok c.gather_paths_and_attr.result _ _
           (λ a h b k. h c.args.entry.now.dir b
-          (knows_on v _ _ c.args.workspace.now c.begin_paths.new.workspace c.args.entry.now.dir b
+          (knows_on v _ _ c.args.workspace.now c.make_path_once.new.workspace c.args.entry.now.dir b
           (ap (λ d. d.contents) read.read)
-          (windows_leave c.args.workspace.now c.begin_paths.new.workspace read.lists)
-          (windows_keep c.args.workspace.now c.begin_paths.new.workspace read.lists) k.knows) (begun.makes.made b k))
+          (windows_leave c.args.workspace.now c.make_path_once.new.workspace read.lists)
+          (windows_keep c.args.workspace.now c.make_path_once.new.workspace read.lists) k.knows) (made.makes.made b k))
           c.gather_paths_and_attr.ensures.enough;
-      path = λ b k q. rw c.gather_paths_and_attr.ensures.same.1 (begun.makes.made b k);
+      path = λ b k q. rw c.gather_paths_and_attr.ensures.same.1 (made.makes.made b k);
       once = record {
-        begun = on_all c.gather_paths_and_attr.result _ (c.gather_paths_and_attr.ensures.same.0 ∙ begun.makes.begun);
-        stays = λ before. c.gather_paths_and_attr.ensures.same.0 ∙ begun.makes.stays before;
+        settled = on_all c.gather_paths_and_attr.result _ (c.gather_paths_and_attr.ensures.same.0 ∙ made.makes.settled);
+        stays = λ before. c.gather_paths_and_attr.ensures.same.0 ∙ made.makes.stays before;
         again = λ before b k.
-            let same = ap g.I.Image.reads (c.in_ok-begin_paths.ensures.held before).0 in
+            let same = ap g.I.Image.reads (c.in_ok-make_path_once.ensures.held before).0 in
             let few = (left.path.counted b (places_on b read k)).count in
             omega (arith, same, few);
         once = λ b k.
-            let first = begin_once c.in_ok-begin_paths.ensures b k in
+            let first = begin_once c.in_ok-make_path_once.ensures b k in
             let few = (left.path.counted b (places_on b read k)).count in
             let most = verdict_most c.args.verdict.now in
             let owed = ap (λ q. if q then 0 else path_reads) c.gather_paths_and_attr.ensures.same.0 in
@@ -58,11 +58,11 @@ returns g c =
       leaves = record {
         path = record {
           reads = reads_then read left.path.reads;
-          counted = λ b k. few_more (few_then (begun.makes.leaves.counted b k)
+          counted = λ b k. few_more (few_then (made.makes.leaves.counted b k)
               (left.path.counted b (places_on b read k)))
               (let most = verdict_most c.args.verdict.now in omega (arith, most));
           kept_parent = left.path.kept_parent;
         };
-        most = let most = verdict_most c.args.verdict.now in omega (arith, begun.most, left.most, most);
+        most = let most = verdict_most c.args.verdict.now in omega (arith, made.most, left.most, most);
       };
     }

@@ -29,7 +29,7 @@ returns-then-is_silent-clause-lines g c = record {
       c.requires.ready.ready.ready.made k.knows.claims k.knows.survey))
       ∙ silent_lines c.verdict_of-verdict.result _ _ _ _ (sym c.is_silent.ensures ∙ c.if-is_silent.true)));
   path = λ b k. k.path;
-  begun = λ begun. begun;
+  settled = λ settled. settled;
   once = λ b k noted. omega arith;
   counted = λ b k noted. few_none;
   paid = paid_none (omega arith);

@@ -36,12 +36,12 @@ returns-then-self-clause-entry g c = λ b t.
     let none = over.left in
     let rest = ended_rest b s.chunks (s.only c.if-self.true) in
     record {
-      entries = sym (i.entries b t) ∙ (sym (ap (to_come b) over.same) ∙ none_came s.first
+      entries = sym (i.entries b t) ∙ (sym (ap (to_come b) over.same) ∙ none_came s.at_start
           s.index s.order s.chunk s.place _ none rest);
       shape = shape_ended s.right_so_far s.order s.chunk s.chunk s.place _ _ _ _ none rest rest refl
           ∙ (shape_same b _ _ _ _ _ _ same.right_so_far same.fills same.chunks ∙ i.shape b t);
       ended = record { chunks = rest; current = fills_whole s.order s.chunk };
-      over = rw rest (end_seen s.first s.index s.order s.chunk []);
+      over = rw rest (end_seen s.at_start s.index s.order s.chunk []);
     }
 
 pub returns-then-self-clause-reads : goal.returns-then-self-clause-reads
@@ -62,13 +62,13 @@ returns-in-None-2-clause-entry g c = λ b t.
     let over = c.in-None.ensures.taken in
     let none = over.left in
     record {
-      entries = sym (i.entries b t) ∙ (sym (ap (to_come b) over.same) ∙ none_came s.first
+      entries = sym (i.entries b t) ∙ (sym (ap (to_come b) over.same) ∙ none_came s.at_start
           s.index s.order s.chunk s.place (rest b s.chunks) none o.chunks.0);
       shape = shape_ended s.right_so_far s.order s.chunk c.next.new.chunk s.place (rest b s.chunks)
           (rest b c.next.new.self) _ _ none o.chunks.0 o.chunks.1 o.gap
           ∙ (shape_same b _ _ _ _ _ _ same.right_so_far same.fills same.chunks ∙ i.shape b t);
       ended = record { chunks = o.chunks.1; current = fills_whole s.order c.next.new.chunk };
-      over = rw o.chunks.1 (end_seen s.first s.index s.order c.next.new.chunk []);
+      over = rw o.chunks.1 (end_seen s.at_start s.index s.order c.next.new.chunk []);
     }
 
 -- a chunk came
@@ -85,7 +85,7 @@ chunks-preserved g c =
     record {
       entries = λ b t.
           let o = (rw c.in-Some-2.is at next.chunk) b (ap (λ d. d.contents) i.device ∙ t) in
-          chunk_came s.first s.index s.order s.chunks.walk.geometry.layout.order s.chunk s.place (rest b s.chunks)
+          chunk_came s.at_start s.index s.order s.chunks.walk.geometry.layout.order s.chunk s.place (rest b s.chunks)
           c.in-Some-2.offset c.next.new.chunk (rest b c.next.new.self) none (sym s.same_order) o.chunks
           ∙ (ap (to_come b) over.same ∙ i.entries b t);
       shape = λ b t.

@@ -85,7 +85,7 @@ returns-in_err-read_at-clause-stopped g c =
     let s = c.end_chunks.new.self in
     let ended = c.end_chunks.ensures.ended in
     rw (err_from_is_err_and c.from_residual.result c.from_residual.ensures.1).1 (record {
-      entries = λ b. rw (ended_rest b s.chunks ended) (end_seen s.first s.index s.order c.read_at.new.buf []);
+      entries = λ b. rw (ended_rest b s.chunks ended) (end_seen s.at_start s.index s.order c.read_at.new.buf []);
       shape = λ b. refl;
       reads = λ b. rw ended.budget refl;
       held = λ blocks w may. absurd (false≢true (rw ended.budget at may));

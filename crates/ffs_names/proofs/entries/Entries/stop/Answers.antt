@@ -4,7 +4,7 @@ use Rattle.ffs_names.proofs.entries.Entries.stop.Goals as goal
 
 pub returns-clause-stopped : goal.returns-clause-stopped
 returns-clause-stopped c = let s = c.args.self.now in record {
-  entries = λ b. end_seen s.first s.index s.order s.chunk [];
+  entries = λ b. end_seen s.at_start s.index s.order s.chunk [];
   shape = λ b. refl;
   reads = λ b. refl;
   held = λ blocks w may. absurd (false≢true may);

@@ -11,7 +11,7 @@ returns c =
     let entry = entry_value c.in-Some.entry in
     record {
       taken = record {
-        entries = λ b. take_reported s.first s.index s.order s.chunk s.place entry c.role_of-role.result
+        entries = λ b. take_reported s.at_start s.index s.order s.chunk s.place entry c.role_of-role.result
             (rest b s.chunks) c.in-Some.ensures.some c.role_of-role.ensures c.in-Some.ensures.name.0;
         left = omega arith;
         place = omega arith;

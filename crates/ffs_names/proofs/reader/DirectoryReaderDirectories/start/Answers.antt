@@ -39,7 +39,7 @@ returns-clause-rest g c = λ b k.
     let v = t.geometry.layout in
     let dir = is_dir_here g at b k.kinds in
     let read = read_by_cut v b c.args.dir t.geometry.sound dir (c.in_ok-inode.ensures.reads.inode b k.bytes)
-    (note_here g at b k.notes) (rw c.in_default.is at c.address_in.ensures) in
+    (note_here g at b k.notes) c.cut_in.ensures in
     (((rw c.requires.ready.1 at c.restart.ensures.begins) (sym read.is_dir)).gives b read.small).entries
     ∙ (read.entries ∙ sym (ap (λ x. if x then roled_entries (volume_of v b) c.args.dir else []) dir))
 
@@ -50,7 +50,7 @@ returns-clause-shape g c = λ b k.
     let v = t.geometry.layout in
     let dir = is_dir_here g at b k.kinds in
     let read = read_by_cut v b c.args.dir t.geometry.sound dir (c.in_ok-inode.ensures.reads.inode b k.bytes)
-    (note_here g at b k.notes) (rw c.in_default.is at c.address_in.ensures) in
+    (note_here g at b k.notes) c.cut_in.ensures in
     (((rw c.requires.ready.1 at c.restart.ensures.begins) (sym read.is_dir)).gives b read.small).shape
     ∙ (read.shape ∙ sym (ap (λ x. x && is_right_shape (volume_of v b) c.args.dir) dir))
 
@@ -90,7 +90,7 @@ returns-clause-counted g c = λ b k.
     let v = t.geometry.layout in
     let dir = is_dir_here g at b k.kinds in
     let read = read_by_cut v b c.args.dir t.geometry.sound dir (c.in_ok-inode.ensures.reads.inode b k.bytes)
-    (note_here g at b k.notes) (rw c.in_default.is at c.address_in.ensures) in
+    (note_here g at b k.notes) c.cut_in.ensures in
     let begins = (rw c.requires.ready.1 at c.restart.ensures.begins) (sym read.is_dir) in
     let cost = noted_is v b c.args.dir dir in
     let read_one = inode_read v b c.args.dir c.index-note.result.now (note_here g at b k.notes)

@@ -1,5 +1,5 @@
 use Rattle.std.proofs.Common.{arith}
-use Rattle.ffs_pathnames.proofs.entry_texts.make_paths_unlimited.Goals as goal
+use Rattle.ffs_pathnames.proofs.entry_texts.make_path_unlimited.Goals as goal
 
 pub returns-clause-makes : goal.returns-clause-makes
 returns-clause-makes g c = grind arith
