@@ -3,8 +3,8 @@ use Rattle.ffs_memory.proofs.Asking.{granted_both}
 use Rattle.ffs_workspace.proofs.Requests.{both}
 use Rattle.ffs_workspace.proofs.workspace.Windows.in_memory.Goals as goal
 
-pub returns : goal.returns
-returns g c =
+pub returns-clause-made : goal.returns-clause-made
+returns-clause-made g c =
     let empty = c.over-table.ensures.empty in
     let room : vec_len c.over-table.result.window.buffer ≡ c.args.geometry.now.layout.bsize = grind arith in
     record {

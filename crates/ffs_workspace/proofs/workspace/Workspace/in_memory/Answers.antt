@@ -14,10 +14,10 @@ returns-clause-made g c =
         unsurveyed = search rules;
         uncounted = search rules;
         windows = λ contents. record {
-          table = c.in_ok-windows.ensures.new.table_holds contents;
-          blocks = c.in_ok-windows.ensures.new.blocks_hold contents;
-          current = c.in_ok-windows.ensures.new.current_holds contents;
-          other = c.in_ok-windows.ensures.new.other_holds contents;
+          table = c.in_ok-windows.ensures.made.new.table_holds contents;
+          blocks = c.in_ok-windows.ensures.made.new.blocks_hold contents;
+          current = c.in_ok-windows.ensures.made.new.current_holds contents;
+          other = c.in_ok-windows.ensures.made.new.other_holds contents;
         };
       };
       asks = grind (arith, granted_both, both);
