@@ -2,7 +2,9 @@
 
 ghost use Rattle.std.specs.Prelude.{◌≡◌, OnOk};
 ghost use Rattle.ffs_volume.specs.{Blocks.Inodes.inode_of, Report.Whole.phase1b_messages};
-ghost use Rattle.ffs_report.specs.{Known.ForBytes, PhaseOutcome.{ImageAfter, PhaseReports}, Progress.progress};
+ghost use Rattle.ffs_report.specs.{Known.ForBytes, PhaseOutcome.{HeadingFirst, ImageAfter, PhaseReports}};
+ghost use Rattle.ffs_report.specs.Progress.{progress};
+ghost use Rattle.ffs_volume.specs.Messages.Kinds as messages;
 ghost use Rattle.ffs_workspace.specs.{Found.WithPhase1, Ready.IsReady};
 ghost use Rattle.ffs_walk.specs.Keepings.{replay_in};
 ghost use Rattle.ffs_claims.specs.Moments.{after_one_read, claim_moment, phase_moment};
@@ -121,6 +123,8 @@ fn phase1b_unlimited<I: Image, W: Output>(
         (WithPhase1 geometry.now.layout (I.device image.old) workspace.old)
         (phase1b_messages geometry.now.layout) (progress W.sink report.old)
         (progress W.sink report.new) result }
+    ensures heading { HeadingFirst messages.phase1b (progress W.sink report.old)
+        (progress W.sink report.new) result }
     ensures leaves { OnOk result (ForBytes
         (WithPhase1 geometry.now.layout (I.device image.old) workspace.old)
         (λ bytes. IsLeftByPhase1b geometry.now.layout bytes workspace.new)) }
@@ -161,6 +165,8 @@ pub fn phase1b<I: Image, W: Output>(
     ensures text { PhaseReports
         (WithPhase1 geometry.now.layout (I.device image.old) workspace.old)
         (phase1b_messages geometry.now.layout) (progress W.sink report.old)
+        (progress W.sink report.new) result }
+    ensures heading { HeadingFirst messages.phase1b (progress W.sink report.old)
         (progress W.sink report.new) result }
     ensures leaves { OnOk result (ForBytes
         (WithPhase1 geometry.now.layout (I.device image.old) workspace.old)

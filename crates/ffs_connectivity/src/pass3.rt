@@ -1,8 +1,10 @@
 //! Phase 3: connectivity (fsck(8)).
 
 ghost use Rattle.std.specs.Prelude.{◌≡◌, ◌<◌, ◌≤◌, ◌+◌, ◌^◌, length, vec_len};
-ghost use Rattle.ffs_report.specs.{Known.ForBytes, Paid.Paid, PhaseOutcome.{ImageAfter, PhaseReports}, Progress.progress};
+ghost use Rattle.ffs_report.specs.{Known.ForBytes, Paid.Paid, PhaseOutcome.{HeadingFirst, ImageAfter, PhaseReports}};
+ghost use Rattle.ffs_report.specs.Progress.{progress};
 ghost use Rattle.ffs_volume.specs.{Directories.Connectivity.connectivity_lines, Report.Whole.phase3_messages};
+ghost use Rattle.ffs_volume.specs.Messages.Kinds as messages;
 ghost use Rattle.ffs_volume.specs.Directories.Volumes.{volume_of};
 ghost use Rattle.ffs_connectivity.specs.Unreached.{IsFirstUnreached};
 ghost use Rattle.ffs_workspace.specs.{Found.WithSurvey, Leaves.LeavesSurvey, Ready.IsReady};
@@ -54,6 +56,8 @@ pub fn phase3<I: Image, W: Output>(
     ensures text { PhaseReports
         (WithSurvey geometry.now.layout (I.device image.old) workspace.old)
         (phase3_messages geometry.now.layout) (progress W.sink report.old)
+        (progress W.sink report.new) result }
+    ensures heading { HeadingFirst messages.phase3 (progress W.sink report.old)
         (progress W.sink report.new) result }
     ensures leaves { LeavesSurvey workspace.old workspace.new }
 

@@ -3,7 +3,9 @@
 ghost use Rattle.std.specs.Prelude.{◌≡◌, ◌<◌, ◌≤◌, ◌+◌, ℕ, false, map, length, slice_index, vec_len};
 ghost use Rattle.ffs_volume.specs.{Messages.Kinds.of_tree, Report.Whole.phase4_messages};
 ghost use Rattle.ffs_volume.specs.Directories.{ReferenceCheck.{reference_lines, reference_lines_at}, Volumes.volume_of};
-ghost use Rattle.ffs_report.specs.{Known.ForBytes, Paid.Paid, PhaseOutcome.{ImageAfter, PhaseReports}, Progress.progress};
+ghost use Rattle.ffs_report.specs.{Known.ForBytes, Paid.Paid, PhaseOutcome.{HeadingFirst, ImageAfter, PhaseReports}};
+ghost use Rattle.ffs_report.specs.Progress.{progress};
+ghost use Rattle.ffs_volume.specs.Messages.Kinds as messages;
 ghost use Rattle.ffs_workspace.specs.{Found.WithFindings, Ready.{IsReady, KeepsWindows}};
 ghost use Rattle.ffs_counts.specs.{Ready.{CanCheckAllocated, HasElements, AreUnallocated, AreUnallocatedFrom}, References.is_dead_by};
 ghost use Rattle.ffs_counts.specs.{References.{is_right_by}, Passed.{AreRightFrom, ArePassedFrom, CanPass}};
@@ -210,6 +212,8 @@ pub fn phase4<I: Image, W: Output>(
     ensures text { PhaseReports
         (WithFindings geometry.now.layout (I.device image.old) workspace.old)
         (phase4_messages geometry.now.layout) (progress W.sink report.old)
+        (progress W.sink report.new) result }
+    ensures heading { HeadingFirst messages.phase4 (progress W.sink report.old)
         (progress W.sink report.new) result }
     ensures leaves { workspace.new ≡ record workspace.old { windows = workspace.new.windows } }
 

@@ -4,7 +4,8 @@ ghost use Rattle.std.specs.Prelude.{◌≡◌, ◌+◌, ◌≤◌};
 ghost use Rattle.ffs_volume.specs.Report.Reads.{group_reads};
 ghost use Rattle.ffs_volume.specs.Report.Whole.{phase5_messages};
 ghost use Rattle.ffs_layout.specs.Super.{superblock_in};
-ghost use Rattle.ffs_report.specs.{Progress.progress, PhaseOutcome.{ImageAfter, PhaseReports}};
+ghost use Rattle.ffs_report.specs.{Progress.progress, PhaseOutcome.{HeadingFirst, ImageAfter, PhaseReports}};
+ghost use Rattle.ffs_volume.specs.Messages.Kinds as messages;
 ghost use Rattle.ffs_workspace.specs.{Found.WithClaims, Ready.IsReady};
 
 use crate::groups::read_group;
@@ -24,6 +25,7 @@ use ffs_workspace::Workspace;
 ///
 /// # Errors
 /// A read of the image that failed, and a write of the report that failed.
+#[tactic(auto, using(std::proofs::lemmas::Result::err_from_is_err_and, ffs_report::proofs::Reporting::heading_reads, ffs_report::proofs::Reporting::heading_stops, ffs_report::proofs::Reporting::heading_then))]
 pub fn phase5<I: Image, W: Output>(
     superblock: &Super,
     image: &mut I,
@@ -36,6 +38,8 @@ pub fn phase5<I: Image, W: Output>(
         (WithClaims superblock.now.geometry.layout (I.device image.old) workspace.old)
         (λ bytes. phase5_messages bytes (superblock_in superblock.now))
         (progress W.sink report.old) (progress W.sink report.new) result }
+    ensures heading { HeadingFirst messages.phase5 (progress W.sink report.old)
+        (progress W.sink report.new) result }
     ensures leaves { workspace.new ≡ record workspace.old { windows = workspace.new.windows } }
     ensures reads { I.reads image.new
         ≤ I.reads image.old + group_reads superblock.now.geometry.layout }

@@ -1,6 +1,7 @@
 //! Phase 2: pathnames (fsck(8)).
 ghost use Rattle.std.specs.Prelude.{◌≡◌, ◌+◌, ◌*◌, ◌∷◌, [], false, true, length, map, slice_index, vec_len, ◌&&◌, not, ℕ, IfOk, OnErr};
-ghost use Rattle.ffs_report.specs.{Known.ForBytes, Paid.Paid, PhaseOutcome.{ImageAfter, PhaseReports}, Progress.progress};
+ghost use Rattle.ffs_report.specs.{Known.ForBytes, Paid.Paid, PhaseOutcome.{HeadingFirst, ImageAfter, PhaseReports}};
+ghost use Rattle.ffs_report.specs.Progress.{progress};
 ghost use Rattle.ffs_volume.specs.Directories.{PathnameCheck.pathname_lines, Volumes.volume_of};
 ghost use Rattle.ffs_volume.specs.{Encodings.Kinds.is_dir_kind, Messages.Kinds.of_tree, Report.Reads.{line_reads, sweep_reads}};
 ghost use Rattle.ffs_volume.specs.Report.Whole.{phase2_messages};
@@ -60,6 +61,8 @@ pub fn phase2<I: Image, W: Output>(
     ensures text { PhaseReports
         (WithClaims geometry.now.layout (I.device image.old) workspace.old)
         (phase2_messages geometry.now.layout) (progress W.sink report.old)
+        (progress W.sink report.new) result }
+    ensures heading { HeadingFirst messages.phase2 (progress W.sink report.old)
         (progress W.sink report.new) result }
     ensures leaves { Phase2Ends geometry.now.layout (I.device image.old) workspace.old
         workspace.new (progress W.sink report.old) (progress W.sink report.new) result }

@@ -3,7 +3,8 @@ use Rattle.std.proofs.Common.{◌≡◌, refl, ◌∙◌, sym, ℕ, List, [], �
 use Rattle.std.proofs.Common.{◌∷◌}
 use Rattle.ffs_volume.specs.Messages.Kinds.{Message}
 use Rattle.ffs_report.specs.{Progress.{Progress, Said, Stopped}, Known.ForBytes, PhaseOutcome.{SaidTo, SaidOf}}
-use Rattle.ffs_report.{specs.PhaseOutcome.{SaidPrefixOf, StoppedOf, PhaseReports}, proofs.Reports.said_none}
+use Rattle.ffs_report.specs.PhaseOutcome.{HeadingFirst, PhaseReports, SaidPrefixOf, StoppedOf}
+use Rattle.ffs_report.proofs.Reports.{said_none}
 use Rattle.ffs_report.{proofs.Reports.{said_then, stopped_after, stopped_more}, specs.declared.fault.RunFault.RunFault}
 use Rattle.ffs_report.specs.declared.fault.RunFault.TheVariants.{Read, Out}
 
@@ -163,3 +164,33 @@ pub reports_same : (T : Type 0) (knows : List ℕ → Type 0) (all all' : List �
     (r : Result T RunFault) →
     ForBytes knows (λ bytes. all bytes ≡ all' bytes) → PhaseReports knows all a b r → PhaseReports knows all' a b r
 reports_same T knows all all' a b r e p = reports_by T knows knows all all' a b r (λ bytes k. k) e p
+
+-- ---- the heading, of any image
+pub heading_alone : {T : Type 0} {heading : Message} {a b : Progress} {x : T} → Said a b (heading ∷ []) →
+    HeadingFirst heading a b (Ok x)
+heading_alone said = record { more = []; says = said }
+
+-- messages after it
+pub heading_then : {T U : Type 0} {heading : Message} {a b c : Progress} {x : T} {y : U} (ms : List Message) →
+    HeadingFirst heading a b (Ok x) → Said b c ms → HeadingFirst heading a c (Ok y)
+heading_then {heading = heading} {a = a} {b = b} {c = c} ms p q =
+    record { more = p.more ++ ms; says = said_then a b c (heading ∷ p.more) ms p.says q }
+
+-- a read that failed after it
+pub heading_reads : {T U : Type 0} {heading : Message} {a b : Progress} {x : T} {fault : _} →
+    HeadingFirst heading a b (Ok x) → HeadingFirst {T = U} heading a b (Err (Read fault))
+heading_reads p = record { more = p.more; says = p.says }
+
+-- the output failed among messages after it
+pub heading_stops : {T U : Type 0} {heading : Message} {a b c : Progress} {x : T} {fault : _} (ms : List Message) →
+    HeadingFirst heading a b (Ok x) → Stopped b c ms → HeadingFirst {T = U} heading a c (Err (Out fault))
+heading_stops {heading = heading} {a = a} {b = b} {c = c} ms p q =
+    record { more = p.more ++ ms; says = stopped_after a b c (heading ∷ p.more) ms p.says q }
+
+-- a part of a phase after it
+pub heading_part : {T U : Type 0} {heading : Message} (knows : List ℕ → Type 0) (part : List ℕ → List Message)
+    {a b c : Progress} {x : T} (r : Result U RunFault) → HeadingFirst heading a b (Ok x) →
+    PhaseReports knows part b c r → HeadingFirst heading a c r
+heading_part knows part (Ok y) p q = heading_then q.messages p q.said
+heading_part knows part (Err (Read fault)) p q = heading_reads (heading_then {y = tt {0}} q.prefix.messages p q.prefix.said)
+heading_part knows part (Err (Out fault)) p q = heading_stops q.messages p q.stopped

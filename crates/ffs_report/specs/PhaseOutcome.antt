@@ -1,7 +1,7 @@
 -- What a phase leaves of its image and of its report, by its answer. `knows` is what is known of
 -- the image's bytes: that the image gives them, and what the workspace holds of them. Where nothing
--- is known, messages were said, and nothing is promised of which.
-use Rattle.std.specs.Prelude.{◌≡◌, ℕ, List, [], ◌++◌, Result, Ok, Err}
+-- is known, messages were said, and of which is promised only that a phase's heading is the first.
+use Rattle.std.specs.Prelude.{◌≡◌, ℕ, List, [], ◌∷◌, ◌++◌, Result, Ok, Err}
 use Rattle.ffs_image.specs.Device.{Device, Faulted}
 use Rattle.ffs_volume.specs.Messages.Kinds.{Message}
 use Rattle.ffs_report.specs.{Progress.{Progress, Said, Stopped}, Known.ForBytes, declared.fault.RunFault.RunFault}
@@ -43,3 +43,15 @@ abbrev pub PhaseReports : {T : Type 0} → (List ℕ → Type 0) → (List ℕ �
 PhaseReports knows all old new (Ok x) = SaidOf knows (λ bytes. []) all old new
 PhaseReports knows all old new (Err (Read fault)) = SaidPrefixOf knows all old new
 PhaseReports knows all old new (Err (Out fault)) = StoppedOf knows all old new
+
+-- the outcome of saying these messages, by an answer that may be a read's fault: they were said before that
+abbrev pub SaysBeforeFault : {T : Type 0} → List Message → Progress → Progress → Result T RunFault → Type 0
+SaysBeforeFault messages old new (Ok x) = Said old new messages
+SaysBeforeFault messages old new (Err (Read fault)) = Said old new messages
+SaysBeforeFault messages old new (Err (Out fault)) = Stopped old new messages
+
+-- of any image the heading is the first of the messages: no read failed before it was said
+pub record HeadingFirst {T : Type 0} (heading : Message) (old new : Progress) (result : Result T RunFault) : Type 0
+  where
+    pub more : List Message
+    pub says : SaysBeforeFault (heading ∷ more) old new result

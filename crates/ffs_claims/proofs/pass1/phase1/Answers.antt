@@ -1,11 +1,11 @@
-use Rattle.std.proofs.Common.{◌≡◌, ◌+◌, false, arith, refl, sym, ◌-◌, ◌≤◌, ◌<◌, ap, ◌∙◌, Err, inl, inr, ◌*◌}
+use Rattle.std.proofs.Common.{◌≡◌, ◌+◌, false, arith, refl, sym, ◌-◌, ◌≤◌, ◌<◌, ap, ◌∙◌, Err, Ok, inl, inr, ◌*◌}
 use Rattle.std.proofs.lemmas.{Result.err_from_is_err_and, Bool.cases_lt}
 use Rattle.ffs_volume.{proofs.OwnerLaws.before_next, specs.Blocks.{BlockCheck.phase1_lines, Claims.after_owner}}
 use Rattle.ffs_volume.specs.{Blocks.{KeptSteps.claims_before, Owners.{owner_of, owners_of}}, Report.Whole.run_count}
 use Rattle.ffs_volume.specs.Blocks.Claims.{all_claims}
 use Rattle.ffs_volume.{specs.{Blocks.Inodes.inodes_of, Laws.ClaimBounds.used_bits}, proofs.Sizes.some_inodes}
 use Rattle.ffs_report.proofs.Reporting.{of_part, of_fault, of_same, reports_knowing, says_heading, stops_heading}
-use Rattle.ffs_report.{proofs.Reporting.said_knows, specs.Known.ForBytes}
+use Rattle.ffs_report.{proofs.Reporting.{heading_alone, heading_part, said_knows}, specs.Known.ForBytes}
 use Rattle.ffs_workspace.{proofs.Leaving.fresh_held, specs.{Found.WithFresh, Holds.claims_of}}
 use Rattle.ffs_workspace.specs.declared.workspace.Workspace.{Workspace}
 use Rattle.ffs_claims.proofs.Duplicates.{any_set, rescan_is}
@@ -52,6 +52,7 @@ loop-number-init g c =
       claims = λ bytes k. c.reserve.ensures.claims (fresh_surveyed (fresh k.1)) ∙ sym (before_first v bytes);
       found = λ bytes k. found_begins bytes (fresh_surveyed (fresh k.1)) found;
       said = says_heading (λ bytes k. rw (c.reserve.ensures.claims (fresh_surveyed (fresh k.1))) refl) c.in_ok-say.ensures.said;
+      heading = heading_alone c.in_ok-say.ensures.said;
     }
 
 pub claim_inode-requires : goal.claim_inode-requires
@@ -109,6 +110,7 @@ loop-number-preserved g c =
     (λ held. (c.claim_inode.ensures.table.again held).0)
     (λ held. c.claim_inode.ensures.table.known held bytes (contents ∙ k.0)) c.in_ok-claim_inode.ensures.table.block
     (c.claim_inode.ensures.claims.known bytes (contents ∙ k.0)) (inv.known bytes k) in
+    let heading = heading_part _ _ {x = tt {0}} (Ok (tt {0})) inv.heading c.in_ok-claim_inode.ensures.claims.text in
     elim (cases_lt (n + 1) next) [
       | inl some ↦
           let free : ForBytes (WithFresh v (g.I.Image.device c.args.image.now) c.args.workspace.now)
@@ -130,6 +132,7 @@ loop-number-preserved g c =
                 (stands bytes k)).found;
             said = of_same _ _ _ _ _ _ said
                 (λ bytes k. lines_later v bytes s' (n + 1) next some passes.ends.high (free bytes k));
+            heading = heading;
           })
       | inr none ↦
           let is : next ≡ n + 1 = omega (arith, none, passes.ends.low) in
@@ -146,6 +149,7 @@ loop-number-preserved g c =
             claims = λ bytes k. (stands bytes k).claims;
             found = λ bytes k. (stands bytes k).found;
             said = said;
+            heading = heading;
           })
     ]
 
@@ -220,3 +224,6 @@ returns-clause-reads g c =
           omega (arith, ap (λ s. s.runs) (inv.claims bytes k), runs_most v bytes c.loop-number.number inv.low inv.high);
       known = λ bytes k. read_all sound (omega (arith, inv.high, some_inodes v sound)) (inv.known bytes k);
     }
+
+pub returns-in_err-claim_inode-clause-heading : goal.returns-in_err-claim_inode-clause-heading
+returns-in_err-claim_inode-clause-heading g c = grind (arith, err_from_is_err_and, heading_part)

@@ -1,7 +1,7 @@
-use Rattle.std.proofs.Common.{false, ◌≡◌, ◌+◌, ◌-◌, ◌*◌, ◌<◌, ◌≤◌, ◌∷◌}
+use Rattle.std.proofs.Common.{false, ◌≡◌, ◌+◌, ◌-◌, ◌*◌, ◌<◌, ◌≤◌, ◌∷◌, Ok}
 use Rattle.ffs_volume.specs.Blocks.{BlockCheck.lines_of_owners, BlockCheck.phase1_lines, KeptSteps.claims_before}
 use Rattle.ffs_volume.specs.{Blocks.Owners.owners_of, Laws.ClaimBounds.used_bits, Messages.Kinds.phase1}
-use Rattle.ffs_report.specs.{Known.ForBytes, PhaseOutcome.SaidOf, Progress.progress}
+use Rattle.ffs_report.specs.{Known.ForBytes, PhaseOutcome.{HeadingFirst, SaidOf}, Progress.progress}
 use Rattle.ffs_workspace.specs.{Found.WithFresh, Holds.claims_of}
 use Rattle.ffs_volume.specs.Blocks.Inodes.{inodes_of}
 use Rattle.ffs_claims.proofs.{IndirectReads.VolumeRead, Numbers.FoundTo, TableReads.BlocksRead}
@@ -28,6 +28,8 @@ invariant-loop-number g l = let v = l.geometry.layout in
       said : SaidOf knows (λ bytes. of_lines (lines_of_owners v (claims_of l.workspace) (owners_from v bytes l.number)))
           (λ bytes. phase1 ∷ of_lines (phase1_lines v (owners_of v bytes)))
           (progress g.W.Output.sink l.fn.report) (progress g.W.Output.sink l.report);
+      heading : HeadingFirst {T = Unit {0}} phase1 (progress g.W.Output.sink l.fn.report)
+          (progress g.W.Output.sink l.report) (Ok tt);
     }
 
 abbrev pub decreases-loop-number : goal.decreases-loop-number

@@ -1,7 +1,7 @@
 use Rattle.std.proofs.{Common.{◌≡◌, ◌∙◌, false, ap, arith}}
 use Rattle.ffs_image.specs.Device.{Device}
 use Rattle.ffs_volume.proofs.{RunBounds.runs_bounded}
-use Rattle.ffs_report.specs.Known.{ForBytes}
+use Rattle.ffs_report.{specs.Known.ForBytes, proofs.Reporting.reports_knowing}
 use Rattle.ffs_workspace.{specs.Found.WithPhase1}
 use Rattle.ffs_claims.proofs.{pass1b.phase1b.Goals.After-is_spent}
 use Rattle.ffs_claims.proofs.pass1b.phase1b.Given as given
@@ -39,7 +39,8 @@ pub returns-clause-faults : goal.returns-clause-faults
 returns-clause-faults g c = grind arith
 
 pub returns-clause-text : goal.returns-clause-text
-returns-clause-text g c = grind arith
+returns-clause-text g c = reports_knowing (Unit {0}) _ _ _ _ _ c.phase1b_unlimited-scanned.result
+    (known g (goal.at.returns-clause-text g c).After-is_spent) c.phase1b_unlimited-scanned.ensures.text
 
 pub returns-clause-leaves : goal.returns-clause-leaves
 returns-clause-leaves g c = grind arith

@@ -1,9 +1,10 @@
-use Rattle.std.proofs.Common.{Result, ◌≡◌, ◌≤◌, ◌+◌, ◌-◌, ◌^◌, ◌<◌, ◌∷◌, [], arith, refl, ap, ◌∙◌, Err}
+use Rattle.std.proofs.Common.{Result, Ok, ◌≡◌, ◌≤◌, ◌+◌, ◌-◌, ◌^◌, ◌<◌, ◌∷◌, [], arith, refl, ap, ◌∙◌, Err}
 use Rattle.std.proofs.lemmas.Result.{err_from_is_err_and}
 use Rattle.ffs_volume.{proofs.RunBounds.runs_bounded, specs.Blocks.BlockCheck.{first_offer_lines, phase1b_lines}}
 use Rattle.ffs_volume.specs.{Blocks.{KeptSteps.claims_before, Owners.owners_of}, Messages.Kinds.phase1b}
 use Rattle.ffs_report.proofs.Reporting.{of_begins, of_says, of_part, of_fault, of_stops, of_same, reports_knowing}
-use Rattle.ffs_report.{proofs.Reporting.said_knows, specs.{Known.ForBytes, declared.fault.RunFault.RunFault}}
+use Rattle.ffs_report.proofs.Reporting.{heading_alone, heading_part, said_knows}
+use Rattle.ffs_report.specs.{Known.ForBytes, declared.fault.RunFault.RunFault}
 use Rattle.ffs_maps.specs.Bits.{bits_of}
 use Rattle.ffs_workspace.specs.{Found.WithPhase1, declared.workspace.Workspace.Workspace}
 use Rattle.ffs_volume.specs.Blocks.{Inodes.inodes_of, Claims.all_claims, BlockCheck.{set_count, after_first}}
@@ -65,6 +66,7 @@ loop-number-init g c =
           (λ bytes. of_lines (first_offer_lines d (kept_from v bytes 2))) _ (phase1b ∷ []) _ _ _
           (of_begins _ (λ bytes. phase1b ∷ of_lines (phase1b_lines v (owners_of v bytes))) _)
           (λ bytes k. rw (before_first v bytes, same, k.1.duplicates) refl) c.in_ok-say.ensures.said;
+      heading = heading_alone c.in_ok-say.ensures.said;
     }
 
 pub returns-in_err-rewalk_inode-clause-faults : goal.returns-in_err-rewalk_inode-clause-faults
@@ -173,6 +175,7 @@ loop-number-preserved g c =
           (λ bytes k. lines_split d d' _ _ _ (kept_next v bytes notes n (noted bytes k))
           (rewalks.rewalked bytes (image ∙ k.0)).reported.duplicates)
           (said_knows _ _ _ _ _ _ (λ bytes k. image ∙ k.0) rewalks.text);
+      heading = heading_part _ _ (Ok tt) inv.heading rewalks.text;
     }
 
 pub returns-then-not-has_unreported_dups : goal.returns-then-not-has_unreported_dups
@@ -185,6 +188,7 @@ returns-then-not-has_unreported_dups g c =
     let none = none_left (set_count d) _ c.has_unreported_dups.ensures c.if-not-has_unreported_dups.true in
     record {
       faults = inv.device;
+      heading = inv.heading;
       text = of_same _ _ (λ bytes. []) _ _ _ inv.said
           (λ bytes k. ap of_lines (none_first d (kept_from v bytes n) none));
       leaves = λ bytes k. record {
@@ -213,6 +217,7 @@ returns-after-loop-number g c =
     let past : inodes_of v ≤ n = omega arith in
     record {
       faults = inv.device;
+      heading = inv.heading;
       text = of_same _ _ (λ bytes. []) _ _ _ inv.said (λ bytes k. ap (λ os. of_lines (first_offer_lines d os))
           (kept_end v bytes (claims_before v bytes n) n past));
       leaves = λ bytes k. record {
@@ -232,3 +237,6 @@ returns-after-loop-number g c =
       stays = inv.claims;
       ready = inv.ready.ready;
     }
+
+pub returns-in_err-rewalk_inode-clause-heading : goal.returns-in_err-rewalk_inode-clause-heading
+returns-in_err-rewalk_inode-clause-heading g c = grind (arith, err_from_is_err_and, heading_part)

@@ -1,8 +1,8 @@
-use Rattle.std.proofs.Common.{◌≡◌, ◌+◌, ◌-◌, ◌<◌, ◌≤◌, ◌∷◌}
+use Rattle.std.proofs.Common.{◌≡◌, ◌+◌, ◌-◌, ◌<◌, ◌≤◌, ◌∷◌, Ok}
 use Rattle.ffs_volume.specs.Blocks.{BlockCheck.{first_offer_lines, phase1b_lines, rescan_runs}, Claims.no_claims}
 use Rattle.ffs_volume.specs.Blocks.{KeptOffers.kept_in_owners, KeptSteps.claims_before, Owners.owners_of}
 use Rattle.ffs_volume.specs.{Messages.Kinds.phase1b, Blocks.{Inodes.inodes_of, BlockCheck.runs_until_reported}}
-use Rattle.ffs_report.specs.{Known.ForBytes, PhaseOutcome.SaidOf, Progress.progress}
+use Rattle.ffs_report.specs.{Known.ForBytes, PhaseOutcome.{HeadingFirst, SaidOf}, Progress.progress}
 use Rattle.ffs_maps.specs.Bits.{bits_of}
 use Rattle.ffs_workspace.specs.{Found.WithPhase1, Ready.CanRead}
 use Rattle.ffs_claims.{proofs.{IndirectReads.VolumeRead, Reportings.Reporting, Rescanned.{each_from, kept_from, runs_from}}}
@@ -32,4 +32,6 @@ invariant-loop-number g l = let v = l.geometry.layout in
           (λ bytes. of_lines (first_offer_lines (bits_of l.workspace.duplicates) (kept_from v bytes l.number)))
           (λ bytes. phase1b ∷ of_lines (phase1b_lines v (owners_of v bytes)))
           (progress g.W.Output.sink l.fn.report) (progress g.W.Output.sink l.report);
+      heading : HeadingFirst {T = Unit {0}} phase1b (progress g.W.Output.sink l.fn.report)
+          (progress g.W.Output.sink l.report) (Ok tt);
     }

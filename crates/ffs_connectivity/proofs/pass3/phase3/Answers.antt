@@ -1,9 +1,9 @@
-use Rattle.std.proofs.Common.{◌+◌, ap, refl, ◌∙◌, arith, rules, Err}
+use Rattle.std.proofs.Common.{◌+◌, ap, refl, ◌∙◌, arith, rules, Err, Ok}
 use Rattle.std.proofs.lemmas.Result.{err_from_is_err_and}
 use Rattle.ffs_volume.{specs.Directories.Volumes.volume_of, proofs.Numbered.{as_many, count_next, from_next, from_end}}
 use Rattle.ffs_report.{specs.Known.ForBytes, proofs.Paying.{paid_answer, paid_fault, paid_says, paid_stops, paid_then}}
 use Rattle.ffs_report.proofs.Reporting.{of_fault, of_part, of_same, reports_knowing, said_knows, says_heading}
-use Rattle.ffs_report.proofs.Reporting.{stops_heading}
+use Rattle.ffs_report.proofs.Reporting.{heading_alone, heading_part, stops_heading}
 use Rattle.ffs_workspace.{specs.{Found.WithSurvey, declared.workspace.Workspace.Workspace}, proofs.PlaceLaws.filled_noted}
 use Rattle.ffs_volume.specs.Blocks.Inodes.{inodes_of}
 use Rattle.ffs_workspace.proofs.Leaving.{claims_left, survey_left, leaves_more, windows_leave}
@@ -61,6 +61,7 @@ loop-number-init g c =
       said = says_heading
           (λ bytes k. lines_begin v bytes c.args.workspace.now _ _ kinds reached k.1 k.2
           c.first_unreached-first.result (omega arith) c.first_unreached-first.ensures.before) c.in_ok-say.ensures.said;
+      heading = heading_alone c.in_ok-say.ensures.said;
       paid = paid_says _ c.in_ok-say.ensures.said (omega arith) (omega arith);
     }
 
@@ -94,6 +95,7 @@ loop-number-preserved g c =
       said = of_part _ _ _ _ _ _ _ _ inv.said
           (λ bytes k. from_next (unref_dir_lines (volume_of v bytes)) n (inodes_of v) (omega arith))
           (said_knows _ _ _ _ _ _ more ok.text);
+      heading = heading_part _ _ (Ok tt) inv.heading ok.text;
       paid = paid_then inv.paid (paid_answer ok.paid);
     }
 
@@ -117,3 +119,6 @@ returns-clause-paid g c = grind (arith, paid_answer)
 
 pub returns-in_err-report_lost-clause-leaves : goal.returns-in_err-report_lost-clause-leaves
 returns-in_err-report_lost-clause-leaves g c = grind arith
+
+pub returns-in_err-report_lost-clause-heading : goal.returns-in_err-report_lost-clause-heading
+returns-in_err-report_lost-clause-heading g c = grind (arith, err_from_is_err_and, heading_part)

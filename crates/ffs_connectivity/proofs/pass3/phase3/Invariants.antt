@@ -1,7 +1,7 @@
 use Rattle.std.proofs.Common.{◌≡◌, ◌+◌, ◌-◌, ◌≤◌, length, Ok}
-use Rattle.ffs_report.specs.{Known.ForBytes, Paid.Paid, PhaseOutcome.SaidOf, Progress.progress}
+use Rattle.ffs_report.specs.{Known.ForBytes, Paid.Paid, PhaseOutcome.{HeadingFirst, SaidOf}, Progress.progress}
 use Rattle.ffs_volume.specs.{Directories.{Connectivity.connectivity_lines, Volumes.volume_of}, Report.Whole.phase3_messages}
-use Rattle.ffs_volume.specs.{Messages.Kinds.{lines_from}, Blocks.Inodes.inodes_of}
+use Rattle.ffs_volume.specs.{Messages.Kinds.{lines_from, phase3}, Blocks.Inodes.inodes_of}
 use Rattle.ffs_workspace.specs.{Found.WithSurvey, Leaves.LeavesSurvey, Ready.CanRead}
 use Rattle.ffs_connectivity.{specs.{Leaders.HasLeaders, Lines.unref_dir_lines}, proofs.UnrefLines.lines_after}
 use Rattle.ffs_connectivity.proofs.pass3.phase3.Given as goal
@@ -21,6 +21,8 @@ invariant-loop-number g l = let v = l.geometry.layout in record {
       (lines_after v l.number)
       (phase3_messages v)
       (progress g.W.Output.sink l.fn.report) (progress g.W.Output.sink l.report);
+  heading : HeadingFirst {T = Unit {0}} phase3 (progress g.W.Output.sink l.fn.report)
+      (progress g.W.Output.sink l.report) (Ok tt);
   paid : Paid {T = Unit {0}} 1 (progress g.W.Output.sink l.fn.report) (progress g.W.Output.sink l.report)
       (g.I.Image.reads l.fn.image) (g.I.Image.reads l.image) (Ok tt);
 }

@@ -1,9 +1,9 @@
-use Rattle.std.proofs.{Common.{◌≡◌, ◌∙◌, ◌+◌, arith, Err, refl}, lemmas.Result.err_from_is_err_and}
+use Rattle.std.proofs.{Common.{◌≡◌, ◌∙◌, ◌+◌, arith, Err, Ok, refl}, lemmas.Result.err_from_is_err_and}
 use Rattle.ffs_volume.specs.Directories.{ReferenceCheck.reference_lines_at, Volumes.volume_of}
 use Rattle.ffs_volume.{proofs.Numbered.{as_many, count_next, from_next, from_end}, specs.Blocks.Inodes.inodes_of}
 use Rattle.ffs_report.{specs.Known.ForBytes, proofs.Paying.{paid_answer, paid_fault, paid_says, paid_stops, paid_then}}
 use Rattle.ffs_report.proofs.Reporting.{of_fault, of_part, of_same, reports_knowing, said_knows, says_heading}
-use Rattle.ffs_report.proofs.Reporting.{stops_heading}
+use Rattle.ffs_report.proofs.Reporting.{heading_alone, heading_part, stops_heading}
 use Rattle.ffs_workspace.specs.{Found.WithFindings}
 use Rattle.ffs_workspace.proofs.Leaving.{findings_held}
 use Rattle.ffs_counts.proofs.Holding.{held_on, lines_after, lines_begin, passed_lines}
@@ -46,6 +46,7 @@ loop-number-init g c =
       held = c.forget_windows.ensures.only;
       reads = λ bytes k. let all = as_many _ _ (lines_begin v bytes) in omega (arith, all);
       said = says_heading (λ bytes k. lines_begin v bytes) c.in_ok-say.ensures.said;
+      heading = heading_alone c.in_ok-say.ensures.said;
       paid = paid_says _ c.in_ok-say.ensures.said (omega arith) (omega arith);
     }
 
@@ -80,6 +81,7 @@ loop-number-preserved-then-passed-eq0 g c =
           (λ bytes k. from_next (reference_lines_at (volume_of v bytes)) n (inodes_of v)
           (omega (arith, c.loop-number-test.true)))
           (said_knows _ _ _ _ _ _ more ok.text);
+      heading = heading_part _ _ (Ok tt) inv.heading ok.text;
       paid = paid_then inv.paid (paid_answer ok.paid);
     }
 
@@ -100,3 +102,6 @@ returns-in_err-report_references-clause-paid g c = grind (arith, err_from_is_err
 
 pub returns-clause-paid : goal.returns-clause-paid
 returns-clause-paid g c = grind (arith, paid_answer)
+
+pub returns-in_err-report_references-clause-heading : goal.returns-in_err-report_references-clause-heading
+returns-in_err-report_references-clause-heading g c = grind (arith, err_from_is_err_and, heading_part)

@@ -1,7 +1,7 @@
 use Rattle.std.proofs.Common.{◌≡◌, ◌+◌, ◌-◌, ◌≤◌, length, Ok}
-use Rattle.ffs_report.specs.{Known.ForBytes, Paid.Paid, PhaseOutcome.SaidOf, Progress.progress}
+use Rattle.ffs_report.specs.{Known.ForBytes, Paid.Paid, PhaseOutcome.{HeadingFirst, SaidOf}, Progress.progress}
 use Rattle.ffs_volume.specs.Directories.{ReferenceCheck.{reference_lines_at, reference_lines}, Volumes.volume_of}
-use Rattle.ffs_volume.specs.{Messages.Kinds.lines_from, Report.Whole.phase4_messages, Blocks.Inodes.inodes_of}
+use Rattle.ffs_volume.specs.{Messages.Kinds.{lines_from, phase4}, Report.Whole.phase4_messages, Blocks.Inodes.inodes_of}
 use Rattle.ffs_workspace.specs.{Found.WithFindings, Ready.CanRead}
 use Rattle.ffs_counts.proofs.Holding.{lines_after}
 use Rattle.ffs_counts.proofs.pass4.phase4.Given as goal
@@ -21,6 +21,8 @@ invariant-loop-number g l = record {
       (lines_after l.geometry.layout l.number)
       (phase4_messages l.geometry.layout)
       (progress g.W.Output.sink l.fn.report) (progress g.W.Output.sink l.report);
+  heading : HeadingFirst {T = Unit {0}} phase4 (progress g.W.Output.sink l.fn.report)
+      (progress g.W.Output.sink l.report) (Ok tt);
   paid : Paid {T = Unit {0}} 1 (progress g.W.Output.sink l.fn.report) (progress g.W.Output.sink l.report)
       (g.I.Image.reads l.fn.image) (g.I.Image.reads l.image) (Ok tt);
 }

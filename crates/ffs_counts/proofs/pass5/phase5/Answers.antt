@@ -3,7 +3,7 @@ use Rattle.ffs_volume.specs.{declared.BlockMessage.TheVariants.FreeCounts, Group
 use Rattle.ffs_volume.specs.{Groups.GroupCheck.{reported_once, unless}, Messages.Kinds.of_blocks}
 use Rattle.ffs_groups.specs.{Check.lines_of, Inodes.class_in}
 use Rattle.ffs_report.{specs.Known.ForBytes, proofs.Reporting.{of_says, of_stops, of_reads, says_heading}}
-use Rattle.ffs_report.proofs.Reporting.{stops_heading}
+use Rattle.ffs_report.proofs.Reporting.{heading_alone, heading_then, stops_heading}
 use Rattle.ffs_workspace.specs.Found.{WithClaims}
 use Rattle.ffs_counts.{specs.Once.{reported_of, reported_after}, proofs.GroupText.{counts_held, free_of, groups_begin}}
 use Rattle.ffs_counts.proofs.GroupText.{groups_go_on, groups_end, lines_after, totals_next, totals_right, up_next}
@@ -52,7 +52,7 @@ pub loop-group-init : goal.loop-group-init
 loop-group-init g c =
     let v = c.args.superblock.now.geometry.layout in
     let can = c.forget_windows.ensures.forgets v (g.I.Image.device c.args.image.now) c.requires.ready in
-    grind (arith, says_heading, groups_begin)
+    grind (arith, says_heading, groups_begin, heading_alone)
 
 pub returns-in_err-found-clause-text : goal.returns-in_err-found-clause-text
 returns-in_err-found-clause-text g c =
@@ -90,6 +90,7 @@ loop-group-preserved g c =
       said = of_says _ _ _ _ _ _ _ _ inv.said
           (gone_on g (goal.at.loop-group-preserved g c).In_ok-found _ c.in_ok-say_group.ensures.reported)
           c.in_ok-say_group.ensures.said;
+      heading = heading_then _ inv.heading c.in_ok-say_group.ensures.said;
     }
 
 pub returns-in_err-say_unless-clause-text : goal.returns-in_err-say_unless-clause-text

@@ -1,8 +1,8 @@
-use Rattle.std.proofs.Common.{◌≡◌, ◌+◌, ◌%◌, ◌≤◌, ◌∷◌}
-use Rattle.ffs_volume.specs.{Report.Whole.phase5_messages}
+use Rattle.std.proofs.Common.{◌≡◌, ◌+◌, ◌%◌, ◌≤◌, Ok}
+use Rattle.ffs_volume.specs.{Messages.Kinds.phase5, Report.Whole.phase5_messages}
 use Rattle.ffs_volume.specs.Report.Reads.{records_at_once}
 use Rattle.ffs_layout.specs.Super.{superblock_in}
-use Rattle.ffs_report.specs.{PhaseOutcome.SaidOf, Progress.progress}
+use Rattle.ffs_report.specs.{PhaseOutcome.{HeadingFirst, SaidOf}, Progress.progress}
 use Rattle.ffs_groups.specs.Inodes.{class_in}
 use Rattle.ffs_workspace.specs.{Found.WithClaims, Ready.KeepsWindows}
 use Rattle.ffs_counts.{specs.{Once.reported_of, Totals.{AreUpTo, AreTotals}}, proofs.GroupText.{free_of, lines_after}}
@@ -24,4 +24,6 @@ invariant-loop-group g l =
           (lines_after v l.superblock.cstotal w (reported_of l.once) l.group)
           (λ bytes. phase5_messages bytes (superblock_in l.superblock))
           (progress g.W.Output.sink l.fn.report) (progress g.W.Output.sink l.report);
+      heading : HeadingFirst {T = Unit {0}} phase5 (progress g.W.Output.sink l.fn.report)
+          (progress g.W.Output.sink l.report) (Ok tt);
     }

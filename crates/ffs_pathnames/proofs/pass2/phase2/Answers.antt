@@ -1,7 +1,8 @@
 use Rattle.std.proofs.Common.{[], ◌∷◌, List, ℕ, refl, ap, ◌∙◌, inr, arith, ◌≡◌, ◌*◌, OnOk, Result, Ok, Err, IfOk}
 use Rattle.std.proofs.{Common.{map, false}, lemmas.{Bool.both_ways, Result.err_from_is_err_and}}
 use Rattle.ffs_image.specs.Device.{Device}
-use Rattle.ffs_report.proofs.Reporting.{of_reads, of_last, reports_knowing, says_heading, stops_heading}
+use Rattle.ffs_report.proofs.Reporting.{heading_alone, heading_part, heading_reads, of_reads, of_last, reports_knowing}
+use Rattle.ffs_report.proofs.Reporting.{says_heading, stops_heading}
 use Rattle.ffs_report.{proofs.Paying.{paid_said, paid_text, paid_then}, specs.{Known.ForBytes, Progress.Progress}}
 use Rattle.ffs_report.specs.{Progress.Said, declared.fault.RunFault.{RunFault, TheVariants.{Read, Out}}}
 use Rattle.ffs_report.proofs.Reports.{said_then}
@@ -100,6 +101,14 @@ returns-clause-leaves g c =
     (stop_after v (g.I.Image.device c.args.image.now) (g.I.Image.device c.survey.new.image) _ c.clear_passed.new.workspace
     _ _ _ c.check_tree.result (λ b k. before_tree g (goal.at.returns-clause-leaves g c).After-check_tree b k)
     c.in_ok-say.ensures.said c.check_tree.ensures.stop)
+
+-- its heading, of any image
+pub returns-in_err-survey-clause-heading : goal.returns-in_err-survey-clause-heading
+returns-in_err-survey-clause-heading g c = grind (arith, err_from_is_err_and, heading_alone, heading_reads)
+
+pub returns-clause-heading : goal.returns-clause-heading
+returns-clause-heading g c = heading_part _ _ c.check_tree.result
+    (heading_alone {x = tt {0}} c.in_ok-say.ensures.said) c.check_tree.ensures.tree.text
 
 pub check_tree-requires : goal.check_tree-requires
 check_tree-requires g c = c.clear_passed.ensures.ready _ _ c.in_ok-survey.ensures.leaves.ready
