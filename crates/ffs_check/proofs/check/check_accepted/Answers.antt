@@ -6,7 +6,7 @@ use Rattle.ffs_check.proofs.check.check_accepted.Goals as goal
 pub run_to_end-requires : goal.run_to_end-requires
 run_to_end-requires g c = record {
   ready = record {
-    made = c.in-Ok.ensures.new.made;
+    made = c.in-Ok.ensures.made.new.made;
     volume = c.requires.volume;
   };
   opened = c.requires.opened;
@@ -18,13 +18,13 @@ returns-in-Ok g c =
     record {
       follows = record {
         followed = inr (ran_known _ _ (superblock_in c.args.superblock.now) _ _ _
-            (λ bytes t. (t, c.in-Ok.ensures.new.fresh)) phases.ran);
+            (λ bytes t. (t, c.in-Ok.ensures.made.new.fresh)) phases.ran);
         memory = record {
-          asked = inl c.in-Ok.ensures.asks;
+          asked = inl c.in-Ok.ensures.made.asks;
           refused = λ e. absurd (not_for_memory _ _ _ _ _ phases.ran e);
         };
         reads = record {
-          known = λ bytes t. phases.reads.known bytes (t, c.in-Ok.ensures.new.fresh);
+          known = λ bytes t. phases.reads.known bytes (t, c.in-Ok.ensures.made.new.fresh);
           any = phases.reads.any;
         };
       };
@@ -33,7 +33,7 @@ returns-in-Ok g c =
 
 pub returns-in-Err : goal.returns-in-Err
 returns-in-Err g c =
-    let asks = c.in-Err.ensures.asks in
+    let asks = c.in-Err.ensures.made.asks in
     record {
       follows = record {
         followed = inl (refl, c.say_no_memory.ensures);
