@@ -58,7 +58,7 @@ zeros_of v inode long free =
     let parts : (any_nonzero (take 16 inode) ≡ false) × (any_nonzero (take 64 (drop 40 inode)) ≡ false) = grind (arith, free) in
     let begins = begins_zero 16 inode (omega (arith, long)) parts.0 in
     let address : (k : ℕ) → 10 ≤ k → k < 26 → address_in v inode k ≡ 0 =
-        λ k low high. no_byte v inode 10 16 k (omega (arith, long)) parts.1 low high in
+    λ k low high. no_byte v inode 10 16 k (omega (arith, long)) parts.1 low high in
     record {
       mode = ap (λ xs. number v.order 2 xs) begins ∙ mode_zero v.order (drop 16 inode);
       size = ap (λ xs. number v.order 8 (drop 8 xs)) begins ∙ size_zero v.order (drop 16 inode);

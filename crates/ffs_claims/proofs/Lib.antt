@@ -22,7 +22,6 @@
 --   Rescanned      from inode to inode
 --   FirstOffers    each fragment with a DUP line has a kept offer
 --   RescanCounts   a replay by its cut keeps what was kept, and how many Runs are looked at
---   Limited        what a phase that read through a limited image leaves of the image below it
 pub mod Frames
 pub mod StepsContinue
 pub mod TableReads
@@ -37,7 +36,6 @@ pub mod UnclaimedRuns
 pub mod RescanCounts
 pub mod WordClaims
 pub mod FreeInodes
-pub mod Limited
 pub mod SeriesClaims
 pub mod IndirectReads
 pub mod FirstOffers

@@ -127,8 +127,6 @@ fn phase1b_unlimited<I: Image, W: Output>(
         (progress W.sink report.old) (progress W.sink report.new) result }
     ensures heading { HeadingFirst messages.phase1b (progress W.sink report.old)
         (progress W.sink report.new) result }
-    ensures heading { HeadingFirst messages.phase1b (progress W.sink report.old)
-        (progress W.sink report.new) result }
     ensures leaves { OnOk result (ForBytes
         (WithPhase1 geometry.now.layout (I.device image.old) workspace.old)
         (λ bytes. IsLeftByPhase1b geometry.now.layout bytes workspace.new)) }

@@ -13,7 +13,7 @@ use Rattle.ffs_pathnames.specs.{Gathers.{HasInodeLists, passed_of}, PassedRight.
 use Rattle.ffs_survey.specs.Survey.{suspect_at}
 
 -- what was found stays; the flags of suspect inodes are taken away, and no others; nothing is
--- stamped; and the windows hold what any image gives
+-- stamped; and the windows hold nothing: so whatever image is read, they hold none of other bytes
 pub record IsNonePassed (old new : Workspace) : Type 0 where
   pub survey : LeavesSurvey old new
   pub flags : (x : ℕ) → bool_at new.flags.items x

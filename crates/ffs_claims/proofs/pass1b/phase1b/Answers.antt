@@ -2,21 +2,14 @@ use Rattle.std.proofs.{Common.{◌≡◌, ◌≤◌, ◌∙◌, ℕ, false, List
 use Rattle.ffs_image.specs.Device.{Device}
 use Rattle.ffs_volume.{proofs.RunBounds.runs_bounded, specs.Report.Whole.run_count}
 use Rattle.ffs_report.specs.{Known.ForBytes, PhaseOutcome.{ImageAfter, PhaseReports, SaidOf}, Progress.Progress}
-use Rattle.ffs_report.specs.declared.fault.RunFault.{RunFault, TheVariants.{Out, Read}}
+use Rattle.ffs_report.{proofs.Reporting.reports_knowing, specs.declared.fault.RunFault.{RunFault, TheVariants.{Out, Read}}}
 use Rattle.ffs_volume.specs.Messages.Kinds.{Message}
-use Rattle.ffs_workspace.{specs.Found.WithPhase1}
 use Rattle.ffs_claims.specs.Phases.{WithNotes}
 use Rattle.ffs_claims.proofs.{Rescanned.text_noted, pass1b.phase1b.Goals.After-is_spent}
 use Rattle.ffs_claims.proofs.pass1b.phase1b.Given as given
 use Rattle.ffs_claims.proofs.pass1b.phase1b.Goals as goal
 
 -- what is known of the bytes is known of the limited image
-known : (g : given.Over) (c : After-is_spent g) →
-    ForBytes (WithPhase1 c.args.geometry.now.layout (g.I.Image.device c.args.image.now) c.args.workspace.now)
-    (λ bytes. WithPhase1 c.args.geometry.now.layout (g.I.Image.device c.new-limited.result.begins.value)
-    c.args.workspace.now bytes)
-known g c bytes k = (ap (λ (d : Device). d.contents) c.new-limited.ensures.device ∙ k.0, k.1)
-
 noted : (g : given.Over) (c : After-is_spent g) →
     ForBytes (WithNotes c.args.geometry.now.layout (g.I.Image.device c.args.image.now) c.args.workspace.now)
     (λ bytes. WithNotes c.args.geometry.now.layout (g.I.Image.device c.new-limited.result.begins.value)
@@ -76,7 +69,8 @@ pub returns-clause-faults : goal.returns-clause-faults
 returns-clause-faults g c = grind arith
 
 pub returns-clause-again : goal.returns-clause-again
-returns-clause-again g c = grind arith
+returns-clause-again g c = reports_knowing (Unit {0}) _ _ _ _ _ c.phase1b_unlimited-scanned.result
+    (noted g (goal.at.returns-clause-again g c).After-is_spent) c.phase1b_unlimited-scanned.ensures.text
 
 pub returns-clause-text : goal.returns-clause-text
 returns-clause-text g c = text_noted c.args.geometry.now.layout (g.I.Image.device c.args.image.now)
