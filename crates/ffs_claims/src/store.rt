@@ -59,7 +59,6 @@ fn stored_cut(workspace: &Workspace) -> u32
     if workspace.dup_offers <= MAXDUP {
         return 0;
     }
-    // No inode keeps so many: `FIRST_NOTED` of `ffs_workspace` says why.
     workspace.kept.min(u64::from(u32::MAX)) as u32
 }
 

@@ -1,6 +1,6 @@
 //! The words of an indirect block, and the direct addresses of an inode, that are claimed with nothing
-//! to report. The single indirect block that a walk is in is a block of data addresses: that of the
-//! inode, or one under a double one.
+//! to report. The single indirect block that a walk is in is the lowest one, with addresses of data:
+//! that of the inode's thirteenth address, or any that is under a double one (`Walk::single`).
 //!
 //! From `claim_words` up: it asks whether the block is held; `claim_held_words` takes
 //! the counts out of the workspace, and `claim_counted_words` asks for the byte order, both once;
@@ -8,9 +8,6 @@
 //! the next one names the fragments after its Run, all such words together by `claim_series`, which
 //! `pass_series` counts. Where a word isn't claimed, nothing has changed, and the caller takes it as a
 //! step. Below it `claim_direct` does the same for direct addresses, one by one.
-//!
-//! The single indirect block that a walk is in is the lowest one, with addresses of data: the one of
-//! the inode's thirteenth address, or any that is under a double one (`Walk::single`).
 
 ghost use Rattle.std.specs.Prelude.{◌≡◌, ◌≢◌, ◌^◌, ◌<◌, false, IsTrue};
 ghost use Rattle.ffs_volume.specs.declared.Layout.{Layout};

@@ -3,7 +3,6 @@ use Rattle.std.specs.{Bool.{MatchBool, OnTrue}, Borrow.GName, Io.KnownBytes.Appe
 use Rattle.std.specs.Prelude.{◌∷◌, ◌++◌, Bool, true, false, ◌||◌, ◌&&◌, Result, MatchResult, IsErr, OnErr, is_ok, is_err}
 use Rattle.ffs_image.specs.Device.{Rose}
 use Rattle.ffs_report.specs.{Sink.{GoesGathered, Sink, Took}, declared.report.Report.Report}
-use Rattle.ffs_report.specs.declared.line_buffer.TheConstants.{LINE_ROOM}
 use Rattle.ffs_volume.specs.Messages.{Kinds.{Message, has_defect}, Texts.{text_of, texts_of}}
 
 -- the reference to its output, what that took, whether a line has failed, and whether a defect was said
@@ -58,12 +57,12 @@ pub record Stopped (old new : Progress) (messages : List Message) : Type 0 where
 abbrev pub Says : {T E : Type 0} → Progress → Progress → List Message → Result T E → Type 0
 Says old new messages result = MatchResult result (λ _. Said old new messages) (λ _. Stopped old new messages)
 
--- a message goes out by one put, if its text has room in the buffer of a line, and by no put once a
+-- a message goes out by one put, if its text has less than 2,048 bytes, and by no put once a
 -- line has failed. `unfoldable`, since it is said of each message, and asked of few
 unfoldable pub GoesInOnePut : {W E : Type 0} → (W → List ℕ → Result ℕ E → W → Type 0) → Report W → Report W → Message →
     Type 0
 GoesInOnePut was_put old new message = MatchBool old.failed (new.out.now ≡ old.out.now)
-    (GoesGathered was_put old.out.now new.out.now (text_of message) LINE_ROOM)
+    (GoesGathered was_put old.out.now new.out.now (text_of message) 2048)
 
 -- the outcome of a call that says one message: a fault adds no defect, and after one each further
 -- call is a fault that leaves the report as it was

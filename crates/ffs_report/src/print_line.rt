@@ -2,7 +2,6 @@
 ghost use Rattle.std.specs.Prelude.{◌≡◌};
 ghost use Rattle.ffs_report.specs.Sink.{GoesGathered, Prints};
 ghost use Rattle.ffs_report.specs.Lines.{message_of};
-ghost use Rattle.ffs_report.specs.declared.line_buffer.TheConstants.{LINE_ROOM};
 ghost use Rattle.ffs_volume.specs.Messages.Texts.{text_of, fault_text, image_name_text, mounted_text, minfree_text, offer_text, block_count_text, block_message_text, summary_text};
 
 use crate::line::{Heading, Line};
@@ -30,7 +29,7 @@ pub fn print_gathered<W: Output>(
 
     // It is one put, unless it would fill the buffer.
     ensures gathered { GoesGathered W.was_put out.old out.new (text_of (message_of line.now))
-        LINE_ROOM }
+        2048 }
 {
     buffer.clear();
     if print_line(buffer, line).is_ok() {

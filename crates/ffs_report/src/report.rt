@@ -109,7 +109,8 @@ impl<'a, W: Output> Report<'a, W> {
         self.after(printed, true)
     }
 
-    /// Says a line, with its questions: by one put, where it has room in the buffer of a line.
+    /// Says a line, with its questions: by one put, where its text has less than 2,048
+    /// bytes.
     ///
     /// Inlined, so that the match is decided at compile time where the line is a literal.
     ///
