@@ -359,7 +359,17 @@ def double_of(case):
 def double_address_zero(case):
     case.volume.put_inode(double_of(case)[0], double=0)
     i = case.report("INCORRECT BLOCK COUNT").first("INCORRECT BLOCK COUNT")["inode"]
-    mend(case, i, "address", k=13, f=first_lost(case))
+    mend(case, i, "address", k=13, f=double_one(case))
+
+
+def double_one(case):
+    """The double indirect block among those that the recipe `rising` prints: the words of the others aren't among these."""
+    rising = [int(line.split()[0]) for line in case.run("rising").splitlines()]
+    words = {f: case.run("words", b=f).split()[1::2] for f in rising}
+    found = [f for f in rising if words[f][0] in map(str, rising)]
+    if len(rising) != 2 or len(found) != 1:
+        raise Wrong(f"lost blocks whose words rise: {rising}, of which {found} name others")
+    return found[0]
 
 
 @damage("a large file's double indirect block became zeros")
