@@ -10,6 +10,7 @@
 #   lost                     the fragments that the maps mark and no inode has: first and last of each range, by ffs_find lost
 #   whole                    how many bytes the image should have, by its superblock
 #   last_copy                the sector of the superblock's copy in the last group, by its superblock
+#   groups                   of each group the fragment at which its block begins, and the bytes of its inode map, by its superblock
 #   put BYTE WIDTH NUMBER    writes a number of so many bytes into further.img, in the byte order of the image
 #   entries FIRST LENGTH [I] what looks like an entry in these bytes, of inode I alone where it is given, also where no directory
 #                            has it: byte, number, record length, type, length of the name, name (control bytes are shown as ?)
@@ -49,17 +50,22 @@ by_superblock() {
     perl -e 'open F, "<", "copy.img" or die "copy.img: $!\n"; seek F, 8192, 0; read F, $super, 1376;
         $magic = substr $super, 1372; $magic =~ /^(\0\x01\x19\x54|\x54\x19\x01\0)$/s or die "no superblock is at byte 8192 of copy.img\n";
         @super = unpack $magic =~ /^\0/ ? "N*" : "V*", $super;
-        ($sblkno, $cgoffset, $cgmask, $size, $ncg, $fsize, $fpg) = @super[2, 6, 7, 9, 11, 13, 47];
-        $last = ($ncg - 1) * $fpg + $cgoffset * ($ncg - 1 & ~$cgmask & 0xffffffff) + $sblkno;
-        print $size * $fsize, " ", $last * $fsize / 512, "\n"'
+        ($sblkno, $cblkno, $cgoffset, $cgmask, $size, $ncg, $fsize, $ipg, $fpg) = @super[2, 3, 6, 7, 9, 11, 13, 46, 47];
+        sub start { my $c = shift; $c * $fpg + $cgoffset * ($c & ~$cgmask & 0xffffffff) }
+        print $size * $fsize, " ", (start($ncg - 1) + $sblkno) * $fsize / 512, "\n";
+        for ($c = 0; $c < $ncg; $c++) { print start($c) + $cblkno, " ", $ipg / 8, "\n" }'
 }
 
 whole() {
-    by_superblock | cut -d ' ' -f 1
+    by_superblock | sed 's/ .*//; q'
 }
 
 last_copy() {
-    by_superblock | cut -d ' ' -f 2
+    by_superblock | sed 's/.* //; q'
+}
+
+groups() {
+    by_superblock | sed 1d
 }
 
 put() {

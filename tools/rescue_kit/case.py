@@ -99,9 +99,17 @@ class Case:
             if os.path.isfile(f"{self.place}/{name}"):
                 with open(f"{self.place}/{name}", "rb") as it:
                     self.pieces.append((name, it.read()))
-        if os.path.isdir(f"{self.place}/saved.d"):
-            self.trees.append(tree_of_files(f"{self.place}/saved.d"))
-            shutil.rmtree(f"{self.place}/saved.d")
+        for name in ("saved.d", "every.d"):
+            if os.path.isdir(f"{self.place}/{name}"):
+                self.trees.append(tree_of_files(f"{self.place}/{name}"))
+                shutil.rmtree(f"{self.place}/{name}")
+
+    def complaints(self, recipe):
+        """What a recipe prints on standard error; nothing of what it saves is kept."""
+        run = self.page.run(recipe, {}, self.place)
+        for name in ("saved.d", "every.d"):
+            shutil.rmtree(f"{self.place}/{name}", ignore_errors=True)
+        return run.stderr.decode("utf-8", "surrogateescape")
 
     def refuses(self, recipes, **variables):
         """Runs recipes that can't be followed: the last one must say so by its status and a complaint, and nothing may be written."""

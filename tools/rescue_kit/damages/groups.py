@@ -11,16 +11,56 @@ def all_at_stake(case):
     case.at_stake(*[path for path in case.tree if path not in sources.SHORT_LINKS])
 
 
+def files_at_stake(case):
+    """All files, which the recipe `every` brings back."""
+    case.at_stake(*[path for path, it in case.tree.items() if isinstance(it, bytes) and path not in sources.SHORT_LINKS])
+
+
 @damage("a cylinder group's magic is lost")
 def group_magic(case):
     case.volume.put(case.volume.layout.group_place(3) + formats.GROUP["magic"][0], 4, 0)
     all_at_stake(case)
     case.report("CG: BAD MAGIC NUMBER")
     case.run("names all attributes")
+    case.run("further every")
     attributes = case.bytes_of("saved.list").decode()
     missing = [path for path, text in sources.SHORT_LINKS.items() if f"/{path} -> {text}|" not in attributes]
     if missing or "|/pipe|" not in attributes:
         raise Wrong(f"no text of the link {missing} is in saved.list, or no FIFO")
+
+
+@damage("a cylinder group's block became zeros: its inode map calls all inodes free")
+def group_zeroed(case):
+    case.volume.zero(case.volume.layout.group_place(0), case.volume.layout.bsize)
+    all_at_stake(case)
+    case.report("CG: BAD MAGIC NUMBER")
+    case.run("names")
+    case.run("further every")
+    numbers = case.run("inodes").split()
+    case.run("bytes", i=case.run("number-of", path="docs/letter").strip())
+    if len(numbers) != len(set(numbers)) or str(case.volume.find("docs/letter")) not in numbers:
+        raise Wrong(f"the recipe inodes has {len(numbers)} inodes")
+
+
+@damage("the blocks of two cylinder groups were overwritten by text")
+def groups_overwritten(case):
+    volume = case.volume
+    text = (b"All work and no play makes Jack a dull boy. " * volume.layout.bsize)[:volume.layout.bsize]
+    for c in (0, 2):
+        volume.image[volume.layout.group_place(c):volume.layout.group_place(c) + volume.layout.bsize] = text
+    files_at_stake(case)
+    case.report("CG: BAD MAGIC NUMBER")
+    case.run("further every")
+
+
+@damage("a byte of an inode map became zeros")
+def inode_map_byte(case):
+    volume = case.volume
+    place = volume.layout.group_place(0)
+    volume.zero(place + volume.number(place + formats.GROUP["iusedoff"][0], 4), 1)
+    files_at_stake(case)
+    case.report("BLK(S) MISSING IN BIT MAPS")
+    case.run("further every")
 
 
 @damage("a bit of a map of fragments was cleared")

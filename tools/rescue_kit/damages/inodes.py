@@ -3,11 +3,13 @@ import os
 import re
 
 from ..case import NotHere, Wrong, fragments_of, number_of, owners_of, places_of
+from ..sources import SHORT_LINKS
 from .all import damage
 
 WILD = 0x0BADF00D
 HIGH_BIT = 1 << 50
 LOW_BIT = 1 << 30
+ENDLESS_BIT = 1 << 41
 
 
 def mend(case, i, recipes, **values):
@@ -107,6 +109,22 @@ def size_large(case):
     i = report.first("INCORRECT BLOCK COUNT")["inode"]
     size = number_of(case.run("inode", i=i), "size")
     mend(case, i, "size", size=size - (1 << size.bit_length() - 1))
+
+
+@damage("a bit of a file's size was set, within what a file can have, so that no tool comes to the end of it")
+def size_endless(case):
+    i = case.volume.find("docs/letter")
+    case.volume.put_inode(i, size=case.volume.inode(i)["size"] + ENDLESS_BIT)
+    case.at_stake(*[path for path, data in case.tree.items() if isinstance(data, bytes) and path not in SHORT_LINKS])
+    report = case.report("DUP", "INCORRECT BLOCK COUNT")
+    i = report.first("INCORRECT BLOCK COUNT")["inode"]
+    case.run("attributes")
+    size = number_of(case.run("inode", i=i), "size")
+    if f"|{size}|" not in case.bytes_of("saved.list").decode("utf-8", "surrogateescape"):
+        raise Wrong("the size isn't in saved.list")
+    mend(case, i, "size", size=size - (1 << size.bit_length() - 1))
+    case.trees = []
+    case.run("keep all")
 
 
 def right_most(case, i):
@@ -291,6 +309,37 @@ def word_bad(case):
     mend_word(case, bad["inode"], bad["fragment"])
 
 
+@damage("a word of an indirect block points outside of the volume, and no lost block fits")
+def word_bad_for_good(case):
+    volume, bsize = case.volume, case.volume.layout.bsize
+    damage_word(case, 17, WILD)
+    right = case.tree["big/film"]
+    case.tree["big/film"] = right[:29 * bsize] + bytes(bsize) + right[30 * bsize:]
+    bad = case.report("BAD").first("BAD")
+    i = bad["inode"]
+    case.run("bytes", i=i)
+    if case.has_bytes("big/film"):
+        raise Wrong("the recipe bytes passes a BAD address")
+    case.run("further word check", b=fragments_of(case.run("inode", i=i))[12], k=words_of(case, i, 12).index(bad["fragment"]), f=0)
+    case.run("keep bytes", i=i)
+    case.run("all")
+    if not any(tree.get("big/film") == case.tree["big/film"] for tree in case.trees):
+        raise Wrong("the recipe all passes a hole otherwise than bytes")
+
+
+@damage("a file's type became one that there isn't, and the indirect block of another one became zeros")
+def two_damages(case):
+    case.volume.put_inode(case.volume.find("docs/report"), mode=0o170644)
+    case.volume.zero(indirect_place(case), case.volume.layout.bsize)
+    case.at_stake("docs/report", "mail/report_too", "big/film")
+    report = case.report("UNKNOWN FILE TYPE", "INCORRECT BLOCK COUNT")
+    found = mend(case, report.first("UNKNOWN FILE TYPE")["inode"], "mode", mode="100644")
+    if found.of("UNKNOWN FILE TYPE") or {message["kind"] for message in found} - {message["kind"] for message in report}:
+        raise Wrong("the first damage isn't mended, or a message came")
+    case.run("keep")
+    refill(case, report.first("INCORRECT BLOCK COUNT")["inode"])
+
+
 @damage("a word of an indirect block became 0")
 def word_zero(case):
     damage_word(case, 17, 0)
@@ -310,7 +359,17 @@ def double_of(case):
 def double_address_zero(case):
     case.volume.put_inode(double_of(case)[0], double=0)
     i = case.report("INCORRECT BLOCK COUNT").first("INCORRECT BLOCK COUNT")["inode"]
-    mend(case, i, "address", k=13, f=first_lost(case))
+    mend(case, i, "address", k=13, f=double_one(case))
+
+
+def double_one(case):
+    """The double indirect block among those that the recipe `rising` prints: the words of the others aren't among these."""
+    rising = [int(line.split()[0]) for line in case.run("rising").splitlines()]
+    words = {f: case.run("words", b=f).split()[1::2] for f in rising}
+    found = [f for f in rising if words[f][0] in map(str, rising)]
+    if len(rising) != 2 or len(found) != 1:
+        raise Wrong(f"lost blocks whose words rise: {rising}, of which {found} name others")
+    return found[0]
 
 
 @damage("a large file's double indirect block became zeros")
@@ -318,7 +377,10 @@ def double_zeroed(case):
     volume = case.volume
     volume.zero(double_of(case)[1] * volume.layout.fsize, volume.layout.bsize)
     i = case.report("INCORRECT BLOCK COUNT").first("INCORRECT BLOCK COUNT")["inode"]
-    case.run("further word check", b=fragments_of(case.run("inode", i=i))[13], k=0, f=first_lost(case))
+    rising = [int(line.split()[0]) for line in case.run("rising").splitlines()]
+    if len(rising) != 1:
+        raise Wrong(f"lost blocks whose words rise: {rising}")
+    case.run("further word check", b=fragments_of(case.run("inode", i=i))[13], k=0, f=rising[0])
 
 
 @damage("an indirect block that the double indirect block of a large file names became zeros")
@@ -627,6 +689,8 @@ def refused(case):
     case.refuses("exchange", i=i, j=99999999)
     for recipe in ("inode", "bytes", "names-of", "text", "owners"):
         case.refuses(recipe)
+    os.remove(f"{case.place}/further.img")
+    case.refuses("every")
     case.run("bytes", i=i)
 
 

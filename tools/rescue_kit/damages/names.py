@@ -1,5 +1,6 @@
 """Damaged entries: numbers, types, lengths, and entries that are gone."""
 from ..case import Wrong, entries_of, fragments_of, number_of
+from ..sources import SHORT_LINKS
 from .all import damage
 
 
@@ -157,6 +158,35 @@ def name_control(case):
     if found is None:
         raise Wrong("the name isn't shown with a question mark")
     case.run("bytes", i=found.number)
+
+
+@damage("two names differ in a control byte alone")
+def names_control(case):
+    paths = ("docs/pages/page_10", "docs/pages/page_11")
+    for path, byte in zip(paths, (9, 1)):
+        case.volume.image[case.volume.entry(path) + 8 + len("page_1")] = byte
+    case.at_stake(*paths, name=False)
+    case.report()
+    numbers = [line.split("\t")[0].split()[-1].rstrip(":") for line in case.run("names").splitlines() if line.endswith("\tdocs/pages/page_1^")]
+    if len(numbers) != 2:
+        raise Wrong(f"page_1^ is in the list of names as {numbers}")
+    for i in numbers:
+        case.run("bytes", i=i)
+
+
+@damage("a deleted entry has the name of a file")
+def deleted_over_file(case):
+    """Puts it into the record of the file's own entry, where this is the last one of its chunk."""
+    volume = case.volume
+    place, length = next((place, length) for place, _, length, kind, name in volume.entries(volume.find("mail/in")) if name == "two")
+    count = volume.image[place + 7]
+    after = place + 8 + (count + 4 & ~3)
+    volume.image[after:after + 8 + count] = volume.image[place:place + 8 + count]
+    volume.put(after, 4, volume.find("docs/letter"))
+    volume.put(after + 4, 2, place + length - after)
+    case.at_stake(*[path for path, data in case.tree.items() if isinstance(data, bytes) and path not in SHORT_LINKS])
+    case.report()
+    case.run("further every")
 
 
 @damage("an entry's record length became 0")

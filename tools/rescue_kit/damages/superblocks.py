@@ -1,5 +1,6 @@
 """Damaged superblocks, images that were cut, and images of another kind."""
 import os
+import re
 
 from images import formats
 
@@ -123,6 +124,28 @@ def cut(case):
     case.run("keep")
     found = case.check_again("PARTIALLY ALLOCATED INODE")
     case.run("further place mode check", i=found.first("PARTIALLY ALLOCATED INODE")["inode"], mode="100644")
+    case.run("keep names all")
+
+
+def end_of(volume, i):
+    """The byte after what a file has: its inode, and its fragments."""
+    return max([volume.layout.inode_place(i) + 128] + [(run.start + run.length) * volume.layout.fsize for run in volume.runs(i)])
+
+
+@damage("the image was cut short, within its files")
+def cut_files(case):
+    volume = case.volume
+    ends = {path: end_of(volume, volume.find(path)) for path, it in case.tree.items() if isinstance(it, bytes) and path not in sources.SHORT_LINKS}
+    at = sorted(ends.values())[len(ends) // 2] // volume.layout.bsize * volume.layout.bsize
+    del volume.image[at:]
+    case.at_stake(*[path for path, end in ends.items() if end <= at])
+    case.report("BAD SUPER BLOCK")
+    said = re.findall(r"Error writing file: saved\.d//?(\S+)", case.complaints("all"))
+    said += re.findall(r"^./- .*:\t(.*)", case.run("names"), re.M)
+    gone = {path for path, end in ends.items() if end > at}
+    if {path for path in said if path in ends} != gone:
+        raise Wrong(f"{len(said)} files are said to be past the end, of {len(gone)}")
+    case.run("further longer check")
     case.run("keep names all")
 
 
