@@ -31,7 +31,7 @@ use Rattle.ffs_volume.specs.Examples.{Images.{root_inode, root_chunk, base_image
 use Rattle.ffs_volume.{specs.Examples.BlockExamples.blocks_at, proofs.OpeningExamples.superblock_examples}
 use Rattle.ffs_volume.specs.declared.tree_lines.{EntryLine.TheVariants.DupBad, ReferenceLine.TheVariants.UnrefDir}
 use Rattle.ffs_volume.specs.{Messages.Kinds.{of_entry, of_reference}, Blocks.Claims.all_claims}
-use Rattle.ffs_certificate.specs.ReportExamples.{ReportExamples, inode_bytes, dir_chunk, two_dirs, named_dir}
+use Rattle.ffs_certificate.specs.ReportExamples.{ReportExamples, dinode_bytes, dir_chunk, two_dirs, named_dir}
 use Rattle.ffs_certificate.specs.ReportExamples.{unnamed_dir, shared_summary, shared_group, shared_image}
 use Rattle.ffs_certificate.specs.ReportExamples.{shared_superblock, about_file, clean_lines}
 use Rattle.ffs_certificate.specs.{MessageExamples.MessageExamples, KeptExamples.{KeptExamples, kept_first}}
@@ -40,7 +40,7 @@ use Rattle.ffs_certificate.proofs.ReportLaws.{certified}
 -- all that these computations open
 computes : Unit {0}
 unfolding bytes_in word zero_bytes base_layout base_superblock base_super base_summary base_group root_inode root_chunk
-    base_image entry_bytes inode_bytes dir_chunk two_dirs named_dir unnamed_dir shared_summary shared_group shared_image
+    base_image entry_bytes dinode_bytes dir_chunk two_dirs named_dir unnamed_dir shared_summary shared_group shared_image
     shared_superblock number all_below u16_at i16_at u32_at u64_at i32_at cgoffset_of cgbase cgstart is_group_metadata
     is_fragment_in_range is_run_in_range is_reserved inode_from_bytes inode_of class_of steps_at steps_of owner_of
     owners_of reserved_map no_claims phase1_lines phase1b_lines is_marked claims_before kept_steps_of is_well_formed

@@ -15,8 +15,8 @@ use Rattle.ffs_volume.specs.Messages.Kinds.{of_entry, of_directory}
 use Rattle.ffs_volume.specs.Messages.Kinds.{of_reference}
 
 -- an inode of this mode, count of links and size, with its first address
-unfoldable pub inode_bytes : Order → ℕ → ℕ → ℕ → ℕ → List ℕ
-inode_bytes o mode nlink size address =
+unfoldable pub dinode_bytes : Order → ℕ → ℕ → ℕ → ℕ → List ℕ
+dinode_bytes o mode nlink size address =
     bytes_in o 2 mode ++ (bytes_in o 2 nlink ++ (zero_bytes 4 ++ (bytes_in o 8 size
     ++ (zero_bytes 24 ++ (word o address ++ (zero_bytes 60 ++ (word o 2 ++ zero_bytes 20)))))))
 
@@ -27,7 +27,7 @@ dir_chunk o d entries = entry_bytes o d 12 4 one_dot ++ (entry_bytes o 2 12 4 tw
 -- a directory inode 3 at fragment 37, and a root whose chunk this is. No superblock, and no group block
 unfoldable pub two_dirs : List ℕ → List ℕ
 two_dirs chunk =
-    zero_bytes 28928 ++ (inode_bytes Little 16877 3 512 36 ++ (inode_bytes Little 16877 2 512 37
+    zero_bytes 28928 ++ (dinode_bytes Little 16877 3 512 36 ++ (dinode_bytes Little 16877 2 512 37
     ++ (zero_bytes 7680 ++ (chunk ++ (zero_bytes 512
     ++ (dir_chunk Little 3 (entry_bytes Little 0 488 0 []) ++ zero_bytes 512))))))
 
@@ -51,8 +51,8 @@ shared_group =
 
 unfoldable pub shared_image : List ℕ
 shared_image =
-    zero_bytes 24576 ++ (shared_group ++ (zero_bytes 4164 ++ (inode_bytes Big 16877 2 512 36
-    ++ (inode_bytes Big 33188 1 100 37 ++ (inode_bytes Big 33188 1 100 37 ++ (zero_bytes 3456
+    zero_bytes 24576 ++ (shared_group ++ (zero_bytes 4164 ++ (dinode_bytes Big 16877 2 512 36
+    ++ (dinode_bytes Big 33188 1 100 37 ++ (dinode_bytes Big 33188 1 100 37 ++ (zero_bytes 3456
     ++ (shared_summary ++ (zero_bytes 4080
     ++ (dir_chunk Big 2 (entry_bytes Big 3 12 8 (97 ∷ []) ++ entry_bytes Big 4 476 8 (98
     ∷ [])) ++ zero_bytes 3584)))))))))

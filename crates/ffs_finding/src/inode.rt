@@ -6,7 +6,7 @@ ghost use Rattle.ffs_volume.specs.Find.InodeText.{numbers_text, address_text, li
 ghost use Rattle.ffs_volume.specs.Find.InodeText.{inode_listing, class_word, fifteen_text};
 ghost use Rattle.ffs_report.specs.{Known.IsContents, Sink.Prints};
 ghost use Rattle.ffs_check.specs.Moment.{moment};
-ghost use Rattle.ffs_finding.specs.Outcome.{Finds, FailsAt};
+ghost use Rattle.ffs_finding.specs.Outcome.{Finds, IfReadFails};
 
 use ffs_image::Image;
 use ffs_layout::{Geometry, decode_inode};
@@ -179,7 +179,7 @@ pub fn find_inode<I: Image, W: Output>(
         (λ bytes. inode_listing geometry.now.layout bytes number)
         (moment I.Image W.Output image.old out.old) (moment I.Image W.Output image.new out.new)
         result }
-    ensures place { FailsAt result
+    ensures place { IfReadFails result
         (λ at. at ≡ inode_place geometry.now.layout number / DEV_BSIZE) }
     ensures reads { I.reads image.new ≤ I.reads image.old + 1 }
 {
