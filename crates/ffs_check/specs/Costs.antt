@@ -19,10 +19,10 @@ pub record Costs (asked_sector : Option ℕ) (old new : Moment) (before after : 
       ⊎ CostsOfVolume asked_sector old new before after
   pub refused : end ≡ NoMemory → RefusedOneMore before after
 
--- there are two memories of the system that cost so: `memory`, of which nothing was granted or refused before, and
--- `memory'`, what the call left of it. That the body asks for nothing beside is seen in its one line. It can't make
--- these values up: `account_of` is hidden (`allocator_account` of ffs_memory), so what is granted or refused
--- follows from requests that were made, and from nothing else
+-- a memory of the system was asked for what `Costs` says: `memory`, of which nothing was granted or refused before,
+-- and `memory'`, what the call left of it. `account_of` is hidden (`allocator_account` of ffs_memory), so what is
+-- granted or refused follows from requests that were made, and from nothing else. That the body asks for nothing
+-- beside is seen in its one line
 pub record CostsOfSystem (asked_sector : Option ℕ) (old new : Moment) (end : End) : Type 0 where
   pub memory : SystemMemory
   pub memory' : SystemMemory

@@ -16,7 +16,7 @@
 --                  failed. What the end is then, and what may cut the text short, are its arguments
 --   Headline       Ends of the whole report, with IsEndOfReport (the end: EndAgrees with the text, and Certifies)
 --                  and IsCutShort (what may cut it: IsCutAtSuper, IsCutLater, IsCutByMemory)
---   PhasesEnd      Ends of the text after the opening, with IsEndByRoot and IsCutByRead
+--   PhasesEnd      (in the file `PhaseEnds`) Ends of the text after the opening, with IsEndByRoot and IsCutByRead
 --   RunsToEnd      PhasesEnd, and what the phases read and leave
 --   OpeningEnds    of the opening alone, in words of its own; in OpeningOf, and so in Opens
 --   EndsAs         which end the answer of `run_phases` makes, and the line that is said then: LineEnds, by

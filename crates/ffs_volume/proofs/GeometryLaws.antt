@@ -1,4 +1,4 @@
--- Laws of `specs/Disk/Geometry`.
+-- Laws of `specs/Laws/Geometry`.
 use Rattle.std.proofs.{Common.{◌≡◌, ℕ, ◌*◌, ◌≤◌, true, None, arith}, lemmas.Bool.Decides.nat_tests}
 use Rattle.ffs_volume.{specs.{declared.Layout.Layout, Disk.Numbers.all_below}, proofs.Below.all_below-at}
 use Rattle.ffs_volume.specs.Disk.Outcome.{is_block_size, is_fragment_size, is_fragment_count, has_valid_sizes}

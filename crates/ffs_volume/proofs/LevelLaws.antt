@@ -1,4 +1,4 @@
--- Laws of `specs/Directories/Levels`.
+-- Laws of `specs/Laws/Levels`.
 use Rattle.std.proofs.Common.{◌≡◌, ℕ, zero, suc, ◌+◌, ◌-◌, ◌<◌, ◌≤◌, ◌==◌, true, ◌&&◌, ◌||◌, refl, Some, is_some, arith}
 use Rattle.std.proofs.{Common.{◌∙◌, ap, inl, inr, eq-eqb}, lemmas.Bool.{cases_lt, and_parts, and_from, or_right}}
 use Rattle.ffs_volume.proofs.{Pigeon.pigeon, SearchLaws.{is_some-value, some_below-gives, some_below-from}}

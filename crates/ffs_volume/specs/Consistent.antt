@@ -1,4 +1,4 @@
--- When a volume is consistent, said without the phases of a check and without its messages.
+-- Consistency: of blocks, of directories, and of the whole volume (`IsConsistent`).
 pub mod BlocksRight
 pub mod DirectoriesRight
 pub mod Volume

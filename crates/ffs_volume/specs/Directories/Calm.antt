@@ -29,8 +29,8 @@ pub record CurrentDir : Type 0 where
   pub dir : ℕ
   pub parent : ℕ
 
--- neither unallocated, nor a directory of size 0, a whiteout or of class Unknown, nor a directory
--- that is reached
+-- neither unallocated, nor of class Unknown, nor a directory of size 0, nor a directory that is
+-- reached; and not `DT_WHT`, which is the type of no inode
 abbrev pub is_calm_kind : ℕ → Bool → Bool
 is_calm_kind kind reached =
     is_allocated_kind kind && (not (kind == EMPTY_DIR_KIND) && (not (kind == DT_WHT) && (not (kind == UNKNOWN_KIND)

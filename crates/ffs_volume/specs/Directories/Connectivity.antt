@@ -6,11 +6,10 @@ use Rattle.ffs_volume.specs.{Directories.PathnameCheck.attributes}
 use Rattle.ffs_volume.specs.declared.tree_lines.ReferenceLine.TheVariants.{UnrefDir}
 use Rattle.ffs_volume.specs.Messages.Kinds.{of_reference}
 
--- x is dead: suspect, other than 2, and named by no plain entry
+-- `is_dead_in` and `is_unref_dir_in` of `Graph`, in a volume
 abbrev pub is_dead : Volume → ℕ → Bool
 is_dead vol x = is_dead_in (graph_of vol) (is_suspect vol) x
 
--- UNREF DIR is reported of d
 abbrev pub is_unref_dir : Volume → ℕ → Bool
 is_unref_dir vol d = is_unref_dir_in (graph_of vol) (is_suspect vol) d
 

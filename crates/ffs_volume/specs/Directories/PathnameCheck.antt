@@ -176,8 +176,7 @@ abbrev pub is_bad_whiteout : Entry → Bool
 is_bad_whiteout e =
     ((e.number == WINO) && not (e.kind == DT_WHT)) || ((e.kind == DT_WHT) && not (e.number == WINO))
 
--- x is a suspect (an inode that is marked, or a directory of size 0) other than the root;
--- `first_naming` says that no plain entry before this one names it
+-- x is a suspect other than the root; `first_naming` says that no plain entry before this one names it
 abbrev pub is_first_of_suspect : (vol : Volume) (first_naming : Bool) (x : ℕ) → Bool
 is_first_of_suspect vol first_naming x = is_suspect vol x && (not (x == ROOTINO) && first_naming)
 

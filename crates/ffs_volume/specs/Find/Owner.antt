@@ -90,7 +90,7 @@ unfoldable pub keeper_lines : (v : Layout) (image : List ℕ) (f : ℕ) → List
 keeper_lines v image f = flat_map (keeper_lines_of_inode v image f) (inode_numbers v)
 
 -- ---- a fragment that no inode keeps an offer of
--- the map of the group of c has the fragment as free, or it is lost; or there is no map
+-- the map of the group of f marks f as free, or f is lost; or that group has no map
 unfoldable pub map_text : (v : Layout) (block : List ℕ) (f : ℕ) → List ℕ
 map_text v block f =
     if has_map v block

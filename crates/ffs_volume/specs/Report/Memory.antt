@@ -7,8 +7,8 @@ use Rattle.ffs_volume.specs.declared.Layout.{Layout}
 abbrev pub held_of : Layout → ℕ
 held_of v = 2 * (8 * div_ceil v.size 64) + 25 * (v.ncg * v.ipg) + 6 * v.bsize
 
--- a bound on these bytes. It was stated before the lists were made, for three maps, eight blocks and a
--- page: it stays, since users may rely on it, and leaves room for other lists
+-- a bound on these bytes on which callers may rely: it leaves room for a map, two blocks and 4,096 bytes
+-- more than are held
 abbrev pub held_limit : Layout → ℕ
 held_limit v = 3 * (8 * div_ceil v.size 64) + 25 * (v.ncg * v.ipg) + 8 * v.bsize + 4096
 

@@ -64,6 +64,7 @@ abbrev pub phase5_messages : (image : List ℕ) → Superblock → List Message
 phase5_messages image s = phase5 ∷ map of_blocks (phase5_lines s.layout image s.cstotal
     (is_free_of_kept s.layout (owners_of s.layout image)) (class_at s.layout image))
 
+-- the summary of an image, in a list of its own
 abbrev pub summary_messages : (image : List ℕ) → Superblock → List Message
 summary_messages image s = summary_of s (file_count s.layout image) (claimed_count s.layout image) ∷ []
 
