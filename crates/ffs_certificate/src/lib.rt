@@ -45,8 +45,8 @@ pub fn claims_are_bounded()
     ensures { ClaimsAreBounded }
 {}
 
-/// Where inode 2 is no directory the run stops after the pathname check, and a defect was reported
-/// by then.
+/// Where inode 2 is no directory the run stops in the pathname check, after the line on the root,
+/// and a defect was reported by then.
 pub fn stop_is_reported()
     ensures { StopIsReported }
 {}

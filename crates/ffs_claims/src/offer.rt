@@ -25,7 +25,7 @@ pub fn is_open(workspace: &Workspace) -> bool
     workspace.bad <= MAXBAD && workspace.dup_offers <= MAXDUP
 }
 
-/// Whether the fragment of an offer is in range. Where `in_range` says that its Run is, the
+/// Whether the fragment of an offer is in range. `in_range` says that its whole Run is: then the
 /// fragment isn't looked at.
 #[inline(always)]
 #[tactic(auto, unfolding(ffs_volume::specs::Disk::Areas::is_fragment_in_range))]

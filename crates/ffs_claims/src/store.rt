@@ -1,4 +1,4 @@
-//! What is stored of each inode.
+//! The current inode: how it begins, and what is stored of it for later phases.
 
 ghost use Rattle.std.specs.Prelude.{◌≡◌, ◌<◌, ◌||◌, false, min, slice_set, vec_len};
 ghost use Rattle.ffs_volume.specs.{Blocks.Inodes.is_unknown, Encodings.{Kinds.kind_of, Links.start_of, Replay.cut_of}};

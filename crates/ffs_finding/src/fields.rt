@@ -195,7 +195,7 @@ pub fn find_wrong_fields<I: Image, W: Output>(
 {
     let start = u64::from(sector.unwrap_or(SUPERBLOCK_SECTOR as u32)) * DEV_BSIZE;
     let mut bytes = [0; SUPERBLOCK_BYTES];
-    // Not so where `read_super` accepted the superblock in this image.
+    // It isn't smaller where `read_super` accepted the superblock in this image.
     if image.size() < start + SUPERBLOCK_BYTES as u64 {
         return Ok(false);
     }

@@ -107,7 +107,8 @@ fn find_copies_by_window<M: Memory, I: Image, W: Output>(
     Ok(false)
 }
 
-/// Finds something in a volume.
+/// Reads the superblock at the sector that is asked for, or at the usual place, and finds the
+/// target in its volume.
 fn find_in_volume<M: Memory, I: Image, W: Output>(
     memory: &mut M,
     image: &mut I,
@@ -125,7 +126,8 @@ fn find_in_volume<M: Memory, I: Image, W: Output>(
     }
 }
 
-/// Finds something in a volume with an accepted superblock, and returns whether a defect was found.
+/// Finds the target in the volume of an accepted superblock, and returns whether a defect was
+/// found.
 ///
 /// # Errors
 /// A read of the image or a write failed, or the memory was refused.

@@ -1,4 +1,4 @@
-//! What is asked for.
+//! What `ffs_find` may be asked for: a command, and in a volume a target.
 
 /// What is to be found in a volume.
 #[derive(Clone, Copy, Debug, PartialEq, Eq)]

@@ -1,5 +1,5 @@
-//! The texts that lines of entries show, and the paths of directories in them: both are carried from
-//! one directory to the next.
+//! What is carried from the check of one directory to that of the next: the texts that lines of
+//! entries show, with the paths of directories in them, and how many reads are left.
 ghost use Rattle.std.specs.Prelude.{◌≡◌, ℕ, List, Option};
 ghost use Rattle.ffs_volume.specs.declared.Layout.{Layout};
 ghost use Rattle.ffs_pathnames.specs.Ready.{ReadyToPath};

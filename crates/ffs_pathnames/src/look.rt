@@ -62,8 +62,8 @@ fn examine_unlimited<I: Image>(
 
 /// What is said of a directory of which no more may be read: that it is too short, is corrupted,
 /// and has neither `.` nor `..`. Nothing is said of its entries. Only an image that gives other
-/// bytes each time has one. A line is said, since silence would pass the directory as right: each
-/// line of phase 2 is a defect, so the check doesn't end as consistent.
+/// bytes each time comes so far. A line is said, since silence would pass the directory as right:
+/// each line of phase 2 is a defect, so the check doesn't end as consistent.
 fn unexamined() -> Examination
     ensures { result.look ≡ record {
       quiet = true;
@@ -201,6 +201,7 @@ pub fn look_directory<I: Image>(
     };
     let flags = &workspace.flags;
     let windows = &mut workspace.windows;
+    // In phase 2 this list has the words of directories (`Workspace::queue`).
     let words = &mut workspace.queue;
     let order = geometry.layout.order;
     let mut chunks = Chunks::start(geometry, &directory.inode, directory.cut);

@@ -1,4 +1,5 @@
-//! The verdict on a plain entry, and what is reported by it.
+//! The verdict on a plain entry, what is reported by it, and what is remembered once the entry is
+//! passed.
 //!
 //! Four words say that nothing is reported of an entry:
 //! - *calm* (`ffs_survey`), as the survey reads it: by the kinds, the marks and what is reached by

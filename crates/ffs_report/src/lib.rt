@@ -13,6 +13,12 @@
 //! what contracts know of an output. A `MutedWriter` passes nothing on after its first failure, and
 //! a `FuseWriter` fails after some bytes.
 //!
+//! Its modules: `line` has the lines, `report` says them, and `print_line` prints the text of one,
+//! by `tree_lines` where it is on directories, entries or references. `dup_line` keeps the line of
+//! a duplicate. `print` prints bytes and numbers, `piece` has the parts of a line, and
+//! `line_buffer` gathers one. `output`, `counted` and `outlet` are the chain, `muted` and `fuse`
+//! are writers, and `fault` is what a phase returns.
+//!
 //! What each phase owes is said here too: `PhaseReports` says in one clause what was printed at Ok
 //! (all lines of the phase), at a failed read (a prefix of them, in whole lines) and at a failed
 //! write (a prefix of their bytes); `ImageAfter` says what became of the image. `RunFault` is the

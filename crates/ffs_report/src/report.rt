@@ -109,8 +109,7 @@ impl<'a, W: Output> Report<'a, W> {
         self.after(printed, true)
     }
 
-    /// Says a line, with its questions: by one put, where its text has less than 2,048
-    /// bytes.
+    /// Says a line, with its questions: by one put, where its text has less than 2,048 bytes.
     ///
     /// Inlined, so that the match is decided at compile time where the line is a literal.
     ///

@@ -7,7 +7,7 @@ use ffs_memory::FilledList;
 /// What a survey goes by: what is known of each inode before it.
 #[derive(Clone, Copy)]
 pub struct KnownInodes<'kinds, 'marked> {
-    /// What each inode is: `DT_DIR` for a directory, but `EMPTY_DIR_KIND` for one of size 0.
+    /// What each inode is (`Kind` of `ffs_volume`).
     pub kinds: &'kinds [u8],
     /// Whether each inode is marked.
     pub marked: &'marked FilledList<bool>,
@@ -35,7 +35,7 @@ pub struct FoundLists<'a> {
 /// more than two inodes, and fewer than 2^31.
 #[derive(Drop)]
 pub struct Lists<'kinds, 'marked, 'lists> {
-    /// What each inode is: `DT_DIR` for a directory, but `EMPTY_DIR_KIND` for one of size 0.
+    /// What each inode is (`Kind` of `ffs_volume`).
     pub kinds: &'kinds [u8],
     /// Whether each inode is marked.
     pub marked: &'marked FilledList<bool>,
@@ -69,7 +69,7 @@ pub struct Lists<'kinds, 'marked, 'lists> {
 /// The directory whose entries are read, with the lists by which it is found whether they are calm.
 #[derive(Clone, Copy)]
 pub struct LentDir<'kinds, 'marked> {
-    /// What each inode is: `DT_DIR` for a directory, but `EMPTY_DIR_KIND` for one of size 0.
+    /// What each inode is (`Kind` of `ffs_volume`).
     pub kinds: &'kinds [u8],
     /// Whether each inode is marked.
     pub marked: &'marked FilledList<bool>,
@@ -86,7 +86,7 @@ pub struct LentDir<'kinds, 'marked> {
 /// What a survey left, and which directories lead a cycle of parents.
 #[derive(Clone, Copy)]
 pub struct Surveyed<'a> {
-    /// What each inode is: `DT_DIR` for a directory, but `EMPTY_DIR_KIND` for one of size 0.
+    /// What each inode is (`Kind` of `ffs_volume`).
     pub kinds: &'a [u8],
     /// Whether each inode is marked.
     pub marked: &'a FilledList<bool>,

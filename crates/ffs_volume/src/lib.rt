@@ -153,7 +153,7 @@ pub enum Step {
 pub enum Class {
     /// Its mode, size and addresses are 0.
     Free,
-    /// Its mode has no type, but something is set.
+    /// Its mode has no type, but its mode, its size or one of its addresses isn't 0.
     Partial,
     /// Its type isn't valid, or it is too large, or an address is set that its size doesn't use.
     Unknown,

@@ -1,5 +1,7 @@
-//! The texts of the messages, each written once. `Messages/Texts` of the definitions says which
-//! message has which. A text with a question has its answer too.
+//! The texts of the messages of a report, each written once: the code takes them from here, and so
+//! does `Messages/Texts` of the definitions, which says which message has which. A text with a
+//! question has its answer too. `Can't open`, the texts for wrong words and those of `ffs_find`
+//! aren't here, but where they are printed.
 
 // What is printed of an inode, of a number and at a line's end.
 

@@ -1,5 +1,6 @@
 //! The messages on directories, their entries and the references to inodes. A path, or a name, is a
-//! `P`: its bytes in code, the list of its bytes in the definitions.
+//! `P`: its bytes in code, the list of its bytes in the definitions. `tree_lines` of `ffs_report`
+//! prints them.
 use crate::{Attr, Label};
 
 /// What is wrong with a directory as a whole: `attr` has its attributes, `path` is its path
@@ -42,9 +43,9 @@ pub enum DotLine<P> {
     NumberDotdot { attr: Attr, path: P },
     /// `..` hasn't the type of a directory.
     TypeDotdot { attr: Attr, path: P },
-    /// There is a `.` that isn't the first entry.
+    /// There is a `.` that isn't the first entry of the chunk at the start of the file.
     ExtraDot { attr: Attr, path: P },
-    /// There is a `..` that isn't the second entry.
+    /// There is a `..` that isn't the second entry of the chunk at the start of the file.
     ExtraDotdot { attr: Attr, path: P },
 }
 

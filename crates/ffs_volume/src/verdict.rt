@@ -1,5 +1,6 @@
 //! What is wrong with a plain entry, and with a directory before its entries, as values: the
-//! messages on both follow from them (`Directories/PathnameCheck` of the definitions).
+//! messages on both follow from them (`Directories/PathnameCheck` of the definitions). `verdict`
+//! and `header` of `ffs_pathnames` find them.
 use crate::Label;
 
 /// What is wrong with a plain entry that names an allocated inode, and what messages on it show.
