@@ -125,14 +125,14 @@ fn say_size<W: Output>(
         holds: defects.short,
         line: Phase2Line::Directory(DirectoryLine::DirShort { attr, path }),
     };
-    let broken = LineIf {
+    let partial = LineIf {
         holds: defects.partial_chunk,
         line: Phase2Line::Directory(DirectoryLine::DirLength {
             path,
             size: attr.size,
         }),
     };
-    say_two(&short, &broken, report)
+    say_two(&short, &partial, report)
 }
 
 /// Says that a directory has holes, or that a chunk isn't sound.
