@@ -465,7 +465,7 @@ static LINES: [Said; 75] = [
         b"I OUT OF RANGE I=32\nNAME=/d/?\nREMOVE? no\n\n",
     ),
     (
-        Line::Entry(EntryLine::Whiteout {
+        Line::Entry(EntryLine::BadWhiteout {
             number: 1,
             path: b"/d/\x0b",
         }),

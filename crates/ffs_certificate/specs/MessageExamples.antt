@@ -17,7 +17,7 @@ use Rattle.ffs_volume.specs.declared.tree_lines.DirectoryLine.TheVariants.{DirLe
 use Rattle.ffs_volume.specs.declared.tree_lines.DotLine.TheVariants.{MissingDot, MissingDotFirst, NumberDot, TypeDot}
 use Rattle.ffs_volume.specs.declared.tree_lines.DotLine.TheVariants.{MissingDotdot, MissingDotdotSecond, NumberDotdot}
 use Rattle.ffs_volume.specs.declared.tree_lines.DotLine.TheVariants.{TypeDotdot, ExtraDot, ExtraDotdot}
-use Rattle.ffs_volume.specs.declared.tree_lines.EntryLine.TheVariants.{OutOfRange, Whiteout, Unallocated, DupBad}
+use Rattle.ffs_volume.specs.declared.tree_lines.EntryLine.TheVariants.{OutOfRange, BadWhiteout, Unallocated, DupBad}
 use Rattle.ffs_volume.specs.declared.tree_lines.EntryLine.TheVariants.{ZeroDir, Extraneous, TypeEntry}
 use Rattle.ffs_volume.specs.declared.tree_lines.ReferenceLine.TheVariants.{UnrefDir, DeadMarked, DeadZero, Unref}
 use Rattle.ffs_volume.specs.declared.tree_lines.ReferenceLine.TheVariants.{UnrefZero, LinkCount}
@@ -101,7 +101,7 @@ pub record MessageExamples : Type 0 where
       ++ codes "EXTRA '..' ENTRY I=2 OWNER=0 MODE=40755\nSIZE=512 MTIME=0\nDIR=/\nFIX? no\n\n"
   -- other entries
   pub entries : texts_of (of_tree (of_entry (OutOfRange 32 (47 ∷ 99 ∷ 10 ∷ 127 ∷ [])))
-      ∷ of_tree (of_entry (Whiteout 1 (codes "/w"))) ∷ of_tree (of_entry (Unallocated (about_file 3) (codes "/a")))
+      ∷ of_tree (of_entry (BadWhiteout 1 (codes "/w"))) ∷ of_tree (of_entry (Unallocated (about_file 3) (codes "/a")))
       ∷ of_tree (of_entry (DupBad NameLabel (about_file 3) (codes "/a")))
       ∷ of_tree (of_entry (ZeroDir about_root (codes "/d"))) ∷ of_tree
       (of_entry (Extraneous (codes "/b") (codes "/a")))

@@ -295,7 +295,7 @@ pub fn say_verdict<W: Output>(
             report,
         ),
         Verdict::BadWhiteout => say_line(
-            &Phase2Line::Entry(EntryLine::Whiteout { number, path }),
+            &Phase2Line::Entry(EntryLine::BadWhiteout { number, path }),
             report,
         ),
         Verdict::Whiteout => Ok(()),

@@ -273,7 +273,13 @@ pub fn print_entry<W: Output>(out: &mut W, line: &EntryLine<&[u8]>) -> Result<()
             path,
             REMOVE,
         ),
-        EntryLine::Whiteout { number, path } => print_numbered(out, WHITEOUT, *number, path, FIX),
+        EntryLine::BadWhiteout { number, path } => print_numbered(
+            out,
+            BAD_WHITEOUT,
+            *number,
+            path,
+            FIX,
+        ),
         EntryLine::Unallocated { attr, path } => print_path(
             out,
             UNALLOCATED,

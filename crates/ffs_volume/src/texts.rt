@@ -191,7 +191,7 @@ pub const EXTRA_DOTDOT: &[u8] = b"EXTRA '..' ENTRY ";
 
 pub const OUT_OF_RANGE: &[u8] = b"I OUT OF RANGE I=";
 
-pub const WHITEOUT: &[u8] = b"BAD WHITEOUT ENTRY I=";
+pub const BAD_WHITEOUT: &[u8] = b"BAD WHITEOUT ENTRY I=";
 
 pub const UNALLOCATED: &[u8] = b"UNALLOCATED ";
 

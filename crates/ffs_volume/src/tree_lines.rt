@@ -56,7 +56,7 @@ pub enum EntryLine<P> {
     /// It has a number that no inode of the volume has.
     OutOfRange { number: u32, path: P },
     /// It has the number or the type of a whiteout, and not both.
-    Whiteout { number: u32, path: P },
+    BadWhiteout { number: u32, path: P },
     /// It names an inode that isn't allocated.
     Unallocated { attr: Attr, path: P },
     /// It names an inode that is marked.

@@ -20,7 +20,7 @@ use Rattle.ffs_volume.specs.declared.tree_lines.DotLine.TheVariants.{MissingDotd
 use Rattle.ffs_volume.specs.declared.tree_lines.EntryLine.TheVariants.{DupBad, Extraneous, TypeEntry, ZeroDir}
 use Rattle.ffs_volume.specs.declared.tree_lines.EntryLine.TheVariants.{OutOfRange as OutOfRangeLine}
 use Rattle.ffs_volume.specs.declared.tree_lines.EntryLine.TheVariants.{Unallocated as UnallocatedLine}
-use Rattle.ffs_volume.specs.declared.tree_lines.EntryLine.TheVariants.{Whiteout as WhiteoutLine}
+use Rattle.ffs_volume.specs.declared.tree_lines.EntryLine.TheVariants.{BadWhiteout as BadWhiteoutLine}
 use Rattle.ffs_volume.specs.declared.verdict.{EntryDefects.EntryDefects, HeaderDefects.HeaderDefects}
 use Rattle.ffs_volume.specs.declared.verdict.{DotDefects.{DotDefects, TheVariants.{Missing, Other, Found}}}
 use Rattle.ffs_volume.specs.declared.verdict.Verdict.{Verdict, TheVariants.{BadWhiteout, Named, OutOfRange}}
@@ -227,7 +227,7 @@ defects_lines defects attr path directory =
 
 abbrev pub verdict_lines : Verdict → (number : ℕ) → Attr → (path directory : List ℕ) → List TreeMessage
 verdict_lines OutOfRange number attr path directory = of_entry (OutOfRangeLine number path) ∷ []
-verdict_lines BadWhiteout number attr path directory = of_entry (WhiteoutLine number path) ∷ []
+verdict_lines BadWhiteout number attr path directory = of_entry (BadWhiteoutLine number path) ∷ []
 verdict_lines Whiteout number attr path directory = []
 verdict_lines Unallocated number attr path directory = of_entry (UnallocatedLine attr path) ∷ []
 verdict_lines (Named defects) number attr path directory = defects_lines defects attr path directory

@@ -11,7 +11,7 @@ use Rattle.ffs_volume.specs.Directories.{Graph.{level, parent}, Parents.graph_of
 use Rattle.ffs_volume.specs.Directories.{Paths.entry_path, PathnameCheck.pathname_lines}
 use Rattle.ffs_volume.specs.Directories.{Connectivity.connectivity_lines, ReferenceCheck.reference_lines}
 use Rattle.ffs_volume.specs.Examples.Images.{bytes_in, word, zero_bytes, root_chunk}
-use Rattle.ffs_volume.specs.declared.tree_lines.EntryLine.TheVariants.{Extraneous, TypeEntry, OutOfRange, Whiteout}
+use Rattle.ffs_volume.specs.declared.tree_lines.EntryLine.TheVariants.{Extraneous, TypeEntry, OutOfRange, BadWhiteout}
 use Rattle.ffs_volume.specs.declared.tree_lines.{EntryLine.TheVariants.ZeroDir, DotLine.TheVariants.ExtraDot}
 use Rattle.ffs_volume.specs.declared.tree_lines.DotLine.TheVariants.{ExtraDotdot, TypeDot, TypeDotdot, MissingDot}
 use Rattle.ffs_volume.specs.declared.tree_lines.DotLine.TheVariants.{MissingDotFirst, MissingDotdot}
@@ -252,7 +252,7 @@ pub record PathnameExamples : Type 0 where
       ∷ of_dot (TypeDotdot (dir_attr 3) (47 ∷ 97 ∷ [])) ∷ []
   -- a whiteout that is right and two that aren't; the root entered, with another type
   pub whiteouts : pathname_lines (alone (dots 2 2 (entry 1 14 (97 ∷ []) ∷ entry 1 8 (98 ∷ []) ∷ entry 2 14 (99 ∷ [])
-      ∷ []))) ≡ of_entry (Whiteout 1 (47 ∷ 98 ∷ [])) ∷ of_entry (Whiteout 2 (47 ∷ 99 ∷ [])) ∷ []
+      ∷ []))) ≡ of_entry (BadWhiteout 1 (47 ∷ 98 ∷ [])) ∷ of_entry (BadWhiteout 2 (47 ∷ 99 ∷ [])) ∷ []
   pub root_entered : pathname_lines (alone (dots 2 2 (entry 2 8 (97 ∷ []) ∷ [])))
       ≡ of_entry (Extraneous (47 ∷ 97 ∷ []) (47 ∷ [])) ∷ of_entry (TypeEntry DirLabel (dir_attr 2) (47 ∷ 97 ∷ [])) ∷ []
   -- a directory of size 0, reported at its first entry alone

@@ -19,7 +19,7 @@ use Rattle.ffs_volume.specs.declared.tree_lines.DirectoryLine.TheVariants.{DirLe
 use Rattle.ffs_volume.specs.declared.tree_lines.DotLine.TheVariants.{MissingDot, MissingDotFirst, NumberDot, TypeDot}
 use Rattle.ffs_volume.specs.declared.tree_lines.DotLine.TheVariants.{MissingDotdot, MissingDotdotSecond, NumberDotdot}
 use Rattle.ffs_volume.specs.declared.tree_lines.DotLine.TheVariants.{TypeDotdot, ExtraDot, ExtraDotdot}
-use Rattle.ffs_volume.specs.declared.tree_lines.EntryLine.TheVariants.{OutOfRange, Whiteout, Unallocated, DupBad}
+use Rattle.ffs_volume.specs.declared.tree_lines.EntryLine.TheVariants.{OutOfRange, BadWhiteout, Unallocated, DupBad}
 use Rattle.ffs_volume.specs.declared.tree_lines.EntryLine.TheVariants.{ZeroDir, Extraneous, TypeEntry}
 use Rattle.ffs_volume.specs.declared.tree_lines.ReferenceLine.TheVariants.{UnrefDir, DeadMarked, DeadZero, Unref}
 use Rattle.ffs_volume.specs.declared.tree_lines.ReferenceLine.TheVariants.{UnrefZero, LinkCount}
@@ -164,7 +164,7 @@ dot_line_text (ExtraDotdot attr path) = path_text texts.EXTRA_DOTDOT.now attr Di
 -- a message on a further entry
 abbrev pub entry_line_text : EntryLine (List ℕ) → List ℕ
 entry_line_text (OutOfRange number path) = entry_text texts.OUT_OF_RANGE.now number path texts.REMOVE.now
-entry_line_text (Whiteout number path) = entry_text texts.WHITEOUT.now number path texts.FIX.now
+entry_line_text (BadWhiteout number path) = entry_text texts.BAD_WHITEOUT.now number path texts.FIX.now
 entry_line_text (Unallocated attr path) = path_text texts.UNALLOCATED.now attr Name path texts.REMOVE.now
 entry_line_text (DupBad label attr path) = path_text texts.DUP_BAD.now attr label path texts.REMOVE.now
 entry_line_text (ZeroDir attr path) = path_text texts.ZERO_DIR.now attr Dir path texts.REMOVE.now
@@ -211,7 +211,7 @@ dot_message (ExtraDotdot attr path) = ExtraDotdot attr path.now
 
 abbrev pub entry_message : EntryLine (Bor (List ℕ)) → EntryLine (List ℕ)
 entry_message (OutOfRange number path) = OutOfRange number path.now
-entry_message (Whiteout number path) = Whiteout number path.now
+entry_message (BadWhiteout number path) = BadWhiteout number path.now
 entry_message (Unallocated attr path) = Unallocated attr path.now
 entry_message (DupBad label attr path) = DupBad label attr path.now
 entry_message (ZeroDir attr path) = ZeroDir attr path.now
