@@ -30,9 +30,9 @@ pub record IsDirRight (vol : Volume) (d : ℕ) : Type 0 where
   pub sound : are_sound (vol.chunks d) ≡ true
   pub dot_there : IsSomeAnd (dot vol d) (λ e. (e.number ≡ d) × (e.kind ≡ DT_DIR))
   pub dotdot_there : IsSomeAnd (dotdot vol d) (λ e. e.kind ≡ DT_DIR)
-  pub no_extra : (j : ℕ) (s : RoledEntry) → nth_roled (roled_entries vol d) j ≡ Some s → s.role ≢ Extra
-  pub plain : (j : ℕ) (s : RoledEntry) → nth_roled (roled_entries vol d) j ≡ Some s → s.role ≡ Plain
-      → IsPlainRight vol s.entry
+  pub no_extra : (j : ℕ) (e : RoledEntry) → nth_roled (roled_entries vol d) j ≡ Some e → e.role ≢ Extra
+  pub plain : (j : ℕ) (e : RoledEntry) → nth_roled (roled_entries vol d) j ≡ Some e → e.role ≡ Plain
+      → IsPlainRight vol e.entry
 
 -- inode 2 is a directory, and each directory holds what it should
 pub record AreDirsRight (vol : Volume) : Type 0 where
