@@ -8,11 +8,11 @@ use Rattle.ffs_volume.specs.{Groups.Records.right_group_counts, Directories.Entr
 use Rattle.ffs_volume.specs.{Directories.{Graph.{Graph, level}, Paths.{dir_path, entry_path}}, Laws.Levels.IsLevel}
 
 -- `kept` is the first part of the offers of the fragments fs to inode i, in order, and `rest` is
--- the other part. `rest` is empty unless the inode is cut (`over`)
-pub record KeptPrefix (i : ℕ) (kept : List Offer) (fs : List ℕ) (over : Bool) : Type 0 where
+-- the other part. `rest` is empty unless the inode is cut
+pub record KeptPrefix (i : ℕ) (kept : List Offer) (fs : List ℕ) (is_cut : Bool) : Type 0 where
   pub rest : List Offer
   pub parts : kept ++ rest ≡ map (offer_of i) fs
-  pub end : (rest ≡ []) ⊎ (over ≡ true)
+  pub end : (rest ≡ []) ⊎ (is_cut ≡ true)
 
 -- the kept offers of an inode are the first of its offers, and all of them where it isn't cut
 abbrev pub KeptAreFirst : Type 0
