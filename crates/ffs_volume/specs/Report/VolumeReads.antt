@@ -46,9 +46,9 @@ volume_pathname_reads v bytes = phase2_cost v bytes + line_reads * length (pathn
 
 -- where the check continues after the root, phases 3 and 4 read an inode for each of their messages, and
 -- phase 5 reads the groups
-abbrev pub later_reads : (goes : Bool) → Layout → (bytes : List ℕ) → ℕ
-later_reads goes v bytes =
-    if goes
+abbrev pub later_reads : (continues : Bool) → Layout → (bytes : List ℕ) → ℕ
+later_reads continues v bytes =
+    if continues
     then length (connectivity_lines (volume_of v bytes))
     + (length (reference_lines (volume_of v bytes)) + group_reads v)
     else 0
