@@ -1,6 +1,6 @@
 -- How a check that prints a text ends: the whole text went out; or a failed read or refused memory cut
 -- it short, and the line that says so went out last; or the output failed.
-use Rattle.std.specs.Prelude.{◌≡◌, ◌⊎◌, ◌≤◌, List, [], ◌∷◌, ◌++◌, length}
+use Rattle.std.specs.Prelude.{◌≡◌, ◌⊎◌, List, [], ◌∷◌, ◌++◌}
 use Rattle.ffs_volume.specs.{declared.End.{End, TheVariants.WriteFault}, Messages.{Kinds.Message, Texts.texts_of}}
 use Rattle.ffs_report.specs.Sink.{Sink, Took, BrokeOff}
 use Rattle.ffs_check.specs.Moment.{Moment}
@@ -23,16 +23,6 @@ pub record BrokeOffInLine (old new : Sink) (said : List Message) (line : Message
   pub between : Sink
   pub went_out : Took old between (texts_of said)
   pub broke_off : BrokeOff between new (texts_of (line ∷ []))
-
--- of these messages all but the last, if there is one, went out whole, and the output failed within that
-pub record BrokeOffInLast (old new : Sink) (messages : List Message) : Type 0 where
-  pub said : List Message
-  pub last : List Message
-  pub are_all : messages ≡ said ++ last
-  pub few : length last ≤ 1
-  pub between : Sink
-  pub went_out : Took old between (texts_of said)
-  pub broke_off : BrokeOff between new (texts_of last)
 
 -- a failed read or refused memory cut the text short: the messages before it and the line that says
 -- so went out, and the end is its own; or the output failed within that line
