@@ -108,8 +108,8 @@ fn rewalk_inode<I: Image, W: Output>(
     rewalk(geometry, image, workspace, number, &inode, report)
 }
 
-/// As `phase1b`, with no limit on reads. Its clauses are the same, but for `reads`, and but that `text`
-/// is what `again` is there.
+/// As `phase1b`, with no limit on reads. Its clauses are the same, but for `reads`, and but for `text`,
+/// which follows from `again`.
 ///
 /// # Errors
 /// A read of the image that failed, and a write of the report that failed.
@@ -121,7 +121,7 @@ fn phase1b_unlimited<I: Image, W: Output>(
 ) -> Result<(), RunFault>
     requires ready { IsReady geometry.now.layout (I.device image.old) workspace.old }
     ensures faults { ImageAfter (I.device image.old) (I.device image.new) result }
-    ensures text { PhaseReports
+    ensures again { PhaseReports
         (WithNotes geometry.now.layout (I.device image.old) workspace.old)
         (rescan_messages (bits_of workspace.old.duplicates) geometry.now.layout)
         (progress W.sink report.old) (progress W.sink report.new) result }

@@ -44,7 +44,7 @@ pub returns-then-is_spent-clause-again : goal.returns-then-is_spent-clause-again
 returns-then-is_spent-clause-again g c =
     let faults = c.phase1b_unlimited-scanned.ensures.faults in
     said_of_spent _ _ _ _ _ c.phase1b_unlimited-scanned.result faults (λ e. grind arith) (λ bytes k. grind (arith, fits))
-    c.phase1b_unlimited-scanned.ensures.text
+    c.phase1b_unlimited-scanned.ensures.again
 
 pub returns-then-is_spent-clause-text : goal.returns-then-is_spent-clause-text
 returns-then-is_spent-clause-text g c =
@@ -70,7 +70,7 @@ returns-clause-faults g c = grind arith
 
 pub returns-clause-again : goal.returns-clause-again
 returns-clause-again g c = reports_knowing (Unit {0}) _ _ _ _ _ c.phase1b_unlimited-scanned.result
-    (noted g (goal.at.returns-clause-again g c).After-is_spent) c.phase1b_unlimited-scanned.ensures.text
+    (noted g (goal.at.returns-clause-again g c).After-is_spent) c.phase1b_unlimited-scanned.ensures.again
 
 pub returns-clause-text : goal.returns-clause-text
 returns-clause-text g c = text_noted c.args.geometry.now.layout (g.I.Image.device c.args.image.now)

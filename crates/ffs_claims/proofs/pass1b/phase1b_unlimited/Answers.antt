@@ -25,8 +25,8 @@ use Rattle.ffs_volume.proofs.{OwnerLaws.before_next, Sizes.some_inodes}
 use Rattle.ffs_claims.specs.{Lines.of_lines, Phases.{WithNotes, rescan_messages}, RescanRuns.rescan_end}
 use Rattle.ffs_claims.proofs.pass1b.phase1b_unlimited.Goals as goal
 
-pub returns-in_err-say-clause-text : goal.returns-in_err-say-clause-text
-returns-in_err-say-clause-text g c =
+pub returns-in_err-say-clause-again : goal.returns-in_err-say-clause-again
+returns-in_err-say-clause-again g c =
     let p = err_from_is_err_and c.from_residual.result c.from_residual.ensures.1 in
     let all = rescan_messages (bits_of c.args.workspace.now.duplicates) c.args.geometry.now.layout in
     rw (p.1, p.2) (of_stops _ all _ _ (phase1b ∷ []) _ _ _ (of_begins _ all _) (λ bytes t. refl)
@@ -77,8 +77,8 @@ loop-number-init g c =
 pub returns-in_err-rewalk_inode-clause-faults : goal.returns-in_err-rewalk_inode-clause-faults
 returns-in_err-rewalk_inode-clause-faults g c = grind arith
 
-pub returns-in_err-rewalk_inode-clause-text : goal.returns-in_err-rewalk_inode-clause-text
-returns-in_err-rewalk_inode-clause-text g c =
+pub returns-in_err-rewalk_inode-clause-again : goal.returns-in_err-rewalk_inode-clause-again
+returns-in_err-rewalk_inode-clause-again g c =
     let p = err_from_is_err_and c.from_residual-in_err-rewalk_inode.result
     c.from_residual-in_err-rewalk_inode.ensures.1 in
     let v = c.args.geometry.now.layout in
@@ -207,7 +207,7 @@ returns-then-not-has_unreported_dups g c =
     record {
       faults = inv.device;
       heading = inv.heading;
-      text = of_same _ _ (λ bytes. []) _ _ _ inv.said
+      again = of_same _ _ (λ bytes. []) _ _ _ inv.said
           (λ bytes k. ap of_lines (none_first d (kept_from v bytes n) none));
       leaves = λ bytes k. record {
         claims = claims_hold v bytes c.args.workspace.now _ k.1 inv.claims (reporting_over none (inv.reported bytes (k.0, k.1.notes)));
@@ -237,7 +237,7 @@ returns-after-loop-number g c =
     record {
       faults = inv.device;
       heading = inv.heading;
-      text = of_same _ _ (λ bytes. []) _ _ _ inv.said (λ bytes k. ap (λ os. of_lines (first_offer_lines d os))
+      again = of_same _ _ (λ bytes. []) _ _ _ inv.said (λ bytes k. ap (λ os. of_lines (first_offer_lines d os))
           (kept_end v bytes (claims_before v bytes n) n past));
       leaves = λ bytes k. record {
         claims = claims_hold v bytes c.args.workspace.now _ k.1 inv.claims
