@@ -10,11 +10,11 @@ use Rattle.ffs_pathnames.specs.Begins.{number_if, started_entry}
 
 -- the second is after the first
 second_is : (order : Order) (chunk : List ℕ) (e : Entry) → entry_at order chunk 0 ≡ Some e →
-    nth_entry 1 (entries_of order chunk) ≡ entry_at order chunk e.length
+    nth_entry (entries_of order chunk) 1 ≡ entry_at order chunk e.length
 second_is order chunk e h = rw (entries_next order chunk 0 e h, zero-add e.length) (one e.length _ refl)
   where
     one : (place : ℕ) (o : Option Entry) → entry_at order chunk place ≡ o →
-        nth_entry 1 (e ∷ entries_from order chunk 64 place) ≡ entry_at order chunk place
+        nth_entry (e ∷ entries_from order chunk 64 place) 1 ≡ entry_at order chunk place
     one place None q = rw (entries_end order chunk place q, q) refl
     one place (Some f) q = rw (entries_next order chunk place f q, q) refl
 

@@ -198,8 +198,8 @@ calm_second s reached first i e h = grind (arith, nat_tests)
 record AreFirst (d parent : ℕ) (cs : List Chunk) : Type 0 where
   first : Entry
   second : Entry
-  first_is : option_and_then (λ c. nth_entry 0 c.entries) (find (λ c. c.offset == 0) cs) ≡ Some first
-  second_is : option_and_then (λ c. nth_entry 1 c.entries) (find (λ c. c.offset == 0) cs) ≡ Some second
+  first_is : option_and_then (λ c. nth_entry c.entries 0) (find (λ c. c.offset == 0) cs) ≡ Some first
+  second_is : option_and_then (λ c. nth_entry c.entries 1) (find (λ c. c.offset == 0) cs) ≡ Some second
   dot : is_dot_silent (dot_defects d (Some first)) ≡ true
   dotdot : is_dotdot_of parent second ≡ true
 

@@ -12,7 +12,7 @@ number_if n = if n == 0 then None else Some n
 
 -- an entry of the chunk at the start of the file, if that was found
 abbrev pub started_entry : ℕ → Bool → Order → List ℕ → Option Entry
-started_entry i started order start = option_and_then (λ c. nth_entry i c.entries) (start_chunk [] started order start)
+started_entry i started order start = option_and_then (λ c. nth_entry c.entries i) (start_chunk [] started order start)
 
 -- these are the first two entries of that chunk
 pub record AreFirstTwo (one two : Option Entry) (started : Bool) (order : Order) (start : List ℕ) : Type 0 where

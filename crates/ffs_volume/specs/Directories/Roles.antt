@@ -90,14 +90,14 @@ unfoldable pub roled_entries : Volume → ℕ → List RoledEntry
 roled_entries vol d = flat_map roled_chunk (vol.chunks d)
 
 -- the entry at an index of a list, if there is one
-abbrev pub nth_entry : ℕ → List Entry → Option Entry
-nth_entry i [] = None
-nth_entry zero (e ∷ es) = Some e
-nth_entry (suc i) (e ∷ es) = nth_entry i es
+abbrev pub nth_entry : List Entry → ℕ → Option Entry
+nth_entry [] i = None
+nth_entry (e ∷ es) zero = Some e
+nth_entry (e ∷ es) (suc i) = nth_entry es i
 
 -- the entry at an index of the chunk at the start of the file, if there is one
 unfoldable pub start_entry : (vol : Volume) (d i : ℕ) → Option Entry
-start_entry vol d i = option_and_then (λ c. nth_entry i c.entries) (find (λ c. c.offset == 0) (vol.chunks d))
+start_entry vol d i = option_and_then (λ c. nth_entry c.entries i) (find (λ c. c.offset == 0) (vol.chunks d))
 
 -- the entry, if it passes
 abbrev pub entry_if : (Entry → Bool) → Option Entry → Option Entry
