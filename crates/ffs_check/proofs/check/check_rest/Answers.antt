@@ -26,4 +26,7 @@ runs_at : {W : Type 0} (sink : W → Sink) (a a' b b' : W) {s : Superblock} {w w
 runs_at sink a a' b b' runs first last = rw (← first, ← last) runs
 
 pub returns : goal.returns
-returns g c = runs_at g.W.Output.sink _ _ _ _ c.run_to_end.ensures.ends (ap (λ (p : Progress). p.sink) c.new-report.ensures) (search rules)
+returns g c = record {
+  ends = runs_at g.W.Output.sink _ _ _ _ c.run_to_end.ensures.ends (ap (λ (p : Progress). p.sink) c.new-report.ensures)
+      (search rules);
+}
