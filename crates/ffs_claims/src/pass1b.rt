@@ -108,8 +108,8 @@ fn rewalk_inode<I: Image, W: Output>(
     rewalk(geometry, image, workspace, number, &inode, report)
 }
 
-/// As `phase1b`, with no limit on reads. Its clauses are the same, but for `reads`, and but for `text`,
-/// which follows from `again`.
+/// As `phase1b`, with no limit on reads. Its clauses are the same, but for `reads`, and but for
+/// `text`, which follows from `again`.
 ///
 /// # Errors
 /// A read of the image that failed, and a write of the report that failed.
