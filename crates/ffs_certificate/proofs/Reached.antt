@@ -63,9 +63,9 @@ parent_edge v d n r =
     go zero e = absurd (n (eqb-true d 2 (sym (within-zero v d) ∙ (level-some v 0 d e).0.within_k)))
     go (suc k) e =
         let b = level-before v k d (level-some v (suc k) d e).0 in
-        let w = some_below-gives (level_edge v k d) v.count
-        (some_below-from (level_edge v k d) v.count b.0 b.1 (grind (arith, is_value-from, level-is))) in
-        let first = first_below-is (level_edge v k d) v.count w.0 w.1 in
+        let w = some_below-gives (λ s. level_edge v k s d) v.count
+        (some_below-from (λ s. level_edge v k s d) v.count b.0 b.1 (grind (arith, is_value-from, level-is))) in
+        let first = first_below-is (λ s. level_edge v k s d) v.count w.0 w.1 in
         (w.0, grind (arith, ne_eqb), grind arith)
 
 pub place_of : (p : RoledEntry → Bool) (es : List RoledEntry) → list_any p es ≡ true →

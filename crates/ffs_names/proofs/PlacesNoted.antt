@@ -350,18 +350,18 @@ pub record IsUnder (g : Graph) (x p : ℕ) : Type 0 where
 -- a directory with a level above 0 has a parent
 level_under : (g : Graph) (x k : ℕ) → level g x ≡ Some (suc k) → (p : ℕ) × IsUnder g x p
 unfolding parent
-level_under g x k h = go (first_below (level_edge g k x) g.count) refl
+level_under g x k h = go (first_below (λ s. level_edge g k s x) g.count) refl
   where
     before : (s : ℕ) × (s < g.count) × IsLevel g k s × (edge g s x ≡ true)
     before = level-before g k x (level-some g (suc k) x h).0
 
-    go : (o : Option ℕ) → first_below (level_edge g k x) g.count ≡ o → (p : ℕ) × IsUnder g x p
-    go None e = absurd (both_ways (level_edge g k x before.0)
-        (first_below-none (level_edge g k x) g.count e before.0 before.1)
+    go : (o : Option ℕ) → first_below (λ s. level_edge g k s x) g.count ≡ o → (p : ℕ) × IsUnder g x p
+    go None e = absurd (both_ways (level_edge g k before.0 x)
+        (first_below-none (λ s. level_edge g k s x) g.count e before.0 before.1)
         (and_from (is_value (level g before.0) k) (edge g before.0 x)
         (rw (level-is g k before.0 before.1 before.2) (eq-eqb k k refl)) before.3))
     go (Some p) e =
-        let first = first_below-some (level_edge g k x) g.count p e in
+        let first = first_below-some (λ s. level_edge g k s x) g.count p e in
         let link = (and_parts (is_value (level g p) k) (edge g p x) first.passes).1 in
         let other : (x == 2) ≡ false =
         sym (within-zero g x) ∙ (level-some g (suc k) x h).0.least 0 (omega arith) in (

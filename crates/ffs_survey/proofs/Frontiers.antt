@@ -87,12 +87,12 @@ no_edge : (l e : Bool) (n : ℕ) → n ≡ bit l → (1 ≤ n → e ≡ false) �
 no_edge l e n h k = grind arith
 
 frontier_first : (v : Graph) (k x : ℕ) (xs : List ℕ) → IsSane v → IsFrontier v k xs →
-    from_dirs v xs x ≡ first_below (level_edge v k x) v.count
+    from_dirs v xs x ≡ first_below (λ s. level_edge v k s x) v.count
 frontier_first v k x xs sane f = go (find (λ s. edge v s x) xs) (found (λ s. edge v s x) xs f.rising)
   where
-    go : (o : Option ℕ) → FoundIn (λ s. edge v s x) xs o → o ≡ first_below (level_edge v k x) v.count
-    go None h = sym (first_below-is_none (level_edge v k x) v.count (λ t l. no_edge _ _ _ (f.members t) (h t)))
-    go (Some s) h = sym (first_below-is (level_edge v k x) v.count s (record {
+    go : (o : Option ℕ) → FoundIn (λ s. edge v s x) xs o → o ≡ first_below (λ s. level_edge v k s x) v.count
+    go None h = sym (first_below-is_none (λ s. level_edge v k s x) v.count (λ t l. no_edge _ _ _ (f.members t) (h t)))
+    go (Some s) h = sym (first_below-is (λ s. level_edge v k s x) v.count s (record {
       below = sane.dirs s (edge-parts v s x h.0).1;
       passes = and_from (is_value (level v s) k) (edge v s x) (bit-one _ _ (f.members s) h.1) h.0;
       least = λ t l. no_edge _ _ _ (f.members t) (h.2 t l);
@@ -100,8 +100,8 @@ frontier_first v k x xs sane f = go (find (λ s. edge v s x) xs) (found (λ s. e
 
 -- what is one level further
 within-level : (v : Graph) (k x : ℕ) →
-    within v (suc k) x ≡ (within v k x || some_below (level_edge v k x) v.count)
-within-level v k x = both_imply (within v (suc k) x) (within v k x || some_below (level_edge v k x) v.count)
+    within v (suc k) x ≡ (within v k x || some_below (λ s. level_edge v k s x) v.count)
+within-level v k x = both_imply (within v (suc k) x) (within v k x || some_below (λ s. level_edge v k s x) v.count)
     (λ h. elim (or_cases (within v k x) _ (sym (within-suc v k x) ∙ h)) [
       | inl y ↦ or_left (within v k x) _ y
       | inr y ↦
@@ -112,14 +112,14 @@ within-level v k x = both_imply (within v (suc k) x) (within v k x || some_below
             | inl lt ↦ or_left (within v k x) _ (within-grows v (suc j.0) k x lt
                 (within-step v j.0 w.0 x w.1.below (level-some v j.0 w.0 j.2).0.within_k p.1))
             | inr ge ↦ let b = j.1 in let same : j.0 ≡ k = omega arith in
-                or_right (within v k x) _ (some_below-from (level_edge v k x) v.count w.0 w.1.below
+                or_right (within v k x) _ (some_below-from (λ s. level_edge v k s x) v.count w.0 w.1.below
                 (and_from (is_value (level v w.0) k) _ (is_value-from (level v w.0) k (j.2 ∙ ap Some same)) p.1))
           ]
     ])
     (λ h. elim (or_cases (within v k x) _ h) [
       | inl y ↦ within-more v k x y
       | inr y ↦
-          let w = some_below-gives (level_edge v k x) v.count y in
+          let w = some_below-gives (λ s. level_edge v k s x) v.count y in
           let p = and_parts (is_value (level v w.0) k) (edge v w.0 x) w.1.passes in
           within-step v k w.0 x w.1.below (level-some v k w.0 (is_value-true _ k p.0)).0.within_k p.1
     ])
@@ -155,8 +155,8 @@ is_level-suc v k x sane =
     ])
 
 -- a new one of the next level gets the least directory of this level as its parent
-parent-new : (v : Graph) (k x : ℕ) → IsSane v → within v k x ≡ false → some_below (level_edge v k x) v.count ≡ true →
-    parent v x ≡ first_below (level_edge v k x) v.count
+parent-new : (v : Graph) (k x : ℕ) → IsSane v → within v k x ≡ false →
+    some_below (λ s. level_edge v k s x) v.count ≡ true → parent v x ≡ first_below (λ s. level_edge v k s x) v.count
 unfolding parent
 parent-new v k x sane n f =
     let w : within v (suc k) x ≡ true = within-level v k x ∙ or_right (within v k x) _ f in

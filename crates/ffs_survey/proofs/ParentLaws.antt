@@ -16,23 +16,23 @@ pub record IsAbove (g : Graph) (k d s : ℕ) : Type 0 where
 
 pub parent_above : (g : Graph) (k d : ℕ) → level g d ≡ Some (suc k) → (s : ℕ) × IsAbove g k d s
 unfolding parent
-parent_above g k d h = go (first_below (level_edge g k d) g.count) refl
+parent_above g k d h = go (first_below (λ s. level_edge g k s d) g.count) refl
   where
     not_root : d ≢ 2
     not_root = λ e. let l = level-some g (suc k) d h in
         both_ways _ (l.0.least 0 (omega arith)) (within-zero g d ∙ eq-eqb d 2 e)
 
-    is_by : parent g d ≡ first_below (level_edge g k d) g.count
+    is_by : parent g d ≡ first_below (λ s. level_edge g k s d) g.count
     is_by = cond-false (d == 2) (Some 2) (parent_by g d (level g d)) (ne_eqb d 2 not_root) ∙ ap (parent_by g d) h
 
-    go : (o : Option ℕ) → first_below (level_edge g k d) g.count ≡ o → (s : ℕ) × IsAbove g k d s
+    go : (o : Option ℕ) → first_below (λ s. level_edge g k s d) g.count ≡ o → (s : ℕ) × IsAbove g k d s
     go (Some s) e =
-        let f = first_below-some (level_edge g k d) g.count s e in
+        let f = first_below-some (λ s. level_edge g k s d) g.count s e in
         let p = and_parts (is_value (level g s) k) (edge g s d) f.passes in
         (s, record { is = is_by ∙ e; below = f.below; near = is_value-true (level g s) k p.0; linked = p.1 })
     go None e =
         let b = level-before g k d (level-some g (suc k) d h).0 in
-        absurd (both_ways (level_edge g k d b.0) (first_below-none (level_edge g k d) g.count e b.0 b.1)
+        absurd (both_ways (level_edge g k b.0 d) (first_below-none (λ s. level_edge g k s d) g.count e b.0 b.1)
         (and_from (is_value (level g b.0) k) (edge g b.0 d) (is_value-from (level g b.0) k (level-is g k b.0 b.1 b.2))
         b.3))
 

@@ -41,15 +41,15 @@ abbrev pub reached : Graph → ℕ → Bool
 reached g d = is_some (level g d)
 
 -- s is a directory of level k with an edge to x
-abbrev pub level_edge : (g : Graph) (k x s : ℕ) → Bool
-level_edge g k x s = is_value (level g s) k && edge g s x
+abbrev pub level_edge : (g : Graph) (k s x : ℕ) → Bool
+level_edge g k s x = is_value (level g s) k && edge g s x
 
 -- the parent of a directory other than the root. Of one with a level it is the least directory one
 -- level above that has an edge to it; of one without, the least directory that has one
 abbrev pub parent_by : (g : Graph) (d : ℕ) → Option ℕ → Option ℕ
 parent_by g d None = first_below (λ s. edge g s d) g.count
 parent_by g d (Some zero) = None
-parent_by g d (Some (suc k)) = first_below (λ s. level_edge g k d s) g.count
+parent_by g d (Some (suc k)) = first_below (λ s. level_edge g k s d) g.count
 
 -- the parent of a directory, by entries and not by its `..`; the root is its own parent
 unfoldable pub parent : Graph → ℕ → Option ℕ
