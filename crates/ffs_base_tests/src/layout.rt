@@ -161,10 +161,11 @@ fn places(rt: HostRuntime) -> Result<(), Fail> {
         &(
             geometry.ncg(),
             geometry.ipg(),
+            geometry.inodes(),
             geometry.fpg(),
             geometry.cgoffset(),
         ),
-        &(2, 32, 128, 4),
+        &(2, 32, 64, 128, 4),
     );
     let wanted = ([128, 132, 148, 164], [159744, 32784, 28928, 163968]);
     same(&rt, &places_in(&geometry), &Some(wanted));

@@ -141,7 +141,7 @@ fn phase1b_unlimited<I: Image, W: Output>(
     workspace.forget_windows();
     workspace.runs_again = 0;
     report.say(&Line::Heading(Heading::Phase1b))?;
-    for number in ROOTINO..geometry.layout.ncg * geometry.layout.ipg {
+    for number in ROOTINO..geometry.inodes() {
         if !workspace.has_unreported_dups() {
             break;
         }

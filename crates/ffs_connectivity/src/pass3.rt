@@ -83,7 +83,7 @@ pub fn phase3<I: Image, W: Output>(
     );
     // `queue` was lent to the walks over parents: no place of a parent entry is noted now.
     workspace.queue.fill(0);
-    for number in first..geometry.layout.ncg * geometry.layout.ipg {
+    for number in first..geometry.inodes() {
         report_lost(geometry, image, workspace, number, report)?;
     }
     Ok(())

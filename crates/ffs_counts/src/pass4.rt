@@ -228,7 +228,7 @@ pub fn phase4<I: Image, W: Output>(
 {
     workspace.forget_windows();
     report.say(&Line::Heading(Heading::Phase4))?;
-    let inodes = geometry.layout.ncg * geometry.layout.ipg;
+    let inodes = geometry.inodes();
     // From 0: neither inode 0 nor 1 is allocated, so both are passed over. A jump over unallocated
     // inodes may begin and end anywhere. One over inodes that are right begins at a multiple of
     // `RIGHT_AT_ONCE`, and allocated inodes before that are looked at by themselves.

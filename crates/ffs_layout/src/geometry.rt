@@ -3,6 +3,7 @@
 ghost use Rattle.std.specs.Prelude.{MatchResult, ◌≡◌, ◌<◌, ◌≤◌, ◌*◌, ◌+◌};
 ghost use Rattle.ffs_volume.specs.Disk.Outcome.{layout_fault};
 ghost use Rattle.ffs_volume.specs.Disk.Areas.{cgsblock, cgstart, group_place, inode_place, is_run_in_range, is_group_metadata, is_fragment_in_range, is_reserved, summary_place};
+ghost use Rattle.ffs_volume.specs.Blocks.Inodes.{inodes_of};
 ghost use Rattle.ffs_volume.specs.Laws.Geometry.{IsAcceptedLayout};
 ghost use Rattle.ffs_layout.specs.Accepted.{IsAccepted, IsDataStart, IsGroupBase};
 
@@ -43,6 +44,13 @@ impl Geometry {
         ensures { result ≡ self.now.layout.order }
     {
         self.layout.order
+    }
+
+    /// How many inodes the volume has. They are numbered from 0.
+    pub fn inodes(&self) -> u32
+        ensures { result ≡ inodes_of self.now.layout }
+    {
+        self.layout.ncg * self.layout.ipg
     }
 
     /// The first fragment of the group (fs(5), `cgbase`).
@@ -99,7 +107,7 @@ impl Geometry {
     /// Where the inode's 128 bytes begin, in bytes (fs(5), `ino_to_fsba`).
     #[tactic(auto, using(ffs_volume::proofs::AreaLaws::inode_group))]
     pub fn inode_place(&self, inode: u32) -> u64
-        requires { inode < self.now.layout.ncg * self.now.layout.ipg }
+        requires { inode < inodes_of self.now.layout }
         ensures { result ≡ inode_place self.now.layout inode }
     {
         let group = self.cgstart(inode / self.layout.ipg);

@@ -1,11 +1,11 @@
 //! The superblock of an image.
 
-ghost use Rattle.std.specs.Prelude.{MatchResult, ℕ, ◌^◌, IsTrue, nat_le, ◌==◌, ◌≡◌, ◌+◌, ◌*◌, ◌<◌, ◌≤◌};
+ghost use Rattle.std.specs.Prelude.{MatchResult, IfSome, false, ℕ, ◌^◌, IsTrue, nat_le, ◌==◌, ◌≡◌, ◌+◌, ◌*◌, ◌<◌, ◌≤◌};
 ghost use Rattle.std.specs.List.{list_all};
 ghost use Rattle.ffs_volume.specs.{Disk.{Numbers.u32_at, Superblock.{layout_of, order_of}}, Report.Reads.opening_reads};
 ghost use Rattle.ffs_volume.specs.{Disk.Superblock.superblock_of, declared.constants.TheConstants.SUPERBLOCK_BYTES};
 ghost use Rattle.ffs_layout.specs.{Accepted.IsAccepted, Copies.{ComparesCopy, ReadsSuperblockBytes}, Super.ReadsSuper};
-ghost use Rattle.ffs_layout.specs.Super.{IsUnreadable, found_of, superblock_in};
+ghost use Rattle.ffs_layout.specs.Super.{IsUnreadable, found_of, may_read_copy, superblock_in};
 
 use crate::geometry::Geometry;
 use crate::layout::decode;
@@ -158,6 +158,7 @@ fn check_copy<I: Image>(
     ensures compared { ComparesCopy (I.device image.old) (I.device image.new) sector order bytes.now
         result }
     ensures counted { I.reads image.new ≤ I.reads image.old + 1 }
+    ensures unread { IfSome sector (λ _. I.reads image.new ≤ I.reads image.old) }
 {
     if sector.is_some() {
         return Ok(());
@@ -191,8 +192,10 @@ pub fn read_super<I: Image>(image: &mut I, sector: Option<u32>) -> Result<Super,
     // bytes are given.
     ensures answer { ReadsSuper (I.device image.old) (I.device image.new) sector (found_of result) }
 
-    // It reads the superblock, and the copy.
+    // It reads the superblock, and the copy; the copy only where that is compared.
     ensures reads { I.reads image.new ≤ I.reads image.old + opening_reads }
+    ensures once { may_read_copy sector (found_of result) ≡ false
+        → I.reads image.new ≤ I.reads image.old + 1 }
 {
     let start = u64::from(sector.unwrap_or(SUPERBLOCK_SECTOR as u32)) * DEV_BSIZE;
     let mut bytes = [0; SUPERBLOCK_BYTES];

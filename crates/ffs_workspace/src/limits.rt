@@ -22,6 +22,6 @@ pub const RUNS_WITHOUT_CLAIM: u64 = 22;
 pub fn sweep_reads(geometry: &Geometry) -> u64
     ensures { result ≡ sweep_reads geometry.now.layout }
 {
-    let inodes = u64::from(geometry.layout.ncg) * u64::from(geometry.layout.ipg);
+    let inodes = u64::from(geometry.inodes());
     inodes + (u64::from(geometry.layout.size) + RUNS_WITHOUT_CLAIM * inodes)
 }

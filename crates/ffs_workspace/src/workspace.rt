@@ -137,7 +137,7 @@ impl Workspace {
         // Two requests are for maps, nine for lists of inodes and four for buffers.
         ensures requests { M.requests memory.new ≤ M.requests memory.old + 15 }
     {
-        let inodes = geometry.layout.ncg as usize * geometry.layout.ipg as usize;
+        let inodes = geometry.inodes() as usize;
         let used = FragmentMap::in_memory(memory, geometry.layout.size)?;
         let duplicates = FragmentMap::in_memory(memory, geometry.layout.size)?;
         let kinds = memory.bytes(inodes)?;

@@ -104,6 +104,7 @@ loop-number-preserved g c =
     let next = c.pass_free_inodes-number.result in
     let ready = c.claim_inode.ensures.claims.left.claim.ready in
     let passes = c.pass_free_inodes-number.ensures in
+    let high : next ≤ inodes_of v = omega (arith, passes.ends.high) in
     let gives = ap (λ d. d.contents) (c.in_ok-claim_inode.ensures.claims.left.image ∙ inv.device) in
     let stands : ForBytes (WithFresh v (g.I.Image.device c.args.image.now) c.args.workspace.now)
     (λ bytes. StandsAt v bytes w (n + 1)) = λ bytes k. record {
@@ -134,17 +135,17 @@ loop-number-preserved g c =
             walk = c.claim_inode.ensures.claims.left.walk;
             device = c.in_ok-claim_inode.ensures.claims.left.image ∙ inv.device;
             low = omega (arith, some);
-            high = λ h. passes.ends.high;
+            high = λ h. high;
             runs = omega (arith, runs, some);
             reads = blocks_later passes.ends.low reads;
-            known = λ bytes k. read_later some passes.ends.high (free bytes k) (known bytes k);
+            known = λ bytes k. read_later some high (free bytes k) (known bytes k);
             changes = changes_then inv.changes (zeros_passed c.claim_inode.ensures.claims.left.changes);
-            claims = λ bytes k. (stands_later (omega (arith, inv.low)) some passes.ends.high ready.ready.made (free bytes k)
+            claims = λ bytes k. (stands_later (omega (arith, inv.low)) some high ready.ready.made (free bytes k)
                 (stands bytes k)).claims;
-            found = λ bytes k. (stands_later (omega (arith, inv.low)) some passes.ends.high ready.ready.made (free bytes k)
+            found = λ bytes k. (stands_later (omega (arith, inv.low)) some high ready.ready.made (free bytes k)
                 (stands bytes k)).found;
             said = of_same _ _ _ _ _ _ said
-                (λ bytes k. lines_later v bytes s' (n + 1) next some passes.ends.high (free bytes k));
+                (λ bytes k. lines_later v bytes s' (n + 1) next some high (free bytes k));
             heading = heading;
           })
       | inr none ↦
