@@ -7,7 +7,7 @@ ghost use Rattle.ffs_workspace.specs.Tables.{HoldsInode};
 ghost use Rattle.ffs_claims.specs.FreeInodes.{CanPassFreeInodes, EndsFreeInodes, HasTableInodes, IsPastFreeInodes, PassesFreeInodes};
 ghost use Rattle.ffs_claims.specs.FreeInodes.{inode_bytes, is_free_by};
 
-use crate::store::begin;
+use crate::store::clear_counts;
 use ffs_volume::constants::DINODE_SIZE;
 use ffs_workspace::{Table, Workspace};
 
@@ -94,6 +94,6 @@ pub fn pass_free_inodes(workspace: &mut Workspace, number: u32, end: u32) -> u32
         return number;
     }
     // As the last of them would leave it.
-    begin(workspace);
+    clear_counts(workspace);
     next
 }
