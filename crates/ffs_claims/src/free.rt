@@ -1,14 +1,14 @@
 //! Free inodes side by side, which are passed over.
 
 ghost use Rattle.std.specs.Prelude.{◌≡◌, ◌<◌, ◌≤◌, ◌+◌, length};
-ghost use Rattle.ffs_volume.specs.Blocks.Inodes.{any_nonzero};
 ghost use Rattle.ffs_volume.specs.declared.constants.TheConstants.{DINODE_SIZE};
 ghost use Rattle.ffs_workspace.specs.Tables.{HoldsInode};
 ghost use Rattle.ffs_claims.specs.FreeInodes.{CanPassFreeInodes, EndsFreeInodes, HasTableInodes, IsPastFreeInodes, PassesFreeInodes};
 ghost use Rattle.ffs_claims.specs.FreeInodes.{inode_bytes, is_free_by};
 
-use crate::store::begin;
+use crate::store::clear_counts;
 use ffs_volume::constants::DINODE_SIZE;
+use ffs_walk::any_set;
 use ffs_workspace::{Table, Workspace};
 
 /// Where the bytes of an inode end that have its mode, its links and its size (inode(5)).
@@ -19,19 +19,6 @@ const ADDRESSES: usize = 40;
 
 /// Where its flags end, which lie after the addresses.
 const FLAGS_END: usize = 104;
-
-/// Whether one of the bytes isn't zero: a loop without exit.
-#[inline(always)]
-#[tactic(auto, using(ffs_walk::proofs::AnySet::or_set, std::proofs::lemmas::List::Folds::list_any_more, std::proofs::lemmas::Grind::common_steps))]
-fn any_set(bytes: &[u8]) -> bool
-    ensures { result ≡ any_nonzero bytes.now }
-{
-    let mut bits = 0;
-    for byte in bytes {
-        bits |= *byte;
-    }
-    bits != 0
-}
 
 /// Whether an inode is free by its bytes: none of those of its mode, its size and its addresses is set,
 /// nor of what lies beside, so that whole sixteens of bytes are looked at together. A number is zero
@@ -94,6 +81,6 @@ pub fn pass_free_inodes(workspace: &mut Workspace, number: u32, end: u32) -> u32
         return number;
     }
     // As the last of them would leave it.
-    begin(workspace);
+    clear_counts(workspace);
     next
 }

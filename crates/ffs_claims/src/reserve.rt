@@ -3,7 +3,7 @@
 ghost use Rattle.ffs_workspace.specs.Lengths.{IsFor};
 ghost use Rattle.ffs_claims.specs.Claiming.{Reserves};
 
-use crate::store::begin;
+use crate::store::clear_counts;
 use ffs_layout::Geometry;
 use ffs_workspace::Workspace;
 
@@ -13,7 +13,7 @@ pub fn reserve(geometry: &Geometry, workspace: &mut Workspace)
     requires { IsFor geometry.now.layout workspace.old }
     ensures { Reserves geometry.now.layout workspace.old workspace.new }
 {
-    begin(workspace);
+    clear_counts(workspace);
     workspace.runs_seen = 0;
     workspace.used.reserve(geometry);
 }

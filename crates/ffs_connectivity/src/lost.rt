@@ -1,9 +1,10 @@
 //! The line on a lost directory.
 
 ghost use Rattle.std.specs.Prelude.{◌≤◌, ◌+◌, length, map};
-ghost use Rattle.ffs_report.specs.{Known.ForBytes, Paid.Paid, PhaseOutcome.{ImageAfter, PhaseReports}, Progress.progress};
+ghost use Rattle.ffs_report.specs.{Known.ForBytes, Paid.Paid, Fails.FailsIn, PhaseOutcome.{ImageAfter, PhaseReports}};
+ghost use Rattle.ffs_report.specs.Progress.{progress};
 ghost use Rattle.ffs_volume.specs.{Directories.Volumes.volume_of, Messages.Kinds.of_tree};
-ghost use Rattle.ffs_workspace.specs.{Found.WithSurvey, Ready.KeepsWindows};
+ghost use Rattle.ffs_workspace.specs.{Found.WithSurvey, Ready.KeepsWindows, Tables.IsTableSector};
 ghost use Rattle.ffs_connectivity.specs.{Lines.unref_dir_lines, Phase3.CanReportLost};
 
 use ffs_image::Image;
@@ -34,6 +35,7 @@ pub fn report_lost<I: Image, W: Output>(
     ensures reads { ForBytes (WithSurvey geometry.now.layout (I.device image.old) workspace.old)
         (λ bytes. I.reads image.new ≤ I.reads image.old + length
         (unref_dir_lines (volume_of geometry.now.layout bytes) number)) }
+    ensures sector { FailsIn (IsTableSector geometry.now.layout) result }
     ensures paid { Paid 1 (progress W.sink report.old) (progress W.sink report.new)
         (I.reads image.old) (I.reads image.new) result }
     ensures stays { KeepsWindows geometry.now.layout (I.device image.new) workspace.old

@@ -1,13 +1,13 @@
 //! Phase 3: connectivity (fsck(8)).
 
 ghost use Rattle.std.specs.Prelude.{◌≡◌, ◌<◌, ◌≤◌, ◌+◌, ◌^◌, length, vec_len};
-ghost use Rattle.ffs_report.specs.{Known.ForBytes, Paid.Paid, PhaseOutcome.{HeadingFirst, ImageAfter, PhaseReports}};
+ghost use Rattle.ffs_report.specs.{Known.ForBytes, Paid.Paid, Fails.FailsIn, PhaseOutcome.{HeadingFirst, ImageAfter, PhaseReports}};
 ghost use Rattle.ffs_report.specs.Progress.{progress};
 ghost use Rattle.ffs_volume.specs.{Directories.Connectivity.connectivity_lines, Report.Whole.phase3_messages};
 ghost use Rattle.ffs_volume.specs.Messages.Kinds as messages;
 ghost use Rattle.ffs_volume.specs.Directories.Volumes.{volume_of};
 ghost use Rattle.ffs_connectivity.specs.Unreached.{IsFirstUnreached};
-ghost use Rattle.ffs_workspace.specs.{Found.WithSurvey, Leaves.LeavesSurvey, Ready.IsReady};
+ghost use Rattle.ffs_workspace.specs.{Found.WithSurvey, Leaves.LeavesSurvey, Ready.IsReady, Tables.IsTableSector};
 
 use crate::lost::report_lost;
 use ffs_image::Image;
@@ -68,6 +68,9 @@ pub fn phase3<I: Image, W: Output>(
         (connectivity_lines (volume_of geometry.now.layout bytes))) }
     ensures paid { Paid 1 (progress W.sink report.old) (progress W.sink report.new)
         (I.reads image.old) (I.reads image.new) result }
+
+    // A read that failed is of a block of the inode table.
+    ensures sector { FailsIn (IsTableSector geometry.now.layout) result }
     ensures ready { IsReady geometry.now.layout (I.device image.new) workspace.new }
 {
     workspace.forget_windows();

@@ -1,9 +1,11 @@
 -- The summary records that are read at a time, and the records of a group.
 use Rattle.std.specs.{List.slice_range, Prelude.{ℕ, ◌≡◌, ◌+◌, ◌-◌, ◌*◌, ◌%◌, ◌<◌, ◌≤◌, List, Option, Result, IfOk, OnOk, min}}
+use Rattle.std.specs.Prelude.{◌/◌, ◌⊎◌, IfErr}
 use Rattle.ffs_image.specs.{Device.{Device, ForContents}, Reads.ReadAfter, declared.ImageFault.ImageFault}
-use Rattle.ffs_volume.specs.{declared.{constants.TheConstants.CSUM_SIZE, Layout.Layout}, Disk.Areas.summary_place}
+use Rattle.ffs_volume.specs.{declared.{constants.TheConstants.{CSUM_SIZE, DEV_BSIZE}, Layout.Layout}}
+use Rattle.ffs_volume.specs.Disk.Areas.{group_place, summary_place}
 use Rattle.ffs_volume.specs.{Groups.{GroupCheck.group_lines, Records.summary_record}, Report.Reads.records_at_once}
-use Rattle.ffs_walk.specs.{Windows.held_bytes, declared.window.Window.Window}
+use Rattle.ffs_walk.specs.{Windows.{FailsAt, held_bytes}, declared.window.Window.Window}
 use Rattle.ffs_maps.specs.Bits.{bits_of}
 use Rattle.ffs_groups.specs.{Check.{AreCounts, lines_of}, Free.free_in, Inodes.class_in}
 use Rattle.ffs_groups.specs.declared.{check.GroupFindings.GroupFindings, counts.Counts.Counts}
@@ -17,6 +19,15 @@ first_read c = c - c % records_at_once
 -- how many records are read from group n on: those that are read at once, or all that are left
 abbrev pub records_read : Layout → ℕ → ℕ
 records_read v n = min records_at_once (v.ncg - n)
+
+-- the block of group c begins in this sector, or the records begin there that are read with that of the group
+abbrev pub IsSectorOf : Layout → (c sector : ℕ) → Type 0
+IsSectorOf v c sector =
+    (sector ≡ group_place v c / DEV_BSIZE) ⊎ (sector ≡ summary_place v (first_read c) / DEV_BSIZE)
+
+-- it is such a sector of some group
+abbrev pub IsGroupSector : Layout → (sector : ℕ) → Type 0
+IsGroupSector v sector = (c : ℕ) × (c < v.ncg) × IsSectorOf v c sector
 
 -- a window is at the records that are read with that of group c, and at nothing else
 pub record IsAtRecords (v : Layout) (w : Window) (c : ℕ) : Type 0 where
@@ -39,6 +50,7 @@ pub record CanReadRecord (v : Layout) (d : Device) (c : ℕ) (t : Table) : Type 
 pub record ReadsRecord (v : Layout) (d d' : Device) (c : ℕ) (t : Table) (result : Result ℕ ImageFault) : Type 0 where
   pub there : IfOk result (HoldsRecord v d.contents t.window c)
   pub leaves : TableAfter v d d' t result
+  pub sector : FailsAt (summary_place v (first_read c)) result
 
 -- the records that are read with that of group c take one read at most, and none where a window has them
 pub record AreReadOnce (v : Layout) (w : Window) (c : ℕ) (before after : ℕ) : Type 0 where
@@ -58,4 +70,5 @@ pub record GroupIsRead (v : Layout) (d d' : Device) (w : Workspace) (c : ℕ) (r
   pub lines : IfOk result (λ f. ForContents d.contents
       (λ b. lines_of f c ≡ group_lines v b (free_in (bits_of w.used) v.size) (class_in w.kinds.items) c))
   pub read : ReadAfter d d' result
+  pub sector : IfErr result (λ fault. IsSectorOf v c fault.sector)
   pub records : OnOk result (IsAtRecords v w.windows.table.window c)

@@ -3,10 +3,11 @@
 ghost use Rattle.std.specs.Prelude.{◌≡◌, ◌<◌, ◌≤◌, ◌+◌, ℕ, false, map, length, slice_index, vec_len};
 ghost use Rattle.ffs_volume.specs.{Messages.Kinds.of_tree, Report.Whole.phase4_messages};
 ghost use Rattle.ffs_volume.specs.Directories.{ReferenceCheck.{reference_lines, reference_lines_at}, Volumes.volume_of};
-ghost use Rattle.ffs_report.specs.{Known.ForBytes, Paid.Paid, PhaseOutcome.{HeadingFirst, ImageAfter, PhaseReports}};
+ghost use Rattle.ffs_report.specs.{Fails.FailsIn, Known.ForBytes, Paid.Paid};
+ghost use Rattle.ffs_report.specs.{PhaseOutcome.{HeadingFirst, ImageAfter, PhaseReports}};
 ghost use Rattle.ffs_report.specs.Progress.{progress};
 ghost use Rattle.ffs_volume.specs.Messages.Kinds as messages;
-ghost use Rattle.ffs_workspace.specs.{Found.WithFindings, Ready.{IsReady, KeepsWindows}};
+ghost use Rattle.ffs_workspace.specs.{Found.WithFindings, Ready.{IsReady, KeepsWindows}, Tables.IsTableSector};
 ghost use Rattle.ffs_counts.specs.{Ready.{CanCheckAllocated, HasElements, AreUnallocated, AreUnallocatedFrom}, References.is_dead_by};
 ghost use Rattle.ffs_counts.specs.{References.{is_right_by}, Passed.{AreRightFrom, ArePassedFrom, CanPass}};
 ghost use Rattle.ffs_survey.specs.Survey.{suspect_at};
@@ -175,6 +176,7 @@ fn report_references<I: Image, W: Output>(
         (reference_lines_at (volume_of geometry.now.layout bytes) number)) }
     ensures paid { Paid 1 (progress W.sink report.old) (progress W.sink report.new)
         (I.reads image.old) (I.reads image.new) result }
+    ensures sector { FailsIn (IsTableSector geometry.now.layout) result }
     ensures stays { KeepsWindows geometry.now.layout (I.device image.new) workspace.old
         workspace.new }
 {
@@ -224,6 +226,9 @@ pub fn phase4<I: Image, W: Output>(
         (reference_lines (volume_of geometry.now.layout bytes))) }
     ensures paid { Paid 1 (progress W.sink report.old) (progress W.sink report.new)
         (I.reads image.old) (I.reads image.new) result }
+
+    // A read that failed is of a block of the inode table.
+    ensures sector { FailsIn (IsTableSector geometry.now.layout) result }
     ensures ready { IsReady geometry.now.layout (I.device image.new) workspace.new }
 {
     workspace.forget_windows();

@@ -4,8 +4,10 @@ ghost use Rattle.std.specs.Prelude.{◌≡◌, ◌+◌, ◌≤◌};
 ghost use Rattle.ffs_volume.specs.Report.Reads.{group_reads};
 ghost use Rattle.ffs_volume.specs.Report.Whole.{phase5_messages};
 ghost use Rattle.ffs_layout.specs.Super.{superblock_in};
-ghost use Rattle.ffs_report.specs.{Progress.progress, PhaseOutcome.{HeadingFirst, ImageAfter, PhaseReports}};
+ghost use Rattle.ffs_report.specs.{Progress.progress, Fails.FailsIn};
+ghost use Rattle.ffs_report.specs.PhaseOutcome.{HeadingFirst, ImageAfter, PhaseReports};
 ghost use Rattle.ffs_volume.specs.Messages.Kinds as messages;
+ghost use Rattle.ffs_counts.specs.Records.{IsGroupSector};
 ghost use Rattle.ffs_workspace.specs.{Found.WithClaims, Ready.IsReady};
 
 use crate::groups::read_group;
@@ -43,6 +45,9 @@ pub fn phase5<I: Image, W: Output>(
     ensures leaves { workspace.new ≡ record workspace.old { windows = workspace.new.windows } }
     ensures reads { I.reads image.new
         ≤ I.reads image.old + group_reads superblock.now.geometry.layout }
+
+    // A read that failed is of the block of a group, or of summary records.
+    ensures sector { FailsIn (IsGroupSector superblock.now.geometry.layout) result }
     ensures ready { IsReady superblock.now.geometry.layout (I.device image.new) workspace.new }
 {
     workspace.forget_windows();

@@ -33,3 +33,4 @@ pub use class::{class_of, has_steps, is_device, is_short_symlink};
 pub use keeping::Keeping;
 pub use walk::Walk;
 pub use window::Window;
+pub use words::any_set;

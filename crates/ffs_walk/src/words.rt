@@ -29,7 +29,7 @@ pub fn word(geometry: &Geometry, block: &[u8], index: u32) -> u32
 /// the machine takes many together.
 #[inline(always)]
 #[tactic(auto, using(crate::proofs::AnySet::or_set, std::proofs::lemmas::List::Folds::list_any_more, std::proofs::lemmas::Grind::common_steps))]
-fn any_set(bytes: &[u8]) -> bool
+pub fn any_set(bytes: &[u8]) -> bool
     ensures { result ≡ any_nonzero bytes.now }
 {
     let mut bits = 0;

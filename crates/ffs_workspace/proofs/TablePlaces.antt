@@ -1,16 +1,17 @@
 -- Where inodes are in the blocks of their tables.
 use Rattle.std.proofs.Common.{◌≡◌, ℕ, suc, ◌+◌, ◌-◌, ◌*◌, ◌/◌, ◌%◌, ◌<◌, ◌≤◌, true, Option, List, take, drop, arith, ap}
-use Rattle.std.proofs.{Common.{◌∙◌, zero}, Math.Nat.{mul-le-mul_right, mul-div_cancel, mul_comm, mul_assoc}}
+use Rattle.std.proofs.{Common.{◌∙◌, zero, Err}, Math.Nat.{mul-le-mul_right, mul-div_cancel, mul_comm, mul_assoc}}
 use Rattle.std.proofs.{Math.Nat.{div-add-mod', mod-lt, mul-mod_right, mod_self}, lemmas.Nat.{div_below, div-mul-add}}
 use Rattle.std.proofs.lemmas.{Nat.mod-mul-add, List.{drop-take, take-take, drop-drop}, Bool.Decides.nat_tests}
 use Rattle.std.specs.List.{slice_range}
-use Rattle.ffs_volume.specs.{declared.{Layout.Layout, Inode.Inode}, Blocks.Inodes.{inode_from_bytes, inode_of}}
+use Rattle.ffs_volume.specs.{declared.{Layout.Layout, Inode.Inode}, Blocks.Inodes.{inode_from_bytes, inode_of, inodes_of}}
 use Rattle.ffs_volume.specs.Disk.{Numbers.piece, Areas.{cgstart, cgdmin, inode_place}, Outcome.is_block_size}
 use Rattle.ffs_volume.specs.{Disk.Outcome.has_valid_sizes, Laws.Geometry.IsAcceptedLayout}
 use Rattle.ffs_volume.proofs.{AreaLaws.inode_group, GeometryLaws.shape_holds}
+use Rattle.ffs_image.specs.declared.image.ImageFault.{ImageFault}
 use Rattle.ffs_walk.specs.Windows.{WindowHolds}
 use Rattle.ffs_workspace.specs.{declared.table.Table.Table, Tables.{DividesBlock, DividesBlocks, table_place}}
-use Rattle.ffs_workspace.specs.Tables.{HoldsInode, IsInPlace, IsTableOf, IsHeldAt}
+use Rattle.ffs_workspace.specs.Tables.{FailsInPiece, HoldsInode, IsInPlace, IsTableOf, IsHeldAt, IsTableSector}
 
 -- a block holds whole inodes
 block_whole : (n : ℕ) → is_block_size n ≡ true → 128 * (n / 128) ≡ n
@@ -158,3 +159,9 @@ pub inode_there : {T : Type 0} (value : Inode → T) (v : Layout) (x at : ℕ) (
     i ≡ value (inode_from_bytes v.order (slice_range held' at (at + 128))) → i ≡ value (inode_of v bytes x)
 unfolding inode_of
 inode_there value v x at bytes held held' i same there is = grind arith
+
+-- a read of the block of an inode of the volume fails in a sector of the inode tables
+pub fails_in_table : (T : Type 0) (v : Layout) (x : ℕ) (t : Table) (fault : ImageFault) → x < inodes_of v →
+    FailsInPiece {T = T} v v.inopb x t (Err fault) → IsTableSector v fault.sector
+unfolding FailsInPiece
+fails_in_table T v x t fault low h = (x, low, h.1)

@@ -3,9 +3,9 @@ use Rattle.std.specs.Prelude.{◌≡◌, ◌*◌, ◌+◌, ◌-◌, ◌/◌, ◌
 use Rattle.std.specs.{Prelude.{Result, IfOk, IsOk, OnOk, if◌then◌else◌, vec_len}, List.slice_range}
 use Rattle.ffs_image.specs.{Device.{Device, ForContents}, Reads.ReadAfter, declared.image.ImageFault.ImageFault}
 use Rattle.ffs_memory.specs.declared.fixed_list.FixedList.{FixedList}
-use Rattle.ffs_volume.specs.declared.{constants.TheConstants.DINODE_SIZE, Inode.Inode, Layout.Layout}
-use Rattle.ffs_volume.specs.{Blocks.Inodes.inode_of, Disk.Areas.{cgstart, inode_place}, Laws.Geometry.IsAcceptedLayout}
-use Rattle.ffs_volume.specs.Disk.Numbers.{piece}
+use Rattle.ffs_volume.specs.declared.{constants.TheConstants.{DEV_BSIZE, DINODE_SIZE}, Inode.Inode, Layout.Layout}
+use Rattle.ffs_volume.specs.{Blocks.Inodes.{inode_of, inodes_of}, Disk.{Areas.{cgstart, inode_place}, Numbers.piece}}
+use Rattle.ffs_volume.specs.Laws.Geometry.{IsAcceptedLayout}
 use Rattle.ffs_walk.specs.Windows.{FailsAt, ImageWith, WindowHolds, held_bytes}
 use Rattle.ffs_workspace.specs.declared.table.Table.{Table}
 
@@ -26,6 +26,10 @@ pub record HasPiece (v : Layout) (n x : ℕ) : Type 0 where
 -- the byte where the piece of n inodes of the inode table begins that has the inode x
 abbrev pub table_place : Layout → ℕ → ℕ → ℕ
 table_place v n x = (cgstart v (x / v.ipg) + v.iblkno) * v.fsize + x % v.ipg / n * (n * DINODE_SIZE)
+
+-- a block of the inode table begins in this sector
+abbrev pub IsTableSector : Layout → (sector : ℕ) → Type 0
+IsTableSector v sector = (x : ℕ) × (x < inodes_of v) × (sector ≡ table_place v v.inopb x / DEV_BSIZE)
 
 -- how many inodes of 128 bytes a sector of 512 bytes has, and how many eight sectors have
 abbrev pub sector_inodes : ℕ
@@ -146,5 +150,5 @@ pub record ReadsInodeOnce (v : Layout) (n x : ℕ) (old new : ImageWith Table)
 -- a table over a list that holds no inode, and so what any image of any layout gives
 pub record IsEmptyTable (list : FixedList ℕ) (t : Table) : Type 0 where
   pub buffer : t.window.buffer ≡ list
-  pub empty : t.count ≡ 0
+  pub empty : (t.first ≡ 0) × (t.count ≡ 0)
   pub holds : (contents : Option (List ℕ)) → WindowHolds contents t.window

@@ -11,12 +11,12 @@ use Rattle.ffs_claims.proofs.claim.claim_read_inode.Goals as goal
 
 pub say_count-requires : goal.say_count-requires
 say_count-requires g c =
-    let b = begun c.args.workspace.now c.begin.ensures c.requires.can.runs in
+    let b = begun c.args.workspace.now c.clear_counts.ensures c.requires.can.runs in
     let made = c.claim.ensures.left.claim.ready.ready.made in
     omega (
       arith,
       c.args.geometry.now.sound.numbers.size_below,
-      kept_bound (claims_of c.begin.new.workspace) (claims_of c.claim.new.workspace) c.args.geometry.now.layout.size
+      kept_bound (claims_of c.clear_counts.new.workspace) (claims_of c.claim.new.workspace) c.args.geometry.now.layout.size
           (bits_long c.claim.new.workspace.used ∙ made.used) (omega arith) (omega arith) b.kept
           c.in_ok-claim.ensures.left.claim_bound,
     )
@@ -27,9 +27,9 @@ claim-requires g c = grind arith
 pub returns-in_err-say_class-clause-claims : goal.returns-in_err-say_class-clause-claims
 returns-in_err-say_class-clause-claims g c =
     let p = err_from_is_err_and c.from_residual.result c.from_residual.ensures.1 in
-    let ready = ready_begun c.begin.ensures c.requires.can.claim.ready in
+    let ready = ready_begun c.clear_counts.ensures c.requires.can.claim.ready in
     let few = used_below ready.ready.made in
-    let b = begun_runs c.args.workspace.now c.begin.ensures in
+    let b = begun_runs c.args.workspace.now c.clear_counts.ensures in
     rw (p.1, p.2) (record {
       text = class_stopped _ _ _ (claims_of c.args.workspace.now) c.requires.class_is c.in_err-say_class.ensures;
       claims = tt;
@@ -47,24 +47,24 @@ pub returns-in_err-claim-clause-claims : goal.returns-in_err-claim-clause-claims
 returns-in_err-claim-clause-claims g c =
     let p = err_from_is_err_and c.from_residual-in_err-claim.result c.from_residual-in_err-claim.ensures.1 in
     let v = c.args.geometry.now.layout in
-    let s1 = claims_of c.begin.new.workspace in
-    let b = begun_runs c.args.workspace.now c.begin.ensures in
+    let s1 = claims_of c.clear_counts.new.workspace in
+    let b = begun_runs c.args.workspace.now c.clear_counts.ensures in
     let left = c.claim.ensures.left in
     rw (p.1, p.2) (record {
       text = of_fault (Unit {0}) (Unit {0}) _ _ _ _ _ _ _ _ _
-          (class_said v _ _ (claims_of c.args.workspace.now) (ap claims_of c.begin.ensures) c.requires.class_is
+          (class_said v _ _ (claims_of c.args.workspace.now) (ap claims_of c.clear_counts.ensures) c.requires.class_is
           c.in_ok-say_class.ensures) (λ bytes t. refl) c.in_err-claim.ensures.text;
       claims = tt;
       left = grind arith;
       known = λ bytes t. omega (
         arith,
         c.claim.ensures.known bytes t,
-        ap (λ s. indirect_in_steps v s (steps_of v c.args.claimant.now.inode.now bytes)) (ap claims_of c.begin.ensures),
+        ap (λ s. indirect_in_steps v s (steps_of v c.args.claimant.now.inode.now bytes)) (ap claims_of c.clear_counts.ensures),
       );
       most = λ bytes t. omega (
         arith,
         c.claim.ensures.most bytes t,
-        ap (λ s. (after_steps v s (steps_of v c.args.claimant.now.inode.now bytes)).runs) (ap claims_of c.begin.ensures),
+        ap (λ s. (after_steps v s (steps_of v c.args.claimant.now.inode.now bytes)).runs) (ap claims_of c.clear_counts.ensures),
       );
     })
 
@@ -72,11 +72,11 @@ pub returns-in_err-say_count-clause-claims : goal.returns-in_err-say_count-claus
 returns-in_err-say_count-clause-claims g c =
     let p = err_from_is_err_and c.from_residual-in_err-say_count.result c.from_residual-in_err-say_count.ensures.1 in
     let v = c.args.geometry.now.layout in
-    let b = begun_runs c.args.workspace.now c.begin.ensures in
+    let b = begun_runs c.args.workspace.now c.clear_counts.ensures in
     let left = c.claim.ensures.left in
     rw (p.1, p.2) (record {
       text = of_stops _ _ (λ bytes. []) _ _ _ _ _ (steps_reported v _ _ (claims_of c.args.workspace.now)
-          (ap claims_of c.begin.ensures) c.requires.class_is c.in_ok-say_class.ensures
+          (ap claims_of c.clear_counts.ensures) c.requires.class_is c.in_ok-say_class.ensures
           c.in_ok-claim.ensures.text c.in_ok-claim.ensures.claims) (λ bytes t. refl)
           c.in_err-say_count.ensures;
       claims = tt;
@@ -84,42 +84,42 @@ returns-in_err-say_count-clause-claims g c =
       known = λ bytes t. omega (
         arith,
         c.claim.ensures.known bytes t,
-        ap (λ s. indirect_in_steps v s (steps_of v c.args.claimant.now.inode.now bytes)) (ap claims_of c.begin.ensures),
+        ap (λ s. indirect_in_steps v s (steps_of v c.args.claimant.now.inode.now bytes)) (ap claims_of c.clear_counts.ensures),
       );
       most = λ bytes t. omega (
         arith,
         c.claim.ensures.most bytes t,
-        ap (λ s. (after_steps v s (steps_of v c.args.claimant.now.inode.now bytes)).runs) (ap claims_of c.begin.ensures),
+        ap (λ s. (after_steps v s (steps_of v c.args.claimant.now.inode.now bytes)).runs) (ap claims_of c.clear_counts.ensures),
       );
     })
 
 pub returns-clause-claims : goal.returns-clause-claims
 returns-clause-claims g c =
     let v = c.args.geometry.now.layout in
-    let b = begun_runs c.args.workspace.now c.begin.ensures in
+    let b = begun_runs c.args.workspace.now c.clear_counts.ensures in
     let s = stored_runs c.claim.new.workspace c.store-2.ensures.same in
-    let zero = begun c.args.workspace.now c.begin.ensures c.requires.can.runs in
+    let zero = begun c.args.workspace.now c.clear_counts.ensures c.requires.can.runs in
     let left = c.claim.ensures.left in
     let ready = ready_stored c.store-2.ensures.stored c.store-2.ensures.same left.claim.ready in
     let m = c.in_ok-claim.ensures.left.claim_bound in
     record {
       text = of_says _ _ (λ bytes. []) _ _ _ _ _ (steps_reported v _ _ (claims_of c.args.workspace.now)
-          (ap claims_of c.begin.ensures) c.requires.class_is c.in_ok-say_class.ensures
+          (ap claims_of c.clear_counts.ensures) c.requires.class_is c.in_ok-say_class.ensures
           c.in_ok-claim.ensures.text c.in_ok-claim.ensures.claims) (λ bytes t. refl)
           c.in_ok-say_count.ensures;
       claims = λ bytes t. ap claims_of c.store-2.ensures.same ∙ c.in_ok-claim.ensures.claims bytes t
-          ∙ ap (λ s. after_steps v s (steps_of v c.args.claimant.now.inode.now bytes)) (ap claims_of c.begin.ensures);
+          ∙ ap (λ s. after_steps v s (steps_of v c.args.claimant.now.inode.now bytes)) (ap claims_of c.clear_counts.ensures);
       left = grind arith;
       known = λ bytes t. omega (
         arith,
         c.claim.ensures.known bytes t,
-        ap (λ s. indirect_in_steps v s (steps_of v c.args.claimant.now.inode.now bytes)) (ap claims_of c.begin.ensures),
+        ap (λ s. indirect_in_steps v s (steps_of v c.args.claimant.now.inode.now bytes)) (ap claims_of c.clear_counts.ensures),
       );
       most = λ bytes t. omega (
         arith,
         s.seen,
         c.claim.ensures.most bytes t,
-        ap (λ s. (after_steps v s (steps_of v c.args.claimant.now.inode.now bytes)).runs) (ap claims_of c.begin.ensures),
+        ap (λ s. (after_steps v s (steps_of v c.args.claimant.now.inode.now bytes)).runs) (ap claims_of c.clear_counts.ensures),
       );
     }
 
@@ -132,14 +132,14 @@ returns-then-matches-clause-claims g c =
       | in_default w ↦ cc
     ] in
     let free = sym c.requires.class_is ∙ is_free in
-    let begun = ready_begun c.begin.ensures c.requires.can.claim.ready in
+    let begun = ready_begun c.clear_counts.ensures c.requires.can.claim.ready in
     let ready = ready_stored c.store.ensures.stored c.store.ensures.same begun in
     let few = used_below begun.ready.made in
-    let b = begun_runs c.args.workspace.now c.begin.ensures in
-    let s = stored_runs c.begin.new.workspace c.store.ensures.same in
+    let b = begun_runs c.args.workspace.now c.clear_counts.ensures in
+    let s = stored_runs c.clear_counts.new.workspace c.store.ensures.same in
     record {
       text = says_none (λ bytes t. rw (free, free_steps v _ bytes free) refl);
-      claims = λ bytes t. ap claims_of c.store.ensures.same ∙ ap claims_of c.begin.ensures
+      claims = λ bytes t. ap claims_of c.store.ensures.same ∙ ap claims_of c.clear_counts.ensures
           ∙ sym (ap (after_steps v (at_next_inode old)) (free_steps v _ bytes free));
       left = grind arith;
       known = λ bytes t. omega arith;

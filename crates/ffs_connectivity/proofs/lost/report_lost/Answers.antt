@@ -2,7 +2,7 @@ use Rattle.std.proofs.{Common.{◌≡◌, ◌∷◌, [], map, refl, sym, ◌∙�
 use Rattle.ffs_volume.specs.{Directories.{Connectivity.is_unref_dir, Volumes.volume_of}, Messages.Kinds.of_tree}
 use Rattle.ffs_report.{specs.Known.ForBytes, proofs.Paying.{paid_none, paid_reads, paid_stops}}
 use Rattle.ffs_report.proofs.Reporting.{reads_first, says_none, stops_all}
-use Rattle.ffs_workspace.specs.Found.{WithSurvey}
+use Rattle.ffs_workspace.{specs.Found.WithSurvey, proofs.TablePlaces.fails_in_table}
 use Rattle.ffs_connectivity.{specs.Lines.unref_dir_lines, proofs.UnrefLines.{attributes_are, unref_dir_is, one_line}}
 use Rattle.ffs_connectivity.proofs.{UnrefLines.{silent, heard}, lost.report_lost.Goals.After-is_unref-unref}
 use Rattle.ffs_connectivity.proofs.lost.report_lost.Goals.{After-of}
@@ -34,12 +34,13 @@ returns-then-not-unref g c =
       faults = refl;
       text = says_none (λ bytes k. silent _ _ (test bytes k ∙ c.if-not-unref.true));
       reads = λ bytes k. omega arith;
+      sector = tt;
       paid = paid_none (omega arith);
       stays = search rules;
     }
 
 pub returns-in_err-inode : goal.returns-in_err-inode
-returns-in_err-inode g c = grind (arith, err_from_is_err_and, reads_first, tested, one_line, paid_reads)
+returns-in_err-inode g c = grind (arith, err_from_is_err_and, reads_first, tested, one_line, paid_reads, fails_in_table)
 
 pub returns-in_err-say : goal.returns-in_err-say
 returns-in_err-say g c = grind (arith, stops_all, heard_of, tested, paid_stops)

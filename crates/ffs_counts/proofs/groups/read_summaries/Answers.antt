@@ -21,6 +21,7 @@ returns g c = record {
         c.args.group c.requires.group (c.in_ok-fill.ensures.fills.place.0 ∙ c.summary_place-place.ensures)
         (c.in_ok-fill.ensures.fills.place.1 ∙ ap (λ n. 16 * n) c.min-count.ensures) (search rules);
     leaves = search rules;
+    sector = tt;
   };
   reads = record {
     counted = omega arith;

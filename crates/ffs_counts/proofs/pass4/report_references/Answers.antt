@@ -4,7 +4,7 @@ use Rattle.ffs_volume.specs.Directories.{ReferenceCheck.reference_lines_at, Volu
 use Rattle.ffs_volume.specs.Messages.Kinds.{TreeMessage, of_tree}
 use Rattle.ffs_report.{specs.Known.ForBytes, proofs.Paying.{paid_none, paid_reads, paid_says, paid_stops}}
 use Rattle.ffs_report.proofs.Reporting.{reads_first, says_all, says_none, stops_all}
-use Rattle.ffs_workspace.{specs.{Found.WithFindings, Ready.KeepsWindows}, proofs.Readiness.can_read_table}
+use Rattle.ffs_workspace.{specs.{Found.WithFindings, Ready.KeepsWindows}, proofs.{Readiness.can_read_table, TablePlaces.fails_in_table}}
 use Rattle.ffs_counts.{specs.References.lines_as, proofs.Holding.{inode_reference_lines_are, item_at, met_lines}}
 use Rattle.ffs_counts.proofs.Holding.{same_reported, some_lines, unmet_line, unmet_reported}
 use Rattle.ffs_counts.proofs.pass4.report_references.Goals.{After-inode}
@@ -43,6 +43,7 @@ returns-then-is_right g c = record {
       (met_lines c.args.geometry.now.layout bytes c.args.workspace.now c.args.number c.requires.number k.1
       c.requires.allocated (sym c.is_right.ensures ∙ c.if-is_right.true)));
   reads = λ bytes k. omega arith;
+  sector = tt;
   paid = paid_none (omega arith);
   stays = search rules;
 }
@@ -55,6 +56,7 @@ returns-in_err-inode g c = record {
       let line = one g (goal.at.returns-in_err-inode g c).After-inode bytes k in
       omega (arith, line, c.in_err-inode.ensures.counted);
   paid = grind (arith, err_from_is_err_and, paid_reads);
+  sector = grind (arith, err_from_is_err_and, fails_in_table);
   stays = grind (arith, can_read_table);
 }
 
@@ -68,6 +70,7 @@ returns-in_err-say_if_any g c =
       reads = λ bytes k.
           let line = one g at.After-inode bytes k in
           omega (arith, line, c.in_ok-inode.ensures.counted);
+      sector = tt;
       paid = paid_stops _ c.in_err-say_if_any.ensures (some g at.After-line_for-line) c.in_ok-inode.ensures.counted;
       stays = stays g at.In_ok-inode;
     })
@@ -81,6 +84,7 @@ returns g c =
       reads = λ bytes k.
           let line = one g at.After-inode bytes k in
           omega (arith, line, c.in_ok-inode.ensures.counted);
+      sector = tt;
       paid = paid_says _ c.in_ok-say_if_any.ensures (some g at.After-line_for-line) c.in_ok-inode.ensures.counted;
       stays = stays g at.In_ok-inode;
     }
