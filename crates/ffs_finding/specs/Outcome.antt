@@ -36,12 +36,6 @@ any_line [] = false
 any_line ([] ∷ lines) = any_line lines
 any_line ((byte ∷ line) ∷ lines) = true
 
--- P holds of the sector of a failed read, where that is the answer
-abbrev pub IfReadFails : {T : Type 0} → Result T RunFault → (ℕ → Type 0) → Type 0
-IfReadFails (Ok x) P = ⊤
-IfReadFails (Err (Read fault)) P = P fault.sector
-IfReadFails (Err (Out fault)) P = ⊤
-
 -- what a command leaves of its image, and what it prints
 pub record Finds {T : Type 0} (knows : List ℕ → Type 0) (all : List ℕ → List (List ℕ)) (old new : Moment)
     (result : Result T RunFault) : Type 0 where

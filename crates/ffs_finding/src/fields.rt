@@ -5,9 +5,9 @@ ghost use Rattle.ffs_volume.specs.{declared.constants.TheConstants.{DEV_BSIZE, S
 ghost use Rattle.ffs_volume.specs.Find.Fields.{field_32, field_lines, field_text, layout_fields, mask_of, total_64};
 ghost use Rattle.ffs_volume.specs.Find.Fields.{total_fields, wrong_fields};
 ghost use Rattle.ffs_layout.specs.Super.{superblock_in};
-ghost use Rattle.ffs_report.specs.Sink.{Prints};
+ghost use Rattle.ffs_report.specs.{Fails.FailsIn, Sink.Prints};
 ghost use Rattle.ffs_check.specs.Moment.{moment};
-ghost use Rattle.ffs_finding.specs.{Outcome.{FindsAny, IfReadFails}, Fields.{PrintsWhether, WithSuper, field_of, wrong_lines}};
+ghost use Rattle.ffs_finding.specs.{Outcome.FindsAny, Fields.{PrintsWhether, WithSuper, field_of, wrong_lines}};
 
 use byteorder::{BigEndian, ByteOrder, LittleEndian};
 use ffs_image::Image;
@@ -190,7 +190,7 @@ pub fn find_wrong_fields<I: Image, W: Output>(
         (λ bytes. wrong_fields (superblock_in superblock.now) bytes sector)
         (moment I.Image W.Output image.old out.old) (moment I.Image W.Output image.new out.new)
         result }
-    ensures place { IfReadFails result (λ at. at ≡ super_sector sector) }
+    ensures place { FailsIn (λ at. at ≡ super_sector sector) result }
     ensures reads { I.reads image.new ≤ I.reads image.old + 1 }
 {
     let start = u64::from(sector.unwrap_or(SUPERBLOCK_SECTOR as u32)) * DEV_BSIZE;

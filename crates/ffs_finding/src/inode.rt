@@ -4,9 +4,9 @@ ghost use Rattle.ffs_volume.specs.{Blocks.Inodes.{inode_from_bytes}, Disk.Areas.
 ghost use Rattle.ffs_volume.specs.declared.constants.TheConstants.{DEV_BSIZE};
 ghost use Rattle.ffs_volume.specs.Find.InodeText.{numbers_text, address_text, link_text, addresses_text, bytes_text};
 ghost use Rattle.ffs_volume.specs.Find.InodeText.{inode_listing, class_word, fifteen_text};
-ghost use Rattle.ffs_report.specs.{Known.IsContents, Sink.Prints};
+ghost use Rattle.ffs_report.specs.{Fails.FailsIn, Known.IsContents, Sink.Prints};
 ghost use Rattle.ffs_check.specs.Moment.{moment};
-ghost use Rattle.ffs_finding.specs.Outcome.{Finds, IfReadFails};
+ghost use Rattle.ffs_finding.specs.Outcome.{Finds};
 
 use ffs_image::Image;
 use ffs_layout::{Geometry, decode_inode};
@@ -179,8 +179,8 @@ pub fn find_inode<I: Image, W: Output>(
         (λ bytes. inode_listing geometry.now.layout bytes number)
         (moment I.Image W.Output image.old out.old) (moment I.Image W.Output image.new out.new)
         result }
-    ensures place { IfReadFails result
-        (λ at. at ≡ inode_place geometry.now.layout number / DEV_BSIZE) }
+    ensures place { FailsIn (λ at. at ≡ inode_place geometry.now.layout number / DEV_BSIZE)
+        result }
     ensures reads { I.reads image.new ≤ I.reads image.old + 1 }
 {
     if number >= geometry.layout.ncg * geometry.layout.ipg {
