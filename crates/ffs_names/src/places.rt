@@ -233,7 +233,7 @@ fn note_places_unlimited<I: Image>(
         (dir_moment I.Image image.new workspace.new) result }
 {
     flag_parents(&workspace.reached, &workspace.parents, &mut workspace.queue);
-    for dir in ROOTINO..geometry.layout.ncg * geometry.layout.ipg {
+    for dir in ROOTINO..geometry.inodes() {
         // Here the bit says that the directory's chunks are due to be read.
         let word = workspace.queue[dir as usize];
         if is_due(word) {
