@@ -2,11 +2,12 @@
 use Rattle.std.proofs.Common.{arith, ◌≡◌, inl, inr, ap, ℕ, true, List, Option}
 use Rattle.ffs_image.specs.Device.{Device}
 use Rattle.ffs_volume.specs.{declared.End.{End, TheVariants.{Refused, ReadFault, WriteFault}}, Messages.Kinds.Message}
+use Rattle.ffs_volume.specs.declared.SuperFault.TheVariants.{CannotRead}
 use Rattle.ffs_check.specs.{Ends.Cut, Failures.{ReadsFailed, WritesFailed}, Moment.Moment}
 use Rattle.ffs_check.{specs.{Headline.{IsCutShort, Headline}, PhaseEnds.can_end_report}, proofs.Headlines.can_end_of}
 
 reads_none : (end : End) (old new : ℕ) → can_end_report end ≡ true → new ≡ old → ReadsFailed end old new
-reads_none (Refused fault) old new c e = inl e
+reads_none (Refused (CannotRead sector)) old new c e = inl e
 reads_none (ReadFault sector) old new c e = absurd (cc)
 reads_none WriteFault old new c e = inl e
 reads_none end old new c e = e

@@ -13,7 +13,8 @@ ReadsFailed Consistent old new = new ≡ old
 ReadsFailed Defects old new = new ≡ old
 ReadsFailed RootStop old new = new ≡ old
 ReadsFailed NoMemory old new = new ≡ old
-ReadsFailed (Refused fault) old new = (new ≡ old) ⊎ Rose old new
+ReadsFailed (Refused (CannotRead sector)) old new = (new ≡ old) ⊎ Rose old new
+ReadsFailed (Refused fault) old new = new ≡ old
 ReadsFailed (ReadFault sector) old new = Rose old new
 ReadsFailed WriteFault old new = (new ≡ old) ⊎ Rose old new
 
