@@ -31,10 +31,12 @@ module _ {A : Type 0} where
     small = touched.small;
   }
 
-  -- these are the first elements of the list
+  -- these are the first elements of the list, and each other one is `value`
   pub record AreFirst (list : Vec A Global) (first : List A) : Type 0 where
     pub len : length first ≤ vec_len list
     pub items : (x : A) → (k : ℕ) → k < length first → slice_index_or list.items k x ≡ slice_index_or first k x
+    pub value : A
+    pub others : (x : A) → (k : ℕ) → length first ≤ k → k < vec_len list → slice_index_or list.items k x ≡ value
 
   -- the element at an index is set, in the same memory
   pub record Sets (old new : Vec A Global) (index : ℕ) (x : A) : Type 0 where

@@ -48,7 +48,6 @@ impl<T: Copy> FilledList<T> {
 
     /// The elements up to the last one that was set. The list may have more, all of one value.
     #[inline(always)]
-    #[tactic(auto, using(crate::proofs::Touched::first_filled))]
     pub fn touched(&self) -> &[T]
         ensures { AreFirst self.now result.now }
     {
