@@ -1,19 +1,63 @@
 -- What reads, claims and reports leave of a workspace whose windows hold what the image gives.
 use Rattle.std.proofs.Common.{◌≡◌, ℕ, Bool, refl, ap, arith, length, length-set, slice_set, subst, false, Result}
+use Rattle.std.proofs.Common.{zero, suc, ◌+◌, ◌||◌, ◌∙◌, true, List, sym, inl, inr}
+use Rattle.std.proofs.lemmas.{Bool.{cases_eq, cases_lt, true≢false}, List.{get_or-set_other, get_or-set_same, get_or_past}}
 use Rattle.std.{proofs.Common.vec_len, specs.declared.{alloc.Global.Global, vec.Vec.Vec}}
 use Rattle.ffs_volume.specs.declared.{Class.Class, Inode.Inode, Layout.Layout}
 use Rattle.ffs_image.specs.Device.{Device}
 use Rattle.ffs_report.specs.{PhaseOutcome.ImageAfter, declared.fault.RunFault.RunFault}
 use Rattle.ffs_layout.specs.declared.geometry.Geometry.{Geometry}
-use Rattle.ffs_maps.specs.declared.FragmentMap.{FragmentMap}
+use Rattle.ffs_volume.specs.{Blocks.Claims.is_set, Disk.Areas.is_reserved}
+use Rattle.ffs_maps.specs.{Bits.{ClaimsRun, bits_of, set_run}, Reserved.with_reserved, declared.FragmentMap.FragmentMap}
+use Rattle.ffs_maps.proofs.ReservedBits.{get_with}
 use Rattle.ffs_walk.specs.{Windows.{CanWalk, KeepsBlocks}, declared.blocks.Blocks.Blocks}
 use Rattle.ffs_workspace.specs.{Holds.IsFresh, Lengths.IsFor, Ready.CanRead, declared.workspace.{Workspace.Workspace}}
-use Rattle.ffs_claims.specs.Leaves.{SameFound, ClaimsAndFinds, ClaimsOnly, Stored, OffersOnly}
+use Rattle.ffs_claims.specs.Leaves.{SameFound, ClaimsAndFinds, ClaimsOnly, Stored, OffersOnly, StaySet}
 use Rattle.ffs_claims.specs.Reporting.{Phase1bKeeps, ReportsOnly}
 use Rattle.ffs_claims.specs.Reporting.{OffersReportedOnly}
 
+-- ---- flags that stay set
+pub stay : (bits : List Bool) → StaySet bits bits
+stay bits = record { flags = λ f h. h }
+
+pub stay_then : {a b c : List Bool} → StaySet a b → StaySet b c → StaySet a c
+stay_then p q = record { flags = λ f h. q.flags f (p.flags f h) }
+
+one_set : (bits : List Bool) (g f : ℕ) → is_set bits f ≡ true → is_set (slice_set bits g true) f ≡ true
+one_set bits g f h = grind (arith, cases_eq, cases_lt, get_or-set_same, get_or_past, get_or-set_other)
+
+pub stay_one : (bits : List Bool) (g : ℕ) → StaySet bits (slice_set bits g true)
+stay_one bits g = record { flags = one_set bits g }
+
+stay_run : (bits : List Bool) (start len : ℕ) → StaySet bits (set_run bits start len)
+stay_run bits start zero = stay bits
+stay_run bits start (suc len) = stay_then (stay_one bits start) (stay_run (slice_set bits start true) (start + 1) len)
+
+-- where a run is claimed, or isn't
+pub stay_claimed : {old new : FragmentMap} {start len : ℕ} {b : Bool} → ClaimsRun old new start len b →
+    StaySet (bits_of old) (bits_of new)
+stay_claimed {old = old} {start = start} {len = len} {b = true} c =
+    rw (c.claimed refl) (stay_run (bits_of old) start len)
+stay_claimed {old = old} {b = false} c = rw (c.unchanged refl) (stay (bits_of old))
+
+-- and where the reserved ones are set
+or_true : (b : Bool) → (b || true) ≡ true
+or_true true = refl
+or_true false = refl
+
+reserved_set : (v : Layout) (bits : List Bool) → length bits ≡ v.size → (f : ℕ) → is_set bits f ≡ true →
+    is_set (with_reserved v bits) f ≡ true
+reserved_set v bits long f h = elim (cases_lt f v.size) [
+  | inl low ↦ get_with v bits f false low ∙ ap (λ b. is_reserved v f || b) h ∙ or_true (is_reserved v f)
+  | inr past ↦ absurd (true≢false (sym h ∙ get_or_past bits f false (omega arith)))
+]
+
+pub stay_reserved : (v : Layout) (bits : List Bool) → length bits ≡ v.size → StaySet bits (with_reserved v bits)
+stay_reserved v bits long = record { flags = reserved_set v bits long }
+
+-- ---- frames
 pub found_none : (w : Workspace) → SameFound w w
-found_none w = record { only = refl }
+found_none w = record { only = refl; used = stay (bits_of w.used); duplicates = stay (bits_of w.duplicates) }
 
 pub claims_none : (w : Workspace) → Phase1bKeeps w w
 claims_none w = grind arith
@@ -22,25 +66,31 @@ pub claims_then : {u v w : Workspace} → Phase1bKeeps u v → Phase1bKeeps v w 
 claims_then p q = grind arith
 
 pub changes_then : {u v w : Workspace} → ClaimsAndFinds u v → ClaimsAndFinds v w → ClaimsAndFinds u w
-changes_then p q = grind arith
+changes_then p q =
+    let used = stay_then p.used q.used in
+    let duplicates = stay_then p.duplicates q.duplicates in
+    grind arith
 
 pub zeros_passed : {u w : Workspace} → ClaimsAndFinds u w →
     ClaimsAndFinds u (record w { bad = 0; dup_offers = 0; kept = 0; tail = false })
 zeros_passed p = grind arith
 
 pub only_then : {l : Layout} {u v w : Workspace} → ClaimsOnly l u v → ClaimsOnly l v w → ClaimsOnly l u w
-only_then p q = grind arith
+only_then p q =
+    let used = stay_then p.found.used q.found.used in
+    let duplicates = stay_then p.found.duplicates q.found.duplicates in
+    grind arith
 
 -- an offer that changes the map of claims, or none, and the count of kept offers
 pub offers_claimed : {l : Layout} {w : Workspace} {map : FragmentMap} {kept : ℕ} → IsFor l w → map.size ≡ w.used.size
-    → OffersOnly l w (record w { used = map; kept = kept })
-offers_claimed m size = grind arith
+    → StaySet (bits_of w.used) (bits_of map) → OffersOnly l w (record w { used = map; kept = kept })
+offers_claimed {w = w} m size used = let duplicates = stay (bits_of w.duplicates) in grind arith
 
 pub offers_none : {l : Layout} {w : Workspace} → IsFor l w → OffersOnly l w w
 offers_none {w = w} made = let found = found_none w in grind arith
 
 pub offers_then : {l : Layout} {u v w : Workspace} → OffersOnly l u v → OffersOnly l v w → OffersOnly l u w
-offers_then p q = grind arith
+offers_then p q = let only = only_then p.claiming q.claiming in grind arith
 
 pub reports_none : {l : Layout} {w : Workspace} → IsFor l w → ReportsOnly l w w
 reports_none {w = w} made = record { made = made; windows = refl; claims = claims_none w }

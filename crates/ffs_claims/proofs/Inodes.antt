@@ -17,7 +17,7 @@ use Rattle.ffs_report.specs.declared.fault.RunFault.{RunFault}
 use Rattle.ffs_image.specs.Device.{Device}
 use Rattle.ffs_layout.specs.declared.geometry.Geometry.{Geometry}
 use Rattle.ffs_walk.specs.{Windows.KeepsBlocks, declared.blocks.Blocks.Blocks}
-use Rattle.ffs_claims.proofs.{Frames.{found_none, ready_walked}, StepsContinue.lines_append}
+use Rattle.ffs_claims.proofs.{Frames.{found_none, ready_walked, stay_then}, StepsContinue.lines_append}
 use Rattle.ffs_claims.specs.{Area.IsDataArea, Claiming.{CanClaim, ClaimsInArea, FewRuns, StepsLeave, CanSeeNext}}
 use Rattle.ffs_claims.specs.{Leaves.HasBegun, Lines.{of_lines, owner_with, counted_owner}}
 use Rattle.ffs_claims.specs.declared.area.DataArea.{DataArea}
@@ -81,7 +81,10 @@ claiming_walked e same kept p = let ready = ready_walked e same kept p.claim.rea
 pub claiming_on : {T : Type 0} {r : Result T RunFault} {v : Layout} {d : Device} {u w w' : Workspace}
     {area area' : DataArea} → ClaimsInArea v w w' area' → FewRuns v u w' →
     OnOk r (ClaimBound (claims_of u) (claims_of w')) → Claiming v d u w area → StepsLeave v d u w' area' r
-claiming_on left few moves p = grind arith
+claiming_on left few moves p =
+    let used = stay_then p.found.used left.only.found.used in
+    let duplicates = stay_then p.found.duplicates left.only.found.duplicates in
+    grind arith
 
 -- ---- its lines
 -- the lines of an inode's steps and of its count, once its class is reported

@@ -3,7 +3,7 @@ use Rattle.std.proofs.Common.{◌≡◌, ℕ, zero, suc, ◌+◌, ◌-◌, ◌<�
 use Rattle.std.proofs.Common.{◌++◌, length, get_or, replicate, min, slice_index, slice_set, arith, refl, ap, ◌∙◌, sym}
 use Rattle.std.proofs.lemmas.{Bool.Decides.nat_tests, List.{get_or-set_same, get_or-set_other, set-get_or}}
 use Rattle.ffs_volume.specs.Blocks.{BlockCheck.{owner_lines, lines_of_owners}, Claims.{Claims, no_claims, after_owner}}
-use Rattle.ffs_volume.specs.Blocks.{Claims.{has_blame, all_claims}, Inodes.{inode_of, class_of}}
+use Rattle.ffs_volume.specs.Blocks.{Claims.{has_blame, all_claims, is_set}, Inodes.{inode_of, class_of}}
 use Rattle.ffs_volume.specs.Blocks.{Inodes.{is_unknown, inodes_of}, KeptSteps.claims_before, Owners.owner_of}
 use Rattle.ffs_volume.specs.{Blocks.Owners.owners_of, Directories.Volumes.{is_inode_number, marked_by_phase1_at}}
 use Rattle.ffs_volume.specs.{Encodings.{Kinds.kind_at, Links.start_at, Replay.cut_of}, declared.Class.TheVariants.Free}
@@ -110,14 +110,16 @@ found_next {v = v} {bytes = bytes} {u = u} {w = w} {n = n} low high m now stored
     }
 
 -- where claims end early, what was found before stays
-pub found_cut : {v : Layout} {bytes : List ℕ} {u w : Workspace} {n : ℕ} → SameFound u w → FoundTo v bytes u n →
-    IsCutInPhase1 v bytes w
-found_cut {n = n} same found = record {
+pub found_cut : {v : Layout} {bytes : List ℕ} {u w : Workspace} {n : ℕ} → SameFound u w →
+    claims_of u ≡ claims_before v bytes n → FoundTo v bytes u n → IsCutInPhase1 v bytes w
+found_cut {n = n} same claims found = record {
   number = n;
   kinds = λ x. ap (λ (w : Workspace). slice_index w.kinds.items x) same.only ∙ found.kinds x;
   marked = λ x. ap (λ (w : Workspace). bool_at w.marked.items x) same.only ∙ found.marked x;
   notes = λ x. ap (λ (w : Workspace). slice_index w.notes.items x) same.only ∙ found.notes x;
   starts = λ x. ap (λ (w : Workspace). slice_index w.references.items x) same.only ∙ found.starts x;
+  used = record { flags = λ f h. same.used.flags f (ap (λ s. is_set s.used f) claims ∙ h) };
+  duplicates = record { flags = λ f h. same.duplicates.flags f (ap (λ s. is_set s.duplicates f) claims ∙ h) };
 }
 
 -- a free inode leaves what is found of it as it begins

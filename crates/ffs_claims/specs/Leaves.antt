@@ -1,8 +1,9 @@
 -- What calls need of a workspace, and what they leave of it as it was.
-use Rattle.std.specs.Prelude.{◌≡◌, ◌+◌, ◌<◌, ◌≤◌, ◌^◌, ◌||◌, ℕ, Bool, IsTrue, true, min, slice_set, vec_len}
+use Rattle.std.specs.Prelude.{◌≡◌, ◌+◌, ◌<◌, ◌≤◌, ◌^◌, ◌||◌, ℕ, Bool, IsTrue, true, min, List, slice_set, vec_len}
 use Rattle.ffs_volume.specs.{Blocks.Inodes.is_unknown, Encodings.{Kinds.kind_of, Links.start_of, Replay.cut_of}}
 use Rattle.ffs_volume.specs.{declared.{Class.Class, Inode.Inode, Layout.Layout}, Encodings.Notes.note_of}
-use Rattle.ffs_volume.specs.Blocks.Claims.{has_blame}
+use Rattle.ffs_volume.specs.Blocks.Claims.{has_blame, is_set}
+use Rattle.ffs_maps.specs.Bits.{bits_of}
 use Rattle.ffs_workspace.specs.{Holds.claims_of, Lengths.IsFor, declared.workspace.Workspace.Workspace}
 
 -- the current inode has no bad Run, no dup offer and no kept one yet, and there is room to count
@@ -22,7 +23,12 @@ pub record CanOffer (v : Layout) (w : Workspace) (more : ℕ) (in_range are_in_r
   pub room : w.kept + more ≤ 2 ^ 63
   pub known : IsTrue in_range → are_in_range ≡ true
 
--- what was found of inodes is as it was, and all else but claims, counts and windows
+-- each flag that was set is set
+pub record StaySet (old new : List Bool) : Type 0 where
+  pub flags : (f : ℕ) → is_set old f ≡ true → is_set new f ≡ true
+
+-- what was found of inodes is as it was, and all else but claims, counts and windows. What was used is used, and
+-- what had a DUP line has one
 pub record SameFound (old new : Workspace) : Type 0 where
   pub only : new ≡ record old {
     used = new.used;
@@ -34,8 +40,11 @@ pub record SameFound (old new : Workspace) : Type 0 where
     tail = new.tail;
     windows = new.windows;
   }
+  pub used : StaySet (bits_of old.used) (bits_of new.used)
+  pub duplicates : StaySet (bits_of old.duplicates) (bits_of new.duplicates)
 
--- all is as it was but claims and counts, what is found of inodes that claim, and windows
+-- all is as it was but claims and counts, what is found of inodes that claim, and windows. What was used is used,
+-- and what had a DUP line has one
 pub record ClaimsAndFinds (old new : Workspace) : Type 0 where
   pub only : new ≡ record old {
     used = new.used;
@@ -51,6 +60,8 @@ pub record ClaimsAndFinds (old new : Workspace) : Type 0 where
     tail = new.tail;
     windows = new.windows;
   }
+  pub used : StaySet (bits_of old.used) (bits_of new.used)
+  pub duplicates : StaySet (bits_of old.duplicates) (bits_of new.duplicates)
 
 -- what claiming leaves: the lists have their lengths, and the windows and what was found are as they were
 pub record ClaimsOnly (v : Layout) (old new : Workspace) : Type 0 where

@@ -5,6 +5,8 @@ use Rattle.std.specs.Int.{div_ceil}
 use Rattle.ffs_image.specs.Device.{Device}
 use Rattle.ffs_volume.specs.{declared.Layout.Layout, Blocks.{BlockCheck.{has_rescan, rescan_runs}, Owners.owners_of}}
 use Rattle.ffs_volume.specs.Blocks.{BlockCheck.first_offer_lines, Claims.no_claims, KeptOffers.{Offer, kept_in_owners}}
+use Rattle.ffs_volume.specs.Blocks.KeptSteps.{claims_before}
+use Rattle.ffs_maps.specs.Bits.{bits_of}
 use Rattle.ffs_volume.specs.Messages.Kinds.{Message, of_blocks, phase1b}
 use Rattle.ffs_volume.specs.{Directories.Volumes.marked_by_phase1_at, Encodings.{Kinds.kind_at, Links.start_at, Notes.note_at}}
 use Rattle.ffs_volume.specs.Report.{Memory.runs_limit, Reads.{sweep_reads, table_blocks}}
@@ -13,7 +15,7 @@ use Rattle.ffs_report.specs.Known.{ForBytes}
 use Rattle.ffs_workspace.specs.{declared.workspace.Workspace.Workspace, Found.{WithFresh, WithPhase1}}
 use Rattle.ffs_workspace.specs.Lengths.{has_unreported_dups}
 use Rattle.ffs_workspace.specs.Holds.{HoldsClaims, HoldsPhase1, bool_at}
-use Rattle.ffs_claims.specs.{Leaves.ClaimsAndFinds, RescanRuns.rescan_end}
+use Rattle.ffs_claims.specs.{Leaves.{ClaimsAndFinds, StaySet}, RescanRuns.rescan_end}
 use Rattle.ffs_claims.specs.Reporting.{OffersReported, ReportedInPart}
 
 -- phase 1 leaves what it found in the image's bytes, and `has_dups` answers whether one of its lines is
@@ -23,7 +25,8 @@ pub record IsLeftByPhase1 (v : Layout) (bytes : List ℕ) (w : Workspace) : Type
   pub has_dups : w.has_dups ≡ has_rescan v (owners_of v bytes)
   pub count : w.runs_seen ≡ run_count v bytes
 
--- phase 1 was cut short: it has found what it finds of the inodes before a number, and nothing of others
+-- phase 1 was cut short: it has found what it finds of the inodes before a number, and nothing of others. What those
+-- claim is used, and what they have a DUP line of has one
 pub record IsCutInPhase1 (v : Layout) (bytes : List ℕ) (w : Workspace) : Type 0 where
   pub number : ℕ
   pub kinds : (x : ℕ) → slice_index w.kinds.items x ≡ (if nat_lt x number then kind_at v bytes x else 0)
@@ -31,6 +34,8 @@ pub record IsCutInPhase1 (v : Layout) (bytes : List ℕ) (w : Workspace) : Type 
       ≡ (if nat_lt x number then marked_by_phase1_at v bytes x else false)
   pub notes : (x : ℕ) → slice_index w.notes.items x ≡ (if nat_lt x number then note_at v bytes x else 0)
   pub starts : (x : ℕ) → slice_index w.references.items x ≡ (if nat_lt x number then start_at v bytes x else 0)
+  pub used : StaySet (claims_before v bytes number).used (bits_of w.used)
+  pub duplicates : StaySet (claims_before v bytes number).duplicates (bits_of w.duplicates)
 
 -- phase 1 reads the image at most once for each block of the inode tables and once for each Run that
 -- it looks at. The Runs are no more than a volume can have. Where the image gives its bytes, they are none

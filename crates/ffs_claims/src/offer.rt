@@ -41,7 +41,7 @@ fn fragment_in_range(geometry: &Geometry, fragment: u64, in_range: bool) -> bool
 /// Takes an offer, and says whether it is dup and kept, and so has a DUP line. `in_range` says that
 /// its Run is in range.
 #[inline(always)]
-#[tactic(auto, using(ffs_volume::proofs::Potentials::in_range_below))]
+#[tactic(auto, using(crate::proofs::Frames::stay, ffs_volume::proofs::Potentials::in_range_below))]
 fn take(geometry: &Geometry, workspace: &mut Workspace, fragment: u64, in_range: bool) -> bool
     requires { CanOffer geometry.now.layout workspace.old 1 in_range
         (is_fragment_in_range geometry.now.layout fragment) }
@@ -161,6 +161,7 @@ fn offers_of_bad_run<W: Output>(
 }
 
 /// Takes a Run of the current inode. Returns whether the next step is seen.
+#[tactic(auto, using(crate::proofs::Frames::stay))]
 fn take_run<W: Output>(
     geometry: &Geometry,
     workspace: &mut Workspace,
@@ -195,6 +196,7 @@ fn take_run<W: Output>(
 ///
 /// # Errors
 /// A write of the report that failed.
+#[tactic(auto, using(crate::proofs::Frames::stay))]
 pub fn step<W: Output>(
     geometry: &Geometry,
     workspace: &mut Workspace,

@@ -63,6 +63,7 @@ impl RunCounts {
 /// word of the map. Returns whether it was so: if not, nothing has changed. The counts are below
 /// 2^63 before, so that they stay below 2^64.
 #[inline(always)]
+#[tactic(auto, using(crate::proofs::Frames::stay))]
 fn claim_address(
     workspace: &mut Workspace,
     counts: &mut RunCounts,
@@ -191,6 +192,7 @@ fn claim_next(
 /// Claims what the next words offer, up to one with something to report, with the counts apart from
 /// the workspace, and for an order that is known where this is inlined.
 #[inline(always)]
+#[tactic(auto, using(crate::proofs::Frames::stay))]
 fn claim_words_in(
     order: Order,
     workspace: &mut Workspace,
@@ -255,6 +257,7 @@ fn claim_held_words(workspace: &mut Workspace, area: &DataArea, walk: &mut Walk)
 /// nothing is to be reported of them and each Run is claimed at once. The claims are then those
 /// that the steps of these words would leave.
 #[inline(always)]
+#[tactic(auto, using(crate::proofs::Frames::stay))]
 pub fn claim_words(workspace: &mut Workspace, area: &DataArea, walk: &mut Walk)
     requires { CanClaimWords workspace.old area.now walk.old }
     ensures { ClaimsWords walk.old.geometry.layout workspace.old workspace.new walk.old walk.new }
@@ -267,6 +270,7 @@ pub fn claim_words(workspace: &mut Workspace, area: &DataArea, walk: &mut Walk)
 /// Claims what the inode's direct addresses that come next offer, up to one with something to
 /// report, with the counts apart from the workspace.
 #[inline(always)]
+#[tactic(auto, using(crate::proofs::Frames::stay))]
 fn claim_counted_direct(
     workspace: &mut Workspace,
     counts: &mut RunCounts,

@@ -3,6 +3,7 @@ use Rattle.ffs_volume.specs.Blocks.{Claims.{at_next_inode}}
 use Rattle.ffs_volume.specs.{Blocks.{Owners.owner_of, Steps.steps_of}, Report.VolumeReads.indirect_in_steps}
 use Rattle.ffs_report.{proofs.Reporting.{reads_first, reports_same}}
 use Rattle.ffs_workspace.{specs.{Holds.claims_of, Tables.TakesPiece}}
+use Rattle.ffs_claims.proofs.Frames.{stay}
 use Rattle.ffs_claims.{proofs.Inodes.{steps_rise, used_below}}
 use Rattle.ffs_claims.proofs.TableReads.{on_any}
 use Rattle.ffs_claims.proofs.claim.claim_inode.Goals as goal
@@ -11,7 +12,7 @@ pub claim_read_inode-requires : goal.claim_read_inode-requires
 claim_read_inode-requires g c = grind arith
 
 pub returns-in_err-inode-clause-claims : goal.returns-in_err-inode-clause-claims
-returns-in_err-inode-clause-claims g c = grind (arith, used_below, reads_first, steps_rise)
+returns-in_err-inode-clause-claims g c = grind (arith, used_below, reads_first, steps_rise, stay)
 
 pub returns-clause-claims : goal.returns-clause-claims
 unfolding owner_of
@@ -47,4 +48,4 @@ returns-clause-stored g c = grind arith
 
 pub returns-clause-unstored : goal.returns-clause-unstored
 returns-clause-unstored g c =
-    on_err_weaker c.claim_read_inode.result (λ p. record { only = p.only }) c.claim_read_inode.ensures.unstored
+    on_err_weaker c.claim_read_inode.result (λ p. record { only = p.only; used = p.used; duplicates = p.duplicates }) c.claim_read_inode.ensures.unstored

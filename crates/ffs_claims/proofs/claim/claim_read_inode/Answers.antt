@@ -4,7 +4,7 @@ use Rattle.ffs_volume.specs.{Report.VolumeReads.indirect_in_steps, declared.Clas
 use Rattle.ffs_report.proofs.Reporting.{of_fault, of_says, of_stops, says_none}
 use Rattle.ffs_maps.proofs.Bits.{bits_long}
 use Rattle.ffs_workspace.specs.Holds.{claims_of}
-use Rattle.ffs_claims.proofs.{Frames.{ready_begun, ready_stored}, Inodes.{begun, begun_runs, steps_rise, stored_runs}}
+use Rattle.ffs_claims.proofs.{Frames.{ready_begun, ready_stored, stay}, Inodes.{begun, begun_runs, steps_rise, stored_runs}}
 use Rattle.ffs_claims.proofs.Inodes.{steps_reported, class_said, class_stopped, free_steps, used_below}
 use Rattle.ffs_claims.{proofs.claim.claim_read_inode.Goals.{in-Free, in_default}}
 use Rattle.ffs_claims.proofs.claim.claim_read_inode.Goals as goal
@@ -33,7 +33,7 @@ returns-in_err-say_class-clause-claims g c =
     rw (p.1, p.2) (record {
       text = class_stopped _ _ _ (claims_of c.args.workspace.now) c.requires.class_is c.in_err-say_class.ensures;
       claims = tt;
-      left = grind arith;
+      left = grind (arith, stay);
       known = λ bytes t. omega arith;
       most = λ bytes t. omega (
         arith,
@@ -55,7 +55,7 @@ returns-in_err-claim-clause-claims g c =
           (class_said v _ _ (claims_of c.args.workspace.now) (ap claims_of c.clear_counts.ensures) c.requires.class_is
           c.in_ok-say_class.ensures) (λ bytes t. refl) c.in_err-claim.ensures.text;
       claims = tt;
-      left = grind arith;
+      left = grind (arith, stay);
       known = λ bytes t. omega (
         arith,
         c.claim.ensures.known bytes t,
@@ -80,7 +80,7 @@ returns-in_err-say_count-clause-claims g c =
           c.in_ok-claim.ensures.text c.in_ok-claim.ensures.claims) (λ bytes t. refl)
           c.in_err-say_count.ensures;
       claims = tt;
-      left = grind arith;
+      left = grind (arith, stay);
       known = λ bytes t. omega (
         arith,
         c.claim.ensures.known bytes t,
@@ -109,7 +109,7 @@ returns-clause-claims g c =
           c.in_ok-say_count.ensures;
       claims = λ bytes t. ap claims_of c.store-2.ensures.same ∙ c.in_ok-claim.ensures.claims bytes t
           ∙ ap (λ s. after_steps v s (steps_of v c.args.claimant.now.inode.now bytes)) (ap claims_of c.clear_counts.ensures);
-      left = grind arith;
+      left = grind (arith, stay);
       known = λ bytes t. omega (
         arith,
         c.claim.ensures.known bytes t,
@@ -141,7 +141,7 @@ returns-then-matches-clause-claims g c =
       text = says_none (λ bytes t. rw (free, free_steps v _ bytes free) refl);
       claims = λ bytes t. ap claims_of c.store.ensures.same ∙ ap claims_of c.clear_counts.ensures
           ∙ sym (ap (after_steps v (at_next_inode old)) (free_steps v _ bytes free));
-      left = grind arith;
+      left = grind (arith, stay);
       known = λ bytes t. omega arith;
       most = λ bytes t. omega (
         arith,

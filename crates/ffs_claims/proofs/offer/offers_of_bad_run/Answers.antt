@@ -1,7 +1,7 @@
 use Rattle.std.proofs.{Common.{◌≡◌, nat_lt, true, arith, refl, sym}, lemmas.Bool.Decides.nat_tests}
 use Rattle.ffs_report.proofs.Reports.{said_none}
 use Rattle.ffs_workspace.specs.Holds.{claims_of}
-use Rattle.ffs_claims.proofs.{Frames.offers_claimed, UnclaimedRuns.only_kept}
+use Rattle.ffs_claims.proofs.{Frames.{offers_claimed, stay}, UnclaimedRuns.only_kept}
 use Rattle.ffs_claims.proofs.offer.offers_of_bad_run.Goals as goal
 
 pub returns-then-run-geometry : goal.returns-then-run-geometry
@@ -13,5 +13,5 @@ returns-then-run-geometry g c =
     record {
       said = rw (kept.silent c.args.number) (said_none _);
       claims = rw more (sym kept.claims);
-      only = offers_claimed c.requires.offer.made refl;
+      only = offers_claimed c.requires.offer.made refl (stay _);
     }

@@ -1,5 +1,7 @@
 use Rattle.std.proofs.{Common.{◌≡◌, nat_lt, true, arith, rules, refl, sym, ◌∙◌}, lemmas.Bool.Decides.nat_tests}
-use Rattle.ffs_claims.proofs.{Frames.offers_claimed, UnclaimedRuns.{was_set, is_set_now}}
+use Rattle.ffs_maps.specs.Bits.{bits_of}
+use Rattle.ffs_claims.specs.Leaves.{StaySet}
+use Rattle.ffs_claims.proofs.{Frames.{offers_claimed, stay_claimed, stay_one}, UnclaimedRuns.{was_set, is_set_now}}
 use Rattle.ffs_claims.proofs.offer.take.Goals as goal
 
 -- the fragment is claimed
@@ -11,7 +13,7 @@ returns-then-claim c =
     record {
       taken = record {
         claims = rw (few, ok, unset, is_set_now c.claim.ensures) refl;
-        only = offers_claimed c.requires.made c.claim.ensures.size;
+        only = offers_claimed c.requires.made c.claim.ensures.size (stay_claimed c.claim.ensures);
       };
       dup = rw (few, ok, unset) refl;
     }
@@ -23,10 +25,13 @@ returns c =
     let ok = sym c.fragment_in_range.ensures ∙ c.if-not-fragment_in_range.false in
     let set = rw c.if-claim.false at (was_set c.claim.ensures) in
     let kept = c.set.ensures.size ∙ c.requires.made.duplicates in
+    let used = stay_claimed c.claim.ensures in
+    let duplicates : StaySet (bits_of c.args.workspace.now.duplicates) (bits_of c.set.new.self) =
+    rw c.set.ensures.bits (stay_one _ _) in
     record {
       taken = record {
         claims = rw (few, ok, set, c.claim.ensures.unchanged c.if-claim.false, c.set.ensures.bits) refl;
-        only = search rules;
+        only = grind arith;
       };
       dup = rw (few, ok, set) refl;
     }

@@ -2,7 +2,7 @@ use Rattle.std.proofs.Common.{◌≡◌, true, nat_lt, arith, refl, sym}
 use Rattle.std.proofs.lemmas.{Bool.Decides.nat_tests}
 use Rattle.ffs_report.proofs.Reports.{said_none}
 use Rattle.ffs_workspace.specs.Holds.{claims_of}
-use Rattle.ffs_claims.proofs.{Frames.offers_claimed, UnclaimedRuns.{whole_is, run_below}}
+use Rattle.ffs_claims.proofs.{Frames.{offers_claimed, stay_claimed}, UnclaimedRuns.{whole_is, run_below}}
 use Rattle.ffs_claims.proofs.offer.take_run_in_range.Goals as goal
 
 pub claim-requires : goal.claim-requires
@@ -18,7 +18,7 @@ returns-then-claim g c =
       taken = record {
         said = rw (whole.silent c.args.number) (said_none _);
         claims = rw (c.claim.ensures.claimed c.if-claim.true, more) (sym whole.claims);
-        only = offers_claimed c.requires.offer.made c.claim.ensures.size;
+        only = offers_claimed c.requires.offer.made c.claim.ensures.size (stay_claimed c.claim.ensures);
       };
       seen = sym c.requires.uncut;
     }

@@ -1,4 +1,4 @@
-use Rattle.std.proofs.Common.{◌≡◌, ◌+◌, false, arith, refl, sym, ◌-◌, ◌≤◌, ◌<◌, ap, ◌∙◌, Err, Ok, inl, inr, ◌*◌}
+use Rattle.std.proofs.Common.{◌≡◌, ◌+◌, false, arith, refl, subst, sym, ◌-◌, ◌≤◌, ◌<◌, ap, ◌∙◌, Err, Ok, inl, inr, ◌*◌}
 use Rattle.std.proofs.lemmas.{Result.err_from_is_err_and, Bool.cases_lt}
 use Rattle.ffs_volume.{proofs.OwnerLaws.before_next, specs.Blocks.{BlockCheck.phase1_lines, Claims.after_owner}}
 use Rattle.ffs_volume.specs.{Blocks.{KeptSteps.claims_before, Owners.{owner_of, owners_of}}, Report.Whole.run_count}
@@ -8,7 +8,8 @@ use Rattle.ffs_report.proofs.Reporting.{of_part, of_fault, of_same, reports_know
 use Rattle.ffs_report.{proofs.Reporting.{heading_alone, heading_part, said_knows}, specs.Known.ForBytes}
 use Rattle.ffs_workspace.{proofs.Leaving.fresh_held, specs.{Found.WithFresh, Holds.claims_of}}
 use Rattle.ffs_workspace.specs.declared.workspace.Workspace.{Workspace}
-use Rattle.ffs_claims.proofs.Duplicates.{any_set, rescan_is}
+use Rattle.ffs_maps.specs.Bits.{bits_of}
+use Rattle.ffs_claims.{specs.Leaves.StaySet, proofs.Duplicates.{any_set, rescan_is}}
 use Rattle.ffs_claims.proofs.Frames.{changes_then, found_none, fresh_surveyed, ready_begun}
 use Rattle.ffs_claims.proofs.Frames.{ready_still, ready_surveyed, zeros_passed}
 use Rattle.ffs_claims.proofs.{Inodes.used_below, Numbers.{found_begins, found_cut, found_next, found_all, numbers_most}}
@@ -29,6 +30,7 @@ returns-in_err-say-clause-cut g c =
     let p = err_from_is_err_and c.from_residual.result c.from_residual.ensures.1 in
     let fresh = fresh_held c.args.geometry.now.layout c.args.workspace.now _ c.forget_windows.ensures.only in
     rw p.1 (λ bytes k. found_cut (found_none c.reserve.new.workspace)
+    (c.reserve.ensures.claims (fresh_surveyed (fresh k.1)) ∙ sym (before_first c.args.geometry.now.layout bytes))
     (found_begins bytes (fresh_surveyed (fresh k.1)) c.reserve.ensures.only.found))
 
 pub reserve-requires : goal.reserve-requires
@@ -85,7 +87,13 @@ pub returns-in_err-claim_inode-clause-cut : goal.returns-in_err-claim_inode-clau
 returns-in_err-claim_inode-clause-cut g c =
     let from = c.from_residual-in_err-claim_inode in
     let p = err_from_is_err_and from.result from.ensures.1 in
-    rw p.1 (λ bytes k. found_cut c.in_err-claim_inode.ensures.unstored (c.loop-number.invariant.found bytes k))
+    rw p.1 (λ bytes k. found_cut c.in_err-claim_inode.ensures.unstored
+    (c.loop-number.invariant.claims bytes k) (c.loop-number.invariant.found bytes k))
+
+pub returns-in_err-claim_inode-clause-stays : goal.returns-in_err-claim_inode-clause-stays
+returns-in_err-claim_inode-clause-stays g c =
+    let changes = changes_then c.loop-number.invariant.changes c.claim_inode.ensures.claims.left.changes in
+    grind (arith, err_from_is_err_and)
 
 pub loop-number-preserved : goal.loop-number-preserved
 loop-number-preserved g c =
@@ -241,3 +249,25 @@ returns-clause-reads g c =
 
 pub returns-in_err-claim_inode-clause-heading : goal.returns-in_err-claim_inode-clause-heading
 returns-in_err-claim_inode-clause-heading g c = grind (arith, err_from_is_err_and, heading_part)
+
+pub returns-in_err-say-clause-stays : goal.returns-in_err-say-clause-stays
+returns-in_err-say-clause-stays g c =
+    let p = err_from_is_err_and c.from_residual.result c.from_residual.ensures.1 in
+    let found = c.reserve.ensures.only.found in
+    let forgot = c.forget_windows.ensures.only in
+    let now = c.reserve.new.workspace in
+    rw p.1 (record {
+      changes = record {
+        only = grind arith;
+        used = subst (λ (w : Workspace). StaySet (bits_of w.used) (bits_of now.used)) forgot found.used;
+        duplicates = subst (λ (w : Workspace). StaySet (bits_of w.duplicates) (bits_of now.duplicates)) forgot
+            found.duplicates;
+      };
+      has_dups = grind arith;
+    })
+
+pub returns-clause-stays : goal.returns-clause-stays
+returns-clause-stays g c = let changes = c.loop-number.invariant.changes in record {
+  changes = record { only = grind arith; used = changes.used; duplicates = changes.duplicates };
+  has_dups = tt;
+}

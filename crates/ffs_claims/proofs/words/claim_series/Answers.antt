@@ -1,5 +1,7 @@
 use Rattle.std.proofs.Common.{◌<◌, arith, refl, rules, ◌∙◌}
 use Rattle.ffs_maps.proofs.Bits.{bits_long}
+use Rattle.ffs_maps.specs.Bits.{bits_of}
+use Rattle.ffs_claims.proofs.Frames.{stay, stay_claimed}
 use Rattle.ffs_claims.{specs.SilentWords.with_run_counts, proofs.{SeriesClaims.series_words, UnclaimedRuns.run_below}}
 use Rattle.ffs_claims.proofs.words.claim_series.Goals as goal
 
@@ -23,6 +25,8 @@ returns-clause-claimed c = λ t.
     let some : 0 < c.pass_series-len.result = omega (arith, c.if-len-eq0.false) in
     let run = c.contains.ensures.0 c.if-not-contains.false in
     let passes = c.pass_series-len.ensures in
+    let used = stay_claimed c.claim.ensures in
+    let duplicates = stay (bits_of a.duplicates) in
     record {
       words = series_words (record {
         uncut = next.uncut;
@@ -30,7 +34,7 @@ returns-clause-claimed c = λ t.
         in_range = λ f low high. next.all_in_range.runs f c.args.walk.now.geometry.layout.frag (omega (arith, run.first))
             (omega (arith, run.last)) c.args.walk.now.geometry.sound.sizes.frag_low;
         clear = c.claim.ensures.clear c.if-not-claim.false;
-      }) (rw (c.claim.ensures.claimed c.if-not-claim.false, c.from.ensures, c.from-2.ensures) refl) (search rules) (omega arith) passes;
+      }) (rw (c.claim.ensures.claimed c.if-not-claim.false, c.from.ensures, c.from-2.ensures) refl) (grind arith) (omega arith) passes;
       held = passes.held;
       falls = passes.passes some;
     }
