@@ -1,5 +1,5 @@
 use Rattle.std.proofs.Common.{[], ◌∷◌, List, ℕ, refl, ap, ◌∙◌, inr, arith, ◌≡◌, ◌*◌, OnOk, Result, Ok, Err, IfOk}
-use Rattle.std.proofs.{Common.{map, false}, lemmas.{Bool.both_ways, Result.err_from_is_err_and}}
+use Rattle.std.proofs.{Common.{map, sym, true, false}, lemmas.{Bool.both_ways, Result.err_from_is_err_and}}
 use Rattle.ffs_image.specs.Device.{Device}
 use Rattle.ffs_report.proofs.Reporting.{heading_alone, heading_part, heading_reads, of_reads, of_last, reports_knowing}
 use Rattle.ffs_report.proofs.Reporting.{says_heading, stops_heading}
@@ -13,7 +13,7 @@ use Rattle.ffs_pathnames.specs.{declared.pass2.Root.Root, Before.IsBefore, Phase
 use Rattle.ffs_pathnames.{specs.RootAnswers.{SaidStop, is_go}, proofs.Carrying.{before_first, references_on}}
 use Rattle.ffs_pathnames.proofs.{SilentLaws.calm_silent, pass2.phase2.{Given.Over, Goals.After-check_tree}}
 use Rattle.ffs_pathnames.proofs.ChecksNeededLaws.{looked_at_first}
-use Rattle.ffs_names.proofs.{DirCosts.noted_all_within, RunSums.costs_bounded}
+use Rattle.ffs_names.{proofs.{DirCosts.noted_all_within, RunSums.costs_bounded}, specs.Surveys.SurveysNoMore}
 use Rattle.ffs_workspace.specs.{declared.workspace.Workspace.Workspace, Found.WithClaims, Holds.HoldsClaims}
 use Rattle.ffs_workspace.{specs.Holds.{HoldsReferences, HoldsSurvey}, proofs.Leaving.block_check_kept}
 use Rattle.ffs_workspace.proofs.Leaving.{block_check_more, claims_left, findings_claims}
@@ -125,6 +125,32 @@ returns-clause-block_check g c =
     let surveyed = block_check_more _ _ _ c.in_ok-survey.ensures.leaves.same
     c.clear_passed.ensures.survey.findings.block_check in
     block_check_more _ _ _ surveyed c.check_tree.ensures.tree.findings.block_check
+
+-- a survey that was made before is made still
+unmade_before : {reads reads' : ℕ} (old new : Workspace) → (old.surveyed ≡ true → SurveysNoMore reads reads' old new) →
+    new.surveyed ≡ false → old.surveyed ≡ false
+unmade_before old new again unmade = grind (arith, ap)
+
+pub returns-in_err-say-clause-surveyed : goal.returns-in_err-say-clause-surveyed
+returns-in_err-say-clause-surveyed g c =
+    let p = err_from_is_err_and c.from_residual.result c.from_residual.ensures.1 in
+    rw (p.1, p.2) (λ unmade. (unmade, λ b k. (refl, c.in_err-say.ensures.said)))
+
+pub returns-in_err-survey-clause-surveyed : goal.returns-in_err-survey-clause-surveyed
+returns-in_err-survey-clause-surveyed g c =
+    let p = err_from_is_err_and c.from_residual-in_err-survey.result c.from_residual-in_err-survey.ensures.1 in
+    rw (p.1, p.2) (λ unmade. (
+      unmade_before c.args.workspace.now c.survey.new.workspace c.survey.ensures.again unmade,
+      λ b k. (refl, c.in_ok-say.ensures.said),
+    ))
+
+pub returns-clause-surveyed : goal.returns-clause-surveyed
+returns-clause-surveyed g c = λ unmade.
+    let left = c.check_tree.ensures.tree.findings.surveyed ∙ c.clear_passed.ensures.survey.findings.surveyed in
+    let first = sym left ∙ unmade in (
+      unmade_before c.args.workspace.now c.survey.new.workspace c.survey.ensures.again first,
+      λ b k. absurd (both_ways _ first (c.in_ok-survey.ensures.survey b k).surveyed),
+    )
 
 -- what is held where something failed
 pub returns-in_err-say-clause-again : goal.returns-in_err-say-clause-again
