@@ -2,10 +2,11 @@
 use Rattle.std.proofs.Common.{◌≡◌, ◌≢◌, ℕ, ◌<◌, ◌==◌, Bool, true, false, not, ◌&&◌, ◌||◌, refl, List, [], ◌∷◌, ◌++◌}
 use Rattle.std.proofs.Common.{length, slice_index, sym, ◌∙◌, subst, append_assoc, append-nil, arith, ltb-true, ne_eqb}
 use Rattle.std.proofs.{Common.{eqb-true, inl, inr}, lemmas.{List.get_or-set_other, List.get_or-set_same}}
-use Rattle.std.proofs.{lemmas.Bool.{Decides.nat_tests, and_parts, eqb-false, or_cases}, Math.ListN.length-set}
+use Rattle.std.proofs.{lemmas.Bool.{Decides.nat_tests, and_parts, cases_Bool, eqb-false, or_cases}, Math.ListN.length-set}
 use Rattle.std.specs.List.{list_any, slice_index_or}
 use Rattle.ffs_volume.specs.{declared.Role.{Role, TheVariants.{Extra, Plain}}, Disk.Search.some_below}
-use Rattle.ffs_volume.specs.Directories.PathnameCheck.{plain_verdict, entry_lines, lines_of_entries, is_silent}
+use Rattle.ffs_volume.specs.Directories.{Entries.Entry, PathnameCheck.{entry_lines, is_silent, lines_of_entries}}
+use Rattle.ffs_volume.specs.Directories.PathnameCheck.{plain_verdict, verdict_on}
 use Rattle.ffs_volume.specs.Directories.{PathnameCheck.{is_role_silent, role_lines}, Climb.is_value, Parents.graph_of}
 use Rattle.ffs_volume.specs.Directories.Graph.{is_naming_entry, is_naming_dir, parent}
 use Rattle.ffs_volume.specs.Directories.Roles.{Volume, RoledEntry, is_dir, is_plain, is_suspect, roled_entries}
@@ -109,6 +110,17 @@ quiet_silent {v = v} {s = s} done (e ∷ es) flags stamps d whole long f r h =
     (whole ∙ sym (append_assoc done (e ∷ []) es)) (looks_long v s stamps e ∙ long) f
     (stamped_after v s done e stamps long r) h2.1 in
     rw (entry_quiet flags stamps i f r h2.0, ← size_more done e, rest) refl
+
+-- where nothing is reported of an entry, though it isn't the parent entry, it names no directory: so none is stamped
+pub silent_unstamped : (v : Volume) (s : ℕ) (first : Bool) (stamps : List ℕ) (e : Entry) →
+    is_silent (verdict_on v first false e) ≡ true →
+    after_look v s stamps (record { role = Plain; entry = e }) ≡ stamps
+silent_unstamped v s first stamps e h =
+    let named = (silent_parts v first false e h).named in
+    elim (cases_Bool (e.number == 1)) [
+      | inl e1 ↦ grind (arith, eqb-true)
+      | inr e1 ↦ let link = (named e1).link in grind arith
+    ]
 
 -- and the suspects that they name are flagged
 suspect_flagged : (v : Volume) (s : ℕ) (flags : List Bool) (stamps : List ℕ) (e : RoledEntry) (x : ℕ) →

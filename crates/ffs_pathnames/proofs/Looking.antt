@@ -1,11 +1,23 @@
 -- A look at the entries of a chunk, and at the chunks of a directory, one after another.
 use Rattle.std.proofs.{Common.{refl, ◌++◌, ◌≡◌, sym, ◌∙◌, ℕ, arith, Bool, ◌&&◌, List, [], ◌∷◌}, Math.Bool.and-true}
-use Rattle.std.{proofs.Math.Bool.and_assoc, specs.List.flat_map}
+use Rattle.std.{proofs.{Common.{◌⊎◌, true}, Math.Bool.and_assoc}, specs.List.flat_map}
 use Rattle.ffs_pathnames.specs.PassedNames.{is_quiet, are_quiet, after_look, after_looks}
-use Rattle.ffs_volume.specs.Directories.{Entries.Chunk, PathnameCheck.are_sound, Roles.{roled_chunk, Volume}}
+use Rattle.ffs_volume.specs.Directories.{Entries.{Chunk, Entry}, PathnameCheck.are_sound, Roles.{roled_chunk, Volume}}
+use Rattle.ffs_volume.specs.declared.Role.{Role, TheVariants.{Dot, Dotdot, Empty}}
 use Rattle.ffs_volume.specs.Directories.Roles.{RoledEntry}
 
 -- ---- the entries of a chunk
+-- one that is empty, `.` or `..` is quiet, and stamps nothing
+pub silent_roles : (v : Volume) (s : ℕ) (flags : List Bool) (stamps : List ℕ) (role : Role) (e : Entry) →
+    (role ≡ Empty) ⊎ ((role ≡ Dot) ⊎ (role ≡ Dotdot)) →
+    (is_quiet v s flags stamps (record { role = role; entry = e }) ≡ true)
+    × (after_look v s stamps (record { role = role; entry = e }) ≡ stamps)
+unfolding is_quiet
+silent_roles v s flags stamps Empty e h = (refl, refl)
+silent_roles v s flags stamps Dot e h = (refl, refl)
+silent_roles v s flags stamps Dotdot e h = (refl, refl)
+silent_roles v s flags stamps role e h = absurd (grind arith)
+
 pub quiet_on : (v : Volume) (s : ℕ) (flags : List Bool) (stamps : List ℕ) {stamps' : List ℕ} {seen : RoledEntry} {es es' : List RoledEntry}
     {all still : Bool} (quiet : Bool) → es ≡ seen ∷ es' →
     still ≡ (quiet && is_quiet v s flags stamps seen) → stamps' ≡ after_look v s stamps seen →

@@ -1,7 +1,7 @@
 //! A first look at a directory, once over its chunks: whether it is sure that nothing is reported of
 //! its entries, whether each chunk is sound, and whether a hole is kept. It stamps the inodes that
 //! belong to the directory. `examine` reads the inode, and looks at the chunks within a limit.
-ghost use Rattle.std.specs.Prelude.{◌≡◌, ◌+◌, ◌≤◌, true, false, List, [], ◌∷◌};
+ghost use Rattle.std.specs.Prelude.{◌≡◌, ◌+◌, ◌≤◌, ◌&&◌, true, false, List, [], ◌∷◌};
 ghost use Rattle.ffs_volume.specs.{Report.DirectoryReads.{directory_cost, directory_runs}, declared.Order.Order};
 ghost use Rattle.ffs_volume.specs.{declared.Role.Role, Directories.{Entries.{Chunk, chunk_of, is_sound}, Roles.Volume}};
 ghost use Rattle.ffs_report.specs.Known.{ForBytes};
@@ -234,48 +234,13 @@ pub fn look_directory<I: Image>(
     })
 }
 
-/// Whether it is sure that nothing is reported of an entry. Where it isn't, a line may come or not.
-#[tactic(auto, unfolding(crate::specs::PassedNames::is_quiet))]
-pub fn is_quiet(
-    inodes: &Inodes<'_>,
-    dir: u32,
-    flags: &FilledList<bool>,
-    words: &FilledList<u32>,
-    role: Role,
-    entry: &Entry<'_>,
-) -> bool
-    requires { CanLook inodes.now dir flags.now.items words.now.items }
-    ensures { (vol : Volume) → Sees vol inodes.now → result
-        ≡ names.is_quiet vol dir flags.now.items (stamps_in inodes.now words.now.items)
-        (record { role = role; entry = entry_value entry.now }) }
-{
-    match role {
-        Role::Empty | Role::Dot | Role::Dotdot => true,
-        Role::Extra => false,
-        Role::Plain => {
-            is_harmless(inodes, flags, entry)
-                || verdict_at_look(inodes, dir, flags, words, entry).is_silent()
-        }
-    }
-}
-
 /// Stamps the inode that a plain entry names, if that inode belongs to the directory: sets the bit
 /// of its word that says that its parent entry is due. The place in the word stays.
-pub fn stamp(
-    inodes: &Inodes<'_>,
-    dir: u32,
-    words: &mut FilledList<u32>,
-    role: Role,
-    entry: &Entry<'_>,
-)
+fn stamp(inodes: &Inodes<'_>, dir: u32, words: &mut FilledList<u32>, entry: &Entry<'_>)
     requires { CanStamp inodes.now dir words.old.items }
     ensures { StampsEntries inodes.now dir
-        (record { role = role; entry = entry_value entry.now } ∷ [])
-        words.old words.new }
+        (record { role = Role.Plain; entry = entry_value entry.now } ∷ []) words.old words.new }
 {
-    if role != Role::Plain {
-        return;
-    }
     // A whiteout names no inode, and the root has no parent entry.
     if entry.number <= ROOTINO || entry.number >= inodes.count() {
         return;
@@ -284,6 +249,35 @@ pub fn stamp(
         let index = entry.number as usize;
         words.set(index, with_due(words[index]));
     }
+}
+
+/// Looks at a plain entry, and stamps the inode that it names, if that belongs to the directory.
+/// Returns whether it is sure that nothing is reported of it, nor of the entries before it, where
+/// `quiet` says that it is sure of these. Where it isn't, a line may come or not.
+#[tactic(auto, unfolding(crate::specs::PassedNames::is_quiet))]
+fn look_plain(
+    inodes: &Inodes<'_>,
+    dir: u32,
+    flags: &FilledList<bool>,
+    words: &mut FilledList<u32>,
+    entry: &Entry<'_>,
+    quiet: bool,
+) -> bool
+    requires { CanLook inodes.now dir flags.now.items words.old.items }
+    ensures quiet { (vol : Volume) → Sees vol inodes.now → result ≡ (quiet && names.is_quiet vol dir
+        flags.now.items (stamps_in inodes.now words.old.items)
+        (record { role = Role.Plain; entry = entry_value entry.now })) }
+    ensures stamps { StampsEntries inodes.now dir
+        (record { role = Role.Plain; entry = entry_value entry.now } ∷ []) words.old words.new }
+{
+    // A harmless entry names no directory, so nothing is stamped.
+    if is_harmless(inodes, flags, entry) {
+        return quiet;
+    }
+    // After an entry that isn't quiet the chunk isn't either, so no other verdict is asked.
+    let still = quiet && verdict_at_look(inodes, dir, flags, words, entry).is_silent();
+    stamp(inodes, dir, words, entry);
+    still
 }
 
 /// What a look at the entries of a chunk finds.
@@ -328,10 +322,11 @@ pub fn look_chunk(
     let mut entries = ChunkEntries::of_chunk(order, chunk.bytes);
     let mut quiet = true;
     'entries: while let Some((index, entry)) = entries.next() {
-        let role = role_of(chunk.at_start, index, &entry);
-        // After an entry that isn't quiet the chunk isn't either, so no other entry is asked.
-        quiet = quiet && is_quiet(inodes, dir, flags, words, role, &entry);
-        stamp(inodes, dir, words, role, &entry);
+        quiet = match role_of(chunk.at_start, index, &entry) {
+            Role::Empty | Role::Dot | Role::Dotdot => quiet,
+            Role::Extra => false,
+            Role::Plain => look_plain(inodes, dir, flags, words, &entry, quiet),
+        };
     }
     ChunkLook {
         quiet,

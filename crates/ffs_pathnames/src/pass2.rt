@@ -1,6 +1,7 @@
 //! Phase 2: pathnames (fsck(8)).
-ghost use Rattle.std.specs.Prelude.{◌≡◌, ◌+◌, ◌*◌, ◌∷◌, [], false, true, length, map, slice_index, vec_len, ◌&&◌, not, ℕ, IfOk, OnErr};
+ghost use Rattle.std.specs.Prelude.{◌≡◌, ◌+◌, ◌*◌, ◌∷◌, [], false, true, length, map, slice_index, vec_len, ◌&&◌, not, ℕ, IfOk, IsErr, OnErr};
 ghost use Rattle.ffs_report.specs.{Known.ForBytes, Paid.Paid, PhaseOutcome.{HeadingFirst, ImageAfter, PhaseReports}};
+ghost use Rattle.ffs_report.specs.PhaseOutcome.{SaysBeforeFault};
 ghost use Rattle.ffs_report.specs.Progress.{progress};
 ghost use Rattle.ffs_volume.specs.Directories.{PathnameCheck.pathname_lines, Volumes.volume_of};
 ghost use Rattle.ffs_volume.specs.{Encodings.Kinds.is_dir_kind, Messages.Kinds.of_tree, Report.Reads.{line_reads, sweep_reads}};
@@ -49,7 +50,8 @@ pub enum Root {
 ///
 /// # Errors
 /// A read of the image that failed, and a write of the report that failed. Where the workspace says
-/// `surveyed` then, phase 2 can be called again: all that it needs is held still.
+/// `surveyed` then, phase 2 can be called again: all that it needs is held still. It says so unless
+/// nothing but the heading was begun.
 pub fn phase2<I: Image, W: Output>(
     geometry: &Geometry,
     image: &mut I,
@@ -76,6 +78,13 @@ pub fn phase2<I: Image, W: Output>(
     // What the block check left stays, also where a read or a write failed, but for the counts of
     // references.
     ensures block_check { LeavesBlockCheck workspace.old workspace.new }
+
+    // The survey counts as made then, unless nothing but the heading was begun before a fault. One that
+    // was made before counts as made in any case.
+    ensures surveyed { workspace.new.surveyed ≡ false → (workspace.old.surveyed ≡ false) × ForBytes
+        (WithClaims geometry.now.layout (I.device image.old) workspace.old)
+        (λ bytes. IsErr result × SaysBeforeFault (messages.phase2 ∷ [])
+        (progress W.sink report.old) (progress W.sink report.new) result) }
 
     // Where a read or a write failed, and the survey is made, what is to be held is held still.
     ensures again { OnErr result (workspace.new.surveyed ≡ true → ForBytes

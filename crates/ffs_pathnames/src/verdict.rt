@@ -5,7 +5,7 @@
 //! - *calm* (`ffs_survey`), as the survey reads it: by the kinds, the marks and what is reached by
 //!   then. Where all entries of a directory are calm and its shape is right, they are quiet too
 //!   (`calm_silent`), and phase 2 doesn't read the directory, unless it is marked.
-//! - *quiet* (`is_quiet`), in the first look, of an entry of any role: by the flags and the parents
+//! - *quiet* (`look_chunk`), in the first look, of an entry of any role: by the flags and the parents
 //!   too. Where all are, nothing is reported of them (`quiet_silent`): there is no second reading.
 //! - *silent*, of a verdict: it has no line. A plain entry is quiet where its verdict is silent.
 //! - *harmless* (`is_harmless`), asked before the verdict, which is then silent: by the kinds, the
