@@ -1,4 +1,7 @@
 """Damaged directories: their sizes, blocks, `.` and `..`."""
+import os
+import random
+
 from .. import sources
 from ..case import entries_of, fragments_of, number_of, owners_of
 from .all import damage
@@ -7,6 +10,7 @@ from .names import entries_of_inode, place_of
 
 # How many of the inodes that are left are copied, of those that have no name.
 SHOWN = 30
+HEAD = 65536
 
 
 def names_at_stake(case):
@@ -210,6 +214,85 @@ def root_block_zero(case):
     case.run("lost-names")
     case.run("rest")
     case.at_stake(*[path for path, i in numbers.items() if i in left or i < layout.bsize // 128])
+
+
+@damage("the block of inodes that has inode 2 became zeros, and with it those of directories")
+def directories_zero(case):
+    volume, layout = case.volume, case.volume.layout
+    numbers = files_of(case)
+    volume.zero(layout.inode_place(0), layout.bsize)
+    case.at_stake(*[path for path, i in numbers.items() if i >= layout.bsize // 128])
+    case.report("ROOT INODE UNALLOCATED")
+    case.run("further directories check")
+    case.run("keep")
+    put_last_part(case)
+    case.run("all")
+
+
+def put_last_part(case):
+    """The last part of a directory that lies elsewhere: puts it after what the recipe `directories` found."""
+    layout = case.volume.layout
+    nameless = {message["inode"] for message in case.check_again().of("UNREF")}
+    at = [entry.byte for entry in entries_of(case.run("lost-names")) if entry.number in nameless]
+    if not at:
+        return
+    i = int(case.run("number-of", path="docs/names"))
+    k = max(fragments_of(case.run("inode", i=i))) + 1
+    size = k * layout.bsize + at[-1] % layout.fsize // 512 * 512 + 512
+    blocks = (k * layout.frag + 1) * layout.fsize // 512
+    case.run("further place address size blocks keep", i=i, k=k, f=at[0] // layout.fsize, size=size, blocks=blocks)
+
+
+def files_of(case):
+    """The inodes of all files that have bytes."""
+    return {path: case.volume.find(path) for path, it in case.tree.items() if isinstance(it, bytes) and it and path not in sources.SHORT_LINKS}
+
+
+@damage("the first 64 KB were overwritten: a superblock, a group, the root, and directories")
+def head_overwritten(case):
+    volume, layout = case.volume, case.volume.layout
+    numbers = files_of(case)
+    begins = {path: [volume.layout.inode_place(i)] + [run.start * layout.fsize for run in volume.runs(i)] for path, i in numbers.items()}
+    folders = {path: min(run.start for run in volume.runs(volume.find(path))) * layout.fsize for path, it in case.tree.items() if it == "directory"}
+    last = volume.runs(volume.find("docs/names"))[-1].start * layout.fsize
+    elsewhere = {path for path in numbers if last <= volume.entry(path) < last + layout.bsize}
+    left = [path for path, places in begins.items() if min(places) >= HEAD and folders.get(path.rpartition("/")[0], 0) >= HEAD]
+    case.at_stake(*[path for path in left if path not in elsewhere])
+    case.at_stake(*[path for path in left if path in elsewhere], name=False)
+    volume.image[:HEAD] = random.Random(1).randbytes(HEAD)
+    case.report("BAD SUPER BLOCK")
+    case.run("further superblock check", sector=case.run("copies").split()[0])
+    case.run("keep")
+    found = case.check_again("UNKNOWN FILE TYPE")
+    case.run("further")
+    for message in found.of("UNKNOWN FILE TYPE") + found.of("PARTIALLY ALLOCATED INODE"):
+        case.run("clear", i=message["inode"])
+    case.run("keep")
+    case.run("further directories-anywhere keep")
+    f = layout.size
+    while case.run("owners", f=f) != "free\n":
+        f -= 1
+    found = case.run("further new-root check", f=f)
+    case.run("keep")
+    case.run("further every")
+    # No tool of Sleuthkit reads the copy, and all can be given the other.
+    os.replace(f"{case.place}/further.img", f"{case.place}/copy.img")
+    for message in found.of("UNREF"):
+        case.run("below", i=message["inode"])
+    case.run("unnamed")
+
+
+@damage("the root's block was overwritten by text")
+def root_overwritten(case):
+    volume, layout = case.volume, case.volume.layout
+    numbers = files_of(case)
+    at = volume.blocks(2)[0] * layout.fsize
+    volume.image[at:at + layout.fsize] = (b"All work and no play makes Jack a dull boy. " * layout.fsize)[:layout.fsize]
+    case.at_stake(*numbers)
+    found = case.report("DIRECTORY CORRUPTED")
+    for message in found.of("UNREF"):
+        case.run("below", i=message["inode"])
+    case.run("unnamed")
 
 
 def mend_counts(case, i, found, recipes, **values):

@@ -372,6 +372,20 @@ def double_one(case):
     return found[0]
 
 
+@damage("a large file's indirect block was overwritten by text, and it has a double one")
+def large_overwritten(case):
+    i, _ = double_of(case)
+    volume, layout = case.volume, case.volume.layout
+    at = volume.inode(i)["single"] * layout.fsize
+    volume.image[at:at + layout.bsize] = (b"All work and no play makes Jack a dull boy. " * layout.bsize)[:layout.bsize]
+    case.report("EXCESSIVE BAD BLKS")
+    f = fragments_of(case.run("inode", i=i))[12]
+    case.run("list")
+    case.refuses("further refill", f=f)
+    case.run("further zeros keep", f=f)
+    case.run("further list refill check", f=f)
+
+
 @damage("a large file's double indirect block became zeros")
 def double_zeroed(case):
     volume = case.volume
