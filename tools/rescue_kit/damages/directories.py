@@ -194,11 +194,11 @@ def root_empty(case):
     volume.zero(volume.layout.inode_place(2), 128)
     case.at_stake(*case.tree)
     case.report("ROOT INODE UNALLOCATED")
-    f = first_lost(case)
-    names = {entry.name: entry.number for entry in entries_of(case.run("entries", f=f))}
+    names = {entry.name: entry.number for entry in entries_of(case.run("lost-names"))}
     case.run("below", i=names["docs"])
-    found = mend(case, 2, "mode size address", mode="40755", size=512, k=0, f=f)
-    mend_counts(case, 2, found, "mode size address", mode="40755", size=512, k=0, f=f)
+    found = case.run("further directories check")
+    case.run("keep")
+    mend(case, 2, "links", links=found.first("LINK COUNT")["right_count"])
 
 
 @damage("the block of inodes that has inode 2 became zeros")

@@ -386,6 +386,23 @@ def large_overwritten(case):
     case.run("further list refill check", f=f)
 
 
+@damage("a file's indirect block was overwritten by that of a large file")
+def indirect_of_other(case):
+    volume, layout = case.volume, case.volume.layout
+    paths = ("big/film", "big/archive")
+    _, double = double_of(case)
+    places = [volume.inode(volume.find(path))["single"] * layout.fsize for path in paths]
+    volume.image[places[0]:places[0] + layout.bsize] = volume.image[places[1]:places[1] + layout.bsize]
+    case.at_stake(*paths)
+    numbers = {message["inode"] for message in case.report("EXCESSIVE DUP BLKS").of("EXCESSIVE DUP BLKS")}
+    for i in owners_of(case.run("owners", f=case.check_again().first("DUP")["fragment"])):
+        addresses = fragments_of(case.run("inode", i=i))
+        case.run("further zeros keep", f=addresses[12])
+        if case.run("further list refill check", f=addresses[12]).status == 0:
+            return
+        case.run("further")
+
+
 @damage("a large file's double indirect block became zeros")
 def double_zeroed(case):
     volume = case.volume

@@ -5,7 +5,7 @@ import re
 from images import formats
 
 from .. import sources
-from ..case import Wrong, tree_of
+from ..case import NotHere, Wrong, tree_of
 from .all import damage
 
 SECTOR = 512
@@ -302,3 +302,31 @@ def swapped(case):
     case.report("BAD SUPER BLOCK")
     if case.run("further swapped check").status == 0:
         case.run("keep names")
+
+
+@damage("each four bytes of the image were exchanged")
+def reversed_words(case):
+    image = case.volume.image
+    image[::4], image[1::4], image[2::4], image[3::4] = image[3::4], image[2::4], image[1::4], image[::4]
+    all_at_stake(case)
+    case.report("ROOT INODE UNALLOCATED", "PARTIALLY ALLOCATED INODE")
+    case.run("further reversed check")
+
+
+@damage("the file system is of a system before 4.4BSD")
+def older(case):
+    """Its entries have a length of the name of two bytes, and no type: read are those of the other order alone."""
+    volume = case.volume
+    if volume.order == "little":
+        raise NotHere
+    folders = [2] + [volume.find(path) for path, it in case.tree.items() if it == "directory"]
+    for place in [place for i in folders for place, *_ in volume.entries(i)]:
+        volume.put(place + 6, 1, 0)
+    case.at_stake(*[path for path in case.tree if path not in sources.SHORT_LINKS])
+    volume.put(formats.SUPERBLOCK_AT + 1324, 4, -1)
+    for c in range(volume.layout.ncg):
+        volume.put(volume.layout.copy_place(c) + 1324, 4, -1)
+    case.report("BAD SUPER BLOCK")
+    if case.run("copies"):
+        raise Wrong("a copy is accepted")
+    case.run("names all")
