@@ -3,7 +3,7 @@ import os
 import random
 
 from .. import sources
-from ..case import entries_of, fragments_of, number_of, owners_of
+from ..case import NotHere, entries_of, fragments_of, number_of, owners_of
 from .all import damage
 from .inodes import first_lost, free_block, mend, mend_free, mend_shared
 from .names import entries_of_inode, place_of
@@ -280,6 +280,33 @@ def head_overwritten(case):
     for message in found.of("UNREF"):
         case.run("below", i=message["inode"])
     case.run("unnamed")
+
+
+@damage("a directory's inode was overwritten by that of a file")
+def inode_of_file(case):
+    volume, layout = case.volume, case.volume.layout
+    i, j = (layout.inode_place(volume.find(path)) for path in ("docs/pages", "docs/letter"))
+    case.at_stake(*[path for path in case.tree if path.startswith("docs/pages")])
+    volume.image[i:i + 128] = volume.image[j:j + 128]
+    found = case.report("DUP", "UNREF", "BAD TYPE VALUE").first("BAD TYPE VALUE")["inode"]
+    case.run("further clear keep", i=found)
+    case.run("further directories check")
+
+
+@damage("the first two blocks of a directory changed places")
+def blocks_exchanged(case):
+    volume = case.volume
+    i = volume.find("docs/names")
+    first, second = volume.blocks(i)[:2]
+    if len(volume.blocks(i)) < 3:
+        raise NotHere
+    names_at_stake(case)
+    volume.put_inode(i, direct0=second, direct1=first)
+    i = case.report("EXTRA '.' ENTRY", "MISSING '.', CANNOT FIX").first("EXTRA '.' ENTRY")["inode"]
+    addresses = fragments_of(case.run("inode", i=i))
+    k = next(k for k, f in addresses.items() if any(entry.name == "." for entry in entries_of(case.run("entries", f=f))))
+    case.run("further place address", i=i, k=0, f=addresses[k])
+    case.run("place address check", i=i, k=k, f=addresses[0])
 
 
 @damage("the root's block was overwritten by text")
