@@ -1,6 +1,7 @@
 # shellcheck shell=sh
-# Functions for the recipes of READING.md, for sh and bash: they need perl and ffs_find. They read copy.img, and put, clear, directories
-# and new_root write to further.img. What can't be done is said on standard error, with status 1, and nothing is written.
+# Functions for the recipes of READING.md, for sh and bash: they need perl and ffs_find. They read copy.img, and put,
+# clear_inode, directories and new_root write to further.img. What can't be done is said on standard error, with status 1, and nothing
+# is written.
 #
 #   . ./rescue.sh            also sets order, bsize and fsize, and lets a variable that isn't set be an error (set -u)
 #
@@ -14,9 +15,9 @@
 #   put BYTE WIDTH NUMBER    writes a number of so many bytes into further.img, in the byte order of the image
 #   entries FIRST LENGTH [I] what looks like an entry in these bytes, of inode I alone where it is given, also where no directory
 #                            has it: byte, number, record length, type, length of the name, name (control bytes are shown as ?)
-#   clear I                  makes inode I of further.img zeros
+#   clear_inode I            makes inode I of further.img zeros
 #   directories              puts anew in further.img the inode of each directory that has its `.` among the entries on standard input,
-#                            where no directory is: those that follow from there on, chunk by chunk. Its links are 2
+#                            where no file or directory is: those that follow from there on, chunk by chunk. Its links are 2
 #   new_root F               puts inode 2 anew in further.img, as a directory in fragment F that has nothing but `.` and `..`
 
 set -u
@@ -106,13 +107,13 @@ entries() {
         }' "$order" $(($1)) $(($2)) ${3:+"$3"}
 }
 
-clear() (
+clear_inode() (
     p=$(place "$1") && dd if=/dev/zero of=further.img bs=128 seek=$((p / 128)) count=1 conv=notrunc,nocreat status=none
 )
 
 # directory I F SIZE: puts inode I anew, as a directory of so many bytes whose blocks follow one another from fragment F on
 directory() (
-    p=$(place "$1") && clear "$1" && put "$p" 2 040755 && put "$p + 2" 2 2 && put "$p + 8" 8 "$3" &&
+    p=$(place "$1") && clear_inode "$1" && put "$p" 2 040755 && put "$p + 2" 2 2 && put "$p + 8" 8 "$3" &&
         put "$p + 104" 4 "($3 + $fsize - 1) / $fsize * $fsize / 512" &&
         for k in $(seq 0 $((($3 - 1) / bsize))); do
             [ "$k" -gt 11 ] || put "$p + 40 + 4 * $k" 4 "$2 + $k * $bsize / $fsize" || exit 1
@@ -125,7 +126,7 @@ directories() {
         i && int($1 / 512) <= chunk + 1 { chunk = int($1 / 512); next }
         { last() }
         END { last() }' | while read -r i f size; do
-        ffs_find inode "$i" copy.img | grep -q '^class directory' || directory "$i" "$f" "$size"
+        ffs_find inode "$i" copy.img | grep -q '^class [df]i' || directory "$i" "$f" "$size"
     done
 }
 

@@ -250,6 +250,27 @@ def files_of(case):
 
 @damage("the first 64 KB were overwritten: a superblock, a group, the root, and directories")
 def head_overwritten(case):
+    put_head(case, random.Random(1).randbytes(HEAD))
+    case.report("BAD SUPER BLOCK")
+    case.run("further superblock check", sector=case.run("copies").split()[0])
+    case.run("keep")
+    bring_back(case)
+
+
+@damage("the first 64 KB and all copies of the superblock became zeros")
+def head_zeroed(case):
+    put_head(case, bytes(HEAD))
+    for c in range(case.volume.layout.ncg):
+        case.volume.zero(case.volume.layout.copy_place(c), 1536)
+    case.report("BAD SUPER BLOCK")
+    case.run("further twin", order=case.volume.order, words=case.kind.words, size=case.kind.size)
+    case.run("keep")
+    case.run("further last-copy keep")
+    bring_back(case)
+
+
+def put_head(case, head):
+    """Writes over the first bytes of the image. At stake is what has neither its inode, nor its bytes, nor its directory there."""
     volume, layout = case.volume, case.volume.layout
     numbers = files_of(case)
     begins = {path: [volume.layout.inode_place(i)] + [run.start * layout.fsize for run in volume.runs(i)] for path, i in numbers.items()}
@@ -259,17 +280,18 @@ def head_overwritten(case):
     left = [path for path, places in begins.items() if min(places) >= HEAD and folders.get(path.rpartition("/")[0], 0) >= HEAD]
     case.at_stake(*[path for path in left if path not in elsewhere])
     case.at_stake(*[path for path in left if path in elsewhere], name=False)
-    volume.image[:HEAD] = random.Random(1).randbytes(HEAD)
-    case.report("BAD SUPER BLOCK")
-    case.run("further superblock check", sector=case.run("copies").split()[0])
-    case.run("keep")
-    found = case.check_again("UNKNOWN FILE TYPE")
+    volume.image[:HEAD] = head
+
+
+def bring_back(case):
+    """What is left of a volume whose head was overwritten, once the superblock is back."""
+    found = case.check_again()
     case.run("further")
     for message in found.of("UNKNOWN FILE TYPE") + found.of("PARTIALLY ALLOCATED INODE"):
         case.run("clear", i=message["inode"])
     case.run("keep")
     case.run("further directories-anywhere keep")
-    f = layout.size
+    f = case.volume.layout.size
     while case.run("owners", f=f) != "free\n":
         f -= 1
     found = case.run("further new-root check", f=f)

@@ -192,12 +192,14 @@ def files_clear_of(case, begin, end):
     return out
 
 
-def leave_out(case, at):
+def leave_out(case, at, padded=False):
     """Takes sectors out of the image, and finds by the copies how many and where they are missing: the step from one copy to the next, the
     first copy at a wrong place, and how many sectors that lies too early."""
     del case.volume.image[at * SECTOR:(at + GAP) * SECTOR]
+    if padded:
+        case.volume.image += bytes(GAP * SECTOR)
     case.report("BAD SUPER BLOCK")
-    lines = [line.split() for line in case.run("look").splitlines()]
+    lines = [line.split() for line in case.run("copies" if padded else "look").splitlines()]
     k = next(k for k, line in enumerate(lines) if line[4] == "other")
     before, first = int(lines[k - 1][0]), int(lines[k][0])
     return first, before + int(lines[k - 1][0]) - int(lines[k - 2][0]) - first
@@ -209,6 +211,15 @@ def gap(case):
     at = (layout.copy_place(3) - 20 * layout.fsize) // SECTOR
     case.at_stake(*files_clear_of(case, at * SECTOR, (at + GAP) * SECTOR))
     _, n = leave_out(case, at)
+    case.run("further gap check", at=at, n=n)
+
+
+@damage("sectors in the middle were left out, and the image has its length")
+def gap_padded(case):
+    layout = case.volume.layout
+    at = (layout.copy_place(3) - 20 * layout.fsize) // SECTOR
+    case.at_stake(*files_clear_of(case, at * SECTOR, (at + GAP) * SECTOR))
+    _, n = leave_out(case, at, padded=True)
     case.run("further gap check", at=at, n=n)
 
 
