@@ -733,3 +733,22 @@ def whole(case):
     case.run("place text", i=i)
     case.run("bytes", i=case.run("number-of", path="docs/letter").strip())
 
+
+@damage("inodes were moved by 512 bytes within their block")
+def moved(case):
+    volume, layout = case.volume, case.volume.layout
+    count, m = layout.bsize // 128, 4
+    first = volume.find("docs/names/a_rather_long_name_of_a_file_000") // count * count
+    i = first + 3
+    at, end = layout.inode_place(i), layout.inode_place(first) + layout.bsize
+    volume.image[at + m * 128:end] = volume.image[at:end - m * 128]
+    case.at_stake(*[path for path in case.tree if path.startswith("docs/names/") and not first + count - m <= volume.find(path) < first + count])
+    found = [message["inode"] for message in case.report("DUP").of("DUP") if message["phase"] == "1"]
+    i = min(found) - m
+    alike = [case.run("inode", i=k).partition("\n")[2] for k in (i, i + m)]
+    if alike[0] != alike[1]:
+        raise Wrong(f"inodes {i} and {i + m} differ")
+    case.run("further place moved check", i=i, m=m, n=first + count - m - i)
+    for k in range(first + count - m, first + count):
+        case.run("clear", i=k)
+    case.run("keep all")
