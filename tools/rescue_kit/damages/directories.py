@@ -297,11 +297,28 @@ def bring_back(case):
     found = case.run("further new-root check", f=f)
     case.run("keep")
     case.run("further every")
+    case.run("unnamed", **{"from": "further.img"})
     # No tool of Sleuthkit reads the copy, and all can be given the other.
     os.replace(f"{case.place}/further.img", f"{case.place}/copy.img")
     for message in found.of("UNREF"):
         case.run("below", i=message["inode"])
-    case.run("unnamed")
+
+
+@damage("of a volume the root's block, a cylinder group's block and the last copy of the superblock became zeros")
+def root_and_group_zeroed(case):
+    volume, layout = case.volume, case.volume.layout
+    numbers = files_of(case)
+    volume.zero(volume.blocks(2)[0] * layout.fsize, layout.fsize)
+    volume.zero(layout.group_place(0), layout.bsize)
+    volume.zero(layout.copy_place(layout.ncg - 1), 1536)
+    case.at_stake(*numbers)
+    case.report("BAD SUPER BLOCK")
+    case.run("further last-copy keep")
+    found = case.check_again("DIRECTORY CORRUPTED", "CG: BAD MAGIC NUMBER")
+    for message in found.of("UNREF"):
+        case.run("below", i=message["inode"])
+    case.run("further every")
+    case.run("unnamed", **{"from": "further.img"})
 
 
 @damage("a directory's inode was overwritten by that of a file")
