@@ -1,6 +1,7 @@
 # shellcheck shell=sh
-# Functions for the recipes of READING.md, for sh and bash: they need perl and ffs_find. They read copy.img, and only put writes, to
-# further.img. What can't be done is said on standard error, with status 1, and nothing is written.
+# Functions for the recipes of READING.md, for sh and bash: they need perl and ffs_find. They read copy.img, and put,
+# clear_inode, directories and new_root write to further.img. What can't be done is said on standard error, with status 1, and nothing
+# is written.
 #
 #   . ./rescue.sh            also sets order, bsize and fsize, and lets a variable that isn't set be an error (set -u)
 #
@@ -14,6 +15,10 @@
 #   put BYTE WIDTH NUMBER    writes a number of so many bytes into further.img, in the byte order of the image
 #   entries FIRST LENGTH [I] what looks like an entry in these bytes, of inode I alone where it is given, also where no directory
 #                            has it: byte, number, record length, type, length of the name, name (control bytes are shown as ?)
+#   clear_inode I            makes inode I of further.img zeros
+#   directories              puts anew in further.img the inode of each directory that has its `.` among the entries on standard input,
+#                            where no file or directory is: those that follow from there on, chunk by chunk. Its links are 2
+#   new_root F               puts inode 2 anew in further.img, as a directory in fragment F that has nothing but `.` and `..`
 
 set -u
 
@@ -97,9 +102,38 @@ entries() {
             if (defined $wanted) {
                 for ($k = -1; ($k = index $piece, pack($word, $wanted), $k + 1) >= 0;) { look($k) }
             } else {
-                for ($k = 0; $k < length $piece; $k += 4) { look($k) }
+                while ($piece =~ /[\1-\16]/g) { look($-[0] - 6) if $-[0] % 4 == 2 && $-[0] > 5 }
             }
         }' "$order" $(($1)) $(($2)) ${3:+"$3"}
 }
+
+clear_inode() (
+    p=$(place "$1") && dd if=/dev/zero of=further.img bs=128 seek=$((p / 128)) count=1 conv=notrunc,nocreat status=none
+)
+
+# directory I F SIZE: puts inode I anew, as a directory of so many bytes whose blocks follow one another from fragment F on
+directory() (
+    p=$(place "$1") && clear_inode "$1" && put "$p" 2 040755 && put "$p + 2" 2 2 && put "$p + 8" 8 "$3" &&
+        put "$p + 104" 4 "($3 + $fsize - 1) / $fsize * $fsize / 512" &&
+        for k in $(seq 0 $((($3 - 1) / bsize))); do
+            [ "$k" -gt 11 ] || put "$p + 40 + 4 * $k" 4 "$2 + $k * $bsize / $fsize" || exit 1
+        done
+)
+
+directories() {
+    awk -v fsize="$fsize" 'function last() { if (i) print i, at / fsize, 512 * (chunk + 1) - at; i = 0 }
+        $5 == 1 && $6 == "." && $1 % fsize == 0 { last(); i = $2; at = $1; chunk = at / 512; next }
+        i && int($1 / 512) <= chunk + 1 { chunk = int($1 / 512); next }
+        { last() }
+        END { last() }' | while read -r i f size; do
+        ffs_find inode "$i" copy.img | grep -q '^class [df]i' || directory "$i" "$f" "$size"
+    done
+}
+
+new_root() (
+    d=$(($1 * fsize)) && dd if=/dev/zero of=further.img bs="$fsize" seek="$1" count=1 conv=notrunc,nocreat status=none &&
+        put $d 4 2 && put $d+4 2 12 && put $d+6 1 4 && put $d+7 1 1 && put $d+8 1 0x2e &&
+        put $d+12 4 2 && put $d+16 2 500 && put $d+18 1 4 && put $d+19 1 2 && put $d+20 2 0x2e2e && directory 2 "$1" 512
+)
 
 sizes

@@ -103,6 +103,9 @@ class Case:
             if os.path.isdir(f"{self.place}/{name}"):
                 self.trees.append(tree_of_files(f"{self.place}/{name}"))
                 shutil.rmtree(f"{self.place}/{name}")
+        if os.path.isdir(f"{self.place}/unnamed.d"):
+            self.pieces += [("unnamed", data) for data in tree_of_files(f"{self.place}/unnamed.d").values()]
+            shutil.rmtree(f"{self.place}/unnamed.d")
 
     def complaints(self, recipe):
         """What a recipe prints on standard error; nothing of what it saves is kept."""

@@ -1,12 +1,16 @@
 """Damaged directories: their sizes, blocks, `.` and `..`."""
+import os
+import random
+
 from .. import sources
-from ..case import entries_of, fragments_of, number_of, owners_of
+from ..case import NotHere, entries_of, fragments_of, number_of, owners_of
 from .all import damage
 from .inodes import first_lost, free_block, mend, mend_free, mend_shared
 from .names import entries_of_inode, place_of
 
 # How many of the inodes that are left are copied, of those that have no name.
 SHOWN = 30
+HEAD = 65536
 
 
 def names_at_stake(case):
@@ -190,11 +194,11 @@ def root_empty(case):
     volume.zero(volume.layout.inode_place(2), 128)
     case.at_stake(*case.tree)
     case.report("ROOT INODE UNALLOCATED")
-    f = first_lost(case)
-    names = {entry.name: entry.number for entry in entries_of(case.run("entries", f=f))}
+    names = {entry.name: entry.number for entry in entries_of(case.run("lost-names"))}
     case.run("below", i=names["docs"])
-    found = mend(case, 2, "mode size address", mode="40755", size=512, k=0, f=f)
-    mend_counts(case, 2, found, "mode size address", mode="40755", size=512, k=0, f=f)
+    found = case.run("further directories check")
+    case.run("keep")
+    mend(case, 2, "links", links=found.first("LINK COUNT")["right_count"])
 
 
 @damage("the block of inodes that has inode 2 became zeros")
@@ -210,6 +214,151 @@ def root_block_zero(case):
     case.run("lost-names")
     case.run("rest")
     case.at_stake(*[path for path, i in numbers.items() if i in left or i < layout.bsize // 128])
+
+
+@damage("the block of inodes that has inode 2 became zeros, and with it those of directories")
+def directories_zero(case):
+    volume, layout = case.volume, case.volume.layout
+    numbers = files_of(case)
+    volume.zero(layout.inode_place(0), layout.bsize)
+    case.at_stake(*[path for path, i in numbers.items() if i >= layout.bsize // 128])
+    case.report("ROOT INODE UNALLOCATED")
+    case.run("further directories check")
+    case.run("keep")
+    put_last_part(case)
+    case.run("all")
+
+
+def put_last_part(case):
+    """The last part of a directory that lies elsewhere: puts it after what the recipe `directories` found."""
+    layout = case.volume.layout
+    nameless = {message["inode"] for message in case.check_again().of("UNREF")}
+    at = [entry.byte for entry in entries_of(case.run("lost-names")) if entry.number in nameless]
+    if not at:
+        return
+    i = int(case.run("number-of", path="docs/names"))
+    k = max(fragments_of(case.run("inode", i=i))) + 1
+    size = k * layout.bsize + at[-1] % layout.fsize // 512 * 512 + 512
+    blocks = (k * layout.frag + 1) * layout.fsize // 512
+    case.run("further place address size blocks keep", i=i, k=k, f=at[0] // layout.fsize, size=size, blocks=blocks)
+
+
+def files_of(case):
+    """The inodes of all files that have bytes."""
+    return {path: case.volume.find(path) for path, it in case.tree.items() if isinstance(it, bytes) and it and path not in sources.SHORT_LINKS}
+
+
+@damage("the first 64 KB were overwritten: a superblock, a group, the root, and directories")
+def head_overwritten(case):
+    put_head(case, random.Random(1).randbytes(HEAD))
+    case.report("BAD SUPER BLOCK")
+    case.run("further superblock check", sector=case.run("copies").split()[0])
+    case.run("keep")
+    bring_back(case)
+
+
+@damage("the first 64 KB and all copies of the superblock became zeros")
+def head_zeroed(case):
+    put_head(case, bytes(HEAD))
+    for c in range(case.volume.layout.ncg):
+        case.volume.zero(case.volume.layout.copy_place(c), 1536)
+    case.report("BAD SUPER BLOCK")
+    case.run("further twin", order=case.volume.order, words=case.kind.words, size=case.kind.size)
+    case.run("keep")
+    case.run("further last-copy keep")
+    bring_back(case)
+
+
+def put_head(case, head):
+    """Writes over the first bytes of the image. At stake is what has neither its inode, nor its bytes, nor its directory there."""
+    volume, layout = case.volume, case.volume.layout
+    numbers = files_of(case)
+    begins = {path: [volume.layout.inode_place(i)] + [run.start * layout.fsize for run in volume.runs(i)] for path, i in numbers.items()}
+    folders = {path: min(run.start for run in volume.runs(volume.find(path))) * layout.fsize for path, it in case.tree.items() if it == "directory"}
+    last = volume.runs(volume.find("docs/names"))[-1].start * layout.fsize
+    elsewhere = {path for path in numbers if last <= volume.entry(path) < last + layout.bsize}
+    left = [path for path, places in begins.items() if min(places) >= HEAD and folders.get(path.rpartition("/")[0], 0) >= HEAD]
+    case.at_stake(*[path for path in left if path not in elsewhere])
+    case.at_stake(*[path for path in left if path in elsewhere], name=False)
+    volume.image[:HEAD] = head
+
+
+def bring_back(case):
+    """What is left of a volume whose head was overwritten, once the superblock is back."""
+    found = case.check_again()
+    case.run("further")
+    for message in found.of("UNKNOWN FILE TYPE") + found.of("PARTIALLY ALLOCATED INODE"):
+        case.run("clear", i=message["inode"])
+    case.run("keep")
+    case.run("further directories-anywhere keep")
+    f = case.volume.layout.size
+    while case.run("owners", f=f) != "free\n":
+        f -= 1
+    found = case.run("further new-root check", f=f)
+    case.run("keep")
+    case.run("further every")
+    case.run("unnamed", **{"from": "further.img"})
+    # No tool of Sleuthkit reads the copy, and all can be given the other.
+    os.replace(f"{case.place}/further.img", f"{case.place}/copy.img")
+    for message in found.of("UNREF"):
+        case.run("below", i=message["inode"])
+
+
+@damage("of a volume the root's block, a cylinder group's block and the last copy of the superblock became zeros")
+def root_and_group_zeroed(case):
+    volume, layout = case.volume, case.volume.layout
+    numbers = files_of(case)
+    volume.zero(volume.blocks(2)[0] * layout.fsize, layout.fsize)
+    volume.zero(layout.group_place(0), layout.bsize)
+    volume.zero(layout.copy_place(layout.ncg - 1), 1536)
+    case.at_stake(*numbers)
+    case.report("BAD SUPER BLOCK")
+    case.run("further last-copy keep")
+    found = case.check_again("DIRECTORY CORRUPTED", "CG: BAD MAGIC NUMBER")
+    for message in found.of("UNREF"):
+        case.run("below", i=message["inode"])
+    case.run("further every")
+    case.run("unnamed", **{"from": "further.img"})
+
+
+@damage("a directory's inode was overwritten by that of a file")
+def inode_of_file(case):
+    volume, layout = case.volume, case.volume.layout
+    i, j = (layout.inode_place(volume.find(path)) for path in ("docs/pages", "docs/letter"))
+    case.at_stake(*[path for path in case.tree if path.startswith("docs/pages")])
+    volume.image[i:i + 128] = volume.image[j:j + 128]
+    found = case.report("DUP", "UNREF", "BAD TYPE VALUE").first("BAD TYPE VALUE")["inode"]
+    case.run("further clear keep", i=found)
+    case.run("further directories check")
+
+
+@damage("the first two blocks of a directory changed places")
+def blocks_exchanged(case):
+    volume = case.volume
+    i = volume.find("docs/names")
+    first, second = volume.blocks(i)[:2]
+    if len(volume.blocks(i)) < 3:
+        raise NotHere
+    names_at_stake(case)
+    volume.put_inode(i, direct0=second, direct1=first)
+    i = case.report("EXTRA '.' ENTRY", "MISSING '.', CANNOT FIX").first("EXTRA '.' ENTRY")["inode"]
+    addresses = fragments_of(case.run("inode", i=i))
+    k = next(k for k, f in addresses.items() if any(entry.name == "." for entry in entries_of(case.run("entries", f=f))))
+    case.run("further place address", i=i, k=0, f=addresses[k])
+    case.run("place address check", i=i, k=k, f=addresses[0])
+
+
+@damage("the root's block was overwritten by text")
+def root_overwritten(case):
+    volume, layout = case.volume, case.volume.layout
+    numbers = files_of(case)
+    at = volume.blocks(2)[0] * layout.fsize
+    volume.image[at:at + layout.fsize] = (b"All work and no play makes Jack a dull boy. " * layout.fsize)[:layout.fsize]
+    case.at_stake(*numbers)
+    found = case.report("DIRECTORY CORRUPTED")
+    for message in found.of("UNREF"):
+        case.run("below", i=message["inode"])
+    case.run("unnamed")
 
 
 def mend_counts(case, i, found, recipes, **values):

@@ -372,6 +372,37 @@ def double_one(case):
     return found[0]
 
 
+@damage("a large file's indirect block was overwritten by text, and it has a double one")
+def large_overwritten(case):
+    i, _ = double_of(case)
+    volume, layout = case.volume, case.volume.layout
+    at = volume.inode(i)["single"] * layout.fsize
+    volume.image[at:at + layout.bsize] = (b"All work and no play makes Jack a dull boy. " * layout.bsize)[:layout.bsize]
+    case.report("EXCESSIVE BAD BLKS")
+    f = fragments_of(case.run("inode", i=i))[12]
+    case.run("list")
+    case.refuses("further refill", f=f)
+    case.run("further zeros keep", f=f)
+    case.run("further list refill check", f=f)
+
+
+@damage("a file's indirect block was overwritten by that of a large file")
+def indirect_of_other(case):
+    volume, layout = case.volume, case.volume.layout
+    paths = ("big/film", "big/archive")
+    _, double = double_of(case)
+    places = [volume.inode(volume.find(path))["single"] * layout.fsize for path in paths]
+    volume.image[places[0]:places[0] + layout.bsize] = volume.image[places[1]:places[1] + layout.bsize]
+    case.at_stake(*paths)
+    numbers = {message["inode"] for message in case.report("EXCESSIVE DUP BLKS").of("EXCESSIVE DUP BLKS")}
+    for i in owners_of(case.run("owners", f=case.check_again().first("DUP")["fragment"])):
+        addresses = fragments_of(case.run("inode", i=i))
+        case.run("further zeros keep", f=addresses[12])
+        if case.run("further list refill check", f=addresses[12]).status == 0:
+            return
+        case.run("further")
+
+
 @damage("a large file's double indirect block became zeros")
 def double_zeroed(case):
     volume = case.volume
@@ -702,3 +733,22 @@ def whole(case):
     case.run("place text", i=i)
     case.run("bytes", i=case.run("number-of", path="docs/letter").strip())
 
+
+@damage("inodes were moved by 512 bytes within their block")
+def moved(case):
+    volume, layout = case.volume, case.volume.layout
+    count, m = layout.bsize // 128, 4
+    first = volume.find("docs/names/a_rather_long_name_of_a_file_000") // count * count
+    i = first + 3
+    at, end = layout.inode_place(i), layout.inode_place(first) + layout.bsize
+    volume.image[at + m * 128:end] = volume.image[at:end - m * 128]
+    case.at_stake(*[path for path in case.tree if path.startswith("docs/names/") and not first + count - m <= volume.find(path) < first + count])
+    found = [message["inode"] for message in case.report("DUP").of("DUP") if message["phase"] == "1"]
+    i = min(found) - m
+    alike = [case.run("inode", i=k).partition("\n")[2] for k in (i, i + m)]
+    if alike[0] != alike[1]:
+        raise Wrong(f"inodes {i} and {i + m} differ")
+    case.run("further place moved check", i=i, m=m, n=first + count - m - i)
+    for k in range(first + count - m, first + count):
+        case.run("clear", i=k)
+    case.run("keep all")

@@ -5,7 +5,7 @@ import re
 from images import formats
 
 from .. import sources
-from ..case import Wrong, tree_of
+from ..case import NotHere, Wrong, tree_of
 from .all import damage
 
 SECTOR = 512
@@ -149,6 +149,97 @@ def cut_files(case):
     case.run("keep names all")
 
 
+@damage("the image was cut short, and the superblock became zeros")
+def cut_and_lost(case):
+    volume = case.volume
+    del volume.image[-8 * SECTOR:]
+    volume.zero(formats.SUPERBLOCK_AT, 8192)
+    all_at_stake(case)
+    case.report("BAD SUPER BLOCK")
+    if case.run("copies"):
+        raise Wrong("a copy is found in an image that was cut short")
+    case.run("further superblock keep", sector=case.run("look").split()[0])
+    found = case.run("further longer check")
+    if {message["kind"] for message in found} <= COUNTS:
+        adopt(case)
+
+
+GAP = 8
+
+
+@damage("the begin of the image is missing")
+def begin_missing(case):
+    del case.volume.image[:GAP * SECTOR]
+    all_at_stake(case)
+    case.report("BAD SUPER BLOCK")
+    if case.run("copies"):
+        raise Wrong("a copy is found in an image without its begin")
+    first, second = (int(line.split()[0]) for line in case.run("look").splitlines()[:2])
+    if second - first != 16:
+        raise Wrong(f"copies at {first} and {second}")
+    case.run("further gap check", at=0, n=16 - first)
+
+
+def files_clear_of(case, begin, end):
+    """The paths that have neither their inode nor bytes between two bytes of the image."""
+    volume, fsize = case.volume, case.volume.layout.fsize
+    out = []
+    for path in case.tree:
+        i = volume.find(path)
+        places = [(volume.layout.inode_place(i), 128)] + [(run.start * fsize, run.length * fsize) for run in volume.runs(i)]
+        if all(at + length <= begin or at >= end for at, length in places):
+            out.append(path)
+    return out
+
+
+def leave_out(case, at, padded=False):
+    """Takes sectors out of the image, and finds by the copies how many and where they are missing: the step from one copy to the next, the
+    first copy at a wrong place, and how many sectors that lies too early."""
+    del case.volume.image[at * SECTOR:(at + GAP) * SECTOR]
+    if padded:
+        case.volume.image += bytes(GAP * SECTOR)
+    case.report("BAD SUPER BLOCK")
+    lines = [line.split() for line in case.run("copies" if padded else "look").splitlines()]
+    k = next(k for k, line in enumerate(lines) if line[4] == "other")
+    before, first = int(lines[k - 1][0]), int(lines[k][0])
+    return first, before + int(lines[k - 1][0]) - int(lines[k - 2][0]) - first
+
+
+@damage("sectors in the middle were left out, at a place that is known")
+def gap(case):
+    layout = case.volume.layout
+    at = (layout.copy_place(3) - 20 * layout.fsize) // SECTOR
+    case.at_stake(*files_clear_of(case, at * SECTOR, (at + GAP) * SECTOR))
+    _, n = leave_out(case, at)
+    case.run("further gap check", at=at, n=n)
+
+
+@damage("sectors in the middle were left out, and the image has its length")
+def gap_padded(case):
+    layout = case.volume.layout
+    at = (layout.copy_place(3) - 20 * layout.fsize) // SECTOR
+    case.at_stake(*files_clear_of(case, at * SECTOR, (at + GAP) * SECTOR))
+    _, n = leave_out(case, at, padded=True)
+    case.run("further gap check", at=at, n=n)
+
+
+@damage("sectors in the middle were left out, and nobody knows where")
+def gap_somewhere(case):
+    layout = case.volume.layout
+    at = (layout.copy_place(3) - 20 * layout.fsize) // SECTOR
+    case.at_stake(*files_clear_of(case, at * SECTOR, layout.copy_place(3)))
+    first, n = leave_out(case, at)
+    case.run("further gap check", at=first, n=n)
+
+
+@damage("the superblock's format of inodes is that of an older system")
+def inode_format(case):
+    case.volume.put(formats.SUPERBLOCK_AT + 1324, 4, -1)
+    all_at_stake(case)
+    case.report("BAD SUPER BLOCK")
+    mend_from(case, case.run("copies").split()[0])
+
+
 @damage("fields of the superblock that a kernel computes with are wrong")
 def fields(case):
     right = bytes(case.volume.image)
@@ -222,3 +313,31 @@ def swapped(case):
     case.report("BAD SUPER BLOCK")
     if case.run("further swapped check").status == 0:
         case.run("keep names")
+
+
+@damage("each four bytes of the image were exchanged")
+def reversed_words(case):
+    image = case.volume.image
+    image[::4], image[1::4], image[2::4], image[3::4] = image[3::4], image[2::4], image[1::4], image[::4]
+    all_at_stake(case)
+    case.report("ROOT INODE UNALLOCATED", "PARTIALLY ALLOCATED INODE")
+    case.run("further reversed check")
+
+
+@damage("the file system is of a system before 4.4BSD")
+def older(case):
+    """Its entries have a length of the name of two bytes, and no type: read are those of the other order alone."""
+    volume = case.volume
+    if volume.order == "little":
+        raise NotHere
+    folders = [2] + [volume.find(path) for path, it in case.tree.items() if it == "directory"]
+    for place in [place for i in folders for place, *_ in volume.entries(i)]:
+        volume.put(place + 6, 1, 0)
+    case.at_stake(*[path for path in case.tree if path not in sources.SHORT_LINKS])
+    volume.put(formats.SUPERBLOCK_AT + 1324, 4, -1)
+    for c in range(volume.layout.ncg):
+        volume.put(volume.layout.copy_place(c) + 1324, 4, -1)
+    case.report("BAD SUPER BLOCK")
+    if case.run("copies"):
+        raise Wrong("a copy is accepted")
+    case.run("names all")
