@@ -1,6 +1,6 @@
 -- The headline, of a check after an accepted superblock.
 use Rattle.std.proofs.Common.{arith, ◌≡◌, inl, inr, refl, ◌∙◌, sym, ap, subst, ℕ, Bool, true, false, not, List, [], ◌∷◌}
-use Rattle.std.proofs.Common.{◌++◌, append_assoc, Option, Ok}
+use Rattle.std.proofs.Common.{◌++◌, append_assoc, IfSome, None, Option, Some, Ok}
 use Rattle.ffs_image.{specs.Device.{Device, ForContents}, proofs.Devices.faulted_there}
 use Rattle.ffs_volume.specs.declared.{SuperFault.SuperFault, End.{End, TheVariants.{Refused, ReadFault, NoMemory}}}
 use Rattle.ffs_volume.specs.{Disk.{Superblock.Superblock, Outcome.outcome}, Report.Opening.{head_lines, opening_lines}}
@@ -9,7 +9,8 @@ use Rattle.ffs_volume.specs.{Messages.{Kinds.{has_defect, stops_at_last}, Texts.
 use Rattle.ffs_volume.specs.Report.Whole.{end_by, report_of, report_end, EndAgrees}
 use Rattle.ffs_report.specs.{Sink.Took, Known.IsContents, Progress.Progress}
 use Rattle.ffs_layout.specs.{declared.superblock.Super.Super, Super.{ReadsSuper, superblock_in}}
-use Rattle.ffs_check.specs.{Ends.Cut, Headline.{Headline, IsCutShort, IsEndOfReport}, Moment.{Moment, ReportMoment}}
+use Rattle.ffs_check.specs.{Ends.Cut, Headline.{Headline, HeadingsOfCheck, IsCutShort, IsEndOfReport}, Moment.{Moment, ReportMoment}}
+use Rattle.ffs_check.specs.{Headings.{HeadingsWentOut, TookSections, headings_before}, Headline.OpenedThenSections}
 use Rattle.ffs_check.specs.{Moment.at_output, Opening.OpeningOf, PhaseEnds.{IsCutByRead, IsEndByRoot, LastStops}}
 use Rattle.ffs_check.{specs.PhaseEnds.{SaysNoMemory, SaysRest}, proofs.Openings.{found_of, no_defect_head, unfailed_of}}
 use Rattle.ffs_check.proofs.{Endings.{at_contents, at_known}, EndLaws.{cut_after, ends_after, line_after}}
@@ -46,6 +47,10 @@ module _ (name : List ℕ) (sector : Option ℕ) (old : Moment) (s : Superblock)
           }));
           ends = line_after old.out report new.report head cannot_alloc NoMemory end opened working refusal;
         });
+        headings = elim refusal [
+          | inl said ↦ subst (HeadingsOfCheck name sector old.out new.report.sink) (sym said.1) tt
+          | inr stopped ↦ subst (HeadingsOfCheck name sector old.out new.report.sink) (sym stopped.1) tt
+        ];
       }
 
   module _ (text : List Message) (right : ForContents old.image.contents (λ bytes. text ≡ phase_lines bytes s)) where
@@ -100,25 +105,33 @@ module _ (name : List ℕ) (sector : Option ℕ) (old : Moment) (s : Superblock)
       end_is = c.end_is ∙ ap ReadFault (sym c.faulted.failed_sector);
     }))
 
+  -- the opening, and then the headings that the phases said
+  opened_then : (wanted : Option (List Message)) → IfSome wanted (TookSections report.sink new.report.sink) →
+      IfSome wanted (OpenedThenSections name sector old.out new.report.sink)
+  opened_then (Some headings) phases = record { found = s; between = report.sink; opened = opened; phases = phases }
+  opened_then None phases = tt
+
   pub follows : SaysRest s (record { image = old.image; reads = between; report = report }) new end →
-      Headline name sector old (at_output new) end
-  follows (inl refusal) = unstarted refusal.0 refusal.1
-  follows (inr ran) = record {
+      HeadingsWentOut report.sink new.report.sink end → Headline name sector old (at_output new) end
+  follows (inl refusal) headings = unstarted refusal.0 refusal.1
+  follows (inr ran) headings = record {
     text = opening_lines name sector (Ok s) ++ ran.text;
     is_report = is_whole ran.text ran.right;
     ends = ends_after (opening_lines name sector (Ok s)) refl opened (whole ran.text ran.right) (later ran.text ran.right) ran.ends;
+    headings = opened_then (headings_before end) headings;
   }
 
 pub found_ends : (name : List ℕ) (sector : Option ℕ) (old : Moment) (on new : ReportMoment) (found : Super) (end : End) →
     OpeningOf name sector old (at_output on) (Ok found) → on.report.failed ≡ false →
-    SaysRest (superblock_in found) on new end → Headline name sector old (at_output new) end
-found_ends name sector old on new found end o working f =
+    SaysRest (superblock_in found) on new end → HeadingsWentOut on.report.sink new.report.sink end →
+    Headline name sector old (at_output new) end
+found_ends name sector old on new found end o working f headings =
     let s = superblock_in found in
     let answers = subst (ReadsSuper old.image on.image sector) o.ends.1 o.super_is_read in
     follows name sector old s (found_of old.image on.image sector s answers) on.reads on.report
     (subst (λ r. Took old.out on.report.sink (texts_of (opening_lines name sector r))) o.ends.1 o.ends.0) working new
     end (subst (λ (d : Device). SaysRest s (record { image = d; reads = on.reads; report = on.report }) new end)
-    (unfailed_of old.image on.image sector s answers) f)
+    (unfailed_of old.image on.image sector s answers) f) headings
 
 -- a check after an accepted superblock doesn't refuse it
 not_by : (on defect : Bool) (fault : SuperFault) → end_by on defect ≡ Refused fault → ⊥

@@ -13,7 +13,7 @@ use Rattle.ffs_volume.specs.Messages.{Texts.texts_of, Kinds.{stops_at_last, stop
 use Rattle.ffs_report.specs.Sink.{BrokeOff, Took}
 use Rattle.ffs_layout.specs.Super.{ReadsSuper}
 use Rattle.ffs_certificate.proofs.ReportLaws.{certified}
-use Rattle.ffs_check.specs.{Ends.BrokeOffInLine, Headline.{Certifies, Headline}}
+use Rattle.ffs_check.specs.{Ends.BrokeOffInLine, Headline.{Certifies, Headline, HeadingsOfCheck}}
 use Rattle.ffs_check.{specs.{Moment.Moment, PhaseEnds.can_end_report, Opening.OpeningOf}, proofs.EndLaws.broke_after}
 use Rattle.ffs_check.proofs.{EndLaws.broke_more, Endings.{at_contents, at_known}, Openings.no_defect_head}
 
@@ -127,6 +127,10 @@ module _ (name : List ℕ) (sector : Option ℕ) (old new : Moment) where
       });
       ends = ends;
     });
+    headings = elim ends [
+      | inl whole ↦ subst (HeadingsOfCheck name sector old.out new.out) (sym whole.1) tt
+      | inr part ↦ subst (HeadingsOfCheck name sector old.out new.out) (sym part.1) tt
+    ];
   }
 
   -- ---- the opening ended the check
@@ -154,6 +158,7 @@ module _ (name : List ℕ) (sector : Option ℕ) (old new : Moment) where
             },
           );
         });
+        headings = tt;
       }
 
   -- the output failed where no read had
@@ -171,6 +176,7 @@ module _ (name : List ℕ) (sector : Option ℕ) (old new : Moment) where
           image = none_failed;
           ends = inr (broke_more old.out new.out (opening_lines name sector found) more stop, refl);
         });
+        headings = tt;
       }
 
   -- the output failed in the line of a fault

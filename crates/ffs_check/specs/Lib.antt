@@ -5,7 +5,7 @@
 --                                   ReadsWithin (`Reads`)
 --   check_opening                   Opens (`Opening`)
 --   check_rest                      RunsToEnd (`PhaseEnds`)
---   run_phases                      HaveRun and PhasesLeave (`PhaseEnds`), PhasesPay (`Reads`)
+--   run_phases                      HaveRun, SaysSections and PhasesLeave (`PhaseEnds`), PhasesPay (`Reads`)
 --   run_program_over, run_over      RunEnds (`Run`)
 --   run_program, run                RunEndsFlushed (`Run`), which has a RunEnds in it
 --   parse_args                      AskFor or AreRefusedBy (`CommandWords`)
@@ -24,7 +24,7 @@
 --   RunEnds        of a run of a program, and not of a check: for `fsck_ffs` it has an IsChecked (`Fsck`), and so a
 --                  Headline
 --
--- The check: `Moment`, `Ends` and `Headline` are the first clause. `Failures` says how many reads and writes failed,
+-- The check: `Moment`, `Ends`, `Headings` and `Headline` are the first clause. `Failures` says how many reads and writes failed,
 -- `Taken` what is taken of the memory, `Reads` how often the image is read, and `Costs` the last two of any image.
 --
 -- Its parts: `Opening` is about the text before the phases; `Phases` has what phase 1b leaves
@@ -35,6 +35,7 @@
 -- written where they are wrong, `Run` how a run of any program ends, and `Fsck` what `fsck_ffs` says of itself.
 pub mod Moment
 pub mod Ends
+pub mod Headings
 pub mod Headline
 pub mod Failures
 pub mod Taken

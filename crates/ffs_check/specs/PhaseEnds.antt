@@ -9,15 +9,16 @@ use Rattle.ffs_volume.specs.declared.End.{End, TheVariants.{Consistent, Defects,
 use Rattle.ffs_volume.specs.{declared.End.TheVariants.{WriteFault, NoMemory}, Disk.Superblock.Superblock}
 use Rattle.ffs_volume.specs.{Directories.{PathnameCheck.continues_after_root, Volumes.volume_of}, Report.Whole.end_by}
 use Rattle.ffs_volume.specs.{Report.Whole.phase_lines, Messages.Kinds.{Message, cannot_alloc, cannot_read, has_defect}}
-use Rattle.ffs_volume.specs.{Messages.Kinds.stops_check, Report.{Memory.{runs_limit, held_of}, Opening.super_lines}}
+use Rattle.ffs_volume.specs.{Messages.Kinds.{phase1, phase2, stops_check}, Report.{Memory.{runs_limit, held_of}, Opening.super_lines}}
 use Rattle.ffs_volume.specs.declared.Layout.{Layout}
-use Rattle.ffs_report.specs.{Known.{ForBytes, IsContents}, PhaseOutcome.{ImageAfter, SaidOf, StoppedOf}}
+use Rattle.ffs_report.specs.{Known.{ForBytes, IsContents}, PhaseOutcome.{ImageAfter, SaidOf, SaysBeforeFault, StoppedOf}}
 use Rattle.ffs_report.specs.{Progress.{Progress, Said, Stopped}, declared.fault.RunFault.{RunFault, TheVariants.Read}}
 use Rattle.ffs_report.specs.declared.fault.RunFault.TheVariants.{Out}
-use Rattle.ffs_pathnames.specs.{declared.pass2.Root.Root, RootAnswers.is_go}
+use Rattle.ffs_pathnames.specs.{declared.pass2.Root.{Root, TheVariants.{Go, Stop}}, RootAnswers.is_go}
 use Rattle.ffs_memory.specs.Account.{Account}
 use Rattle.ffs_workspace.specs.{declared.workspace.Workspace.Workspace, Found.WithFresh, Lengths.IsFor, Ready.IsReady}
-use Rattle.ffs_check.specs.{Ends.{Cut, Ends}, Reads.PhasesRead, Phases.{AnswersDups, HasAnswers}}
+use Rattle.ffs_check.specs.{Ends.{Cut, Ends}, Headings.{HasSections, HeadingsWentOut, all_headings}, Reads.PhasesRead}
+use Rattle.ffs_check.specs.Phases.{AnswersDups, HasAnswers}
 use Rattle.ffs_check.specs.{Moment.{Moment, ReportMoment, at_output}, Taken.TakesBytes}
 
 -- a read failed before the text was complete: whole messages were said, and others were to come
@@ -56,6 +57,18 @@ pub record HaveRun (s : Superblock) (w : Workspace) (old new : ReportMoment) (re
         result
     pub goes : IfOk result (λ root. ForBytes (WithFresh s.layout old.image w)
         (λ bytes. is_go root ≡ continues_after_root (volume_of s.layout bytes)))
+
+-- the headings that are said by the answer of the phases: before a fault that of phase 1, at least
+abbrev pub headings_of : Result Root RunFault → List Message
+headings_of (Ok Go) = all_headings
+headings_of (Ok Stop) = phase1 ∷ phase2 ∷ []
+headings_of (Err fault) = phase1 ∷ []
+
+-- of any image: messages were said in the sections of these headings, or the output failed among them
+pub record SaysSections (old new : Progress) (result : Result Root RunFault) : Type 0 where
+  pub messages : List Message
+  pub says : SaysBeforeFault messages old new result
+  pub sections : HasSections (headings_of result) messages
 
 -- what a check leaves of the counts of Runs and of what `has_dups` answers: where it came to its end
 -- (`whole`), what the bytes determine, and else what `has_dups` may answer; and phase 1 looked at no more Runs than a
@@ -127,10 +140,11 @@ can_end_report (ReadFault sector) = false
 can_end_report WriteFault = false
 can_end_report NoMemory = false
 
--- the phases have run to an end: what went out, how often they read an image that gives its bytes,
--- and any image, what the workspace answers then, and its lists keep their lengths
+-- the phases have run to an end: what went out, also of any image, how often they read an image that gives its
+-- bytes, and any image, what the workspace answers then, and its lists keep their lengths
 pub record RunsToEnd (s : Superblock) (w w' : Workspace) (old new : Moment) (end : End) : Type 0 where
   pub ran : PhasesEnd (WithFresh s.layout old.image w) s old new end
+  pub headings : HeadingsWentOut old.out new.out end
   pub reads : PhasesRead (WithFresh s.layout old.image w) s old new
   pub answers : LeavesAnswers (can_end_report end) (WithFresh s.layout old.image w) s.layout w w'
   pub made : IsFor s.layout w'
@@ -146,5 +160,6 @@ SaysRest s old new end =
 -- image is read
 pub record FollowsAccepted (s : Superblock) (before after : Account) (old new : ReportMoment) (end : End) : Type 0 where
   pub followed : SaysRest s old new end
+  pub headings : HeadingsWentOut old.report.sink new.report.sink end
   pub memory : TakesBytes (held_of s.layout) before after end
   pub reads : PhasesRead (IsContents old.image.contents) s (at_output old) (at_output new)

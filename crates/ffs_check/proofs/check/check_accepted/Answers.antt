@@ -19,6 +19,7 @@ returns-in-Ok g c =
       follows = record {
         followed = inr (ran_known _ _ (superblock_in c.args.superblock.now) _ _ _
             (λ bytes t. (t, c.in-Ok.ensures.made.new.fresh)) phases.ran);
+        headings = phases.headings;
         memory = record {
           asked = inl c.in-Ok.ensures.made.asks;
           refused = λ e. absurd (not_for_memory _ _ _ _ _ phases.ran e);
@@ -37,6 +38,10 @@ returns-in-Err g c =
     record {
       follows = record {
         followed = inl (refl, c.say_no_memory.ensures);
+        headings = elim c.say_no_memory.ensures [
+          | inl said ↦ rw said.1 tt
+          | inr stopped ↦ rw stopped.1 tt
+        ];
         memory = record { asked = inr asks; refused = λ e. asks.rose };
         reads = record {
           known = λ bytes t. omega arith;

@@ -40,7 +40,8 @@ returns-in-Ok-clause-headline g c =
     let opens = opens_at g.W.Output.sink _ _ _ _ c.in-Ok.ensures.opens (ap (λ (p : Progress). p.sink) c.new-report.ensures) refl in
     headline_at g.W.Output.sink c.check_accepted.new.report.out.now _
     (found_ends _ _ (moment g.I.Image g.W.Output c.args.image.now c.args.out.now) on new c.in-Ok.superblock _
-    opens.opened c.in-Ok.ensures.said.working c.check_accepted.ensures.follows.followed) (search rules)
+    opens.opened c.in-Ok.ensures.said.working c.check_accepted.ensures.follows.followed
+    c.check_accepted.ensures.follows.headings) (search rules)
 
 pub returns-in-Err-clause-failures : goal.returns-in-Err-clause-failures
 returns-in-Err-clause-failures g c = record {

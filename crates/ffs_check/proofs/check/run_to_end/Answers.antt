@@ -2,7 +2,7 @@ use Rattle.ffs_volume.specs.Report.Whole.{phase_lines}
 use Rattle.ffs_layout.specs.Super.{superblock_in}
 use Rattle.ffs_report.specs.Progress.{progress}
 use Rattle.ffs_check.specs.Moment.{report_moment}
-use Rattle.ffs_check.proofs.{AnyReading.ended_reads, Answering.answers_end, Endings.{ran, same_output}}
+use Rattle.ffs_check.proofs.{AnyReading.ended_reads, Answering.answers_end, Endings.{ran, same_output}, Sections.sections_end}
 use Rattle.ffs_check.proofs.check.run_to_end.Goals as goal
 
 pub returns : goal.returns
@@ -18,6 +18,7 @@ returns g c =
       ends = record {
         ran = ran c.args.had_defect _ s old new said (λ bytes k. k.0) c.requires.opened _ answer phases.ran.text
             phases.ran.image phases.ran.goes ended;
+        headings = sections_end c.args.had_defect old.report said new.report _ answer phases.headings ended;
         reads = record {
           known = phases.reads.known;
           any = ended_reads s.layout c.args.had_defect old new said answer _ c.requires.opened.working
