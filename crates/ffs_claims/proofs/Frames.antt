@@ -41,7 +41,7 @@ stay_claimed {old = old} {start = start} {len = len} {b = true} c =
 stay_claimed {old = old} {b = false} c = rw (c.unchanged refl) (stay (bits_of old))
 
 -- and where the reserved ones are set
-or_true : (b : Bool) → (b || true) ≡ true
+pub or_true : (b : Bool) → (b || true) ≡ true
 or_true true = refl
 or_true false = refl
 

@@ -4,12 +4,10 @@ use Rattle.std.proofs.{Common.{append-nil, arith, refl, ap, sym, subst, inl, inr
 use Rattle.std.specs.{List.{concat, flat_map, prefix_len, range_with_len}, Prelude.{◌||◌}}
 use Rattle.ffs_report.{specs.Sink.{Sink, Took, BrokeOff}, proofs.Sinks.{took_nil, took_then, broke_off_after}}
 use Rattle.ffs_report.proofs.Sinks.{broke_off_more}
+use Rattle.ffs_claims.proofs.Frames.{or_true}
 use Rattle.ffs_finding.specs.{Outcome.any_line, LostMaps.IsNext}
 use Rattle.ffs_finding.proofs.{Printing.{any_more, concat-append, text_at_begin}, Ranges.{next, none, split}}
 use Rattle.ffs_volume.specs.Find.Lost.{range_text, stretch_at, stretch_length, stretch_lines}
-
-or_true : (b : Bool) → (b || true) ≡ true
-or_true b = grind arith
 
 range_is_text : (word : List ℕ) (first last : ℕ) → any_line (range_text word first last ∷ []) ≡ true
 range_is_text word first last = grind (arith, text_at_begin)
