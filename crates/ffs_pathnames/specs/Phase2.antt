@@ -1,5 +1,5 @@
 -- What phase 2 leaves at its answer, and how often it reads the image.
-use Rattle.std.specs.Prelude.{◌≡◌, ◌⊎◌, ◌≤◌, ◌+◌, ◌*◌, ℕ, true, false, [], ◌∷◌, length, Result, Ok, Err, ⊤}
+use Rattle.std.specs.Prelude.{◌≡◌, ◌⊎◌, ◌≤◌, ◌+◌, ◌*◌, ℕ, true, false, [], ◌∷◌, length, Result, Ok, Err}
 use Rattle.ffs_image.specs.Device.{Device}
 use Rattle.ffs_volume.specs.{declared.Layout.Layout, Directories.PathnameCheck.{continues_after_root, pathname_lines}}
 use Rattle.ffs_volume.specs.{Directories.Volumes.volume_of, Messages.Kinds.{phase2}, Report.Reads.line_reads}
@@ -7,25 +7,26 @@ use Rattle.ffs_volume.specs.Report.{Reads.pathname_reads, DirectoryReads.{direct
 use Rattle.ffs_volume.specs.Report.Whole.{phase2_messages}
 use Rattle.ffs_report.specs.{Known.ForBytes, Progress.{Progress, Said}, declared.fault.RunFault.RunFault}
 use Rattle.ffs_report.specs.declared.fault.RunFault.TheVariants.{Read, Out}
-use Rattle.ffs_workspace.specs.{declared.workspace.Workspace.Workspace, Found.WithClaims, Holds.HoldsFindings}
-use Rattle.ffs_pathnames.specs.{RootAnswers.{SaidStop, is_go}, declared.pass2.Root.Root}
+use Rattle.ffs_workspace.specs.{declared.workspace.Workspace.Workspace, Found.WithClaims}
+use Rattle.ffs_workspace.specs.Holds.{HoldsClaims, HoldsFindings}
+use Rattle.ffs_pathnames.specs.{RootAnswers.SaidStop, declared.pass2.Root.{Root, TheVariants.{Go, Stop}}}
 
 -- what phase 2 leaves, by its answer.
 -- At Ok: the check continues after the root as the image's bytes say, and the workspace holds what the block check
 -- and the survey found. Where the check stops after the root, the heading and the root's message were said.
 -- Where a read failed: the heading alone was said, or the check continues after the root. So a message is
 -- missing then, of phase 2 or of a later one.
--- Where the output failed this definition alone promises nothing: the clause `again` of `phase2` says what is held.
+-- Where the output failed: what the block check found is held still
 abbrev pub Phase2Ends : Layout → Device → (w w' : Workspace) → (old new : Progress) → Result Root RunFault →
     Type 0
-Phase2Ends v d w w' old new (Ok root) =
-    ForBytes (WithClaims v d w) (λ bytes.
-    (is_go root ≡ continues_after_root (volume_of v bytes)) × HoldsFindings v bytes w')
-    × (is_go root ≡ false → SaidStop (WithClaims v d w) (phase2 ∷ [])
-    (phase2_messages v) old new)
+Phase2Ends v d w w' old new (Ok Go) = ForBytes (WithClaims v d w) (λ bytes.
+    (continues_after_root (volume_of v bytes) ≡ true) × HoldsFindings v bytes w')
+Phase2Ends v d w w' old new (Ok Stop) = ForBytes (WithClaims v d w) (λ bytes.
+    (continues_after_root (volume_of v bytes) ≡ false) × HoldsFindings v bytes w')
+    × SaidStop (WithClaims v d w) (phase2 ∷ []) (phase2_messages v) old new
 Phase2Ends v d w w' old new (Err (Read fault)) = Said old new (phase2 ∷ [])
     ⊎ ForBytes (WithClaims v d w) (λ bytes. continues_after_root (volume_of v bytes) ≡ true)
-Phase2Ends v d w w' old new (Err (Out fault)) = ⊤
+Phase2Ends v d w w' old new (Err (Out fault)) = ForBytes (WithClaims v d w) (λ bytes. HoldsClaims v bytes w')
 
 -- An image that gives its bytes is read at most `pathname_reads` times. What a volume holds counts, too: its
 -- directories are read for the survey, for the places of parent entries, and twice for the messages. Where the

@@ -9,13 +9,13 @@ use Rattle.ffs_report.proofs.Reports.{said_then}
 use Rattle.ffs_volume.specs.{Messages.Kinds.{phase2, Message, of_tree}, declared.Layout.Layout}
 use Rattle.ffs_volume.{proofs.RunBounds.runs_bounded, specs.Directories.PathnameCheck.pathname_lines}
 use Rattle.ffs_volume.specs.Directories.Volumes.{volume_of}
-use Rattle.ffs_pathnames.specs.{declared.pass2.Root.Root, Before.IsBefore, Phase2.Phase2Ends, RootAnswers.AnswersRoot}
+use Rattle.ffs_pathnames.specs.{declared.pass2.Root.{Root, TheVariants.{Go, Stop}}, Before.IsBefore, Phase2.Phase2Ends, RootAnswers.AnswersRoot}
 use Rattle.ffs_pathnames.{specs.RootAnswers.{SaidStop, is_go}, proofs.Carrying.{before_first, references_on}}
 use Rattle.ffs_pathnames.proofs.{SilentLaws.calm_silent, pass2.phase2.{Given.Over, Goals.After-check_tree}}
 use Rattle.ffs_pathnames.proofs.ChecksNeededLaws.{looked_at_first}
 use Rattle.ffs_names.{proofs.{DirCosts.noted_all_within, RunSums.costs_bounded}, specs.Surveys.SurveysNoMore}
 use Rattle.ffs_workspace.specs.{declared.workspace.Workspace.Workspace, Found.WithClaims, Holds.HoldsClaims}
-use Rattle.ffs_workspace.{specs.Holds.{HoldsReferences, HoldsSurvey}, proofs.Leaving.block_check_kept}
+use Rattle.ffs_workspace.{specs.Holds.{HoldsFindings, HoldsReferences, HoldsSurvey}, proofs.Leaving.block_check_kept}
 use Rattle.ffs_workspace.proofs.Leaving.{block_check_more, claims_left, findings_claims}
 use Rattle.ffs_pathnames.proofs.Findings.{at_error}
 use Rattle.ffs_pathnames.proofs.pass2.phase2.Goals as goal
@@ -34,22 +34,38 @@ before_tree g c b k =
     (calm_silent v b _ c.args.geometry.now.sound found.leaves.ready.made claims (found.survey b k).survey
     (found.survey b k).calm)
 
+-- and what of it is held after the last one
+claims_after : (g : Over) (c : After-check_tree g) (b : List ℕ) →
+    WithClaims c.args.geometry.now.layout (g.I.Image.device c.args.image.now) c.args.workspace.now b →
+    HoldsClaims c.args.geometry.now.layout b c.check_tree.new.workspace
+claims_after g c b k =
+    let v = c.args.geometry.now.layout in
+    let cleared = claims_left v b _ _ c.clear_passed.ensures.survey (c.in_ok-survey.ensures.survey b k).claims in
+    findings_claims v b _ _ c.check_tree.ensures.tree.findings cleared
+
 -- the phase ends as the check of the tree does
 ends_by : (v : Layout) (d d' : Device) (old w new : Workspace) (before after : Progress) (r : Result Root RunFault) →
     ForBytes (WithClaims v d old) (IsBefore v d'.contents w 2) →
-    ForBytes (WithClaims v d old) (λ b. HoldsReferences v b new) → AnswersRoot v d' w r →
+    ForBytes (WithClaims v d old) (λ b. HoldsReferences v b new) →
+    ForBytes (WithClaims v d old) (λ b. HoldsClaims v b new) → AnswersRoot v d' w r →
     OnOk r (ForBytes (IsBefore v d'.contents w 2) (λ b. HoldsClaims v b new × HoldsSurvey v b new)) →
     IfOk r (λ root. is_go root ≡ false → SaidStop (WithClaims v d old) (phase2 ∷ [])
     (λ b. phase2 ∷ map of_tree (pathname_lines (volume_of v b))) before after) → Phase2Ends v d old new before after r
-ends_by v d d' old w new before after (Ok root) more references answer holds stop = (
-  λ b k.
-      let left = holds b (more b k) in
-      (answer b (more b k), record { claims = left.0; survey = left.1; references = references b k }),
-  stop,
-)
-ends_by v d d' old w new before after (Err (Read fault)) more references answer holds stop =
+ends_by v d d' old w new before after (Ok root) more references claims answer holds stop = ends root answer stop
+  where
+    found : ForBytes (WithClaims v d old) (λ b. HoldsFindings v b new)
+    found b k =
+        let left = holds b (more b k) in
+        record { claims = left.0; survey = left.1; references = references b k }
+
+    ends : (root : Root) → AnswersRoot v d' w (Ok root) → (is_go root ≡ false → SaidStop (WithClaims v d old)
+        (phase2 ∷ []) (λ b. phase2 ∷ map of_tree (pathname_lines (volume_of v b))) before after) →
+        Phase2Ends v d old new before after (Ok root)
+    ends Go answer stop = λ b k. (sym (answer b (more b k)), found b k)
+    ends Stop answer stop = (λ b k. (sym (answer b (more b k)), found b k), stop refl)
+ends_by v d d' old w new before after (Err (Read fault)) more references claims answer holds stop =
     inr (λ b k. answer b (more b k))
-ends_by v d d' old w new before after (Err (Out fault)) more references answer holds stop = tt
+ends_by v d d' old w new before after (Err (Out fault)) more references claims answer holds stop = claims
 
 -- after the heading the root's message is said
 stop_after : (v : Layout) (d d' : Device) (old w : Workspace) (a b c : Progress) (r : Result Root RunFault) →
@@ -74,7 +90,8 @@ returns-in_err-say-clause-text g c =
     rw (p.1, p.2) (stops_heading c.in_err-say.ensures.said)
 
 pub returns-in_err-say-clause-leaves : goal.returns-in_err-say-clause-leaves
-returns-in_err-say-clause-leaves g c = grind arith
+returns-in_err-say-clause-leaves g c =
+    let p = err_from_is_err_and c.from_residual.result c.from_residual.ensures.1 in rw (p.1, p.2) (λ b k. k.1)
 
 pub returns-in_err-survey-clause-leaves : goal.returns-in_err-survey-clause-leaves
 returns-in_err-survey-clause-leaves g c = grind arith
@@ -97,7 +114,7 @@ returns-clause-leaves g c =
     _ _ c.check_tree.result
     (λ b k. before_tree g (goal.at.returns-clause-leaves g c).After-check_tree b k)
     (λ b k. references_on v b _ _ (tree.findings.references ∙ c.clear_passed.ensures.survey.findings.references)
-    (c.in_ok-survey.ensures.survey b k).references) c.check_tree.ensures.root tree.holds
+    (c.in_ok-survey.ensures.survey b k).references) (λ b k. claims_after g (goal.at.returns-clause-leaves g c).After-check_tree b k) c.check_tree.ensures.root tree.holds
     (stop_after v (g.I.Image.device c.args.image.now) (g.I.Image.device c.survey.new.image) _ c.clear_passed.new.workspace
     _ _ _ c.check_tree.result (λ b k. before_tree g (goal.at.returns-clause-leaves g c).After-check_tree b k)
     c.in_ok-say.ensures.said c.check_tree.ensures.stop)
@@ -164,9 +181,7 @@ returns-in_err-survey-clause-again g c =
 
 pub returns-clause-again : goal.returns-clause-again
 returns-clause-again g c = at_error c.check_tree.result (λ e b k.
-    let v = c.args.geometry.now.layout in
-    let cleared = claims_left v b _ _ c.clear_passed.ensures.survey (c.in_ok-survey.ensures.survey b k).claims in
-    findings_claims v b _ _ c.check_tree.ensures.tree.findings cleared)
+    claims_after g (goal.at.returns-clause-again g c).After-check_tree b k)
 
 -- how often the image was read
 pub returns-in_err-say-clause-reads : goal.returns-in_err-say-clause-reads
