@@ -49,9 +49,9 @@ pub enum Root {
 /// `Phase2Reads`); where one was made, none is made again (`again` there).
 ///
 /// # Errors
-/// A read of the image that failed, and a write of the report that failed. Where the workspace says
-/// `surveyed` then, phase 2 can be called again: all that it needs is held still. It says so unless
-/// nothing but the heading was begun.
+/// A read of the image that failed, and a write of the report that failed. Where it was a write, or
+/// the workspace says `surveyed` then, phase 2 can be called again: all that it needs is held still.
+/// The workspace says so unless nothing but the heading was begun.
 pub fn phase2<I: Image, W: Output>(
     geometry: &Geometry,
     image: &mut I,
