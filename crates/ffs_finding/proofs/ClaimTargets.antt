@@ -1,13 +1,13 @@
 -- A target found in a workspace that holds what phase 1 leaves: what its faults, and its lines, say of the command.
-use Rattle.std.proofs.Common.{◌≡◌, ◌&&◌, ℕ, Bool, [], Option, Err, refl}
+use Rattle.std.proofs.Common.{◌≡◌, ◌&&◌, ℕ, Bool, List, [], Option, Err, refl}
 use Rattle.ffs_image.specs.Device.{Device}
 use Rattle.ffs_memory.specs.Account.{Account}
 use Rattle.ffs_volume.specs.{Disk.Superblock.Superblock}
 use Rattle.ffs_report.specs.{Known.{ForBytes, IsContents}}
 use Rattle.ffs_report.specs.declared.fault.RunFault.TheVariants.{Read, Out}
-use Rattle.ffs_workspace.specs.{declared.workspace.Workspace.Workspace, Found.WithPhase1, Holds.HoldsPhase1}
+use Rattle.ffs_workspace.specs.{declared.workspace.Workspace.Workspace, Holds.HoldsPhase1}
 use Rattle.ffs_finding.specs.declared.find.FindFault.{FindFault, TheVariants.{Refused, Failed, NoMemory}}
-use Rattle.ffs_finding.specs.{declared.request.Target.Target, Claims.TakesClaims, Fields.WithSuper, Outcome.PrintedTo}
+use Rattle.ffs_finding.specs.{declared.request.Target.Target, Claims.{HoldsOwners, TakesClaims, WithOwners}, Fields.WithSuper, Outcome.PrintedTo}
 use Rattle.ffs_finding.specs.{Outcome.{any_line}, Whole.{PrintedAll, TargetAnswers}}
 use Rattle.ffs_finding.{specs.Whole.{finds_defects, target_lines}, proofs.Printing.{reads_first}}
 use Rattle.ffs_check.specs.Moment.{Moment}
@@ -24,12 +24,16 @@ module _ (target : Target) (sector : Option ℕ) (s : Superblock) (m : Moment) w
 
   module _ (m' : Moment) (w : Workspace)
       (holds : ForBytes (IsContents m.image.contents) (λ b. HoldsPhase1 s.layout b w)) where
+    -- what phase 1 leaves says what belongs to whom
+    owners_in : (b : List ℕ) → HoldsPhase1 s.layout b w → HoldsOwners s.layout b w
+    owners_in b h = record { used = h.used; kinds = h.kinds; notes = h.notes }
+
     -- all lines were printed
     pub all_answer : (defect : Bool) →
-        (p : PrintedTo (WithPhase1 s.layout m.image w) (λ b. []) (λ b. target_lines target sector b s) m.out m'.out) →
+        (p : PrintedTo (WithOwners s.layout m.image w) (λ b. []) (λ b. target_lines target sector b s) m.out m'.out) →
         defect ≡ (finds_defects target && any_line p.lines) → PrintedAll (finds_defects target)
         (WithSuper m.image sector s) (λ b. target_lines target sector b s) m.out m'.out defect
     all_answer defect p is = record {
-      printed = record { lines = p.lines; right = λ b k. p.right b (k.0, holds b k.0); took = p.took };
+      printed = record { lines = p.lines; right = λ b k. p.right b (k.0, owners_in b (holds b k.0)); took = p.took };
       defect_is = is;
     }

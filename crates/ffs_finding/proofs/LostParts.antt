@@ -6,7 +6,8 @@ use Rattle.ffs_volume.specs.{declared.Layout.Layout, Find.Lost.lost_lines}
 use Rattle.ffs_groups.specs.Free.{free_in}
 use Rattle.ffs_maps.specs.Bits.{bits_of}
 use Rattle.ffs_report.{specs.{Known.{ForBytes, IsContents}, Sink.Sink, declared.fault.RunFault.RunFault}, proofs.Sinks.took_then}
-use Rattle.ffs_workspace.specs.{declared.workspace.Workspace.Workspace, Found.WithPhase1}
+use Rattle.ffs_workspace.specs.declared.workspace.Workspace.{Workspace}
+use Rattle.ffs_finding.specs.Claims.{WithOwners}
 use Rattle.ffs_finding.specs.{Outcome.{PrintedTo, PrintsLines, any_line}, LostMaps.lines_of_groups}
 use Rattle.ffs_finding.{specs.declared.lost.Wrong.TheVariants.{Lost, MarkedFree}, proofs.LostGroups.both}
 use Rattle.ffs_finding.proofs.Printing.{PrintedWhether, any_more, begins, concat-append, knowing, part, part_fault}
@@ -18,36 +19,36 @@ module _ (v : Layout) (d : Device) (w : Workspace) where
   abbrev second : (image : List ℕ) → List (List ℕ)
   second image = lines_of_groups MarkedFree v (free_in (bits_of w.used) v.size) image
 
-  second_all : ForBytes (WithPhase1 v d w) (λ b. second b ≡ second b ++ [])
+  second_all : ForBytes (WithOwners v d w) (λ b. second b ≡ second b ++ [])
   second_all b k = sym (append-nil (second b))
 
   -- the first list was printed
   one : (a b : Sink) (x : Bool) → PrintsLines {T = Bool} (IsContents d.contents) first a b (Ok x) →
-      PrintedTo (WithPhase1 v d w) second (λ b. lost_lines v b) a b
-  one a b x p = part (WithPhase1 v d w) (λ b. lost_lines v b) first second (λ b. lost_lines v b) a a b
-      (begins _ _ a) (both v d w) (knowing Bool _ (WithPhase1 v d w) first a b (Ok x) (λ b k. k.0) p)
+      PrintedTo (WithOwners v d w) second (λ b. lost_lines v b) a b
+  one a b x p = part (WithOwners v d w) (λ b. lost_lines v b) first second (λ b. lost_lines v b) a a b
+      (begins _ _ a) (both v d w) (knowing Bool _ (WithOwners v d w) first a b (Ok x) (λ b k. k.0) p)
 
   -- a fault came in the first list
   pub fault_in_first : (a b : Sink) (fault : RunFault) →
       PrintsLines {T = Bool} (IsContents d.contents) first a b (Err fault) →
-      PrintsLines {T = Bool} (WithPhase1 v d w) (λ b. lost_lines v b) a b (Err fault)
-  fault_in_first a b fault p = part_fault Bool Bool (WithPhase1 v d w) (λ b. lost_lines v b) first second
+      PrintsLines {T = Bool} (WithOwners v d w) (λ b. lost_lines v b) a b (Err fault)
+  fault_in_first a b fault p = part_fault Bool Bool (WithOwners v d w) (λ b. lost_lines v b) first second
       (λ b. lost_lines v b) a a b fault (begins _ _ a) (both v d w)
-      (knowing Bool _ (WithPhase1 v d w) first a b (Err fault) (λ b k. k.0) p)
+      (knowing Bool _ (WithOwners v d w) first a b (Err fault) (λ b k. k.0) p)
 
   -- a fault came in the second list
   pub fault_in_second : (a b c : Sink) (x : Bool) (fault : RunFault) →
       PrintsLines {T = Bool} (IsContents d.contents) first a b (Ok x) →
       PrintsLines {T = Bool} (IsContents d.contents) second b c (Err fault) →
-      PrintsLines {T = Bool} (WithPhase1 v d w) (λ b. lost_lines v b) a c (Err fault)
-  fault_in_second a b c x fault p q = part_fault Bool Bool (WithPhase1 v d w) second second (λ b. [])
+      PrintsLines {T = Bool} (WithOwners v d w) (λ b. lost_lines v b) a c (Err fault)
+  fault_in_second a b c x fault p q = part_fault Bool Bool (WithOwners v d w) second second (λ b. [])
       (λ b. lost_lines v b) a b c fault (one a b x p) second_all
-      (knowing Bool _ (WithPhase1 v d w) second b c (Err fault) (λ b k. k.0) q)
+      (knowing Bool _ (WithOwners v d w) second b c (Err fault) (λ b k. k.0) q)
 
   -- both lists were printed
   pub printed_both : (a b c : Sink) (x y : Bool) → (p : PrintedTo (IsContents d.contents) (λ b. []) first a b) →
       x ≡ any_line p.lines → (q : PrintedTo (IsContents d.contents) (λ b. []) second b c) → y ≡ any_line q.lines →
-      PrintedWhether (WithPhase1 v d w) (λ b. []) (λ b. lost_lines v b) (x || y) a c
+      PrintedWhether (WithOwners v d w) (λ b. []) (λ b. lost_lines v b) (x || y) a c
   printed_both a b c x y p some q more = record {
     printed = record {
       lines = p.lines ++ q.lines;

@@ -1,7 +1,9 @@
--- What phase 1 leaves where it is run for the fragments that inodes claim.
-use Rattle.std.specs.Prelude.{◌≡◌, None, Result, Ok, Err}
+-- What phase 1 leaves where it is run for the fragments that inodes claim, and what of that is asked for.
+use Rattle.std.specs.Prelude.{◌≡◌, ℕ, List, None, Some, Result, Ok, Err, slice_index}
 use Rattle.ffs_image.specs.Device.{Device, Faulted}
-use Rattle.ffs_volume.specs.{declared.Layout.Layout, Report.Memory.held_of}
+use Rattle.ffs_volume.specs.{declared.Layout.Layout, Blocks.Claims.all_claims, Encodings.{Kinds.kind_at, Notes.note_at}}
+use Rattle.ffs_volume.specs.Report.Memory.{held_of}
+use Rattle.ffs_maps.specs.Bits.{bits_of}
 use Rattle.ffs_memory.specs.Account.{Account, Granted, GaveUp}
 use Rattle.ffs_report.specs.{Known.{ForBytes, IsContents}, Sink.Sink, declared.fault.RunFault.TheVariants.{Read, Out}}
 use Rattle.ffs_workspace.specs.{declared.workspace.Workspace.Workspace, Holds.HoldsPhase1, Ready.IsReady}
@@ -10,6 +12,17 @@ use Rattle.ffs_finding.specs.declared.find.FindFault.{FindFault, TheVariants.{Re
 -- an output that never fails, and of which nobody knows what it took
 abbrev pub discarding : Sink
 discarding = record { taken = None; failures = 0; holds = None }
+
+-- a workspace holds which fragments are reserved or claimed, and of each inode its kind and what is noted of it. Phase
+-- 1 leaves this, and it is a part of HoldsClaims too: all phases after 1b keep it
+pub record HoldsOwners (v : Layout) (image : List ℕ) (w : Workspace) : Type 0 where
+  pub used : bits_of w.used ≡ (all_claims v image).used
+  pub kinds : (x : ℕ) → slice_index w.kinds.items x ≡ kind_at v image x
+  pub notes : (x : ℕ) → slice_index w.notes.items x ≡ note_at v image x
+
+-- the image gives the bytes, and the workspace holds that of them
+abbrev pub WithOwners : Layout → Device → Workspace → List ℕ → Type 0
+WithOwners v d w bytes = (d.contents ≡ Some bytes) × HoldsOwners v bytes w
 
 -- a workspace that holds what phase 1 leaves was made, a read failed in phase 1, or the memory was refused
 abbrev pub TakesClaims : Layout → Device → Device → Account → Account → Result Workspace FindFault → Type 0

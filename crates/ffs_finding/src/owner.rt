@@ -6,10 +6,10 @@ ghost use Rattle.ffs_volume.specs.Find.Owner.{indirect_in, keeper_text, keeper_l
 ghost use Rattle.ffs_volume.specs.{Find.Owner.{part_text, reserved_text, table_text}, Encodings.Notes.cut_in};
 ghost use Rattle.ffs_report.specs.{Known.IsContents, Sink.Prints};
 ghost use Rattle.ffs_walk.specs.{Keepings.replay_in, Windows.{CanWalk, KeepsBlocks}};
-ghost use Rattle.ffs_workspace.specs.{Found.WithPhase1, Ready.{CanRead, IsReady, KeepsWindows}};
+ghost use Rattle.ffs_workspace.specs.Ready.{CanRead, IsReady, KeepsWindows};
 ghost use Rattle.ffs_check.specs.Moment.{moment};
 ghost use Rattle.ffs_claims.specs.Rescan.{ReplaysStep};
-ghost use Rattle.ffs_finding.specs.{Outcome.Finds, Keepers.{CanFindKeeper, CanPrintMap, CanPrintStep, CanReadMap}};
+ghost use Rattle.ffs_finding.specs.{Claims.WithOwners, Outcome.Finds, Keepers.{CanFindKeeper, CanPrintMap, CanPrintStep, CanReadMap}};
 ghost use Rattle.ffs_finding.specs.LostMaps.{IsBlockWindow};
 ghost use Rattle.ffs_finding.specs.Keepers.{FindsKeeper, FindsAllKeepers, WalksKept, is_in_run, map_lines, run_text};
 ghost use Rattle.ffs_finding.specs.Keepers.{sought_in, step_text};
@@ -321,7 +321,7 @@ fn find_keepers<I: Image, W: Output>(
     out: &mut W,
 ) -> Result<(), RunFault>
     requires { CanRead geometry.now.layout (I.device image.old) workspace.old }
-    ensures prints { Finds (WithPhase1 geometry.now.layout (I.device image.old) workspace.old)
+    ensures prints { Finds (WithOwners geometry.now.layout (I.device image.old) workspace.old)
         (λ bytes. keeper_lines geometry.now.layout bytes fragment)
         (moment I.Image W.Output image.old out.old) (moment I.Image W.Output image.new out.new)
         result }
@@ -343,9 +343,9 @@ fn find_keepers<I: Image, W: Output>(
 /// its cylinder group (fs(5)) has it as free, or it is lost. Nothing is printed for a fragment that
 /// the volume doesn't have.
 ///
-/// The contract gives the lines only for a workspace that holds what phase 1 found. It is left ready,
-/// and all of it but its windows as it was: more can be found in it. No more reads are made than those
-/// of a sweep over all inodes.
+/// The contract gives the lines only for a workspace that holds what phase 1 found of blocks, also
+/// where later phases ran in it. It is left ready, and all of it but its windows as it was: more can
+/// be found in it. No more reads are made than those of a sweep over all inodes.
 ///
 /// # Errors
 /// A read of the image that failed, and a write that failed.
@@ -357,7 +357,7 @@ pub fn find_owner<I: Image, W: Output>(
     out: &mut W,
 ) -> Result<(), RunFault>
     requires ready { IsReady geometry.now.layout (I.device image.old) workspace.old }
-    ensures prints { Finds (WithPhase1 geometry.now.layout (I.device image.old) workspace.old)
+    ensures prints { Finds (WithOwners geometry.now.layout (I.device image.old) workspace.old)
         (λ bytes. lines_of_fragment geometry.now.layout bytes fragment)
         (moment I.Image W.Output image.old out.old) (moment I.Image W.Output image.new out.new)
         result }

@@ -3,7 +3,8 @@ use Rattle.std.proofs.{Common.{refl, sym, ap}, lemmas.{Bool.Decides.nat_tests, R
 use Rattle.ffs_volume.specs.{declared.Layout.Layout, Encodings.Kinds.{is_allocated_kind, kind_at}}
 use Rattle.ffs_volume.specs.{Find.Owner.keeper_lines_of_inode, Blocks.Inodes.inodes_of, Encodings.Notes.note_at}
 use Rattle.ffs_report.{proofs.Sinks.took_nil, specs.{Known.ForBytes, declared.fault.RunFault.RunFault}}
-use Rattle.ffs_workspace.specs.{Found.WithPhase1, declared.workspace.Workspace.Workspace}
+use Rattle.ffs_workspace.specs.declared.workspace.Workspace.{Workspace}
+use Rattle.ffs_finding.specs.Claims.{WithOwners}
 use Rattle.ffs_claims.proofs.{Rescanned.runs_most, Frames.image_from}
 use Rattle.ffs_finding.proofs.{Keepers.{found_lines, found_reads, stays_then}, Owners.{inode_runs, keepers_begin}}
 use Rattle.ffs_finding.proofs.{Owners.{keepers_end, keepers_from, keepers_next, no_lines}, Printing.{part, part_fault}}
@@ -69,7 +70,7 @@ loop-number-preserved-then-not-is_allocated g c =
     let f = c.args.fragment in
     let high : n < inodes_of v = omega arith in
     let free = unallocated _ _ c.is_allocated.ensures c.if-not-is_allocated.true in
-    let knows = WithPhase1 v (g.I.Image.device c.args.image.now) c.args.workspace.now in
+    let knows = WithOwners v (g.I.Image.device c.args.image.now) c.args.workspace.now in
     let kind : ForBytes knows (λ b. kind_at v b n ≡ 0) = λ b k. sym (k.1.kinds n)
     ∙ (sym (ap (λ (z : Workspace). slice_index z.kinds.items n) inv.stays.held) ∙ free) in
     let note : ForBytes knows (λ b. slice_index c.loop-number.workspace.notes.items n ≡ note_at v b n) = λ b k.
