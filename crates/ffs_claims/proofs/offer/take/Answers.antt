@@ -1,4 +1,4 @@
-use Rattle.std.proofs.{Common.{◌≡◌, nat_lt, true, arith, rules, refl, sym, ◌∙◌}, lemmas.Bool.Decides.nat_tests}
+use Rattle.std.proofs.{Common.{◌≡◌, nat_lt, true, arith, refl, sym, ◌∙◌}, lemmas.Bool.Decides.nat_tests}
 use Rattle.ffs_maps.specs.Bits.{bits_of}
 use Rattle.ffs_claims.specs.Leaves.{StaySet}
 use Rattle.ffs_claims.proofs.{Frames.{offers_claimed, stay_claimed, stay_one}, UnclaimedRuns.{was_set, is_set_now}}

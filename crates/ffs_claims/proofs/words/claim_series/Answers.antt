@@ -1,4 +1,4 @@
-use Rattle.std.proofs.Common.{◌<◌, arith, refl, rules, ◌∙◌}
+use Rattle.std.proofs.Common.{◌<◌, arith, refl, ◌∙◌}
 use Rattle.ffs_maps.proofs.Bits.{bits_long}
 use Rattle.ffs_maps.specs.Bits.{bits_of}
 use Rattle.ffs_claims.proofs.Frames.{stay, stay_claimed}
