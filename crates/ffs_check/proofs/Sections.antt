@@ -98,20 +98,20 @@ heads (Err (Out fault)) done heading later e at first = record {
 }
 
 -- phase 1b, or nothing, says messages after phase 1
-pub goes_on : {T : Type 0} (knows : List ℕ → Type 0) (all : List ℕ → List Message) {start report : Progress}
+pub continues : {T : Type 0} (knows : List ℕ → Type 0) (all : List ℕ → List Message) {start report : Progress}
     (report' : Progress) (r : Result T RunFault) → Headed (phase1 ∷ []) start report → PhaseReports knows all report report' r →
     Leads (phase1 ∷ []) start report' r
-goes_on knows all report' (Ok x) at text = record {
+continues knows all report' (Ok x) at text = record {
   messages = at.messages ++ text.messages;
   said = said_then _ _ _ at.messages text.messages at.said text.said;
   sections = longer phase1 [] at.messages text.messages at.sections;
 }
-goes_on knows all report' (Err (Read fault)) at text = record {
+continues knows all report' (Err (Read fault)) at text = record {
   messages = at.messages ++ text.prefix.messages;
   says = said_then _ _ _ at.messages text.prefix.messages at.said text.prefix.said;
   sections = longer phase1 [] at.messages text.prefix.messages at.sections;
 }
-goes_on knows all report' (Err (Out fault)) at text = record {
+continues knows all report' (Err (Out fault)) at text = record {
   messages = at.messages ++ text.messages;
   says = stopped_after _ _ _ at.messages text.messages at.said text.stopped;
   sections = longer phase1 [] at.messages text.messages at.sections;

@@ -17,18 +17,6 @@ nil-both xs ys g h = rw (g, h)
 pub reported-quiet : (b : Bool) (m : TreeMessage) → reported b m ≡ [] → b ≡ false
 reported-quiet b m h = grind arith
 
--- one of two, where the first has a message
-pub if-quiet : (b : Bool) (m : TreeMessage) (ms ys : List TreeMessage) → (if b then m ∷ ms else ys) ≡ [] → (b ≡ false)
-    × (ys ≡ [])
-if-quiet b m ms ys h = grind arith
-
--- one of two, where the other is silent
-pub else-quiet : (b : Bool) (ys : List TreeMessage) → (if b then [] else ys) ≡ [] → b ≡ false → ys ≡ []
-else-quiet b ys h e = rw e at h
-
-pub then-quiet : (b : Bool) (xs : List TreeMessage) → (if b then xs else []) ≡ [] → b ≡ true → xs ≡ []
-then-quiet b xs h e = rw e at h
-
 pub then-silent : (b : Bool) (xs : List TreeMessage) → (b ≡ true → xs ≡ []) → (if b then xs else []) ≡ []
 then-silent b xs h = cond_both b xs [] (λ zs. zs ≡ []) h (λ _. refl)
 

@@ -90,10 +90,6 @@ pub fresh_held : (v : Layout) (old new : Workspace) → new ≡ record old { win
     IsFresh v new
 fresh_held v old new e h = grind arith
 
-pub phase1_held : (v : Layout) (b : List ℕ) (old new : Workspace) → new ≡ record old { windows = new.windows } →
-    HoldsPhase1 v b old → HoldsPhase1 v b new
-phase1_held v b old new e h = grind arith
-
 pub claims_held : (v : Layout) (b : List ℕ) (old new : Workspace) → new ≡ record old { windows = new.windows } →
     HoldsClaims v b old → HoldsClaims v b new
 claims_held v b old new e h = claims_left v b old new (windows_leave old new e) h
