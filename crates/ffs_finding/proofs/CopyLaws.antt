@@ -39,11 +39,11 @@ lines_end b sector end h past = grind (arith, none, outcome_past_end, count_is)
 abbrev pub magics : (b : List ℕ) (n : ℕ) → ℕ
 magics b n = count_by (has_magic b) (range_with_len 1 n)
 
-one_magic : (b : List ℕ) (sector : ℕ) → 2 * count_by (has_magic b) (range_with_len sector 1) ≡ super_reads b sector
+one_magic : (b : List ℕ) (sector : ℕ) → count_by (has_magic b) (range_with_len sector 1) ≡ super_reads b sector
 one_magic b sector = grind arith
 
 magics_next : (b : List ℕ) (sector : ℕ) → 0 < sector →
-    2 * magics b sector ≡ 2 * magics b (sector - 1) + super_reads b sector
+    magics b sector ≡ magics b (sector - 1) + super_reads b sector
 magics_next b sector some =
     let joined = count_join (has_magic b) 1 (sector - 1) 1 sector _ _ (omega arith) refl refl in
     let place : 1 + (sector - 1) ≡ sector = omega arith in
@@ -59,14 +59,14 @@ magics_within b sector h =
 
 -- the reads up to a sector, where those before it were few enough
 pub reads_next : (d : Device) (b : List ℕ) (sector reads before after : ℕ) (w : Window) → 0 < sector →
-    (sector ≡ 1 → before ≤ reads) → before ≤ reads + (sector + 129) / 128 + 2 * magics b (sector - 1) →
+    (sector ≡ 1 → before ≤ reads) → before ≤ reads + (sector + 129) / 128 + magics b (sector - 1) →
     (1 < sector → IsWindowOf d (sector - 1) w) → after ≤ before + 1 + super_reads b sector →
     (IsWindowOf d sector w → after ≤ before + super_reads b sector) →
-    after ≤ reads + (sector + 130) / 128 + 2 * magics b sector
+    after ≤ reads + (sector + 130) / 128 + magics b sector
 reads_next d b sector reads before after w some first most at counted again = grind (arith, magics_next)
 
 -- no more windows were read than the image has
 pub reads_all : (b : List ℕ) (size sector reads after : ℕ) → sector < 4194304 → sector * 512 + 1376 ≤ size →
-    after ≤ reads + (sector + 130) / 128 + 2 * magics b sector →
-    after ≤ reads + div_ceil size 65536 + 2 * count_by (has_magic b) asked_sectors
+    after ≤ reads + (sector + 130) / 128 + magics b sector →
+    after ≤ reads + div_ceil size 65536 + count_by (has_magic b) asked_sectors
 reads_all b size sector reads after h inside most = search (arith, magics_within)

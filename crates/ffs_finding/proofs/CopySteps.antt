@@ -12,9 +12,9 @@ pub no_line : (d : Device) (sector : ℕ) → IsSized d → sector * 512 + 1376 
     ForContents d.contents (λ b. copy_lines_of sector (outcome b (Some sector)) ≡ [])
 no_line d sector sized inside none b k = grind (arith, no_magic)
 
-pub two_reads : (d : Device) (sector : ℕ) → ForContents d.contents (λ b. true ≡ has_magic b sector) →
-    ForContents d.contents (λ b. super_reads b sector ≡ 2)
-two_reads d sector there b k = let is = there b k in grind arith
+pub one_read : (d : Device) (sector : ℕ) → ForContents d.contents (λ b. true ≡ has_magic b sector) →
+    ForContents d.contents (λ b. super_reads b sector ≡ 1)
+one_read d sector there b k = let is = there b k in grind arith
 
 -- the superblock that was read is the one of the image's bytes
 pub same_super : (d old new : Device) (sector : Option ℕ) (s : Superblock) → old ≡ d →

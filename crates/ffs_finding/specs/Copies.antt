@@ -56,9 +56,9 @@ pub record ReadsWindow (d : Device) (sector : ℕ) (before : Window) (reads read
   pub counted : reads' ≤ reads + 1
   pub again : IsWindowOf d sector before → reads' ≤ reads
 
--- what a sector adds to the reads: two of the superblock, where a magic number is there
+-- what a sector adds to the reads: that of the superblock, where a magic number is there
 abbrev pub super_reads : (image : List ℕ) (sector : ℕ) → ℕ
-super_reads image sector = if has_magic image sector then 2 else 0
+super_reads image sector = if has_magic image sector then 1 else 0
 
 -- the line of a sector was printed, where a superblock is accepted there, or what a fault leaves of it
 pub record FindsAt (sector : ℕ) (before after : Window) (old new : Moment) (result : Result (Unit {0}) RunFault) :
@@ -68,14 +68,14 @@ pub record FindsAt (sector : ℕ) (before after : Window) (old new : Moment) (re
   pub counted : ForContents old.image.contents (λ b. new.reads ≤ old.reads + 1 + super_reads b sector)
   pub again : IsWindowOf old.image sector before
       → ForContents old.image.contents (λ b. new.reads ≤ old.reads + super_reads b sector)
-  pub any : new.reads ≤ old.reads + 3
+  pub any : new.reads ≤ old.reads + 2
 
--- the image was read once for each window of 65,536 bytes at most, and twice for each magic number; any
--- image, also one that gives other bytes each time, at most three times for each of its sectors that `-b` takes
+-- the image was read once for each window of 65,536 bytes at most, and once for each magic number; any
+-- image, also one that gives other bytes each time, at most twice for each of its sectors that `-b` takes
 pub record ReadsCopies (d : Device) (reads reads' : ℕ) : Type 0 where
   pub known : ForContents d.contents
-      (λ b. reads' ≤ reads + div_ceil d.size window_bytes + 2 * count_by (has_magic b) asked_sectors)
-  pub any : reads' ≤ reads + 3 * min sector_count (d.size / DEV_BSIZE)
+      (λ b. reads' ≤ reads + div_ceil d.size window_bytes + count_by (has_magic b) asked_sectors)
+  pub any : reads' ≤ reads + 2 * min sector_count (d.size / DEV_BSIZE)
 
 -- superblocks at the sectors from 1 on and below this one, and at no others that `-b` takes, lie in an
 -- image of this size

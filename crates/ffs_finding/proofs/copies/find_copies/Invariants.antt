@@ -18,8 +18,8 @@ invariant-loop-sector g l =
       at : 1 < l.sector → IsWindowOf d (l.sector - 1) l.window;
       first : l.sector ≡ 1 → g.I.Image.reads l.image ≤ reads;
       known : ForContents d.contents (λ b. g.I.Image.reads l.image
-          ≤ reads + (l.sector + 129) / 128 + 2 * magics b (l.sector - 1));
-      any : g.I.Image.reads l.image ≤ reads + 3 * (l.sector - 1);
+          ≤ reads + (l.sector + 129) / 128 + magics b (l.sector - 1));
+      any : g.I.Image.reads l.image ≤ reads + 2 * (l.sector - 1);
       printed : PrintedTo (IsContents d.contents) (λ b. lines_from b l.sector) copies_lines
           (g.W.Output.sink l.fn.out) (g.W.Output.sink l.out);
     }

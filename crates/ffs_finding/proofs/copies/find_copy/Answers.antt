@@ -1,7 +1,7 @@
-use Rattle.std.proofs.{Common.{◌∙◌, arith, rules, sym, ap}, lemmas.Result.err_from_is_err_and}
+use Rattle.std.proofs.{Common.{◌∙◌, arith, refl, rules, sym, ap}, lemmas.Result.err_from_is_err_and}
 use Rattle.ffs_volume.specs.Find.Copies.{copy_lines_of}
 use Rattle.ffs_finding.proofs.Printing.{one, one_broken, prints_all, prints_none, stops_all, reads_first}
-use Rattle.ffs_finding.proofs.CopySteps.{no_line, two_reads, same_super, holds_on}
+use Rattle.ffs_finding.proofs.CopySteps.{no_line, one_read, same_super, holds_on}
 use Rattle.ffs_finding.proofs.copies.find_copy.Goals as goal
 
 pub returns-in_err-found : goal.returns-in_err-found
@@ -31,7 +31,7 @@ returns-in_err-print_copy-in-Ok g c =
     let e = c.in_ok-found.ensures.answer in
     let read = c.has_magic.ensures.reads in
     let s = same_super (g.I.Image.device c.args.image.now) _ _ _ _ e.read c.in-Ok.ensures.answer in
-    let two = two_reads (g.I.Image.device c.args.image.now) c.args.sector
+    let more = one_read (g.I.Image.device c.args.image.now) c.args.sector
     (λ b k. sym c.if-not-found.false ∙ e.answer b k) in
     rw (p.1, p.2) (record {
       found = record {
@@ -46,9 +46,9 @@ returns-in_err-print_copy-in-Ok g c =
             (g.I.Image.device c.read_super.new.image) c.has_magic.new.window e.read
             (ap (λ x. x.contents) s.0) e.window.holds;
       };
-      counted = λ b k. let reads = two b k in omega (arith, read.counted, reads, c.in-Ok.ensures.reads);
-      again = λ at b k. let reads = two b k in omega (arith, read.again at, reads, c.in-Ok.ensures.reads);
-      any = omega (arith, read.counted, c.in-Ok.ensures.reads);
+      counted = λ b k. let reads = more b k in omega (arith, read.counted, reads, c.in-Ok.ensures.once refl);
+      again = λ at b k. let reads = more b k in omega (arith, read.again at, reads, c.in-Ok.ensures.once refl);
+      any = omega (arith, read.counted, c.in-Ok.ensures.once refl);
     })
 
 pub returns-in_ok-print_copy-in-Ok : goal.returns-in_ok-print_copy-in-Ok
@@ -56,7 +56,7 @@ returns-in_ok-print_copy-in-Ok g c =
     let e = c.in_ok-found.ensures.answer in
     let read = c.has_magic.ensures.reads in
     let s = same_super (g.I.Image.device c.args.image.now) _ _ _ _ e.read c.in-Ok.ensures.answer in
-    let two = two_reads (g.I.Image.device c.args.image.now) c.args.sector
+    let more = one_read (g.I.Image.device c.args.image.now) c.args.sector
     (λ b k. sym c.if-not-found.false ∙ e.answer b k) in
     record {
       found = record {
@@ -71,9 +71,9 @@ returns-in_ok-print_copy-in-Ok g c =
             (g.I.Image.device c.read_super.new.image) c.has_magic.new.window e.read
             (ap (λ x. x.contents) s.0) e.window.holds;
       };
-      counted = λ b k. let reads = two b k in omega (arith, read.counted, reads, c.in-Ok.ensures.reads);
-      again = λ at b k. let reads = two b k in omega (arith, read.again at, reads, c.in-Ok.ensures.reads);
-      any = omega (arith, read.counted, c.in-Ok.ensures.reads);
+      counted = λ b k. let reads = more b k in omega (arith, read.counted, reads, c.in-Ok.ensures.once refl);
+      again = λ at b k. let reads = more b k in omega (arith, read.again at, reads, c.in-Ok.ensures.once refl);
+      any = omega (arith, read.counted, c.in-Ok.ensures.once refl);
     }
 
 pub returns-in-Err-CannotRead : goal.returns-in-Err-CannotRead
