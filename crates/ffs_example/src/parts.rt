@@ -40,7 +40,7 @@ fn run_phases<I: Image, W: Output>(
     phase4(geometry, image, workspace, report)?;
     phase5(superblock, image, workspace, report)?;
     summary(superblock, workspace, report)?;
-    if ROOT < geometry.layout.ncg * geometry.layout.ipg {
+    if ROOT < geometry.inodes() {
         workspace.forget_windows();
         path_of(geometry, image, workspace, ROOT, Some(b"a"), &mut path)?;
     }

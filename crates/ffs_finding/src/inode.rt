@@ -183,7 +183,7 @@ pub fn find_inode<I: Image, W: Output>(
         result }
     ensures reads { I.reads image.new ≤ I.reads image.old + 1 }
 {
-    if number >= geometry.layout.ncg * geometry.layout.ipg {
+    if number >= geometry.inodes() {
         return Ok(());
     }
     let place = geometry.inode_place(number);

@@ -302,7 +302,7 @@ fn find_keepers_unlimited<I: Image, W: Output>(
     ensures stays { KeepsWindows geometry.now.layout (I.device image.new) workspace.old
         workspace.new }
 {
-    for number in ROOTINO..geometry.layout.ncg * geometry.layout.ipg {
+    for number in ROOTINO..geometry.inodes() {
         if !is_allocated(workspace, number) {
             continue;
         }

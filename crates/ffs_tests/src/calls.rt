@@ -277,7 +277,7 @@ fn workspaces(rt: HostRuntime) -> Result<(), Fail> {
 /// Where a volume has its group block, its summary record and the root's inode, in bytes; none where it has
 /// no group or no inode 2.
 fn places_of(geometry: &Geometry) -> Option<[u64; 3]> {
-    if geometry.layout.ncg == 0 || geometry.layout.ncg * geometry.layout.ipg <= 2 {
+    if geometry.layout.ncg == 0 || geometry.inodes() <= 2 {
         return None;
     }
     Some([

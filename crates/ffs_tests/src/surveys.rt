@@ -64,7 +64,7 @@ fn check_twice<I: Image, W: Output>(
     survey(geometry, image, workspace)?;
     survey(geometry, image, workspace)?;
     phase2(geometry, image, workspace, report)?;
-    if geometry.layout.ncg * geometry.layout.ipg <= 3 {
+    if geometry.inodes() <= 3 {
         return Ok(());
     }
     workspace.forget_windows();

@@ -18,8 +18,8 @@ no_lines : (v : Layout) (b : List ℕ) (x : ℕ) → v.ncg * v.ipg ≤ x → ino
 unfolding inode_listing
 no_lines v b x h = grind arith
 
-pub returns-then-number-geometry-clause-prints : goal.returns-then-number-geometry-clause-prints
-returns-then-number-geometry-clause-prints g c = search (arith, prints_none, no_lines)
+pub returns-then-number-inodes-clause-prints : goal.returns-then-number-inodes-clause-prints
+returns-then-number-inodes-clause-prints g c = search (arith, prints_none, no_lines)
 
 pub read_at-requires : goal.read_at-requires
 read_at-requires g c =
