@@ -1,6 +1,6 @@
 # shellcheck shell=sh
 # Functions for the recipes of READING.md, for sh and bash: they need perl and ffs_find. They read copy.img, and put, clear_inode,
-# directories, new_root, zeros and refill write to further.img. What can't be done is said on standard error, with status 1, and
+# exchange, directories, new_root, zeros and refill write to further.img. What can't be done is said on standard error, with status 1, and
 # nothing is written; directories says what it leaves.
 #
 #   . ./rescue.sh            also sets order, bsize and fsize, and lets a variable that isn't set be an error (set -u)
@@ -11,6 +11,7 @@
 #   lost                     the fragments that the maps mark and no inode has: first and last of each range, by ffs_find lost
 #   lost_blocks              the first fragment of each whole block among these
 #   words B                  the words of the indirect block at fragment B, each after its number
+#   rising                   lost blocks whose words rise, as those of an indirect block do, and how many words each has
 #   whole                    how many bytes the image should have, by its superblock
 #   last_copy                the sector of the superblock's copy in the last group, by its superblock
 #   groups                   of each group the fragment at which its block begins, and the bytes of its inode map, by its superblock
@@ -18,9 +19,10 @@
 #   entries FIRST LENGTH [I] what looks like an entry in these bytes, of inode I alone where it is given, also where no directory
 #                            has it: byte, number, record length, type, length of the name, name (control bytes are shown as ?)
 #   clear_inode I            makes inode I of further.img zeros
+#   exchange I J             exchanges the inodes I and J of further.img
 #   directories              puts anew in further.img the inode of each directory that has its `.` among the entries on standard input,
 #                            where no file or directory is, in fragments that nothing has. What comes after its first fragment is taken
-#                            where its first entry didn't fit before. Its links are 2
+#                            where its first entry didn't fit before. Its links are 2, and its mode 700 (755 of the root)
 #   new_root F               puts inode 2 anew in further.img, as a directory in the free fragment F that has nothing but `.` and `..`
 #   zeros B                  makes the indirect block at fragment B of further.img zeros, where it is one of one file alone
 #   refill B                 the same, and names the blocks of the file list in it, a line each, in its order
@@ -116,9 +118,15 @@ clear_inode() (
     p=$(place "$1") && dd if=/dev/zero of=further.img bs=128 seek=$((p / 128)) count=1 conv=notrunc,nocreat status=none
 )
 
+exchange() (
+    a=$(place "$1") && b=$(place "$2") && for at in "$a $b" "$b $a"; do
+        dd if=copy.img of=further.img bs=128 skip=$((${at% *} / 128)) seek=$((${at#* } / 128)) count=1 conv=notrunc,nocreat status=none || exit 1
+    done
+)
+
 # directory I F SIZE: puts inode I anew, as a directory of so many bytes whose blocks follow one another from fragment F on
 directory() (
-    p=$(place "$1") && clear_inode "$1" && put "$p" 2 040755 && put "$p + 2" 2 2 && put "$p + 8" 8 "$3" &&
+    p=$(place "$1") && clear_inode "$1" && put "$p" 2 "$([ "$1" = 2 ] && echo 040755 || echo 040700)" && put "$p + 2" 2 2 && put "$p + 8" 8 "$3" &&
         put "$p + 104" 4 "($3 + $fsize - 1) / $fsize * $fsize / 512" &&
         for k in $(seq 0 $((($3 - 1) / bsize))); do
             [ "$k" -gt 11 ] || put "$p + 40 + 4 * $k" 4 "$2 + $k * $bsize / $fsize" || exit 1
@@ -133,9 +141,11 @@ begun_directories() {
         function need() { return 8 + 4 * int(($5 + 4) / 4) }
         function count() { if (int($1 / 512) != chunk) { chunk = int($1 / 512); live = 512 * chunk; room = 512 }
             if ($1 == live) { live += $3; room -= $2 ? need() : 0 } }
-        function follows() { return $1 % fsize >= 512 || need() > room && (at % bsize == 0 || int($1 / 512) * 512 % bsize) }
-        $5 == 1 && $6 == "." && $1 % fsize == 0 { last(); i = $2; at = $1; chunk = -1; count(); next }
-        i && (int($1 / 512) == chunk || int($1 / 512) == chunk + 1 && follows()) { count(); next }
+        function near() { return int($1 / 512) == chunk + 1 && (at % bsize == 0 || int($1 / 512) * 512 % bsize) }
+        function follows() { return int($1 / 512) == chunk || near() && ($1 % fsize >= 512 || need() > room) }
+        $5 == 1 && $6 == "." && $2 > 1 && $1 % fsize == 0 { last(); i = $2; at = $1; chunk = -1; count(); next }
+        i && follows() { count(); next }
+        i && near() { print "directories: what lies from byte", $1, "on may be of inode", i, "too" >"/dev/stderr" }
         { last() }
         END { last() }'
 }
@@ -169,6 +179,12 @@ lost_blocks() (
     found=$(lost) || exit 1
     echo "$found" | awk -v frag=$((bsize / fsize)) 'NF { for (f = frag * int(($1 + frag - 1) / frag); f + frag - 1 <= $2; f += frag) print f }'
 )
+
+rising() {
+    lost_blocks | while read -r b; do
+        words "$b" | awk -v b="$b" '!$2 { z = 1; next } z || $2 <= last { bad = 1; exit } { last = $2; n++ } END { if (!bad && n) print b, n }'
+    done
+}
 
 zeros() {
     [ "$(ffs_find owner "$1" copy.img | sed 's/^inode [0-9]* indirect block [0-9]*$/indirect/')" = indirect ] ||

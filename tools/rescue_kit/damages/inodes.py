@@ -813,7 +813,6 @@ def moved(case):
     alike = [case.run("inode", i=k).partition("\n")[2] for k in (i, i + m)]
     if alike[0] != alike[1]:
         raise Wrong(f"inodes {i} and {i + m} differ")
-    case.run("further place moved check", i=i, m=m, n=first + count - m - i)
-    for k in range(first + count - m, first + count):
-        case.run("clear", i=k)
-    case.run("keep all")
+    for k in range(i, first + count - m):
+        case.run("bytes", i=k + m)
+    case.run("names all")
