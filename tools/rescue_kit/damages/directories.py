@@ -272,6 +272,25 @@ def last_part_after_other(case):
     case.run("all")
 
 
+@damage("the inode of a directory whose first chunk has room became zeros")
+def first_chunk_with_room(case):
+    volume, fsize = case.volume, case.volume.layout.fsize
+    i = volume.find("docs/pages")
+    for k, (place, _, _, _, name) in enumerate(volume.entries(i)):
+        if name not in (".", "..") and k < 28:
+            volume.image[place + 7:place + 16] = bytes((1, ord("A") + k)) + bytes(7)
+    case.tree = volume.tree()
+    volume.zero(volume.layout.inode_place(i), 128)
+    case.at_stake(*[path for path in case.tree if path.startswith("docs/pages")])
+    i = case.report("UNALLOCATED", "UNREF").first("UNALLOCATED")["inode"]
+    if case.run("further directories check").status == 0:
+        return
+    case.run("keep")
+    first = fragments_of(case.run("inode", i=i))[0] * fsize
+    size = entries_of(case.run("lost-names"))[-1].byte // 512 * 512 + 512 - first
+    case.run("further place size blocks check", i=i, size=size, blocks=-(-size // fsize) * fsize // 512)
+
+
 @damage("the inode of a directory became zeros, and a file has an image of the directory in it")
 def image_in_file(case):
     """The image comes after its directory on the disk."""

@@ -348,14 +348,25 @@ def word_zero(case):
 
 @damage("words of an indirect block were moved by one, over the last one")
 def words_moved(case):
-    volume = case.volume
-    at, count = indirect_place(case), len(volume.blocks(volume.find("big/film"))) - 12
-    volume.image[at + 4 * 18:at + 4 * count] = volume.image[at + 4 * 17:at + 4 * (count - 1)]
-    damage_word(case, 17, 0)
+    at, count = indirect_place(case), len(case.volume.blocks(case.volume.find("big/film"))) - 12
+    move_words(case, at + 4 * 17, at + 4 * 18, count - 18, 17)
+
+
+@damage("words of an indirect block were moved back by one, over another one")
+def words_moved_back(case):
+    at, count = indirect_place(case), len(case.volume.blocks(case.volume.find("big/film"))) - 12
+    move_words(case, at + 4 * 18, at + 4 * 17, count - 18, count - 1)
+
+
+def move_words(case, source, target, count, zero):
+    """Moves words of the film's indirect block, and makes one zero; a check of the lost block there ends with 0, over wrong bytes."""
+    image = case.volume.image
+    image[target:target + 4 * count] = image[source:source + 4 * count]
+    damage_word(case, zero, 0)
     i = case.report("INCORRECT BLOCK COUNT").first("INCORRECT BLOCK COUNT")["inode"]
     b, f = fragments_of(case.run("inode", i=i))[12], first_lost(case)
-    words, step = words_of(case, i, 12), volume.layout.frag
-    if put_lost(case, i, 12, 17).status or case.has_bytes("big/film") or words[16] + step == f or words[18] - step == f:
+    words, step = words_of(case, i, 12), case.volume.layout.frag
+    if put_lost(case, i, 12, zero).status or case.has_bytes("big/film") or words[zero - 1] + step == f or words[zero + 1] - step == f:
         raise Wrong("the lost block fits at the word that is 0, or a check of it doesn't end with 0")
     case.run("joined further refill check", b=b)
 
