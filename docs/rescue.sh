@@ -6,6 +6,7 @@
 #   . ./rescue.sh            also sets order, bsize and fsize, and lets a variable that isn't set be an error (set -u)
 #
 #   sizes                    sets order, bsize and fsize, as the first superblock in copy.img has them, and from=copy.img
+#   keep                     makes further.img the copy, and sets these anew
 #   place I                  the byte where inode I lies
 #   maps                     what ffs_find lost prints of the image `from`, or a complaint
 #   lost                     the fragments that the maps mark and no inode has: first and last of each range, by ffs_find lost
@@ -40,6 +41,11 @@ sizes() {
     [ $# -gt 3 ] || { complain "rescue.sh: no superblock is found in copy.img, so order, bsize and fsize aren't set"; return 1; }
     # shellcheck disable=SC2034
     order=$2 bsize=$3 fsize=$4 from=copy.img
+}
+
+keep() {
+    [ -s further.img ] || { complain "keep: there is no further.img, or it is empty"; return 1; }
+    mv further.img copy.img && sizes
 }
 
 place() {

@@ -358,6 +358,18 @@ def words_moved_back(case):
     move_words(case, at + 4 * 18, at + 4 * 17, count - 18, count - 1)
 
 
+@damage("words of an indirect block were moved by one, the last one too")
+def words_moved_past(case):
+    volume = case.volume
+    at, count = indirect_place(case), len(volume.blocks(volume.find("big/film"))) - 12
+    volume.image[at + 4 * 18:at + 4 * (count + 1)] = volume.image[at + 4 * 17:at + 4 * count]
+    damage_word(case, 17, 0)
+    i = case.report("PARTIALLY TRUNCATED INODE", "INCORRECT BLOCK COUNT").first("PARTIALLY TRUNCATED INODE")["inode"]
+    if right_most(case, i) // volume.layout.bsize != -(-volume.inode(i)["size"] // volume.layout.bsize):
+        raise Wrong("its count gives another size")
+    case.run("joined further refill check", b=fragments_of(case.run("inode", i=i))[12])
+
+
 def move_words(case, source, target, count, zero):
     """Moves words of the film's indirect block, and makes one zero; a check of the lost block there ends with 0, over wrong bytes."""
     image = case.volume.image
