@@ -22,7 +22,7 @@
 #   clear_inode I            makes inode I of further.img zeros
 #   exchange I J             exchanges the inodes I and J of further.img
 #   directories              puts anew in further.img the inode of each directory that has its `.` among the entries on standard input,
-#                            where no file or directory is, in fragments that nothing has. What comes after its first fragment is taken
+#                            where that is free, in fragments that nothing has. What comes after its first fragment is taken
 #                            where its first entry didn't fit before. Its links are 2, and its mode 700 (755 of the root)
 #   new_root F               puts inode 2 anew in further.img, as a directory in the free fragment F that has nothing but `.` and `..`
 #   zeros B                  makes the indirect block at fragment B of further.img zeros, where it is one of one file alone
@@ -159,9 +159,11 @@ begun_directories() {
 directories() (
     taken=" "
     begun_directories | sort -s -k 3,3nr | while read -r i f size; do
-        ffs_find inode "$i" copy.img | grep -q '^class [df]i' && continue
+        class=$(ffs_find inode "$i" copy.img | sed -n 's/^class //p')
+        case $class in file | directory) continue ;; esac
         why=$(for k in $(seq "$f" $((f + (size - 1) / fsize))); do ffs_find owner "$k" copy.img; done | grep -vE '^(lost|free|no map)' | head -n 1)
         case $taken in *" $i "*) why="a longer one was put" ;; esac
+        case $class in partial | unknown) why="it isn't empty ($class): mend it, or clear it first" ;; esac
         if [ "$why" ]; then
             complain "directories: inode $i isn't put at fragment $f: $why"
         else

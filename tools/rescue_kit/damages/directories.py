@@ -433,6 +433,17 @@ def mend_counts(case, i, found, recipes, **values):
     mend(case, i, recipes + " links blocks", blocks=blocks, links=links, **values)
 
 
+@damage("the mode of inode 2 became 0")
+def root_mode_zero(case):
+    case.volume.put_inode(2, mode=0)
+    case.at_stake(*case.tree)
+    case.report("ROOT INODE UNALLOCATED", "PARTIALLY ALLOCATED INODE")
+    case.run("further directories")
+    if case.bytes_of("further.img") != case.bytes_of("copy.img"):
+        raise Wrong("an inode that isn't empty was put anew")
+    mend(case, 2, "mode", mode="40755")
+
+
 @damage("inode 2 became a file")
 def root_file(case):
     case.volume.put_inode(2, mode=0o100755)
