@@ -12,6 +12,7 @@
 #   lost                     the fragments that the maps mark and no inode has: first and last of each range, by ffs_find lost
 #   lost_blocks              the first fragment of each whole block among these
 #   words B                  the words of the indirect block at fragment B, each after its number
+#   joined B                 the file list: the words of the indirect block at B that aren't 0, where these rise, and the lost blocks, rising
 #   rising                   lost blocks whose words rise, as those of an indirect block do, and how many words each has
 #   whole                    how many bytes the image should have, by its superblock
 #   last_copy                the sector of the superblock's copy in the last group, by its superblock
@@ -186,6 +187,13 @@ words() {
 lost_blocks() (
     found=$(lost) || exit 1
     echo "$found" | awk -v frag=$((bsize / fsize)) 'NF { for (f = frag * int(($1 + frag - 1) / frag); f + frag - 1 <= $2; f += frag) print f }'
+)
+
+joined() (
+    : >list
+    named=$(words "$1" | awk '$2 { print $2 }')
+    echo "$named" | sort -nc 2>/dev/null || { complain "joined: the words of the block at fragment $1 don't rise, so their order isn't known"; exit 1; }
+    { echo "$named"; lost_blocks; } | sort -nu | grep . >list
 )
 
 rising() {

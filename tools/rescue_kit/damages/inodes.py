@@ -432,6 +432,21 @@ def unaligned(case):
     mend(case, part, "address", k=len(volume.blocks(part)), f=first_lost(case))
 
 
+@damage("a word of an indirect block became 0, of a file whose words don't rise")
+def word_zero_out_of_order(case):
+    volume, image = case.volume, case.volume.image
+    at, bsize, fsize = indirect_place(case), volume.layout.bsize, volume.layout.fsize
+    first, second = (volume.number(at + 4 * k, 4) for k in (3, 9))
+    places = [slice(f * fsize, f * fsize + bsize) for f in (first, second)]
+    image[places[0]], image[places[1]] = image[places[1]], image[places[0]]
+    volume.put(at + 4 * 3, 4, second)
+    volume.put(at + 4 * 9, 4, first)
+    damage_word(case, 17, 0)
+    i = case.report("INCORRECT BLOCK COUNT").first("INCORRECT BLOCK COUNT")["inode"]
+    case.refuses("joined", b=fragments_of(case.run("inode", i=i))[12])
+    mend_word(case, i, 0)
+
+
 def double_of(case):
     """The inode of the large file, and its double indirect block."""
     if "big/archive" not in case.tree:
