@@ -1,14 +1,19 @@
 # shellcheck shell=sh
-# Functions for the recipes of READING.md, for sh and bash: they need perl and ffs_find. They read copy.img, and put,
-# clear_inode, directories and new_root write to further.img. What can't be done is said on standard error, with status 1, and nothing
-# is written.
+# Functions for the recipes of READING.md, for sh and bash: they need perl and ffs_find. They read copy.img, and put, clear_inode,
+# exchange, directories, new_root, zeros and refill write to further.img. What can't be done is said on standard error, with status 1, and
+# nothing is written; directories says what it leaves.
 #
 #   . ./rescue.sh            also sets order, bsize and fsize, and lets a variable that isn't set be an error (set -u)
 #
-#   sizes                    sets order, bsize and fsize, as the first superblock in copy.img has them
+#   sizes                    sets order, bsize and fsize, as the first superblock in copy.img has them, and from=copy.img
+#   keep                     makes further.img the copy, and sets these anew
 #   place I                  the byte where inode I lies
-#   maps                     what ffs_find lost prints, or a complaint
+#   maps                     what ffs_find lost prints of the image `from`, or a complaint
 #   lost                     the fragments that the maps mark and no inode has: first and last of each range, by ffs_find lost
+#   lost_blocks              the first fragment of each whole block among these
+#   words B                  the words of the indirect block at fragment B, each after its number
+#   joined B                 the file list: the words of the indirect block at B that aren't 0, where these rise, and the lost blocks, rising
+#   rising                   lost blocks whose words rise, as those of an indirect block do, and how many words each has
 #   whole                    how many bytes the image should have, by its superblock
 #   last_copy                the sector of the superblock's copy in the last group, by its superblock
 #   groups                   of each group the fragment at which its block begins, and the bytes of its inode map, by its superblock
@@ -16,9 +21,13 @@
 #   entries FIRST LENGTH [I] what looks like an entry in these bytes, of inode I alone where it is given, also where no directory
 #                            has it: byte, number, record length, type, length of the name, name (control bytes are shown as ?)
 #   clear_inode I            makes inode I of further.img zeros
+#   exchange I J             exchanges the inodes I and J of further.img
 #   directories              puts anew in further.img the inode of each directory that has its `.` among the entries on standard input,
-#                            where no file or directory is: those that follow from there on, chunk by chunk. Its links are 2
-#   new_root F               puts inode 2 anew in further.img, as a directory in fragment F that has nothing but `.` and `..`
+#                            where that is free, in fragments that nothing has. What comes after its first fragment is taken
+#                            where its first entry didn't fit before. Its links are 2, and its mode 700 (755 of the root)
+#   new_root F               puts inode 2 anew in further.img, as a directory in the free fragment F that has nothing but `.` and `..`
+#   zeros B                  makes the indirect block at fragment B of further.img zeros, where it is one of one file alone
+#   refill B                 the same, and names the blocks of the file list in it, a line each, in its order
 
 set -u
 
@@ -32,7 +41,12 @@ sizes() {
     set -- $(ffs_find copies copy.img | tr / ' ' | awk '$2 == "little" || $2 == "big" { print; exit }')
     [ $# -gt 3 ] || { complain "rescue.sh: no superblock is found in copy.img, so order, bsize and fsize aren't set"; return 1; }
     # shellcheck disable=SC2034
-    order=$2 bsize=$3 fsize=$4
+    order=$2 bsize=$3 fsize=$4 from=copy.img
+}
+
+keep() {
+    [ -s further.img ] || { complain "keep: there is no further.img, or it is empty"; return 1; }
+    mv further.img copy.img && sizes
 }
 
 place() {
@@ -40,7 +54,7 @@ place() {
 }
 
 maps() (
-    found=$(ffs_find lost copy.img)
+    found=$(ffs_find lost "$from")
     [ $? -le 1 ] || { complain "ffs_find lost: $found"; exit 1; }
     echo "$found" | grep '^no map' >&2
     echo "$found"
@@ -111,29 +125,97 @@ clear_inode() (
     p=$(place "$1") && dd if=/dev/zero of=further.img bs=128 seek=$((p / 128)) count=1 conv=notrunc,nocreat status=none
 )
 
+exchange() (
+    a=$(place "$1") && b=$(place "$2") && for at in "$a $b" "$b $a"; do
+        dd if=copy.img of=further.img bs=128 skip=$((${at% *} / 128)) seek=$((${at#* } / 128)) count=1 conv=notrunc,nocreat status=none || exit 1
+    done
+)
+
 # directory I F SIZE: puts inode I anew, as a directory of so many bytes whose blocks follow one another from fragment F on
 directory() (
-    p=$(place "$1") && clear_inode "$1" && put "$p" 2 040755 && put "$p + 2" 2 2 && put "$p + 8" 8 "$3" &&
+    p=$(place "$1") && clear_inode "$1" && put "$p" 2 "$([ "$1" = 2 ] && echo 040755 || echo 040700)" && put "$p + 2" 2 2 && put "$p + 8" 8 "$3" &&
         put "$p + 104" 4 "($3 + $fsize - 1) / $fsize * $fsize / 512" &&
         for k in $(seq 0 $((($3 - 1) / bsize))); do
             [ "$k" -gt 11 ] || put "$p + 40 + 4 * $k" 4 "$2 + $k * $bsize / $fsize" || exit 1
         done
 )
 
-directories() {
-    awk -v fsize="$fsize" 'function last() { if (i) print i, at / fsize, 512 * (chunk + 1) - at; i = 0 }
-        $5 == 1 && $6 == "." && $1 % fsize == 0 { last(); i = $2; at = $1; chunk = at / 512; next }
-        i && int($1 / 512) <= chunk + 1 { chunk = int($1 / 512); next }
+# Of the lines of entries, in ascending order: inode, first fragment and size of each directory that begins among them. A chunk at the next
+# fragment is taken for its own where the blocks allow it, and its first entry didn't fit into the chunk before
+begun_directories() {
+    awk -v fsize="$fsize" -v bsize="$bsize" '
+        function last() { if (i) print i, at / fsize, 512 * (chunk + 1) - at; i = 0 }
+        function need() { return 8 + 4 * int(($5 + 4) / 4) }
+        function count() { if (int($1 / 512) != chunk) { chunk = int($1 / 512); live = 512 * chunk; room = 512 }
+            if ($1 == live) { live += $3; room -= $2 ? need() : 0 } }
+        function near() { return int($1 / 512) == chunk + 1 && (at % bsize == 0 || int($1 / 512) * 512 % bsize) }
+        function follows() { return int($1 / 512) == chunk || near() && ($1 % fsize >= 512 || need() > room) }
+        $5 == 1 && $6 == "." && $2 > 1 && $1 % fsize == 0 { last(); i = $2; at = $1; chunk = -1; count(); next }
+        i && follows() { count(); next }
+        i && near() { print "directories: what lies from byte", $1, "on may be of inode", i, "too" >"/dev/stderr" }
         { last() }
-        END { last() }' | while read -r i f size; do
-        ffs_find inode "$i" copy.img | grep -q '^class [df]i' || directory "$i" "$f" "$size"
-    done
+        END { last() }'
 }
 
+directories() (
+    taken=" "
+    begun_directories | sort -s -k 3,3nr | while read -r i f size; do
+        class=$(ffs_find inode "$i" copy.img | sed -n 's/^class //p')
+        case $class in file | directory) continue ;; esac
+        why=$(for k in $(seq "$f" $((f + (size - 1) / fsize))); do ffs_find owner "$k" copy.img; done | grep -vE '^(lost|free|no map)' | head -n 1)
+        case $taken in *" $i "*) why="a longer one was put" ;; esac
+        case $class in partial | unknown) why="it isn't empty ($class): mend it, or clear it first" ;; esac
+        if [ "$why" ]; then
+            complain "directories: inode $i isn't put at fragment $f: $why"
+        else
+            taken="$taken$i " && directory "$i" "$f" "$size"
+        fi
+    done
+)
+
 new_root() (
+    case $(ffs_find owner "$1" copy.img) in free | "no map"*) ;; *) complain "new_root: fragment $1 isn't free: see ffs_find owner $1 copy.img"; exit 1 ;; esac
     d=$(($1 * fsize)) && dd if=/dev/zero of=further.img bs="$fsize" seek="$1" count=1 conv=notrunc,nocreat status=none &&
         put $d 4 2 && put $d+4 2 12 && put $d+6 1 4 && put $d+7 1 1 && put $d+8 1 0x2e &&
         put $d+12 4 2 && put $d+16 2 500 && put $d+18 1 4 && put $d+19 1 2 && put $d+20 2 0x2e2e && directory 2 "$1" 512
+)
+
+words() {
+    dd if=copy.img bs="$fsize" skip="$1" count=$((bsize / fsize)) status=none | od -A n -v -t u4 -w4 --endian="$order" | nl -v 0
+}
+
+lost_blocks() (
+    found=$(lost) || exit 1
+    echo "$found" | awk -v frag=$((bsize / fsize)) 'NF { for (f = frag * int(($1 + frag - 1) / frag); f + frag - 1 <= $2; f += frag) print f }'
+)
+
+joined() (
+    : >list
+    named=$(words "$1" | awk '$2 { print $2 }')
+    echo "$named" | sort -nc 2>/dev/null || { complain "joined: the words of the block at fragment $1 don't rise, so their order isn't known"; exit 1; }
+    { echo "$named"; lost_blocks; } | sort -nu | grep . >list
+)
+
+rising() {
+    lost_blocks | while read -r b; do
+        words "$b" | awk -v b="$b" '!$2 { z = 1; next } z || $2 <= last { bad = 1; exit } { last = $2; n++ } END { if (!bad && n) print b, n }'
+    done
+}
+
+zeros() {
+    [ "$(ffs_find owner "$1" copy.img | sed 's/^inode [0-9]* indirect block [0-9]*$/indirect/')" = indirect ] ||
+        { complain "fragment $1 isn't an indirect block of one file alone: see ffs_find owner $1 copy.img"; return 1; }
+    dd if=/dev/zero of=further.img bs="$fsize" seek="$1" count=$((bsize / fsize)) conv=notrunc,nocreat status=none
+}
+
+refill() (
+    count=$(grep -c '[0-9]' list) || :
+    if [ "${count:-0}" = 0 ] || [ "$count" -gt $((bsize / 4)) ]; then
+        complain "refill: the list has ${count:-no} blocks, and an indirect block names 1 to $((bsize / 4))"
+        exit 1
+    fi
+    zeros "$1" && perl -ne 'BEGIN { ($order, $at) = splice @ARGV, 0, 2; open F, "+<", "further.img" or die "refill: further.img: $!\n"; seek F, $at, 0 }
+        print F pack $order eq "little" ? "V" : "N", $_ if /[0-9]/; END { close F or die "refill: $!\n" }' "$order" $(($1 * fsize)) list
 )
 
 sizes

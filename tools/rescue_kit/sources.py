@@ -43,6 +43,19 @@ def make_large_tree(top):
         it.write(random.Random(SEED).randbytes((12 + 1024 + 6) * 4096 + 100) + b"\1")
 
 
+def make_directories(top):
+    """A directory of two blocks of 4,096 bytes and a chunk, and small ones."""
+    for number in range(180):
+        path = f"{top}/names/a_rather_long_name_of_a_file_{number:03}"
+        os.makedirs(os.path.dirname(path), exist_ok=True)
+        with open(path, "wb") as it:
+            it.write(b"%d" % number * 10)
+    for number in range(24):
+        os.makedirs(f"{top}/small_{number}")
+        with open(f"{top}/small_{number}/file", "wb") as it:
+            it.write(b"%d" % number * 30)
+
+
 @dataclass
 class Kind:
     """A kind of volume: its byte order, the size and words that makefs takes, how its tree is made, and a word of the damages that it has."""
@@ -68,4 +81,6 @@ KINDS = [
     Kind("be", "8m", "version=1,bsize=8192,fsize=1024,density=8192,maxbpcg=100"),
     Kind("le", "12m", SMALL, make_large_tree, "large file"),
     Kind("be", "12m", SMALL, make_large_tree, "large file"),
+    Kind("le", "4m", "version=1,bsize=4096,fsize=512,density=4096", make_directories, "last part"),
+    Kind("be", "4m", "version=1,bsize=4096,fsize=512,density=4096", make_directories, "last part"),
 ]

@@ -3,7 +3,7 @@ import os
 import random
 
 from .. import sources
-from ..case import NotHere, entries_of, fragments_of, number_of, owners_of
+from ..case import NotHere, Wrong, entries_of, fragments_of, number_of, owners_of
 from .all import damage
 from .inodes import first_lost, free_block, mend, mend_free, mend_shared
 from .names import entries_of_inode, place_of
@@ -229,18 +229,83 @@ def directories_zero(case):
     case.run("all")
 
 
-def put_last_part(case):
+def put_last_part(case, path="docs/names"):
     """The last part of a directory that lies elsewhere: puts it after what the recipe `directories` found."""
     layout = case.volume.layout
     nameless = {message["inode"] for message in case.check_again().of("UNREF")}
     at = [entry.byte for entry in entries_of(case.run("lost-names")) if entry.number in nameless]
     if not at:
         return
-    i = int(case.run("number-of", path="docs/names"))
+    i = int(case.run("number-of", path=path))
     k = max(fragments_of(case.run("inode", i=i))) + 1
     size = k * layout.bsize + at[-1] % layout.fsize // 512 * 512 + 512
     blocks = (k * layout.frag + 1) * layout.fsize // 512
     case.run("further place address size blocks keep", i=i, k=k, f=at[0] // layout.fsize, size=size, blocks=blocks)
+
+
+@damage("the inodes of all directories but the root became zeros, and the last part of one lies right after another one")
+def last_part_after_other(case):
+    volume, right = case.volume, bytes(case.volume.image)
+    if "names" not in case.tree:
+        raise NotHere
+    numbers = {path: volume.find(path) for path, it in case.tree.items() if it == "directory"}
+    begins = {volume.blocks(i)[0] for path, i in numbers.items() if path != "names"}
+    files = {volume.blocks(volume.find(path))[0]: volume.find(path) for path in case.tree if path.startswith("small_") and path not in numbers}
+    after = next(f for f in files if f - 1 in begins and f % volume.layout.frag)
+    last, fsize = volume.blocks(numbers["names"])[2], volume.layout.fsize
+    for f, other in ((after, last), (last, after)):
+        volume.image[f * fsize:f * fsize + fsize] = right[other * fsize:other * fsize + fsize]
+    volume.put_inode(files[after], direct0=last)
+    volume.put_inode(numbers["names"], direct2=after)
+    if volume.tree() != case.tree:
+        raise Wrong("the blocks weren't exchanged")
+    for i in numbers.values():
+        volume.zero(volume.layout.inode_place(i), 128)
+    case.at_stake(*case.tree)
+    case.report("UNALLOCATED")
+    case.run("further directories check")
+    strange = {path for tree in case.trees for path in tree} - set(case.tree)
+    if strange:
+        raise Wrong(f"names are in a directory that isn't theirs: {min(strange)}")
+    case.run("keep")
+    put_last_part(case, "names")
+    case.run("all")
+
+
+@damage("the inode of a directory whose first chunk has room became zeros")
+def first_chunk_with_room(case):
+    volume, fsize = case.volume, case.volume.layout.fsize
+    i = volume.find("docs/pages")
+    for k, (place, _, _, _, name) in enumerate(volume.entries(i)):
+        if name not in (".", "..") and k < 28:
+            volume.image[place + 7:place + 16] = bytes((1, ord("A") + k)) + bytes(7)
+    case.tree = volume.tree()
+    volume.zero(volume.layout.inode_place(i), 128)
+    case.at_stake(*[path for path in case.tree if path.startswith("docs/pages")])
+    i = case.report("UNALLOCATED", "UNREF").first("UNALLOCATED")["inode"]
+    if case.run("further directories check").status == 0:
+        return
+    case.run("keep")
+    first = fragments_of(case.run("inode", i=i))[0] * fsize
+    size = entries_of(case.run("lost-names"))[-1].byte // 512 * 512 + 512 - first
+    case.run("further place size blocks check", i=i, size=size, blocks=-(-size // fsize) * fsize // 512)
+
+
+@damage("the inode of a directory became zeros, and a file has an image of the directory in it")
+def image_in_file(case):
+    """The image comes after its directory on the disk."""
+    volume, layout = case.volume, case.volume.layout
+    i = volume.find("mail/in")
+    place = volume.blocks(i)[0] * layout.fsize
+    inner = volume.blocks(volume.find("big/film"))[3] * layout.fsize
+    right = case.tree["big/film"]
+    volume.image[inner:inner + 512] = volume.image[place:place + 512]
+    case.tree["big/film"] = right[:3 * layout.bsize] + bytes(volume.image[place:place + 512]) + right[3 * layout.bsize + 512:]
+    volume.zero(layout.inode_place(i), 128)
+    case.at_stake("mail/in", "mail/in/one", "mail/in/two", "big/film")
+    case.report("UNALLOCATED", "UNREF")
+    if case.run("further directories-anywhere check").status:
+        raise Wrong("what lies in a file was taken for the directory")
 
 
 def files_of(case):
@@ -296,10 +361,10 @@ def bring_back(case):
         f -= 1
     found = case.run("further new-root check", f=f)
     case.run("keep")
-    case.run("further every")
-    case.run("unnamed", **{"from": "further.img"})
+    case.run("every")
+    case.run("unnamed", **{"from": "every.img"})
     # No tool of Sleuthkit reads the copy, and all can be given the other.
-    os.replace(f"{case.place}/further.img", f"{case.place}/copy.img")
+    os.replace(f"{case.place}/every.img", f"{case.place}/copy.img")
     for message in found.of("UNREF"):
         case.run("below", i=message["inode"])
 
@@ -317,8 +382,8 @@ def root_and_group_zeroed(case):
     found = case.check_again("DIRECTORY CORRUPTED", "CG: BAD MAGIC NUMBER")
     for message in found.of("UNREF"):
         case.run("below", i=message["inode"])
-    case.run("further every")
-    case.run("unnamed", **{"from": "further.img"})
+    case.run("every")
+    case.run("unnamed", **{"from": "every.img"})
 
 
 @damage("a directory's inode was overwritten by that of a file")
@@ -366,6 +431,17 @@ def mend_counts(case, i, found, recipes, **values):
     blocks = found.first("INCORRECT BLOCK COUNT")["right_count"]
     links = found.first("LINK COUNT")["right_count"]
     mend(case, i, recipes + " links blocks", blocks=blocks, links=links, **values)
+
+
+@damage("the mode of inode 2 became 0")
+def root_mode_zero(case):
+    case.volume.put_inode(2, mode=0)
+    case.at_stake(*case.tree)
+    case.report("ROOT INODE UNALLOCATED", "PARTIALLY ALLOCATED INODE")
+    case.run("further directories")
+    if case.bytes_of("further.img") != case.bytes_of("copy.img"):
+        raise Wrong("an inode that isn't empty was put anew")
+    mend(case, 2, "mode", mode="40755")
 
 
 @damage("inode 2 became a file")

@@ -22,7 +22,7 @@ def group_magic(case):
     all_at_stake(case)
     case.report("CG: BAD MAGIC NUMBER")
     case.run("names all attributes")
-    case.run("further every")
+    case.run("every")
     attributes = case.bytes_of("saved.list").decode()
     missing = [path for path, text in sources.SHORT_LINKS.items() if f"/{path} -> {text}|" not in attributes]
     if missing or "|/pipe|" not in attributes:
@@ -35,11 +35,23 @@ def group_zeroed(case):
     all_at_stake(case)
     case.report("CG: BAD MAGIC NUMBER")
     case.run("names")
-    case.run("further every")
+    case.run("every")
     numbers = case.run("inodes").split()
     case.run("bytes", i=case.run("number-of", path="docs/letter").strip())
     if len(numbers) != len(set(numbers)) or str(case.volume.find("docs/letter")) not in numbers:
         raise Wrong(f"the recipe inodes has {len(numbers)} inodes")
+
+
+@damage("a cylinder group's block and a file's inode became zeros")
+def group_and_inode_zeroed(case):
+    volume, path = case.volume, "docs/report"
+    c = volume.blocks(volume.find(path))[0] // volume.layout.fpg
+    volume.zero(volume.layout.group_place(c), volume.layout.bsize)
+    volume.zero(volume.layout.inode_place(volume.find(path)), 128)
+    case.at_stake(path)
+    case.report("CG: BAD MAGIC NUMBER")
+    case.run("every")
+    case.run("rest", **{"from": "every.img"})
 
 
 @damage("the blocks of two cylinder groups were overwritten by text")
@@ -50,7 +62,7 @@ def groups_overwritten(case):
         volume.image[volume.layout.group_place(c):volume.layout.group_place(c) + volume.layout.bsize] = text
     files_at_stake(case)
     case.report("CG: BAD MAGIC NUMBER")
-    case.run("further every")
+    case.run("every")
 
 
 @damage("a byte of an inode map became zeros")
@@ -60,7 +72,7 @@ def inode_map_byte(case):
     volume.zero(place + volume.number(place + formats.GROUP["iusedoff"][0], 4), 1)
     files_at_stake(case)
     case.report("BLK(S) MISSING IN BIT MAPS")
-    case.run("further every")
+    case.run("every")
 
 
 @damage("a bit of a map of fragments was cleared")

@@ -255,7 +255,7 @@ def indirect_zeroed(case):
 
 
 def refill(case, i):
-    case.run("further list refill check", f=fragments_of(case.run("inode", i=i))[12])
+    case.run("further list refill check", b=fragments_of(case.run("inode", i=i))[12])
 
 
 @damage("the indirect blocks of two files became zeros")
@@ -275,7 +275,7 @@ def two_indirect_zeroed(case):
     for i in sorted(missed, key=lambda i: fragments_of(case.run("inode", i=i))[11]):
         put_list(case, blocks[:missed[i]])
         blocks = blocks[missed[i]:]
-        case.run("refill", f=fragments_of(case.run("inode", i=i))[12])
+        case.run("refill", b=fragments_of(case.run("inode", i=i))[12])
     case.run("check")
 
 
@@ -288,7 +288,7 @@ def blocks_of(text, frag):
 def put_list(case, blocks):
     """The list that *refill* takes, of these blocks alone."""
     with open(f"{case.place}/list", "w", encoding="ascii") as it:
-        it.writelines(f"{f} {f}\n" for f in blocks)
+        it.writelines(f"{f}\n" for f in blocks)
 
 
 def damage_word(case, k, number):
@@ -346,6 +346,107 @@ def word_zero(case):
     mend_word(case, case.report("INCORRECT BLOCK COUNT").first("INCORRECT BLOCK COUNT")["inode"], 0)
 
 
+@damage("words of an indirect block were moved by one, over the last one")
+def words_moved(case):
+    at, count = indirect_place(case), len(case.volume.blocks(case.volume.find("big/film"))) - 12
+    move_words(case, at + 4 * 17, at + 4 * 18, count - 18, 17)
+
+
+@damage("words of an indirect block were moved back by one, over another one")
+def words_moved_back(case):
+    at, count = indirect_place(case), len(case.volume.blocks(case.volume.find("big/film"))) - 12
+    move_words(case, at + 4 * 18, at + 4 * 17, count - 18, count - 1)
+
+
+@damage("words of an indirect block were moved by one, the last one too")
+def words_moved_past(case):
+    volume = case.volume
+    at, count = indirect_place(case), len(volume.blocks(volume.find("big/film"))) - 12
+    volume.image[at + 4 * 18:at + 4 * (count + 1)] = volume.image[at + 4 * 17:at + 4 * count]
+    damage_word(case, 17, 0)
+    i = case.report("PARTIALLY TRUNCATED INODE", "INCORRECT BLOCK COUNT").first("PARTIALLY TRUNCATED INODE")["inode"]
+    if right_most(case, i) // volume.layout.bsize != -(-volume.inode(i)["size"] // volume.layout.bsize):
+        raise Wrong("its count gives another size")
+    case.run("joined further refill check", b=fragments_of(case.run("inode", i=i))[12])
+
+
+def move_words(case, source, target, count, zero):
+    """Moves words of the film's indirect block, and makes one zero; a check of the lost block there ends with 0, over wrong bytes."""
+    image = case.volume.image
+    image[target:target + 4 * count] = image[source:source + 4 * count]
+    damage_word(case, zero, 0)
+    i = case.report("INCORRECT BLOCK COUNT").first("INCORRECT BLOCK COUNT")["inode"]
+    b, f = fragments_of(case.run("inode", i=i))[12], first_lost(case)
+    words, step = words_of(case, i, 12), case.volume.layout.frag
+    if put_lost(case, i, 12, zero).status or case.has_bytes("big/film") or words[zero - 1] + step == f or words[zero + 1] - step == f:
+        raise Wrong("the lost block fits at the word that is 0, or a check of it doesn't end with 0")
+    case.run("joined further refill check", b=b)
+
+
+@damage("the address of an indirect block became that of a free block that has text")
+def indirect_address_free(case):
+    volume, layout = case.volume, case.volume.layout
+    f = free_block(case)
+    volume.image[f * layout.fsize:f * layout.fsize + layout.bsize] = (b"All work and no play makes Jack a dull boy. " * layout.bsize)[:layout.bsize]
+    indirect_address(case, f)
+
+
+@damage("the address of an indirect block became that of another file's block")
+def indirect_address_shared(case):
+    volume = case.volume
+    indirect_address(case, volume.blocks(volume.find("big/photo"))[3])
+
+
+def indirect_address(case, f):
+    """Damages the address of the film's indirect block, and puts the first lost fragment there: what it names is another's, or free."""
+    case.volume.put_inode(case.volume.find("big/film"), single=f)
+    case.at_stake("big/film", "big/photo")
+    found = case.report("EXCESSIVE BAD BLKS")
+    i = found.first("EXCESSIVE BAD BLKS")["inode"]
+    f = fragments_of(case.run("inode", i=i))[12]
+    if found.of("DUP"):
+        case.refuses("further zeros", b=f)
+        case.refuses("further list refill", b=f)
+    elif not any(int(line.split()[0]) <= f <= int(line.split()[-1]) for line in case.run("marked-free").splitlines()):
+        raise Wrong(f"{f} isn't marked free")
+    mend(case, i, "address", k=12, f=first_lost(case))
+
+
+@damage("the addresses of a file's fragments and of a whole block after them became 0")
+def unaligned(case):
+    volume, layout = case.volume, case.volume.layout
+    tails = {run.start + run.length: volume.find(path) for path, data in case.tree.items() if isinstance(data, bytes) and path not in SHORT_LINKS
+             for run in volume.runs(volume.find(path))[-1:] if run.length < layout.frag}
+    path, k, f = next((path, run.block, run.start) for path, data in case.tree.items() if isinstance(data, bytes) and path not in SHORT_LINKS
+                      for run in volume.runs(volume.find(path)) if run.start in tails and run.length == layout.frag and run.block is not None and run.block < 12)
+    whole, part = volume.find(path), tails[f]
+    volume.put_inode(whole, **{f"direct{k}": 0})
+    volume.put_inode(part, **{f"direct{len(volume.blocks(part)) - 1}": 0})
+    case.at_stake(path, next(it for it in case.tree if volume.find(it) == part))
+    case.report("INCORRECT BLOCK COUNT")
+    case.run("list")
+    with open(f"{case.place}/list", encoding="ascii") as it:
+        f = int(it.readline())
+    mend(case, whole, "address", k=k, f=f)
+    case.run("keep")
+    mend(case, part, "address", k=len(volume.blocks(part)), f=first_lost(case))
+
+
+@damage("a word of an indirect block became 0, of a file whose words don't rise")
+def word_zero_out_of_order(case):
+    volume, image = case.volume, case.volume.image
+    at, bsize, fsize = indirect_place(case), volume.layout.bsize, volume.layout.fsize
+    first, second = (volume.number(at + 4 * k, 4) for k in (3, 9))
+    places = [slice(f * fsize, f * fsize + bsize) for f in (first, second)]
+    image[places[0]], image[places[1]] = image[places[1]], image[places[0]]
+    volume.put(at + 4 * 3, 4, second)
+    volume.put(at + 4 * 9, 4, first)
+    damage_word(case, 17, 0)
+    i = case.report("INCORRECT BLOCK COUNT").first("INCORRECT BLOCK COUNT")["inode"]
+    case.refuses("joined", b=fragments_of(case.run("inode", i=i))[12])
+    mend_word(case, i, 0)
+
+
 def double_of(case):
     """The inode of the large file, and its double indirect block."""
     if "big/archive" not in case.tree:
@@ -381,9 +482,9 @@ def large_overwritten(case):
     case.report("EXCESSIVE BAD BLKS")
     f = fragments_of(case.run("inode", i=i))[12]
     case.run("list")
-    case.refuses("further refill", f=f)
-    case.run("further zeros keep", f=f)
-    case.run("further list refill check", f=f)
+    case.refuses("further refill", b=f)
+    case.run("further zeros keep", b=f)
+    case.run("further list refill check", b=f)
 
 
 @damage("a file's indirect block was overwritten by that of a large file")
@@ -397,8 +498,8 @@ def indirect_of_other(case):
     numbers = {message["inode"] for message in case.report("EXCESSIVE DUP BLKS").of("EXCESSIVE DUP BLKS")}
     for i in owners_of(case.run("owners", f=case.check_again().first("DUP")["fragment"])):
         addresses = fragments_of(case.run("inode", i=i))
-        case.run("further zeros keep", f=addresses[12])
-        if case.run("further list refill check", f=addresses[12]).status == 0:
+        case.run("further zeros keep", b=addresses[12])
+        if case.run("further list refill check", b=addresses[12]).status == 0:
             return
         case.run("further")
 
@@ -420,7 +521,7 @@ def second_zeroed(case):
     i, double = double_of(case)
     volume.zero(volume.number(double * volume.layout.fsize, 4) * volume.layout.fsize, volume.layout.bsize)
     i = case.report("INCORRECT BLOCK COUNT").first("INCORRECT BLOCK COUNT")["inode"]
-    case.run("further list refill check", f=words_of(case, i, 13)[0])
+    case.run("further list refill check", b=words_of(case, i, 13)[0])
 
 
 @damage("a file got the address of another one's block")
@@ -713,15 +814,17 @@ def refused(case):
     case.refuses("further word", b=0, k=0, f=9)
     case.refuses("further word", b=case.volume.layout.size, k=0, f=9)
     case.refuses("further number", e=2, i=i)
-    case.refuses("further refill", f=99)
+    case.refuses("further refill", b=99)
     put_list(case, range(100, 100 + case.volume.layout.bsize))
-    case.refuses("further refill", f=99)
-    case.refuses("further list refill", f=0)
+    case.refuses("further refill", b=99)
+    case.refuses("further list refill", b=0)
+    f = fragments_of(case.run("inode", i=i))[0]
+    case.refuses("further zeros", b=f)
+    case.refuses("further list refill", b=f)
+    case.refuses("further new-root", f=f)
     case.refuses("exchange", i=i, j=99999999)
     for recipe in ("inode", "bytes", "names-of", "text", "owners"):
         case.refuses(recipe)
-    os.remove(f"{case.place}/further.img")
-    case.refuses("every")
     case.run("bytes", i=i)
 
 
@@ -748,7 +851,6 @@ def moved(case):
     alike = [case.run("inode", i=k).partition("\n")[2] for k in (i, i + m)]
     if alike[0] != alike[1]:
         raise Wrong(f"inodes {i} and {i + m} differ")
-    case.run("further place moved check", i=i, m=m, n=first + count - m - i)
-    for k in range(first + count - m, first + count):
-        case.run("clear", i=k)
-    case.run("keep all")
+    for k in range(i, first + count - m):
+        case.run("bytes", i=k + m)
+    case.run("names all")

@@ -186,7 +186,7 @@ def deleted_over_file(case):
     volume.put(after + 4, 2, place + length - after)
     case.at_stake(*[path for path, data in case.tree.items() if isinstance(data, bytes) and path not in SHORT_LINKS])
     case.report()
-    case.run("further every")
+    case.run("every")
 
 
 @damage("an entry's record length became 0")

@@ -180,6 +180,43 @@ def begin_missing(case):
     case.run("further gap check", at=0, n=16 - first)
 
 
+@damage("more of the begin of the image is missing than its superblock")
+def begin_far(case):
+    begin_without(case, 40)
+
+
+@damage("as much of the begin of the image is missing as makes the first copy the superblock")
+def begin_16(case):
+    begin_without(case, 16)
+
+
+def begin_without(case, count):
+    """Takes the begin, and puts in as many sectors as the image is shorter than the volume, and a copy in the superblock's place."""
+    volume = case.volume
+    case.at_stake(*files_clear_of(case, 0, count * SECTOR))
+    del volume.image[:count * SECTOR]
+    case.report("BAD SUPER BLOCK")
+    lines = [line.split() for line in case.run("look").splitlines()]
+    if any(line[4] == "group" for line in lines):
+        raise Wrong("a copy is called that of a group")
+    n = int(lines[0][3]) * volume.layout.fsize // SECTOR - len(volume.image) // SECTOR
+    case.run("further gap keep", at=0, n=n)
+    case.run("further superblock check", sector=next(line.split()[0] for line in case.run("copies").splitlines() if " group " in line))
+    adopt(case)
+
+
+@damage("the copy has more sectors in its middle than the disk")
+def surplus(case):
+    at = case.volume.layout.copy_place(3) // SECTOR - 20
+    case.volume.image[at * SECTOR:at * SECTOR] = bytes(GAP * SECTOR)
+    all_at_stake(case)
+    case.report("BAD SUPER BLOCK")
+    lines = [line.split() for line in case.run("copies").splitlines()]
+    k = next(k for k, line in enumerate(lines) if line[4] == "other")
+    n = int(lines[k][0]) - 2 * int(lines[k - 1][0]) + int(lines[k - 2][0])
+    case.run("further surplus check", at=at, n=n)
+
+
 def files_clear_of(case, begin, end):
     """The paths that have neither their inode nor bytes between two bytes of the image."""
     volume, fsize = case.volume, case.volume.layout.fsize
