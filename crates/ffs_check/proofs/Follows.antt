@@ -9,11 +9,11 @@ use Rattle.ffs_volume.specs.{Messages.{Kinds.{has_defect, stops_at_last}, Texts.
 use Rattle.ffs_volume.specs.Report.Whole.{end_by, report_of, report_end, EndAgrees}
 use Rattle.ffs_report.specs.{Sink.Took, Known.IsContents, Progress.Progress}
 use Rattle.ffs_layout.specs.{declared.superblock.Super.Super, Super.{ReadsSuper, superblock_in}}
-use Rattle.ffs_check.specs.{Ends.Cut, Headline.{Headline, HeadingsOfCheck, IsCutShort, IsEndOfReport}, Moment.{Moment, ReportMoment}}
-use Rattle.ffs_check.specs.{Headings.{HeadingsWentOut, TookSections, headings_before}, Headline.OpenedThenSections}
+use Rattle.ffs_check.specs.{Ends.Cut, Headline.{Headline, IsCutShort, IsEndOfReport}, Moment.{Moment, ReportMoment}}
+use Rattle.ffs_check.{specs.Headings.{TookSections, headings_before}, proofs.Sections.{HeadingsOfCheck, HeadingsWentOut}}
 use Rattle.ffs_check.specs.{Moment.at_output, Opening.OpeningOf, PhaseEnds.{IsCutByRead, IsEndByRoot, LastStops}}
 use Rattle.ffs_check.{specs.PhaseEnds.{SaysNoMemory, SaysRest}, proofs.Openings.{found_of, no_defect_head, unfailed_of}}
-use Rattle.ffs_check.proofs.{Endings.{at_contents, at_known}, EndLaws.{cut_after, ends_after, line_after}}
+use Rattle.ffs_check.proofs.{Endings.{at_contents, at_known}, EndLaws.{cut_after, ends_after, line_after, took_messages}}
 use Rattle.ffs_check.proofs.Headlines.{whole_there, defect_there, end_of_there, end_there, certifies, last_says}
 
 -- the end that the root and a text's defects make agrees with that text
@@ -106,9 +106,15 @@ module _ (name : List ℕ) (sector : Option ℕ) (old : Moment) (s : Superblock)
     }))
 
   -- the opening, and then the headings that the phases said
-  opened_then : (wanted : Option (List Message)) → IfSome wanted (TookSections report.sink new.report.sink) →
-      IfSome wanted (OpenedThenSections name sector old.out new.report.sink)
-  opened_then (Some headings) phases = record { found = s; between = report.sink; opened = opened; phases = phases }
+  opened_then : (wanted : Option (List Message)) → IfSome wanted (TookSections [] report.sink new.report.sink) →
+      IfSome wanted (λ headings. (found : Superblock)
+      × TookSections (opening_lines name sector (Ok found)) old.out new.report.sink headings)
+  opened_then (Some headings) phases = (s, record {
+    messages = phases.messages;
+    took = took_messages old.out report.sink new.report.sink (opening_lines name sector (Ok s)) phases.messages opened
+        phases.took;
+    sections = phases.sections;
+  })
   opened_then None phases = tt
 
   pub follows : SaysRest s (record { image = old.image; reads = between; report = report }) new end →

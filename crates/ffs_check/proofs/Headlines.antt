@@ -13,7 +13,7 @@ use Rattle.ffs_volume.specs.Messages.{Texts.texts_of, Kinds.{stops_at_last, stop
 use Rattle.ffs_report.specs.Sink.{BrokeOff, Took}
 use Rattle.ffs_layout.specs.Super.{ReadsSuper}
 use Rattle.ffs_certificate.proofs.ReportLaws.{certified}
-use Rattle.ffs_check.specs.{Ends.BrokeOffInLine, Headline.{Certifies, Headline, HeadingsOfCheck}}
+use Rattle.ffs_check.{specs.{Ends.BrokeOffInLine, Headline.{Certifies, Headline}}, proofs.Sections.HeadingsOfCheck}
 use Rattle.ffs_check.{specs.{Moment.Moment, PhaseEnds.can_end_report, Opening.OpeningOf}, proofs.EndLaws.broke_after}
 use Rattle.ffs_check.proofs.{EndLaws.broke_more, Endings.{at_contents, at_known}, Openings.no_defect_head}
 

@@ -2,12 +2,14 @@
 use Rattle.std.proofs.Common.{arith, ◌≡◌, refl, ◌∙◌, sym, ap, subst, Bool, true, false, List, [], ◌∷◌, ◌++◌, append_assoc}
 use Rattle.std.proofs.Common.{append-nil, ◌||◌, Option, Some, None, IfSome, Result, Ok, Err, inl, inr, ℕ}
 use Rattle.ffs_image.specs.Device.{Device}
+use Rattle.ffs_volume.specs.{Disk.Superblock.Superblock, Report.Opening.opening_lines}
+use Rattle.ffs_report.specs.Sink.{Sink}
 use Rattle.ffs_volume.specs.{declared.End.End, Report.Whole.end_by, Messages.{Kinds.{Message, cannot_read, phase1, phase2}, Texts.texts_of}}
 use Rattle.ffs_report.specs.{PhaseOutcome.{HeadingFirst, ImageAfter, PhaseReports}, Progress.{Progress, Said, Says}}
 use Rattle.ffs_report.specs.declared.fault.RunFault.{RunFault, TheVariants.{Read, Out}}
 use Rattle.ffs_report.proofs.Reports.{said_none, said_then, stopped_after}
 use Rattle.ffs_pathnames.specs.declared.pass2.Root.{Root, TheVariants.{Go, Stop}}
-use Rattle.ffs_check.specs.Headings.{HasSections, HeadingsWentOut, TookSections, all_headings, headings_before}
+use Rattle.ffs_check.specs.Headings.{HasSections, TookSections, all_headings, headings_before}
 use Rattle.ffs_check.{specs.PhaseEnds.{EndsAs, SaysSections}, proofs.EndLaws.took_messages}
 
 -- ---- a text and its sections
@@ -148,6 +150,15 @@ pub two_said : {start now : Progress} (root : Root) → root ≡ Stop → Headed
 two_said {start} {now} root e at = subst (λ (r : Root). SaysSections start now (Ok r)) (sym e)
     (record { messages = at.messages; says = at.said; sections = at.sections })
 
+-- the messages after an opening went out in the sections of the headings that come before an end
+abbrev pub HeadingsWentOut : Sink → Sink → End → Type 0
+HeadingsWentOut old new end = IfSome (headings_before end) (TookSections [] old new)
+
+-- the same, after the opening of some superblock
+abbrev pub HeadingsOfCheck : List ℕ → Option ℕ → Sink → Sink → End → Type 0
+HeadingsOfCheck name sector old new end = IfSome (headings_before end) (λ headings. (found : Superblock)
+    × TookSections (opening_lines name sector (Ok found)) old new headings)
+
 all_before : (defect : Bool) → headings_before (end_by true defect) ≡ Some all_headings
 all_before true = refl
 all_before false = refl
@@ -157,13 +168,13 @@ module _ (had_defect : Bool) (a b c : Progress) (end : End) where
   pub sections_end : (r : Result Root RunFault) → SaysSections a b r → EndsAs had_defect b c r end →
       HeadingsWentOut a.sink c.sink end
   sections_end (Ok Go) p e =
-      subst (λ (x : Option (List Message)). IfSome x (TookSections a.sink c.sink))
+      subst (λ (x : Option (List Message)). IfSome x (TookSections [] a.sink c.sink))
       (sym (ap headings_before e.1 ∙ all_before (had_defect || b.defect)))
-      (subst (λ (to : Progress). TookSections a.sink to.sink all_headings) (sym e.0)
+      (subst (λ (to : Progress). TookSections [] a.sink to.sink all_headings) (sym e.0)
       (record { messages = p.messages; took = p.says.took; sections = p.sections }))
   sections_end (Ok Stop) p e =
       subst (HeadingsWentOut a.sink c.sink) (sym e.1)
-      (subst (λ (to : Progress). TookSections a.sink to.sink (phase1 ∷ phase2 ∷ [])) (sym e.0)
+      (subst (λ (to : Progress). TookSections [] a.sink to.sink (phase1 ∷ phase2 ∷ [])) (sym e.0)
       (record { messages = p.messages; took = p.says.took; sections = p.sections }))
   sections_end (Err (Read fault)) p e = elim e [
     | inl said ↦ subst (HeadingsWentOut a.sink c.sink) (sym said.1) (record {

@@ -1,6 +1,6 @@
 -- The headings of the phases in what a check prints of any image: also of one that gives contracts no bytes, or
 -- other ones each time.
-use Rattle.std.specs.Prelude.{◌≡◌, List, [], ◌∷◌, ◌++◌, Option, Some, None, IfSome}
+use Rattle.std.specs.Prelude.{◌≡◌, List, [], ◌∷◌, ◌++◌, Option, Some, None}
 use Rattle.ffs_volume.specs.declared.End.{End, TheVariants.{Consistent, Defects, Refused, RootStop, ReadFault}}
 use Rattle.ffs_volume.specs.{declared.End.TheVariants.{WriteFault, NoMemory}, Messages.{Kinds.Message, Texts.texts_of}}
 use Rattle.ffs_volume.specs.Messages.Kinds.{phase1, phase2, phase3, phase4, phase5}
@@ -33,12 +33,8 @@ headings_before (Refused fault) = None
 headings_before WriteFault = None
 headings_before NoMemory = None
 
--- messages went out, in the sections of these headings
-pub record TookSections (old new : Sink) (headings : List Message) : Type 0 where
+-- messages went out after `first`, in the sections of these headings
+pub record TookSections (first : List Message) (old new : Sink) (headings : List Message) : Type 0 where
   pub messages : List Message
-  pub took : Took old new (texts_of messages)
+  pub took : Took old new (texts_of (first ++ messages))
   pub sections : HasSections headings messages
-
--- the messages after an opening went out in the sections of the headings that come before an end
-abbrev pub HeadingsWentOut : Sink → Sink → End → Type 0
-HeadingsWentOut old new end = IfSome (headings_before end) (TookSections old new)

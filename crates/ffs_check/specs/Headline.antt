@@ -5,8 +5,7 @@ use Rattle.ffs_volume.specs.declared.{SuperFault.TheVariants.CannotRead, End.{En
 use Rattle.ffs_volume.specs.{declared.End.TheVariants.{ReadFault, NoMemory}, Disk.Outcome.{IsSuperSector, outcome}}
 use Rattle.ffs_volume.specs.{Disk.Superblock.Superblock, Consistent.Volume.IsConsistent, Messages.Kinds.Message}
 use Rattle.ffs_volume.specs.{Messages.Kinds.{cannot_read, cannot_alloc, has_defect}, Report.Opening.head_lines}
-use Rattle.ffs_volume.specs.{Report.{Opening.opening_lines, Whole.{report_of, report_end, EndAgrees}}, Messages.Texts.texts_of}
-use Rattle.ffs_report.specs.Sink.{Sink, Took}
+use Rattle.ffs_volume.specs.Report.{Opening.opening_lines, Whole.{report_of, report_end, EndAgrees}}
 use Rattle.ffs_check.specs.{Ends.{Cut, Ends}, Headings.{TookSections, headings_before}, Moment.Moment}
 
 -- status 0, and a report with no defect, are each a certificate that the volume is consistent
@@ -63,25 +62,13 @@ IsCutShort name asked_sector image image' text cut =
     ⊎ (IsCutLater name asked_sector image image' text cut
     ⊎ IsCutByMemory name asked_sector image image' cut)
 
--- the opening of an accepted superblock went out, and then messages in the sections of these headings
-pub record OpenedThenSections (name : List ℕ) (asked_sector : Option ℕ) (old new : Sink) (headings : List Message) :
-    Type 0 where
-  pub found : Superblock
-  pub between : Sink
-  pub opened : Took old between (texts_of (opening_lines name asked_sector (Ok found)))
-  pub phases : TookSections between new headings
-
--- of any image: what went out has the headings that an end says, in their order
-abbrev pub HeadingsOfCheck : List ℕ → Option ℕ → Sink → Sink → End → Type 0
-HeadingsOfCheck name asked_sector old new end =
-    IfSome (headings_before end) (OpenedThenSections name asked_sector old new)
-
 -- the headline: `text` is the whole report where the image gives its bytes. It was printed whole; or
 -- cut short by a failed read or refused memory, whose line was printed last; or the output failed.
--- The headings were printed, of any image
+-- Of any image the phases' headings were printed in their order, after the opening of an accepted superblock
 pub record Headline (name : List ℕ) (asked_sector : Option ℕ) (old new : Moment) (end : End) : Type 0 where
   pub text : List Message
   pub is_report : ForContents old.image.contents (λ bytes. text ≡ report_of bytes name asked_sector)
   pub ends : Ends old new text (IsEndOfReport name asked_sector old.image text)
       (IsCutShort name asked_sector old.image new.image text) end
-  pub headings : HeadingsOfCheck name asked_sector old.out new.out end
+  pub headings : IfSome (headings_before end) (λ headings. (found : Superblock)
+      × TookSections (opening_lines name asked_sector (Ok found)) old.out new.out headings)

@@ -3,7 +3,7 @@
 -- continues after the root. What Said, SaidOf, SaidNotAll and their like differ in is in a table at the top of
 -- specs/Lib.antt of ffs_report.
 use Rattle.std.specs.Prelude.{◌≡◌, ◌⊎◌, ◌<◌, ◌≤◌, ℕ, Bool, false, true, not, ◌||◌, List, [], ◌∷◌, ◌++◌, length, Result}
-use Rattle.std.specs.Prelude.{Ok, Err, IfOk, is_ok}
+use Rattle.std.specs.Prelude.{Ok, Err, IfOk, IfSome, is_ok}
 use Rattle.ffs_image.specs.Device.{Device, Faulted}
 use Rattle.ffs_volume.specs.declared.End.{End, TheVariants.{Consistent, Defects, Refused, RootStop, ReadFault}}
 use Rattle.ffs_volume.specs.{declared.End.TheVariants.{WriteFault, NoMemory}, Disk.Superblock.Superblock}
@@ -17,7 +17,7 @@ use Rattle.ffs_report.specs.declared.fault.RunFault.TheVariants.{Out}
 use Rattle.ffs_pathnames.specs.{declared.pass2.Root.{Root, TheVariants.{Go, Stop}}, RootAnswers.is_go}
 use Rattle.ffs_memory.specs.Account.{Account}
 use Rattle.ffs_workspace.specs.{declared.workspace.Workspace.Workspace, Found.WithFresh, Lengths.IsFor, Ready.IsReady}
-use Rattle.ffs_check.specs.{Ends.{Cut, Ends}, Headings.{HasSections, HeadingsWentOut, all_headings}, Reads.PhasesRead}
+use Rattle.ffs_check.specs.{Ends.{Cut, Ends}, Headings.{HasSections, TookSections, all_headings, headings_before}, Reads.PhasesRead}
 use Rattle.ffs_check.specs.Phases.{AnswersDups, HasAnswers}
 use Rattle.ffs_check.specs.{Moment.{Moment, ReportMoment, at_output}, Taken.TakesBytes}
 
@@ -144,7 +144,7 @@ can_end_report NoMemory = false
 -- bytes, and any image, what the workspace answers then, and its lists keep their lengths
 pub record RunsToEnd (s : Superblock) (w w' : Workspace) (old new : Moment) (end : End) : Type 0 where
   pub ran : PhasesEnd (WithFresh s.layout old.image w) s old new end
-  pub headings : HeadingsWentOut old.out new.out end
+  pub headings : IfSome (headings_before end) (TookSections [] old.out new.out)
   pub reads : PhasesRead (WithFresh s.layout old.image w) s old new
   pub answers : LeavesAnswers (can_end_report end) (WithFresh s.layout old.image w) s.layout w w'
   pub made : IsFor s.layout w'
@@ -160,6 +160,6 @@ SaysRest s old new end =
 -- image is read
 pub record FollowsAccepted (s : Superblock) (before after : Account) (old new : ReportMoment) (end : End) : Type 0 where
   pub followed : SaysRest s old new end
-  pub headings : HeadingsWentOut old.report.sink new.report.sink end
+  pub headings : IfSome (headings_before end) (TookSections [] old.report.sink new.report.sink)
   pub memory : TakesBytes (held_of s.layout) before after end
   pub reads : PhasesRead (IsContents old.image.contents) s (at_output old) (at_output new)
