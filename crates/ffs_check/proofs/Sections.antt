@@ -4,7 +4,7 @@ use Rattle.std.proofs.Common.{append-nil, ◌||◌, Option, Some, None, IfSome, 
 use Rattle.ffs_image.specs.Device.{Device}
 use Rattle.ffs_volume.specs.{Disk.Superblock.Superblock, Report.Opening.opening_lines}
 use Rattle.ffs_report.specs.Sink.{Sink}
-use Rattle.ffs_volume.specs.{declared.End.End, Report.Whole.end_by, Messages.{Kinds.{Message, cannot_read, phase1, phase2}, Texts.texts_of}}
+use Rattle.ffs_volume.specs.{declared.End.End, Report.Whole.end_by, Messages.Kinds.{Message, cannot_read, phase1, phase2}}
 use Rattle.ffs_report.specs.{PhaseOutcome.{HeadingFirst, ImageAfter, PhaseReports}, Progress.{Progress, Said, Says}}
 use Rattle.ffs_report.specs.declared.fault.RunFault.{RunFault, TheVariants.{Read, Out}}
 use Rattle.ffs_report.proofs.Reports.{said_none, said_then, stopped_after}

@@ -1,5 +1,5 @@
 //! `fields`: fields of the superblock that a kernel computes with, and that a check doesn't look at.
-ghost use Rattle.std.specs.{Prelude.{◌≡◌, ◌+◌, ◌*◌, ◌^◌, ◌≤◌, ◌<◌, length, map}, Int.{cast_signed, div_ceil, w64}};
+ghost use Rattle.std.specs.{Prelude.{◌≡◌, ◌+◌, ◌*◌, ◌^◌, ◌≤◌, ◌<◌, length, map}, Int.{cast_signed, div_ceil}};
 ghost use Rattle.ffs_volume.specs.Disk.{Numbers.u64_at as u64_in, Outcome.super_sector};
 ghost use Rattle.ffs_volume.specs.{declared.constants.TheConstants.{DEV_BSIZE, SBSIZE}, Find.Fields.exponent_of};
 ghost use Rattle.ffs_volume.specs.Find.Fields.{field_32, field_lines, field_text, layout_fields, mask_of, total_64};

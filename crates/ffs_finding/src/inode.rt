@@ -2,7 +2,7 @@
 ghost use Rattle.std.specs.Prelude.{◌≡◌, ◌+◌, ◌*◌, ◌/◌, ◌≤◌, ◌<◌};
 ghost use Rattle.ffs_volume.specs.{Blocks.Inodes.{inode_from_bytes}, Disk.Areas.inode_place, Find.InodeText.place_text};
 ghost use Rattle.ffs_volume.specs.declared.constants.TheConstants.{DEV_BSIZE};
-ghost use Rattle.ffs_volume.specs.Find.InodeText.{numbers_text, address_text, link_text, addresses_text, bytes_text};
+ghost use Rattle.ffs_volume.specs.Find.InodeText.{numbers_text, address_text, addresses_text, bytes_text};
 ghost use Rattle.ffs_volume.specs.Find.InodeText.{inode_listing, class_word, fifteen_text};
 ghost use Rattle.ffs_report.specs.{Fails.FailsIn, Known.IsContents, Sink.Prints};
 ghost use Rattle.ffs_check.specs.Moment.{moment};

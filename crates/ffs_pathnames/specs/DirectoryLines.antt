@@ -13,7 +13,7 @@ use Rattle.ffs_pathnames.specs.{ChecksNeeded.ChecksLookedAt, Before.IsBefore, Ga
 use Rattle.ffs_pathnames.specs.{LineReads.ReadsByLines, DirectoryContext.KnowsHeader, HeaderValues.facts_lines}
 use Rattle.ffs_pathnames.specs.{Moments.LinesMoment, PassedNames.{are_quiet, directory_reported}, Ready.LinesLeave}
 use Rattle.ffs_pathnames.specs.{Ready.PhaseLeaves, declared.entry_texts.Checking.Checking}
-use Rattle.ffs_pathnames.specs.declared.header.HeaderFacts.{HeaderFacts}
+use Rattle.ffs_pathnames.specs.{Tasks.DirectoryTask, declared.header.HeaderFacts.HeaderFacts}
 
 -- the lines on what was found of a directory before its entries are said, and the image is read for no more
 -- than these; any image for no more than the messages that were begun. All of the workspace but its windows
@@ -26,19 +26,6 @@ pub record ReportsHeader {T : Type 0} (v : Layout) (h : HeaderFacts) (old new : 
       old.at new.at
   pub paid : Paid line_reads old.said new.said old.at.reads new.at.reads result
   pub leaves : LinesLeave v old.at new.at new.kept result
-
--- what is asked of a call for a directory: what it may know of the bytes, how often it reads the directory's
--- own blocks at most, the lines that it says, and what holds of its answer then. The calls that are asked so:
---
---   check_if_needed    all lines, in two readings. What is remembered of names is right then, and places are noted
---   check_directory    the same of a directory that isn't of size 0; of noted places nothing is said
---   begin_directory    the first look, one reading, and the lines before the entries. Then: what the look found, stamps
---   report_directory   the second reading: the Runs of a known inode, the lines of the entries. Then these are passed
-pub record DirectoryTask (T : Type 0) : Type 1 where
-  pub knows : List ℕ → Type 0
-  pub own_reads : List ℕ → ℕ
-  pub lines : List ℕ → List TreeMessage
-  pub after : T → List ℕ → Type 0
 
 -- the lines of a task are said, by what is known of the bytes, and what it asks of the answer holds. The
 -- directory's own blocks are read `own_reads` times at most, which are taken of the reads that are left, and the

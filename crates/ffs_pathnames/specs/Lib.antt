@@ -40,6 +40,7 @@ pub mod NextChunks
 pub mod SaysTreeMessages
 pub mod EntryLines
 pub mod ChecksNeeded
+pub mod Tasks
 pub mod DirectoryLines
 pub mod RootAnswers
 pub mod Phase2

@@ -3,7 +3,7 @@ use Rattle.std.specs.Prelude.{◌≡◌, ◌⊎◌, ◌≤◌, ◌+◌, ◌*◌,
 use Rattle.ffs_image.specs.Device.{Device}
 use Rattle.ffs_volume.specs.{declared.Layout.Layout, Directories.PathnameCheck.{continues_after_root, pathname_lines}}
 use Rattle.ffs_volume.specs.{Directories.Volumes.volume_of, Messages.Kinds.{phase2}, Report.Reads.line_reads}
-use Rattle.ffs_volume.specs.Report.{Reads.pathname_reads, DirectoryReads.{directories_cost, phase2_cost}}
+use Rattle.ffs_volume.specs.Report.{Reads.pathname_reads, DirectoryReads.{directories_cost, noted_costs, phase2_cost}}
 use Rattle.ffs_volume.specs.Report.Whole.{phase2_messages}
 use Rattle.ffs_report.specs.{Known.ForBytes, Progress.{Progress, Said}, declared.fault.RunFault.RunFault}
 use Rattle.ffs_report.specs.declared.fault.RunFault.TheVariants.{Read, Out}
@@ -32,7 +32,7 @@ Phase2Ends v d w w' old new (Err (Out fault)) = ForBytes (WithClaims v d w) (λ 
 -- directories are read for the survey, for the places of parent entries, and twice for the messages. Where the
 -- survey is the first, those of which nothing can be reported, and that aren't marked, are not read for the
 -- messages; and where there are no others, no places are noted either: each is read for the survey alone.
--- Where a survey was made before, none is made again
+-- Where a survey was made before, none is made again. Where the check stops after the root, the survey alone reads
 pub record Phase2Reads (v : Layout) (d : Device) (w : Workspace) (before after : ℕ) : Type 0 where
   pub known : ForBytes (WithClaims v d w) (λ bytes.
       after ≤ before + pathname_reads v (length (pathname_lines (volume_of v bytes))))
@@ -42,3 +42,5 @@ pub record Phase2Reads (v : Layout) (d : Device) (w : Workspace) (before after :
       after ≤ before + (phase2_cost v bytes + line_reads * length (pathname_lines (volume_of v bytes))))
   pub again : w.surveyed ≡ true → ForBytes (WithClaims v d w) (λ bytes.
       after ≤ before + (3 * directories_cost v bytes + line_reads * length (pathname_lines (volume_of v bytes))))
+  pub stopped : ForBytes (WithClaims v d w) (λ bytes. continues_after_root (volume_of v bytes) ≡ false
+      → after ≤ before + noted_costs v bytes)

@@ -1,12 +1,9 @@
 //! A second reading of a directory, and the lines of its entries, one after another.
 ghost use Rattle.std.specs.Prelude.{◌≡◌, [], ◌∷◌};
 ghost use Rattle.ffs_names.specs.Windows.{CanReadChunks};
-ghost use Rattle.ffs_volume.specs.Report.DirectoryReads.{directory_runs};
-ghost use Rattle.ffs_volume.specs.Directories.Volumes.{volume_of};
-ghost use Rattle.ffs_pathnames.specs.{Gathers.{passed_of, roled_lines_by, roled_value}, Looks.roled_in};
+ghost use Rattle.ffs_pathnames.specs.{Gathers.{roled_lines_by, roled_value}, Looks.roled_in};
 ghost use Rattle.ffs_pathnames.specs.{Ready.{ReadyToPath, ReadyToReport}, ReadsLeft.LeftForRuns, NextChunks.ReadsNext, Moments.{lines_moment, second_reading}};
-ghost use Rattle.ffs_pathnames.specs.{DirectoryLines.{ReadsForEntries, ReportsDirectory}, EntryLines.{PassesEntries, ReportsOneEntry}};
-ghost use Rattle.ffs_pathnames.specs.PassedNames as names;
+ghost use Rattle.ffs_pathnames.specs.{DirectoryLines.{ReadsForEntries, ReportsDirectory}, Tasks.entries_task, EntryLines.{PassesEntries, ReportsOneEntry}};
 
 use crate::entry_texts::{Checking, EntryTexts};
 use crate::gather::DirectoryEntry;
@@ -70,15 +67,9 @@ pub fn report_directory<I: Image, W: Output>(
 ) -> Result<(), RunFault>
     requires { ReadyToReport geometry.now.layout (I.device image.old) workspace.old
         checking.old.texts.kept_parent directory.now }
-    ensures lines { ReportsDirectory geometry.now.layout (record {
-      knows = LeftForRuns geometry.now.layout (I.device image.old) workspace.old directory.now
-          checking.old.reads_left;
-      own_reads = λ b. directory_runs geometry.now.layout b directory.now.number;
-      lines = λ b. names.directory_reported (volume_of geometry.now.layout b)
-          directory.now.number (passed_of workspace.old);
-      after = λ _ b. names.after_directory (volume_of geometry.now.layout b)
-          directory.now.number (passed_of workspace.old) ≡ passed_of workspace.new;
-    })
+    ensures lines { ReportsDirectory geometry.now.layout
+        (entries_task geometry.now.layout (I.device image.old) workspace.old workspace.new
+        directory.now checking.old.reads_left)
         (lines_moment I.Image W.Output image.old workspace.old report.old checking.old)
         (lines_moment I.Image W.Output image.new workspace.new report.new checking.new) result }
     ensures once { ReadsForEntries geometry.now.layout

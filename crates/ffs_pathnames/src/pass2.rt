@@ -46,7 +46,8 @@ pub enum Root {
 /// One that gives other bytes each time is read no more than four sweeps, and `line_reads` for each
 /// message that was begun. Where no survey was made before, a directory of which nothing can be
 /// reported isn't read for the messages, unless it is marked (`phase2_cost`, and `looked_at` of
-/// `Phase2Reads`); where one was made, none is made again (`again` there).
+/// `Phase2Reads`); where one was made, none is made again (`again` there). Where the check stops after
+/// the root, only the survey reads (`stopped` there).
 ///
 /// # Errors
 /// A read of the image that failed, and a write of the report that failed. Where it was a write, or
@@ -169,6 +170,10 @@ fn check_tree<I: Image, W: Output>(
         (IsBefore geometry.now.layout (I.device image.old).contents workspace.old 2) []
         (λ b. map of_tree (pathname_lines (volume_of geometry.now.layout b)))
         (progress W.sink report.old) (progress W.sink report.new)) }
+
+    // Where the root isn't a directory, nothing is read: its line shows no path.
+    ensures unread { is_dir_kind (slice_index workspace.old.kinds.items 2) ≡ false
+        → I.reads image.new ≡ I.reads image.old }
 {
     let kind = workspace.kinds[ROOTINO as usize];
     let marked = workspace.marked[ROOTINO as usize];

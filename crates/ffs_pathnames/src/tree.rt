@@ -1,14 +1,12 @@
 //! The check of directories, one after another, by number.
-ghost use Rattle.std.specs.Prelude.{suc, ◌≡◌, ◌-◌, ◌*◌, ◌<◌, ◌≤◌, ℕ, true, false, vec_len, List, option_map};
+ghost use Rattle.std.specs.Prelude.{◌≡◌, ◌-◌, ◌<◌, ◌≤◌, ℕ, false, vec_len, List, option_map};
 ghost use Rattle.ffs_volume.specs.{declared.Layout.Layout, Messages.Kinds.lines_from, Directories.Parents.graph_of};
-ghost use Rattle.ffs_volume.specs.Directories.{Graph.parent, Volumes.volume_of, PathnameCheck.dir_header_lines};
-ghost use Rattle.ffs_volume.specs.Directories.PathnameCheck.{directory_lines, sized_dir_lines};
-ghost use Rattle.ffs_volume.specs.{Report.DirectoryReads.directory_cost, Blocks.Inodes.inodes_of};
-ghost use Rattle.ffs_pathnames.specs.{ReadsLeft.{LeftForNext, LeftForBoth, LeftForLook}, PassedRight.AreRightBefore};
-ghost use Rattle.ffs_pathnames.specs.Before.{ListsInode, ListsInodes, IsBeforeNoted, IsFirstToCheck, needs_check};
-ghost use Rattle.ffs_pathnames.specs.{Gathers.passed_of, ChecksNeeded.KeepsFlags, Ready.{ReadyToCheck, ReadyToPath}};
-ghost use Rattle.ffs_pathnames.specs.{Begins.{AreFirstTwo, IsDirectoryBegun}, Moments.lines_moment};
+ghost use Rattle.ffs_volume.specs.Directories.{Graph.parent, Volumes.volume_of, PathnameCheck.directory_lines};
+ghost use Rattle.ffs_volume.specs.Blocks.Inodes.{inodes_of};
+ghost use Rattle.ffs_pathnames.specs.{ReadsLeft.LeftForBoth, Ready.{ReadyToCheck, ReadyToPath}, Begins.AreFirstTwo};
+ghost use Rattle.ffs_pathnames.specs.Before.{ListsInode, ListsInodes, IsFirstToCheck, needs_check};
 ghost use Rattle.ffs_pathnames.specs.DirectoryLines.{ReadsQuietOnce, ReportsDirectory, ReportsHeader, ReportsTree};
+ghost use Rattle.ffs_pathnames.specs.{Tasks.{begin_task, check_task, sized_task}, Moments.lines_moment};
 ghost use Rattle.ffs_workspace.specs.{Holds.HoldsSurvey, Ready.CanRead};
 ghost use Rattle.ffs_layout.specs.Entry.{entry_value};
 
@@ -47,7 +45,7 @@ pub fn check_directories<I: Image, W: Output>(
     ensures unchecked { ((x : ℕ) → 2 ≤ x → x < inodes_of geometry.now.layout
         → needs_check workspace.old x ≡ false) → workspace.new ≡ workspace.old }
 {
-    let count = geometry.layout.ncg * geometry.layout.ipg;
+    let count = geometry.inodes();
     let first = first_to_check(workspace, count);
     if first == count {
         return Ok(());
@@ -120,15 +118,9 @@ fn check_if_needed<I: Image, W: Output>(
     requires { ReadyToCheck geometry.now.layout (I.device image.old) workspace.old
         checking.old.texts.kept_parent number }
 
-    // What is asked of it: `DirectoryTask` says this in words, of the calls that it makes too.
-    ensures lines { ReportsDirectory geometry.now.layout (record {
-      knows = LeftForNext geometry.now.layout (I.device image.old) workspace.old number
-          checking.old.reads_left;
-      own_reads = λ b. 2 * directory_cost geometry.now.layout b number;
-      lines = λ b. directory_lines (volume_of geometry.now.layout b) number;
-      after = λ _ b. IsBeforeNoted geometry.now.layout (I.device image.old).contents
-          workspace.new (suc number) b × KeepsFlags workspace.old workspace.new;
-    })
+    ensures lines { ReportsDirectory geometry.now.layout
+        (check_task geometry.now.layout (I.device image.old) workspace.old workspace.new number
+        checking.old.reads_left)
         (lines_moment I.Image W.Output image.old workspace.old report.old checking.old)
         (lines_moment I.Image W.Output image.new workspace.new report.new checking.new) result }
 
@@ -154,14 +146,9 @@ fn check_directory<I: Image, W: Output>(
 ) -> Result<(), RunFault>
     requires { ReadyToCheck geometry.now.layout (I.device image.old) workspace.old
         checking.old.texts.kept_parent dir }
-    ensures lines { ReportsDirectory geometry.now.layout (record {
-      knows = LeftForBoth geometry.now.layout (I.device image.old) workspace.old dir
-          checking.old.reads_left;
-      own_reads = λ b. 2 * directory_cost geometry.now.layout b dir;
-      lines = λ b. sized_dir_lines (volume_of geometry.now.layout b) dir;
-      after = λ _ b. AreRightBefore (volume_of geometry.now.layout b) (suc dir)
-          (passed_of workspace.new) × KeepsFlags workspace.old workspace.new;
-    })
+    ensures lines { ReportsDirectory geometry.now.layout
+        (sized_task geometry.now.layout (I.device image.old) workspace.old workspace.new dir
+        checking.old.reads_left)
         (lines_moment I.Image W.Output image.old workspace.old report.old checking.old)
         (lines_moment I.Image W.Output image.new workspace.new report.new checking.new) result }
     ensures quiet { ReadsQuietOnce geometry.now.layout
@@ -194,13 +181,9 @@ fn begin_directory<I: Image, W: Output>(
 ) -> Result<Examination, RunFault>
     requires { ReadyToCheck geometry.now.layout (I.device image.old) workspace.old
         checking.old.texts.kept_parent dir }
-    ensures { ReportsDirectory geometry.now.layout (record {
-      knows = LeftForLook geometry.now.layout (I.device image.old) workspace.old dir
-          checking.old.reads_left;
-      own_reads = λ b. directory_cost geometry.now.layout b dir;
-      lines = λ b. dir_header_lines (volume_of geometry.now.layout b) dir;
-      after = λ e b. IsDirectoryBegun geometry.now.layout b dir workspace.old e workspace.new;
-    })
+    ensures { ReportsDirectory geometry.now.layout
+        (begin_task geometry.now.layout (I.device image.old) workspace.old workspace.new dir
+        checking.old.reads_left)
         (lines_moment I.Image W.Output image.old workspace.old report.old checking.old)
         (lines_moment I.Image W.Output image.new workspace.new report.new checking.new) result }
 {

@@ -1,6 +1,6 @@
-use Rattle.std.proofs.Common.{◌≡◌, ◌≤◌, ◌++◌, ◌+◌, ◌*◌, Bool, slice_index, [], List, ℕ, map, refl, sym, ◌∙◌, append-nil}
+use Rattle.std.proofs.Common.{◌≡◌, ◌≤◌, ◌++◌, ◌+◌, ◌*◌, Bool, slice_index, [], List, ℕ, map, refl, ap, sym, ◌∙◌, append-nil}
 use Rattle.std.proofs.Common.{true, false, arith, length, Result, Err, inl, inr, ◌∷◌, ◌==◌}
-use Rattle.std.proofs.lemmas.{Result.err_from_is_err_and, Bool.cases_Bool}
+use Rattle.std.proofs.lemmas.{Result.err_from_is_err_and, Bool.{both_ways, cases_Bool}}
 use Rattle.ffs_workspace.specs.{Holds.HoldsClaims, Ready.CanRead, declared.workspace.Workspace.Workspace}
 use Rattle.ffs_pathnames.proofs.Findings.{findings_kept}
 use Rattle.ffs_pathnames.{specs.Before.{IsBefore, root_reported}, proofs.{LineCounts.lines_long, Carrying.goes_is}}
@@ -176,3 +176,14 @@ returns-in-Stop-clause-stop g c = λ _.
       right = λ b k. sym one.alone ∙ sym (append-nil _) ∙ sym (lines_are g at b false k.claims c.in-Stop.ensures);
       said = rw one.alone at c.in_ok-report_root.ensures;
     }
+
+-- where the root isn't a directory, no directory is checked
+pub returns-in_err-check_directories-in-Go-clause-unread : goal.returns-in_err-check_directories-in-Go-clause-unread
+returns-in_err-check_directories-in-Go-clause-unread g c = λ other.
+    let at = (goal.at.returns-in_err-check_directories-in-Go-clause-unread g c).After-report_root in
+    absurd (both_ways _ (ap is_dir_kind (kind_is g at) ∙ other) (sym c.in-Go.ensures))
+
+pub returns-in_ok-check_directories-in-Go-clause-unread : goal.returns-in_ok-check_directories-in-Go-clause-unread
+returns-in_ok-check_directories-in-Go-clause-unread g c = λ other.
+    let at = (goal.at.returns-in_ok-check_directories-in-Go-clause-unread g c).After-report_root in
+    absurd (both_ways _ (ap is_dir_kind (kind_is g at) ∙ other) (sym c.in-Go.ensures))

@@ -10,7 +10,7 @@ use Rattle.ffs_volume.specs.{Messages.Kinds.{phase2, Message, of_tree}, declared
 use Rattle.ffs_volume.{proofs.RunBounds.runs_bounded, specs.Directories.PathnameCheck.pathname_lines}
 use Rattle.ffs_volume.specs.Directories.Volumes.{volume_of}
 use Rattle.ffs_pathnames.specs.{declared.pass2.Root.{Root, TheVariants.{Go, Stop}}, Before.IsBefore, Phase2.Phase2Ends, RootAnswers.AnswersRoot}
-use Rattle.ffs_pathnames.{specs.RootAnswers.{SaidStop, is_go}, proofs.Carrying.{before_first, references_on}}
+use Rattle.ffs_pathnames.{specs.RootAnswers.{SaidStop, is_go}, proofs.Carrying.{before_first, goes_is, references_on}}
 use Rattle.ffs_pathnames.proofs.{SilentLaws.calm_silent, pass2.phase2.{Given.Over, Goals.After-check_tree}}
 use Rattle.ffs_pathnames.proofs.ChecksNeededLaws.{looked_at_first}
 use Rattle.ffs_names.{proofs.{DirCosts.noted_all_within, RunSums.costs_bounded}, specs.Surveys.SurveysNoMore}
@@ -190,6 +190,7 @@ returns-in_err-say-clause-reads g c = record {
   directories = λ b k. omega arith;
   looked_at = λ first b k. omega arith;
   again = λ second b k. omega arith;
+  stopped = λ b k ends. omega arith;
 }
 
 pub returns-in_err-say-clause-paid : goal.returns-in_err-say-clause-paid
@@ -203,6 +204,7 @@ returns-in_err-survey-clause-reads g c = record {
       omega (arith, c.survey.ensures.reads.each b k, noted_all_within v b (v.ncg * v.ipg));
   looked_at = λ first b k. omega (arith, c.survey.ensures.reads.each b k);
   again = λ second b k. let unread = (c.survey.ensures.again second).unread in omega (arith, unread);
+  stopped = λ b k ends. omega (arith, c.survey.ensures.reads.each b k);
 }
 
 pub returns-in_err-survey-clause-paid : goal.returns-in_err-survey-clause-paid
@@ -229,6 +231,12 @@ returns-clause-reads g c = record {
       let before = before_tree g (goal.at.returns-clause-reads g c).After-check_tree b k in
       let unread = (c.survey.ensures.again second).unread in
       omega (arith, unread, c.check_tree.ensures.tree.reads b before);
+  stopped = λ b k ends.
+      let before = before_tree g (goal.at.returns-clause-reads g c).After-check_tree b k in
+      let v = c.args.geometry.now.layout in
+      let other = goes_is v b c.clear_passed.new.workspace _ refl before.claims ∙ ends in
+      let unread = c.check_tree.ensures.unread other in
+      omega (arith, c.survey.ensures.reads.each b k, unread);
 }
 
 pub returns-clause-paid : goal.returns-clause-paid

@@ -36,8 +36,8 @@ loop-number-init g c =
     let noted = c.in_ok-note_places.ensures in
     let all = λ (b : List ℕ). map of_tree (lines_from (directory_lines (volume_of v b)) 2 (inodes_of v - 2)) in
     let skipped = λ (b : List ℕ) (k : IsBefore v (g.I.Image.device c.args.image.now).contents c.args.workspace.now 2 b).
-    unseen v _ _ b first.result (inodes_of v) c.args.geometry.now.sound first.ensures.range.0 first.ensures.range.1
-    first.ensures.before k in
+    unseen v _ _ b first.result (inodes_of v) c.args.geometry.now.sound first.ensures.range.0
+    (omega (arith, first.ensures.range.1, c.inodes-count.ensures)) first.ensures.before k in
     record {
       ready = record { ready = noted.leaves.ready; kept_parent = c.none.ensures _ _ _ };
       device = noted.leaves.read;
@@ -55,8 +55,9 @@ loop-number-init g c =
       looks = λ b k checks.
           let made : g.I.Image.reads c.note_places.new.image ≤ g.I.Image.reads c.args.image.now + noted_costs v b =
           c.note_places.ensures.reads.each b (k.gives_bytes, k.claims, k.survey) in
-          let below : first.result < inodes_of v = omega (arith, first.ensures.range.1) in
-          let places = places_noted v b c.args.workspace.now first.result checks below (first.ensures.found below) in
+          let below : first.result < inodes_of v = omega (arith, first.ensures.range.1, c.inodes-count.ensures) in
+          let places = places_noted v b c.args.workspace.now first.result checks below
+          (first.ensures.found (omega (arith, below, c.inodes-count.ensures))) in
           rw (as_many (lines_from (directory_lines (volume_of v b)) 2 (inodes_of v - 2))
           (lines_from (directory_lines (volume_of v b)) first.result (inodes_of v - first.result)) (skipped b k).1)
           (omega (arith, made, places));
@@ -120,7 +121,7 @@ returns-then-first-count-clause-tree g c =
     record {
       text = of_same _ all (λ b. []) _ _ _ (of_begins _ all _)
           (λ b k. (unseen v _ _ b first.result (inodes_of v) c.args.geometry.now.sound first.ensures.range.0
-          first.ensures.range.1 first.ensures.before k).1
+          (omega (arith, first.ensures.range.1, c.inodes-count.ensures)) first.ensures.before k).1
           ∙ from_end (directory_lines (volume_of v b)) first.result (inodes_of v) (omega arith));
       reads = λ b k. omega arith;
       looks = λ b k checks. omega arith;
@@ -143,8 +144,9 @@ returns-in_err-note_places-clause-tree g c =
           omega (arith, noted.reads.each b (k.gives_bytes, k.claims, k.survey), within);
       looks = λ b k checks.
           let first = c.first_to_check-first in
-          let below : first.result < inodes_of v = omega (arith, first.ensures.range.1) in
-          let places = places_noted v b c.args.workspace.now first.result checks below (first.ensures.found below) in
+          let below : first.result < inodes_of v = omega (arith, first.ensures.range.1, c.inodes-count.ensures) in
+          let places = places_noted v b c.args.workspace.now first.result checks below
+          (first.ensures.found (omega (arith, below, c.inodes-count.ensures))) in
           omega (arith, noted.reads.each b (k.gives_bytes, k.claims, k.survey), places);
       paid = paid_failed (omega (arith, noted.reads.most));
       image = noted.leaves.read;

@@ -1,0 +1,58 @@
+-- What the calls of phase 2 are asked to say of a directory.
+use Rattle.std.specs.Prelude.{◌≡◌, ℕ, suc, ◌*◌, List}
+use Rattle.ffs_image.specs.Device.{Device}
+use Rattle.ffs_volume.specs.{declared.Layout.Layout, Directories.{PathnameCheck.directory_lines, Volumes.volume_of}}
+use Rattle.ffs_volume.specs.{Directories.PathnameCheck.{dir_header_lines, sized_dir_lines}, Messages.Kinds.TreeMessage}
+use Rattle.ffs_volume.specs.Report.DirectoryReads.{directory_cost, directory_runs}
+use Rattle.ffs_workspace.specs.declared.workspace.Workspace.{Workspace}
+use Rattle.ffs_pathnames.specs.{Before.IsBeforeNoted, Begins.IsDirectoryBegun, ChecksNeeded.KeepsFlags, Gathers.passed_of}
+use Rattle.ffs_pathnames.specs.{PassedNames.{after_directory, directory_reported}, PassedRight.AreRightBefore}
+use Rattle.ffs_pathnames.specs.ReadsLeft.{LeftForBoth, LeftForLook, LeftForNext, LeftForRuns}
+use Rattle.ffs_pathnames.specs.declared.look.{Directory.Directory, Examination.Examination}
+
+-- what is asked of a call for a directory: what it may know of the bytes, how often it reads the directory's
+-- own blocks at most, the lines that it says, and what holds of its answer then
+pub record DirectoryTask (T : Type 0) : Type 1 where
+  pub knows : List ℕ → Type 0
+  pub own_reads : List ℕ → ℕ
+  pub lines : List ℕ → List TreeMessage
+  pub after : T → List ℕ → Type 0
+
+-- of `check_if_needed`: all lines of a directory, in two readings. What is remembered of names is right then, and
+-- places are noted
+abbrev pub check_task : Layout → Device → (w w' : Workspace) → (dir left : ℕ) → DirectoryTask (Unit {0})
+check_task v d w w' dir left = record {
+  knows = LeftForNext v d w dir left;
+  own_reads = λ b. 2 * directory_cost v b dir;
+  lines = λ b. directory_lines (volume_of v b) dir;
+  after = λ _ b. IsBeforeNoted v d.contents w' (suc dir) b × KeepsFlags w w';
+}
+
+-- of `check_directory`: the same of one that isn't of size 0; of noted places nothing is said
+abbrev pub sized_task : Layout → Device → (w w' : Workspace) → (dir left : ℕ) → DirectoryTask (Unit {0})
+sized_task v d w w' dir left = record {
+  knows = LeftForBoth v d w dir left;
+  own_reads = λ b. 2 * directory_cost v b dir;
+  lines = λ b. sized_dir_lines (volume_of v b) dir;
+  after = λ _ b. AreRightBefore (volume_of v b) (suc dir) (passed_of w') × KeepsFlags w w';
+}
+
+-- of `begin_directory`: the first look, which is one reading, and the lines before those of the entries. Then: what the
+-- look found, and stamps
+abbrev pub begin_task : Layout → Device → (w w' : Workspace) → (dir left : ℕ) → DirectoryTask Examination
+begin_task v d w w' dir left = record {
+  knows = LeftForLook v d w dir left;
+  own_reads = λ b. directory_cost v b dir;
+  lines = λ b. dir_header_lines (volume_of v b) dir;
+  after = λ e b. IsDirectoryBegun v b dir w e w';
+}
+
+-- of `report_directory`: the second reading, of the Runs of a known inode, and the lines of the entries. Then these are
+-- passed
+abbrev pub entries_task : Layout → Device → (w w' : Workspace) → Directory → (left : ℕ) → DirectoryTask (Unit {0})
+entries_task v d w w' directory left = record {
+  knows = LeftForRuns v d w directory left;
+  own_reads = λ b. directory_runs v b directory.number;
+  lines = λ b. directory_reported (volume_of v b) directory.number (passed_of w);
+  after = λ _ b. after_directory (volume_of v b) directory.number (passed_of w) ≡ passed_of w';
+}
