@@ -1,5 +1,6 @@
 -- What the lists of a workspace show of a volume.
-use Rattle.std.specs.Prelude.{◌≡◌, ℕ, Bool, List, ◌<◌, ◌≤◌, ◌/◌, ◌==◌, true, false, length, slice_index}
+use Rattle.std.specs.{Prelude.{◌≡◌, ℕ, Bool, List, ◌<◌, ◌≤◌, ◌/◌, ◌==◌, true, false, not, length, slice_index}, List.slice_index_or}
+use Rattle.ffs_volume.specs.Directories.{Entries.Entry, PathnameCheck.{is_silent, verdict_on}}
 use Rattle.ffs_volume.specs.{Blocks.Inodes.{is_allocated, is_unknown}, Encodings.Kinds.{class_of_kind, is_dir_kind}}
 use Rattle.ffs_volume.specs.Encodings.Kinds.{is_allocated_kind, is_unknown_kind, type_of_kind}
 use Rattle.ffs_volume.specs.Directories.{Roles.{Volume, is_dir, is_suspect}, Climb.is_value, Graph.parent}
@@ -27,6 +28,11 @@ stamps_in i words = stamps_of i.parents.now.items words
 
 abbrev pub passed_in : Inodes → List Bool → (words : List ℕ) → PassedNames
 passed_in i flags words = record { flags = flags; stamps = stamps_in i words }
+
+-- by these flags nothing is reported of the plain entry e, in whichever directory it is
+abbrev pub IsHarmless : Inodes → (flags : List Bool) → Entry → Type 0
+IsHarmless i flags e = (vol : Volume) → Sees vol i → (parent_entry : Bool)
+    → is_silent (verdict_on vol (not (slice_index_or flags e.number false)) parent_entry e) ≡ true
 
 -- each inode has a flag and a word
 pub record HasFlagAndWord (i : Inodes) (flags : List Bool) (words : List ℕ) : Type 0 where

@@ -10,14 +10,14 @@
 //! - *silent*, of a verdict: it has no line. A plain entry is quiet where its verdict is silent.
 //! - *harmless* (`is_harmless`), asked before the verdict, which is then silent: by the kinds, the
 //!   marks and the flags alone. An entry that names a directory never is; a calm one may name one.
-ghost use Rattle.std.specs.{Prelude.{◌≡◌, ◌<◌, Bool, true, false, not, length, vec_len, IsTrue}, List.slice_index_or};
+ghost use Rattle.std.specs.{Prelude.{◌≡◌, ◌<◌, Bool, true, false, length, vec_len, IsTrue}, List.slice_index_or};
 ghost use Rattle.ffs_volume.specs.Messages.Kinds.{reported};
 ghost use Rattle.ffs_volume.specs.Directories.PathnameCheck.{defects_lines, defects_on, is_bad_whiteout, name_and_type_lines, suspect_message};
-ghost use Rattle.ffs_volume.specs.{Directories.{PathnameCheck.{is_silent, verdict_lines, verdict_on}, Roles.Volume}, Blocks.Inodes.is_allocated};
+ghost use Rattle.ffs_volume.specs.{Directories.{PathnameCheck.{verdict_lines, verdict_on}, Roles.Volume}, Blocks.Inodes.is_allocated};
 ghost use Rattle.ffs_layout.specs.Entry.{entry_value};
 ghost use Rattle.ffs_pathnames.specs.{Gathers.asks_attr, SaysTreeMessages.SaysTreeMessages};
 ghost use Rattle.ffs_pathnames.specs.{PassedNames.{after_roled, verdict_at_look, verdict_at_reading}, Stamps.KeepsWords};
-ghost use Rattle.ffs_pathnames.specs.Sees.{CanLook, HasFlagAndWord, Sees, passed_in};
+ghost use Rattle.ffs_pathnames.specs.Sees.{CanLook, HasFlagAndWord, IsHarmless, Sees, passed_in};
 ghost use Rattle.ffs_report.specs.Progress.{progress};
 
 use crate::inodes::Inodes;
@@ -146,9 +146,7 @@ pub fn verdict_at_look(
 /// directory it is. Most entries are so.
 pub fn is_harmless(inodes: &Inodes<'_>, flags: &FilledList<bool>, entry: &Entry<'_>) -> bool
     requires { vec_len flags.now ≡ length inodes.now.kinds.now }
-    ensures { IsTrue result → (vol : Volume) → Sees vol inodes.now → (parent_entry : Bool)
-        → is_silent (verdict_on vol (not (slice_index_or flags.now.items entry.now.number false))
-        parent_entry (entry_value entry.now)) ≡ true }
+    ensures { IsTrue result → IsHarmless inodes.now flags.now.items (entry_value entry.now) }
 {
     let number = entry.number as usize;
     if entry.number >= inodes.count() {
