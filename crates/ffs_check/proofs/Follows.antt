@@ -109,12 +109,15 @@ module _ (name : List ℕ) (sector : Option ℕ) (old : Moment) (s : Superblock)
   opened_then : (wanted : Option (List Message)) → IfSome wanted (TookSections [] report.sink new.report.sink) →
       IfSome wanted (λ headings. (found : Superblock)
       × TookSections (opening_lines name sector (Ok found)) old.out new.report.sink headings)
-  opened_then (Some headings) phases = (s, record {
-    messages = phases.messages;
-    took = took_messages old.out report.sink new.report.sink (opening_lines name sector (Ok s)) phases.messages opened
-        phases.took;
-    sections = phases.sections;
-  })
+  opened_then (Some headings) phases = (
+    s,
+    record {
+      messages = phases.messages;
+      took = took_messages old.out report.sink new.report.sink (opening_lines name sector (Ok s)) phases.messages opened
+          phases.took;
+      sections = phases.sections;
+    },
+  )
   opened_then None phases = tt
 
   pub follows : SaysRest s (record { image = old.image; reads = between; report = report }) new end →
